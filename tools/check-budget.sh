@@ -15,9 +15,9 @@ most_crates_with_edits=12
 most_test_lines=250
 most_crates_with_tests=2
 most_ways=5000
-most_lemma_files=257
-most_lemma_imports=1588
-most_needless_doors=124
+most_lemma_files=278
+most_lemma_imports=1793
+most_needless_doors=122
 
 edits() {
     find crates/*/must-fail -name '*.edit' 2>/dev/null

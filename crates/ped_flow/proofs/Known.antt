@@ -1,5 +1,5 @@
 -- What a table knows of statements, as it grows.
-use Rattle.std.proofs.Common.{◌≡◌, ◌↔◌, IsTrue, ℕ, zero, suc, ◌+◌, ◌<◌, ◌≤◌, ◌≢◌, inl, inr, List, [], length, map, drop, get_or, slice_set, Bool, true, false, Option, Some, None, is_some, refl, Result, Ok, Err, OnOk, sym, ap, subst, ◌∙◌, rules, arith}
+use Rattle.std.proofs.Common.{◌≡◌, ◌↔◌, IsTrue, ℕ, zero, suc, ◌+◌, ◌<◌, ◌≤◌, ◌≢◌, inl, inr, List, [], length, map, drop, get_or, slice_set, Bool, true, false, Option, Some, None, is_some, refl, Result, Ok, Err, IfOk, OnOk, sym, ap, subst, ◌∙◌, rules, arith}
 use Rattle.std.proofs.lemmas.List.{get_or-set_same, get_or-set_other}
 use Rattle.ped_tree.specs.Tree.{CondTree, StmtTree, StmtTrees, Assign, If, Do, Print, Read, Stop, Comment, no_stmts, more_stmts}
 use Rattle.std.specs.Global.{Vec}
@@ -23,6 +23,7 @@ use Rattle.ped_flow.specs.declared.parts.Part.{Part}
 use Rattle.ped_flow.specs.declared.places.Places.{Places}
 use Rattle.ped_flow.specs.declared.entries.Entry.{Entry}
 use Rattle.ped_flow.proofs.ScalarSteps.{rest_is}
+use Rattle.ped_flow.proofs.EventRows.{if_ok}
 
 -- an entry is written
 pub written_at : (table : List (Option Entry)) (n : ℕ) (e : Entry) → n < length table → entry_at (slice_set table n (Some e)) n ≡ Some e
@@ -91,6 +92,18 @@ pub same_written : (a b : List (Option Entry)) (n to : ℕ) (e : Entry) → n < 
 same_written a b n to e w h j (inl l) = written_other b n j e (λ (z : j ≡ n). absurd (omega arith)) ∙ h j (inl (omega arith))
 same_written a b n to e w h j (inr l) = written_other b n j e (λ (z : j ≡ n). absurd (omega arith)) ∙ h j (inr l)
 
+-- what holds of an answer that is there
+pub if_found : {X E : Type 0} (P : X → Type 0) (r : Result X E) (x : X) → r ≡ Ok x → IfOk r P → P x
+if_found {X = X} {E = E} P r x e h = subst (λ (z : Result X E). IfOk z P) e h
+
+pub on_found : {X E : Type 0} {A : Type 0} (r : Result X E) (x : X) → r ≡ Ok x → OnOk r A → A
+on_found {X = X} {E = E} {A = A} r x e h = subst (λ (z : Result X E). OnOk z A) e h
+
+-- what follows where another answer is there holds of an answer that needs it
+pub on_both : {X Y E F : Type 0} (P : X → Y → Type 0) {A : Type 0} (r : Result Y F) (other : Result X E) → IfOk r (λ e. (q : X) × (other ≡ Ok q) × P q e) → ((q : X) → other ≡ Ok q → A) → OnOk r A
+on_both P (Ok e) other h f = f h.0 h.1
+on_both P (Err e) other h f = tt
+
 -- an entry is made of what a statement does
 pub made_entry : (p : Places) (s : StmtTree) (n : ℕ) (part : Part) (behind : ℕ) (e : Entry) → IsMade part behind e
     → IsPart (names_in p) part (λ x. sum_of (constants_in p) x s n) (λ x. first_outside (constants_in p) x s n) (loop_variables s) → behind ≡ n + statement_count s → IsEntry p e s n
@@ -99,6 +112,11 @@ made_entry p s n part behind e made is at = record {
   touched = λ x i w t. made.touched i (sum_of (constants_in p) x s n) (is.sums x i w) t;
   behind = made.behind ∙ at;
 }
+
+-- an entry is made of what a statement does, where that was found
+pub entry_found : {E F : Type 0} (p : Places) (s : StmtTree) (n behind : ℕ) (part : Result Part E) (r : Result Entry F) → IfOk part (λ q. IsPart (names_in p) q (λ x. sum_of (constants_in p) x s n) (λ x. first_outside (constants_in p) x s n) (loop_variables s))
+    → behind ≡ n + statement_count s → IfOk r (λ e. (q : Part) × (part ≡ Ok q) × IsMade q behind e) → IfOk r (λ e. IsEntry p e s n)
+entry_found p s n behind part r is at made = if_ok r (λ e h. made_entry p s n h.0 behind e h.2 (if_found _ part h.0 h.1 is) at) made
 
 -- what holds anyway holds of an answer
 pub on_ok : {X E : Type 0} {A : Type 0} (r : Result X E) → A → OnOk r A

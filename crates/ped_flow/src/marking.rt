@@ -51,50 +51,31 @@ pub(crate) fn mark_expression(places: &Places, row: &mut Row, e: &Expr)
     ensures { AreMarked (names_in places.now) row.old row.new (Event.scalars_in (constants_in places.now) (expr_tree e.now)) }
 {
     match e {
-        Expr::Int(_) => {
-            return;
-        }
-        Expr::Var(name) => {
-            mark_variable(places, row, name);
-            return;
-        }
-        Expr::Element(_, subscripts) => {
-            mark_expressions(places, row, subscripts);
-            return;
-        }
-        Expr::Neg(a) => {
-            mark_expression(places, row, a);
-            return;
-        }
+        Expr::Int(_) => {}
+        Expr::Var(name) => mark_variable(places, row, name),
+        Expr::Element(_, subscripts) => mark_expressions(places, row, subscripts),
+        Expr::Neg(a) => mark_expression(places, row, a),
         Expr::Add(a, b) => {
             mark_expression(places, row, a);
             mark_expression(places, row, b);
-            return;
         }
         Expr::Sub(a, b) => {
             mark_expression(places, row, a);
             mark_expression(places, row, b);
-            return;
         }
         Expr::Mul(a, b) => {
             mark_expression(places, row, a);
             mark_expression(places, row, b);
-            return;
         }
         Expr::Div(a, b) => {
             mark_expression(places, row, a);
             mark_expression(places, row, b);
-            return;
         }
         Expr::Pow(a, b) => {
             mark_expression(places, row, a);
             mark_expression(places, row, b);
-            return;
         }
-        Expr::Call(_, arguments) => {
-            mark_expressions(places, row, arguments);
-            return;
-        }
+        Expr::Call(_, arguments) => mark_expressions(places, row, arguments),
     }
 }
 

@@ -1,6 +1,6 @@
 //! What the paths of statements do to many scalars, statement by statement, with what is known of each.
 
-ghost use Rattle.std.specs.Prelude.{◌≡◌, ◌+◌, ◌<◌, ◌≤◌, ◌^◌, ◌++◌, ◌↔◌, ℕ, List, Option, Some, length, slice_set, IsTrue, IfOk, OnOk};
+ghost use Rattle.std.specs.Prelude.{◌≡◌, ◌+◌, ◌<◌, ◌≤◌, ◌^◌, ◌++◌, ◌↔◌, ℕ, List, Option, Some, Ok, length, slice_set, IsTrue, IfOk, OnOk};
 ghost use Rattle.ped_tree.specs.Tree;
 ghost use Rattle.ped_tree.specs.Tree.{StmtTrees};
 ghost use Rattle.ped_tree.specs.Views.{cond_tree, stmt_tree, stmt_trees};
@@ -12,7 +12,9 @@ ghost use Rattle.ped_flow.specs.Summaries as Spec;
 ghost use Rattle.ped_flow.specs.Kept.{first_reader, first_outside, all_first_outside};
 ghost use Rattle.ped_flow.specs.RowMarks.{names_in, constants_in};
 ghost use Rattle.ped_flow.specs.Parts.{IsPart};
+ghost use Rattle.ped_flow.specs.Made.{IsMade};
 ghost use Rattle.ped_flow.specs.Entries.{IsEntry, Knows, KnowsAll, KnowsInside, AreSameBut};
+ghost use Rattle.ped_flow.specs.declared.parts.Part.{Part};
 ghost use Rattle.ped_flow.specs.declared.summaries.Summary.{Summary};
 
 use crate::entries::Entry;
@@ -148,28 +150,23 @@ fn entry_of(
     let own = *number;
     match s {
         Stmt::Comment(_) => {
-            let part = Part::nothing(alloc, places.names.len())?;
-            return Entry::new(alloc, part, own);
+            return entry_with(alloc, Part::nothing(alloc, places.names.len()), own);
         }
         Stmt::Stop => {
             *number = own + 1;
-            let part = Part::stopped(alloc, places.names.len())?;
-            return Entry::new(alloc, part, own + 1);
+            return entry_with(alloc, Part::stopped(alloc, places.names.len()), own + 1);
         }
         Stmt::Assign { left, right } => {
             *number = own + 1;
-            let part = assignment(alloc, places, left, right)?;
-            return Entry::new(alloc, part, own + 1);
+            return entry_with(alloc, assignment(alloc, places, left, right), own + 1);
         }
         Stmt::Print(items) => {
             *number = own + 1;
-            let part = printing(alloc, places, items)?;
-            return Entry::new(alloc, part, own + 1);
+            return entry_with(alloc, printing(alloc, places, items), own + 1);
         }
         Stmt::Read(items) => {
             *number = own + 1;
-            let part = reading(alloc, places, items)?;
-            return Entry::new(alloc, part, own + 1);
+            return entry_with(alloc, reading(alloc, places, items), own + 1);
         }
         Stmt::If {
             condition: c,
@@ -178,15 +175,8 @@ fn entry_of(
         } => {
             *number = own + 1;
             let first = all_parts(alloc, places, table, then_part, number)?;
-            match all_parts(alloc, places, table, else_part, number) {
-                Ok(second) => {
-                    return branches_entry(alloc, places, c, first, second, *number);
-                }
-                Err(error) => {
-                    drop(first);
-                    return Err(error);
-                }
-            }
+            let second = all_parts(alloc, places, table, else_part, number);
+            return branches_entry(alloc, places, c, first, second, *number);
         }
         Stmt::Do(d) => {
             *number = own + 1;
@@ -196,22 +186,37 @@ fn entry_of(
     }
 }
 
-/// What is known of an IF, from what its parts do.
+/// What is known of a statement with this number behind it, from what it does, where that was found.
+fn entry_with(alloc: Global, part: Result<Part, NoMemory>, behind: u32) -> Result<Entry, NoMemory>
+    ensures { IfOk result (λ e. (p : Part) × (part ≡ Ok p) × IsMade p behind e) }
+{
+    Entry::new(alloc, part?, behind)
+}
+
+/// What is known of an IF, from what its parts do, where that of the second one was found.
 fn branches_entry(
     alloc: Global,
     places: &Places,
     c: &Cond,
     first: Part,
-    second: Part,
+    second: Result<Part, NoMemory>,
     behind: u32,
 ) -> Result<Entry, NoMemory>
     requires first { first.sums.width ≡ length (names_in places.now) }
-    requires second { second.sums.width ≡ length (names_in places.now) }
-    ensures { IfOk result (λ e. (n : ℕ) (a b : StmtTrees) → IsPart (names_in places.now) first (λ x. Spec.sum_of_all (constants_in places.now) x a (n + 1)) (λ x. all_first_outside (constants_in places.now) x a (n + 1)) (all_loop_variables a) → IsPart (names_in places.now) second (λ x. Spec.sum_of_all (constants_in places.now) x b (n + 1 + statements_count a)) (λ x. all_first_outside (constants_in places.now) x b (n + 1 + statements_count a)) (all_loop_variables b) → behind ≡ n + statement_count (Tree.If (cond_tree c.now) a b) → IsEntry places.now e (Tree.If (cond_tree c.now) a b) n) }
+    requires second { IfOk second (λ q. q.sums.width ≡ length (names_in places.now)) }
+    ensures { IfOk result (λ e. (q : Part) × (second ≡ Ok q) × ((n : ℕ) (a b : StmtTrees) → IsPart (names_in places.now) first (λ x. Spec.sum_of_all (constants_in places.now) x a (n + 1)) (λ x. all_first_outside (constants_in places.now) x a (n + 1)) (all_loop_variables a) → IsPart (names_in places.now) q (λ x. Spec.sum_of_all (constants_in places.now) x b (n + 1 + statements_count a)) (λ x. all_first_outside (constants_in places.now) x b (n + 1 + statements_count a)) (all_loop_variables b) → behind ≡ n + statement_count (Tree.If (cond_tree c.now) a b) → IsEntry places.now e (Tree.If (cond_tree c.now) a b) n)) }
 {
-    let part = branching(alloc, places, c, first, &second);
-    drop(second);
-    Entry::new(alloc, part?, behind)
+    match second {
+        Ok(second) => {
+            let part = branching(alloc, places, c, first, &second);
+            drop(second);
+            entry_with(alloc, part, behind)
+        }
+        Err(error) => {
+            drop(first);
+            Err(error)
+        }
+    }
 }
 
 /// An IF, from what its parts do.
@@ -254,5 +259,5 @@ fn loop_entry(
 {
     let part = loop_part(alloc, places, d, &body);
     drop(body);
-    Entry::new(alloc, part?, behind)
+    entry_with(alloc, part, behind)
 }

@@ -7,7 +7,7 @@ use Rattle.ped_tree.specs.Constants.ConstantExpressions.{constant_value}
 use Rattle.ped_affine.specs.AffineForms.{Terms, AffineForm, is_limited, within_limits, constant_form, unknown_coefficient, unknown_form, variable_form, combined, combined_form, combination, times, opposite, negation, is_constant_form, product, constant_or, affine_of}
 
 -- where there is a form, it has so many coefficients
-abbrev HasMany : ℕ → Option AffineForm → Type 0
+abbrev pub HasMany : ℕ → Option AffineForm → Type 0
 HasMany n o = (f : AffineForm) → o ≡ Some f → length f.coefficients ≡ n
 
 none_many : (n : ℕ) → HasMany n None

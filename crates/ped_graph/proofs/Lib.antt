@@ -11,6 +11,7 @@ mod Places
 mod Selecting
 mod SideLaws
 mod KnownSides
+mod NamedUnknowns
 mod Slices
 mod Standing
 mod Updated

@@ -1,24 +1,26 @@
 -- The view of two references by what is computed once of each of them.
 use Rattle.std.proofs.Common.{◌≡◌, ℕ, suc, ◌-◌, ◌≤◌, ℤ, List, [], ◌∷◌, ◌++◌, length, map, take, drop, Bool, true, false, cond, Option, Some, None, refl, sym, ap, ◌∙◌, arith}
-use Rattle.std.specs.Prelude.{filter, not, ◌&&◌, ◌||◌, if◌then◌else◌}
+use Rattle.std.specs.Prelude.{filter, not, ◌&&◌, ◌||◌, if◌then◌else◌, is_some, option_map}
 use Rattle.std.specs.List.{AllByRecursion, list_all}
 use Rattle.std.specs.Ordering.{int_eq}
 use Rattle.std.specs.Cmp.Lexicographic.{pointwise}
 use Rattle.std.specs.Bool.{Decides, beq}
 use Rattle.std.specs.Cmp.{booleans_Decides}
 use Rattle.std.proofs.lemmas.Bool.Decides.{Decides-int_eq, Decides-and, Decides-like}
-use Rattle.std.proofs.lemmas.List.{length-drop, drop_all, take_all, length-append}
+use Rattle.std.proofs.lemmas.List.{length-drop, drop_all, take_all, take-append-le, drop-append-le}
 use Rattle.ped_base.specs.Lists.{is_among}
 use Rattle.ped_views.specs.Views.{Range, Row, SubscriptPair, View}
 use Rattle.ped_tree.specs.Tree.{Head, ExprTree, Int, Var, Element, Neg, Add, Sub, Mul, Div, Pow, Call}
+use Rattle.ped_tree.specs.Constants.NamedConstants.{value_named}
 use Rattle.ped_tree.specs.Nests.{Loop, indices_of, common_nest}
-use Rattle.ped_affine.specs.AffineForms.{AffineForm, affine_of, form_variables}
+use Rattle.ped_affine.specs.AffineForms.{Terms, AffineForm, affine_of, form_variables}
 use Rattle.ped_refs.specs.Loops.{nest_of}
 use Rattle.ped_affine.specs.Ranges.{Setting, Around, inside, loop_range, ranges_inside, nest_ranges}
 use Rattle.ped_affine.specs.PairViews.{Site, Depths, depths_of, is_other, other_variables, terms_of, row_of, other_coefficients, usable_pair, unusable, subscript_pair, position_of, positions_of, heads_of, view_at}
 use Rattle.ped_graph.specs.Sides.{is_alone, IsSide, IsLike, IsOwnRow, IsOwnPosition, AreOwnPositions}
 use Rattle.ped_graph.specs.declared.sides.Side.{Side}
 use Rattle.ped_graph.proofs.FormLengths.{form_many}
+use Rattle.ped_graph.proofs.NamedUnknowns.{zeros, padded, affine_padded}
 use Rattle.ped_graph.proofs.Matching.{both_hold, same_number}
 
 -- the derived test on ranges
@@ -30,10 +32,14 @@ range_decided a b =
     same : a.lo ≡ b.lo → a.hi ≡ b.hi → a.step ≡ b.step → a.steady ≡ b.steady → a ≡ b
     same l h s t = λ i. record { lo = l i; hi = h i; step = s i; steady = t i }
 
--- where no item passes, nothing is left
-none_left : {X : Type 0} (p : X → Bool) (xs : List X) → AllByRecursion (λ x. p x ≡ false) xs → filter p xs ≡ []
-none_left p [] h = refl
-none_left p (x ∷ xs) h = ap (λ (t : Bool). cond t (x ∷ filter p xs) (filter p xs)) h.0 ∙ none_left p xs h.1
+-- what passes has what passing gives
+passed : {X : Type 0} (P : X → Type 0) (p : X → Bool) (xs : List X) → AllByRecursion (λ x. p x ≡ true → P x) xs → AllByRecursion P (filter p xs)
+passed P p [] h = tt
+passed {X = X} P p (x ∷ xs) h = go (p x) (filter p xs) h.0 (passed P p xs h.1)
+  where
+    go : (b : Bool) (rest : List X) → (b ≡ true → P x) → AllByRecursion P rest → AllByRecursion P (cond b (x ∷ rest) rest)
+    go true rest f k = (f refl, k)
+    go false rest f k = k
 
 both_all : {X : Type 0} (P : X → Type 0) (xs ys : List X) → AllByRecursion P xs → AllByRecursion P ys → AllByRecursion P (xs ++ ys)
 both_all P [] ys h k = k
@@ -43,39 +49,44 @@ all_weaker : {X : Type 0} (P Q : X → Type 0) → ((x : X) → P x → Q x) →
 all_weaker P Q f [] h = tt
 all_weaker P Q f (x ∷ xs) h = (f x h.0, all_weaker P Q f xs h.1)
 
--- each variable of a subscript that is alone is that of a loop or is assigned
-named : (s : Setting) (nest : List Loop) (e : ExprTree) → is_alone s nest e ≡ true → AllByRecursion (λ x. (is_among x (indices_of nest) || is_among x s.assigned) ≡ true) (form_variables e)
+-- each variable of a subscript that is alone is that of a loop, or assigned, or a named constant
+abbrev is_told : Setting → List Loop → List ℕ → Bool
+is_told s nest x = is_among x (indices_of nest) || is_among x s.assigned || is_some (value_named s.constants x)
+
+named : (s : Setting) (nest : List Loop) (e : ExprTree) → is_alone s nest e ≡ true → AllByRecursion (λ x. is_told s nest x ≡ true) (form_variables e)
 named s nest (Int n) h = tt
 named s nest (Var x) h = (h, tt)
 named s nest (Element x subscripts) h = tt
 named s nest (Neg a) h = named s nest a h
-named s nest (Add a b) h = (let is = both_hold _ _ h in both_all (λ x. (is_among x (indices_of nest) || is_among x s.assigned) ≡ true) (form_variables a) (form_variables b) (named s nest a is.0) (named s nest b is.1))
-named s nest (Sub a b) h = (let is = both_hold _ _ h in both_all (λ x. (is_among x (indices_of nest) || is_among x s.assigned) ≡ true) (form_variables a) (form_variables b) (named s nest a is.0) (named s nest b is.1))
-named s nest (Mul a b) h = (let is = both_hold _ _ h in both_all (λ x. (is_among x (indices_of nest) || is_among x s.assigned) ≡ true) (form_variables a) (form_variables b) (named s nest a is.0) (named s nest b is.1))
+named s nest (Add a b) h = (let is = both_hold _ _ h in both_all (λ x. is_told s nest x ≡ true) (form_variables a) (form_variables b) (named s nest a is.0) (named s nest b is.1))
+named s nest (Sub a b) h = (let is = both_hold _ _ h in both_all (λ x. is_told s nest x ≡ true) (form_variables a) (form_variables b) (named s nest a is.0) (named s nest b is.1))
+named s nest (Mul a b) h = (let is = both_hold _ _ h in both_all (λ x. is_told s nest x ≡ true) (form_variables a) (form_variables b) (named s nest a is.0) (named s nest b is.1))
 named s nest (Div a b) h = tt
 named s nest (Pow a b) h = tt
 named s nest (Call f arguments) h = tt
 
--- such a variable is no other
-not_first : (u v w : Bool) → (u || w) ≡ true → (not u && not v && not w) ≡ false
-not_first true v w e = refl
-not_first false true w e = refl
-not_first false false true e = refl
-not_first false false false e = cc
+-- such a variable is another one only where it is a named constant
+first_other : (u v w c : Bool) → (u || w || c) ≡ true → (not u && not v && not w) ≡ true → c ≡ true
+first_other true v w c h k = cc
+first_other false true w c h k = cc
+first_other false false true c h k = cc
+first_other false false false c h k = h
 
-not_second : (u v w : Bool) → (v || w) ≡ true → (not u && not v && not w) ≡ false
-not_second true v w e = refl
-not_second false true w e = refl
-not_second false false true e = refl
-not_second false false false e = cc
+second_other : (u v w c : Bool) → (v || w || c) ≡ true → (not u && not v && not w) ≡ true → c ≡ true
+second_other true v w c h k = cc
+second_other false true w c h k = cc
+second_other false false true c h k = cc
+second_other false false false c h k = h
 
--- two subscripts that are alone have no other variables together
-none_other : (s : Setting) (a b : Site) (e g : ExprTree) → is_alone s a.nest e ≡ true → is_alone s b.nest g ≡ true → other_variables s a b e g ≡ []
-none_other s a b e g h k =
-    none_left (is_other s a b) (form_variables e ++ form_variables g)
-    (both_all (λ x. is_other s a b x ≡ false) (form_variables e) (form_variables g)
-    (all_weaker _ (λ x. is_other s a b x ≡ false) (λ x n. not_first (is_among x (indices_of a.nest)) (is_among x (indices_of b.nest)) (is_among x s.assigned) n) (form_variables e) (named s a.nest e h))
-    (all_weaker _ (λ x. is_other s a b x ≡ false) (λ x n. not_second (is_among x (indices_of a.nest)) (is_among x (indices_of b.nest)) (is_among x s.assigned) n) (form_variables g) (named s b.nest g k)))
+-- other variables of two subscripts that are alone are named constants
+others_named : (s : Setting) (a b : Site) (e g : ExprTree) → is_alone s a.nest e ≡ true → is_alone s b.nest g ≡ true → AllByRecursion (λ x. is_some (value_named s.constants x) ≡ true) (other_variables s a b e g)
+others_named s a b e g h k =
+    passed (λ x. is_some (value_named s.constants x) ≡ true) (is_other s a b) (form_variables e ++ form_variables g)
+    (both_all (λ x. is_other s a b x ≡ true → is_some (value_named s.constants x) ≡ true) (form_variables e) (form_variables g)
+    (all_weaker _ (λ x. is_other s a b x ≡ true → is_some (value_named s.constants x) ≡ true)
+    (λ x n. first_other (is_among x (indices_of a.nest)) (is_among x (indices_of b.nest)) (is_among x s.assigned) (is_some (value_named s.constants x)) n) (form_variables e) (named s a.nest e h))
+    (all_weaker _ (λ x. is_other s a b x ≡ true → is_some (value_named s.constants x) ≡ true)
+    (λ x n. second_other (is_among x (indices_of a.nest)) (is_among x (indices_of b.nest)) (is_among x s.assigned) (is_some (value_named s.constants x)) n) (form_variables g) (named s b.nest g k)))
 
 -- all loops of a nest are common with itself
 common_itself : (ls : List Loop) → common_nest ls ls ≡ ls
@@ -96,32 +107,42 @@ used n (Some f) (Some g) h = (f, g, refl, refl, go (pointwise int_eq (other_coef
 used n (Some f) None h = cc
 used n None b h = cc
 
+-- the names of the loops alone
+abbrev own_terms : Setting → List Loop → Terms
+own_terms s nest = record { constants = s.constants; unknowns = indices_of nest }
+
+-- a form with zeros behind it
+padded_form : (names : List (List ℕ)) (o p : Option AffineForm) (f : AffineForm) → o ≡ option_map (padded names) p → o ≡ Some f → (g : AffineForm) × (p ≡ Some g) × (f ≡ padded names g)
+padded_form names o (Some g) f is there = (g, refl, some_form (sym there ∙ is))
+  where
+    some_form : Some f ≡ Some (padded names g) → f ≡ padded names g
+    some_form e = cc
+padded_form names o None f is there = cc
+
 -- the form of a subscript that is alone, by its position with itself
 record OwnForm (s : Setting) (p : Site) (e : ExprTree) (q : SubscriptPair) : Type 0 where
   form : AffineForm
-  affine : affine_of (terms_of s p.nest []) e ≡ Some form
+  affine : affine_of (own_terms s p.nest) e ≡ Some form
   many : length form.coefficients ≡ length p.nest
   coefficients : q.source.common ≡ form.coefficients
   constant : q.source.constant ≡ form.constant
 
 own_form : (s : Setting) (p : Site) (e : ExprTree) (q : SubscriptPair) → q ≡ position_of s p p e e → q.usable ≡ true → is_alone s p.nest e ≡ true → OwnForm s p e q
 own_form s p e q is usable alone =
-    let none = none_other s p p e e alone alone in
-    let there = used (depths_of p p) (affine_of (terms_of s p.nest (other_variables s p p e e)) e) (affine_of (terms_of s p.nest (other_variables s p p e e)) e) (ap (λ (r : SubscriptPair). r.usable) (sym is) ∙ usable) in
-    let f = there.0 in
-    let affine : affine_of (terms_of s p.nest []) e ≡ Some f = ap (λ (names : List (List ℕ)). affine_of (terms_of s p.nest names) e) (sym none) ∙ there.2 in
-    let front = length-append (indices_of p.nest) [] in
-    let mapped = length-mapped (λ (l : Loop). l.head.variable) p.nest in
-    let unknowns : length (indices_of p.nest ++ []) ≡ length p.nest = omega (arith, front, mapped) in
-    let many : length f.coefficients ≡ length p.nest = form_many (terms_of s p.nest []) e f affine ∙ unknowns in
+    let others = other_variables s p p e e in
+    let there = used (depths_of p p) (affine_of (terms_of s p.nest others) e) (affine_of (terms_of s p.nest others) e) (ap (λ (r : SubscriptPair). r.usable) (sym is) ∙ usable) in
+    let part = padded_form others (affine_of (terms_of s p.nest others) e) (affine_of (own_terms s p.nest) e) there.0 (affine_padded others s.constants (others_named s p p e e alone alone) (indices_of p.nest) e) there.2 in
+    let f = part.0 in
+    let many : length f.coefficients ≡ length p.nest = form_many (own_terms s p.nest) e f part.1 ∙ length-mapped (λ (l : Loop). l.head.variable) p.nest in
     let common : length (common_nest p.nest p.nest) ≡ length p.nest = ap length (common_itself p.nest) in
-    let pair : q ≡ usable_pair (depths_of p p) f there.1 = is ∙ there.4 in
+    let pair : q ≡ usable_pair (depths_of p p) there.0 there.1 = is ∙ there.4 in
     record {
       form = f;
-      affine = affine;
+      affine = part.1;
       many = many;
-      coefficients = ap (λ (r : SubscriptPair). r.source.common) pair ∙ ap (λ (n : ℕ). take n f.coefficients) common ∙ take_all (length p.nest) f.coefficients (omega (arith, many));
-      constant = ap (λ (r : SubscriptPair). r.source.constant) pair;
+      coefficients = ap (λ (r : SubscriptPair). r.source.common) pair ∙ (λ i. take (common i) (part.2 i).coefficients)
+          ∙ take-append-le (length p.nest) f.coefficients (zeros others) (omega (arith, many)) ∙ take_all (length p.nest) f.coefficients (omega (arith, many));
+      constant = ap (λ (r : SubscriptPair). r.source.constant) pair ∙ ap (λ (g : AffineForm). g.constant) part.2;
     }
 
 -- a row of a form, divided behind the common loops
@@ -133,9 +154,26 @@ row_told common n own row f is at_coefficients at_constant many =
     let constant : row.constant ≡ f.constant = is.constant ∙ at_constant in
     λ i. record { common = front i; inner = inner i; constant = constant i }
 
--- nothing stands behind the coefficients of the loops
-no_more : (common n : ℕ) (f : AffineForm) → common ≤ n → length f.coefficients ≡ n → other_coefficients common (n - common) f ≡ []
-no_more common n f within many = drop_all (n - common) (drop common f.coefficients) (omega (arith, within, many, length-drop common f.coefficients))
+module _ (names : List (List ℕ)) (common n : ℕ) (f : AffineForm) (within : common ≤ n) (many : length f.coefficients ≡ n) where
+  -- zeros behind a form aren't in its row
+  row_padded : row_of common (n - common) (padded names f) ≡ row_of common (n - common) f
+  row_padded =
+      let front = take-append-le common f.coefficients (zeros names) (omega (arith, within, many)) in
+      let behind = drop-append-le common f.coefficients (zeros names) (omega (arith, within, many)) in
+      let inner = take-append-le (n - common) (drop common f.coefficients) (zeros names) (omega (arith, within, many, length-drop common f.coefficients)) in
+      λ i. record { common = front i; inner = (ap (λ (xs : List ℤ). take (n - common) xs) behind ∙ inner) i; constant = f.constant }
+
+  -- nothing else stands behind the coefficients of the loops
+  others_padded : other_coefficients common (n - common) (padded names f) ≡ zeros names
+  others_padded =
+      let behind = drop-append-le common f.coefficients (zeros names) (omega (arith, within, many)) in
+      let rest = length-drop common f.coefficients in
+      ap (λ (xs : List ℤ). drop (n - common) xs) behind ∙ drop-append-le (n - common) (drop common f.coefficients) (zeros names) (omega (arith, within, many, rest))
+      ∙ ap (λ (xs : List ℤ). xs ++ zeros names) (drop_all (n - common) (drop common f.coefficients) (omega (arith, within, many, rest)))
+
+same_zeros : (names : List (List ℕ)) → pointwise int_eq (zeros names) (zeros names) ≡ true
+same_zeros [] = refl
+same_zeros (x ∷ names) = same_zeros names
 
 module _ (s : Setting) (a b : Site) (common : ℕ) (is : common ≡ length (common_nest a.nest b.nest)) where
   -- a position by those of its subscripts with themselves
@@ -145,21 +183,27 @@ module _ (s : Setting) (a b : Site) (common : ℕ) (is : common ≡ length (comm
       let n = length b.nest in
       let f = own_form s a e p at_first told.first first in
       let h = own_form s b g q at_second told.second second in
-      let none = none_other s a b e g first second in
-      let left : affine_of (terms_of s a.nest (other_variables s a b e g)) e ≡ Some f.form = ap (λ (names : List (List ℕ)). affine_of (terms_of s a.nest names) e) none ∙ f.affine in
-      let right : affine_of (terms_of s b.nest (other_variables s a b e g)) g ≡ Some h.form = ap (λ (names : List (List ℕ)). affine_of (terms_of s b.nest names) g) none ∙ h.affine in
+      let others = other_variables s a b e g in
+      let named = others_named s a b e g first second in
+      let left : affine_of (terms_of s a.nest others) e ≡ Some (padded others f.form) = affine_padded others s.constants named (indices_of a.nest) e ∙ ap (option_map (padded others)) f.affine in
+      let right : affine_of (terms_of s b.nest others) g ≡ Some (padded others h.form) = affine_padded others s.constants named (indices_of b.nest) g ∙ ap (option_map (padded others)) h.affine in
       let d : Depths = record { common = common; source = m - common; sink = n - common } in
       let same : d ≡ depths_of a b = λ i. record { common = is i; source = m - is i; sink = n - is i } in
       let own_first = f.coefficients in
       let own_second = h.coefficients in
       let within_first : common ≤ m = (let below = told.source.within in let long = ap length own_first in let many = f.many in omega (arith, below, long, many)) in
       let within_second : common ≤ n = (let below = told.sink.within in let long = ap length own_second in let many = h.many in omega (arith, below, long, many)) in
-      let none_first = no_more common m f.form within_first f.many in
-      let none_second = no_more common n h.form within_second h.many in
+      let zeros_first = others_padded others common m f.form within_first f.many in
+      let zeros_second = others_padded others common n h.form within_second h.many in
+      let row_first = row_padded others common m f.form within_first f.many in
+      let row_second = row_padded others common n h.form within_second h.many in
       let source = row_told common m p.source r.source f.form told.source f.coefficients f.constant f.many in
       let sink = row_told common n q.source r.sink h.form told.sink h.coefficients h.constant h.many in
       let usable = told.usable in
-      let made : subscript_pair d (Some f.form) (Some h.form) ≡ usable_pair d f.form h.form = λ i. if pointwise int_eq (none_first i) (none_second i) then usable_pair d f.form h.form else unusable d in
+      let made : subscript_pair d (Some (padded others f.form)) (Some (padded others h.form)) ≡ usable_pair d f.form h.form =
+      (λ i. if pointwise int_eq (zeros_first i) (zeros_second i) then usable_pair d (padded others f.form) (padded others h.form) else unusable d)
+      ∙ ap (λ (t : Bool). if t then usable_pair d (padded others f.form) (padded others h.form) else unusable d) (same_zeros others)
+      ∙ (λ i. record { usable = true; source = row_first i; sink = row_second i }) in
       (λ i. record { usable = usable i; source = source i; sink = sink i }) ∙ sym made ∙ (λ i. subscript_pair (same i) (sym left i) (sym right i))
 
   -- the positions by those of the subscripts with themselves

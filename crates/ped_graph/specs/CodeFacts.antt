@@ -1,11 +1,11 @@
--- What the code keeps of a pair of references: what is known without a test, and its verdict (this project).
+-- What the code keeps of a pair of references: what is known without a test, its view, and its verdict (this project).
 use Rattle.std.specs.Prelude.{◌≡◌, List, [], ◌∷◌, map, length, Option, Some, None}
 use Rattle.ped_views.specs.Views.{View}
 use Rattle.ped_refs.specs.Occurrences.{name_text}
 use Rattle.ped_edges.specs.CodeEdges.{kind_of}
 use Rattle.ped_graph.specs.Held.{Framed, HeldFrame, Pair, pair_by}
 use Rattle.ped_graph.specs.declared.facts.Facts.{Facts as CodeFacts}
-use Rattle.ped_graph.specs.declared.edges.TestedPair.{TestedPair}
+use Rattle.ped_graph.specs.declared.edges.SeenPair.{SeenPair}
 
 -- what the code knows of a pair without a test
 abbrev pub framed_of : CodeFacts → Framed
@@ -20,9 +20,9 @@ framed_of f = record {
   rejecting = f.rejecting;
 }
 
--- the pair that was tested
-abbrev pub pair_tested : {L : _} → TestedPair L → Pair
-pair_tested p = pair_by (framed_of p.facts.now) p.verdict.now
+-- the pair with its view
+abbrev pub pair_seen : SeenPair → Pair
+pair_seen p = pair_by (framed_of p.facts.now) p.view.now
 
 -- the verdicts that are there, by their views
 abbrev pub views_in : List (Option View) → List View

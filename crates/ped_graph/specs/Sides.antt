@@ -1,19 +1,20 @@
 -- What the code computes once of a reference for all its pairs (this project).
-use Rattle.std.specs.Prelude.{◌≡◌, ℕ, ◌≤◌, List, [], ◌∷◌, length, take, drop, Bool, true, ◌||◌, ◌&&◌}
+use Rattle.std.specs.Prelude.{◌≡◌, ℕ, ◌≤◌, List, [], ◌∷◌, length, take, drop, Bool, true, ◌||◌, ◌&&◌, is_some}
 use Rattle.std.specs.List.{list_all}
 use Rattle.ped_base.specs.Lists.{is_among}
 use Rattle.ped_views.specs.Views.{Row, SubscriptPair, View}
 use Rattle.ped_tree.specs.Tree.{ExprTree, Int, Var, Element, Neg, Add, Sub, Mul, Div, Pow, Call}
+use Rattle.ped_tree.specs.Constants.NamedConstants.{value_named}
 use Rattle.ped_tree.specs.Nests.{Loop, indices_of}
 use Rattle.ped_refs.specs.Loops.{nest_of}
 use Rattle.ped_affine.specs.Ranges.{Setting}
 use Rattle.ped_affine.specs.PairViews.{Site, view_at}
 use Rattle.ped_graph.specs.declared.sides.Side.{Side}
 
--- each variable of which an affine form could be made is that of a loop round the subscript, or the outermost DO assigns it (Allen and Kennedy, section 3.1)
+-- each variable of which an affine form could be made is that of a loop round the subscript, or the outermost DO assigns it, or it is a named constant (Allen and Kennedy, section 3.1)
 abbrev pub is_alone : Setting → List Loop → ExprTree → Bool
 is_alone s nest (Int n) = true
-is_alone s nest (Var x) = is_among x (indices_of nest) || is_among x s.assigned
+is_alone s nest (Var x) = is_among x (indices_of nest) || is_among x s.assigned || is_some (value_named s.constants x)
 is_alone s nest (Element x subscripts) = true
 is_alone s nest (Neg a) = is_alone s nest a
 is_alone s nest (Add a b) = is_alone s nest a && is_alone s nest b

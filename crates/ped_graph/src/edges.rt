@@ -1,4 +1,4 @@
-//! The dependences of tested pairs.
+//! The dependences of pairs by their views.
 
 ghost use Rattle.std.specs.Prelude.{◌≡◌, ◌++◌, ◌≤◌, ◌<◌, List, Some, map, take, length, slice_get, All, IfOk, OnOk};
 ghost use Rattle.std.specs.List.{list_all};
@@ -9,26 +9,26 @@ ghost use Rattle.ped_graph.specs.Marks.{mark_by};
 ghost use Rattle.ped_graph.specs.Dependences as Spec;
 ghost use Rattle.ped_graph.specs.Held as Held;
 ghost use Rattle.ped_graph.specs.HeldPairs.{HeldPairEdges, AreHeldEdges, held_carried};
-ghost use Rattle.ped_graph.specs.Held.{pairs_by};
-ghost use Rattle.ped_graph.specs.CodeFacts.{framed_of, pair_tested, views_in};
+ghost use Rattle.ped_graph.specs.Held.{pair_by, pairs_by};
+ghost use Rattle.ped_graph.specs.CodeFacts.{framed_of, pair_seen, views_in};
 
 use crate::facts::Facts;
 use crate::parts::Slot;
 use crate::telling::is_telling;
 use ped_base::NoMemory;
 use ped_edges::{Edge, Mark};
-use ped_verdict::{Vector, Verdict};
-use ped_views::Direction;
+use ped_verdict::{Vector, Verdict, distance, vectors_of as possible_vectors_of};
+use ped_views::{Direction, PairView};
 use std::alloc::Global;
 use std::sync::ledger::Ledger;
 
-/// A pair of references that was tested.
+/// A pair of references with its view.
 #[derive(Clone, Copy)]
-pub struct TestedPair<'a, L: Ledger> {
+pub struct SeenPair<'a> {
     /// What is known of it without a test.
     pub facts: &'a Facts,
-    /// What the tests say.
-    pub verdict: &'a Verdict<L>,
+    /// Its view.
+    pub view: &'a PairView,
 }
 
 /// The dependences of pairs, pair by pair.
@@ -44,12 +44,39 @@ pub fn all_edges<L: Ledger>(
 {
     let mut edges = Vec::new(alloc);
     for (place, facts) in pairs.iter().enumerate() {
-        let pair = TestedPair {
-            facts,
-            verdict: verdict_at(verdicts, place),
-        };
-        push_edges(alloc, &mut edges, &pair)?;
+        push_tested(alloc, &mut edges, facts, verdict_at(verdicts, place))?;
     }
+    Ok(edges)
+}
+
+/// Adds the dependences of a pair that was tested.
+fn push_tested<L: Ledger>(
+    alloc: Global,
+    edges: &mut Vec<Edge>,
+    facts: &Facts,
+    verdict: &Verdict<L>,
+) -> Result<(), NoMemory>
+    ensures edges { OnOk result ((added : List plain.Edge) × (map edge_of edges.new.items ≡ map edge_of edges.old.items ++ added)
+        × HeldPairEdges (pair_by (framed_of facts.now) verdict.now) added) }
+    ensures short { OnOk result (All HasAtMostSixLoops edges.old.items → All HasAtMostSixLoops edges.new.items) }
+{
+    let vectors = verdict.vectors(alloc)?;
+    let pair = SeenPair {
+        facts,
+        view: verdict.view(),
+    };
+    push_shared(alloc, edges, &pair, loop_count(pair.view), &vectors)
+}
+
+/// The dependences of a pair with this view, which isn't tested: no verdict is made and no test counted.
+pub fn edges_of_pair(alloc: Global, facts: &Facts, view: &PairView) -> Result<Vec<Edge>, NoMemory>
+    ensures edges { IfOk result (λ edges. HeldPairEdges (pair_by (framed_of facts.now) view.now) (map edge_of edges.items)) }
+    ensures short { IfOk result (λ edges. All HasAtMostSixLoops edges.items) }
+{
+    let mut edges = Vec::new(alloc);
+    let vectors = possible_vectors_of(alloc, view)?;
+    let pair = SeenPair { facts, view };
+    push_shared(alloc, &mut edges, &pair, loop_count(view), &vectors)?;
     Ok(edges)
 }
 
@@ -62,32 +89,17 @@ fn verdict_at<L: Ledger>(verdicts: &[Slot<L>], place: usize) -> &Verdict<L>
     verdicts[place].verdict()
 }
 
-/// Adds the dependences of a pair: carried by each common loop in turn, and then independent of loops.
-fn push_edges<L: Ledger>(
-    alloc: Global,
-    edges: &mut Vec<Edge>,
-    pair: &TestedPair<'_, L>,
-) -> Result<(), NoMemory>
-    ensures edges { OnOk result ((added : List plain.Edge) × (map edge_of edges.new.items ≡ map edge_of edges.old.items ++ added)
-        × HeldPairEdges (pair_tested pair.now) added) }
-    ensures short { OnOk result (All HasAtMostSixLoops edges.old.items → All HasAtMostSixLoops edges.new.items) }
-{
-    let vectors = pair.verdict.vectors(alloc)?;
-    let loops = loop_count(pair.verdict);
-    push_shared(alloc, edges, pair, loops, &vectors)
-}
-
 /// Adds the dependences of a pair with so many common loops and these vectors, none where the references mean different private copies.
-fn push_shared<L: Ledger>(
+fn push_shared(
     alloc: Global,
     edges: &mut Vec<Edge>,
-    pair: &TestedPair<'_, L>,
+    pair: &SeenPair<'_>,
     loops: u8,
     vectors: &[Vector],
 ) -> Result<(), NoMemory>
-    requires loops { loops ≡ length pair.now.verdict.now.loops }
+    requires loops { loops ≡ length pair.now.view.now.loops }
     requires few { loops ≤ 6 }
-    ensures edges { OnOk result (map edge_of edges.new.items ≡ map edge_of edges.old.items ++ Held.held_edges (pair_tested pair.now) vectors.now) }
+    ensures edges { OnOk result (map edge_of edges.new.items ≡ map edge_of edges.old.items ++ Held.held_edges (pair_seen pair.now) vectors.now) }
     ensures short { OnOk result (All HasAtMostSixLoops edges.old.items → All HasAtMostSixLoops edges.new.items) }
 {
     match pair.facts.owner {
@@ -100,16 +112,16 @@ fn push_shared<L: Ledger>(
 }
 
 /// Adds the dependences of a pair with so many common loops and these vectors, divided by the loop that carries them.
-fn push_divided<L: Ledger>(
+fn push_divided(
     alloc: Global,
     edges: &mut Vec<Edge>,
-    pair: &TestedPair<'_, L>,
+    pair: &SeenPair<'_>,
     loops: u8,
     vectors: &[Vector],
 ) -> Result<(), NoMemory>
-    requires loops { loops ≡ length pair.now.verdict.now.loops }
+    requires loops { loops ≡ length pair.now.view.now.loops }
     requires few { loops ≤ 6 }
-    ensures edges { OnOk result (map edge_of edges.new.items ≡ map edge_of edges.old.items ++ Held.held_divided (pair_tested pair.now) vectors.now) }
+    ensures edges { OnOk result (map edge_of edges.new.items ≡ map edge_of edges.old.items ++ Held.held_divided (pair_seen pair.now) vectors.now) }
     ensures short { OnOk result (All HasAtMostSixLoops edges.old.items → All HasAtMostSixLoops edges.new.items) }
 {
     push_carried(alloc, edges, pair, loops, vectors)?;
@@ -120,16 +132,16 @@ fn push_divided<L: Ledger>(
 }
 
 /// Adds the dependences of a pair that so many common loops carry.
-fn push_carried<L: Ledger>(
+fn push_carried(
     alloc: Global,
     edges: &mut Vec<Edge>,
-    pair: &TestedPair<'_, L>,
+    pair: &SeenPair<'_>,
     loops: u8,
     vectors: &[Vector],
 ) -> Result<(), NoMemory>
     requires { loops ≤ 6 }
     ensures edges { OnOk result (map edge_of edges.new.items ≡ map edge_of edges.old.items
-        ++ held_carried (pair_tested pair.now) vectors.now loops) }
+        ++ held_carried (pair_seen pair.now) vectors.now loops) }
     ensures short { OnOk result (All HasAtMostSixLoops edges.old.items → All HasAtMostSixLoops edges.new.items) }
 {
     for place in 0..loops {
@@ -139,11 +151,11 @@ fn push_carried<L: Ledger>(
 }
 
 /// How many common loops a pair has.
-fn loop_count<L: Ledger>(verdict: &Verdict<L>) -> u8
-    ensures count { result ≡ length verdict.now.loops }
+fn loop_count(view: &PairView) -> u8
+    ensures count { result ≡ length view.now.loops }
     ensures few { result ≤ 6 }
 {
-    verdict.view().loops.len() as u8
+    view.loops.len() as u8
 }
 
 /// The vectors with `=` at the first levels.
@@ -188,22 +200,22 @@ fn is_same(direction: Direction) -> bool
 }
 
 /// Adds the dependence of a level, none for what is independent of loops, where it has vectors.
-fn push_edge<L: Ledger>(
+fn push_edge(
     alloc: Global,
     edges: &mut Vec<Edge>,
-    pair: &TestedPair<'_, L>,
+    pair: &SeenPair<'_>,
     level: Option<u8>,
     vectors: &[Vector],
 ) -> Result<(), NoMemory>
     ensures edges { OnOk result (map edge_of edges.new.items ≡ map edge_of edges.old.items
-        ++ Held.held_edge (pair_tested pair.now) level (Spec.vectors_of level vectors.now)) }
+        ++ Held.held_edge (pair_seen pair.now) level (Spec.vectors_of level vectors.now)) }
     ensures short { OnOk result (All HasAtMostSixLoops edges.old.items → All HasAtMostSixLoops edges.new.items) }
 {
     let vectors = vectors_of(alloc, level, vectors)?;
     if vectors.is_empty() {
         return Ok(());
     }
-    let distances = distances_of(alloc, pair.verdict)?;
+    let distances = distances_of(alloc, pair.view)?;
     edges.push(Edge {
         source: pair.facts.source,
         sink: pair.facts.sink,
@@ -256,25 +268,22 @@ fn is_level(level: Option<u8>, other: u8) -> bool
 }
 
 /// The distance in each common loop.
-fn distances_of<L: Ledger>(
-    alloc: Global,
-    verdict: &Verdict<L>,
-) -> Result<Vec<Option<i128>>, NoMemory>
-    ensures distances { IfOk result (λ distances. distances.items ≡ Spec.distances_of verdict.now) }
+fn distances_of(alloc: Global, view: &PairView) -> Result<Vec<Option<i128>>, NoMemory>
+    ensures distances { IfOk result (λ distances. distances.items ≡ Spec.distances_of view.now) }
     ensures short { IfOk result (λ distances. length distances.items ≤ 6) }
 {
     let mut distances = Vec::new(alloc);
-    for place in 0..loop_count(verdict) {
-        distances.push(verdict.distance(place as usize + 1))?;
+    for place in 0..loop_count(view) {
+        distances.push(distance(view, place as usize))?;
     }
     Ok(distances)
 }
 
 /// Whether the dependences of a pair are proven.
-fn is_proven<L: Ledger>(pair: &TestedPair<'_, L>) -> bool
-    ensures { result ≡ (pair_tested pair.now).proven }
+fn is_proven(pair: &SeenPair<'_>) -> bool
+    ensures { result ≡ (pair_seen pair.now).proven }
 {
-    pair.facts.firm && is_telling(pair.verdict)
+    pair.facts.firm && is_telling(pair.view)
 }
 
 /// The mark of the dependence of a level of a pair, of which it is known whether it is proven.

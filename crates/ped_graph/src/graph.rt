@@ -6,15 +6,15 @@ ghost use Rattle.ped_tree.specs.Numbering.{statement_with, statements_count};
 ghost use Rattle.ped_tree.specs.Views.{program_tree};
 ghost use Rattle.ped_symbols.specs.NameRefusals.{IsValid};
 ghost use Rattle.ped_symbols.specs.Kinds.{table_of};
-ghost use Rattle.ped_refs.specs.References.{references, pair_count};
+ghost use Rattle.ped_refs.specs.References.{Reference, references, pairs, pair_count};
 ghost use Rattle.ped_edges.specs.CodeEdges.{edge_of, HasAtMostSixLoops};
 ghost use Rattle.ped_edges.specs.Edges as plain;
-ghost use Rattle.ped_graph.specs.Dependences.{AreEdges};
+ghost use Rattle.ped_graph.specs.Dependences.{PairEdges, AreEdges};
 ghost use Rattle.ped_graph.specs.DependencePane as Pane;
 ghost use Rattle.ped_graph.specs.Held.{Held, held_of};
 ghost use Rattle.ped_graph.specs.Parts.{Fit, turned};
 
-use crate::edges::all_edges;
+use crate::edges::{all_edges, edges_of_pair};
 use crate::extents::extents;
 use crate::frames::Frame;
 use crate::parts::{Parts, Slot, exchange_kept, turn};
@@ -68,6 +68,20 @@ impl Model for Prepared {
     ghost Value = { Held };
 
     ghost view = { λ p. record { frame = p.frame; views = p.views.items } };
+}
+
+impl Prepared {
+    /// The dependences of a pair, which isn't tested: no verdict is made and no test counted. Pairs count from 0.
+    pub fn edges_of(&self, alloc: Global, n: u64) -> Result<Vec<Edge>, NoMemory>
+        requires pairs { n < length self.now.frame.pairs }
+        requires views { n < length self.now.views }
+        ensures edges { IfOk result (λ edges. (t : ProgramTree) (p : Reference × Reference) → self.now ≡ held_of t → slice_get (pairs (references t)) n ≡ Some p
+            → PairEdges t p.0 p.1 (map edge_of edges.items)) }
+        ensures short { IfOk result (λ edges. All HasAtMostSixLoops edges.items) }
+    {
+        let place = n as usize;
+        edges_of_pair(alloc, &self.frame.pairs()[place], &self.views[place])
+    }
 }
 
 /// What the graph of a valid program knows before its pairs are tested, where these are its named constants.

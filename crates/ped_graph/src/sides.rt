@@ -27,7 +27,8 @@ pub struct Side<'a> {
     pub nest: &'a [Loop<'a>],
     /// The view of the reference paired with itself: all its loops are common.
     pub own: PairView,
-    /// Whether no subscript has a variable other than those of the loops and those that the outermost DO assigns.
+    /// Whether no subscript has a variable other than those of the loops, those that the outermost DO assigns, and named
+    /// constants.
     pub alone: bool,
 }
 
@@ -49,7 +50,8 @@ pub fn side_at<'a>(
     })
 }
 
-/// Whether no subscript has a variable other than those of these loops and those that the outermost DO assigns.
+/// Whether no subscript has a variable other than those of these loops, those that the outermost DO assigns, and named
+/// constants.
 fn are_alone(setting: &Setting, nest: &[Loop], subscripts: &[Expr]) -> bool
     ensures { result ≡ list_all (Spec.is_alone (setting_of setting.now) (nest_of nest.now)) (map expr_tree subscripts.now) }
 {
@@ -67,7 +69,9 @@ fn is_alone(setting: &Setting, nest: &[Loop], e: &Expr) -> bool
     ensures { result ≡ Spec.is_alone (setting_of setting.now) (nest_of nest.now) (expr_tree e.now) }
 {
     match e {
-        Expr::Var(name) => is_index(name, nest) || setting.assigned.contains(name),
+        Expr::Var(name) => is_index(name, nest)
+            || setting.assigned.contains(name)
+            || setting.constants.get(name).is_some(),
         Expr::Neg(a) => is_alone(setting, nest, a),
         Expr::Add(a, b) => is_alone(setting, nest, a) && is_alone(setting, nest, b),
         Expr::Sub(a, b) => is_alone(setting, nest, a) && is_alone(setting, nest, b),

@@ -1,18 +1,17 @@
-//! Verdicts that tell a dependence.
+//! Tests that tell a dependence.
 
 ghost use Rattle.std.specs.Prelude.{◌≡◌};
 ghost use Rattle.std.specs.List.{list_all};
 ghost use Rattle.ped_graph.specs.Marks as Spec;
 
-use ped_verdict::Verdict;
+use ped_verdict::is_exact;
 use ped_views::{LoopRange, PairView};
-use std::sync::ledger::Ledger;
 
-/// Whether the tests tell a dependence that they leave.
-pub fn is_telling<L: Ledger>(verdict: &Verdict<L>) -> bool
-    ensures { result ≡ Spec.is_telling verdict.now }
+/// Whether the tests of a view tell a dependence that they leave.
+pub fn is_telling(view: &PairView) -> bool
+    ensures { result ≡ Spec.is_telling view.now }
 {
-    all_run_twice(verdict.view()) && verdict.is_exact()
+    all_run_twice(view) && is_exact(view)
 }
 
 /// Whether all loops of a view run at least twice.

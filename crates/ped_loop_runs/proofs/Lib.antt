@@ -1,1 +1,3 @@
+pub mod PastingLaws
+pub mod TidyLaws
 pub mod LoopLaws

@@ -17,6 +17,10 @@ pub mod LoopParts
 pub mod PlacedLoops
 pub mod OneForOneRaces
 pub mod RacesInOrder
+pub mod ApartTurns
+pub mod ChangedPairs
+pub mod OldRaces
+pub mod UnwantedNames
 pub mod RacesReversed
 pub mod OneForOne
 pub mod Examples

@@ -1,4 +1,15 @@
-pub use Rattle.ped_tidy
+pub use Rattle.ped_bodies
+pub mod Executions
+pub mod Copies
+pub mod Pasting
+pub mod Meaning
+pub mod Numbers
+pub mod Statements
+pub mod Places
+pub mod OtherCopies
+pub mod Unrejected
+pub mod Exchanges
+pub mod Writing
 pub mod Carried
 pub mod Bounds
 pub mod OneForOne

@@ -1,19 +1,9 @@
 -- A DO of which no variable is read outside it is contained.
-use Rattle.std.proofs.Common.{ℕ, zero, suc, ◌<◌, ◌≤◌, Some, refl, inl, inr, arith}
+use Rattle.std.proofs.Common.{ℕ, refl, inl, inr}
 use Rattle.ped_tree.specs.Tree.{ProgramTree}
-use Rattle.ped_scalar.specs.ped_rules.specs.ped_loop_runs.specs.ped_tidy.specs.ped_pasting.specs.ped_bodies.specs.ped_steps.specs.ped_flow.specs.Questions.{LoopOf, IsFirst, IsBrokenBy, IsLiveAfter, IsContained}
+use Rattle.ped_scalar.specs.ped_rules.specs.ped_loop_runs.specs.ped_bodies.specs.ped_steps.specs.ped_flow.specs.Questions.{LoopOf, IsBrokenBy, IsLiveAfter, IsContained}
 use Rattle.ped_scalar.specs.ped_rules.specs.Rules.{WhereEscape}
-
--- where no number is the least of which this holds, it holds of none
-pub least : (P : ℕ → Type 0) → ((n : ℕ) → IsFirst P (Some n) → ⊥) → (n : ℕ) → P n → ⊥
-least P unfound n h = below (suc n) n (omega arith) h
-  where
-    not_less : (m n : ℕ) → (m < n → ⊥) → n ≤ m
-    not_less m n h = omega (arith, h)
-
-    below : (k n : ℕ) → n < k → P n → ⊥
-    below zero n lt p = omega (arith, lt)
-    below (suc k) n lt p = unfound n (p, λ m q. not_less m n (λ less. below k m (omega (arith, lt, less)) q))
+use Rattle.ped_scalar.proofs.KeptByPrivatising.{least}
 
 module _ (t : ProgramTree) (s : ℕ) (loop : LoopOf t s) (unescaped : (n : ℕ) → WhereEscape t s n → ⊥) where
   unbroken : (n : ℕ) → IsBrokenBy t s n → ⊥

@@ -1,8 +1,8 @@
 -- What each step comes to is determined, whatever it keeps of the meaning.
 use Rattle.std.proofs.Common.{ℕ, ◌+◌, List, true, false, refl}
-use Rattle.ped_scalar.specs.ped_rules.specs.ped_loop_runs.specs.ped_tidy.specs.ped_pasting.specs.ped_bodies.specs.ped_steps.specs.Causes.{none_forbids}
-use Rattle.ped_scalar.specs.ped_rules.specs.ped_loop_runs.specs.ped_tidy.specs.ped_pasting.specs.ped_bodies.specs.ped_steps.specs.Replacing.{all_kept}
-use Rattle.ped_scalar.specs.ped_rules.specs.ped_loop_runs.specs.ped_tidy.specs.ped_pasting.specs.ped_bodies.specs.ped_steps.proofs.OneCause.{one_cause}
+use Rattle.ped_scalar.specs.ped_rules.specs.ped_loop_runs.specs.ped_bodies.specs.ped_steps.specs.Causes.{none_forbids}
+use Rattle.ped_scalar.specs.ped_rules.specs.ped_loop_runs.specs.ped_bodies.specs.ped_steps.specs.Replacing.{all_kept}
+use Rattle.ped_scalar.specs.ped_rules.specs.ped_loop_runs.specs.ped_bodies.specs.ped_steps.proofs.OneCause.{one_cause}
 use Rattle.ped_scalar.specs.ped_rules.specs.Carried.{carried, crossing}
 use Rattle.ped_scalar.specs.ped_rules.specs.KeepMaps.{all_but}
 use Rattle.ped_scalar.specs.ped_rules.specs.Rules.{is_parallel, is_serial}

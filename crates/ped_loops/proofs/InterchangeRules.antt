@@ -1,9 +1,9 @@
 -- The rules that stand against `interchange`, one behind the other; and what is so where none stands.
 use Rattle.std.proofs.Common.{Bool, List, arith, false, inl, inr, refl, sym, true, ℕ, ◌+◌, ◌∙◌, ◌≡◌, ◌≤◌}
-use Rattle.ped_loops.proofs.OnlyBodies.{never}
 use Rattle.ped_loops.proofs.Contained.{contained}
 use Rattle.ped_loops.specs.CodeInterchanging.{NoneUpTo}
 use Rattle.ped_loops.specs.Interchanging.{IsBoundOfEither, MakesInterchanged, StandsAgainstInterchange, is_tied, has_no_unit, interchanged, makes_far}
+use Rattle.ped_scalar.specs.ped_rules.proofs.OneLoop.{fails_there}
 use Rattle.ped_scalar.specs.ped_rules.proofs.Chains.{IsChain, chain_end, chain_link, first_here, first_later, none_at_end, none_later}
 use Rattle.ped_scalar.specs.ped_rules.proofs.Decided.{limit_not, limit_stands, limit_valid, some_loop}
 use Rattle.ped_scalar.specs.ped_rules.proofs.OneEach.{escape_one, limit_one, loop_one, no_loop_one, unplain_one}
@@ -11,13 +11,12 @@ use Rattle.ped_scalar.specs.ped_rules.specs.Chains.{WhereLoop, also, no_rules}
 use Rattle.ped_scalar.specs.ped_rules.specs.KeepMaps.{all_but}
 use Rattle.ped_scalar.specs.ped_rules.specs.OnlyLoops.{either}
 use Rattle.ped_scalar.specs.ped_rules.specs.Rules.{WhereEscape, WhereLimit, WhereNoLoop, WhereUnplain, has_private, heads_round, is_parallel, isnt_perfect, setting_at}
-use Rattle.ped_scalar.specs.ped_rules.specs.ped_loop_runs.specs.ped_tidy.specs.ped_pasting.specs.ped_bodies.specs.ped_steps.specs.Causes.{IsFirstRule, NoRule, Rules}
-use Rattle.ped_scalar.specs.ped_rules.specs.ped_loop_runs.specs.ped_tidy.specs.ped_pasting.specs.ped_bodies.specs.ped_steps.specs.declared.rules.Rule.{Rule}
-use Rattle.ped_scalar.specs.ped_rules.specs.ped_loop_runs.specs.ped_tidy.specs.ped_pasting.specs.ped_bodies.specs.ped_steps.specs.declared.rules.Rule.TheVariants.{BoundNotPlain, BoundsShape, HasPrivate, IndexEscapes, Limit, NoLoop, NotPerfect, ParallelState, Range, StepShape}
-use Rattle.ped_scalar.specs.ped_rules.specs.ped_loop_runs.specs.ped_tidy.specs.ped_pasting.specs.ped_bodies.specs.ped_steps.specs.ped_flow.proofs.Answering.{same_body, same_head}
-use Rattle.ped_scalar.specs.ped_rules.specs.ped_loop_runs.specs.ped_tidy.specs.ped_pasting.specs.ped_bodies.specs.ped_steps.specs.ped_flow.specs.Questions.{IsContained, IsLoop, LoopOf}
-use Rattle.ped_scalar.specs.ped_rules.specs.ped_loop_runs.specs.ped_tidy.specs.ped_pasting.specs.ped_bodies.specs.ped_steps.specs.ped_symbols.specs.Kinds.{table_of}
-use Rattle.ped_scalar.specs.ped_rules.specs.ped_loop_runs.specs.ped_tidy.specs.ped_pasting.specs.ped_bodies.specs.ped_steps.specs.ped_symbols.specs.NameRefusals.{IsValid}
+use Rattle.ped_scalar.specs.ped_rules.specs.ped_loop_runs.specs.ped_bodies.specs.ped_steps.specs.Causes.{IsFirstRule, NoRule, Rules}
+use Rattle.ped_scalar.specs.ped_rules.specs.ped_loop_runs.specs.ped_bodies.specs.ped_steps.specs.declared.rules.Rule.{Rule}
+use Rattle.ped_scalar.specs.ped_rules.specs.ped_loop_runs.specs.ped_bodies.specs.ped_steps.specs.declared.rules.Rule.TheVariants.{BoundNotPlain, BoundsShape, HasPrivate, IndexEscapes, Limit, NoLoop, NotPerfect, ParallelState, Range, StepShape}
+use Rattle.ped_scalar.specs.ped_rules.specs.ped_loop_runs.specs.ped_bodies.specs.ped_steps.specs.ped_flow.specs.Questions.{IsContained, IsLoop, LoopOf}
+use Rattle.ped_scalar.specs.ped_rules.specs.ped_loop_runs.specs.ped_bodies.specs.ped_steps.specs.ped_symbols.specs.Kinds.{table_of}
+use Rattle.ped_scalar.specs.ped_rules.specs.ped_loop_runs.specs.ped_bodies.specs.ped_steps.specs.ped_symbols.specs.NameRefusals.{IsValid}
 use Rattle.ped_tree.specs.Tree.{Head, ProgramTree, StmtTrees}
 
 false_by : (b : Bool) → (b ≡ true → ⊥) → b ≡ false
@@ -181,11 +180,6 @@ module _ (s : ℕ) where
       abbrev loop : LoopOf t s
       loop = record { head = h; body = body; is = is }
 
-      -- a test of the DO that fails
-      fails_there : (test : Head → StmtTrees → Bool) → test h body ≡ false → (n : ℕ) → WhereLoop t s test n → ⊥
-      fails_there test fails n p =
-          never (test p.0.head p.0.body) p.1 ((λ i. test (sym (same_head t s h p.0.head body p.0.body is p.0.is) i) (sym (same_body t s h p.0.head body p.0.body is p.0.is) i)) ∙ fails)
-
       pub upto_loop : NoneUpTo 1 stands
       upto_loop = upto_this 1 NoLoop (WhereNoLoop t s) perfect (λ n p. p.0 loop) (upto_end 1 perfect perfect_chain)
 
@@ -215,20 +209,20 @@ module _ (s : ℕ) where
       pub upto_perfect : isnt_perfect h body ≡ false → NoneUpTo 2 stands
       upto_perfect fails =
           upto_this 2 NoLoop (WhereNoLoop t s) perfect (λ n p. p.0 loop)
-          (upto_this 2 NotPerfect (WhereLoop t s isnt_perfect) state (fails_there isnt_perfect fails) (upto_end 2 state state_chain))
+          (upto_this 2 NotPerfect (WhereLoop t s isnt_perfect) state (fails_there t s h body is isnt_perfect fails) (upto_end 2 state state_chain))
 
       pub upto_state : NoneUpTo 2 stands → either is_parallel h body ≡ false → NoneUpTo 3 stands
       upto_state none fails =
           upto_this 3 NoLoop (WhereNoLoop t s) perfect (no_loop 2 none (omega arith))
           (upto_this 3 NotPerfect (WhereLoop t s isnt_perfect) state (not_perfect 2 none (omega arith))
-          (upto_this 3 ParallelState (WhereLoop t s (either is_parallel)) list (fails_there (either is_parallel) fails) (upto_end 3 list list_chain)))
+          (upto_this 3 ParallelState (WhereLoop t s (either is_parallel)) list (fails_there t s h body is (either is_parallel) fails) (upto_end 3 list list_chain)))
 
       pub upto_list : NoneUpTo 3 stands → either has_private h body ≡ false → NoneUpTo 4 stands
       upto_list none fails =
           upto_this 4 NoLoop (WhereNoLoop t s) perfect (no_loop 3 none (omega arith))
           (upto_this 4 NotPerfect (WhereLoop t s isnt_perfect) state (not_perfect 3 none (omega arith))
           (upto_this 4 ParallelState (WhereLoop t s (either is_parallel)) list (not_parallel 3 none (omega arith))
-          (upto_this 4 HasPrivate (WhereLoop t s (either has_private)) escape (fails_there (either has_private) fails) (upto_end 4 escape escape_chain))))
+          (upto_this 4 HasPrivate (WhereLoop t s (either has_private)) escape (fails_there t s h body is (either has_private) fails) (upto_end 4 escape escape_chain))))
 
       pub upto_shape : NoneUpTo 6 stands → is_tied h body ≡ false → NoneUpTo 7 stands
       upto_shape none fails =
@@ -238,7 +232,7 @@ module _ (s : ℕ) where
           (upto_this 7 HasPrivate (WhereLoop t s (either has_private)) escape (not_private 6 none (omega arith))
           (upto_this 7 IndexEscapes (WhereEscape t s) bound (not_escaping 6 none (omega arith))
           (upto_this 7 BoundNotPlain Unplain shape (not_unplain 6 none (omega arith))
-          (upto_this 7 BoundsShape (WhereLoop t s is_tied) unit (fails_there is_tied fails) (upto_end 7 unit unit_chain)))))))
+          (upto_this 7 BoundsShape (WhereLoop t s is_tied) unit (fails_there t s h body is is_tied fails) (upto_end 7 unit unit_chain)))))))
 
       pub upto_unit : NoneUpTo 7 stands → units h body ≡ false → NoneUpTo 8 stands
       upto_unit none fails =
@@ -249,7 +243,7 @@ module _ (s : ℕ) where
           (upto_this 8 IndexEscapes (WhereEscape t s) bound (not_escaping 7 none (omega arith))
           (upto_this 8 BoundNotPlain Unplain shape (not_unplain 7 none (omega arith))
           (upto_this 8 BoundsShape (WhereLoop t s is_tied) unit (not_tied 7 none (omega arith))
-          (upto_this 8 StepShape (WhereLoop t s units) range (fails_there units fails) (upto_end 8 range range_chain))))))))
+          (upto_this 8 StepShape (WhereLoop t s units) range (fails_there t s h body is units fails) (upto_end 8 range range_chain))))))))
 
       pub upto_range : NoneUpTo 8 stands → far h body ≡ false → NoneUpTo 9 stands
       upto_range none fails =
@@ -261,7 +255,7 @@ module _ (s : ℕ) where
           (upto_this 9 BoundNotPlain Unplain shape (not_unplain 8 none (omega arith))
           (upto_this 9 BoundsShape (WhereLoop t s is_tied) unit (not_tied 8 none (omega arith))
           (upto_this 9 StepShape (WhereLoop t s units) range (not_stepping 8 none (omega arith))
-          (upto_this 9 Range (WhereLoop t s far) limit (fails_there far fails) (upto_end 9 limit limit_chain)))))))))
+          (upto_this 9 Range (WhereLoop t s far) limit (fails_there t s h body is far fails) (upto_end 9 limit limit_chain)))))))))
 
     pub escape_first : NoneUpTo 4 stands → (n : ℕ) → WhereEscape t s n → IsFirstRule stands IndexEscapes n
     escape_first none n p = (past_list 4 none (omega arith)).first IndexEscapes n (first_here IndexEscapes (WhereEscape t s) bound n p bound_chain)

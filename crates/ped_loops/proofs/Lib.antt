@@ -1,5 +1,4 @@
 pub mod ShapedCode
-pub mod NamedConstants
 mod FlagRules
 mod FlaggedLoops
 mod FlagsLawful
@@ -12,7 +11,7 @@ pub mod ReferencedNames
 mod VariableNames
 mod RejectAnswers
 pub mod TurnedCounts
-mod Contained
+pub mod Contained
 mod ReverseRules
 pub mod OneHead
 mod ReversedLoops
@@ -49,7 +48,7 @@ pub mod InterchangeRules
 pub mod LoopSurroundings
 pub mod SwappedKinds
 mod ShapedNames
-mod SwappedTrust
+pub mod SwappedTrust
 pub mod PlainDecided
 mod PlainAnswers
 mod InterchangeLawful

@@ -1,15 +1,14 @@
 -- The rules that stand against `reverse`, one behind the other; and what is so where none stands.
 use Rattle.std.proofs.Common.{◌≡◌, ℕ, ℤ, List, Bool, true, false, Option, Some, None, refl, sym, ap, ◌∙◌, arith}
 use Rattle.std.specs.Prelude.{not}
-use Rattle.std.proofs.lemmas.Bool.{both_ways}
 use Rattle.ped_tree.specs.Tree.{Head, StmtTrees, ProgramTree}
-use Rattle.ped_scalar.specs.ped_rules.specs.ped_loop_runs.specs.ped_tidy.specs.ped_pasting.specs.ped_bodies.specs.ped_steps.specs.ped_symbols.specs.Kinds.{table_of}
-use Rattle.ped_scalar.specs.ped_rules.specs.ped_loop_runs.specs.ped_tidy.specs.ped_pasting.specs.ped_bodies.specs.ped_steps.specs.ped_symbols.specs.NameRefusals.{IsValid}
-use Rattle.ped_scalar.specs.ped_rules.specs.ped_loop_runs.specs.ped_tidy.specs.ped_pasting.specs.ped_bodies.specs.ped_steps.specs.ped_flow.specs.Questions.{IsLoop, LoopOf, IsContained}
-use Rattle.ped_scalar.specs.ped_rules.specs.ped_loop_runs.specs.ped_tidy.specs.ped_pasting.specs.ped_bodies.specs.ped_steps.specs.ped_flow.proofs.Answering.{same_head, same_body}
-use Rattle.ped_scalar.specs.ped_rules.specs.ped_loop_runs.specs.ped_tidy.specs.ped_pasting.specs.ped_bodies.specs.ped_steps.specs.declared.rules.Rule.TheVariants.{NoLoop, ParallelState, IndexEscapes, StepShape, Limit}
-use Rattle.ped_scalar.specs.ped_rules.specs.ped_loop_runs.specs.ped_tidy.specs.ped_pasting.specs.ped_bodies.specs.ped_steps.specs.Causes.{Rules, NoRule, IsFirstRule}
-use Rattle.ped_scalar.specs.ped_rules.specs.ped_loop_runs.specs.ped_tidy.specs.ped_pasting.specs.ped_bodies.specs.ped_steps.specs.Replacing.{all_kept}
+use Rattle.ped_scalar.specs.ped_rules.proofs.OneLoop.{fails_there}
+use Rattle.ped_scalar.specs.ped_rules.specs.ped_loop_runs.specs.ped_bodies.specs.ped_steps.specs.ped_symbols.specs.Kinds.{table_of}
+use Rattle.ped_scalar.specs.ped_rules.specs.ped_loop_runs.specs.ped_bodies.specs.ped_steps.specs.ped_symbols.specs.NameRefusals.{IsValid}
+use Rattle.ped_scalar.specs.ped_rules.specs.ped_loop_runs.specs.ped_bodies.specs.ped_steps.specs.ped_flow.specs.Questions.{IsLoop, LoopOf, IsContained}
+use Rattle.ped_scalar.specs.ped_rules.specs.ped_loop_runs.specs.ped_bodies.specs.ped_steps.specs.declared.rules.Rule.TheVariants.{NoLoop, ParallelState, IndexEscapes, StepShape, Limit}
+use Rattle.ped_scalar.specs.ped_rules.specs.ped_loop_runs.specs.ped_bodies.specs.ped_steps.specs.Causes.{Rules, NoRule, IsFirstRule}
+use Rattle.ped_scalar.specs.ped_rules.specs.ped_loop_runs.specs.ped_bodies.specs.ped_steps.specs.Replacing.{all_kept}
 use Rattle.ped_scalar.specs.ped_rules.specs.Chains.{no_rules, also, WhereLoop}
 use Rattle.ped_scalar.specs.ped_rules.specs.Rules.{WhereNoLoop, is_parallel, WhereEscape, isnt_allowed, is_unit, has_other_step, WhereLimit}
 use Rattle.ped_scalar.specs.ped_rules.proofs.Chains.{IsChain, chain_end, chain_link, first_here, first_later, none_later, not_this, not_those, none_at_end}
@@ -71,11 +70,6 @@ module _ (s : ℕ) where
       not_no_loop : (n : ℕ) → WhereNoLoop t s n → ⊥
       not_no_loop n p = p.0 loop
 
-      -- a test of the DO that fails
-      fails_there : (test : Head → StmtTrees → Bool) → test h body ≡ false → (n : ℕ) → WhereLoop t s test n → ⊥
-      fails_there test fails n p =
-          both_ways (test p.0.head p.0.body) ((λ i. test (sym (same_head t s h p.0.head body p.0.body is p.0.is) i) (sym (same_body t s h p.0.head body p.0.body is p.0.is) i)) ∙ fails) p.1
-
       pub state_first : h.parallel ≡ true → IsFirstRule stands ParallelState s
       state_first holds = first_later NoLoop (WhereNoLoop t s) state not_no_loop ParallelState s (first_here ParallelState (WhereLoop t s is_parallel) escape s (loop, holds, refl) escape_chain)
 
@@ -83,30 +77,30 @@ module _ (s : ℕ) where
         pub escape_first : (n : ℕ) → WhereEscape t s n → IsFirstRule stands IndexEscapes n
         escape_first n escapes =
             first_later NoLoop (WhereNoLoop t s) state not_no_loop IndexEscapes n
-            (first_later ParallelState (WhereLoop t s is_parallel) escape (fails_there is_parallel serial) IndexEscapes n (first_here IndexEscapes (WhereEscape t s) shape n escapes shape_chain))
+            (first_later ParallelState (WhereLoop t s is_parallel) escape (fails_there t s h body is is_parallel serial) IndexEscapes n (first_here IndexEscapes (WhereEscape t s) shape n escapes shape_chain))
 
         module _ (none : (n : ℕ) → WhereEscape t s n → ⊥) where
           pub shape_first : other_step h body ≡ true → IsFirstRule stands StepShape s
           shape_first holds =
               first_later NoLoop (WhereNoLoop t s) state not_no_loop StepShape s
-              (first_later ParallelState (WhereLoop t s is_parallel) escape (fails_there is_parallel serial) StepShape s
+              (first_later ParallelState (WhereLoop t s is_parallel) escape (fails_there t s h body is is_parallel serial) StepShape s
               (first_later IndexEscapes (WhereEscape t s) shape none StepShape s (first_here StepShape (WhereLoop t s other_step) limit s (loop, holds, refl) limit_chain)))
 
           module _ (unit : other_step h body ≡ false) where
             pub limit_first : (IsValid (reversed t s) → ⊥) → IsFirstRule stands Limit s
             limit_first invalid =
                 first_later NoLoop (WhereNoLoop t s) state not_no_loop Limit s
-                (first_later ParallelState (WhereLoop t s is_parallel) escape (fails_there is_parallel serial) Limit s
+                (first_later ParallelState (WhereLoop t s is_parallel) escape (fails_there t s h body is is_parallel serial) Limit s
                 (first_later IndexEscapes (WhereEscape t s) shape none Limit s
-                (first_later StepShape (WhereLoop t s other_step) limit (fails_there other_step unit) Limit s
+                (first_later StepShape (WhereLoop t s other_step) limit (fails_there t s h body is other_step unit) Limit s
                 (first_here Limit (WhereLimit (MakesReversed s) t s) no_rules s (limit_stands (MakesReversed s) t s loop (one_made t) (reversed t s) (all_kept t) (refl, refl) invalid) (chain_end 15)))))
 
             pub nothing_stands : IsValid (reversed t s) → NoRule stands
             nothing_stands valid =
                 none_later NoLoop (WhereNoLoop t s) state not_no_loop
-                (none_later ParallelState (WhereLoop t s is_parallel) escape (fails_there is_parallel serial)
+                (none_later ParallelState (WhereLoop t s is_parallel) escape (fails_there t s h body is is_parallel serial)
                 (none_later IndexEscapes (WhereEscape t s) shape none
-                (none_later StepShape (WhereLoop t s other_step) limit (fails_there other_step unit)
+                (none_later StepShape (WhereLoop t s other_step) limit (fails_there t s h body is other_step unit)
                 (none_later Limit (WhereLimit (MakesReversed s) t s) no_rules (limit_not (MakesReversed s) t s (reversed t s) (all_kept t) (refl, refl) valid) none_at_end))))
 
     -- where no rule stands

@@ -4,33 +4,15 @@ use Rattle.std.proofs.lemmas.Bool.{and_parts}
 use Rattle.std.proofs.lemmas.Bool.Decides.{nat_tests}
 use Rattle.std.specs.Prelude.{nat_le}
 use Rattle.ped_loops.proofs.PairOrders.{IsRegrouped}
-use Rattle.ped_scalar.specs.ped_rules.specs.ped_loop_runs.proofs.LoopLaws.OneForOneCells.{IsOfLoop}
-use Rattle.ped_scalar.specs.ped_rules.specs.ped_loop_runs.specs.ped_tidy.specs.ped_pasting.specs.ped_bodies.proofs.BodyLaws.MovedCells.{behind_itself, moved_is, place_stays}
-use Rattle.ped_scalar.specs.ped_rules.specs.ped_loop_runs.specs.ped_tidy.specs.ped_pasting.specs.ped_bodies.proofs.BodyLaws.NamesApart.{interchanged_apart}
-use Rattle.ped_scalar.specs.ped_rules.specs.ped_loop_runs.specs.ped_tidy.specs.ped_pasting.specs.ped_bodies.specs.Moving.{IsOfPairs, LiesBehind, TellNumbers, behind_front, is_cell_among, moved_behind, transposed, with_rest}
-use Rattle.ped_scalar.specs.ped_rules.specs.ped_loop_runs.specs.ped_tidy.specs.ped_pasting.proofs.PastingLaws.LeftCopies.{IsOwn}
-use Rattle.ped_scalar.specs.ped_rules.specs.ped_loop_runs.specs.ped_tidy.specs.ped_pasting.specs.ped_bodies.specs.ped_steps.specs.ped_laws.proofs.FlowRunLaws.Names.{no_copy_within}
-use Rattle.ped_scalar.specs.ped_rules.specs.ped_loop_runs.specs.ped_tidy.specs.ped_pasting.specs.ped_bodies.specs.ped_steps.specs.ped_laws.specs.ped_eval.specs.Scopes.{Scope, Setting, cell_of, turns_of}
-use Rattle.ped_scalar.specs.ped_rules.specs.ped_loop_runs.specs.ped_tidy.specs.ped_pasting.specs.ped_bodies.specs.ped_steps.specs.ped_laws.specs.ped_store.specs.Acts.{iterations_of}
-use Rattle.ped_scalar.specs.ped_rules.specs.ped_loop_runs.specs.ped_tidy.specs.ped_pasting.specs.ped_bodies.specs.ped_steps.specs.ped_laws.specs.ped_store.specs.Cells.{Cell, Element, In, Iteration, Out, Private, Scalar, same_iteration}
-
-same_iterations : (i j : Iteration) → same_iteration i j ≡ true → i ≡ j
-same_iterations i j h =
-    let both = and_parts (eqb i.statement j.statement) (eqb i.number j.number) h in
-    λ k. record { statement = eqb-true i.statement j.statement both.0 k; number = eqb-true i.number j.number both.1 k }
-
--- a path that begins with a front is the front and what stands behind it
-behind_is : (front path rest : List Iteration) → behind_front front path ≡ Some rest → path ≡ front ++ rest
-behind_is [] path rest h = let same : path ≡ rest = cc in same
-behind_is (i ∷ front) [] rest h = absurd cc
-behind_is (i ∷ front) (j ∷ path) rest h = go (same_iteration i j) refl h (behind_is front path rest)
-  where
-    go : (b : Bool) → same_iteration i j ≡ b → (if b then behind_front front path else None) ≡ Some rest → (behind_front front path ≡ Some rest → path ≡ front ++ rest) → j ∷ path ≡ i ∷ (front ++ rest)
-    go true is e more = λ k. sym (same_iterations i j is) k ∷ more e k
-    go false is e more = absurd cc
-
-number_itself : (n : ℕ) → eqb n n ≡ true
-number_itself n = grind (arith, eqb-true)
+use Rattle.ped_scalar.specs.ped_rules.specs.ped_loop_runs.proofs.LoopLaws.OneForOneCells.{IsOfLoop, own_lies}
+use Rattle.ped_scalar.specs.ped_rules.specs.ped_loop_runs.specs.ped_bodies.proofs.BodyLaws.MovedCells.{behind_itself, moved_is, place_stays}
+use Rattle.ped_scalar.specs.ped_rules.specs.ped_loop_runs.specs.ped_bodies.proofs.BodyLaws.NamesApart.{interchanged_apart, behind_is}
+use Rattle.ped_scalar.specs.ped_rules.specs.ped_loop_runs.specs.ped_bodies.specs.Moving.{IsOfPairs, LiesBehind, TellNumbers, behind_front, is_cell_among, moved_behind, transposed, with_rest}
+use Rattle.ped_scalar.specs.ped_rules.specs.ped_loop_runs.proofs.PastingLaws.LeftCopies.{IsOwn}
+use Rattle.ped_scalar.specs.ped_rules.specs.ped_loop_runs.specs.ped_bodies.specs.ped_steps.specs.ped_laws.specs.ped_eval.specs.Scopes.{Scope, Setting, cell_of, turns_of}
+use Rattle.ped_scalar.specs.ped_rules.specs.ped_loop_runs.specs.ped_bodies.specs.ped_steps.specs.ped_laws.specs.ped_store.specs.Acts.{iterations_of}
+use Rattle.ped_scalar.specs.ped_rules.specs.ped_loop_runs.specs.ped_bodies.specs.ped_steps.specs.ped_laws.specs.ped_store.specs.Cells.{Cell, Element, In, Iteration, Out, Private, Scalar}
+use Rattle.ped_loops.proofs.ApartTurns.{number_itself}
 
 all_four : (m n k j : ℕ) → (nat_le 1 k && nat_le k m) && (nat_le 1 j && nat_le j n) ≡ true → (1 ≤ k) × (k ≤ m) × (1 ≤ j) × (j ≤ n)
 all_four m n k j h =
@@ -160,25 +142,8 @@ module _ (p : Setting) (scope : Scope) (l : ℕ) (n m : ℕ) (row column later b
       let second : later i + j ≡ later i + q = columns ∙ ap (λ (z : ℕ). later z + q) (sym first) in
       (first, omega (arith, second))
 
-  lies_own : (c : Cell) → IsOwn p scope c → LiesBehind Pairs its_front c
-  lies_own (Scalar x) own = tt
-  lies_own (Element x js) own = tt
-  lies_own In own = tt
-  lies_own Out own = tt
-  lies_own (Private x path) own = go (behind_front its_front path) refl
-    where
-      none : (i : Iteration) (more : List Iteration) → path ≡ its_front ++ i ∷ more → IsOwn p scope (Private x path) → ⊥
-      none i more e (inl k) = no_copy_within scope k.0 x i more (sym k.1 ∙ ap (Private x) e)
-      none i more e (inr k) = absurd cc
-
-      go : (o : Option (List Iteration)) → behind_front its_front path ≡ o → Pairs o
-      go None e = tt
-      go (Some []) e = tt
-      go (Some (i ∷ [])) e = absurd (none i [] (behind_is its_front path (i ∷ []) e) own)
-      go (Some (i ∷ (j ∷ more))) e = absurd (none i (j ∷ more) (behind_is its_front path (i ∷ (j ∷ more)) e) own)
-
   lies : (c : Cell) → PairReached c → LiesBehind Pairs its_front c
-  lies c (inl own) = lies_own c own
+  lies c (inl own) = own_lies p scope Pairs tt tt c own
   lies c (inr r) =
       subst (LiesBehind Pairs its_front) (sym r.is)
       (subst Pairs (sym (behind_itself its_front (at r.outer ∷ (inside_at r.inner ∷ r.rest)))) (refl, refl, four_all n (row r.outer) r.outer r.inner r.from r.to r.inner_from r.inner_to))

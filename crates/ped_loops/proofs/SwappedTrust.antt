@@ -5,16 +5,16 @@ use Rattle.ped_base.specs.Lists.{has_some, is_same_text, is_among}
 use Rattle.ped_tree.specs.Tree.{Head, StmtTree, StmtTrees, Do, Comment, no_stmts, more_stmts, ProgramTree}
 use Rattle.ped_tree.specs.NamesIn.{loop_variables, all_loop_variables}
 use Rattle.ped_tree.specs.Accesses.{constant_names}
-use Rattle.ped_scalar.specs.ped_rules.specs.ped_loop_runs.specs.ped_tidy.specs.ped_pasting.specs.ped_bodies.specs.ped_steps.specs.ped_laws.specs.FlowRuns.Covering.{has_stop, some_stop}
-use Rattle.ped_scalar.specs.ped_rules.specs.ped_loop_runs.specs.ped_tidy.specs.ped_pasting.specs.ped_bodies.specs.ped_steps.specs.ped_laws.proofs.FlowRunLaws.Stopping.{fitting_stops, loop_stops}
-use Rattle.ped_scalar.specs.ped_rules.specs.ped_loop_runs.specs.ped_tidy.specs.ped_pasting.specs.ped_bodies.specs.ped_steps.specs.ped_symbols.specs.NameRefusals.{IsValid}
-use Rattle.ped_scalar.specs.ped_rules.specs.ped_loop_runs.specs.ped_tidy.specs.ped_pasting.specs.ped_bodies.specs.ped_steps.specs.ped_flow.specs.Questions.{LoopOf, IsContained, IsShownBehind}
-use Rattle.ped_scalar.specs.ped_rules.specs.ped_loop_runs.specs.ped_tidy.specs.ped_pasting.specs.ped_bodies.specs.ped_steps.specs.ped_flow.proofs.Truths.{untrue}
-use Rattle.ped_scalar.specs.ped_rules.specs.ped_loop_runs.specs.ped_tidy.specs.ped_pasting.specs.ped_bodies.specs.ped_steps.specs.Replacing.{alone, program_with}
-use Rattle.ped_scalar.specs.ped_rules.specs.ped_loop_runs.specs.ped_tidy.specs.ped_pasting.specs.ped_bodies.specs.ped_steps.proofs.RunLaws.ReplacedTrees.{HasGap, program_gap}
-use Rattle.ped_scalar.specs.ped_rules.specs.ped_loop_runs.specs.ped_tidy.specs.Unrejected.{has_rejection, some_rejection, IsTrusted}
-use Rattle.ped_scalar.specs.ped_rules.specs.ped_loop_runs.specs.ped_tidy.specs.Exchanges.{Exchange, start_of, loop_of, IsExchanged, LeavesAlone}
-use Rattle.ped_scalar.specs.ped_rules.specs.ped_loop_runs.specs.ped_tidy.specs.Writing.{writes_name, writes, all_write, writes_index, some_write_index}
+use Rattle.ped_scalar.specs.ped_rules.specs.ped_loop_runs.specs.ped_bodies.specs.ped_steps.specs.ped_laws.specs.FlowRuns.Covering.{has_stop, some_stop}
+use Rattle.ped_scalar.specs.ped_rules.specs.ped_loop_runs.specs.ped_bodies.specs.ped_steps.specs.ped_laws.proofs.FlowRunLaws.Stopping.{fitting_stops, loop_stops}
+use Rattle.ped_scalar.specs.ped_rules.specs.ped_loop_runs.specs.ped_bodies.specs.ped_steps.specs.ped_symbols.specs.NameRefusals.{IsValid}
+use Rattle.ped_scalar.specs.ped_rules.specs.ped_loop_runs.specs.ped_bodies.specs.ped_steps.specs.ped_flow.specs.Questions.{LoopOf, IsContained, IsShownBehind}
+use Rattle.ped_scalar.specs.ped_rules.specs.ped_loop_runs.specs.ped_bodies.specs.ped_steps.specs.ped_flow.proofs.Truths.{untrue}
+use Rattle.ped_scalar.specs.ped_rules.specs.ped_loop_runs.specs.ped_bodies.specs.ped_steps.specs.Replacing.{alone, program_with}
+use Rattle.ped_scalar.specs.ped_rules.specs.ped_loop_runs.specs.ped_bodies.specs.ped_steps.proofs.RunLaws.ReplacedTrees.{HasGap, program_gap}
+use Rattle.ped_scalar.specs.ped_rules.specs.ped_loop_runs.specs.Unrejected.{has_rejection, some_rejection, IsTrusted}
+use Rattle.ped_scalar.specs.ped_rules.specs.ped_loop_runs.specs.Exchanges.{Exchange, start_of, loop_of, IsExchanged, LeavesAlone}
+use Rattle.ped_scalar.specs.ped_rules.specs.ped_loop_runs.specs.Writing.{writes_name, writes, all_write, writes_index, some_write_index}
 use Rattle.ped_scalar.specs.ped_rules.specs.OnlyLoops.{change_only, only_loop}
 use Rattle.ped_loops.proofs.OnlyBodies.{pair, only_changed, only_tells}
 use Rattle.ped_loops.proofs.OneHead.{TrustedLaw, ClearedLaw}
@@ -26,7 +26,7 @@ or_second false true c = refl
 or_second false false c = refl
 
 -- what is told of statements by "or" is told of a body by its one DO
-or_tells : (told : StmtTree → Bool) (all : StmtTrees → Bool) (g : Head) (inside body : StmtTrees) → all no_stmts ≡ false → ((s : StmtTree) (rest : StmtTrees) → all (more_stmts s rest) ≡ told s || all rest) → ((text : List ℕ) → told (Comment text) ≡ false)
+pub or_tells : (told : StmtTree → Bool) (all : StmtTrees → Bool) (g : Head) (inside body : StmtTrees) → all no_stmts ≡ false → ((s : StmtTree) (rest : StmtTrees) → all (more_stmts s rest) ≡ told s || all rest) → ((text : List ℕ) → told (Comment text) ≡ false)
     → only_loop body ≡ Some (pair g inside) → all body ≡ told (Do g inside)
 or_tells told all g inside body none both nothing only = only_tells g inside told all (λ (a b : Bool). a || b) false (λ a. refl) or_false none both nothing body only
   where

@@ -1,7 +1,7 @@
 -- `interchange`: a DO and the one DO in its body change places (Allen and Kennedy, section 5.2; ParaScope).
 use Rattle.std.specs.Prelude.{◌≡◌, ◌⊎◌, ℕ, ◌+◌, List, [], ◌∷◌, ◌++◌, Bool, ◌&&◌, ◌||◌, MatchOption, Option, Some, None}
 use Rattle.ped_tree.specs.Tree.{ExprTree, Head, StmtTrees, Do, ProgramTree}
-use Rattle.ped_scalar.specs.ped_rules.specs.ped_loop_runs.specs.ped_tidy.specs.ped_pasting.specs.ped_bodies.specs.ped_steps.specs.ped_affine.specs.Ranges.{Setting}
+use Rattle.ped_scalar.specs.ped_rules.specs.ped_loop_runs.specs.ped_bodies.specs.ped_steps.specs.ped_affine.specs.Ranges.{Setting}
 use Rattle.ped_scalar.specs.ped_rules.specs.Carried.{crossing}
 use Rattle.ped_scalar.specs.ped_rules.specs.Chains.{no_rules, also, WhereLoop}
 use Rattle.ped_scalar.specs.ped_rules.specs.KeepMaps.{all_but}
@@ -9,11 +9,11 @@ use Rattle.ped_scalar.specs.ped_rules.specs.OnlyLoops.{only_loop, inner, either,
 use Rattle.ped_scalar.specs.ped_rules.specs.Rules.{WhereNoLoop, isnt_perfect, is_parallel, has_private, WhereEscape, WhereUnplain, is_one, has_other_step, leaves, setting_at, heads_round, WhereLimit}
 use Rattle.ped_scalar.specs.ped_rules.specs.Spans.{Values}
 use Rattle.ped_scalar.specs.ped_rules.specs.Steps.{transformation, StepAt}
-use Rattle.ped_scalar.specs.ped_rules.specs.ped_loop_runs.specs.ped_tidy.specs.ped_pasting.specs.ped_bodies.specs.ped_steps.specs.ped_flow.specs.Questions.{LoopOf}
-use Rattle.ped_scalar.specs.ped_rules.specs.ped_loop_runs.specs.ped_tidy.specs.ped_pasting.specs.ped_bodies.specs.ped_steps.specs.ped_symbols.specs.Kinds.{table_of}
-use Rattle.ped_scalar.specs.ped_rules.specs.ped_loop_runs.specs.ped_tidy.specs.ped_pasting.specs.ped_bodies.specs.ped_steps.specs.declared.rules.Rule.TheVariants.{NoLoop, NotPerfect, ParallelState, HasPrivate, IndexEscapes, BoundNotPlain, BoundsShape, StepShape, Range, Limit}
-use Rattle.ped_scalar.specs.ped_rules.specs.ped_loop_runs.specs.ped_tidy.specs.ped_pasting.specs.ped_bodies.specs.ped_steps.specs.Causes.{Rules, IsFirstCause}
-use Rattle.ped_scalar.specs.ped_rules.specs.ped_loop_runs.specs.ped_tidy.specs.ped_pasting.specs.ped_bodies.specs.ped_steps.specs.Replacing.{alone, program_with}
+use Rattle.ped_scalar.specs.ped_rules.specs.ped_loop_runs.specs.ped_bodies.specs.ped_steps.specs.ped_flow.specs.Questions.{LoopOf}
+use Rattle.ped_scalar.specs.ped_rules.specs.ped_loop_runs.specs.ped_bodies.specs.ped_steps.specs.ped_symbols.specs.Kinds.{table_of}
+use Rattle.ped_scalar.specs.ped_rules.specs.ped_loop_runs.specs.ped_bodies.specs.ped_steps.specs.declared.rules.Rule.TheVariants.{NoLoop, NotPerfect, ParallelState, HasPrivate, IndexEscapes, BoundNotPlain, BoundsShape, StepShape, Range, Limit}
+use Rattle.ped_scalar.specs.ped_rules.specs.ped_loop_runs.specs.ped_bodies.specs.ped_steps.specs.Causes.{Rules, IsFirstCause}
+use Rattle.ped_scalar.specs.ped_rules.specs.ped_loop_runs.specs.ped_bodies.specs.ped_steps.specs.Replacing.{alone, program_with}
 use Rattle.ped_loops.specs.Shapes.{new_outer, new_inner, names_outer, isnt_shaped}
 
 -- the two DO loops in each other's place: comments in the body of the outer one stay in that of the new outer one (Allen and Kennedy, section 5.2)

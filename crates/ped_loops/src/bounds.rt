@@ -7,24 +7,22 @@ ghost use Rattle.ped_tree.specs.Names.Collecting.{with_names};
 ghost use Rattle.ped_tree.specs.Numbering.{statement_with};
 ghost use Rattle.ped_tree.specs.Views.{expr_tree, pack_exprs, stmt_trees, program_tree, head_of};
 ghost use Rattle.ped_tree.specs.Nests.{indices_of};
-ghost use Rattle.ped_scalar.specs.ped_rules.specs.ped_loop_runs.specs.ped_tidy.specs.ped_pasting.specs.ped_bodies.specs.ped_steps.specs.ped_refs.specs.Loops.{nest_of};
-ghost use Rattle.ped_scalar.specs.ped_rules.specs.ped_loop_runs.specs.ped_tidy.specs.ped_pasting.specs.ped_bodies.specs.ped_steps.specs.ped_flow.specs.PlainBounds as Plain;
-ghost use Rattle.ped_scalar.specs.ped_rules.specs.ped_loop_runs.specs.ped_tidy.specs.ped_pasting.specs.ped_bodies.specs.ped_steps.specs.ped_flow.specs.PlainBounds.{nest_round, setting_round, IsConstant, IsFixed, IsExtreme, IsPlainlyBuilt, ArePlainlyBuilt, IsPlain};
-ghost use Rattle.ped_scalar.specs.ped_rules.specs.ped_loop_runs.specs.ped_tidy.specs.ped_pasting.specs.ped_bodies.specs.ped_steps.specs.ped_flow.specs.Questions.{IsLoop, LoopOf};
-ghost use Rattle.ped_scalar.specs.ped_rules.specs.ped_loop_runs.specs.ped_tidy.specs.ped_pasting.specs.ped_bodies.specs.ped_steps.specs.Scenes.{IsSceneOf};
-ghost use Rattle.ped_scalar.specs.ped_rules.specs.ped_loop_runs.specs.ped_tidy.specs.ped_pasting.specs.ped_bodies.specs.ped_steps.specs.ped_symbols.specs.Kinds.{table_of};
+ghost use Rattle.ped_scalar.specs.ped_rules.specs.ped_loop_runs.specs.ped_bodies.specs.ped_steps.specs.ped_refs.specs.Loops.{nest_of};
+ghost use Rattle.ped_scalar.specs.ped_rules.specs.ped_loop_runs.specs.ped_bodies.specs.ped_steps.specs.ped_flow.specs.PlainBounds as Plain;
+ghost use Rattle.ped_scalar.specs.ped_rules.specs.ped_loop_runs.specs.ped_bodies.specs.ped_steps.specs.ped_flow.specs.PlainBounds.{nest_round, setting_round, IsConstant, IsFixed, IsExtreme, IsPlainlyBuilt, ArePlainlyBuilt, IsPlain};
+ghost use Rattle.ped_scalar.specs.ped_rules.specs.ped_loop_runs.specs.ped_bodies.specs.ped_steps.specs.ped_flow.specs.Questions.{IsLoop, LoopOf};
+ghost use Rattle.ped_scalar.specs.ped_rules.specs.ped_loop_runs.specs.ped_bodies.specs.ped_steps.specs.Scenes.{IsSceneOf};
+ghost use Rattle.ped_scalar.specs.ped_rules.specs.ped_loop_runs.specs.ped_bodies.specs.ped_steps.specs.ped_symbols.specs.Kinds.{table_of};
 ghost use Rattle.ped_loops.specs.CodePlain.{tree_at, values_at, IsPlaced, HasInterval, TellsPlain};
 
 use ped_base::{Name, NoMemory};
 use ped_scalar::ped_rules::is_index;
-use ped_scalar::ped_rules::ped_loop_runs::ped_tidy::ped_pasting::ped_bodies::ped_steps::ped_weaves::ped_laws::ped_flow::Flow;
-use ped_scalar::ped_rules::ped_loop_runs::ped_tidy::ped_pasting::ped_bodies::ped_steps::ped_weaves::ped_laws::ped_graph::ped_affine::{
+use ped_scalar::ped_rules::ped_loop_runs::ped_bodies::ped_steps::ped_weaves::ped_laws::ped_flow::Flow;
+use ped_scalar::ped_rules::ped_loop_runs::ped_bodies::ped_steps::ped_weaves::ped_laws::ped_graph::ped_affine::{
     Setting, assigned, interval, loop_variables,
 };
-use ped_scalar::ped_rules::ped_loop_runs::ped_tidy::ped_pasting::ped_bodies::ped_steps::ped_weaves::ped_laws::ped_graph::ped_refs::Loop;
-use ped_scalar::ped_rules::ped_loop_runs::ped_tidy::ped_pasting::ped_bodies::ped_steps::{
-    Scene, loop_at, loops_round,
-};
+use ped_scalar::ped_rules::ped_loop_runs::ped_bodies::ped_steps::ped_weaves::ped_laws::ped_graph::ped_refs::Loop;
+use ped_scalar::ped_rules::ped_loop_runs::ped_bodies::ped_steps::{Scene, loop_at, loops_round};
 use ped_tree::constants::constant;
 use ped_tree::names::NameSet;
 use ped_tree::{Do, Expr, Intrinsic, Program};

@@ -9,14 +9,14 @@ ghost use Rattle.ped_scalar.specs.ped_rules.specs.OnlyLoops.{only_loop};
 ghost use Rattle.ped_scalar.specs.ped_rules.specs.Rules as Rules;
 ghost use Rattle.ped_scalar.specs.ped_rules.specs.Rules.{WhereUnplain, setting_at, heads_round};
 ghost use Rattle.ped_scalar.specs.ped_rules.specs.Steps.{Answers};
-ghost use Rattle.ped_scalar.specs.ped_rules.specs.ped_loop_runs.specs.ped_tidy.specs.ped_pasting.specs.ped_bodies.specs.ped_steps.specs.Causes.{NoRule};
-ghost use Rattle.ped_scalar.specs.ped_rules.specs.ped_loop_runs.specs.ped_tidy.specs.ped_pasting.specs.ped_bodies.specs.ped_steps.specs.Changes.{IsChange};
-ghost use Rattle.ped_scalar.specs.ped_rules.specs.ped_loop_runs.specs.ped_tidy.specs.ped_pasting.specs.ped_bodies.specs.ped_steps.specs.Replacing.{alone};
-ghost use Rattle.ped_scalar.specs.ped_rules.specs.ped_loop_runs.specs.ped_tidy.specs.ped_pasting.specs.ped_bodies.specs.ped_steps.specs.Scenes.{IsSceneOf};
-ghost use Rattle.ped_scalar.specs.ped_rules.specs.ped_loop_runs.specs.ped_tidy.specs.ped_pasting.specs.ped_bodies.specs.ped_steps.specs.ped_affine.specs.PairViews.{heads_of};
-ghost use Rattle.ped_scalar.specs.ped_rules.specs.ped_loop_runs.specs.ped_tidy.specs.ped_pasting.specs.ped_bodies.specs.ped_steps.specs.ped_flow.specs.Questions.{IsLoop};
-ghost use Rattle.ped_scalar.specs.ped_rules.specs.ped_loop_runs.specs.ped_tidy.specs.ped_pasting.specs.ped_bodies.specs.ped_steps.specs.ped_refs.specs.Loops.{nest_of};
-ghost use Rattle.ped_scalar.specs.ped_rules.specs.ped_loop_runs.specs.ped_tidy.specs.ped_pasting.specs.ped_bodies.specs.ped_steps.specs.ped_symbols.specs.NameRefusals.{IsValid};
+ghost use Rattle.ped_scalar.specs.ped_rules.specs.ped_loop_runs.specs.ped_bodies.specs.ped_steps.specs.Causes.{NoRule};
+ghost use Rattle.ped_scalar.specs.ped_rules.specs.ped_loop_runs.specs.ped_bodies.specs.ped_steps.specs.Changes.{IsChange};
+ghost use Rattle.ped_scalar.specs.ped_rules.specs.ped_loop_runs.specs.ped_bodies.specs.ped_steps.specs.Replacing.{alone};
+ghost use Rattle.ped_scalar.specs.ped_rules.specs.ped_loop_runs.specs.ped_bodies.specs.ped_steps.specs.Scenes.{IsSceneOf};
+ghost use Rattle.ped_scalar.specs.ped_rules.specs.ped_loop_runs.specs.ped_bodies.specs.ped_steps.specs.ped_affine.specs.PairViews.{heads_of};
+ghost use Rattle.ped_scalar.specs.ped_rules.specs.ped_loop_runs.specs.ped_bodies.specs.ped_steps.specs.ped_flow.specs.Questions.{IsLoop};
+ghost use Rattle.ped_scalar.specs.ped_rules.specs.ped_loop_runs.specs.ped_bodies.specs.ped_steps.specs.ped_refs.specs.Loops.{nest_of};
+ghost use Rattle.ped_scalar.specs.ped_rules.specs.ped_loop_runs.specs.ped_bodies.specs.ped_steps.specs.ped_symbols.specs.NameRefusals.{IsValid};
 ghost use Rattle.ped_loops.specs.CodeInterchanging.{NoneUpTo};
 ghost use Rattle.ped_loops.specs.CodeShapes.{HasShapes};
 ghost use Rattle.ped_loops.specs.Interchanging as Spec;
@@ -25,8 +25,8 @@ ghost use Rattle.ped_loops.specs.Shapes.{names_outer};
 use crate::bounds::are_plain;
 use crate::shapes::{Pair, exchanged, names_outer, pair_of};
 use ped_base::NoMemory;
-use ped_scalar::ped_rules::ped_loop_runs::ped_tidy::ped_pasting::ped_bodies::ped_steps::ped_weaves::ped_laws::ped_graph::ped_refs::Loop;
-use ped_scalar::ped_rules::ped_loop_runs::ped_tidy::ped_pasting::ped_bodies::ped_steps::{
+use ped_scalar::ped_rules::ped_loop_runs::ped_bodies::ped_steps::ped_weaves::ped_laws::ped_graph::ped_refs::Loop;
+use ped_scalar::ped_rules::ped_loop_runs::ped_bodies::ped_steps::{
     Change, Refused, Rule, Scene, change_to, loop_at, loops_round, program_with,
 };
 use ped_scalar::ped_rules::{

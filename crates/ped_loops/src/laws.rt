@@ -8,13 +8,12 @@ ghost use Rattle.ped_loops.specs.Rejecting.{rejecting};
 ghost use Rattle.ped_loops.specs.Reversing.{reversing};
 ghost use Rattle.ped_loops.specs.Interchanging.{interchanging};
 
-use ped_scalar::ped_rules::ped_loop_runs::ped_tidy::ped_pasting::ped_bodies::ped_steps::ped_weaves::ped_laws::conflicts::{
+use ped_scalar::ped_rules::ped_loop_runs::ped_bodies::ped_steps::ped_weaves::ped_laws::conflicts::{
     accesses_are_made, accesses_in_sequence,
 };
-use ped_scalar::ped_rules::ped_loop_runs::ped_tidy::{
-    none_rejected, private_names_cleared, stays_trusted,
+use ped_scalar::ped_rules::ped_loop_runs::{
+    indices_unwritten, none_rejected, one_for_one, private_names_cleared, stays_trusted,
 };
-use ped_scalar::ped_rules::ped_loop_runs::{indices_unwritten, one_for_one};
 
 /// `parallel` has one first cause at most and makes one program. Where nothing forbids it, that one is valid if the old one
 /// is; and if the old one is also tidy and without C$PED REJECT, so is the new one, and it means the same (Allen and

@@ -3,13 +3,13 @@
 ghost use Rattle.std.specs.Prelude.{IfOk};
 ghost use Rattle.ped_tree.specs.Views.{stmt_trees, program_tree, head_of};
 ghost use Rattle.ped_scalar.specs.ped_rules.specs.Steps.{Answers};
-ghost use Rattle.ped_scalar.specs.ped_rules.specs.ped_loop_runs.specs.ped_tidy.specs.ped_pasting.specs.ped_bodies.specs.ped_steps.specs.Scenes.{IsSceneOf};
-ghost use Rattle.ped_scalar.specs.ped_rules.specs.ped_loop_runs.specs.ped_tidy.specs.ped_pasting.specs.ped_bodies.specs.ped_steps.specs.ped_flow.specs.Questions.{IsLoop};
+ghost use Rattle.ped_scalar.specs.ped_rules.specs.ped_loop_runs.specs.ped_bodies.specs.ped_steps.specs.Scenes.{IsSceneOf};
+ghost use Rattle.ped_scalar.specs.ped_rules.specs.ped_loop_runs.specs.ped_bodies.specs.ped_steps.specs.ped_flow.specs.Questions.{IsLoop};
 ghost use Rattle.ped_loops.specs.Serialising as Spec;
 
 use crate::flags::flagged;
 use ped_base::NoMemory;
-use ped_scalar::ped_rules::ped_loop_runs::ped_tidy::ped_pasting::ped_bodies::ped_steps::{
+use ped_scalar::ped_rules::ped_loop_runs::ped_bodies::ped_steps::{
     Change, Refused, Rule, Scene, loop_at,
 };
 use ped_scalar::ped_rules::{against, escapes};

@@ -7,16 +7,14 @@ ghost use Rattle.ped_tree.specs.Tree as Tree;
 ghost use Rattle.ped_tree.specs.NamesIn.{exprs_names};
 ghost use Rattle.ped_tree.specs.Views.{expr_tree, pack_exprs, stmt_tree, stmt_trees, head_of, do_tree};
 ghost use Rattle.ped_scalar.specs.ped_rules.specs.OnlyLoops.{only_loop};
-ghost use Rattle.ped_scalar.specs.ped_rules.specs.ped_loop_runs.specs.ped_tidy.specs.ped_pasting.specs.ped_bodies.specs.ped_steps.specs.Replacing.{alone};
+ghost use Rattle.ped_scalar.specs.ped_rules.specs.ped_loop_runs.specs.ped_bodies.specs.ped_steps.specs.Replacing.{alone};
 ghost use Rattle.ped_loops.specs.Shapes as Spec;
 ghost use Rattle.ped_loops.specs.CodeShapes.{shape_in, outer_of, inner_of, HasShapes};
 ghost use Rattle.ped_loops.specs.CodeInterchanging.{one_around, each_around};
 ghost use Rattle.ped_loops.specs.Interchanging.{with_exchanged};
 
 use ped_base::{Name, NoMemory};
-use ped_scalar::ped_rules::ped_loop_runs::ped_tidy::ped_pasting::ped_bodies::ped_steps::ped_sums::{
-    minus, plus,
-};
+use ped_scalar::ped_rules::ped_loop_runs::ped_bodies::ped_steps::ped_sums::{minus, plus};
 use ped_tree::{Do, Expr, Intrinsic, Stmt};
 use std::alloc::Global;
 

@@ -250,48 +250,36 @@ pub fn take_on(
                 keep_private(blocks, statement.line, copied(alloc, names.as_slice())?)?;
             }
             leave_by(blocks, statement.label);
-            Ok(())
         }
-        Item::End => {
-            blocks.clear();
-            Ok(())
-        }
+        Item::End => blocks.clear(),
         Item::BlockIf(_) => {
             leave_by(blocks, statement.label);
-            open_block(blocks, Block::Then(1))
+            open_block(blocks, Block::Then(1))?;
         }
         Item::ElseIf(_) => {
             begin_else_if(blocks)?;
             leave_by(blocks, statement.label);
-            Ok(())
         }
         Item::Else => {
             begin_else(blocks)?;
             leave_by(blocks, statement.label);
-            Ok(())
         }
         Item::EndIf => {
             end_if(blocks);
             leave_by(blocks, statement.label);
-            Ok(())
         }
         Item::Do(d) => {
             leave_by(blocks, statement.label);
-            open_block(blocks, begun(alloc, d))
+            open_block(blocks, begun(alloc, d))?;
         }
-        Item::EndDo => {
-            end_do(blocks, statement.label);
-            Ok(())
-        }
+        Item::EndDo => end_do(blocks, statement.label),
         Item::Declaration(_)
         | Item::SaveAll
         | Item::Simple(_)
         | Item::Continue
-        | Item::LogicalIf(_, _) => {
-            leave_by(blocks, statement.label);
-            Ok(())
-        }
+        | Item::LogicalIf(_, _) => leave_by(blocks, statement.label),
     }
+    Ok(())
 }
 
 /// Ends what a statement's label ends, where it has one: the outermost loop with that label, and all that

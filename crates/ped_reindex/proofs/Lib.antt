@@ -1,4 +1,3 @@
-mod Contained
 mod Here
 mod Remainders
 mod OneTaken
@@ -23,10 +22,9 @@ mod StripsTrips
 mod StripsControls
 mod StripsAbsent
 mod StripsStand
-mod RenumberedRaces
+pub mod RenumberedRaces
 mod StripsRaces
 mod StripsAccesses
-mod MadeAnew
 mod StripsKeeps
 mod StripsKinds
 mod StripsTrust
@@ -46,7 +44,7 @@ mod PeelKinds
 mod PeelConstants
 mod PeelNumbers
 mod PeelRuns
-mod PeelFar
+pub mod PeelFar
 mod PeelQuiet
 mod PeelCells
 mod PeelStands

@@ -1,9 +1,8 @@
 -- Numbers of the statements of a program in which an iteration of a DO is peeled off: the DO that is left and its body have the old numbers, and the copy of the body has numbers of which the old program has none.
-use Rattle.ped_loops.specs.ped_scalar.specs.ped_rules.specs.ped_loop_runs.specs.ped_tidy.specs.ped_pasting.proofs.PastingLaws.CountedNumbers.{inside_counts}
-use Rattle.ped_loops.specs.ped_scalar.specs.ped_rules.specs.ped_loop_runs.specs.ped_tidy.specs.ped_pasting.specs.Numbers.{AreApart, FitInGap, counted_by, in_a_row, kept_numbers}
-use Rattle.ped_loops.specs.ped_scalar.specs.ped_rules.specs.ped_loop_runs.specs.ped_tidy.specs.ped_pasting.specs.ped_bodies.specs.ped_steps.specs.ped_laws.proofs.ActLaws.Lists.{in_left, in_parts, in_right}
-use Rattle.ped_loops.specs.ped_scalar.specs.ped_rules.specs.ped_loop_runs.specs.ped_tidy.specs.ped_pasting.specs.ped_bodies.specs.ped_steps.specs.ped_laws.specs.Acts.Orders.{IsIn}
-use Rattle.std.proofs.Common.{Bool, List, [], ap, arith, false, inl, inr, refl, suc, sym, true, zero, ℕ, ◌++◌, ◌+◌, ◌-◌, ◌<◌, ◌∙◌, ◌∷◌, ◌≡◌, ◌≤◌, ◌⊎◌}
+use Rattle.ped_loops.specs.ped_scalar.specs.ped_rules.specs.ped_loop_runs.proofs.PastingLaws.CountedNumbers.{Differ, append_apart, in_row, inside_counts, row_apart, row_in}
+use Rattle.ped_loops.specs.ped_scalar.specs.ped_rules.specs.ped_loop_runs.specs.Numbers.{FitInGap, counted_by, in_a_row, kept_numbers}
+use Rattle.ped_loops.specs.ped_scalar.specs.ped_rules.specs.ped_loop_runs.specs.ped_bodies.specs.ped_steps.specs.ped_laws.proofs.ActLaws.Lists.{in_left, in_parts, in_right}
+use Rattle.std.proofs.Common.{Bool, List, ap, arith, false, inl, inr, refl, suc, sym, true, zero, ℕ, ◌++◌, ◌+◌, ◌-◌, ◌<◌, ◌∙◌, ◌≡◌, ◌≤◌, ◌⊎◌}
 
 -- the number of the copy of a statement
 abbrev pub copied : (all : ℕ) → ℕ → ℕ
@@ -28,46 +27,6 @@ at_least : (a b : ℕ) → (a ≤ b) ⊎ (b < a)
 at_least zero b = inl (omega arith)
 at_least (suc a) zero = inr (omega arith)
 at_least (suc a) (suc b) = elim (at_least a b) [ inl h ↦ inl (omega (arith, h)) | inr h ↦ inr (omega (arith, h)) ]
-
-in_row : (from to count : ℕ) (y : ℕ × ℕ) → IsIn y (in_a_row from to count) → (k : ℕ) × (k < count) × (y.0 ≡ from + k) × (y.1 ≡ to + k)
-in_row from to zero y i = absurd i
-in_row from to (suc count) y (inl e) = (0, omega arith, ap (λ (z : ℕ × ℕ). z.0) e ∙ omega arith, ap (λ (z : ℕ × ℕ). z.1) e ∙ omega arith)
-in_row from to (suc count) y (inr i) =
-    let h = in_row (from + 1) (to + 1) count y i in
-    let k = h.0 in
-    let below = h.1 in
-    let first = h.2 in
-    let second = h.3 in
-    (k + 1, omega (arith, below), omega (arith, first), omega (arith, second))
-
-row_in : (from to count k : ℕ) → k < count → (y : ℕ × ℕ) × IsIn y (in_a_row from to count) × (y.0 ≡ from + k) × (y.1 ≡ to + k)
-row_in from to zero k h = absurd (omega (arith, h))
-row_in from to (suc count) zero h = ((from, to), inl refl, omega arith, omega arith)
-row_in from to (suc count) (suc k) h =
-    let r = row_in (from + 1) (to + 1) count k (omega (arith, h)) in
-    let first = r.2 in
-    let second = r.3 in
-    (r.0, inr r.1, omega (arith, first), omega (arith, second))
-
-row_apart : (from to count : ℕ) → AreApart (in_a_row from to count)
-row_apart from to zero = tt
-row_apart from to (suc count) = (
-  λ y i. (
-      let h = in_row (from + 1) (to + 1) count y i in
-      let first = h.2 in
-      let second = h.3 in
-      (λ e. omega (arith, first, e), λ e. omega (arith, second, e))
-      ),
-  row_apart (from + 1) (to + 1) count,
-)
-
--- the pairs of the one list and of the other have no number in common
-abbrev Differ : List (ℕ × ℕ) → List (ℕ × ℕ) → Type 0
-Differ xs ys = (x y : ℕ × ℕ) → IsIn x xs → IsIn y ys → (y.0 ≡ x.0 → ⊥) × (y.1 ≡ x.1 → ⊥)
-
-append_apart : (xs ys : List (ℕ × ℕ)) → AreApart xs → AreApart ys → Differ xs ys → AreApart (xs ++ ys)
-append_apart [] ys h k d = k
-append_apart (x ∷ xs) ys h k d = ((λ y i. elim (in_parts y xs ys i) [ inl j ↦ h.0 y j | inr j ↦ d x y (inl refl) j ]), append_apart xs ys h.1 k (λ z y i j. d z y (inr i) j))
 
 module _ (last : Bool) (s size all : ℕ) (room : s + size ≤ all) where
   abbrev loop_row : List (ℕ × ℕ)

@@ -1,41 +1,38 @@
 -- New acts in the place of executions make no race, where their accesses come from those of the executions. The new program is run under numbers of which the old one may have none: so are the iterations that a step gives other numbers.
-use Rattle.ped_loops.proofs.ApartTurns.{apart_first, apart_inside, apart_split, apart_within, at_of, front_apart, iterations_append, none_within, or_turned, same_fronts, turns_long}
+use Rattle.ped_loops.proofs.ApartTurns.{apart_inside, apart_split, apart_within, front_apart, iterations_append, same_fronts, turns_long}
 use Rattle.ped_loops.proofs.ExchangedRaces.{RaceBefore}
-use Rattle.ped_loops.specs.ped_scalar.specs.ped_rules.specs.ped_loop_runs.proofs.LoopLaws.RacesByReferences.{act_good}
-use Rattle.ped_loops.specs.ped_scalar.specs.ped_rules.specs.ped_loop_runs.specs.ped_tidy.specs.ped_pasting.specs.Executions.{IsExecuted, LeaveCopies, StandsInside}
-use Rattle.ped_loops.specs.ped_scalar.specs.ped_rules.specs.ped_loop_runs.specs.ped_tidy.specs.ped_pasting.specs.Pasting.{AreExchanged}
-use Rattle.ped_loops.specs.ped_scalar.specs.ped_rules.specs.ped_loop_runs.specs.ped_tidy.specs.ped_pasting.specs.ped_bodies.specs.ped_steps.proofs.RunLaws.ExpandedRacesOrigins.{touch_of}
-use Rattle.ped_loops.specs.ped_scalar.specs.ped_rules.specs.ped_loop_runs.specs.ped_tidy.specs.ped_pasting.specs.ped_bodies.specs.ped_steps.proofs.RunLaws.PrivatisedRacesOrigins.{accesses_from}
-use Rattle.ped_loops.specs.ped_scalar.specs.ped_rules.specs.ped_loop_runs.specs.ped_tidy.specs.ped_pasting.specs.ped_bodies.specs.ped_steps.specs.Runs.Renumbering.{IsToldBack, renumbered}
-use Rattle.ped_loops.specs.ped_scalar.specs.ped_rules.specs.ped_loop_runs.specs.ped_tidy.specs.ped_pasting.specs.ped_bodies.specs.ped_steps.specs.ped_flow.specs.PlainBounds.{nest_round}
-use Rattle.ped_loops.specs.ped_scalar.specs.ped_rules.specs.ped_loop_runs.specs.ped_tidy.specs.ped_pasting.specs.ped_bodies.specs.ped_steps.specs.ped_laws.proofs.ActLaws.Conflicting.{access_place, accesses_in}
-use Rattle.ped_loops.specs.ped_scalar.specs.ped_rules.specs.ped_loop_runs.specs.ped_tidy.specs.ped_pasting.specs.ped_bodies.specs.ped_steps.specs.ped_laws.proofs.ActLaws.Lists.{before_parts, first_in, in_left, in_parts, in_right, second_in}
-use Rattle.ped_loops.specs.ped_scalar.specs.ped_rules.specs.ped_loop_runs.specs.ped_tidy.specs.ped_pasting.specs.ped_bodies.specs.ped_steps.specs.ped_laws.proofs.ActLaws.RaceFree.{apart_flip}
-use Rattle.ped_loops.specs.ped_scalar.specs.ped_rules.specs.ped_loop_runs.specs.ped_tidy.specs.ped_pasting.specs.ped_bodies.specs.ped_steps.specs.ped_laws.proofs.ActLaws.SameCells.{cell_is, is_cell}
-use Rattle.ped_loops.specs.ped_scalar.specs.ped_rules.specs.ped_loop_runs.specs.ped_tidy.specs.ped_pasting.specs.ped_bodies.specs.ped_steps.specs.ped_laws.proofs.RunLaws.Placing.{kinds_of_run}
-use Rattle.ped_loops.specs.ped_scalar.specs.ped_rules.specs.ped_loop_runs.specs.ped_tidy.specs.ped_pasting.specs.ped_bodies.specs.ped_steps.specs.ped_laws.proofs.RunLaws.Turning.{At}
-use Rattle.ped_loops.specs.ped_scalar.specs.ped_rules.specs.ped_loop_runs.specs.ped_tidy.specs.ped_pasting.specs.ped_bodies.specs.ped_steps.specs.ped_laws.specs.Acts.Fitting.{store_after}
-use Rattle.ped_loops.specs.ped_scalar.specs.ped_rules.specs.ped_loop_runs.specs.ped_tidy.specs.ped_pasting.specs.ped_bodies.specs.ped_steps.specs.ped_laws.specs.Acts.Orders.{IsIn, StandsBefore}
-use Rattle.ped_loops.specs.ped_scalar.specs.ped_rules.specs.ped_loop_runs.specs.ped_tidy.specs.ped_pasting.specs.ped_bodies.specs.ped_steps.specs.ped_laws.specs.Acts.Pieces.{Part, changed, new_parts, old_parts, same}
-use Rattle.ped_loops.specs.ped_scalar.specs.ped_rules.specs.ped_loop_runs.specs.ped_tidy.specs.ped_pasting.specs.ped_bodies.specs.ped_steps.specs.ped_laws.specs.Runs.Replaying.{finish_of, goes_on}
-use Rattle.ped_loops.specs.ped_scalar.specs.ped_rules.specs.ped_loop_runs.specs.ped_tidy.specs.ped_pasting.specs.ped_bodies.specs.ped_steps.specs.ped_laws.specs.ped_eval.specs.Outcomes.{run_of, setting_of}
-use Rattle.ped_loops.specs.ped_scalar.specs.ped_rules.specs.ped_loop_runs.specs.ped_tidy.specs.ped_pasting.specs.ped_bodies.specs.ped_steps.specs.ped_laws.specs.ped_eval.specs.Runs.{Run, run_all}
-use Rattle.ped_loops.specs.ped_scalar.specs.ped_rules.specs.ped_loop_runs.specs.ped_tidy.specs.ped_pasting.specs.ped_bodies.specs.ped_steps.specs.ped_laws.specs.ped_eval.specs.Scopes.{Scope, Setting, turns_of}
-use Rattle.ped_loops.specs.ped_scalar.specs.ped_rules.specs.ped_loop_runs.specs.ped_tidy.specs.ped_pasting.specs.ped_bodies.specs.ped_steps.specs.ped_laws.specs.ped_store.specs.Acts.{Act, Place, Turn, iterations_of}
-use Rattle.ped_loops.specs.ped_scalar.specs.ped_rules.specs.ped_loop_runs.specs.ped_tidy.specs.ped_pasting.specs.ped_bodies.specs.ped_steps.specs.ped_laws.specs.ped_store.specs.Cells.{Cell, Iteration, Private, same_cell}
-use Rattle.ped_loops.specs.ped_scalar.specs.ped_rules.specs.ped_loop_runs.specs.ped_tidy.specs.ped_pasting.specs.ped_bodies.specs.ped_steps.specs.ped_laws.specs.ped_store.specs.Races.{Access, HasNoRace, accesses, accesses_of, are_apart, race}
-use Rattle.ped_loops.specs.ped_scalar.specs.ped_rules.specs.ped_loop_runs.specs.ped_tidy.specs.ped_pasting.specs.ped_bodies.specs.ped_steps.specs.ped_laws.specs.ped_store.specs.Stores.{Store, store_at_start}
-use Rattle.ped_loops.specs.ped_scalar.specs.ped_rules.specs.ped_loop_runs.specs.ped_tidy.specs.ped_pasting.specs.ped_bodies.specs.ped_steps.specs.ped_symbols.specs.NameRefusals.{IsValid}
-use Rattle.ped_loops.specs.ped_scalar.specs.ped_rules.specs.ped_loop_runs.specs.ped_tidy.specs.ped_pasting.specs.ped_bodies.specs.ped_steps.specs.ped_weaves.proofs.WeaveLaws.RaceSources.{pairs_free}
-use Rattle.ped_loops.specs.ped_scalar.specs.ped_rules.specs.ped_loop_runs.specs.ped_tidy.specs.ped_pasting.specs.ped_bodies.specs.ped_steps.specs.ped_weaves.specs.Sources.{RaceSomewhere}
+use Rattle.ped_loops.specs.ped_scalar.specs.ped_rules.specs.ped_loop_runs.proofs.LoopLaws.ChangedPairs.{Change, Give, in_acts, pairs_give}
+use Rattle.ped_loops.specs.ped_scalar.specs.ped_rules.specs.ped_loop_runs.specs.Executions.{IsExecuted, LeaveCopies, StandsInside}
+use Rattle.ped_loops.specs.ped_scalar.specs.ped_rules.specs.ped_loop_runs.specs.Pasting.{AreExchanged, IsExchanged}
+use Rattle.ped_loops.specs.ped_scalar.specs.ped_rules.specs.ped_loop_runs.specs.ped_bodies.specs.ped_steps.proofs.RunLaws.PrivatisedRacesOrigins.{accesses_from}
+use Rattle.ped_loops.specs.ped_scalar.specs.ped_rules.specs.ped_loop_runs.specs.ped_bodies.specs.ped_steps.specs.Runs.Renumbering.{IsToldBack, renumbered}
+use Rattle.ped_loops.specs.ped_scalar.specs.ped_rules.specs.ped_loop_runs.specs.ped_bodies.specs.ped_steps.specs.ped_flow.specs.PlainBounds.{nest_round}
+use Rattle.ped_loops.specs.ped_scalar.specs.ped_rules.specs.ped_loop_runs.specs.ped_bodies.specs.ped_steps.specs.ped_laws.proofs.ActLaws.Conflicting.{access_place}
+use Rattle.ped_loops.specs.ped_scalar.specs.ped_rules.specs.ped_loop_runs.specs.ped_bodies.specs.ped_steps.specs.ped_laws.proofs.ActLaws.Lists.{first_in, second_in}
+use Rattle.ped_loops.specs.ped_scalar.specs.ped_rules.specs.ped_loop_runs.specs.ped_bodies.specs.ped_steps.specs.ped_laws.proofs.ActLaws.SameCells.{cell_is}
+use Rattle.ped_loops.specs.ped_scalar.specs.ped_rules.specs.ped_loop_runs.specs.ped_bodies.specs.ped_steps.specs.ped_laws.proofs.RunLaws.Turning.{At}
+use Rattle.ped_loops.specs.ped_scalar.specs.ped_rules.specs.ped_loop_runs.specs.ped_bodies.specs.ped_steps.specs.ped_laws.specs.Acts.Orders.{IsIn, StandsBefore}
+use Rattle.ped_loops.specs.ped_scalar.specs.ped_rules.specs.ped_loop_runs.specs.ped_bodies.specs.ped_steps.specs.ped_laws.specs.Acts.Pieces.{Part, new_parts, old_parts}
+use Rattle.ped_loops.specs.ped_scalar.specs.ped_rules.specs.ped_loop_runs.specs.ped_bodies.specs.ped_steps.specs.ped_laws.specs.Runs.Replaying.{finish_of, goes_on}
+use Rattle.ped_loops.specs.ped_scalar.specs.ped_rules.specs.ped_loop_runs.specs.ped_bodies.specs.ped_steps.specs.ped_laws.specs.ped_eval.specs.Outcomes.{run_of, setting_of}
+use Rattle.ped_loops.specs.ped_scalar.specs.ped_rules.specs.ped_loop_runs.specs.ped_bodies.specs.ped_steps.specs.ped_laws.specs.ped_eval.specs.Runs.{Run, run_all}
+use Rattle.ped_loops.specs.ped_scalar.specs.ped_rules.specs.ped_loop_runs.specs.ped_bodies.specs.ped_steps.specs.ped_laws.specs.ped_eval.specs.Scopes.{Scope, Setting, turns_of}
+use Rattle.ped_loops.specs.ped_scalar.specs.ped_rules.specs.ped_loop_runs.specs.ped_bodies.specs.ped_steps.specs.ped_laws.specs.ped_store.specs.Acts.{Act, Place, Turn, iterations_of}
+use Rattle.ped_loops.specs.ped_scalar.specs.ped_rules.specs.ped_loop_runs.specs.ped_bodies.specs.ped_steps.specs.ped_laws.specs.ped_store.specs.Cells.{Cell, Iteration, Private, same_cell}
+use Rattle.ped_loops.specs.ped_scalar.specs.ped_rules.specs.ped_loop_runs.specs.ped_bodies.specs.ped_steps.specs.ped_laws.specs.ped_store.specs.Races.{Access, HasNoRace, accesses, are_apart, race}
+use Rattle.ped_loops.specs.ped_scalar.specs.ped_rules.specs.ped_loop_runs.specs.ped_bodies.specs.ped_steps.specs.ped_laws.specs.ped_store.specs.Stores.{Store, store_at_start}
+use Rattle.ped_loops.specs.ped_scalar.specs.ped_rules.specs.ped_loop_runs.specs.ped_bodies.specs.ped_steps.specs.ped_symbols.specs.NameRefusals.{IsValid}
+use Rattle.ped_loops.specs.ped_scalar.specs.ped_rules.specs.ped_loop_runs.specs.ped_bodies.specs.ped_steps.specs.ped_weaves.proofs.WeaveLaws.RaceSources.{pairs_free}
+use Rattle.ped_loops.specs.ped_scalar.specs.ped_rules.specs.ped_loop_runs.specs.ped_bodies.specs.ped_steps.specs.ped_weaves.specs.Sources.{RaceSomewhere}
 use Rattle.ped_reindex.proofs.PeelFar.{turns_below}
 use Rattle.ped_reindex.proofs.RenumberedRaces.{references_renumbered}
 use Rattle.ped_tree.specs.Numbering.{statements_count}
 use Rattle.ped_tree.specs.Tree.{ProgramTree, StmtTrees}
-use Rattle.std.proofs.Common.{List, [], ap, append-nil, arith, inl, inr, length, refl, subst, sym, true, ℕ, ◌&&◌, ◌++◌, ◌<◌, ◌||◌, ◌∙◌, ◌∷◌, ◌≡◌, ◌⊎◌}
+use Rattle.std.proofs.Common.{List, [], ap, append-nil, arith, inl, inr, length, subst, sym, true, ℕ, ◌++◌, ◌<◌, ◌||◌, ◌∙◌, ◌∷◌, ◌≡◌, ◌⊎◌}
 use Rattle.std.proofs.lemmas.Bool.{and_parts}
-use Rattle.std.proofs.lemmas.Grind.{flat_map-append}
 use Rattle.std.specs.Str.Lines.{lines}
+use Rattle.ped_loops.specs.ped_scalar.specs.ped_rules.specs.ped_loop_runs.proofs.LoopLaws.OldRaces.{acts_outside, round_apart}
+use Rattle.ped_loops.specs.ped_scalar.specs.ped_rules.specs.ped_loop_runs.proofs.LoopLaws.OldRaces as origins
 
 -- an access in the place of an execution comes from one in an iteration of the DO, in the same cell, or in a copy that belongs to an iteration of the DO, or to one that the old program doesn't have
 pub record ComesInside (t : ProgramTree) (l : ℕ) (scope : Scope) (olds : List Act) (b : Access) : Type 0 where
@@ -75,47 +72,16 @@ module _ (t u : ProgramTree) (f g : ℕ → ℕ) (told : IsToldBack f g) (new_va
   abbrev count : ℕ
   count = statements_count old
 
-  -- an access reaches its cell from its place
-  reaches : (b : Access) → IsIn b (accesses news) → At b.place.turns b.cell
-  reaches b i =
-      let a = accesses_from news b i in
-      let v = touch_of a.0 a.0.touches b a.2 in
-      let at : At a.0.place.turns v.0.cell = at_of a.0.place.turns v.0.manner v.0.cell v.0.reference ((act_good (renumbered f (setting_of u)) u.body 1 [] start a.0 a.1).0 v.0 v.1) in
-      subst (λ (y : Access). At y.place.turns y.cell) (sym v.3) at
-
-  turned_apart : (b c : Access) → IsIn b (accesses olds) → IsIn c (accesses olds) → are_apart b.place.turns c.place.turns ≡ true → are_apart c.place.turns b.place.turns ≡ true
-  turned_apart b c i j apart =
-      let y = accesses_from olds b i in
-      let z = accesses_from olds c j in
-      let f = access_place y.0 b y.2 in
-      let g = access_place z.0 c z.2 in
-      (λ k. are_apart (g k).turns (f k).turns) ∙ apart_flip y.0.place.turns z.0.place.turns (kinds_of_run p t.body 1 start y.0 z.0 (λ m n e. e) y.1 z.1) ((λ k. are_apart (sym f k).turns (sym g k).turns) ∙ apart)
-
   -- two new accesses that race
-  record Race (b c : Access) : Type 0 where
-    one : IsIn b (accesses news)
-    other : IsIn c (accesses news)
-    apart : are_apart b.place.turns c.place.turns ≡ true
-    back : are_apart c.place.turns b.place.turns ≡ true
-    cells : b.cell ≡ c.cell
-    writing : b.writes || c.writes ≡ true
+  abbrev Race : Access → Access → Type 0
+  Race = origins.Race t (renumbered f (setting_of u)) u.body data_bytes
 
-  flipped : (b c : Access) → Race b c → Race c b
-  flipped b c r = record { one = r.other; other = r.one; apart = r.back; back = r.apart; cells = sym r.cells; writing = or_turned b.writes c.writes r.writing }
+  abbrev flipped : (b c : Access) → origins.Race t (renumbered f (setting_of u)) u.body data_bytes b c → origins.Race t (renumbered f (setting_of u)) u.body data_bytes c b
+  flipped = origins.flipped t (renumbered f (setting_of u)) u.body data_bytes
 
   -- two old ones that they come from race
-  somewhere : (y z : Access) → IsIn y (accesses olds) → IsIn z (accesses olds) → y.cell ≡ z.cell → y.writes || z.writes ≡ true → are_apart y.place.turns z.place.turns ≡ true → RaceSomewhere olds
-  somewhere y z i j cells writing apart = record {
-    one = y;
-    other = z;
-    one_in = i;
-    other_in = j;
-    apart = (apart, turned_apart y z i j apart);
-    conflicting = let alike = is_cell y.cell z.cell cells in λ k. alike k && writing k;
-  }
-
-  in_acts : (acts others : List Act) (c : Access) → ((a : Act) → IsIn a acts → IsIn a others) → IsIn c (accesses acts) → IsIn c (accesses others)
-  in_acts acts others c sub i = let a = accesses_from acts c i in accesses_in others a.0 c (sub a.0 a.1) a.2
+  abbrev somewhere : (y z : Access) → IsIn y (accesses (run_of t data_bytes).acts) → IsIn z (accesses (run_of t data_bytes).acts) → y.cell ≡ z.cell → y.writes || z.writes ≡ true → are_apart y.place.turns z.place.turns ≡ true → RaceSomewhere (run_of t data_bytes).acts
+  somewhere = origins.somewhere t (renumbered f (setting_of u)) u.body data_bytes
 
   both_kept : (b c : Access) → Race b c → IsIn b (accesses olds) → IsIn c (accesses olds) → RaceSomewhere olds
   both_kept b c r i j = somewhere b c i j r.cells r.writing r.apart
@@ -153,44 +119,18 @@ module _ (t u : ProgramTree) (f g : ℕ → ℕ) (told : IsToldBack f g) (new_va
 
       -- what is done before or behind it stands outside
       apart_acts : (acts : List Act) → LeaveCopies p y.scope l count acts → (c : Access) → IsIn c (accesses acts) → Outside c.place.turns
-      apart_acts acts leave c i =
-          let a = accesses_from acts c i in
-          λ k. (leave a.0 a.1).1 (subst (λ (q : Place). StandsInside p y.scope l count q.turns) (access_place a.0 c a.2) k)
-
-      -- what stands in an iteration of the DO doesn't
-      inside : (c : Access) → Outside c.place.turns → (rs vs : List Turn) → c.place.turns ≡ rs ++ vs → iterations_of rs ≡ iterations_of round → (v : Turn) (more : List Turn) → vs ≡ v ∷ more → l ≡ v.statement → ⊥
-      inside c outside rs vs is alike v more first statement =
-          outside (record {
-            statement = l;
-            from = omega arith;
-            to = omega (arith, some);
-            number = v.number;
-            rest = iterations_of more;
-            is = ap iterations_of (is ∙ ap (λ (zs : List Turn). rs ++ zs) first) ∙ iterations_append rs (v ∷ more) ∙ (λ i. alike i ++ record { statement = sym statement i; number = v.number } ∷ iterations_of more);
-          })
+      apart_acts = acts_outside p y.scope l count
 
       -- an old access that stands outside is apart from the iterations round the DO
       apart_round : (b c : Access) → Race b c → IsIn c (accesses olds) → Outside c.place.turns → Inside b → are_apart round c.place.turns ≡ true
-      apart_round b c r i outside k = elim (apart_split round k.extra c.place.turns ((λ j. are_apart (sym k.place j) c.place.turns) ∙ r.apart)) [
-        | inl m ↦ m
-        | inr m ↦ absurd (by k.extra refl m.0 m.1 m.2 m.3 m.4)
-      ]
+      apart_round b c r i outside k =
+          round_apart t y.scope l count some b c r.apart outside k.extra k.place (λ v more e. elim (k.whose v more e) [ inl own ↦ inl own | inr above ↦ inr (λ w j alike. far w j (subst (λ (n : ℕ). statements_count t.body < n) alike above)) ])
         where
-          far : (v : Turn) (rs us : List Turn) → c.place.turns ≡ rs ++ v ∷ us → statements_count t.body < v.statement → ⊥
-          far v rs us is above =
+          far : (w : Turn) → IsIn w c.place.turns → statements_count t.body < w.statement → ⊥
+          far w j above =
               let found = accesses_from olds c i in
-              let turns = ap (λ (x : Place). x.turns) (access_place found.0 c found.2) in
-              let less = turns_below t start found.0 found.1 v (subst (λ (ts : List Turn). IsIn v ts) (sym is ∙ turns) (in_right v rs (v ∷ us) (inl refl))) in
+              let less = turns_below t start found.0 found.1 w (subst (λ (x : Place). IsIn w x.turns) (access_place found.0 c found.2) j) in
               omega (arith, less, above)
-
-          by : (zs : List Turn) → k.extra ≡ zs → (rs vs : List Turn) → c.place.turns ≡ rs ++ vs → iterations_of rs ≡ iterations_of round → are_apart k.extra vs ≡ true → ⊥
-          by [] e rs vs is alike differ = none_within vs (ap (λ (xs : List Turn). are_apart xs vs) (sym e) ∙ differ)
-          by (v ∷ more) e rs vs is alike differ =
-              let first = apart_first v more vs (ap (λ (xs : List Turn). are_apart xs vs) (sym e) ∙ differ) in
-              elim (k.whose v more e) [
-                | inl own ↦ inside c outside rs vs is alike first.0 first.1 first.2 (sym own ∙ first.3)
-                | inr above ↦ far first.0 rs first.1 (is ∙ ap (λ (xs : List Turn). rs ++ xs) first.2) (subst (λ (n : ℕ). statements_count t.body < n) first.3 above)
-              ]
 
       module _ (b : Access) (k : Inside b) where
         found : IsIn k.origin (accesses olds)
@@ -198,7 +138,7 @@ module _ (t u : ProgramTree) (f g : ℕ → ℕ) (told : IsToldBack f g) (new_va
 
         -- the cell has its name, where the other access is apart from the iterations round the DO
         named : (c : Access) → Race b c → are_apart round c.place.turns ≡ true → k.origin.cell ≡ b.cell
-        named c r apart = elim k.cell [ inl kept ↦ kept | inr gone ↦ absurd (front_apart round c.place.turns (gone.1 ∷ gone.2) (subst (λ (z : Cell). At c.place.turns z) (sym r.cells ∙ gone.3) (reaches c r.other)) apart) ]
+        named c r apart = elim k.cell [ inl kept ↦ kept | inr gone ↦ absurd (front_apart round c.place.turns (gone.1 ∷ gone.2) (subst (λ (z : Cell). At c.place.turns z) (sym r.cells ∙ gone.3) (origins.reaches t (renumbered f (setting_of u)) u.body data_bytes c r.other)) apart) ]
 
         -- one that comes from inside, and one that stays as it was
         inside_kept : (c : Access) → Race b c → IsIn c (accesses olds) → Outside c.place.turns → RaceSomewhere olds
@@ -240,11 +180,11 @@ module _ (t u : ProgramTree) (f g : ℕ → ℕ) (told : IsToldBack f g) (new_va
     ]
 
     -- two executions, the first one before the second
-    record AreSuccessive (y w : Execution) : Type 0 where
+    record AreInOrder (y w : Execution) : Type 0 where
       before : (a : Act) → IsIn a (piece y.scope y.store).acts → IsIn a w.front
       after : (a : Act) → IsIn a (piece w.scope w.store).acts → IsIn a y.behind
 
-    two_executions : (y w : Execution) → AreSuccessive y w → (b c : Access) → Race b c → Inside y b → Inside w c → RaceSomewhere olds
+    two_executions : (y w : Execution) → AreInOrder y w → (b c : Access) → Race b c → Inside y b → Inside w c → RaceSomewhere olds
     two_executions y w s b c r k m =
         let differ = not_same y w c m (apart_acts y y.behind y.executed.unused_behind m.origin (in_acts (its w) y.behind m.origin s.after m.found)) in
         let of_c = rounds_apart y w b c r k m differ in
@@ -253,113 +193,41 @@ module _ (t u : ProgramTree) (f g : ℕ → ℕ) (told : IsToldBack f g) (new_va
         somewhere k.origin m.origin (found y b k) (found w c m) (named y b k c r of_c ∙ r.cells ∙ sym (named w c m b (flipped b c r) of_b)) ((λ i. k.writes i || m.writes i) ∙ r.writing)
         ((λ i. are_apart (k.was i) (m.was i)) ∙ apart_inside (round y) (round w) (k.old_turn ∷ k.old_more) (m.old_turn ∷ m.old_more) rounds)
 
-    -- where an access of the new list stands: in a part that stays, or in the place of an execution
-    record IsInPlace (ahead rest : List Act) (c : Access) : Type 0 where
-      execution : Execution
-      among : IsIn c (accesses (fresh execution.scope execution.store))
-      earlier : (a : Act) → IsIn a ahead → IsIn a execution.front
-      later : (a : Act) → IsIn a (piece execution.scope execution.store).acts → IsIn a rest
+    -- two new accesses by references that race
+    abbrev Meet : Access → Access → Type 0
+    Meet b c = Race b c × (0 < b.reference) × (0 < c.reference)
 
-    abbrev execution_at : (front behind : List Act) (parts : List Part) (s : Store) (first new : List Act) → AreExchanged p t start l count piece fresh front (changed first new ∷ parts) behind s → ((a : Act) → IsIn a (first ++ old_parts parts) → IsIn a olds) → ((a : Act) → IsIn a (new ++ new_parts parts) → IsIn a news) → Execution
-    execution_at front behind parts s first new exchanged sub within =
-        let it = exchanged.0 in
-        record {
-          scope = it.scope;
-          store = s;
-          front = front;
-          behind = old_parts parts ++ behind;
-          executed = it.executed;
-          goes = it.goes;
-          sub = λ a i. sub a (in_left a first (old_parts parts) (subst (λ (acts : List Act). IsIn a acts) (sym it.old_is) i));
-          within = λ a i. within a (in_left a new (new_parts parts) (subst (λ (acts : List Act). IsIn a acts) (sym it.new_is) i));
-        }
+    abbrev By : List Act → List Act → Store → List Act → List Act → Type 0
+    By = IsExchanged p t start l count piece fresh
 
-    accesses_split : (xs ys : List Act) → accesses (xs ++ ys) ≡ accesses xs ++ accesses ys
-    accesses_split xs ys = flat_map-append accesses_of xs ys
+    abbrev execution_of : Change By olds news → Execution
+    execution_of y = record {
+      scope = y.by.scope;
+      store = y.store;
+      front = y.front;
+      behind = y.behind;
+      executed = y.by.executed;
+      goes = y.by.goes;
+      sub = λ a i. y.sub a (subst (λ (acts : List Act). IsIn a acts) (sym y.by.old_is) i);
+      within = λ a i. y.within a (subst (λ (acts : List Act). IsIn a acts) (sym y.by.new_is) i);
+    }
 
-    located : (front : List Act) (parts : List Part) (behind : List Act) (s : Store) → AreExchanged p t start l count piece fresh front parts behind s → ((a : Act) → IsIn a (old_parts parts) → IsIn a olds) → ((a : Act) → IsIn a (new_parts parts) → IsIn a news)
-        → (c : Access) → IsIn c (accesses (new_parts parts)) → IsIn c (accesses (old_parts parts)) ⊎ IsInPlace front (old_parts parts) c
-    located front [] behind s exchanged sub within c i = absurd i
-    located front (same acts ∷ parts) behind s exchanged sub within c i =
-        elim (in_parts c (accesses acts) (accesses (new_parts parts)) (subst (λ (cs : List Access). IsIn c cs) (accesses_split acts (new_parts parts)) i)) [
-          | inl k ↦ inl (subst (λ (cs : List Access). IsIn c cs) (sym (accesses_split acts (old_parts parts))) (in_left c (accesses acts) (accesses (old_parts parts)) k))
-          | inr k ↦ elim (located (front ++ acts) parts behind (store_after acts s) exchanged (λ a j. sub a (in_right a acts (old_parts parts) j)) (λ a j. within a (in_right a acts (new_parts parts) j)) c k) [
-            | inl m ↦ inl (subst (λ (cs : List Access). IsIn c cs) (sym (accesses_split acts (old_parts parts))) (in_right c (accesses acts) (accesses (old_parts parts)) m))
-            | inr m ↦ inr (record { execution = m.execution; among = m.among; earlier = λ a j. m.earlier a (in_left a front acts j); later = λ a j. in_right a acts (old_parts parts) (m.later a j) })
-          ]
-        ]
-    located front (changed first new ∷ parts) behind s exchanged sub within c i =
-        elim (in_parts c (accesses new) (accesses (new_parts parts)) (subst (λ (cs : List Access). IsIn c cs) (accesses_split new (new_parts parts)) i)) [
-          | inl k ↦ inr (record {
-            execution = execution_at front behind parts s first new exchanged sub within;
-            among = subst (λ (acts : List Act). IsIn c (accesses acts)) exchanged.0.new_is k;
-            earlier = λ a j. j;
-            later = λ a j. in_left a first (old_parts parts) (subst (λ (acts : List Act). IsIn a acts) (sym exchanged.0.old_is) j);
-          })
-          | inr k ↦ elim (located (front ++ first) parts behind (store_after first s) exchanged.1 (λ a j. sub a (in_right a first (old_parts parts) j)) (λ a j. within a (in_right a new (new_parts parts) j)) c k) [
-            | inl m ↦ inl (subst (λ (cs : List Access). IsIn c cs) (sym (accesses_split first (old_parts parts))) (in_right c (accesses first) (accesses (old_parts parts)) m))
-            | inr m ↦ inr (record { execution = m.execution; among = m.among; earlier = λ a j. m.earlier a (in_left a front first j); later = λ a j. in_right a first (old_parts parts) (m.later a j) })
-          ]
-        ]
+    made : (y : Change By olds news) (b : Access) → IsIn b (accesses y.new) → IsIn b (accesses (fresh y.by.scope y.store))
+    made y b i = subst (λ (acts : List Act). IsIn b (accesses acts)) y.by.new_is i
 
     -- two new accesses that race come from two old ones that do
-    pairs_race : (front : List Act) (parts : List Part) (behind : List Act) (s : Store) → AreExchanged p t start l count piece fresh front parts behind s → ((a : Act) → IsIn a (old_parts parts) → IsIn a olds) → ((a : Act) → IsIn a (new_parts parts) → IsIn a news)
-        → (b c : Access) → StandsBefore b c (accesses (new_parts parts)) → Race b c → 0 < b.reference → 0 < c.reference → RaceSomewhere olds
-    pairs_race front [] behind s exchanged sub within b c before r one other = absurd before
-    pairs_race front (same acts ∷ parts) behind s exchanged sub within b c before r one other =
-        elim (before_parts b c (accesses acts) (accesses (new_parts parts)) (subst (λ (cs : List Access). StandsBefore b c cs) (accesses_split acts (new_parts parts)) before)) [
-          | inl k ↦ both_kept b c r (of_here b (first_in b c (accesses acts) k)) (of_here c (second_in b c (accesses acts) k))
-          | inr k ↦ elim k [
-            | inl m ↦ elim (located (front ++ acts) parts behind (store_after acts s) exchanged (λ a j. sub a (in_right a acts (old_parts parts) j)) (λ a j. within a (in_right a acts (new_parts parts) j)) c m.1) [
-              | inl j ↦ both_kept b c r (of_here b m.0) (in_acts (old_parts parts) olds c (λ a i. sub a (in_right a acts (old_parts parts) i)) j)
-              | inr j ↦ by j m.0 (comes j.execution c j.among other)
-            ]
-            | inr m ↦ pairs_race (front ++ acts) parts behind (store_after acts s) exchanged (λ a j. sub a (in_right a acts (old_parts parts) j)) (λ a j. within a (in_right a acts (new_parts parts) j)) b c m r one other
-          ]
-        ]
-      where
-        of_here : (y : Access) → IsIn y (accesses acts) → IsIn y (accesses olds)
-        of_here y i = in_acts acts olds y (λ a j. sub a (in_left a acts (old_parts parts) j)) i
-
-        by : (j : IsInPlace (front ++ acts) (old_parts parts) c) → IsIn b (accesses acts) → Inside j.execution c → RaceSomewhere olds
-        by j i k =
-            let outside = apart_acts j.execution j.execution.front j.execution.executed.unused_before b (in_acts acts j.execution.front b (λ a m. j.earlier a (in_right a front acts m)) i) in
-            inside_kept j.execution c k b (flipped b c r) (of_here b i) outside
-    pairs_race front (changed first new ∷ parts) behind s exchanged sub within b c before r one other =
-        elim (before_parts b c (accesses new) (accesses (new_parts parts)) (subst (λ (cs : List Access). StandsBefore b c cs) (accesses_split new (new_parts parts)) before)) [
-          | inl k ↦ one_execution here b c r (of_here b (first_in b c (accesses new) k)) (of_here c (second_in b c (accesses new) k)) one other
-          | inr k ↦ elim k [
-            | inl m ↦ elim (located (front ++ first) parts behind (store_after first s) exchanged.1 later_old later_new c m.1) [
-              | inl j ↦ kept_later j (comes here b (of_here b m.0) one)
-              | inr j ↦ two_executions here j.execution (successive j) b c r (comes here b (of_here b m.0) one) (comes j.execution c j.among other)
-            ]
-            | inr m ↦ pairs_race (front ++ first) parts behind (store_after first s) exchanged.1 later_old later_new b c m r one other
-          ]
-        ]
-      where
-        here : Execution
-        here = execution_at front behind parts s first new exchanged sub within
-
-        later_old : (a : Act) → IsIn a (old_parts parts) → IsIn a olds
-        later_old a j = sub a (in_right a first (old_parts parts) j)
-
-        later_new : (a : Act) → IsIn a (new_parts parts) → IsIn a news
-        later_new a j = within a (in_right a new (new_parts parts) j)
-
-        of_here : (y : Access) → IsIn y (accesses new) → IsIn y (accesses (fresh here.scope here.store))
-        of_here y i = subst (λ (acts : List Act). IsIn y (accesses acts)) exchanged.0.new_is i
-
-        kept_later : IsIn c (accesses (old_parts parts)) → Inside here b → RaceSomewhere olds
-        kept_later j k =
-            let outside = apart_acts here here.behind here.executed.unused_behind c (in_acts (old_parts parts) here.behind c (λ a i. in_left a (old_parts parts) behind i) j) in
-            let kept = in_acts (old_parts parts) olds c later_old j in
-            inside_kept here b k c r kept outside
-
-        successive : (j : IsInPlace (front ++ first) (old_parts parts) c) → AreSuccessive here j.execution
-        successive j = record {
-          before = λ a i. j.earlier a (in_right a front first (subst (λ (acts : List Act). IsIn a acts) (sym exchanged.0.old_is) i));
-          after = λ a i. in_left a (old_parts parts) behind (j.later a i);
-        }
+    give : Give By olds news Meet (RaceSomewhere olds)
+    give = record {
+      kept = λ b c m i j. both_kept b c m.0 i j;
+      before = λ y b c m i j k. inside_kept (execution_of y) c (comes (execution_of y) c (made y c k) m.2) b (flipped b c m.0) j (apart_acts (execution_of y) y.front y.by.executed.unused_before b i);
+      behind = λ y b c m k i j. inside_kept (execution_of y) b (comes (execution_of y) b (made y b k) m.1) c m.0 j (apart_acts (execution_of y) y.behind y.by.executed.unused_behind c i);
+      inside = λ y b c m i j. one_execution (execution_of y) b c m.0 (made y b i) (made y c j) m.1 m.2;
+      between = λ y w s b c m i j. two_executions (execution_of y) (execution_of w)
+          (record {
+            before = λ a k. s.before a (subst (λ (acts : List Act). IsIn a acts) (sym y.by.old_is) k);
+            after = λ a k. s.after a (subst (λ (acts : List Act). IsIn a acts) (sym w.by.old_is) k);
+          }) b c m.0 (comes (execution_of y) b (made y b i) m.1) (comes (execution_of w) c (made w c j) m.2);
+    }
 
     pub exchanged_races : (parts : List Part) → old_parts parts ≡ olds → AreExchanged p t start l count piece fresh [] parts [] start → new_parts parts ≡ news → HasNoRace (accesses (old_parts parts)) → HasNoRace (accesses (new_parts parts))
     exchanged_races parts olds_are exchanged news_are free =
@@ -372,6 +240,6 @@ module _ (t u : ProgramTree) (f g : ℕ → ℕ) (told : IsToldBack f g) (new_va
             let j = second_in b c (accesses news) before in
             let r = references_renumbered f g told u new_valid data_bytes b c i j races in
             let parts_of = and_parts (same_cell b.cell c.cell) (b.writes || c.writes) r.4 in
-            pairs_race [] parts [] start exchanged (λ a k. subst (λ (acts : List Act). IsIn a acts) olds_are k) (λ a k. subst (λ (acts : List Act). IsIn a acts) news_are k) b c
+            pairs_give By olds news Meet (RaceSomewhere olds) give [] parts [] start exchanged (λ a k. subst (λ (acts : List Act). IsIn a acts) olds_are k) (λ a k. subst (λ (acts : List Act). IsIn a acts) news_are k) b c
             (subst (λ (acts : List Act). StandsBefore b c (accesses acts)) (sym news_are) before)
-            (record { one = i; other = j; apart = r.2; back = r.3; cells = cell_is b.cell c.cell parts_of.0; writing = parts_of.1 }) r.0 r.1
+            (record { one = i; other = j; apart = r.2; back = r.3; cells = cell_is b.cell c.cell parts_of.0; writing = parts_of.1 }, r.0, r.1)

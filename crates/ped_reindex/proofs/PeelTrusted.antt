@@ -1,30 +1,30 @@
 -- A program in which an iteration of a DO is peeled off: if the old one may be trusted, it may be trusted.
 use Rattle.ped_base.specs.Lists.{has_some, is_among, is_same_text}
 use Rattle.ped_loops.proofs.OneHead.{ClearedLaw, TrustedLaw}
-use Rattle.ped_loops.specs.ped_scalar.proofs.TidyReferencesSubstituted.{all_variables_stay}
+use Rattle.ped_loops.specs.ped_scalar.proofs.TidyReferencesSubstituted.{all_variables_stay, all_unwritten, indices_unwritten, variables_followed}
 use Rattle.ped_loops.specs.ped_scalar.specs.ped_rules.specs.OnlyLoops.{on_loop}
-use Rattle.ped_loops.specs.ped_scalar.specs.ped_rules.specs.ped_loop_runs.specs.ped_tidy.proofs.TidyPathsGaps.{followed_sum}
-use Rattle.ped_loops.specs.ped_scalar.specs.ped_rules.specs.ped_loop_runs.specs.ped_tidy.proofs.TidyPathsSums.{Summary}
-use Rattle.ped_loops.specs.ped_scalar.specs.ped_rules.specs.ped_loop_runs.specs.ped_tidy.proofs.TidyReferencesFilled.{all_followed}
-use Rattle.ped_loops.specs.ped_scalar.specs.ped_rules.specs.ped_loop_runs.specs.ped_tidy.proofs.UnrejectedTrees.{followed_rejection}
-use Rattle.ped_loops.specs.ped_scalar.specs.ped_rules.specs.ped_loop_runs.specs.ped_tidy.specs.Exchanges.{Exchange, IsExchanged, LeavesAlone, loop_of, start_of}
-use Rattle.ped_loops.specs.ped_scalar.specs.ped_rules.specs.ped_loop_runs.specs.ped_tidy.specs.Unrejected.{IsTrusted, has_rejection, some_rejection}
-use Rattle.ped_loops.specs.ped_scalar.specs.ped_rules.specs.ped_loop_runs.specs.ped_tidy.specs.Writing.{all_write, some_write_index, writes, writes_index, writes_name}
-use Rattle.ped_loops.specs.ped_scalar.specs.ped_rules.specs.ped_loop_runs.specs.ped_tidy.specs.ped_pasting.specs.ped_bodies.specs.ped_steps.proofs.OnePlace.{one_program}
-use Rattle.ped_loops.specs.ped_scalar.specs.ped_rules.specs.ped_loop_runs.specs.ped_tidy.specs.ped_pasting.specs.ped_bodies.specs.ped_steps.proofs.RunLaws.ExpandedPlacesParts.{part_at}
-use Rattle.ped_loops.specs.ped_scalar.specs.ped_rules.specs.ped_loop_runs.specs.ped_tidy.specs.ped_pasting.specs.ped_bodies.specs.ped_steps.proofs.RunLaws.ReplacedTrees.{HasGap, program_gap}
-use Rattle.ped_loops.specs.ped_scalar.specs.ped_rules.specs.ped_loop_runs.specs.ped_tidy.specs.ped_pasting.specs.ped_bodies.specs.ped_steps.specs.Replacing.{alone, followed, program_with}
-use Rattle.ped_loops.specs.ped_scalar.specs.ped_rules.specs.ped_loop_runs.specs.ped_tidy.specs.ped_pasting.specs.ped_bodies.specs.ped_steps.specs.ped_flow.proofs.Truths.{untrue}
-use Rattle.ped_loops.specs.ped_scalar.specs.ped_rules.specs.ped_loop_runs.specs.ped_tidy.specs.ped_pasting.specs.ped_bodies.specs.ped_steps.specs.ped_flow.specs.Questions.{IsContained, IsShownBehind, LoopOf}
-use Rattle.ped_loops.specs.ped_scalar.specs.ped_rules.specs.ped_loop_runs.specs.ped_tidy.specs.ped_pasting.specs.ped_bodies.specs.ped_steps.specs.ped_flow.specs.Summaries.{sum_of, sum_of_all}
-use Rattle.ped_loops.specs.ped_scalar.specs.ped_rules.specs.ped_loop_runs.specs.ped_tidy.specs.ped_pasting.specs.ped_bodies.specs.ped_steps.specs.ped_laws.proofs.FlowRunLaws.Stopping.{fitting_stops, loop_stops}
-use Rattle.ped_loops.specs.ped_scalar.specs.ped_rules.specs.ped_loop_runs.specs.ped_tidy.specs.ped_pasting.specs.ped_bodies.specs.ped_steps.specs.ped_laws.specs.FlowRuns.Covering.{has_stop, some_stop}
-use Rattle.ped_loops.specs.ped_scalar.specs.ped_rules.specs.ped_loop_runs.specs.ped_tidy.specs.ped_pasting.specs.ped_bodies.specs.ped_steps.specs.ped_sums.specs.Sums.{literal}
-use Rattle.ped_loops.specs.ped_scalar.specs.ped_rules.specs.ped_loop_runs.specs.ped_tidy.specs.ped_pasting.specs.ped_bodies.specs.ped_steps.specs.ped_symbols.specs.Kinds.{kind_in}
-use Rattle.ped_loops.specs.ped_scalar.specs.ped_rules.specs.ped_loop_runs.specs.ped_tidy.specs.ped_pasting.specs.ped_bodies.specs.ped_steps.specs.ped_symbols.specs.NameRefusals.{IsValid}
-use Rattle.ped_loops.specs.ped_scalar.specs.ped_rules.specs.ped_loop_runs.specs.ped_tidy.specs.ped_pasting.specs.ped_bodies.specs.ped_steps.specs.ped_symbols.specs.RightUses.RightUses.{head_is_right, stmts_are_right}
+use Rattle.ped_loops.specs.ped_scalar.specs.ped_rules.specs.ped_loop_runs.proofs.TidyLaws.TidyPathsGaps.{followed_sum}
+use Rattle.ped_loops.specs.ped_scalar.specs.ped_rules.specs.ped_loop_runs.proofs.TidyLaws.TidyPathsSums.{Summary}
+use Rattle.ped_loops.specs.ped_scalar.specs.ped_rules.specs.ped_loop_runs.proofs.TidyLaws.TidyReferencesFilled.{all_followed}
+use Rattle.ped_loops.specs.ped_scalar.specs.ped_rules.specs.ped_loop_runs.proofs.TidyLaws.UnrejectedTrees.{followed_rejection}
+use Rattle.ped_loops.specs.ped_scalar.specs.ped_rules.specs.ped_loop_runs.specs.Exchanges.{Exchange, IsExchanged, LeavesAlone, loop_of, start_of}
+use Rattle.ped_loops.specs.ped_scalar.specs.ped_rules.specs.ped_loop_runs.specs.Unrejected.{IsTrusted, has_rejection, some_rejection}
+use Rattle.ped_loops.specs.ped_scalar.specs.ped_rules.specs.ped_loop_runs.specs.Writing.{all_write, some_write_index, writes, writes_index, writes_name}
+use Rattle.ped_loops.specs.ped_scalar.specs.ped_rules.specs.ped_loop_runs.specs.ped_bodies.specs.ped_steps.proofs.OnePlace.{one_program}
+use Rattle.ped_loops.specs.ped_scalar.specs.ped_rules.specs.ped_loop_runs.specs.ped_bodies.specs.ped_steps.proofs.RunLaws.ExpandedPlacesParts.{part_at}
+use Rattle.ped_loops.specs.ped_scalar.specs.ped_rules.specs.ped_loop_runs.specs.ped_bodies.specs.ped_steps.proofs.RunLaws.ReplacedTrees.{HasGap, program_gap}
+use Rattle.ped_loops.specs.ped_scalar.specs.ped_rules.specs.ped_loop_runs.specs.ped_bodies.specs.ped_steps.specs.Replacing.{alone, followed, program_with}
+use Rattle.ped_loops.specs.ped_scalar.specs.ped_rules.specs.ped_loop_runs.specs.ped_bodies.specs.ped_steps.specs.ped_flow.proofs.Truths.{untrue}
+use Rattle.ped_loops.specs.ped_scalar.specs.ped_rules.specs.ped_loop_runs.specs.ped_bodies.specs.ped_steps.specs.ped_flow.specs.Questions.{IsContained, IsShownBehind, LoopOf}
+use Rattle.ped_loops.specs.ped_scalar.specs.ped_rules.specs.ped_loop_runs.specs.ped_bodies.specs.ped_steps.specs.ped_flow.specs.Summaries.{sum_of, sum_of_all}
+use Rattle.ped_loops.specs.ped_scalar.specs.ped_rules.specs.ped_loop_runs.specs.ped_bodies.specs.ped_steps.specs.ped_laws.proofs.FlowRunLaws.Stopping.{fitting_stops, loop_stops}
+use Rattle.ped_loops.specs.ped_scalar.specs.ped_rules.specs.ped_loop_runs.specs.ped_bodies.specs.ped_steps.specs.ped_laws.specs.FlowRuns.Covering.{has_stop, some_stop}
+use Rattle.ped_loops.specs.ped_scalar.specs.ped_rules.specs.ped_loop_runs.specs.ped_bodies.specs.ped_steps.specs.ped_sums.specs.Sums.{literal}
+use Rattle.ped_loops.specs.ped_scalar.specs.ped_rules.specs.ped_loop_runs.specs.ped_bodies.specs.ped_steps.specs.ped_symbols.specs.Kinds.{kind_in}
+use Rattle.ped_loops.specs.ped_scalar.specs.ped_rules.specs.ped_loop_runs.specs.ped_bodies.specs.ped_steps.specs.ped_symbols.specs.NameRefusals.{IsValid}
+use Rattle.ped_loops.specs.ped_scalar.specs.ped_rules.specs.ped_loop_runs.specs.ped_bodies.specs.ped_steps.specs.ped_symbols.specs.RightUses.RightUses.{head_is_right, stmts_are_right}
 use Rattle.ped_reindex.proofs.PeelFront.{leading, leading_followed, leading_uncounted, settled_constants, settled_saved}
-use Rattle.ped_reindex.proofs.PeelWrites.{all_unwritten, indices_followed, indices_unwritten, rejections_stay, stops_followed, stops_stay, variables_followed}
+use Rattle.ped_reindex.proofs.PeelWrites.{literal_unwritten, stops_followed}
 use Rattle.ped_reindex.specs.Peeling.{Peeled, iteration_of, peeled, with_peeled}
 use Rattle.ped_reindex.specs.Settling.{settled}
 use Rattle.ped_tree.proofs.NameLaws.Collected.{among_append}
@@ -35,6 +35,15 @@ use Rattle.ped_tree.specs.Tree.{Do, Head, ProgramTree, StmtTree, StmtTrees, more
 use Rattle.std.proofs.Common.{Bool, List, Some, ap, append-nil, arith, false, inr, not, refl, subst, sym, true, ℕ, ℤ, ◌&&◌, ◌+◌, ◌||◌, ◌∙◌, ◌∷◌, ◌≡◌}
 use Rattle.std.proofs.lemmas.Bool.{and_parts, or_parts}
 use Rattle.std.specs.List.{list_any}
+use Rattle.ped_loops.specs.ped_scalar.proofs.TidyPathsSubstituted.{stops_kept}
+use Rattle.ped_loops.specs.ped_scalar.proofs.UnrejectedSteps.{rejections_kept}
+use Rattle.ped_loops.specs.ped_scalar.specs.ped_rules.specs.ped_loop_runs.proofs.TidyLaws.WrittenIndices.{followed_index}
+
+pub again : (a b : Bool) → a || (b || a) ≡ b || a
+again true true = refl
+again true false = refl
+again false true = refl
+again false false = refl
 
 -- the head of the DO that is left
 abbrev pub left_head : (last : Bool) → ℤ → Head → Head
@@ -129,7 +138,7 @@ module _ (t : ProgramTree) (valid : IsValid t) (s : ℕ) (loop : LoopOf t s) (la
     new_body = leading_followed raw.body ∙ gap.new_is;
     constants = settled_constants raw;
     saved = settled_saved raw;
-    unstopped = both_none (some_stop copy) (has_stop rest_loop) (some_stop new) (peeled_tells some_stop has_stop refl (λ s rest. refl) stops_followed last p d body) (stops_stay d.variable (literal p.value) body ∙ stops) stops;
+    unstopped = both_none (some_stop copy) (has_stop rest_loop) (some_stop new) (peeled_tells some_stop has_stop refl (λ s rest. refl) stops_followed last p d body) (stops_kept d.variable (literal p.value) body ∙ stops) stops;
   }
 
   -- the variables are the same
@@ -138,12 +147,6 @@ module _ (t : ProgramTree) (valid : IsValid t) (s : ℕ) (loop : LoopOf t s) (la
 
   in_body : (w : List ℕ) → is_among w (all_loop_variables copy) ≡ is_among w (all_loop_variables body)
   in_body w = ap (is_among w) (all_variables_stay d.variable (literal p.value) body)
-
-  again : (a b : Bool) → a || (b || a) ≡ b || a
-  again true true = refl
-  again true false = refl
-  again false true = refl
-  again false false = refl
 
   pub same_variables : (w : List ℕ) → is_among w (all_loop_variables new) ≡ is_among w (loop_variables (Do d body))
   same_variables w =
@@ -168,13 +171,13 @@ module _ (t : ProgramTree) (valid : IsValid t) (s : ℕ) (loop : LoopOf t s) (la
   writes_none w none =
       let old = or_parts (list_any (writes_name cs w) d.private) (all_write cs w body) (none_first _ _ none) in
       both_none (all_write cs w copy) (writes cs w rest_loop) (all_write cs w new) (peeled_tells (all_write cs w) (writes cs w) refl (λ z rest. refl) (all_followed cs w) last p d body)
-      (all_unwritten cs (kind_in t) d.variable p.value w body right old.1) ((λ i. list_any (writes_name cs w) (left_private last p.bound d i) || all_write cs w body) ∙ none_first _ _ none)
+      (all_unwritten cs w (kind_in t) d.variable (literal p.value) (literal_unwritten cs w p.value) body right old.1) ((λ i. list_any (writes_name cs w) (left_private last p.bound d i) || all_write cs w body) ∙ none_first _ _ none)
 
   indices_none : some_write_index cs (alone (Do d body)) ≡ false → some_write_index cs new ≡ false
   indices_none none =
       let old = or_parts (d.parallel && list_any (λ w. all_write cs w body) (d.variable ∷ all_loop_variables body)) (some_write_index cs body) (none_first _ _ none) in
-      both_none (some_write_index cs copy) (writes_index cs rest_loop) (some_write_index cs new) (peeled_tells (some_write_index cs) (writes_index cs) refl (λ z rest. refl) (indices_followed cs) last p d body)
-      (indices_unwritten cs (kind_in t) d.variable p.value body right old.1) ((λ i. (left_parallel last p.bound d i && list_any (λ w. all_write cs w body) (left_variable last p.bound d i ∷ all_loop_variables body)) || some_write_index cs body) ∙ none_first _ _ none)
+      both_none (some_write_index cs copy) (writes_index cs rest_loop) (some_write_index cs new) (peeled_tells (some_write_index cs) (writes_index cs) refl (λ z rest. refl) (followed_index cs) last p d body)
+      (indices_unwritten cs (kind_in t) d.variable (literal p.value) (λ w. literal_unwritten cs w p.value) body right old.1) ((λ i. (left_parallel last p.bound d i && list_any (λ w. all_write cs w body) (left_variable last p.bound d i ∷ all_loop_variables body)) || some_write_index cs body) ∙ none_first _ _ none)
 
   -- where the new statements leave a name as it is, the DO among them does
   loop_keeps : (w : List ℕ) (n : ℕ) → (sum_of_all cs w new n).keeps ≡ true → (m : ℕ) × ((sum_of cs w rest_loop m).keeps ≡ true)
@@ -204,7 +207,7 @@ module _ (t : ProgramTree) (valid : IsValid t) (s : ℕ) (loop : LoopOf t s) (la
   unrejected none =
       let old = or_parts (has_some d.rejected) (some_rejection body) (none_first _ _ none) in
       both_none (some_rejection copy) (has_rejection rest_loop) (some_rejection new) (peeled_tells some_rejection has_rejection refl (λ z rest. refl) followed_rejection last p d body)
-      (rejections_stay d.variable (literal p.value) body ∙ old.1) ((λ i. has_some (left_rejected last p.bound d i) || some_rejection body) ∙ none_first _ _ none)
+      (rejections_kept d.variable (literal p.value) body ∙ old.1) ((λ i. has_some (left_rejected last p.bound d i) || some_rejection body) ∙ none_first _ _ none)
 
   pub stays_trusted_peeled : TrustedLaw → ClearedLaw → IsContained t s → IsTrusted t → IsTrusted (peeled t s last p)
   stays_trusted_peeled law cleared contained trusted = subst IsTrusted (sym peeled_is) (law exchange t (settled raw) exchanged (leaves_alone cleared contained) unrejected trusted)

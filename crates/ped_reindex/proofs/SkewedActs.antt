@@ -1,23 +1,24 @@
 -- Acts that are done as before, in the same iterations, but for the values of DO variables there and for what they write to idle cells.
-use Rattle.std.proofs.Common.{◌≡◌, ◌⊎◌, ℕ, zero, suc, ◌+◌, ◌<◌, ◌≤◌, pos, List, [], ◌∷◌, ◌++◌, map, filter, Bool, true, false, ◌&&◌, ◌||◌, not, refl, sym, ap, ◌∙◌, subst, inl, inr, arith}
+use Rattle.std.proofs.Common.{◌≡◌, ◌⊎◌, ℕ, zero, suc, ◌+◌, ◌<◌, ◌≤◌, pos, List, [], ◌∷◌, ◌++◌, map, Bool, true, false, ◌&&◌, ◌||◌, not, refl, sym, ap, ◌∙◌, subst, inl, inr, arith}
 use Rattle.std.specs.List.{flat_map, range_with_len}
 use Rattle.std.proofs.lemmas.Bool.{both_ways}
 use Rattle.std.proofs.lemmas.List.{map-append}
-use Rattle.ped_loops.specs.ped_scalar.specs.ped_rules.specs.ped_loop_runs.specs.ped_tidy.specs.ped_pasting.specs.ped_bodies.specs.ped_steps.specs.ped_laws.specs.ped_store.specs.Cells.{Cell}
-use Rattle.ped_loops.specs.ped_scalar.specs.ped_rules.specs.ped_loop_runs.specs.ped_tidy.specs.ped_pasting.specs.ped_bodies.specs.ped_steps.specs.ped_laws.specs.ped_store.specs.Acts.{Manner, reads, writes, is_told, Touch, Turn, Act}
-use Rattle.ped_loops.specs.ped_scalar.specs.ped_rules.specs.ped_loop_runs.specs.ped_tidy.specs.ped_pasting.specs.ped_bodies.specs.ped_steps.specs.ped_laws.specs.ped_store.specs.Races.{Access, is_lines, is_write, accesses_of, accesses}
-use Rattle.ped_loops.specs.ped_scalar.specs.ped_rules.specs.ped_loop_runs.specs.ped_tidy.specs.ped_pasting.specs.ped_bodies.specs.ped_steps.specs.ped_laws.specs.Acts.Fitting.{has_cell, of_cells, touches_of}
-use Rattle.ped_loops.specs.ped_scalar.specs.ped_rules.specs.ped_loop_runs.specs.ped_tidy.specs.ped_pasting.specs.ped_bodies.specs.ped_steps.specs.ped_laws.specs.Acts.Conflicts.{touches_without, without}
-use Rattle.ped_loops.specs.ped_scalar.specs.ped_rules.specs.ped_loop_runs.specs.ped_tidy.specs.ped_pasting.specs.ped_bodies.specs.ped_steps.specs.ped_laws.specs.Acts.Renaming.{own_name, AreRenamed, Renamed}
-use Rattle.ped_loops.specs.ped_scalar.specs.ped_rules.specs.ped_loop_runs.specs.ped_tidy.specs.ped_pasting.specs.ped_bodies.specs.ped_steps.specs.ped_laws.specs.Acts.Orders.{IsIn}
-use Rattle.ped_loops.specs.ped_scalar.specs.ped_rules.specs.ped_loop_runs.specs.ped_tidy.specs.ped_pasting.specs.ped_bodies.specs.ped_steps.specs.ped_laws.specs.Acts.Sets.{nothing}
-use Rattle.ped_loops.specs.ped_scalar.specs.ped_rules.specs.ped_loop_runs.specs.ped_tidy.specs.ped_pasting.specs.ped_bodies.specs.ped_steps.specs.ped_laws.proofs.ActLaws.Lists.{in_left, in_right, in_parts}
-use Rattle.ped_loops.specs.ped_scalar.specs.ped_rules.specs.ped_loop_runs.specs.ped_tidy.specs.ped_pasting.specs.ped_bodies.specs.ped_steps.specs.ped_laws.proofs.ActLaws.OfCells.{stays_first, goes_first, cells_append}
-use Rattle.ped_loops.specs.ped_scalar.specs.ped_rules.specs.ped_loop_runs.specs.ped_tidy.specs.ped_pasting.specs.ped_bodies.specs.ped_steps.specs.ped_laws.proofs.ActLaws.Conflicting.{access_by, access_in}
-use Rattle.ped_loops.specs.ped_scalar.specs.ped_rules.specs.ped_loop_runs.specs.ped_tidy.specs.ped_pasting.specs.ped_bodies.specs.ped_steps.specs.Runs.Renumbering.{renumbered_turn}
-use Rattle.ped_loops.specs.ped_scalar.specs.ped_rules.specs.ped_loop_runs.specs.ped_tidy.specs.ped_pasting.specs.ped_bodies.specs.ped_steps.proofs.RunLaws.ExpandedRacesOrigins.{touch_of}
-use Rattle.ped_loops.specs.ped_scalar.specs.ped_rules.specs.ped_loop_runs.specs.ped_tidy.specs.ped_pasting.specs.ped_bodies.specs.Likewise.{Meet, AllMeet, AreLikewise, IsOnlyTold}
-use Rattle.ped_loops.specs.ped_scalar.specs.ped_rules.specs.ped_loop_runs.specs.ped_tidy.specs.ped_pasting.specs.ped_bodies.specs.Moving.{own_number}
+use Rattle.ped_loops.specs.ped_scalar.specs.ped_rules.specs.ped_loop_runs.specs.ped_bodies.specs.ped_steps.specs.ped_laws.specs.ped_store.specs.Cells.{Cell}
+use Rattle.ped_loops.specs.ped_scalar.specs.ped_rules.specs.ped_loop_runs.specs.ped_bodies.specs.ped_steps.specs.ped_laws.specs.ped_store.specs.Acts.{Manner, reads, writes, is_told, Touch, Turn, Act}
+use Rattle.ped_loops.specs.ped_scalar.specs.ped_rules.specs.ped_loop_runs.specs.ped_bodies.specs.ped_steps.specs.ped_laws.specs.ped_store.specs.Races.{Access, is_lines, is_write, accesses_of, accesses}
+use Rattle.ped_loops.specs.ped_scalar.specs.ped_rules.specs.ped_loop_runs.specs.ped_bodies.specs.ped_steps.specs.ped_laws.specs.Acts.Fitting.{has_cell, of_cells, touches_of}
+use Rattle.ped_loops.specs.ped_scalar.specs.ped_rules.specs.ped_loop_runs.specs.ped_bodies.specs.ped_steps.specs.ped_laws.specs.Acts.Conflicts.{touches_without, without}
+use Rattle.ped_loops.specs.ped_scalar.specs.ped_rules.specs.ped_loop_runs.specs.ped_bodies.specs.ped_steps.specs.ped_laws.specs.Acts.Renaming.{own_name, AreRenamed, Renamed}
+use Rattle.ped_loops.specs.ped_scalar.specs.ped_rules.specs.ped_loop_runs.specs.ped_bodies.specs.ped_steps.specs.ped_laws.specs.Acts.Orders.{IsIn}
+use Rattle.ped_loops.specs.ped_scalar.specs.ped_rules.specs.ped_loop_runs.specs.ped_bodies.specs.ped_steps.specs.ped_laws.specs.Acts.Sets.{nothing}
+use Rattle.ped_loops.specs.ped_scalar.specs.ped_rules.specs.ped_loop_runs.specs.ped_bodies.specs.ped_steps.specs.ped_laws.proofs.ActLaws.Lists.{in_left, in_right, in_parts}
+use Rattle.ped_loops.specs.ped_scalar.specs.ped_rules.specs.ped_loop_runs.specs.ped_bodies.specs.ped_steps.specs.ped_laws.proofs.ActLaws.OfCells.{stays_first, goes_first, cells_append}
+use Rattle.ped_loops.specs.ped_scalar.specs.ped_rules.specs.ped_loop_runs.specs.ped_bodies.specs.ped_steps.specs.ped_laws.proofs.ActLaws.Conflicting.{access_by, access_in}
+use Rattle.ped_loops.specs.ped_scalar.specs.ped_rules.specs.ped_loop_runs.specs.ped_bodies.specs.ped_steps.specs.Runs.Renumbering.{renumbered_turn}
+use Rattle.ped_loops.specs.ped_scalar.specs.ped_rules.specs.ped_loop_runs.specs.ped_bodies.specs.ped_steps.proofs.RunLaws.ExpandedRacesOrigins.{touch_of}
+use Rattle.ped_loops.specs.ped_scalar.specs.ped_rules.specs.ped_loop_runs.specs.ped_bodies.specs.Likewise.{Meet, AllMeet, AreLikewise, IsOnlyTold}
+use Rattle.ped_loops.specs.ped_scalar.specs.ped_rules.specs.ped_loop_runs.specs.ped_bodies.specs.Moving.{own_number}
+use Rattle.ped_loops.specs.ped_scalar.specs.ped_rules.specs.ped_loop_runs.specs.ped_bodies.proofs.BodyLaws.LikewiseActs.{cells_without, filter_first, filter_other}
 
 -- an iteration without the value of its variable
 abbrev pub valueless : Turn → Turn
@@ -128,27 +129,6 @@ module _ (idle : Cell → Bool) where
   )
 
   -- without what they write to idle cells they are the same
-  filter_first : (p : Touch → Bool) (x : Touch) (xs : List Touch) → p x ≡ true → filter p (x ∷ xs) ≡ x ∷ filter p xs
-  filter_first p x xs h = rw h refl
-
-  filter_other : (p : Touch → Bool) (x : Touch) (xs : List Touch) → p x ≡ false → filter p (x ∷ xs) ≡ filter p xs
-  filter_other p x xs h = rw h refl
-
-  filters_swap : (p q : Touch → Bool) (ts : List Touch) → filter p (filter q ts) ≡ filter q (filter p ts)
-  filters_swap p q [] = refl
-  filters_swap p q (x ∷ xs) = go (p x) (q x) refl refl (filters_swap p q xs)
-    where
-      go : (a b : Bool) → p x ≡ a → q x ≡ b → filter p (filter q xs) ≡ filter q (filter p xs) → filter p (filter q (x ∷ xs)) ≡ filter q (filter p (x ∷ xs))
-      go true true h k more =
-          ap (filter p) (filter_first q x xs k) ∙ filter_first p x (filter q xs) h ∙ ap (λ (ts : List Touch). x ∷ ts) more
-          ∙ sym (filter_first q x (filter p xs) k) ∙ ap (filter q) (sym (filter_first p x xs h))
-      go true false h k more = ap (filter p) (filter_other q x xs k) ∙ more ∙ sym (filter_other q x (filter p xs) k) ∙ ap (filter q) (sym (filter_first p x xs h))
-      go false true h k more = ap (filter p) (filter_first q x xs k) ∙ filter_other p x (filter q xs) h ∙ more ∙ ap (filter q) (sym (filter_other p x xs h))
-      go false false h k more = ap (filter p) (filter_other q x xs k) ∙ more ∙ ap (filter q) (sym (filter_other p x xs h))
-
-  cells_without : (ts : List Touch) → of_cells (touches_without idle ts) ≡ touches_without idle (of_cells ts)
-  cells_without ts = filters_swap (λ (t : Touch). has_cell t.manner) (λ (t : Touch). not (is_write t.manner && idle t.cell)) ts
-
   first_stays : (t : Touch) (ts : List Touch) → is_write t.manner && idle t.cell ≡ false → touches_without idle (t ∷ ts) ≡ t ∷ touches_without idle ts
   first_stays t ts h = filter_first (λ (u : Touch). not (is_write u.manner && idle u.cell)) t ts (ap not h)
 
@@ -191,7 +171,7 @@ module _ (idle : Cell → Bool) where
       let old = touches_without idle a.touches in
       let new = touches_without idle b.touches in
       let one : Same (of_cells old) (of_cells new) =
-      subst (λ (ts : List Touch). Same ts (of_cells new)) (sym (cells_without a.touches)) (subst (Same (touches_without idle (of_cells a.touches))) (sym (cells_without b.touches)) (touches_stripped (of_cells a.touches) (of_cells b.touches) h.0.touches)) in
+      subst (λ (ts : List Touch). Same ts (of_cells new)) (sym (cells_without idle a.touches)) (subst (Same (touches_without idle (of_cells a.touches))) (sym (cells_without idle b.touches)) (touches_stripped (of_cells a.touches) (of_cells b.touches) h.0.touches)) in
       subst (λ (ts : List Touch). Same ts (of_cells (new ++ touches_of (without idle fresh)))) (sym (cells_append old (touches_of (without idle acts))))
       (subst (Same (of_cells old ++ of_cells (touches_of (without idle acts)))) (sym (cells_append new (touches_of (without idle fresh))))
       (same_append (of_cells old) (of_cells new) (of_cells (touches_of (without idle acts))) (of_cells (touches_of (without idle fresh))) one (kept_stripped acts fresh h.1)))

@@ -1,8 +1,7 @@
 -- In each iteration of the outer loop the skewed inner one has limits, as many iterations as before, and in each its body does likewise.
-use Rattle.std.proofs.Common.{◌≡◌, ℕ, zero, suc, ◌+◌, ◌-◌, ◌≤◌, ℤ, pos, ◌+ℤ◌, ◌*ℤ◌, List, [], ◌∷◌, ◌++◌, Bool, true, false, ◌||◌, Option, Some, None, Ok, refl, sym, ap, ◌∙◌, subst, inl, arith, append_assoc, append-nil, if◌then◌else◌}
+use Rattle.std.proofs.Common.{◌≡◌, ℕ, ◌+◌, ◌-◌, ◌≤◌, ℤ, pos, ◌+ℤ◌, ◌*ℤ◌, List, [], ◌∷◌, ◌++◌, Bool, true, false, ◌||◌, Option, Some, None, Ok, refl, sym, ap, ◌∙◌, subst, inl, arith, append_assoc, append-nil, if◌then◌else◌}
 use Rattle.std.specs.Prelude.{is_none}
 use Rattle.std.specs.Int.{is_negative}
-use Rattle.std.specs.List.{flat_map, range_with_len}
 use Rattle.std.specs.Map.{lookup}
 use Rattle.std.specs.Str.Lines.{lines}
 use Rattle.std.proofs.lemmas.Bool.{and_parts, or_parts, both_ways}
@@ -14,71 +13,66 @@ use Rattle.ped_tree.specs.NamesIn.{loop_variables, all_loop_variables, stmts_nam
 use Rattle.ped_tree.specs.Nests.{Loop, indices_of}
 use Rattle.ped_tree.specs.Numbering.{statements_count}
 use Rattle.ped_tree.specs.Tree.{Head, ExprTree, StmtTree, StmtTrees, Assign, If, Do, Print, Read, Stop, Comment, no_stmts, more_stmts, ProgramTree}
-use Rattle.ped_loops.specs.ped_scalar.specs.ped_rules.specs.ped_loop_runs.specs.ped_tidy.specs.ped_pasting.specs.ped_bodies.specs.ped_steps.specs.ped_affine.specs.Assigned.{assigned_in, assigned_in_all}
-use Rattle.ped_loops.specs.ped_scalar.specs.ped_rules.specs.ped_loop_runs.specs.ped_tidy.specs.ped_pasting.specs.ped_bodies.specs.ped_steps.specs.ped_affine.specs.PairViews.{heads_of}
-use Rattle.ped_loops.specs.ped_scalar.specs.ped_rules.specs.ped_loop_runs.specs.ped_tidy.specs.ped_pasting.specs.ped_bodies.specs.ped_steps.specs.ped_affine.specs.Ranges as ranges
-use Rattle.ped_loops.specs.ped_scalar.specs.ped_rules.specs.ped_loop_runs.specs.ped_tidy.specs.ped_pasting.specs.ped_bodies.specs.ped_steps.specs.ped_affine.specs.Ranges.{Around, inside, loop_range, interval_of}
-use Rattle.ped_loops.specs.ped_scalar.specs.ped_rules.specs.ped_loop_runs.specs.ped_tidy.specs.ped_pasting.specs.ped_bodies.specs.ped_steps.specs.ped_views.specs.declared.intervals.Interval.{Interval}
-use Rattle.ped_loops.specs.ped_scalar.specs.ped_rules.specs.ped_loop_runs.specs.ped_tidy.specs.ped_pasting.specs.ped_bodies.specs.ped_steps.specs.ped_views.specs.Intervals.{Lies}
-use Rattle.ped_loops.specs.ped_scalar.specs.ped_rules.specs.ped_loop_runs.specs.ped_tidy.specs.ped_pasting.specs.ped_bodies.specs.ped_steps.specs.ped_flow.specs.PlainBounds as bounds
-use Rattle.ped_loops.specs.ped_scalar.specs.ped_rules.specs.ped_loop_runs.specs.ped_tidy.specs.ped_pasting.specs.ped_bodies.specs.ped_steps.specs.ped_flow.specs.PlainBounds.{nest_round, setting_round}
-use Rattle.ped_loops.specs.ped_scalar.specs.ped_rules.specs.ped_loop_runs.specs.ped_tidy.specs.ped_pasting.specs.ped_bodies.specs.ped_steps.specs.ped_flow.specs.Questions.{LoopOf}
-use Rattle.ped_loops.specs.ped_scalar.specs.ped_rules.specs.ped_loop_runs.specs.ped_tidy.specs.ped_pasting.specs.ped_bodies.specs.ped_steps.specs.ped_symbols.specs.Kinds.{kind_in, at_last}
-use Rattle.ped_loops.specs.ped_scalar.specs.ped_rules.specs.ped_loop_runs.specs.ped_tidy.specs.ped_pasting.specs.ped_bodies.specs.ped_steps.specs.ped_symbols.specs.NameRefusals.{IsValid}
-use Rattle.ped_loops.specs.ped_scalar.specs.ped_rules.specs.ped_loop_runs.specs.ped_tidy.specs.ped_pasting.specs.ped_bodies.specs.ped_steps.specs.ped_symbols.specs.RightUses.RightLoops.{is_step, step_is_right, stmt_steps_are_right, steps_are_right}
-use Rattle.ped_loops.specs.ped_scalar.specs.ped_rules.specs.ped_loop_runs.specs.ped_tidy.specs.ped_pasting.specs.ped_bodies.specs.ped_steps.specs.ped_symbols.proofs.RightUseLaws.Whole.{right_program}
-use Rattle.ped_loops.specs.ped_scalar.specs.ped_rules.specs.ped_loop_runs.specs.ped_tidy.specs.ped_pasting.specs.ped_bodies.specs.ped_steps.specs.ped_laws.specs.ped_store.specs.Stores.{Store, store_at_start}
-use Rattle.ped_loops.specs.ped_scalar.specs.ped_rules.specs.ped_loop_runs.specs.ped_tidy.specs.ped_pasting.specs.ped_bodies.specs.ped_steps.specs.ped_laws.specs.ped_store.specs.Acts.{Touch, Act}
-use Rattle.ped_loops.specs.ped_scalar.specs.ped_rules.specs.ped_loop_runs.specs.ped_tidy.specs.ped_pasting.specs.ped_bodies.specs.ped_steps.specs.ped_laws.specs.Acts.Fitting.{store_after, of_cells}
-use Rattle.ped_loops.specs.ped_scalar.specs.ped_rules.specs.ped_loop_runs.specs.ped_tidy.specs.ped_pasting.specs.ped_bodies.specs.ped_steps.specs.ped_laws.specs.Acts.Renaming.{own_name}
-use Rattle.ped_loops.specs.ped_scalar.specs.ped_rules.specs.ped_loop_runs.specs.ped_tidy.specs.ped_pasting.specs.ped_bodies.specs.ped_steps.specs.ped_laws.specs.Acts.Sets.{nothing}
-use Rattle.ped_loops.specs.ped_scalar.specs.ped_rules.specs.ped_loop_runs.specs.ped_tidy.specs.ped_pasting.specs.ped_bodies.specs.ped_steps.specs.ped_laws.specs.Covering.Nested.{Match, IsInNest, loop}
-use Rattle.ped_loops.specs.ped_scalar.specs.ped_rules.specs.ped_loop_runs.specs.ped_tidy.specs.ped_pasting.specs.ped_bodies.specs.ped_steps.specs.ped_laws.specs.Covering.Within.{HoldsStorable}
-use Rattle.ped_loops.specs.ped_scalar.specs.ped_rules.specs.ped_loop_runs.specs.ped_tidy.specs.ped_pasting.specs.ped_bodies.specs.ped_steps.specs.ped_laws.specs.Runs.Replaying.{finish_of, goes_on}
-use Rattle.ped_loops.specs.ped_scalar.specs.ped_rules.specs.ped_loop_runs.specs.ped_tidy.specs.ped_pasting.specs.ped_bodies.specs.ped_steps.specs.ped_laws.specs.Runs.Seeing.{ComesTo}
-use Rattle.ped_loops.specs.ped_scalar.specs.ped_rules.specs.ped_loop_runs.specs.ped_tidy.specs.ped_pasting.specs.ped_bodies.specs.ped_steps.specs.ped_laws.proofs.ActLaws.Stores.{after_append}
-use Rattle.ped_loops.specs.ped_scalar.specs.ped_rules.specs.ped_loop_runs.specs.ped_tidy.specs.ped_pasting.specs.ped_bodies.specs.ped_steps.specs.ped_laws.proofs.CoveringLaws.Nesting.{within, one_deeper}
-use Rattle.ped_loops.specs.ped_scalar.specs.ped_rules.specs.ped_loop_runs.specs.ped_tidy.specs.ped_pasting.specs.ped_bodies.specs.ped_steps.specs.ped_laws.proofs.CoveringLaws.ValueIntervals.{value_lies}
-use Rattle.ped_loops.specs.ped_scalar.specs.ped_rules.specs.ped_loop_runs.specs.ped_tidy.specs.ped_pasting.specs.ped_bodies.specs.ped_steps.specs.ped_laws.proofs.PlainLaws.NearIntervals.{IsNear, lies_near, Ends, NearAround, interval_ends, around_near}
-use Rattle.ped_loops.specs.ped_scalar.specs.ped_rules.specs.ped_loop_runs.specs.ped_tidy.specs.ped_pasting.specs.ped_bodies.specs.ped_steps.specs.ped_laws.proofs.RunLaws.Sight.{holds_append, value_told}
-use Rattle.ped_loops.specs.ped_scalar.specs.ped_rules.specs.ped_loop_runs.specs.ped_tidy.specs.ped_pasting.specs.ped_bodies.specs.ped_steps.specs.ped_laws.specs.ped_eval.specs.Evaluation.{Seen, Evaluated, numbered}
-use Rattle.ped_loops.specs.ped_scalar.specs.ped_rules.specs.ped_loop_runs.specs.ped_tidy.specs.ped_pasting.specs.ped_bodies.specs.ped_steps.specs.ped_laws.specs.ped_eval.specs.Loops.{is_bound, Limits, limits, increment, Entered, value_in, frame, copied_names}
-use Rattle.ped_loops.specs.ped_scalar.specs.ped_rules.specs.ped_loop_runs.specs.ped_tidy.specs.ped_pasting.specs.ped_bodies.specs.ped_steps.specs.ped_laws.specs.ped_eval.specs.Outcomes.{setting_of, run_of}
-use Rattle.ped_loops.specs.ped_scalar.specs.ped_rules.specs.ped_loop_runs.specs.ped_tidy.specs.ped_pasting.specs.ped_bodies.specs.ped_steps.specs.ped_laws.specs.ped_eval.specs.Runs.{run}
-use Rattle.ped_loops.specs.ped_scalar.specs.ped_rules.specs.ped_loop_runs.specs.ped_tidy.specs.ped_pasting.specs.ped_bodies.specs.ped_steps.specs.ped_laws.specs.ped_eval.specs.Scopes.{Setting, Scope, Names, index_value, names_in, place_of}
-use Rattle.ped_loops.specs.ped_scalar.specs.ped_rules.specs.ped_loop_runs.specs.ped_tidy.specs.ped_pasting.specs.ped_bodies.specs.ped_steps.specs.ped_laws.specs.ped_eval.specs.Values.{value}
-use Rattle.ped_loops.specs.ped_scalar.specs.ped_rules.specs.ped_loop_runs.specs.ped_tidy.specs.ped_pasting.specs.ped_bodies.specs.ped_steps.specs.Replacing.{alone}
-use Rattle.ped_loops.specs.ped_scalar.specs.ped_rules.specs.ped_loop_runs.specs.ped_tidy.specs.ped_pasting.specs.ped_bodies.specs.ped_steps.specs.ped_sums.specs.Substitution.{substituted, statements_substituted}
-use Rattle.ped_loops.specs.ped_scalar.specs.ped_rules.specs.ped_loop_runs.specs.ped_tidy.specs.ped_pasting.specs.ped_bodies.specs.ped_steps.proofs.RunLaws.ExpandedPlaces.{untold_at}
-use Rattle.ped_loops.specs.ped_scalar.specs.ped_rules.specs.ped_loop_runs.specs.ped_tidy.specs.ped_pasting.specs.ped_bodies.specs.ped_steps.proofs.RunLaws.ExpandedPlacesParts.{IsPart, part_at}
-use Rattle.ped_loops.specs.ped_scalar.specs.ped_rules.specs.ped_loop_runs.specs.ped_tidy.specs.ped_pasting.specs.ped_bodies.specs.ped_steps.proofs.RunLaws.ExpandedPlacesStand.{variable_scalar, variable_outside}
-use Rattle.ped_loops.specs.ped_scalar.specs.ped_rules.specs.ped_loop_runs.specs.ped_tidy.specs.ped_pasting.specs.ped_bodies.specs.ped_steps.proofs.RunLaws.PrivatisedPrograms.{scalar_unvalued}
-use Rattle.ped_loops.specs.ped_scalar.specs.ped_rules.specs.ped_loop_runs.specs.ped_tidy.specs.ped_pasting.specs.ped_bodies.specs.ped_steps.proofs.RunLaws.SparedVariables.{IsUnassigned, variables_unassigned}
-use Rattle.ped_loops.specs.ped_scalar.specs.ped_rules.specs.ped_loop_runs.specs.ped_tidy.proofs.TidyReferencesGaps.{each_of_program}
-use Rattle.ped_loops.specs.ped_scalar.specs.ped_rules.specs.ped_loop_runs.specs.ped_tidy.specs.ped_pasting.specs.ped_bodies.specs.Likewise.{AllMeet, AreSeenAlike}
-use Rattle.ped_loops.specs.ped_scalar.specs.ped_rules.specs.ped_loop_runs.specs.ped_tidy.specs.ped_pasting.specs.ped_bodies.specs.Moving.{own_number, HaveSameCopies, GivesWayTo}
-use Rattle.ped_loops.specs.ped_scalar.specs.ped_rules.specs.ped_loop_runs.specs.ped_tidy.specs.ped_pasting.specs.ped_bodies.specs.Rewriting.{OfHeads, HaveIncrements, MayBeRewritten}
-use Rattle.ped_loops.specs.ped_scalar.specs.ped_rules.specs.ped_loop_runs.specs.ped_tidy.specs.ped_pasting.specs.ped_bodies.specs.Standing.{SettingsAgree, SeesNoCell, GoLikewise}
-use Rattle.ped_loops.specs.ped_scalar.specs.ped_rules.specs.ped_loop_runs.specs.ped_tidy.specs.ped_pasting.specs.ped_bodies.specs.Trips.{HasLimits, IsMadeOfTrips, bounds_seen, entered_from, loop_close, loop_entry, trip_end, trips}
-use Rattle.ped_loops.specs.ped_scalar.specs.ped_rules.specs.ped_loop_runs.specs.ped_tidy.specs.ped_pasting.specs.ped_bodies.proofs.BodyLaws.Corresponding.{see_append, told_alike}
-use Rattle.ped_loops.specs.ped_scalar.specs.ped_rules.specs.ped_loop_runs.specs.ped_tidy.specs.ped_pasting.specs.ped_bodies.proofs.BodyLaws.Instances.{skewed_body}
-use Rattle.ped_loops.specs.ped_scalar.specs.ped_rules.specs.ped_loop_runs.specs.ped_tidy.specs.ped_pasting.specs.ped_bodies.proofs.BodyLaws.LimitParts.{limits_come, limits_parted}
-use Rattle.ped_loops.specs.ped_scalar.specs.ped_rules.specs.ped_loop_runs.specs.ped_tidy.specs.ped_pasting.specs.ped_bodies.proofs.BodyLaws.Rewritings.{may_give_way}
-use Rattle.ped_loops.specs.ped_scalar.specs.ped_rules.specs.ped_loop_runs.specs.ped_tidy.specs.ped_pasting.specs.Executions.{IsExecuted}
-use Rattle.ped_loops.specs.ped_scalar.specs.ped_rules.specs.ped_loop_runs.specs.ped_tidy.specs.ped_pasting.proofs.PastingLaws.EnteredRanges.{in_nest_round}
-use Rattle.ped_loops.specs.ped_scalar.specs.ped_rules.specs.ped_loop_runs.specs.ped_tidy.specs.ped_pasting.proofs.PastingLaws.RunStores.{all_storable_after}
+use Rattle.ped_loops.specs.ped_scalar.specs.ped_rules.specs.ped_loop_runs.specs.ped_bodies.specs.ped_steps.specs.ped_affine.specs.Assigned.{assigned_in, assigned_in_all}
+use Rattle.ped_loops.specs.ped_scalar.specs.ped_rules.specs.ped_loop_runs.specs.ped_bodies.specs.ped_steps.specs.ped_affine.specs.PairViews.{heads_of}
+use Rattle.ped_loops.specs.ped_scalar.specs.ped_rules.specs.ped_loop_runs.specs.ped_bodies.specs.ped_steps.specs.ped_affine.specs.Ranges as ranges
+use Rattle.ped_loops.specs.ped_scalar.specs.ped_rules.specs.ped_loop_runs.specs.ped_bodies.specs.ped_steps.specs.ped_affine.specs.Ranges.{Around, interval_of}
+use Rattle.ped_loops.specs.ped_scalar.specs.ped_rules.specs.ped_loop_runs.specs.ped_bodies.specs.ped_steps.specs.ped_views.specs.declared.intervals.Interval.{Interval}
+use Rattle.ped_loops.specs.ped_scalar.specs.ped_rules.specs.ped_loop_runs.specs.ped_bodies.specs.ped_steps.specs.ped_views.specs.Intervals.{Lies}
+use Rattle.ped_loops.specs.ped_scalar.specs.ped_rules.specs.ped_loop_runs.specs.ped_bodies.specs.ped_steps.specs.ped_flow.specs.PlainBounds.{nest_round, setting_round}
+use Rattle.ped_loops.specs.ped_scalar.specs.ped_rules.specs.ped_loop_runs.specs.ped_bodies.specs.ped_steps.specs.ped_flow.specs.Questions.{LoopOf}
+use Rattle.ped_loops.specs.ped_scalar.specs.ped_rules.specs.ped_loop_runs.specs.ped_bodies.specs.ped_steps.specs.ped_symbols.specs.Kinds.{kind_in, at_last}
+use Rattle.ped_loops.specs.ped_scalar.specs.ped_rules.specs.ped_loop_runs.specs.ped_bodies.specs.ped_steps.specs.ped_symbols.specs.NameRefusals.{IsValid}
+use Rattle.ped_loops.specs.ped_scalar.specs.ped_rules.specs.ped_loop_runs.specs.ped_bodies.specs.ped_steps.specs.ped_symbols.specs.RightUses.RightLoops.{is_step, step_is_right, stmt_steps_are_right, steps_are_right}
+use Rattle.ped_loops.specs.ped_scalar.specs.ped_rules.specs.ped_loop_runs.specs.ped_bodies.specs.ped_steps.specs.ped_symbols.proofs.RightUseLaws.Whole.{right_program}
+use Rattle.ped_loops.specs.ped_scalar.specs.ped_rules.specs.ped_loop_runs.specs.ped_bodies.specs.ped_steps.specs.ped_laws.specs.ped_store.specs.Stores.{Store, store_at_start}
+use Rattle.ped_loops.specs.ped_scalar.specs.ped_rules.specs.ped_loop_runs.specs.ped_bodies.specs.ped_steps.specs.ped_laws.specs.ped_store.specs.Acts.{Touch, Act}
+use Rattle.ped_loops.specs.ped_scalar.specs.ped_rules.specs.ped_loop_runs.specs.ped_bodies.specs.ped_steps.specs.ped_laws.specs.Acts.Fitting.{store_after, of_cells}
+use Rattle.ped_loops.specs.ped_scalar.specs.ped_rules.specs.ped_loop_runs.specs.ped_bodies.specs.ped_steps.specs.ped_laws.specs.Acts.Renaming.{own_name}
+use Rattle.ped_loops.specs.ped_scalar.specs.ped_rules.specs.ped_loop_runs.specs.ped_bodies.specs.ped_steps.specs.ped_laws.specs.Acts.Sets.{nothing}
+use Rattle.ped_loops.specs.ped_scalar.specs.ped_rules.specs.ped_loop_runs.specs.ped_bodies.specs.ped_steps.specs.ped_laws.specs.Covering.Nested.{Match, IsInNest, loop}
+use Rattle.ped_loops.specs.ped_scalar.specs.ped_rules.specs.ped_loop_runs.specs.ped_bodies.specs.ped_steps.specs.ped_laws.specs.Covering.Within.{HoldsStorable}
+use Rattle.ped_loops.specs.ped_scalar.specs.ped_rules.specs.ped_loop_runs.specs.ped_bodies.specs.ped_steps.specs.ped_laws.specs.Runs.Replaying.{finish_of, goes_on}
+use Rattle.ped_loops.specs.ped_scalar.specs.ped_rules.specs.ped_loop_runs.specs.ped_bodies.specs.ped_steps.specs.ped_laws.proofs.ActLaws.Stores.{after_append}
+use Rattle.ped_loops.specs.ped_scalar.specs.ped_rules.specs.ped_loop_runs.specs.ped_bodies.specs.ped_steps.specs.ped_laws.proofs.CoveringLaws.Nesting.{within, one_deeper, heads_more}
+use Rattle.ped_loops.specs.ped_scalar.specs.ped_rules.specs.ped_loop_runs.specs.ped_bodies.specs.ped_steps.specs.ped_laws.proofs.CoveringLaws.ValueIntervals.{value_lies}
+use Rattle.ped_loops.specs.ped_scalar.specs.ped_rules.specs.ped_loop_runs.specs.ped_bodies.specs.ped_steps.specs.ped_laws.proofs.PlainLaws.NearIntervals.{IsNear, lies_near, Ends, NearAround, interval_ends, around_near}
+use Rattle.ped_loops.specs.ped_scalar.specs.ped_rules.specs.ped_loop_runs.specs.ped_bodies.specs.ped_steps.specs.ped_laws.specs.ped_eval.specs.Evaluation.{Seen, Evaluated, numbered}
+use Rattle.ped_loops.specs.ped_scalar.specs.ped_rules.specs.ped_loop_runs.specs.ped_bodies.specs.ped_steps.specs.ped_laws.specs.ped_eval.specs.Loops.{is_bound, Limits, limits, increment, Entered, value_in, frame, copied_names}
+use Rattle.ped_loops.specs.ped_scalar.specs.ped_rules.specs.ped_loop_runs.specs.ped_bodies.specs.ped_steps.specs.ped_laws.specs.ped_eval.specs.Outcomes.{setting_of, run_of}
+use Rattle.ped_loops.specs.ped_scalar.specs.ped_rules.specs.ped_loop_runs.specs.ped_bodies.specs.ped_steps.specs.ped_laws.specs.ped_eval.specs.Runs.{run}
+use Rattle.ped_loops.specs.ped_scalar.specs.ped_rules.specs.ped_loop_runs.specs.ped_bodies.specs.ped_steps.specs.ped_laws.specs.ped_eval.specs.Scopes.{Setting, Scope, Names, index_value, names_in, place_of}
+use Rattle.ped_loops.specs.ped_scalar.specs.ped_rules.specs.ped_loop_runs.specs.ped_bodies.specs.ped_steps.specs.ped_laws.specs.ped_eval.specs.Values.{value}
+use Rattle.ped_loops.specs.ped_scalar.specs.ped_rules.specs.ped_loop_runs.specs.ped_bodies.specs.ped_steps.specs.Replacing.{alone}
+use Rattle.ped_loops.specs.ped_scalar.specs.ped_rules.specs.ped_loop_runs.specs.ped_bodies.specs.ped_steps.specs.ped_sums.specs.Substitution.{substituted, statements_substituted}
+use Rattle.ped_loops.specs.ped_scalar.specs.ped_rules.specs.ped_loop_runs.specs.ped_bodies.specs.ped_steps.proofs.RunLaws.ExpandedPlaces.{untold_at}
+use Rattle.ped_loops.specs.ped_scalar.specs.ped_rules.specs.ped_loop_runs.specs.ped_bodies.specs.ped_steps.proofs.RunLaws.ExpandedPlacesParts.{IsPart, part_at}
+use Rattle.ped_loops.specs.ped_scalar.specs.ped_rules.specs.ped_loop_runs.specs.ped_bodies.specs.ped_steps.proofs.RunLaws.ExpandedPlacesStand.{variable_scalar, variable_outside}
+use Rattle.ped_loops.specs.ped_scalar.specs.ped_rules.specs.ped_loop_runs.specs.ped_bodies.specs.ped_steps.proofs.RunLaws.PrivatisedPrograms.{scalar_unvalued}
+use Rattle.ped_loops.specs.ped_scalar.specs.ped_rules.specs.ped_loop_runs.specs.ped_bodies.specs.ped_steps.proofs.RunLaws.SparedVariables.{IsUnassigned, variables_unassigned}
+use Rattle.ped_loops.specs.ped_scalar.specs.ped_rules.specs.ped_loop_runs.proofs.TidyLaws.TidyReferencesGaps.{each_of_program}
+use Rattle.ped_loops.specs.ped_scalar.specs.ped_rules.specs.ped_loop_runs.specs.ped_bodies.specs.Likewise.{AllMeet, AreSeenAlike}
+use Rattle.ped_loops.specs.ped_scalar.specs.ped_rules.specs.ped_loop_runs.specs.ped_bodies.specs.Moving.{own_number, HaveSameCopies, GivesWayTo}
+use Rattle.ped_loops.specs.ped_scalar.specs.ped_rules.specs.ped_loop_runs.specs.ped_bodies.specs.Rewriting.{OfHeads, HaveIncrements, MayBeRewritten}
+use Rattle.ped_loops.specs.ped_scalar.specs.ped_rules.specs.ped_loop_runs.specs.ped_bodies.specs.Standing.{SettingsAgree, SeesNoCell, GoLikewise}
+use Rattle.ped_loops.specs.ped_scalar.specs.ped_rules.specs.ped_loop_runs.specs.ped_bodies.specs.Trips.{HasLimits, IsMadeOfTrips, bounds_seen, entered_from, loop_close, loop_entry, trip_end, trips}
+use Rattle.ped_loops.specs.ped_scalar.specs.ped_rules.specs.ped_loop_runs.specs.ped_bodies.proofs.BodyLaws.Corresponding.{see_append, told_alike}
+use Rattle.ped_loops.specs.ped_scalar.specs.ped_rules.specs.ped_loop_runs.specs.ped_bodies.proofs.BodyLaws.Instances.{skewed_body}
+use Rattle.ped_loops.specs.ped_scalar.specs.ped_rules.specs.ped_loop_runs.specs.ped_bodies.proofs.BodyLaws.LimitParts.{limits_parted}
+use Rattle.ped_loops.specs.ped_scalar.specs.ped_rules.specs.ped_loop_runs.specs.ped_bodies.proofs.BodyLaws.Rewritings.{may_give_way}
+use Rattle.ped_loops.specs.ped_scalar.specs.ped_rules.specs.ped_loop_runs.specs.Executions.{IsExecuted}
+use Rattle.ped_loops.specs.ped_scalar.specs.ped_rules.specs.ped_loop_runs.proofs.PastingLaws.EnteredRanges.{in_nest_round, same_around}
+use Rattle.ped_loops.specs.ped_scalar.specs.ped_rules.specs.ped_loop_runs.proofs.PastingLaws.RunStores.{all_storable_after}
 use Rattle.ped_loops.specs.ped_scalar.specs.ped_rules.specs.OnlyLoops.{of_loop, only_loop}
 use Rattle.ped_loops.specs.ped_scalar.specs.ped_rules.specs.Rules.{leaves, setting_at, heads_round}
 use Rattle.ped_loops.proofs.LoopPlaces.{inner_there}
 use Rattle.ped_loops.proofs.LoopSurroundings.{variable_apart, inner_variable_apart}
 use Rattle.ped_loops.proofs.OnlyBodies.{pair, only_tells}
+use Rattle.ped_loops.proofs.SettledBounds.{limits_there, split_numbers}
 use Rattle.ped_reindex.specs.Skewing.{is_bad_factor, offset, skewed_bound, unskewed, skewed_head, skew_leaves}
 use Rattle.ped_reindex.proofs.SkewedLoops.{HasLaterTrips, outer, outer_entered, store_at}
 use Rattle.ped_reindex.proofs.SkewedValues.{near_bound, bound_near, signed, offset_told, bound_comes, unskewed_told, same_count, same_shift}
-
-false_unless : (b : Bool) → (b ≡ true → ⊥) → b ≡ false
-false_unless true h = absurd (h refl)
-false_unless false h = refl
+use Rattle.ped_loops.specs.ped_scalar.specs.ped_rules.specs.ped_loop_runs.proofs.LoopLaws.OneForOneStands.{false_unless}
 
 -- what isn't None is there
 there_is : (o : Option Interval) → is_none o ≡ false → (r : Interval) × (o ≡ Some r)
@@ -105,15 +99,6 @@ module _ (cs : List (List ℕ × ℤ)) where
     all_increments no_stmts h = tt
     all_increments (more_stmts s rest) h = let both = and_parts (stmt_steps_are_right cs s) (steps_are_right cs rest) h in (one_increment s both.0, all_increments rest both.1)
 
--- the loops round a bound are told in two ways
-same_around : (s : ranges.Setting) (around : Around) (nest : List Loop) → bounds.around_with s around nest ≡ ranges.around_with s around (heads_of nest)
-same_around s around [] = refl
-same_around s around (l ∷ ls) = same_around s (inside around l.head (loop_range s around l.head)) ls
-
-heads_more : (nest : List Loop) (l : Loop) → heads_of (nest ++ l ∷ []) ≡ heads_of nest ++ l.head ∷ []
-heads_more [] l = refl
-heads_more (m ∷ nest) l = ap (λ (hs : List Head). m.head ∷ hs) (heads_more nest l)
-
 match_near : (o : Option ℤ) (q : Option Interval) (n : ℤ) → Match o q → o ≡ Some n → Ends q → IsNear n
 match_near (Some m) (Some r) n h e near = let same : m ≡ n = cc in lies_near n r (subst (λ (z : ℤ). Lies z r) same h) (near r refl)
 match_near (Some m) None n h e near = absurd h
@@ -125,26 +110,10 @@ place_near s p nest scope place x n e =
     match_near (index_value scope x) (lookup (is_same_text x) (ranges.around_with s [] (heads_of nest))) n (place.variables x) e
     (subst NearAround (same_around s [] nest) (around_near s nest [] (λ y r h. absurd cc)) x)
 
--- the first numbers of a row, and the others
-split_numbers : (f : ℕ → List Act) (m n a : ℕ) → m ≤ n → (rest : List Act) × (flat_map f (range_with_len a n) ≡ flat_map f (range_with_len a m) ++ rest)
-split_numbers f zero n a h = (flat_map f (range_with_len a n), refl)
-split_numbers f (suc m) zero a h = absurd (omega (arith, h))
-split_numbers f (suc m) (suc n) a h = let r = split_numbers f m n (a + 1) (omega (arith, h)) in (r.0, ap (λ (xs : List Act). f a ++ xs) r.1 ∙ sym (append_assoc (f a) (flat_map f (range_with_len (a + 1) m)) r.0))
-
 arranged : (a : List Act) (b : Act) (t p c z : List Act) → a ++ ((b ∷ ((t ++ p) ++ c)) ++ z) ≡ (a ++ (b ∷ t)) ++ ((p ++ c) ++ z)
 arranged a b t p c z =
     ap (λ (y : List Act). a ++ (b ∷ y)) (append_assoc (t ++ p) c z ∙ append_assoc t p (c ++ z) ∙ ap (λ (y : List Act). t ++ y) (sym (append_assoc p c z)))
     ∙ sym (append_assoc a (b ∷ t) ((p ++ c) ++ z))
-
--- bounds come where both their values do
-limits_there : (n : Names) (f : Head) (u : Store) (xs ys : List Seen) (a b : ℤ) → value n f.first u ≡ record { seen = xs; result = Ok a } → is_bound a ≡ true → value n f.last u ≡ record { seen = ys; result = Ok b } → is_bound b ≡ true → limits n f u ≡ record { seen = xs ++ ys; result = Ok (record { first = a; last = b }) }
-limits_there n f u xs ys a b one first_bound two last_bound =
-    limits_come n f (value n f.first u).seen (value n f.last u).seen a b (comes f.first a (ap (λ (z : Evaluated ℤ). z.result) one)) first_bound (comes f.last b (ap (λ (z : Evaluated ℤ). z.result) two)) last_bound u
-    (holds_append u (value n f.first u).seen (value n f.last u).seen ((value_told n f.first).holds u) ((value_told n f.last).holds u))
-    ∙ (λ i. record { seen = (one i).seen ++ (two i).seen; result = Ok (record { first = a; last = b }) })
-  where
-    comes : (x : ExprTree) (v : ℤ) → (value n x u).result ≡ Ok v → ComesTo (value n x) (value n x u).seen (Ok v)
-    comes x v is w holds = (value_told n x).comes u w holds ∙ (λ i. record { seen = (value n x u).seen; result = is i })
 
 meet_itself : (ts : List Touch) → AllMeet own_name nothing ts ts
 meet_itself [] = tt
@@ -335,9 +304,10 @@ module _ (t : ProgramTree) (valid : IsValid t) (l : ℕ) (loop_is : LoopOf t l) 
 
       new_come : limits here_names h u ≡ record { seen = ((value here_names g.first u).seen ++ offset_seen) ++ ((value here_names g.last u).seen ++ offset_seen); result = Ok new }
       new_come =
-          limits_there here_names h u ((value here_names g.first u).seen ++ offset_seen) ((value here_names g.last u).seen ++ offset_seen) (old.first +ℤ more) (old.last +ℤ more)
-          first_comes (still_bound g.first (old.first +ℤ more) (has_interval h.first both_kept.0) (ap (λ (z : Evaluated ℤ). z.result) first_comes))
-          last_comes (still_bound g.last (old.last +ℤ more) (has_interval h.last both_kept.1) (ap (λ (z : Evaluated ℤ). z.result) last_comes))
+          limits_there here_names h u (old.first +ℤ more) (old.last +ℤ more)
+          (ap (λ (z : Evaluated ℤ). z.result) first_comes) (still_bound g.first (old.first +ℤ more) (has_interval h.first both_kept.0) (ap (λ (z : Evaluated ℤ). z.result) first_comes))
+          (ap (λ (z : Evaluated ℤ). z.result) last_comes) (still_bound g.last (old.last +ℤ more) (has_interval h.last both_kept.1) (ap (λ (z : Evaluated ℤ). z.result) last_comes))
+          ∙ (λ i. record { seen = (first_comes i).seen ++ (last_comes i).seen; result = Ok new })
 
       -- they read the same
       unseen : SeesNoCell offset_seen

@@ -1,138 +1,31 @@
 -- The inner of two DO loops skewed: a program that may be trusted stays so.
-use Rattle.std.proofs.Common.{◌≡◌, ℕ, List, [], ◌∷◌, ◌++◌, map, Bool, true, false, Some, ◌||◌, ◌&&◌, refl, sym, ap, ◌∙◌, subst, inr, arith, append-nil, if◌then◌else◌}
-use Rattle.std.specs.List.{list_any, list_all}
-use Rattle.std.proofs.lemmas.Bool.{and_parts, or_parts}
-use Rattle.ped_base.specs.Lists.{has_some, is_same_text, is_among}
+use Rattle.std.proofs.Common.{◌≡◌, ℕ, List, [], ◌∷◌, ◌++◌, Bool, true, false, Some, ◌||◌, ◌&&◌, refl, sym, ap, ◌∙◌, subst, inr, arith, append-nil}
+use Rattle.std.specs.List.{list_any}
+use Rattle.std.proofs.lemmas.Bool.{or_parts}
+use Rattle.ped_base.specs.Lists.{has_some, is_among}
 use Rattle.ped_tree.specs.Accesses.{constant_names}
 use Rattle.ped_tree.specs.NamesIn.{loop_variables, all_loop_variables}
-use Rattle.ped_tree.specs.Tree.{ExprTree, Int, Var, Element, Neg, Add, Sub, Mul, Div, Pow, Call, Head, StmtTree, StmtTrees, Assign, If, Do, Print, Read, Stop, Comment, no_stmts, more_stmts, ProgramTree}
-use Rattle.ped_loops.specs.ped_scalar.specs.ped_rules.specs.ped_loop_runs.specs.ped_tidy.specs.ped_pasting.specs.ped_bodies.specs.ped_steps.specs.ped_laws.specs.FlowRuns.Covering.{has_stop, some_stop}
-use Rattle.ped_loops.specs.ped_scalar.specs.ped_rules.specs.ped_loop_runs.specs.ped_tidy.specs.ped_pasting.specs.ped_bodies.specs.ped_steps.specs.ped_laws.proofs.FlowRunLaws.Stopping.{fitting_stops, loop_stops}
-use Rattle.ped_loops.specs.ped_scalar.specs.ped_rules.specs.ped_loop_runs.specs.ped_tidy.specs.ped_pasting.specs.ped_bodies.specs.ped_steps.specs.ped_flow.specs.Questions.{LoopOf, IsContained, IsShownBehind}
-use Rattle.ped_loops.specs.ped_scalar.specs.ped_rules.specs.ped_loop_runs.specs.ped_tidy.specs.ped_pasting.specs.ped_bodies.specs.ped_steps.specs.ped_flow.proofs.Truths.{untrue}
-use Rattle.ped_loops.specs.ped_scalar.specs.ped_rules.specs.ped_loop_runs.specs.ped_tidy.specs.ped_pasting.specs.ped_bodies.specs.ped_steps.specs.ped_symbols.specs.Kinds.{kind_in}
-use Rattle.ped_loops.specs.ped_scalar.specs.ped_rules.specs.ped_loop_runs.specs.ped_tidy.specs.ped_pasting.specs.ped_bodies.specs.ped_steps.specs.ped_symbols.specs.NameRefusals.{IsValid}
-use Rattle.ped_loops.specs.ped_scalar.specs.ped_rules.specs.ped_loop_runs.specs.ped_tidy.specs.ped_pasting.specs.ped_bodies.specs.ped_steps.specs.ped_symbols.specs.RightUses.RightUses.{NameKinds, expr_is_right, target_is_right, cond_is_right, head_is_right, stmt_is_right, stmts_are_right}
-use Rattle.ped_loops.specs.ped_scalar.specs.ped_rules.specs.ped_loop_runs.specs.ped_tidy.specs.ped_pasting.specs.ped_bodies.specs.ped_steps.specs.ped_sums.specs.Substitution.{substituted, statement_substituted, statements_substituted}
-use Rattle.ped_loops.specs.ped_scalar.specs.ped_rules.specs.ped_loop_runs.specs.ped_tidy.specs.ped_pasting.specs.ped_bodies.specs.ped_steps.specs.Replacing.{alone, program_with}
-use Rattle.ped_loops.specs.ped_scalar.specs.ped_rules.specs.ped_loop_runs.specs.ped_tidy.specs.ped_pasting.specs.ped_bodies.specs.ped_steps.proofs.RunLaws.ReplacedTrees.{HasGap, program_gap}
-use Rattle.ped_loops.specs.ped_scalar.specs.ped_rules.specs.ped_loop_runs.specs.ped_tidy.specs.Exchanges.{Exchange, start_of, loop_of, IsExchanged, LeavesAlone}
-use Rattle.ped_loops.specs.ped_scalar.specs.ped_rules.specs.ped_loop_runs.specs.ped_tidy.specs.Unrejected.{has_rejection, some_rejection, IsTrusted}
-use Rattle.ped_loops.specs.ped_scalar.specs.ped_rules.specs.ped_loop_runs.specs.ped_tidy.specs.Writing.{writes_name, writes_left, writes, all_write, writes_index, some_write_index}
+use Rattle.ped_tree.specs.Tree.{ExprTree, Head, StmtTree, StmtTrees, Do, no_stmts, ProgramTree}
+use Rattle.ped_loops.specs.ped_scalar.specs.ped_rules.specs.ped_loop_runs.specs.ped_bodies.specs.ped_steps.specs.ped_laws.specs.FlowRuns.Covering.{has_stop, some_stop}
+use Rattle.ped_loops.specs.ped_scalar.specs.ped_rules.specs.ped_loop_runs.specs.ped_bodies.specs.ped_steps.specs.ped_laws.proofs.FlowRunLaws.Stopping.{fitting_stops, loop_stops}
+use Rattle.ped_loops.specs.ped_scalar.specs.ped_rules.specs.ped_loop_runs.specs.ped_bodies.specs.ped_steps.specs.ped_flow.specs.Questions.{LoopOf, IsContained, IsShownBehind}
+use Rattle.ped_loops.specs.ped_scalar.specs.ped_rules.specs.ped_loop_runs.specs.ped_bodies.specs.ped_steps.specs.ped_flow.proofs.Truths.{untrue}
+use Rattle.ped_loops.specs.ped_scalar.specs.ped_rules.specs.ped_loop_runs.specs.ped_bodies.specs.ped_steps.specs.ped_symbols.specs.Kinds.{kind_in}
+use Rattle.ped_loops.specs.ped_scalar.specs.ped_rules.specs.ped_loop_runs.specs.ped_bodies.specs.ped_steps.specs.ped_symbols.specs.NameRefusals.{IsValid}
+use Rattle.ped_loops.specs.ped_scalar.specs.ped_rules.specs.ped_loop_runs.specs.ped_bodies.specs.ped_steps.specs.ped_symbols.specs.RightUses.RightUses.{stmts_are_right}
+use Rattle.ped_loops.specs.ped_scalar.specs.ped_rules.specs.ped_loop_runs.specs.ped_bodies.specs.ped_steps.specs.ped_sums.specs.Substitution.{statements_substituted}
+use Rattle.ped_loops.specs.ped_scalar.specs.ped_rules.specs.ped_loop_runs.specs.ped_bodies.specs.ped_steps.specs.Replacing.{alone, program_with}
+use Rattle.ped_loops.specs.ped_scalar.specs.ped_rules.specs.ped_loop_runs.specs.ped_bodies.specs.ped_steps.proofs.RunLaws.ReplacedTrees.{HasGap, program_gap}
+use Rattle.ped_loops.specs.ped_scalar.specs.ped_rules.specs.ped_loop_runs.specs.Exchanges.{Exchange, start_of, loop_of, IsExchanged, LeavesAlone}
+use Rattle.ped_loops.specs.ped_scalar.specs.ped_rules.specs.ped_loop_runs.specs.Unrejected.{has_rejection, some_rejection, IsTrusted}
+use Rattle.ped_loops.specs.ped_scalar.specs.ped_rules.specs.ped_loop_runs.specs.Writing.{writes_name, writes_left, writes, all_write, writes_index, some_write_index}
 use Rattle.ped_loops.specs.ped_scalar.specs.ped_rules.specs.OnlyLoops.{only_loop}
-use Rattle.ped_loops.specs.ped_scalar.proofs.TidyPathsSubstituted.{stops_kept, all_variables_kept}
+use Rattle.ped_loops.specs.ped_scalar.proofs.TidyPathsSubstituted.{stops_kept}
+use Rattle.ped_loops.specs.ped_scalar.proofs.UnrejectedSteps.{rejections_kept}
 use Rattle.ped_loops.proofs.OneHead.{TrustedLaw, ClearedLaw}
-use Rattle.ped_loops.proofs.OnlyBodies.{pair, only_tells}
-
--- what stands for the scalar is no left side
-module _ (cs : List (List ℕ)) (k : NameKinds) (x : List ℕ) (by : ExprTree) (no_left : (w : List ℕ) → writes_left cs w by ≡ false) where
-  module _ (w : List ℕ) where
-    left_unwritten : (e : ExprTree) → target_is_right k e ≡ true → writes_left cs w e ≡ false → writes_left cs w (substituted x by e) ≡ false
-    left_unwritten (Var y) r h = go (is_same_text x y)
-      where
-        go : (b : Bool) → writes_left cs w (if b then by else Var y) ≡ false
-        go true = no_left w
-        go false = h
-    left_unwritten (Element y es) r h = h
-    left_unwritten (Int n) r h = absurd cc
-    left_unwritten (Neg a) r h = absurd cc
-    left_unwritten (Add a b) r h = absurd cc
-    left_unwritten (Sub a b) r h = absurd cc
-    left_unwritten (Mul a b) r h = absurd cc
-    left_unwritten (Div a b) r h = absurd cc
-    left_unwritten (Pow a b) r h = absurd cc
-    left_unwritten (Call f es) r h = absurd cc
-
-    lefts_unwritten : (items : List ExprTree) → list_all (target_is_right k) items ≡ true → list_any (writes_left cs w) items ≡ false → list_any (writes_left cs w) (map (substituted x by) items) ≡ false
-    lefts_unwritten [] r h = refl
-    lefts_unwritten (e ∷ es) r h =
-        let right = and_parts (target_is_right k e) (list_all (target_is_right k) es) r in
-        let none = or_parts (writes_left cs w e) (list_any (writes_left cs w) es) h in
-        λ i. left_unwritten e right.0 none.0 i || lefts_unwritten es right.1 none.1 i
-
-    mutual
-      one_unwritten : (s : StmtTree) → stmt_is_right k s ≡ true → writes cs w s ≡ false → writes cs w (statement_substituted x by s) ≡ false
-      one_unwritten (Assign left right) r h = left_unwritten left (and_parts (target_is_right k left) (expr_is_right k right) r).0 h
-      one_unwritten (If c a b) r h =
-          let right = and_parts (cond_is_right k c && stmts_are_right k a) (stmts_are_right k b) r in
-          let none = or_parts (all_write cs w a) (all_write cs w b) h in
-          λ i. all_unwritten a (and_parts (cond_is_right k c) (stmts_are_right k a) right.0).1 none.0 i || all_unwritten b right.1 none.1 i
-      one_unwritten (Do head body) r h =
-          let none = or_parts (list_any (writes_name cs w) head.private) (all_write cs w body) h in
-          λ i. none.0 i || all_unwritten body (and_parts (head_is_right k head) (stmts_are_right k body) r).1 none.1 i
-      one_unwritten (Print items) r h = h
-      one_unwritten (Read items) r h =
-          let none = or_parts _ (list_any (writes_left cs w) items) h in
-          λ i. none.0 i || lefts_unwritten items r none.1 i
-      one_unwritten Stop r h = refl
-      one_unwritten (Comment text) r h = refl
-
-      all_unwritten : (ss : StmtTrees) → stmts_are_right k ss ≡ true → all_write cs w ss ≡ false → all_write cs w (statements_substituted x by ss) ≡ false
-      all_unwritten no_stmts r h = refl
-      all_unwritten (more_stmts s rest) r h =
-          let right = and_parts (stmt_is_right k s) (stmts_are_right k rest) r in
-          let none = or_parts (writes cs w s) (all_write cs w rest) h in
-          λ i. one_unwritten s right.0 none.0 i || all_unwritten rest right.1 none.1 i
-
-  -- nor does a PARALLEL DO write its variables
-  none_of : (body : StmtTrees) → stmts_are_right k body ≡ true → (ws : List (List ℕ)) → list_any (λ w. all_write cs w body) ws ≡ false → list_any (λ w. all_write cs w (statements_substituted x by body)) ws ≡ false
-  none_of body r [] h = refl
-  none_of body r (w ∷ ws) h =
-      let none = or_parts (all_write cs w body) (list_any (λ w. all_write cs w body) ws) h in
-      λ i. all_unwritten w body r none.0 i || none_of body r ws none.1 i
-
-  mutual
-    one_index : (s : StmtTree) → stmt_is_right k s ≡ true → writes_index cs s ≡ false → writes_index cs (statement_substituted x by s) ≡ false
-    one_index (Assign left right) r h = refl
-    one_index (If c a b) r h =
-        let right = and_parts (cond_is_right k c && stmts_are_right k a) (stmts_are_right k b) r in
-        let none = or_parts (some_write_index cs a) (some_write_index cs b) h in
-        λ i. all_indices a (and_parts (cond_is_right k c) (stmts_are_right k a) right.0).1 none.0 i || all_indices b right.1 none.1 i
-    one_index (Do head body) r h =
-        let right = (and_parts (head_is_right k head) (stmts_are_right k body) r).1 in
-        let none = or_parts (head.parallel && list_any (λ w. all_write cs w body) (head.variable ∷ all_loop_variables body)) (some_write_index cs body) h in
-        λ i. own head.parallel none.0 i || all_indices body right none.1 i
-      where
-        own : (b : Bool) → b && list_any (λ w. all_write cs w body) (head.variable ∷ all_loop_variables body) ≡ false → b && list_any (λ w. all_write cs w (statements_substituted x by body)) (head.variable ∷ all_loop_variables (statements_substituted x by body)) ≡ false
-        own true q =
-            (λ i. list_any (λ w. all_write cs w (statements_substituted x by body)) (head.variable ∷ all_variables_kept x by body i))
-            ∙ none_of body (and_parts (head_is_right k head) (stmts_are_right k body) r).1 (head.variable ∷ all_loop_variables body) q
-        own false q = refl
-    one_index (Print items) r h = refl
-    one_index (Read items) r h = refl
-    one_index Stop r h = refl
-    one_index (Comment text) r h = refl
-
-    all_indices : (ss : StmtTrees) → stmts_are_right k ss ≡ true → some_write_index cs ss ≡ false → some_write_index cs (statements_substituted x by ss) ≡ false
-    all_indices no_stmts r h = refl
-    all_indices (more_stmts s rest) r h =
-        let right = and_parts (stmt_is_right k s) (stmts_are_right k rest) r in
-        let none = or_parts (writes_index cs s) (some_write_index cs rest) h in
-        λ i. one_index s right.0 none.0 i || all_indices rest right.1 none.1 i
-
-module _ (x : List ℕ) (by : ExprTree) where
-  mutual
-    rejection_kept : (s : StmtTree) → has_rejection (statement_substituted x by s) ≡ has_rejection s
-    rejection_kept (Assign left right) = refl
-    rejection_kept (If c a b) = λ i. rejections_kept a i || rejections_kept b i
-    rejection_kept (Do h body) = λ i. has_some h.rejected || rejections_kept body i
-    rejection_kept (Print items) = refl
-    rejection_kept (Read items) = refl
-    rejection_kept Stop = refl
-    rejection_kept (Comment text) = refl
-
-    rejections_kept : (ss : StmtTrees) → some_rejection (statements_substituted x by ss) ≡ some_rejection ss
-    rejections_kept no_stmts = refl
-    rejections_kept (more_stmts s rest) = λ i. rejection_kept s i || rejections_kept rest i
-
-or_false : (a : Bool) → a || false ≡ a
-or_false true = refl
-or_false false = refl
-
--- what is told of statements by "or" is told of a body by its one DO
-or_tells : (told : StmtTree → Bool) (all : StmtTrees → Bool) (g : Head) (inside body : StmtTrees) → all no_stmts ≡ false → ((s : StmtTree) (rest : StmtTrees) → all (more_stmts s rest) ≡ told s || all rest) → ((text : List ℕ) → told (Comment text) ≡ false)
-    → only_loop body ≡ Some (pair g inside) → all body ≡ told (Do g inside)
-or_tells told all g inside body none both nothing one = only_tells g inside told all (λ (a b : Bool). a || b) false (λ a. refl) or_false none both nothing body one
+use Rattle.ped_loops.proofs.OnlyBodies.{pair}
+use Rattle.ped_loops.proofs.SwappedTrust.{or_tells}
+use Rattle.ped_loops.specs.ped_scalar.proofs.TidyReferencesSubstituted.{all_unwritten, indices_unwritten}
 
 module _ (t : ProgramTree) (valid : IsValid t) (l : ℕ) (loop : LoopOf t l) (contained : IsContained t l) (g h : Head) (inside other_body : StmtTrees) (by : ExprTree) (only : only_loop loop.body ≡ Some (pair g inside)) (new_only : only_loop other_body ≡ Some (pair h (statements_substituted g.variable by inside)))
     (variable : h.variable ≡ g.variable) (private : h.private ≡ g.private) (rejected : h.rejected ≡ g.rejected) (serial : loop.head.parallel ≡ false) (inner_serial : g.parallel ≡ false) (new_serial : h.parallel ≡ false)
@@ -200,7 +93,7 @@ module _ (t : ProgramTree) (valid : IsValid t) (l : ℕ) (loop : LoopOf t l) (co
       let outer = or_parts (list_any (writes_name cs w) d.private) (all_write cs w loop.body) (or_parts _ false none).0 in
       let inner = or_parts (list_any (writes_name cs w) g.private) (all_write cs w inside) (sym (writes_in w g inside loop.body only) ∙ outer.1) in
       let body : all_write cs w other_body ≡ false =
-      writes_in w h others other_body new_only ∙ (λ i. list_any (writes_name cs w) (private i) || all_write cs w others) ∙ (λ i. inner.0 i || all_unwritten cs (kind_in t) g.variable by no_left w inside right inner.1 i) in
+      writes_in w h others other_body new_only ∙ (λ i. list_any (writes_name cs w) (private i) || all_write cs w others) ∙ (λ i. inner.0 i || all_unwritten cs w (kind_in t) g.variable by (no_left w) inside right inner.1 i) in
       λ i. (outer.0 i || body i) || false
 
   indices_in : (f : Head) (ts body : StmtTrees) → only_loop body ≡ Some (pair f ts) → f.parallel ≡ false → some_write_index cs body ≡ some_write_index cs ts
@@ -212,7 +105,7 @@ module _ (t : ProgramTree) (valid : IsValid t) (l : ℕ) (loop : LoopOf t l) (co
   unwritten_indices none =
       let outer = (or_parts _ (some_write_index cs loop.body) (or_parts _ false none).0).1 in
       let inner : some_write_index cs inside ≡ false = sym (indices_in g inside loop.body only inner_serial) ∙ outer in
-      let body : some_write_index cs other_body ≡ false = indices_in h others other_body new_only new_serial ∙ all_indices cs (kind_in t) g.variable by no_left inside right inner in
+      let body : some_write_index cs other_body ≡ false = indices_in h others other_body new_only new_serial ∙ indices_unwritten cs (kind_in t) g.variable by no_left inside right inner in
       λ i. ((serial i && list_any (λ w. all_write cs w other_body) (d.variable ∷ all_loop_variables other_body)) || body i) || false
 
   leaves_alone : ClearedLaw → LeavesAlone exchange t

@@ -1,17 +1,14 @@
 -- Copies inside a DO, and their names where its iterations are done in strips.
-use Rattle.std.proofs.Common.{Bool, List, None, Option, Some, [], ap, arith, eqb, eqb-true, false, if◌then◌else◌, inl, inr, refl, subst, sym, true, ℕ, ◌%◌, ◌++◌, ◌+◌, ◌-◌, ◌/◌, ◌∙◌, ◌∷◌, ◌≡◌, ◌≤◌, ◌⊎◌}
-use Rattle.ped_loops.specs.ped_scalar.specs.ped_rules.specs.ped_loop_runs.proofs.LoopLaws.OneForOneCells.{IsOfLoop}
-use Rattle.ped_loops.specs.ped_scalar.specs.ped_rules.specs.ped_loop_runs.specs.ped_tidy.specs.ped_pasting.proofs.PastingLaws.LeftCopies.{IsOwn}
-use Rattle.ped_loops.specs.ped_scalar.specs.ped_rules.specs.ped_loop_runs.specs.ped_tidy.specs.ped_pasting.specs.ped_bodies.proofs.BodyLaws.MovedCells.{behind_itself, moved_is, place_stays}
-use Rattle.ped_loops.specs.ped_scalar.specs.ped_rules.specs.ped_loop_runs.specs.ped_tidy.specs.ped_pasting.specs.ped_bodies.proofs.BodyLaws.NamesApart.{behind_is, stripped_apart}
-use Rattle.ped_loops.specs.ped_scalar.specs.ped_rules.specs.ped_loop_runs.specs.ped_tidy.specs.ped_pasting.specs.ped_bodies.specs.Moving.{IsOfTrips, LiesBehind, behind_front, in_strips, is_cell_among, moved_behind, with_rest}
-use Rattle.ped_loops.specs.ped_scalar.specs.ped_rules.specs.ped_loop_runs.specs.ped_tidy.specs.ped_pasting.specs.ped_bodies.specs.ped_steps.specs.ped_laws.proofs.FlowRunLaws.Names.{no_copy_within}
-use Rattle.ped_loops.specs.ped_scalar.specs.ped_rules.specs.ped_loop_runs.specs.ped_tidy.specs.ped_pasting.specs.ped_bodies.specs.ped_steps.specs.ped_laws.specs.ped_eval.specs.Scopes.{Scope, Setting, cell_of, turns_of}
-use Rattle.ped_loops.specs.ped_scalar.specs.ped_rules.specs.ped_loop_runs.specs.ped_tidy.specs.ped_pasting.specs.ped_bodies.specs.ped_steps.specs.ped_laws.specs.ped_store.specs.Acts.{iterations_of}
-use Rattle.ped_loops.specs.ped_scalar.specs.ped_rules.specs.ped_loop_runs.specs.ped_tidy.specs.ped_pasting.specs.ped_bodies.specs.ped_steps.specs.ped_laws.specs.ped_store.specs.Cells.{Cell, Element, In, Iteration, Out, Private, Scalar}
-
-number_itself : (n : ℕ) → eqb n n ≡ true
-number_itself n = grind (arith, eqb-true)
+use Rattle.std.proofs.Common.{Bool, List, None, Option, Some, [], ap, eqb, eqb-true, false, if◌then◌else◌, inl, inr, refl, sym, true, ℕ, ◌%◌, ◌++◌, ◌+◌, ◌-◌, ◌/◌, ◌∙◌, ◌∷◌, ◌≡◌, ◌≤◌, ◌⊎◌}
+use Rattle.ped_loops.specs.ped_scalar.specs.ped_rules.specs.ped_loop_runs.proofs.LoopLaws.OneForOneCells.{IsOfLoop, lies}
+use Rattle.ped_loops.specs.ped_scalar.specs.ped_rules.specs.ped_loop_runs.proofs.PastingLaws.LeftCopies.{IsOwn}
+use Rattle.ped_loops.specs.ped_scalar.specs.ped_rules.specs.ped_loop_runs.specs.ped_bodies.proofs.BodyLaws.MovedCells.{moved_is, place_stays}
+use Rattle.ped_loops.specs.ped_scalar.specs.ped_rules.specs.ped_loop_runs.specs.ped_bodies.proofs.BodyLaws.NamesApart.{behind_is, stripped_apart}
+use Rattle.ped_loops.specs.ped_scalar.specs.ped_rules.specs.ped_loop_runs.specs.ped_bodies.specs.Moving.{behind_front, in_strips, is_cell_among, moved_behind, with_rest}
+use Rattle.ped_loops.specs.ped_scalar.specs.ped_rules.specs.ped_loop_runs.specs.ped_bodies.specs.ped_steps.specs.ped_laws.specs.ped_eval.specs.Scopes.{Scope, Setting, cell_of, turns_of}
+use Rattle.ped_loops.specs.ped_scalar.specs.ped_rules.specs.ped_loop_runs.specs.ped_bodies.specs.ped_steps.specs.ped_laws.specs.ped_store.specs.Acts.{iterations_of}
+use Rattle.ped_loops.specs.ped_scalar.specs.ped_rules.specs.ped_loop_runs.specs.ped_bodies.specs.ped_steps.specs.ped_laws.specs.ped_store.specs.Cells.{Cell, Element, In, Iteration, Out, Private, Scalar}
+use Rattle.ped_loops.proofs.ApartTurns.{number_itself}
 
 module _ (p : Setting) (scope : Scope) (l inner K : ℕ) where
   abbrev front : List Iteration
@@ -78,28 +75,6 @@ module _ (p : Setting) (scope : Scope) (l inner K : ℕ) where
     abbrev pub StripReached : Cell → Type 0
     StripReached c = IsOwn p scope c ⊎ ((k : ℕ) × (1 ≤ k) × (k ≤ n) × (x : List ℕ) × (rest : List Iteration) × (c ≡ Private x (iterations_of (turns_of scope) ++ record { statement = p.number l; number = k } ∷ rest)))
 
-    lies_own : (c : Cell) → IsOwn p scope c → LiesBehind (IsOfTrips (p.number l) n) front c
-    lies_own (Scalar x) own = tt
-    lies_own (Element x js) own = tt
-    lies_own In own = tt
-    lies_own Out own = tt
-    lies_own (Private x path) own = go (behind_front front path) refl
-      where
-        none : (i : Iteration) (more : List Iteration) → path ≡ front ++ i ∷ more → IsOwn p scope (Private x path) → ⊥
-        none i more e (inl k) = no_copy_within scope k.0 x i more (sym k.1 ∙ ap (Private x) e)
-        none i more e (inr k) = absurd cc
-
-        go : (o : Option (List Iteration)) → behind_front front path ≡ o → IsOfTrips (p.number l) n o
-        go None e = tt
-        go (Some []) e = tt
-        go (Some (i ∷ more)) e = absurd (none i more (behind_is front path (i ∷ more) e) own)
-
-    lies : (c : Cell) → StripReached c → LiesBehind (IsOfTrips (p.number l) n) front c
-    lies c (inl own) = lies_own c own
-    lies c (inr r) =
-        subst (LiesBehind (IsOfTrips (p.number l) n) front) (sym r.5)
-        (subst (IsOfTrips (p.number l) n) (sym (behind_itself front (at r.0 ∷ r.4))) (refl, r.1, r.2))
-
     -- no two of them get one name
     pub strips_apart : (c d : Cell) → StripReached c → StripReached d → strip_names c ≡ strip_names d → c ≡ d
-    strips_apart c d u v e = stripped_apart front (p.number l) inner K n c d (lies c u) (lies d v) e
+    strips_apart c d u v e = stripped_apart front (p.number l) inner K n c d (lies p scope l n c u) (lies p scope l n d v) e

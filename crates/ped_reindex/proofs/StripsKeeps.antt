@@ -1,5 +1,5 @@
 -- A program in which the iterations of a DO are done in strips keeps its meaning.
-use Rattle.std.proofs.Common.{Bool, List, Option, Some, [], ap, append-nil, arith, false, inl, inr, not, pos, refl, subst, suc, sym, true, unwrap_or, zero, ℕ, ℤ, ◌++◌, ◌+◌, ◌<◌, ◌||◌, ◌∙◌, ◌∷◌, ◌≡◌, ◌≤◌}
+use Rattle.std.proofs.Common.{Bool, List, Option, Some, [], ap, append-nil, arith, false, inl, inr, not, pos, refl, subst, sym, true, unwrap_or, ℕ, ℤ, ◌++◌, ◌+◌, ◌||◌, ◌∙◌, ◌∷◌, ◌≡◌, ◌≤◌}
 use Rattle.std.proofs.lemmas.Bool.{both_ways}
 use Rattle.std.specs.List.{flat_map}
 use Rattle.std.specs.Str.Lines.{lines}
@@ -8,47 +8,46 @@ use Rattle.ped_base.specs.Lists.{is_among, is_same_text}
 use Rattle.ped_loops.proofs.SwappedStands.{idle_apart, stands_apart}
 use Rattle.ped_loops.specs.ped_scalar.specs.ped_rules.specs.ped_loop_runs.proofs.LoopLaws.OneForOneCells.{cell_among}
 use Rattle.ped_loops.specs.ped_scalar.specs.ped_rules.specs.ped_loop_runs.proofs.LoopLaws.OneForOneStands.{run_alone}
-use Rattle.ped_loops.specs.ped_scalar.specs.ped_rules.specs.ped_loop_runs.specs.ped_tidy.specs.ped_pasting.proofs.PastingLaws.CountedNumbers.{count_alike, inside_counts, told_back}
-use Rattle.ped_loops.specs.ped_scalar.specs.ped_rules.specs.ped_loop_runs.specs.ped_tidy.specs.ped_pasting.proofs.PastingLaws.KeptMeaning.{apart_suit}
-use Rattle.ped_loops.specs.ped_scalar.specs.ped_rules.specs.ped_loop_runs.specs.ped_tidy.specs.ped_pasting.proofs.PastingLaws.OneStatement.{gives_way}
-use Rattle.ped_loops.specs.ped_scalar.specs.ped_rules.specs.ped_loop_runs.specs.ped_tidy.specs.ped_pasting.proofs.PastingLaws.PastedRuns.{exchanged_near}
-use Rattle.ped_loops.specs.ped_scalar.specs.ped_rules.specs.ped_loop_runs.specs.ped_tidy.specs.ped_pasting.proofs.PastingLaws.StandingParts.{all_stand_near}
-use Rattle.ped_loops.specs.ped_scalar.specs.ped_rules.specs.ped_loop_runs.specs.ped_tidy.specs.ped_pasting.specs.Executions.{IsExecuted}
-use Rattle.ped_loops.specs.ped_scalar.specs.ped_rules.specs.ped_loop_runs.specs.ped_tidy.specs.ped_pasting.specs.Numbers.{AreApart, FitInGap, counted_by, in_a_row, kept_numbers, told_by}
-use Rattle.ped_loops.specs.ped_scalar.specs.ped_rules.specs.ped_loop_runs.specs.ped_tidy.specs.ped_pasting.specs.OtherCopies.{AreExchangedNear, AreNear, AskNothing, DoNear, HasOtherCopies, IsPastedBut, LeaveApart, OfParallelRound}
-use Rattle.ped_loops.specs.ped_scalar.specs.ped_rules.specs.ped_loop_runs.specs.ped_tidy.specs.ped_pasting.specs.Pasting.{CountAlike, PartsStandBy}
-use Rattle.ped_loops.specs.ped_scalar.specs.ped_rules.specs.ped_loop_runs.specs.ped_tidy.specs.ped_pasting.specs.Statements.{GivesWay}
-use Rattle.ped_loops.specs.ped_scalar.specs.ped_rules.specs.ped_loop_runs.specs.ped_tidy.specs.ped_pasting.specs.ped_bodies.proofs.BodyLaws.Rewritings.{not_among}
-use Rattle.ped_loops.specs.ped_scalar.specs.ped_rules.specs.ped_loop_runs.specs.ped_tidy.specs.ped_pasting.specs.ped_bodies.specs.Moving.{is_cell_among}
-use Rattle.ped_loops.specs.ped_scalar.specs.ped_rules.specs.ped_loop_runs.specs.ped_tidy.specs.ped_pasting.specs.ped_bodies.specs.ped_steps.proofs.RunLaws.FilledGaps.{number_room}
-use Rattle.ped_loops.specs.ped_scalar.specs.ped_rules.specs.ped_loop_runs.specs.ped_tidy.specs.ped_pasting.specs.ped_bodies.specs.ped_steps.specs.Replacing.{alone, program_with}
-use Rattle.ped_loops.specs.ped_scalar.specs.ped_rules.specs.ped_loop_runs.specs.ped_tidy.specs.ped_pasting.specs.ped_bodies.specs.ped_steps.specs.Runs.Gaps.{Gap, at_front, filled, in_body, in_else, in_then, number_at, past}
-use Rattle.ped_loops.specs.ped_scalar.specs.ped_rules.specs.ped_loop_runs.specs.ped_tidy.specs.ped_pasting.specs.ped_bodies.specs.ped_steps.specs.Runs.Meaning.{Keeps}
-use Rattle.ped_loops.specs.ped_scalar.specs.ped_rules.specs.ped_loop_runs.specs.ped_tidy.specs.ped_pasting.specs.ped_bodies.specs.ped_steps.specs.Runs.Renumbering.{IsToldBack, renumbered}
-use Rattle.ped_loops.specs.ped_scalar.specs.ped_rules.specs.ped_loop_runs.specs.ped_tidy.specs.ped_pasting.specs.ped_bodies.specs.ped_steps.specs.ped_flow.specs.PlainBounds.{IsPlain}
-use Rattle.ped_loops.specs.ped_scalar.specs.ped_rules.specs.ped_loop_runs.specs.ped_tidy.specs.ped_pasting.specs.ped_bodies.specs.ped_steps.specs.ped_flow.specs.Questions.{IsContained, LoopOf}
-use Rattle.ped_loops.specs.ped_scalar.specs.ped_rules.specs.ped_loop_runs.specs.ped_tidy.specs.ped_pasting.specs.ped_bodies.specs.ped_steps.specs.ped_laws.proofs.ActLaws.Lists.{in_right}
-use Rattle.ped_loops.specs.ped_scalar.specs.ped_rules.specs.ped_loop_runs.specs.ped_tidy.specs.ped_pasting.specs.ped_bodies.specs.ped_steps.specs.ped_laws.proofs.ActLaws.SameCells.{text_itself}
-use Rattle.ped_loops.specs.ped_scalar.specs.ped_rules.specs.ped_loop_runs.specs.ped_tidy.specs.ped_pasting.specs.ped_bodies.specs.ped_steps.specs.ped_laws.proofs.FlowRunLaws.Names.{sorted_among}
-use Rattle.ped_loops.specs.ped_scalar.specs.ped_rules.specs.ped_loop_runs.specs.ped_tidy.specs.ped_pasting.specs.ped_bodies.specs.ped_steps.specs.ped_laws.proofs.FlowRunLaws.Stopping.{fitting_stops, loop_stops}
-use Rattle.ped_loops.specs.ped_scalar.specs.ped_rules.specs.ped_loop_runs.specs.ped_tidy.specs.ped_pasting.specs.ped_bodies.specs.ped_steps.specs.ped_laws.specs.Acts.Orders.{IsIn}
-use Rattle.ped_loops.specs.ped_scalar.specs.ped_rules.specs.ped_loop_runs.specs.ped_tidy.specs.ped_pasting.specs.ped_bodies.specs.ped_steps.specs.ped_laws.specs.Acts.Pieces.{Part, StandsFor, new_parts, old_parts}
-use Rattle.ped_loops.specs.ped_scalar.specs.ped_rules.specs.ped_loop_runs.specs.ped_tidy.specs.ped_pasting.specs.ped_bodies.specs.ped_steps.specs.ped_laws.specs.FlowRuns.Covering.{is_cell_of}
-use Rattle.ped_loops.specs.ped_scalar.specs.ped_rules.specs.ped_loop_runs.specs.ped_tidy.specs.ped_pasting.specs.ped_bodies.specs.ped_steps.specs.ped_laws.specs.Runs.Replaying.{Replays, finish_of, goes_on}
-use Rattle.ped_loops.specs.ped_scalar.specs.ped_rules.specs.ped_loop_runs.specs.ped_tidy.specs.ped_pasting.specs.ped_bodies.specs.ped_steps.specs.ped_laws.specs.Runs.Showing.{shown_at_end}
-use Rattle.ped_loops.specs.ped_scalar.specs.ped_rules.specs.ped_loop_runs.specs.ped_tidy.specs.ped_pasting.specs.ped_bodies.specs.ped_steps.specs.ped_laws.specs.ped_eval.specs.Loops.{entered_with, frame}
-use Rattle.ped_loops.specs.ped_scalar.specs.ped_rules.specs.ped_loop_runs.specs.ped_tidy.specs.ped_pasting.specs.ped_bodies.specs.ped_steps.specs.ped_laws.specs.ped_eval.specs.Outcomes.{IsRaceFree, bounds_of, live_names, run_of, setting_of}
-use Rattle.ped_loops.specs.ped_scalar.specs.ped_rules.specs.ped_loop_runs.specs.ped_tidy.specs.ped_pasting.specs.ped_bodies.specs.ped_steps.specs.ped_laws.specs.ped_eval.specs.Runs.{Run, run, run_all}
-use Rattle.ped_loops.specs.ped_scalar.specs.ped_rules.specs.ped_loop_runs.specs.ped_tidy.specs.ped_pasting.specs.ped_bodies.specs.ped_steps.specs.ped_laws.specs.ped_eval.specs.Scopes.{Scope, Setting, cell_of}
-use Rattle.ped_loops.specs.ped_scalar.specs.ped_rules.specs.ped_loop_runs.specs.ped_tidy.specs.ped_pasting.specs.ped_bodies.specs.ped_steps.specs.ped_laws.specs.ped_store.specs.Acts.{Act}
-use Rattle.ped_loops.specs.ped_scalar.specs.ped_rules.specs.ped_loop_runs.specs.ped_tidy.specs.ped_pasting.specs.ped_bodies.specs.ped_steps.specs.ped_laws.specs.ped_store.specs.Cells.{Cell, In, Out, Private, Scalar}
-use Rattle.ped_loops.specs.ped_scalar.specs.ped_rules.specs.ped_loop_runs.specs.ped_tidy.specs.ped_pasting.specs.ped_bodies.specs.ped_steps.specs.ped_laws.specs.ped_store.specs.Races.{HasNoRace, accesses}
-use Rattle.ped_loops.specs.ped_scalar.specs.ped_rules.specs.ped_loop_runs.specs.ped_tidy.specs.ped_pasting.specs.ped_bodies.specs.ped_steps.specs.ped_laws.specs.ped_store.specs.Stores.{Store, store_at_start}
-use Rattle.ped_loops.specs.ped_scalar.specs.ped_rules.specs.ped_loop_runs.specs.ped_tidy.specs.ped_pasting.specs.ped_bodies.specs.ped_steps.specs.ped_symbols.proofs.RightUseLaws.Whole.{others_unvalued, same_values}
-use Rattle.ped_loops.specs.ped_scalar.specs.ped_rules.specs.ped_loop_runs.specs.ped_tidy.specs.ped_pasting.specs.ped_bodies.specs.ped_steps.specs.ped_symbols.specs.Kinds.{kind_in, names_of}
-use Rattle.ped_loops.specs.ped_scalar.specs.ped_rules.specs.ped_loop_runs.specs.ped_tidy.specs.ped_pasting.specs.ped_bodies.specs.ped_steps.specs.ped_symbols.specs.NameRefusals.{IsValid}
-use Rattle.ped_loops.specs.ped_scalar.specs.ped_rules.specs.ped_loop_runs.specs.ped_tidy.specs.ped_pasting.specs.ped_bodies.specs.ped_steps.specs.ped_weaves.specs.Apart.{agreed}
-use Rattle.ped_reindex.proofs.MadeAnew.{made_anew_keeps}
+use Rattle.ped_loops.specs.ped_scalar.specs.ped_rules.specs.ped_loop_runs.proofs.PastingLaws.CountedNumbers.{count_alike, in_row, inside_counts, row_apart, row_in, told_back}
+use Rattle.ped_loops.specs.ped_scalar.specs.ped_rules.specs.ped_loop_runs.proofs.PastingLaws.KeptMeaning.{apart_suit, made_keeps}
+use Rattle.ped_loops.specs.ped_scalar.specs.ped_rules.specs.ped_loop_runs.proofs.PastingLaws.OneStatement.{gives_way}
+use Rattle.ped_loops.specs.ped_scalar.specs.ped_rules.specs.ped_loop_runs.proofs.PastingLaws.PastedRuns.{exchanged_near}
+use Rattle.ped_loops.specs.ped_scalar.specs.ped_rules.specs.ped_loop_runs.proofs.PastingLaws.StandingParts.{all_stand_near}
+use Rattle.ped_loops.specs.ped_scalar.specs.ped_rules.specs.ped_loop_runs.specs.Executions.{IsExecuted}
+use Rattle.ped_loops.specs.ped_scalar.specs.ped_rules.specs.ped_loop_runs.specs.Numbers.{FitInGap, counted_by, in_a_row, kept_numbers, told_by}
+use Rattle.ped_loops.specs.ped_scalar.specs.ped_rules.specs.ped_loop_runs.specs.OtherCopies.{AreExchangedNear, AreNear, AskNothing, DoNear, HasOtherCopies, IsPastedBut, LeaveApart, OfParallelRound}
+use Rattle.ped_loops.specs.ped_scalar.specs.ped_rules.specs.ped_loop_runs.specs.Pasting.{CountAlike, PartsStandBy}
+use Rattle.ped_loops.specs.ped_scalar.specs.ped_rules.specs.ped_loop_runs.specs.Statements.{GivesWay}
+use Rattle.ped_loops.specs.ped_scalar.specs.ped_rules.specs.ped_loop_runs.specs.ped_bodies.proofs.BodyLaws.Rewritings.{not_among}
+use Rattle.ped_loops.specs.ped_scalar.specs.ped_rules.specs.ped_loop_runs.specs.ped_bodies.specs.Moving.{is_cell_among}
+use Rattle.ped_loops.specs.ped_scalar.specs.ped_rules.specs.ped_loop_runs.specs.ped_bodies.specs.ped_steps.proofs.RunLaws.FilledGaps.{number_room}
+use Rattle.ped_loops.specs.ped_scalar.specs.ped_rules.specs.ped_loop_runs.specs.ped_bodies.specs.ped_steps.specs.Replacing.{alone, program_with}
+use Rattle.ped_loops.specs.ped_scalar.specs.ped_rules.specs.ped_loop_runs.specs.ped_bodies.specs.ped_steps.specs.Runs.Gaps.{Gap, at_front, filled, in_body, in_else, in_then, number_at, past}
+use Rattle.ped_loops.specs.ped_scalar.specs.ped_rules.specs.ped_loop_runs.specs.ped_bodies.specs.ped_steps.specs.Runs.Meaning.{Keeps}
+use Rattle.ped_loops.specs.ped_scalar.specs.ped_rules.specs.ped_loop_runs.specs.ped_bodies.specs.ped_steps.specs.Runs.Renumbering.{IsToldBack, renumbered}
+use Rattle.ped_loops.specs.ped_scalar.specs.ped_rules.specs.ped_loop_runs.specs.ped_bodies.specs.ped_steps.specs.ped_flow.specs.PlainBounds.{IsPlain}
+use Rattle.ped_loops.specs.ped_scalar.specs.ped_rules.specs.ped_loop_runs.specs.ped_bodies.specs.ped_steps.specs.ped_flow.specs.Questions.{IsContained, LoopOf}
+use Rattle.ped_loops.specs.ped_scalar.specs.ped_rules.specs.ped_loop_runs.specs.ped_bodies.specs.ped_steps.specs.ped_laws.proofs.ActLaws.Lists.{in_right}
+use Rattle.ped_loops.specs.ped_scalar.specs.ped_rules.specs.ped_loop_runs.specs.ped_bodies.specs.ped_steps.specs.ped_laws.proofs.ActLaws.SameCells.{text_itself}
+use Rattle.ped_loops.specs.ped_scalar.specs.ped_rules.specs.ped_loop_runs.specs.ped_bodies.specs.ped_steps.specs.ped_laws.proofs.FlowRunLaws.Names.{sorted_among}
+use Rattle.ped_loops.specs.ped_scalar.specs.ped_rules.specs.ped_loop_runs.specs.ped_bodies.specs.ped_steps.specs.ped_laws.proofs.FlowRunLaws.Stopping.{fitting_stops, loop_stops}
+use Rattle.ped_loops.specs.ped_scalar.specs.ped_rules.specs.ped_loop_runs.specs.ped_bodies.specs.ped_steps.specs.ped_laws.specs.Acts.Orders.{IsIn}
+use Rattle.ped_loops.specs.ped_scalar.specs.ped_rules.specs.ped_loop_runs.specs.ped_bodies.specs.ped_steps.specs.ped_laws.specs.Acts.Pieces.{Part, StandsFor, new_parts, old_parts}
+use Rattle.ped_loops.specs.ped_scalar.specs.ped_rules.specs.ped_loop_runs.specs.ped_bodies.specs.ped_steps.specs.ped_laws.specs.FlowRuns.Covering.{is_cell_of}
+use Rattle.ped_loops.specs.ped_scalar.specs.ped_rules.specs.ped_loop_runs.specs.ped_bodies.specs.ped_steps.specs.ped_laws.specs.Runs.Replaying.{Replays, finish_of, goes_on}
+use Rattle.ped_loops.specs.ped_scalar.specs.ped_rules.specs.ped_loop_runs.specs.ped_bodies.specs.ped_steps.specs.ped_laws.specs.Runs.Showing.{shown_at_end}
+use Rattle.ped_loops.specs.ped_scalar.specs.ped_rules.specs.ped_loop_runs.specs.ped_bodies.specs.ped_steps.specs.ped_laws.specs.ped_eval.specs.Loops.{entered_with, frame}
+use Rattle.ped_loops.specs.ped_scalar.specs.ped_rules.specs.ped_loop_runs.specs.ped_bodies.specs.ped_steps.specs.ped_laws.specs.ped_eval.specs.Outcomes.{IsRaceFree, bounds_of, live_names, run_of, setting_of}
+use Rattle.ped_loops.specs.ped_scalar.specs.ped_rules.specs.ped_loop_runs.specs.ped_bodies.specs.ped_steps.specs.ped_laws.specs.ped_eval.specs.Runs.{Run, run, run_all}
+use Rattle.ped_loops.specs.ped_scalar.specs.ped_rules.specs.ped_loop_runs.specs.ped_bodies.specs.ped_steps.specs.ped_laws.specs.ped_eval.specs.Scopes.{Scope, Setting, cell_of}
+use Rattle.ped_loops.specs.ped_scalar.specs.ped_rules.specs.ped_loop_runs.specs.ped_bodies.specs.ped_steps.specs.ped_laws.specs.ped_store.specs.Acts.{Act}
+use Rattle.ped_loops.specs.ped_scalar.specs.ped_rules.specs.ped_loop_runs.specs.ped_bodies.specs.ped_steps.specs.ped_laws.specs.ped_store.specs.Cells.{Cell, In, Out, Private, Scalar}
+use Rattle.ped_loops.specs.ped_scalar.specs.ped_rules.specs.ped_loop_runs.specs.ped_bodies.specs.ped_steps.specs.ped_laws.specs.ped_store.specs.Races.{HasNoRace, accesses}
+use Rattle.ped_loops.specs.ped_scalar.specs.ped_rules.specs.ped_loop_runs.specs.ped_bodies.specs.ped_steps.specs.ped_laws.specs.ped_store.specs.Stores.{Store, store_at_start}
+use Rattle.ped_loops.specs.ped_scalar.specs.ped_rules.specs.ped_loop_runs.specs.ped_bodies.specs.ped_steps.specs.ped_symbols.proofs.RightUseLaws.Whole.{others_unvalued, same_values}
+use Rattle.ped_loops.specs.ped_scalar.specs.ped_rules.specs.ped_loop_runs.specs.ped_bodies.specs.ped_steps.specs.ped_symbols.specs.Kinds.{kind_in, names_of}
+use Rattle.ped_loops.specs.ped_scalar.specs.ped_rules.specs.ped_loop_runs.specs.ped_bodies.specs.ped_steps.specs.ped_symbols.specs.NameRefusals.{IsValid}
+use Rattle.ped_loops.specs.ped_scalar.specs.ped_rules.specs.ped_loop_runs.specs.ped_bodies.specs.ped_steps.specs.ped_weaves.specs.Apart.{agreed}
 use Rattle.ped_reindex.proofs.StripsAbsent.{leaves_alone, unwanted_name}
 use Rattle.ped_reindex.proofs.StripsAccesses.{free_strips}
 use Rattle.ped_reindex.proofs.StripsBounds.{AreBeside, CanStrip, CountsStrips, IsStripped}
@@ -61,26 +60,7 @@ use Rattle.ped_tree.specs.Grammar.Words.{is_name}
 use Rattle.ped_tree.specs.NamesIn.{all_loop_variables, cond_names, head_names, loop_variables, saved_in, stmt_names, stmts_names}
 use Rattle.ped_tree.specs.Numbering.{statement_count, statements_count}
 use Rattle.ped_tree.specs.Tree.{DeclTree, Do, Head, If, ProgramTree, StmtTree, StmtTrees}
-use Rattle.ped_loops.specs.ped_scalar.specs.ped_rules.specs.ped_loop_runs.specs.ped_tidy.specs.ped_pasting.specs.ped_bodies.specs.ped_steps.specs.ped_laws.specs.ped_store.specs.Cells as cells
-
--- numbers of statements in a row
-row_in : (a b n : ℕ) (y : ℕ × ℕ) → IsIn y (in_a_row a b n) → (k : ℕ) × (k < n) × (y.0 ≡ a + k) × (y.1 ≡ b + k)
-row_in a b zero y i = absurd i
-row_in a b (suc n) y (inl e) = (0, omega arith, ap (λ (z : ℕ × ℕ). z.0) e ∙ (let f : a ≡ a + 0 = omega arith in f), ap (λ (z : ℕ × ℕ). z.1) e ∙ (let f : b ≡ b + 0 = omega arith in f))
-row_in a b (suc n) y (inr i) = let r = row_in (a + 1) (b + 1) n y i in let first = r.2 in let second = r.3 in let less = r.1 in (r.0 + 1, omega (arith, less), omega (arith, first), omega (arith, second))
-
-in_row : (a b n k : ℕ) → k < n → IsIn (a + k, b + k) (in_a_row a b n)
-in_row a b zero k h = absurd (omega (arith, h))
-in_row a b (suc n) zero h = inl (λ i. ((let e : a + 0 ≡ a = omega arith in e) i, (let e : b + 0 ≡ b = omega arith in e) i))
-in_row a b (suc n) (suc k) h =
-    inr (subst (λ (y : ℕ × ℕ). IsIn y (in_a_row (a + 1) (b + 1) n)) (λ i. ((let e : a + 1 + k ≡ a + suc k = omega arith in e) i, (let e : b + 1 + k ≡ b + suc k = omega arith in e) i)) (in_row (a + 1) (b + 1) n k (omega (arith, h))))
-
-row_apart : (a b n : ℕ) → AreApart (in_a_row a b n)
-row_apart a b zero = tt
-row_apart a b (suc n) = (
-  (λ y i. let r = row_in (a + 1) (b + 1) n y i in let first = r.2 in let second = r.3 in (λ e. omega (arith, first, e), λ e. omega (arith, second, e))),
-  row_apart (a + 1) (b + 1) n,
-)
+use Rattle.ped_loops.specs.ped_scalar.specs.ped_rules.specs.ped_loop_runs.specs.ped_bodies.specs.ped_steps.specs.ped_laws.specs.ped_store.specs.Cells as cells
 
 -- what a step shows of a DO whose iterations are done in strips: it isn't parallel, has no PRIVATE names, goes through its values one by one and is contained, and its limit is plain; the variable of the new DO doesn't occur in the program
 pub record IsStripping (t u : ProgramTree) (l : ℕ) (loop : LoopOf t l) (K : ℕ) (w : List ℕ) : Type 0 where
@@ -221,10 +201,10 @@ module _ (t u : ProgramTree) (l : ℕ) (loop : LoopOf t l) (K : ℕ) (w : List �
     apart = (
       (λ y i. elim i [
         | inl e ↦ (let first = ap (λ (z : ℕ × ℕ). z.0) e in let second = ap (λ (z : ℕ × ℕ). z.1) e in let most = room in (λ k. omega (arith, first, k), λ k. omega (arith, second, k, most)))
-        | inr j ↦ (let r = row_in (l + 1 + 1) (l + 1) (statements_count loop.body) y j in let first = r.2 in let second = r.3 in (λ k. omega (arith, first, k), λ k. omega (arith, second, k)))
+        | inr j ↦ (let r = in_row (l + 1 + 1) (l + 1) (statements_count loop.body) y j in let first = r.2 in let second = r.3 in (λ k. omega (arith, first, k), λ k. omega (arith, second, k)))
       ]),
       (
-        (λ y j. let r = row_in (l + 1 + 1) (l + 1) (statements_count loop.body) y j in let first = r.2 in let second = r.3 in let less = r.1 in let most = room in (λ k. omega (arith, first, k), λ k. omega (arith, second, k, less, most))),
+        (λ y j. let r = in_row (l + 1 + 1) (l + 1) (statements_count loop.body) y j in let first = r.2 in let second = r.3 in let less = r.1 in let most = room in (λ k. omega (arith, first, k), λ k. omega (arith, second, k, less, most))),
         row_apart (l + 1 + 1) (l + 1) (statements_count loop.body),
       ),
     );
@@ -232,21 +212,21 @@ module _ (t u : ProgramTree) (l : ℕ) (loop : LoopOf t l) (K : ℕ) (w : List �
       | inl e ↦ (let first = ap (λ (z : ℕ × ℕ). z.0) e in omega (arith, first))
       | inr k ↦ elim k [
         | inl e ↦ (let first = ap (λ (z : ℕ × ℕ). z.0) e in omega (arith, first))
-        | inr j ↦ (let r = row_in (l + 1 + 1) (l + 1) (statements_count loop.body) y j in let first = r.2 in omega (arith, first))
+        | inr j ↦ (let r = in_row (l + 1 + 1) (l + 1) (statements_count loop.body) y j in let first = r.2 in omega (arith, first))
       ]
     ];
     to = λ y i. elim i [
       | inl e ↦ (let first = ap (λ (z : ℕ × ℕ). z.0) e in omega (arith, first))
       | inr k ↦ elim k [
         | inl e ↦ (let first = ap (λ (z : ℕ × ℕ). z.0) e in omega (arith, first))
-        | inr j ↦ (let r = row_in (l + 1 + 1) (l + 1) (statements_count loop.body) y j in let first = r.2 in let less = r.1 in omega (arith, first, less))
+        | inr j ↦ (let r = in_row (l + 1 + 1) (l + 1) (statements_count loop.body) y j in let first = r.2 in let less = r.1 in omega (arith, first, less))
       ]
     ];
     under = λ y i. elim i [
       | inl e ↦ (let second = ap (λ (z : ℕ × ℕ). z.1) e in inl (omega (arith, second), omega (arith, second)))
       | inr k ↦ elim k [
         | inl e ↦ (let second = ap (λ (z : ℕ × ℕ). z.1) e in inr (omega (arith, second)))
-        | inr j ↦ (let r = row_in (l + 1 + 1) (l + 1) (statements_count loop.body) y j in let second = r.3 in let less = r.1 in inl (omega (arith, second), omega (arith, second, less)))
+        | inr j ↦ (let r = in_row (l + 1 + 1) (l + 1) (statements_count loop.body) y j in let second = r.3 in let less = r.1 in inl (omega (arith, second), omega (arith, second, less)))
       ]
     ];
   }
@@ -277,7 +257,9 @@ module _ (t u : ProgramTree) (l : ℕ) (loop : LoopOf t l) (K : ℕ) (w : List �
     constants = constants;
     bounds = bounds;
     outer = inside_counts l (statements_count old) (statements_count new) all inside fit (l, l) (inl refl);
-    inside = λ m less. inside_counts l (statements_count old) (statements_count new) all inside fit (l + 1 + 1 + m, l + 1 + m) (inr (inr (in_row (l + 1 + 1) (l + 1) (statements_count loop.body) m less)));
+    inside = λ m less.
+        let r = row_in (l + 1 + 1) (l + 1) (statements_count loop.body) m less in
+        ap (counted_by (kept_numbers l (statements_count old) (statements_count new) all inside)) (sym r.2) ∙ inside_counts l (statements_count old) (statements_count new) all inside fit r.0 (inr (inr r.1)) ∙ r.3;
   }
 
   can : CanStrip p loop.head loop.body w
@@ -429,7 +411,7 @@ module _ (t u : ProgramTree) (l : ℕ) (loop : LoopOf t l) (K : ℕ) (w : List �
   live_kinds y k = x.kinds y (not_among (flat_map saved_in t.decls) w y (unsaved_name t w x.absent) (sym (sorted_among y (flat_map saved_in t.decls)) ∙ k))
 
   pub strips_keep : Keeps t u
-  strips_keep = made_anew_keeps t u (record {
+  strips_keep = made_keeps t u (record {
     saved = ap (λ (ds : List DeclTree). flat_map saved_in ds) decls;
     kinds = live_kinds;
     counted = counted;

@@ -1,5 +1,6 @@
 pub mod Chains
 pub mod OneEach
+pub mod OneLoop
 pub mod Decided
 pub mod Answering
 pub mod KeptNumbers

@@ -1,8 +1,8 @@
 -- A DO whose body is one DO, comments apart; and new statements for a DO (Allen and Kennedy, section 5.2; this project).
-use Rattle.std.specs.Prelude.{ℕ, ◌==◌, Bool, false, ◌||◌, Option, Some, None, if◌then◌else◌}
+use Rattle.std.specs.Prelude.{◌==◌, Bool, false, ◌||◌, Option, Some, None, if◌then◌else◌}
 use Rattle.ped_tree.specs.Tree.{Head, StmtTree, StmtTrees, Assign, If, Do, Print, Read, Stop, Comment, no_stmts, more_stmts}
 use Rattle.ped_tree.specs.Numbering.{statements_count}
-use Rattle.ped_loop_runs.specs.ped_tidy.specs.ped_pasting.specs.ped_bodies.specs.ped_steps.specs.Replacing.{alone}
+use Rattle.ped_loop_runs.specs.ped_bodies.specs.ped_steps.specs.Replacing.{alone}
 
 -- the head and the body of the one DO that these statements are, where nothing but comments stands beside it
 abbrev pub only_loop : StmtTrees → Option (Head × StmtTrees)

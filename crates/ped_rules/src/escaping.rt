@@ -3,12 +3,12 @@
 ghost use Rattle.std.specs.Prelude.{ℕ, MatchOption};
 ghost use Rattle.ped_tree.specs.Tree.{ProgramTree};
 ghost use Rattle.ped_tree.specs.Views.{program_tree};
-ghost use Rattle.ped_loop_runs.specs.ped_tidy.specs.ped_pasting.specs.ped_bodies.specs.ped_steps.specs.ped_flow.specs.Answers.{IsEscape};
-ghost use Rattle.ped_loop_runs.specs.ped_tidy.specs.ped_pasting.specs.ped_bodies.specs.ped_steps.specs.Scenes.{IsSceneOf};
+ghost use Rattle.ped_loop_runs.specs.ped_bodies.specs.ped_steps.specs.ped_flow.specs.Answers.{IsEscape};
+ghost use Rattle.ped_loop_runs.specs.ped_bodies.specs.ped_steps.specs.Scenes.{IsSceneOf};
 ghost use Rattle.ped_rules.specs.Rules.{WhereEscape};
 
-use ped_loop_runs::ped_tidy::ped_pasting::ped_bodies::ped_steps::Scene;
-use ped_loop_runs::ped_tidy::ped_pasting::ped_bodies::ped_steps::ped_weaves::ped_laws::ped_flow::Reader;
+use ped_loop_runs::ped_bodies::ped_steps::Scene;
+use ped_loop_runs::ped_bodies::ped_steps::ped_weaves::ped_laws::ped_flow::Reader;
 use std::sync::ledger::Ledger;
 
 /// The statement that the rule IndexEscapes names against the DO with this number: the first that reads the variable of it

@@ -6,13 +6,13 @@ ghost use Rattle.std.specs.List.{flat_map};
 ghost use Rattle.ped_base.specs.Lists as Lists;
 ghost use Rattle.ped_tree.specs.Tree.{ProgramTree};
 ghost use Rattle.ped_tree.specs.Views.{decl_tree, program_tree};
-ghost use Rattle.ped_loop_runs.specs.ped_tidy.specs.ped_pasting.specs.ped_bodies.specs.ped_steps.specs.ped_symbols.specs.Kinds.{table_of};
+ghost use Rattle.ped_loop_runs.specs.ped_bodies.specs.ped_steps.specs.ped_symbols.specs.Kinds.{table_of};
 ghost use Rattle.ped_rules.specs.Fresh as Spec;
 ghost use Rattle.ped_rules.specs.CodeFresh.{letters_of};
 
 use itoa::Buffer;
 use ped_base::{Bytes, Name, NoMemory};
-use ped_loop_runs::ped_tidy::ped_pasting::ped_bodies::ped_steps::ped_weaves::ped_laws::ped_graph::ped_symbols::Symbols;
+use ped_loop_runs::ped_bodies::ped_steps::ped_weaves::ped_laws::ped_graph::ped_symbols::Symbols;
 use ped_tree::{Decl, Program};
 use std::alloc::Global;
 

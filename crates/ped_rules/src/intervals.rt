@@ -2,17 +2,17 @@
 
 ghost use Rattle.std.specs.Prelude.{ℕ, ◌≡◌, ◌≤◌, length, IfOk};
 ghost use Rattle.ped_tree.specs.Views.{expr_tree, program_tree};
-ghost use Rattle.ped_loop_runs.specs.ped_tidy.specs.ped_pasting.specs.ped_bodies.specs.ped_steps.specs.ped_affine.specs.PairViews.{heads_of};
-ghost use Rattle.ped_loop_runs.specs.ped_tidy.specs.ped_pasting.specs.ped_bodies.specs.ped_steps.specs.ped_refs.specs.Loops.{nest_of};
-ghost use Rattle.ped_loop_runs.specs.ped_tidy.specs.ped_pasting.specs.ped_bodies.specs.ped_steps.specs.Scenes.{IsSceneOf};
+ghost use Rattle.ped_loop_runs.specs.ped_bodies.specs.ped_steps.specs.ped_affine.specs.PairViews.{heads_of};
+ghost use Rattle.ped_loop_runs.specs.ped_bodies.specs.ped_steps.specs.ped_refs.specs.Loops.{nest_of};
+ghost use Rattle.ped_loop_runs.specs.ped_bodies.specs.ped_steps.specs.Scenes.{IsSceneOf};
 ghost use Rattle.ped_rules.specs.Rules as Spec;
 
 use ped_base::NoMemory;
-use ped_loop_runs::ped_tidy::ped_pasting::ped_bodies::ped_steps::Scene;
-use ped_loop_runs::ped_tidy::ped_pasting::ped_bodies::ped_steps::ped_weaves::ped_laws::ped_graph::ped_affine::{
+use ped_loop_runs::ped_bodies::ped_steps::Scene;
+use ped_loop_runs::ped_bodies::ped_steps::ped_weaves::ped_laws::ped_graph::ped_affine::{
     Setting, interval, loop_variables,
 };
-use ped_loop_runs::ped_tidy::ped_pasting::ped_bodies::ped_steps::ped_weaves::ped_laws::ped_graph::ped_refs::Loop;
+use ped_loop_runs::ped_bodies::ped_steps::ped_weaves::ped_laws::ped_graph::ped_refs::Loop;
 use ped_tree::Expr;
 use ped_tree::names::NameSet;
 use std::alloc::Global;

@@ -3,36 +3,27 @@ use Rattle.std.proofs.Common.{◌≡◌, ℕ, List, Bool, true, false, inl, inr,
 use Rattle.std.proofs.lemmas.Bool.{both_ways, and_from, and_right, not_from_true, not_from_false, false_from_ne_true}
 use Rattle.ped_base.specs.Lists.{is_among}
 use Rattle.ped_tree.specs.Tree.{Head, StmtTrees, ProgramTree}
-use Rattle.ped_rules.specs.ped_loop_runs.specs.ped_tidy.specs.ped_pasting.specs.ped_bodies.specs.ped_steps.specs.ped_symbols.specs.NameRefusals.{IsValid}
-use Rattle.ped_rules.specs.ped_loop_runs.specs.ped_tidy.specs.ped_pasting.specs.ped_bodies.specs.ped_steps.specs.ped_flow.specs.Questions.{IsLoop, LoopOf, IsExposed, IsReadBehind}
-use Rattle.ped_rules.specs.ped_loop_runs.specs.ped_tidy.specs.ped_pasting.specs.ped_bodies.specs.ped_steps.specs.ped_flow.proofs.Answering.{same_head, same_body}
-use Rattle.ped_rules.specs.ped_loop_runs.specs.ped_tidy.specs.ped_pasting.specs.ped_bodies.specs.ped_steps.specs.declared.rules.Rule.{Rule}
-use Rattle.ped_rules.specs.ped_loop_runs.specs.ped_tidy.specs.ped_pasting.specs.ped_bodies.specs.ped_steps.specs.declared.rules.Rule.TheVariants.{NoLoop, ParallelState, ExposedOrLive, NotScalar, Limit, AlreadyPrivate}
-use Rattle.ped_rules.specs.ped_loop_runs.specs.ped_tidy.specs.ped_pasting.specs.ped_bodies.specs.ped_steps.specs.declared.causes.Refused.{Refused}
-use Rattle.ped_rules.specs.ped_loop_runs.specs.ped_tidy.specs.ped_pasting.specs.ped_bodies.specs.ped_steps.specs.declared.causes.Refused.TheVariants as variant
-use Rattle.ped_rules.specs.ped_loop_runs.specs.ped_tidy.specs.ped_pasting.specs.ped_bodies.specs.ped_steps.specs.declared.changes.Change.{Change}
-use Rattle.ped_rules.specs.ped_loop_runs.specs.ped_tidy.specs.ped_pasting.specs.ped_bodies.specs.ped_steps.specs.Changes.{IsChange}
-use Rattle.ped_rules.specs.ped_loop_runs.specs.ped_tidy.specs.ped_pasting.specs.ped_bodies.specs.ped_steps.specs.Replacing.{all_kept}
-use Rattle.ped_rules.specs.ped_loop_runs.specs.ped_tidy.specs.ped_pasting.specs.ped_bodies.specs.ped_steps.specs.Causes.{Rules, NoRule, IsFirstRule, none_forbids}
+use Rattle.ped_rules.specs.ped_loop_runs.specs.ped_bodies.specs.ped_steps.specs.ped_symbols.specs.NameRefusals.{IsValid}
+use Rattle.ped_rules.specs.ped_loop_runs.specs.ped_bodies.specs.ped_steps.specs.ped_flow.specs.Questions.{IsLoop, LoopOf, IsExposed, IsReadBehind}
+use Rattle.ped_rules.specs.ped_loop_runs.specs.ped_bodies.specs.ped_steps.specs.declared.rules.Rule.{Rule}
+use Rattle.ped_rules.specs.ped_loop_runs.specs.ped_bodies.specs.ped_steps.specs.declared.rules.Rule.TheVariants.{NoLoop, ParallelState, ExposedOrLive, NotScalar, Limit, AlreadyPrivate}
+use Rattle.ped_rules.specs.ped_loop_runs.specs.ped_bodies.specs.ped_steps.specs.declared.causes.Refused.{Refused}
+use Rattle.ped_rules.specs.ped_loop_runs.specs.ped_bodies.specs.ped_steps.specs.declared.causes.Refused.TheVariants as variant
+use Rattle.ped_rules.specs.ped_loop_runs.specs.ped_bodies.specs.ped_steps.specs.declared.changes.Change.{Change}
+use Rattle.ped_rules.specs.ped_loop_runs.specs.ped_bodies.specs.ped_steps.specs.Changes.{IsChange}
+use Rattle.ped_rules.specs.ped_loop_runs.specs.ped_bodies.specs.ped_steps.specs.Replacing.{all_kept}
+use Rattle.ped_rules.specs.ped_loop_runs.specs.ped_bodies.specs.ped_steps.specs.Causes.{Rules, NoRule, IsFirstRule, none_forbids}
 use Rattle.ped_rules.specs.Steps.{transformation, Answers}
 use Rattle.ped_rules.specs.Chains.{no_rules, also, WhereLoop}
 use Rattle.ped_rules.specs.Rules.{WhereNoLoop}
 use Rattle.ped_rules.proofs.Answering.{refused_by, accepted_by, none_first}
 use Rattle.ped_rules.proofs.Chains.{IsOne, IsChain, chain_end, chain_link, first_here, first_later, none_later, not_this, not_those, none_at_end}
 use Rattle.ped_rules.proofs.Decided.{some_loop, limit_stands, limit_not, limit_valid}
+use Rattle.ped_rules.proofs.OneLoop.{fails_there}
 use Rattle.ped_rules.proofs.OneEach.{one_first, no_loop_one, loop_one}
 use Rattle.ped_scalar.specs.Scalars.{is_scalar, is_unfit, IsLiveBy}
 use Rattle.ped_scalar.specs.Privatising.{privatised, IsExposedOrLiveBy, IsScalarExposedOrLiveBy, is_in_parallel, WhereExposedOrLive, isnt_listed, MakesPrivatised, WhereUnlistedLimit, is_scalar_listed, StandsAgainstPrivatising, privatising}
 use Rattle.ped_scalar.proofs.FlowAnswers.{fit_scalar}
-
--- a statement is one DO
-pub one_loop : (t : ProgramTree) (s : ℕ) (l m : LoopOf t s) → (l.head ≡ m.head) × (l.body ≡ m.body)
-one_loop t s l m = (same_head t s l.head m.head l.body m.body l.is m.is, same_body t s l.head m.head l.body m.body l.is m.is)
-
--- a test of a DO that fails there
-pub fails_there : (t : ProgramTree) (s : ℕ) (h : Head) (body : StmtTrees) → IsLoop t s h body → (test : Head → StmtTrees → Bool) → test h body ≡ false → (n : ℕ) → WhereLoop t s test n → ⊥
-fails_there t s h body is test fails n p =
-    let same = one_loop t s p.0 (record { head = h; body = body; is = is }) in both_ways (test p.0.head p.0.body) ((λ i. test (same.0 i) (same.1 i)) ∙ fails) p.1
 
 -- a scalar is live by one statement
 pub live_one : (t : ProgramTree) (s : ℕ) (x : List ℕ) (m n : ℕ) → IsLiveBy t s x m → IsLiveBy t s x n → m ≡ n

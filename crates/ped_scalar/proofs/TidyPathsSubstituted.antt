@@ -1,18 +1,19 @@
 -- Statements with elements of an array in the place of a scalar leave no more of another scalar.
-use Rattle.std.proofs.Common.{◌≡◌, ℕ, ◌+◌, Bool, true, false, ◌||◌, List, [], ◌∷◌, ◌++◌, map, refl, sym, ap, subst, ◌∙◌, if◌then◌else◌}
+use Rattle.std.proofs.Common.{◌≡◌, ℕ, ◌+◌, Bool, true, false, ◌||◌, List, [], ◌∷◌, map, refl, sym, ap, subst, ◌∙◌, if◌then◌else◌}
 use Rattle.std.specs.List.{flat_map}
 use Rattle.ped_base.specs.Lists.{is_same_text, is_among}
 use Rattle.ped_base.proofs.NameEquality.{same_is}
 use Rattle.ped_tree.specs.Tree.{ExprTree, Int, Var, Element, Neg, Add, Sub, Mul, Div, Pow, Call, Head, StmtTree, StmtTrees, Assign, If, Do, Print, Read, Stop, Comment, no_stmts, more_stmts}
 use Rattle.ped_tree.specs.Numbering.{statement_count, statements_count}
-use Rattle.ped_tree.specs.NamesIn.{loop_variables, all_loop_variables}
-use Rattle.ped_rules.specs.ped_loop_runs.specs.ped_tidy.specs.ped_pasting.specs.ped_bodies.specs.ped_steps.specs.ped_flow.specs.Summaries.{passing, unreached, sum_in_turn, sum_either, sum_of, sum_of_all, sum_behind, sum_behind_all}
-use Rattle.ped_rules.specs.ped_loop_runs.specs.ped_tidy.specs.ped_pasting.specs.ped_bodies.specs.ped_steps.specs.ped_flow.proofs.Truths.{untrue}
-use Rattle.ped_rules.specs.ped_loop_runs.specs.ped_tidy.specs.ped_pasting.specs.ped_bodies.specs.ped_steps.specs.ped_laws.specs.FlowRuns.Covering.{has_stop, some_stop}
-use Rattle.ped_rules.specs.ped_loop_runs.specs.ped_tidy.specs.ped_pasting.specs.ped_bodies.specs.ped_steps.specs.ped_sums.specs.Substitution.{substituted, head_substituted, condition_substituted, item_substituted, statement_substituted, statements_substituted}
-use Rattle.ped_rules.specs.ped_loop_runs.specs.ped_tidy.specs.ped_pasting.specs.ped_bodies.specs.ped_steps.proofs.RunLaws.SubstitutedShapes.{count_kept, counts_kept}
-use Rattle.ped_rules.specs.ped_loop_runs.specs.ped_tidy.proofs.TidyPathsSums.{IsNoMore, AreNoMore, ClearsAll, append_more, no_more, either_more, lefts, own_more, loop_more, do_more, if_more, more_more}
-use Rattle.ped_rules.specs.ped_loop_runs.specs.ped_tidy.proofs.TidyPathsGaps.{loop_behind_more, rest_behind_more}
+use Rattle.ped_tree.specs.NamesIn.{all_loop_variables}
+use Rattle.ped_rules.specs.ped_loop_runs.specs.ped_bodies.specs.ped_steps.specs.ped_flow.specs.Summaries.{passing, unreached, sum_in_turn, sum_either, sum_of, sum_of_all, sum_behind, sum_behind_all}
+use Rattle.ped_rules.specs.ped_loop_runs.specs.ped_bodies.specs.ped_steps.specs.ped_flow.proofs.Truths.{untrue}
+use Rattle.ped_rules.specs.ped_loop_runs.specs.ped_bodies.specs.ped_steps.specs.ped_laws.specs.FlowRuns.Covering.{has_stop, some_stop}
+use Rattle.ped_rules.specs.ped_loop_runs.specs.ped_bodies.specs.ped_steps.specs.ped_sums.specs.Substitution.{substituted, head_substituted, condition_substituted, item_substituted, statement_substituted, statements_substituted}
+use Rattle.ped_rules.specs.ped_loop_runs.specs.ped_bodies.specs.ped_steps.proofs.RunLaws.SubstitutedShapes.{count_kept, counts_kept}
+use Rattle.ped_rules.specs.ped_loop_runs.proofs.TidyLaws.TidyPathsSums.{IsNoMore, AreNoMore, ClearsAll, append_more, no_more, either_more, lefts, own_more, loop_more, do_more, if_more, more_more}
+use Rattle.ped_rules.specs.ped_loop_runs.proofs.TidyLaws.TidyPathsGaps.{loop_behind_more, rest_behind_more}
+use Rattle.ped_scalar.proofs.TidyReferencesSubstituted.{all_variables_stay}
 
 module _ (x : List ℕ) (by : ExprTree) where
   mutual
@@ -29,24 +30,10 @@ module _ (x : List ℕ) (by : ExprTree) where
     stops_kept no_stmts = refl
     stops_kept (more_stmts t rest) = λ i. stop_kept t i || stops_kept rest i
 
-  mutual
-    variables_kept : (t : StmtTree) → loop_variables (statement_substituted x by t) ≡ loop_variables t
-    variables_kept (Assign left right) = refl
-    variables_kept (If c a b) = λ i. all_variables_kept a i ++ all_variables_kept b i
-    variables_kept (Do h body) = λ i. h.variable ∷ all_variables_kept body i
-    variables_kept (Print items) = refl
-    variables_kept (Read items) = refl
-    variables_kept Stop = refl
-    variables_kept (Comment text) = refl
-
-    pub all_variables_kept : (ts : StmtTrees) → all_loop_variables (statements_substituted x by ts) ≡ all_loop_variables ts
-    all_variables_kept no_stmts = refl
-    all_variables_kept (more_stmts t rest) = λ i. variables_kept t i ++ all_variables_kept rest i
-
   -- another scalar is cleared as before
   module _ (cs : List (List ℕ)) (w : List ℕ) where
     pub variables_clear : (ts : StmtTrees) → AreNoMore w (all_loop_variables ts) (all_loop_variables (statements_substituted x by ts))
-    variables_clear ts e = ap (is_among w) (all_variables_kept ts) ∙ e
+    variables_clear ts e = ap (is_among w) (all_variables_stay x by ts) ∙ e
 
     substituted_clears : (h : Head) (body : StmtTrees) → ClearsAll cs w (head_substituted x by h) h (statements_substituted x by body) body
     substituted_clears h body = record { variable = refl; parallel = refl; private = λ e. e; loops = variables_clear body }

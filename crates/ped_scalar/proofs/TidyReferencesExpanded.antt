@@ -6,32 +6,32 @@ use Rattle.std.proofs.lemmas.Bool.{both_ways, and_parts, or_parts, le-ltb, lt-lt
 use Rattle.std.proofs.lemmas.List.Folds.{list_any-append}
 use Rattle.std.proofs.lemmas.Grind.{flat_map-append}
 use Rattle.ped_base.specs.Lists.{is_same_text, is_among}
-use Rattle.ped_tree.specs.Tree.{Var, no_exprs, more_exprs, Head, StmtTree, StmtTrees, Assign, If, Do, Print, Read, Stop, Comment, no_stmts, more_stmts, ProgramTree}
+use Rattle.ped_tree.specs.Tree.{Var, Element, no_exprs, more_exprs, Head, StmtTree, StmtTrees, Assign, If, Do, Print, Read, Stop, Comment, no_stmts, more_stmts, ProgramTree}
 use Rattle.ped_tree.specs.Numbering.{statement_count, statements_count}
 use Rattle.ped_tree.specs.Accesses.{constants_in, constant_names}
 use Rattle.ped_base.proofs.NameEquality.{same_is}
 use Rattle.ped_tree.specs.NamesIn.{loop_variables, all_loop_variables}
-use Rattle.ped_rules.specs.ped_loop_runs.specs.ped_tidy.specs.ped_pasting.specs.ped_bodies.specs.ped_steps.specs.ped_laws.specs.Acts.Orders.{IsIn}
-use Rattle.ped_rules.specs.ped_loop_runs.specs.ped_tidy.specs.ped_pasting.specs.ped_bodies.specs.ped_steps.specs.ped_symbols.specs.NameRefusals.{IsValid}
-use Rattle.ped_rules.specs.ped_loop_runs.specs.ped_tidy.specs.ped_pasting.specs.ped_bodies.specs.ped_steps.specs.ped_symbols.specs.Kinds.{kind_of, kind_in, names_of}
-use Rattle.ped_rules.specs.ped_loop_runs.specs.ped_tidy.specs.ped_pasting.specs.ped_bodies.specs.ped_steps.specs.ped_symbols.specs.RightUses.RightUses.{is_scalar_kind, is_scalar, cond_is_right, head_is_right, stmt_is_right, stmts_are_right}
-use Rattle.ped_rules.specs.ped_loop_runs.specs.ped_tidy.specs.ped_pasting.specs.ped_bodies.specs.ped_steps.specs.ped_flow.specs.PlainBounds.{all_loops_round, nest_round}
-use Rattle.ped_rules.specs.ped_loop_runs.specs.ped_tidy.specs.ped_pasting.specs.ped_bodies.specs.ped_steps.specs.ped_flow.specs.Questions.{LoopOf, IsIndexIn}
-use Rattle.ped_rules.specs.ped_loop_runs.specs.ped_tidy.specs.ped_pasting.specs.ped_bodies.specs.ped_steps.specs.ped_sums.specs.Substitution.{statement_substituted, statements_substituted}
-use Rattle.ped_rules.specs.ped_loop_runs.specs.ped_tidy.specs.ped_pasting.specs.ped_bodies.specs.ped_steps.specs.Replacing.{alone}
-use Rattle.ped_rules.specs.ped_loop_runs.specs.ped_tidy.specs.ped_pasting.specs.ped_bodies.specs.ped_steps.specs.Tidy.{is_written_in}
-use Rattle.ped_rules.specs.ped_loop_runs.specs.ped_tidy.specs.ped_pasting.specs.ped_bodies.specs.ped_steps.specs.Runs.Gaps.{Gap, filled}
-use Rattle.ped_rules.specs.ped_loop_runs.specs.ped_tidy.specs.ped_pasting.specs.ped_bodies.specs.ped_steps.specs.Runs.Expanding.{IsRound}
-use Rattle.ped_rules.specs.ped_loop_runs.specs.ped_tidy.specs.ped_pasting.specs.ped_bodies.specs.ped_steps.proofs.RunLaws.ExpandedPlacesParts.{part_at}
-use Rattle.ped_rules.specs.ped_loop_runs.specs.ped_tidy.specs.ped_pasting.specs.ped_bodies.specs.ped_steps.proofs.RunLaws.ReplacedTrees.{program_gap}
-use Rattle.ped_rules.specs.ped_loop_runs.specs.ped_tidy.specs.ped_pasting.specs.ped_bodies.specs.ped_steps.proofs.RunLaws.RunCells.{EachDo, EachDos}
-use Rattle.ped_rules.specs.ped_loop_runs.specs.ped_tidy.specs.ped_pasting.specs.ped_bodies.specs.ped_steps.proofs.RunLaws.SubstitutedShapes.{count_kept, counts_kept}
+use Rattle.ped_rules.specs.ped_loop_runs.specs.ped_bodies.specs.ped_steps.specs.ped_laws.specs.Acts.Orders.{IsIn}
+use Rattle.ped_rules.specs.ped_loop_runs.specs.ped_bodies.specs.ped_steps.specs.ped_symbols.specs.NameRefusals.{IsValid}
+use Rattle.ped_rules.specs.ped_loop_runs.specs.ped_bodies.specs.ped_steps.specs.ped_symbols.specs.Kinds.{kind_of, kind_in, names_of}
+use Rattle.ped_rules.specs.ped_loop_runs.specs.ped_bodies.specs.ped_steps.specs.ped_symbols.specs.RightUses.RightUses.{is_scalar_kind, is_scalar, cond_is_right, head_is_right, stmt_is_right, stmts_are_right}
+use Rattle.ped_rules.specs.ped_loop_runs.specs.ped_bodies.specs.ped_steps.specs.ped_flow.specs.PlainBounds.{all_loops_round, nest_round}
+use Rattle.ped_rules.specs.ped_loop_runs.specs.ped_bodies.specs.ped_steps.specs.ped_flow.specs.Questions.{LoopOf, IsIndexIn}
+use Rattle.ped_rules.specs.ped_loop_runs.specs.ped_bodies.specs.ped_steps.specs.ped_sums.specs.Substitution.{statement_substituted, statements_substituted}
+use Rattle.ped_rules.specs.ped_loop_runs.specs.ped_bodies.specs.ped_steps.specs.Replacing.{alone}
+use Rattle.ped_rules.specs.ped_loop_runs.specs.ped_bodies.specs.ped_steps.specs.Tidy.{is_written_in}
+use Rattle.ped_rules.specs.ped_loop_runs.specs.ped_bodies.specs.ped_steps.specs.Runs.Gaps.{Gap, filled}
+use Rattle.ped_rules.specs.ped_loop_runs.specs.ped_bodies.specs.ped_steps.specs.Runs.Expanding.{IsRound}
+use Rattle.ped_rules.specs.ped_loop_runs.specs.ped_bodies.specs.ped_steps.proofs.RunLaws.ExpandedPlacesParts.{part_at}
+use Rattle.ped_rules.specs.ped_loop_runs.specs.ped_bodies.specs.ped_steps.proofs.RunLaws.ReplacedTrees.{program_gap}
+use Rattle.ped_rules.specs.ped_loop_runs.specs.ped_bodies.specs.ped_steps.proofs.RunLaws.RunCells.{EachDo, EachDos}
+use Rattle.ped_rules.specs.ped_loop_runs.specs.ped_bodies.specs.ped_steps.proofs.RunLaws.SubstitutedShapes.{count_kept, counts_kept}
 use Rattle.ped_rules.specs.Spans.{Span}
 use Rattle.ped_scalar.specs.Expanding.{element, kept_value, with_elements, declaration, expanded, moved_behind}
-use Rattle.ped_rules.specs.ped_loop_runs.specs.ped_tidy.specs.Writing.{writes_name, all_write}
-use Rattle.ped_rules.specs.ped_loop_runs.specs.ped_tidy.proofs.TidyReferences.{written_is}
-use Rattle.ped_rules.specs.ped_loop_runs.specs.ped_tidy.proofs.TidyReferencesFilled.{filled_unwritten}
-use Rattle.ped_rules.specs.ped_loop_runs.specs.ped_tidy.proofs.TidyReferencesGaps.{Stands, each_stands, exchanged_each, each_of_program}
+use Rattle.ped_rules.specs.ped_loop_runs.specs.Writing.{writes_name, all_write}
+use Rattle.ped_rules.specs.ped_loop_runs.proofs.TidyLaws.TidyReferences.{written_is}
+use Rattle.ped_rules.specs.ped_loop_runs.proofs.TidyLaws.TidyReferencesFilled.{filled_unwritten}
+use Rattle.ped_rules.specs.ped_loop_runs.proofs.TidyLaws.TidyReferencesGaps.{Stands, each_stands, exchanged_each, each_of_program}
 use Rattle.ped_scalar.proofs.TidyReferencesSubstituted.{variables_stay, all_variables_stay, other_unwritten, all_unwritten, filled_variables}
 
 not_so : (b : Bool) → (b ≡ true → ⊥) → b ≡ false
@@ -178,7 +178,7 @@ module _ (t : ProgramTree) (valid : IsValid t) (s : ℕ) (l : LoopOf t s) (x arr
             moved = e ∙ kept_number n (omega (arith, to));
             parallel = refl;
             variables = variables_stay x (element array (Var l.head.variable)) (Do h b);
-            unwritten = λ w among none. all_unwritten constants w (kind_in t) x array (more_exprs (Var l.head.variable) no_exprs) (apart n h b all.0 w among) b parts.1 none;
+            unwritten = λ w among none. all_unwritten constants w (kind_in t) x (Element array (more_exprs (Var l.head.variable) no_exprs)) (other_unwritten constants w array (apart n h b all.0 w among)) b parts.1 none;
           },
           each_substituted b (n + 1) (m + 1) (omega (arith, e)) (omega (arith, to)) parts.1 all.1,
         )
@@ -202,7 +202,7 @@ module _ (t : ProgramTree) (valid : IsValid t) (s : ℕ) (l : LoopOf t s) (x arr
   part_unwritten w other another none =
       let whole = or_parts (list_any (writes_name constants w) l.head.private || all_write constants w l.body) false none in
       let parts = or_parts (list_any (writes_name constants w) l.head.private) (all_write constants w l.body) whole.0 in
-      let body = all_unwritten constants w (kind_in t) x array (more_exprs (Var l.head.variable) no_exprs) other l.body own_right parts.1 in
+      let body = all_unwritten constants w (kind_in t) x (Element array (more_exprs (Var l.head.variable) no_exprs)) (other_unwritten constants w array other) l.body own_right parts.1 in
       λ i. (parts.0 i || body i) || go live i
     where
       go : (live : Bool) → all_write constants w (kept_value live x array v.last) ≡ false

@@ -2,10 +2,10 @@
 use Rattle.std.proofs.Common.{◌≡◌, ℕ, ℤ, List, Bool, true, false, ◌||◌, refl, ap, ◌∙◌}
 use Rattle.ped_base.specs.Lists.{has_some}
 use Rattle.ped_tree.specs.Tree.{ExprTree, Var, StmtTree, StmtTrees, Assign, If, Do, Print, Read, Stop, Comment, no_stmts, more_stmts, ProgramTree}
-use Rattle.ped_rules.specs.ped_loop_runs.specs.ped_tidy.specs.ped_pasting.specs.ped_bodies.specs.ped_steps.specs.ped_flow.specs.Questions.{LoopOf}
-use Rattle.ped_rules.specs.ped_loop_runs.specs.ped_tidy.specs.ped_pasting.specs.ped_bodies.specs.ped_steps.specs.ped_sums.specs.Substitution.{statement_substituted, statements_substituted}
-use Rattle.ped_rules.specs.ped_loop_runs.specs.ped_tidy.specs.Unrejected.{has_rejection, some_rejection}
-use Rattle.ped_rules.specs.ped_loop_runs.specs.ped_tidy.proofs.UnrejectedTrees.{alone_unrejected, program_unrejected}
+use Rattle.ped_rules.specs.ped_loop_runs.specs.ped_bodies.specs.ped_steps.specs.ped_flow.specs.Questions.{LoopOf}
+use Rattle.ped_rules.specs.ped_loop_runs.specs.ped_bodies.specs.ped_steps.specs.ped_sums.specs.Substitution.{statement_substituted, statements_substituted}
+use Rattle.ped_rules.specs.ped_loop_runs.specs.Unrejected.{has_rejection, some_rejection}
+use Rattle.ped_rules.specs.ped_loop_runs.proofs.TidyLaws.UnrejectedTrees.{alone_unrejected, program_unrejected}
 use Rattle.ped_scalar.specs.Privatising.{with_private, privatised}
 use Rattle.ped_scalar.specs.Expanding.{element, kept_value, with_elements, IsExpanded}
 
@@ -20,7 +20,7 @@ module _ (x : List ℕ) (by : ExprTree) where
     rejection_kept Stop = refl
     rejection_kept (Comment text) = refl
 
-    rejections_kept : (ss : StmtTrees) → some_rejection (statements_substituted x by ss) ≡ some_rejection ss
+    pub rejections_kept : (ss : StmtTrees) → some_rejection (statements_substituted x by ss) ≡ some_rejection ss
     rejections_kept no_stmts = refl
     rejections_kept (more_stmts s rest) = λ i. rejection_kept s i || rejections_kept rest i
 

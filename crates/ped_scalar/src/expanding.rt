@@ -6,12 +6,12 @@ ghost use Rattle.ped_base.specs.Lists.{is_among};
 ghost use Rattle.ped_tree.specs.NamesIn as Names;
 ghost use Rattle.ped_tree.specs.Tree;
 ghost use Rattle.ped_tree.specs.Views.{stmt_trees, program_tree};
-ghost use Rattle.ped_rules.specs.ped_loop_runs.specs.ped_tidy.specs.ped_pasting.specs.ped_bodies.specs.ped_steps.specs.ped_refs.specs.Loops.{nest_of};
+ghost use Rattle.ped_rules.specs.ped_loop_runs.specs.ped_bodies.specs.ped_steps.specs.ped_refs.specs.Loops.{nest_of};
 ghost use Rattle.ped_tree.specs.Views.{head_of};
-ghost use Rattle.ped_rules.specs.ped_loop_runs.specs.ped_tidy.specs.ped_pasting.specs.ped_bodies.specs.ped_steps.specs.ped_flow.specs.PlainBounds.{nest_round};
-ghost use Rattle.ped_rules.specs.ped_loop_runs.specs.ped_tidy.specs.ped_pasting.specs.ped_bodies.specs.ped_steps.specs.ped_flow.specs.Questions.{IsLoop};
-ghost use Rattle.ped_rules.specs.ped_loop_runs.specs.ped_tidy.specs.ped_pasting.specs.ped_bodies.specs.ped_steps.specs.Scenes.{IsSceneOf};
-ghost use Rattle.ped_rules.specs.ped_loop_runs.specs.ped_tidy.specs.ped_pasting.specs.ped_bodies.specs.ped_steps.specs.ped_symbols.specs.Kinds.{table_of};
+ghost use Rattle.ped_rules.specs.ped_loop_runs.specs.ped_bodies.specs.ped_steps.specs.ped_flow.specs.PlainBounds.{nest_round};
+ghost use Rattle.ped_rules.specs.ped_loop_runs.specs.ped_bodies.specs.ped_steps.specs.ped_flow.specs.Questions.{IsLoop};
+ghost use Rattle.ped_rules.specs.ped_loop_runs.specs.ped_bodies.specs.ped_steps.specs.Scenes.{IsSceneOf};
+ghost use Rattle.ped_rules.specs.ped_loop_runs.specs.ped_bodies.specs.ped_steps.specs.ped_symbols.specs.Kinds.{table_of};
 ghost use Rattle.ped_scalar.specs.Scalars as Scalars;
 ghost use Rattle.ped_rules.specs.Steps.{Answers};
 ghost use Rattle.ped_rules.specs.Spans as Spans;
@@ -24,8 +24,8 @@ use crate::keeping::expand_kept;
 use crate::privacy::{is_private_in, is_private_round};
 use crate::scalars::{is_scalar, is_unfit, live_by};
 use ped_base::{Name, NoMemory};
-use ped_rules::ped_loop_runs::ped_tidy::ped_pasting::ped_bodies::ped_steps::ped_weaves::ped_laws::ped_graph::ped_refs::Loop;
-use ped_rules::ped_loop_runs::ped_tidy::ped_pasting::ped_bodies::ped_steps::{
+use ped_rules::ped_loop_runs::ped_bodies::ped_steps::ped_weaves::ped_laws::ped_graph::ped_refs::Loop;
+use ped_rules::ped_loop_runs::ped_bodies::ped_steps::{
     Change, Refused, Rule, Scene, change_to, loop_at, loops_round,
 };
 use ped_rules::{Course, NewName, Span, against, course_of, fresh_name};

@@ -1,7 +1,7 @@
 pub use Rattle.ped_transformations
-pub use Rattle.ped_transformations.specs.ped_reindex.specs.ped_loops.specs.ped_scalar.specs.ped_rules.specs.ped_loop_runs.specs.ped_tidy.specs.ped_pasting.specs.ped_bodies.specs.ped_steps.specs.ped_flow.specs.ped_tree
-pub use Rattle.ped_transformations.specs.ped_reindex.specs.ped_loops.specs.ped_scalar.specs.ped_rules.specs.ped_loop_runs.specs.ped_tidy.specs.ped_pasting.specs.ped_bodies.specs.ped_steps.specs.ped_laws.specs.ped_graph
-pub use Rattle.ped_transformations.specs.ped_reindex.specs.ped_loops.specs.ped_scalar.specs.ped_rules.specs.ped_loop_runs.specs.ped_tidy.specs.ped_pasting.specs.ped_bodies.specs.ped_steps.specs.ped_laws.specs.ped_graph.specs.ped_refs
+pub use Rattle.ped_transformations.specs.ped_reindex.specs.ped_loops.specs.ped_scalar.specs.ped_rules.specs.ped_loop_runs.specs.ped_bodies.specs.ped_steps.specs.ped_flow.specs.ped_tree
+pub use Rattle.ped_transformations.specs.ped_reindex.specs.ped_loops.specs.ped_scalar.specs.ped_rules.specs.ped_loop_runs.specs.ped_bodies.specs.ped_steps.specs.ped_laws.specs.ped_graph
+pub use Rattle.ped_transformations.specs.ped_reindex.specs.ped_loops.specs.ped_scalar.specs.ped_rules.specs.ped_loop_runs.specs.ped_bodies.specs.ped_steps.specs.ped_laws.specs.ped_graph.specs.ped_refs
 pub use Rattle.ped_valid.specs.ped_symbols
 pub use Rattle.ped_valid
 pub use Rattle.ped_order

@@ -9,7 +9,7 @@ use Rattle.ped_session.specs.ped_tree.specs.declared.grammar.refusals.Refusal as
 use Rattle.ped_valid.specs.Validity.{ReadsValid, RefusesText}
 use Rattle.ped_session.specs.ped_graph.specs.DependencePane.{IsDependencePane, IsDependencePaneOf}
 use Rattle.ped_session.specs.ped_graph.specs.Update.Fresh.{tested_pairs}
-use Rattle.ped_transformations.specs.ped_reindex.specs.ped_loops.specs.ped_scalar.specs.ped_rules.specs.ped_loop_runs.specs.ped_tidy.specs.ped_pasting.specs.ped_bodies.specs.ped_steps.specs.Causes.{Cause}
+use Rattle.ped_transformations.specs.ped_reindex.specs.ped_loops.specs.ped_scalar.specs.ped_rules.specs.ped_loop_runs.specs.ped_bodies.specs.ped_steps.specs.Causes.{Cause}
 use Rattle.ped_session.specs.ped_transformations.specs.ped_script.specs.declared.items.Command.{Command}
 use Rattle.ped_session.specs.ped_transformations.specs.ped_script.specs.declared.items.Command.TheVariants.{Source, Deps, Show, Print, Replace, Insert, Delete, Undo, Redo, Run, Races, Tested}
 use Rattle.ped_session.specs.declared.changes.Change.{Change}

@@ -3,7 +3,7 @@
 ghost use Rattle.std.specs.Prelude.{◌≡◌, ◌++◌, ◌∷◌, [], codes, IfOk, OnOk};
 ghost use Rattle.std.specs.Fmt.{decimal};
 ghost use Rattle.ped_session.specs.ped_tree.specs.Grammar.RefusalViews.{finding_of};
-ghost use Rattle.ped_transformations.specs.ped_reindex.specs.ped_loops.specs.ped_scalar.specs.ped_rules.specs.ped_loop_runs.specs.ped_tidy.specs.ped_pasting.specs.ped_bodies.specs.ped_steps.specs.CauseWords.{cause_words};
+ghost use Rattle.ped_transformations.specs.ped_reindex.specs.ped_loops.specs.ped_scalar.specs.ped_rules.specs.ped_loop_runs.specs.ped_bodies.specs.ped_steps.specs.CauseWords.{cause_words};
 ghost use Rattle.ped_session.specs.Replies as Spec;
 
 use crate::ped_base::{Bytes, NoMemory, push_number};
@@ -85,7 +85,7 @@ fn push_cause(alloc: Global, out: &mut Bytes, cause: &FirstCause) -> Result<(), 
     ensures { OnOk result (out.new ≡ out.old ++ cause_words cause.now) }
 {
     let words =
-        ped_transformations::ped_reindex::ped_loops::ped_scalar::ped_rules::ped_loop_runs::ped_tidy::ped_pasting::ped_bodies::ped_steps::cause_words(
+        ped_transformations::ped_reindex::ped_loops::ped_scalar::ped_rules::ped_loop_runs::ped_bodies::ped_steps::cause_words(
             alloc,
             cause.refused(),
         )?;

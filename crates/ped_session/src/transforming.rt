@@ -18,8 +18,8 @@ use crate::ped_graph::ped_verdict::Steps;
 use crate::ped_script::Command;
 use crate::replies::{FirstCause, Refusal, Reply};
 use crate::session::Session;
-use ped_transformations::ped_reindex::ped_loops::ped_scalar::ped_rules::ped_loop_runs::ped_tidy::ped_pasting::ped_bodies::ped_steps::ped_weaves::ped_laws::ped_flow::flow_of;
-use ped_transformations::ped_reindex::ped_loops::ped_scalar::ped_rules::ped_loop_runs::ped_tidy::ped_pasting::ped_bodies::ped_steps::{
+use ped_transformations::ped_reindex::ped_loops::ped_scalar::ped_rules::ped_loop_runs::ped_bodies::ped_steps::ped_weaves::ped_laws::ped_flow::flow_of;
+use ped_transformations::ped_reindex::ped_loops::ped_scalar::ped_rules::ped_loop_runs::ped_bodies::ped_steps::{
     Refused, Scene,
 };
 use ped_transformations::{Kind, Place, every_step_is_lawful};
@@ -60,7 +60,7 @@ impl<L: Ledger> Session<L> {
         place: Place,
     ) -> Result<
         Result<
-            ped_transformations::ped_reindex::ped_loops::ped_scalar::ped_rules::ped_loop_runs::ped_tidy::ped_pasting::ped_bodies::ped_steps::Change,
+            ped_transformations::ped_reindex::ped_loops::ped_scalar::ped_rules::ped_loop_runs::ped_bodies::ped_steps::Change,
             Refused,
         >,
         NoMemory,
@@ -92,7 +92,7 @@ impl<L: Ledger> Session<L> {
         alloc: Global,
         kind: Change,
         answer: Result<
-            ped_transformations::ped_reindex::ped_loops::ped_scalar::ped_rules::ped_loop_runs::ped_tidy::ped_pasting::ped_bodies::ped_steps::Change,
+            ped_transformations::ped_reindex::ped_loops::ped_scalar::ped_rules::ped_loop_runs::ped_bodies::ped_steps::Change,
             Refused,
         >,
         steps: &mut Steps<L>,

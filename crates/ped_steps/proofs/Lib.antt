@@ -1,5 +1,4 @@
 pub mod Answering
-pub mod FirstRules
 pub mod Followed
 pub mod OneCause
 pub mod OnePlace

@@ -1,13 +1,59 @@
 -- A step has at most one first cause.
-use Rattle.std.proofs.Common.{◌≡◌, ℕ, ◌≤◌, Bool, true, false, List, [], ◌∷◌, ◌++◌, All, Option, Some, None, refl, sym, ap, ap₂, ◌∙◌, subst, arith}
+use Rattle.std.proofs.Common.{◌≡◌, ℕ, ◌≤◌, ◌==◌, Bool, true, false, List, [], ◌∷◌, ◌++◌, All, Option, Some, None, refl, sym, ap, ap₂, ◌∙◌, subst, arith, if◌then◌else◌}
 use Rattle.std.proofs.lemmas.List.Elements.{All-head, All-tail}
 use Rattle.ped_tree.specs.Tree.{ProgramTree}
 use Rattle.ped_weaves.specs.ped_laws.specs.ped_graph.specs.ped_edges.specs.Edges.{Edge}
 use Rattle.ped_weaves.specs.ped_laws.specs.ped_graph.proofs.OnePane.{one_edges}
 use Rattle.ped_steps.specs.declared.rules.Rule.{Rule}
+use Rattle.ped_steps.specs.declared.rules.Rule.TheVariants.{NoLoop, NotPerfect, ParallelState, HasPrivate, IndexEscapes, BoundNotPlain, BoundsShape, StepShape, Range, NoNeighbour, OneBlock, ExposedOrLive, NotScalar, NotConstant, Limit, BadFactor, AlreadyPrivate, NothingToReject}
 use Rattle.ped_steps.specs.RuleNames.{number_of}
 use Rattle.ped_steps.specs.Causes.{Rules, IsFirstForbidding, Cause, rule, dependence, IsFirstCause}
-use Rattle.ped_steps.proofs.FirstRules.{one_number}
+
+-- a rule by its number
+abbrev rule_with : ℕ → Rule
+rule_with n =
+    if n == 1 then NoLoop
+    else if n == 2 then NotPerfect
+    else if n == 3 then ParallelState
+    else if n == 4 then HasPrivate
+    else if n == 5 then IndexEscapes
+    else if n == 6 then BoundNotPlain
+    else if n == 7 then BoundsShape
+    else if n == 8 then StepShape
+    else if n == 9 then Range
+    else if n == 10 then NoNeighbour
+    else if n == 11 then OneBlock
+    else if n == 12 then ExposedOrLive
+    else if n == 13 then NotScalar
+    else if n == 14 then NotConstant
+    else if n == 15 then Limit
+    else if n == 16 then BadFactor
+    else if n == 17 then AlreadyPrivate
+    else NothingToReject
+
+with_number : (q : Rule) → rule_with (number_of q) ≡ q
+with_number NoLoop = refl
+with_number NotPerfect = refl
+with_number ParallelState = refl
+with_number HasPrivate = refl
+with_number IndexEscapes = refl
+with_number BoundNotPlain = refl
+with_number BoundsShape = refl
+with_number StepShape = refl
+with_number Range = refl
+with_number NoNeighbour = refl
+with_number OneBlock = refl
+with_number ExposedOrLive = refl
+with_number NotScalar = refl
+with_number NotConstant = refl
+with_number Limit = refl
+with_number BadFactor = refl
+with_number AlreadyPrivate = refl
+with_number NothingToReject = refl
+
+-- two rules have two numbers
+one_number : (q r : Rule) → number_of q ≡ number_of r → q ≡ r
+one_number q r h = sym (with_number q) ∙ ap rule_with h ∙ with_number r
 
 -- one that forbids isn't among those that don't
 forbids_not : (forbids : Edge → Bool) (front behind : List Edge) (e : Edge) → forbids e ≡ true → All (λ f. forbids f ≡ false) (front ++ e ∷ behind) → ⊥

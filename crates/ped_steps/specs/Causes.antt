@@ -1,5 +1,5 @@
 -- Why a step is refused: a rule that stands, or a dependence that forbids it; the first of them is told (ParaScope; this project).
-use Rattle.std.specs.Prelude.{◌≡◌, ◌≤◌, ◌<◌, ℕ, List, ◌∷◌, ◌++◌, All, Bool, true, false, Option, Some, None}
+use Rattle.std.specs.Prelude.{◌≡◌, ◌≤◌, ℕ, List, ◌∷◌, ◌++◌, All, Bool, true, false, Option, Some, None}
 use Rattle.ped_tree.specs.Tree.{ProgramTree}
 use Rattle.ped_weaves.specs.ped_laws.specs.ped_graph.specs.ped_edges.specs.Edges.{Edge}
 use Rattle.ped_weaves.specs.ped_laws.specs.ped_graph.specs.Dependences.{AreEdges}
@@ -18,10 +18,6 @@ pub data Cause : Type 0 where
 -- no rule stands (plain words)
 abbrev pub NoRule : Rules → Type 0
 NoRule stands = (r : Rule) (n : ℕ) → stands r n → ⊥
-
--- no rule with a number below this one stands (plain words)
-abbrev pub NoneBelow : Rules → ℕ → Type 0
-NoneBelow stands k = (q : Rule) (m : ℕ) → number_of q < k → stands q m → ⊥
 
 -- of the rules that stand this one has the least number (this project)
 abbrev pub IsFirstRule : Rules → Rule → ℕ → Type 0

@@ -3,19 +3,21 @@ use Rattle.std.proofs.Common.{ℕ, ℤ, List, Bool}
 use Rattle.std.specs.Prelude.{⊤}
 use Rattle.ped_script.specs.declared.items.Command.{Command}
 use Rattle.ped_script.specs.declared.items.Command.TheVariants.{Source, Deps, Show, Print, Advise, Replace, Insert, Delete, Interchange, Reverse, Skew, Strip, Peel, Distribute, Fuse, Expand, Privatise, Parallel, Serial, Reject, Undo, Redo, Run, Races, Tested}
-use Rattle.ped_reindex.specs.ped_loops.specs.ped_scalar.specs.ped_rules.specs.Steps.{StepAt, MatchStep}
-use Rattle.ped_reindex.specs.ped_loops.specs.ped_scalar.specs.ped_rules.specs.Lawful.{IsDetermined, IsLawful}
-use Rattle.ped_reindex.specs.ped_loops.specs.ped_scalar.proofs.LawfulSteps.{lawful_privatising, lawful_expanding}
-use Rattle.ped_reindex.specs.ped_loops.specs.Interchanging.{interchanging}
-use Rattle.ped_reindex.specs.ped_loops.specs.Reversing.{reversing}
-use Rattle.ped_reindex.specs.ped_loops.specs.Paralleling.{paralleling}
-use Rattle.ped_reindex.specs.ped_loops.specs.Serialising.{serialising}
-use Rattle.ped_reindex.specs.ped_loops.specs.Rejecting.{rejecting}
-use Rattle.ped_reindex.specs.Skewing.{skewing}
-use Rattle.ped_reindex.specs.Stripping.{stripping}
-use Rattle.ped_reindex.specs.Peeling.{peeling}
-use Rattle.ped_reindex.specs.ped_loops.proofs.Determined.{determined_parallel, determined_serial, determined_reversal, determined_interchange, determined_rejection}
-use Rattle.ped_reindex.proofs.Determined.{determined_skew, determined_strip, determined_peel}
+use Rattle.ped_splits.specs.ped_reindex.specs.ped_loops.specs.ped_scalar.specs.ped_rules.specs.Steps.{StepAt, MatchStep}
+use Rattle.ped_splits.specs.ped_reindex.specs.ped_loops.specs.ped_scalar.specs.ped_rules.specs.Lawful.{IsDetermined, IsLawful}
+use Rattle.ped_splits.specs.ped_reindex.specs.ped_loops.specs.ped_scalar.proofs.LawfulSteps.{lawful_privatising, lawful_expanding}
+use Rattle.ped_splits.specs.ped_reindex.specs.ped_loops.specs.Interchanging.{interchanging}
+use Rattle.ped_splits.specs.ped_reindex.specs.ped_loops.specs.Reversing.{reversing}
+use Rattle.ped_splits.specs.ped_reindex.specs.ped_loops.specs.Paralleling.{paralleling}
+use Rattle.ped_splits.specs.ped_reindex.specs.ped_loops.specs.Serialising.{serialising}
+use Rattle.ped_splits.specs.ped_reindex.specs.ped_loops.specs.Rejecting.{rejecting}
+use Rattle.ped_splits.specs.ped_reindex.specs.Skewing.{skewing}
+use Rattle.ped_splits.specs.ped_reindex.specs.Stripping.{stripping}
+use Rattle.ped_splits.specs.ped_reindex.specs.Peeling.{peeling}
+use Rattle.ped_splits.specs.Distributing.{distributing}
+use Rattle.ped_splits.specs.ped_reindex.specs.ped_loops.proofs.Determined.{determined_parallel, determined_serial, determined_reversal, determined_interchange, determined_rejection}
+use Rattle.ped_splits.specs.ped_reindex.proofs.Determined.{determined_skew, determined_strip, determined_peel}
+use Rattle.ped_splits.proofs.Determined.{determined_distribution}
 use Rattle.ped_transformations.specs.Table.{step_of}
 
 determined_by : (at : StepAt) → IsLawful at → IsDetermined at
@@ -33,7 +35,7 @@ determined_step (Reject number name) = determined_rejection number name
 determined_step (Skew number factor) = determined_skew number factor
 determined_step (Strip number size) = determined_strip number size
 determined_step (Peel number last) = determined_peel number last
-determined_step (Distribute number) = tt
+determined_step (Distribute number) = determined_distribution number
 determined_step (Fuse number) = tt
 determined_step Source = tt
 determined_step (Deps of) = tt
@@ -59,6 +61,7 @@ pub record LoopsLawful : Type 0 where
   pub skew : (s : ℕ) (f : ℤ) → IsLawful (skewing s f)
   pub strip : (s : ℕ) (k : ℤ) → IsLawful (stripping s k)
   pub peel : (s : ℕ) (last : Bool) → IsLawful (peeling s last)
+  pub distribution : (s : ℕ) → IsLawful (distributing s)
 
 -- each step of the table is lawful
 abbrev pub AllLawful : Type 0
@@ -75,7 +78,7 @@ lawful_step loops (Reject number name) = loops.rejection number name
 lawful_step loops (Skew number factor) = loops.skew number factor
 lawful_step loops (Strip number size) = loops.strip number size
 lawful_step loops (Peel number last) = loops.peel number last
-lawful_step loops (Distribute number) = tt
+lawful_step loops (Distribute number) = loops.distribution number
 lawful_step loops (Fuse number) = tt
 lawful_step loops Source = tt
 lawful_step loops (Deps of) = tt

@@ -1,4 +1,5 @@
 pub use Rattle.ped_script
-pub use Rattle.ped_reindex
+pub use Rattle.ped_splits
+pub use Rattle.ped_splits.specs.ped_reindex
 pub mod Table
 pub mod CodeKinds

@@ -6,5 +6,6 @@ mod laws;
 mod table;
 
 pub use laws::every_step_is_lawful;
-pub use ped_reindex;
+pub use ped_splits;
+pub use ped_splits::ped_reindex;
 pub use table::{Kind, Place, answer, place_of};

@@ -2,19 +2,22 @@
 
 ghost use Rattle.std.specs.Prelude.{◌≡◌, IfOk};
 ghost use Rattle.ped_tree.specs.Views.{program_tree};
-ghost use Rattle.ped_reindex.specs.ped_loops.specs.ped_scalar.specs.ped_rules.specs.ped_loop_runs.specs.ped_tidy.specs.ped_pasting.specs.ped_bodies.specs.ped_steps.specs.Scenes.{IsSceneOf};
+ghost use Rattle.ped_splits.specs.ped_reindex.specs.ped_loops.specs.ped_scalar.specs.ped_rules.specs.ped_loop_runs.specs.ped_bodies.specs.ped_steps.specs.Scenes.{IsSceneOf};
 ghost use Rattle.ped_transformations.specs.declared.table.Kind.TheVariants as Kind;
 ghost use Rattle.ped_transformations.specs.Table.{step_of};
 ghost use Rattle.ped_transformations.specs.CodeKinds.{IsPlace, AnswersStep};
 
 use ped_base::NoMemory;
-use ped_reindex::ped_loops::ped_scalar::ped_rules::ped_loop_runs::ped_tidy::ped_pasting::ped_bodies::ped_steps::{
+use ped_script::Command;
+use ped_splits::distribute;
+use ped_splits::ped_reindex::ped_loops::ped_scalar::ped_rules::ped_loop_runs::ped_bodies::ped_steps::{
     Change, Refused, Scene,
 };
-use ped_reindex::ped_loops::ped_scalar::{expand, privatise};
-use ped_reindex::ped_loops::{interchange, make_parallel, make_serial, reject, reverse};
-use ped_reindex::{peel, skew, strip};
-use ped_script::Command;
+use ped_splits::ped_reindex::ped_loops::ped_scalar::{expand, privatise};
+use ped_splits::ped_reindex::ped_loops::{
+    interchange, make_parallel, make_serial, reject, reverse,
+};
+use ped_splits::ped_reindex::{peel, skew, strip};
 use std::alloc::Global;
 use std::sync::ledger::Ledger;
 
@@ -49,6 +52,7 @@ pub fn place_of(command: &Command) -> Option<Place>
         Command::Skew(number, _) => Some(transformation(*number)),
         Command::Strip(number, _) => Some(transformation(*number)),
         Command::Peel { statement, last: _ } => Some(transformation(*statement)),
+        Command::Distribute(number) => Some(transformation(*number)),
         Command::Parallel(number) => Some(transformation(*number)),
         Command::Serial(number) => Some(transformation(*number)),
         Command::Reject(number, _) => Some(rejection(*number)),
@@ -113,6 +117,10 @@ pub fn answer<L: Ledger>(
         }
         Command::Peel { statement, last } => {
             let found = peel(alloc, scene, *statement, *last)?;
+            return Ok(Some(found));
+        }
+        Command::Distribute(number) => {
+            let found = distribute(alloc, scene, *number)?;
             return Ok(Some(found));
         }
         Command::Parallel(number) => {

@@ -67,11 +67,4 @@ impl Cond {
     {
         Ok(Cond::Or(Box::new(alloc, left)?, Box::new(alloc, right)?))
     }
-
-    /// Lets the condition go, since something else of the same tree couldn't be had.
-    pub(crate) fn let_go(self, error: NoMemory) -> Result<Cond, NoMemory>
-        ensures { result ≡ Err error }
-    {
-        Err(error)
-    }
 }

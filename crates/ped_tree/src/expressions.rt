@@ -117,11 +117,4 @@ impl Expr {
     {
         Expr::Call(intrinsic, arguments)
     }
-
-    /// Lets the expression go, since something else of the same tree couldn't be had.
-    pub(crate) fn let_go(self, error: NoMemory) -> Result<Expr, NoMemory>
-        ensures { result ≡ Err error }
-    {
-        Err(error)
-    }
 }

@@ -11,7 +11,7 @@ use ped_views::{PairView, Position};
 
 /// The distance in iterations of the common loop at this place, by the first position that is strong SIV in
 /// it; none where that isn't whole, and where there is no such position.
-pub(crate) fn distance(view: &PairView, place: usize) -> Option<i128>
+pub fn distance(view: &PairView, place: usize) -> Option<i128>
     requires { place < length view.now.loops }
     ensures { result ≡ Spec.distance view.now place }
 {

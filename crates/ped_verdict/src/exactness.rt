@@ -9,7 +9,7 @@ use crate::forms::{Form, form_of};
 use ped_views::{PairView, Position};
 
 /// Whether each position is usable and ZIV or strong SIV.
-pub(crate) fn is_exact(view: &PairView) -> bool
+pub fn is_exact(view: &PairView) -> bool
     ensures { result ≡ Spec.is_exact view.now }
 {
     all_exact(&view.positions)

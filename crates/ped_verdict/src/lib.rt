@@ -15,6 +15,8 @@ mod steps;
 mod testing;
 mod vectors;
 
+pub use distances::distance;
+pub use exactness::is_exact;
 pub use listing::vectors_of;
 pub use steps::Steps;
 pub use testing::{Verdict, test};

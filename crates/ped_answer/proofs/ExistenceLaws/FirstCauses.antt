@@ -3,7 +3,7 @@ use Rattle.std.proofs.Common.{◌⊎◌, ℕ, inl, inr, List, Option, Some, None
 use Rattle.std.specs.Prelude.{⊤}
 use Rattle.ped_answer.specs.ped_session.specs.ped_tree.specs.Tree.{ProgramTree}
 use Rattle.ped_answer.specs.ped_session.specs.ped_symbols.specs.NameRefusals.{IsValid}
-use Rattle.ped_answer.specs.ped_session.specs.ped_transformations.specs.ped_reindex.specs.ped_loops.specs.ped_scalar.specs.ped_rules.specs.ped_loop_runs.specs.ped_tidy.specs.ped_pasting.specs.ped_bodies.specs.ped_steps.specs.Causes.{Cause}
+use Rattle.ped_answer.specs.ped_session.specs.ped_transformations.specs.ped_reindex.specs.ped_loops.specs.ped_scalar.specs.ped_rules.specs.ped_loop_runs.specs.ped_bodies.specs.ped_steps.specs.Causes.{Cause}
 use Rattle.ped_answer.specs.ped_session.specs.ped_transformations.specs.ped_script.specs.declared.items.Command.{Command}
 use Rattle.ped_answer.specs.ped_session.specs.ped_transformations.specs.ped_script.specs.declared.items.Command.TheVariants.{Source, Deps, Show, Print, Advise, Replace, Insert, Delete, Interchange, Reverse, Skew, Strip, Peel, Distribute, Fuse, Expand, Privatise, Parallel, Serial, Reject, Undo, Redo, Run, Races, Tested}
 use Rattle.ped_answer.specs.ped_session.specs.ped_transformations.specs.ped_reindex.specs.ped_loops.specs.ped_scalar.specs.ped_rules.specs.Steps.{StepAt, MaybeStep, no_step, some_step, MatchStep}
@@ -11,6 +11,7 @@ use Rattle.ped_answer.specs.ped_session.specs.ped_transformations.specs.ped_rein
 use Rattle.ped_answer.specs.ped_session.specs.ped_transformations.specs.Table.{step_of}
 use Rattle.ped_answer.specs.ped_session.specs.ped_transformations.proofs.LawfulTable.{determined_step}
 use Rattle.ped_answer.proofs.ExistenceLaws.ReindexCauses.{skew_cause, strip_cause, peel_cause}
+use Rattle.ped_answer.proofs.ExistenceLaws.DistributeCauses.{distribute_cause}
 use Rattle.ped_answer.proofs.ExistenceLaws.InterchangeCauses.{interchange_cause}
 use Rattle.ped_answer.proofs.ExistenceLaws.LoopCauses.{parallel_cause, serial_cause, reversal_cause, rejection_cause}
 use Rattle.ped_answer.proofs.ExistenceLaws.ScalarCauses.{privatising_cause, expanding_cause}
@@ -44,7 +45,7 @@ each_cause (Reverse number) = λ t. reversal_cause t number
 each_cause (Skew number factor) = λ t. skew_cause t number factor
 each_cause (Strip number size) = λ t. strip_cause t number size
 each_cause (Peel number last) = λ t. peel_cause t number last
-each_cause (Distribute number) = tt
+each_cause (Distribute number) = λ t. distribute_cause t number
 each_cause (Fuse number) = tt
 each_cause (Parallel number) = λ t. parallel_cause t number
 each_cause (Serial number) = λ t. serial_cause t number

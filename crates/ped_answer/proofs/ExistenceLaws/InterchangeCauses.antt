@@ -1,11 +1,11 @@
 -- `interchange` has a first cause against it in a program, or none.
-use Rattle.std.proofs.Common.{◌≡◌, ◌⊎◌, ℕ, ◌+◌, ◌≤◌, inl, inr, refl, sym, ◌∙◌, List, Option, Some, None, MatchOption, subst, arith}
+use Rattle.std.proofs.Common.{◌≡◌, ◌⊎◌, ℕ, ◌+◌, inl, inr, refl, sym, Option, Some, None, MatchOption, subst, arith}
 use Rattle.ped_answer.specs.ped_session.specs.ped_tree.specs.Tree.{ExprTree, Head, StmtTrees, ProgramTree}
 use Rattle.ped_answer.specs.ped_session.specs.ped_order.specs.ped_flow.specs.PlainBounds.{IsPlain}
 use Rattle.ped_answer.specs.ped_session.specs.ped_order.specs.ped_flow.specs.Questions.{LoopOf}
 use Rattle.ped_answer.specs.ped_session.specs.ped_symbols.specs.Kinds.{table_of}
-use Rattle.ped_answer.specs.ped_session.specs.ped_transformations.specs.ped_reindex.specs.ped_loops.specs.ped_scalar.specs.ped_rules.specs.ped_loop_runs.specs.ped_tidy.specs.ped_pasting.specs.ped_bodies.specs.ped_steps.specs.declared.rules.Rule.TheVariants.{NoLoop, NotPerfect, ParallelState, HasPrivate, IndexEscapes, BoundNotPlain, BoundsShape, StepShape, Range, Limit}
-use Rattle.ped_answer.specs.ped_session.specs.ped_transformations.specs.ped_reindex.specs.ped_loops.specs.ped_scalar.specs.ped_rules.specs.ped_loop_runs.specs.ped_tidy.specs.ped_pasting.specs.ped_bodies.specs.ped_steps.specs.Causes.{Cause, IsFirstCause}
+use Rattle.ped_answer.specs.ped_session.specs.ped_transformations.specs.ped_reindex.specs.ped_loops.specs.ped_scalar.specs.ped_rules.specs.ped_loop_runs.specs.ped_bodies.specs.ped_steps.specs.declared.rules.Rule.TheVariants.{NoLoop, NotPerfect, ParallelState, HasPrivate, IndexEscapes, BoundNotPlain, BoundsShape, StepShape, Range, Limit}
+use Rattle.ped_answer.specs.ped_session.specs.ped_transformations.specs.ped_reindex.specs.ped_loops.specs.ped_scalar.specs.ped_rules.specs.ped_loop_runs.specs.ped_bodies.specs.ped_steps.specs.Causes.{Cause, IsFirstCause}
 use Rattle.ped_answer.specs.ped_session.specs.ped_transformations.specs.ped_reindex.specs.ped_loops.specs.ped_scalar.specs.ped_rules.specs.Carried.{crossing}
 use Rattle.ped_answer.specs.ped_session.specs.ped_transformations.specs.ped_reindex.specs.ped_loops.specs.ped_scalar.specs.ped_rules.specs.KeepMaps.{all_but}
 use Rattle.ped_answer.specs.ped_session.specs.ped_transformations.specs.ped_reindex.specs.ped_loops.specs.ped_scalar.specs.ped_rules.specs.OnlyLoops.{only_loop, either}

@@ -1,28 +1,24 @@
 -- What the paths of a program tell of a scalar and a DO is decided: their summaries, which are computed statement by
 -- statement, say what all of the paths do.
-use Rattle.std.proofs.Common.{◌≡◌, ◌↔◌, ℕ, ◌+◌, refl, sym, ap, ◌∙◌, inl, inr, Bool, true, false, not, ◌&&◌, ◌||◌, IsTrue, List, Option, Some, None, MatchOption}
-use Rattle.std.specs.List.{flat_map}
-use Rattle.ped_answer.specs.ped_session.specs.ped_order.specs.ped_flow.specs.ped_base.specs.Lists.{is_among}
-use Rattle.ped_answer.specs.ped_session.specs.ped_tree.specs.Tree.{StmtTree, Assign, If, Do, Print, Read, Stop, Comment, ProgramTree}
-use Rattle.ped_answer.specs.ped_session.specs.ped_tree.specs.Numbering.{statement_with}
+use Rattle.std.proofs.Common.{ℕ, ◌+◌, refl, inl, inr, not, ◌&&◌, IsTrue, List, Option, Some, None, MatchOption}
+use Rattle.ped_answer.specs.ped_session.specs.ped_tree.specs.Tree.{ProgramTree}
 use Rattle.ped_answer.specs.ped_session.specs.ped_tree.specs.Accesses.{constant_names}
 use Rattle.ped_answer.specs.ped_session.specs.ped_order.specs.ped_flow.specs.Events.{start_events}
-use Rattle.ped_answer.specs.ped_session.specs.ped_order.specs.ped_flow.specs.Paths.{all_paths, paths_from_exit}
-use Rattle.ped_answer.specs.ped_session.specs.ped_order.specs.ped_flow.specs.Questions.{LoopOf, IsFirst, IsExposed, IsReadBehind, IsShownBehind, IsLiveAfter, IsAssignedThrough}
-use Rattle.ped_answer.specs.ped_session.specs.ped_tree.specs.NamesIn.{saved_in}
-use Rattle.ped_answer.specs.ped_session.specs.ped_order.specs.ped_flow.specs.Summaries.{AreSummed, sum_in_turn, sum_events, sum_of_all, sum_behind_all}
-use Rattle.ped_answer.specs.ped_session.specs.ped_order.specs.ped_flow.proofs.TreeSums.{all_summed, all_behind-summed}
-use Rattle.ped_answer.specs.ped_session.specs.ped_order.specs.ped_flow.proofs.Answering.{exposed_in_loop, exposed_nowhere, first_in_iteration, assigned_by, through_loop, read_behind, Left, left_is}
+use Rattle.ped_answer.specs.ped_session.specs.ped_order.specs.ped_flow.specs.Paths.{all_paths}
+use Rattle.ped_answer.specs.ped_session.specs.ped_order.specs.ped_flow.specs.Questions.{LoopOf, IsFirst, IsExposed, IsReadBehind, IsShownBehind, IsAssignedThrough}
+use Rattle.ped_answer.specs.ped_session.specs.ped_order.specs.ped_flow.specs.Summaries.{sum_in_turn, sum_events, sum_of_all}
+use Rattle.ped_answer.specs.ped_session.specs.ped_order.specs.ped_flow.proofs.TreeSums.{all_summed}
+use Rattle.ped_answer.specs.ped_session.specs.ped_order.specs.ped_flow.proofs.Answering.{exposed_in_loop, exposed_nowhere, first_in_iteration, assigned_by, through_loop}
 use Rattle.ped_answer.specs.ped_session.specs.ped_transformations.specs.ped_reindex.specs.ped_loops.specs.ped_scalar.specs.Scalars.{is_scalar, IsLiveBy}
 use Rattle.ped_answer.specs.ped_session.specs.ped_transformations.specs.ped_reindex.specs.ped_loops.specs.ped_scalar.specs.Privatising.{IsScalarExposedOrLiveBy}
-use Rattle.ped_answer.specs.ped_session.specs.ped_transformations.specs.ped_reindex.specs.ped_loops.specs.ped_scalar.specs.Expanding.{IsScalarLostBy, SaysLive}
-use Rattle.ped_answer.specs.ped_session.specs.ped_transformations.specs.ped_reindex.specs.ped_loops.specs.ped_scalar.proofs.FlowAnswers.{true_not_false, live_answer}
-use Rattle.ped_answer.specs.ped_session.specs.ped_transformations.specs.ped_reindex.specs.ped_loops.specs.ped_scalar.specs.ped_rules.specs.ped_loop_runs.specs.ped_tidy.proofs.TidyPathsSums.{Summary}
+use Rattle.ped_answer.specs.ped_session.specs.ped_transformations.specs.ped_reindex.specs.ped_loops.specs.ped_scalar.specs.Expanding.{IsScalarLostBy}
+use Rattle.ped_answer.specs.ped_session.specs.ped_transformations.specs.ped_reindex.specs.ped_loops.specs.ped_scalar.proofs.FlowAnswers.{live_answer}
+use Rattle.ped_answer.specs.ped_session.specs.ped_transformations.specs.ped_reindex.specs.ped_loops.specs.ped_scalar.specs.ped_rules.specs.ped_loop_runs.proofs.TidyLaws.TidyPathsSums.{Summary}
 use Rattle.ped_answer.specs.ped_session.specs.ped_transformations.specs.ped_reindex.specs.ped_loops.specs.ped_scalar.proofs.LostAnswers.{kept_answer, lost_answer}
 use Rattle.ped_answer.specs.ped_session.specs.ped_transformations.specs.ped_reindex.specs.ped_loops.specs.ped_scalar.proofs.LiveSaid.{behind_first, shown_decided}
 use Rattle.ped_answer.specs.ped_session.specs.ped_transformations.specs.ped_reindex.specs.ped_loops.specs.ped_scalar.specs.ped_rules.proofs.Decided.{loop_decided}
 use Rattle.ped_answer.specs.Existence.Deciding.{Decided}
-use Rattle.ped_answer.proofs.ExistenceLaws.Deciding.{decided_same, decided_both, true_decided}
+use Rattle.ped_answer.specs.ped_session.specs.ped_transformations.specs.ped_splits.proofs.Existence.Deciding.{decided_same, true_decided}
 
 module _ (t : ProgramTree) (s : ℕ) (x : List ℕ) where
   -- the first statement with an exposed read, or none

@@ -1,10 +1,8 @@
 -- Each program has its report, whatever its size.
-use Rattle.std.proofs.Common.{◌≡◌, refl, inl, inr, ℕ, List, [], ◌∷◌, length, codes, Option, Some, None}
+use Rattle.std.proofs.Common.{refl, inl, inr, ℕ, List, [], ◌∷◌, codes, Option, Some, None}
 use Rattle.std.proofs.lemmas.List.Elements.{All-nil}
 use Rattle.ped_gen.specs.Generated.{script}
 use Rattle.ped_answer.specs.ped_session.specs.ped_tree.specs.Tree.{ProgramTree}
-use Rattle.ped_answer.specs.ped_session.specs.ped_tree.specs.Numbering.{statements_count}
-use Rattle.ped_answer.specs.ped_session.specs.ped_refs.specs.References.{references, pair_count}
 use Rattle.ped_answer.specs.ped_session.specs.ped_symbols.specs.NameRefusals.{IsValid}
 use Rattle.ped_answer.specs.ped_session.specs.ped_order.specs.ped_eval.specs.Outcomes.{Outcome, outcome}
 use Rattle.ped_answer.specs.ped_session.specs.ped_order.specs.ped_interleavings.specs.Interleavings.{at_start}
@@ -14,9 +12,9 @@ use Rattle.ped_answer.specs.ped_session.specs.ped_transformations.specs.ped_scri
 use Rattle.ped_answer.specs.ped_session.specs.States.{Other, State, opened}
 use Rattle.ped_answer.specs.ped_session.specs.Histories.{IsPrinted, ArePrinted}
 use Rattle.ped_answer.specs.Existence.Deciding.{Decided}
-use Rattle.ped_answer.specs.Generated.{Tally, no_tally, tally_both, tally_of, bad_command_tally, AppliesCommand, Applies, EndAlike, IsWordOn, alike, unlike, report, Reports}
+use Rattle.ped_answer.specs.Generated.{Tally, no_tally, tally_both, tally_of, bad_command_tally, AppliesCommand, Applies, EndAlike, IsWordOn, alike, unlike, Reports}
 use Rattle.ped_answer.proofs.ExistenceLaws.Alike.{alike_decided}
-use Rattle.ped_answer.proofs.ExistenceLaws.Edges.{edges_of_program}
+use Rattle.ped_answer.specs.ped_session.specs.ped_transformations.specs.ped_splits.proofs.Existence.Edges.{edges_of_program}
 use Rattle.ped_answer.proofs.ExistenceLaws.Replying.{SomeOutcome, replies, reads_printed}
 
 -- what lines come to, and the state behind them, whose sources are all printed

@@ -23,10 +23,10 @@ likewise_append name idle f turns others (a ∷ acts) [] more further h k = absu
 likewise_append name idle f turns others (a ∷ acts) (b ∷ fresh) more further h k = (h.0, likewise_append name idle f turns others acts fresh more further h.1 k)
 
 -- two filters may change places
-filter_first : (p : Touch → Bool) (x : Touch) (xs : List Touch) → p x ≡ true → filter p (x ∷ xs) ≡ x ∷ filter p xs
+pub filter_first : (p : Touch → Bool) (x : Touch) (xs : List Touch) → p x ≡ true → filter p (x ∷ xs) ≡ x ∷ filter p xs
 filter_first p x xs h = rw h refl
 
-filter_other : (p : Touch → Bool) (x : Touch) (xs : List Touch) → p x ≡ false → filter p (x ∷ xs) ≡ filter p xs
+pub filter_other : (p : Touch → Bool) (x : Touch) (xs : List Touch) → p x ≡ false → filter p (x ∷ xs) ≡ filter p xs
 filter_other p x xs h = rw h refl
 
 filters_swap : (p q : Touch → Bool) (ts : List Touch) → filter p (filter q ts) ≡ filter q (filter p ts)
@@ -41,7 +41,7 @@ filters_swap p q (x ∷ xs) = go (p x) (q x) refl refl (filters_swap p q xs)
     go false true h k more = ap (filter p) (filter_first q x xs k) ∙ filter_other p x (filter q xs) h ∙ more ∙ ap (filter q) (sym (filter_other p x xs h))
     go false false h k more = ap (filter p) (filter_other q x xs k) ∙ more ∙ ap (filter q) (sym (filter_other p x xs h))
 
-cells_without : (idle : Cell → Bool) (ts : List Touch) → of_cells (touches_without idle ts) ≡ touches_without idle (of_cells ts)
+pub cells_without : (idle : Cell → Bool) (ts : List Touch) → of_cells (touches_without idle ts) ≡ touches_without idle (of_cells ts)
 cells_without idle ts = filters_swap (λ (t : Touch). has_cell t.manner) (λ (t : Touch). not (is_write t.manner && idle t.cell)) ts
 
 -- touches of cells

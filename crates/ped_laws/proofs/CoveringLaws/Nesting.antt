@@ -82,7 +82,7 @@ match_more false None (Some t) n r m h l = absurd m
 ends_lie : (r : Range) (n : ℤ) → InRange r n → Lies n (between_ends r)
 ends_lie r n h = record { from = omega (arith, linear, clamps, h.from); to = omega (arith, linear, clamps, h.to) }
 
-heads_more : (nest : List Loop) (l : Loop) → heads_of (nest ++ l ∷ []) ≡ heads_of nest ++ l.head ∷ []
+pub heads_more : (nest : List Loop) (l : Loop) → heads_of (nest ++ l ∷ []) ≡ heads_of nest ++ l.head ∷ []
 heads_more [] l = refl
 heads_more (m ∷ nest) l = ap (λ (hs : List Head). m.head ∷ hs) (heads_more nest l)
 

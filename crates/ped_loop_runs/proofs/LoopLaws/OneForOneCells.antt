@@ -1,33 +1,32 @@
 -- Copies inside a DO and their names in the DO that takes its place, and cells of which nothing is asked.
 use Rattle.std.proofs.Common.{◌≡◌, ℕ, suc, ◌+◌, ◌-◌, ◌<◌, ◌≤◌, List, [], ◌∷◌, ◌++◌, Bool, true, false, eqb, eqb-true, Option, Some, None, refl, sym, ap, subst, ◌∙◌, ◌⊎◌, inl, inr, arith, append-nil, if◌then◌else◌}
-use Rattle.std.specs.Prelude.{◌==◌, ◌&&◌, ◌||◌, not}
+use Rattle.std.specs.Prelude.{◌&&◌}
 use Rattle.std.proofs.lemmas.Bool.{and_parts, both_ways}
-use Rattle.ped_tidy.specs.ped_pasting.specs.ped_bodies.specs.ped_steps.specs.ped_laws.specs.ped_flow.specs.ped_base.specs.Lists.{is_same_text, is_among}
-use Rattle.ped_tidy.specs.ped_pasting.specs.ped_bodies.specs.ped_steps.specs.ped_laws.specs.ped_store.specs.Cells.{Cell, Scalar, Element, Private, In, Out, Iteration, same_cell}
-use Rattle.ped_tidy.specs.ped_pasting.specs.ped_bodies.specs.ped_steps.specs.ped_laws.specs.ped_store.specs.Stores.{Undefined}
-use Rattle.ped_tidy.specs.ped_pasting.specs.ped_bodies.specs.ped_steps.specs.ped_laws.specs.ped_store.specs.Acts.{Manner, reads, writes, is_told, Touch, Turn, Act, iterations_of}
-use Rattle.ped_tidy.specs.ped_pasting.specs.ped_bodies.specs.ped_steps.specs.ped_laws.specs.ped_store.specs.Races.{is_write}
-use Rattle.ped_tidy.specs.ped_pasting.specs.ped_bodies.specs.ped_steps.specs.ped_laws.specs.Acts.Fitting.{touches_of, of_cells, has_cell}
-use Rattle.ped_tidy.specs.ped_pasting.specs.ped_bodies.specs.ped_steps.specs.ped_laws.specs.Acts.Sets.{nothing, read_first, needed_by, needs}
-use Rattle.ped_tidy.specs.ped_pasting.specs.ped_bodies.specs.ped_steps.specs.ped_laws.specs.Acts.Conflicts.{IsNoReadOf, LeaveUnread, ReadNone, touches_without, without}
-use Rattle.ped_tidy.specs.ped_pasting.specs.ped_bodies.specs.ped_steps.specs.ped_laws.specs.Acts.Orders.{IsIn}
-use Rattle.ped_tidy.specs.ped_pasting.specs.ped_bodies.specs.ped_steps.specs.ped_laws.specs.Acts.Renaming.{own_name, AreRenamed, Renamed, touched_by, touch}
-use Rattle.ped_tidy.specs.ped_pasting.specs.ped_bodies.specs.ped_steps.specs.ped_laws.proofs.ActLaws.SameCells.{text_itself, cell_is}
-use Rattle.ped_tidy.specs.ped_pasting.specs.ped_bodies.specs.ped_steps.specs.ped_laws.proofs.ActLaws.Lists.{in_parts}
-use Rattle.ped_tidy.specs.ped_pasting.specs.ped_bodies.specs.ped_steps.specs.ped_laws.proofs.ActLaws.Renamings.{or_left, or_right, or_either}
-use Rattle.ped_tidy.specs.ped_pasting.specs.ped_bodies.specs.ped_steps.specs.ped_laws.proofs.ActLaws.Outside.{kept_first, dropped_first, without_append, unread_append, unread_touches}
-use Rattle.ped_tidy.specs.ped_pasting.specs.ped_bodies.specs.ped_steps.specs.ped_laws.specs.FlowRuns.Covering.{is_cell_of}
-use Rattle.ped_tidy.specs.ped_pasting.specs.ped_bodies.specs.ped_steps.specs.ped_laws.proofs.FlowRunLaws.Names.{no_copy_within}
-use Rattle.ped_tidy.specs.ped_pasting.specs.ped_bodies.specs.ped_steps.specs.ped_laws.specs.ped_eval.specs.Scopes.{Setting, Scope, turns_of, cell_of}
-use Rattle.ped_tidy.specs.ped_pasting.specs.ped_bodies.specs.ped_steps.specs.ped_laws.specs.ped_eval.specs.Statements.{write_touch}
-use Rattle.ped_tidy.specs.ped_pasting.specs.ped_bodies.specs.ped_steps.specs.ped_laws.specs.ped_eval.specs.Loops.{Entered, undefined_by, undefined_all, left_in_variable, exit_touches}
-use Rattle.ped_tidy.specs.ped_pasting.specs.ped_bodies.specs.ped_steps.specs.Runs.Exchanging.{is_of_scalar}
-use Rattle.ped_tidy.specs.ped_pasting.specs.Executions.{IsCopyInside}
-use Rattle.ped_tidy.specs.ped_pasting.proofs.PastingLaws.LeftCopies.{IsOwn}
-use Rattle.ped_tidy.specs.ped_pasting.specs.ped_bodies.specs.Likewise.{Meets, Meet, AllMeet, IsLikewise, AreLikewise}
-use Rattle.ped_tidy.specs.ped_pasting.specs.ped_bodies.specs.Moving.{is_cell_among, behind_front, with_rest, moved_behind, turned, IsOfTrips, LiesBehind}
-use Rattle.ped_tidy.specs.ped_pasting.specs.ped_bodies.proofs.BodyLaws.MovedCells.{behind_itself, moved_is, place_stays}
-use Rattle.ped_tidy.specs.ped_pasting.specs.ped_bodies.proofs.BodyLaws.NamesApart.{behind_is, reversed_apart}
+use Rattle.ped_loop_runs.specs.ped_bodies.specs.ped_steps.specs.ped_laws.specs.ped_flow.specs.ped_base.specs.Lists.{is_same_text, is_among}
+use Rattle.ped_loop_runs.specs.ped_bodies.specs.ped_steps.specs.ped_laws.specs.ped_store.specs.Cells.{Cell, Scalar, Element, Private, In, Out, Iteration, same_cell}
+use Rattle.ped_loop_runs.specs.ped_bodies.specs.ped_steps.specs.ped_laws.specs.ped_store.specs.Stores.{Undefined}
+use Rattle.ped_loop_runs.specs.ped_bodies.specs.ped_steps.specs.ped_laws.specs.ped_store.specs.Acts.{Manner, reads, writes, is_told, Touch, Turn, Act, iterations_of}
+use Rattle.ped_loop_runs.specs.ped_bodies.specs.ped_steps.specs.ped_laws.specs.Acts.Fitting.{touches_of, of_cells, has_cell}
+use Rattle.ped_loop_runs.specs.ped_bodies.specs.ped_steps.specs.ped_laws.specs.Acts.Sets.{nothing, read_first, needed_by, needs}
+use Rattle.ped_loop_runs.specs.ped_bodies.specs.ped_steps.specs.ped_laws.specs.Acts.Conflicts.{IsNoReadOf, LeaveUnread, ReadNone, touches_without}
+use Rattle.ped_loop_runs.specs.ped_bodies.specs.ped_steps.specs.ped_laws.specs.Acts.Orders.{IsIn}
+use Rattle.ped_loop_runs.specs.ped_bodies.specs.ped_steps.specs.ped_laws.specs.Acts.Renaming.{AreRenamed, touched_by, touch}
+use Rattle.ped_loop_runs.specs.ped_bodies.specs.ped_steps.specs.ped_laws.proofs.ActLaws.SameCells.{text_itself, cell_is}
+use Rattle.ped_loop_runs.specs.ped_bodies.specs.ped_steps.specs.ped_laws.proofs.ActLaws.Lists.{in_parts}
+use Rattle.ped_loop_runs.specs.ped_bodies.specs.ped_steps.specs.ped_laws.proofs.ActLaws.Renamings.{or_left, or_right, or_either}
+use Rattle.ped_loop_runs.specs.ped_bodies.specs.ped_steps.specs.ped_laws.proofs.ActLaws.Outside.{kept_first, dropped_first, without_append, unread_append, unread_touches}
+use Rattle.ped_loop_runs.specs.ped_bodies.specs.ped_steps.specs.ped_laws.specs.FlowRuns.Covering.{is_cell_of}
+use Rattle.ped_loop_runs.specs.ped_bodies.specs.ped_steps.specs.ped_laws.proofs.FlowRunLaws.Names.{no_copy_within}
+use Rattle.ped_loop_runs.specs.ped_bodies.specs.ped_steps.specs.ped_laws.specs.ped_eval.specs.Scopes.{Setting, Scope, turns_of, cell_of}
+use Rattle.ped_loop_runs.specs.ped_bodies.specs.ped_steps.specs.ped_laws.specs.ped_eval.specs.Statements.{write_touch}
+use Rattle.ped_loop_runs.specs.ped_bodies.specs.ped_steps.specs.ped_laws.specs.ped_eval.specs.Loops.{Entered, undefined_by, undefined_all, left_in_variable, exit_touches}
+use Rattle.ped_loop_runs.specs.ped_bodies.specs.ped_steps.specs.Runs.Exchanging.{is_of_scalar}
+use Rattle.ped_loop_runs.specs.Executions.{IsCopyInside}
+use Rattle.ped_loop_runs.proofs.PastingLaws.LeftCopies.{IsOwn}
+use Rattle.ped_loop_runs.specs.ped_bodies.specs.Likewise.{Meet, AllMeet, AreLikewise}
+use Rattle.ped_loop_runs.specs.ped_bodies.specs.Moving.{is_cell_among, behind_front, with_rest, turned, IsOfTrips, LiesBehind}
+use Rattle.ped_loop_runs.specs.ped_bodies.proofs.BodyLaws.MovedCells.{behind_itself, moved_is, place_stays}
+use Rattle.ped_loop_runs.specs.ped_bodies.proofs.BodyLaws.NamesApart.{behind_is, reversed_apart}
 use Rattle.ped_loop_runs.specs.OneForOne.{trip_names, trip_idle}
 
 number_itself : (n : ℕ) → eqb n n ≡ true
@@ -194,6 +193,27 @@ module _ (idle : Cell → Bool) (scope : Scope) where
         (private_renamed e.behind_bounds z.behind_bounds e.head.private))
 
 -- copies of the iterations of the DO with number l
+-- what a name stands for at a place is no copy further inside
+module _ (p : Setting) (scope : Scope) (P : Option (List Iteration) → Type 0) (other : P None) (here : P (Some [])) where
+  abbrev its_front : List Iteration
+  its_front = iterations_of (turns_of scope)
+
+  pub own_lies : (c : Cell) → IsOwn p scope c → LiesBehind P (iterations_of (turns_of scope)) c
+  own_lies (Scalar x) own = tt
+  own_lies (Element x js) own = tt
+  own_lies In own = tt
+  own_lies Out own = tt
+  own_lies (Private x path) own = go (behind_front its_front path) refl
+    where
+      none : (i : Iteration) (more : List Iteration) → path ≡ its_front ++ i ∷ more → IsOwn p scope (Private x path) → ⊥
+      none i more e (inl k) = no_copy_within scope k.0 x i more (sym k.1 ∙ ap (Private x) e)
+      none i more e (inr k) = absurd cc
+
+      go : (o : Option (List Iteration)) → behind_front its_front path ≡ o → P o
+      go None e = other
+      go (Some []) e = here
+      go (Some (i ∷ more)) e = absurd (none i more (behind_is its_front path (i ∷ more) e) own)
+
 module _ (p : Setting) (scope : Scope) (l : ℕ) where
   abbrev front : List Iteration
   front = iterations_of (turns_of scope)
@@ -267,24 +287,8 @@ module _ (p : Setting) (scope : Scope) (l : ℕ) where
     abbrev pub Reached : Cell → Type 0
     Reached c = IsOwn p scope c ⊎ ((k : ℕ) × (1 ≤ k) × (k ≤ n) × (x : List ℕ) × (rest : List Iteration) × (c ≡ Private x (front ++ at k ∷ rest)))
 
-    lies_own : (c : Cell) → IsOwn p scope c → LiesBehind (IsOfTrips (p.number l) n) front c
-    lies_own (Scalar x) own = tt
-    lies_own (Element x js) own = tt
-    lies_own In own = tt
-    lies_own Out own = tt
-    lies_own (Private x path) own = go (behind_front front path) refl
-      where
-        none : (i : Iteration) (more : List Iteration) → path ≡ front ++ i ∷ more → IsOwn p scope (Private x path) → ⊥
-        none i more e (inl k) = no_copy_within scope k.0 x i more (sym k.1 ∙ ap (Private x) e)
-        none i more e (inr k) = absurd cc
-
-        go : (o : Option (List Iteration)) → behind_front front path ≡ o → IsOfTrips (p.number l) n o
-        go None e = tt
-        go (Some []) e = tt
-        go (Some (i ∷ more)) e = absurd (none i more (behind_is front path (i ∷ more) e) own)
-
-    lies : (c : Cell) → Reached c → LiesBehind (IsOfTrips (p.number l) n) front c
-    lies c (inl own) = lies_own c own
+    pub lies : (c : Cell) → Reached c → LiesBehind (IsOfTrips (p.number l) n) front c
+    lies c (inl own) = own_lies p scope (IsOfTrips (p.number l) n) tt tt c own
     lies c (inr r) =
         subst (LiesBehind (IsOfTrips (p.number l) n) front) (sym r.5)
         (subst (IsOfTrips (p.number l) n) (sym (behind_itself front (at r.0 ∷ r.4))) (refl, r.1, r.2))

@@ -1,157 +1,50 @@
 -- A DO whose iterations are done from the last to the first makes no race: accesses that race in the new run come from accesses that race in the old one.
-use Rattle.std.proofs.Common.{◌≡◌, ◌⊎◌, ℕ, suc, ◌+◌, ◌-◌, ◌≤◌, ◌<◌, List, [], ◌∷◌, ◌++◌, map, length, Bool, true, false, ◌&&◌, ◌||◌, eqb, eqb-true, if◌then◌else◌, refl, sym, ap, ◌∙◌, subst, inl, inr, arith, append_assoc, append-nil}
+use Rattle.std.proofs.Common.{◌≡◌, ◌⊎◌, ℕ, ◌≤◌, ◌<◌, List, [], ◌∷◌, ◌++◌, map, length, Bool, true, false, ◌&&◌, ◌||◌, eqb, eqb-true, if◌then◌else◌, refl, sym, ap, ◌∙◌, subst, inl, inr, arith, append_assoc, append-nil}
 use Rattle.std.specs.Str.Lines.{lines}
 use Rattle.std.proofs.lemmas.Bool.{and_parts, both_ways}
-use Rattle.std.proofs.lemmas.Grind.{flat_map-append}
-use Rattle.std.proofs.lemmas.List.{map-append}
-use Rattle.ped_tidy.specs.ped_pasting.specs.ped_bodies.specs.ped_steps.specs.ped_laws.specs.ped_flow.specs.ped_tree.specs.Tree.{Head, StmtTrees, Do, ProgramTree}
-use Rattle.ped_tidy.specs.ped_pasting.specs.ped_bodies.specs.ped_steps.specs.ped_laws.specs.ped_flow.specs.ped_tree.specs.Nests.{Loop}
-use Rattle.ped_tidy.specs.ped_pasting.specs.ped_bodies.specs.ped_steps.specs.ped_laws.specs.ped_flow.specs.ped_tree.specs.Numbering.{statements_count}
-use Rattle.ped_tidy.specs.ped_pasting.specs.ped_bodies.specs.ped_steps.specs.ped_laws.specs.ped_flow.specs.PlainBounds.{nest_round}
-use Rattle.ped_tidy.specs.ped_pasting.specs.ped_bodies.specs.ped_steps.specs.ped_laws.specs.ped_flow.specs.Questions.{LoopOf}
-use Rattle.ped_tidy.specs.ped_pasting.specs.ped_bodies.specs.ped_steps.specs.ped_laws.specs.ped_store.specs.Cells.{Cell, Scalar, Element, Private, In, Out, Iteration, same_cell}
-use Rattle.ped_tidy.specs.ped_pasting.specs.ped_bodies.specs.ped_steps.specs.ped_laws.specs.ped_store.specs.Stores.{Store, store_at_start}
-use Rattle.ped_tidy.specs.ped_pasting.specs.ped_bodies.specs.ped_steps.specs.ped_laws.specs.ped_store.specs.Acts.{Manner, reads, writes, is_told, Touch, Turn, Place, Act, iterations_of}
-use Rattle.ped_tidy.specs.ped_pasting.specs.ped_bodies.specs.ped_steps.specs.ped_laws.specs.ped_store.specs.Races.{Access, is_write, accesses_of, accesses, conflict, are_apart, race, HasNoRace}
-use Rattle.ped_tidy.specs.ped_pasting.specs.ped_bodies.specs.ped_steps.specs.ped_laws.specs.ped_eval.specs.Loops.{Entered, frame}
-use Rattle.ped_tidy.specs.ped_pasting.specs.ped_bodies.specs.ped_steps.specs.ped_laws.specs.ped_eval.specs.Scopes.{Setting, Scope, turns_of}
-use Rattle.ped_tidy.specs.ped_pasting.specs.ped_bodies.specs.ped_steps.specs.ped_laws.specs.ped_eval.specs.Outcomes.{setting_of, run_of}
-use Rattle.ped_tidy.specs.ped_pasting.specs.ped_bodies.specs.ped_steps.specs.ped_laws.specs.ped_eval.specs.Runs.{Run, run_all}
-use Rattle.ped_tidy.specs.ped_pasting.specs.ped_bodies.specs.ped_steps.specs.ped_laws.specs.Acts.Fitting.{store_after}
-use Rattle.ped_tidy.specs.ped_pasting.specs.ped_bodies.specs.ped_steps.specs.ped_laws.specs.Acts.Orders.{IsIn, StandsBefore}
-use Rattle.ped_tidy.specs.ped_pasting.specs.ped_bodies.specs.ped_steps.specs.ped_laws.specs.Acts.Origins.{StandApart}
-use Rattle.ped_tidy.specs.ped_pasting.specs.ped_bodies.specs.ped_steps.specs.ped_laws.specs.Acts.Pieces.{Part, same, changed, old_parts, new_parts}
-use Rattle.ped_tidy.specs.ped_pasting.specs.ped_bodies.specs.ped_steps.specs.ped_laws.specs.Runs.Replaying.{goes_on, finish_of}
-use Rattle.ped_tidy.specs.ped_pasting.specs.ped_bodies.specs.ped_steps.specs.ped_laws.proofs.ActLaws.Lists.{in_left, in_right, in_parts, first_in, second_in, before_parts}
-use Rattle.ped_tidy.specs.ped_pasting.specs.ped_bodies.specs.ped_steps.specs.ped_laws.proofs.ActLaws.SameCells.{cell_is, is_cell}
-use Rattle.ped_tidy.specs.ped_pasting.specs.ped_bodies.specs.ped_steps.specs.ped_laws.proofs.ActLaws.Conflicting.{access_place, accesses_in}
-use Rattle.ped_tidy.specs.ped_pasting.specs.ped_bodies.specs.ped_steps.specs.ped_laws.proofs.ActLaws.RaceFree.{apart_flip}
-use Rattle.ped_tidy.specs.ped_pasting.specs.ped_bodies.specs.ped_steps.specs.ped_laws.proofs.RunLaws.Touches.{Fine}
-use Rattle.ped_tidy.specs.ped_pasting.specs.ped_bodies.specs.ped_steps.specs.ped_laws.proofs.RunLaws.Turning.{Front, At}
-use Rattle.ped_tidy.specs.ped_pasting.specs.ped_bodies.specs.ped_steps.specs.ped_laws.proofs.RunLaws.Placing.{kinds_of_run}
-use Rattle.ped_tidy.specs.ped_pasting.specs.ped_bodies.specs.ped_steps.specs.Replacing.{alone}
-use Rattle.ped_tidy.specs.ped_pasting.specs.ped_bodies.specs.ped_steps.specs.Runs.Pasting.{AreTurnsOf}
-use Rattle.ped_tidy.specs.ped_pasting.specs.ped_bodies.specs.ped_steps.specs.Runs.Renumbering.{renumbered_turn}
-use Rattle.ped_tidy.specs.ped_pasting.specs.ped_bodies.specs.ped_steps.proofs.RunLaws.PrivatisedRacesOrigins.{accesses_from}
-use Rattle.ped_tidy.specs.ped_pasting.specs.ped_bodies.specs.ped_steps.proofs.RunLaws.ExpandedRacesOrigins.{touch_of}
-use Rattle.ped_tidy.specs.ped_pasting.specs.ped_bodies.specs.ped_steps.specs.ped_weaves.specs.Sources.{RaceSomewhere}
-use Rattle.ped_tidy.specs.ped_pasting.specs.ped_bodies.specs.ped_steps.specs.ped_weaves.proofs.WeaveLaws.RaceSources.{pairs_free}
-use Rattle.ped_tidy.specs.ped_pasting.specs.Executions.{StandsInside, LeaveCopies, IsExecuted}
-use Rattle.ped_tidy.specs.ped_pasting.specs.Pasting.{AreExchanged}
-use Rattle.ped_tidy.specs.ped_pasting.proofs.PastingLaws.LeftCopies.{body_reaches}
-use Rattle.ped_tidy.specs.ped_pasting.specs.ped_bodies.specs.Moving.{own_number}
-use Rattle.ped_tidy.specs.ped_pasting.specs.ped_bodies.specs.Trips.{bounds_seen, entered_from}
+use Rattle.ped_loop_runs.specs.ped_bodies.specs.ped_steps.specs.ped_laws.specs.ped_flow.specs.ped_tree.specs.Tree.{Head, StmtTrees, Do, ProgramTree}
+use Rattle.ped_loop_runs.specs.ped_bodies.specs.ped_steps.specs.ped_laws.specs.ped_flow.specs.ped_tree.specs.Numbering.{statements_count}
+use Rattle.ped_loop_runs.specs.ped_bodies.specs.ped_steps.specs.ped_laws.specs.ped_flow.specs.PlainBounds.{nest_round}
+use Rattle.ped_loop_runs.specs.ped_bodies.specs.ped_steps.specs.ped_laws.specs.ped_flow.specs.Questions.{LoopOf}
+use Rattle.ped_loop_runs.specs.ped_bodies.specs.ped_steps.specs.ped_laws.specs.ped_store.specs.Cells.{Cell, Iteration, same_cell}
+use Rattle.ped_loop_runs.specs.ped_bodies.specs.ped_steps.specs.ped_laws.specs.ped_store.specs.Stores.{Store, store_at_start}
+use Rattle.ped_loop_runs.specs.ped_bodies.specs.ped_steps.specs.ped_laws.specs.ped_store.specs.Acts.{Turn, Act, iterations_of}
+use Rattle.ped_loop_runs.specs.ped_bodies.specs.ped_steps.specs.ped_laws.specs.ped_store.specs.Races.{Access, accesses, are_apart, race, HasNoRace}
+use Rattle.ped_loop_runs.specs.ped_bodies.specs.ped_steps.specs.ped_laws.specs.ped_eval.specs.Loops.{Entered, frame}
+use Rattle.ped_loop_runs.specs.ped_bodies.specs.ped_steps.specs.ped_laws.specs.ped_eval.specs.Scopes.{Setting, Scope, turns_of}
+use Rattle.ped_loop_runs.specs.ped_bodies.specs.ped_steps.specs.ped_laws.specs.ped_eval.specs.Outcomes.{setting_of, run_of}
+use Rattle.ped_loop_runs.specs.ped_bodies.specs.ped_steps.specs.ped_laws.specs.ped_eval.specs.Runs.{Run, run_all}
+use Rattle.ped_loop_runs.specs.ped_bodies.specs.ped_steps.specs.ped_laws.specs.Acts.Orders.{IsIn, StandsBefore}
+use Rattle.ped_loop_runs.specs.ped_bodies.specs.ped_steps.specs.ped_laws.specs.Acts.Pieces.{Part, old_parts, new_parts}
+use Rattle.ped_loop_runs.specs.ped_bodies.specs.ped_steps.specs.ped_laws.specs.Runs.Replaying.{goes_on, finish_of}
+use Rattle.ped_loop_runs.specs.ped_bodies.specs.ped_steps.specs.ped_laws.proofs.ActLaws.Lists.{first_in, second_in}
+use Rattle.ped_loop_runs.specs.ped_bodies.specs.ped_steps.specs.ped_laws.proofs.ActLaws.SameCells.{cell_is, is_cell}
+use Rattle.ped_loop_runs.specs.ped_bodies.specs.ped_steps.specs.ped_laws.proofs.ActLaws.Conflicting.{accesses_in}
+use Rattle.ped_loop_runs.specs.ped_bodies.specs.ped_steps.specs.ped_laws.proofs.RunLaws.Turning.{At}
+use Rattle.ped_loop_runs.specs.ped_bodies.specs.ped_steps.specs.Replacing.{alone}
+use Rattle.ped_loop_runs.specs.ped_bodies.specs.ped_steps.specs.Runs.Renumbering.{renumbered_turn}
+use Rattle.ped_loop_runs.specs.ped_bodies.specs.ped_steps.proofs.RunLaws.PrivatisedRacesOrigins.{accesses_from}
+use Rattle.ped_loop_runs.specs.ped_bodies.specs.ped_steps.proofs.RunLaws.ExpandedRacesOrigins.{touch_of}
+use Rattle.ped_loop_runs.specs.ped_bodies.specs.ped_steps.specs.ped_weaves.specs.Sources.{RaceSomewhere}
+use Rattle.ped_loop_runs.specs.ped_bodies.specs.ped_steps.specs.ped_weaves.proofs.WeaveLaws.RaceSources.{pairs_free}
+use Rattle.ped_loop_runs.specs.Executions.{StandsInside, LeaveCopies, IsExecuted}
+use Rattle.ped_loop_runs.specs.Pasting.{IsExchanged, AreExchanged}
+use Rattle.ped_loop_runs.proofs.PastingLaws.LeftCopies.{body_reaches}
+use Rattle.ped_loop_runs.specs.ped_bodies.specs.Moving.{own_number}
+use Rattle.ped_loop_runs.specs.ped_bodies.specs.Trips.{bounds_seen, entered_from}
 use Rattle.ped_loop_runs.specs.OneForOne.{trip_of, trip_names, IsOneForOne, IsMadeInstead}
-use Rattle.ped_loop_runs.proofs.LoopLaws.RacesByReferences.{act_good, told_is_unreferred, by_references}
+use Rattle.ped_loop_runs.proofs.LoopLaws.ApartTurns.{number_itself, apart_inside, apart_within, apart_same, none_behind, front_apart, iterations_append, turns_long, same_fronts}
+use Rattle.ped_loop_runs.proofs.LoopLaws.ChangedPairs.{Change, Give, in_acts, pairs_give}
+use Rattle.ped_loop_runs.proofs.LoopLaws.RacesByReferences.{told_is_unreferred, by_references}
 use Rattle.ped_loop_runs.proofs.LoopLaws.OneForOneRaces.{IsKept, IsMadeInTrip, execution_made}
 use Rattle.ped_loop_runs.proofs.LoopLaws.OneForOneCells.{IsOfLoop, stays_or_moves, moves_inside, Reached, names_apart}
+use Rattle.ped_loop_runs.proofs.LoopLaws.OldRaces.{acts_outside, round_apart}
+use Rattle.ped_loop_runs.proofs.LoopLaws.OldRaces as origins
 
-number_itself : (n : ℕ) → eqb n n ≡ true
-number_itself n = grind (arith, eqb-true)
-
--- places that are apart differ in iterations round a place, or the second stands in these iterations, too, and they differ further inside
-apart_split : (ts more us : List Turn) → are_apart (ts ++ more) us ≡ true → (are_apart ts us ≡ true) ⊎ ((rs : List Turn) × (vs : List Turn) × (us ≡ rs ++ vs) × (iterations_of rs ≡ iterations_of ts) × (are_apart more vs ≡ true))
-apart_split [] more us h = inr ([], us, refl, refl, h)
-apart_split (t ∷ ts) more [] h = absurd cc
-apart_split (t ∷ ts) more (u ∷ us) h = go (eqb t.number u.number) refl parts.1 (apart_split ts more us)
-  where
-    parts : (eqb t.statement u.statement ≡ true) × ((if eqb t.number u.number then are_apart (ts ++ more) us else t.parallel) ≡ true)
-    parts = and_parts (eqb t.statement u.statement) (if eqb t.number u.number then are_apart (ts ++ more) us else t.parallel) h
-
-    Result : Type 0
-    Result = (are_apart (t ∷ ts) (u ∷ us) ≡ true) ⊎ ((rs : List Turn) × (vs : List Turn) × (u ∷ us ≡ rs ++ vs) × (iterations_of rs ≡ iterations_of (t ∷ ts)) × (are_apart more vs ≡ true))
-
-    go : (b : Bool) → eqb t.number u.number ≡ b → (if b then are_apart (ts ++ more) us else t.parallel) ≡ true
-        → (are_apart (ts ++ more) us ≡ true → (are_apart ts us ≡ true) ⊎ ((rs : List Turn) × (vs : List Turn) × (us ≡ rs ++ vs) × (iterations_of rs ≡ iterations_of ts) × (are_apart more vs ≡ true))) → Result
-    go false e k further = inl (λ i. parts.0 i && (if e i then are_apart ts us else k i))
-    go true e k further = elim (further k) [
-      | inl m ↦ inl (λ i. parts.0 i && (if e i then m i else t.parallel))
-      | inr r ↦ (
-          let statement : t.statement ≡ u.statement = eqb-true t.statement u.statement parts.0 in
-          let number : t.number ≡ u.number = eqb-true t.number u.number e in
-          inr (u ∷ r.0, r.1, ap (λ (zs : List Turn). u ∷ zs) r.2, (λ i. record { statement = sym statement i; number = sym number i } ∷ r.3 i), r.4)
-          )
-    ]
-
--- places further inside are apart where these are
-apart_inside : (ts us more others : List Turn) → are_apart ts us ≡ true → are_apart (ts ++ more) (us ++ others) ≡ true
-apart_inside [] us more others h = absurd cc
-apart_inside (t ∷ ts) [] more others h = absurd cc
-apart_inside (t ∷ ts) (u ∷ us) more others h = go (eqb t.number u.number) refl parts.1 (apart_inside ts us more others)
-  where
-    parts : (eqb t.statement u.statement ≡ true) × ((if eqb t.number u.number then are_apart ts us else t.parallel) ≡ true)
-    parts = and_parts (eqb t.statement u.statement) (if eqb t.number u.number then are_apart ts us else t.parallel) h
-
-    go : (b : Bool) → eqb t.number u.number ≡ b → (if b then are_apart ts us else t.parallel) ≡ true → (are_apart ts us ≡ true → are_apart (ts ++ more) (us ++ others) ≡ true) → are_apart ((t ∷ ts) ++ more) ((u ∷ us) ++ others) ≡ true
-    go true e k further = λ i. parts.0 i && (if e i then further k i else t.parallel)
-    go false e k further = λ i. parts.0 i && (if e i then are_apart (ts ++ more) (us ++ others) else k i)
-
--- a place is apart from iterations that are as many
-apart_within : (ts us more : List Turn) → length ts ≡ length us → are_apart ts (us ++ more) ≡ true → are_apart ts us ≡ true
-apart_within [] us more long h = absurd cc
-apart_within (t ∷ ts) [] more long h = absurd cc
-apart_within (t ∷ ts) (u ∷ us) more long h = go (eqb t.number u.number) refl parts.1 (apart_within ts us more (let less : length ts ≡ length us = cc in less))
-  where
-    parts : (eqb t.statement u.statement ≡ true) × ((if eqb t.number u.number then are_apart ts (us ++ more) else t.parallel) ≡ true)
-    parts = and_parts (eqb t.statement u.statement) (if eqb t.number u.number then are_apart ts (us ++ more) else t.parallel) h
-
-    go : (b : Bool) → eqb t.number u.number ≡ b → (if b then are_apart ts (us ++ more) else t.parallel) ≡ true → (are_apart ts (us ++ more) ≡ true → are_apart ts us ≡ true) → are_apart (t ∷ ts) (u ∷ us) ≡ true
-    go true e k further = λ i. parts.0 i && (if e i then further k i else t.parallel)
-    go false e k further = λ i. parts.0 i && (if e i then are_apart ts us else k i)
-
--- the same iterations round two places don't count
-apart_same : (ts more others : List Turn) → are_apart (ts ++ more) (ts ++ others) ≡ are_apart more others
-apart_same [] more others = refl
-apart_same (t ∷ ts) more others = (λ i. number_itself t.statement i && (if number_itself t.number i then are_apart (ts ++ more) (ts ++ others) else t.parallel)) ∙ apart_same ts more others
-
-none_behind : (more : List Turn) → are_apart more [] ≡ true → ⊥
-none_behind [] h = absurd cc
-none_behind (t ∷ more) h = absurd cc
-
--- a copy of these iterations isn't reached from a place that is apart from them
-front_apart : (ts us : List Turn) (rest : List Iteration) → Front (iterations_of ts ++ rest) us → are_apart ts us ≡ true → ⊥
-front_apart [] us rest f h = absurd cc
-front_apart (t ∷ ts) [] rest f h = absurd f
-front_apart (t ∷ ts) (u ∷ us) rest f h =
-    let same : eqb t.number u.number ≡ true = ap (eqb t.number) (sym f.0) ∙ number_itself t.number in
-    front_apart ts us rest f.1
-    (sym (ap (λ (b : Bool). if b then are_apart ts us else t.parallel) same) ∙ (and_parts (eqb t.statement u.statement) (if eqb t.number u.number then are_apart ts us else t.parallel) h).1)
-
-iterations_append : (ts us : List Turn) → iterations_of (ts ++ us) ≡ iterations_of ts ++ iterations_of us
-iterations_append ts us = map-append (λ (u : Turn). record { statement = u.statement; number = u.number }) ts us
-
+-- turns under their own numbers are the same
 same_turns : (more : List Turn) → map (renumbered_turn own_number) more ≡ more
 same_turns [] = refl
 same_turns (t ∷ more) = ap (λ (rest : List Turn). t ∷ rest) (same_turns more)
-
-turns_long : (number : ℕ → ℕ) (ls : List Loop) (ts : List Turn) → AreTurnsOf number ls ts → length ts ≡ length ls
-turns_long number [] [] h = refl
-turns_long number [] (t ∷ ts) h = absurd h
-turns_long number (m ∷ ls) [] h = absurd h
-turns_long number (m ∷ ls) (t ∷ ts) h = ap suc (turns_long number ls ts h.2)
-
--- lists that are as long and begin two equal ones are equal
-same_fronts : {X Y : Type 0} (f : X → Y) (xs ys : List X) (more others : List Y) → length xs ≡ length ys → map f xs ++ more ≡ map f ys ++ others → (map f xs ≡ map f ys) × (more ≡ others)
-same_fronts f [] [] more others long e = (refl, e)
-same_fronts f [] (y ∷ ys) more others long e = absurd cc
-same_fronts f (x ∷ xs) [] more others long e = absurd cc
-same_fronts f (x ∷ xs) (y ∷ ys) more others long e =
-    let first : f x ≡ f y = cc in
-    let rest : map f xs ++ more ≡ map f ys ++ others = cc in
-    let less : length xs ≡ length ys = cc in
-    let r = same_fronts f xs ys more others less rest in
-    ((λ i. first i ∷ r.0 i), r.1)
-
-at_of : (ts : List Turn) (m : Manner) (c : Cell) (r : ℕ) → Fine (λ ts c. Unit {0}) ts m c r → At ts c
-at_of ts reads c r f = f.1
-at_of ts writes c r f = f.1
-at_of ts is_told c r f = f.1
-
-or_turned : (x y : Bool) → x || y ≡ true → y || x ≡ true
-or_turned true true e = refl
-or_turned true false e = refl
-or_turned false true e = refl
-or_turned false false e = e
 
 module _ (t u : ProgramTree) (l : ℕ) (loop : LoopOf t l) (h : Head) (x : IsOneForOne t u l loop h true) (data_bytes : List ℕ) where
   abbrev p : Setting
@@ -181,44 +74,16 @@ module _ (t u : ProgramTree) (l : ℕ) (loop : LoopOf t l) (h : Head) (x : IsOne
   abbrev count : ℕ
   count = statements_count (alone (Do d body))
 
-  -- an access reaches its cell from its place
-  reaches : (b : Access) → IsIn b (accesses news) → At b.place.turns b.cell
-  reaches b i =
-      let a = accesses_from news b i in
-      let v = touch_of a.0 a.0.touches b a.2 in
-      let at : At a.0.place.turns v.0.cell = at_of a.0.place.turns v.0.manner v.0.cell v.0.reference ((act_good (setting_of u) u.body 1 [] start a.0 a.1).0 v.0 v.1) in
-      subst (λ (y : Access). At y.place.turns y.cell) (sym v.3) at
-
-  turned_apart : (b c : Access) → IsIn b (accesses olds) → IsIn c (accesses olds) → are_apart b.place.turns c.place.turns ≡ true → are_apart c.place.turns b.place.turns ≡ true
-  turned_apart b c i j apart =
-      let y = accesses_from olds b i in
-      let z = accesses_from olds c j in
-      let f = access_place y.0 b y.2 in
-      let g = access_place z.0 c z.2 in
-      (λ k. are_apart (g k).turns (f k).turns) ∙ apart_flip y.0.place.turns z.0.place.turns (kinds_of_run p t.body 1 start y.0 z.0 (λ m n e. e) y.1 z.1) ((λ k. are_apart (sym f k).turns (sym g k).turns) ∙ apart)
-
   -- two new accesses that race
-  record Race (b c : Access) : Type 0 where
-    one : IsIn b (accesses news)
-    other : IsIn c (accesses news)
-    apart : are_apart b.place.turns c.place.turns ≡ true
-    back : are_apart c.place.turns b.place.turns ≡ true
-    cells : b.cell ≡ c.cell
-    writing : b.writes || c.writes ≡ true
+  abbrev Race : Access → Access → Type 0
+  Race = origins.Race t (setting_of u) u.body data_bytes
 
-  flipped : (b c : Access) → Race b c → Race c b
-  flipped b c r = record { one = r.other; other = r.one; apart = r.back; back = r.apart; cells = sym r.cells; writing = or_turned b.writes c.writes r.writing }
+  abbrev flipped : (b c : Access) → origins.Race t (setting_of u) u.body data_bytes b c → origins.Race t (setting_of u) u.body data_bytes c b
+  flipped = origins.flipped t (setting_of u) u.body data_bytes
 
   -- two old ones that they come from race
   somewhere : (b c y z : Access) → Race b c → IsIn y (accesses olds) → IsIn z (accesses olds) → y.cell ≡ b.cell → z.cell ≡ c.cell → y.writes ≡ b.writes → z.writes ≡ c.writes → are_apart y.place.turns z.place.turns ≡ true → RaceSomewhere olds
-  somewhere b c y z r i j cell other w v apart = record {
-    one = y;
-    other = z;
-    one_in = i;
-    other_in = j;
-    apart = (apart, turned_apart y z i j apart);
-    conflicting = let alike = is_cell y.cell z.cell (cell ∙ r.cells ∙ sym other) in let some : y.writes || z.writes ≡ true = (λ k. w k || v k) ∙ r.writing in λ k. alike k && some k;
-  }
+  somewhere b c y z r i j cell other w v apart = origins.somewhere t (setting_of u) u.body data_bytes y z i j (cell ∙ r.cells ∙ sym other) ((λ k. w k || v k) ∙ r.writing) apart
 
   both_kept : (b c : Access) → Race b c → IsKept olds b → IsKept olds c → RaceSomewhere olds
   both_kept b c r f g = somewhere b c f.origin g.origin r f.found g.found f.cell g.cell f.writes g.writes ((λ k. are_apart (f.turns k) (g.turns k)) ∙ r.apart)
@@ -270,9 +135,7 @@ module _ (t u : ProgramTree) (l : ℕ) (loop : LoopOf t l) (h : Head) (x : IsOne
 
       -- what is done before or behind it stands outside
       apart_acts : (acts : List Act) → LeaveCopies p y.scope l count acts → (c : Access) → IsIn c (accesses acts) → Outside c.place.turns
-      apart_acts acts leave c i =
-          let a = accesses_from acts c i in
-          λ k. (leave a.0 a.1).1 (subst (λ (q : Place). StandsInside p y.scope l count q.turns) (access_place a.0 c a.2) k)
+      apart_acts = acts_outside p y.scope l count
 
       kept_outside : (acts : List Act) → LeaveCopies p y.scope l count acts → (c : Access) → IsKept acts c → Outside c.place.turns
       kept_outside acts leave c k = subst Outside k.turns (apart_acts acts leave k.origin k.found)
@@ -301,27 +164,14 @@ module _ (t u : ProgramTree) (l : ℕ) (loop : LoopOf t l) (h : Head) (x : IsOne
         side : (c : Access) → Race b c → Outside c.place.turns → (are_apart round c.place.turns ≡ true) × (k.origin.cell ≡ b.cell)
         side c r outside = (apart, cell (stays_or_moves p y.scope l e.count true k.origin.cell))
           where
-            inside : (rs vs : List Turn) → c.place.turns ≡ rs ++ vs → iterations_of rs ≡ iterations_of round → are_apart (new_turn ∷ k.likewise.more) vs ≡ true → ⊥
-            inside rs [] is alike differ = absurd cc
-            inside rs (v ∷ vs) is alike differ =
-                let statement : l ≡ v.statement = eqb-true l v.statement (and_parts (eqb l v.statement) (if eqb k.number v.number then are_apart k.likewise.more vs else h.parallel) differ).0 in
-                outside (record {
-                  statement = l;
-                  from = omega arith;
-                  to = omega arith;
-                  number = v.number;
-                  rest = iterations_of vs;
-                  is = ap iterations_of is ∙ iterations_append rs (v ∷ vs) ∙ (λ i. alike i ++ record { statement = sym statement i; number = v.number } ∷ iterations_of vs);
-                })
+            some : 0 < count
+            some = omega arith
 
             apart : are_apart round c.place.turns ≡ true
-            apart = elim (apart_split round (new_turn ∷ k.likewise.more) c.place.turns ((λ i. are_apart (sym there i) c.place.turns) ∙ r.apart)) [
-              | inl m ↦ m
-              | inr m ↦ absurd (inside m.0 m.1 m.2 m.3 m.4)
-            ]
+            apart = round_apart t y.scope l count some b c r.apart outside (new_turn ∷ k.likewise.more) there (λ v more e. inl (let same : new_turn ≡ v = cc in ap (λ (z : Turn). z.statement) (sym same)))
 
             reached : (w : Cell) → c.cell ≡ w → IsOfLoop p y.scope l w → ⊥
-            reached w q moved = front_apart round c.place.turns _ (subst (λ (v : Cell). At c.place.turns v) (q ∙ moved.is) (reaches c r.other)) apart
+            reached w q moved = front_apart round c.place.turns _ (subst (λ (v : Cell). At c.place.turns v) (q ∙ moved.is) (origins.reaches t (setting_of u) u.body data_bytes c r.other)) apart
 
             cell : (trip_names true (iterations_of round) l e.count k.origin.cell ≡ k.origin.cell) ⊎ IsOfLoop p y.scope l k.origin.cell → k.origin.cell ≡ b.cell
             cell (inl stays) = sym (named ∙ stays)
@@ -360,7 +210,7 @@ module _ (t u : ProgramTree) (l : ℕ) (loop : LoopOf t l) (h : Head) (x : IsOne
           other = m.origin;
           one_in = found;
           other_in = found_there;
-          apart = (apart, turned_apart k.origin m.origin found found_there apart);
+          apart = (apart, origins.turned_apart t (setting_of u) u.body data_bytes k.origin m.origin found found_there apart);
           conflicting = let alike = is_cell k.origin.cell m.origin.cell origin_cells in let some : k.origin.writes || m.origin.writes ≡ true = (λ i. sym k.likewise.writes i || sym m.likewise.writes i) ∙ r.writing in λ i. alike i && some i;
         }
           where
@@ -418,9 +268,6 @@ module _ (t u : ProgramTree) (l : ℕ) (loop : LoopOf t l) (h : Head) (x : IsOne
       before : (a : Act) → IsIn a (piece y.scope y.store).acts → IsIn a w.front
       after : (a : Act) → IsIn a (piece w.scope w.store).acts → IsIn a y.behind
 
-    in_acts : (acts others : List Act) (c : Access) → ((a : Act) → IsIn a acts → IsIn a others) → IsIn c (accesses acts) → IsIn c (accesses others)
-    in_acts acts others c sub i = let a = accesses_from acts c i in accesses_in others a.0 c (sub a.0 a.1) a.2
-
     kept_more : (acts others : List Act) (c : Access) → ((a : Act) → IsIn a acts → IsIn a others) → IsKept acts c → IsKept others c
     kept_more acts others c sub k = record { origin = k.origin; found = in_acts acts others k.origin sub k.found; cell = k.cell; writes = k.writes; turns = k.turns; referred = k.referred }
 
@@ -438,117 +285,54 @@ module _ (t u : ProgramTree) (l : ℕ) (loop : LoopOf t l) (h : Head) (x : IsOne
         somewhere b c k.origin m.origin r (found y b k) (found w c m) of_c.1 of_b.1 (sym k.likewise.writes) (sym m.likewise.writes)
         ((λ i. are_apart (were y b k i) (were w c m i)) ∙ apart_inside (round y) (round w) (old_turn y b k ∷ k.likewise.more) (old_turn w c m ∷ m.likewise.more) rounds)
 
-    -- where an access of the new list stands: in a part that stays, or in the place of an execution
-    record IsInPlace (ahead rest : List Act) (c : Access) : Type 0 where
-      execution : Execution
-      among : IsIn c (accesses (fresh execution.scope execution.store))
-      earlier : (a : Act) → IsIn a ahead → IsIn a execution.front
-      later : (a : Act) → IsIn a (piece execution.scope execution.store).acts → IsIn a rest
-
     referred_kept : (acts : List Act) (c : Access) → IsIn c (accesses acts) → 0 < c.reference → IsKept acts c
     referred_kept acts c i some = record { origin = c; found = i; cell = refl; writes = refl; turns = refl; referred = some }
 
-    abbrev execution_at : (front behind : List Act) (parts : List Part) (s : Store) (old new : List Act) → AreExchanged p t start l count piece fresh front (changed old new ∷ parts) behind s → ((a : Act) → IsIn a (old ++ old_parts parts) → IsIn a olds) → ((a : Act) → IsIn a (new ++ new_parts parts) → IsIn a news) → Execution
-    execution_at front behind parts s old new exchanged sub within =
-        let it = exchanged.0 in
-        record {
-          scope = it.scope;
-          store = s;
-          front = front;
-          behind = old_parts parts ++ behind;
-          executed = it.executed;
-          goes = it.goes;
-          sub = λ a i. sub a (in_left a old (old_parts parts) (subst (λ (acts : List Act). IsIn a acts) (sym it.old_is) i));
-          within = λ a i. within a (in_left a new (new_parts parts) (subst (λ (acts : List Act). IsIn a acts) (sym it.new_is) i));
-        }
+    -- two new accesses by references that race
+    abbrev Meet : Access → Access → Type 0
+    Meet b c = Race b c × (0 < b.reference) × (0 < c.reference)
 
-    accesses_split : (xs ys : List Act) → accesses (xs ++ ys) ≡ accesses xs ++ accesses ys
-    accesses_split xs ys = flat_map-append accesses_of xs ys
+    abbrev By : List Act → List Act → Store → List Act → List Act → Type 0
+    By = IsExchanged p t start l count piece fresh
 
-    located : (front : List Act) (parts : List Part) (behind : List Act) (s : Store) → AreExchanged p t start l count piece fresh front parts behind s → ((a : Act) → IsIn a (old_parts parts) → IsIn a olds) → ((a : Act) → IsIn a (new_parts parts) → IsIn a news)
-        → (c : Access) → IsIn c (accesses (new_parts parts)) → IsIn c (accesses (old_parts parts)) ⊎ IsInPlace front (old_parts parts) c
-    located front [] behind s exchanged sub within c i = absurd i
-    located front (same acts ∷ parts) behind s exchanged sub within c i =
-        elim (in_parts c (accesses acts) (accesses (new_parts parts)) (subst (λ (cs : List Access). IsIn c cs) (accesses_split acts (new_parts parts)) i)) [
-          | inl k ↦ inl (subst (λ (cs : List Access). IsIn c cs) (sym (accesses_split acts (old_parts parts))) (in_left c (accesses acts) (accesses (old_parts parts)) k))
-          | inr k ↦ elim (located (front ++ acts) parts behind (store_after acts s) exchanged (λ a j. sub a (in_right a acts (old_parts parts) j)) (λ a j. within a (in_right a acts (new_parts parts) j)) c k) [
-            | inl m ↦ inl (subst (λ (cs : List Access). IsIn c cs) (sym (accesses_split acts (old_parts parts))) (in_right c (accesses acts) (accesses (old_parts parts)) m))
-            | inr m ↦ inr (record { execution = m.execution; among = m.among; earlier = λ a j. m.earlier a (in_left a front acts j); later = λ a j. in_right a acts (old_parts parts) (m.later a j) })
-          ]
-        ]
-    located front (changed old new ∷ parts) behind s exchanged sub within c i =
-        elim (in_parts c (accesses new) (accesses (new_parts parts)) (subst (λ (cs : List Access). IsIn c cs) (accesses_split new (new_parts parts)) i)) [
-          | inl k ↦ inr (record {
-            execution = execution_at front behind parts s old new exchanged sub within;
-            among = subst (λ (acts : List Act). IsIn c (accesses acts)) exchanged.0.new_is k;
-            earlier = λ a j. j;
-            later = λ a j. in_left a old (old_parts parts) (subst (λ (acts : List Act). IsIn a acts) (sym exchanged.0.old_is) j);
-          })
-          | inr k ↦ elim (located (front ++ old) parts behind (store_after old s) exchanged.1 (λ a j. sub a (in_right a old (old_parts parts) j)) (λ a j. within a (in_right a new (new_parts parts) j)) c k) [
-            | inl m ↦ inl (subst (λ (cs : List Access). IsIn c cs) (sym (accesses_split old (old_parts parts))) (in_right c (accesses old) (accesses (old_parts parts)) m))
-            | inr m ↦ inr (record { execution = m.execution; among = m.among; earlier = λ a j. m.earlier a (in_left a front old j); later = λ a j. in_right a old (old_parts parts) (m.later a j) })
-          ]
-        ]
+    abbrev execution_of : Change By olds news → Execution
+    execution_of y = record {
+      scope = y.by.scope;
+      store = y.store;
+      front = y.front;
+      behind = y.behind;
+      executed = y.by.executed;
+      goes = y.by.goes;
+      sub = λ a i. y.sub a (subst (λ (acts : List Act). IsIn a acts) (sym y.by.old_is) i);
+      within = λ a i. y.within a (subst (λ (acts : List Act). IsIn a acts) (sym y.by.new_is) i);
+    }
+
+    comes_of : (y : Change By olds news) (b : Access) → IsIn b (accesses y.new) → 0 < b.reference → AtLoop (execution_of y) b ⊎ InTrip (execution_of y) b
+    comes_of y b i some = comes (execution_of y) b (subst (λ (acts : List Act). IsIn b (accesses acts)) y.by.new_is i) some
+
+    stays_before : (y : Change By olds news) (b c : Access) → Meet b c → IsIn b (accesses y.front) → IsIn b (accesses olds) → AtLoop (execution_of y) c ⊎ InTrip (execution_of y) c → RaceSomewhere olds
+    stays_before y b c m i j (inl g) = both_kept b c m.0 (referred_kept olds b j m.1) (kept_there (piece y.by.scope y.store).acts c (execution_of y).sub g.0)
+    stays_before y b c m i j (inr k) =
+        trip_kept (execution_of y) c k b (flipped b c m.0) (referred_kept olds b j m.1) (kept_outside (execution_of y) y.front y.by.executed.unused_before b (referred_kept y.front b i m.1))
+
+    stays_behind : (y : Change By olds news) (b c : Access) → Meet b c → AtLoop (execution_of y) b ⊎ InTrip (execution_of y) b → IsIn c (accesses y.behind) → IsIn c (accesses olds) → RaceSomewhere olds
+    stays_behind y b c m (inl f) i j = both_kept b c m.0 (kept_there (piece y.by.scope y.store).acts b (execution_of y).sub f.0) (referred_kept olds c j m.2)
+    stays_behind y b c m (inr k) i j =
+        trip_kept (execution_of y) b k c m.0 (referred_kept olds c j m.2) (kept_outside (execution_of y) y.behind y.by.executed.unused_behind c (referred_kept y.behind c i m.2))
 
     -- two new accesses that race come from two old ones that do
-    pairs_race : (front : List Act) (parts : List Part) (behind : List Act) (s : Store) → AreExchanged p t start l count piece fresh front parts behind s → ((a : Act) → IsIn a (old_parts parts) → IsIn a olds) → ((a : Act) → IsIn a (new_parts parts) → IsIn a news)
-        → (b c : Access) → StandsBefore b c (accesses (new_parts parts)) → Race b c → 0 < b.reference → 0 < c.reference → RaceSomewhere olds
-    pairs_race front [] behind s exchanged sub within b c before r one other = absurd before
-    pairs_race front (same acts ∷ parts) behind s exchanged sub within b c before r one other =
-        elim (before_parts b c (accesses acts) (accesses (new_parts parts)) (subst (λ (cs : List Access). StandsBefore b c cs) (accesses_split acts (new_parts parts)) before)) [
-          | inl k ↦ both_kept b c r (of_here b (first_in b c (accesses acts) k) one) (of_here c (second_in b c (accesses acts) k) other)
-          | inr k ↦ elim k [
-            | inl m ↦ elim (located (front ++ acts) parts behind (store_after acts s) exchanged (λ a j. sub a (in_right a acts (old_parts parts) j)) (λ a j. within a (in_right a acts (new_parts parts) j)) c m.1) [
-              | inl j ↦ both_kept b c r (of_here b m.0 one) (kept_there (old_parts parts) c (λ a i. sub a (in_right a acts (old_parts parts) i)) (referred_kept (old_parts parts) c j other))
-              | inr j ↦ by j m.0 (comes j.execution c j.among other)
-            ]
-            | inr m ↦ pairs_race (front ++ acts) parts behind (store_after acts s) exchanged (λ a j. sub a (in_right a acts (old_parts parts) j)) (λ a j. within a (in_right a acts (new_parts parts) j)) b c m r one other
-          ]
-        ]
-      where
-        of_here : (y : Access) → IsIn y (accesses acts) → 0 < y.reference → IsKept olds y
-        of_here y i some = kept_there acts y (λ a j. sub a (in_left a acts (old_parts parts) j)) (referred_kept acts y i some)
-
-        by : (j : IsInPlace (front ++ acts) (old_parts parts) c) → IsIn b (accesses acts) → AtLoop j.execution c ⊎ InTrip j.execution c → RaceSomewhere olds
-        by j i (inl g) = both_kept b c r (of_here b i one) (kept_there (piece j.execution.scope j.execution.store).acts c j.execution.sub g.0)
-        by j i (inr m) =
-            trip_kept j.execution c m b (flipped b c r) (of_here b i one)
-            (kept_outside j.execution j.execution.front j.execution.executed.unused_before b (referred_kept j.execution.front b (in_acts acts j.execution.front b (λ a k. j.earlier a (in_right a front acts k)) i) one))
-    pairs_race front (changed old new ∷ parts) behind s exchanged sub within b c before r one other =
-        elim (before_parts b c (accesses new) (accesses (new_parts parts)) (subst (λ (cs : List Access). StandsBefore b c cs) (accesses_split new (new_parts parts)) before)) [
-          | inl k ↦ one_execution here b c r (of_here b (first_in b c (accesses new) k) one) (of_here c (second_in b c (accesses new) k) other)
-          | inr k ↦ elim k [
-            | inl m ↦ elim (located (front ++ old) parts behind (store_after old s) exchanged.1 later_old later_new c m.1) [
-              | inl j ↦ kept_later j (of_here b m.0 one)
-              | inr j ↦ two_executions here j.execution (successive j) b c r (of_here b m.0 one) (comes j.execution c j.among other)
-            ]
-            | inr m ↦ pairs_race (front ++ old) parts behind (store_after old s) exchanged.1 later_old later_new b c m r one other
-          ]
-        ]
-      where
-        here : Execution
-        here = execution_at front behind parts s old new exchanged sub within
-
-        later_old : (a : Act) → IsIn a (old_parts parts) → IsIn a olds
-        later_old a j = sub a (in_right a old (old_parts parts) j)
-
-        later_new : (a : Act) → IsIn a (new_parts parts) → IsIn a news
-        later_new a j = within a (in_right a new (new_parts parts) j)
-
-        of_here : (y : Access) → IsIn y (accesses new) → 0 < y.reference → AtLoop here y ⊎ InTrip here y
-        of_here y i some = comes here y (subst (λ (acts : List Act). IsIn y (accesses acts)) exchanged.0.new_is i) some
-
-        kept_later : IsIn c (accesses (old_parts parts)) → AtLoop here b ⊎ InTrip here b → RaceSomewhere olds
-        kept_later j (inl f) = both_kept b c r (kept_there (piece here.scope here.store).acts b here.sub f.0) (kept_there (old_parts parts) c later_old (referred_kept (old_parts parts) c j other))
-        kept_later j (inr k) =
-            trip_kept here b k c r (kept_there (old_parts parts) c later_old (referred_kept (old_parts parts) c j other))
-            (kept_outside here here.behind here.executed.unused_behind c (referred_kept here.behind c (in_acts (old_parts parts) here.behind c (λ a i. in_left a (old_parts parts) behind i) j) other))
-
-        successive : (j : IsInPlace (front ++ old) (old_parts parts) c) → AreSuccessive here j.execution
-        successive j = record {
-          before = λ a i. j.earlier a (in_right a front old (subst (λ (acts : List Act). IsIn a acts) (sym exchanged.0.old_is) i));
-          after = λ a i. in_left a (old_parts parts) behind (j.later a i);
-        }
+    give : Give By olds news Meet (RaceSomewhere olds)
+    give = record {
+      kept = λ b c m i j. both_kept b c m.0 (referred_kept olds b i m.1) (referred_kept olds c j m.2);
+      before = λ y b c m i j k. stays_before y b c m i j (comes_of y c k m.2);
+      behind = λ y b c m k i j. stays_behind y b c m (comes_of y b k m.1) i j;
+      inside = λ y b c m i j. one_execution (execution_of y) b c m.0 (comes_of y b i m.1) (comes_of y c j m.2);
+      between = λ y w s b c m i j. two_executions (execution_of y) (execution_of w)
+          (record {
+            before = λ a k. s.before a (subst (λ (acts : List Act). IsIn a acts) (sym y.by.old_is) k);
+            after = λ a k. s.after a (subst (λ (acts : List Act). IsIn a acts) (sym w.by.old_is) k);
+          }) b c m.0 (comes_of y b i m.1) (comes_of w c j m.2);
+    }
 
     pub races_reversed : (parts : List Part) → old_parts parts ≡ olds → AreExchanged p t start l count piece fresh [] parts [] start → new_parts parts ≡ news → HasNoRace (accesses (old_parts parts)) → HasNoRace (accesses (new_parts parts))
     races_reversed parts olds_are exchanged news_are free =
@@ -561,6 +345,6 @@ module _ (t u : ProgramTree) (l : ℕ) (loop : LoopOf t l) (h : Head) (x : IsOne
             let j = second_in b c (accesses news) before in
             let r = by_references u x.new_valid data_bytes b c i j races in
             let parts_of = and_parts (same_cell b.cell c.cell) (b.writes || c.writes) r.4 in
-            pairs_race [] parts [] start exchanged (λ a k. subst (λ (acts : List Act). IsIn a acts) olds_are k) (λ a k. subst (λ (acts : List Act). IsIn a acts) news_are k) b c
+            pairs_give By olds news Meet (RaceSomewhere olds) give [] parts [] start exchanged (λ a k. subst (λ (acts : List Act). IsIn a acts) olds_are k) (λ a k. subst (λ (acts : List Act). IsIn a acts) news_are k) b c
             (subst (λ (acts : List Act). StandsBefore b c (accesses acts)) (sym news_are) before)
-            (record { one = i; other = j; apart = r.2; back = r.3; cells = cell_is b.cell c.cell parts_of.0; writing = parts_of.1 }) r.0 r.1
+            (record { one = i; other = j; apart = r.2; back = r.3; cells = cell_is b.cell c.cell parts_of.0; writing = parts_of.1 }, r.0, r.1)

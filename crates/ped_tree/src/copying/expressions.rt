@@ -1,6 +1,6 @@
 //! Copies of expressions and conditions.
 
-ghost use Rattle.std.specs.Prelude.{◌≡◌, IfOk, map};
+ghost use Rattle.std.specs.Prelude.{◌≡◌, Ok, IfOk, map};
 ghost use Rattle.ped_tree.specs.Tree;
 ghost use Rattle.ped_tree.specs.Views.{expr_tree, cond_tree};
 
@@ -19,51 +19,31 @@ impl Expr {
             Expr::Int(value) => Ok(Expr::Int(*value)),
             Expr::Var(name) => Ok(Expr::Var(*name)),
             Expr::Element(name, subscripts) => {
-                let subscripts = copy_exprs(subscripts, alloc)?;
-                Ok(Expr::Element(*name, subscripts))
+                Ok(Expr::Element(*name, copy_exprs(subscripts, alloc)?))
             }
-            Expr::Neg(operand) => {
-                let operand = operand.copy(alloc)?;
-                Expr::negation(alloc, operand)
-            }
+            Expr::Neg(operand) => Expr::negation(alloc, operand.copy(alloc)?),
             Expr::Add(left, right) => {
-                let left = left.copy(alloc)?;
-                match right.copy(alloc) {
-                    Ok(right) => Expr::sum(alloc, left, right),
-                    Err(error) => left.let_go(error),
-                }
+                let (left, right) = both(left.copy(alloc)?, right.copy(alloc))?;
+                Expr::sum(alloc, left, right)
             }
             Expr::Sub(left, right) => {
-                let left = left.copy(alloc)?;
-                match right.copy(alloc) {
-                    Ok(right) => Expr::difference(alloc, left, right),
-                    Err(error) => left.let_go(error),
-                }
+                let (left, right) = both(left.copy(alloc)?, right.copy(alloc))?;
+                Expr::difference(alloc, left, right)
             }
             Expr::Mul(left, right) => {
-                let left = left.copy(alloc)?;
-                match right.copy(alloc) {
-                    Ok(right) => Expr::product(alloc, left, right),
-                    Err(error) => left.let_go(error),
-                }
+                let (left, right) = both(left.copy(alloc)?, right.copy(alloc))?;
+                Expr::product(alloc, left, right)
             }
             Expr::Div(left, right) => {
-                let left = left.copy(alloc)?;
-                match right.copy(alloc) {
-                    Ok(right) => Expr::quotient(alloc, left, right),
-                    Err(error) => left.let_go(error),
-                }
+                let (left, right) = both(left.copy(alloc)?, right.copy(alloc))?;
+                Expr::quotient(alloc, left, right)
             }
             Expr::Pow(base, exponent) => {
-                let base = base.copy(alloc)?;
-                match exponent.copy(alloc) {
-                    Ok(exponent) => Expr::power(alloc, base, exponent),
-                    Err(error) => base.let_go(error),
-                }
+                let (base, exponent) = both(base.copy(alloc)?, exponent.copy(alloc))?;
+                Expr::power(alloc, base, exponent)
             }
             Expr::Call(intrinsic, arguments) => {
-                let arguments = copy_exprs(arguments, alloc)?;
-                Ok(Expr::Call(*intrinsic, arguments))
+                Ok(Expr::Call(*intrinsic, copy_exprs(arguments, alloc)?))
             }
         }
     }
@@ -87,23 +67,14 @@ impl Cond {
     {
         match self {
             Cond::Rel(relation, left, right) => copy_relation(*relation, left, right, alloc),
-            Cond::Not(operand) => {
-                let operand = operand.copy(alloc)?;
-                Cond::negation(alloc, operand)
-            }
+            Cond::Not(operand) => Cond::negation(alloc, operand.copy(alloc)?),
             Cond::And(left, right) => {
-                let left = left.copy(alloc)?;
-                match right.copy(alloc) {
-                    Ok(right) => Cond::conjunction(alloc, left, right),
-                    Err(error) => left.let_go(error),
-                }
+                let (left, right) = both(left.copy(alloc)?, right.copy(alloc))?;
+                Cond::conjunction(alloc, left, right)
             }
             Cond::Or(left, right) => {
-                let left = left.copy(alloc)?;
-                match right.copy(alloc) {
-                    Ok(right) => Cond::disjunction(alloc, left, right),
-                    Err(error) => left.let_go(error),
-                }
+                let (left, right) = both(left.copy(alloc)?, right.copy(alloc))?;
+                Cond::disjunction(alloc, left, right)
             }
         }
     }
@@ -118,12 +89,17 @@ fn copy_relation(
 ) -> Result<Cond, NoMemory>
     ensures { IfOk result (λ copy. cond_tree copy ≡ Tree.Rel relation (expr_tree left.now) (expr_tree right.now)) }
 {
-    let left = left.copy(alloc)?;
-    match right.copy(alloc) {
-        Ok(right) => Ok(Cond::relation(relation, left, right)),
-        Err(error) => {
-            drop(left);
-            Err(error)
-        }
+    let (left, right) = both(left.copy(alloc)?, right.copy(alloc))?;
+    Ok(Cond::relation(relation, left, right))
+}
+
+/// Two copies, where the second one was made, too; else the first is let go.
+fn both<T: Drop>(first: T, second: Result<T, NoMemory>) -> Result<(T, T), NoMemory>
+    ensures first { IfOk result (λ pair. pair.0 ≡ first) }
+    ensures second { IfOk result (λ pair. second ≡ Ok pair.1) }
+{
+    match second {
+        Ok(second) => Ok((first, second)),
+        Err(error) => Err(error),
     }
 }

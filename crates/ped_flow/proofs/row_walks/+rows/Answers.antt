@@ -1,4 +1,4 @@
-use Rattle.std.proofs.Common.{◌≡◌, ◌+◌, ◌<◌, ◌++◌, ℕ, List, [], Option, None, map, drop, refl, sym, ap, subst, ◌∙◌, append_assoc, append-nil, add-zero, arith}
+use Rattle.std.proofs.Common.{◌≡◌, ◌+◌, ◌<◌, ◌++◌, ℕ, List, [], Option, None, Ok, map, drop, refl, sym, ap, subst, ◌∙◌, append_assoc, append-nil, add-zero, arith}
 use Rattle.std.specs.Result.{IfOk}
 use Rattle.std.proofs.lemmas.List.{at_drop_all}
 use Rattle.ped_tree.specs.Tree.{StmtTree, StmtTrees, no_stmts}
@@ -16,71 +16,75 @@ use Rattle.ped_flow.specs.RowMarks.{names_in, constants_in}
 use Rattle.ped_flow.specs.Parts.{IsPart}
 use Rattle.ped_flow.specs.Entries.{IsEntry, Knows, KnowsAll, KnowsInside, AreSameBut}
 use Rattle.ped_flow.specs.declared.entries.Entry.{Entry}
+use Rattle.ped_flow.specs.declared.parts.Part.{Part}
 use Rattle.ped_flow.proofs.SumLaws.{least-none, in_turn-passing}
 use Rattle.ped_flow.proofs.ScalarSteps.{rest_is}
 use Rattle.ped_flow.proofs.WalkSteps.{count_next, walk_next}
 use Rattle.ped_flow.proofs.OutsideSteps.{outside_next}
 use Rattle.ped_flow.proofs.EventRows.{if_ok}
 use Rattle.ped_flow.proofs.PartSums.{same_part}
-use Rattle.ped_flow.proofs.Known.{knows_written, same_written, made_entry, on_ok, if_known, if_others, if_count, known_next, others_next, unnumbered, uncounted, tree-Stop, tree-Comment, tree-Assign, tree-Print, tree-Read, tree-If, tree-Do}
+use Rattle.ped_flow.proofs.Known.{knows_written, same_written, entry_found, if_found, on_found, on_both, on_ok, if_known, if_others, if_count, known_next, others_next, unnumbered, uncounted, tree-Stop, tree-Comment, tree-Assign, tree-Print, tree-Read, tree-If, tree-Do}
 use Rattle.ped_flow.proofs.row_walks.+rows.Goals as goal
 
 pub entry_of-returns-in-Comment-clause-entry : goal.entry_of-returns-in-Comment-clause-entry
 entry_of-returns-in-Comment-clause-entry t c =
     let p = c.args.places.now in
     let s = plain.Comment c.in-Comment.field-0 in
-    subst (λ (z : StmtTree). IfOk c.new.result (λ e. IsEntry p e z c.args.number.now)) (sym (ap stmt_tree c.in-Comment.is ∙ tree-Comment c.in-Comment.field-0))
-    (if_ok c.new.result (λ e made. made_entry p s c.args.number.now _ _ e made (c.in_ok-part-in-Comment.ensures (names_in p) (sym c.len.ensures)) (omega arith)) c.new.ensures)
+    subst (λ (z : StmtTree). IfOk c.entry_with.result (λ e. IsEntry p e z c.args.number.now)) (sym (ap stmt_tree c.in-Comment.is ∙ tree-Comment c.in-Comment.field-0))
+    (entry_found p s c.args.number.now _ c.nothing.result c.entry_with.result (if_ok c.nothing.result (λ q h. h (names_in p) (sym c.len.ensures)) c.nothing.ensures) (omega arith) c.entry_with.ensures)
 
 pub entry_of-returns-in-Stop-clause-entry : goal.entry_of-returns-in-Stop-clause-entry
 entry_of-returns-in-Stop-clause-entry t c =
     let p = c.args.places.now in
     let s = plain.Stop in
-    subst (λ (z : StmtTree). IfOk c.new-in-Stop.result (λ e. IsEntry p e z c.args.number.now)) (sym (ap stmt_tree c.in-Stop.is ∙ tree-Stop))
-    (if_ok c.new-in-Stop.result (λ e made. made_entry p s c.args.number.now _ _ e made (c.in_ok-part-in-Stop.ensures (names_in p) (sym c.len-in-Stop.ensures)) (omega arith)) c.new-in-Stop.ensures)
+    subst (λ (z : StmtTree). IfOk c.entry_with-in-Stop.result (λ e. IsEntry p e z c.args.number.now)) (sym (ap stmt_tree c.in-Stop.is ∙ tree-Stop))
+    (entry_found p s c.args.number.now _ c.stopped.result c.entry_with-in-Stop.result (if_ok c.stopped.result (λ q h. h (names_in p) (sym c.len-in-Stop.ensures)) c.stopped.ensures) (omega arith) c.entry_with-in-Stop.ensures)
 
 pub entry_of-returns-in-Assign-clause-entry : goal.entry_of-returns-in-Assign-clause-entry
 entry_of-returns-in-Assign-clause-entry t c =
     let p = c.args.places.now in
     let s = plain.Assign (expr_tree c.in-Assign.left) (expr_tree c.in-Assign.right) in
-    subst (λ (z : StmtTree). IfOk c.new-in-Assign.result (λ e. IsEntry p e z c.args.number.now)) (sym (ap stmt_tree c.in-Assign.is ∙ tree-Assign c.in-Assign.left c.in-Assign.right))
-    (if_ok c.new-in-Assign.result (λ e made. made_entry p s c.args.number.now _ _ e made (c.in_ok-part-in-Assign.ensures c.args.number.now) (omega arith)) c.new-in-Assign.ensures)
+    subst (λ (z : StmtTree). IfOk c.entry_with-in-Assign.result (λ e. IsEntry p e z c.args.number.now)) (sym (ap stmt_tree c.in-Assign.is ∙ tree-Assign c.in-Assign.left c.in-Assign.right))
+    (entry_found p s c.args.number.now _ c.assignment.result c.entry_with-in-Assign.result (if_ok c.assignment.result (λ q h. h c.args.number.now) c.assignment.ensures) (omega arith) c.entry_with-in-Assign.ensures)
 
 pub entry_of-returns-in-Print-clause-entry : goal.entry_of-returns-in-Print-clause-entry
 entry_of-returns-in-Print-clause-entry t c =
     let p = c.args.places.now in
     let s = plain.Print (map item_tree c.deref.result.now) in
-    subst (λ (z : StmtTree). IfOk c.new-in-Print.result (λ e. IsEntry p e z c.args.number.now)) (sym (ap stmt_tree c.in-Print.is ∙ tree-Print c.in-Print.items ∙ ap (λ (is : List PrintItem). plain.Print (map item_tree is)) (sym c.deref.ensures.value)))
-    (if_ok c.new-in-Print.result (λ e made. made_entry p s c.args.number.now _ _ e made (c.in_ok-part-in-Print.ensures c.args.number.now) (omega arith)) c.new-in-Print.ensures)
+    subst (λ (z : StmtTree). IfOk c.entry_with-in-Print.result (λ e. IsEntry p e z c.args.number.now)) (sym (ap stmt_tree c.in-Print.is ∙ tree-Print c.in-Print.items ∙ ap (λ (is : List PrintItem). plain.Print (map item_tree is)) (sym c.deref.ensures.value)))
+    (entry_found p s c.args.number.now _ c.printing.result c.entry_with-in-Print.result (if_ok c.printing.result (λ q h. h c.args.number.now) c.printing.ensures) (omega arith) c.entry_with-in-Print.ensures)
 
 pub entry_of-returns-in-Read-clause-entry : goal.entry_of-returns-in-Read-clause-entry
 entry_of-returns-in-Read-clause-entry t c =
     let p = c.args.places.now in
     let s = plain.Read (map expr_tree c.deref-in-Read.result.now) in
-    subst (λ (z : StmtTree). IfOk c.new-in-Read.result (λ e. IsEntry p e z c.args.number.now)) (sym (ap stmt_tree c.in-Read.is ∙ tree-Read c.in-Read.items ∙ ap (λ (es : List Expr). plain.Read (map expr_tree es)) (sym c.deref-in-Read.ensures.value)))
-    (if_ok c.new-in-Read.result (λ e made. made_entry p s c.args.number.now _ _ e made (c.in_ok-part-in-Read.ensures c.args.number.now) (omega arith)) c.new-in-Read.ensures)
+    subst (λ (z : StmtTree). IfOk c.entry_with-in-Read.result (λ e. IsEntry p e z c.args.number.now)) (sym (ap stmt_tree c.in-Read.is ∙ tree-Read c.in-Read.items ∙ ap (λ (es : List Expr). plain.Read (map expr_tree es)) (sym c.deref-in-Read.ensures.value)))
+    (entry_found p s c.args.number.now _ c.reading.result c.entry_with-in-Read.result (if_ok c.reading.result (λ q h. h c.args.number.now) c.reading.ensures) (omega arith) c.entry_with-in-Read.ensures)
 
-pub entry_of-returns-in-Ok : goal.entry_of-returns-in-Ok
-entry_of-returns-in-Ok t c =
+pub entry_of-returns-in-If : goal.entry_of-returns-in-If
+entry_of-returns-in-If t c =
     let p = c.args.places.now in
     let n = c.args.number.now in
     let m = c.all_parts.new.number in
     let a = stmt_trees c.deref-in-If.result.now in
     let b = stmt_trees c.deref-in-If-2.result.now in
     let first = c.in_ok-first-in-If.ensures in
-    let second = c.in-Ok.ensures in
+    let parts = c.all_parts-second.result in
+    let second = c.all_parts-second.ensures in
+    let r = c.branches_entry.result in
+    let made = c.branches_entry.ensures in
     let s = plain.If (cond_tree c.in-If.c) a b in
     let tree : s ≡ stmt_tree c.args.s.now = sym (ap stmt_tree c.in-If.is ∙ tree-If c.in-If.c c.in-If.then_part c.in-If.else_part ∙ (λ j. plain.If (cond_tree c.in-If.c) (stmt_trees (sym c.deref-in-If.ensures.value j)) (stmt_trees (sym c.deref-in-If-2.ensures.value j)))) in
-    let count = if_count p [] [] [] (cond_tree c.in-If.c) a b n m first.number c.all_parts-in-If.new.number second.number in
-    let behind = subst (λ (k : ℕ). IsPart (names_in p) c.in-Ok.second (λ x. sum_of_all (constants_in p) x b k) (λ x. all_first_outside (constants_in p) x b k) (all_loop_variables b)) first.number second.part in
+    let count = λ (q : Part) (there : parts ≡ Ok q). if_count p [] [] [] (cond_tree c.in-If.c) a b n m first.number c.all_parts-second.new.number (on_found parts q there second.number) in
+    let behind = λ (q : Part) (there : parts ≡ Ok q).
+    subst (λ (k : ℕ). IsPart (names_in p) q (λ x. sum_of_all (constants_in p) x b k) (λ x. all_first_outside (constants_in p) x b k) (all_loop_variables b)) first.number (if_found _ parts q there second.part) in
     record {
-      number = on_ok c.branches_entry.result (count ∙ ap (λ (z : StmtTree). n + statement_count z) tree);
-      entry = subst (λ (z : StmtTree). IfOk c.branches_entry.result (λ e. IsEntry p e z n)) tree
-          (if_ok c.branches_entry.result (λ e made. made n a b first.part behind count) c.branches_entry.ensures);
-      known = on_ok c.branches_entry.result (subst (λ (z : StmtTree). KnowsInside p c.all_parts-in-If.new.table z n) tree
-          (if_known p [] c.all_parts.new.table c.all_parts-in-If.new.table (cond_tree c.in-If.c) a b n m first.number first.known second.known second.others));
-      others = on_ok c.branches_entry.result (subst (λ (z : StmtTree). AreSameBut c.args.table.now c.all_parts-in-If.new.table (n + 1) (n + statement_count z)) tree
-          (if_others p c.args.table.now c.all_parts.new.table c.all_parts-in-If.new.table (cond_tree c.in-If.c) a b n m first.number first.others second.others));
+      number = on_both _ r parts made (λ q there. count q there ∙ ap (λ (z : StmtTree). n + statement_count z) tree);
+      entry = subst (λ (z : StmtTree). IfOk r (λ e. IsEntry p e z n)) tree (if_ok r (λ e h. h.2 n a b first.part (behind h.0 h.1) (count h.0 h.1)) made);
+      known = on_both _ r parts made (λ q there. subst (λ (z : StmtTree). KnowsInside p c.all_parts-second.new.table z n) tree
+          (if_known p [] c.all_parts.new.table c.all_parts-second.new.table (cond_tree c.in-If.c) a b n m first.number first.known (on_found parts q there second.known) (on_found parts q there second.others)));
+      others = on_both _ r parts made (λ q there. subst (λ (z : StmtTree). AreSameBut c.args.table.now c.all_parts-second.new.table (n + 1) (n + statement_count z)) tree
+          (if_others p c.args.table.now c.all_parts.new.table c.all_parts-second.new.table (cond_tree c.in-If.c) a b n m first.number first.others (on_found parts q there second.others)));
     }
 
 pub entry_of-returns-in-Do : goal.entry_of-returns-in-Do

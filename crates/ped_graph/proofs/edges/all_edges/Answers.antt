@@ -14,12 +14,12 @@ loop-place-preserved g c =
     let ps = pairs_by fs vs in
     let i = c.loop-place.place in
     let x = c.index-pairs-place.result in
-    let more = c.in_ok-push_edges.ensures.edges in
+    let more = c.in_ok-push_tested.ensures.edges in
     let at = mapped_at framed_of c.args.pairs.now i x (item_there c.args.pairs.now i x c.index-pairs-place.is c.loop-place-test.true) in
     let p = pair_by (framed_of x) c.verdict_at.result.now in
     let next = next_pair fs vs i (framed_of x) c.verdict_at.result.now at c.verdict_at.ensures ∙ ap (λ (n : _). p ∷ drop n ps) (sym (add-one i)) in
     let ahead = one_found ps i (map edge_of c.loop-place.edges.items) more.0 p next more.2 c.loop-place.invariant.0 in
-    (subst (λ (es : List Edge). AreAhead ps (i + 1) es) (sym more.1) ahead, c.in_ok-push_edges.ensures.short c.loop-place.invariant.1)
+    (subst (λ (es : List Edge). AreAhead ps (i + 1) es) (sym more.1) ahead, c.in_ok-push_tested.ensures.short c.loop-place.invariant.1)
 
 pub returns-clause-edges : goal.returns-clause-edges
 returns-clause-edges g c =

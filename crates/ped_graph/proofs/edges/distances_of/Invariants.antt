@@ -5,4 +5,4 @@ use Rattle.ped_graph.proofs.edges.distances_of.Given as goal
 
 -- the distances in the loops so far
 abbrev pub invariant-loop-place : goal.invariant-loop-place
-invariant-loop-place g l = l.distances.items ≡ map (distance l.verdict) (range_with_len 0 l.place)
+invariant-loop-place l = l.distances.items ≡ map (distance l.view) (range_with_len 0 l.place)

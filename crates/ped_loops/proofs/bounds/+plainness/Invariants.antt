@@ -1,7 +1,7 @@
 use Rattle.std.proofs.Common.{drop, map}
 use Rattle.std.specs.Prelude.{◌↔◌}
 use Rattle.ped_tree.specs.Views.{expr_tree, pack_exprs}
-use Rattle.ped_scalar.specs.ped_rules.specs.ped_loop_runs.specs.ped_tidy.specs.ped_pasting.specs.ped_bodies.specs.ped_steps.specs.ped_flow.specs.PlainBounds.{ArePlainlyBuilt}
+use Rattle.ped_scalar.specs.ped_rules.specs.ped_loop_runs.specs.ped_bodies.specs.ped_steps.specs.ped_flow.specs.PlainBounds.{ArePlainlyBuilt}
 use Rattle.ped_loops.specs.CodePlain.{tree_at, values_at}
 use Rattle.ped_loops.proofs.bounds.+plainness.Given as goal
 

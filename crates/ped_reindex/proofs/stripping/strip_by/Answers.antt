@@ -2,7 +2,7 @@ use Rattle.std.proofs.Common.{ℤ, IfOk, sym, ◌∙◌, subst}
 use Rattle.std.specs.Int.{w64}
 use Rattle.std.proofs.lemmas.Int.{to_z-of_z}
 use Rattle.ped_tree.specs.Views.{program_tree, stmt_trees, head_of}
-use Rattle.ped_loops.specs.ped_scalar.specs.ped_rules.specs.ped_loop_runs.specs.ped_tidy.specs.ped_pasting.specs.ped_bodies.specs.ped_steps.specs.declared.rules.Rule.TheVariants.{Limit}
+use Rattle.ped_loops.specs.ped_scalar.specs.ped_rules.specs.ped_loop_runs.specs.ped_bodies.specs.ped_steps.specs.declared.rules.Rule.TheVariants.{Limit}
 use Rattle.ped_loops.specs.ped_scalar.specs.ped_rules.specs.Steps.{Answers}
 use Rattle.ped_reindex.specs.Stripping.{stripping}
 use Rattle.ped_reindex.proofs.StripRules as rules

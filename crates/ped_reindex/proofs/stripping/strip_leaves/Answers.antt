@@ -5,10 +5,10 @@ use Rattle.std.proofs.lemmas.Result.{IfOk-weaker}
 use Rattle.ped_tree.specs.Tree.{Head, Do, no_stmts}
 use Rattle.ped_tree.specs.Views.{program_tree, stmt_trees, head_of}
 use Rattle.ped_loops.specs.ped_scalar.specs.ped_rules.specs.Rules.{heads_round}
-use Rattle.ped_loops.specs.ped_scalar.specs.ped_rules.specs.ped_loop_runs.specs.ped_tidy.specs.ped_pasting.specs.ped_bodies.specs.ped_steps.proofs.Answering.{few_numbers}
-use Rattle.ped_loops.specs.ped_scalar.specs.ped_rules.specs.ped_loop_runs.specs.ped_tidy.specs.ped_pasting.specs.ped_bodies.specs.ped_steps.specs.ped_affine.specs.PairViews.{heads_of}
-use Rattle.ped_loops.specs.ped_scalar.specs.ped_rules.specs.ped_loop_runs.specs.ped_tidy.specs.ped_pasting.specs.ped_bodies.specs.ped_steps.specs.ped_refs.specs.Loops.{nest_of}
-use Rattle.ped_loops.specs.ped_scalar.specs.ped_rules.specs.ped_loop_runs.specs.ped_tidy.specs.ped_pasting.specs.ped_bodies.specs.ped_steps.specs.ped_refs.specs.declared.loops.Loop.{Loop}
+use Rattle.ped_loops.specs.ped_scalar.specs.ped_rules.specs.ped_loop_runs.specs.ped_bodies.specs.ped_steps.proofs.Answering.{few_numbers}
+use Rattle.ped_loops.specs.ped_scalar.specs.ped_rules.specs.ped_loop_runs.specs.ped_bodies.specs.ped_steps.specs.ped_affine.specs.PairViews.{heads_of}
+use Rattle.ped_loops.specs.ped_scalar.specs.ped_rules.specs.ped_loop_runs.specs.ped_bodies.specs.ped_steps.specs.ped_refs.specs.Loops.{nest_of}
+use Rattle.ped_loops.specs.ped_scalar.specs.ped_rules.specs.ped_loop_runs.specs.ped_bodies.specs.ped_steps.specs.ped_refs.specs.declared.loops.Loop.{Loop}
 use Rattle.ped_reindex.specs.Stripping.{strips_head, strip_end}
 use Rattle.ped_reindex.proofs.NestRooms.{pushed_short, heads_pushed}
 use Rattle.ped_reindex.proofs.StripAnswers.{one_head, leaves_is}

@@ -1,10 +1,10 @@
 use Rattle.std.proofs.Common.{◌≡◌, Option, None, is_none, sym, ap, ◌∙◌, subst}
 use Rattle.ped_tree.specs.Views.{program_tree, stmt_trees}
-use Rattle.ped_rules.specs.ped_loop_runs.specs.ped_tidy.specs.ped_pasting.specs.ped_bodies.specs.ped_steps.specs.ped_refs.specs.Loops.{nest_of}
+use Rattle.ped_rules.specs.ped_loop_runs.specs.ped_bodies.specs.ped_steps.specs.ped_refs.specs.Loops.{nest_of}
 use Rattle.ped_tree.specs.Views.{head_of}
-use Rattle.ped_rules.specs.ped_loop_runs.specs.ped_tidy.specs.ped_pasting.specs.ped_bodies.specs.ped_steps.specs.ped_symbols.specs.Kinds.{table_of}
-use Rattle.ped_rules.specs.ped_loop_runs.specs.ped_tidy.specs.ped_pasting.specs.ped_bodies.specs.ped_steps.specs.declared.rules.Rule.TheVariants.{ExposedOrLive, NotScalar, NotConstant}
-use Rattle.ped_rules.specs.ped_loop_runs.specs.ped_tidy.specs.ped_pasting.specs.ped_bodies.specs.ped_steps.proofs.Answering.{few_numbers}
+use Rattle.ped_rules.specs.ped_loop_runs.specs.ped_bodies.specs.ped_steps.specs.ped_symbols.specs.Kinds.{table_of}
+use Rattle.ped_rules.specs.ped_loop_runs.specs.ped_bodies.specs.ped_steps.specs.declared.rules.Rule.TheVariants.{ExposedOrLive, NotScalar, NotConstant}
+use Rattle.ped_rules.specs.ped_loop_runs.specs.ped_bodies.specs.ped_steps.proofs.Answering.{few_numbers}
 use Rattle.ped_rules.specs.Spans.{span_of}
 use Rattle.ped_rules.specs.CodeSpans.{IsKnown}
 use Rattle.ped_rules.specs.declared.spans.Span.{Span as CodeSpan}

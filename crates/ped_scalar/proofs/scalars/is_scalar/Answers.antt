@@ -1,8 +1,8 @@
 use Rattle.std.proofs.Common.{ap, ◌∙◌}
-use Rattle.ped_rules.specs.ped_loop_runs.specs.ped_tidy.specs.ped_pasting.specs.ped_bodies.specs.ped_steps.specs.ped_symbols.specs.Entries.{entry_of}
-use Rattle.ped_rules.specs.ped_loop_runs.specs.ped_tidy.specs.ped_pasting.specs.ped_bodies.specs.ped_steps.specs.ped_symbols.specs.Kinds.{Table}
-use Rattle.ped_rules.specs.ped_loop_runs.specs.ped_tidy.specs.ped_pasting.specs.ped_bodies.specs.ped_steps.specs.ped_symbols.specs.RightUses.RightUses.{is_scalar_kind}
-use Rattle.ped_rules.specs.ped_loop_runs.specs.ped_tidy.specs.ped_pasting.specs.ped_bodies.specs.ped_steps.specs.ped_symbols.proofs.RightUseLaws.Found.{found_in_program}
+use Rattle.ped_rules.specs.ped_loop_runs.specs.ped_bodies.specs.ped_steps.specs.ped_symbols.specs.Entries.{entry_of}
+use Rattle.ped_rules.specs.ped_loop_runs.specs.ped_bodies.specs.ped_steps.specs.ped_symbols.specs.Kinds.{Table}
+use Rattle.ped_rules.specs.ped_loop_runs.specs.ped_bodies.specs.ped_steps.specs.ped_symbols.specs.RightUses.RightUses.{is_scalar_kind}
+use Rattle.ped_rules.specs.ped_loop_runs.specs.ped_bodies.specs.ped_steps.specs.ped_symbols.proofs.RightUseLaws.Found.{found_in_program}
 use Rattle.ped_scalar.proofs.scalars.is_scalar.Goals as goal
 
 pub returns : goal.returns

@@ -1,0 +1,24 @@
+//! What a step shows, and the meaning that is kept.
+
+ghost use Rattle.std.specs.Prelude.{Bool, ◌||◌, not};
+ghost use Rattle.ped_bodies.specs.ped_steps.specs.ped_laws.specs.Acts.Sets.{wants};
+ghost use Rattle.ped_bodies.specs.ped_steps.specs.ped_laws.specs.ped_store.specs.Cells.{Cell};
+ghost use Rattle.ped_bodies.specs.ped_steps.specs.ped_flow.specs.ped_tree.specs.Tree.{StmtTrees, ProgramTree};
+ghost use Rattle.ped_bodies.specs.ped_steps.specs.Runs.Gaps.{Gap};
+ghost use Rattle.ped_bodies.specs.ped_steps.specs.Runs.Meaning.{Keeps};
+ghost use Rattle.ped_loop_runs.specs.Meaning.{SuitEnds, IsExchange};
+
+/// A program in which statements are exchanged for others keeps its meaning, where in each execution the new statements
+/// do new acts which may stand for the old ones and make no race (ParaScope). The one end of every proof of a step that
+/// rewrites a loop: it speaks of one execution, its iterations and its store.
+pub fn exchanged_keeps()
+    ensures { (gap : Gap) (old new : StmtTrees) (t u : ProgramTree) → IsExchange gap old new t u → Keeps t u }
+{}
+
+/// Two choices of the cells on which the stores of the old and of the new run agree: those that the old acts want from
+/// there on; and all cells but those that stand apart, and of these again the ones that are wanted. The second one is for
+/// steps that put in reads, as of bounds that nobody may have read before.
+pub fn suiting_sets()
+    ensures wanted { (shown : Cell → Bool) → SuitEnds shown (wants shown) }
+    ensures apart { (apart shown : Cell → Bool) → SuitEnds shown (λ acts c. not (apart c) || wants shown acts c) }
+{}

@@ -1,5 +1,0 @@
-use Rattle.ped_pasting.proofs.PastingLaws.PastedRuns.{exchanged_near}
-use Rattle.ped_pasting.proofs.other_copies.executions_pasted_near.Goals as goal
-
-pub returns : goal.returns
-returns c = exchanged_near

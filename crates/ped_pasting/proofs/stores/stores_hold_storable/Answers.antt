@@ -1,9 +1,0 @@
-use Rattle.ped_bodies.specs.ped_steps.specs.ped_laws.specs.ped_graph.specs.ped_symbols.proofs.RightUseLaws.Whole.{right_program}
-use Rattle.ped_pasting.proofs.PastingLaws.RunStores.{storable_after, all_storable_after}
-use Rattle.ped_pasting.proofs.stores.stores_hold_storable.Goals as goal
-
-pub returns-clause-of_variables : goal.returns-clause-of_variables
-returns-clause-of_variables c = λ t data_bytes valid. all_storable_after t valid (right_program t valid) data_bytes
-
-pub returns-clause-in_setting : goal.returns-clause-in_setting
-returns-clause-in_setting c = λ t data_bytes valid. storable_after t valid (right_program t valid) data_bytes

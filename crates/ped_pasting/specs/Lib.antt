@@ -1,9 +1,0 @@
-pub use Rattle.ped_bodies
-pub mod Executions
-pub mod Copies
-pub mod Pasting
-pub mod Meaning
-pub mod Numbers
-pub mod Statements
-pub mod Places
-pub mod OtherCopies

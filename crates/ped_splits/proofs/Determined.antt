@@ -1,0 +1,18 @@
+-- What the step comes to is determined, whatever it keeps of the meaning.
+use Rattle.std.proofs.Common.{ℕ, refl}
+use Rattle.ped_reindex.specs.ped_loops.specs.ped_scalar.specs.ped_rules.specs.ped_loop_runs.specs.ped_bodies.specs.ped_steps.specs.Causes.{none_forbids}
+use Rattle.ped_reindex.specs.ped_loops.specs.ped_scalar.specs.ped_rules.specs.ped_loop_runs.specs.ped_bodies.specs.ped_steps.proofs.OneCause.{one_cause}
+use Rattle.ped_reindex.specs.ped_loops.specs.ped_scalar.specs.ped_rules.specs.Lawful.{IsDetermined}
+use Rattle.ped_splits.specs.Distributing.{distributed, StandsAgainstDistribution, distributing}
+use Rattle.ped_splits.proofs.DistributeRules.{kept, one_made, chain, its_loop, is_valid}
+use Rattle.ped_splits.proofs.Existence.Closures.{blocks_exist}
+
+pub determined_distribution : (s : ℕ) → IsDetermined (distributing s)
+determined_distribution s = record {
+  one_cause = λ t c d p q. one_cause t (StandsAgainstDistribution s t) none_forbids (chain s t).one c d p q;
+  one_made = one_made s;
+  some_made = λ t valid none.
+      let l = its_loop s t none.0 in
+      let found = blocks_exist t s l.head l.body in
+      (distributed t s found.0, kept s t l.body found.0, (l, found.0, found.1, refl, refl), is_valid s t none.0 l found.0 found.1);
+}

@@ -1,0 +1,28 @@
+use Rattle.std.proofs.Common.{ℕ, List, sym, subst}
+use Rattle.ped_reindex.specs.ped_loops.specs.ped_scalar.specs.ped_rules.specs.Lawful.{IsFaithful}
+use Rattle.ped_splits.proofs.Determined.{determined_distribution}
+use Rattle.ped_splits.proofs.DistributeRules as rules
+use Rattle.ped_splits.proofs.DistributeTrusted.{stays_trusted_distributed}
+use Rattle.ped_splits.proofs.DistributedKinds as static
+use Rattle.ped_splits.proofs.BlockPlaces as places
+use Rattle.ped_splits.proofs.KeptArrows as kept_arrows
+use Rattle.ped_splits.proofs.OneToOne.{one_to_one}
+use Rattle.ped_splits.proofs.SplitFacts.{is_split}
+use Rattle.ped_splits.proofs.SplitKeeps.{distributed_keeps}
+use Rattle.ped_splits.proofs.laws.distribution_is_lawful.Goals as goal
+
+pub returns : goal.returns
+returns c s = record {
+  one_cause = (determined_distribution s).one_cause;
+  one_made = (determined_distribution s).one_made;
+  one_to_one = one_to_one s;
+  some_made = (determined_distribution s).some_made;
+  keeps = λ t new keep valid none m trusted.
+      let l = m.0 in
+      let found = m.1 in
+      let are = m.2 in
+      subst (IsFaithful t) (sym m.3) (record {
+        trusted = stays_trusted_distributed t valid s l found are (rules.are_many s t none.0 l found are) (rules.is_serial s t none.0 l) (rules.is_contained s t none.0) c.stays_trusted.ensures c.private_names_cleared.ensures trusted;
+        keeps = distributed_keeps c.accesses_are_made.ensures c.accesses_in_sequence.ensures c.none_rejected.ensures.edges t s l found (is_split t s l found valid none.0 are trusted.unrejected);
+      });
+}

@@ -1,0 +1,14 @@
+//! Steps that take DO loops apart and put them together: `distribute` makes DO loops of their own of what needn't stay in one,
+//! and orders them. The definitions stand in `specs/`.
+#![tactic(auto)]
+
+mod arrows;
+mod blocks;
+mod distributing;
+mod keeping;
+mod laws;
+mod units;
+
+pub use distributing::distribute;
+pub use laws::distribution_is_lawful;
+pub use ped_reindex;

@@ -1,8 +1,0 @@
-use Rattle.ped_tidy.proofs.ExchangedShown.{staying_shown, new_shown}
-use Rattle.ped_tidy.proofs.tidiness.shown_behind_gap.Goals as goal
-
-pub returns-clause-staying : goal.returns-clause-staying
-returns-clause-staying c = staying_shown
-
-pub returns-clause-new : goal.returns-clause-new
-returns-clause-new c = new_shown

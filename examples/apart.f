@@ -1,0 +1,16 @@
+      PROGRAM APART
+C     IN THE FIRST OF THE TWO LOOPS C TAKES THE A OF THE ITERATION
+C     BEFORE, IN THE SECOND ONE A TAKES THE B OF THE ITERATION BEFORE.
+      INTEGER A(10), B(10), C(10)
+      SAVE A, C
+      DO 10 I=1,10
+      A(I)=0
+      B(I)=I*I
+   10 C(I)=0
+      DO 20 I=2,10
+      A(I)=B(I)+1
+   20 C(I)=A(I-1)
+      DO 30 I=2,10
+      A(I)=B(I-1)
+   30 B(I)=C(I)
+      END

@@ -1,0 +1,10 @@
+      PROGRAM FREED
+C     RUNNING SUMS OF TERMS. EACH SUM NEEDS THE ONE BEFORE, AND NO TERM
+C     NEEDS ANOTHER ONE.
+      INTEGER T(8), S(0:8)
+      SAVE S
+      S(0)=0
+      DO 10 I=1,8
+      T(I)=I*I+1
+   10 S(I)=S(I-1)+T(I)
+      END

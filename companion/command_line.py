@@ -12,6 +12,7 @@ from .commands.export import export
 from .commands.graph import graph
 from .commands.loops import loops
 from .commands.omp import omp
+from .commands.tune import tune
 from .commands.why import Wanted, why
 from .messages import ERROR
 from .panes import KINDS, MARKS
@@ -50,8 +51,8 @@ def main(words: Optional[List[str]] = None) -> int:
     """Carries out a call with these words, and answers its exit status."""
     sys.setrecursionlimit(max(_DEPTH, sys.getrecursionlimit()))
     options = _parser().parse_args(words)
-    question = Question(options.file, options.script, options.data, options.printed)
-    if question.data is not None and question.script is None and options.command != "check":
+    question = Question(options.file, options.script, options.data, getattr(options, "printed", False))
+    if question.data is not None and question.script is None and options.command not in ("check", "edit"):
         return _ended(f"pedx: {ERROR}: --data wants --script\n", Status.BAD_WORDS)
     try:
         out, messages, status = _answer(options, question, Ped(find_ped(options.ped)))
@@ -69,10 +70,22 @@ def _answer(options: argparse.Namespace, question: Question, ped: Ped) -> Answer
         runs = options.run or options.script is not None or options.data is not None
         report = check(ped, question, runs, options.strict)
         return report.text, "", report.status
+    if options.command == "edit":
+        return _edit(ped, question), "", Status.DONE
     view = open_view(ped, question)
     out = _COMMANDS[options.command](options, view, ped)
     messages = "".join(row + "\n" for row in view.complaints)
     return out, messages, Status.LINE_REFUSED if view.complaints else Status.DONE
+
+
+def _edit(ped: Ped, question: Question) -> str:
+    try:
+        # Some Pythons lack the library curses, which no other command wants.
+        from .commands.edit import edit
+    except ImportError as error:
+        raise CompanionError(Status.NOT_WRITTEN, f"edit can't use the terminal: {error}") from error
+    edit(ped, question.file, question.script, question.data)
+    return ""
 
 
 def _why(options: argparse.Namespace, view: View, ped: Ped) -> str:
@@ -81,6 +94,7 @@ def _why(options: argparse.Namespace, view: View, ped: Ped) -> str:
 
 _COMMANDS: Dict[str, Callable[[argparse.Namespace, View, Ped], str]] = {
     "loops": lambda options, view, ped: loops(view, ped, options.loops, options.trials),
+    "tune": lambda options, view, ped: tune(view, ped, options.loops),
     "why": _why,
     "omp": lambda options, view, ped: omp(view, options.live),
     "graph": lambda options, view, ped: graph(view, options.loop, options.svg),
@@ -98,12 +112,15 @@ def _parser() -> argparse.ArgumentParser:
             name, help=words, description=words[0].upper() + words[1:] + ".", epilog=_STATUSES, formatter_class=layout
         )
         command.add_argument("file", metavar="FILE", help="the program")
-        _add_common(command)
+        _add_common(command, is_editor=name == "edit")
         return command
 
+    add("edit", "edit a program and transform its loops, with both panes on a terminal")
     command = add("loops", "say which loops are parallel, what the others carry, and what to try there")
     command.add_argument("loops", metavar="S", type=int, nargs="*", help="the statement numbers of the wanted loops")
     command.add_argument("--no-trials", dest="trials", action="store_false", help="try no steps in a session")
+    command = add("tune", "say what stands in the way of each loop, and which single step removes it")
+    command.add_argument("loops", metavar="S", type=int, nargs="*", help="the statement numbers of the wanted loops")
     _add_filters(add("why", "say of each row of the dependence pane why it is there"))
     command = add("omp", "write the program as FORTRAN with OpenMP directives, for gfortran -fopenmp")
     command.add_argument("--live", action="store_true", help="print the variables in SAVE at the end")
@@ -119,10 +136,16 @@ def _parser() -> argparse.ArgumentParser:
     return parser
 
 
-def _add_common(command: argparse.ArgumentParser) -> None:
-    command.add_argument("--script", metavar="SCRIPT", help="look at the program behind this script of a session")
-    command.add_argument("--data", metavar="DATA", help="the data for the runs of the script, or of check")
-    command.add_argument("--printed", action="store_true", help="name lines of the printed source, not those of FILE")
+def _add_common(command: argparse.ArgumentParser, is_editor: bool) -> None:
+    script = "begin with this script, if it is there, and save to it"
+    data = "the data for runs"
+    if not is_editor:
+        script = "look at the program behind this script of a session"
+        data = "the data for the runs of the script, or of check"
+    command.add_argument("--script", metavar="SCRIPT", help=script)
+    command.add_argument("--data", metavar="DATA", help=data)
+    if not is_editor:
+        command.add_argument("--printed", action="store_true", help="name lines of the printed source, not of FILE")
     command.add_argument("--ped", metavar="PATH", help="the program ped; else PEDX_PED, else ped beside pedx")
 
 

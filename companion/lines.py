@@ -6,11 +6,15 @@ columns 7 to 72 hold the statement. Blanks mean nothing but in character constan
 
 from __future__ import annotations
 
+import re
 from dataclasses import dataclass
 from typing import Iterator, List, NamedTuple, Optional, Sequence, Tuple, Union, overload
 
 FIRST_COLUMN = 7
 LAST_COLUMN = 72
+
+#: A whole character constant, in which two apostrophes are one, or another character that isn't blank.
+_CHARACTER = re.compile(r"'(?:[^']|'')*(?:'|$)|[^ ]", re.DOTALL)
 
 
 class Place(NamedTuple):
@@ -172,32 +176,17 @@ def _statement(lines: Sequence[str], numbers: Sequence[int], directives: Sequenc
 
 def _joined(lines: Sequence[str], numbers: Sequence[int]) -> Text:
     """The text of a statement: its columns 7 to 72, joined; a shorter line counts as filled with blanks."""
-    letters = []
-    places = []
-    for number in numbers:
-        letters.append(lines[number - 1][FIRST_COLUMN - 1:LAST_COLUMN].ljust(LAST_COLUMN - FIRST_COLUMN + 1))
-        places.extend(Place(number, column) for column in range(FIRST_COLUMN, LAST_COLUMN + 1))
-    return Text(list(_characters("".join(letters), places)))
+    width = LAST_COLUMN - FIRST_COLUMN + 1
+    letters = "".join(lines[number - 1][FIRST_COLUMN - 1:LAST_COLUMN].ljust(width) for number in numbers)
+
+    def place(index: int) -> Place:
+        return Place(numbers[index // width], FIRST_COLUMN + index % width)
+
+    return Text([
+        Character(_capital(match.group()), place(match.start()), place(match.end() - 1))
+        for match in _CHARACTER.finditer(letters.rstrip(" "))
+    ])
 
 
-def _characters(letters: str, places: Sequence[Place]) -> Iterator[Character]:
-    index = 0
-    while index < len(letters):
-        end = _end_of_constant(letters, index) if letters[index] == "'" else index
-        if letters[index] == "'":
-            yield Character(letters[index:end + 1], places[index], places[end])
-        elif letters[index] != " ":
-            yield Character(letters[index].upper(), places[index], places[index])
-        index = end + 1
-
-
-def _end_of_constant(letters: str, begin: int) -> int:
-    """The index of the apostrophe that ends a constant; one that is written twice doesn't."""
-    index = begin + 1
-    while index < len(letters):
-        if letters[index] == "'":
-            if letters[index + 1:index + 2] != "'":
-                return index
-            index += 1
-        index += 1
-    return len(letters) - 1
+def _capital(text: str) -> str:
+    return text if text[0] == "'" else text.upper()

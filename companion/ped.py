@@ -44,8 +44,14 @@ def read_file(name: str) -> str:
 class Ped:
     """The program ped."""
 
-    def __init__(self, program: str) -> None:
+    def __init__(self, program: str, is_quiet: bool = False) -> None:
         self._program = program
+        #: Whether what it writes to standard error is dropped, as it would spoil what a terminal shows.
+        self._is_quiet = is_quiet
+
+    def quiet(self) -> Ped:
+        """The same program, without what it writes to standard error."""
+        return Ped(self._program, is_quiet=True)
 
     def show(self, source: str) -> Panes:
         """Both panes of a program."""
@@ -78,7 +84,8 @@ class Ped:
         program = os.path.abspath(self._program) if os.sep in self._program else self._program
         try:
             done = subprocess.run(
-                [program, *words], cwd=folder, stdin=subprocess.DEVNULL, stdout=subprocess.PIPE, check=False
+                [program, *words], cwd=folder, stdin=subprocess.DEVNULL, stdout=subprocess.PIPE,
+                stderr=subprocess.DEVNULL if self._is_quiet else None, check=False,
             )
         except OSError as error:
             message = f"cannot start {shown(self._program)}: {error.strerror}; --ped or PEDX_PED names the program ped"

@@ -17,7 +17,7 @@ from .statuses import CompanionError, Status
 _ANSWER = re.compile(r"(\d+): (ok|refused .*)")
 _FAULT = re.compile(r"fault (\d+) at (\d+)")
 _RACE = re.compile(r"race (\S+) at (\d+) and (\d+)")
-_ADVICE = re.compile(r"(?:[a-z]+|peel first|peel last) (?:ok|refused .*)")
+_ADVICE = re.compile(r"([a-z]+|peel first|peel last) (?:ok|refused .*)")
 _LAST_PRINTED = " " * 6 + "END"
 
 
@@ -124,6 +124,13 @@ def _run(rows: Sequence[str]) -> int:
     return count + _while(rows[count:], lambda row: row.startswith("live "))
 
 
+def _advice(rows: Sequence[str]) -> int:
+    """The rows of one `advise`: it tells of each step once, and another one may stand behind it."""
+    matches = [_ADVICE.fullmatch(row) for row in rows]
+    steps = [match.group(1) if match is not None else None for match in matches]
+    return next((count for count, step in enumerate(steps) if step is None or step in steps[:count]), len(rows))
+
+
 def _while(rows: Sequence[str], belongs: Callable[[str], object]) -> int:
     """How many rows at the front belong to a reply."""
     return next((count for count, row in enumerate(rows) if not belongs(row)), len(rows))
@@ -137,5 +144,5 @@ _SHOWN: Dict[str, Callable[[Sequence[str]], int]] = {
     "run": _run,
     "races": lambda rows: 1,
     "tested": lambda rows: 1,
-    "advise": lambda rows: _while(rows, _ADVICE.fullmatch),
+    "advise": _advice,
 }

@@ -6,11 +6,11 @@ import re
 from dataclasses import dataclass
 from typing import Dict, List, Optional, Sequence, Tuple
 
+from .outline import outline_of
 from .panes import Dependence, read_panes
 from .ped import Ped
-from .program import read_program
 from .replies import Reply
-from .views import View, by_carrier
+from .views import View
 
 
 @dataclass(frozen=True)
@@ -82,7 +82,8 @@ def _outcome(trial: Trial, steps: Sequence[Reply], shown: Reply) -> Outcome:
     if refusal is not None:
         return Outcome(trial, refusal, ())
     panes = read_panes(shown.rows)
-    carried = by_carrier(read_program(panes.lines), panes.dependences).get(trial.loop, [])
+    outline = outline_of(panes.source)
+    carried = (row for row in panes.dependences if outline.carrier(row) == trial.loop)
     return Outcome(trial, None, tuple(carried))
 
 

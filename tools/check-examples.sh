@@ -2,7 +2,8 @@
 # Runs the examples, and compares what the program writes with the stored output, byte for byte, and its
 # exit status with the one that is wanted.
 #
-# An example NAME is the file examples/NAME.out, the output that is wanted. The program is called at the
+# An example NAME is the file examples/NAME.out, the output that is wanted; those of examples/book/ are named book/NAME,
+# and docs/BOOK.md tells of them. The program is called at the
 # repository's top with the words of examples/NAME.args, one a line. Where there is no such file, they are
 # `session examples/NAME.f examples/NAME.script` where NAME has a script, with `--data examples/NAME.data`
 # behind them where it has data, and else `show examples/NAME.f`. The status that is wanted stands in
@@ -37,17 +38,17 @@ if [ "$status" -ne 2 ]; then
     exit 1
 fi
 
-for program in examples/*.f; do
+for program in examples/*.f examples/book/*.f; do
     [ -f "${program%.f}.out" ] || differs "$program" "its output isn't stored beside it"
 done
-for file in examples/*.script examples/*.data; do
+for file in examples/{,book/}*.{script,data}; do
     [ -f "${file%.*}.f" ] || differs "$file" "its program isn't stored beside it"
 done
-for data in examples/*.data; do
+for data in examples/{,book/}*.data; do
     [ -f "${data%.data}.script" ] || differs "$data" "its script isn't stored beside it"
 done
 
-for wanted in examples/*.out; do
+for wanted in examples/*.out examples/book/*.out; do
     name=${wanted%.out}
     words=(show "$name.f")
     if [ -f "$name.args" ]; then

@@ -20,12 +20,12 @@ def loops(view: View, ped: Ped, numbers: Sequence[int], tries: bool) -> str:
     if not chosen:
         return "no loops\n"
     adviser = Adviser(view, ped, chosen, tries)
-    headers = [_header(loop) for loop in chosen]
+    headers = [header(loop) for loop in chosen]
     width = max(map(len, headers + ["loop"]))
     rows = [f"{'S':>4} {'line':>5}  {'loop':{width}}  verdict"]
-    for loop, header in zip(chosen, headers):
+    for loop, text in zip(chosen, headers):
         line = view.program.statement(loop.number).line
-        rows.append(f"{loop.number:4} {line:5}  {header:{width}}  {_verdict(view, loop)}")
+        rows.append(f"{loop.number:4} {line:5}  {text:{width}}  {_verdict(view, loop)}")
         rows.extend(" " * 14 + remark for remark in _remarks(view, adviser, loop))
     return "".join(row.rstrip() + "\n" for row in rows)
 
@@ -39,7 +39,7 @@ def find_loop(view: View, number: int) -> Loop:
     return loop
 
 
-def _header(loop: Loop) -> str:
+def header(loop: Loop) -> str:
     """The header of a loop without its label, two blanks further for each loop round it."""
     form = loop.form
     bounds = [form.first, form.last] + ([form.step] if form.step is not None else [])
@@ -63,14 +63,14 @@ def _remarks(view: View, adviser: Adviser, loop: Loop) -> Iterator[str]:
     rows = view.carried_by(loop)
     for name in carried_names(rows):
         mine = [row for row in rows if row.name == name]
-        yield f"{name}: {_summary(mine)}"
+        yield f"{name}: {summary(mine)}"
         for advice in adviser.about_name(loop, name, mine):
             yield f"- {advice}"
     for advice in adviser.about_loop(loop):
         yield f"- {advice}"
 
 
-def _summary(rows: List[Dependence]) -> str:
+def summary(rows: List[Dependence]) -> str:
     """The kinds, the number and the marks of some rows."""
     kinds = [kind for kind in KINDS if any(row.kind == kind for row in rows)]
     return f"{', '.join(kinds)} ({counted(len(rows), 'row')}), {_marks(rows)}"

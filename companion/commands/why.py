@@ -31,7 +31,7 @@ def why(view: View, wanted: Wanted) -> str:
     rows = list(_chosen(view, wanted))
     if not rows:
         return f"{view.name}: no such row among {len(view.dependences)}\n"
-    return "\n".join("".join(line + "\n" for line in _explained(view, row)) for row in rows)
+    return "\n".join("".join(line + "\n" for line in explained(view, row)) for row in rows)
 
 
 def _chosen(view: View, wanted: Wanted) -> Iterator[Dependence]:
@@ -49,7 +49,8 @@ def _chosen(view: View, wanted: Wanted) -> Iterator[Dependence]:
             yield row
 
 
-def _explained(view: View, row: Dependence) -> Iterator[str]:
+def explained(view: View, row: Dependence) -> Iterator[str]:
+    """A row in a sentence, its references marked in their lines, and why the tests don't exclude it."""
     source, sink = view.program.reference(row.source), view.program.reference(row.sink)
     yield located(view.name, source.span.start, _headline(view, row))
     yield from excerpt(view.lines, _marks(view, row, source, sink))

@@ -41,8 +41,8 @@ def example_view(name: str) -> View:
 
 @lru_cache(maxsize=None)
 def examples() -> Tuple[str, ...]:
-    """The names of the examples that ped reads."""
-    names = sorted(path.stem for path in EXAMPLES.glob("*.f"))
+    """The names of the examples that ped reads; those of the folder book are named `book/NAME`."""
+    names = sorted(str(path.relative_to(EXAMPLES).with_suffix("")) for path in EXAMPLES.glob("**/*.f"))
     return tuple(name for name in names if _is_read(name))
 
 

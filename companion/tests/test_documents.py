@@ -13,12 +13,15 @@ from typing import Iterator, List, Match
 from ..faults import FAULTS
 from ..refusals import OTHERS, REFUSALS, RULES
 from ..statuses import Status
-from .support import TOP, ped_path
+from .screens import HINT, NAMED_KEYS, Player, has_terminal
+from .support import EXAMPLES, TOP, ped_path
 
 MANUAL = TOP / "docs" / "COMPANION.md"
 
 #: A block of the manual that begins with a call.
 _BLOCK = re.compile(r"^```\n(\$ .*?)^```$", re.MULTILINE | re.DOTALL)
+#: A block that shows the screen of the editor, with the program and the keys that lead to it.
+_SCREEN = re.compile(r"^(<!-- screen (\S+): (.*) -->\n```\n)(.*?)^```$", re.MULTILINE | re.DOTALL)
 
 
 def printed(block: str) -> str:
@@ -49,7 +52,28 @@ def rows(page: str, heading: str) -> Iterator[List[str]]:
         yield [cell.strip() for cell in row.strip("|").split("|")]
 
 
+def screen(name: str, keys: str) -> str:
+    """What `pedx edit` shows of a program once some keys were pressed."""
+    player = Player(["edit", name], str(TOP))
+    try:
+        rows = player.wait(HINT)
+        for key in keys.split():
+            before = rows
+            player.press(NAMED_KEYS.get(key, key))
+            rows = player.wait_for_change(before)
+        return "".join(row + "\n" for row in rows)
+    finally:
+        player.close()
+
+
 class Manual(unittest.TestCase):
+    @unittest.skipUnless(has_terminal(), "the library curses is not there, or knows no VT100")
+    def test_screen(self) -> None:
+        blocks = _SCREEN.findall(MANUAL.read_text())
+        self.assertEqual(len(blocks), 1)
+        for front, name, keys, block in blocks:
+            self.assertEqual(screen(name, keys), block)
+
     def test_examples(self) -> None:
         blocks = _BLOCK.findall(MANUAL.read_text())
         self.assertGreater(len(blocks), 5)
@@ -60,6 +84,22 @@ class Manual(unittest.TestCase):
     def test_statuses(self) -> None:
         named = [int(row[0]) for row in rows("COMPANION.md", "## How a call ends")]
         self.assertEqual(named, [int(status) for status in Status])
+
+
+class Book(unittest.TestCase):
+    def test_programs(self) -> None:
+        """The page of the book's patterns names each program once, with a row that its session shows."""
+        named = []
+        for row in (TOP / "docs" / "BOOK.md").read_text().splitlines():
+            cells = [cell.strip() for cell in row.strip("|").split("|")]
+            if len(cells) != 5 or not cells[1].startswith("`"):
+                continue
+            name = cells[1].strip("`")
+            named.append(name)
+            shown = (EXAMPLES / "book" / f"{name}.out").read_text().splitlines()
+            with self.subTest(name):
+                self.assertIn(cells[3].strip("`") if cells[3] != "none" else "dependences 0", shown)
+        self.assertEqual(sorted(named), sorted(path.stem for path in (EXAMPLES / "book").glob("*.f")))
 
 
 class Tables(unittest.TestCase):
@@ -84,7 +124,10 @@ def _write() -> None:
     def replaced(match: Match[str]) -> str:
         return f"```\n{printed(match.group(1))}```"
 
-    MANUAL.write_text(_BLOCK.sub(replaced, MANUAL.read_text()))
+    def drawn(match: Match[str]) -> str:
+        return f"{match.group(1)}{screen(match.group(2), match.group(3))}```"
+
+    MANUAL.write_text(_SCREEN.sub(drawn, _BLOCK.sub(replaced, MANUAL.read_text())))
 
 
 if __name__ == "__main__":

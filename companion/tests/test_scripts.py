@@ -60,13 +60,19 @@ class Replies(unittest.TestCase):
         self.assertTrue(replies[8].accepted)
         self.assertIsNone(replies[8].refusal)
 
+    def test_advice_behind_advice(self) -> None:
+        """Each `advise` tells of each step once."""
+        rows = ["reverse ok", "peel first ok", "peel last ok", "reverse ok", "peel first ok", "peel last ok", "3: ok"]
+        replies = read_replies(read_script("advise 1\nadvise 2\nundo\n"), rows)
+        self.assertEqual([len(reply.rows) for reply in replies], [3, 3, 1])
+
     def test_other_answers(self) -> None:
         for rows in ([], ["2: ok"], ["1: ok", "2: ok"], ["ped: cannot read x"]):
             with self.assertRaises(NoReply, msg=str(rows)):
                 read_replies(read_script("undo\n"), rows)
 
     def test_examples(self) -> None:
-        for path in sorted(EXAMPLES.glob("*.script")):
+        for path in sorted(EXAMPLES.glob("**/*.script")):
             read_replies(read_script(read_file(str(path))), split_lines(read_file(str(path.with_suffix(".out")))))
 
     def test_cases(self) -> None:

@@ -1,5 +1,7 @@
 mod Counting
+mod EachItems
 mod ExistenceLaws
+mod FreshPanes
 mod Inputs
 mod OneAnswer
 mod OneReport
@@ -7,4 +9,7 @@ mod Outcomes
 mod Reports
 mod SameEnds
 mod ScriptRuns
+mod SourceMoves
 mod Tallying
+mod ToldCauses
+mod WholeAnswers

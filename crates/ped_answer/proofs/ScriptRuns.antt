@@ -1,7 +1,7 @@
 -- The runs of a script show what the earlier programs show.
-use Rattle.std.proofs.Common.{◌≡◌, ℕ, Bool, true, false, List, [], Option, Some, None, refl, subst, length}
-use Rattle.std.specs.Prelude.{MatchOption, MatchBool, nat_lt}
-use Rattle.ped_io.specs.Outside.{Contents, content}
+use Rattle.std.proofs.Common.{ℕ, List, Option, Some, None}
+use Rattle.ped_io.specs.Outside.{Contents}
+use Rattle.ped_words.specs.Requests.{Request, show, session, generate}
 use Rattle.ped_session.specs.ped_transformations.specs.ped_script.specs.Items.{commands_of}
 use Rattle.ped_session.specs.ped_tree.specs.Tree.{ProgramTree}
 use Rattle.ped_session.specs.ped_transformations.specs.ped_script.specs.declared.items.Item.{Item}
@@ -9,56 +9,9 @@ use Rattle.ped_session.specs.States.{State, opened}
 use Rattle.ped_session.specs.Scripts.{Said, AnswersItems}
 use Rattle.ped_session.specs.RunsAsBefore.{AnswersAsBefore}
 use Rattle.ped_answer.specs.declared.answering.Status.{Status}
-use Rattle.ped_answer.specs.declared.answering.Status.TheVariants.{Done, SomeRefused, BadWords, ReadFault, WriteFault, ProgramRefused, NoMemory, TooLong}
-use Rattle.ped_words.specs.Requests.{Request, show, session, generate}
-use Rattle.ped_answer.specs.Answer.{Input, source_input, data_input, cannot_read_line, too_long_line, IsJust, AnswersScript, IsSession, AnswersInput, AnswersData, Answers, MayAnswer, IsOutcome}
-use Rattle.ped_answer.specs.ScriptRuns.{IsWhole, AreData, RunsSession, RunsRequest}
-
--- what is answered whole to a file is answered to its bytes
-record OfFile (name : List ℕ) (files : Contents) (answers : List ℕ → Status → List ℕ → Type 0) (s : Status) (b : List ℕ) : Type 0 where
-  bytes : List ℕ
-  held : content files name ≡ Some bytes
-  answer : answers bytes s b
-
-of_bytes : (i : Input) (s : Status) (b : List ℕ) (answered : Type 0) → IsWhole s → (long : Bool) → MatchBool long (IsJust TooLong (too_long_line i) s b) answered → answered
-of_bytes i s b answered whole true h = absurd (subst IsWhole h.0 whole)
-of_bytes i s b answered whole false h = h
-
-of_held : (i : Input) (files : Contents) (answers : List ℕ → Status → List ℕ → Type 0) (s : Status) (b : List ℕ) → IsWhole s → (held : Option (List ℕ)) → content files i.name ≡ held
-    → MatchOption held (IsJust ReadFault (cannot_read_line i.name) s b) (λ text. MatchBool (nat_lt i.most (length text)) (IsJust TooLong (too_long_line i) s b) (answers text s b))
-    → OfFile i.name files answers s b
-of_held i files answers s b whole None is h = absurd (subst IsWhole h.0 whole)
-of_held i files answers s b whole (Some text) is h = record { bytes = text; held = is; answer = of_bytes i s b (answers text s b) whole (nat_lt i.most (length text)) h }
-
-of_file : (i : Input) (files : Contents) (answers : List ℕ → Status → List ℕ → Type 0) (s : Status) (b : List ℕ) → IsWhole s → AnswersInput i files answers s b → OfFile i.name files answers s b
-of_file i files answers s b whole h = of_held i files answers s b whole (content files i.name) refl h
-
--- and so is what is answered to data
-record OfData (data_file : Option (List ℕ)) (files : Contents) (answers : List ℕ → Status → List ℕ → Type 0) (s : Status) (b : List ℕ) : Type 0 where
-  bytes : List ℕ
-  are : AreData data_file files bytes
-  answer : answers bytes s b
-
-of_data : (data_file : Option (List ℕ)) (files : Contents) (answers : List ℕ → Status → List ℕ → Type 0) (s : Status) (b : List ℕ) → IsWhole s → AnswersData data_file files answers s b → OfData data_file files answers s b
-of_data None files answers s b whole h = record { bytes = []; are = refl; answer = h }
-of_data (Some file) files answers s b whole h =
-    let read = of_file (data_input file) files answers s b whole h in
-    record { bytes = read.bytes; are = read.held; answer = read.answer }
-
--- what a session answers whole, its script answers
-record OfScript (text script data_bytes b : List ℕ) : Type 0 where
-  refused : Bool
-  script_answers : AnswersScript text script data_bytes refused b
-
-of_session : (text script data_bytes : List ℕ) (s : Status) (b : List ℕ) → IsWhole s → IsSession text script data_bytes s b → OfScript text script data_bytes b
-of_session text script data_bytes Done b whole h = record { refused = false; script_answers = h }
-of_session text script data_bytes SomeRefused b whole h = record { refused = true; script_answers = h }
-of_session text script data_bytes BadWords b whole h = absurd whole
-of_session text script data_bytes ReadFault b whole h = absurd whole
-of_session text script data_bytes WriteFault b whole h = absurd whole
-of_session text script data_bytes ProgramRefused b whole h = absurd whole
-of_session text script data_bytes NoMemory b whole h = absurd whole
-of_session text script data_bytes TooLong b whole h = absurd whole
+use Rattle.ped_answer.specs.Answer.{Answers}
+use Rattle.ped_answer.specs.ScriptRuns.{IsWhole, RunsSession, RunsRequest}
+use Rattle.ped_answer.proofs.WholeAnswers.{session_whole}
 
 -- whatever a script does, each `run` shows what the earlier programs show
 abbrev pub AsBefore : Type 0
@@ -66,22 +19,20 @@ AsBefore = (t : ProgramTree) (items : List Item) (data_bytes : List ℕ) (said :
 
 session_runs : AsBefore → (program script : List ℕ) (data_file : Option (List ℕ)) (files : Contents) (s : Status) (b : List ℕ) → IsWhole s → Answers (Some (session program script data_file)) files s b → RunsSession program script data_file files b
 session_runs as_before program script data_file files s b whole h =
-    let p = of_file (source_input program) files (λ text. AnswersInput (source_input script) files (λ commands. AnswersData data_file files (IsSession text commands))) s b whole h in
-    let c = of_file (source_input script) files (λ commands. AnswersData data_file files (IsSession p.bytes commands)) s b whole p.answer in
-    let d = of_data data_file files (IsSession p.bytes c.bytes) s b whole c.answer in
-    let a = (of_session p.bytes c.bytes d.bytes s b whole d.answer).script_answers in
+    let p = session_whole program script data_file files s b whole h in
+    let a = p.answers in
     record {
-      text = p.bytes;
-      program_is = p.held;
-      commands = c.bytes;
-      script_is = c.held;
-      data_bytes = d.bytes;
-      data_are = d.are;
+      text = p.text;
+      program_is = p.program_is;
+      commands = p.commands;
+      script_is = p.script_is;
+      data_bytes = p.data_bytes;
+      data_are = p.data_are;
       tree = a.tree;
       reads = a.reads;
       said = a.said;
       last = a.last;
-      answers = as_before a.tree (commands_of c.bytes) d.bytes a.said a.last a.answers;
+      answers = as_before a.tree (commands_of p.commands) p.data_bytes a.said a.last a.answers;
       says = a.says;
     }
 
@@ -91,14 +42,3 @@ request_runs as_before None files s b whole h = tt
 request_runs as_before (Some (show program)) files s b whole h = tt
 request_runs as_before (Some (session program script data_file)) files s b whole h = session_runs as_before program script data_file files s b whole h
 request_runs as_before (Some (generate number)) files s b whole h = tt
-
--- and what was sent, where it was written whole
-pub sent_runs : AsBefore → (request : Option Request) (files : Contents) (failed : List ℕ → Type 0) (sink_failed : Type 0) (sent : List ℕ) (s : Status) → IsWhole s → IsOutcome (MayAnswer request files failed) sink_failed sent s → RunsRequest request files sent
-sent_runs as_before request files failed sink_failed sent Done whole h = request_runs as_before request files Done sent whole h
-sent_runs as_before request files failed sink_failed sent SomeRefused whole h = request_runs as_before request files SomeRefused sent whole h
-sent_runs as_before request files failed sink_failed sent BadWords whole h = absurd whole
-sent_runs as_before request files failed sink_failed sent ReadFault whole h = absurd whole
-sent_runs as_before request files failed sink_failed sent WriteFault whole h = absurd whole
-sent_runs as_before request files failed sink_failed sent ProgramRefused whole h = absurd whole
-sent_runs as_before request files failed sink_failed sent NoMemory whole h = absurd whole
-sent_runs as_before request files failed sink_failed sent TooLong whole h = absurd whole

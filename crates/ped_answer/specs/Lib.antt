@@ -5,9 +5,11 @@ pub use Rattle.ped_words
 pub mod Answer
 pub mod Existence
 pub mod Generated
+pub mod Headline
 pub mod Refusals
 pub mod ScriptRuns
 pub mod Serving
 pub mod Statuses
+pub mod StepCauses
 pub mod Tallies
 pub mod TestCounts

@@ -8,11 +8,15 @@ ghost use Rattle.ped_words.specs.Requests.{request_of};
 ghost use Rattle.ped_words.specs.Views.{request_view, IsSized};
 ghost use Rattle.ped_answer.specs.Answer.{inputs_of, IsOneOf, HoldsTooMany, Answers, MayAnswer, Sends};
 ghost use Rattle.ped_answer.specs.ScriptRuns.{IsWhole, RunsRequest};
+ghost use Rattle.ped_answer.specs.Headline.{PanesRequest, HistoryRequest, CausesRequest};
 ghost use Rattle.ped_answer.specs.TestCounts.{Tests, Ticks, IsUntested};
 ghost use Rattle.ped_answer.specs.Serving.{ServedRequest};
 
 use crate::finishing::finish;
 use crate::generating::answer_size;
+use crate::headline::{
+    history_is_kept, panes_are_afresh, refusals_have_causes, runs_are_as_before,
+};
 use crate::sessions::answer_files;
 use crate::showing::show_file;
 use ped_io::{Shelf, Sink, SureShelf, SureSink};
@@ -93,6 +97,21 @@ pub fn ped_main<F: Shelf, K: Sink, L: Ledger>(
         × Answers (request_of (map string_bytes words.now)) files result bytes
         × (K.taken out.new ≡ Some (before ++ bytes))) }
 
+    // Where an answer is written whole, all panes in it, those of the file in mode `show` and those of each `source`, `deps`,
+    // `deps S` and `show` of a script, are those that come of reading the printed text of the present program afresh.
+    ensures panes { (files : Contents) → F.told shelf.old ≡ Some files →
+        (before : List ℕ) → K.taken out.old ≡ Some before → IsWhole result →
+        (bytes : List ℕ) × (K.taken out.new ≡ Some (before ++ bytes))
+        × PanesRequest (request_of (map string_bytes words.now)) files bytes }
+
+    // In a session the sources stand one behind another: `undo` and `redo` go along them, byte for byte, and are accepted
+    // exactly where there is one to go to; an accepted change puts its source behind the present one, in the place of all
+    // that stood there; and nothing else moves.
+    ensures history { (files : Contents) → F.told shelf.old ≡ Some files →
+        (before : List ℕ) → K.taken out.old ≡ Some before → IsWhole result →
+        (bytes : List ℕ) × (K.taken out.new ≡ Some (before ++ bytes))
+        × HistoryRequest (request_of (map string_bytes words.now)) files bytes }
+
     // Where a session's answer is written whole, each `run` of its script shows what the programs show from which the
     // present one has come by transformations alone, if they are tidy and without C$PED REJECT and run on the data
     // without a fault and without a race. Tidy: no reference in a PARALLEL DO writes the variable of it or of a DO in it,
@@ -101,6 +120,13 @@ pub fn ped_main<F: Shelf, K: Sink, L: Ledger>(
         (before : List ℕ) → K.taken out.old ≡ Some before → IsWhole result →
         (bytes : List ℕ) × (K.taken out.new ≡ Some (before ++ bytes))
         × RunsRequest (request_of (map string_bytes words.now)) files bytes }
+
+    // A transformation or `reject` is refused exactly where a rule stands against it or a dependence of the present program
+    // forbids it, and the first of these is told: the rule with the least number, and else the first row of the pane.
+    ensures causes { (files : Contents) → F.told shelf.old ≡ Some files →
+        (before : List ℕ) → K.taken out.old ≡ Some before → IsWhole result →
+        (bytes : List ℕ) × (K.taken out.new ≡ Some (before ++ bytes))
+        × CausesRequest (request_of (map string_bytes words.now)) files bytes }
 
     // What stays.
     ensures same { F.told shelf.new ≡ F.told shelf.old }
@@ -118,7 +144,10 @@ pub fn ped_main<F: Shelf, K: Sink, L: Ledger>(
     ensures untested { IsUntested result → steps.new ≡ steps.old }
     ensures steps { steps.old ≤ steps.new }
 {
-    ped_session::runs_are_as_before();
+    panes_are_afresh();
+    history_is_kept();
+    runs_are_as_before();
+    refusals_have_causes();
     match request(alloc, words) {
         Ok(asked) => serve(alloc, asked, shelf, out, steps),
         Err(WordsError::Bad) => finish(out, USAGE, Status::BadWords),
@@ -131,16 +160,6 @@ pub fn one_answer()
     ensures { (request : Option plain.Request) (files : Contents) (s t : Status) (a b : List ℕ) →
         Answers request files s a → Answers request files t b → (s ≡ t) × (a ≡ b) }
 {}
-
-/// In each answer to a session each `run` of its script shows what the programs show from which the present one has come
-/// by transformations alone, if they are tidy and without C$PED REJECT and run on the data without a fault and without a
-/// race.
-pub fn runs_are_as_before()
-    ensures { (request : Option plain.Request) (files : Contents) (s : Status) (bytes : List ℕ) → IsWhole s →
-        Answers request files s bytes → RunsRequest request files bytes }
-{
-    ped_session::runs_are_as_before();
-}
 
 /// Answers the words over a shelf and a sink that never fail: no read fault and no write fault comes.
 pub fn answer_surely<L: Ledger>(

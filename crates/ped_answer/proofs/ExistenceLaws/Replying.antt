@@ -48,8 +48,11 @@ abbrev IsPrintedOther : Other → Type 0
 IsPrintedOther o = IsPrinted o.0
 
 -- a printed text reads as its program
+pub reads_as : (text : List ℕ) (t : ProgramTree) → IsValid t → text ≡ program_text t → ReadsValid text t
+reads_as text t valid e = subst (λ (bytes : List ℕ). ReadsValid bytes t) (sym e) ((valid_prints t valid t).1 refl)
+
 pub reads_printed : (text : List ℕ) → IsPrinted text → (t : ProgramTree) × ReadsValid text t
-reads_printed text (t, valid, e) = (t, subst (λ (bytes : List ℕ). ReadsValid bytes t) (sym e) ((valid_prints t valid t).1 refl))
+reads_printed text (t, valid, e) = (t, reads_as text t valid e)
 
 pub panes : (t : ProgramTree) → (bytes : List ℕ) × ArePanes t bytes
 panes t = let pane = pane_of_program t in (source_pane t ++ pane.0, (pane.0, pane.1, refl))

@@ -1,12 +1,13 @@
-use Rattle.std.proofs.Common.{ℕ, List, map, string_bytes, Option, Err, ap, subst, sym}
-use Rattle.ped_io.specs.Outside.{Rose}
+use Rattle.std.proofs.Common.{◌≡◌, ◌++◌, ℕ, List, map, string_bytes, Option, Some, Err, ap, subst, sym}
+use Rattle.ped_io.specs.Outside.{Contents, Rose}
 use Rattle.ped_answer.specs.declared.answering.Status.TheVariants.{BadWords}
 use Rattle.ped_words.specs.Requests.{Request, request_of}
 use Rattle.ped_answer.specs.Answer.{inputs_of, MayAnswer, Answers, IsJust, usage_line}
+use Rattle.ped_answer.specs.ScriptRuns.{IsWhole}
 use Rattle.ped_answer.specs.TestCounts.{Tests}
 use Rattle.ped_answer.specs.Serving.{Call, Served}
 use Rattle.ped_answer.proofs.Counting.{idle_writing}
-use Rattle.ped_answer.proofs.ScriptRuns.{sent_runs}
+use Rattle.ped_answer.proofs.WholeAnswers.{sent_whole}
 use Rattle.ped_answer.proofs.Outcomes.{outcome_weaker, usage_may_answer, whole_of}
 use Rattle.ped_answer.proofs.answering.ped_main.Given.{Over}
 use Rattle.ped_answer.proofs.answering.ped_main.Goals as goal
@@ -51,11 +52,33 @@ returns-in-Ok-clause-complete g c = λ files told before taken none sure.
     let failed : List ℕ → Type 0 = λ (name : List ℕ). Rose (g.F.Shelf.count c.args.shelf.now name) (g.F.Shelf.count c.serve.new.shelf name) in
     whole_of _ files failed _ _ before o.0 c.serve.result o.1 o.2 none sure
 
-pub returns-in-Ok-clause-runs : goal.returns-in-Ok-clause-runs
-returns-in-Ok-clause-runs g c = λ files told before taken whole.
+-- what was written whole is the answer
+written : (g : Over) (c : goal.After-serve g) (files : Contents) → g.F.Shelf.told c.args.shelf.now ≡ Some files → (before : List ℕ) → g.K.Sink.taken c.args.out.now ≡ Some before → IsWhole c.serve.result
+    → (bytes : List ℕ) × (g.K.Sink.taken c.serve.new.out ≡ Some (before ++ bytes)) × Answers (request_of (map string_bytes c.args.words.now)) files c.serve.result bytes
+written g c files told before taken whole =
     let o = returns-in-Ok-clause-answer g c files told before taken in
     let failed : List ℕ → Type 0 = λ (name : List ℕ). Rose (g.F.Shelf.count c.args.shelf.now name) (g.F.Shelf.count c.serve.new.shelf name) in
-    (o.0, o.1, sent_runs c.runs_are_as_before.ensures _ files failed _ o.0 c.serve.result whole o.2)
+    (o.0, o.1, sent_whole _ files failed _ o.0 c.serve.result whole o.2)
+
+pub returns-in-Ok-clause-panes : goal.returns-in-Ok-clause-panes
+returns-in-Ok-clause-panes g c = λ files told before taken whole.
+    let o = written g c files told before taken whole in
+    (o.0, o.1, c.panes_are_afresh.ensures _ files c.serve.result o.0 whole o.2)
+
+pub returns-in-Ok-clause-history : goal.returns-in-Ok-clause-history
+returns-in-Ok-clause-history g c = λ files told before taken whole.
+    let o = written g c files told before taken whole in
+    (o.0, o.1, c.history_is_kept.ensures _ files c.serve.result o.0 whole o.2)
+
+pub returns-in-Ok-clause-runs : goal.returns-in-Ok-clause-runs
+returns-in-Ok-clause-runs g c = λ files told before taken whole.
+    let o = written g c files told before taken whole in
+    (o.0, o.1, c.runs_are_as_before.ensures _ files c.serve.result o.0 whole o.2)
+
+pub returns-in-Ok-clause-causes : goal.returns-in-Ok-clause-causes
+returns-in-Ok-clause-causes g c = λ files told before taken whole.
+    let o = written g c files told before taken whole in
+    (o.0, o.1, c.refusals_have_causes.ensures _ files c.serve.result o.0 whole o.2)
 
 pub returns-in-Ok-clause-counts : goal.returns-in-Ok-clause-counts
 returns-in-Ok-clause-counts g c = (served g c).rises

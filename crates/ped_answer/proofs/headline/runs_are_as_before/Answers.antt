@@ -1,5 +1,5 @@
 use Rattle.ped_answer.proofs.ScriptRuns.{request_runs}
-use Rattle.ped_answer.proofs.answering.runs_are_as_before.Goals as goal
+use Rattle.ped_answer.proofs.headline.runs_are_as_before.Goals as goal
 
 pub returns : goal.returns
 returns c = request_runs c.runs_are_as_before.ensures

@@ -1,0 +1,165 @@
+"""What is looked at: the present line with its loop, the dependences below, and what ped has answered last."""
+
+from __future__ import annotations
+
+import re
+from typing import Dict, List, Optional
+
+from ..messages import listed
+from ..panes import Dependence
+from ..trials import carried_names
+from .filters import ALL, Filters
+from ..outline import LoopLines, Outline
+from .session import Present
+
+_STATEMENTS = re.compile(r"\bat (\d+)|\band (\d+)")
+_EDGE = "edge "
+
+
+class Desk:
+    """The program on the desk of a user."""
+
+    def __init__(self, present: Present) -> None:
+        self._present = present
+        self._rows: Optional[List[Dependence]] = None
+        self._filters = Filters()
+        #: The present line, counted from 1; the first loop is looked at first.
+        self.line = 1
+        #: The row that is chosen, counted from 0, and whether the keys move in the rows.
+        self.row = 0
+        self.in_rows = False
+        #: What was answered last, and the statements that it names.
+        self.message = ""
+        self.named: Dict[int, str] = {}
+        if self.outline.loops:
+            self.line = next(iter(self.outline.loops.values())).first_line
+
+    @property
+    def present(self) -> Present:
+        """The present program."""
+        return self._present
+
+    @property
+    def outline(self) -> Outline:
+        """The loops of the program."""
+        return self._present.outline
+
+    @property
+    def loop(self) -> Optional[LoopLines]:
+        """The present loop: the innermost one at the present line."""
+        return self.outline.loop_at(self.line)
+
+    @property
+    def carried(self) -> List[Dependence]:
+        """The rows that the present loop carries."""
+        return self._present.carried.get(self.loop.number, []) if self.loop is not None else []
+
+    @property
+    def is_free(self) -> bool:
+        """Whether the present loop is a DO that carries nothing."""
+        return self.loop is not None and not self.loop.parallel and not carried_names(self.carried)
+
+    @property
+    def verdict(self) -> str:
+        """What the present loop carries."""
+        names = carried_names(self.carried)
+        rejected = " but what is rejected" if self.carried and not names else ""
+        return f"carries {listed(names) or 'nothing'}{rejected}"
+
+    @property
+    def filters(self) -> Filters:
+        """The filters of the rows."""
+        return self._filters
+
+    @filters.setter
+    def filters(self, filters: Filters) -> None:
+        self._filters = filters
+        self._rows = None
+        self.row = 0
+
+    @property
+    def rows(self) -> List[Dependence]:
+        """The rows that are shown."""
+        if self._rows is None:
+            self._rows = self._filters.chosen(self._present, self.loop)
+            self.row = max(0, min(self.row, len(self._rows) - 1))
+        return self._rows
+
+    @property
+    def chosen(self) -> Optional[Dependence]:
+        """The row that is chosen."""
+        return self.rows[self.row] if self.in_rows and self.rows else None
+
+    def put(self, present: Present, statement: Optional[int] = None) -> None:
+        """Puts another program on the desk; the loop at a statement, or the next one behind it, is looked at then."""
+        self._present = present
+        self._rows = None
+        self.in_rows = False
+        self.named = {}
+        lines = [loop.first_line for loop in self.outline.loops.values() if statement and loop.number >= statement]
+        self.go(min(lines) if lines else self.line)
+
+    def say(self, message: str) -> None:
+        """Shows an answer, and nothing of an earlier one."""
+        self.message = message
+        self.named = {}
+
+    def point(self, refusal: str) -> None:
+        """Marks the statements that a refusal names, and chooses the row that it names."""
+        numbers = [int(one or other) for one, other in _STATEMENTS.findall(refusal)]
+        self.named = {number: "!" for number in numbers}
+        if refusal.startswith(_EDGE):
+            self._choose(refusal[len(_EDGE):])
+
+    def _choose(self, text: str) -> None:
+        """Chooses a row by its text, with filters that show it."""
+        for filters in (self._filters, Filters(), Filters(level=ALL)):
+            rows = filters.chosen(self._present, self.loop)
+            found = [index for index, row in enumerate(rows) if row.row == text]
+            if found:
+                self.filters = filters
+                self.row, self.in_rows = found[0], True
+                return
+
+    def go(self, line: int) -> None:
+        """Goes to a line."""
+        before = self.loop
+        self.line = max(1, min(line, len(self._present.lines)))
+        after = self.loop
+        if before is not after:
+            self._rows = None
+            self.row = 0
+
+    def move(self, count: int) -> None:
+        """Goes some lines, or rows, down; up where the number is negative."""
+        if self.in_rows:
+            self.row = max(0, min(self.row + count, len(self.rows) - 1))
+        else:
+            self.go(self.line + count)
+
+    def go_to_loop(self, forward: bool) -> None:
+        """Goes to the next loop in the text, or to the one before."""
+        self.in_rows = False
+        starts = sorted(loop.first_line for loop in self.outline.loops.values())
+        ahead = [line for line in starts if (line > self.line if forward else line < self.line)]
+        if ahead:
+            self.go(ahead[0] if forward else ahead[-1])
+        else:
+            self.say("there is no further loop" if starts else "the program has no loops")
+
+    def go_out(self) -> None:
+        """Goes to the loop round the present one."""
+        loop = self.loop
+        if loop is None or (loop.level == 1 and self.line == loop.first_line):
+            self.say("no loop is round this line" if loop is None else "no loop is round this one")
+            return
+        outer = loop if self.line != loop.first_line else self.outline.loops[loop.nest[-2]]
+        self.go(outer.first_line)
+
+    def ends_of_row(self) -> Dict[int, str]:
+        """The statements of the chosen row with their marks: the source, the sink, or both."""
+        row = self.chosen
+        if row is None:
+            return {}
+        source, sink = row.source[0], row.sink[0]
+        return {source: "*"} if source == sink else {source: "^", sink: "~"}

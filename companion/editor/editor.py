@@ -1,0 +1,379 @@
+"""The editor: it waits for a key, does what the key says, and shows what came of it."""
+
+from __future__ import annotations
+
+from contextlib import contextmanager
+from typing import Callable, Dict, Iterator, List, Optional, Sequence
+
+from ..commands.why import explained
+from ..faults import FAULTS
+from ..messages import counted
+from ..openmp import openmp_lines
+from ..ped import read_file, shown
+from ..refusals import refused
+from ..replies import Fault, Reply
+from ..statuses import CompanionError
+from ..trials import carried_names
+from . import keys
+from .advice import advice_page, advised
+from .changes import NoChange
+from .compiling import compile_command, compiled, compiler, run_compiled
+from .desk import Desk
+from .filters import Filters
+from .free_edits import NoEditor, about_refusal, edited, refused_line
+from .keys import STEPS, Asks, Step
+from .pages import show_page
+from .pictures import Painter, Row
+from .prompts import ask, pick
+from .saving import Names
+from .session import Session
+from .terminal import (
+    DOWN, END, ENTER, ESCAPE, HOME, INTERRUPTED, OTHER, PAGE_DOWN, PAGE_UP, RESIZED, TAB, UP, Terminal,
+)
+
+_ENDLESS = 10 ** 9
+#: How many rows are explained at once.
+_EXPLAINED = 50
+
+
+class Editor:
+    """The editor of a session on a terminal."""
+
+    def __init__(self, terminal: Terminal, session: Session, name: str, names: Names) -> None:
+        self._terminal = terminal
+        self._session = session
+        self._names = names
+        self._painter = Painter(name)
+        self._desk = Desk(session.present)
+        self._choices = ""
+        self._data_name = ""
+        self._is_done = False
+        self._actions = self._table()
+
+    def run(self, greeting: str = "") -> None:
+        """Does what the keys say until the user ends it."""
+        self._desk.say(greeting or "? tells the keys, n goes to the next loop, a tells what to do with it")
+        while not self._is_done:
+            self._draw()
+            self._act(self._terminal.key())
+
+    def _act(self, key: str) -> None:
+        """Does what a key says."""
+        try:
+            if key in STEPS:
+                self._step(STEPS[key])
+            elif key in self._actions:
+                self._actions[key]()
+            elif key not in (RESIZED, OTHER):
+                self._desk.say(f"nothing is on the key {key!r}; ? tells the keys")
+        except CompanionError as error:
+            self._desk.say(error.message)
+        except KeyboardInterrupt:
+            self._desk.say("interrupted")
+
+    def _table(self) -> Dict[str, Callable[[], None]]:
+        desk = self._desk
+        page = max(1, self._terminal.size[0] // 2)
+        return {
+            UP: lambda: desk.move(-1), DOWN: lambda: desk.move(1),
+            PAGE_UP: lambda: desk.move(-page), PAGE_DOWN: lambda: desk.move(page),
+            HOME: lambda: desk.move(-_ENDLESS), END: lambda: desk.move(_ENDLESS),
+            keys.NEXT_LOOP: lambda: desk.go_to_loop(True), keys.PREVIOUS_LOOP: lambda: desk.go_to_loop(False),
+            keys.OUTER_LOOP: desk.go_out, TAB: self._change_pane, ESCAPE: self._to_source,
+            keys.ADVICE: self._advise, ENTER: self._why,
+            keys.LEVEL: lambda: self._filter(desk.filters.with_next_level(desk.outline.depth)),
+            keys.KIND: lambda: self._filter(desk.filters.with_next_kind()),
+            keys.MARK: lambda: self._filter(desk.filters.with_next_mark()),
+            keys.NAME: self._filter_name, keys.NO_FILTERS: lambda: self._filter(Filters()),
+            keys.EDIT: self._edit, keys.UNDO: self._undo, keys.REDO: self._redo,
+            keys.RUN: self._run, keys.RACES: self._races, keys.DATA: self._choose_data,
+            keys.SAVE: self._save_script, keys.WRITE: self._write_program, keys.OPENMP: self._openmp,
+            keys.HELP: lambda: self._page("The keys of pedx edit", list(keys.help_lines())),
+            keys.QUIT: self._quit, INTERRUPTED: self._quit,
+        }
+
+    # What is shown and asked
+
+    def _picture(self) -> List[Row]:
+        changes = counted(len(self._session.changes), "change")
+        state = changes if self._session.is_saved else f"{changes}, not saved"
+        height, width = self._terminal.size
+        return self._painter.picture(self._desk, state, height, width)
+
+    def _draw(self) -> None:
+        self._terminal.draw(self._picture())
+
+    @contextmanager
+    def _busy(self, words: str) -> Iterator[None]:
+        """Shows what is being done, and lets it be interrupted."""
+        self._desk.say(f"{words} ..")
+        self._draw()
+        with self._terminal.interruptible():
+            yield
+
+    def _background(self) -> List[Row]:
+        return self._picture()[:-1]
+
+    def _ask(self, words: str, choices: Sequence[str] = ()) -> Optional[str]:
+        answer = ask(self._terminal, self._background, words, choices)
+        if answer is None:
+            self._desk.say("nothing was done")
+        return answer
+
+    def _pick(self, words: str, choices: str) -> str:
+        return pick(self._terminal, self._background, words, choices) or ""
+
+    def _page(self, title: str, lines: Sequence[str]) -> None:
+        """Shows a page. The key that closes it is carried out, but for those that only close it."""
+        key = show_page(self._terminal, title, lines)
+        if key not in (ENTER, ESCAPE, TAB, keys.QUIT, keys.HELP):
+            self._act(key)
+
+    # Looking
+
+    def _change_pane(self) -> None:
+        self._desk.in_rows = not self._desk.in_rows and bool(self._desk.rows)
+
+    def _to_source(self) -> None:
+        self._desk.in_rows = False
+
+    def _filter(self, filters: Filters) -> None:
+        self._desk.filters = filters
+        self._desk.say(f"dependences: {filters.words}")
+
+    def _filter_name(self) -> None:
+        names = list(dict.fromkeys(row.name for row in self._desk.rows))
+        name = self._ask("dependences of which name? (none: all)", names)
+        if name is not None:
+            self._filter(self._desk.filters.with_name(name))
+
+    def _why(self) -> None:
+        rows = [self._desk.chosen] if self._desk.chosen is not None else self._desk.rows
+        if not rows:
+            self._desk.say("there is no dependence to be explained")
+            return
+        with self._busy("the program is read"):
+            view = self._session.present.view
+        self._desk.say("")
+        lines: List[str] = []
+        for row in rows[:_EXPLAINED]:
+            lines.extend([*explained(view, row), ""])
+        self._page("Why these dependences are there" if len(rows) > 1 else "Why this dependence is there", lines)
+
+    def _advise(self) -> None:
+        loop = self._desk.loop
+        if loop is None:
+            self._desk.say("stand on a loop for advice; n goes to the next one")
+            return
+        with self._busy(f"ped is asked what it accepts at loop {loop.number}"):
+            view = self._session.present.view
+            advice = advised(self._session.ped, view, view.program.loops[loop.number])
+        self._desk.say("")
+        lines = advice_page(view, view.program.loops[loop.number], advice)
+        offered = [one.steps for one in advice if one.steps]
+        hint = "a number carries it out; any other key closes the page" if offered else "any key closes the page"
+        key = show_page(self._terminal, f"Advice for loop {loop.number}, {loop.header}", lines, hint)
+        if key.isdigit() and 1 <= int(key) <= len(offered):
+            for step in offered[int(key) - 1]:
+                self._carry_out(step, loop.number)
+
+    # Changing
+
+    def _step(self, step: Step) -> None:
+        loop = self._desk.loop
+        if loop is None:
+            self._desk.say(f"{step.word} wants a loop, and the line stands in none; n goes to the next one")
+            return
+        answer: Optional[str] = ""
+        if step.asks is not Asks.NOTHING:
+            answer = self._ask(f"{step.word} {loop.number}: {step.asks.value}", self._offered(step.asks))
+        if answer is not None:
+            self._carry_out(f"{step.word} {loop.number} {answer}".strip(), loop.number)
+
+    def _offered(self, asks: Asks) -> List[str]:
+        """What can be meant, the likeliest first."""
+        if asks is Asks.FACTOR:
+            return ["1"]
+        if asks is Asks.SIZE:
+            return ["32"]
+        if asks is Asks.ITERATION:
+            return ["first", "last"]
+        rows = self._desk.carried
+        if asks is Asks.VARIABLE:
+            rows = [row for row in rows if row.mark == "pending"]
+        names = [name for name in carried_names(rows) if not name.startswith("(")]
+        return names if asks is Asks.VARIABLE else [name for name in names if name not in self._desk.outline.arrays]
+
+    def _carry_out(self, command: str, statement: int) -> None:
+        with self._busy(command):
+            refusal = self._session.step(command)
+        if refusal is None:
+            self._desk.put(self._session.present, statement)
+            self._desk.say(f"{command}: ok{self._what_next()}")
+        else:
+            self._desk.say(f"{command}: {refused(refusal)}; {keys.ADVICE} tells what ped accepts")
+            self._desk.point(refusal)
+
+    def _what_next(self) -> str:
+        """What a step has led to."""
+        loop = self._desk.loop
+        if loop is None:
+            return ""
+        hint = "; p makes it parallel" if self._desk.is_free else ""
+        return f"; loop {loop.number} {self._desk.verdict}{hint}"
+
+    def _edit(self) -> None:
+        lines, line = list(self._session.present.lines), self._desk.line
+        while True:
+            try:
+                with self._terminal.set_aside():
+                    lines = edited(lines, line)
+                with self._busy("edit"):
+                    refusal = self._session.edit(lines)
+            except (NoEditor, NoChange) as error:
+                self._desk.say(str(error))
+                return
+            if refusal is None:
+                break
+            line = refused_line(refusal) or line
+            self._desk.say(about_refusal(refusal))
+            if self._pick("edit on, or drop the edit? (e, d)", "ed") != "e":
+                self._desk.say("the edit was dropped; the program is as it was")
+                return
+        is_changed = self._session.present is not self._desk.present
+        self._desk.put(self._session.present)
+        self._desk.say(f"{self._session.changes[-1].command}: ok" if is_changed else "the edit changed nothing")
+
+    def _undo(self) -> None:
+        with self._busy("undo"):
+            change = self._session.undo()
+        self._after_move("undone", change.command if change else None, "there is nothing to undo")
+
+    def _redo(self) -> None:
+        with self._busy("redo"):
+            change = self._session.redo()
+        self._after_move("done again", change.command if change else None, "there is nothing to redo")
+
+    def _after_move(self, what: str, command: Optional[str], otherwise: str) -> None:
+        if command is None:
+            self._desk.say(otherwise)
+            return
+        self._desk.put(self._session.present)
+        self._desk.say(f"{what}: {command}")
+
+    # Running
+
+    def _run(self) -> None:
+        choices = self._ask("run with which choices? (none: in order)", [self._choices])
+        if choices is None:
+            return
+        self._choices = choices
+        command = f"run {choices}".strip()
+        with self._busy(command):
+            reply = self._session.answer(command)
+        if reply.refusal is not None:
+            self._desk.say(f"{command}: {refused(reply.refusal)}")
+        elif reply.fault is not None:
+            self._say_fault(command, reply, reply.fault)
+        else:
+            self._desk.say(f"{command}: ended")
+            self._page(f"{command}{self._on_data()}", reply.rows)
+
+    def _races(self) -> None:
+        with self._busy("races"):
+            reply = self._session.answer("races")
+        if reply.fault is not None:
+            self._say_fault("races", reply, reply.fault)
+            return
+        about = f"two iterations of a PARALLEL DO use {reply.race.cell}" if reply.race else "on these data"
+        self._desk.say(f"races{self._on_data()}: {reply.rows[0]}; {about}")
+        self._desk.point(reply.rows[0])
+
+    def _say_fault(self, command: str, reply: Reply, fault: Fault) -> None:
+        words = FAULTS.get(fault.number, "unknown")
+        self._desk.say(f"{command}{self._on_data()}: {reply.rows[0]}: {words}")
+        self._desk.point(reply.rows[0])
+
+    def _on_data(self) -> str:
+        return f" on {shown(self._data_name)}" if self._data_name else ""
+
+    def _choose_data(self) -> None:
+        name = self._ask("data from which file? (none: no data)", [self._data_name])
+        if name is not None:
+            self.take_data(name)
+            self._desk.say(f"data: {shown(name) or 'none'}")
+
+    def take_data(self, name: str) -> None:
+        """Takes the data for runs from a file; without a name there are none."""
+        self._session.data = read_file(name) if name else None
+        self._data_name = name
+
+    # Saving
+
+    def _write(self, words: str, offered: str, text: str) -> Optional[str]:
+        """Writes a text to a file that the user names; answers the name."""
+        name = self._ask(words, [offered])
+        if not name:
+            return None
+        if self._names.is_others(name) and self._pick(f"{shown(name)} is there; write over it? (y, n)", "yn") != "y":
+            self._desk.say("nothing was written")
+            return None
+        self._names.write(name, text)
+        self._desk.say(f"{shown(name)} is written")
+        return name
+
+    def _save_script(self) -> bool:
+        name = self._write("save the script as", self._names.script, self._session.script)
+        if name is None:
+            return False
+        self._names.script = name
+        self._session.mark_saved()
+        with self._busy("the script is replayed"):
+            proof = "replays to this program" if self._session.replays() else "DOESN'T replay to this program"
+        self._desk.say(f"{shown(name)} holds {counted(len(self._session.changes), 'change')} and {proof}")
+        return True
+
+    def _write_program(self) -> None:
+        name = self._write("write the program to", self._names.program, self._session.present.text)
+        self._names.program = name or self._names.program
+
+    def _openmp(self) -> None:
+        present = self._session.present
+        live = self._pick("print the variables in SAVE at its end? (y, n)", "yn")
+        if not live:
+            self._desk.say("nothing was done")
+            return
+        lines = openmp_lines(present.panes.lines, present.view.printed, live == "y")
+        name = self._write("write the OpenMP program to", self._names.openmp, "".join(one + "\n" for one in lines))
+        if name is None:
+            return
+        self._names.openmp = name
+        words = compiler()
+        if words is None:
+            self._desk.say(f"{shown(name)} is written; gfortran isn't there to compile it ($FC names another compiler)")
+        else:
+            self._compile(compile_command(words, name), name)
+
+    def _compile(self, command: List[str], name: str) -> None:
+        line = shown(" ".join(command))
+        if self._pick(f"{line}: compile it? (y, n)", "yn") != "y":
+            return
+        with self._busy(line):
+            complaints = compiled(command)
+        if complaints:
+            self._desk.say("the compiler complains")
+            self._page(line, complaints)
+            return
+        self._desk.say(f"compiled: {line}")
+        if self._pick("run it with four threads? (y, n)", "yn") == "y":
+            with self._busy(shown(command[-2])):
+                rows = run_compiled(name, self._session.data)
+            self._desk.say(f"{shown(command[-2])} has run")
+            self._page(f"{shown(command[-2])}{self._on_data()}", rows)
+
+    def _quit(self) -> None:
+        if self._session.is_saved:
+            self._is_done = True
+            return
+        answer = self._pick("the changes aren't saved: save, quit without, or stay? (w, q, n)", "wqn")
+        self._is_done = answer == "q" or answer == "w" and self._save_script()

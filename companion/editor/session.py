@@ -1,0 +1,151 @@
+"""The session of the editor: the present program, the changes that have led to it, and what ped answers.
+
+A session of ped replays its whole script. Here ped is asked about the present program alone, in one call for each
+command with what is shown behind it; so the time doesn't grow with the changes. That the panes of the present source
+are those of the printed program is ped's own promise, and `replays` tries it on the whole script.
+"""
+
+from __future__ import annotations
+
+from functools import cached_property
+from typing import Dict, List, Optional, Sequence
+
+from ..panes import Dependence, Panes, read_panes
+from ..ped import Ped
+from ..replies import Reply
+from ..statuses import CompanionError, Status
+from ..views import View, view_of_panes
+from .changes import Change, Lines, carried_out, edit_between, lines_of, script_of
+from ..outline import Outline, outline_of
+
+
+class Present:
+    """The present program, as ped shows it."""
+
+    def __init__(self, panes: Panes) -> None:
+        self.panes = panes
+        self.lines: Lines = lines_of(panes.lines)
+
+    @property
+    def text(self) -> str:
+        """The program as a file."""
+        return _text(self.lines)
+
+    @cached_property
+    def outline(self) -> Outline:
+        """The loops of the program."""
+        return outline_of(self.panes.source)
+
+    @cached_property
+    def carried(self) -> Dict[int, List[Dependence]]:
+        """For each loop the rows that it carries, in the order of the pane."""
+        rows: Dict[int, List[Dependence]] = {}
+        for row in self.panes.dependences:
+            loop = self.outline.carrier(row)
+            if loop is not None:
+                rows.setdefault(loop, []).append(row)
+        return rows
+
+    @cached_property
+    def view(self) -> View:
+        """The program with its expressions, which are read once something asks for them."""
+        return view_of_panes(self.panes)
+
+
+class Session:
+    """What a user does to a program."""
+
+    def __init__(self, ped: Ped, source: str, data: Optional[str] = None) -> None:
+        self._ped = ped
+        self._source = source
+        self._undone: List[Change] = []
+        self._saved: List[Change] = []
+        self.data = data
+        self.changes: List[Change] = []
+        self.present = Present(ped.show(source))
+
+    @property
+    def script(self) -> str:
+        """The script of the changes."""
+        return script_of(self.changes)
+
+    @property
+    def is_saved(self) -> bool:
+        """Whether the script holds what it held when it was saved last; at the beginning it needn't be saved."""
+        return self.script == script_of(self._saved)
+
+    def mark_saved(self) -> None:
+        """Takes note that the script was saved."""
+        self._saved = list(self.changes)
+
+    def load(self, script: str) -> List[Reply]:
+        """Carries a script out, and answers what was refused. Of the script the changes that stand are kept."""
+        replies = self._ped.session(self._source, script, self.data)
+        self.changes, self._undone = carried_out(replies)
+        self.present = self._replayed(self.changes)
+        self.mark_saved()
+        return [reply for reply in replies if reply.refusal is not None]
+
+    def step(self, command: str) -> Optional[str]:
+        """Has ped carry out a step; answers the cause where it is refused."""
+        return self._change((command,))
+
+    def edit(self, lines: Sequence[str]) -> Optional[str]:
+        """Has ped replace the program by these lines; answers the cause where that is refused."""
+        change = edit_between(self.present.lines, lines)
+        return self._change(lines_of(change)) if change else None
+
+    def undo(self) -> Optional[Change]:
+        """Takes the last change back, and answers it; none where there is none."""
+        if not self.changes:
+            return None
+        change = self.changes[-1]
+        if change.before is None:
+            self.present = self._replayed(self.changes[:-1])
+        else:
+            self.present = Present(self._ped.show(_text(change.before)))
+        self._undone.append(self.changes.pop())
+        return change
+
+    def redo(self) -> Optional[Change]:
+        """Does the change again that was taken back last, and answers it; none where there is none."""
+        if not self._undone:
+            return None
+        rest, change = self._undone[:-1], self._undone[-1]
+        refusal = self._change(change.script)
+        if refusal is not None:
+            raise CompanionError(Status.NO_PED, f"ped doesn't do {change.command} again: {refusal}")
+        self._undone = rest
+        return change
+
+    def answer(self, command: str) -> Reply:
+        """What ped answers to a command that changes nothing, on the data that are chosen."""
+        return self._ped.session(self.present.text, f"{command}\n", self.data)[0]
+
+    def replays(self) -> bool:
+        """Whether the whole script leads from the first program to the present one."""
+        return self._replayed(self.changes).lines == self.present.lines
+
+    @property
+    def ped(self) -> Ped:
+        """The program ped."""
+        return self._ped
+
+    def _change(self, script: Lines) -> Optional[str]:
+        text = "".join(line + "\n" for line in script)
+        reply, shown = self._ped.session(self.present.text, text + "show\n")
+        if not reply.accepted:
+            return reply.refusal or "what was asked"
+        self.changes.append(Change(script, self.present.lines))
+        self._undone = []
+        self.present = Present(read_panes(shown.rows))
+        return None
+
+    def _replayed(self, changes: Sequence[Change]) -> Present:
+        """The program behind some changes of the first program."""
+        shown = self._ped.session(self._source, script_of(changes) + "show\n")[-1]
+        return Present(read_panes(shown.rows))
+
+
+def _text(lines: Sequence[str]) -> str:
+    return "".join(line + "\n" for line in lines)

@@ -1,0 +1,254 @@
+"""A terminal for the tests: pedx runs in a pseudo-terminal, and what it writes is kept as rows of characters.
+
+The terminal is a VT100 as far as the library curses uses one. A sequence that it doesn't know is an error.
+"""
+
+from __future__ import annotations
+
+import fcntl
+import os
+import pty
+import re
+import select
+import signal
+import struct
+import sys
+import termios
+import time
+from typing import Callable, Dict, List, Optional, Sequence, Tuple
+
+from .support import TOP, ped_path
+
+#: How long an answer is waited for, in seconds: machines may be busy.
+_PATIENCE = 120.0
+#: How long nothing may come before the screen counts as drawn.
+_QUIET = 0.05
+
+#: The terminal that the tests are.
+_TERMINAL = "vt100"
+
+_SEQUENCE = re.compile(r"\x1b(?:\[[?>]?([\d;]*)([A-Za-z])|[()][0AB]|([=>78DM]))")
+
+UP, DOWN, ESCAPE, ENTER, TAB, BACKSPACE = "\x1bOA", "\x1bOB", "\x1b", "\r", "\t", "\x7f"
+INTERRUPT = "\x03"
+NAMED_KEYS = {"Up": UP, "Down": DOWN, "Esc": ESCAPE, "Enter": ENTER, "Tab": TAB}
+#: What the editor always shows in its last row.
+HINT = "? keys"
+
+
+def has_terminal() -> bool:
+    """Whether the library curses is there, and knows a VT100."""
+    try:
+        import curses
+    except ImportError:
+        return False
+    with open(os.devnull, "wb") as nowhere:
+        try:
+            curses.setupterm(_TERMINAL, nowhere.fileno())
+        except curses.error:
+            return False
+    return True
+
+
+class Screen:
+    """What a terminal shows."""
+
+    def __init__(self, height: int, width: int) -> None:
+        self._rest = ""
+        self.resize(height, width)
+
+    def resize(self, height: int, width: int) -> None:
+        """Gives the terminal another size, and clears it."""
+        self.height, self.width = height, width
+        self._cells = [[" "] * width for _ in range(height)]
+        self._row = self._column = 0
+        self._top, self._bottom = 0, height - 1
+
+    @property
+    def rows(self) -> List[str]:
+        """The rows, without blanks at their ends."""
+        return ["".join(cells).rstrip() for cells in self._cells]
+
+    def feed(self, text: str) -> None:
+        """Takes what a program has written."""
+        text = self._rest + text
+        place = 0
+        while place < len(text):
+            if text[place] != "\x1b":
+                self._put(text[place])
+                place += 1
+                continue
+            match = _SEQUENCE.match(text, place)
+            if match is None:
+                if len(text) - place > 20:
+                    raise AssertionError(f"no sequence of a VT100: {text[place:place + 20]!r}")
+                break
+            if match.group(2):
+                self._control(match.group(1), match.group(2))
+            elif match.group(3) == "D":
+                self._line_feed()
+            elif match.group(3) == "M":
+                self._line_back()
+            place = match.end()
+        self._rest = text[place:]
+
+    def _put(self, letter: str) -> None:
+        if letter == "\r":
+            self._column = 0
+        elif letter == "\n":
+            self._line_feed()
+        elif letter == "\b":
+            self._column = max(0, self._column - 1)
+        elif letter >= " ":
+            if self._column == self.width:
+                self._column = 0
+                self._line_feed()
+            self._cells[self._row][self._column] = letter
+            self._column += 1
+
+    def _line_feed(self) -> None:
+        if self._row == self._bottom:
+            self._scroll(self._top, self._bottom)
+        else:
+            self._row = min(self._row + 1, self.height - 1)
+
+    def _line_back(self) -> None:
+        if self._row == self._top:
+            self._scroll(self._bottom, self._top)
+        else:
+            self._row = max(self._row - 1, 0)
+
+    def _scroll(self, take: int, put: int) -> None:
+        """Takes a row away, and puts a blank one in."""
+        del self._cells[take]
+        self._cells.insert(put, [" "] * self.width)
+
+    def _control(self, numbers: str, letter: str) -> None:
+        values = [int(number) if number else 0 for number in numbers.split(";")]
+        count = max(values[0], 1)
+        moves: Dict[str, Callable[[], Tuple[int, int]]] = {
+            "H": lambda: (count - 1, max(values[1] if len(values) > 1 else 1, 1) - 1),
+            "A": lambda: (self._row - count, self._column), "B": lambda: (self._row + count, self._column),
+            "C": lambda: (self._row, self._column + count), "D": lambda: (self._row, self._column - count),
+        }
+        if letter in moves:
+            row, column = moves[letter]()
+            self._row = max(0, min(row, self.height - 1))
+            self._column = max(0, min(column, self.width - 1))
+        elif letter == "K":
+            self._erase_in_row(values[0])
+        elif letter == "J":
+            self._erase(values[0])
+        elif letter == "r":
+            self._top = count - 1
+            self._bottom = (values[1] if len(values) > 1 and values[1] else self.height) - 1
+            self._row = self._column = 0
+        elif letter not in "mhl":
+            raise AssertionError(f"no sequence of a VT100: {numbers}{letter}")
+
+    def _erase_in_row(self, part: int) -> None:
+        cells = self._cells[self._row]
+        first = self._column if part == 0 else 0
+        last = self._column + 1 if part == 1 else self.width
+        cells[first:last] = [" "] * (min(last, self.width) - first)
+
+    def _erase(self, part: int) -> None:
+        self._erase_in_row(part)
+        rows = {0: range(self._row + 1, self.height), 1: range(self._row), 2: range(self.height)}[part]
+        for row in rows:
+            self._cells[row] = [" "] * self.width
+
+
+class Player:
+    """Plays a user of pedx at a terminal."""
+
+    def __init__(
+        self, words: Sequence[str], folder: str, height: int = 24, width: int = 80,
+        environment: Optional[Dict[str, str]] = None,
+    ) -> None:
+        self.screen = Screen(height, width)
+        self.status: Optional[int] = None
+        self._process, self._terminal = pty.fork()
+        if self._process == 0:
+            self._start(words, folder, environment or {})
+        self._set_size(height, width)
+
+    @staticmethod
+    def _start(words: Sequence[str], folder: str, environment: Dict[str, str]) -> None:
+        """Becomes the program pedx. The size of its terminal isn't known yet, so it waits for its first line."""
+        try:
+            os.chdir(folder)
+            variables = {key: value for key, value in os.environ.items() if key not in ("LINES", "COLUMNS", "VISUAL")}
+            variables.update({"TERM": _TERMINAL, "PEDX_PED": os.path.abspath(ped_path()), "LC_ALL": "C.UTF-8"})
+            variables.update(environment)
+            sys.stdin.readline()
+            os.execve(sys.executable, [sys.executable, str(TOP / "pedx"), *words], variables)
+        finally:
+            os._exit(127)
+
+    def _set_size(self, height: int, width: int) -> None:
+        fcntl.ioctl(self._terminal, termios.TIOCSWINSZ, struct.pack("HHHH", height, width, 0, 0))
+        os.write(self._terminal, b"\n")
+
+    def resize(self, height: int, width: int) -> None:
+        """Gives the window another size."""
+        self.screen.resize(height, width)
+        fcntl.ioctl(self._terminal, termios.TIOCSWINSZ, struct.pack("HHHH", height, width, 0, 0))
+
+    def press(self, *keys: str) -> None:
+        """Presses keys, one after the other."""
+        for key in keys:
+            os.write(self._terminal, key.encode())
+
+    def wait(self, text: str) -> List[str]:
+        """Waits until a text is on the screen, and the screen is drawn; answers its rows."""
+        self._until(lambda: text in "\n".join(self.screen.rows), text)
+        return self.screen.rows
+
+    def wait_for_change(self, before: Sequence[str]) -> List[str]:
+        """Waits until the screen is another one; answers its rows."""
+        self._until(lambda: self.screen.rows != before, "another screen")
+        return self.screen.rows
+
+    def wait_for_end(self) -> int:
+        """Waits until pedx has ended, and answers its status."""
+        self._until(lambda: self.status is not None, "the end")
+        assert self.status is not None
+        return self.status
+
+    def signal(self, number: int) -> None:
+        """Sends a signal."""
+        os.kill(self._process, number)
+
+    def close(self) -> None:
+        """Ends what is still running."""
+        if self.status is None:
+            os.kill(self._process, signal.SIGKILL)
+            os.waitpid(self._process, 0)
+        os.close(self._terminal)
+
+    def _until(self, is_reached: Callable[[], bool], what: str) -> None:
+        begin = time.monotonic()
+        while self._read(_QUIET) or not is_reached():
+            if self.status is not None and not is_reached() or time.monotonic() - begin > _PATIENCE:
+                shown = "\n".join(self.screen.rows)
+                raise AssertionError(f"{what!r} didn't come (status {self.status}):\n{shown}")
+
+    def _read(self, seconds: float) -> bool:
+        """Takes what is written within some time; answers whether something came."""
+        ready, _, _ = select.select([self._terminal], [], [], seconds)
+        if not ready or self.status is not None:
+            return False
+        try:
+            written = os.read(self._terminal, 65536)
+        except OSError:
+            written = b""
+        if not written:
+            self._end()
+        self.screen.feed(written.decode("utf-8", "replace"))
+        return bool(written)
+
+    def _end(self) -> None:
+        if self.status is None:
+            status = os.waitpid(self._process, 0)[1]
+            self.status = os.WEXITSTATUS(status) if os.WIFEXITED(status) else 128 + os.WTERMSIG(status)

@@ -1,0 +1,174 @@
+"""What the editor is made of, without a terminal: changes, filters, the desk, and pictures of it."""
+
+import unittest
+from typing import List
+
+from ..editor.advice import Advice, advised
+from ..editor.changes import NoChange, edit_between
+from ..editor.desk import Desk
+from ..editor.filters import Filters
+from ..editor.pictures import LEAST_HEIGHT, LEAST_WIDTH, Painter, first_shown, folded, visible
+from ..editor.session import Present, Session
+from ..outline import outline_of
+from .support import example_view, examples, fortran, ped
+
+NEST = fortran(
+    "INTEGER A(9,9)", "DO I = 2, 9", "K = I", "DO J = 2, 9", "A(I,J) = A(I-1,J)+K", "END DO", "END DO",
+    "DO I = 1, 9", "A(I,1) = 0", "END DO", "END",
+)
+
+
+def desk_of(source: str) -> Desk:
+    return Desk(Present(ped().show(source)))
+
+
+class Edits(unittest.TestCase):
+    def test_least_edit(self) -> None:
+        old = ["A", "B", "C", "B"]
+        self.assertEqual(edit_between(old, old), ())
+        self.assertEqual(edit_between(old, ["A", "X", "C", "B"]), ("replace 2 2", "X", "."))
+        self.assertEqual(edit_between(old, ["A", "B", "B"]), ("delete 3 3",))
+        self.assertEqual(edit_between(old, ["A", "B", "C", "B", "B"]), ("insert 4", "B", "."))
+        self.assertEqual(edit_between(old, ["X", *old]), ("insert 0", "X", "."))
+        self.assertEqual(edit_between(old, []), ("delete 1 4",))
+
+    def test_repeated_lines(self) -> None:
+        """What both have at the front isn't taken again at the back."""
+        self.assertEqual(edit_between(["B", "B"], ["B"]), ("delete 2 2",))
+        self.assertEqual(edit_between(["B"], ["B", "B", "B"]), ("insert 1", "B", "B", "."))
+
+    def test_period(self) -> None:
+        with self.assertRaises(NoChange):
+            edit_between(["A"], ["A", "."])
+
+
+class Outlines(unittest.TestCase):
+    def test_loops_of_examples(self) -> None:
+        """The loops that are found by lines are those that are found by reading all statements."""
+        for name in examples():
+            with self.subTest(name):
+                view = example_view(name)
+                outline = outline_of(view.panes.source)
+                self.assertEqual(
+                    [(loop.number, loop.variable, loop.parallel, loop.nest, loop.last)
+                     for loop in outline.loops.values()],
+                    [(loop.number, loop.variable, loop.form.parallel, loop.nest, loop.last)
+                     for loop in view.printed.loops.values()],
+                )
+                for row in view.dependences:
+                    carrier = view.carrier(row)
+                    self.assertEqual(outline.carrier(row), carrier.number if carrier is not None else None)
+
+
+class Desks(unittest.TestCase):
+    def test_loops(self) -> None:
+        desk = desk_of(NEST)
+        self.assertEqual(desk.line, 2)
+        numbers: List[int] = []
+        for _ in range(3):
+            assert desk.loop is not None
+            numbers.append(desk.loop.number)
+            desk.go_to_loop(True)
+        self.assertEqual(numbers, [1, 3, 5])
+        self.assertEqual(desk.message, "there is no further loop")
+        desk.go_to_loop(False)
+        desk.move(1)
+        desk.go_out()
+        assert desk.loop is not None
+        self.assertEqual(desk.loop.number, 3)
+        desk.go_out()
+        self.assertEqual(desk.loop.number, 1)
+
+    def test_ends(self) -> None:
+        desk = desk_of(NEST)
+        desk.move(-100)
+        self.assertEqual((desk.line, desk.loop), (1, None))
+        desk.move(100)
+        self.assertEqual(desk.line, 11)
+
+    def test_filters(self) -> None:
+        """K: flow to the inner loop and the like; A: one row from one row of the table to the next."""
+        desk = desk_of(NEST)
+        self.assertEqual({row.name for row in desk.rows}, {"A", "K"})
+        desk.filters = Filters().with_name("a")
+        self.assertEqual([row.row for row in desk.rows], ["4.3 4.1 A flow 1 (<,=) (1,0) proven"])
+        desk.filters = desk.filters.with_next_mark().with_next_mark()
+        self.assertEqual(desk.filters.words, "level=carried mark=pending name=A")
+        self.assertEqual(desk.rows, [])
+
+    def test_levels(self) -> None:
+        levels = []
+        filters = Filters()
+        for _ in range(6):
+            levels.append(filters.level)
+            filters = filters.with_next_level(2)
+        self.assertEqual(levels, ["carried", "all", "1", "2", "-", "carried"])
+
+
+class Sessions(unittest.TestCase):
+    def test_script(self) -> None:
+        session = Session(ped(), NEST)
+        self.assertTrue(session.is_saved)
+        self.assertEqual((session.step("privatise 1 K"), session.step("parallel 3")), (None, None))
+        self.assertEqual(session.step("parallel 1"), "edge 4.3 4.1 A flow 1 (<,=) (1,0) proven")
+        self.assertIsNone(session.edit([line for line in session.present.lines if "A(I,1)" not in line]))
+        self.assertEqual(session.script, "privatise 1 K\nparallel 3\ndelete 10 10\n")
+        self.assertFalse(session.is_saved)
+        self.assertTrue(session.replays())
+
+    def test_undo_of_what_was_loaded(self) -> None:
+        session = Session(ped(), NEST)
+        self.assertEqual(session.load("privatise 1 K\nparallel 3\n"), [])
+        lines = session.present.lines
+        session.undo()
+        self.assertIn("        DO J = 2, 9", session.present.lines)
+        session.redo()
+        self.assertEqual(session.present.lines, lines)
+        self.assertTrue(session.is_saved)
+
+    def test_change_drops_what_was_undone(self) -> None:
+        session = Session(ped(), NEST)
+        session.step("parallel 3")
+        session.undo()
+        session.step("privatise 1 K")
+        self.assertIsNone(session.redo())
+
+
+class Pictures(unittest.TestCase):
+    def test_sizes(self) -> None:
+        """Each picture has as many rows as the terminal, and none is too wide."""
+        desk = desk_of(NEST)
+        desk.say("a message that is long " * 20)
+        for height in range(1, 40):
+            for width in (1, 20, LEAST_WIDTH, 80, 200):
+                rows = Painter("p.f").picture(desk, "0 changes", height, width)
+                self.assertLessEqual(max(len(row.text) for row in rows), width)
+                if height >= LEAST_HEIGHT and width >= LEAST_WIDTH:
+                    self.assertEqual(len(rows), height)
+
+    def test_scrolling(self) -> None:
+        self.assertEqual(first_shown(0, 5, 20, [4]), 0)
+        self.assertEqual(first_shown(0, 5, 20, [5]), 1)
+        self.assertEqual(first_shown(10, 5, 20, [3]), 3)
+        self.assertEqual(first_shown(0, 5, 20, [8, 10]), 6)
+        self.assertEqual(first_shown(0, 5, 20, [8, 19]), 8)
+        self.assertEqual(first_shown(9, 5, 3, [0]), 0)
+
+    def test_texts(self) -> None:
+        self.assertEqual(folded("one two three", 7), ["one two", "three"])
+        self.assertEqual(folded("abcdefghij", 4), ["abcd", "efgh", "ij"])
+        self.assertEqual(visible("a\tb\x1b\x9b"), "a?b??")
+        self.assertEqual(visible("é".encode().decode("latin-1")), "é")
+
+
+class Advised(unittest.TestCase):
+    def test_steps(self) -> None:
+        view = example_view("squares")
+        self.assertEqual(advised(ped(), view, view.program.loops[3])[:2], [
+            Advice("try `privatise 3 T`: ped accepts it, and the loop then carries nothing", ("privatise 3 T",)),
+            Advice("try `expand 3 T`: ped accepts it, and the loop then carries nothing", ("expand 3 T",)),
+        ])
+
+
+if __name__ == "__main__":
+    unittest.main()

@@ -1,0 +1,124 @@
+-- What is shown of the present program is what comes of reading the present source afresh.
+use Rattle.std.proofs.Common.{◌≡◌, ℕ, List, Option, Some, None, refl, sym, ap, ◌∙◌, subst}
+use Rattle.std.specs.Prelude.{codes, MatchOption}
+use Rattle.ped_io.specs.Outside.{Contents, content}
+use Rattle.ped_words.specs.Requests.{Request, show, session, generate}
+use Rattle.ped_session.specs.ped_tree.specs.Tree.{StmtTree, ProgramTree}
+use Rattle.ped_session.specs.ped_tree.specs.Printing.{program_text}
+use Rattle.ped_session.specs.ped_tree.specs.Numbering.{statement_with}
+use Rattle.ped_session.specs.ped_symbols.specs.NameRefusals.{IsValid}
+use Rattle.ped_session.specs.ped_valid.specs.Validity.{ReadsValid}
+use Rattle.ped_session.specs.ped_graph.specs.DependencePane.{IsDependencePane, IsDependencePaneOf}
+use Rattle.ped_session.specs.ped_transformations.specs.ped_script.specs.declared.items.Item.{Item}
+use Rattle.ped_session.specs.ped_transformations.specs.ped_script.specs.declared.items.Command.{Command}
+use Rattle.ped_session.specs.ped_transformations.specs.ped_script.specs.declared.items.Command.TheVariants.{Source, Deps, Show, Print, Advise, Replace, Insert, Delete, Interchange, Reverse, Skew, Strip, Peel, Distribute, Fuse, Expand, Privatise, Parallel, Serial, Reject, Undo, Redo, Run, Races, Tested}
+use Rattle.ped_session.specs.declared.replies.Reply.{Reply}
+use Rattle.ped_session.specs.declared.replies.Reply.TheVariants.{Shown, Refused}
+use Rattle.ped_session.specs.declared.replies.Refusal.TheVariants.{NoSuchStatement}
+use Rattle.ped_session.specs.States.{State, opened}
+use Rattle.ped_session.specs.Panes.{IsSourcePane, ArePanes}
+use Rattle.ped_session.specs.Replies.{answer_row, reply_text}
+use Rattle.ped_session.specs.Histories.{IsPrinted, ArePrinted}
+use Rattle.ped_session.specs.Steps.{Shows, ShowsOf}
+use Rattle.ped_session.specs.Scripts.{Said, said_by, AnswersCommand, AnswersItems}
+use Rattle.ped_answer.specs.declared.answering.Status.{Status}
+use Rattle.ped_answer.specs.declared.answering.Status.TheVariants.{Done, SomeRefused, BadWords, ReadFault, WriteFault, ProgramRefused, NoMemory, TooLong}
+use Rattle.ped_answer.specs.Answer.{source_input, IsShown, Answers}
+use Rattle.ped_answer.specs.ScriptRuns.{IsWhole}
+use Rattle.ped_answer.specs.Headline.{Afresh, IsOfStatement, ShowsAfresh, ShowsFile, PanesRequest}
+use Rattle.ped_answer.proofs.OneAnswer.{one_tree}
+use Rattle.ped_answer.proofs.ExistenceLaws.Replying.{reads_as}
+use Rattle.ped_answer.proofs.WholeAnswers.{of_file}
+use Rattle.ped_answer.proofs.EachItems.{Comes, SoOfValid, session_each}
+
+-- what is so of the program that a printed text reads as
+afresh : (IsSo : ProgramTree → List ℕ → Type 0) (text bytes : List ℕ) (t : ProgramTree) → IsPrinted text → ReadsValid text t → IsSo t bytes → Afresh IsSo text bytes
+afresh IsSo text bytes t printed reads so =
+    let same : t ≡ printed.0 = one_tree text t printed.0 reads (reads_as text printed.0 printed.1 printed.2) in
+    record { tree = t; reads = reads; no_other = λ u other. one_tree text u t other reads; printed = printed.2 ∙ ap program_text (sym same); so = so }
+
+-- the bytes of a reply
+bytes_of : (line : ℕ) (reply other : Reply) (next : State) (said : Said) → said ≡ said_by line reply next → reply ≡ other → said.bytes ≡ reply_text line other
+bytes_of line reply other next said says is = ap (λ (x : Said). x.bytes) says ∙ ap (reply_text line) is
+
+shows : (IsSo : ProgramTree → List ℕ → Type 0) (line : ℕ) (s next : State) (reply : Reply) (said : Said) → IsPrinted s.present → Shows IsSo s reply next → said ≡ said_by line reply next → Afresh IsSo s.present said.bytes
+shows IsSo line s next reply said printed h says =
+    afresh IsSo s.present said.bytes h.tree printed h.reads
+    (subst (IsSo h.tree) (sym (bytes_of line reply (Shown h.bytes) next said says h.prints.0)) h.so)
+
+-- the rows of a statement, where there is one
+rows_by : (line number : ℕ) (statement : Option StmtTree) (s next : State) (reply : Reply) (said : Said) (t : ProgramTree) → ReadsValid s.present t → ShowsOf number statement s reply next → said ≡ said_by line reply next
+    → MatchOption statement (said.bytes ≡ answer_row line (codes "refused NoSuchStatement")) (λ (found : StmtTree). IsDependencePaneOf t (Some number) said.bytes)
+rows_by line number None s next reply said t reads h says = bytes_of line reply (Refused NoSuchStatement) next said says h.0
+rows_by line number (Some found) s next reply said t reads h says =
+    subst (λ (u : ProgramTree). IsDependencePaneOf u (Some number) said.bytes) (one_tree s.present h.tree t h.reads reads)
+    (subst (IsDependencePaneOf h.tree (Some number)) (sym (bytes_of line reply (Shown h.bytes) next said says h.prints.0)) h.so)
+
+line_shows : (line : ℕ) (command : Option Command) (d : List ℕ) (s next : State) (said : Said) → IsPrinted s.present → AnswersCommand line command d s said next → ShowsAfresh line command s said next
+line_shows line None d s next said printed h = tt
+line_shows line (Some Source) d s next said printed h = shows IsSourcePane line s next h.0 said printed h.1 h.2
+line_shows line (Some (Deps None)) d s next said printed h = shows IsDependencePane line s next h.0 said printed h.1 h.2
+line_shows line (Some (Deps (Some number))) d s next said printed h =
+    let of = h.1 in
+    afresh (IsOfStatement (λ t. IsDependencePaneOf t (Some number)) line number) s.present said.bytes of.tree printed of.reads (rows_by line number (statement_with number of.tree) s next h.0 said of.tree of.reads of.shows h.2)
+line_shows line (Some Show) d s next said printed h = shows ArePanes line s next h.0 said printed h.1 h.2
+line_shows line (Some Print) d s next said printed h = bytes_of line h.0 (Shown s.present) next said h.2 h.1.0
+line_shows line (Some (Advise number)) d s next said printed h = tt
+line_shows line (Some (Replace first last lines)) d s next said printed h = tt
+line_shows line (Some (Insert after lines)) d s next said printed h = tt
+line_shows line (Some (Delete first last)) d s next said printed h = tt
+line_shows line (Some (Interchange number)) d s next said printed h = tt
+line_shows line (Some (Reverse number)) d s next said printed h = tt
+line_shows line (Some (Skew number factor)) d s next said printed h = tt
+line_shows line (Some (Strip number size)) d s next said printed h = tt
+line_shows line (Some (Peel number last)) d s next said printed h = tt
+line_shows line (Some (Distribute number)) d s next said printed h = tt
+line_shows line (Some (Fuse number)) d s next said printed h = tt
+line_shows line (Some (Expand number name)) d s next said printed h = tt
+line_shows line (Some (Privatise number name)) d s next said printed h = tt
+line_shows line (Some (Parallel number)) d s next said printed h = tt
+line_shows line (Some (Serial number)) d s next said printed h = tt
+line_shows line (Some (Reject number name)) d s next said printed h = tt
+line_shows line (Some Undo) d s next said printed h = tt
+line_shows line (Some Redo) d s next said printed h = tt
+line_shows line (Some (Run choices)) d s next said printed h = tt
+line_shows line (Some Races) d s next said printed h = tt
+line_shows line (Some Tested) d s next said printed h = tt
+
+-- whatever a script does on a valid program, all sources are printed texts
+abbrev pub AllPrinted : Type 0
+AllPrinted = (t : ProgramTree) → IsValid t → (items : List Item) (data_bytes : List ℕ) (said : Said) (last : State) → AnswersItems items data_bytes (opened t) said last → ArePrinted last
+
+each_shows : AllPrinted → SoOfValid ShowsAfresh
+each_shows all d t valid line command s next said came h = line_shows line command d s next said (all t valid came.0 d came.1 s came.2).present h
+
+-- both panes of a file
+file_shows : (text : List ℕ) (s : Status) (b : List ℕ) → IsWhole s → IsShown text s b → (t : ProgramTree) × ReadsValid text t × ArePanes t b
+file_shows text Done b whole h = h
+file_shows text SomeRefused b whole h = absurd h
+file_shows text BadWords b whole h = absurd whole
+file_shows text ReadFault b whole h = absurd whole
+file_shows text WriteFault b whole h = absurd whole
+file_shows text ProgramRefused b whole h = absurd whole
+file_shows text NoMemory b whole h = absurd whole
+file_shows text TooLong b whole h = absurd whole
+
+shows_file : (program : List ℕ) (files : Contents) (s : Status) (b : List ℕ) → IsWhole s → Answers (Some (show program)) files s b → ShowsFile program files b
+shows_file program files s b whole h =
+    let p = of_file (source_input program) files IsShown s b whole h in
+    let of = file_shows p.bytes s b whole p.answer in
+    let valid = of.1.valid in
+    record {
+      text = p.bytes;
+      program_is = p.held;
+      tree = of.0;
+      reads = of.1;
+      afresh = afresh ArePanes (program_text of.0) b of.0 (of.0, valid, refl) (reads_as (program_text of.0) of.0 valid refl) of.2;
+    }
+
+-- the panes of an answer
+pub request_panes : AllPrinted → (request : Option Request) (files : Contents) (s : Status) (b : List ℕ) → IsWhole s → Answers request files s b → PanesRequest request files b
+request_panes all None files s b whole h = tt
+request_panes all (Some (show program)) files s b whole h = shows_file program files s b whole h
+request_panes all (Some (session program script data_file)) files s b whole h = session_each ShowsAfresh (each_shows all) program script data_file files s b whole h
+request_panes all (Some (generate number)) files s b whole h = tt

@@ -1,0 +1,193 @@
+-- Each command moves along the sources of a session as the history has them.
+use Rattle.std.proofs.Common.{◌≡◌, ℕ, suc, Bool, true, false, ◌+◌, ◌<◌, inl, inr, List, [], ◌∷◌, ◌++◌, map, take, length, slice_get, Option, Some, None, refl, sym, ap, ◌∙◌, subst, arith}
+use Rattle.std.specs.Prelude.{MatchBool, reverse}
+use Rattle.std.proofs.lemmas.List.{append_assoc, length-append, length-reverse, length-map, reverse-append}
+use Rattle.ped_io.specs.Outside.{Contents}
+use Rattle.ped_words.specs.Requests.{Request, show, session, generate}
+use Rattle.ped_session.specs.ped_tree.specs.Tree.{StmtTree, ProgramTree}
+use Rattle.ped_session.specs.ped_tree.specs.Numbering.{statement_with}
+use Rattle.ped_session.specs.ped_transformations.specs.ped_script.specs.declared.items.Command.{Command}
+use Rattle.ped_session.specs.ped_transformations.specs.ped_script.specs.declared.items.Command.TheVariants.{Source, Deps, Show, Print, Advise, Replace, Insert, Delete, Interchange, Reverse, Skew, Strip, Peel, Distribute, Fuse, Expand, Privatise, Parallel, Serial, Reject, Undo, Redo, Run, Races, Tested}
+use Rattle.ped_session.specs.ped_transformations.specs.ped_reindex.specs.ped_loops.specs.ped_scalar.specs.ped_rules.specs.Steps.{StepAt}
+use Rattle.ped_session.specs.declared.replies.Refusal.{Refusal}
+use Rattle.ped_session.specs.declared.replies.Refusal.TheVariants.{NoSuchLine}
+use Rattle.ped_session.specs.declared.replies.Reply.{Reply}
+use Rattle.ped_session.specs.declared.replies.Reply.TheVariants.{Changed, Shown, Refused}
+use Rattle.ped_session.specs.States.{Other, State, gone_back_to, gone_forward_to}
+use Rattle.ped_session.specs.Splices.{are_lines, is_place}
+use Rattle.ped_session.specs.Steps.{Refuses, Prints, Shows, ShowsOf, ShowsStatement, Edits, accepted, refused, Transforms, missing, forbidden, transformed, GoesBack, GoesForward, IsStep, IsMove}
+use Rattle.ped_session.specs.Scripts.{Said, AnswersCommand}
+use Rattle.ped_answer.specs.declared.answering.Status.{Status}
+use Rattle.ped_answer.specs.Answer.{Answers}
+use Rattle.ped_answer.specs.ScriptRuns.{IsWhole}
+use Rattle.ped_answer.specs.Headline.{Sources, text_of, sources_of, StandsAtPlace, GoesOneBack, nothing_before, one_before, GoesOneForward, nothing_behind, one_behind, PutsBehind, Moves, by_undo, by_redo, by_change, by_nothing, KeepsHistory, HistoryRequest}
+use Rattle.ped_answer.proofs.EachItems.{Comes, SoOfValid, session_each}
+
+at_length : (xs ys : List (List ℕ)) (x : List ℕ) → slice_get (xs ++ x ∷ ys) (length xs) ≡ Some x
+at_length [] ys x = refl
+at_length (z ∷ xs) ys x = at_length xs ys x
+
+up_to : (xs ys : List (List ℕ)) (x : List ℕ) → take (suc (length xs)) (xs ++ x ∷ ys) ≡ xs ++ x ∷ []
+up_to [] ys x = refl
+up_to (z ∷ xs) ys x = ap (λ (r : List (List ℕ)). z ∷ r) (up_to xs ys x)
+
+-- the past sources, the oldest first
+abbrev before_of : List Other → List (List ℕ)
+before_of past = reverse (map text_of past)
+
+as_long : (past : List Other) → length (before_of past) ≡ length past
+as_long past = length-reverse (map text_of past) ∙ length-map past text_of
+
+-- the present source stands behind the past ones
+pub stands : (s : State) → StandsAtPlace s
+stands s = subst (λ (n : ℕ). slice_get (sources_of s).all n ≡ Some s.present) (as_long s.past) (at_length (before_of s.past) (map text_of s.future) s.present)
+
+-- the newest past source may as well stand before the present one
+shifted : (o : Other) (past : List Other) (rest : List (List ℕ)) → before_of (o ∷ past) ++ rest ≡ before_of past ++ o.0 ∷ rest
+shifted o past rest = ap (λ (xs : List (List ℕ)). xs ++ rest) (reverse-append (o.0 ∷ []) (map text_of past)) ∙ append_assoc (before_of past) (o.0 ∷ []) rest
+
+-- so all stay where one goes back
+back_same : (s : State) (o : Other) (past : List Other) → s.past ≡ o ∷ past → (sources_of (gone_back_to o past s)).all ≡ (sources_of s).all
+back_same s o past is =
+    sym (ap (λ (xs : List Other). before_of xs ++ s.present ∷ map text_of s.future) is ∙ shifted o past (s.present ∷ map text_of s.future))
+
+-- or forward
+forward_same : (s : State) (o : Other) (future : List Other) → s.future ≡ o ∷ future → (sources_of (gone_forward_to o future s)).all ≡ (sources_of s).all
+forward_same s o future is =
+    shifted (s.present, o.1) s.past (o.0 ∷ map text_of future) ∙ ap (λ (xs : List Other). before_of s.past ++ s.present ∷ map text_of xs) (sym is)
+
+how_many : (s : State) → length (sources_of s).all ≡ length s.past + suc (length s.future)
+how_many s =
+    let both = length-append (before_of s.past) (s.present ∷ map text_of s.future) in
+    let front = as_long s.past in
+    let back = length-map s.future text_of in
+    omega (arith, both, front, back)
+
+-- sources with these texts and this place
+sources_are : (x y : Sources) → x.all ≡ y.all → x.place ≡ y.place → x ≡ y
+sources_are x y all place = λ i. record { all = all i; place = place i }
+
+moves_back : (past : List Other) (s next : State) (reply : Reply) → s.past ≡ past → GoesBack past s reply next → GoesOneBack reply (sources_of s) (sources_of next)
+moves_back [] s next reply is h = nothing_before (ap (λ (xs : List Other). length xs) is) h.0 (ap sources_of h.1)
+moves_back (o ∷ past) s next reply is h =
+    one_before (length past) (ap (λ (xs : List Other). length xs) is) h.0
+    (ap sources_of h.1 ∙ sources_are (sources_of (gone_back_to o past s)) (record { all = (sources_of s).all; place = length past }) (back_same s o past is) refl)
+
+moves_forward : (future : List Other) (s next : State) (reply : Reply) → s.future ≡ future → GoesForward future s reply next → GoesOneForward reply (sources_of s) (sources_of next)
+moves_forward [] s next reply is h =
+    let count = how_many s in
+    let none = ap (λ (xs : List Other). length xs) is in
+    nothing_behind (omega (arith, count, none)) h.0 (ap sources_of h.1)
+moves_forward (o ∷ future) s next reply is h =
+    let count = how_many s in
+    let some = ap (λ (xs : List Other). length xs) is in
+    one_behind (omega (arith, count, some)) h.0
+    (ap sources_of h.1 ∙ sources_are (sources_of (gone_forward_to o future s)) (record { all = (sources_of s).all; place = suc (length s.past) }) (forward_same s o future is) refl)
+
+-- a change puts its source behind the present one
+record Leaves (s next : State) : Type 0 where
+  other : Other
+  past_is : next.past ≡ other ∷ s.past
+  text_is : other.0 ≡ s.present
+  future_is : next.future ≡ []
+
+puts : (s next : State) → Leaves s next → PutsBehind (sources_of s) (sources_of next)
+puts s next left = (next.present, sources_are (sources_of next) (record { all = take (suc (length s.past)) (sources_of s).all ++ next.present ∷ []; place = suc (length s.past) }) all (ap (λ (xs : List Other). length xs) left.past_is))
+  where
+    whole : (sources_of next).all ≡ before_of s.past ++ s.present ∷ next.present ∷ []
+    whole =
+        ap (λ (xs : List Other). before_of xs ++ next.present ∷ map text_of next.future) left.past_is
+        ∙ shifted left.other s.past (next.present ∷ map text_of next.future)
+        ∙ ap (λ (x : List ℕ). before_of s.past ++ x ∷ next.present ∷ map text_of next.future) left.text_is
+        ∙ ap (λ (xs : List Other). before_of s.past ++ s.present ∷ next.present ∷ map text_of xs) left.future_is
+
+    front : take (suc (length s.past)) (sources_of s).all ≡ before_of s.past ++ s.present ∷ []
+    front = subst (λ (n : ℕ). take (suc n) (sources_of s).all ≡ before_of s.past ++ s.present ∷ []) (as_long s.past) (up_to (before_of s.past) (map text_of s.future) s.present)
+
+    all : (sources_of next).all ≡ take (suc (length s.past)) (sources_of s).all ++ next.present ∷ []
+    all = whole ∙ sym (append_assoc (before_of s.past) (s.present ∷ []) (next.present ∷ [])) ∙ ap (λ (xs : List (List ℕ)). xs ++ next.present ∷ []) (sym front)
+
+no_refusal : (why : Refusal) → ◌≡◌ {A = Reply} (Refused why) Changed → ⊥
+no_refusal why e = cc
+
+refused_moves : (c : Command) (why : Refusal) (s next : State) (reply : Reply) → ¬ (IsMove c) → reply ≡ Refused why → next ≡ s → Moves c reply (sources_of s) (sources_of next)
+refused_moves c why s next reply still is same = by_nothing still (λ e. no_refusal why (sym is ∙ e)) (ap sources_of same)
+
+edit_moves : (c : Command) (kept gone : ℕ) (text : List ℕ) (s next : State) (reply : Reply) → ¬ (IsMove c) → Edits kept gone text s reply next → Moves c reply (sources_of s) (sources_of next)
+edit_moves c kept gone text s next reply still (accepted old new from to changed after) =
+    by_change still changed (puts s next (record { other = _; past_is = ap (λ (n : State). n.past) after; text_is = refl; future_is = ap (λ (n : State). n.future) after }))
+edit_moves c kept gone text s next reply still (refused why first stays) = refused_moves c _ s next reply still stays.0 stays.1
+
+step_moves : (c : Command) (at : StepAt) (s next : State) (reply : Reply) → ¬ (IsMove c) → Transforms at s reply next → Moves c reply (sources_of s) (sources_of next)
+step_moves c at s next reply still (missing t reads none stays) = refused_moves c _ s next reply still stays.0 stays.1
+step_moves c at s next reply still (forbidden t reads some cause is stays) = refused_moves c _ s next reply still stays.0 stays.1
+step_moves c at s next reply still (transformed t new keep reads some none makes valid changed after) =
+    by_change still changed (puts s next (record { other = _; past_is = ap (λ (n : State). n.past) after; text_is = refl; future_is = ap (λ (n : State). n.future) after }))
+
+no_show : (bytes : List ℕ) → ◌≡◌ {A = Reply} (Shown bytes) Changed → ⊥
+no_show bytes e = cc
+
+printed_moves : (c : Command) (bytes : List ℕ) (s next : State) (reply : Reply) → ¬ (IsMove c) → Prints bytes s reply next → Moves c reply (sources_of s) (sources_of next)
+printed_moves c bytes s next reply still h = by_nothing still (λ e. no_show bytes (sym h.0 ∙ e)) (ap sources_of h.1)
+
+shown_moves : (c : Command) (IsSo : ProgramTree → List ℕ → Type 0) (s next : State) (reply : Reply) → ¬ (IsMove c) → Shows IsSo s reply next → Moves c reply (sources_of s) (sources_of next)
+shown_moves c IsSo s next reply still h = printed_moves c h.bytes s next reply still h.prints
+
+rows_moves : (c : Command) (number : ℕ) (found : Option StmtTree) (s next : State) (reply : Reply) → ¬ (IsMove c) → ShowsOf number found s reply next → Moves c reply (sources_of s) (sources_of next)
+rows_moves c number None s next reply still h = refused_moves c _ s next reply still h.0 h.1
+rows_moves c number (Some statement) s next reply still h = shown_moves c _ s next reply still h
+
+of_statement_moves : (c : Command) (number : ℕ) (s next : State) (reply : Reply) → ¬ (IsMove c) → ShowsStatement number s reply next → Moves c reply (sources_of s) (sources_of next)
+of_statement_moves c number s next reply still h = rows_moves c number (statement_with number h.tree) s next reply still h.shows
+
+lines_moves : (c : Command) (there : Bool) (kept gone : ℕ) (text : List ℕ) (s next : State) (reply : Reply) → ¬ (IsMove c) → MatchBool there (Edits kept gone text s reply next) (Refuses NoSuchLine s reply next)
+    → Moves c reply (sources_of s) (sources_of next)
+lines_moves c true kept gone text s next reply still h = edit_moves c kept gone text s next reply still h
+lines_moves c false kept gone text s next reply still h = refused_moves c _ s next reply still h.0 h.1
+
+still_by : (c : Command) → (c ≡ Undo → ⊥) → (c ≡ Redo → ⊥) → ¬ (IsMove c)
+still_by c undo redo (inl is) = undo is
+still_by c undo redo (inr is) = redo is
+
+-- each command
+pub moves : (c : Command) (d : List ℕ) (s next : State) (reply : Reply) → IsStep c d s reply next → Moves c reply (sources_of s) (sources_of next)
+moves Undo d s next reply h = by_undo refl (moves_back s.past s next reply refl h)
+moves Redo d s next reply h = by_redo refl (moves_forward s.future s next reply refl h)
+moves Source d s next reply h = shown_moves Source _ s next reply (still_by Source (λ e. cc) (λ e. cc)) h
+moves (Deps None) d s next reply h = shown_moves (Deps None) _ s next reply (still_by (Deps None) (λ e. cc) (λ e. cc)) h
+moves (Deps (Some number)) d s next reply h = of_statement_moves (Deps (Some number)) number s next reply (still_by (Deps (Some number)) (λ e. cc) (λ e. cc)) h
+moves Show d s next reply h = shown_moves Show _ s next reply (still_by Show (λ e. cc) (λ e. cc)) h
+moves Print d s next reply h = printed_moves Print _ s next reply (still_by Print (λ e. cc) (λ e. cc)) h
+moves Tested d s next reply h = printed_moves Tested _ s next reply (still_by Tested (λ e. cc) (λ e. cc)) h
+moves (Run choices) d s next reply h = shown_moves (Run choices) _ s next reply (still_by (Run choices) (λ e. cc) (λ e. cc)) h
+moves Races d s next reply h = shown_moves Races _ s next reply (still_by Races (λ e. cc) (λ e. cc)) h
+moves (Replace first last lines) d s next reply h = lines_moves (Replace first last lines) (are_lines s.present first last) _ _ _ s next reply (still_by (Replace first last lines) (λ e. cc) (λ e. cc)) h
+moves (Insert after lines) d s next reply h = lines_moves (Insert after lines) (is_place s.present after) _ _ _ s next reply (still_by (Insert after lines) (λ e. cc) (λ e. cc)) h
+moves (Delete first last) d s next reply h = lines_moves (Delete first last) (are_lines s.present first last) _ _ _ s next reply (still_by (Delete first last) (λ e. cc) (λ e. cc)) h
+moves (Interchange number) d s next reply h = step_moves (Interchange number) _ s next reply (still_by (Interchange number) (λ e. cc) (λ e. cc)) h
+moves (Reverse number) d s next reply h = step_moves (Reverse number) _ s next reply (still_by (Reverse number) (λ e. cc) (λ e. cc)) h
+moves (Skew number factor) d s next reply h = step_moves (Skew number factor) _ s next reply (still_by (Skew number factor) (λ e. cc) (λ e. cc)) h
+moves (Strip number size) d s next reply h = step_moves (Strip number size) _ s next reply (still_by (Strip number size) (λ e. cc) (λ e. cc)) h
+moves (Peel number last) d s next reply h = step_moves (Peel number last) _ s next reply (still_by (Peel number last) (λ e. cc) (λ e. cc)) h
+moves (Distribute number) d s next reply h = step_moves (Distribute number) _ s next reply (still_by (Distribute number) (λ e. cc) (λ e. cc)) h
+moves (Expand number name) d s next reply h = step_moves (Expand number name) _ s next reply (still_by (Expand number name) (λ e. cc) (λ e. cc)) h
+moves (Privatise number name) d s next reply h = step_moves (Privatise number name) _ s next reply (still_by (Privatise number name) (λ e. cc) (λ e. cc)) h
+moves (Parallel number) d s next reply h = step_moves (Parallel number) _ s next reply (still_by (Parallel number) (λ e. cc) (λ e. cc)) h
+moves (Serial number) d s next reply h = step_moves (Serial number) _ s next reply (still_by (Serial number) (λ e. cc) (λ e. cc)) h
+moves (Reject number name) d s next reply h = step_moves (Reject number name) _ s next reply (still_by (Reject number name) (λ e. cc) (λ e. cc)) h
+moves (Fuse number) d s next reply h = refused_moves (Fuse number) _ s next reply (still_by (Fuse number) (λ e. cc) (λ e. cc)) h.0 h.1
+moves (Advise number) d s next reply h = refused_moves (Advise number) _ s next reply (still_by (Advise number) (λ e. cc) (λ e. cc)) h.0 h.1
+
+line_moves : (line : ℕ) (command : Option Command) (d : List ℕ) (s next : State) (said : Said) → AnswersCommand line command d s said next → KeepsHistory line command s said next
+line_moves line None d s next said h = record { here = stands s; there = stands next; moves = (ap (λ (x : Said). x.bytes) h.0, ap sources_of h.1) }
+line_moves line (Some c) d s next said h = record { here = stands s; there = stands next; moves = (h.0, ap (λ (x : Said). x.bytes) h.2, moves c d s next h.0 h.1) }
+
+each_moves : SoOfValid KeepsHistory
+each_moves d t valid line command s next said came h = line_moves line command d s next said h
+
+-- the history of an answer
+pub request_history : (request : Option Request) (files : Contents) (s : Status) (b : List ℕ) → IsWhole s → Answers request files s b → HistoryRequest request files b
+request_history None files s b whole h = tt
+request_history (Some (show program)) files s b whole h = tt
+request_history (Some (session program script data_file)) files s b whole h = session_each KeepsHistory each_moves program script data_file files s b whole h
+request_history (Some (generate number)) files s b whole h = tt

@@ -1,0 +1,120 @@
+-- What is told of a step is the first cause that forbids it, or that nothing does.
+use Rattle.std.proofs.Common.{◌≡◌, ℕ, List, ◌∷◌, ◌++◌, Bool, true, false, Option, Some, None, All, is_some, arith, refl, sym, ap, ◌∙◌, subst}
+use Rattle.std.specs.Prelude.{Contains, ⊤}
+use Rattle.std.proofs.lemmas.List.Elements.{All-contains, Contains-append_right}
+use Rattle.ped_io.specs.Outside.{Contents}
+use Rattle.ped_words.specs.Requests.{Request, show, session, generate}
+use Rattle.ped_session.specs.ped_tree.specs.Tree.{ProgramTree}
+use Rattle.ped_session.specs.ped_valid.specs.Validity.{ReadsValid}
+use Rattle.ped_session.specs.ped_graph.specs.ped_edges.specs.Edges.{Edge}
+use Rattle.ped_session.specs.ped_graph.specs.Dependences.{AreEdges}
+use Rattle.ped_session.specs.ped_transformations.specs.ped_script.specs.declared.items.Command.{Command}
+use Rattle.ped_session.specs.ped_transformations.specs.ped_script.specs.declared.items.Command.TheVariants.{Source, Deps, Show, Print, Advise, Replace, Insert, Delete, Interchange, Reverse, Skew, Strip, Peel, Distribute, Fuse, Expand, Privatise, Parallel, Serial, Reject, Undo, Redo, Run, Races, Tested}
+use Rattle.ped_session.specs.ped_transformations.specs.Table.{step_of}
+use Rattle.ped_session.specs.ped_transformations.specs.ped_reindex.specs.ped_loops.specs.Interchanging.{StandsAgainstInterchange}
+use Rattle.ped_session.specs.ped_transformations.specs.ped_reindex.specs.ped_loops.specs.Reversing.{StandsAgainstReversal}
+use Rattle.ped_session.specs.ped_transformations.specs.ped_reindex.specs.ped_loops.specs.Paralleling.{StandsAgainstParallel}
+use Rattle.ped_session.specs.ped_transformations.specs.ped_reindex.specs.ped_loops.specs.Serialising.{StandsAgainstSerial}
+use Rattle.ped_session.specs.ped_transformations.specs.ped_reindex.specs.ped_loops.specs.Rejecting.{StandsAgainstRejection}
+use Rattle.ped_session.specs.ped_transformations.specs.ped_reindex.specs.Skewing.{StandsAgainstSkewing}
+use Rattle.ped_session.specs.ped_transformations.specs.ped_reindex.specs.Stripping.{StandsAgainstStripping}
+use Rattle.ped_session.specs.ped_transformations.specs.ped_reindex.specs.Peeling.{StandsAgainstPeeling}
+use Rattle.ped_session.specs.ped_transformations.specs.ped_splits.specs.Distributing.{StandsAgainstDistribution}
+use Rattle.ped_session.specs.ped_transformations.specs.ped_reindex.specs.ped_loops.specs.ped_scalar.specs.Privatising.{StandsAgainstPrivatising}
+use Rattle.ped_session.specs.ped_transformations.specs.ped_reindex.specs.ped_loops.specs.ped_scalar.specs.Expanding.{StandsAgainstExpanding}
+use Rattle.ped_session.specs.ped_transformations.specs.ped_reindex.specs.ped_loops.specs.ped_scalar.specs.ped_rules.specs.Carried.{carried, crossing}
+use Rattle.ped_session.specs.ped_transformations.specs.ped_reindex.specs.ped_loops.specs.ped_scalar.specs.ped_rules.specs.Steps.{StepAt, MaybeStep, no_step, some_step, MatchStep}
+use Rattle.ped_session.specs.ped_transformations.specs.ped_reindex.specs.ped_loops.specs.ped_scalar.specs.ped_rules.specs.ped_loop_runs.specs.ped_bodies.specs.ped_steps.specs.Causes.{Rules, Cause, rule, dependence, IsFirstCause, none_forbids}
+use Rattle.ped_session.specs.declared.replies.Reply.{Reply}
+use Rattle.ped_session.specs.declared.replies.Reply.TheVariants.{Changed, Refused}
+use Rattle.ped_session.specs.declared.replies.Refusal.TheVariants.{Step, NoSuchStatement}
+use Rattle.ped_session.specs.States.{State}
+use Rattle.ped_session.specs.Replies.{reply_text}
+use Rattle.ped_session.specs.Steps.{Transforms, missing, transformed, IsOther}
+use Rattle.ped_session.specs.Steps as session_steps
+use Rattle.ped_session.specs.Scripts.{Said, said_by, AnswersCommand}
+use Rattle.ped_answer.specs.declared.answering.Status.{Status}
+use Rattle.ped_answer.specs.Answer.{Answers}
+use Rattle.ped_answer.specs.ScriptRuns.{IsWhole}
+use Rattle.ped_answer.specs.StepCauses.{IsAmong, Forbids}
+use Rattle.ped_answer.specs.Headline.{TellsOfStep, no_statement, forbidden, accepted, TellsCause, CausesRequest}
+use Rattle.ped_answer.proofs.EachItems.{SoOfValid, session_each}
+
+-- what forbids a step of a command is what its first causes are among, and where it has no first cause, nothing forbids it
+record AreCauses (command : Command) (at : StepAt) : Type 0 where
+  first : (t : ProgramTree) (c : Cause) → at.IsCause t (Some c) → Forbids command t c
+  none : (t : ProgramTree) → at.IsCause t None → (c : Cause) → Forbids command t c → ⊥
+
+first_among : (t : ProgramTree) (stands : Rules) (forbids : Edge → Bool) (c : Cause) → IsFirstCause t stands forbids (Some c) → IsAmong t stands forbids c
+first_among t stands forbids (rule r n) h = h.0
+first_among t stands forbids (dependence e) h =
+    let found = h.3 in
+    (h.1, h.2, subst (λ (es : List Edge). Contains es e) (sym found.2) (Contains-append_right found.0 (e ∷ found.1) e (0, omega arith, refl)), found.3)
+
+true_isnt_false : (b : Bool) → b ≡ true → b ≡ false → ⊥
+true_isnt_false b t f = cc
+
+none_among : (t : ProgramTree) (stands : Rules) (forbids : Edge → Bool) → IsFirstCause t stands forbids None → (c : Cause) → IsAmong t stands forbids c → ⊥
+none_among t stands forbids h (rule r n) is = h.0 r n is
+none_among t stands forbids h (dependence e) is = true_isnt_false (forbids e) is.3 (All-contains (λ (f : Edge). forbids f ≡ false) is.0 e (h.1 is.0 is.1) is.2)
+
+-- each step of the table
+are_causes : (command : Command) → MatchStep (step_of command) ⊤ (AreCauses command)
+are_causes (Interchange s) = record { first = λ t. first_among t (StandsAgainstInterchange s t) (crossing t s); none = λ t. none_among t (StandsAgainstInterchange s t) (crossing t s) }
+are_causes (Reverse s) = record { first = λ t. first_among t (StandsAgainstReversal s t) (carried t s); none = λ t. none_among t (StandsAgainstReversal s t) (carried t s) }
+are_causes (Parallel s) = record { first = λ t. first_among t (StandsAgainstParallel s t) (carried t s); none = λ t. none_among t (StandsAgainstParallel s t) (carried t s) }
+are_causes (Serial s) = record { first = λ t. first_among t (StandsAgainstSerial s t) none_forbids; none = λ t. none_among t (StandsAgainstSerial s t) none_forbids }
+are_causes (Skew s factor) = record { first = λ t. first_among t (StandsAgainstSkewing s factor t) none_forbids; none = λ t. none_among t (StandsAgainstSkewing s factor t) none_forbids }
+are_causes (Strip s size) = record { first = λ t. first_among t (StandsAgainstStripping s size t) none_forbids; none = λ t. none_among t (StandsAgainstStripping s size t) none_forbids }
+are_causes (Peel s last) = record { first = λ t. first_among t (StandsAgainstPeeling s last t) none_forbids; none = λ t. none_among t (StandsAgainstPeeling s last t) none_forbids }
+are_causes (Distribute s) = record { first = λ t. first_among t (StandsAgainstDistribution s t) none_forbids; none = λ t. none_among t (StandsAgainstDistribution s t) none_forbids }
+are_causes (Expand s x) = record { first = λ t. first_among t (StandsAgainstExpanding s x t) none_forbids; none = λ t. none_among t (StandsAgainstExpanding s x t) none_forbids }
+are_causes (Privatise s x) = record { first = λ t. first_among t (StandsAgainstPrivatising s x t) none_forbids; none = λ t. none_among t (StandsAgainstPrivatising s x t) none_forbids }
+are_causes (Reject s x) = record { first = λ t. first_among t (StandsAgainstRejection s x t) none_forbids; none = λ t. none_among t (StandsAgainstRejection s x t) none_forbids }
+are_causes (Fuse s) = tt
+are_causes Source = tt
+are_causes (Deps of) = tt
+are_causes Show = tt
+are_causes Print = tt
+are_causes (Advise s) = tt
+are_causes (Replace first last lines) = tt
+are_causes (Insert after lines) = tt
+are_causes (Delete first last) = tt
+are_causes Undo = tt
+are_causes Redo = tt
+are_causes (Run choices) = tt
+are_causes Races = tt
+are_causes Tested = tt
+
+-- the bytes of a reply
+bytes_of : (line : ℕ) (reply other : Reply) (next : State) (said : Said) → said ≡ said_by line reply next → reply ≡ other → said.bytes ≡ reply_text line other
+bytes_of line reply other next said says is = ap (λ (x : Said). x.bytes) says ∙ ap (reply_text line) is
+
+tells_of : (command : Command) (at : StepAt) → AreCauses command at → (line : ℕ) (s next : State) (reply : Reply) (said : Said) → Transforms at s reply next → said ≡ said_by line reply next
+    → (t : ProgramTree) × ReadsValid s.present t × TellsOfStep command at line t s said.bytes next
+tells_of command at are line s next reply said (missing t reads none stays) says =
+    (t, reads, no_statement none (bytes_of line reply (Refused NoSuchStatement) next said says stays.0) stays.1)
+tells_of command at are line s next reply said (session_steps.forbidden t reads some c is stays) says =
+    (t, reads, forbidden some c (are.first t c is) is (bytes_of line reply (Refused (Step c)) next said says stays.0) stays.1)
+tells_of command at are line s next reply said (transformed t new keep reads some none makes valid changed after) says =
+    (t, reads, accepted some (are.none t none) (bytes_of line reply Changed next said says changed))
+
+tells_by : (command : Command) (step : MaybeStep) → MatchStep step ⊤ (AreCauses command) → (d : List ℕ) (line : ℕ) (s next : State) (reply : Reply) (said : Said)
+    → MatchStep step (IsOther command d s reply next) (λ at. Transforms at s reply next) → said ≡ said_by line reply next
+    → MatchStep step ⊤ (λ at. (t : ProgramTree) × ReadsValid s.present t × TellsOfStep command at line t s said.bytes next)
+tells_by command no_step are d line s next reply said h says = tt
+tells_by command (some_step at) are d line s next reply said h says = tells_of command at are line s next reply said h says
+
+line_tells : (line : ℕ) (command : Option Command) (d : List ℕ) (s next : State) (said : Said) → AnswersCommand line command d s said next → TellsCause line command s said next
+line_tells line None d s next said h = tt
+line_tells line (Some c) d s next said h = tells_by c (step_of c) (are_causes c) d line s next h.0 said h.1 h.2
+
+each_tells : SoOfValid TellsCause
+each_tells d t valid line command s next said came h = line_tells line command d s next said h
+
+-- the causes in an answer
+pub request_causes : (request : Option Request) (files : Contents) (s : Status) (b : List ℕ) → IsWhole s → Answers request files s b → CausesRequest request files b
+request_causes None files s b whole h = tt
+request_causes (Some (show program)) files s b whole h = tt
+request_causes (Some (session program script data_file)) files s b whole h = session_each TellsCause each_tells program script data_file files s b whole h
+request_causes (Some (generate number)) files s b whole h = tt

@@ -1,0 +1,169 @@
+-- The headline, clause by clause: what is so of the answer to each item of a script, and of both panes of a file (ParaScope; this project).
+use Rattle.std.specs.Prelude.{◌≡◌, ℕ, suc, ◌+◌, ◌<◌, List, [], ◌∷◌, ◌++◌, map, reverse, take, length, slice_get, codes, is_some, true, false, Option, Some, None, MatchOption, ⊤}
+use Rattle.ped_io.specs.Outside.{Contents, content}
+use Rattle.ped_words.specs.Requests.{Request, show, session, generate}
+use Rattle.ped_session.specs.ped_tree.specs.Tree.{ProgramTree}
+use Rattle.ped_session.specs.ped_tree.specs.Printing.{program_text}
+use Rattle.ped_session.specs.ped_tree.specs.Numbering.{statement_with}
+use Rattle.ped_session.specs.ped_valid.specs.Validity.{ReadsValid}
+use Rattle.ped_session.specs.ped_graph.specs.DependencePane.{IsDependencePane, IsDependencePaneOf}
+use Rattle.ped_session.specs.ped_transformations.specs.ped_script.specs.Items.{commands_of}
+use Rattle.ped_session.specs.ped_transformations.specs.ped_script.specs.declared.items.Item.{Item}
+use Rattle.ped_session.specs.ped_transformations.specs.ped_script.specs.declared.items.Command.{Command}
+use Rattle.ped_session.specs.ped_transformations.specs.ped_script.specs.declared.items.Command.TheVariants.{Source, Deps, Show, Print, Undo, Redo}
+use Rattle.ped_session.specs.ped_transformations.specs.Table.{step_of}
+use Rattle.ped_session.specs.ped_transformations.specs.ped_reindex.specs.ped_loops.specs.ped_scalar.specs.ped_rules.specs.Steps.{StepAt, MatchStep}
+use Rattle.ped_session.specs.ped_transformations.specs.ped_reindex.specs.ped_loops.specs.ped_scalar.specs.ped_rules.specs.ped_loop_runs.specs.ped_bodies.specs.ped_steps.specs.Causes.{Cause}
+use Rattle.ped_session.specs.ped_transformations.specs.ped_reindex.specs.ped_loops.specs.ped_scalar.specs.ped_rules.specs.ped_loop_runs.specs.ped_bodies.specs.ped_steps.specs.CauseWords.{cause_words}
+use Rattle.ped_session.specs.declared.replies.Reply.{Reply}
+use Rattle.ped_session.specs.declared.replies.Reply.TheVariants.{Changed, Refused}
+use Rattle.ped_session.specs.declared.replies.Refusal.TheVariants.{NothingToUndo, NothingToRedo}
+use Rattle.ped_session.specs.States.{Other, State, opened}
+use Rattle.ped_session.specs.Panes.{IsSourcePane, ArePanes}
+use Rattle.ped_session.specs.Replies.{answer_row, bad_command_row, reply_text}
+use Rattle.ped_session.specs.Steps.{IsMove}
+use Rattle.ped_session.specs.Scripts.{Said, nothing_said, said_both, AnswersItem}
+use Rattle.ped_answer.specs.ScriptRuns.{AreData}
+use Rattle.ped_answer.specs.StepCauses.{Forbids}
+
+-- what may be so of an item of a script: of its line, its command, the state before it, what it says, and the state behind it (this project)
+abbrev pub ItemFact : Type 1
+ItemFact = ℕ → Option Command → State → Said → State → Type 0
+
+-- items answer one behind another, each in the state that the one before has left, and this is so of each of them (this project)
+abbrev pub AnswersEach : ItemFact → List Item → List ℕ → State → Said → State → Type 0
+AnswersEach IsSo [] data_bytes s said last = (said ≡ nothing_said) × (last ≡ s)
+AnswersEach IsSo (item ∷ items) data_bytes s said last =
+    (first : Said) × (next : State) × AnswersItem item data_bytes s first next × IsSo item.line item.command s first next
+    × (rest : Said) × AnswersEach IsSo items data_bytes next rest last × (said ≡ said_both first rest)
+
+-- these bytes are what the script answers on the program, on whose printed text the session opens, and this is so of each item (this project)
+pub record EachItem (IsSo : ItemFact) (program script : List ℕ) (data_file : Option (List ℕ)) (files : Contents) (bytes : List ℕ) : Type 0 where
+  pub text : List ℕ
+  pub program_is : content files program ≡ Some text
+  pub commands : List ℕ
+  pub script_is : content files script ≡ Some commands
+  pub data_bytes : List ℕ
+  pub data_are : AreData data_file files data_bytes
+  pub tree : ProgramTree
+  pub reads : ReadsValid text tree
+  pub said : Said
+  pub last : State
+  pub answers : AnswersEach IsSo (commands_of commands) data_bytes (opened tree) said last
+  pub says : bytes ≡ said.bytes
+
+-- Panes.
+
+-- these bytes are so of the program that a text is read afresh as: the text reads as this one valid program and as no other, and it is its printed text (ParaScope)
+pub record Afresh (IsSo : ProgramTree → List ℕ → Type 0) (text bytes : List ℕ) : Type 0 where
+  pub tree : ProgramTree
+  pub reads : ReadsValid text tree
+  pub no_other : (u : ProgramTree) → ReadsValid text u → u ≡ tree
+  pub printed : text ≡ program_text tree
+  pub so : IsSo tree bytes
+
+-- what is so of a statement of the program, where it has one of that number, and otherwise that it has none (this project)
+abbrev pub IsOfStatement : (ProgramTree → List ℕ → Type 0) → (line number : ℕ) → ProgramTree → List ℕ → Type 0
+IsOfStatement IsSo line number t bytes = MatchOption (statement_with number t) (bytes ≡ answer_row line (codes "refused NoSuchStatement")) (λ statement. IsSo t bytes)
+
+-- `source`, `deps`, `deps S` and `show` show the panes that come of reading the present source afresh, whatever was done before; and `print` shows that source (ParaScope)
+abbrev pub ShowsAfresh : ℕ → Option Command → State → Said → State → Type 0
+ShowsAfresh line (Some Source) s said next = Afresh IsSourcePane s.present said.bytes
+ShowsAfresh line (Some (Deps None)) s said next = Afresh IsDependencePane s.present said.bytes
+ShowsAfresh line (Some (Deps (Some number))) s said next = Afresh (IsOfStatement (λ t. IsDependencePaneOf t (Some number)) line number) s.present said.bytes
+ShowsAfresh line (Some Show) s said next = Afresh ArePanes s.present said.bytes
+ShowsAfresh line (Some Print) s said next = said.bytes ≡ s.present
+ShowsAfresh line command s said next = ⊤
+
+-- in mode `show` both panes are those that come of reading afresh the printed text of the program in the file (ParaScope)
+pub record ShowsFile (program : List ℕ) (files : Contents) (bytes : List ℕ) : Type 0 where
+  pub text : List ℕ
+  pub program_is : content files program ≡ Some text
+  pub tree : ProgramTree
+  pub reads : ReadsValid text tree
+  pub afresh : Afresh ArePanes (program_text tree) bytes
+
+-- the panes of an answer
+abbrev pub PanesRequest : Option Request → Contents → List ℕ → Type 0
+PanesRequest None files bytes = ⊤
+PanesRequest (Some (show program)) files bytes = ShowsFile program files bytes
+PanesRequest (Some (session program script data_file)) files bytes = EachItem ShowsAfresh program script data_file files bytes
+PanesRequest (Some (generate number)) files bytes = ⊤
+
+-- History.
+
+-- the sources of a session, the oldest first, and the place of the present one among them, which counts from 0 (ParaScope; this project)
+pub record Sources : Type 0 where
+  pub all : List (List ℕ)
+  pub place : ℕ
+
+-- the text of another source
+abbrev pub text_of : Other → List ℕ
+text_of other = other.0
+
+-- the sources of a state: the past ones, the present one, the future ones (ParaScope; this project)
+abbrev pub sources_of : State → Sources
+sources_of s = record { all = reverse (map text_of s.past) ++ s.present ∷ map text_of s.future; place = length s.past }
+
+-- the present source stands at its place
+abbrev pub StandsAtPlace : State → Type 0
+StandsAtPlace s = slice_get (sources_of s).all (sources_of s).place ≡ Some s.present
+
+-- `undo`: no source stands before the present one, and it is refused; or the one before is the present one. No source is lost or changed (ParaScope)
+pub data GoesOneBack (reply : Reply) (before behind : Sources) : Type 0 where
+  nothing_before : before.place ≡ 0 → reply ≡ Refused NothingToUndo → behind ≡ before → GoesOneBack reply before behind
+  one_before : (place : ℕ) → before.place ≡ suc place → reply ≡ Changed → behind ≡ record { all = before.all; place = place } → GoesOneBack reply before behind
+
+-- `redo`: no source stands behind the present one, and it is refused; or the one behind is the present one. No source is lost or changed (ParaScope)
+pub data GoesOneForward (reply : Reply) (before behind : Sources) : Type 0 where
+  nothing_behind : length before.all ≡ suc before.place → reply ≡ Refused NothingToRedo → behind ≡ before → GoesOneForward reply before behind
+  one_behind : suc before.place < length before.all → reply ≡ Changed → behind ≡ record { all = before.all; place = suc before.place } → GoesOneForward reply before behind
+
+-- a new source comes behind the present one, in the place of all that stood there, and is the present one (ParaScope)
+abbrev pub PutsBehind : Sources → Sources → Type 0
+PutsBehind before behind = (source : List ℕ) × (behind ≡ record { all = take (suc before.place) before.all ++ source ∷ []; place = suc before.place })
+
+-- what a command does to the sources: `undo` and `redo` move along them; any other command that is accepted puts one behind the present one; and what is shown, or refused, leaves all as they are (ParaScope)
+pub data Moves (command : Command) (reply : Reply) (before behind : Sources) : Type 0 where
+  by_undo : command ≡ Undo → GoesOneBack reply before behind → Moves command reply before behind
+  by_redo : command ≡ Redo → GoesOneForward reply before behind → Moves command reply before behind
+  by_change : ¬ (IsMove command) → reply ≡ Changed → PutsBehind before behind → Moves command reply before behind
+  by_nothing : ¬ (IsMove command) → (reply ≡ Changed → ⊥) → behind ≡ before → Moves command reply before behind
+
+-- the item says the reply to its command, which moves along the sources so; a line that is no command leaves them (ParaScope; this project)
+abbrev pub MovesBy : ℕ → Option Command → Sources → List ℕ → Sources → Type 0
+MovesBy line None before bytes behind = (bytes ≡ bad_command_row line) × (behind ≡ before)
+MovesBy line (Some command) before bytes behind = (reply : Reply) × (bytes ≡ reply_text line reply) × Moves command reply before behind
+
+-- the sources before an item and behind it (ParaScope)
+pub record KeepsHistory (line : ℕ) (command : Option Command) (s : State) (said : Said) (next : State) : Type 0 where
+  pub here : StandsAtPlace s
+  pub there : StandsAtPlace next
+  pub moves : MovesBy line command (sources_of s) said.bytes (sources_of next)
+
+-- the history of a session's answer
+abbrev pub HistoryRequest : Option Request → Contents → List ℕ → Type 0
+HistoryRequest None files bytes = ⊤
+HistoryRequest (Some (show program)) files bytes = ⊤
+HistoryRequest (Some (session program script data_file)) files bytes = EachItem KeepsHistory program script data_file files bytes
+HistoryRequest (Some (generate number)) files bytes = ⊤
+
+-- Causes.
+
+-- what is said of a step: the present program has no statement of that number; or something forbids the step, and what is said is the first such cause, a rule by its number before a dependence in the order of the pane; both leave the session as it was. Or nothing forbids the step, and it is accepted (ParaScope; this project)
+pub data TellsOfStep (command : Command) (at : StepAt) (line : ℕ) (t : ProgramTree) (s : State) (bytes : List ℕ) (next : State) : Type 0 where
+  no_statement : is_some (statement_with at.statement t) ≡ false → bytes ≡ answer_row line (codes "refused NoSuchStatement") → next ≡ s → TellsOfStep command at line t s bytes next
+  forbidden : is_some (statement_with at.statement t) ≡ true → (c : Cause) → Forbids command t c → at.IsCause t (Some c) → bytes ≡ answer_row line (codes "refused " ++ cause_words c) → next ≡ s → TellsOfStep command at line t s bytes next
+  accepted : is_some (statement_with at.statement t) ≡ true → ((c : Cause) → Forbids command t c → ⊥) → bytes ≡ answer_row line (codes "ok") → TellsOfStep command at line t s bytes next
+
+-- a transformation or `reject` is refused by its first cause in the present program, and accepted where it has none (ParaScope)
+abbrev pub TellsCause : ℕ → Option Command → State → Said → State → Type 0
+TellsCause line None s said next = ⊤
+TellsCause line (Some command) s said next = MatchStep (step_of command) ⊤ (λ at. (t : ProgramTree) × ReadsValid s.present t × TellsOfStep command at line t s said.bytes next)
+
+-- the causes in a session's answer
+abbrev pub CausesRequest : Option Request → Contents → List ℕ → Type 0
+CausesRequest None files bytes = ⊤
+CausesRequest (Some (show program)) files bytes = ⊤
+CausesRequest (Some (session program script data_file)) files bytes = EachItem TellsCause program script data_file files bytes
+CausesRequest (Some (generate number)) files bytes = ⊤

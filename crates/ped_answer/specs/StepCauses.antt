@@ -1,0 +1,40 @@
+-- What forbids each step: the rules that may stand against it, and the dependences that it may not pass over (ParaScope; this project).
+use Rattle.std.specs.Prelude.{◌≡◌, List, Contains, Bool, true}
+use Rattle.ped_session.specs.ped_tree.specs.Tree.{ProgramTree}
+use Rattle.ped_session.specs.ped_graph.specs.ped_edges.specs.Edges.{Edge}
+use Rattle.ped_session.specs.ped_graph.specs.Dependences.{AreEdges}
+use Rattle.ped_session.specs.ped_transformations.specs.ped_script.specs.declared.items.Command.{Command}
+use Rattle.ped_session.specs.ped_transformations.specs.ped_script.specs.declared.items.Command.TheVariants.{Interchange, Reverse, Skew, Strip, Peel, Distribute, Expand, Privatise, Parallel, Serial, Reject}
+use Rattle.ped_session.specs.ped_transformations.specs.ped_splits.specs.Distributing.{StandsAgainstDistribution}
+use Rattle.ped_session.specs.ped_transformations.specs.ped_reindex.specs.Skewing.{StandsAgainstSkewing}
+use Rattle.ped_session.specs.ped_transformations.specs.ped_reindex.specs.Stripping.{StandsAgainstStripping}
+use Rattle.ped_session.specs.ped_transformations.specs.ped_reindex.specs.Peeling.{StandsAgainstPeeling}
+use Rattle.ped_session.specs.ped_transformations.specs.ped_reindex.specs.ped_loops.specs.Interchanging.{StandsAgainstInterchange}
+use Rattle.ped_session.specs.ped_transformations.specs.ped_reindex.specs.ped_loops.specs.Reversing.{StandsAgainstReversal}
+use Rattle.ped_session.specs.ped_transformations.specs.ped_reindex.specs.ped_loops.specs.Paralleling.{StandsAgainstParallel}
+use Rattle.ped_session.specs.ped_transformations.specs.ped_reindex.specs.ped_loops.specs.Serialising.{StandsAgainstSerial}
+use Rattle.ped_session.specs.ped_transformations.specs.ped_reindex.specs.ped_loops.specs.Rejecting.{StandsAgainstRejection}
+use Rattle.ped_session.specs.ped_transformations.specs.ped_reindex.specs.ped_loops.specs.ped_scalar.specs.Privatising.{StandsAgainstPrivatising}
+use Rattle.ped_session.specs.ped_transformations.specs.ped_reindex.specs.ped_loops.specs.ped_scalar.specs.Expanding.{StandsAgainstExpanding}
+use Rattle.ped_session.specs.ped_transformations.specs.ped_reindex.specs.ped_loops.specs.ped_scalar.specs.ped_rules.specs.Carried.{carried, crossing}
+use Rattle.ped_session.specs.ped_transformations.specs.ped_reindex.specs.ped_loops.specs.ped_scalar.specs.ped_rules.specs.ped_loop_runs.specs.ped_bodies.specs.ped_steps.specs.Causes.{Rules, Cause, rule, dependence, none_forbids}
+
+-- a rule that stands against a step, or a dependence of the program that forbids it (ParaScope)
+abbrev pub IsAmong : ProgramTree → Rules → (Edge → Bool) → Cause → Type 0
+IsAmong t stands forbids (rule r n) = stands r n
+IsAmong t stands forbids (dependence e) = (edges : List Edge) × AreEdges t edges × Contains edges e × (forbids e ≡ true)
+
+-- what forbids the step of a command in a program: a rule that stands, or a dependence that it may not pass over, which three steps have, since they change the order of iterations: `interchange`, `reverse` and `parallel`. One row for each step of the table of steps (Allen and Kennedy, sections 2.2.5, 5.2; ParaScope)
+abbrev pub Forbids : Command → ProgramTree → Cause → Type 0
+Forbids (Interchange s) t c = IsAmong t (StandsAgainstInterchange s t) (crossing t s) c
+Forbids (Reverse s) t c = IsAmong t (StandsAgainstReversal s t) (carried t s) c
+Forbids (Parallel s) t c = IsAmong t (StandsAgainstParallel s t) (carried t s) c
+Forbids (Serial s) t c = IsAmong t (StandsAgainstSerial s t) none_forbids c
+Forbids (Skew s factor) t c = IsAmong t (StandsAgainstSkewing s factor t) none_forbids c
+Forbids (Strip s size) t c = IsAmong t (StandsAgainstStripping s size t) none_forbids c
+Forbids (Peel s last) t c = IsAmong t (StandsAgainstPeeling s last t) none_forbids c
+Forbids (Distribute s) t c = IsAmong t (StandsAgainstDistribution s t) none_forbids c
+Forbids (Expand s x) t c = IsAmong t (StandsAgainstExpanding s x t) none_forbids c
+Forbids (Privatise s x) t c = IsAmong t (StandsAgainstPrivatising s x t) none_forbids c
+Forbids (Reject s x) t c = IsAmong t (StandsAgainstRejection s x t) none_forbids c
+Forbids command t c = ⊥

@@ -1,0 +1,43 @@
+//! The headline: what is so of each answer to words and files, by the definitions of `specs/Headline.antt`. No function here
+//! does anything; its contract is the law. `runs_are_as_before` has the third part of the headline, on what programs mean.
+
+ghost use Rattle.std.specs.Prelude.{ℕ, List, Option};
+ghost use Rattle.ped_io.specs.Outside.{Contents};
+ghost use Rattle.ped_words.specs.Requests as plain;
+ghost use Rattle.ped_answer.specs.declared.answering.Status.{Status};
+ghost use Rattle.ped_answer.specs.Answer.{Answers};
+ghost use Rattle.ped_answer.specs.ScriptRuns.{IsWhole, RunsRequest};
+ghost use Rattle.ped_answer.specs.Headline.{PanesRequest, HistoryRequest, CausesRequest};
+
+/// In each answer to `show`, and in each to a session at each `source`, `deps`, `deps S` and `show`, the panes are those
+/// that come of reading the printed text of the present program afresh, whatever was done before.
+pub fn panes_are_afresh()
+    ensures { (request : Option plain.Request) (files : Contents) (s : Status) (bytes : List ℕ) → IsWhole s →
+        Answers request files s bytes → PanesRequest request files bytes }
+{
+    ped_session::sources_are_printed();
+}
+
+/// In each answer to a session the sources stand one behind another: `undo` and `redo` go along them, byte for byte, and are
+/// accepted exactly where there is one to go to; a change puts its source behind the present one; and nothing else moves.
+pub fn history_is_kept()
+    ensures { (request : Option plain.Request) (files : Contents) (s : Status) (bytes : List ℕ) → IsWhole s →
+        Answers request files s bytes → HistoryRequest request files bytes }
+{}
+
+/// In each answer to a session each transformation or `reject` that is refused is told by its first cause, which is one; and
+/// none that is accepted has a cause.
+pub fn refusals_have_causes()
+    ensures { (request : Option plain.Request) (files : Contents) (s : Status) (bytes : List ℕ) → IsWhole s →
+        Answers request files s bytes → CausesRequest request files bytes }
+{}
+
+/// In each answer to a session each `run` of its script shows what the programs show from which the present one has come
+/// by transformations alone, if they are tidy and without C$PED REJECT and run on the data without a fault and without a
+/// race.
+pub fn runs_are_as_before()
+    ensures { (request : Option plain.Request) (files : Contents) (s : Status) (bytes : List ℕ) → IsWhole s →
+        Answers request files s bytes → RunsRequest request files bytes }
+{
+    ped_session::runs_are_as_before();
+}

@@ -1,0 +1,11 @@
+      PROGRAM NODES
+C     EACH ITERATION READS ONE ELEMENT BEFORE IT IS WRITTEN, AND ONE THAT
+C     THE ITERATION BEFORE HAS WRITTEN.
+      INTEGER A(4), X(5), Y(4)
+      SAVE A
+      DO 10 I = 1, 5
+   10 X(I) = I
+      DO 20 I = 1, 4
+      A(I) = X(I+1)+X(I)
+   20 X(I+1) = 10*I
+      END

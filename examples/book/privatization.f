@@ -1,0 +1,8 @@
+      PROGRAM PRIVAT
+C     K IS A ROOM FOR ONE ITERATION; NOBODY WANTS IT BEHIND THE LOOP.
+      INTEGER A(4)
+      SAVE A
+      DO 10 I = 1, 4
+      K = I*I
+   10 A(I) = K+K
+      END

@@ -1,0 +1,7 @@
+      PROGRAM PACKS
+C     TEN ITERATIONS IN PACKS OF FOUR; THE LAST PACK HAS TWO.
+      INTEGER A(10)
+      SAVE A
+      DO 10 I = 1, 10
+   10 A(I) = 11-I
+      END

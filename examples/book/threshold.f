@@ -1,0 +1,9 @@
+      PROGRAM THRESH
+C     FOUR ITERATIONS AT A TIME DON'T MEET: THE DISTANCE IS FOUR.
+      INTEGER A(16)
+      SAVE A
+      DO 10 I = 1, 4
+   10 A(I) = I
+      DO 20 I = 1, 12
+   20 A(I+4) = A(I)+10
+      END

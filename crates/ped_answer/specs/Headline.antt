@@ -10,14 +10,15 @@ use Rattle.ped_session.specs.ped_graph.specs.DependencePane.{IsDependencePane, I
 use Rattle.ped_session.specs.ped_transformations.specs.ped_script.specs.Items.{commands_of}
 use Rattle.ped_session.specs.ped_transformations.specs.ped_script.specs.declared.items.Item.{Item}
 use Rattle.ped_session.specs.ped_transformations.specs.ped_script.specs.declared.items.Command.{Command}
-use Rattle.ped_session.specs.ped_transformations.specs.ped_script.specs.declared.items.Command.TheVariants.{Source, Deps, Show, Print, Advise, Undo, Redo}
+use Rattle.ped_session.specs.ped_transformations.specs.ped_script.specs.declared.items.Command.TheVariants.{Source, Deps, Show, Print, Advise, Undo, Redo, Run, Races, Tested}
 use Rattle.ped_session.specs.ped_transformations.specs.Table.{step_of}
 use Rattle.ped_session.specs.ped_transformations.specs.Advice.{IsAdvice}
 use Rattle.ped_session.specs.ped_transformations.specs.ped_reindex.specs.ped_loops.specs.ped_scalar.specs.ped_rules.specs.Steps.{StepAt, MatchStep}
 use Rattle.ped_session.specs.ped_transformations.specs.ped_reindex.specs.ped_loops.specs.ped_scalar.specs.ped_rules.specs.ped_loop_runs.specs.ped_bodies.specs.ped_steps.specs.Causes.{Cause}
 use Rattle.ped_session.specs.ped_transformations.specs.ped_reindex.specs.ped_loops.specs.ped_scalar.specs.ped_rules.specs.ped_loop_runs.specs.ped_bodies.specs.ped_steps.specs.CauseWords.{cause_words}
 use Rattle.ped_session.specs.declared.replies.Reply.{Reply}
-use Rattle.ped_session.specs.declared.replies.Reply.TheVariants.{Changed, Refused}
+use Rattle.ped_session.specs.declared.replies.Reply.TheVariants.{Changed, Shown, Refused}
+use Rattle.ped_session.specs.declared.replies.Refusal.{Refusal}
 use Rattle.ped_session.specs.declared.replies.Refusal.TheVariants.{NothingToUndo, NothingToRedo}
 use Rattle.ped_session.specs.States.{Other, State, opened}
 use Rattle.ped_session.specs.Panes.{IsSourcePane, ArePanes}
@@ -125,12 +126,25 @@ pub data GoesOneForward (reply : Reply) (before behind : Sources) : Type 0 where
 abbrev pub PutsBehind : Sources → Sources → Type 0
 PutsBehind before behind = (source : List ℕ) × (behind ≡ record { all = take (suc before.place) before.all ++ source ∷ []; place = suc before.place })
 
--- what a command does to the sources: `undo` and `redo` move along them; any other command that is accepted puts one behind the present one; and a command that shows something, or is refused, leaves all as they are (ParaScope)
+-- the commands that only show something; each other one is a change, `undo` or `redo` (this project)
+abbrev pub IsShowing : Command → Type 0
+IsShowing Source = ⊤
+IsShowing (Deps of) = ⊤
+IsShowing Show = ⊤
+IsShowing Print = ⊤
+IsShowing (Advise number) = ⊤
+IsShowing (Run choices) = ⊤
+IsShowing Races = ⊤
+IsShowing Tested = ⊤
+IsShowing command = ⊥
+
+-- what a command does to the sources: `undo` and `redo` move along them; a command that only shows something leaves all as they are; any other one that is accepted is a change and puts a source behind the present one; and one that is refused leaves all as they are (ParaScope)
 pub data Moves (command : Command) (reply : Reply) (before behind : Sources) : Type 0 where
   by_undo : command ≡ Undo → GoesOneBack reply before behind → Moves command reply before behind
   by_redo : command ≡ Redo → GoesOneForward reply before behind → Moves command reply before behind
-  by_change : ¬ (IsMove command) → reply ≡ Changed → PutsBehind before behind → Moves command reply before behind
-  by_nothing : ¬ (IsMove command) → (reply ≡ Changed → ⊥) → behind ≡ before → Moves command reply before behind
+  by_showing : IsShowing command → (shown : List ℕ) → reply ≡ Shown shown → behind ≡ before → Moves command reply before behind
+  by_change : ¬ (IsMove command) → ¬ (IsShowing command) → reply ≡ Changed → PutsBehind before behind → Moves command reply before behind
+  by_refusal : ¬ (IsMove command) → (why : Refusal) → reply ≡ Refused why → behind ≡ before → Moves command reply before behind
 
 -- the item says the reply to its command, and the sources move as this command with this reply moves them; a line that is no command is refused and leaves them (ParaScope; this project)
 abbrev pub MovesBy : ℕ → Option Command → Sources → List ℕ → Sources → Type 0

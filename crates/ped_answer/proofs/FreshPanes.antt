@@ -24,8 +24,7 @@ use Rattle.ped_session.specs.Steps.{Shows, ShowsOf, ShowsStatement}
 use Rattle.ped_session.specs.Scripts.{Said, said_by, AnswersCommand, AnswersItems}
 use Rattle.ped_answer.specs.declared.answering.Status.{Status}
 use Rattle.ped_answer.specs.declared.answering.Status.TheVariants.{Done, SomeRefused, BadWords, ReadFault, WriteFault, ProgramRefused, NoMemory, TooLong}
-use Rattle.ped_answer.specs.Answer.{source_input, IsShown, Answers}
-use Rattle.ped_answer.specs.ScriptRuns.{IsWhole}
+use Rattle.ped_answer.specs.Answer.{IsWhole, source_input, IsShown, Answers}
 use Rattle.ped_answer.specs.Headline.{Afresh, IsOfStatement, ShowsAfresh, ShowsFile, PanesRequest}
 use Rattle.ped_answer.proofs.OneAnswer.{one_tree}
 use Rattle.ped_answer.proofs.ExistenceLaws.Replying.{reads_as}
@@ -61,7 +60,7 @@ shows_of : (IsSo : ProgramTree → List ℕ → Type 0) (line number : ℕ) (s n
 shows_of IsSo line number s next reply said printed h says =
     afresh (IsOfStatement IsSo line number) s.present said.bytes h.tree printed h.reads (rows_by IsSo line (statement_with number h.tree) s next reply said h.tree h.reads h.shows says)
 
-line_shows : (line : ℕ) (command : Option Command) (d : List ℕ) (s next : State) (said : Said) → IsPrinted s.present → AnswersCommand line command d s said next → ShowsAfresh line command s said next
+line_shows : (line : ℕ) (command : Option Command) (d : List ℕ) (s next : State) (said : Said) → IsPrinted s.present → AnswersCommand line command d s said next → ShowsAfresh line command d s said next
 line_shows line None d s next said printed h = tt
 line_shows line (Some Source) d s next said printed h = shows IsSourcePane line s next h.0 said printed h.1 h.2
 line_shows line (Some (Deps None)) d s next said printed h = shows IsDependencePane line s next h.0 said printed h.1 h.2

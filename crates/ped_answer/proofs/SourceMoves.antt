@@ -18,8 +18,7 @@ use Rattle.ped_session.specs.Splices.{are_lines, is_place}
 use Rattle.ped_session.specs.Steps.{Refuses, Prints, Shows, ShowsOf, ShowsStatement, Edits, accepted, refused, Transforms, missing, forbidden, transformed, GoesBack, GoesForward, IsStep, IsMove}
 use Rattle.ped_session.specs.Scripts.{Said, AnswersCommand}
 use Rattle.ped_answer.specs.declared.answering.Status.{Status}
-use Rattle.ped_answer.specs.Answer.{Answers}
-use Rattle.ped_answer.specs.ScriptRuns.{IsWhole}
+use Rattle.ped_answer.specs.Answer.{IsWhole, Answers}
 use Rattle.ped_answer.specs.Headline.{Sources, text_of, sources_of, StandsAtPlace, GoesOneBack, nothing_before, one_before, GoesOneForward, nothing_behind, one_behind, PutsBehind, IsShowing, Moves, by_undo, by_redo, by_showing, by_change, by_refusal, KeepsHistory, HistoryRequest}
 use Rattle.ped_answer.proofs.EachItems.{Comes, SoOfValid, session_each}
 
@@ -172,7 +171,7 @@ moves (Reject number name) d s next reply h = step_moves (Reject number name) _ 
 moves (Fuse number) d s next reply h = step_moves (Fuse number) _ s next reply (still_by (Fuse number) (λ e. cc) (λ e. cc)) (λ is. is) h
 moves (Advise number) d s next reply h = of_statement_moves (Advise number) _ number s next reply (still_by (Advise number) (λ e. cc) (λ e. cc)) tt h
 
-line_moves : (line : ℕ) (command : Option Command) (d : List ℕ) (s next : State) (said : Said) → AnswersCommand line command d s said next → KeepsHistory line command s said next
+line_moves : (line : ℕ) (command : Option Command) (d : List ℕ) (s next : State) (said : Said) → AnswersCommand line command d s said next → KeepsHistory line command d s said next
 line_moves line None d s next said h = record { here = stands s; there = stands next; moves = (ap (λ (x : Said). x.bytes) h.0, ap sources_of h.1) }
 line_moves line (Some c) d s next said h = record { here = stands s; there = stands next; moves = (h.0, ap (λ (x : Said). x.bytes) h.2, moves c d s next h.0 h.1) }
 

@@ -35,8 +35,7 @@ use Rattle.ped_session.specs.Steps.{Transforms, missing, transformed, IsOther}
 use Rattle.ped_session.specs.Steps as session_steps
 use Rattle.ped_session.specs.Scripts.{Said, said_by, AnswersCommand}
 use Rattle.ped_answer.specs.declared.answering.Status.{Status}
-use Rattle.ped_answer.specs.Answer.{Answers}
-use Rattle.ped_answer.specs.ScriptRuns.{IsWhole}
+use Rattle.ped_answer.specs.Answer.{IsWhole, Answers}
 use Rattle.ped_answer.specs.StepCauses.{IsAmong, IsAmongFused, Forbids}
 use Rattle.ped_answer.specs.Headline.{TellsOfStep, no_statement, forbidden, accepted, TellsCause, CausesRequest}
 use Rattle.ped_answer.proofs.EachItems.{SoOfValid, session_each}
@@ -116,7 +115,7 @@ tells_by : (command : Command) (step : MaybeStep) → MatchStep step ⊤ (AreCau
 tells_by command no_step are d line s next reply said h says = tt
 tells_by command (some_step at) are d line s next reply said h says = tells_of command at are line s next reply said h says
 
-line_tells : (line : ℕ) (command : Option Command) (d : List ℕ) (s next : State) (said : Said) → AnswersCommand line command d s said next → TellsCause line command s said next
+line_tells : (line : ℕ) (command : Option Command) (d : List ℕ) (s next : State) (said : Said) → AnswersCommand line command d s said next → TellsCause line command d s said next
 line_tells line None d s next said h = tt
 line_tells line (Some c) d s next said h = tells_by c (step_of c) (are_causes c) d line s next h.0 said h.1 h.2
 

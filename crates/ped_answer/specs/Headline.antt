@@ -25,18 +25,20 @@ use Rattle.ped_session.specs.Panes.{IsSourcePane, ArePanes}
 use Rattle.ped_session.specs.Replies.{answer_row, bad_command_row, reply_text}
 use Rattle.ped_session.specs.Steps.{IsMove}
 use Rattle.ped_session.specs.Scripts.{Said, nothing_said, said_both, AnswersItem}
-use Rattle.ped_answer.specs.ScriptRuns.{AreData}
+use Rattle.ped_session.specs.Meanings.{IsMeaningKept}
+use Rattle.ped_session.specs.RunsAsBefore.{RunsAsBefore}
+use Rattle.ped_answer.specs.Answer.{AreData}
 use Rattle.ped_answer.specs.StepCauses.{Forbids}
 
--- what may be so of an item of a script: of its line, its command, the state before it, what it says, and the state behind it (this project)
+-- what may be so of an item of a script: of its line, its command, the data of the session, the state before it, what it says, and the state behind it (this project)
 abbrev pub ItemFact : Type 1
-ItemFact = ℕ → Option Command → State → Said → State → Type 0
+ItemFact = ℕ → Option Command → List ℕ → State → Said → State → Type 0
 
 -- items answer one behind another, each in the state that the one before has left, and this is so of each of them (this project)
 abbrev pub AnswersEach : ItemFact → List Item → List ℕ → State → Said → State → Type 0
 AnswersEach IsSo [] data_bytes s said last = (said ≡ nothing_said) × (last ≡ s)
 AnswersEach IsSo (item ∷ items) data_bytes s said last =
-    (first : Said) × (next : State) × AnswersItem item data_bytes s first next × IsSo item.line item.command s first next
+    (first : Said) × (next : State) × AnswersItem item data_bytes s first next × IsSo item.line item.command data_bytes s first next
     × (rest : Said) × AnswersEach IsSo items data_bytes next rest last × (said ≡ said_both first rest)
 
 -- these bytes are what the script answers on the program, on whose printed text the session opens, and this is so of each item (this project)
@@ -69,14 +71,14 @@ abbrev pub IsOfStatement : (ProgramTree → List ℕ → Type 0) → (line numbe
 IsOfStatement IsSo line number t bytes = MatchOption (statement_with number t) (bytes ≡ answer_row line (codes "refused NoSuchStatement")) (λ statement. IsSo t bytes)
 
 -- `source`, `deps`, `deps S` and `show` show the panes that come of reading the present source afresh, whatever was done before; `print` shows that source, and `advise S` the first causes against the steps in it (ParaScope)
-abbrev pub ShowsAfresh : ℕ → Option Command → State → Said → State → Type 0
-ShowsAfresh line (Some Source) s said next = Afresh IsSourcePane s.present said.bytes
-ShowsAfresh line (Some (Deps None)) s said next = Afresh IsDependencePane s.present said.bytes
-ShowsAfresh line (Some (Deps (Some number))) s said next = Afresh (IsOfStatement (λ t. IsDependencePaneOf t (Some number)) line number) s.present said.bytes
-ShowsAfresh line (Some Show) s said next = Afresh ArePanes s.present said.bytes
-ShowsAfresh line (Some Print) s said next = said.bytes ≡ s.present
-ShowsAfresh line (Some (Advise number)) s said next = Afresh (IsOfStatement (λ t. IsAdvice t number) line number) s.present said.bytes
-ShowsAfresh line command s said next = ⊤
+abbrev pub ShowsAfresh : ℕ → Option Command → List ℕ → State → Said → State → Type 0
+ShowsAfresh line (Some Source) data_bytes s said next = Afresh IsSourcePane s.present said.bytes
+ShowsAfresh line (Some (Deps None)) data_bytes s said next = Afresh IsDependencePane s.present said.bytes
+ShowsAfresh line (Some (Deps (Some number))) data_bytes s said next = Afresh (IsOfStatement (λ t. IsDependencePaneOf t (Some number)) line number) s.present said.bytes
+ShowsAfresh line (Some Show) data_bytes s said next = Afresh ArePanes s.present said.bytes
+ShowsAfresh line (Some Print) data_bytes s said next = said.bytes ≡ s.present
+ShowsAfresh line (Some (Advise number)) data_bytes s said next = Afresh (IsOfStatement (λ t. IsAdvice t number) line number) s.present said.bytes
+ShowsAfresh line command data_bytes s said next = ⊤
 
 -- in mode `show` both panes are those that come of reading afresh the printed text of the program in the file (ParaScope)
 pub record ShowsFile (program : List ℕ) (files : Contents) (bytes : List ℕ) : Type 0 where
@@ -152,7 +154,7 @@ MovesBy line None before bytes behind = (bytes ≡ bad_command_row line) × (beh
 MovesBy line (Some command) before bytes behind = (reply : Reply) × (bytes ≡ reply_text line reply) × Moves command reply before behind
 
 -- the sources before an item and behind it (ParaScope)
-pub record KeepsHistory (line : ℕ) (command : Option Command) (s : State) (said : Said) (next : State) : Type 0 where
+pub record KeepsHistory (line : ℕ) (command : Option Command) (data_bytes : List ℕ) (s : State) (said : Said) (next : State) : Type 0 where
   pub here : StandsAtPlace s
   pub there : StandsAtPlace next
   pub moves : MovesBy line command (sources_of s) said.bytes (sources_of next)
@@ -164,6 +166,21 @@ HistoryRequest (Some (show program)) files bytes = ⊤
 HistoryRequest (Some (session program script data_file)) files bytes = EachItem KeepsHistory program script data_file files bytes
 HistoryRequest (Some (generate number)) files bytes = ⊤
 
+-- Runs.
+
+-- before an item and behind it, each transformation of the history keeps the meaning of a program that is tidy and without C$PED REJECT, and leaves it so; and a `run`, whatever choices it has, shows what the programs show from which the present one has come by transformations alone, where these are tidy and without C$PED REJECT and run on the data without a fault and without a race. A program is tidy where no reference in a PARALLEL DO writes the variable of it or of a DO in it, and each path from that PARALLEL DO's exit to the end overwrites such a variable that is saved (ParaScope; this project)
+pub record KeepsMeaning (line : ℕ) (command : Option Command) (data_bytes : List ℕ) (s : State) (said : Said) (next : State) : Type 0 where
+  pub here : IsMeaningKept s
+  pub there : IsMeaningKept next
+  pub runs : RunsAsBefore command data_bytes s said
+
+-- the runs in a session's answer
+abbrev pub RunsRequest : Option Request → Contents → List ℕ → Type 0
+RunsRequest None files bytes = ⊤
+RunsRequest (Some (show program)) files bytes = ⊤
+RunsRequest (Some (session program script data_file)) files bytes = EachItem KeepsMeaning program script data_file files bytes
+RunsRequest (Some (generate number)) files bytes = ⊤
+
 -- Causes.
 
 -- what is said of a step: the present program has no statement of that number; or something forbids the step, and what is said is the first such cause, a rule by its number before a dependence in the order of the pane; both leave the session as it was. Or nothing forbids the step, and it is accepted (ParaScope; this project)
@@ -173,9 +190,9 @@ pub data TellsOfStep (command : Command) (at : StepAt) (line : ℕ) (t : Program
   accepted : is_some (statement_with at.statement t) ≡ true → ((c : Cause) → Forbids command t c → ⊥) → bytes ≡ answer_row line (codes "ok") → TellsOfStep command at line t s bytes next
 
 -- a transformation or `reject` at a statement that is there is refused by its first cause in the present program, and accepted where it has none; where it isn't there, that is told (ParaScope)
-abbrev pub TellsCause : ℕ → Option Command → State → Said → State → Type 0
-TellsCause line None s said next = ⊤
-TellsCause line (Some command) s said next = MatchStep (step_of command) ⊤ (λ at. (t : ProgramTree) × ReadsValid s.present t × TellsOfStep command at line t s said.bytes next)
+abbrev pub TellsCause : ℕ → Option Command → List ℕ → State → Said → State → Type 0
+TellsCause line None data_bytes s said next = ⊤
+TellsCause line (Some command) data_bytes s said next = MatchStep (step_of command) ⊤ (λ at. (t : ProgramTree) × ReadsValid s.present t × TellsOfStep command at line t s said.bytes next)
 
 -- the causes in a session's answer
 abbrev pub CausesRequest : Option Request → Contents → List ℕ → Type 0

@@ -6,9 +6,8 @@ ghost use Rattle.ped_io.specs.Shelves.{all_names};
 ghost use Rattle.ped_words.specs.Requests as plain;
 ghost use Rattle.ped_words.specs.Requests.{request_of};
 ghost use Rattle.ped_words.specs.Views.{request_view, IsSized};
-ghost use Rattle.ped_answer.specs.Answer.{inputs_of, IsOneOf, HoldsTooMany, Answers, MayAnswer, Sends};
-ghost use Rattle.ped_answer.specs.ScriptRuns.{IsWhole, RunsRequest};
-ghost use Rattle.ped_answer.specs.Headline.{PanesRequest, HistoryRequest, CausesRequest};
+ghost use Rattle.ped_answer.specs.Answer.{inputs_of, IsOneOf, HoldsTooMany, IsWhole, Answers, MayAnswer, Sends};
+ghost use Rattle.ped_answer.specs.Headline.{PanesRequest, HistoryRequest, RunsRequest, CausesRequest};
 ghost use Rattle.ped_answer.specs.TestCounts.{Tests, Ticks, IsUntested};
 ghost use Rattle.ped_answer.specs.Serving.{ServedRequest};
 

@@ -5,9 +5,8 @@ ghost use Rattle.std.specs.Prelude.{ℕ, List, Option};
 ghost use Rattle.ped_io.specs.Outside.{Contents};
 ghost use Rattle.ped_words.specs.Requests as plain;
 ghost use Rattle.ped_answer.specs.declared.answering.Status.{Status};
-ghost use Rattle.ped_answer.specs.Answer.{Answers};
-ghost use Rattle.ped_answer.specs.ScriptRuns.{IsWhole, RunsRequest};
-ghost use Rattle.ped_answer.specs.Headline.{PanesRequest, HistoryRequest, CausesRequest};
+ghost use Rattle.ped_answer.specs.Answer.{IsWhole, Answers};
+ghost use Rattle.ped_answer.specs.Headline.{PanesRequest, HistoryRequest, RunsRequest, CausesRequest};
 
 /// In each answer to `show`, and in each to a session at each `source`, `deps`, `deps S` and `show`, the panes are those
 /// that come of reading the printed text of the present program afresh, whatever was done before.

@@ -1,8 +1,11 @@
-"""What to try at a loop: steps that ped accepts there, and other ways to be rid of what the loop carries."""
+"""What to try at a loop: steps that ped accepts there, and other ways to be rid of what the loop carries.
+
+Of the steps that want no more than a loop ped itself tells by `advise`; those that take a scalar are tried.
+"""
 
 from __future__ import annotations
 
-from typing import Dict, Iterator, List, Sequence
+from typing import Dict, Iterator, List, Sequence, Tuple
 
 from .expressions import Call, Expression, Operation, Variable
 from .messages import listed
@@ -10,13 +13,18 @@ from .panes import Dependence
 from .ped import Ped
 from .program import Loop, Program
 from .references import INPUT, OUTPUT
-from .refusals import cause_of
+from .refusals import cause_of, refused
+from .replies import Advised
 from .statements import Assignment, Do, Print, Read
-from .trials import Outcome, Trial, carried_names, run_trials, steps_advised
+from .trials import Answers, Outcome, Trial, ask, carried_names
 from .views import View
 
 #: The steps that take a scalar.
 _SCALAR_STEPS = ("privatise", "expand")
+#: Of the steps that `advise` tells those that lead to parallel loops, the most wanted first.
+_LEADING = ("parallel", "distribute", "fuse", "interchange")
+#: Of these those behind which another loop stands at the number of this one.
+_FORMING = ("fuse", "interchange")
 
 
 class Adviser:
@@ -24,12 +32,12 @@ class Adviser:
 
     def __init__(self, view: View, ped: Ped, loops: Sequence[Loop], tries: bool) -> None:
         self._view = view
-        self._outcomes: Dict[Trial, Outcome] = {}
-        self._advised: Dict[int, List[str]] = {}
+        self._answers = Answers({}, {})
         if tries:
-            self._outcomes.update(run_trials(ped, view, [trial for loop in loops for trial in self._trials(loop)]))
-            self._outcomes.update(run_trials(ped, view, [trial for loop in loops for trial in self._joined(loop)]))
-            self._advised = steps_advised(ped, view, [loop.number for loop in loops])
+            numbers = [loop.number for loop in loops]
+            self._answers = ask(ped, view, numbers, [trial for loop in loops for trial in self._trials(loop)])
+            further = [trial for loop in loops for trial in (*self._joined(loop), *self._forming(loop))]
+            self._answers.outcomes.update(ask(ped, view, [], further).outcomes)
 
     def about_name(self, loop: Loop, name: str, rows: Sequence[Dependence]) -> List[str]:
         """What to try against the rows of a name that a loop carries."""
@@ -45,15 +53,52 @@ class Adviser:
 
     def about_loop(self, loop: Loop) -> List[str]:
         """What to try at a loop as a whole."""
-        trials = [*self._joined(loop), _parallel(loop.number)]
-        outcomes = [self._outcomes[trial] for trial in trials if trial in self._outcomes]
-        advice = self._about_outcomes(outcomes)
-        if not advice and not loop.form.parallel and not carried_names(self._view.carried_by(loop)):
+        advice = self.about_scalars(loop)
+        told = sorted((one for one in self.advised(loop) if self._is_told(loop, one)), key=place_of)
+        advice.extend(self.about_step(loop, one) for one in told)
+        if not self._answers.advised and not loop.form.parallel and not carried_names(self._view.carried_by(loop)):
             advice.extend(_about_variables(self._view.program, loop))
-        steps = self._advised.get(loop.number)
-        if steps:
-            advice.append(f"ped allows here: {', '.join(steps)}")
+        others = [f"`{one.command}`" for one in self.advised(loop) if one not in told and one.refusal is None]
+        if others:
+            advice.append(f"ped accepts {listed(others)}")
         return advice
+
+    def about_step(self, loop: Loop, advised: Advised) -> str:
+        """What ped advises of a step, in words."""
+        if advised.refusal is None:
+            return f"try `{advised.command}`: ped accepts it{self._effect(loop, advised)}"
+        return f"`{advised.command}`: {refused(advised.refusal, advised.word)}"
+
+    def _effect(self, loop: Loop, advised: Advised) -> str:
+        """What a step does, where its word alone doesn't say with which loop, or into what."""
+        if advised.word == "distribute":
+            return ", and takes the loop apart"
+        outcome = self._answers.outcomes.get(Trial((advised.command,), loop.number))
+        if outcome is None:
+            return ""
+        other = f"makes one of loops {loop.number} and {loop.last + 1}"
+        if advised.word == "interchange":
+            other = f"puts DO {self._view.program.loops[loop.number + 1].variable} outside"
+        return f", and {other}, which then carries {listed(outcome.names) or 'nothing'}"
+
+    def about_scalars(self, loop: Loop) -> List[str]:
+        """What came of a step for each of several scalars that a loop carries."""
+        outcomes = self._answers.outcomes
+        return self._about_outcomes([outcomes[trial] for trial in self._joined(loop) if trial in outcomes])
+
+    def advised(self, loop: Loop) -> Tuple[Advised, ...]:
+        """What ped advises at a loop; nothing where it wasn't asked."""
+        return self._answers.advised.get(loop.number, ())
+
+    def _is_told(self, loop: Loop, advised: Advised) -> bool:
+        """Whether more is told of a step than that ped accepts it.
+
+        Whether the loop may be parallel is told of those that carry nothing. A rule that stands against another step
+        says no more than that it isn't meant for this loop.
+        """
+        if advised.word == "parallel":
+            return not loop.form.parallel and not carried_names(self._view.carried_by(loop))
+        return advised.word in _LEADING and (advised.refusal is None or advised.is_forbidden)
 
     def _about_outcomes(self, outcomes: Sequence[Outcome]) -> List[str]:
         """Outcomes in words; those that are refused for one cause together."""
@@ -71,16 +116,13 @@ class Adviser:
         return f"{steps}: refused {refusal}" + (f": {cause}" if cause else "")
 
     def _outcomes_of(self, loop: Loop, name: str) -> List[Outcome]:
-        trials = _scalar_trials(loop, name)
-        return [self._outcomes[trial] for trial in trials if trial in self._outcomes]
+        outcomes = self._answers.outcomes
+        return [outcomes[trial] for trial in _scalar_trials(loop, name) if trial in outcomes]
 
     def _trials(self, loop: Loop) -> Iterator[Trial]:
         if loop.form.parallel:
             return
-        names = carried_names(self._view.carried_by(loop))
-        if not names:
-            yield _parallel(loop.number)
-        for name in names:
+        for name in carried_names(self._view.carried_by(loop)):
             if name not in (INPUT, OUTPUT) and name not in self._view.program.arrays:
                 yield from _scalar_trials(loop, name)
 
@@ -92,10 +134,25 @@ class Adviser:
         if len(steps) > 1:
             yield Trial(tuple(steps), loop.number)
 
+    def _forming(self, loop: Loop) -> Iterator[Trial]:
+        """The steps that ped accepts and that put another loop in the place of this one."""
+        for one in self.advised(loop):
+            if one.word in _FORMING and one.refusal is None:
+                yield Trial((one.command,), loop.number)
 
-def _parallel(loop: int) -> Trial:
-    """The trial of the step that makes the loop of a statement parallel."""
-    return Trial((f"parallel {loop}",), loop)
+
+def place_of(advised: Advised) -> int:
+    """The place of a step among those that lead to parallel loops; the others come last."""
+    return _LEADING.index(advised.word) if advised.word in _LEADING else len(_LEADING)
+
+
+def _effect(program: Program, loop: Loop, word: str) -> str:
+    """What a step does, where its word alone doesn't say with which loop, or into what."""
+    if word == "interchange":
+        return f", and DO {program.loops[loop.number + 1].variable} comes outside"
+    if word == "fuse":
+        return f", and makes one of loops {loop.number} and {loop.last + 1}"
+    return ", and takes the loop apart" if word == "distribute" else ""
 
 
 def _scalar_trials(loop: Loop, name: str) -> List[Trial]:
@@ -105,8 +162,6 @@ def _scalar_trials(loop: Loop, name: str) -> List[Trial]:
 def _accepted(outcome: Outcome) -> str:
     """What an accepted trial leads to."""
     steps = listed([f"`{step}`" for step in outcome.trial.steps])
-    if outcome.trial == _parallel(outcome.trial.loop):
-        return f"try {steps}: ped accepts it"
     if len(outcome.trial.steps) > 1:
         return f"try {steps}: ped accepts them, and the loop then carries {listed(outcome.names) or 'nothing'}"
     return f"try {steps}: ped accepts it" + ("" if outcome.names else ", and the loop then carries nothing")

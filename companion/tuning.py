@@ -9,6 +9,7 @@ from __future__ import annotations
 from dataclasses import dataclass
 from typing import Iterator, List, Optional, Sequence, Tuple
 
+from .messages import listed
 from .outline import LoopLines, Outline, outline_of
 from .panes import Dependence, read_dependences, read_panes
 from .ped import Ped
@@ -105,6 +106,15 @@ class Parts:
 
     numbers: Tuple[int, ...]
     free: Tuple[int, ...]
+
+    @property
+    def words(self) -> str:
+        """What the step does to the loop, in words."""
+        made = f"makes {len(self.numbers)} loops of it"
+        if not self.free:
+            return made
+        verb = "carries" if len(self.free) == 1 else "carry"
+        return f"{made}, of which {listed([str(number) for number in self.free])} {verb} nothing"
 
 
 def parts(ped: Ped, view: View, loop: LoopLines) -> Optional[Parts]:

@@ -58,7 +58,7 @@ _OTHERS: Tuple[Tuple[str, str], ...] = (
     (f"{NEXT_LOOP} {PREVIOUS_LOOP} {OUTER_LOOP}", "the next loop, the one before, the one round this one"),
     (f"{TAB}, {ESCAPE}", "into the dependences (^ is the source, ~ the sink), and back"),
     ("Looking", ""),
-    (ADVICE, "advice for the present loop; a number carries it out"),
+    (ADVICE, "advice for the present loop, with keys that carry it out"),
     (ENTER, "why the chosen dependence is there, or those of the loop"),
     (f"{LEVEL} {KIND} {MARK} {NAME}", "filter the dependences by level, kind, mark, name"),
     (NO_FILTERS, "take the filters away"),

@@ -73,13 +73,13 @@ class Adviser:
         """What a step does, where its word alone doesn't say with which loop, or into what."""
         if advised.word == "distribute":
             return ", and takes the loop apart"
-        outcome = self._answers.outcomes.get(Trial((advised.command,), loop.number))
-        if outcome is None:
+        if advised.word not in _FORMING:
             return ""
-        other = f"makes one of loops {loop.number} and {loop.last + 1}"
+        words = f", and makes one of loops {loop.number} and {loop.last + 1}"
         if advised.word == "interchange":
-            other = f"puts DO {self._view.program.loops[loop.number + 1].variable} outside"
-        return f", and {other}, which then carries {listed(outcome.names) or 'nothing'}"
+            words = f", and puts DO {self._view.program.loops[loop.number + 1].variable} outside"
+        outcome = self._answers.outcomes.get(Trial((advised.command,), loop.number))
+        return words if outcome is None else f"{words}, which then carries {listed(outcome.names) or 'nothing'}"
 
     def about_scalars(self, loop: Loop) -> List[str]:
         """What came of a step for each of several scalars that a loop carries."""
@@ -93,12 +93,16 @@ class Adviser:
     def _is_told(self, loop: Loop, advised: Advised) -> bool:
         """Whether more is told of a step than that ped accepts it.
 
-        Whether the loop may be parallel is told of those that carry nothing. A rule that stands against another step
-        says no more than that it isn't meant for this loop.
+        What leads to a loop that carries nothing is told, and which dependence forbids it. A rule that stands against a
+        step says no more than that it isn't meant for this loop, but for `parallel` where the loop carries nothing.
         """
+        carries = bool(carried_names(self._view.carried_by(loop)))
         if advised.word == "parallel":
-            return not loop.form.parallel and not carried_names(self._view.carried_by(loop))
-        return advised.word in _LEADING and (advised.refusal is None or advised.is_forbidden)
+            return not loop.form.parallel and not carries
+        if advised.word == "distribute" and advised.refusal is None:
+            return carries
+        outcome = self._answers.outcomes.get(Trial((advised.command,), loop.number))
+        return advised.word in _FORMING and (advised.is_forbidden or outcome is not None and not outcome.names)
 
     def _about_outcomes(self, outcomes: Sequence[Outcome]) -> List[str]:
         """Outcomes in words; those that are refused for one cause together."""
@@ -135,9 +139,10 @@ class Adviser:
             yield Trial(tuple(steps), loop.number)
 
     def _forming(self, loop: Loop) -> Iterator[Trial]:
-        """The steps that ped accepts and that put another loop in the place of this one."""
+        """Those steps that ped accepts and that put another loop in the place of this one, which may be better."""
+        carries = bool(carried_names(self._view.carried_by(loop)))
         for one in self.advised(loop):
-            if one.word in _FORMING and one.refusal is None:
+            if one.refusal is None and (one.word == "fuse" or one.word == "interchange" and carries):
                 yield Trial((one.command,), loop.number)
 
 

@@ -158,13 +158,21 @@ class Advice(unittest.TestCase):
         self.assertIn("J is in SAVE, and has no value behind a PARALLEL DO", untried(saved, 1))
 
     def test_asks_for_advice(self) -> None:
-        """Of a loop that carries nothing `advise` tells; what is tried is what puts another loop into its place."""
+        """Of a loop that carries nothing `advise` tells, and nothing is tried."""
         nest = view_of(fortran("INTEGER A(9,9)", "DO 10 I = 1, 9, 2", "DO 10 J = 1, 9", "10 A(I,J) = I", "END"))
         fake = FakePed()
         self.assertEqual(advice(nest, 1, fake), [
-            "try `parallel 1`: ped accepts it",
+            "try `parallel 1`: ped accepts it", "ped accepts `interchange 1` and `peel 1 first`",
+        ])
+        self.assertEqual(fake.scripts, ["advise 1\n"])
+
+    def test_tries_what_may_be_better(self) -> None:
+        """The rows depend on each other: whether the columns do where they come outside is tried."""
+        nest = view_of(fortran("INTEGER A(9,9)", "DO 10 I = 2, 9", "DO 10 J = 1, 9", "10 A(I,J) = A(I-1,J)", "END"))
+        fake = FakePed()
+        self.assertEqual(advice(nest, 1, fake), [
             "try `interchange 1`: ped accepts it, and puts DO J outside, which then carries nothing",
-            "ped accepts `peel 1 first`",
+            "ped accepts `parallel 1` and `peel 1 first`",
         ])
         self.assertEqual(fake.scripts, ["advise 1\n", "interchange 1\nshow\nundo\n"])
 
@@ -183,10 +191,9 @@ class Advice(unittest.TestCase):
             "try `fuse 1`: ped accepts it, and makes one of loops 1 and 3, which then carries nothing",
             advice(view_of(fortran(*neighbours, "20 B(I) = A(I)", "END")), 1),
         )
-        self.assertIn(
-            "try `fuse 1`: ped accepts it, and makes one of loops 1 and 3, which then carries A",
-            advice(view_of(fortran(*neighbours, "20 B(I) = A(I-1)", "END")), 1),
-        )
+        carrying = view_of(fortran(*neighbours, "20 B(I) = A(I-1)", "END"))
+        self.assertEqual(advice(carrying, 1), ["try `parallel 1`: ped accepts it"])
+        self.assertIn("- ped accepts `reverse 1`, `fuse 1`,", loops(carrying, ped(), [1], tries=True))
         self.assertIn(
             "`fuse 1`: refused edge 4.1 2.1 A anti 1 (<) (1) proven: the one loop would carry this dependence",
             advice(view_of(fortran(*neighbours, "20 B(I) = A(I+1)", "END")), 1),

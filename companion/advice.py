@@ -17,6 +17,7 @@ from .refusals import cause_of, refused
 from .replies import Advised
 from .statements import Assignment, Do, Print, Read
 from .trials import Answers, Outcome, Trial, ask, carried_names
+from .tuning import parts_in
 from .views import View
 
 #: The steps that take a scalar.
@@ -71,14 +72,15 @@ class Adviser:
 
     def _effect(self, loop: Loop, advised: Advised) -> str:
         """What a step does, where its word alone doesn't say with which loop, or into what."""
+        outcome = self._answers.outcomes.get(Trial((advised.command,), loop.number))
         if advised.word == "distribute":
-            return ", and takes the loop apart"
+            panes = outcome.panes if outcome is not None else None
+            return f", and {parts_in(self._view, panes, loop.number).words}" if panes else ", and takes the loop apart"
         if advised.word not in _FORMING:
             return ""
         words = f", and makes one of loops {loop.number} and {loop.last + 1}"
         if advised.word == "interchange":
             words = f", and puts DO {self._view.program.loops[loop.number + 1].variable} outside"
-        outcome = self._answers.outcomes.get(Trial((advised.command,), loop.number))
         return words if outcome is None else f"{words}, which then carries {listed(outcome.names) or 'nothing'}"
 
     def about_scalars(self, loop: Loop) -> List[str]:
@@ -102,16 +104,17 @@ class Adviser:
         if advised.word == "distribute" and advised.refusal is None:
             return carries
         outcome = self._answers.outcomes.get(Trial((advised.command,), loop.number))
-        return advised.word in _FORMING and (advised.is_forbidden or outcome is not None and not outcome.names)
+        is_better = outcome is not None and outcome.accepted and not outcome.names
+        return advised.word in _FORMING and (advised.is_forbidden or is_better)
 
     def _about_outcomes(self, outcomes: Sequence[Outcome]) -> List[str]:
         """Outcomes in words; those that are refused for one cause together."""
-        refused: Dict[str, List[Outcome]] = {}
+        alike: Dict[str, List[Outcome]] = {}
         for outcome in outcomes:
             if outcome.refusal is not None:
-                refused.setdefault(outcome.refusal, []).append(outcome)
+                alike.setdefault(outcome.refusal, []).append(outcome)
         advice = [_accepted(outcome) for outcome in outcomes if outcome.accepted]
-        advice.extend(self._refused(refusal, together) for refusal, together in refused.items())
+        advice.extend(self._refused(refusal, together) for refusal, together in alike.items())
         return advice
 
     def _refused(self, refusal: str, outcomes: Sequence[Outcome]) -> str:
@@ -139,25 +142,16 @@ class Adviser:
             yield Trial(tuple(steps), loop.number)
 
     def _forming(self, loop: Loop) -> Iterator[Trial]:
-        """Those steps that ped accepts and that put another loop in the place of this one, which may be better."""
-        carries = bool(carried_names(self._view.carried_by(loop)))
+        """Those steps that ped accepts and that put other loops in the place of this one, which may be better."""
+        words = ("fuse", "distribute", "interchange") if carried_names(self._view.carried_by(loop)) else ("fuse",)
         for one in self.advised(loop):
-            if one.refusal is None and (one.word == "fuse" or one.word == "interchange" and carries):
+            if one.refusal is None and one.word in words:
                 yield Trial((one.command,), loop.number)
 
 
 def place_of(advised: Advised) -> int:
     """The place of a step among those that lead to parallel loops; the others come last."""
     return _LEADING.index(advised.word) if advised.word in _LEADING else len(_LEADING)
-
-
-def _effect(program: Program, loop: Loop, word: str) -> str:
-    """What a step does, where its word alone doesn't say with which loop, or into what."""
-    if word == "interchange":
-        return f", and DO {program.loops[loop.number + 1].variable} comes outside"
-    if word == "fuse":
-        return f", and makes one of loops {loop.number} and {loop.last + 1}"
-    return ", and takes the loop apart" if word == "distribute" else ""
 
 
 def _scalar_trials(loop: Loop, name: str) -> List[Trial]:

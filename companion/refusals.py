@@ -106,7 +106,7 @@ RULES: Dict[int, str] = {
     8: "the increment isn't one that the step allows",
     9: "a value of the loop's variable leaves the range of literals",
     10: "no loop with the same header stands directly behind it",
-    11: "all statements of the loop depend on each other",
+    11: "the loop's statements depend on each other, or it has but one",
     12: "an iteration may read the scalar before it assigns it, or it is wanted behind the loop: see statement {S}",
     13: "the name isn't that of a scalar that the step can take",
     14: "a bound of the loop isn't constant, or the loop has no iteration",

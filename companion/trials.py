@@ -7,10 +7,11 @@ from __future__ import annotations
 
 import re
 from dataclasses import dataclass
+from functools import cached_property
 from typing import Dict, List, Optional, Sequence, Tuple
 
 from .outline import outline_of
-from .panes import Dependence, read_panes
+from .panes import Dependence, Panes, read_panes
 from .ped import Ped
 from .replies import Advised, Reply
 from .views import View
@@ -38,8 +39,8 @@ class Outcome:
     trial: Trial
     #: The cause why one of the steps was refused; none where all were accepted.
     refusal: Optional[str]
-    #: The rows that the loop carries behind the steps.
-    carried: Tuple[Dependence, ...]
+    #: The program behind the steps; none where they were refused.
+    panes: Optional[Panes]
 
     @property
     def accepted(self) -> bool:
@@ -52,10 +53,13 @@ class Outcome:
         match = re.fullmatch(r"rule \d+ \w+ at (\d+)", self.refusal or "")
         return int(match.group(1)) if match else None
 
-    @property
+    @cached_property
     def names(self) -> List[str]:
         """The names of what the loop carries behind the steps, without what is rejected."""
-        return carried_names(self.carried)
+        if self.panes is None:
+            return []
+        outline = outline_of(self.panes.source)
+        return carried_names([row for row in self.panes.dependences if outline.carrier(row) == self.trial.loop])
 
 
 def carried_names(rows: Sequence[Dependence]) -> List[str]:
@@ -89,12 +93,7 @@ def _outcome(trial: Trial, replies: Sequence[Reply]) -> Outcome:
     """
     steps, shown = replies[:len(trial.steps)], replies[len(trial.steps)]
     refusal = next((step.refusal for step in steps if step.refusal is not None), None)
-    if refusal is not None:
-        return Outcome(trial, refusal, ())
-    panes = read_panes(shown.rows)
-    outline = outline_of(panes.source)
-    carried = (row for row in panes.dependences if outline.carrier(row) == trial.loop)
-    return Outcome(trial, None, tuple(carried))
+    return Outcome(trial, refusal, read_panes(shown.rows) if refusal is None else None)
 
 
 def _text(lines: Sequence[str]) -> str:

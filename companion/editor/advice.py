@@ -18,7 +18,7 @@ from ..program import Loop
 from ..refusals import refused
 from ..replies import Advised
 from ..trials import carried_names
-from ..tuning import attempts, parts, results
+from ..tuning import attempts, results
 from ..views import View
 
 _ACCEPTED = re.compile(r"try (`[^`]*`(?:(?:,| and) `[^`]*`)*): ped accepts")
@@ -44,7 +44,6 @@ def advised(ped: Ped, view: View, loop: Loop) -> List[Advice]:
     words = _about_names(adviser, view, loop)
     words.extend(adviser.about_step(loop, one) for one in accepted if one.word == "parallel")
     words.extend(_freeing(ped, view, loop, [one.command for one in accepted]))
-    words.extend(_apart(ped, view, loop, [one.command for one in accepted]))
     told = {step for one in words for step in _accepted(one)}
     words.extend(adviser.about_step(loop, one) for one in accepted if one.command not in told)
     words.extend(_refused(adviser, loop))
@@ -71,14 +70,6 @@ def _freeing(ped: Ped, view: View, loop: Loop, accepted: Sequence[str]) -> Itera
         if result.frees:
             then = f"and then `parallel {result.attempt.place.number}`"
             yield f"try `{result.attempt.step}`: ped accepts it, {then}"
-
-
-def _apart(ped: Ped, view: View, loop: Loop, accepted: Sequence[str]) -> Iterator[str]:
-    """Into what `distribute` takes a loop apart."""
-    step = f"distribute {loop.number}"
-    made = parts(ped, view, outline_of(view.panes.source).loops[loop.number]) if step in accepted else None
-    if made is not None:
-        yield f"try `{step}`: ped accepts it, and {made.words}"
 
 
 def _refused(adviser: Adviser, loop: Loop) -> Iterator[str]:

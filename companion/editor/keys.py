@@ -56,7 +56,7 @@ _OTHERS: Tuple[Tuple[str, str], ...] = (
     (f"{PAGE_UP}, {PAGE_DOWN}", "a page"),
     (f"{HOME}, {END}", "the first line, the last line"),
     (f"{NEXT_LOOP} {PREVIOUS_LOOP} {OUTER_LOOP}", "the next loop, the one before, the one round this one"),
-    (f"{TAB}, {ESCAPE}", "into the dependences (^ is the source, ~ the sink), and back"),
+    (f"{TAB}, {ESCAPE}", "into the dependences (^ source, ~ sink), and back"),
     ("Looking", ""),
     (ADVICE, "advice for the present loop, with keys that carry it out"),
     (ENTER, "why the chosen dependence is there, or those of the loop"),

@@ -203,8 +203,8 @@ class Pieces(unittest.TestCase):
             "try `serial 1`: ped accepts it",
             "`interchange 1`: refused rule 2 NotPerfect at 1: the loop's body has to be one loop and nothing else",
             "`reverse 1`, `distribute 1`, `fuse 1`, `parallel 1`, `peel 1 first` and `peel 1 last`: refused rule 3 "
-            "ParallelState at 1: the step leaves loops alone that are PARALLEL DO or stand in one (`serial`: those that "
-            "aren't PARALLEL DO)",
+            "ParallelState at 1: the step leaves loops alone that are PARALLEL DO or stand in one (`serial`: those "
+            "that aren't PARALLEL DO)",
         ])
 
     def told(self, *lines: str, loop: int = 1) -> List[str]:

@@ -135,7 +135,7 @@ class Advice(unittest.TestCase):
             "where you know that no two iterations use one element: C$PED REJECT A before the loop",
             "only old values are read: copy B into another array before the loop, and read that one",
             "iterations that are fewer than 3 apart don't depend on each other",
-            "try `distribute 1`: ped accepts it, and takes the loop apart",
+            "try `distribute 1`: ped accepts it, and makes 3 loops of it",
         ])
 
     def test_lines(self) -> None:
@@ -143,7 +143,7 @@ class Advice(unittest.TestCase):
         self.assertEqual(advice(view, 1), [
             "READ takes its lines in order: read into an array, in a loop of its own",
             "PRINT keeps its lines in order: store the values in an array, and print them in a loop of their own",
-            "try `distribute 1`: ped accepts it, and takes the loop apart",
+            "try `distribute 1`: ped accepts it, and makes 2 loops of it",
         ])
         self.assertEqual(advice(example_view("product"), 17), [
             "`interchange 17`: refused edge 19.2 19.2 (OUT) output 1 (<,*) (*,*) pending: this dependence forbids it",
@@ -201,7 +201,9 @@ class Advice(unittest.TestCase):
 
     def test_distribute(self) -> None:
         view = view_of(fortran("INTEGER A(9), B(9)", "DO 10 I = 2, 9", "A(I) = A(I-1)", "10 B(I) = 2*A(I)", "END"))
-        self.assertEqual(advice(view, 1), ["try `distribute 1`: ped accepts it, and takes the loop apart"])
+        self.assertEqual(advice(view, 1), [
+            "try `distribute 1`: ped accepts it, and makes 2 loops of it, of which 3 carries nothing",
+        ])
 
     def test_interchange(self) -> None:
         """What the outer loop carries to a lower J forbids the interchange; what it carries to the same J doesn't."""

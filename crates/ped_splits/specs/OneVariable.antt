@@ -33,11 +33,11 @@ renamed {t} x = record { decls = t.decls; body = filled x.gap (renamed_pair x) }
 abbrev pub number_in_one : {t : ProgramTree} {s : ℕ} → Neighbour t s → ℕ → ℕ
 number_in_one {t} {s} x k = if k == next_number x then s else closed_up (next_number x) k
 
--- an access of the second DO at its place in the one DO (this project)
+-- an access at the place that it has in the program with the one DO: iterations of the second DO are those of the one DO with the same numbers, and the statements have their new numbers (this project)
 abbrev pub in_one : {t : ProgramTree} {s : ℕ} → Neighbour t s → Access → Access
 in_one x a = record a { place = renumbered_place (number_in_one x) a.place }
 
--- in one execution of the two DO loops two accesses conflict that references make: one in an iteration of the second DO, and one in a later iteration of the first (Allen and Kennedy, section 6.2.5)
+-- in a run of the program in which both have one variable, and in one execution of the two DO loops there that goes on behind both, two accesses conflict that references make: one in an iteration of the second DO, and one in a later iteration of the first (Allen and Kennedy, section 6.2.5)
 pub record Cross {t : ProgramTree} {s : ℕ} (x : Neighbour t s) (data_bytes : List ℕ) (scope : Scope) (a b : Access) : Type 0 where
   pub front : List Act
   pub behind : List Act

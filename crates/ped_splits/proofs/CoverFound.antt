@@ -232,14 +232,14 @@ module _ (t : ProgramTree) (start : Store) (l : ℕ) (old : StmtTrees) (some : 0
   if_found scope n lo many c a b first second below above out part front behind u d ends x i = by (truth (names_in p scope) c u).seen (truth (names_in p scope) c u).result refl d ends i
     where
       by : (seen : List Seen) (r : Result Bool ℕ) → truth (names_in p scope) c u ≡ record { seen = seen; result = r } → Here scope n (statement_count (If c a b)) front (if_from p scope n first second u seen r).acts behind u → Ends (if_from p scope n first second u seen r).ending → IsIn x (if_from p scope n first second u seen r).acts → IsPlaced x
-      by seen (Err fault) is here going j = absurd going
-      by seen (Ok holds) is here going j =
+      by seen (Err fault) is here ended j = absurd ended
+      by seen (Ok holds) is here ended j =
           let condition : Act = act did (place_of p n scope) (numbered_reads 1 seen) in
           let v = store_behind (numbered_reads 1 seen) u in
           does_found did (place_of p n scope) (numbered_reads 1 seen) (if holds then first else second) u out
           (λ y k. part holds (front ++ condition ∷ []) behind v
           (here_rest p t start l scope n (statement_count (If c a b)) lo many front (condition ∷ []) ((if holds then first else second) v).acts behind u (omega (arith, below)) above
-          (left_own p one scope n lo many did (numbered_reads 1 seen) below (subst (λ (z : List Seen). Each (λ (w : Touch). IsOwn p scope w.cell) (numbered_reads 1 z)) (ap (λ r. r.seen) is) (condition_own p scope c u))) here) going y k) x j
+          (left_own p one scope n lo many did (numbered_reads 1 seen) below (subst (λ (z : List Seen). Each (λ (w : Touch). IsOwn p scope w.cell) (numbered_reads 1 z)) (ap (λ r. r.seen) is) (condition_own p scope c u))) here) ended y k) x j
 
   -- a DO round them
   module _ (S : Scope) (n : ℕ) (h : Head) (b : StmtTrees) (out : AreOutside l (l + statements_count old) (turns_of S)) (before : n < l) where
@@ -310,8 +310,8 @@ module _ (t : ProgramTree) (start : Store) (l : ℕ) (old : StmtTrees) (some : 0
     do_found there reach outermost comes front behind u d ends x i = by (limits (names_in p S) h u).seen (limits (names_in p S) h u).result refl (d, refl) ends i
       where
         by : (seen : List Seen) (r : Result Limits ℕ) → limits (names_in p S) h u ≡ record { seen = seen; result = r } → Here S n (statement_count (Do h b)) front (do_from p S n h b u seen r).acts behind u × (run p (Do h b) n S u ≡ do_from p S n h b u seen r) → Ends (do_from p S n h b u seen r).ending → IsIn x (do_from p S n h b u seen r).acts → IsPlaced x
-        by seen (Err fault) is here going j = absurd going
-        by seen (Ok m) is here going j =
+        by seen (Err fault) is here ended j = absurd ended
+        by seen (Ok m) is here ended j =
             let e = entered_with p n h b seen m in
             let v = store_behind (entry_touches seen e S) u in
             let more = (run_entered h.parallel e.count e S (place_of p n S) (λ f. run_all p b (n + 1) (f ∷ S)) v).acts in
@@ -319,7 +319,7 @@ module _ (t : ProgramTree) (start : Store) (l : ℕ) (old : StmtTrees) (some : 0
             let part : IsPartOf (run_all p t.body 1 [] start).acts start (entry ∷ more) u = record { front = front; behind = behind; is = here.0.whole; from = here.0.from } in
             let y = executing p t start l S n h b seen m more u there is (ap (λ (r : Run). r.acts) here.1) outermost (omega (arith, before)) reach ends part here.0.inside in
             does_found (entered e.count) (place_of p n S) (entry_touches seen e S) (run_entered h.parallel e.count e S (place_of p n S) (λ f. run_all p b (n + 1) (f ∷ S))) u out
-            (entered_found seen m (comes seen m) h.parallel e.count refl (front ++ entry ∷ []) behind v (enter p t start l S n h b seen m one (statement_count (Do h b)) front more behind u (omega arith) y is here.0) going) x j
+            (entered_found seen m (comes seen m) h.parallel e.count refl (front ++ entry ∷ []) behind v (enter p t start l S n h b seen m one (statement_count (Do h b)) front more behind u (omega arith) y is here.0) ended) x j
 
   -- the loops that are left
   into_first : (x : StmtTree) (rest : StmtTrees) (n : ℕ) (scope : Scope) → l ≤ n + statement_count x → IsReached p t l scope n (all_numbered (more_stmts x rest)) (all_loops_round l (more_stmts x rest) n) → IsReached p t l scope n (numbered x) (loops_round l x n)

@@ -72,10 +72,10 @@ module _ (making : MakingLaw) (t : ProgramTree) (s : ℕ) (m : Match t s) (valid
   may : MayFuse t s m
   may = no_rule_forbids t s m valid none
 
-  some : 0 < statements_count (renamed_pair m.neighbour)
+  pub some : 0 < statements_count (renamed_pair m.neighbour)
   some = omega arith
 
-  unstopped : some_stop (renamed_pair m.neighbour) ≡ false
+  pub unstopped : some_stop (renamed_pair m.neighbour) ≡ false
   unstopped = none_stops (renamed m.neighbour) (fused m.neighbour) s (are_joined t s m may)
 
   -- the run of the program between ends, too, and references do the same there

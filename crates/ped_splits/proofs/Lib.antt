@@ -32,10 +32,13 @@ mod CoverNumbers
 mod CoverMade
 mod CoverBodies
 mod CoverTrips
+mod CoverTurns
+mod CoverFound
 mod CoverDependences
 mod CoverKinds
 mod CoverMeets
 mod CoverConflicts
+mod CoverRuns
 mod CoverCrossing
 mod JoinCrossing
 pub mod NeighbourFound

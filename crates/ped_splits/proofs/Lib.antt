@@ -46,8 +46,6 @@ pub mod FusableFacts
 pub mod FusionSettled
 mod UnwrittenVariable
 mod FusedTrust
-mod LeftOrPassed
-mod MovedDos
 mod SerialPaths
 mod ParallelRound
 mod FusedTidy

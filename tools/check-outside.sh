@@ -37,13 +37,13 @@ cd -- "$work"
 
 printf '      K=1\n      END\n' >small.f
 printf 'source 2\n    1    1       K = 1\n    2            END\ndependences 0\n' >small.pane
-# Its pane has some 120 KB, more than a pipe holds.
-{ yes '      K=1' || true; } | head -n 4000 >long.f
+# Its pane has some 130 KB, more than a pipe holds.
+{ yes 'C a remark' || true; } | head -n 6000 >long.f
 printf '      END\n' >>long.f
 {
-    printf 'source 4001\n'
-    awk 'BEGIN { for (n = 1; n <= 4000; n++) printf "%5d %4d       K = 1\n", n, n }'
-    printf ' 4001            END\ndependences 0\n'
+    printf 'source 6001\n'
+    awk 'BEGIN { for (n = 1; n <= 6000; n++) printf "%5d      C a remark\n", n }'
+    printf ' 6001            END\ndependences 0\n'
 } >long.pane
 printf '      DO I = 1, 2\n        K = 1\n      END DO\n      END\n' >loop.f
 printf 'run\nprint\n' >script
@@ -92,7 +92,7 @@ cannot_read() {
 # ---- Standard output
 
 call ./ped show long.f
-wants 'a pane of 120 KB into a file' 0 whole long.pane
+wants 'a pane of 130 KB into a file' 0 whole long.pane
 
 got=0
 : >got
@@ -105,7 +105,8 @@ wants 'output that is full' 4 whole nothing
 
 # The reader is gone before the first write.
 mkfifo gone
-exec 7<>gone 8>gone 7<&-
+exec 7<>gone
+exec 8>gone 7<&-
 got=0
 timeout 20 ./ped show long.f </dev/null >&8 2>said || got=$?
 exec 8>&-
@@ -242,7 +243,7 @@ within_20_mb ./ped show small.f
 wants 'a small program in 20 MB' 0 whole small.pane
 got=0
 within_20_mb ./ped show long.f
-wants '4,000 statements in 20 MB' 0 whole long.pane
+wants '6,000 remarks in 20 MB' 0 whole long.pane
 call ./ped show pairs.f
 cp got wanted
 got=0

@@ -207,8 +207,9 @@ END_OF_SCRIPT
 # ---- Runs
 
 # Refuses growths by their numbers, and writes a line for each: its number, `front` or what else came, and how many bytes.
+# shellcheck disable=SC2317
 refuse() {
-    local number status
+    local number status bytes
     for number; do
         status=0
         # Not `timeout` itself: its own memory isn't refused.
@@ -230,7 +231,12 @@ export program work
 
 failed=0
 for session in "$@"; do
-    "$session" 2>/dev/null || stop "there is no session $session"
+    case $session in
+        wavefront) wavefront ;;
+        reversal) reversal ;;
+        twelve) twelve ;;
+        *) stop "there is no session $session" ;;
+    esac
     ample_status=0
     GROWTHS=$work/growths LD_PRELOAD=$work/growth.so "$program" session program.f script </dev/null >ample || ample_status=$?
     export ample_status

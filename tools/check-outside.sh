@@ -1,6 +1,6 @@
 #!/usr/bin/env bash
 # Checks what ped does where the machine gives little: standard output that is closed, full, gone or slow; words that name
-# folders, devices, pipes, or files that may not be read; names and texts that are no UTF-8; 20 MB of memory.
+# folders, devices, pipes, or files that may not be read; names and texts that are no UTF-8; 20 MB of memory; 512 KiB of stack.
 #
 #   tools/check-outside.sh [--program PROGRAM]
 #
@@ -231,6 +231,7 @@ done
 
 # Within 20 MB there is an answer, or want of memory with a front of the answer.
 within_20_mb() {
+    got=0
     (
         ulimit -v 20480
         call "$@"
@@ -238,22 +239,61 @@ within_20_mb() {
     ) || got=$?
 }
 
-got=0
 within_20_mb ./ped show small.f
 wants 'a small program in 20 MB' 0 whole small.pane
-got=0
 within_20_mb ./ped show long.f
 wants '6,000 remarks in 20 MB' 0 whole long.pane
 call ./ped show pairs.f
 cp got wanted
-got=0
 within_20_mb ./ped show pairs.f
 wants '200,000 pairs in 20 MB' 6 front wanted
 { yes 'reverse 1' || true; } | head -n 100000 >many
 seq -f '%.0f: ok' 100000 >wanted
-got=0
 within_20_mb ./ped session loop.f many
 wants 'a history of 100,000 changes in 20 MB' 6 front wanted
+
+# ---- Stack
+
+# A hundred blocks in one another, and a session that skews a nest, turns it and runs it.
+{
+    seq -f '      IF (K.EQ.%.0f) THEN' 94
+    seq -f '      DO I%.0f = 1, 2' 6
+    printf '      K = (1)\n'
+    for ((n = 0; n < 6; n++)); do printf '      END DO\n'; done
+    for ((n = 0; n < 94; n++)); do printf '      END IF\n'; done
+    printf '      END\n'
+} >blocks.f
+cat >wavefront.f <<'END_OF_PROGRAM'
+      INTEGER A(3,3)
+      SAVE A
+      DO 20 I=1,3
+      DO 10 J=1,3
+   10 A(I,J)=1
+   20 CONTINUE
+      DO 40 I=2,3
+      DO 30 J=2,3
+   30 A(I,J)=A(I-1,J)+A(I,J-1)
+   40 CONTINUE
+      END
+END_OF_PROGRAM
+printf '%s\n' 'skew 4 1' 'interchange 4' 'parallel 5' 'run 1 1 1' undo undo undo >wavefront.script
+printf '1: ok\n2: ok\n3: ok\nended\nlive A 1 1 1 1 2 3 1 3 6\n5: ok\n6: ok\n7: ok\n' >wavefront.answer
+printf 'tested 1\n' >wanted
+printf 'tested\n' >tested
+
+within_512_kib() {
+    got=0
+    (
+        ulimit -s 512
+        call "$@"
+        exit "$got"
+    ) || got=$?
+}
+
+within_512_kib ./ped session blocks.f tested
+wants 'a hundred blocks with 512 KiB of stack' 0 whole wanted
+within_512_kib ./ped session wavefront.f wavefront.script
+wants 'a session with 512 KiB of stack' 0 whole wavefront.answer
 
 printf 'outside: %d passed, %d failed\n' $((count - failed)) "$failed"
 [ "$count" -gt 0 ] && [ "$failed" -eq 0 ]

@@ -3,12 +3,12 @@
 # and so on to the last, a run of ped for each. Wanted is status 6 with a front of the bytes that the session writes with ample
 # memory. It is no part of the gate, and wants a C compiler, for what stands between the program and the C library.
 #
-#   tools/refused-growth.sh [--program PROGRAM] [--every STEP] [SESSION ..]
+#   tools/refused-growth.sh [--program PROGRAM] [--every STEP] [--onward] [SESSION ..]
 #
-# The sessions are `wavefront` and `reversal`, whose steps are undone and done again, and `twelve`, which does each step. With
-# --every only each such growth is refused, from the first one on. The program is the one that .ci/run or ./prove has proved and
-# built from the present sources; nothing is proved or built here. There is a line for each session, and the status is 0 only
-# where all is as wanted. docs/HOSTILE.md has the figures.
+# The sessions are `wavefront`, `reversal`, whose step is undone and done again, and `twelve`, which does each step; all where none is
+# given. With --every only each such growth is refused, from the first one on; with --onward all behind it are refused with it. The
+# program is the one that .ci/run or ./prove has proved and built from the present sources; nothing is proved or built here. There is
+# a line for each session, and the status is 0 only where all is as wanted. docs/HOSTILE.md has the figures.
 set -eu
 export LC_ALL=C
 top=$(cd -- "$(dirname -- "${BASH_SOURCE[0]}")/.." && pwd)
@@ -20,13 +20,16 @@ stop() {
 
 program=
 every=1
+onward=
 while [ $# -gt 0 ]; do
     case $1 in
-        --program) program=$(readlink -f -- "${2-}") ;;
-        --every) every=${2-} ;;
+        --program) program=$(readlink -f -- "${2-}") && shift ;;
+        --every) every=${2-} && shift ;;
+        --onward) onward=yes ;;
+        -*) stop "there is no option $1" ;;
         *) break ;;
     esac
-    shift 2 || stop "$1 wants a word"
+    shift || stop 'an option wants a word'
 done
 [[ $every =~ ^[1-9][0-9]*$ ]] || stop '--every wants a number'
 if [ -z "$program" ]; then
@@ -43,8 +46,8 @@ work=$(mktemp -d)
 trap 'rm -rf -- "$work"' EXIT
 cd -- "$work"
 
-# Counts the calls for memory that the program itself makes, and refuses the one of the number GROWTH. At the end it writes
-# how many there were into the file GROWTHS, where that is named.
+# Counts the calls for memory that the program itself makes, and refuses the one of the number GROWTH, where ONWARD is set with all
+# behind it. At the end it writes how many there were into the file GROWTHS, where that is named.
 cat >growth.c <<'END_OF_SOURCE'
 #define _GNU_SOURCE
 #include <dlfcn.h>
@@ -54,6 +57,7 @@ cat >growth.c <<'END_OF_SOURCE'
 #include <stdlib.h>
 
 static unsigned long calls, refused;
+static int onward;
 static char *first, *last;
 
 static int find_program(struct dl_phdr_info *info, size_t size, void *data) {
@@ -71,6 +75,7 @@ static int find_program(struct dl_phdr_info *info, size_t size, void *data) {
 __attribute__((constructor)) static void begin(void) {
     const char *number = getenv("GROWTH");
     refused = number ? strtoul(number, 0, 10) : 0;
+    onward = getenv("ONWARD") != 0;
     dl_iterate_phdr(find_program, 0);
 }
 
@@ -83,7 +88,9 @@ __attribute__((destructor)) static void end(void) {
 }
 
 static int is_refused(void *caller) {
-    if ((char *)caller < first || (char *)caller >= last || ++calls != refused) return 0;
+    if ((char *)caller < first || (char *)caller >= last) return 0;
+    calls++;
+    if (!refused || (onward ? calls < refused : calls != refused)) return 0;
     errno = ENOMEM;
     return 1;
 }
@@ -213,7 +220,7 @@ refuse() {
     for number; do
         status=0
         # Not `timeout` itself: its own memory isn't refused.
-        timeout -k 1 20 env "GROWTH=$number" "LD_PRELOAD=$work/growth.so" "$program" session program.f script \
+        timeout -k 1 20 env "GROWTH=$number" ${onward:+ONWARD=yes} "LD_PRELOAD=$work/growth.so" "$program" session program.f script \
             </dev/null >"got-$number" 2>"said-$number" || status=$?
         bytes=$(wc -c <"got-$number")
         if [ "$status" -eq 6 ] && [ ! -s "said-$number" ] && head -c "$bytes" ample | cmp -s - "got-$number"; then
@@ -227,7 +234,7 @@ refuse() {
     done
 }
 export -f refuse
-export program work
+export program work onward
 
 failed=0
 for session in "$@"; do

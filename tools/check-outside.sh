@@ -172,11 +172,12 @@ done
 
 # A file that may not be read; the superuser may, so somebody else asks.
 cannot_read closed.f
-if [ "$(id -u)" -eq 0 ]; then
-    call setpriv --reuid 65534 --regid 65534 --clear-groups ./ped show closed.f
-else
-    call ./ped show closed.f
-fi
+call python3 -c 'import os, sys
+if os.getuid() == 0:
+    os.setgroups([])
+    os.setgid(65534)
+    os.setuid(65534)
+os.execv(sys.argv[1], sys.argv[1:])' ./ped show closed.f
 wants 'a file that may not be read' 3 whole wanted
 
 printf 'ped: refused 9 OpenBlock at 0\n' >wanted

@@ -197,6 +197,18 @@ done
 cat small.f >pipe &
 call ./ped show pipe
 wants 'a pipe' 0 whole small.pane
+{
+    head -c 8 small.f
+    sleep 0.3
+    tail -c +9 small.f
+} >pipe &
+call ./ped show pipe
+wants 'a pipe that is slow' 0 whole small.pane
+mapfile -t numbers < <(seq 5000)
+call ./ped "${numbers[@]}"
+wants 'five thousand words' 2 whole usage
+call ./ped session small.f script --data "${numbers[@]}"
+wants 'five thousand words too many' 2 whole usage
 
 call ./ped show $'\xff.f'
 wants 'a name that is no UTF-8' 2 whole usage

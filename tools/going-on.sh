@@ -3,11 +3,11 @@
 # memory, it compares the source, the source a step back and the source a step forward again with what they were before the
 # command, and gives the command once more. So whatever growth is refused, what it writes in the end is the same.
 #
-#   tools/going-on.sh [NUMBER ..]     the growths to be refused, as `1..` or `17`; all where none is given
+#   tools/going-on.sh [NUMBER]     the growth to begin with; the first where none is given
 #
-# The program is written here, and no crate of the repository: `rt try` builds it without proof, with checks that stop where one
-# fails, and refuses the growths one by one. That takes a quarter of an hour, and some seconds for each hundred growths. What
-# `rt try` says is written; the status is 0 only where no run was stopped or wrote something else.
+# The program is written here, and is no crate of the repository: `rt try` builds it without proof, with checks that stop where one
+# fails, and refuses the growths one by one. That takes a quarter of an hour. Behind 2,000 runs or ten minutes `rt try` stops and says
+# where, and it is begun there anew. What it says is written; the status is 0 only where no run was stopped or wrote something else.
 set -eu
 top=$(cd -- "$(dirname -- "${BASH_SOURCE[0]}")/.." && pwd)
 work=$(mktemp -d)
@@ -156,7 +156,17 @@ fn push_sources<L: Ledger>(
 }
 END_OF_MAIN
 
-[ $# -gt 0 ] || set -- 1..
-for growths; do
-    rt try --seconds 600 --steps 1 --fail-alloc "$growths" -- program.f script
+status=0
+next=${1:-1}
+while [ -n "$next" ]; do
+    failed=0
+    rt try --steps 1 --fail-alloc "$next.." -- program.f script >said 2>&1 || failed=$?
+    cat said
+    next=$(sed -n 's/.*next=\([0-9]*\).*/\1/p' said | tail -n 1)
+    # Status 6 says that it has stopped at the next.
+    if [ "$failed" -ne 0 ] && { [ "$failed" -ne 6 ] || [ -z "$next" ]; }; then
+        status=1
+        next=
+    fi
 done
+exit "$status"

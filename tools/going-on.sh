@@ -13,11 +13,11 @@ top=$(cd -- "$(dirname -- "${BASH_SOURCE[0]}")/.." && pwd)
 work=$(mktemp -d)
 trap 'rm -rf -- "$work"' EXIT
 
-# A copy of the repository with one crate more.
+# A copy of the sources with one crate more.
+cd -- "$top"
+find HANDLES crates/*/src crates/*/specs crates/*/proofs -type f -print0 | xargs -0 cp --parents -t "$work" --
+{ cat crates.txt; echo 'ped_going_on: ped_session'; } >"$work/crates.txt"
 mkdir -p -- "$work/crates/ped_going_on/src"
-ln -s -- "$top"/crates/* "$work/crates/"
-cp -- "$top/HANDLES" "$work/"
-{ cat -- "$top/crates.txt"; echo 'ped_going_on: ped_session'; } >"$work/crates.txt"
 cd -- "$work/crates/ped_going_on"
 
 cat >program.f <<'END_OF_PROGRAM'

@@ -128,7 +128,7 @@ sizes() {
     row 'a statement more' 5 'ped: refused 19 Limit at 204' session over.f tested
     blocks 94 >at.f
     blocks 95 >over.f
-    row 'a hundred blocks in one another' 0 'dependences 6' show at.f
+    row 'a hundred blocks in one another' 0 'tested 1' session at.f tested
     row 'one more' 5 'ped: refused 13 Limit at 101' show over.f
     arrays '' >at.f
     arrays $'      INTEGER IA9(1)\n' >over.f

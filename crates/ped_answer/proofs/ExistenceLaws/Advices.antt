@@ -27,6 +27,16 @@ module _ (t : ProgramTree) where
       (first.0 ++ rest.0, (first.0, first.1, rest.0, rest.1, refl))
 
   pub advice_of : (s : ℕ) → (bytes : List ℕ) × IsAdvice t s bytes
-  advice_of s = lines_of (advised_at s)
-      (each_cause (Interchange s), (each_cause (Reverse s), (each_cause (Distribute s), (each_cause (Fuse s),
-      (each_cause (Parallel s), (each_cause (Serial s), (each_cause (Peel s false), (each_cause (Peel s true), tt))))))))
+  advice_of s = lines_of (advised_at s) (
+    each_cause (Interchange s),
+    (
+      each_cause (Reverse s),
+      (
+        each_cause (Distribute s),
+        (
+          each_cause (Fuse s),
+          (each_cause (Parallel s), (each_cause (Serial s), (each_cause (Peel s false), (each_cause (Peel s true), tt)))),
+        ),
+      ),
+    ),
+  )

@@ -260,9 +260,10 @@ call ./ped show pairs.f
 cp got wanted
 within_20_mb ./ped show pairs.f
 wants '200,000 pairs in 20 MB' 6 front wanted
+printf '      INTEGER A(4)\n      DO I = 1, 2\n        A(I) = 1\n      END DO\n      END\n' >turned.f
 { yes 'reverse 1' || true; } | head -n 100000 >many
 seq -f '%.0f: ok' 100000 >wanted
-within_20_mb ./ped session loop.f many
+within_20_mb ./ped session turned.f many
 wants 'a history of 100,000 changes in 20 MB' 6 front wanted
 
 # ---- Stack

@@ -17,7 +17,7 @@ from .statuses import CompanionError, Status
 _ANSWER = re.compile(r"(\d+): (ok|refused .*)")
 _FAULT = re.compile(r"fault (\d+) at (\d+)")
 _RACE = re.compile(r"race (\S+) at (\d+) and (\d+)")
-_ADVICE = re.compile(r"([a-z]+|peel first|peel last) (?:ok|refused .*)")
+_ADVISED = ("interchange", "reverse", "distribute", "fuse", "parallel", "serial", "peel first", "peel last")
 _LAST_PRINTED = " " * 6 + "END"
 
 
@@ -43,6 +43,24 @@ class Race:
     cell: str
     first: int
     second: int
+
+
+@dataclass(frozen=True)
+class Advised:
+    """What `advise` says of a step: the step as a command, and why it is refused; none where it could be done."""
+
+    command: str
+    refusal: Optional[str]
+
+    @property
+    def word(self) -> str:
+        """The first word of the command."""
+        return self.command.split()[0]
+
+    @property
+    def is_forbidden(self) -> bool:
+        """Whether a dependence forbids the step."""
+        return (self.refusal or "").startswith("edge ")
 
 
 @dataclass(frozen=True)
@@ -76,6 +94,13 @@ class Reply:
         return Race(match.group(1), int(match.group(2)), int(match.group(3))) if match else None
 
     @property
+    def advised(self) -> Tuple[Advised, ...]:
+        """What an `advise` says, step by step; nothing where its statement isn't there."""
+        if self.command.word != "advise" or self._answer is not None:
+            return ()
+        return tuple(_advised(step, row, self.command.words[1]) for step, row in zip(_ADVISED, self.rows))
+
+    @property
     def _answer(self) -> Optional[str]:
         match = _ANSWER.fullmatch(self.rows[0]) if self.rows else None
         return match.group(2) if match else None
@@ -87,7 +112,7 @@ def read_replies(commands: Sequence[Command], rows: Sequence[str]) -> List[Reply
     index = 0
     for command in commands:
         count = _count(command, rows[index:])
-        if count == 0 and command.word != "advise":
+        if count == 0:
             raise NoReply(rows[index] if index < len(rows) else "")
         replies.append(Reply(command, tuple(rows[index:index + count])))
         index += count
@@ -125,10 +150,15 @@ def _run(rows: Sequence[str]) -> int:
 
 
 def _advice(rows: Sequence[str]) -> int:
-    """The rows of one `advise`: it tells of each step once, and another one may stand behind it."""
-    matches = [_ADVICE.fullmatch(row) for row in rows]
-    steps = [match.group(1) if match is not None else None for match in matches]
-    return next((count for count, step in enumerate(steps) if step is None or step in steps[:count]), len(rows))
+    told = [row for step, row in zip(_ADVISED, rows) if re.fullmatch(step + " (?:ok|refused .*)", row)]
+    return len(told) if len(told) == len(_ADVISED) else 0
+
+
+def _advised(step: str, row: str, loop: str) -> Advised:
+    """A row of `advise`; the number of the loop stands behind the first word of the step."""
+    word, *rest = step.split()
+    answer = row[len(step) + 1:]
+    return Advised(" ".join([word, loop, *rest]), None if answer == "ok" else answer[len("refused "):])
 
 
 def _while(rows: Sequence[str], belongs: Callable[[str], object]) -> int:

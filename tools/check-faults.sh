@@ -1,6 +1,7 @@
 #!/usr/bin/env bash
-# Runs the cases of cases/faults/ over the program of crate ped_faults: what a call answers where a read or a write of
-# it fails, and where each moves few bytes, byte for byte.
+# Runs the cases of cases/faults/ over the program of crate ped_faults, and those that tools/cuts.py writes: what a call
+# answers where a read or a write of it fails, where each moves few bytes, and where its program or its script is cut behind
+# each byte; byte for byte.
 #
 #   tools/check-faults.sh [--program PROGRAM]
 #
@@ -29,4 +30,8 @@ fi
 cd -- "$top"
 mapfile -t files < <(find cases/faults -type f | LC_ALL=C sort)
 [ "${#files[@]}" -gt 0 ] || stop 'cases/faults holds no file'
-exec "$top/tools/check-cases.sh" --program "$program" "${files[@]}"
+
+work=$(mktemp -d)
+trap 'rm -rf -- "$work"' EXIT
+python3 tools/cuts.py >"$work/cuts.cases" || stop 'tools/cuts.py writes no cases'
+tools/check-cases.sh --program "$program" "${files[@]}" "$work/cuts.cases"

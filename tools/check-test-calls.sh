@@ -1,6 +1,6 @@
 #!/usr/bin/env bash
 # Reads in the sources who calls the dependence tests and who counts them: only ped_verdict, which counts each call of
-# its own test, names ped_siv and ped_miv; and a counter is made in one place of a program, in its root file. No contract can say so, since the bytes of a pane don't show where they come
+# its own test, names ped_siv and ped_miv; only a step finds dependences without a test, of a program that no session holds; and a counter is made in one place of a program, in its root file. No contract can say so, since the bytes of a pane don't show where they come
 # from. Then it plants such calls in a copy of the sources, and wants each to be found. Nothing is proved or built here.
 set -eu
 top=$(cd -- "$(dirname -- "${BASH_SOURCE[0]}")/.." && pwd)
@@ -40,6 +40,9 @@ plant ped_graph/src/lib.rt 'use ped_siv::ziv_excludes;'
 plant ped_answer/src/panes.rt 'fn same(c: i64) -> bool { !ped_siv::ziv_excludes(c, c) }'
 plant ped_edges/src/lib.rt 'pub use ped_miv::banerjee_excludes;'
 plant ped_verdict/src/lib.rt 'pub use ped_siv::ziv_excludes;'
+plant ped_splits/src/lib.rt 'use ped_graph::ped_verdict::vectors_of;'
+plant ped_session/src/lib.rt 'use ped_graph::ped_verdict::{Verdict, vectors_of as untested};'
+plant ped_session/src/session.rt 'fn first(alloc: Global, p: &Prepared) -> Result<Vec<Edge>, NoMemory> { p.edges_of(alloc, 0) }'
 plant ped_answer/src/panes.rt 'fn counter<L: Ledger>(blank: Blank) -> Steps<L> { Steps::new(blank) }'
 plant ped_answer/src/answering.rt 'fn counter<L: Ledger>(blank: Blank) -> Steps<L> { Steps::<L>::new(blank) }'
 plant ped_graph/src/lib.rt 'fn counter<L: Ledger>(blank: Blank) -> Steps<L> { <Steps<L>>::new(blank) }'

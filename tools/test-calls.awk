@@ -12,6 +12,12 @@ function finish(    crate, names, made, blanks, wanted) {
     if (code ~ names) {
         print file ": it calls tests of ped_siv or ped_miv, or hands them on; ped_verdict counts them"
     }
+    if (code ~ /ped_verdict::[^;]*vectors_of/ && file != "crates/ped_graph/src/edges.rt") {
+        print file ": it finds vectors without a test; ped_graph does, for a program that a session doesn't hold"
+    }
+    if (code ~ /(edges_of_pair|\.edges_of)\(/ && crate !~ /^ped_(graph|splits)$/) {
+        print file ": it finds dependences without a test; only a step may, of a program that a session doesn't hold"
+    }
     made = gsub(/Steps(::)?(<[^;(){}]*>)?>?::new[^a-z_]/, "&", code)
     blanks = gsub(/Blank::new[^a-z_]/, "&", code)
     wanted = file ~ /^crates\/(ped|ped_faults)\/src\/main\.rt$/

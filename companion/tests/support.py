@@ -19,6 +19,13 @@ from ..views import Question, View, open_view, view_of_file
 TOP = Path(__file__).resolve().parents[2]
 EXAMPLES = TOP / "examples"
 
+#: What `advise` answers at a loop with an increment of 2.
+ADVICE = [
+    "interchange ok", "reverse refused rule 8 StepShape at 1", "distribute refused rule 11 OneBlock at 1",
+    "fuse refused rule 10 NoNeighbour at 1", "parallel ok", "serial refused rule 3 ParallelState at 1", "peel first ok",
+    "peel last refused rule 9 Range at 1",
+]
+
 
 def ped_path() -> str:
     """The program ped. The launcher is never meant, which would begin to prove."""

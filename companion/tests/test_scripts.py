@@ -4,9 +4,9 @@ import unittest
 
 from ..lines import split_lines
 from ..ped import read_file
-from ..replies import Fault, NoReply, Race, read_replies
+from ..replies import Advised, Fault, NoReply, Race, read_replies
 from ..scripts import read_script, weave
-from .support import EXAMPLES, cases
+from .support import ADVICE, EXAMPLES, cases
 
 SCRIPT = """\
 show
@@ -49,22 +49,30 @@ class Replies(unittest.TestCase):
         commands = read_script("print\nrun\nraces\nundo\nrun\nadvise 1\ntested\nraces\nparallel 1\n")
         rows = [
             "C 1: ok", "      END", "| 1: ok", "ended", "live A 1", "no race", "4: refused NothingToUndo",
-            "fault 2 at 3", "interchange ok", "peel first refused rule 1 NoLoop at 1", "tested 4",
-            "race A(3,2) at 4 and 5", "9: ok",
+            "fault 2 at 3", *ADVICE, "tested 4", "race A(3,2) at 4 and 5", "9: ok",
         ]
         replies = read_replies(commands, rows)
-        self.assertEqual([len(reply.rows) for reply in replies], [2, 3, 1, 1, 1, 2, 1, 1, 1])
+        self.assertEqual([len(reply.rows) for reply in replies], [2, 3, 1, 1, 1, 8, 1, 1, 1])
         self.assertEqual(replies[3].refusal, "NothingToUndo")
         self.assertEqual(replies[4].fault, Fault(2, 3))
         self.assertEqual(replies[7].race, Race("A(3,2)", 4, 5))
         self.assertTrue(replies[8].accepted)
         self.assertIsNone(replies[8].refusal)
 
-    def test_advice_behind_advice(self) -> None:
-        """Each `advise` tells of each step once."""
-        rows = ["reverse ok", "peel first ok", "peel last ok", "reverse ok", "peel first ok", "peel last ok", "3: ok"]
-        replies = read_replies(read_script("advise 1\nadvise 2\nundo\n"), rows)
-        self.assertEqual([len(reply.rows) for reply in replies], [3, 3, 1])
+    def test_advice(self) -> None:
+        commands = read_script("advise 1\nadvise 12\nadvise 99\n")
+        replies = read_replies(commands, [*ADVICE, *ADVICE, "3: refused NoSuchStatement"])
+        self.assertEqual([len(reply.rows) for reply in replies], [8, 8, 1])
+        self.assertEqual([len(reply.advised) for reply in replies], [8, 8, 0])
+        self.assertEqual(replies[1].advised[:2], (
+            Advised("interchange 12", None), Advised("reverse 12", "rule 8 StepShape at 1"),
+        ))
+        self.assertEqual(replies[1].advised[6:], (
+            Advised("peel 12 first", None), Advised("peel 12 last", "rule 9 Range at 1"),
+        ))
+        for rows in (ADVICE[:7], [*ADVICE[1:], ADVICE[0]]):
+            with self.assertRaises(NoReply, msg=str(rows)):
+                read_replies(read_script("advise 1\n"), rows)
 
     def test_other_answers(self) -> None:
         for rows in ([], ["2: ok"], ["1: ok", "2: ok"], ["ped: cannot read x"]):

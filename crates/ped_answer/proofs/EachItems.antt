@@ -11,8 +11,7 @@ use Rattle.ped_session.specs.ped_transformations.specs.ped_script.specs.declared
 use Rattle.ped_session.specs.States.{State, opened}
 use Rattle.ped_session.specs.Scripts.{Said, nothing_said, said_both, AnswersCommand, AnswersItem, AnswersItems}
 use Rattle.ped_answer.specs.declared.answering.Status.{Status}
-use Rattle.ped_answer.specs.Answer.{Answers}
-use Rattle.ped_answer.specs.ScriptRuns.{IsWhole}
+use Rattle.ped_answer.specs.Answer.{IsWhole, Answers}
 use Rattle.ped_answer.specs.Headline.{ItemFact, AnswersEach, EachItem}
 use Rattle.ped_answer.proofs.WholeAnswers.{session_whole}
 
@@ -30,7 +29,7 @@ module _ (IsSo : ItemFact) (d : List ℕ) (t : ProgramTree) where
 
   -- what is so of each item in such a state
   abbrev pub SoWhereCome : Type 0
-  SoWhereCome = (line : ℕ) (command : Option Command) (s next : State) (said : Said) → Comes s → AnswersCommand line command d s said next → IsSo line command s said next
+  SoWhereCome = (line : ℕ) (command : Option Command) (s next : State) (said : Said) → Comes s → AnswersCommand line command d s said next → IsSo line command d s said next
 
   each : SoWhereCome → (items : List Item) (s last : State) (said : Said) → Comes s → AnswersItems items d s said last → AnswersEach IsSo items d s said last
   each so [] s last said came h = h
@@ -52,9 +51,13 @@ module _ (IsSo : ItemFact) (d : List ℕ) (t : ProgramTree) where
 abbrev pub SoOfValid : ItemFact → Type 0
 SoOfValid IsSo = (d : List ℕ) (t : ProgramTree) → IsValid t → SoWhereCome IsSo d t
 
+-- what is so of each item of a script
+abbrev pub SoOfItems : ItemFact → Type 0
+SoOfItems IsSo = (d : List ℕ) (t : ProgramTree) → IsValid t → (items : List Item) (said : Said) (last : State) → AnswersItems items d (opened t) said last → AnswersEach IsSo items d (opened t) said last
+
 -- so it is in a session's answer that is written whole
-pub session_each : (IsSo : ItemFact) → SoOfValid IsSo → (program script : List ℕ) (data_file : Option (List ℕ)) (files : Contents) (s : Status) (b : List ℕ) → IsWhole s → Answers (Some (session program script data_file)) files s b → EachItem IsSo program script data_file files b
-session_each IsSo so program script data_file files s b whole h =
+pub session_items : (IsSo : ItemFact) → SoOfItems IsSo → (program script : List ℕ) (data_file : Option (List ℕ)) (files : Contents) (s : Status) (b : List ℕ) → IsWhole s → Answers (Some (session program script data_file)) files s b → EachItem IsSo program script data_file files b
+session_items IsSo so program script data_file files s b whole h =
     let p = session_whole program script data_file files s b whole h in
     let a = p.answers in
     record {
@@ -68,6 +71,9 @@ session_each IsSo so program script data_file files s b whole h =
       reads = a.reads;
       said = a.said;
       last = a.last;
-      answers = each_item IsSo p.data_bytes a.tree (so p.data_bytes a.tree a.reads.valid) (commands_of p.commands) a.said a.last a.answers;
+      answers = so p.data_bytes a.tree a.reads.valid (commands_of p.commands) a.said a.last a.answers;
       says = a.says;
     }
+
+pub session_each : (IsSo : ItemFact) → SoOfValid IsSo → (program script : List ℕ) (data_file : Option (List ℕ)) (files : Contents) (s : Status) (b : List ℕ) → IsWhole s → Answers (Some (session program script data_file)) files s b → EachItem IsSo program script data_file files b
+session_each IsSo so = session_items IsSo (λ d t valid. each_item IsSo d t (so d t valid))

@@ -1,7 +1,9 @@
 -- Lemmas of the room that this folder is named after.
+mod Advices
 mod Alike
 mod ChainCauses
 mod DistributeCauses
+mod FuseCauses
 pub mod Edges
 pub mod Files
 mod LoopCauses

@@ -9,6 +9,7 @@ use Rattle.ped_session.specs.ped_tree.specs.Numbering.{statement_with}
 use Rattle.ped_session.specs.ped_symbols.specs.NameRefusals.{IsValid}
 use Rattle.ped_session.specs.ped_valid.specs.Validity.{ReadsValid}
 use Rattle.ped_session.specs.ped_graph.specs.DependencePane.{IsDependencePane, IsDependencePaneOf}
+use Rattle.ped_session.specs.ped_transformations.specs.Advice.{IsAdvice}
 use Rattle.ped_session.specs.ped_transformations.specs.ped_script.specs.declared.items.Item.{Item}
 use Rattle.ped_session.specs.ped_transformations.specs.ped_script.specs.declared.items.Command.{Command}
 use Rattle.ped_session.specs.ped_transformations.specs.ped_script.specs.declared.items.Command.TheVariants.{Source, Deps, Show, Print, Advise, Replace, Insert, Delete, Interchange, Reverse, Skew, Strip, Peel, Distribute, Fuse, Expand, Privatise, Parallel, Serial, Reject, Undo, Redo, Run, Races, Tested}
@@ -19,12 +20,11 @@ use Rattle.ped_session.specs.States.{State, opened}
 use Rattle.ped_session.specs.Panes.{IsSourcePane, ArePanes}
 use Rattle.ped_session.specs.Replies.{answer_row, reply_text}
 use Rattle.ped_session.specs.Histories.{IsPrinted, ArePrinted}
-use Rattle.ped_session.specs.Steps.{Shows, ShowsOf}
+use Rattle.ped_session.specs.Steps.{Shows, ShowsOf, ShowsStatement}
 use Rattle.ped_session.specs.Scripts.{Said, said_by, AnswersCommand, AnswersItems}
 use Rattle.ped_answer.specs.declared.answering.Status.{Status}
 use Rattle.ped_answer.specs.declared.answering.Status.TheVariants.{Done, SomeRefused, BadWords, ReadFault, WriteFault, ProgramRefused, NoMemory, TooLong}
-use Rattle.ped_answer.specs.Answer.{source_input, IsShown, Answers}
-use Rattle.ped_answer.specs.ScriptRuns.{IsWhole}
+use Rattle.ped_answer.specs.Answer.{IsWhole, source_input, IsShown, Answers}
 use Rattle.ped_answer.specs.Headline.{Afresh, IsOfStatement, ShowsAfresh, ShowsFile, PanesRequest}
 use Rattle.ped_answer.proofs.OneAnswer.{one_tree}
 use Rattle.ped_answer.proofs.ExistenceLaws.Replying.{reads_as}
@@ -47,23 +47,27 @@ shows IsSo line s next reply said printed h says =
     (subst (IsSo h.tree) (sym (bytes_of line reply (Shown h.bytes) next said says h.prints.0)) h.so)
 
 -- the rows of a statement, where there is one
-rows_by : (line number : ℕ) (statement : Option StmtTree) (s next : State) (reply : Reply) (said : Said) (t : ProgramTree) → ReadsValid s.present t → ShowsOf number statement s reply next → said ≡ said_by line reply next
-    → MatchOption statement (said.bytes ≡ answer_row line (codes "refused NoSuchStatement")) (λ (found : StmtTree). IsDependencePaneOf t (Some number) said.bytes)
-rows_by line number None s next reply said t reads h says = bytes_of line reply (Refused NoSuchStatement) next said says h.0
-rows_by line number (Some found) s next reply said t reads h says =
-    subst (λ (u : ProgramTree). IsDependencePaneOf u (Some number) said.bytes) (one_tree s.present h.tree t h.reads reads)
-    (subst (IsDependencePaneOf h.tree (Some number)) (sym (bytes_of line reply (Shown h.bytes) next said says h.prints.0)) h.so)
+rows_by : (IsSo : ProgramTree → List ℕ → Type 0) (line : ℕ) (statement : Option StmtTree) (s next : State) (reply : Reply) (said : Said) (t : ProgramTree) → ReadsValid s.present t → ShowsOf IsSo statement s reply next → said ≡ said_by line reply next
+    → MatchOption statement (said.bytes ≡ answer_row line (codes "refused NoSuchStatement")) (λ (found : StmtTree). IsSo t said.bytes)
+rows_by IsSo line None s next reply said t reads h says = bytes_of line reply (Refused NoSuchStatement) next said says h.0
+rows_by IsSo line (Some found) s next reply said t reads h says =
+    subst (λ (u : ProgramTree). IsSo u said.bytes) (one_tree s.present h.tree t h.reads reads)
+    (subst (IsSo h.tree) (sym (bytes_of line reply (Shown h.bytes) next said says h.prints.0)) h.so)
 
-line_shows : (line : ℕ) (command : Option Command) (d : List ℕ) (s next : State) (said : Said) → IsPrinted s.present → AnswersCommand line command d s said next → ShowsAfresh line command s said next
+-- what is shown of a statement
+shows_of : (IsSo : ProgramTree → List ℕ → Type 0) (line number : ℕ) (s next : State) (reply : Reply) (said : Said) → IsPrinted s.present → ShowsStatement IsSo number s reply next → said ≡ said_by line reply next
+    → Afresh (IsOfStatement IsSo line number) s.present said.bytes
+shows_of IsSo line number s next reply said printed h says =
+    afresh (IsOfStatement IsSo line number) s.present said.bytes h.tree printed h.reads (rows_by IsSo line (statement_with number h.tree) s next reply said h.tree h.reads h.shows says)
+
+line_shows : (line : ℕ) (command : Option Command) (d : List ℕ) (s next : State) (said : Said) → IsPrinted s.present → AnswersCommand line command d s said next → ShowsAfresh line command d s said next
 line_shows line None d s next said printed h = tt
 line_shows line (Some Source) d s next said printed h = shows IsSourcePane line s next h.0 said printed h.1 h.2
 line_shows line (Some (Deps None)) d s next said printed h = shows IsDependencePane line s next h.0 said printed h.1 h.2
-line_shows line (Some (Deps (Some number))) d s next said printed h =
-    let of = h.1 in
-    afresh (IsOfStatement (λ t. IsDependencePaneOf t (Some number)) line number) s.present said.bytes of.tree printed of.reads (rows_by line number (statement_with number of.tree) s next h.0 said of.tree of.reads of.shows h.2)
+line_shows line (Some (Deps (Some number))) d s next said printed h = shows_of (λ t. IsDependencePaneOf t (Some number)) line number s next h.0 said printed h.1 h.2
 line_shows line (Some Show) d s next said printed h = shows ArePanes line s next h.0 said printed h.1 h.2
 line_shows line (Some Print) d s next said printed h = bytes_of line h.0 (Shown s.present) next said h.2 h.1.0
-line_shows line (Some (Advise number)) d s next said printed h = tt
+line_shows line (Some (Advise number)) d s next said printed h = shows_of (λ t. IsAdvice t number) line number s next h.0 said printed h.1 h.2
 line_shows line (Some (Replace first last lines)) d s next said printed h = tt
 line_shows line (Some (Insert after lines)) d s next said printed h = tt
 line_shows line (Some (Delete first last)) d s next said printed h = tt

@@ -1,5 +1,5 @@
 -- Words and files have one answer.
-use Rattle.std.proofs.Common.{◌≡◌, inl, inr, ℕ, Bool, true, false, List, [], ◌++◌, Option, Some, None, refl, sym, ap, ◌∙◌, subst, length}
+use Rattle.std.proofs.Common.{◌≡◌, ◌⊎◌, inl, inr, ℕ, Bool, true, false, List, [], ◌++◌, Option, Some, None, refl, sym, ap, ◌∙◌, subst, length}
 use Rattle.std.specs.Prelude.{MatchOption, MatchBool, nat_lt}
 use Rattle.ped_io.specs.Outside.{Contents, content}
 use Rattle.ped_session.specs.ped_tree.specs.Tree.{ProgramTree}
@@ -11,16 +11,17 @@ use Rattle.ped_session.specs.ped_graph.proofs.OnePane.{one_pane}
 use Rattle.ped_session.specs.ped_transformations.specs.ped_script.specs.Items.{commands_of}
 use Rattle.ped_session.specs.Panes.{ArePanes}
 use Rattle.ped_session.specs.States.{State, opened}
-use Rattle.ped_session.specs.Scripts.{Said, AnswersItems}
+use Rattle.ped_session.specs.Scripts.{Said}
 use Rattle.ped_session.proofs.OneAnswer as items
 use Rattle.ped_answer.specs.declared.answering.Status.{Status}
 use Rattle.ped_answer.specs.declared.answering.Status.TheVariants.{Done, SomeRefused, BadWords, ReadFault, WriteFault, ProgramRefused, NoMemory, TooLong}
 use Rattle.ped_gen.specs.Generated.{program}
 use Rattle.ped_answer.specs.Refusals.{refused_line}
 use Rattle.ped_answer.specs.Generated.{Reports, IsGenerated}
+use Rattle.ped_answer.specs.Serving.{session_status, AnswersFrom}
 use Rattle.ped_answer.proofs.OneReport.{one_report}
 use Rattle.ped_words.specs.Requests.{Request, show, session, generate}
-use Rattle.ped_answer.specs.Answer.{Input, source_input, data_input, cannot_read_line, too_long_line, IsJust, IsShown, AnswersScript, IsSession, AnswersInput, AnswersData, Answers}
+use Rattle.ped_answer.specs.Answer.{Input, source_input, data_input, cannot_read_line, too_long_line, IsJust, IsShown, ShowsTree, IsSession, AnswersInput, AnswersData, Answers}
 
 -- a text has one valid tree at most
 pub one_tree : (text : List ℕ) (t u : ProgramTree) → ReadsValid text t → ReadsValid text u → t ≡ u
@@ -43,90 +44,81 @@ not_both text t f p q = elim (one_of_both text) [
   | inr refusal ↦ refusal.treeless t p
 ]
 
+-- there is one answer at most
+abbrev HasOne : (Status → List ℕ → Type 0) → Type 0
+HasOne answers = (s t : Status) (a b : List ℕ) → answers s a → answers t b → (s ≡ t) × (a ≡ b)
+
+-- what is answered to a text: what is answered on its valid tree, or its first refusal
+abbrev AnswersText : List ℕ → (ProgramTree → Status → List ℕ → Type 0) → Status → List ℕ → Type 0
+AnswersText text on s b = ((t : ProgramTree) × ReadsValid text t × on t s b) ⊎ ((f : Finding) × RefusesText text f × IsJust ProgramRefused (refused_line f) s b)
+
+-- a text has one answer where each tree has one
+one_text : (text : List ℕ) (on : ProgramTree → Status → List ℕ → Type 0) → ((t : ProgramTree) → HasOne (on t)) → HasOne (AnswersText text on)
+one_text text on one s t a b (inl p) (inl q) = one q.0 s t a b (subst (λ (u : ProgramTree). on u s a) (one_tree text p.0 q.0 p.1 q.1) p.2) q.2
+one_text text on one s t a b (inl p) (inr q) = absurd (not_both text p.0 q.0 p.1 q.1)
+one_text text on one s t a b (inr p) (inl q) = absurd (not_both text q.0 p.0 q.1 p.1)
+one_text text on one s t a b (inr p) (inr q) = (p.2.0 ∙ sym q.2.0, p.2.1 ∙ ap refused_line (one_refusal text p.0 q.0 p.1 q.1) ∙ sym q.2.1)
+
 -- a program has one text of both panes
 one_panes : (t : ProgramTree) (a b : List ℕ) → ArePanes t a → ArePanes t b → a ≡ b
 one_panes t a b p q = p.2 ∙ ap (λ (pane : List ℕ). source_pane t ++ pane) (one_pane t p.0 q.0 p.1 q.1) ∙ sym q.2
 
+-- what is shown of a text is answered to it
+shown_text : (text : List ℕ) (s : Status) (b : List ℕ) → IsShown text s b → AnswersText text ShowsTree s b
+shown_text text Done b h = inl (h.0, h.1, (refl, h.2))
+shown_text text ProgramRefused b h = inr (h.0, h.1, (refl, h.2))
+shown_text text SomeRefused b h = absurd h
+shown_text text BadWords b h = absurd h
+shown_text text ReadFault b h = absurd h
+shown_text text WriteFault b h = absurd h
+shown_text text NoMemory b h = absurd h
+shown_text text TooLong b h = absurd h
+
 -- one thing is shown of a text
-one_shown : (text : List ℕ) (s t : Status) (a b : List ℕ) → IsShown text s a → IsShown text t b → (s ≡ t) × (a ≡ b)
-one_shown text Done Done a b p q =
-    let tree = one_tree text p.0 q.0 p.1 q.1 in
-    (refl, one_panes q.0 a b (subst (λ (t : ProgramTree). ArePanes t a) tree p.2) q.2)
-one_shown text ProgramRefused ProgramRefused a b p q = (refl, p.2 ∙ ap refused_line (one_refusal text p.0 q.0 p.1 q.1) ∙ sym q.2)
-one_shown text Done ProgramRefused a b p q = absurd (not_both text p.0 q.0 p.1 q.1)
-one_shown text ProgramRefused Done a b p q = absurd (not_both text q.0 p.0 q.1 p.1)
-one_shown text s SomeRefused a b p q = absurd q
-one_shown text s BadWords a b p q = absurd q
-one_shown text s ReadFault a b p q = absurd q
-one_shown text s WriteFault a b p q = absurd q
-one_shown text s NoMemory a b p q = absurd q
-one_shown text s TooLong a b p q = absurd q
-one_shown text SomeRefused t a b p q = absurd p
-one_shown text BadWords t a b p q = absurd p
-one_shown text ReadFault t a b p q = absurd p
-one_shown text WriteFault t a b p q = absurd p
-one_shown text NoMemory t a b p q = absurd p
-one_shown text TooLong t a b p q = absurd p
+one_shown : (text : List ℕ) → HasOne (IsShown text)
+one_shown text s t a b p q = one_text text ShowsTree (λ u s t a b p q. (p.0 ∙ sym q.0, one_panes u a b p.1 q.1)) s t a b (shown_text text s a p) (shown_text text t b q)
 
--- a script says one thing on the program of a text
-pub one_said : (text script data_bytes : List ℕ) (t u : ProgramTree) (a b : Said) (m n : State) → ReadsValid text t → ReadsValid text u → AnswersItems (commands_of script) data_bytes (opened t) a m → AnswersItems (commands_of script) data_bytes (opened u) b n → a ≡ b
-one_said text script data_bytes t u a b m n p q x y =
-    let z = subst (λ (v : ProgramTree). AnswersItems (commands_of script) data_bytes (opened v) a m) (one_tree text t u p q) x in
-    (items.one_all (commands_of script) data_bytes (opened u) m n a b z y).0
+-- a script answers one thing in a state
+one_script : (script data_bytes : List ℕ) (state : State) → HasOne (AnswersFrom state script data_bytes)
+one_script script data_bytes state s t a b p q =
+    let said = (items.one_all (commands_of script) data_bytes state p.1 q.1 p.0 q.0 p.2 q.2).0 in
+    (p.3 ∙ ap (λ (x : Said). session_status x.refused) said ∙ sym q.3, p.4 ∙ ap (λ (x : Said). x.bytes) said ∙ sym q.4)
 
-one_script_said : (text script data_bytes : List ℕ) (c d : Bool) (a b : List ℕ) (p : AnswersScript text script data_bytes c a) (q : AnswersScript text script data_bytes d b) → p.said ≡ q.said
-one_script_said text script data_bytes c d a b p q = one_said text script data_bytes p.tree q.tree p.said q.said p.last q.last p.reads q.reads p.answers q.answers
-
-one_script : (text script data_bytes : List ℕ) (c d : Bool) (a b : List ℕ) → AnswersScript text script data_bytes c a → AnswersScript text script data_bytes d b → (c ≡ d) × (a ≡ b)
-one_script text script data_bytes c d a b p q =
-    let said = one_script_said text script data_bytes c d a b p q in
-    (p.some ∙ ap (λ (x : Said). x.refused) said ∙ sym q.some, p.says ∙ ap (λ (x : Said). x.bytes) said ∙ sym q.says)
+-- what a session answers is what its script answers on the program of a text, or the first refusal of that text
+session_text : (text script data_bytes : List ℕ) (s : Status) (b : List ℕ) → IsSession text script data_bytes s b → AnswersText text (λ t. AnswersFrom (opened t) script data_bytes) s b
+session_text text script data_bytes Done b h = inl (h.tree, h.reads, (h.said, h.last, h.answers, ap session_status h.some, h.says))
+session_text text script data_bytes SomeRefused b h = inl (h.tree, h.reads, (h.said, h.last, h.answers, ap session_status h.some, h.says))
+session_text text script data_bytes ProgramRefused b h = inr (h.0, h.1, (refl, h.2))
+session_text text script data_bytes BadWords b h = absurd h
+session_text text script data_bytes ReadFault b h = absurd h
+session_text text script data_bytes WriteFault b h = absurd h
+session_text text script data_bytes NoMemory b h = absurd h
+session_text text script data_bytes TooLong b h = absurd h
 
 -- a session has one answer
-one_session : (text script data_bytes : List ℕ) (s t : Status) (a b : List ℕ) → IsSession text script data_bytes s a → IsSession text script data_bytes t b → (s ≡ t) × (a ≡ b)
-one_session text script data_bytes Done Done a b p q = (refl, (one_script text script data_bytes false false a b p q).1)
-one_session text script data_bytes SomeRefused SomeRefused a b p q = (refl, (one_script text script data_bytes true true a b p q).1)
-one_session text script data_bytes Done SomeRefused a b p q = absurd (let e = (one_script text script data_bytes false true a b p q).0 in cc)
-one_session text script data_bytes SomeRefused Done a b p q = absurd (let e = (one_script text script data_bytes true false a b p q).0 in cc)
-one_session text script data_bytes ProgramRefused ProgramRefused a b p q = (refl, p.2 ∙ ap refused_line (one_refusal text p.0 q.0 p.1 q.1) ∙ sym q.2)
-one_session text script data_bytes Done ProgramRefused a b p q = absurd (not_both text p.tree q.0 p.reads q.1)
-one_session text script data_bytes SomeRefused ProgramRefused a b p q = absurd (not_both text p.tree q.0 p.reads q.1)
-one_session text script data_bytes ProgramRefused Done a b p q = absurd (not_both text q.tree p.0 q.reads p.1)
-one_session text script data_bytes ProgramRefused SomeRefused a b p q = absurd (not_both text q.tree p.0 q.reads p.1)
-one_session text script data_bytes s BadWords a b p q = absurd q
-one_session text script data_bytes s ReadFault a b p q = absurd q
-one_session text script data_bytes s WriteFault a b p q = absurd q
-one_session text script data_bytes s NoMemory a b p q = absurd q
-one_session text script data_bytes s TooLong a b p q = absurd q
-one_session text script data_bytes BadWords t a b p q = absurd p
-one_session text script data_bytes ReadFault t a b p q = absurd p
-one_session text script data_bytes WriteFault t a b p q = absurd p
-one_session text script data_bytes NoMemory t a b p q = absurd p
-one_session text script data_bytes TooLong t a b p q = absurd p
+one_session : (text script data_bytes : List ℕ) → HasOne (IsSession text script data_bytes)
+one_session text script data_bytes s t a b p q =
+    one_text text (λ u. AnswersFrom (opened u) script data_bytes) (λ u. one_script script data_bytes (opened u)) s t a b (session_text text script data_bytes s a p) (session_text text script data_bytes t b q)
+
+-- a report, and no other answer
+abbrev IsReport : ℕ → ProgramTree → Status → List ℕ → Type 0
+IsReport n t s b = (s ≡ Done) × Reports n t b
+
+-- what is answered on a program that is made is its report, or the first refusal of its text
+generated_text : (n : ℕ) (s : Status) (b : List ℕ) → IsGenerated n s b → AnswersText (program n) (IsReport n) s b
+generated_text n Done b h = inl (h.0, h.1, (refl, h.2))
+generated_text n ProgramRefused b h = inr (h.0, h.1, (refl, h.2))
+generated_text n SomeRefused b h = absurd h
+generated_text n BadWords b h = absurd h
+generated_text n ReadFault b h = absurd h
+generated_text n WriteFault b h = absurd h
+generated_text n NoMemory b h = absurd h
+generated_text n TooLong b h = absurd h
 
 -- a program that is made has one answer
-one_generated : (n : ℕ) (s t : Status) (a b : List ℕ) → IsGenerated n s a → IsGenerated n t b → (s ≡ t) × (a ≡ b)
-one_generated n Done Done a b p q =
-    (refl, one_report n q.0 a b (subst (λ (t : ProgramTree). Reports n t a) (one_tree (program n) p.0 q.0 p.1 q.1) p.2) q.2)
-one_generated n ProgramRefused ProgramRefused a b p q = (refl, p.2 ∙ ap refused_line (one_refusal (program n) p.0 q.0 p.1 q.1) ∙ sym q.2)
-one_generated n Done ProgramRefused a b p q = absurd (not_both (program n) p.0 q.0 p.1 q.1)
-one_generated n ProgramRefused Done a b p q = absurd (not_both (program n) q.0 p.0 q.1 p.1)
-one_generated n s SomeRefused a b p q = absurd q
-one_generated n s BadWords a b p q = absurd q
-one_generated n s ReadFault a b p q = absurd q
-one_generated n s WriteFault a b p q = absurd q
-one_generated n s NoMemory a b p q = absurd q
-one_generated n s TooLong a b p q = absurd q
-one_generated n SomeRefused t a b p q = absurd p
-one_generated n BadWords t a b p q = absurd p
-one_generated n ReadFault t a b p q = absurd p
-one_generated n WriteFault t a b p q = absurd p
-one_generated n NoMemory t a b p q = absurd p
-one_generated n TooLong t a b p q = absurd p
-
--- there is one answer at most
-abbrev HasOne : (Status → List ℕ → Type 0) → Type 0
-HasOne answers = (s t : Status) (a b : List ℕ) → answers s a → answers t b → (s ≡ t) × (a ≡ b)
+one_generated : (n : ℕ) → HasOne (IsGenerated n)
+one_generated n s t a b p q =
+    one_text (program n) (IsReport n) (λ u s t a b p q. (p.0 ∙ sym q.0, one_report n u a b p.1 q.1)) s t a b (generated_text n s a p) (generated_text n t b q)
 
 -- there is one answer to a file where there is one to its bytes, by whether they are too many
 one_by : (i : Input) (answers : Status → List ℕ → Type 0) → HasOne answers → (long : Bool) → HasOne (λ s b. MatchBool long (IsJust TooLong (too_long_line i) s b) (answers s b))

@@ -12,15 +12,14 @@ use Rattle.ped_session.specs.ped_transformations.specs.ped_reindex.specs.ped_loo
 use Rattle.ped_session.specs.declared.replies.Refusal.{Refusal}
 use Rattle.ped_session.specs.declared.replies.Refusal.TheVariants.{NoSuchLine}
 use Rattle.ped_session.specs.declared.replies.Reply.{Reply}
-use Rattle.ped_session.specs.declared.replies.Reply.TheVariants.{Changed, Shown, Refused}
+use Rattle.ped_session.specs.declared.replies.Reply.TheVariants.{Refused}
 use Rattle.ped_session.specs.States.{Other, State, gone_back_to, gone_forward_to}
 use Rattle.ped_session.specs.Splices.{are_lines, is_place}
 use Rattle.ped_session.specs.Steps.{Refuses, Prints, Shows, ShowsOf, ShowsStatement, Edits, accepted, refused, Transforms, missing, forbidden, transformed, GoesBack, GoesForward, IsStep, IsMove}
 use Rattle.ped_session.specs.Scripts.{Said, AnswersCommand}
 use Rattle.ped_answer.specs.declared.answering.Status.{Status}
-use Rattle.ped_answer.specs.Answer.{Answers}
-use Rattle.ped_answer.specs.ScriptRuns.{IsWhole}
-use Rattle.ped_answer.specs.Headline.{Sources, text_of, sources_of, StandsAtPlace, GoesOneBack, nothing_before, one_before, GoesOneForward, nothing_behind, one_behind, PutsBehind, Moves, by_undo, by_redo, by_change, by_nothing, KeepsHistory, HistoryRequest}
+use Rattle.ped_answer.specs.Answer.{IsWhole, Answers}
+use Rattle.ped_answer.specs.Headline.{Sources, text_of, sources_of, StandsAtPlace, GoesOneBack, nothing_before, one_before, GoesOneForward, nothing_behind, one_behind, PutsBehind, IsShowing, Moves, by_undo, by_redo, by_showing, by_change, by_refusal, KeepsHistory, HistoryRequest}
 use Rattle.ped_answer.proofs.EachItems.{Comes, SoOfValid, session_each}
 
 at_length : (xs ys : List (List ℕ)) (x : List ℕ) → slice_get (xs ++ x ∷ ys) (length xs) ≡ Some x
@@ -107,43 +106,37 @@ puts s next left = (next.present, sources_are (sources_of next) (record { all = 
     all : (sources_of next).all ≡ take (suc (length s.past)) (sources_of s).all ++ next.present ∷ []
     all = whole ∙ sym (append_assoc (before_of s.past) (s.present ∷ []) (next.present ∷ [])) ∙ ap (λ (xs : List (List ℕ)). xs ++ next.present ∷ []) (sym front)
 
-no_refusal : (why : Refusal) → ◌≡◌ {A = Reply} (Refused why) Changed → ⊥
-no_refusal why e = cc
-
 refused_moves : (c : Command) (why : Refusal) (s next : State) (reply : Reply) → ¬ (IsMove c) → reply ≡ Refused why → next ≡ s → Moves c reply (sources_of s) (sources_of next)
-refused_moves c why s next reply still is same = by_nothing still (λ e. no_refusal why (sym is ∙ e)) (ap sources_of same)
+refused_moves c why s next reply still is same = by_refusal still why is (ap sources_of same)
 
-edit_moves : (c : Command) (kept gone : ℕ) (text : List ℕ) (s next : State) (reply : Reply) → ¬ (IsMove c) → Edits kept gone text s reply next → Moves c reply (sources_of s) (sources_of next)
-edit_moves c kept gone text s next reply still (accepted old new from to changed after) =
-    by_change still changed (puts s next (record { other = _; past_is = ap (λ (n : State). n.past) after; text_is = refl; future_is = ap (λ (n : State). n.future) after }))
-edit_moves c kept gone text s next reply still (refused why first stays) = refused_moves c _ s next reply still stays.0 stays.1
+edit_moves : (c : Command) (kept gone : ℕ) (text : List ℕ) (s next : State) (reply : Reply) → ¬ (IsMove c) → ¬ (IsShowing c) → Edits kept gone text s reply next → Moves c reply (sources_of s) (sources_of next)
+edit_moves c kept gone text s next reply still shows (accepted old new from to changed after) =
+    by_change still shows changed (puts s next (record { other = _; past_is = ap (λ (n : State). n.past) after; text_is = refl; future_is = ap (λ (n : State). n.future) after }))
+edit_moves c kept gone text s next reply still shows (refused why first stays) = refused_moves c _ s next reply still stays.0 stays.1
 
-step_moves : (c : Command) (at : StepAt) (s next : State) (reply : Reply) → ¬ (IsMove c) → Transforms at s reply next → Moves c reply (sources_of s) (sources_of next)
-step_moves c at s next reply still (missing t reads none stays) = refused_moves c _ s next reply still stays.0 stays.1
-step_moves c at s next reply still (forbidden t reads some cause is stays) = refused_moves c _ s next reply still stays.0 stays.1
-step_moves c at s next reply still (transformed t new keep reads some none makes valid changed after) =
-    by_change still changed (puts s next (record { other = _; past_is = ap (λ (n : State). n.past) after; text_is = refl; future_is = ap (λ (n : State). n.future) after }))
+step_moves : (c : Command) (at : StepAt) (s next : State) (reply : Reply) → ¬ (IsMove c) → ¬ (IsShowing c) → Transforms at s reply next → Moves c reply (sources_of s) (sources_of next)
+step_moves c at s next reply still shows (missing t reads none stays) = refused_moves c _ s next reply still stays.0 stays.1
+step_moves c at s next reply still shows (forbidden t reads some cause is stays) = refused_moves c _ s next reply still stays.0 stays.1
+step_moves c at s next reply still shows (transformed t new keep reads some none makes valid changed after) =
+    by_change still shows changed (puts s next (record { other = _; past_is = ap (λ (n : State). n.past) after; text_is = refl; future_is = ap (λ (n : State). n.future) after }))
 
-no_show : (bytes : List ℕ) → ◌≡◌ {A = Reply} (Shown bytes) Changed → ⊥
-no_show bytes e = cc
+printed_moves : (c : Command) (bytes : List ℕ) (s next : State) (reply : Reply) → IsShowing c → Prints bytes s reply next → Moves c reply (sources_of s) (sources_of next)
+printed_moves c bytes s next reply shows h = by_showing shows bytes h.0 (ap sources_of h.1)
 
-printed_moves : (c : Command) (bytes : List ℕ) (s next : State) (reply : Reply) → ¬ (IsMove c) → Prints bytes s reply next → Moves c reply (sources_of s) (sources_of next)
-printed_moves c bytes s next reply still h = by_nothing still (λ e. no_show bytes (sym h.0 ∙ e)) (ap sources_of h.1)
+shown_moves : (c : Command) (IsSo : ProgramTree → List ℕ → Type 0) (s next : State) (reply : Reply) → IsShowing c → Shows IsSo s reply next → Moves c reply (sources_of s) (sources_of next)
+shown_moves c IsSo s next reply shows h = printed_moves c h.bytes s next reply shows h.prints
 
-shown_moves : (c : Command) (IsSo : ProgramTree → List ℕ → Type 0) (s next : State) (reply : Reply) → ¬ (IsMove c) → Shows IsSo s reply next → Moves c reply (sources_of s) (sources_of next)
-shown_moves c IsSo s next reply still h = printed_moves c h.bytes s next reply still h.prints
+rows_moves : (c : Command) (IsSo : ProgramTree → List ℕ → Type 0) (found : Option StmtTree) (s next : State) (reply : Reply) → ¬ (IsMove c) → IsShowing c → ShowsOf IsSo found s reply next → Moves c reply (sources_of s) (sources_of next)
+rows_moves c IsSo None s next reply still shows h = refused_moves c _ s next reply still h.0 h.1
+rows_moves c IsSo (Some statement) s next reply still shows h = shown_moves c IsSo s next reply shows h
 
-rows_moves : (c : Command) (number : ℕ) (found : Option StmtTree) (s next : State) (reply : Reply) → ¬ (IsMove c) → ShowsOf number found s reply next → Moves c reply (sources_of s) (sources_of next)
-rows_moves c number None s next reply still h = refused_moves c _ s next reply still h.0 h.1
-rows_moves c number (Some statement) s next reply still h = shown_moves c _ s next reply still h
+of_statement_moves : (c : Command) (IsSo : ProgramTree → List ℕ → Type 0) (number : ℕ) (s next : State) (reply : Reply) → ¬ (IsMove c) → IsShowing c → ShowsStatement IsSo number s reply next → Moves c reply (sources_of s) (sources_of next)
+of_statement_moves c IsSo number s next reply still shows h = rows_moves c IsSo (statement_with number h.tree) s next reply still shows h.shows
 
-of_statement_moves : (c : Command) (number : ℕ) (s next : State) (reply : Reply) → ¬ (IsMove c) → ShowsStatement number s reply next → Moves c reply (sources_of s) (sources_of next)
-of_statement_moves c number s next reply still h = rows_moves c number (statement_with number h.tree) s next reply still h.shows
-
-lines_moves : (c : Command) (there : Bool) (kept gone : ℕ) (text : List ℕ) (s next : State) (reply : Reply) → ¬ (IsMove c) → MatchBool there (Edits kept gone text s reply next) (Refuses NoSuchLine s reply next)
+lines_moves : (c : Command) (there : Bool) (kept gone : ℕ) (text : List ℕ) (s next : State) (reply : Reply) → ¬ (IsMove c) → ¬ (IsShowing c) → MatchBool there (Edits kept gone text s reply next) (Refuses NoSuchLine s reply next)
     → Moves c reply (sources_of s) (sources_of next)
-lines_moves c true kept gone text s next reply still h = edit_moves c kept gone text s next reply still h
-lines_moves c false kept gone text s next reply still h = refused_moves c _ s next reply still h.0 h.1
+lines_moves c true kept gone text s next reply still shows h = edit_moves c kept gone text s next reply still shows h
+lines_moves c false kept gone text s next reply still shows h = refused_moves c _ s next reply still h.0 h.1
 
 still_by : (c : Command) → (c ≡ Undo → ⊥) → (c ≡ Redo → ⊥) → ¬ (IsMove c)
 still_by c undo redo (inl is) = undo is
@@ -153,32 +146,32 @@ still_by c undo redo (inr is) = redo is
 pub moves : (c : Command) (d : List ℕ) (s next : State) (reply : Reply) → IsStep c d s reply next → Moves c reply (sources_of s) (sources_of next)
 moves Undo d s next reply h = by_undo refl (moves_back s.past s next reply refl h)
 moves Redo d s next reply h = by_redo refl (moves_forward s.future s next reply refl h)
-moves Source d s next reply h = shown_moves Source _ s next reply (still_by Source (λ e. cc) (λ e. cc)) h
-moves (Deps None) d s next reply h = shown_moves (Deps None) _ s next reply (still_by (Deps None) (λ e. cc) (λ e. cc)) h
-moves (Deps (Some number)) d s next reply h = of_statement_moves (Deps (Some number)) number s next reply (still_by (Deps (Some number)) (λ e. cc) (λ e. cc)) h
-moves Show d s next reply h = shown_moves Show _ s next reply (still_by Show (λ e. cc) (λ e. cc)) h
-moves Print d s next reply h = printed_moves Print _ s next reply (still_by Print (λ e. cc) (λ e. cc)) h
-moves Tested d s next reply h = printed_moves Tested _ s next reply (still_by Tested (λ e. cc) (λ e. cc)) h
-moves (Run choices) d s next reply h = shown_moves (Run choices) _ s next reply (still_by (Run choices) (λ e. cc) (λ e. cc)) h
-moves Races d s next reply h = shown_moves Races _ s next reply (still_by Races (λ e. cc) (λ e. cc)) h
-moves (Replace first last lines) d s next reply h = lines_moves (Replace first last lines) (are_lines s.present first last) _ _ _ s next reply (still_by (Replace first last lines) (λ e. cc) (λ e. cc)) h
-moves (Insert after lines) d s next reply h = lines_moves (Insert after lines) (is_place s.present after) _ _ _ s next reply (still_by (Insert after lines) (λ e. cc) (λ e. cc)) h
-moves (Delete first last) d s next reply h = lines_moves (Delete first last) (are_lines s.present first last) _ _ _ s next reply (still_by (Delete first last) (λ e. cc) (λ e. cc)) h
-moves (Interchange number) d s next reply h = step_moves (Interchange number) _ s next reply (still_by (Interchange number) (λ e. cc) (λ e. cc)) h
-moves (Reverse number) d s next reply h = step_moves (Reverse number) _ s next reply (still_by (Reverse number) (λ e. cc) (λ e. cc)) h
-moves (Skew number factor) d s next reply h = step_moves (Skew number factor) _ s next reply (still_by (Skew number factor) (λ e. cc) (λ e. cc)) h
-moves (Strip number size) d s next reply h = step_moves (Strip number size) _ s next reply (still_by (Strip number size) (λ e. cc) (λ e. cc)) h
-moves (Peel number last) d s next reply h = step_moves (Peel number last) _ s next reply (still_by (Peel number last) (λ e. cc) (λ e. cc)) h
-moves (Distribute number) d s next reply h = step_moves (Distribute number) _ s next reply (still_by (Distribute number) (λ e. cc) (λ e. cc)) h
-moves (Expand number name) d s next reply h = step_moves (Expand number name) _ s next reply (still_by (Expand number name) (λ e. cc) (λ e. cc)) h
-moves (Privatise number name) d s next reply h = step_moves (Privatise number name) _ s next reply (still_by (Privatise number name) (λ e. cc) (λ e. cc)) h
-moves (Parallel number) d s next reply h = step_moves (Parallel number) _ s next reply (still_by (Parallel number) (λ e. cc) (λ e. cc)) h
-moves (Serial number) d s next reply h = step_moves (Serial number) _ s next reply (still_by (Serial number) (λ e. cc) (λ e. cc)) h
-moves (Reject number name) d s next reply h = step_moves (Reject number name) _ s next reply (still_by (Reject number name) (λ e. cc) (λ e. cc)) h
-moves (Fuse number) d s next reply h = refused_moves (Fuse number) _ s next reply (still_by (Fuse number) (λ e. cc) (λ e. cc)) h.0 h.1
-moves (Advise number) d s next reply h = refused_moves (Advise number) _ s next reply (still_by (Advise number) (λ e. cc) (λ e. cc)) h.0 h.1
+moves Source d s next reply h = shown_moves Source _ s next reply tt h
+moves (Deps None) d s next reply h = shown_moves (Deps None) _ s next reply tt h
+moves (Deps (Some number)) d s next reply h = of_statement_moves (Deps (Some number)) _ number s next reply (still_by (Deps (Some number)) (λ e. cc) (λ e. cc)) tt h
+moves Show d s next reply h = shown_moves Show _ s next reply tt h
+moves Print d s next reply h = printed_moves Print _ s next reply tt h
+moves Tested d s next reply h = printed_moves Tested _ s next reply tt h
+moves (Run choices) d s next reply h = shown_moves (Run choices) _ s next reply tt h
+moves Races d s next reply h = shown_moves Races _ s next reply tt h
+moves (Replace first last lines) d s next reply h = lines_moves (Replace first last lines) (are_lines s.present first last) _ _ _ s next reply (still_by (Replace first last lines) (λ e. cc) (λ e. cc)) (λ is. is) h
+moves (Insert after lines) d s next reply h = lines_moves (Insert after lines) (is_place s.present after) _ _ _ s next reply (still_by (Insert after lines) (λ e. cc) (λ e. cc)) (λ is. is) h
+moves (Delete first last) d s next reply h = lines_moves (Delete first last) (are_lines s.present first last) _ _ _ s next reply (still_by (Delete first last) (λ e. cc) (λ e. cc)) (λ is. is) h
+moves (Interchange number) d s next reply h = step_moves (Interchange number) _ s next reply (still_by (Interchange number) (λ e. cc) (λ e. cc)) (λ is. is) h
+moves (Reverse number) d s next reply h = step_moves (Reverse number) _ s next reply (still_by (Reverse number) (λ e. cc) (λ e. cc)) (λ is. is) h
+moves (Skew number factor) d s next reply h = step_moves (Skew number factor) _ s next reply (still_by (Skew number factor) (λ e. cc) (λ e. cc)) (λ is. is) h
+moves (Strip number size) d s next reply h = step_moves (Strip number size) _ s next reply (still_by (Strip number size) (λ e. cc) (λ e. cc)) (λ is. is) h
+moves (Peel number last) d s next reply h = step_moves (Peel number last) _ s next reply (still_by (Peel number last) (λ e. cc) (λ e. cc)) (λ is. is) h
+moves (Distribute number) d s next reply h = step_moves (Distribute number) _ s next reply (still_by (Distribute number) (λ e. cc) (λ e. cc)) (λ is. is) h
+moves (Expand number name) d s next reply h = step_moves (Expand number name) _ s next reply (still_by (Expand number name) (λ e. cc) (λ e. cc)) (λ is. is) h
+moves (Privatise number name) d s next reply h = step_moves (Privatise number name) _ s next reply (still_by (Privatise number name) (λ e. cc) (λ e. cc)) (λ is. is) h
+moves (Parallel number) d s next reply h = step_moves (Parallel number) _ s next reply (still_by (Parallel number) (λ e. cc) (λ e. cc)) (λ is. is) h
+moves (Serial number) d s next reply h = step_moves (Serial number) _ s next reply (still_by (Serial number) (λ e. cc) (λ e. cc)) (λ is. is) h
+moves (Reject number name) d s next reply h = step_moves (Reject number name) _ s next reply (still_by (Reject number name) (λ e. cc) (λ e. cc)) (λ is. is) h
+moves (Fuse number) d s next reply h = step_moves (Fuse number) _ s next reply (still_by (Fuse number) (λ e. cc) (λ e. cc)) (λ is. is) h
+moves (Advise number) d s next reply h = of_statement_moves (Advise number) _ number s next reply (still_by (Advise number) (λ e. cc) (λ e. cc)) tt h
 
-line_moves : (line : ℕ) (command : Option Command) (d : List ℕ) (s next : State) (said : Said) → AnswersCommand line command d s said next → KeepsHistory line command s said next
+line_moves : (line : ℕ) (command : Option Command) (d : List ℕ) (s next : State) (said : Said) → AnswersCommand line command d s said next → KeepsHistory line command d s said next
 line_moves line None d s next said h = record { here = stands s; there = stands next; moves = (ap (λ (x : Said). x.bytes) h.0, ap sources_of h.1) }
 line_moves line (Some c) d s next said h = record { here = stands s; there = stands next; moves = (h.0, ap (λ (x : Said). x.bytes) h.2, moves c d s next h.0 h.1) }
 

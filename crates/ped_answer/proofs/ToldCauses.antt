@@ -20,6 +20,7 @@ use Rattle.ped_session.specs.ped_transformations.specs.ped_reindex.specs.Skewing
 use Rattle.ped_session.specs.ped_transformations.specs.ped_reindex.specs.Stripping.{StandsAgainstStripping}
 use Rattle.ped_session.specs.ped_transformations.specs.ped_reindex.specs.Peeling.{StandsAgainstPeeling}
 use Rattle.ped_session.specs.ped_transformations.specs.ped_splits.specs.Distributing.{StandsAgainstDistribution}
+use Rattle.ped_session.specs.ped_transformations.specs.ped_splits.specs.Fusing.{forbids_fusion, IsFusionCause}
 use Rattle.ped_session.specs.ped_transformations.specs.ped_reindex.specs.ped_loops.specs.ped_scalar.specs.Privatising.{StandsAgainstPrivatising}
 use Rattle.ped_session.specs.ped_transformations.specs.ped_reindex.specs.ped_loops.specs.ped_scalar.specs.Expanding.{StandsAgainstExpanding}
 use Rattle.ped_session.specs.ped_transformations.specs.ped_reindex.specs.ped_loops.specs.ped_scalar.specs.ped_rules.specs.Carried.{carried, crossing}
@@ -34,9 +35,8 @@ use Rattle.ped_session.specs.Steps.{Transforms, missing, transformed, IsOther}
 use Rattle.ped_session.specs.Steps as session_steps
 use Rattle.ped_session.specs.Scripts.{Said, said_by, AnswersCommand}
 use Rattle.ped_answer.specs.declared.answering.Status.{Status}
-use Rattle.ped_answer.specs.Answer.{Answers}
-use Rattle.ped_answer.specs.ScriptRuns.{IsWhole}
-use Rattle.ped_answer.specs.StepCauses.{IsAmong, Forbids}
+use Rattle.ped_answer.specs.Answer.{IsWhole, Answers}
+use Rattle.ped_answer.specs.StepCauses.{IsAmong, IsAmongFused, Forbids}
 use Rattle.ped_answer.specs.Headline.{TellsOfStep, no_statement, forbidden, accepted, TellsCause, CausesRequest}
 use Rattle.ped_answer.proofs.EachItems.{SoOfValid, session_each}
 
@@ -58,6 +58,16 @@ none_among : (t : ProgramTree) (stands : Rules) (forbids : Edge → Bool) → Is
 none_among t stands forbids h (rule r n) is = h.0 r n is
 none_among t stands forbids h (dependence e) is = true_isnt_false (forbids e) is.3 (All-contains (λ (f : Edge). forbids f ≡ false) is.0 e (h.1 is.0 is.1) is.2)
 
+first_fused : (s : ℕ) (t : ProgramTree) (c : Cause) → IsFusionCause s t (Some c) → IsAmongFused s t c
+first_fused s t (rule r n) h = h.0
+first_fused s t (dependence e) h =
+    let found = h.5 in
+    (h.1, h.2, h.3, h.4, subst (λ (es : List Edge). Contains es h.4) (sym found.2) (Contains-append_right found.0 (h.4 ∷ found.1) h.4 (0, omega arith, refl)), found.3, h.6)
+
+none_fused : (s : ℕ) (t : ProgramTree) → IsFusionCause s t None → (c : Cause) → IsAmongFused s t c → ⊥
+none_fused s t h (rule r n) is = h.0 r n is
+none_fused s t h (dependence e) is = true_isnt_false (forbids_fusion is.0.neighbour is.3) is.5 (All-contains (λ (f : Edge). forbids_fusion is.0.neighbour f ≡ false) is.1 is.3 (h.1 is.0 is.1 is.2) is.4)
+
 -- each step of the table
 are_causes : (command : Command) → MatchStep (step_of command) ⊤ (AreCauses command)
 are_causes (Interchange s) = record { first = λ t. first_among t (StandsAgainstInterchange s t) (crossing t s); none = λ t. none_among t (StandsAgainstInterchange s t) (crossing t s) }
@@ -71,7 +81,7 @@ are_causes (Distribute s) = record { first = λ t. first_among t (StandsAgainstD
 are_causes (Expand s x) = record { first = λ t. first_among t (StandsAgainstExpanding s x t) none_forbids; none = λ t. none_among t (StandsAgainstExpanding s x t) none_forbids }
 are_causes (Privatise s x) = record { first = λ t. first_among t (StandsAgainstPrivatising s x t) none_forbids; none = λ t. none_among t (StandsAgainstPrivatising s x t) none_forbids }
 are_causes (Reject s x) = record { first = λ t. first_among t (StandsAgainstRejection s x t) none_forbids; none = λ t. none_among t (StandsAgainstRejection s x t) none_forbids }
-are_causes (Fuse s) = tt
+are_causes (Fuse s) = record { first = first_fused s; none = none_fused s }
 are_causes Source = tt
 are_causes (Deps of) = tt
 are_causes Show = tt
@@ -105,7 +115,7 @@ tells_by : (command : Command) (step : MaybeStep) → MatchStep step ⊤ (AreCau
 tells_by command no_step are d line s next reply said h says = tt
 tells_by command (some_step at) are d line s next reply said h says = tells_of command at are line s next reply said h says
 
-line_tells : (line : ℕ) (command : Option Command) (d : List ℕ) (s next : State) (said : Said) → AnswersCommand line command d s said next → TellsCause line command s said next
+line_tells : (line : ℕ) (command : Option Command) (d : List ℕ) (s next : State) (said : Said) → AnswersCommand line command d s said next → TellsCause line command d s said next
 line_tells line None d s next said h = tt
 line_tells line (Some c) d s next said h = tells_by c (step_of c) (are_causes c) d line s next h.0 said h.1 h.2
 

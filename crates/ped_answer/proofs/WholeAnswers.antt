@@ -5,8 +5,7 @@ use Rattle.ped_io.specs.Outside.{Contents, content}
 use Rattle.ped_words.specs.Requests.{Request, show, session, generate}
 use Rattle.ped_answer.specs.declared.answering.Status.{Status}
 use Rattle.ped_answer.specs.declared.answering.Status.TheVariants.{Done, SomeRefused, BadWords, ReadFault, WriteFault, ProgramRefused, NoMemory, TooLong}
-use Rattle.ped_answer.specs.Answer.{Input, source_input, data_input, cannot_read_line, too_long_line, IsJust, AnswersScript, IsSession, AnswersInput, AnswersData, Answers, MayAnswer, IsOutcome}
-use Rattle.ped_answer.specs.ScriptRuns.{IsWhole, AreData}
+use Rattle.ped_answer.specs.Answer.{IsWhole, AreData, Input, source_input, data_input, cannot_read_line, too_long_line, IsJust, AnswersScript, IsSession, AnswersInput, AnswersData, Answers, MayAnswer, IsOutcome}
 
 -- what is answered whole to a file is answered to its bytes
 pub record OfFile (name : List ℕ) (files : Contents) (answers : List ℕ → Status → List ℕ → Type 0) (s : Status) (b : List ℕ) : Type 0 where

@@ -1,5 +1,5 @@
 -- The answer to words and files, and what a call may have done of it (this project).
-use Rattle.std.specs.Prelude.{◌≡◌, ◌⊎◌, ℕ, List, [], ◌∷◌, ◌++◌, length, codes, Bool, true, false, nat_lt, Option, Some, None, MatchOption, MatchBool}
+use Rattle.std.specs.Prelude.{◌≡◌, ◌⊎◌, ℕ, List, [], ◌∷◌, ◌++◌, length, codes, Bool, true, false, nat_lt, Option, Some, None, MatchOption, MatchBool, ⊤}
 use Rattle.std.specs.Fmt.{decimal}
 use Rattle.ped_io.specs.Outside.{Contents, content}
 use Rattle.ped_words.specs.Requests.{Request, show, session, generate}
@@ -111,6 +111,22 @@ Answers (Some (show program)) files status bytes = AnswersInput (source_input pr
 Answers (Some (session program script data_file)) files status bytes =
     AnswersInput (source_input program) files (λ text. AnswersInput (source_input script) files (λ commands. AnswersData data_file files (IsSession text commands))) status bytes
 Answers (Some (generate number)) files status bytes = IsGenerated number status bytes
+
+-- the endings of an answer on a program that was written whole
+abbrev pub IsWhole : Status → Type 0
+IsWhole Done = ⊤
+IsWhole SomeRefused = ⊤
+IsWhole BadWords = ⊥
+IsWhole ReadFault = ⊥
+IsWhole WriteFault = ⊥
+IsWhole ProgramRefused = ⊥
+IsWhole NoMemory = ⊥
+IsWhole TooLong = ⊥
+
+-- these are the data of a session: what the file holds, or none without a file
+abbrev pub AreData : Option (List ℕ) → Contents → List ℕ → Type 0
+AreData None files data_bytes = data_bytes ≡ []
+AreData (Some file) files data_bytes = content files file ≡ Some data_bytes
 
 -- a file is there and has no more bytes than it may have
 pub record IsHeldWithin (i : Input) (files : Contents) : Type 0 where

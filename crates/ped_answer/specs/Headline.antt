@@ -10,31 +10,35 @@ use Rattle.ped_session.specs.ped_graph.specs.DependencePane.{IsDependencePane, I
 use Rattle.ped_session.specs.ped_transformations.specs.ped_script.specs.Items.{commands_of}
 use Rattle.ped_session.specs.ped_transformations.specs.ped_script.specs.declared.items.Item.{Item}
 use Rattle.ped_session.specs.ped_transformations.specs.ped_script.specs.declared.items.Command.{Command}
-use Rattle.ped_session.specs.ped_transformations.specs.ped_script.specs.declared.items.Command.TheVariants.{Source, Deps, Show, Print, Undo, Redo}
+use Rattle.ped_session.specs.ped_transformations.specs.ped_script.specs.declared.items.Command.TheVariants.{Source, Deps, Show, Print, Advise, Undo, Redo, Run, Races, Tested}
 use Rattle.ped_session.specs.ped_transformations.specs.Table.{step_of}
+use Rattle.ped_session.specs.ped_transformations.specs.Advice.{IsAdvice}
 use Rattle.ped_session.specs.ped_transformations.specs.ped_reindex.specs.ped_loops.specs.ped_scalar.specs.ped_rules.specs.Steps.{StepAt, MatchStep}
 use Rattle.ped_session.specs.ped_transformations.specs.ped_reindex.specs.ped_loops.specs.ped_scalar.specs.ped_rules.specs.ped_loop_runs.specs.ped_bodies.specs.ped_steps.specs.Causes.{Cause}
 use Rattle.ped_session.specs.ped_transformations.specs.ped_reindex.specs.ped_loops.specs.ped_scalar.specs.ped_rules.specs.ped_loop_runs.specs.ped_bodies.specs.ped_steps.specs.CauseWords.{cause_words}
 use Rattle.ped_session.specs.declared.replies.Reply.{Reply}
-use Rattle.ped_session.specs.declared.replies.Reply.TheVariants.{Changed, Refused}
+use Rattle.ped_session.specs.declared.replies.Reply.TheVariants.{Changed, Shown, Refused}
+use Rattle.ped_session.specs.declared.replies.Refusal.{Refusal}
 use Rattle.ped_session.specs.declared.replies.Refusal.TheVariants.{NothingToUndo, NothingToRedo}
 use Rattle.ped_session.specs.States.{Other, State, opened}
 use Rattle.ped_session.specs.Panes.{IsSourcePane, ArePanes}
 use Rattle.ped_session.specs.Replies.{answer_row, bad_command_row, reply_text}
 use Rattle.ped_session.specs.Steps.{IsMove}
 use Rattle.ped_session.specs.Scripts.{Said, nothing_said, said_both, AnswersItem}
-use Rattle.ped_answer.specs.ScriptRuns.{AreData}
+use Rattle.ped_session.specs.Meanings.{IsMeaningKept}
+use Rattle.ped_session.specs.RunsAsBefore.{RunsAsBefore}
+use Rattle.ped_answer.specs.Answer.{AreData}
 use Rattle.ped_answer.specs.StepCauses.{Forbids}
 
--- what may be so of an item of a script: of its line, its command, the state before it, what it says, and the state behind it (this project)
+-- what may be so of an item of a script: of its line, its command, the data of the session, the state before it, what it says, and the state behind it (this project)
 abbrev pub ItemFact : Type 1
-ItemFact = ℕ → Option Command → State → Said → State → Type 0
+ItemFact = ℕ → Option Command → List ℕ → State → Said → State → Type 0
 
 -- items answer one behind another, each in the state that the one before has left, and this is so of each of them (this project)
 abbrev pub AnswersEach : ItemFact → List Item → List ℕ → State → Said → State → Type 0
 AnswersEach IsSo [] data_bytes s said last = (said ≡ nothing_said) × (last ≡ s)
 AnswersEach IsSo (item ∷ items) data_bytes s said last =
-    (first : Said) × (next : State) × AnswersItem item data_bytes s first next × IsSo item.line item.command s first next
+    (first : Said) × (next : State) × AnswersItem item data_bytes s first next × IsSo item.line item.command data_bytes s first next
     × (rest : Said) × AnswersEach IsSo items data_bytes next rest last × (said ≡ said_both first rest)
 
 -- these bytes are what the script answers on the program, on whose printed text the session opens, and this is so of each item (this project)
@@ -54,7 +58,7 @@ pub record EachItem (IsSo : ItemFact) (program script : List ℕ) (data_file : O
 
 -- Panes.
 
--- these bytes are so of the program that a text is read afresh as: the text reads as this one valid program and as no other, and it is its printed text (ParaScope)
+-- a text reads as one valid program and as no other, and is its printed text; and this is so of that program and these bytes (ParaScope)
 pub record Afresh (IsSo : ProgramTree → List ℕ → Type 0) (text bytes : List ℕ) : Type 0 where
   pub tree : ProgramTree
   pub reads : ReadsValid text tree
@@ -62,18 +66,19 @@ pub record Afresh (IsSo : ProgramTree → List ℕ → Type 0) (text bytes : Lis
   pub printed : text ≡ program_text tree
   pub so : IsSo tree bytes
 
--- what is so of a statement of the program, where it has one of that number, and otherwise that it has none (this project)
+-- where the program has a statement of that number, what is so of the program; where it has none, the row that refuses the command (this project)
 abbrev pub IsOfStatement : (ProgramTree → List ℕ → Type 0) → (line number : ℕ) → ProgramTree → List ℕ → Type 0
 IsOfStatement IsSo line number t bytes = MatchOption (statement_with number t) (bytes ≡ answer_row line (codes "refused NoSuchStatement")) (λ statement. IsSo t bytes)
 
--- `source`, `deps`, `deps S` and `show` show the panes that come of reading the present source afresh, whatever was done before; and `print` shows that source (ParaScope)
-abbrev pub ShowsAfresh : ℕ → Option Command → State → Said → State → Type 0
-ShowsAfresh line (Some Source) s said next = Afresh IsSourcePane s.present said.bytes
-ShowsAfresh line (Some (Deps None)) s said next = Afresh IsDependencePane s.present said.bytes
-ShowsAfresh line (Some (Deps (Some number))) s said next = Afresh (IsOfStatement (λ t. IsDependencePaneOf t (Some number)) line number) s.present said.bytes
-ShowsAfresh line (Some Show) s said next = Afresh ArePanes s.present said.bytes
-ShowsAfresh line (Some Print) s said next = said.bytes ≡ s.present
-ShowsAfresh line command s said next = ⊤
+-- `source`, `deps`, `deps S` and `show` show the panes that come of reading the present source afresh, whatever was done before; `print` shows that source, and `advise S` the first causes against the steps in it (ParaScope)
+abbrev pub ShowsAfresh : ℕ → Option Command → List ℕ → State → Said → State → Type 0
+ShowsAfresh line (Some Source) data_bytes s said next = Afresh IsSourcePane s.present said.bytes
+ShowsAfresh line (Some (Deps None)) data_bytes s said next = Afresh IsDependencePane s.present said.bytes
+ShowsAfresh line (Some (Deps (Some number))) data_bytes s said next = Afresh (IsOfStatement (λ t. IsDependencePaneOf t (Some number)) line number) s.present said.bytes
+ShowsAfresh line (Some Show) data_bytes s said next = Afresh ArePanes s.present said.bytes
+ShowsAfresh line (Some Print) data_bytes s said next = said.bytes ≡ s.present
+ShowsAfresh line (Some (Advise number)) data_bytes s said next = Afresh (IsOfStatement (λ t. IsAdvice t number) line number) s.present said.bytes
+ShowsAfresh line command data_bytes s said next = ⊤
 
 -- in mode `show` both panes are those that come of reading afresh the printed text of the program in the file (ParaScope)
 pub record ShowsFile (program : List ℕ) (files : Contents) (bytes : List ℕ) : Type 0 where
@@ -105,16 +110,16 @@ text_of other = other.0
 abbrev pub sources_of : State → Sources
 sources_of s = record { all = reverse (map text_of s.past) ++ s.present ∷ map text_of s.future; place = length s.past }
 
--- the present source stands at its place
+-- the present source stands at its place; it does so in each state, and by it the source that a change puts behind is the new present one
 abbrev pub StandsAtPlace : State → Type 0
 StandsAtPlace s = slice_get (sources_of s).all (sources_of s).place ≡ Some s.present
 
--- `undo`: no source stands before the present one, and it is refused; or the one before is the present one. No source is lost or changed (ParaScope)
+-- `undo`: no source stands before the present one, and it is refused; or the one before it becomes the present one. No source is lost or changed (ParaScope)
 pub data GoesOneBack (reply : Reply) (before behind : Sources) : Type 0 where
   nothing_before : before.place ≡ 0 → reply ≡ Refused NothingToUndo → behind ≡ before → GoesOneBack reply before behind
   one_before : (place : ℕ) → before.place ≡ suc place → reply ≡ Changed → behind ≡ record { all = before.all; place = place } → GoesOneBack reply before behind
 
--- `redo`: no source stands behind the present one, and it is refused; or the one behind is the present one. No source is lost or changed (ParaScope)
+-- `redo`: no source stands behind the present one, and it is refused; or the one behind it becomes the present one. No source is lost or changed (ParaScope)
 pub data GoesOneForward (reply : Reply) (before behind : Sources) : Type 0 where
   nothing_behind : length before.all ≡ suc before.place → reply ≡ Refused NothingToRedo → behind ≡ before → GoesOneForward reply before behind
   one_behind : suc before.place < length before.all → reply ≡ Changed → behind ≡ record { all = before.all; place = suc before.place } → GoesOneForward reply before behind
@@ -123,20 +128,33 @@ pub data GoesOneForward (reply : Reply) (before behind : Sources) : Type 0 where
 abbrev pub PutsBehind : Sources → Sources → Type 0
 PutsBehind before behind = (source : List ℕ) × (behind ≡ record { all = take (suc before.place) before.all ++ source ∷ []; place = suc before.place })
 
--- what a command does to the sources: `undo` and `redo` move along them; any other command that is accepted puts one behind the present one; and what is shown, or refused, leaves all as they are (ParaScope)
+-- the commands that only show something; each other one is a change, `undo` or `redo` (this project)
+abbrev pub IsShowing : Command → Type 0
+IsShowing Source = ⊤
+IsShowing (Deps of) = ⊤
+IsShowing Show = ⊤
+IsShowing Print = ⊤
+IsShowing (Advise number) = ⊤
+IsShowing (Run choices) = ⊤
+IsShowing Races = ⊤
+IsShowing Tested = ⊤
+IsShowing command = ⊥
+
+-- what a command does to the sources: `undo` and `redo` move along them; a command that only shows something leaves all as they are; any other one that is accepted is a change and puts a source behind the present one; and one that is refused leaves all as they are (ParaScope)
 pub data Moves (command : Command) (reply : Reply) (before behind : Sources) : Type 0 where
   by_undo : command ≡ Undo → GoesOneBack reply before behind → Moves command reply before behind
   by_redo : command ≡ Redo → GoesOneForward reply before behind → Moves command reply before behind
-  by_change : ¬ (IsMove command) → reply ≡ Changed → PutsBehind before behind → Moves command reply before behind
-  by_nothing : ¬ (IsMove command) → (reply ≡ Changed → ⊥) → behind ≡ before → Moves command reply before behind
+  by_showing : IsShowing command → (shown : List ℕ) → reply ≡ Shown shown → behind ≡ before → Moves command reply before behind
+  by_change : ¬ (IsMove command) → ¬ (IsShowing command) → reply ≡ Changed → PutsBehind before behind → Moves command reply before behind
+  by_refusal : ¬ (IsMove command) → (why : Refusal) → reply ≡ Refused why → behind ≡ before → Moves command reply before behind
 
--- the item says the reply to its command, which moves along the sources so; a line that is no command leaves them (ParaScope; this project)
+-- the item says the reply to its command, and the sources move as this command with this reply moves them; a line that is no command is refused and leaves them (ParaScope; this project)
 abbrev pub MovesBy : ℕ → Option Command → Sources → List ℕ → Sources → Type 0
 MovesBy line None before bytes behind = (bytes ≡ bad_command_row line) × (behind ≡ before)
 MovesBy line (Some command) before bytes behind = (reply : Reply) × (bytes ≡ reply_text line reply) × Moves command reply before behind
 
 -- the sources before an item and behind it (ParaScope)
-pub record KeepsHistory (line : ℕ) (command : Option Command) (s : State) (said : Said) (next : State) : Type 0 where
+pub record KeepsHistory (line : ℕ) (command : Option Command) (data_bytes : List ℕ) (s : State) (said : Said) (next : State) : Type 0 where
   pub here : StandsAtPlace s
   pub there : StandsAtPlace next
   pub moves : MovesBy line command (sources_of s) said.bytes (sources_of next)
@@ -148,6 +166,21 @@ HistoryRequest (Some (show program)) files bytes = ⊤
 HistoryRequest (Some (session program script data_file)) files bytes = EachItem KeepsHistory program script data_file files bytes
 HistoryRequest (Some (generate number)) files bytes = ⊤
 
+-- Runs.
+
+-- before an item and behind it, each transformation of the history keeps the meaning of a program that is tidy and without C$PED REJECT, and leaves it so; and a `run`, whatever choices it has, shows what the programs show from which the present one has come by transformations alone, where these are tidy and without C$PED REJECT and run on the data without a fault and without a race. A program is tidy where no reference in a PARALLEL DO writes the variable of it or of a DO in it, and each path from that PARALLEL DO's exit to the end overwrites such a variable that is saved (ParaScope; this project)
+pub record KeepsMeaning (line : ℕ) (command : Option Command) (data_bytes : List ℕ) (s : State) (said : Said) (next : State) : Type 0 where
+  pub here : IsMeaningKept s
+  pub there : IsMeaningKept next
+  pub runs : RunsAsBefore command data_bytes s said
+
+-- the runs in a session's answer
+abbrev pub RunsRequest : Option Request → Contents → List ℕ → Type 0
+RunsRequest None files bytes = ⊤
+RunsRequest (Some (show program)) files bytes = ⊤
+RunsRequest (Some (session program script data_file)) files bytes = EachItem KeepsMeaning program script data_file files bytes
+RunsRequest (Some (generate number)) files bytes = ⊤
+
 -- Causes.
 
 -- what is said of a step: the present program has no statement of that number; or something forbids the step, and what is said is the first such cause, a rule by its number before a dependence in the order of the pane; both leave the session as it was. Or nothing forbids the step, and it is accepted (ParaScope; this project)
@@ -156,10 +189,10 @@ pub data TellsOfStep (command : Command) (at : StepAt) (line : ℕ) (t : Program
   forbidden : is_some (statement_with at.statement t) ≡ true → (c : Cause) → Forbids command t c → at.IsCause t (Some c) → bytes ≡ answer_row line (codes "refused " ++ cause_words c) → next ≡ s → TellsOfStep command at line t s bytes next
   accepted : is_some (statement_with at.statement t) ≡ true → ((c : Cause) → Forbids command t c → ⊥) → bytes ≡ answer_row line (codes "ok") → TellsOfStep command at line t s bytes next
 
--- a transformation or `reject` is refused by its first cause in the present program, and accepted where it has none (ParaScope)
-abbrev pub TellsCause : ℕ → Option Command → State → Said → State → Type 0
-TellsCause line None s said next = ⊤
-TellsCause line (Some command) s said next = MatchStep (step_of command) ⊤ (λ at. (t : ProgramTree) × ReadsValid s.present t × TellsOfStep command at line t s said.bytes next)
+-- a transformation or `reject` at a statement that is there is refused by its first cause in the present program, and accepted where it has none; where it isn't there, that is told (ParaScope)
+abbrev pub TellsCause : ℕ → Option Command → List ℕ → State → Said → State → Type 0
+TellsCause line None data_bytes s said next = ⊤
+TellsCause line (Some command) data_bytes s said next = MatchStep (step_of command) ⊤ (λ at. (t : ProgramTree) × ReadsValid s.present t × TellsOfStep command at line t s said.bytes next)
 
 -- the causes in a session's answer
 abbrev pub CausesRequest : Option Request → Contents → List ℕ → Type 0

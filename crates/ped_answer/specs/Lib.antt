@@ -7,7 +7,6 @@ pub mod Existence
 pub mod Generated
 pub mod Headline
 pub mod Refusals
-pub mod ScriptRuns
 pub mod Serving
 pub mod Statuses
 pub mod StepCauses

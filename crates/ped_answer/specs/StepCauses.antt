@@ -1,11 +1,13 @@
 -- What forbids each step: the rules that may stand against it, and the dependences that it may not pass over (ParaScope; this project).
-use Rattle.std.specs.Prelude.{◌≡◌, List, Contains, Bool, true}
+use Rattle.std.specs.Prelude.{◌≡◌, ℕ, List, Contains, Bool, true}
 use Rattle.ped_session.specs.ped_tree.specs.Tree.{ProgramTree}
 use Rattle.ped_session.specs.ped_graph.specs.ped_edges.specs.Edges.{Edge}
 use Rattle.ped_session.specs.ped_graph.specs.Dependences.{AreEdges}
 use Rattle.ped_session.specs.ped_transformations.specs.ped_script.specs.declared.items.Command.{Command}
-use Rattle.ped_session.specs.ped_transformations.specs.ped_script.specs.declared.items.Command.TheVariants.{Interchange, Reverse, Skew, Strip, Peel, Distribute, Expand, Privatise, Parallel, Serial, Reject}
+use Rattle.ped_session.specs.ped_transformations.specs.ped_script.specs.declared.items.Command.TheVariants.{Interchange, Reverse, Skew, Strip, Peel, Distribute, Fuse, Expand, Privatise, Parallel, Serial, Reject}
 use Rattle.ped_session.specs.ped_transformations.specs.ped_splits.specs.Distributing.{StandsAgainstDistribution}
+use Rattle.ped_session.specs.ped_transformations.specs.ped_splits.specs.Fusing.{Match, StandsAgainstFusion, AreBack, forbids_fusion, with_present_numbers}
+use Rattle.ped_session.specs.ped_transformations.specs.ped_splits.specs.Neighbours.{next_number}
 use Rattle.ped_session.specs.ped_transformations.specs.ped_reindex.specs.Skewing.{StandsAgainstSkewing}
 use Rattle.ped_session.specs.ped_transformations.specs.ped_reindex.specs.Stripping.{StandsAgainstStripping}
 use Rattle.ped_session.specs.ped_transformations.specs.ped_reindex.specs.Peeling.{StandsAgainstPeeling}
@@ -24,7 +26,13 @@ abbrev pub IsAmong : ProgramTree → Rules → (Edge → Bool) → Cause → Typ
 IsAmong t stands forbids (rule r n) = stands r n
 IsAmong t stands forbids (dependence e) = (edges : List Edge) × AreEdges t edges × Contains edges e × (forbids e ≡ true)
 
--- what forbids the step of a command in a program: a rule that stands, or a dependence that it may not pass over, which three steps have, since they change the order of iterations: `interchange`, `reverse` and `parallel`. One row for each step of the table of steps (Allen and Kennedy, sections 2.2.5, 5.2; ParaScope)
+-- a rule that stands against fusion, or a dependence of the one DO that both would become which leads back and which that DO carries; it is told with the present numbers (Allen and Kennedy, section 6.2.5)
+abbrev pub IsAmongFused : (s : ℕ) → ProgramTree → Cause → Type 0
+IsAmongFused s t (rule r n) = StandsAgainstFusion s t r n
+IsAmongFused s t (dependence e) =
+    (m : Match t s) × (edges : List Edge) × AreBack m.neighbour edges × (f : Edge) × Contains edges f × (forbids_fusion m.neighbour f ≡ true) × (e ≡ with_present_numbers (next_number m.neighbour) f)
+
+-- what forbids the step of a command in a program: a rule that stands, or a dependence that it may not pass over, which four steps have, since they change the order of iterations: `interchange`, `reverse`, `parallel` and `fuse`. One row for each step of the table of steps (Allen and Kennedy, sections 2.2.5, 5.2; ParaScope)
 abbrev pub Forbids : Command → ProgramTree → Cause → Type 0
 Forbids (Interchange s) t c = IsAmong t (StandsAgainstInterchange s t) (crossing t s) c
 Forbids (Reverse s) t c = IsAmong t (StandsAgainstReversal s t) (carried t s) c
@@ -34,6 +42,7 @@ Forbids (Skew s factor) t c = IsAmong t (StandsAgainstSkewing s factor t) none_f
 Forbids (Strip s size) t c = IsAmong t (StandsAgainstStripping s size t) none_forbids c
 Forbids (Peel s last) t c = IsAmong t (StandsAgainstPeeling s last t) none_forbids c
 Forbids (Distribute s) t c = IsAmong t (StandsAgainstDistribution s t) none_forbids c
+Forbids (Fuse s) t c = IsAmongFused s t c
 Forbids (Expand s x) t c = IsAmong t (StandsAgainstExpanding s x t) none_forbids c
 Forbids (Privatise s x) t c = IsAmong t (StandsAgainstPrivatising s x t) none_forbids c
 Forbids (Reject s x) t c = IsAmong t (StandsAgainstRejection s x t) none_forbids c

@@ -6,9 +6,8 @@ ghost use Rattle.ped_io.specs.Shelves.{all_names};
 ghost use Rattle.ped_words.specs.Requests as plain;
 ghost use Rattle.ped_words.specs.Requests.{request_of};
 ghost use Rattle.ped_words.specs.Views.{request_view, IsSized};
-ghost use Rattle.ped_answer.specs.Answer.{inputs_of, IsOneOf, HoldsTooMany, Answers, MayAnswer, Sends};
-ghost use Rattle.ped_answer.specs.ScriptRuns.{IsWhole, RunsRequest};
-ghost use Rattle.ped_answer.specs.Headline.{PanesRequest, HistoryRequest, CausesRequest};
+ghost use Rattle.ped_answer.specs.Answer.{inputs_of, IsOneOf, HoldsTooMany, IsWhole, Answers, MayAnswer, Sends};
+ghost use Rattle.ped_answer.specs.Headline.{PanesRequest, HistoryRequest, RunsRequest, CausesRequest};
 ghost use Rattle.ped_answer.specs.TestCounts.{Tests, Ticks, IsUntested};
 ghost use Rattle.ped_answer.specs.Serving.{ServedRequest};
 
@@ -98,7 +97,8 @@ pub fn ped_main<F: Shelf, K: Sink, L: Ledger>(
         × (K.taken out.new ≡ Some (before ++ bytes))) }
 
     // Where an answer is written whole, all panes in it, those of the file in mode `show` and those of each `source`, `deps`,
-    // `deps S` and `show` of a script, are those that come of reading the printed text of the present program afresh.
+    // `deps S` and `show` of a script, are those that come of reading the printed text of the present program afresh, and so
+    // is the advice of `advise S`. `print` shows that text.
     ensures panes { (files : Contents) → F.told shelf.old ≡ Some files →
         (before : List ℕ) → K.taken out.old ≡ Some before → IsWhole result →
         (bytes : List ℕ) × (K.taken out.new ≡ Some (before ++ bytes))
@@ -115,14 +115,16 @@ pub fn ped_main<F: Shelf, K: Sink, L: Ledger>(
     // Where a session's answer is written whole, each `run` of its script shows what the programs show from which the
     // present one has come by transformations alone, if they are tidy and without C$PED REJECT and run on the data
     // without a fault and without a race. Tidy: no reference in a PARALLEL DO writes the variable of it or of a DO in it,
-    // and each path from that PARALLEL DO's exit to the end overwrites such a variable that is saved.
+    // and each path from that PARALLEL DO's exit to the end overwrites such a variable that is saved. And in each state,
+    // each transformation of the history keeps the meaning of such a program, and leaves it tidy and without C$PED REJECT.
     ensures runs { (files : Contents) → F.told shelf.old ≡ Some files →
         (before : List ℕ) → K.taken out.old ≡ Some before → IsWhole result →
         (bytes : List ℕ) × (K.taken out.new ≡ Some (before ++ bytes))
         × RunsRequest (request_of (map string_bytes words.now)) files bytes }
 
-    // A transformation or `reject` is refused exactly where a rule stands against it or a dependence of the present program
-    // forbids it, and the first of these is told: the rule with the least number, and else the first row of the pane.
+    // A transformation or `reject` at a statement that the present program has is refused exactly where a rule stands against
+    // it or a dependence forbids it, and the first of these is told: the rule with the least number, and else the first row
+    // of the pane. Where the program has no such statement, that is told.
     ensures causes { (files : Contents) → F.told shelf.old ≡ Some files →
         (before : List ℕ) → K.taken out.old ≡ Some before → IsWhole result →
         (bytes : List ℕ) × (K.taken out.new ≡ Some (before ++ bytes))

@@ -46,37 +46,12 @@ pub fn answer_size<K: Sink, L: Ledger>(
     ensures steps { steps.old ≤ steps.new }
 {
     match ped_gen::program(alloc, size) {
-        Ok(text) => answer_program(alloc, size, text.as_slice(), out, steps),
+        Ok(text) => match Session::open(alloc, text.as_slice(), steps) {
+            Ok(mut session) => answer_session(alloc, size, &mut session, out, steps),
+            Err(OpenRefusal::At(refusal)) => is_refused(alloc, refusal, out),
+            Err(OpenRefusal::NoMemory) => Status::NoMemory,
+        },
         Err(NoMemory) => Status::NoMemory,
-    }
-}
-
-/// Answers on the program of this size, whose text this is.
-fn answer_program<K: Sink, L: Ledger>(
-    alloc: Global,
-    size: u32,
-    text: &[u8],
-    out: &mut K,
-    steps: &mut Steps<L>,
-) -> Status
-    requires size { (1 ≤ size) × (size ≤ 300) }
-    requires text { text.now ≡ made.program size }
-    ensures answer { (before : List ℕ) → K.taken out.old ≡ Some before →
-        Sends (IsGenerated size)
-        (Rose (K.faults out.old) (K.faults out.new)) before (K.taken out.new) result }
-    ensures ends { (result ≡ Status.Done) ⊎ (result ≡ Status.ProgramRefused)
-        ⊎ (result ≡ Status.WriteFault) ⊎ (result ≡ Status.NoMemory) }
-    ensures write_fault { result ≡ Status.WriteFault → Rose (K.faults out.old) (K.faults out.new) }
-    ensures faults { K.faults out.old ≤ K.faults out.new }
-    ensures untold { K.taken out.old ≡ None → K.taken out.new ≡ None }
-    ensures tests { (n : ℕ) → TestsGenerated size n → Ticks result steps.old steps.new n }
-    ensures untested { IsUntested result → steps.new ≡ steps.old }
-    ensures steps { steps.old ≤ steps.new }
-{
-    match Session::open(alloc, text, steps) {
-        Ok(mut session) => answer_session(alloc, size, &mut session, out, steps),
-        Err(OpenRefusal::At(refusal)) => is_refused(alloc, refusal, out),
-        Err(OpenRefusal::NoMemory) => Status::NoMemory,
     }
 }
 

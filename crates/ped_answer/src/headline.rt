@@ -5,9 +5,8 @@ ghost use Rattle.std.specs.Prelude.{ℕ, List, Option};
 ghost use Rattle.ped_io.specs.Outside.{Contents};
 ghost use Rattle.ped_words.specs.Requests as plain;
 ghost use Rattle.ped_answer.specs.declared.answering.Status.{Status};
-ghost use Rattle.ped_answer.specs.Answer.{Answers};
-ghost use Rattle.ped_answer.specs.ScriptRuns.{IsWhole, RunsRequest};
-ghost use Rattle.ped_answer.specs.Headline.{PanesRequest, HistoryRequest, CausesRequest};
+ghost use Rattle.ped_answer.specs.Answer.{IsWhole, Answers};
+ghost use Rattle.ped_answer.specs.Headline.{PanesRequest, HistoryRequest, RunsRequest, CausesRequest};
 
 /// In each answer to `show`, and in each to a session at each `source`, `deps`, `deps S` and `show`, the panes are those
 /// that come of reading the printed text of the present program afresh, whatever was done before.
@@ -25,8 +24,8 @@ pub fn history_is_kept()
         Answers request files s bytes → HistoryRequest request files bytes }
 {}
 
-/// In each answer to a session each transformation or `reject` that is refused is told by its first cause, which is one; and
-/// none that is accepted has a cause.
+/// In each answer to a session each transformation or `reject` at a statement that is there is refused exactly where something
+/// forbids it, and is told by the first cause; where the statement isn't there, that is told.
 pub fn refusals_have_causes()
     ensures { (request : Option plain.Request) (files : Contents) (s : Status) (bytes : List ℕ) → IsWhole s →
         Answers request files s bytes → CausesRequest request files bytes }

@@ -3,7 +3,7 @@ pub mod Carrying
 pub mod Nested
 pub mod Trips
 pub mod PlainReads
-mod UnprivateIndices
+pub mod UnprivateIndices
 mod FreeWrites
 pub mod Unwritten
 pub mod SomeEdges

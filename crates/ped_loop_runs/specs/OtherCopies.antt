@@ -13,13 +13,13 @@ use Rattle.ped_bodies.specs.ped_steps.specs.ped_laws.specs.Acts.Fitting.{store_a
 use Rattle.ped_bodies.specs.ped_steps.specs.ped_laws.specs.Acts.Orders.{IsIn}
 use Rattle.ped_bodies.specs.ped_steps.specs.ped_laws.specs.Acts.Pieces.{Part, old_parts, new_parts, StandsFor}
 use Rattle.ped_bodies.specs.ped_steps.specs.ped_laws.specs.FlowRuns.Covering.{some_stop}
-use Rattle.ped_bodies.specs.ped_steps.specs.ped_laws.specs.FlowRuns.Exits.{is_exit, IsOneToOne}
+use Rattle.ped_bodies.specs.ped_steps.specs.ped_laws.specs.FlowRuns.Exits.{is_exit, IsOneToOne, AreIterationsOf}
 use Rattle.ped_bodies.specs.ped_steps.specs.ped_laws.specs.Runs.Replaying.{act, goes_on, finish_of, Replays}
 use Rattle.ped_bodies.specs.ped_steps.specs.ped_laws.specs.Runs.Touching.{is_own_store}
 use Rattle.ped_bodies.specs.ped_steps.specs.ped_laws.specs.ped_flow.specs.Questions.{LoopOf}
 use Rattle.ped_bodies.specs.ped_steps.specs.ped_laws.specs.ped_eval.specs.Scopes.{Setting, Scope, turns_of, index_value, cell_of, place_of}
 use Rattle.ped_bodies.specs.ped_steps.specs.ped_laws.specs.ped_eval.specs.Evaluation.{Seen}
-use Rattle.ped_bodies.specs.ped_steps.specs.ped_laws.specs.ped_eval.specs.Loops.{Limits, entered_with, frame, undefined_all}
+use Rattle.ped_bodies.specs.ped_steps.specs.ped_laws.specs.ped_eval.specs.Loops.{Limits, entered_with, frame, inner_variables, undefined_all}
 use Rattle.ped_bodies.specs.ped_steps.specs.ped_laws.specs.ped_eval.specs.Runs.{Run, run_all}
 use Rattle.ped_bodies.specs.ped_steps.specs.ped_laws.specs.ped_eval.specs.Outcomes.{setting_of, run_of, live_names, IsRaceFree}
 use Rattle.ped_bodies.specs.ped_steps.specs.ped_laws.specs.ped_graph.specs.ped_symbols.specs.Kinds.{kind_in}
@@ -50,12 +50,13 @@ OfParallelRound P (in_then condition gap else_part rest) n = OfParallelRound P g
 OfParallelRound P (in_else condition then_part gap rest) n = OfParallelRound P gap (n + 1 + statements_count then_part)
 OfParallelRound P (in_body h gap rest) n = (h.parallel ≡ true → P n h gap) × OfParallelRound P gap (n + 1)
 
--- in a PARALLEL DO with these statements in the gap, and with others there, the iterations have copies of the same names; where they have one of one of these names, which its head doesn't name, with some statements alone, what that name stands for there stands apart (ParaScope; this project)
+-- in a PARALLEL DO with these statements in the gap, and with others there, the iterations have copies of the same names; where they have one of one of these names, which its head doesn't name, with some statements alone, what that name stands for there stands apart; and where it does so and was there with the old ones, it isn't there with the new ones (ParaScope; this project)
 pub record HasOtherCopies (names : List (List ℕ)) (apart : Cell → Bool) (p : Setting) (old new : StmtTrees) (n : ℕ) (h : Head) (gap : Gap) : Type 0 where
   pub variable : is_among h.variable names ≡ false
   pub private : (x : List ℕ) → is_among x h.private ≡ true → is_among x names ≡ false
   pub copies : (x : List ℕ) → is_among x names ≡ true → (is_among x (all_loop_variables (filled gap new)) ≡ is_among x (all_loop_variables (filled gap old)))
       ⊎ ((scope : Scope) (seen : List Seen) (m : Limits) (k : ℕ) → apart (cell_of (frame (entered_with p n h (filled gap old) seen m) k ∷ scope) x) ≡ true)
+  pub went : (x : List ℕ) → is_among x names ≡ true → is_among x (all_loop_variables (filled gap old)) ≡ true → ((scope : Scope) (seen : List Seen) (m : Limits) (k : ℕ) → apart (cell_of (frame (entered_with p n h (filled gap old) seen m) k ∷ scope) x) ≡ true) → is_among x (all_loop_variables (filled gap new)) ≡ false
 
 -- the same as of statements that are exchanged, where a PARALLEL DO round them finds other variables of DO loops in it among these names (ParaScope; this project)
 pub record IsPastedBut (names : List (List ℕ)) (apart : Cell → Bool) (p q : Setting) (gap : Gap) (old new : StmtTrees) (t u : ProgramTree) : Type 0 where
@@ -89,7 +90,7 @@ LeavesParallel p t l a = (number : ℕ) × IsParallelRound t l number × (a.plac
 abbrev pub LeaveApart : (apart : Cell → Bool) → Setting → ProgramTree → (l count : ℕ) → List Act → Type 0
 LeaveApart apart p t l count acts = (a : Act) → IsIn a acts → (x : Touch) → IsIn x a.touches → apart x.cell ≡ true → IsOfThese p l count a ⊎ (LeavesParallel p t l a × (is_own_store x ≡ true))
 
--- the exit of a PARALLEL DO round the statements, and what it is in the new program: the one makes these names undefined at its place, and the other those at a place near it; both are the same, but for the names (ParaScope; this project)
+-- the exit of a PARALLEL DO round the statements, and what it is in the new program: the one makes these names undefined at its place, and the other those at a place near it; both are the same, but for the names, of which one that stands apart in its iterations has gone (ParaScope; this project)
 pub record IsOtherExit (names : List (List ℕ)) (apart : Cell → Bool) (p : Setting) (t : ProgramTree) (start : Store) (l : ℕ) (front behind : List Act) (u : Store) (old new : List Act) : Type 0 where
   pub number : ℕ
   pub round : IsParallelRound t l number
@@ -101,7 +102,10 @@ pub record IsOtherExit (names : List (List ℕ)) (apart : Cell → Bool) (p : Se
   pub first : List Touch
   pub undefined : List (List ℕ)
   pub undefined_now : List (List ℕ)
+  pub iterations : AreIterationsOf p t scope
+  pub undefined_is : undefined ≡ inner_variables true round.loop.body
   pub alike : (x : List ℕ) → is_among x names ≡ false → is_among x undefined_now ≡ is_among x undefined
+  pub went : (x : List ℕ) → is_among x names ≡ true → is_among x undefined ≡ true → ((S : Scope) (seen : List Seen) (m : Limits) (k : ℕ) → apart (cell_of (frame (entered_with p number round.loop.head round.loop.body seen m) k ∷ S) x) ≡ true) → is_among x undefined_now ≡ false
   pub old_is : old ≡ act step (place_of p number scope) (first ++ undefined_all scope undefined) ∷ []
   pub new_is : new ≡ act step (place_of p number scope) (first ++ undefined_all other undefined_now) ∷ []
   pub whole : (run_all p t.body 1 [] start).acts ≡ front ++ (old ++ behind)

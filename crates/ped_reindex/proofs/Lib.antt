@@ -14,10 +14,10 @@ mod StripAnswers
 mod PeelAnswers
 pub mod Determined
 mod StripsNumbers
-mod UnnamedCells
+pub mod UnnamedCells
 mod StripsCells
-mod ValuesBut
-mod StripsBounds
+pub mod ValuesBut
+pub mod StripsBounds
 mod StripsTrips
 mod StripsControls
 mod StripsAbsent
@@ -40,7 +40,7 @@ mod SkewedTrust
 mod SkewLawful
 mod PeelFront
 mod PeelCounts
-mod PeelKinds
+pub mod PeelKinds
 mod PeelConstants
 mod PeelNumbers
 mod PeelRuns

@@ -53,7 +53,7 @@ use Rattle.ped_reindex.proofs.StripsAccesses.{free_strips}
 use Rattle.ped_reindex.proofs.StripsBounds.{AreBeside, CanStrip, CountsStrips, IsStripped}
 use Rattle.ped_reindex.proofs.StripsRaces.{AreRaceFree, near_races}
 use Rattle.ped_reindex.proofs.StripsStand.{does_strips, stands_strips}
-use Rattle.ped_reindex.proofs.UnnamedCells.{UnnamedHead, constants_absent, neither, unnamed_head, unnamed_statements, unsaved_name}
+use Rattle.ped_reindex.proofs.UnnamedCells.{UnnamedHead, all_loops_named, constants_absent, neither, unnamed_head, unnamed_statements, unsaved_name}
 use Rattle.ped_reindex.specs.Stripping.{strip_head, strips_head, with_strips}
 use Rattle.ped_tree.specs.Constants.ConstantExpressions.{constant_value}
 use Rattle.ped_tree.specs.Grammar.Words.{is_name}
@@ -99,13 +99,21 @@ module _ (w : List ℕ) (s : StmtTree) where
 
   -- a PARALLEL DO round the gap has other copies of the new variable alone
   module _ (p : Setting) (new : StmtTrees) where
-    copies : (n : ℕ) (g : Head) (gap : Gap) → is_among w (head_names g) ≡ false → HasOtherCopies (w ∷ []) (is_cell_among (w ∷ [])) p (alone s) new n g gap
-    copies n g gap absent = record {
+    copies : (n : ℕ) (g : Head) (gap : Gap) → is_among w (head_names g) ≡ false → is_among w (stmts_names (filled gap (alone s))) ≡ false → HasOtherCopies (w ∷ []) (is_cell_among (w ∷ [])) p (alone s) new n g gap
+    copies n g gap absent absent_in = record {
       variable = λ i. other_text g.variable head.variable i || false;
       private = λ y k. (λ i. other_text y (not_among g.private w y head.private k) i || false);
       copies = λ y k. inr (λ scope seen m j. cell_among (w ∷ []) (frame (entered_with p n g (filled gap (alone s)) seen m) j ∷ scope) y ∙ k);
+      went = λ y k there stands. absurd (both_ways (is_among w (all_loop_variables (filled gap (alone s)))) (all_loops_named w (filled gap (alone s)) absent_in) (ap (λ (z : List ℕ). is_among z (all_loop_variables (filled gap (alone s)))) (sym (its_name y k)) ∙ there));
     }
       where
+        its_name : (y : List ℕ) → is_among y (w ∷ []) ≡ true → y ≡ w
+        its_name y k = by (is_same_text y w) refl k
+          where
+            by : (b : Bool) → is_same_text y w ≡ b → b || false ≡ true → y ≡ w
+            by true e h = same_is y w e
+            by false e h = absurd cc
+
         head : UnnamedHead w g
         head = unnamed_head w g absent
 
@@ -129,7 +137,7 @@ module _ (w : List ℕ) (s : StmtTree) where
     round_gap (in_body g gap rest) n h =
         let whole = neither w (stmt_names (Do g (filled gap it))) (stmts_names rest) h in
         let parts = neither w (head_names g) (stmts_names (filled gap it)) whole.0 in
-        ((λ e. copies n g gap parts.0), round_gap gap (n + 1) parts.1)
+        ((λ e. copies n g gap parts.0 parts.1), round_gap gap (n + 1) parts.1)
 
 -- a cell of the one name
 of_one : (w : List ℕ) (c : Cell) → is_cell_among (w ∷ []) c ≡ true → is_cell_of w c ≡ true

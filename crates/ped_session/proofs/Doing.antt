@@ -3,10 +3,11 @@ use Rattle.std.proofs.Common.{◌≡◌, ℕ, Bool, true, false, List, [], ◌�
 use Rattle.std.specs.Prelude.{MatchBool, ⊤}
 use Rattle.ped_session.specs.ped_tree.specs.Tree.{StmtTree, ProgramTree}
 use Rattle.ped_session.specs.ped_tree.specs.Numbering.{statement_with}
+use Rattle.ped_session.specs.ped_graph.specs.DependencePane.{IsDependencePaneOf}
 use Rattle.ped_session.specs.ped_transformations.specs.ped_script.specs.declared.items.Command.{Command}
 use Rattle.ped_session.specs.ped_transformations.specs.ped_script.specs.declared.items.Command.TheVariants.{Source, Deps, Show, Print, Advise, Replace, Insert, Delete, Interchange, Reverse, Skew, Strip, Peel, Distribute, Fuse, Expand, Privatise, Parallel, Serial, Reject, Undo, Redo, Run, Races, Tested}
 use Rattle.ped_session.specs.declared.replies.Refusal.{Refusal}
-use Rattle.ped_session.specs.declared.replies.Refusal.TheVariants.{NoSuchLine, NotBuilt}
+use Rattle.ped_session.specs.declared.replies.Refusal.TheVariants.{NoSuchLine}
 use Rattle.ped_session.specs.declared.replies.Reply.{Reply}
 use Rattle.ped_session.specs.declared.replies.Reply.TheVariants.{Changed, Shown, Refused}
 use Rattle.ped_session.specs.States.{State}
@@ -14,6 +15,7 @@ use Rattle.ped_session.specs.Splices.{are_lines, is_place}
 use Rattle.ped_transformations.specs.ped_reindex.specs.ped_loops.specs.ped_scalar.specs.ped_rules.specs.Steps.{StepAt, MaybeStep, no_step, some_step, MatchStep}
 use Rattle.ped_transformations.specs.ped_reindex.specs.ped_loops.specs.ped_scalar.specs.ped_rules.specs.Lawful.{IsLawful}
 use Rattle.ped_transformations.specs.Table.{step_of}
+use Rattle.ped_transformations.specs.Advice.{IsAdvice}
 use Rattle.ped_transformations.proofs.LawfulTable.{AllLawful}
 use Rattle.ped_session.specs.Steps.{Refuses, Prints, Shows, ShowsOf, Edits, Transforms, GoesBack, GoesForward, IsOther, IsStep}
 
@@ -40,9 +42,9 @@ prints c bytes s next reply h = by_nothing (λ e. no_show bytes (sym h.0 ∙ e))
 shows : (c : Command) (IsSo : ProgramTree → List ℕ → Type 0) (s next : State) (reply : Reply) → Shows IsSo s reply next → Does c s reply next
 shows c IsSo s next reply h = prints c h.bytes s next reply h.prints
 
-shows_of : (c : Command) (number : ℕ) (o : Option StmtTree) (s next : State) (reply : Reply) → ShowsOf number o s reply next → Does c s reply next
-shows_of c number None s next reply h = refuses c _ s next reply h
-shows_of c number (Some found) s next reply h = shows c _ s next reply h
+shows_of : (c : Command) (IsSo : ProgramTree → List ℕ → Type 0) (o : Option StmtTree) (s next : State) (reply : Reply) → ShowsOf IsSo o s reply next → Does c s reply next
+shows_of c IsSo None s next reply h = refuses c _ s next reply h
+shows_of c IsSo (Some found) s next reply h = shows c IsSo s next reply h
 
 edits : (c : Command) (there : Bool) (kept gone : ℕ) (text : List ℕ) (s next : State) (reply : Reply) → MatchBool there (Edits kept gone text s reply next) (Refuses NoSuchLine s reply next) → Does c s reply next
 edits c true kept gone text s next reply h = by_edit kept gone text h
@@ -51,7 +53,7 @@ edits c false kept gone text s next reply h = refuses c NoSuchLine s next reply 
 does_other : (c : Command) (d : List ℕ) (s next : State) (reply : Reply) → IsOther c d s reply next → Does c s reply next
 does_other Source d s next reply h = shows Source _ s next reply h
 does_other (Deps None) d s next reply h = shows (Deps None) _ s next reply h
-does_other (Deps (Some number)) d s next reply h = shows_of (Deps (Some number)) number (statement_with number h.tree) s next reply h.shows
+does_other (Deps (Some number)) d s next reply h = shows_of (Deps (Some number)) (λ t. IsDependencePaneOf t (Some number)) (statement_with number h.tree) s next reply h.shows
 does_other Show d s next reply h = shows Show _ s next reply h
 does_other Print d s next reply h = prints Print _ s next reply h
 does_other (Replace first last lines) d s next reply h = edits (Replace first last lines) (are_lines s.present first last) _ _ _ s next reply h
@@ -61,19 +63,19 @@ does_other Undo d s next reply h = by_undo refl h
 does_other Redo d s next reply h = by_redo refl h
 does_other (Run choices) d s next reply h = shows (Run choices) _ s next reply h
 does_other Races d s next reply h = shows Races _ s next reply h
-does_other (Advise number) d s next reply h = refuses (Advise number) NotBuilt s next reply h
-does_other (Interchange number) d s next reply h = refuses (Interchange number) NotBuilt s next reply h
-does_other (Reverse number) d s next reply h = refuses (Reverse number) NotBuilt s next reply h
-does_other (Skew number factor) d s next reply h = refuses (Skew number factor) NotBuilt s next reply h
-does_other (Strip number size) d s next reply h = refuses (Strip number size) NotBuilt s next reply h
-does_other (Peel number last) d s next reply h = refuses (Peel number last) NotBuilt s next reply h
-does_other (Distribute number) d s next reply h = refuses (Distribute number) NotBuilt s next reply h
-does_other (Fuse number) d s next reply h = refuses (Fuse number) NotBuilt s next reply h
-does_other (Expand number name) d s next reply h = refuses (Expand number name) NotBuilt s next reply h
-does_other (Privatise number name) d s next reply h = refuses (Privatise number name) NotBuilt s next reply h
-does_other (Parallel number) d s next reply h = refuses (Parallel number) NotBuilt s next reply h
-does_other (Serial number) d s next reply h = refuses (Serial number) NotBuilt s next reply h
-does_other (Reject number name) d s next reply h = refuses (Reject number name) NotBuilt s next reply h
+does_other (Advise number) d s next reply h = shows_of (Advise number) (λ t. IsAdvice t number) (statement_with number h.tree) s next reply h.shows
+does_other (Interchange number) d s next reply h = absurd h
+does_other (Reverse number) d s next reply h = absurd h
+does_other (Skew number factor) d s next reply h = absurd h
+does_other (Strip number size) d s next reply h = absurd h
+does_other (Peel number last) d s next reply h = absurd h
+does_other (Distribute number) d s next reply h = absurd h
+does_other (Fuse number) d s next reply h = absurd h
+does_other (Expand number name) d s next reply h = absurd h
+does_other (Privatise number name) d s next reply h = absurd h
+does_other (Parallel number) d s next reply h = absurd h
+does_other (Serial number) d s next reply h = absurd h
+does_other (Reject number name) d s next reply h = absurd h
 does_other Tested d s next reply h = prints Tested _ s next reply h
 
 does_by : (c : Command) (step : MaybeStep) (d : List ℕ) (s next : State) (reply : Reply) → (AllLawful → MatchStep step ⊤ IsLawful)

@@ -14,13 +14,13 @@ use Rattle.ped_session.specs.ped_graph.specs.DependencePane.{IsDependencePane, I
 use Rattle.ped_session.specs.ped_graph.proofs.OnePane.{one_pane, one_pane_of}
 use Rattle.ped_session.specs.ped_graph.specs.Update.Fresh.{tested_pairs}
 use Rattle.ped_order.specs.ped_interleavings.specs.Interleavings.{at_start}
-use Rattle.ped_order.specs.ped_confluence.proofs.OneOutcome.{one_outcome}
+use Rattle.ped_order.proofs.OneOutcome.{one_outcome}
 use Rattle.ped_transformations.specs.ped_reindex.specs.ped_loops.specs.ped_scalar.specs.ped_rules.specs.ped_loop_runs.specs.ped_bodies.specs.ped_steps.specs.Causes.{Cause}
 use Rattle.ped_session.specs.ped_transformations.specs.ped_script.specs.declared.items.Command.{Command}
 use Rattle.ped_session.specs.ped_transformations.specs.ped_script.specs.declared.items.Command.TheVariants.{Source, Deps, Show, Print, Advise, Replace, Insert, Delete, Interchange, Reverse, Skew, Strip, Peel, Distribute, Fuse, Expand, Privatise, Parallel, Serial, Reject, Undo, Redo, Run, Races, Tested}
 use Rattle.ped_session.specs.declared.changes.Change.TheVariants.{Edit}
 use Rattle.ped_session.specs.declared.replies.Refusal.{Refusal}
-use Rattle.ped_session.specs.declared.replies.Refusal.TheVariants.{BadEdit, Step, NothingToUndo, NothingToRedo, NoSuchStatement, NoSuchLine, NotBuilt}
+use Rattle.ped_session.specs.declared.replies.Refusal.TheVariants.{BadEdit, Step, NothingToUndo, NothingToRedo, NoSuchStatement, NoSuchLine}
 use Rattle.ped_session.specs.declared.replies.Reply.{Reply}
 use Rattle.ped_session.specs.declared.replies.Reply.TheVariants.{Shown, Refused}
 use Rattle.ped_session.specs.States.{Other, State, changed_to}
@@ -32,7 +32,9 @@ use Rattle.ped_session.specs.Steps.{Refuses, Shows, ShowsOf, ShowsStatement, Edi
 use Rattle.ped_transformations.specs.ped_reindex.specs.ped_loops.specs.ped_scalar.specs.ped_rules.specs.Steps.{StepAt, MaybeStep, no_step, some_step, MatchStep}
 use Rattle.ped_transformations.specs.ped_reindex.specs.ped_loops.specs.ped_scalar.specs.ped_rules.specs.Lawful.{IsDetermined}
 use Rattle.ped_transformations.specs.Table.{step_of}
+use Rattle.ped_transformations.specs.Advice.{IsAdvice}
 use Rattle.ped_transformations.proofs.LawfulTable.{determined_step}
+use Rattle.ped_transformations.proofs.OneAdvice.{one_advice}
 use Rattle.ped_order.proofs.OneReport.{one_at_most}
 use Rattle.ped_session.proofs.OneFinding.{one_found}
 
@@ -84,15 +86,16 @@ one_source_pane t x y a b = a ∙ sym b
 one_panes : (t : ProgramTree) (x y : List ℕ) → ArePanes t x → ArePanes t y → x ≡ y
 one_panes t x y a b = a.2 ∙ ap (λ (pane : List ℕ). source_pane t ++ pane) (one_pane t a.0 b.0 a.1 b.1) ∙ sym b.2
 
--- the rows of a statement, where there is one
-one_of : (number : ℕ) (statement : Option StmtTree) (s : State) (p q : Reply) (m n : State) → ShowsOf number statement s p m → ShowsOf number statement s q n → (p ≡ q) × (m ≡ n)
-one_of number None s p q m n a b = one_refuses NoSuchStatement s p q m n a b
-one_of number (Some statement) s p q m n a b = one_shows (λ t. IsDependencePaneOf t (Some number)) (λ t. one_pane_of t (Some number)) s p q m n a b
+-- what is shown of a statement, where there is one
+module _ (IsSo : ProgramTree → List ℕ → Type 0) (one : (t : ProgramTree) (x y : List ℕ) → IsSo t x → IsSo t y → x ≡ y) where
+  one_of : (statement : Option StmtTree) (s : State) (p q : Reply) (m n : State) → ShowsOf IsSo statement s p m → ShowsOf IsSo statement s q n → (p ≡ q) × (m ≡ n)
+  one_of None s p q m n a b = one_refuses NoSuchStatement s p q m n a b
+  one_of (Some statement) s p q m n a b = one_shows IsSo one s p q m n a b
 
-one_statement : (number : ℕ) (s : State) (p q : Reply) (m n : State) → ShowsStatement number s p m → ShowsStatement number s q n → (p ≡ q) × (m ≡ n)
-one_statement number s p q m n a b =
-    let tree = one_tree s.present a.tree b.tree a.reads b.reads in
-    one_of number (statement_with number b.tree) s p q m n (subst (λ (t : ProgramTree). ShowsOf number (statement_with number t) s p m) tree a.shows) b.shows
+  one_statement : (number : ℕ) (s : State) (p q : Reply) (m n : State) → ShowsStatement IsSo number s p m → ShowsStatement IsSo number s q n → (p ≡ q) × (m ≡ n)
+  one_statement number s p q m n a b =
+      let tree = one_tree s.present a.tree b.tree a.reads b.reads in
+      one_of (statement_with number b.tree) s p q m n (subst (λ (t : ProgramTree). ShowsOf IsSo (statement_with number t) s p m) tree a.shows) b.shows
 
 -- an edit by its text
 one_edit : (kept gone : ℕ) (edited : List ℕ) (s : State) (p q : Reply) (m n : State) → Edits kept gone edited s p m → Edits kept gone edited s q n → (p ≡ q) × (m ≡ n)
@@ -153,7 +156,7 @@ one_race_row data_bytes t x y a b = a.2 ∙ ap race_row (one_at_most t data_byte
 one_other : (c : Command) (data_bytes : List ℕ) (s m n : State) (p q : Reply) → IsOther c data_bytes s p m → IsOther c data_bytes s q n → (p ≡ q) × (m ≡ n)
 one_other Source d s m n p q a b = one_shows IsSourcePane one_source_pane s p q m n a b
 one_other (Deps None) d s m n p q a b = one_shows IsDependencePane one_pane s p q m n a b
-one_other (Deps (Some number)) d s m n p q a b = one_statement number s p q m n a b
+one_other (Deps (Some number)) d s m n p q a b = one_statement (λ t. IsDependencePaneOf t (Some number)) (λ t. one_pane_of t (Some number)) number s p q m n a b
 one_other Show d s m n p q a b = one_shows ArePanes one_panes s p q m n a b
 one_other Print d s m n p q a b = (a.0 ∙ sym b.0, a.1 ∙ sym b.1)
 one_other (Replace first last lines) d s m n p q a b = one_edit_by (are_lines s.present first last) _ _ _ s p q m n a b
@@ -163,19 +166,19 @@ one_other Undo d s m n p q a b = one_back s.past s p q m n a b
 one_other Redo d s m n p q a b = one_forward s.future s p q m n a b
 one_other (Run choices) d s m n p q a b = one_run choices d s p q m n a b
 one_other Races d s m n p q a b = one_shows (IsRaceRow d) (one_race_row d) s p q m n a b
-one_other (Advise number) d s m n p q a b = one_refuses NotBuilt s p q m n a b
-one_other (Interchange number) d s m n p q a b = one_refuses NotBuilt s p q m n a b
-one_other (Reverse number) d s m n p q a b = one_refuses NotBuilt s p q m n a b
-one_other (Skew number factor) d s m n p q a b = one_refuses NotBuilt s p q m n a b
-one_other (Strip number size) d s m n p q a b = one_refuses NotBuilt s p q m n a b
-one_other (Peel number last) d s m n p q a b = one_refuses NotBuilt s p q m n a b
-one_other (Distribute number) d s m n p q a b = one_refuses NotBuilt s p q m n a b
-one_other (Fuse number) d s m n p q a b = one_refuses NotBuilt s p q m n a b
-one_other (Expand number name) d s m n p q a b = one_refuses NotBuilt s p q m n a b
-one_other (Privatise number name) d s m n p q a b = one_refuses NotBuilt s p q m n a b
-one_other (Parallel number) d s m n p q a b = one_refuses NotBuilt s p q m n a b
-one_other (Serial number) d s m n p q a b = one_refuses NotBuilt s p q m n a b
-one_other (Reject number name) d s m n p q a b = one_refuses NotBuilt s p q m n a b
+one_other (Advise number) d s m n p q a b = one_statement (λ t. IsAdvice t number) (λ t. one_advice t number) number s p q m n a b
+one_other (Interchange number) d s m n p q a b = absurd a
+one_other (Reverse number) d s m n p q a b = absurd a
+one_other (Skew number factor) d s m n p q a b = absurd a
+one_other (Strip number size) d s m n p q a b = absurd a
+one_other (Peel number last) d s m n p q a b = absurd a
+one_other (Distribute number) d s m n p q a b = absurd a
+one_other (Fuse number) d s m n p q a b = absurd a
+one_other (Expand number name) d s m n p q a b = absurd a
+one_other (Privatise number name) d s m n p q a b = absurd a
+one_other (Parallel number) d s m n p q a b = absurd a
+one_other (Serial number) d s m n p q a b = absurd a
+one_other (Reject number name) d s m n p q a b = absurd a
 one_other Tested d s m n p q a b = (a.0 ∙ sym b.0, a.1 ∙ sym b.1)
 
 one_by : (c : Command) (step : MaybeStep) (d : List ℕ) (s m n : State) (p q : Reply) → MatchStep step ⊤ IsDetermined

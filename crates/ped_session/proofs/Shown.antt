@@ -19,44 +19,47 @@ pub shown : (IsSo : ProgramTree → List ℕ → Type 0) (v : Version) (s : Stat
     → IsVersion v → v.text ≡ s.present → IsSo (tree_of v) bytes → Shows IsSo s (Shown bytes) s
 shown IsSo v s bytes is same so = record { tree = tree_of v; reads = reads_version v is s.present same; bytes = bytes; so = so; prints = (refl, refl) }
 
-refused_by : (number : ℕ) (o : Option StmtTree) (s : State) → is_some o ≡ false → ShowsOf number o s (Refused NoSuchStatement) s
-refused_by number None s h = (refl, refl)
-refused_by number (Some x) s h = absurd cc
+module _ (IsSo : ProgramTree → List ℕ → Type 0) where
+  refused_by : (o : Option StmtTree) (s : State) → is_some o ≡ false → ShowsOf IsSo o s (Refused NoSuchStatement) s
+  refused_by None s h = (refl, refl)
+  refused_by (Some x) s h = absurd cc
 
-shown_by : (number : ℕ) (o : Option StmtTree) (s : State) (bytes : List ℕ) → is_some o ≡ true
-    → Shows (λ t. IsDependencePaneOf t (Some number)) s (Shown bytes) s → ShowsOf number o s (Shown bytes) s
-shown_by number None s bytes h shows = absurd cc
-shown_by number (Some x) s bytes h shows = shows
+  shown_by : (o : Option StmtTree) (s : State) (bytes : List ℕ) → is_some o ≡ true → Shows IsSo s (Shown bytes) s → ShowsOf IsSo o s (Shown bytes) s
+  shown_by None s bytes h shows = absurd cc
+  shown_by (Some x) s bytes h shows = shows
 
--- a statement that the program of a version hasn't
-pub refused_statement : (v : Version) (s : State) (number : ℕ)
-    → IsVersion v → v.text ≡ s.present → is_some (statement_with number (tree_of v)) ≡ false → ShowsStatement number s (Refused NoSuchStatement) s
-refused_statement v s number is same none =
-    record { tree = tree_of v; reads = reads_version v is s.present same; shows = refused_by number (statement_with number (tree_of v)) s none }
+  -- a statement that the program of a version hasn't
+  pub refused_statement : (v : Version) (s : State) (number : ℕ)
+      → IsVersion v → v.text ≡ s.present → is_some (statement_with number (tree_of v)) ≡ false → ShowsStatement IsSo number s (Refused NoSuchStatement) s
+  refused_statement v s number is same none =
+      record { tree = tree_of v; reads = reads_version v is s.present same; shows = refused_by (statement_with number (tree_of v)) s none }
 
--- a statement that it has
-pub shown_statement : (v : Version) (s : State) (number : ℕ) (bytes : List ℕ)
-    → IsVersion v → v.text ≡ s.present → is_some (statement_with number (tree_of v)) ≡ true
-    → IsDependencePaneOf (tree_of v) (Some number) bytes → ShowsStatement number s (Shown bytes) s
-shown_statement v s number bytes is same some so = record {
-  tree = tree_of v;
-  reads = reads_version v is s.present same;
-  shows = shown_by number (statement_with number (tree_of v)) s bytes some (shown (λ t. IsDependencePaneOf t (Some number)) v s bytes is same so);
-}
+  -- a statement that it has
+  pub shown_statement : (v : Version) (s : State) (number : ℕ) (bytes : List ℕ)
+      → IsVersion v → v.text ≡ s.present → is_some (statement_with number (tree_of v)) ≡ true → IsSo (tree_of v) bytes → ShowsStatement IsSo number s (Shown bytes) s
+  shown_statement v s number bytes is same some so = record {
+    tree = tree_of v;
+    reads = reads_version v is s.present same;
+    shows = shown_by (statement_with number (tree_of v)) s bytes some (shown IsSo v s bytes is same so);
+  }
 
 -- showing tests nothing
 untested_shows : (IsSo : ProgramTree → List ℕ → Type 0) (s next : State) (reply : Reply) (last : State) → Shows IsSo s reply next → tests_of reply last ≡ 0
 untested_shows IsSo s next reply last shows = ap (λ (r : Reply). tests_of r last) shows.prints.0
 
-untested_by : (number : ℕ) (o : Option StmtTree) (s next : State) (reply : Reply) (last : State) → ShowsOf number o s reply next → tests_of reply last ≡ 0
-untested_by number None s next reply last refuses = ap (λ (r : Reply). tests_of r last) refuses.0
-untested_by number (Some x) s next reply last shows = untested_shows (λ t. IsDependencePaneOf t (Some number)) s next reply last shows
+untested_by : (IsSo : ProgramTree → List ℕ → Type 0) (o : Option StmtTree) (s next : State) (reply : Reply) (last : State) → ShowsOf IsSo o s reply next → tests_of reply last ≡ 0
+untested_by IsSo None s next reply last refuses = ap (λ (r : Reply). tests_of r last) refuses.0
+untested_by IsSo (Some x) s next reply last shows = untested_shows IsSo s next reply last shows
+
+pub untested_statement : (IsSo : ProgramTree → List ℕ → Type 0) (number : ℕ) (s next : State) (reply : Reply) (last : State) (before : ℕ)
+    → ShowsStatement IsSo number s reply next → before ≡ before + tests_of reply last
+untested_statement IsSo number s next reply last before shows =
+    let none = untested_by IsSo (statement_with number shows.tree) s next reply last shows.shows in
+    omega arith
 
 pub untested_dependences : (of : Option ℕ) (data_bytes : List ℕ) (s next : State) (reply : Reply) (last : State) (before : ℕ)
     → IsStep (Deps of) data_bytes s reply next → before ≡ before + tests_of reply last
 untested_dependences None data_bytes s next reply last before shows =
     let none = untested_shows IsDependencePane s next reply last shows in
     omega arith
-untested_dependences (Some number) data_bytes s next reply last before shows =
-    let none = untested_by number (statement_with number shows.tree) s next reply last shows.shows in
-    omega arith
+untested_dependences (Some number) data_bytes s next reply last before shows = untested_statement (λ t. IsDependencePaneOf t (Some number)) number s next reply last before shows

@@ -5,7 +5,7 @@ use Rattle.ped_session.specs.ped_tree.specs.Grammar.Refusal.{Finding, number_of,
 use Rattle.ped_session.specs.ped_tree.specs.Grammar.RefusalViews.{finding_of}
 use Rattle.ped_session.specs.declared.replies.Refusal.{Refusal}
 use Rattle.ped_transformations.specs.ped_reindex.specs.ped_loops.specs.ped_scalar.specs.ped_rules.specs.ped_loop_runs.specs.ped_bodies.specs.ped_steps.specs.CauseWords.{cause_words}
-use Rattle.ped_session.specs.declared.replies.Refusal.TheVariants.{BadEdit, Step, NothingToUndo, NothingToRedo, NoSuchStatement, NoSuchLine, NotBuilt}
+use Rattle.ped_session.specs.declared.replies.Refusal.TheVariants.{BadEdit, Step, NothingToUndo, NothingToRedo, NoSuchStatement, NoSuchLine}
 use Rattle.ped_session.specs.declared.replies.Reply.{Reply}
 use Rattle.ped_session.specs.declared.replies.Reply.TheVariants.{Changed, Shown, Refused}
 
@@ -29,7 +29,6 @@ refusal_words NothingToUndo = codes "NothingToUndo"
 refusal_words NothingToRedo = codes "NothingToRedo"
 refusal_words NoSuchStatement = codes "NoSuchStatement"
 refusal_words NoSuchLine = codes "NoSuchLine"
-refusal_words NotBuilt = codes "NotBuilt"
 
 -- what is printed of the reply to the command on this line of the script
 abbrev pub reply_text : ℕ → Reply → List ℕ

@@ -11,10 +11,10 @@ use Rattle.ped_session.specs.ped_graph.specs.DependencePane.{IsDependencePane, I
 use Rattle.ped_session.specs.ped_graph.specs.Update.Fresh.{tested_pairs}
 use Rattle.ped_transformations.specs.ped_reindex.specs.ped_loops.specs.ped_scalar.specs.ped_rules.specs.ped_loop_runs.specs.ped_bodies.specs.ped_steps.specs.Causes.{Cause}
 use Rattle.ped_session.specs.ped_transformations.specs.ped_script.specs.declared.items.Command.{Command}
-use Rattle.ped_session.specs.ped_transformations.specs.ped_script.specs.declared.items.Command.TheVariants.{Source, Deps, Show, Print, Replace, Insert, Delete, Undo, Redo, Run, Races, Tested}
+use Rattle.ped_session.specs.ped_transformations.specs.ped_script.specs.declared.items.Command.TheVariants.{Source, Deps, Show, Print, Advise, Replace, Insert, Delete, Undo, Redo, Run, Races, Tested}
 use Rattle.ped_session.specs.declared.changes.Change.{Change}
 use Rattle.ped_session.specs.declared.changes.Change.TheVariants.{Edit, Rejection, Transformation}
-use Rattle.ped_session.specs.declared.replies.Refusal.TheVariants.{BadEdit, Step, NothingToUndo, NothingToRedo, NoSuchStatement, NoSuchLine, NotBuilt}
+use Rattle.ped_session.specs.declared.replies.Refusal.TheVariants.{BadEdit, Step, NothingToUndo, NothingToRedo, NoSuchStatement, NoSuchLine}
 use Rattle.ped_session.specs.declared.replies.Reply.{Reply}
 use Rattle.ped_session.specs.declared.replies.Reply.TheVariants.{Changed, Shown, Refused}
 use Rattle.ped_session.specs.declared.replies.Refusal.{Refusal}
@@ -25,6 +25,7 @@ use Rattle.ped_session.specs.Blocks.{IsRunBlock}
 use Rattle.ped_session.specs.RaceRows.{IsRaceRow}
 use Rattle.ped_transformations.specs.ped_reindex.specs.ped_loops.specs.ped_scalar.specs.ped_rules.specs.Steps.{StepKind, transformation, rejection, StepAt, MatchStep}
 use Rattle.ped_transformations.specs.Table.{step_of}
+use Rattle.ped_transformations.specs.Advice.{IsAdvice}
 
 -- the command is refused, and the session is as it was
 abbrev pub Refuses : Refusal → State → Reply → State → Type 0
@@ -42,16 +43,16 @@ pub record Shows (IsSo : ProgramTree → List ℕ → Type 0) (s : State) (reply
   pub so : IsSo tree bytes
   pub prints : Prints bytes s reply next
 
--- the rows of a statement are shown, where the present program has it
-abbrev pub ShowsOf : ℕ → Option StmtTree → State → Reply → State → Type 0
-ShowsOf number None s reply next = Refuses NoSuchStatement s reply next
-ShowsOf number (Some statement) s reply next = Shows (λ t. IsDependencePaneOf t (Some number)) s reply next
+-- what is so of a statement is printed, where the present program has it
+abbrev pub ShowsOf : (ProgramTree → List ℕ → Type 0) → Option StmtTree → State → Reply → State → Type 0
+ShowsOf IsSo None s reply next = Refuses NoSuchStatement s reply next
+ShowsOf IsSo (Some statement) s reply next = Shows IsSo s reply next
 
--- the rows of the statement with this number are shown, where the present program has it
-pub record ShowsStatement (number : ℕ) (s : State) (reply : Reply) (next : State) : Type 0 where
+-- what is so of the statement with this number is printed, where the present program has it
+pub record ShowsStatement (IsSo : ProgramTree → List ℕ → Type 0) (number : ℕ) (s : State) (reply : Reply) (next : State) : Type 0 where
   pub tree : ProgramTree
   pub reads : ReadsValid s.present tree
-  pub shows : ShowsOf number (statement_with number tree) s reply next
+  pub shows : ShowsOf IsSo (statement_with number tree) s reply next
 
 -- the text of an edit, which keeps so many lines at the front and lets so many go, is read afresh, and the printed text of what was read is the new source; or it is refused, and the session is as it was
 pub data Edits (kept gone : ℕ) (text : List ℕ) (s : State) (reply : Reply) (next : State) : Type 0 where
@@ -91,13 +92,14 @@ abbrev pub GoesForward : List Other → State → Reply → State → Type 0
 GoesForward [] s reply next = Refuses NothingToRedo s reply next
 GoesForward (other ∷ future) s reply next = (reply ≡ Changed) × (next ≡ gone_forward_to other future s)
 
--- what a command that takes no step does to a session whose programs are run on these data; steps that aren't built yet, and `advise`, are refused
+-- what a command that takes no step does to a session whose programs are run on these data; one that takes a step does nothing else
 abbrev pub IsOther : Command → List ℕ → State → Reply → State → Type 0
 IsOther Source data_bytes s reply next = Shows IsSourcePane s reply next
 IsOther (Deps None) data_bytes s reply next = Shows IsDependencePane s reply next
-IsOther (Deps (Some number)) data_bytes s reply next = ShowsStatement number s reply next
+IsOther (Deps (Some number)) data_bytes s reply next = ShowsStatement (λ t. IsDependencePaneOf t (Some number)) number s reply next
 IsOther Show data_bytes s reply next = Shows ArePanes s reply next
 IsOther Print data_bytes s reply next = Prints s.present s reply next
+IsOther (Advise number) data_bytes s reply next = ShowsStatement (λ t. IsAdvice t number) number s reply next
 IsOther (Replace first last lines) data_bytes s reply next = Replaces first last lines s reply next
 IsOther (Insert after lines) data_bytes s reply next = Inserts after lines s reply next
 IsOther (Delete first last) data_bytes s reply next = Replaces first last [] s reply next
@@ -106,7 +108,7 @@ IsOther Redo data_bytes s reply next = GoesForward s.future s reply next
 IsOther (Run choices) data_bytes s reply next = Shows (IsRunBlock choices data_bytes) s reply next
 IsOther Races data_bytes s reply next = Shows (IsRaceRow data_bytes) s reply next
 IsOther Tested data_bytes s reply next = Prints (tested_row s.tested) s reply next
-IsOther command data_bytes s reply next = Refuses NotBuilt s reply next
+IsOther command data_bytes s reply next = ⊥
 
 -- what a command does to a session whose programs are run on these data: it takes its step, where it has one in the table of the steps
 abbrev pub IsStep : Command → List ℕ → State → Reply → State → Type 0

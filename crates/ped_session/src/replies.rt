@@ -58,8 +58,6 @@ pub enum Refusal {
     NoSuchStatement,
     /// The present source has no such lines, or the first stands behind the last.
     NoSuchLine,
-    /// The command isn't built yet.
-    NotBuilt,
 }
 
 /// The reply to a command.

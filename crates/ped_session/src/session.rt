@@ -1,6 +1,6 @@
 //! Sessions, and the commands that they answer.
 
-ghost use Rattle.std.specs.Prelude.{◌≡◌, ◌≢◌, ◌+◌, ◌≤◌, ℕ, List, length, IfOk, IfErr, OnOk, OnErr, is_ok, true};
+ghost use Rattle.std.specs.Prelude.{◌≡◌, ◌≢◌, ◌+◌, ◌≤◌, ℕ, List, length, IfOk, IfErr, OnOk, OnErr, is_ok, true, None};
 ghost use Rattle.ped_session.specs.ped_tree.specs.Tree.{ProgramTree};
 ghost use Rattle.ped_session.specs.ped_tree.specs.Numbering.{statements_count};
 ghost use Rattle.ped_session.specs.ped_graph.specs.ped_refs.specs.References.{references, pair_count};
@@ -15,6 +15,8 @@ ghost use Rattle.ped_session.specs.ped_graph.specs.Dependences.{AreEdges};
 ghost use Rattle.ped_order.specs.ped_eval.specs.OutcomeViews.{outcome_view};
 ghost use Rattle.ped_order.specs.ped_interleavings.specs.Interleavings.{IsInterleaved};
 ghost use Rattle.ped_session.specs.declared.replies.Reply.{Reply};
+ghost use Rattle.ped_transformations.specs.Table.{step_of};
+ghost use Rattle.ped_transformations.specs.CodeKinds.{IsPlace};
 ghost use Rattle.ped_session.specs.Meanings.{IsAsBefore};
 ghost use Rattle.ped_session.specs.States.{State, opened};
 ghost use Rattle.ped_session.specs.Steps.{IsStep, IsOther, IsMove};
@@ -25,7 +27,7 @@ use crate::ped_graph::Graph;
 use crate::ped_graph::ped_edges::Edge;
 use crate::ped_graph::ped_verdict::Steps;
 use crate::ped_script::Command;
-use crate::replies::{Refusal, Reply};
+use crate::replies::Reply;
 use crate::running::run_version;
 use crate::versions::{Entry, Version};
 use ped_history::History;
@@ -188,6 +190,7 @@ impl<L: Ledger> Session<L> {
         input: &[u8],
         steps: &mut Steps<L>,
     ) -> Result<Reply, NoMemory>
+        requires { IsPlace (step_of command.now) None }
         ensures answers { IfOk result (λ reply. IsOther command.now input.now self.old reply self.new) }
         ensures kept { OnErr result (self.new ≡ self.old) }
         ensures ticks { IfOk result (λ reply. steps.new ≡ steps.old + tests_of reply self.new) }
@@ -200,6 +203,7 @@ impl<L: Ledger> Session<L> {
             Command::Deps(of) => return self.show_dependences(alloc, *of),
             Command::Show => return self.show_both(alloc),
             Command::Print => return self.show_text(alloc),
+            Command::Advise(number) => return self.show_advice(alloc, *number),
             Command::Replace { first, last, lines } => {
                 return self.replace(alloc, *first, *last, lines.as_slice(), steps);
             }
@@ -214,19 +218,7 @@ impl<L: Ledger> Session<L> {
             Command::Run(choices) => return self.show_run(alloc, choices.as_slice(), input),
             Command::Races => return self.show_races(alloc, input),
             Command::Tested => return self.show_tested(alloc),
-            Command::Advise(_)
-            | Command::Interchange(_)
-            | Command::Reverse(_)
-            | Command::Skew(_, _)
-            | Command::Strip(_, _)
-            | Command::Peel { .. }
-            | Command::Distribute(_)
-            | Command::Fuse(_)
-            | Command::Expand(_, _)
-            | Command::Privatise(_, _)
-            | Command::Parallel(_)
-            | Command::Serial(_)
-            | Command::Reject(_, _) => return Ok(Reply::Refused(Refusal::NotBuilt)),
+            _ => unreachable!(),
         }
     }
 }

@@ -1,7 +1,8 @@
 //! What is shown of the present program. Nothing here changes the session.
 
-ghost use Rattle.std.specs.Prelude.{◌≡◌, IfOk, Option, List, ℕ};
+ghost use Rattle.std.specs.Prelude.{◌≡◌, IfOk, Option, Some, List, ℕ};
 ghost use Rattle.ped_session.specs.ped_graph.specs.DependencePane.{IsDependencePane, IsDependencePaneOf};
+ghost use Rattle.ped_transformations.specs.Advice.{IsAdvice};
 ghost use Rattle.ped_session.specs.Panes.{IsSourcePane, ArePanes};
 ghost use Rattle.ped_session.specs.Panes as Panes;
 ghost use Rattle.ped_session.specs.Blocks.{IsRunBlock};
@@ -17,6 +18,9 @@ use crate::running::run_version;
 use crate::session::Session;
 use ped_order::races;
 use ped_print::source_pane;
+use ped_transformations::advice;
+use ped_transformations::ped_reindex::ped_loops::ped_scalar::ped_rules::ped_loop_runs::ped_bodies::ped_steps::Scene;
+use ped_transformations::ped_reindex::ped_loops::ped_scalar::ped_rules::ped_loop_runs::ped_bodies::ped_steps::ped_weaves::ped_laws::ped_flow::flow_of;
 use std::alloc::Global;
 use std::sync::ledger::Ledger;
 
@@ -47,7 +51,7 @@ impl<L: Ledger> Session<L> {
 
     /// The dependence pane of the statement with this number, where there is one.
     fn show_dependences_of(&self, alloc: Global, number: u32) -> Result<Reply, NoMemory>
-        ensures { IfOk result (λ reply. ShowsStatement number self.now reply self.now) }
+        ensures { IfOk result (λ reply. ShowsStatement (λ t. IsDependencePaneOf t (Some number)) number self.now reply self.now) }
     {
         if !self.graph.has_statement(number) {
             return Ok(Reply::Refused(Refusal::NoSuchStatement));
@@ -79,6 +83,24 @@ impl<L: Ledger> Session<L> {
         let mut text = Bytes::new(alloc);
         text.extend_from_slice(self.source())?;
         Ok(Reply::Shown(text))
+    }
+
+    /// The advice on the statement with this number, where there is one.
+    pub(crate) fn show_advice(&self, alloc: Global, number: u32) -> Result<Reply, NoMemory>
+        ensures { IfOk result (λ reply. ShowsStatement (λ t. IsAdvice t number) number self.now reply self.now) }
+    {
+        if !self.graph.has_statement(number) {
+            return Ok(Reply::Refused(Refusal::NoSuchStatement));
+        }
+        let present = &self.present;
+        let flow = flow_of(alloc, &present.program)?;
+        let scene = Scene {
+            tree: &present.program,
+            symbols: &present.symbols,
+            graph: &self.graph,
+            flow: &flow,
+        };
+        Ok(Reply::Shown(advice(alloc, &scene, number)?))
     }
 
     /// The outcome of the present program on these data, with these choices.

@@ -5,7 +5,7 @@ use Rattle.ped_reindex.specs.ped_loops.specs.ped_scalar.specs.ped_rules.specs.pe
 use Rattle.ped_reindex.specs.ped_loops.specs.ped_scalar.specs.ped_rules.specs.Rules.{WhereEscape}
 
 -- where no number is the least of which this holds, it holds of none
-least : (P : ℕ → Type 0) → ((n : ℕ) → IsFirst P (Some n) → ⊥) → (n : ℕ) → P n → ⊥
+pub least : (P : ℕ → Type 0) → ((n : ℕ) → IsFirst P (Some n) → ⊥) → (n : ℕ) → P n → ⊥
 least P unfound n h = below (suc n) n (omega arith) h
   where
     not_less : (m n : ℕ) → (m < n → ⊥) → n ≤ m

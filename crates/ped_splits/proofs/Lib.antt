@@ -1,5 +1,57 @@
 pub mod OneBlocks
 pub mod DistributeRules
+pub mod FuseRules
+mod FuseFacts
+mod JoinFacts
+mod JoinParts
+mod JoinBounds
+mod JoinNumbers
+mod JoinRuns
+mod JoinNames
+mod JoinOrders
+mod JoinUnread
+mod JoinExits
+mod JoinSame
+mod JoinLive
+mod JoinLiveGaps
+mod JoinDead
+mod JoinTouches
+mod JoinWoven
+mod JoinAccesses
+mod JoinPlain
+mod JoinedFacts
+mod JoinKeeps
+mod FusedKeeps
+mod JoinInitial
+mod CoverFacts
+mod CoverGaps
+mod CoverElements
+mod CoverStores
+mod CoverReached
+mod CoverNumbers
+mod CoverMade
+mod CoverBodies
+mod CoverTrips
+mod CoverTurns
+mod CoverFound
+mod CoverDependences
+mod CoverKinds
+mod CoverMeets
+mod CoverConflicts
+mod CoverRuns
+mod CoverCrossing
+mod JoinCrossing
+pub mod NeighbourFound
+pub mod AlikeDecided
+mod NeighbourLoops
+pub mod FuseOne
+pub mod FusableFacts
+pub mod FusionSettled
+mod UnwrittenVariable
+mod FusedTrust
+mod SerialPaths
+mod ParallelRound
+mod FusedTidy
 mod Here
 mod DistributeAnswers
 mod BlockOrders
@@ -45,3 +97,38 @@ mod DistributedKinds
 mod SplitAccesses
 pub mod Existence
 pub mod Determined
+mod RenameGaps
+mod RenameUnread
+mod RenameActs
+mod RenameFacts
+mod RenamePaths
+mod RenameTrips
+mod RenameStands
+mod RenameLost
+mod RenameKinds
+mod RenameRound
+mod RenameInside
+mod RenamePlaces
+mod RenameAsked
+mod RenameRaces
+mod RenameTold
+mod RenameStores
+mod RenameQuiet
+mod RenameKeeps
+mod NamedTrees
+mod SameTrees
+mod AlikeLoops
+mod Joints
+mod KeptWithout
+mod FoundPairs
+mod PairLoops
+mod JointLoops
+mod GapPlaces
+mod EdgePlaces
+mod FuseFirst
+mod FuseReaders
+mod FusedBack
+mod FuseAnswers
+mod PlainBounds
+mod BackAmong
+mod EventNumbers

@@ -355,7 +355,7 @@ module _ (t : ProgramTree) (s : ℕ) (l : LoopOf t s) (found : List (List ℕ)) 
               | inr r ↦ inr (m.number, m.from, m.to, r.name, r.rest, r.is)
             ]
 
-    comes_from : ComesFrom t s scope old_acts b
+    comes_from : ComesFrom t s (statements_count (alone (Do l.head l.body))) scope old_acts b
     comes_from = record {
       origin = m.origin;
       found = found_there;
@@ -365,7 +365,7 @@ module _ (t : ProgramTree) (s : ℕ) (l : LoopOf t s) (found : List (List ℕ)) 
       whose = λ w more k. (let turn : new_turn ≡ w = cc in subst (λ (z : Turn). (z.statement ≡ s) ⊎ (statements_count t.body < z.statement)) turn m.numbered);
       old_extra = old_turn ∷ m.likewise.more;
       was = was;
-      both = λ w more k. (old_turn, m.likewise.more, refl, refl);
+      both = λ w more k. (let there : old_turn.statement ≡ s = refl in (old_turn, m.likewise.more, refl, omega (arith, there), omega (arith, there)));
       cell = elim (stays_or_inside (iterations_of (turns_of scope)) s (g (loop_at m.unit)) m.origin.cell) [
         | inl stays ↦ inl (stays ∙ sym cell_named)
         | inr moves ↦ inr (moves.0, moves.1, moves.2, cell_named ∙ moves.3)
@@ -401,7 +401,7 @@ module _ (t : ProgramTree) (s : ℕ) (l : LoopOf t s) (found : List (List ℕ)) 
       named : moved_behind (iterations_of (turns_of scope)) (in_loop s (g (loop_at n.unit))) m.origin.cell ≡ moved_behind (iterations_of (turns_of scope)) (in_loop s (g (loop_at n.unit))) n.origin.cell
       named = ap (λ (h : ℕ). moved_behind (iterations_of (turns_of scope)) (in_loop s h) m.origin.cell) (sym same_loop) ∙ sym (cell_named b m) ∙ cells ∙ cell_named c n
 
-  head_comes : (b : Access) → IsOfHead b → ComesFrom t s scope old_acts b
+  head_comes : (b : Access) → IsOfHead b → ComesFrom t s (statements_count (alone (Do l.head l.body))) scope old_acts b
   head_comes b h = record {
     origin = h.origin;
     found = h.found_there;
@@ -419,7 +419,7 @@ module _ (t : ProgramTree) (s : ℕ) (l : LoopOf t s) (found : List (List ℕ)) 
   extra_of c (inl h) = ([], h.place ∙ sym (append-nil (turns_of scope)))
   extra_of c (inr m) = (new_turn c m ∷ m.likewise.more, place c m)
 
-  pub free_loops : AreRaceFree t s scope (run (setting_of t) (Do l.head l.body) s scope v).acts (run_all (renumbered (counted_by (split_numbers t s l.body found)) (setting_of t)) (loops_of found l.head l.body) s scope v).acts
+  pub free_loops : AreRaceFree t s (statements_count (alone (Do l.head l.body))) scope (run (setting_of t) (Do l.head l.body) s scope v).acts (run_all (renumbered (counted_by (split_numbers t s l.body found)) (setting_of t)) (loops_of found l.head l.body) s scope v).acts
   free_loops = record {
     comes = λ b i referred. elim (access_comes b i referred) [ inl h ↦ head_comes b h | inr m ↦ comes_from b m ];
     meets = λ b c i j one two cells writing apart. by b c cells writing apart (access_comes b i one) (access_comes c j two);
@@ -433,5 +433,5 @@ module _ (t : ProgramTree) (s : ℕ) (l : LoopOf t s) (found : List (List ℕ)) 
 module _ (making : MakingLaw) (sequence : SequenceLaw) (law : UnrejectedLaw) (t : ProgramTree) (s : ℕ) (l : LoopOf t s) (found : List (List ℕ)) (x : IsSplit t s l found) (data_bytes : List ℕ) (ends : Ends (run_of t data_bytes).ending)
     (scope : Scope) (front behind : List Act) (v : Store) (executed : IsExecuted (setting_of t) t (store_at_start (lines data_bytes)) s (statements_count (alone (Do l.head l.body))) scope front (run (setting_of t) (Do l.head l.body) s scope v).acts behind v)
     (goes : finish_of (run (setting_of t) (Do l.head l.body) s scope v).ending ≡ goes_on) where
-  pub free_split : AreRaceFree t s scope (run (setting_of t) (Do l.head l.body) s scope v).acts (run_all (renumbered (counted_by (split_numbers t s l.body found)) (setting_of t)) (loops_of found l.head l.body) s scope v).acts
+  pub free_split : AreRaceFree t s (statements_count (alone (Do l.head l.body))) scope (run (setting_of t) (Do l.head l.body) s scope v).acts (run_all (renumbered (counted_by (split_numbers t s l.body found)) (setting_of t)) (loops_of found l.head l.body) s scope v).acts
   free_split = free_loops t s l found x scope v goes (made_is making sequence law t s l found x data_bytes ends scope front behind v executed goes)

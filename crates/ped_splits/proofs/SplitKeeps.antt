@@ -112,9 +112,9 @@ module _ (making : MakingLaw) (sequence : SequenceLaw) (law : UnrejectedLaw) (t 
           subst (λ (r : Run). StandsFor (record { agreed = agreed apart (shown_at_end t) (r.acts ++ behind); old = r.acts; new = fresh scope v }) (agreed apart (shown_at_end t) behind) v) (sym (run_alone p (Do l.head l.body) s scope v))
           (stands_split making sequence law t s l found x data_bytes free.0 scope front behind v executed_alone goes_alone)
 
-      unraced : AreRaceFree t s scope (run_all p old s scope v).acts (fresh scope v)
+      unraced : AreRaceFree t s count scope (run_all p old s scope v).acts (fresh scope v)
       unraced =
-          subst (λ (r : Run). AreRaceFree t s scope r.acts (fresh scope v)) (sym (run_alone p (Do l.head l.body) s scope v))
+          subst (λ (r : Run). AreRaceFree t s count scope r.acts (fresh scope v)) (sym (run_alone p (Do l.head l.body) s scope v))
           (free_split making sequence law t s l found x data_bytes free.0 scope front behind v executed_alone goes_alone)
 
     do_instead : DoInstead p (renumbered counted (setting_of u)) t (start data_bytes) first count (run_all p old first) new fresh

@@ -33,7 +33,7 @@ index_of k (block ∷ found) i = elim (in_either k block (flat found) i) [
   | inr j ↦ (let r = index_of k found j in (suc r.0, r.1))
 ]
 
-before_by_rows : {X : Type 0} (f : ℕ → List X) (a m i j : ℕ) (x y : X) → a ≤ i → i < j → j < a + m → IsIn x (f i) → IsIn y (f j) → StandsBefore x y (flat_map f (range_with_len a m))
+pub before_by_rows : {X : Type 0} (f : ℕ → List X) (a m i j : ℕ) (x y : X) → a ≤ i → i < j → j < a + m → IsIn x (f i) → IsIn y (f j) → StandsBefore x y (flat_map f (range_with_len a m))
 before_by_rows f a zero i j x y from less to k l = absurd (omega (arith, from, less, to))
 before_by_rows f a (suc m) i j x y from less to k l = elim (cases_lt a i) [
   | inl later ↦ before_right x y (f a) (flat_map f (range_with_len (a + 1) m)) (before_by_rows f (a + 1) m i j x y (omega (arith, later)) less (omega (arith, to)) k l)
@@ -43,7 +43,7 @@ before_by_rows f a (suc m) i j x y from less to k l = elim (cases_lt a i) [
       )
 ]
 
-before_in_row : {X : Type 0} (f : ℕ → List X) (a m i : ℕ) (x y : X) → a ≤ i → i < a + m → StandsBefore x y (f i) → StandsBefore x y (flat_map f (range_with_len a m))
+pub before_in_row : {X : Type 0} (f : ℕ → List X) (a m i : ℕ) (x y : X) → a ≤ i → i < a + m → StandsBefore x y (f i) → StandsBefore x y (flat_map f (range_with_len a m))
 before_in_row f a zero i x y from to b = absurd (omega (arith, from, to))
 before_in_row f a (suc m) i x y from to b = elim (cases_lt a i) [
   | inl later ↦ before_right x y (f a) (flat_map f (range_with_len (a + 1) m)) (before_in_row f (a + 1) m i x y (omega (arith, later)) (omega (arith, to)) b)
@@ -70,10 +70,10 @@ module _ (n m : ℕ) (acts : ℕ → ℕ → List Act) where
       one k (inl e) = e
       one k (inr none) = absurd none
 
-  in_row : (ks : List ℕ) (i k : ℕ) → In k ks → IsIn (block_at acts i k) (units_row ks i)
+  pub in_row : (ks : List ℕ) (i k : ℕ) → In k ks → IsIn (block_at acts i k) (units_row ks i)
   in_row ks i k h = among_rows (λ j. block_at acts i j ∷ []) ks k (block_at acts i k) (is_in k ks h) (inl refl)
 
-  of_rows : (ks : List ℕ) (x : Block) → IsIn x (flat_map (units_row ks) (range_with_len 1 n)) → (i k : ℕ) × (1 ≤ i) × (i ≤ n) × In k ks × (x ≡ block_at acts i k)
+  pub of_rows : (ks : List ℕ) (x : Block) → IsIn x (flat_map (units_row ks) (range_with_len 1 n)) → (i k : ℕ) × (1 ≤ i) × (i ≤ n) × In k ks × (x ≡ block_at acts i k)
   of_rows ks x h =
       let r = in_rows (units_row ks) (range_with_len 1 n) x h in
       let w = in_numbers n 1 r.0 r.1 in
@@ -81,11 +81,11 @@ module _ (n m : ℕ) (acts : ℕ → ℕ → List Act) where
       let q = of_row ks r.0 x r.2 in
       (r.0, q.0, w.0, omega (arith, high), q.1, q.2)
 
-  in_all_rows : (ks : List ℕ) (i k : ℕ) → 1 ≤ i → i ≤ n → In k ks → IsIn (block_at acts i k) (flat_map (units_row ks) (range_with_len 1 n))
+  pub in_all_rows : (ks : List ℕ) (i k : ℕ) → 1 ≤ i → i ≤ n → In k ks → IsIn (block_at acts i k) (flat_map (units_row ks) (range_with_len 1 n))
   in_all_rows ks i k from to h = among_rows (units_row ks) (range_with_len 1 n) i (block_at acts i k) (one_of_numbers n 1 i from (omega (arith, to))) (in_row ks i k h)
 
   -- by iterations and units
-  row_before : (ks : List ℕ) (i k j : ℕ) → IsRising ks → In k ks → In j ks → k < j → StandsBefore (block_at acts i k) (block_at acts i j) (units_row ks i)
+  pub row_before : (ks : List ℕ) (i k j : ℕ) → IsRising ks → In k ks → In j ks → k < j → StandsBefore (block_at acts i k) (block_at acts i j) (units_row ks i)
   row_before [] i k j rising h g less = absurd h
   row_before (z ∷ ks) i k j rising (inl e) (inl f) less = absurd (omega (arith, e, f, less))
   row_before (z ∷ ks) i k j rising (inl e) (inr g) less = inl (ap (block_at acts i) e, in_row ks i j g)
@@ -102,7 +102,7 @@ module _ (n m : ℕ) (acts : ℕ → ℕ → List Act) where
       (ap (λ (r : Block). r.outer) p.0, ap (λ (r : Block). r.outer) q.2, omega (arith, less, first, second))
   row_rises (z ∷ ks) i x y rising (inr b) = row_rises ks i x y rising.1 b
 
-  rows_rise : (ks : List ℕ) → IsRising ks → IsByRows (flat_map (units_row ks) (range_with_len 1 n))
+  pub rows_rise : (ks : List ℕ) → IsRising ks → IsByRows (flat_map (units_row ks) (range_with_len 1 n))
   rows_rise ks rising x y before = elim (before_in_rows (units_row ks) n 1 x y before) [
     | inl r ↦ (let q = row_rises ks r.row x y rising r.before in inr (q.0 ∙ sym q.1, q.2))
     | inr r ↦ (

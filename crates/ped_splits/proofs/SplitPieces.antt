@@ -40,7 +40,7 @@ use Rattle.ped_splits.proofs.SplitUnits.{followed_none, offset, size_of_unit}
 use Rattle.ped_splits.specs.Distributing.{joined}
 use Rattle.ped_splits.specs.Units.{units}
 
-followed_numbered : (ts us : StmtTrees) → all_numbered (followed ts us) ≡ all_numbered ts ++ all_numbered us
+pub followed_numbered : (ts us : StmtTrees) → all_numbered (followed ts us) ≡ all_numbered ts ++ all_numbered us
 followed_numbered no_stmts us = refl
 followed_numbered (more_stmts t rest) us = ap (λ (z : List StmtTree). numbered t ++ z) (followed_numbered rest us) ∙ sym (append_assoc (numbered t) (all_numbered rest) (all_numbered us))
 
@@ -53,7 +53,7 @@ inside_turns name turns others (b ∷ acts) (c ∷ fresh) like a (inr i) = insid
 
 module _ (t : ProgramTree) where
   -- statements that fill a gap stand there
-  gap_stands : (gap : Gap) (old : StmtTrees) (n : ℕ) → Stand t n (all_numbered (filled gap old)) → Stand t (number_at gap n) (all_numbered old)
+  pub gap_stands : (gap : Gap) (old : StmtTrees) (n : ℕ) → Stand t n (all_numbered (filled gap old)) → Stand t (number_at gap n) (all_numbered old)
   gap_stands (at_front rest) old n h = first_stands t n (all_numbered old) (all_numbered rest) (subst (Stand t n) (followed_numbered old rest) h)
   gap_stands (past x gap) old n h = gap_stands gap old (n + statement_count x) (rest_stands t x (filled gap old) n h)
   gap_stands (in_then c gap b rest) old n h = gap_stands gap old (n + 1) (first_stands t (n + 1) (all_numbered (filled gap old)) (all_numbered b) (inner_stands t _ (all_numbered (filled gap old) ++ all_numbered b) n (first_stands t n _ (all_numbered rest) h)))

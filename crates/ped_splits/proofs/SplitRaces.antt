@@ -1,5 +1,5 @@
 -- The DO loops into which a DO is taken apart make no race, where their accesses come from those of its executions.
-use Rattle.std.proofs.Common.{◌≡◌, ◌⊎◌, ℕ, ◌<◌, List, [], ◌∷◌, ◌++◌, length, true, ◌||◌, inl, inr, refl, sym, ap, subst, ◌∙◌, append-nil, arith}
+use Rattle.std.proofs.Common.{◌≡◌, ◌⊎◌, ℕ, ◌+◌, ◌<◌, ◌≤◌, List, [], ◌∷◌, ◌++◌, length, true, ◌||◌, inl, inr, refl, sym, ap, subst, ◌∙◌, append-nil, arith}
 use Rattle.std.proofs.lemmas.Bool.{and_parts}
 use Rattle.std.specs.Str.Lines.{lines}
 use Rattle.ped_tree.specs.Tree.{StmtTrees, ProgramTree}
@@ -34,8 +34,8 @@ use Rattle.ped_reindex.specs.ped_loops.specs.ped_scalar.specs.ped_rules.specs.pe
 use Rattle.ped_reindex.specs.ped_loops.specs.ped_scalar.specs.ped_rules.specs.ped_loop_runs.specs.ped_bodies.specs.ped_steps.specs.ped_laws.specs.ped_store.specs.Races.{Access, HasNoRace, accesses, are_apart, race}
 use Rattle.ped_reindex.specs.ped_loops.specs.ped_scalar.specs.ped_rules.specs.ped_loop_runs.specs.ped_bodies.specs.ped_steps.specs.ped_laws.specs.ped_store.specs.Stores.{Store, store_at_start}
 
--- an access in the place of an execution comes from one of it, in the same cell, or in a copy that belongs to an iteration there: both stand in the iterations round it, or the old one in an iteration of the DO and the new one in one of that or of a DO that the old program doesn't have
-pub record ComesFrom (t : ProgramTree) (l : ℕ) (scope : Scope) (olds : List Act) (b : Access) : Type 0 where
+-- an access in the place of an execution comes from one of it, in the same cell, or in a copy that belongs to an iteration there: both stand in the iterations round it, or the old one in an iteration of one of so many statements and the new one in one of the first of them or of a DO that the old program doesn't have
+pub record ComesFrom (t : ProgramTree) (l count : ℕ) (scope : Scope) (olds : List Act) (b : Access) : Type 0 where
   pub origin : Access
   pub found : IsIn origin (accesses olds)
   pub writes : origin.writes ≡ b.writes
@@ -44,12 +44,12 @@ pub record ComesFrom (t : ProgramTree) (l : ℕ) (scope : Scope) (olds : List Ac
   pub whose : (v : Turn) (more : List Turn) → extra ≡ v ∷ more → (v.statement ≡ l) ⊎ (statements_count t.body < v.statement)
   pub old_extra : List Turn
   pub was : origin.place.turns ≡ turns_of scope ++ old_extra
-  pub both : (v : Turn) (more : List Turn) → extra ≡ v ∷ more → (u : Turn) × (rest : List Turn) × (old_extra ≡ u ∷ rest) × (u.statement ≡ l)
+  pub both : (v : Turn) (more : List Turn) → extra ≡ v ∷ more → (u : Turn) × (rest : List Turn) × (old_extra ≡ u ∷ rest) × (l ≤ u.statement) × (u.statement < l + count)
   pub cell : (origin.cell ≡ b.cell) ⊎ ((x : List ℕ) × (i : Iteration) × (rest : List Iteration) × (b.cell ≡ Private x (iterations_of (turns_of scope) ++ i ∷ rest)))
 
 -- the new acts of one execution: each access by a reference comes from one of it, and two that race from two that race
-pub record AreRaceFree (t : ProgramTree) (l : ℕ) (scope : Scope) (old new : List Act) : Type 0 where
-  pub comes : (b : Access) → IsIn b (accesses new) → 0 < b.reference → ComesFrom t l scope old b
+pub record AreRaceFree (t : ProgramTree) (l count : ℕ) (scope : Scope) (old new : List Act) : Type 0 where
+  pub comes : (b : Access) → IsIn b (accesses new) → 0 < b.reference → ComesFrom t l count scope old b
   pub meets : (b c : Access) → IsIn b (accesses new) → IsIn c (accesses new) → 0 < b.reference → 0 < c.reference → b.cell ≡ c.cell → b.writes || c.writes ≡ true → are_apart b.place.turns c.place.turns ≡ true → RaceBefore old b c
 
 module _ (t u : ProgramTree) (f g : ℕ → ℕ) (told : IsToldBack f g) (new_valid : IsValid u) (l : ℕ) (old : StmtTrees) (some : 0 < statements_count old) (fresh : Scope → Store → List Act) (data_bytes : List ℕ) where
@@ -85,7 +85,7 @@ module _ (t u : ProgramTree) (f g : ℕ → ℕ) (told : IsToldBack f g) (new_va
   both_kept : (b c : Access) → Race b c → IsIn b (accesses olds) → IsIn c (accesses olds) → RaceSomewhere olds
   both_kept b c r i j = somewhere b c i j r.cells r.writing r.apart
 
-  module _ (instead : (scope : Scope) (front behind : List Act) (s : Store) → IsExecuted p t start l count scope front (piece scope s).acts behind s → finish_of (piece scope s).ending ≡ goes_on → AreRaceFree t l scope (piece scope s).acts (fresh scope s)) where
+  module _ (instead : (scope : Scope) (front behind : List Act) (s : Store) → IsExecuted p t start l count scope front (piece scope s).acts behind s → finish_of (piece scope s).ending ≡ goes_on → AreRaceFree t l count scope (piece scope s).acts (fresh scope s)) where
     -- an execution, among the acts of the run
     record Execution : Type 0 where
       scope : Scope
@@ -104,9 +104,9 @@ module _ (t u : ProgramTree) (f g : ℕ → ℕ) (told : IsToldBack f g) (new_va
       round = turns_of y.scope
 
       abbrev Inside : Access → Type 0
-      Inside b = ComesFrom t l y.scope its b
+      Inside b = ComesFrom t l count y.scope its b
 
-      free : AreRaceFree t l y.scope its (fresh y.scope y.store)
+      free : AreRaceFree t l count y.scope its (fresh y.scope y.store)
       free = instead y.scope y.front y.behind y.store y.executed y.goes
 
       comes : (b : Access) → IsIn b (accesses (fresh y.scope y.store)) → 0 < b.reference → Inside b
@@ -162,12 +162,12 @@ module _ (t u : ProgramTree) (f g : ℕ → ℕ) (told : IsToldBack f g) (new_va
     not_same y w c m outside v more e alike =
         let b = m.both v more e in
         outside (record {
-          statement = l;
-          from = omega arith;
-          to = omega (arith, some);
+          statement = b.0.statement;
+          from = b.3;
+          to = b.4;
           number = b.0.number;
           rest = iterations_of b.1;
-          is = ap iterations_of m.was ∙ iterations_append (round w) m.old_extra ∙ (λ i. alike i ++ iterations_of (b.2 i)) ∙ (λ i. iterations_of (round y) ++ record { statement = b.3 i; number = b.0.number } ∷ iterations_of b.1);
+          is = ap iterations_of m.was ∙ iterations_append (round w) m.old_extra ∙ (λ i. alike i ++ iterations_of (b.2 i));
         })
 
     -- so the iterations round the one are apart from an access of the other

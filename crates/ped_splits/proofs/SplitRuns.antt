@@ -56,7 +56,7 @@ shifted f a zero = refl
 shifted f a (suc n) = (λ i. f ((let e : a + 1 ≡ suc a = omega arith in e) i) ++ shifted f (a + 1) n i)
 
 -- where the whole goes on, what comes first does
-then_goes : (acts : List Act) (r : Ending) (next : Store → Run) → finish_of (followed_by acts r next).ending ≡ goes_on → finish_of r ≡ goes_on
+pub then_goes : (acts : List Act) (r : Ending) (next : Store → Run) → finish_of (followed_by acts r next).ending ≡ goes_on → finish_of r ≡ goes_on
 then_goes acts (going w) next h = refl
 then_goes acts (stopped w) next h = h
 then_goes acts (failed fault n) next h = h

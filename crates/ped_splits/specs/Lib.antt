@@ -3,4 +3,10 @@ pub use Rattle.ped_reindex
 pub mod Units
 pub mod Blocks
 pub mod Distributing
+pub mod Neighbours
+pub mod Fusing
+pub mod OneVariable
 pub mod CodeUnits
+pub mod CodeAlike
+pub mod CodePairs
+pub mod CodeFusing

@@ -82,7 +82,7 @@ fn are_comments(statements: &[Stmt]) -> bool
 }
 
 /// Whether this statement is a comment.
-fn is_comment(statement: &Stmt) -> bool
+pub(crate) fn is_comment(statement: &Stmt) -> bool
     ensures { result ≡ (statement_count (stmt_tree statement.now) == 0) }
 {
     match statement {

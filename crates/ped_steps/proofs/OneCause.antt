@@ -5,7 +5,7 @@ use Rattle.ped_tree.specs.Tree.{ProgramTree}
 use Rattle.ped_weaves.specs.ped_laws.specs.ped_graph.specs.ped_edges.specs.Edges.{Edge}
 use Rattle.ped_weaves.specs.ped_laws.specs.ped_graph.proofs.OnePane.{one_edges}
 use Rattle.ped_steps.specs.declared.rules.Rule.{Rule}
-use Rattle.ped_steps.specs.declared.rules.Rule.TheVariants.{NoLoop, NotPerfect, ParallelState, HasPrivate, IndexEscapes, BoundNotPlain, BoundsShape, StepShape, Range, NoNeighbour, OneBlock, ExposedOrLive, NotScalar, NotConstant, Limit, BadFactor, AlreadyPrivate, NothingToReject}
+use Rattle.ped_steps.specs.declared.rules.Rule.TheVariants.{NoLoop, NotPerfect, ParallelState, HasPrivate, IndexEscapes, BoundNotPlain, BoundsShape, StepShape, Range, NoNeighbour, OneBlock, ExposedOrLive, NotScalar, NotConstant, Limit, BadFactor, AlreadyPrivate, NothingToReject, NotSum, NoCall}
 use Rattle.ped_steps.specs.RuleNames.{number_of}
 use Rattle.ped_steps.specs.Causes.{Rules, IsFirstForbidding, Cause, rule, dependence, IsFirstCause}
 
@@ -29,7 +29,9 @@ rule_with n =
     else if n == 15 then Limit
     else if n == 16 then BadFactor
     else if n == 17 then AlreadyPrivate
-    else NothingToReject
+    else if n == 18 then NothingToReject
+    else if n == 19 then NotSum
+    else NoCall
 
 with_number : (q : Rule) → rule_with (number_of q) ≡ q
 with_number NoLoop = refl
@@ -50,6 +52,8 @@ with_number Limit = refl
 with_number BadFactor = refl
 with_number AlreadyPrivate = refl
 with_number NothingToReject = refl
+with_number NotSum = refl
+with_number NoCall = refl
 
 -- two rules have two numbers
 one_number : (q r : Rule) → number_of q ≡ number_of r → q ≡ r

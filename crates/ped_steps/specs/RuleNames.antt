@@ -1,7 +1,7 @@
 -- The rules by which steps are refused, with their numbers and names (ParaScope; this project).
 use Rattle.std.specs.Prelude.{ℕ, List, codes}
 use Rattle.ped_steps.specs.declared.rules.Rule.{Rule}
-use Rattle.ped_steps.specs.declared.rules.Rule.TheVariants.{NoLoop, NotPerfect, ParallelState, HasPrivate, IndexEscapes, BoundNotPlain, BoundsShape, StepShape, Range, NoNeighbour, OneBlock, ExposedOrLive, NotScalar, NotConstant, Limit, BadFactor, AlreadyPrivate, NothingToReject}
+use Rattle.ped_steps.specs.declared.rules.Rule.TheVariants.{NoLoop, NotPerfect, ParallelState, HasPrivate, IndexEscapes, BoundNotPlain, BoundsShape, StepShape, Range, NoNeighbour, OneBlock, ExposedOrLive, NotScalar, NotConstant, Limit, BadFactor, AlreadyPrivate, NothingToReject, NotSum, NoCall}
 
 -- the number of a rule (this project)
 abbrev pub number_of : Rule → ℕ
@@ -23,6 +23,8 @@ number_of Limit = 15
 number_of BadFactor = 16
 number_of AlreadyPrivate = 17
 number_of NothingToReject = 18
+number_of NotSum = 19
+number_of NoCall = 20
 
 -- the name of a rule (this project)
 abbrev pub name_of : Rule → List ℕ
@@ -44,3 +46,5 @@ name_of Limit = codes "Limit"
 name_of BadFactor = codes "BadFactor"
 name_of AlreadyPrivate = codes "AlreadyPrivate"
 name_of NothingToReject = codes "NothingToReject"
+name_of NotSum = codes "NotSum"
+name_of NoCall = codes "NoCall"

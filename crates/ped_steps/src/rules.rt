@@ -3,7 +3,7 @@
 ghost use Rattle.std.specs.Prelude.{◌≡◌};
 ghost use Rattle.ped_steps.specs.RuleNames.{number_of, name_of};
 
-/// A rule that stands against a step, in the order of the numbers 1 to 18 (ParaScope; this project).
+/// A rule that stands against a step, in the order of the numbers 1 to 20 (ParaScope; this project).
 #[derive(Clone, Copy, Debug, PartialEq, Eq)]
 pub enum Rule {
     /// The statement is no DO.
@@ -42,10 +42,14 @@ pub enum Rule {
     AlreadyPrivate,
     /// There is no pending dependence to reject.
     NothingToReject,
+    /// A statement refers to a name of the list and adds nothing to it, or refers to it twice.
+    NotSum,
+    /// The statement isn't the block of a call.
+    NoCall,
 }
 
 impl Rule {
-    /// The number of this rule, 1 to 18: of the rules that stand against a step the least counts.
+    /// The number of this rule, 1 to 20: of the rules that stand against a step the least counts.
     pub fn number(self) -> u8
         ensures { result ≡ number_of self }
     {
@@ -68,6 +72,8 @@ impl Rule {
             Rule::BadFactor => 16,
             Rule::AlreadyPrivate => 17,
             Rule::NothingToReject => 18,
+            Rule::NotSum => 19,
+            Rule::NoCall => 20,
         }
     }
 
@@ -94,6 +100,8 @@ impl Rule {
             Rule::BadFactor => b"BadFactor",
             Rule::AlreadyPrivate => b"AlreadyPrivate",
             Rule::NothingToReject => b"NothingToReject",
+            Rule::NotSum => b"NotSum",
+            Rule::NoCall => b"NoCall",
         }
     }
 }

@@ -15,9 +15,10 @@ use Rattle.ped_splits.specs.ped_reindex.specs.Skewing.{skewing}
 use Rattle.ped_splits.specs.ped_reindex.specs.Stripping.{stripping}
 use Rattle.ped_splits.specs.ped_reindex.specs.Peeling.{peeling}
 use Rattle.ped_splits.specs.Distributing.{distributing}
+use Rattle.ped_splits.specs.Fusing.{fusing}
 use Rattle.ped_splits.specs.ped_reindex.specs.ped_loops.proofs.Determined.{determined_parallel, determined_serial, determined_reversal, determined_interchange, determined_rejection}
 use Rattle.ped_splits.specs.ped_reindex.proofs.Determined.{determined_skew, determined_strip, determined_peel}
-use Rattle.ped_splits.proofs.Determined.{determined_distribution}
+use Rattle.ped_splits.proofs.Determined.{determined_distribution, determined_fusion}
 use Rattle.ped_transformations.specs.Table.{step_of}
 
 determined_by : (at : StepAt) → IsLawful at → IsDetermined at
@@ -36,7 +37,7 @@ determined_step (Skew number factor) = determined_skew number factor
 determined_step (Strip number size) = determined_strip number size
 determined_step (Peel number last) = determined_peel number last
 determined_step (Distribute number) = determined_distribution number
-determined_step (Fuse number) = tt
+determined_step (Fuse number) = determined_fusion number
 determined_step Source = tt
 determined_step (Deps of) = tt
 determined_step Show = tt
@@ -62,6 +63,7 @@ pub record LoopsLawful : Type 0 where
   pub strip : (s : ℕ) (k : ℤ) → IsLawful (stripping s k)
   pub peel : (s : ℕ) (last : Bool) → IsLawful (peeling s last)
   pub distribution : (s : ℕ) → IsLawful (distributing s)
+  pub fusion : (s : ℕ) → IsLawful (fusing s)
 
 -- each step of the table is lawful
 abbrev pub AllLawful : Type 0
@@ -79,7 +81,7 @@ lawful_step loops (Skew number factor) = loops.skew number factor
 lawful_step loops (Strip number size) = loops.strip number size
 lawful_step loops (Peel number last) = loops.peel number last
 lawful_step loops (Distribute number) = loops.distribution number
-lawful_step loops (Fuse number) = tt
+lawful_step loops (Fuse number) = loops.fusion number
 lawful_step loops Source = tt
 lawful_step loops (Deps of) = tt
 lawful_step loops Show = tt

@@ -1,2 +1,4 @@
-pub mod LawfulTable
+mod AdviceLines
 pub mod ByPlace
+pub mod LawfulTable
+pub mod OneAdvice

@@ -1,5 +1,7 @@
 pub use Rattle.ped_script
 pub use Rattle.ped_splits
 pub use Rattle.ped_splits.specs.ped_reindex
-pub mod Table
+pub mod Advice
+pub mod CodeAdvice
 pub mod CodeKinds
+pub mod Table

@@ -1,6 +1,6 @@
 -- The one table of the steps: which one each command takes (ParaScope; this project).
 use Rattle.ped_script.specs.declared.items.Command.{Command}
-use Rattle.ped_script.specs.declared.items.Command.TheVariants.{Interchange, Reverse, Skew, Strip, Peel, Distribute, Expand, Privatise, Parallel, Serial, Reject}
+use Rattle.ped_script.specs.declared.items.Command.TheVariants.{Interchange, Reverse, Skew, Strip, Peel, Distribute, Fuse, Expand, Privatise, Parallel, Serial, Reject}
 use Rattle.ped_splits.specs.ped_reindex.specs.ped_loops.specs.ped_scalar.specs.ped_rules.specs.Steps.{MaybeStep, no_step, some_step}
 use Rattle.ped_splits.specs.ped_reindex.specs.ped_loops.specs.ped_scalar.specs.Privatising.{privatising}
 use Rattle.ped_splits.specs.ped_reindex.specs.ped_loops.specs.ped_scalar.specs.Expanding.{expanding}
@@ -13,8 +13,9 @@ use Rattle.ped_splits.specs.ped_reindex.specs.Skewing.{skewing}
 use Rattle.ped_splits.specs.ped_reindex.specs.Stripping.{stripping}
 use Rattle.ped_splits.specs.ped_reindex.specs.Peeling.{peeling}
 use Rattle.ped_splits.specs.Distributing.{distributing}
+use Rattle.ped_splits.specs.Fusing.{fusing}
 
--- the step that a command takes; none where it takes none, or where the step isn't built yet
+-- the step that a command takes, where it takes one
 abbrev pub step_of : Command → MaybeStep
 step_of (Expand number name) = some_step (expanding number name)
 step_of (Privatise number name) = some_step (privatising number name)
@@ -24,6 +25,7 @@ step_of (Skew number factor) = some_step (skewing number factor)
 step_of (Strip number size) = some_step (stripping number size)
 step_of (Peel number last) = some_step (peeling number last)
 step_of (Distribute number) = some_step (distributing number)
+step_of (Fuse number) = some_step (fusing number)
 step_of (Parallel number) = some_step (paralleling number)
 step_of (Serial number) = some_step (serialising number)
 step_of (Reject number name) = some_step (rejecting number name)

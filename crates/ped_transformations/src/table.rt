@@ -9,7 +9,6 @@ ghost use Rattle.ped_transformations.specs.CodeKinds.{IsPlace, AnswersStep};
 
 use ped_base::NoMemory;
 use ped_script::Command;
-use ped_splits::distribute;
 use ped_splits::ped_reindex::ped_loops::ped_scalar::ped_rules::ped_loop_runs::ped_bodies::ped_steps::{
     Change, Refused, Scene,
 };
@@ -18,6 +17,7 @@ use ped_splits::ped_reindex::ped_loops::{
     interchange, make_parallel, make_serial, reject, reverse,
 };
 use ped_splits::ped_reindex::{peel, skew, strip};
+use ped_splits::{distribute, fuse};
 use std::alloc::Global;
 use std::sync::ledger::Ledger;
 
@@ -39,8 +39,7 @@ pub struct Place {
     pub kind: Kind,
 }
 
-/// Where the step of a command is taken, and its kind: none where the command takes no step, or where the step isn't built
-/// yet.
+/// Where the step of a command is taken, and its kind: none where the command takes no step.
 pub fn place_of(command: &Command) -> Option<Place>
     ensures { IsPlace (step_of command.now) result }
 {
@@ -53,6 +52,7 @@ pub fn place_of(command: &Command) -> Option<Place>
         Command::Strip(number, _) => Some(transformation(*number)),
         Command::Peel { statement, last: _ } => Some(transformation(*statement)),
         Command::Distribute(number) => Some(transformation(*number)),
+        Command::Fuse(number) => Some(transformation(*number)),
         Command::Parallel(number) => Some(transformation(*number)),
         Command::Serial(number) => Some(transformation(*number)),
         Command::Reject(number, _) => Some(rejection(*number)),
@@ -80,8 +80,7 @@ fn rejection(statement: u32) -> Place
     }
 }
 
-/// What the step of a command makes of a program, or the first cause against it: none where the command takes no step, or
-/// where the step isn't built yet.
+/// What the step of a command makes of a program, or the first cause against it: none where the command takes no step.
 pub fn answer<L: Ledger>(
     alloc: Global,
     scene: &Scene<L>,
@@ -121,6 +120,10 @@ pub fn answer<L: Ledger>(
         }
         Command::Distribute(number) => {
             let found = distribute(alloc, scene, *number)?;
+            return Ok(Some(found));
+        }
+        Command::Fuse(number) => {
+            let found = fuse(alloc, scene, *number)?;
             return Ok(Some(found));
         }
         Command::Parallel(number) => {

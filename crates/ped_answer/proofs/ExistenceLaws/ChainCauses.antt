@@ -117,7 +117,7 @@ module _ (t : ProgramTree) (s : ℕ) where
 
 module _ (test : Edge → Bool) where
   -- the first dependence that passes the test, or none does
-  first_edge : (edges : List Edge) → ((e : Edge) × IsFirstForbidding test edges e) ⊎ All (λ e. test e ≡ false) edges
+  pub first_edge : (edges : List Edge) → ((e : Edge) × IsFirstForbidding test edges e) ⊎ All (λ e. test e ≡ false) edges
   first_edge [] = inr (All-nil (λ e. test e ≡ false))
   first_edge (e ∷ edges) = by (truth (test e)) (first_edge edges)
     where

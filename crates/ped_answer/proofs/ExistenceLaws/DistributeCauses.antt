@@ -22,7 +22,7 @@ use Rattle.ped_answer.proofs.ExistenceLaws.ChainCauses.{Settled, found_link, fou
 
 module _ (t : ProgramTree) (s : ℕ) where
   -- a bound isn't plain, or both are
-  settled_plain : Settled (WhereUnplain t s (IsItsBound t s))
+  pub settled_plain : Settled (WhereUnplain t s (IsItsBound t s))
   settled_plain = by (loop_decided t s)
     where
       stands : (l : LoopOf t s) (e : ExprTree) → IsBoundOf l.head e → (IsPlain (table_of t).constants t s e → ⊥) → Settled (WhereUnplain t s (IsItsBound t s))

@@ -12,6 +12,7 @@ use Rattle.ped_answer.specs.ped_session.specs.ped_transformations.specs.Table.{s
 use Rattle.ped_answer.specs.ped_session.specs.ped_transformations.proofs.LawfulTable.{determined_step}
 use Rattle.ped_answer.proofs.ExistenceLaws.ReindexCauses.{skew_cause, strip_cause, peel_cause}
 use Rattle.ped_answer.proofs.ExistenceLaws.DistributeCauses.{distribute_cause}
+use Rattle.ped_answer.proofs.ExistenceLaws.FuseCauses.{fuse_cause}
 use Rattle.ped_answer.proofs.ExistenceLaws.InterchangeCauses.{interchange_cause}
 use Rattle.ped_answer.proofs.ExistenceLaws.LoopCauses.{parallel_cause, serial_cause, reversal_cause, rejection_cause}
 use Rattle.ped_answer.proofs.ExistenceLaws.ScalarCauses.{privatising_cause, expanding_cause}
@@ -21,7 +22,7 @@ abbrev pub Goes : StepAt → ProgramTree → Type 0
 Goes at t = ((c : Cause) × at.IsCause t (Some c)) ⊎ (at.IsCause t None × (new : ProgramTree) × (keep : List (ℕ × ℕ)) × at.Makes t new keep × IsValid new)
 
 -- in each program a first cause is against a step, or none
-abbrev HasCause : StepAt → Type 0
+abbrev pub HasCause : StepAt → Type 0
 HasCause at = (t : ProgramTree) → (c : Option Cause) × at.IsCause t c
 
 -- so a determined step goes
@@ -37,7 +38,7 @@ goes no_step determined some = tt
 goes (some_step at) determined some = goes_by at determined some
 
 -- each step of the table has one
-each_cause : (command : Command) → MatchStep (step_of command) ⊤ HasCause
+pub each_cause : (command : Command) → MatchStep (step_of command) ⊤ HasCause
 each_cause (Expand number name) = λ t. expanding_cause t number name
 each_cause (Privatise number name) = λ t. privatising_cause t number name
 each_cause (Interchange number) = λ t. interchange_cause t number
@@ -46,7 +47,7 @@ each_cause (Skew number factor) = λ t. skew_cause t number factor
 each_cause (Strip number size) = λ t. strip_cause t number size
 each_cause (Peel number last) = λ t. peel_cause t number last
 each_cause (Distribute number) = λ t. distribute_cause t number
-each_cause (Fuse number) = tt
+each_cause (Fuse number) = λ t. fuse_cause t number
 each_cause (Parallel number) = λ t. parallel_cause t number
 each_cause (Serial number) = λ t. serial_cause t number
 each_cause (Reject number name) = λ t. rejection_cause t number name

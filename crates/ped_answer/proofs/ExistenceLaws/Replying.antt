@@ -20,7 +20,7 @@ use Rattle.ped_answer.specs.ped_session.specs.ped_transformations.specs.ped_scri
 use Rattle.ped_answer.specs.ped_session.specs.ped_transformations.specs.ped_script.specs.declared.items.Item.{Item}
 use Rattle.ped_answer.specs.ped_session.specs.declared.changes.Change.TheVariants.{Edit}
 use Rattle.ped_answer.specs.ped_session.specs.declared.replies.Refusal.{Refusal}
-use Rattle.ped_answer.specs.ped_session.specs.declared.replies.Refusal.TheVariants.{BadEdit, Step, NothingToUndo, NothingToRedo, NoSuchStatement, NoSuchLine, NotBuilt}
+use Rattle.ped_answer.specs.ped_session.specs.declared.replies.Refusal.TheVariants.{BadEdit, Step, NothingToUndo, NothingToRedo, NoSuchStatement, NoSuchLine}
 use Rattle.ped_answer.specs.ped_session.specs.declared.replies.Reply.{Reply}
 use Rattle.ped_answer.specs.ped_session.specs.declared.replies.Reply.TheVariants.{Changed, Shown, Refused}
 use Rattle.ped_answer.specs.ped_session.specs.States.{Other, State, opened, changed_to, gone_back_to, gone_forward_to}
@@ -30,9 +30,11 @@ use Rattle.ped_answer.specs.ped_session.specs.Blocks.{block, IsRunBlock}
 use Rattle.ped_answer.specs.ped_session.specs.RaceRows.{race_row, IsRaceRow}
 use Rattle.ped_answer.specs.ped_session.specs.ped_transformations.specs.ped_reindex.specs.ped_loops.specs.ped_scalar.specs.ped_rules.specs.Steps.{StepAt, MaybeStep, no_step, some_step, MatchStep}
 use Rattle.ped_answer.specs.ped_session.specs.ped_transformations.specs.Table as table
+use Rattle.ped_answer.specs.ped_session.specs.ped_transformations.specs.Advice.{IsAdvice}
 use Rattle.ped_answer.specs.ped_session.specs.Steps.{Refuses, Shows, ShowsOf, ShowsStatement, Edits, accepted, refused, change_by, Transforms, missing, forbidden, transformed, GoesBack, GoesForward, IsOther, IsStep}
 use Rattle.ped_answer.specs.ped_session.specs.Histories.{IsPrinted, ArePrinted}
 use Rattle.ped_answer.specs.ped_session.specs.Scripts.{Said, said_by, bad_command_said, nothing_said, said_both, AnswersCommand, AnswersItems}
+use Rattle.ped_answer.proofs.ExistenceLaws.Advices.{advice_of}
 use Rattle.ped_answer.proofs.ExistenceLaws.Edges.{pane_of_program, pane_of_statement}
 use Rattle.ped_answer.proofs.ExistenceLaws.FirstCauses.{Goes, each_goes}
 use Rattle.ped_answer.proofs.ExistenceLaws.Refusing.{refusal_for}
@@ -74,14 +76,14 @@ module _ (comes : SomeOutcome) (s : State) (all : ArePrinted s) where
       let bytes = some t.0 in
       record { reply = Shown bytes.0; next = s; is = record { tree = t.0; reads = t.1; bytes = bytes.0; so = bytes.1; prints = (refl, refl) }; printed = all }
 
-  shows_of : (number : ℕ) (statement : Option StmtTree) → Answered (λ reply. λ next. ShowsOf number statement s reply next)
-  shows_of number None = stays NoSuchStatement
-  shows_of number (Some statement) = shows (λ t. IsDependencePaneOf t (Some number)) (λ t. pane_of_statement t (Some number))
+  shows_of : (IsSo : ProgramTree → List ℕ → Type 0) → ((t : ProgramTree) → (bytes : List ℕ) × IsSo t bytes) → (statement : Option StmtTree) → Answered (λ reply. λ next. ShowsOf IsSo statement s reply next)
+  shows_of IsSo some None = stays NoSuchStatement
+  shows_of IsSo some (Some statement) = shows IsSo some
 
-  shows_statement : (number : ℕ) → Answered (λ reply. λ next. ShowsStatement number s reply next)
-  shows_statement number =
+  shows_statement : (IsSo : ProgramTree → List ℕ → Type 0) → ((t : ProgramTree) → (bytes : List ℕ) × IsSo t bytes) → (number : ℕ) → Answered (λ reply. λ next. ShowsStatement IsSo number s reply next)
+  shows_statement IsSo some number =
       let t = reads_printed s.present all.present in
-      let a = shows_of number (statement_with number t.0) in
+      let a = shows_of IsSo some (statement_with number t.0) in
       record { reply = a.reply; next = a.next; is = record { tree = t.0; reads = t.1; shows = a.is }; printed = a.printed }
 
   -- a change to a valid program
@@ -152,10 +154,11 @@ module _ (comes : SomeOutcome) (s : State) (all : ArePrinted s) where
   run_block : (choices data_bytes : List ℕ) (t : ProgramTree) → (bytes : List ℕ) × IsRunBlock choices data_bytes t bytes
   run_block choices data_bytes t = let o = comes t (at_start t data_bytes choices) in (block o.0, (o.0, o.1, refl))
 
-  others : (c : Command) (data_bytes : List ℕ) → Answered (λ reply. λ next. IsOther c data_bytes s reply next)
+  -- a command that takes no step
+  others : (c : Command) (data_bytes : List ℕ) → MatchStep (table.step_of c) (Answered (λ reply. λ next. IsOther c data_bytes s reply next)) (λ at. ⊤)
   others Source d = shows IsSourcePane (λ t. (source_pane t, refl))
   others (Deps None) d = shows IsDependencePane pane_of_program
-  others (Deps (Some number)) d = shows_statement number
+  others (Deps (Some number)) d = shows_statement (λ t. IsDependencePaneOf t (Some number)) (λ t. pane_of_statement t (Some number)) number
   others Show d = shows ArePanes panes
   others Print d = record { reply = Shown s.present; next = s; is = (refl, refl); printed = all }
   others (Replace first last lines) d = edits_where (are_lines s.present first last) (first - 1) (last + 1 - first) (spliced s.present (first - 1) (last + 1 - first) lines)
@@ -165,27 +168,28 @@ module _ (comes : SomeOutcome) (s : State) (all : ArePrinted s) where
   others Redo d = goes_forward s.future all.future
   others (Run choices) d = shows (IsRunBlock choices d) (run_block choices d)
   others Races d = shows (IsRaceRow d) (race_rows d)
-  others (Advise number) d = stays NotBuilt
-  others (Interchange number) d = stays NotBuilt
-  others (Reverse number) d = stays NotBuilt
-  others (Skew number factor) d = stays NotBuilt
-  others (Strip number size) d = stays NotBuilt
-  others (Peel number last) d = stays NotBuilt
-  others (Distribute number) d = stays NotBuilt
-  others (Fuse number) d = stays NotBuilt
-  others (Expand number name) d = stays NotBuilt
-  others (Privatise number name) d = stays NotBuilt
-  others (Parallel number) d = stays NotBuilt
-  others (Serial number) d = stays NotBuilt
-  others (Reject number name) d = stays NotBuilt
+  others (Advise number) d = shows_statement (λ t. IsAdvice t number) (λ t. advice_of t number) number
+  others (Interchange number) d = tt
+  others (Reverse number) d = tt
+  others (Skew number factor) d = tt
+  others (Strip number size) d = tt
+  others (Peel number last) d = tt
+  others (Distribute number) d = tt
+  others (Fuse number) d = tt
+  others (Expand number name) d = tt
+  others (Privatise number name) d = tt
+  others (Parallel number) d = tt
+  others (Serial number) d = tt
+  others (Reject number name) d = tt
   others Tested d = record { reply = Shown (tested_row s.tested); next = s; is = (refl, refl); printed = all }
 
   pub replies : (c : Command) (data_bytes : List ℕ) → Answered (λ reply. λ next. IsStep c data_bytes s reply next)
-  replies c d = by (table.step_of c) (each_goes c)
+  replies c d = by (table.step_of c) (others c d) (each_goes c)
     where
-      by : (step : MaybeStep) → MatchStep step ⊤ (λ at. (t : ProgramTree) → IsValid t → Goes at t) → Answered (λ reply. λ next. MatchStep step (IsOther c d s reply next) (λ at. Transforms at s reply next))
-      by no_step goes = others c d
-      by (some_step at) goes = transforms at goes
+      by : (step : MaybeStep) → MatchStep step (Answered (λ reply. λ next. IsOther c d s reply next)) (λ at. ⊤) → MatchStep step ⊤ (λ at. (t : ProgramTree) → IsValid t → Goes at t)
+          → Answered (λ reply. λ next. MatchStep step (IsOther c d s reply next) (λ at. Transforms at s reply next))
+      by no_step other goes = other
+      by (some_step at) other goes = transforms at goes
 
   pub step_of : (c : Command) (data_bytes : List ℕ) → (reply : Reply) × (next : State) × IsStep c data_bytes s reply next
   step_of c d = let a = replies c d in (a.reply, a.next, a.is)

@@ -43,7 +43,7 @@ use Rattle.ped_bodies.specs.ped_steps.specs.ped_laws.specs.ped_store.specs.Cells
 use Rattle.ped_bodies.specs.ped_steps.specs.ped_laws.specs.ped_store.specs.Acts.{Place, Step}
 use Rattle.ped_bodies.specs.ped_steps.specs.ped_laws.specs.Acts.Orders.{IsIn}
 use Rattle.ped_bodies.specs.ped_steps.specs.ped_laws.specs.Acts.Sets.{nothing}
-use Rattle.ped_bodies.specs.ped_steps.specs.ped_laws.specs.FlowRuns.Exits.{is_exit}
+use Rattle.ped_bodies.specs.ped_steps.specs.ped_laws.specs.FlowRuns.Exits.{AreIterationsOf, is_exit}
 use Rattle.ped_bodies.specs.ped_steps.specs.ped_laws.specs.Runs.Touching.{is_own_store}
 use Rattle.ped_bodies.specs.ped_steps.specs.ped_laws.specs.ped_eval.specs.Scopes.{cell_of}
 use Rattle.ped_bodies.specs.ped_steps.specs.ped_laws.specs.ped_eval.specs.Evaluation.{cell_seen, index_seen}
@@ -52,6 +52,7 @@ use Rattle.ped_bodies.specs.ped_steps.specs.ped_laws.specs.ped_eval.specs.Loops.
 use Rattle.ped_bodies.specs.ped_steps.specs.ped_laws.proofs.ActLaws.Lists.{in_left, in_right}
 use Rattle.ped_loop_runs.specs.OtherCopies.{AreNear, HaveSameIndicesBut, OfParallelRound, HasOtherCopies, IsPastedBut, IsOfThese, IsParallelRound, LeavesParallel, LeaveApart, IsOtherExit, IsExchangedNear, DoNear}
 use Rattle.ped_loop_runs.specs.Pasting.{IsExchanged, AreChangedBy}
+use Rattle.ped_bodies.specs.ped_steps.specs.ped_laws.proofs.RunLaws.Turning.{once_among}
 use Rattle.ped_loop_runs.proofs.PastingLaws.ActNumbers.{IsActIn, run_in, all_in}
 use Rattle.ped_loop_runs.proofs.PastingLaws.FilledIndices.{index_filled, copied_same, inner_same_name}
 use Rattle.ped_loop_runs.proofs.PastingLaws.NearPlaces.{LeaveTouches, LeaveActs, all_near, run_near, truth_near, limits_near, exit_when_near, named_same, private_near, near_more, near_itself}
@@ -301,7 +302,8 @@ module _ (names : List (List ℕ)) (apart : Cell → Bool) (p q : Setting) (t : 
         (inner_if : AllSame → inner_variables h.parallel next ≡ inner_variables h.parallel b)
         (inner_but : h.parallel ≡ true → (x : List ℕ) → is_among x names ≡ false → is_among x (all_loop_variables next) ≡ is_among x (all_loop_variables b))
         (round_it : h.parallel ≡ true → (is_among h.variable names ≡ false) × ((x : List ℕ) → is_among x h.private ≡ true → is_among x names ≡ false))
-        (copies : h.parallel ≡ true → (x : List ℕ) → is_among x names ≡ true → (is_among x (all_loop_variables next) ≡ is_among x (all_loop_variables b)) ⊎ ((S : Scope) (seen : List Seen) (m : Limits) (k : ℕ) → apart (cell_of (frame (entered_with p n h b seen m) k ∷ S) x) ≡ true)) where
+        (copies : h.parallel ≡ true → (x : List ℕ) → is_among x names ≡ true → (is_among x (all_loop_variables next) ≡ is_among x (all_loop_variables b)) ⊎ ((S : Scope) (seen : List Seen) (m : Limits) (k : ℕ) → apart (cell_of (frame (entered_with p n h b seen m) k ∷ S) x) ≡ true))
+        (its : AreIterationsOf p t scope) (went : h.parallel ≡ true → (x : List ℕ) → is_among x names ≡ true → is_among x (all_loop_variables b) ≡ true → ((S : Scope) (seen : List Seen) (m : Limits) (k : ℕ) → apart (cell_of (frame (entered_with p n h b seen m) k ∷ S) x) ≡ true) → is_among x (all_loop_variables next) ≡ false) where
       abbrev Old : List Seen → Limits → Entered
       Old seen m = entered_with p n h b seen m
 
@@ -383,6 +385,7 @@ module _ (names : List (List ℕ)) (apart : Cell → Bool) (p q : Setting) (t : 
         other_exit : (step : Step) (before_it : List Touch) (front behind : List Act) (u : Store) → h.parallel ≡ true → is_exit step ≡ true
             → Ran ≡ front ++ ((act step (place_of p n scope) (before_it ++ exit_touches E scope) ∷ []) ++ behind) → u ≡ store_after front start
             → (before_it ++ exit_touches F other ≡ before_it ++ exit_touches E scope) ⊎ By front behind u (act step (place_of p n scope) (before_it ++ exit_touches E scope) ∷ []) (act step (place_of p n scope) (before_it ++ exit_touches F other) ∷ [])
+        unfolding is_round
         other_exit step before_it front behind u e leaving whole from =
             let a : Act = act step (place_of p n scope) (before_it ++ exit_touches E scope) in
             let c : Act = act step (place_of p n scope) (before_it ++ exit_touches F other) in
@@ -397,7 +400,12 @@ module _ (names : List (List ℕ)) (apart : Cell → Bool) (p q : Setting) (t : 
               first = before_it ++ By_head scope;
               undefined = E.inner;
               undefined_now = F.inner;
+              iterations = its;
+              undefined_is = ap (λ (z : Bool). inner_variables z b) e;
               alike = λ x none. ap (λ (z : Bool). is_among x (inner_variables z next)) e ∙ (inner_same_name x b next (inner_but e x none) ∙ sym (ap (λ (z : Bool). is_among x (inner_variables z b)) e));
+              went = λ x among there stands.
+                  ap (λ (z : Bool). is_among x (inner_variables z next)) e ∙ once_among x (all_loop_variables next)
+                  ∙ went e x among (sym (once_among x (all_loop_variables b)) ∙ sym (ap (λ (z : Bool). is_among x (inner_variables z b)) e) ∙ there) stands;
               old_is = ap (λ (ts : List Touch). act step (place_of p n scope) ts ∷ []) (sym (append_assoc before_it (By_head scope) (undefined_all scope E.inner)));
               new_is = ap (λ (ts : List Touch). act step (place_of p n scope) ts ∷ [])
                   (ap (λ (ts : List Touch). before_it ++ (ts ++ undefined_all other F.inner)) (head_parts e) ∙ sym (append_assoc before_it (By_head scope) (undefined_all other F.inner)));
@@ -591,12 +599,15 @@ module _ (names : List (List ℕ)) (apart : Cell → Bool) (p q : Setting) (t : 
       let named : h.parallel ≡ true → (is_among h.variable names ≡ false) × ((x : List ℕ) → is_among x h.private ≡ true → is_among x names ≡ false) = (λ k. ((round.0 k).variable, (round.0 k).private)) in
       let copies : h.parallel ≡ true → (x : List ℕ) → is_among x names ≡ true → (is_among x (all_loop_variables (filled gap new)) ≡ is_among x (all_loop_variables b)) ⊎ ((S : Scope) (seen : List Seen) (m : Limits) (k : ℕ) → apart (cell_of (frame (entered_with p n h b seen m) k ∷ S) x) ≡ true)
       = (λ k. (round.0 k).copies) in
+      let its : AreIterationsOf p t scope = reached.iterations in
+      let went : h.parallel ≡ true → (x : List ℕ) → is_among x names ≡ true → is_among x (all_loop_variables b) ≡ true → ((S : Scope) (seen : List Seen) (m : Limits) (k : ℕ) → apart (cell_of (frame (entered_with p n h b seen m) k ∷ S) x) ≡ true) → is_among x (all_loop_variables (filled gap new)) ≡ false
+      = (λ k. (round.0 k).went) in
       with_rest scope other near (Do h b) (Do h (filled gap new)) rest n (rest_stands t (Do h b) rest n r.stand) (agree_right p.bounds q.bounds (stmt_names (Do h b)) (stmts_names rest) agree) inside (omega (arith, count)) within
-      (do_comes scope other near n h b (filled gap new) there before reach same inner_if inner_but named copies (λ f. run_all q (filled gap new) (n + 1) (f ∷ other))
+      (do_comes scope other near n h b (filled gap new) there before reach same inner_if inner_but named copies its went (λ f. run_all q (filled gap new) (n + 1) (f ∷ other))
       (λ none. outermost_is p t start l scope n h (Do h b ∷ all_numbered b) (loops_round l (Do h b) n) (all_loops_round l b (n + 1)) (ap turns_of none) loops reached)
       (agree_left p.bounds q.bounds (head_names h) (stmts_names b) first)
-      (λ seen m k. all_come gap (n + 1) (frame (entered_with p n h b seen m) k ∷ scope) (frame (Now scope other near n h b (filled gap new) there before reach same inner_if inner_but named copies seen m) k ∷ other)
-      (near_inside scope other near n h b (filled gap new) there before reach same inner_if inner_but named copies seen m k) (same_inside scope other near n h b (filled gap new) there before reach same inner_if inner_but named copies seen m k)
+      (λ seen m k. all_come gap (n + 1) (frame (entered_with p n h b seen m) k ∷ scope) (frame (Now scope other near n h b (filled gap new) there before reach same inner_if inner_but named copies its went seen m) k ∷ other)
+      (near_inside scope other near n h b (filled gap new) there before reach same inner_if inner_but named copies its went seen m k) (same_inside scope other near n h b (filled gap new) there before reach same inner_if inner_but named copies its went seen m k)
       round.1 e (omega (arith, within)) (agree_right p.bounds q.bounds (head_names h) (stmts_names b) first)
       (reached_body p t l scope n k h b seen m (loops_round l (Do h b) n) (all_loops_round l b (n + 1)) loops reached)))
 
@@ -638,7 +649,7 @@ no_names_round p old new (at_front rest) n = tt
 no_names_round p old new (past x gap) n = no_names_round p old new gap (n + statement_count x)
 no_names_round p old new (in_then c gap b rest) n = no_names_round p old new gap (n + 1)
 no_names_round p old new (in_else c a gap rest) n = no_names_round p old new gap (n + 1 + statements_count a)
-no_names_round p old new (in_body h gap rest) n = (λ parallel. record { variable = refl; private = λ x h. refl; copies = λ x h. absurd (both_ways false refl h) }, no_names_round p old new gap (n + 1))
+no_names_round p old new (in_body h gap rest) n = (λ parallel. record { variable = refl; private = λ x h. refl; copies = λ x h. absurd (both_ways false refl h); went = λ x h. absurd (both_ways false refl h) }, no_names_round p old new gap (n + 1))
 
 pub no_names : (p q : Setting) (gap : Gap) (old new : StmtTrees) (t u : ProgramTree) → IsPasted p q gap old new t u → IsPastedBut [] nothing p q gap old new t u
 no_names p q gap old new t u pasting = record {

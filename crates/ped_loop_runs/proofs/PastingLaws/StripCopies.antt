@@ -1,7 +1,10 @@
 -- Other copies at work: a strip brings the variable W into a PARALLEL DO round its loop, so that this has a copy of W in each iteration.
-use Rattle.std.proofs.Common.{◌≡◌, ℕ, List, [], ◌∷◌, Bool, true, false, ◌⊎◌, inl, inr, refl, ap, ◌∙◌, pos}
+use Rattle.std.proofs.Common.{◌≡◌, ℕ, List, [], ◌∷◌, Bool, true, false, ◌⊎◌, inl, inr, refl, ap, subst, ◌∙◌, pos}
 use Rattle.std.specs.Prelude.{codes, ◌||◌}
+use Rattle.std.proofs.lemmas.Bool.{both_ways}
 use Rattle.ped_bodies.specs.ped_steps.specs.ped_flow.specs.ped_tree.specs.Tree.{Int, Head, Do, StmtTrees, no_stmts, more_stmts}
+use Rattle.ped_bodies.specs.ped_steps.specs.ped_flow.specs.ped_tree.specs.NamesIn.{all_loop_variables}
+use Rattle.ped_bodies.specs.ped_steps.specs.ped_flow.specs.ped_base.proofs.NameEquality.{same_is}
 use Rattle.ped_bodies.specs.ped_steps.specs.ped_flow.specs.ped_base.specs.Lists.{is_same_text, is_among}
 use Rattle.ped_bodies.specs.ped_steps.specs.ped_laws.specs.ped_store.specs.Cells.{Cell, Scalar, Private}
 use Rattle.ped_bodies.specs.ped_steps.specs.ped_laws.specs.ped_eval.specs.Scopes.{Setting, Scope, cell_of}
@@ -51,9 +54,17 @@ apart c = is_among (cell_name c) names
 stand_apart : (S : Scope) (x : List ℕ) → is_among x names ≡ true → apart (cell_of S x) ≡ true
 stand_apart S x e = ap (λ (y : List ℕ). is_among y names) (named_so S x) ∙ e
 
+-- no DO has the variable W before the strip
+not_there : (x : List ℕ) → is_among x names ≡ true → is_among x (all_loop_variables (filled gap old)) ≡ true → ⊥
+not_there x e there = both_ways (is_same_text w i) refl (subst (λ (y : List ℕ). is_same_text y i ≡ true) (same_is x w (one (is_same_text x w) e)) (one (is_same_text x i) there))
+  where
+    one : (b : Bool) → b || false ≡ true → b ≡ true
+    one true h = refl
+    one false h = h
+
 -- so the PARALLEL DO has other copies of W alone
 other_copies : (p : Setting) → HasOtherCopies names apart p old new 1 (head true k) gap
-other_copies p = record { variable = refl; private = λ x e. absurd cc; copies = λ x e. inr (λ S seen m n. stand_apart (frame (entered_with p 1 (head true k) (filled gap old) seen m) n ∷ S) x e) }
+other_copies p = record { variable = refl; private = λ x e. absurd cc; copies = λ x e. inr (λ S seen m n. stand_apart (frame (entered_with p 1 (head true k) (filled gap old) seen m) n ∷ S) x e); went = λ x e there stands. absurd (not_there x e there) }
 
 module _ (p : Setting) (n : ℕ) where
   -- W stands for its own cell in the old program, and for a copy in the new one; I stands for one copy in both

@@ -11,7 +11,7 @@ edges_of_pair t source sink =
     let v = vectors_of_view (view_of t source sink) in
     (edges_by (facts_of t) source sink (view_of t source sink) v.0, record { vectors = v.0; possible = v.1; divided = refl })
 
-edges_of_pairs : (t : ProgramTree) (ps : List (Reference × Reference)) → (edges : List Edge) × EdgesOfPairs t ps edges
+pub edges_of_pairs : (t : ProgramTree) (ps : List (Reference × Reference)) → (edges : List Edge) × EdgesOfPairs t ps edges
 edges_of_pairs t [] = ([], refl)
 edges_of_pairs t (p ∷ ps) =
     let first = edges_of_pair t p.0 p.1 in

@@ -2,8 +2,7 @@ use Rattle.std.proofs.Common.{◌≡◌, ◌++◌, ℕ, List, map, string_bytes,
 use Rattle.ped_io.specs.Outside.{Contents, Rose}
 use Rattle.ped_answer.specs.declared.answering.Status.TheVariants.{BadWords}
 use Rattle.ped_words.specs.Requests.{Request, request_of}
-use Rattle.ped_answer.specs.Answer.{inputs_of, MayAnswer, Answers, IsJust, usage_line}
-use Rattle.ped_answer.specs.ScriptRuns.{IsWhole}
+use Rattle.ped_answer.specs.Answer.{IsWhole, inputs_of, MayAnswer, Answers, IsJust, usage_line}
 use Rattle.ped_answer.specs.TestCounts.{Tests}
 use Rattle.ped_answer.specs.Serving.{Call, Served}
 use Rattle.ped_answer.proofs.Counting.{idle_writing}

@@ -1,0 +1,53 @@
+-- What two DO loops must not do that become one: a later iteration of the first one and an earlier one of the second conflict on no cell that counts.
+use Rattle.std.proofs.Common.{◌≡◌, ℕ, ◌≤◌, ◌<◌, List, false}
+use Rattle.std.specs.Str.Lines.{lines}
+use Rattle.ped_tree.specs.Tree.{Head, StmtTrees, Do, ProgramTree}
+use Rattle.ped_tree.specs.NamesIn.{loop_variables}
+use Rattle.ped_tree.specs.Numbering.{statements_count}
+use Rattle.ped_reindex.specs.ped_loops.specs.ped_scalar.specs.ped_rules.specs.ped_loop_runs.specs.Executions.{IsExecuted}
+use Rattle.ped_reindex.specs.ped_loops.specs.ped_scalar.specs.ped_rules.specs.ped_loop_runs.specs.ped_bodies.specs.Moving.{is_cell_among}
+use Rattle.ped_reindex.specs.ped_loops.specs.ped_scalar.specs.ped_rules.specs.ped_loop_runs.specs.ped_bodies.specs.Trips.{IsMadeOfTrips, entered_from}
+use Rattle.ped_reindex.specs.ped_loops.specs.ped_scalar.specs.ped_rules.specs.ped_loop_runs.specs.ped_bodies.specs.ped_steps.specs.Replacing.{followed}
+use Rattle.ped_reindex.specs.ped_loops.specs.ped_scalar.specs.ped_rules.specs.ped_loop_runs.specs.ped_bodies.specs.ped_steps.specs.ped_laws.specs.Acts.Conflicts.{blocks_conflict_outside}
+use Rattle.ped_reindex.specs.ped_loops.specs.ped_scalar.specs.ped_rules.specs.ped_loop_runs.specs.ped_bodies.specs.ped_steps.specs.ped_laws.specs.Acts.Fitting.{store_after}
+use Rattle.ped_reindex.specs.ped_loops.specs.ped_scalar.specs.ped_rules.specs.ped_loop_runs.specs.ped_bodies.specs.ped_steps.specs.ped_laws.specs.Runs.Replaying.{finish_of, goes_on}
+use Rattle.ped_reindex.specs.ped_loops.specs.ped_scalar.specs.ped_rules.specs.ped_loop_runs.specs.ped_bodies.specs.ped_steps.specs.ped_laws.specs.ped_eval.specs.Outcomes.{Ends, run_of, setting_of}
+use Rattle.ped_reindex.specs.ped_loops.specs.ped_scalar.specs.ped_rules.specs.ped_loop_runs.specs.ped_bodies.specs.ped_steps.specs.ped_laws.specs.ped_eval.specs.Runs.{run, run_all}
+use Rattle.ped_reindex.specs.ped_loops.specs.ped_scalar.specs.ped_rules.specs.ped_loop_runs.specs.ped_bodies.specs.ped_steps.specs.ped_laws.specs.ped_eval.specs.Scopes.{Scope}
+use Rattle.ped_reindex.specs.ped_loops.specs.ped_scalar.specs.ped_rules.specs.ped_loop_runs.specs.ped_bodies.specs.ped_steps.specs.ped_laws.specs.ped_store.specs.Acts.{Act}
+use Rattle.ped_reindex.specs.ped_loops.specs.ped_scalar.specs.ped_rules.specs.ped_loop_runs.specs.ped_bodies.specs.ped_steps.specs.ped_laws.specs.ped_store.specs.Stores.{Store, store_at_start}
+use Rattle.ped_splits.proofs.FuseFacts.{renamed, renamed_pair}
+use Rattle.ped_splits.specs.Neighbours.{Neighbour, joined_head, next_number, renamed_body}
+
+-- the head of the second DO with the variable of the first
+abbrev pub renamed_head : {t : ProgramTree} {s : ℕ} → Neighbour t s → Head
+renamed_head x = record x.next { variable = x.own.variable }
+
+-- the body of the second DO with the variable of the first
+abbrev pub second_body : {t : ProgramTree} {s : ℕ} → Neighbour t s → StmtTrees
+second_body x = renamed_body x.own x.next x.next_body
+
+-- the body of the one DO
+abbrev pub both_bodies : {t : ProgramTree} {s : ℕ} → Neighbour t s → StmtTrees
+both_bodies x = followed x.own_body (followed x.between (second_body x))
+
+-- the variables of the one DO and of the DO loops in it
+abbrev pub joined_variables : {t : ProgramTree} {s : ℕ} → Neighbour t s → List (List ℕ)
+joined_variables x = loop_variables (Do (joined_head x.own x.next) (both_bodies x))
+
+-- the store between the two, where the first one is done from this store
+abbrev pub store_between : {t : ProgramTree} {s : ℕ} → Neighbour t s → Scope → Store → Store
+store_between {t} {s} x scope v = store_after (run (setting_of (renamed x)) (Do x.own x.own_body) s scope v).acts v
+
+-- in a run that ends of the program in which both have one variable: in each execution of the two no iteration of the first one conflicts with an earlier iteration of the second, but on cells of the variables of DO loops
+abbrev pub NoneCrosses : {t : ProgramTree} {s : ℕ} → Neighbour t s → Type 0
+NoneCrosses {t} {s} x =
+    (data_bytes : List ℕ) → Ends (run_of (renamed x) data_bytes).ending
+    → (scope : Scope) (front behind : List Act) (v : Store)
+    → IsExecuted (setting_of (renamed x)) (renamed x) (store_at_start (lines data_bytes)) s (statements_count (renamed_pair x)) scope front (run_all (setting_of (renamed x)) (renamed_pair x) s scope v).acts behind v
+    → finish_of (run_all (setting_of (renamed x)) (renamed_pair x) s scope v).ending ≡ goes_on
+    → (first : IsMadeOfTrips (setting_of (renamed x)) x.own x.own_body s scope v) (second : IsMadeOfTrips (setting_of (renamed x)) (renamed_head x) (second_body x) (next_number x) scope (store_between x scope v))
+    → (i j : ℕ) → 1 ≤ j → j < i
+    → i ≤ (entered_from (setting_of (renamed x)) x.own x.own_body s scope v first.bounds).count
+    → j ≤ (entered_from (setting_of (renamed x)) (renamed_head x) (second_body x) (next_number x) scope (store_between x scope v) second.bounds).count
+    → blocks_conflict_outside (is_cell_among (joined_variables x)) (first.trip i) (second.trip j) ≡ false

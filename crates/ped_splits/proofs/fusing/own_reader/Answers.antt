@@ -1,0 +1,16 @@
+use Rattle.std.proofs.Common.{◌+◌, ◌<◌, ◌^◌, sym, subst}
+use Rattle.ped_tree.specs.Views.{program_tree}
+use Rattle.ped_tree.specs.Numbering.{statements_count}
+use Rattle.ped_tree.specs.Tree.{ProgramTree}
+use Rattle.ped_reindex.specs.ped_loops.specs.ped_scalar.specs.ped_rules.specs.ped_loop_runs.specs.ped_bodies.specs.ped_steps.proofs.Answering.{few_numbers}
+use Rattle.ped_reindex.specs.ped_loops.specs.ped_scalar.specs.ped_rules.specs.ped_loop_runs.specs.ped_bodies.specs.ped_steps.specs.ped_flow.specs.Answers.{IsEscape}
+use Rattle.ped_splits.proofs.FuseReaders.{escape_reader}
+use Rattle.ped_splits.proofs.fusing.own_reader.Goals as goal
+
+pub escapes-requires : goal.escapes-requires
+escapes-requires g c =
+    subst (λ (u : ProgramTree). statements_count u.body + 1 < 2 ^ 32) (sym c.requires.scene.flow) (few_numbers (program_tree c.args.scene.now.tree.now) c.requires.scene.valid)
+
+pub returns : goal.returns
+returns g c =
+    escape_reader (program_tree c.args.scene.now.tree.now) c.args.number c.escapes.result (subst (λ (u : ProgramTree). IsEscape u c.args.number c.escapes.result) c.requires.scene.flow c.escapes.ensures)

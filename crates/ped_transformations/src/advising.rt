@@ -1,0 +1,121 @@
+//! Advice on a statement: which steps could be taken there, and what forbids the others.
+
+ghost use Rattle.std.specs.Prelude.{◌≡◌, ◌++◌, codes, option_map, ⊤, IfOk, OnOk};
+ghost use Rattle.ped_tree.specs.Views.{program_tree};
+ghost use Rattle.ped_splits.specs.ped_reindex.specs.ped_loops.specs.ped_scalar.specs.ped_rules.specs.Steps.{MatchStep};
+ghost use Rattle.ped_splits.specs.ped_reindex.specs.ped_loops.specs.ped_scalar.specs.ped_rules.specs.ped_loop_runs.specs.ped_bodies.specs.ped_steps.specs.Scenes.{IsSceneOf};
+ghost use Rattle.ped_splits.specs.ped_reindex.specs.ped_loops.specs.ped_scalar.specs.ped_rules.specs.ped_loop_runs.specs.ped_bodies.specs.ped_steps.specs.CauseWords as shown;
+ghost use Rattle.ped_splits.specs.ped_reindex.specs.ped_loops.specs.ped_scalar.specs.ped_rules.specs.ped_loop_runs.specs.ped_bodies.specs.ped_steps.specs.CodeCauses.{cause_of, IsShort};
+ghost use Rattle.ped_transformations.specs.Table.{step_of};
+ghost use Rattle.ped_transformations.specs.Advice as Spec;
+ghost use Rattle.ped_transformations.specs.CodeAdvice as told;
+ghost use Rattle.ped_transformations.specs.CodeAdvice.{IsAgainst, IsTellable, Tells};
+
+use crate::table::answer;
+use ped_base::{Bytes, NoMemory};
+use ped_script::Command;
+use ped_splits::ped_reindex::ped_loops::ped_scalar::ped_rules::ped_loop_runs::ped_bodies::ped_steps::{
+    Change, Refused, Scene, cause_words,
+};
+use std::alloc::Global;
+use std::sync::ledger::Ledger;
+
+/// The advice on a statement: a line for each step that asks for nothing but the statement, and for both peels. It says that the
+/// step could be taken there, or the first cause against it. No step is taken, and nothing is tested.
+pub fn advice<L: Ledger>(alloc: Global, scene: &Scene<L>, statement: u32) -> Result<Bytes, NoMemory>
+    requires { IsSceneOf (program_tree scene.now.tree.now) scene.now }
+    ensures { IfOk result (Spec.IsAdvice (program_tree scene.now.tree.now) statement) }
+{
+    let mut out = Bytes::new(alloc);
+    let interchange = Command::Interchange(statement);
+    tell(alloc, scene, b"interchange", &interchange, &mut out)?;
+    let reverse = Command::Reverse(statement);
+    tell(alloc, scene, b"reverse", &reverse, &mut out)?;
+    let distribute = Command::Distribute(statement);
+    tell(alloc, scene, b"distribute", &distribute, &mut out)?;
+    let fuse = Command::Fuse(statement);
+    tell(alloc, scene, b"fuse", &fuse, &mut out)?;
+    let parallel = Command::Parallel(statement);
+    tell(alloc, scene, b"parallel", &parallel, &mut out)?;
+    let serial = Command::Serial(statement);
+    tell(alloc, scene, b"serial", &serial, &mut out)?;
+    let first = Command::Peel {
+        statement,
+        last: false,
+    };
+    tell(alloc, scene, b"peel first", &first, &mut out)?;
+    let last = Command::Peel {
+        statement,
+        last: true,
+    };
+    tell(alloc, scene, b"peel last", &last, &mut out)?;
+    Ok(out)
+}
+
+/// Adds the line of the step that a command takes, behind the words by which it is told.
+fn tell<L: Ledger>(
+    alloc: Global,
+    scene: &Scene<L>,
+    words: &[u8],
+    command: &Command,
+    out: &mut Bytes,
+) -> Result<(), NoMemory>
+    requires scene { IsSceneOf (program_tree scene.now.tree.now) scene.now }
+    requires step { MatchStep (step_of command.now) ⊥ (λ at. ⊤) }
+    ensures { OnOk result (Tells (program_tree scene.now.tree.now) (words.now, command.now) out.old out.new) }
+{
+    let found = cause_against(alloc, scene, command)?;
+    out.extend_from_slice(words)?;
+    push_verdict(alloc, &found, out)?;
+    out.push(b'\n')
+}
+
+/// The first cause against the step that a command takes, or that there is none.
+fn cause_against<L: Ledger>(
+    alloc: Global,
+    scene: &Scene<L>,
+    command: &Command,
+) -> Result<Option<Refused>, NoMemory>
+    requires scene { IsSceneOf (program_tree scene.now.tree.now) scene.now }
+    requires step { MatchStep (step_of command.now) ⊥ (λ at. ⊤) }
+    ensures { IfOk result (IsAgainst (step_of command.now) (program_tree scene.now.tree.now)) }
+{
+    match answer(alloc, scene, command)? {
+        Some(found) => {
+            let cause = cause_in(found);
+            return Ok(cause);
+        }
+        None => unreachable!(),
+    }
+}
+
+/// The cause in what a step answers, or that there is none.
+fn cause_in(found: Result<Change, Refused>) -> Option<Refused>
+    ensures { result ≡ told.cause_in found }
+{
+    match found {
+        Ok(_) => return None,
+        Err(refused) => return Some(refused),
+    }
+}
+
+/// Adds that nothing forbids a step, or the words of the cause that does.
+fn push_verdict(alloc: Global, found: &Option<Refused>, out: &mut Bytes) -> Result<(), NoMemory>
+    requires { IsTellable found.now }
+    ensures { OnOk result (out.new ≡ out.old ++ Spec.verdict_words (option_map cause_of found.now)) }
+{
+    match found {
+        None => return out.extend_from_slice(b" ok"),
+        Some(refused) => return push_cause(alloc, refused, out),
+    }
+}
+
+/// Adds that a step is refused, and the words of the cause.
+fn push_cause(alloc: Global, refused: &Refused, out: &mut Bytes) -> Result<(), NoMemory>
+    requires { IsShort refused.now }
+    ensures { OnOk result (out.new ≡ out.old ++ codes " refused " ++ shown.cause_words (cause_of refused.now)) }
+{
+    out.extend_from_slice(b" refused ")?;
+    let words = cause_words(alloc, refused)?;
+    out.extend_from_slice(words.as_slice())
+}

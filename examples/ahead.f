@@ -1,0 +1,11 @@
+      PROGRAM AHEAD
+C     THE SECOND LOOP TAKES THE NEXT ELEMENT OF T, TOO. IN ONE LOOP IT
+C     WOULD TAKE IT BEFORE IT IS THERE.
+      INTEGER T(9), D(8)
+      SAVE D
+      T(9)=81
+      DO 10 I=1,8
+   10 T(I)=I*I
+      DO 20 I=1,8
+   20 D(I)=T(I+1)-T(I)
+      END

@@ -1,0 +1,9 @@
+      PROGRAM ONE
+C     THE SECOND LOOP READS WHAT THE FIRST ONE WRITES IN THE SAME PLACE.
+      INTEGER A(4), B(4)
+      SAVE B
+      DO 10 I = 1, 4
+   10 A(I) = I
+      DO 20 J = 1, 4
+   20 B(J) = 10*A(J)
+      END

@@ -1,7 +1,10 @@
-pub mod Answered
 pub mod ListedComments
 pub mod AlikeRuns
 pub mod ReducedPrograms
 pub mod ReducingRules
 pub mod ReducingLawful
 pub mod SummingRules
+pub mod ReducingAnswers
+pub mod LoweringLaws
+pub mod LoweringAnswers
+pub mod MadeAnswers

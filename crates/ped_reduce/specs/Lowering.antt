@@ -1,5 +1,5 @@
 -- A DO with a list, lowered: each iteration keeps what it adds to a scalar in elements of its own, and a DO behind it adds these to the scalar in order (Allen and Kennedy, section 5.6; this project).
-use Rattle.std.specs.Prelude.{ℕ, ◌+◌, ◌*◌, List, [], ◌∷◌, ◌++◌, length, filter, take, drop, replicate, count_by, codes, Bool, true, false, not, Option, Some, None, is_some, option_map}
+use Rattle.std.specs.Prelude.{ℕ, ◌+◌, ◌*◌, List, [], ◌∷◌, ◌++◌, length, filter, take, drop, replicate, count_by, codes, Bool, true, false, not, Option, Some, None, is_some, option_map, if◌then◌else◌}
 use Rattle.std.specs.List.{list_any, range_with_len}
 use Rattle.ped_tree.specs.declared.conditions.Relation.TheVariants.{Eq}
 use Rattle.ped_tree.specs.declared.expressions.Intrinsic.TheVariants.{Mod}
@@ -9,7 +9,7 @@ use Rattle.ped_splits.specs.ped_reindex.specs.ped_loops.specs.ped_scalar.specs.p
 use Rattle.ped_splits.specs.ped_reindex.specs.ped_loops.specs.ped_scalar.specs.ped_rules.specs.ped_loop_runs.specs.ped_bodies.specs.ped_steps.specs.Replacing.{followed, alone, all_replaced}
 use Rattle.ped_splits.specs.ped_reindex.specs.ped_loops.specs.ped_scalar.specs.ped_rules.specs.OnlyLoops.{on_loop}
 use Rattle.ped_splits.specs.ped_reindex.specs.ped_loops.specs.ped_scalar.specs.ped_rules.specs.Fresh.{occurs, numbered_names, most_numbered}
-use Rattle.ped_splits.specs.ped_reindex.specs.ped_loops.specs.ped_scalar.specs.ped_rules.specs.Spans.{Span, span_of}
+use Rattle.ped_splits.specs.ped_reindex.specs.ped_loops.specs.ped_scalar.specs.ped_rules.specs.Spans.{Span, span_of, spans_far}
 use Rattle.ped_splits.specs.ped_reindex.specs.ped_loops.specs.ped_scalar.specs.Expanding.{element, declaration}
 use Rattle.ped_reduce.specs.Lists.{without_list}
 use Rattle.ped_reduce.specs.Sums.{Sum, plus, minus, sum_to}
@@ -160,12 +160,17 @@ abbrev pub and_then : {X Y : Type 0} → Option X → (X → Option Y) → Optio
 and_then None next = None
 and_then (Some x) next = next x
 
--- the statement with number s, where it is a DO with constant bounds, is lowered for these scalars
+-- the values of a DO's variable, where literals have them
+abbrev pub near_only : Option Span → Option Span
+near_only None = None
+near_only (Some v) = if spans_far v then None else Some v
+
+-- the statement with number s, where it is a DO whose variable has values that literals have, is lowered for these scalars
 abbrev pub lowered_statement : Bool → Lowered → (s : ℕ) → List (List ℕ) → StmtTree → Option Lowered
 lowered_statement parallel p s names (Do h body) =
-    and_then (span_of (table_of p.tree).constants h) (λ v. option_map (lowered_with parallel p s body v) (partials_of names (fresh_arrays p.tree)))
+    and_then (near_only (span_of (table_of p.tree).constants h)) (λ v. option_map (lowered_with parallel p s body v) (partials_of names (fresh_arrays p.tree)))
 lowered_statement parallel p s names x = None
 
--- a program in which the DO with number s is lowered for these scalars, behind those before it, as a PARALLEL DO or not; none where it isn't a DO, where its bounds aren't constant, or where too few names are left
+-- a program in which the DO with number s is lowered for these scalars, behind those before it, as a PARALLEL DO or not; none where it isn't a DO, where the values of its variable aren't known or no literal has them, or where too few names are left
 abbrev pub lowered_at : Bool → Lowered → (s : ℕ) → List (List ℕ) → Option Lowered
 lowered_at parallel p s names = and_then (statement_with (s + p.more) p.tree) (lowered_statement parallel p s names)

@@ -24,18 +24,14 @@ pub(crate) fn origins_behind(
 ) -> Result<Vec<u32>, NoMemory>
     requires few { number + statements_count (stmt_trees body.now) + 1 < 2 ^ 32 }
     requires small { by_now + statements_count (stmt_trees body.now) < 2 ^ 32 }
+    requires eight { length partials.now ≤ 8 }
     ensures { IfOk result (λ all. all.items ≡ Spec.origins_behind number by_now (map partials_view partials.now) (stmt_trees body.now) before.now) }
 {
     let mut all = Vec::new(alloc);
     all.extend_from_slice(front(before, by_now))?;
-    for _p in partials {
-        add_times(&mut all, number, 3)?;
-    }
+    add_times(&mut all, number, 3 * partials.len() as u32)?;
     add_summed(&mut all, partials, body, number + 1)?;
-    for _p in partials {
-        add_times(&mut all, number, 2)?;
-    }
-    all.push(number)?;
+    add_times(&mut all, number, 2 * partials.len() as u32 + 1)?;
     all.extend_from_slice(behind(before, by_now + count_statements(body)))?;
     Ok(all)
 }

@@ -1,5 +1,6 @@
-use Rattle.std.proofs.Common.{ℕ, ℤ, List, ◌||◌, Option, IsTrue, IfOk, sym, ap, ◌∙◌, subst}
+use Rattle.std.proofs.Common.{ℕ, ℤ, List, ◌||◌, IsTrue, sym, ap, ◌∙◌, subst}
 use Rattle.std.specs.List.{list_any}
+use Rattle.std.proofs.lemmas.Result.{IfOk-weaker}
 use Rattle.ped_tree.specs.Nests.{Loop}
 use Rattle.ped_tree.specs.Views.{program_tree, stmt_trees, head_of}
 use Rattle.ped_splits.specs.ped_reindex.specs.ped_loops.specs.ped_scalar.specs.ped_rules.specs.ped_loop_runs.specs.ped_bodies.specs.ped_steps.specs.ped_symbols.specs.Kinds.{Table}
@@ -8,10 +9,6 @@ use Rattle.ped_splits.specs.ped_reindex.specs.ped_loops.specs.ped_scalar.specs.p
 use Rattle.ped_splits.specs.ped_reindex.specs.ped_loops.specs.ped_scalar.specs.ped_rules.specs.CodeSpans.{IsCourse}
 use Rattle.ped_splits.specs.ped_reindex.specs.ped_loops.specs.ped_scalar.specs.ped_rules.specs.Spans.{span_of}
 use Rattle.ped_splits.specs.ped_reindex.specs.ped_loops.specs.ped_scalar.specs.ped_rules.proofs.RightSteps.{right_step}
-use Rattle.ped_splits.specs.ped_reindex.specs.ped_loops.specs.ped_scalar.specs.ped_rules.specs.Chains.{no_rules}
-use Rattle.ped_reduce.specs.Reducing.{also_against_sums}
-use Rattle.ped_reduce.specs.CodeRules.{also_from_range, IsFirstOf}
-use Rattle.ped_reduce.proofs.Answered.{if_ok}
 use Rattle.ped_reduce.proofs.SummingRules as rules
 use Rattle.ped_reduce.proofs.rules.early.Goals as goal
 
@@ -59,5 +56,4 @@ returns g c =
     let body = stmt_trees c.args.d.now.body.items in
     let test = ap (λ (nest : List Loop). h.parallel || list_any (λ (m : Loop). m.head.parallel) nest) c.in_ok-round.ensures in
     let serial = sym (c.is_in_parallel.ensures ∙ test) ∙ c.if-is_in_parallel.false in
-    if_ok (IsFirstOf (also_from_range c.args.number c.args.names.now t no_rules)) (IsFirstOf (also_against_sums c.args.number c.args.names.now t no_rules)) c.early_by_course.result
-    (rules.ranged c.args.number c.args.names.now t h body c.requires.is serial c.in_default.ensures) c.early_by_course.ensures
+    IfOk-weaker c.early_by_course.result _ _ (rules.ranged c.args.number c.args.names.now t h body c.requires.is serial c.in_default.ensures) c.early_by_course.ensures

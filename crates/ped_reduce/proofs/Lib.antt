@@ -8,3 +8,6 @@ pub mod ReducingAnswers
 pub mod LoweringLaws
 pub mod LoweringAnswers
 pub mod MadeAnswers
+pub mod LoweredCounts
+pub mod FreshArrays
+pub mod LoweredPrograms

@@ -1,11 +1,17 @@
 -- Lowering goes from statement to statement, and comes to one end.
-use Rattle.std.proofs.Common.{◌≡◌, ◌⊎◌, ℕ, List, [], ◌∷◌, ◌++◌, Bool, true, false, inl, inr, Option, Some, None, refl, sym, ap, ◌∙◌, subst}
-use Rattle.ped_tree.specs.Tree.{Head, StmtTrees, ProgramTree}
+use Rattle.std.proofs.Common.{◌≡◌, ◌⊎◌, ℕ, List, [], ◌∷◌, ◌++◌, length, Bool, true, false, inl, inr, Option, Some, None, refl, sym, ap, ◌∙◌, subst}
+use Rattle.std.specs.List.{range_with_len}
+use Rattle.std.proofs.lemmas.Bool.{both_ways}
+use Rattle.std.proofs.lemmas.List.FromFn.{length-range_with_len}
+use Rattle.ped_tree.specs.Tree.{StmtTrees, ProgramTree}
+use Rattle.ped_tree.specs.Numbering.{statements_count}
+use Rattle.ped_splits.specs.ped_reindex.specs.ped_loops.specs.ped_scalar.specs.ped_rules.specs.ped_loop_runs.specs.ped_bodies.specs.ped_steps.specs.ped_symbols.specs.NameRefusals.{IsValid}
 use Rattle.ped_splits.specs.ped_reindex.specs.ped_loops.specs.ped_scalar.specs.ped_rules.specs.ped_loop_runs.specs.ped_bodies.specs.ped_steps.specs.ped_flow.specs.Questions.{LoopOf}
 use Rattle.ped_splits.specs.ped_reindex.specs.ped_loops.specs.ped_scalar.specs.ped_rules.proofs.OneLoop.{one_loop}
-use Rattle.ped_reduce.specs.Lists.{list_of}
-use Rattle.ped_reduce.specs.Lowering.{Lowered, lowered_at}
+use Rattle.ped_reduce.specs.Lists.{list_of, has_list}
+use Rattle.ped_reduce.specs.Lowering.{Lowered, not_lowered, lowered_at}
 use Rattle.ped_reduce.specs.Reducing.{IsLive, LowersOne, Lowers, IsLowered}
+use Rattle.ped_reduce.proofs.LoweredPrograms.{made_by, made_origins}
 
 same_lowered : (p q : Lowered) → Some p ≡ Some q → p ≡ q
 same_lowered p q e = cc
@@ -35,4 +41,29 @@ module _ (t : ProgramTree) where
 
   -- a program is lowered in one way
   pub one_lowered : (q r : Lowered) → IsLowered t q → IsLowered t r → q ≡ r
-  one_lowered q r = one_behind _ _ q r
+  one_lowered q r = one_behind (range_with_len 1 (statements_count t.body)) (not_lowered t) q r
+
+-- where no DO has a list, nothing is lowered
+module _ (t : ProgramTree) (none : (s : ℕ) (l : LoopOf t s) → has_list l.head l.body ≡ false) where
+  not_live : (s : ℕ) (p q : Lowered) → IsLive t s p q → ⊥
+  not_live s p q live = both_ways (has_list live.loop.head live.loop.body) (none s live.loop) live.some
+
+  pub stays_itself : (ss : List ℕ) (p : Lowered) → Lowers t ss p p
+  stays_itself [] p = refl
+  stays_itself (s ∷ ss) p = (p, inr (not_live s p, refl), stays_itself ss p)
+
+-- each statement comes from one
+module _ (t : ProgramTree) where
+  pub origins_stay : (ss : List ℕ) (p q : Lowered) → length p.origin ≡ statements_count p.tree.body → Lowers t ss p q → length q.origin ≡ statements_count q.tree.body
+  origins_stay [] p q h e = subst (λ (r : Lowered). length r.origin ≡ statements_count r.tree.body) (sym e) h
+  origins_stay (s ∷ ss) p q h (r, inl live, rest) = origins_stay ss r q (made_origins true p s (list_of live.loop.body) r (made_by true p s (list_of live.loop.body) r live.makes) h) rest
+  origins_stay (s ∷ ss) p q h (r, inr stays, rest) = origins_stay ss r q (subst (λ (x : Lowered). length x.origin ≡ statements_count x.tree.body) (sym stays.1) h) rest
+
+  pub origins_there : (q : Lowered) → IsLowered t q → length q.origin ≡ statements_count q.tree.body
+  origins_there q lowered = origins_stay (range_with_len 1 (statements_count t.body)) (not_lowered t) q (length-range_with_len 1 (statements_count t.body)) lowered
+
+  -- what comes of a valid program is valid
+  pub valid_stays : (ss : List ℕ) (p q : Lowered) → IsValid p.tree → Lowers t ss p q → IsValid q.tree
+  valid_stays [] p q v e = subst (λ (r : Lowered). IsValid r.tree) (sym e) v
+  valid_stays (s ∷ ss) p q v (r, inl live, rest) = valid_stays ss r q live.valid rest
+  valid_stays (s ∷ ss) p q v (r, inr stays, rest) = valid_stays ss r q (subst (λ (x : Lowered). IsValid x.tree) (sym stays.1) v) rest

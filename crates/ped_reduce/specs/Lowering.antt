@@ -1,5 +1,5 @@
 -- A DO with a list, lowered: each iteration keeps what it adds to a scalar in elements of its own, and a DO behind it adds these to the scalar in order (Allen and Kennedy, section 5.6; this project).
-use Rattle.std.specs.Prelude.{ℕ, ◌+◌, ◌*◌, List, [], ◌∷◌, ◌++◌, length, filter, take, drop, replicate, count_by, codes, Bool, true, false, not, Option, Some, None, is_some, option_map, if◌then◌else◌}
+use Rattle.std.specs.Prelude.{ℕ, ◌+◌, ◌*◌, List, [], ◌∷◌, ◌++◌, length, filter, take, drop, replicate, codes, Bool, true, false, not, Option, Some, None, is_some, option_map, if◌then◌else◌}
 use Rattle.std.specs.List.{list_any, range_with_len}
 use Rattle.ped_tree.specs.declared.conditions.Relation.TheVariants.{Eq}
 use Rattle.ped_tree.specs.declared.expressions.Intrinsic.TheVariants.{Mod}
@@ -144,7 +144,7 @@ origins_behind s m ps body origin =
 
 -- how many statements come when a DO is lowered: three at its beginning and two at its exit for each scalar, the DO of the exit, and two for each sum
 abbrev pub gained : List Partials → StmtTrees → ℕ
-gained ps body = 5 * length ps + 1 + 2 * count_by (is_sum ps) (all_numbered body)
+gained ps body = 5 * length ps + 1 + 2 * length (filter (is_sum ps) (all_numbered body))
 
 -- the DO with number s is lowered with these partial sums, over these values
 abbrev pub lowered_with : Bool → Lowered → (s : ℕ) → StmtTrees → Span → List Partials → Lowered

@@ -16,7 +16,7 @@ mod rules;
 mod summing;
 mod sums;
 
-pub use laws::reduction_is_lawful;
+pub use laws::{one_lowering, reduction_is_lawful};
 pub use lowering::{Lowered, lower};
 pub use ped_splits;
 pub use reducing::reduce;

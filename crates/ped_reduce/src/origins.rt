@@ -1,6 +1,6 @@
 //! Which statement each statement of a lowered program comes from.
 
-ghost use Rattle.std.specs.Prelude.{◌≡◌, ◌≤◌, ◌<◌, ◌+◌, ◌*◌, ◌^◌, ◌++◌, map, length, take, drop, replicate, count_by, IfOk, OnOk};
+ghost use Rattle.std.specs.Prelude.{◌≡◌, ◌≤◌, ◌<◌, ◌+◌, ◌*◌, ◌^◌, ◌++◌, map, length, take, drop, replicate, filter, IfOk, OnOk};
 ghost use Rattle.ped_tree.specs.Numbering.{numbered, all_numbered, statement_count, statements_count};
 ghost use Rattle.ped_tree.specs.Views.{stmt_tree, stmt_trees};
 ghost use Rattle.ped_reduce.specs.Lowering as Spec;
@@ -145,7 +145,7 @@ pub(crate) fn gained(partials: &[Partials], body: &[Stmt]) -> u32
 #[cycle(sums)]
 fn count_sums(partials: &[Partials], statements: &[Stmt]) -> u32
     requires { statements_count (stmt_trees statements.now) < 2 ^ 32 }
-    ensures value { result ≡ count_by (Spec.is_sum (map partials_view partials.now)) (all_numbered (stmt_trees statements.now)) }
+    ensures value { result ≡ length (filter (Spec.is_sum (map partials_view partials.now)) (all_numbered (stmt_trees statements.now))) }
     ensures small { result ≤ statements_count (stmt_trees statements.now) }
 {
     let mut total = 0;
@@ -159,7 +159,7 @@ fn count_sums(partials: &[Partials], statements: &[Stmt]) -> u32
 #[cycle(sums)]
 fn count_sums_in(partials: &[Partials], statement: &Stmt) -> u32
     requires { statement_count (stmt_tree statement.now) < 2 ^ 32 }
-    ensures value { result ≡ count_by (Spec.is_sum (map partials_view partials.now)) (numbered (stmt_tree statement.now)) }
+    ensures value { result ≡ length (filter (Spec.is_sum (map partials_view partials.now)) (numbered (stmt_tree statement.now))) }
     ensures small { result ≤ statement_count (stmt_tree statement.now) }
 {
     match statement {

@@ -1,0 +1,14 @@
+pub mod ListedComments
+pub mod AlikeRuns
+pub mod ReducedPrograms
+pub mod ReducingRules
+pub mod ReducingLawful
+pub mod SummingRules
+pub mod ReducingAnswers
+pub mod LoweringLaws
+pub mod LoweringAnswers
+pub mod MadeAnswers
+pub mod LoweredCounts
+pub mod FreshArrays
+pub mod LoweredPrograms
+pub mod UnsummableAnswers

@@ -25,9 +25,13 @@ carried_names t number edges = files_last (with_names [] (map (λ e. e.name) (fi
 abbrev pub AreCarried : ProgramTree → ℕ → List (List ℕ) → Type 0
 AreCarried t number names = (edges : List Edge) × AreEdges t edges × (names ≡ carried_names t number edges)
 
+-- the name is that of a scalar variable of the program
+abbrev pub is_scalar_name : ProgramTree → List ℕ → Bool
+is_scalar_name t x = not (is_file x) && is_scalar t x
+
 -- there is a name, and all are those of scalar variables
 abbrev pub are_scalars : ProgramTree → List (List ℕ) → Bool
-are_scalars t names = has_some names && list_all (is_scalar t) names
+are_scalars t names = has_some names && list_all (is_scalar_name t) names
 
 -- one to eight names, all of them those of scalar variables: as many as `reduce` takes (this project)
 abbrev pub are_few_scalars : ProgramTree → List (List ℕ) → Bool

@@ -1,5 +1,6 @@
 -- The strategy of `auto`: it parallelises the present program by accepted steps, and says why each DO that is left stays serial (ParaScope; this project).
-use Rattle.std.specs.Prelude.{◌≡◌, ◌≢◌, ◌⊎◌, ℕ, zero, suc, ◌+◌, ◌≤◌, ◌<◌, List, [], ◌∷◌, ◌++◌, map, length, Bool, true, false, MatchBool, All}
+use Rattle.std.specs.Prelude.{◌≡◌, ◌⊎◌, ℕ, zero, suc, ◌+◌, ◌≤◌, ◌<◌, List, [], ◌∷◌, ◌++◌, map, length, Bool, true, false, MatchBool}
+use Rattle.std.specs.List.{AllByRecursion}
 use Rattle.ped_script.specs.declared.items.Command.{Command}
 use Rattle.ped_script.specs.declared.items.Command.TheVariants.{Parallel, Privatise, Reduce, Distribute}
 use Rattle.ped_scalar.specs.ped_rules.specs.ped_loop_runs.specs.ped_bodies.specs.ped_steps.specs.ped_flow.specs.ped_tree.specs.Tree.{ProgramTree}
@@ -117,7 +118,7 @@ pub record AreLeft {S : Type 0} (e : Editing S) (s : S) (left : List (ℕ × Cau
   pub program : ProgramTree
   pub reads : e.Reads s program
   pub loops : map (λ l. l.0) left ≡ serial_loops program
-  pub causes : All (λ l. e.Refuses s (Parallel l.0) l.1) left
+  pub causes : AllByRecursion (λ l. e.Refuses s (Parallel l.0) l.1) left
 
 -- what `auto` does to an editor in a state: a first round and further ones, with this report, the state in the end, and how many pairs of references are tested
 pub record IsAuto {S : Type 0} (e : Editing S) (s : S) (report : Report) (last : S) (tests : ℕ) : Type 0 where

@@ -2,6 +2,9 @@ pub mod Leading
 pub mod OneCourse
 pub mod Cutting
 pub mod Named
+pub mod Still
+pub mod ScalarNames
+pub mod Attempting
 pub mod Rounding
 pub mod Falling
 pub mod FurtherRounding

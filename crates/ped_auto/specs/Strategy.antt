@@ -44,20 +44,26 @@ pub record WithNames {S : Type 0} (e : Editing S) (number : ℕ) (passes : Progr
   pub carried : AreCarried program number names
   pub tried : MatchBool (passes program names) (Tried names p done q) ((done ≡ false) × (q ≡ p))
 
--- each of the names is tried to be made private, and then the DO to be made parallel again
+-- each of the names is tried to be made private to the DO, and then the DO to be made parallel again
 abbrev pub TriesPrivate : {S : Type 0} → Editing S → ℕ → List (List ℕ) → Stage S → Bool → Stage S → Type 0
 TriesPrivate {S} e number names p done q = (r : Stage S) × TriesEach e number names p r × Tries e (Parallel number) r done q
+
+-- all that the DO carries is tried to be made private, where that is scalars alone, and then the DO to be made parallel again
+abbrev pub Privatises : {S : Type 0} → Editing S → ℕ → Stage S → Bool → Stage S → Type 0
+Privatises e number = WithNames e number are_scalars (TriesPrivate e number)
+
+-- each iteration of the DO is tried to be given sums of its own for all that the DO carries, where that is one to eight scalars
+abbrev pub Reduces : {S : Type 0} → Editing S → ℕ → Stage S → Bool → Stage S → Type 0
+Reduces e number = WithNames e number are_few_scalars (λ names. Tries e (Reduce number names))
 
 -- one thing is tried, and where it fails another
 abbrev pub OrElse : {S : Type 0} → (Stage S → Bool → Stage S → Type 0) → (Stage S → Bool → Stage S → Type 0) → Stage S → Bool → Stage S → Type 0
 OrElse {S} First Second p done q = (First p true q × (done ≡ true)) ⊎ ((r : Stage S) × First p false r × Second r done q)
 
--- the DO with this number is to become parallel: as it is; or with private scalars, where all that it carries are scalars; or by a sum for each iteration of these scalars, where they are few
+-- the DO with this number is to become parallel: as it is, or else with private scalars, or else with sums
 abbrev pub Attempts : {S : Type 0} → Editing S → ℕ → Stage S → Bool → Stage S → Type 0
 Attempts e number =
-    OrElse (Tries e (Parallel number))
-    (OrElse (WithNames e number are_scalars (TriesPrivate e number))
-    (WithNames e number are_few_scalars (λ names. Tries e (Reduce number names))))
+    OrElse (Tries e (Parallel number)) (OrElse (Privatises e number) (Reduces e number))
 
 -- the DO is distributed, where it can be, and what is first of it is to become parallel
 abbrev pub Divides : {S : Type 0} → Editing S → ℕ → Stage S → Stage S → Type 0

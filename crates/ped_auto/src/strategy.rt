@@ -5,8 +5,7 @@ ghost use Rattle.ped_scalar.specs.ped_rules.specs.ped_loop_runs.specs.ped_bodies
 ghost use Rattle.ped_scalar.specs.ped_rules.specs.ped_loop_runs.specs.ped_bodies.specs.ped_steps.specs.ped_refs.specs.Occurrences.{name_text};
 ghost use Rattle.ped_auto.specs.SerialLoops.{serial_loops};
 ghost use Rattle.ped_auto.specs.Editing.{CanTry};
-ghost use Rattle.ped_auto.specs.CarriedNames.{are_scalars, are_few_scalars};
-ghost use Rattle.ped_auto.specs.Strategy.{Report, Tries, TriesEach, TriesPrivate, WithNames, Attempts, Visits, VisitsAgain, Round, FurtherRounds, AreLeft, IsAuto};
+ghost use Rattle.ped_auto.specs.Strategy.{Report, Tries, TriesEach, Privatises, Reduces, Attempts, Visits, VisitsAgain, Round, FurtherRounds, AreLeft, IsAuto};
 ghost use Rattle.ped_auto.specs.CutOff.{IsCutOff};
 ghost use Rattle.ped_auto.specs.CodeReports.{report_of, AreShort};
 ghost use Rattle.ped_auto.specs.CodeStages.{Goes, CutsOff, AnyOutcome, Tried, HasStatement, Refusal, IsScalarName, AreScalarNames, causes_of, TellsCause};
@@ -81,8 +80,8 @@ fn make_private<L: Ledger, E: Editor<L>>(
 ) -> Result<bool, NoMemory>
     requires at { HasStatement E.editing editor.old number }
     requires refused { Refusal E.editing editor.old (Command.Parallel number) }
-    ensures done { IfOk result (λ done. Goes (λ p q. WithNames E.editing number are_scalars (TriesPrivate E.editing number) p done q) editor.old accepted.old steps.old editor.new accepted.new steps.new) }
-    ensures cut { OnErr result (CutsOff E.editing (AnyOutcome (WithNames E.editing number are_scalars (TriesPrivate E.editing number))) editor.old accepted.old steps.old editor.new steps.new) }
+    ensures done { IfOk result (λ done. Goes (λ p q. Privatises E.editing number p done q) editor.old accepted.old steps.old editor.new accepted.new steps.new) }
+    ensures cut { OnErr result (CutsOff E.editing (AnyOutcome (Privatises E.editing number)) editor.old accepted.old steps.old editor.new steps.new) }
     ensures least { steps.old ≤ steps.new }
 {
     let Some(names) = scalar_names(alloc, editor, number)? else {
@@ -129,8 +128,8 @@ fn add_up<L: Ledger, E: Editor<L>>(
     number: u32,
 ) -> Result<bool, NoMemory>
     requires { HasStatement E.editing editor.old number }
-    ensures done { IfOk result (λ done. Goes (λ p q. WithNames E.editing number are_few_scalars (λ names. Tries E.editing (Command.Reduce number names)) p done q) editor.old accepted.old steps.old editor.new accepted.new steps.new) }
-    ensures cut { OnErr result (CutsOff E.editing (AnyOutcome (WithNames E.editing number are_few_scalars (λ names. Tries E.editing (Command.Reduce number names)))) editor.old accepted.old steps.old editor.new steps.new) }
+    ensures done { IfOk result (λ done. Goes (λ p q. Reduces E.editing number p done q) editor.old accepted.old steps.old editor.new accepted.new steps.new) }
+    ensures cut { OnErr result (CutsOff E.editing (AnyOutcome (Reduces E.editing number)) editor.old accepted.old steps.old editor.new steps.new) }
     ensures least { steps.old ≤ steps.new }
 {
     let Some(names) = scalar_names(alloc, editor, number)? else {

@@ -1,5 +1,5 @@
 -- The names that a DO carries, as the code collects them.
-use Rattle.std.proofs.Common.{◌≡◌, ◌≢◌, ℕ, ◌+◌, ◌<◌, List, [], ◌∷◌, ◌++◌, map, take, length, get_or, Bool, true, false, not, ◌&&◌, Option, Some, None, refl, sym, subst, ap, ◌∙◌, arith}
+use Rattle.std.proofs.Common.{◌≡◌, ◌≢◌, ℕ, ◌+◌, ◌<◌, ◌≤◌, leb, List, [], ◌∷◌, ◌++◌, map, take, length, get_or, Bool, true, false, not, ◌&&◌, Option, Some, None, refl, sym, subst, ap, ◌∙◌, arith}
 use Rattle.std.specs.List.{list_all}
 use Rattle.std.proofs.lemmas.List.{map_more, take_all}
 use Rattle.std.proofs.lemmas.List.Folds.{list_all-map, list_all_more, list_all_at}
@@ -8,7 +8,10 @@ use Rattle.ped_scalar.specs.ped_rules.specs.ped_loop_runs.specs.ped_bodies.specs
 use Rattle.ped_scalar.specs.ped_rules.specs.ped_loop_runs.specs.ped_bodies.specs.ped_steps.specs.ped_flow.specs.ped_tree.specs.Tree.{ProgramTree}
 use Rattle.ped_scalar.specs.ped_rules.specs.ped_loop_runs.specs.ped_bodies.specs.ped_steps.specs.ped_refs.specs.Occurrences.{name_text}
 use Rattle.ped_scalar.specs.Scalars.{is_scalar}
-use Rattle.ped_auto.specs.CarriedNames.{is_file, is_scalar_name, are_scalars}
+use Rattle.ped_auto.specs.CarriedNames.{AreCarried, is_file, is_scalar_name, are_scalars, are_few_scalars}
+use Rattle.ped_auto.specs.Editing.{Editing}
+use Rattle.ped_auto.specs.CodeStages.{IsScalarChoice, AreScalarNames}
+use Rattle.ped_auto.proofs.Named.{Named}
 
 -- a name is that of a scalar
 abbrev pub passes : {R : Type 0} → (R → List ℕ) → ProgramTree → R → Bool
@@ -63,3 +66,61 @@ name_apart (c ∷ cs) h = letter_apart c cs (first_true (is_letter c) _ h) where
 
 pub scalar_by : (t : ProgramTree) (x : List ℕ) (b : Bool) → is_name x ≡ true → b ≡ is_scalar t x → is_scalar_name t x ≡ b
 scalar_by t x b h e = ap (λ f. not f && is_scalar t x) (name_apart x h) ∙ sym e
+
+-- what the code has found of the names
+pub named_of : {S : Type 0} (e : Editing S) (s : S) (number : ℕ) (found : Option (List (List ℕ))) (names : List (List ℕ)) → AreScalarNames e s number found → found ≡ Some names → Named e s number are_scalars names true
+named_of {S} e s number found names h is =
+    let choice : IsScalarChoice h.0 h.2 (Some names) = subst (λ (o : Option (List (List ℕ))). IsScalarChoice h.0 h.2 o) is h.4 in
+    record {
+      program = h.0;
+      reads = h.1;
+      carried = subst (λ ns. AreCarried h.0 number ns) (sym choice.1) h.3;
+      answers = ap (are_scalars h.0) choice.1 ∙ choice.0;
+    }
+
+-- .. or that they aren't scalars
+pub unnamed_of : {S : Type 0} (e : Editing S) (s : S) (number : ℕ) (found : Option (List (List ℕ))) (h : AreScalarNames e s number found) → found ≡ None → Named e s number are_scalars h.2 false
+unnamed_of e s number found h is =
+    let choice : IsScalarChoice h.0 h.2 None = subst (λ (o : Option (List (List ℕ))). IsScalarChoice h.0 h.2 o) is h.4 in
+    record {
+      program = h.0;
+      reads = h.1;
+      carried = h.3;
+      answers = choice;
+    }
+
+few_by : (a : Bool) (n : ℕ) → a ≡ true → n ≤ 8 → (a && leb n 8) ≡ true
+few_by true n h few = grind arith
+few_by false n h few = absurd cc
+
+many_by : (a : Bool) (n : ℕ) → 8 < n → (a && leb n 8) ≡ false
+many_by true n many = grind arith
+many_by false n many = refl
+
+none_by : (a b : Bool) → a ≡ false → (a && b) ≡ false
+none_by = first_false
+
+-- few scalars, many, or none
+pub few_named : {S : Type 0} (e : Editing S) (s : S) (number : ℕ) (names : List (List ℕ)) → Named e s number are_scalars names true → length names ≤ 8 → Named e s number are_few_scalars names true
+few_named e s number names n few = record {
+  program = n.program;
+  reads = n.reads;
+  carried = n.carried;
+  answers = few_by (are_scalars n.program names) (length names) n.answers few;
+}
+
+pub many_named : {S : Type 0} (e : Editing S) (s : S) (number : ℕ) (names : List (List ℕ)) → Named e s number are_scalars names true → 8 < length names → Named e s number are_few_scalars names false
+many_named e s number names n many = record {
+  program = n.program;
+  reads = n.reads;
+  carried = n.carried;
+  answers = many_by (are_scalars n.program names) (length names) many;
+}
+
+pub none_named : {S : Type 0} (e : Editing S) (s : S) (number : ℕ) (names : List (List ℕ)) → Named e s number are_scalars names false → Named e s number are_few_scalars names false
+none_named e s number names n = record {
+  program = n.program;
+  reads = n.reads;
+  carried = n.carried;
+  answers = none_by (are_scalars n.program names) (leb (length names) 8) n.answers;
+}

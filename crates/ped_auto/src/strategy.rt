@@ -4,7 +4,7 @@ ghost use Rattle.std.specs.Prelude.{◌≡◌, ◌≤◌, ◌+◌, ◌-◌, ◌�
 ghost use Rattle.ped_scalar.specs.ped_rules.specs.ped_loop_runs.specs.ped_bodies.specs.ped_steps.specs.ped_flow.specs.ped_tree.specs.Tree.{ProgramTree};
 ghost use Rattle.ped_scalar.specs.ped_rules.specs.ped_loop_runs.specs.ped_bodies.specs.ped_steps.specs.ped_refs.specs.Occurrences.{name_text};
 ghost use Rattle.ped_auto.specs.SerialLoops.{serial_loops};
-ghost use Rattle.ped_auto.specs.Editing.{CanTry};
+ghost use Rattle.ped_auto.specs.Editing.{IsOfStrategy, CanTry};
 ghost use Rattle.ped_auto.specs.Strategy.{Report, Tries, TriesEach, Privatises, Reduces, Attempts, Visits, VisitsAgain, Round, FurtherRounds, AreLeft, IsAuto};
 ghost use Rattle.ped_auto.specs.CutOff.{IsCutOff};
 ghost use Rattle.ped_auto.specs.CodeReports.{report_of, AreShort};
@@ -31,7 +31,8 @@ fn try_command<L: Ledger, E: Editor<L>>(
     steps: &mut Steps<L>,
     command: Command,
 ) -> Result<Option<Refused>, NoMemory>
-    requires { CanTry E.editing editor.old command }
+    requires can { CanTry E.editing editor.old command }
+    requires strategy { IsOfStrategy command }
     ensures tried { IfOk result (λ why. Goes (Tried E.editing command why) editor.old accepted.old steps.old editor.new accepted.new steps.new) }
     ensures cut { OnErr result (CutsOff E.editing (AnyOutcome (Tries E.editing command)) editor.old accepted.old steps.old editor.new steps.new) }
     ensures least { steps.old ≤ steps.new }
@@ -63,7 +64,8 @@ fn attempt<L: Ledger, E: Editor<L>>(
     if refused.is_none() {
         return Ok(true);
     }
-    if make_private(alloc, editor, accepted, steps, number)? {
+    let made = make_private(alloc, editor, accepted, steps, number)?;
+    if made {
         return Ok(true);
     }
     add_up(alloc, editor, accepted, steps, number)
@@ -84,10 +86,12 @@ fn make_private<L: Ledger, E: Editor<L>>(
     ensures cut { OnErr result (CutsOff E.editing (AnyOutcome (Privatises E.editing number)) editor.old accepted.old steps.old editor.new steps.new) }
     ensures least { steps.old ≤ steps.new }
 {
-    let Some(names) = scalar_names(alloc, editor, number)? else {
+    let found = scalar_names(alloc, editor, number)?;
+    let Some(names) = found else {
         return Ok(false);
     };
-    if !privatise_each(alloc, editor, accepted, steps, number, names.as_slice())? {
+    let taken = privatise_each(alloc, editor, accepted, steps, number, names.as_slice())?;
+    if !taken {
         return Ok(false);
     }
     let command = Command::Parallel(number);
@@ -132,7 +136,8 @@ fn add_up<L: Ledger, E: Editor<L>>(
     ensures cut { OnErr result (CutsOff E.editing (AnyOutcome (Reduces E.editing number)) editor.old accepted.old steps.old editor.new steps.new) }
     ensures least { steps.old ≤ steps.new }
 {
-    let Some(names) = scalar_names(alloc, editor, number)? else {
+    let found = scalar_names(alloc, editor, number)?;
+    let Some(names) = found else {
         return Ok(false);
     };
     if names.len() > MOST_SUMS {
@@ -196,13 +201,14 @@ fn visit<L: Ledger, E: Editor<L>>(
     ensures cut { OnErr result (CutsOff E.editing (Visits E.editing number) editor.old accepted.old steps.old editor.new steps.new) }
     ensures least { steps.old ≤ steps.new }
 {
-    if attempt(alloc, editor, accepted, steps, number)? {
+    let made = attempt(alloc, editor, accepted, steps, number)?;
+    if made {
         return Ok(());
     }
     let command = Command::Distribute(number);
     let refused = try_command(alloc, editor, accepted, steps, command)?;
     if refused.is_none() {
-        let _done = attempt(alloc, editor, accepted, steps, number)?;
+        let _made = attempt(alloc, editor, accepted, steps, number)?;
     }
     Ok(())
 }
@@ -244,7 +250,8 @@ fn visit_again<L: Ledger, E: Editor<L>>(
     ensures least { steps.old ≤ steps.new }
 {
     let command = Command::Parallel(number);
-    if let Some(why) = try_command(alloc, editor, accepted, steps, command)? {
+    let refused = try_command(alloc, editor, accepted, steps, command)?;
+    if let Some(why) = refused {
         left.push((number, why))?;
     }
     Ok(())

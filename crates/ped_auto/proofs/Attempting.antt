@@ -139,3 +139,8 @@ pub cut_again : {S : Type 0} (e : Editing S) → IsEditing e → (number : ℕ) 
     → IsCut e (AnyOutcome (Tries e (Parallel number))) p now tests → IsCut e (VisitsAgain e number) p now tests
 cut_again e laws number p now tests cut =
     cut_within e (AnyOutcome (Tries e (Parallel number))) (VisitsAgain e number) p p now tests cut (leads_here e p) (λ q h. (q, h, leads_here e q))
+
+-- a command that was refused has left the stage as it was
+pub same_where_left : {S : Type 0} (e : Editing S) (c : Command) (why : Option Refused) (p q : Stage S) → Tried e c why p q → is_none why ≡ false → q ≡ p
+same_where_left e c None p q h n = absurd cc
+same_where_left e c (Some why) p q h n = h.2

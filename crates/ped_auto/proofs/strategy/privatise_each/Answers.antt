@@ -8,7 +8,7 @@ use Rattle.ped_auto.proofs.Leading.{leads_tries}
 use Rattle.ped_auto.proofs.Attempting.{tried_some, same_where_left}
 use Rattle.ped_auto.proofs.EachName.{each_more, cut_more}
 use Rattle.ped_auto.proofs.Still.{still_there}
-use Rattle.ped_auto.proofs.Outcomes.{when_err, neither_of}
+use Rattle.ped_auto.proofs.Outcomes.{when_err, neither_of, none_by}
 use Rattle.ped_auto.proofs.strategy.privatise_each.Goals as goal
 
 pub returns-in_err-refused-clause-cut : goal.returns-in_err-refused-clause-cut
@@ -45,6 +45,6 @@ loop-name-preserved g c =
           (let m = stage c.loop-name.editor c.loop-name.accepted (c.loop-name.steps - before) in
           let r = stage c.try_command.new.editor c.try_command.new.accepted (c.try_command.new.steps - before) in
           let both = neither_of c.loop-name.taken c.is_none-taken.result not_taken in
-          same_where_left e (Privatise c.args.number x) why m r (c.in_ok-refused.ensures.tried before (le_trans low inv.least)) (sym c.is_none-taken.ensures ∙ both.1) ∙ inv.none both.0 before low);
+          same_where_left e (Privatise c.args.number x) why m r (c.in_ok-refused.ensures.tried before (le_trans low inv.least)) (none_by why c.is_none-taken.result c.is_none-taken.ensures ∙ both.1) ∙ inv.none both.0 before low);
       least = le_trans inv.least c.try_command.ensures.least;
     }

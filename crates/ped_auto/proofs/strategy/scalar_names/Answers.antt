@@ -1,4 +1,4 @@
-use Rattle.std.proofs.Common.{◌≡◌, ◌≢◌, ℕ, ◌<◌, ◌≤◌, List, [], map, length, Bool, true, false, IsTrue, Option, sym, ap, subst, ◌∙◌, arith}
+use Rattle.std.proofs.Common.{◌≡◌, ◌≢◌, ℕ, ◌<◌, ◌≤◌, List, [], map, length, Bool, true, false, Option, refl, sym, ap, subst, ◌∙◌, arith}
 use Rattle.std.specs.List.{list_all}
 use Rattle.std.proofs.lemmas.List.{take_all}
 use Rattle.ped_scalar.specs.ped_rules.specs.ped_loop_runs.specs.ped_bodies.specs.ped_steps.specs.ped_refs.specs.Occurrences.{name_text}
@@ -24,7 +24,7 @@ returns-then-is_empty g c =
     let found = c.deref-name-items.result.now in
     let past = c.loop-name-test.false in
     let all = take_all c.loop-name.name-index found (omega (arith, past)) in
-    let empty : c.loop-name.names ≡ [] = c.if-is_empty.ensures in
+    let empty : c.loop-name.names ≡ [] = c.if-is_empty.ensures.0 refl in
     (h.0, h.1, map name_text c.in_ok-carried.carried.items, h.2,
     subst (λ (xs : List RefName). are_scalars h.0 (map name_text xs) ≡ false) c.deref-name-items.ensures.value
     (none_there h.0 (map name_text found) (sym (c.loop-name.invariant.names ∙ ap (map name_text) all) ∙ empty)))
@@ -36,7 +36,7 @@ returns g c =
     let past = c.loop-name-test.false in
     let all = take_all c.loop-name.name-index found (omega (arith, past)) in
     let names : c.loop-name.names ≡ map name_text found = c.loop-name.invariant.names ∙ ap (map name_text) all in
-    let some : c.loop-name.names ≢ [] = c.if-is_empty.ensures in
+    let some : c.loop-name.names ≢ [] = λ none. (let no : false ≡ true = c.if-is_empty.ensures.1 none in absurd cc) in
     let value = c.deref-name-items.ensures.value in
     let scalars : list_all (passes name_text h.0) found ≡ true = subst (λ (xs : List RefName). list_all (passes name_text h.0) xs ≡ true) all (c.loop-name.invariant.scalars h.0 h.1) in
     (h.0, h.1, map name_text c.in_ok-carried.carried.items, h.2,

@@ -35,14 +35,14 @@ falls_on : {S : Type 0} (e : Editing S) → IsEditing e → (p q r : Stage S) �
 falls_on e laws p q r a b =
     let same : a.behind ≡ b.before = laws.one_program q.now a.behind b.before a.reads_behind b.reads_before in
     let first : length q.accepted + length (serial_loops b.before) ≤ length p.accepted + length (serial_loops a.before) =
-          subst (λ t. length q.accepted + length (serial_loops t) ≤ length p.accepted + length (serial_loops a.before)) same a.fewer in
+    subst (λ t. length q.accepted + length (serial_loops t) ≤ length p.accepted + length (serial_loops a.before)) same a.fewer in
     let second = b.fewer in
     record { before = a.before; reads_before = a.reads_before; behind = b.behind; reads_behind = b.reads_behind; fewer = omega arith }
 
 falls_meets : {S : Type 0} (e : Editing S) → IsEditing e → (number : ℕ) (p q : Stage S) → Meets e (VisitsAgain e) number p q → Falls e p q
 falls_meets e laws number p q h =
     by_test (is_serial_loop h.program number) (VisitsAgain e number p q) (q ≡ p) (Falls e p q) h.met
-        (λ k. falls_tries e laws number p q h.program h.reads k.0 k.1) (λ k. falls_same e p q h.program h.reads k)
+    (λ k. falls_tries e laws number p q h.program h.reads k.0 k.1) (λ k. falls_same e p q h.program h.reads k)
 
 falls_round_from : {S : Type 0} (e : Editing S) → IsEditing e → (n number : ℕ) (p q : Stage S) → RoundFrom e (VisitsAgain e) n number p q → Falls e p q
 falls_round_from e laws zero number p q h = falls_same e p q h.0.0 h.0.1 h.1

@@ -43,8 +43,8 @@ same_answer e laws number passes Tried p q names answer done n h =
     let program = laws.one_program p.now n.program h.program n.reads h.reads in
     let same = one_carried n.program number names h.names n.carried (subst (λ t. AreCarried t number h.names) (sym program) h.carried) in
     let at : MatchBool (passes n.program names) (Tried names p done q) ((done ≡ false) × (q ≡ p)) =
-          subst (λ ns. MatchBool (passes n.program ns) (Tried ns p done q) ((done ≡ false) × (q ≡ p))) (sym same)
-          (subst (λ t. MatchBool (passes t h.names) (Tried h.names p done q) ((done ≡ false) × (q ≡ p))) (sym program) h.tried) in
+    subst (λ ns. MatchBool (passes n.program ns) (Tried ns p done q) ((done ≡ false) × (q ≡ p))) (sym same)
+    (subst (λ t. MatchBool (passes t h.names) (Tried h.names p done q) ((done ≡ false) × (q ≡ p))) (sym program) h.tried) in
     subst (λ b. MatchBool b (Tried names p done q) ((done ≡ false) × (q ≡ p))) n.answers at
 
 -- where the test passes, what is tried on the names is done

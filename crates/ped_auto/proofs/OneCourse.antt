@@ -59,10 +59,10 @@ one_named e laws number passes Tried f p q r a b h k =
     let program = laws.one_program p.now h.program k.program h.reads k.reads in
     let names = one_carried h.program number h.names k.names h.carried (subst (λ t. AreCarried t number k.names) (sym program) k.carried) in
     let tried : MatchBool (passes h.program h.names) (Tried h.names p b r) ((b ≡ false) × (r ≡ p)) =
-          subst (λ ns. MatchBool (passes h.program ns) (Tried ns p b r) ((b ≡ false) × (r ≡ p))) (sym names)
-          (subst (λ t. MatchBool (passes t k.names) (Tried k.names p b r) ((b ≡ false) × (r ≡ p))) (sym program) k.tried) in
+    subst (λ ns. MatchBool (passes h.program ns) (Tried ns p b r) ((b ≡ false) × (r ≡ p))) (sym names)
+    (subst (λ t. MatchBool (passes t k.names) (Tried k.names p b r) ((b ≡ false) × (r ≡ p))) (sym program) k.tried) in
     both_by_test (passes h.program h.names) (Tried h.names p a q) ((a ≡ false) × (q ≡ p)) (Tried h.names p b r) ((b ≡ false) × (r ≡ p)) ((a ≡ b) × (q ≡ r))
-        h.tried tried (λ x y. f h.names p q r a b x y) (λ x y. (x.0 ∙ sym y.0, x.1 ∙ sym y.1))
+    h.tried tried (λ x y. f h.names p q r a b x y) (λ x y. (x.0 ∙ sym y.0, x.1 ∙ sym y.1))
 
 pub one_private : {S : Type 0} (e : Editing S) → IsEditing e → (number : ℕ) (names : List (List ℕ)) → HasOne (TriesPrivate e number names)
 one_private {S} e laws number names p q r a b h k =
@@ -162,8 +162,8 @@ pub one_auto : {S : Type 0} (e : Editing S) → IsEditing e → (start end last 
 one_auto {S} e laws start end last a b m n h k =
     let between = one_round e laws (Visits e) (one_visit e laws) (starting start) h.between k.between h.first k.first in
     let stages : stage end a.accepted m ≡ stage last b.accepted n =
-          one_further e laws h.rounds k.rounds h.between (stage end a.accepted m) (stage last b.accepted n) h.further
-          (subst (λ (x : Stage S). FurtherRounds e k.rounds x (stage last b.accepted n)) (sym between) k.further) in
+    one_further e laws h.rounds k.rounds h.between (stage end a.accepted m) (stage last b.accepted n) h.further
+    (subst (λ (x : Stage S). FurtherRounds e k.rounds x (stage last b.accepted n)) (sym between) k.further) in
     let states : end ≡ last = ap (λ (x : Stage S). x.now) stages in
     let accepted : a.accepted ≡ b.accepted = ap (λ (x : Stage S). x.accepted) stages in
     let left : a.left ≡ b.left = one_left e laws last a.left b.left (subst (λ (x : S). AreLeft e x a.left) states h.left) k.left in

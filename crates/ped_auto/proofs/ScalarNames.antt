@@ -33,7 +33,7 @@ both_true false b h k = absurd cc
 pub none_of : {R : Type 0} (text : R → List ℕ) (t : ProgramTree) (found : List R) (i : ℕ) (d : R) → i < length found → passes text t (get_or found i d) ≡ false → are_scalars t (map text found) ≡ false
 none_of text t found i d within h =
     and_false (has_some (map text found)) (list_all (is_scalar_name t) (map text found))
-        (list_all-map (is_scalar_name t) text found ∙ list_all_at (passes text t) found i d within h)
+    (list_all-map (is_scalar_name t) text found ∙ list_all_at (passes text t) found i d within h)
 
 -- no name at all
 pub none_there : (t : ProgramTree) (names : List (List ℕ)) → names ≡ [] → are_scalars t names ≡ false

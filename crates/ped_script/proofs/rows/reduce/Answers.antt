@@ -20,6 +20,6 @@ returns-in_default-number c =
 pub returns : goal.returns
 returns c =
     IfOk-weaker c.reduce_at.result _ _ (λ x h.
-        h ∙ ap (λ o. option_and_then (λ s. few_names (λ names. Reduce s names) (words_of c.in-Some.rest.now)) o) (sym (sym c.number.ensures ∙ c.in-Some-number.is))
-        ∙ ap (λ (ws : List Text). number (λ s. few_names (λ names. Reduce s names)) ws) (sym c.in-Some.ensures.word)
-        ∙ sym (reduce_row (words_of c.args.line.now))) c.reduce_at.ensures
+    h ∙ ap (λ o. option_and_then (λ s. few_names (λ names. Reduce s names) (words_of c.in-Some.rest.now)) o) (sym (sym c.number.ensures ∙ c.in-Some-number.is))
+    ∙ ap (λ (ws : List Text). number (λ s. few_names (λ names. Reduce s names)) ws) (sym c.in-Some.ensures.word)
+    ∙ sym (reduce_row (words_of c.args.line.now))) c.reduce_at.ensures

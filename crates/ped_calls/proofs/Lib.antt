@@ -1,0 +1,5 @@
+pub mod Exchanged
+pub mod Nested
+pub mod UnitForms
+pub mod Saturating
+pub mod Earliest

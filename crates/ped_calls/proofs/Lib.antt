@@ -3,3 +3,7 @@ pub mod Nested
 pub mod UnitForms
 pub mod Saturating
 pub mod Earliest
+pub mod Read
+pub mod Seen
+pub mod Packed
+pub mod Meant

@@ -1,5 +1,5 @@
 -- What a file of program units expands to: each CALL gives way to a block with the statements of its subroutine, in which each dummy argument stands for its argument, and each other variable has a name of its own (ANSI X3.9-1978, section 15.9.3; this project).
-use Rattle.std.specs.Prelude.{ℕ, zero, suc, ◌+◌, ℤ, List, [], ◌∷◌, ◌++◌, map, filter, take, length, codes, Option, Some, None, is_some, Bool, true, false, not, ◌&&◌, ◌||◌, ◌==◌, if◌then◌else◌}
+use Rattle.std.specs.Prelude.{ℕ, zero, suc, ◌+◌, ℤ, List, [], ◌∷◌, ◌++◌, map, take, length, codes, Option, Some, None, is_some, Bool, false, not, if◌then◌else◌}
 use Rattle.std.specs.List.{flat_map}
 use Rattle.std.specs.Fmt.{decimal}
 use Rattle.ped_base.specs.Dimensions.{Dimensions}
@@ -14,7 +14,7 @@ use Rattle.ped_sums.specs.Sums.{literal}
 use Rattle.ped_valid.specs.ped_symbols.specs.declared.symbols.Kind.{Kind}
 use Rattle.ped_valid.specs.ped_symbols.specs.declared.symbols.Kind.TheVariants.{Scalar, Array, Constant}
 use Rattle.ped_valid.specs.ped_symbols.specs.Declarations.{program_name}
-use Rattle.ped_valid.specs.ped_symbols.specs.Entries.{entry_of}
+use Rattle.ped_valid.specs.ped_symbols.specs.Entries.{entry_of, with_entry}
 use Rattle.ped_valid.specs.ped_symbols.specs.Kinds.{at_last, kind_in, names_of}
 use Rattle.ped_valid.specs.ped_symbols.specs.Values.{Values, fixed_value}
 use Rattle.ped_calls.specs.Forms.{Called}
@@ -193,35 +193,34 @@ body_names u = first_occurrences [] (stmts_names (all_with_calls naming_argument
 abbrev pub constants_of : ProgramUnit → Values
 constants_of u = (at_last (for_names u)).values
 
--- the variables in the statements of a subroutine that are no dummy arguments (ANSI X3.9-1978, section 15.9.2)
-abbrev pub locals_of : ProgramUnit → List (List ℕ)
-locals_of u = filter (λ x. not (is_among x u.formals) && not (is_some (value_named (constants_of u) x))) (body_names u)
+-- dummy arguments with what stands for them, by their places, as far as there are both, behind other names; of a name that something stands for already the first counts
+abbrev pub with_formals : Meanings → List (List ℕ) → List ExprTree → Meanings
+with_formals m (f ∷ fs) (e ∷ es) = with_formals (with_entry m f e) fs es
+with_formals m [] es = m
+with_formals m (f ∷ fs) [] = m
 
--- dummy arguments with what stands for them, by their places, as far as there are both
-abbrev pub paired : List (List ℕ) → List ExprTree → Meanings
-paired (f ∷ fs) (e ∷ es) = (f, e) ∷ paired fs es
-paired [] es = []
-paired (f ∷ fs) [] = []
+-- named constants with their literals, behind other names (ANSI X3.9-1978, section 8.6)
+abbrev pub with_constants : Meanings → Values → Meanings
+with_constants m [] = m
+with_constants m (v ∷ vs) = with_constants (with_entry m v.0 (literal v.1)) vs
 
--- what stands for the variables of a unit, with these before, and the names that are taken then: each gets a new name, and an array is declared with it (this project)
+-- what stands for the names of a unit, and what is given then
 pub record Renamed : Type 0 where
   pub meanings : Meanings
   pub given : Given
 
--- new names for variables of a unit, one after the other (this project)
+-- a variable of this kind with the next new name
+abbrev pub with_renamed : List ℕ → Option Kind → Renamed → Renamed
+with_renamed x kind r = record { meanings = with_entry r.meanings x (Var (free_name r.given.taken)); given = with_local r.given kind }
+
+-- the names of a unit that nothing stands for yet, one after the other, each with a new name (this project)
 abbrev pub renamed : ProgramUnit → List (List ℕ) → Renamed → Renamed
 renamed u [] r = r
-renamed u (x ∷ xs) r = renamed u xs (record {
-  meanings = r.meanings ++ (x, Var (free_name r.given.taken)) ∷ [];
-  given = with_local r.given (kind_in (for_names u) x);
-})
+renamed u (x ∷ xs) r = renamed u xs (if is_some (entry_of r.meanings x) then r else with_renamed x (kind_in (for_names u) x) r)
 
--- what stands for the names of a subroutine whose arguments were bound: for dummy arguments what they are bound to, for constants their literals, for all others new names (this project)
+-- what stands for the names of a subroutine whose arguments were bound: for dummy arguments what they are bound to, for constants their literals, for all other variables of its statements new names, in the order of their first occurrence (ANSI X3.9-1978, section 15.9.2; this project)
 abbrev pub meanings_in : ProgramUnit → Bound → Renamed
-meanings_in u b = renamed u (locals_of u) (record {
-  meanings = paired u.formals b.meant ++ map (λ v. (v.0, literal v.1)) (constants_of u);
-  given = b.given;
-})
+meanings_in u b = renamed u (body_names u) (record { meanings = with_constants (with_formals [] u.formals b.meant) (constants_of u); given = b.given })
 
 -- statements that follow others
 abbrev pub behind_stmts : List StmtTree → StmtTrees → StmtTrees

@@ -11,3 +11,4 @@ pub mod UnitReading
 pub mod Places
 pub mod Views
 pub mod Seeing
+pub mod Meaning

@@ -90,8 +90,8 @@ pub record Association : Type 0 where
 
 -- dummy arguments with arguments, by their places, as far as there are both (ANSI X3.9-1978, section 15.9.1)
 abbrev pub associations : List (List ℕ) → List ExprTree → List Association
-associations (f ∷ fs) (a ∷ as) = record { formal = f; argument = a } ∷ associations fs as
-associations [] as = []
+associations (f ∷ fs) (a ∷ rest) = record { formal = f; argument = a } ∷ associations fs rest
+associations [] arguments = []
 associations (f ∷ fs) [] = []
 
 -- the associations that a CALL of the subroutine makes (ANSI X3.9-1978, section 15.9.1)

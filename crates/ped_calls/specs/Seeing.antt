@@ -38,6 +38,12 @@ ends_next (e ∷ es) = is_end_next es ∷ ends_next es
 abbrev pub seen_as : Bool → Bool → UnitEntry → Entry
 seen_as in_subroutine before_end e = record { statement = e.statement; reading = as_reading stand_in in_subroutine before_end e.item }
 
+-- statements with something plain in the place of each CALL, by what is known of the next one of each
+abbrev pub seen_by : Bool → List Bool → List UnitEntry → List Entry
+seen_by in_subroutine (b ∷ bs) (e ∷ es) = seen_as in_subroutine b e ∷ seen_by in_subroutine bs es
+seen_by in_subroutine [] es = []
+seen_by in_subroutine (b ∷ bs) [] = []
+
 -- a CALL, where there is one
 abbrev pub call_view : Option Called → Option forms.Called
 call_view None = None

@@ -60,6 +60,7 @@ pub struct Course {
 }
 
 /// Where statements are expanded: in how many CALLs, with what stands for their names, and by which named constants.
+#[derive(Clone, Copy)]
 struct Within<'m> {
     depth: usize,
     meanings: &'m Meanings,

@@ -450,6 +450,7 @@ fn at_links(
 }
 
 /// A CALL with what its arguments are looked at by.
+#[derive(Clone, Copy)]
 struct At<'l> {
     link: &'l Link,
     callee: usize,

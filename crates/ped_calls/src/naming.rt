@@ -22,6 +22,17 @@ use std::alloc::Global;
 ///
 /// `At` exactly where the names of a unit break a rule, with the first of all units; `NoMemory` where memory runs out.
 pub fn tables(alloc: Global, units: &[ProgramUnit]) -> Result<Vec<Symbols>, UnitRefusal> {
+    match all_tables(alloc, units)? {
+        Ok(tables) => Ok(tables),
+        Err(refusal) => Err(at(refusal)),
+    }
+}
+
+/// What the names of all units stand for, or the first refusal of them.
+fn all_tables(
+    alloc: Global,
+    units: &[ProgramUnit],
+) -> Result<Result<Vec<Symbols>, Refusal>, NoMemory> {
     let mut tables = Vec::new(alloc);
     let mut found = None;
     for unit in units {
@@ -31,8 +42,8 @@ pub fn tables(alloc: Global, units: &[ProgramUnit]) -> Result<Vec<Symbols>, Unit
         }
     }
     match found {
-        Some(refusal) => Err(at(refusal)),
-        None => Ok(tables),
+        Some(refusal) => Ok(Err(refusal)),
+        None => Ok(Ok(tables)),
     }
 }
 

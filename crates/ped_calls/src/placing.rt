@@ -86,6 +86,7 @@ pub fn placed_calls(alloc: Global, unit: &ProgramUnit) -> Result<Found, NoMemory
 }
 
 /// A walk over the statements of a unit, with the lines that are still to come.
+#[derive(Drop)]
 struct Walk<'l> {
     found: Found,
     lines: &'l [u64],

@@ -166,7 +166,7 @@ fn read_unit(
     let other = other_refusal(alloc, &segment)?;
     let Segment { head, entries } = segment;
     let in_subroutine = head.is_some();
-    let head = heading(alloc, head);
+    let head = heading_of(alloc, head);
     let seen = seen_statements(alloc, entries, in_subroutine)?;
     let saved = saved_names(alloc, &seen.entries)?;
     let first = first_refusal(alloc, &seen.entries, directives, lines, &saved)?;
@@ -179,7 +179,7 @@ fn read_unit(
 }
 
 /// What the SUBROUTINE statement of a unit says.
-fn heading(alloc: Global, head: Option<UnitEntry>) -> Heading {
+fn heading_of(alloc: Global, head: Option<UnitEntry>) -> Heading {
     match head {
         Some(UnitEntry {
             statement,

@@ -7,3 +7,6 @@ pub mod Read
 pub mod Seen
 pub mod Packed
 pub mod Meant
+pub mod Segments
+pub mod Entries
+pub mod FirstOfAll

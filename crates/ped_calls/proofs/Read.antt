@@ -17,6 +17,10 @@ use Rattle.ped_valid.specs.ped_parse.specs.ped_blocks.proofs.BlocksFound.{none_s
 use Rattle.ped_valid.specs.ped_parse.specs.ped_expressions.specs.ExpressionReading.{saturated}
 use Rattle.ped_valid.specs.ped_parse.specs.ped_expressions.proofs.Large.{neither, cond_small_saturated}
 use Rattle.ped_valid.specs.ped_parse.proofs.LargeItems.{small_same}
+use Rattle.ped_tree.specs.Grammar.RefusalViews.{finding_of, found_of}
+use Rattle.ped_tree.specs.Grammar.StatementViews.{statement_of, statements_view}
+use Rattle.ped_tree.specs.declared.grammar.refusals.Refusal.{Refusal}
+use Rattle.ped_tree.specs.declared.grammar.statements.Statements as lines
 use Rattle.ped_calls.specs.Forms.{UnitItem, plain, calls, calls_if, begins_unit, returns}
 use Rattle.ped_calls.specs.Units as units
 use Rattle.ped_calls.specs.Units.{ProgramUnits, all_units, call_statement}
@@ -144,3 +148,22 @@ units_as_written text es us h r k b =
     let none : first_segments_refusal text plain_es ≡ None = sym (ap first_of (ap (segments_refusals all) segments ∙ segments_refusals_with all (segments_of plain_es))) ∙ k in
     with_units text plain_es us (cut text plain_es h r.1) none
     (all_as_written all (segments_of plain_es) us (first_none (segments_refusals all (segments_of plain_es)) none) (subst (λ (ss : List Segment). AreBuiltOf ss us) segments b))
+
+-- the same of what the code reads
+
+pub refused_units_here : (cut : lines.Statements) (es : List UnitEntry) (found : Option Refusal) (f : Refusal) → AreItemsReadAs (map statement_of cut.statements) es
+    → found_of found ≡ first_of (segments_refusals (statements_view cut) (segments_of es)) → found ≡ Some f
+    → (text : List ℕ) → first_line_refusal text ≡ None → statements_view cut ≡ statements_of text → RefusesUnits text (found_in_text (finding_of f))
+refused_units_here cut es found f r h k text l same =
+    let read = subst (λ (s : Statements). AreItemsReadAs s.statements es) same r in
+    let first = subst (λ (s : Statements). found_of found ≡ first_of (segments_refusals s (segments_of es))) same h in
+    refused_as_written text es (finding_of f) l read (sym first ∙ ap found_of k)
+
+pub units_here : (cut : lines.Statements) (es : List UnitEntry) (found : Option Refusal) (us : List ProgramUnit) → AreItemsReadAs (map statement_of cut.statements) es
+    → found_of found ≡ first_of (segments_refusals (statements_view cut) (segments_of es)) → found ≡ None → AreBuiltOf (segments_of es) us
+    → (text : List ℕ) → first_line_refusal text ≡ None → statements_view cut ≡ statements_of text → (units : ProgramUnits) × ReadsUnits text units × (map program_unit_of us ≡ all_units units)
+units_here cut es found us r h k b text l same =
+    let read = subst (λ (s : Statements). AreItemsReadAs s.statements es) same r in
+    let first = subst (λ (s : Statements). found_of found ≡ first_of (segments_refusals s (segments_of es))) same h in
+    let all = units_as_written text es us l read (sym first ∙ ap found_of k) b in
+    (all.units, all.reads, all.are)

@@ -20,7 +20,6 @@ use Rattle.ped_valid.specs.ped_symbols.specs.Values.{Values, fixed_value}
 use Rattle.ped_calls.specs.Forms.{Called}
 use Rattle.ped_calls.specs.Units.{ProgramUnit, ProgramUnits, unit_of, call_of, call_statement, instead_of, all_with_calls, called_text}
 use Rattle.ped_calls.specs.Refusals.{for_names}
-use Rattle.ped_calls.specs.Linking.{calls_of}
 
 -- KX with a number behind it (this project)
 abbrev pub numbered_name : ℕ → List ℕ
@@ -308,36 +307,14 @@ nothing_given us = record { taken = names_of (for_names us.main) ++ flat_map pro
 abbrev pub main_call_expanded : ProgramUnits → Called → Given → Expanded Given
 main_call_expanded us c g = call_expanded (length us.others) us (constants_of us.main) c g
 
--- how many CALLs are still to expand, and what has been given names
-pub record Remaining : Type 0 where
-  pub count : ℕ
-  pub given : Given
+-- statements of the main program with each CALL expanded, in text order
+abbrev pub main_expanded : ProgramUnits → StmtTrees → AllExpanded Given
+main_expanded us body = all_expanded_in (main_call_expanded us) body (nothing_given us)
 
--- an expanded CALL, and how many remain behind it
-abbrev pub counted_down : ℕ → Expanded Given → Expanded Remaining
-counted_down count e = record { statement = e.statement; state = record { count = count; given = e.state } }
-
--- a CALL of the main program where so many are still to expand: it stays where none is
-abbrev pub expanded_while_any : ProgramUnits → Called → ℕ → Given → Expanded Remaining
-expanded_while_any us c zero g = record { statement = call_statement c; state = record { count = 0; given = g } }
-expanded_while_any us c (suc count) g = counted_down count (main_call_expanded us c g)
-
--- the same by what remains
-abbrev pub expanded_while : ProgramUnits → Called → Remaining → Expanded Remaining
-expanded_while us c r = expanded_while_any us c r.count r.given
-
--- the statements of the main program, where so many CALLs are expanded, the first in text order, and the later ones stay
-abbrev pub first_expanded : ProgramUnits → ℕ → AllExpanded Remaining
-first_expanded us m = all_expanded_in (expanded_while us) us.main.tree.body (record { count = m; given = nothing_given us })
-
--- the program with these arrays behind its declarations and these statements
-abbrev pub program_of : ProgramUnits → Given → StmtTrees → ProgramTree
-program_of us g body = record { decls = us.main.tree.decls ++ g.arrays; body = body }
-
--- the main program, where so many CALLs are expanded; the later ones stay (this project)
-abbrev pub expand_first : ProgramUnits → ℕ → ProgramTree
-expand_first us m = program_of us (first_expanded us m).state.given (first_expanded us m).statements
+-- the main program with other statements, behind whose declarations these arrays are declared
+abbrev pub with_statements : ProgramUnits → AllExpanded Given → ProgramTree
+with_statements us e = record { decls = us.main.tree.decls ++ e.state.arrays; body = e.statements }
 
 -- the main program, where each CALL is expanded (this project)
 abbrev pub expansion : ProgramUnits → ProgramTree
-expansion us = expand_first us (length (calls_of us.main))
+expansion us = with_statements us (main_expanded us us.main.tree.body)

@@ -12,3 +12,4 @@ pub mod Places
 pub mod Views
 pub mod Seeing
 pub mod Meaning
+pub mod Naming

@@ -21,7 +21,7 @@ abbrev pub IsIn : {X : Type 0} → X → List X → Type 0
 IsIn x [] = ⊥
 IsIn x (y ∷ ys) = (x ≡ y) ⊎ IsIn x ys
 
--- a CALL at its place: the line of its statement, and the DO loops round it in its unit, the innermost first (ANSI X3.9-1978, sections 11.10, 15.6.2)
+-- a CALL at its place: the line of its statement, and the DO loops round it in its unit, the outermost first (ANSI X3.9-1978, sections 11.10, 15.6.2)
 pub record Placed : Type 0 where
   pub line : ℕ
   pub called : Called
@@ -38,7 +38,7 @@ abbrev mutual
   calls_in loops lines (Assign left right) = placed loops lines (call_of left right)
   calls_in loops lines (If condition then_part else_part) =
       all_calls_in loops (drop 1 lines) then_part ++ all_calls_in loops (drop (1 + length (stmts_sites then_part)) lines) else_part
-  calls_in loops lines (Do h body) = all_calls_in (h ∷ loops) (drop (1 + length (private_site h.private)) lines) body
+  calls_in loops lines (Do h body) = all_calls_in (loops ++ h ∷ []) (drop (1 + length (private_site h.private)) lines) body
   calls_in loops lines (Print items) = []
   calls_in loops lines (Read items) = []
   calls_in loops lines Stop = []

@@ -1,5 +1,5 @@
 -- What is read of the statements of a file, and units as their statements are read. Contracts of private functions alone speak of it.
-use Rattle.std.specs.Prelude.{◌≡◌, ℕ, List, [], ◌∷◌, map, Option, Some, None, Bool}
+use Rattle.std.specs.Prelude.{◌≡◌, ℕ, List, [], ◌∷◌, ◌++◌, map, Option, Some, None, Bool}
 use Rattle.ped_tree.specs.Grammar.Statement.{Note, Statement, Statements}
 use Rattle.ped_tree.specs.Grammar.Items.{Entry}
 use Rattle.ped_tree.specs.Grammar.ItemViews.{entry_of}
@@ -11,7 +11,7 @@ use Rattle.ped_valid.specs.ped_parse.specs.ped_blocks.specs.Machine.{nothing_bui
 use Rattle.ped_valid.specs.ped_parse.specs.ped_expressions.specs.ExpressionReading.{saturated}
 use Rattle.ped_calls.specs.Forms as forms
 use Rattle.ped_calls.specs.Units as units
-use Rattle.ped_calls.specs.Reading.{UnitEntry, AreUnitEntries, Segment, is_end_next, is_subroutine, as_reading, as_entries, stand_in, seen_entries, kept_entries, IsHeaded}
+use Rattle.ped_calls.specs.Reading.{UnitEntry, AreUnitEntries, Segment, own_entries, further_segments, is_end_next, is_subroutine, as_reading, as_entries, stand_in, seen_entries, kept_entries, IsHeaded}
 use Rattle.ped_calls.specs.Refusals.{call_in, segment_refusals, before_another}
 use Rattle.ped_calls.specs.UnitReading.{item_with_literals}
 use Rattle.ped_calls.specs.Views.{called_of, program_unit_of, name_or_none}
@@ -43,6 +43,10 @@ abbrev pub seen_by : Bool → List Bool → List UnitEntry → List Entry
 seen_by in_subroutine (b ∷ bs) (e ∷ es) = seen_as in_subroutine b e ∷ seen_by in_subroutine bs es
 seen_by in_subroutine [] es = []
 seen_by in_subroutine (b ∷ bs) [] = []
+
+-- a unit that was begun, where an END has come in it or not, goes on with statements, and further units behind it
+abbrev pub segments_onto : Segment → Bool → List UnitEntry → List Segment
+segments_onto s ended es = record s { entries = s.entries ++ own_entries ended es } ∷ further_segments ended es
 
 -- a CALL, where there is one
 abbrev pub call_view : Option Called → Option forms.Called

@@ -1,5 +1,5 @@
 -- What a file of program units is opened as: the program that it expands to, or its first refusal (this project).
-use Rattle.std.specs.Prelude.{◌≡◌, ◌≤◌, ℕ, ◌+◌, List, [], ◌∷◌, ◌++◌, length, slice_get, Option, Some, None, Bool, true, false, not, ◌||◌, nat_lt}
+use Rattle.std.specs.Prelude.{◌≡◌, ◌≤◌, ℕ, ◌+◌, ◌-◌, ◌==◌, List, [], ◌∷◌, ◌++◌, length, slice_get, Option, Some, None, Bool, true, false, not, ◌||◌, nat_lt, if◌then◌else◌}
 use Rattle.ped_tree.specs.Tree.{StmtTree, StmtTrees, Assign, If, Do, Print, Read, Stop, Comment, no_stmts, more_stmts, DeclTree, Remark, ProgramTree}
 use Rattle.ped_tree.specs.Numbering.{statements_count}
 use Rattle.ped_tree.specs.Grammar.LimitNumbers.{most_statements}
@@ -12,33 +12,54 @@ use Rattle.ped_calls.specs.Units.{ProgramUnit, ProgramUnits, all_units, call_of}
 use Rattle.ped_calls.specs.Reading.{UnitEntry, IsCutIntoUnits}
 use Rattle.ped_calls.specs.Refusals.{first_segments_refusal, ReadsUnits, units_name_refusals}
 use Rattle.ped_calls.specs.Linking.{Placed, calls_of, LinkRefusal, number_of_link, name_of_link, IsFirstLink, IsLinked}
-use Rattle.ped_calls.specs.Expanding.{expand_first, expansion}
+use Rattle.ped_calls.specs.Expanding.{main_expanded, with_statements, expansion}
 
 -- the CALL that a statement is (ANSI X3.9-1978, section 15.6.2)
 abbrev pub call_here : StmtTree → Option Called
 call_here (Assign left right) = call_of left right
 call_here s = None
 
--- a statement before others, or these alone where it is a CALL
-abbrev pub unless_call : Option Called → StmtTree → StmtTrees → StmtTrees
-unless_call None s rest = more_stmts s rest
-unless_call (Some c) s rest = rest
+-- 1 for a CALL, 0 where there is none
+abbrev pub one_for : Option Called → ℕ
+one_for None = 0
+one_for (Some c) = 1
 
 abbrev mutual
-  -- a statement without the CALLs in its parts
-  pub without_calls : StmtTree → StmtTree
-  without_calls (Assign left right) = Assign left right
-  without_calls (If condition then_part else_part) = If condition (all_without_calls then_part) (all_without_calls else_part)
-  without_calls (Do h body) = Do h (all_without_calls body)
-  without_calls (Print items) = Print items
-  without_calls (Read items) = Read items
-  without_calls Stop = Stop
-  without_calls (Comment text) = Comment text
+  -- how many CALLs a statement has, itself and in its parts
+  pub call_count : StmtTree → ℕ
+  call_count (Assign left right) = one_for (call_of left right)
+  call_count (If condition then_part else_part) = calls_count then_part + calls_count else_part
+  call_count (Do h body) = calls_count body
+  call_count (Print items) = 0
+  call_count (Read items) = 0
+  call_count Stop = 0
+  call_count (Comment text) = 0
 
-  -- statements without CALLs
-  pub all_without_calls : StmtTrees → StmtTrees
-  all_without_calls no_stmts = no_stmts
-  all_without_calls (more_stmts s rest) = unless_call (call_here s) (without_calls s) (all_without_calls rest)
+  -- the same of statements
+  pub calls_count : StmtTrees → ℕ
+  calls_count no_stmts = 0
+  calls_count (more_stmts s rest) = call_count s + calls_count rest
+
+-- a statement before others, or these alone where it is a CALL and none may come any more
+abbrev pub while_calls : ℕ → Option Called → StmtTree → StmtTrees → StmtTrees
+while_calls m None s rest = more_stmts s rest
+while_calls m (Some c) s rest = if m == 0 then rest else more_stmts s rest
+
+abbrev mutual
+  -- a statement with so many of the CALLs in its parts, the first in text order, and without the others
+  pub with_first_calls : ℕ → StmtTree → StmtTree
+  with_first_calls m (Assign left right) = Assign left right
+  with_first_calls m (If condition then_part else_part) = If condition (first_calls m then_part) (first_calls (m - calls_count then_part) else_part)
+  with_first_calls m (Do h body) = Do h (first_calls m body)
+  with_first_calls m (Print items) = Print items
+  with_first_calls m (Read items) = Read items
+  with_first_calls m Stop = Stop
+  with_first_calls m (Comment text) = Comment text
+
+  -- statements with so many of their CALLs, the first in text order, and without the others
+  pub first_calls : ℕ → StmtTrees → StmtTrees
+  first_calls m no_stmts = no_stmts
+  first_calls m (more_stmts s rest) = while_calls m (call_here s) (with_first_calls m s) (first_calls (m - call_count s) rest)
 
 -- the comments before the first statement that is none, as declarations (this project)
 abbrev pub front_comments : StmtTrees → List DeclTree
@@ -50,18 +71,22 @@ abbrev pub behind_comments : StmtTrees → StmtTrees
 behind_comments (more_stmts (Comment text) rest) = behind_comments rest
 behind_comments ss = ss
 
--- the program without its CALLs, with the comments that then come before its first statement among the declarations (this project)
-abbrev pub completed : ProgramTree → ProgramTree
-completed t = record { decls = t.decls ++ front_comments (all_without_calls t.body); body = behind_comments (all_without_calls t.body) }
+-- the program with the comments before its first statement among the declarations (this project)
+abbrev pub settled : ProgramTree → ProgramTree
+settled t = record { decls = t.decls ++ front_comments t.body; body = behind_comments t.body }
 
--- with so many CALLs expanded the main program has too many statements, each later CALL counted as one; or without the later CALLs it is no program of the profile, since it passes a limit (this project)
+-- the main program with so many of its CALLs expanded, the first in text order, and without the others (this project)
+abbrev pub partial : ProgramUnits → ℕ → ProgramTree
+partial us m = settled (with_statements us (main_expanded us (first_calls m us.main.tree.body)))
+
+-- with so many CALLs expanded the main program has too many statements, each later CALL counted as one; or it is no program of the profile, since it passes a limit (this project)
 abbrev pub passes_limit : ProgramUnits → ℕ → Bool
-passes_limit us m = nat_lt most_statements (statements_count (expand_first us m).body) || not (fits (completed (expand_first us m)))
+passes_limit us m = nat_lt most_statements (statements_count (partial us m).body + (calls_count us.main.tree.body - m)) || not (fits (partial us m))
 
 -- with so many CALLs expanded the main program passes a limit: one of statements; or one of storage and references and none of statements (this project)
 abbrev pub IsPast : ProgramUnits → ℕ → Refusal → Type 0
 IsPast us m Limit = passes_limit us m ≡ true
-IsPast us m StorageLimit = (passes_limit us m ≡ false) × (name_refusals [] (completed (expand_first us m)) ≡ [] → ⊥)
+IsPast us m StorageLimit = (passes_limit us m ≡ false) × (name_refusals [] (partial us m) ≡ [] → ⊥)
 IsPast us m r = ⊥
 
 -- no limit is passed up to so many expanded CALLs (this project)

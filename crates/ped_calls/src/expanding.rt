@@ -6,7 +6,6 @@ use crate::printing::push_called;
 use crate::replacing::{
     Meanings, all_replaced, assignment_replaced, cond_replaced, items_replaced, loop_replaced,
 };
-use crate::standing::call_statement_of;
 use crate::units::ProgramUnit;
 use indexmap::IndexMap;
 use ped_base::{Bytes, Name, NoMemory};
@@ -51,32 +50,34 @@ pub struct File<'u> {
 /// What goes along while CALLs are expanded.
 #[derive(Drop)]
 pub struct Course {
-    /// How many CALLs of the main program are still to expand.
-    pub left: usize,
     /// How many statements may still come.
     pub room: usize,
     /// The names that are taken and the arrays that were given names.
     pub given: Given,
 }
 
-/// Where statements are expanded: in how many CALLs, with what stands for their names, and by which named constants.
+/// Where statements are expanded: in how many CALLs, in how many more at most, with what stands for their names, and by which
+/// named constants.
 #[derive(Clone, Copy)]
 struct Within<'m> {
     depth: usize,
+    deeper: usize,
     meanings: &'m Meanings,
     constants: &'m Consts,
 }
 
 impl<'u> File<'u> {
-    /// The statements of the main program, where the first CALLs are expanded, as many as the course says.
-    pub fn main(&self, alloc: Global, course: &mut Course) -> Result<Vec<Stmt>, Stopped> {
+    /// Statements of the main program with their CALLs expanded. Without recursion CALLs stand in one another no deeper than
+    /// there are subroutines.
+    pub fn main(&self, alloc: Global, course: &mut Course, statements: &[Stmt]) -> Result<Vec<Stmt>, Stopped> {
         let meanings = Meanings::nothing(alloc);
         let within = Within {
             depth: 0,
+            deeper: self.units.len() - 1,
             meanings: &meanings,
             constants: self.tables[0].consts(),
         };
-        self.statements(alloc, course, &within, &self.units[0].program.body)
+        self.statements(alloc, course, &within, statements)
     }
 
     /// Statements with what stands for their names, and with their CALLs expanded.
@@ -143,7 +144,7 @@ impl<'u> File<'u> {
         }
     }
 
-    /// A CALL with what stands for the names in its arguments: its block, or itself where none is to expand any more.
+    /// The block of a CALL, whose arguments have what stands for their names.
     #[cycle(expand)]
     fn call(
         &self,
@@ -153,12 +154,6 @@ impl<'u> File<'u> {
         name: &Name,
         arguments: Vec<Expr>,
     ) -> Result<Stmt, Stopped> {
-        if within.depth == 0 {
-            if course.left == 0 {
-                return Ok(call_statement_of(name, arguments));
-            }
-            course.left -= 1;
-        }
         let body = self.body(alloc, course, within, name, &arguments)?;
         Ok(block(alloc, body)?)
     }
@@ -175,6 +170,9 @@ impl<'u> File<'u> {
     ) -> Result<Vec<Stmt>, Stopped> {
         let mut body = Vec::new(alloc);
         body.push(call_comment(alloc, name, arguments)?)?;
+        if within.deeper == 0 {
+            return Ok(body);
+        }
         let Some(number) = self.numbers.get(name) else {
             return Ok(body);
         };
@@ -195,6 +193,7 @@ impl<'u> File<'u> {
         let none = Consts::new(alloc);
         let inner = Within {
             depth: within.depth + 1,
+            deeper: within.deeper - 1,
             meanings: &meanings,
             constants: &none,
         };

@@ -1,9 +1,13 @@
 //! The names of units: what they stand for, or the first of the rules 14 to 19 that they break.
 
-ghost use Rattle.std.specs.Prelude.{◌≡◌, IfOk, map};
-ghost use Rattle.ped_tree.specs.Views.{decl_tree, stmt_tree, stmt_trees, cond_tree, program_tree, expr_tree};
+ghost use Rattle.std.specs.Prelude.{◌≡◌, ◌++◌, [], ◌∷◌, List, ℕ, IfOk, IfErr, OnOk, map, if◌then◌else◌};
+ghost use Rattle.ped_base.specs.Lists as Lists;
+ghost use Rattle.ped_tree.specs.Tree as Tree;
+ghost use Rattle.ped_tree.specs.NamesIn as NamesIn;
+ghost use Rattle.ped_tree.specs.Views.{declarator_tree, decl_tree, stmt_tree, stmt_trees, cond_tree, program_tree, expr_tree, pack_exprs};
+ghost use Rattle.ped_calls.specs.Units.{with_calls, all_with_calls};
 ghost use Rattle.ped_calls.specs.Refusals as Spec;
-ghost use Rattle.ped_calls.specs.Refusals.{for_names};
+ghost use Rattle.ped_calls.specs.Naming.{HaveTables, IsFirstNameRefusal, JudgesNames, JudgesAllNames, tables_view, goes_on, cond_view};
 ghost use Rattle.ped_calls.specs.Views.{program_unit_of};
 
 use crate::reading::{at, first_of_both};
@@ -21,7 +25,10 @@ use std::alloc::Global;
 /// # Errors
 ///
 /// `At` exactly where the names of a unit break a rule, with the first of all units; `NoMemory` where memory runs out.
-pub fn tables(alloc: Global, units: &[ProgramUnit]) -> Result<Vec<Symbols>, UnitRefusal> {
+pub fn tables(alloc: Global, units: &[ProgramUnit]) -> Result<Vec<Symbols>, UnitRefusal>
+    ensures tables { IfOk result (λ tables. HaveTables (map program_unit_of units.now) tables.items) }
+    ensures refused { IfErr result (IsFirstNameRefusal (map program_unit_of units.now)) }
+{
     match all_tables(alloc, units)? {
         Ok(tables) => Ok(tables),
         Err(refusal) => Err(at(refusal)),
@@ -32,7 +39,9 @@ pub fn tables(alloc: Global, units: &[ProgramUnit]) -> Result<Vec<Symbols>, Unit
 fn all_tables(
     alloc: Global,
     units: &[ProgramUnit],
-) -> Result<Result<Vec<Symbols>, Refusal>, NoMemory> {
+) -> Result<Result<Vec<Symbols>, Refusal>, NoMemory>
+    ensures { IfOk result (λ r. JudgesAllNames (map program_unit_of units.now) (tables_view r)) }
+{
     let mut tables = Vec::new(alloc);
     let mut found = None;
     for unit in units {
@@ -48,7 +57,9 @@ fn all_tables(
 }
 
 /// What the names of a unit stand for, or their first refusal.
-fn table(alloc: Global, unit: &ProgramUnit) -> Result<Result<Symbols, Refusal>, NoMemory> {
+fn table(alloc: Global, unit: &ProgramUnit) -> Result<Result<Symbols, Refusal>, NoMemory>
+    ensures { IfOk result (JudgesNames (program_unit_of unit.now)) }
+{
     let program = for_names(alloc, unit)?;
     match symbols_of(alloc, &program) {
         Ok(symbols) => Ok(Ok(symbols)),
@@ -60,7 +71,8 @@ fn table(alloc: Global, unit: &ProgramUnit) -> Result<Result<Symbols, Refusal>, 
 /// The unit as the program that its names are looked at in: its dummy arguments come first, and something plain stands
 /// for each CALL.
 fn for_names(alloc: Global, unit: &ProgramUnit) -> Result<Program, NoMemory>
-    ensures { IfOk result (λ p. program_tree p ≡ Spec.for_names (program_unit_of unit.now)) }
+    ensures tree { IfOk result (λ p. program_tree p ≡ Spec.for_names (program_unit_of unit.now)) }
+    ensures lines { IfOk result (λ p. p.lines.items ≡ Spec.lines_for_names (program_unit_of unit.now)) }
 {
     let arrays = dimensioned(alloc, &unit.program.decls)?;
     let body = without_calls(alloc, &arrays, &unit.program.body)?;
@@ -76,7 +88,10 @@ fn for_names(alloc: Global, unit: &ProgramUnit) -> Result<Program, NoMemory>
 
 /// The declarations of a unit behind a SAVE of its dummy arguments, where there are some, with their lines and those of
 /// its statements.
-fn declared(alloc: Global, unit: &ProgramUnit) -> Result<(Vec<Decl>, Vec<u64>), NoMemory> {
+fn declared(alloc: Global, unit: &ProgramUnit) -> Result<(Vec<Decl>, Vec<u64>), NoMemory>
+    ensures decls { IfOk result (λ r. map decl_tree r.0.items ≡ Spec.save_of_formals unit.now.formals ++ map decl_tree unit.now.program.decls.items) }
+    ensures lines { IfOk result (λ r. r.1.items ≡ Spec.lines_for_names (program_unit_of unit.now)) }
+{
     let mut decls = Vec::new(alloc);
     let mut lines = Vec::new(alloc);
     if !unit.formals.is_empty() {
@@ -92,7 +107,9 @@ fn declared(alloc: Global, unit: &ProgramUnit) -> Result<(Vec<Decl>, Vec<u64>), 
 }
 
 /// Each of these names once, where it occurs first.
-fn first_occurrences(alloc: Global, names: &[Name]) -> Result<Names, NoMemory> {
+fn first_occurrences(alloc: Global, names: &[Name]) -> Result<Names, NoMemory>
+    ensures { IfOk result (λ first. first ≡ NamesIn.first_occurrences [] names.now) }
+{
     let mut seen = NameSet::new(alloc);
     for name in names {
         seen.insert(name)?;
@@ -101,7 +118,9 @@ fn first_occurrences(alloc: Global, names: &[Name]) -> Result<Names, NoMemory> {
 }
 
 /// The names that declarations give dimensions.
-pub fn dimensioned(alloc: Global, decls: &[Decl]) -> Result<NameSet, NoMemory> {
+pub fn dimensioned(alloc: Global, decls: &[Decl]) -> Result<NameSet, NoMemory>
+    ensures { IfOk result (λ arrays. (x : List ℕ) → Lists.is_among x arrays ≡ Lists.is_among x (Spec.dimensioned (map decl_tree decls.now))) }
+{
     let mut arrays = NameSet::new(alloc);
     for decl in decls {
         match decl {
@@ -135,7 +154,13 @@ fn add_arrays(arrays: &mut NameSet, declared: &[Declarator]) -> Result<(), NoMem
 
 /// Copies of statements where something plain stands for each CALL.
 #[cycle(without_calls)]
-fn without_calls(alloc: Global, arrays: &NameSet, statements: &[Stmt]) -> Result<Vec<Stmt>, NoMemory> {
+fn without_calls(
+    alloc: Global,
+    arrays: &NameSet,
+    statements: &[Stmt],
+) -> Result<Vec<Stmt>, NoMemory>
+    ensures { IfOk result (λ copies. stmt_trees copies.items ≡ all_with_calls (Spec.using_arguments arrays.now) (stmt_trees statements.now)) }
+{
     let mut copies = Vec::new(alloc);
     for statement in statements {
         copies.push(without_call(alloc, arrays, statement)?)?;
@@ -144,7 +169,9 @@ fn without_calls(alloc: Global, arrays: &NameSet, statements: &[Stmt]) -> Result
 }
 
 #[cycle(without_calls)]
-fn without_call(alloc: Global, arrays: &NameSet, statement: &Stmt) -> Result<Stmt, NoMemory> {
+fn without_call(alloc: Global, arrays: &NameSet, statement: &Stmt) -> Result<Stmt, NoMemory>
+    ensures { IfOk result (λ copy. stmt_tree copy ≡ with_calls (Spec.using_arguments arrays.now) (stmt_tree statement.now)) }
+{
     match statement {
         Stmt::Assign {
             left: Expr::Int(_),
@@ -182,7 +209,9 @@ pub fn with_condition(
     condition: &Cond,
     then_part: Vec<Stmt>,
     else_part: Vec<Stmt>,
-) -> Result<Stmt, NoMemory> {
+) -> Result<Stmt, NoMemory>
+    ensures { IfOk result (λ s. stmt_tree s ≡ Tree.If (cond_tree condition.now) (stmt_trees then_part.items) (stmt_trees else_part.items)) }
+{
     match condition.copy(alloc) {
         Ok(condition) => Ok(Stmt::If {
             condition,
@@ -198,7 +227,9 @@ pub fn with_condition(
 }
 
 /// A statement that uses the names of arguments, but for arrays as a whole.
-fn using(alloc: Global, arrays: &NameSet, arguments: &[Expr]) -> Result<Stmt, NoMemory> {
+fn using(alloc: Global, arrays: &NameSet, arguments: &[Expr]) -> Result<Stmt, NoMemory>
+    ensures { IfOk result (λ s. stmt_tree s ≡ Tree.If (Spec.condition_of (Spec.plain_arguments arrays.now (map expr_tree arguments.now))) Tree.no_stmts Tree.no_stmts) }
+{
     let condition = condition(alloc, arrays, arguments)?;
     Ok(Stmt::If {
         condition,
@@ -208,7 +239,9 @@ fn using(alloc: Global, arrays: &NameSet, arguments: &[Expr]) -> Result<Stmt, No
 }
 
 /// A condition in which exactly the arguments stand that are no arrays as a whole.
-fn condition(alloc: Global, arrays: &NameSet, arguments: &[Expr]) -> Result<Cond, NoMemory> {
+fn condition(alloc: Global, arrays: &NameSet, arguments: &[Expr]) -> Result<Cond, NoMemory>
+    ensures { IfOk result (λ c. cond_tree c ≡ Spec.condition_of (Spec.plain_arguments arrays.now (map expr_tree arguments.now))) }
+{
     let mut whole = None;
     for argument in arguments {
         if !is_whole_array(arrays, argument) {
@@ -222,7 +255,9 @@ fn condition(alloc: Global, arrays: &NameSet, arguments: &[Expr]) -> Result<Cond
 }
 
 /// A condition and the relation of an expression to 0; that alone where there is no condition.
-fn conjunction(alloc: Global, condition: Option<Cond>, e: &Expr) -> Result<Cond, NoMemory> {
+fn conjunction(alloc: Global, condition: Option<Cond>, e: &Expr) -> Result<Cond, NoMemory>
+    ensures { IfOk result (λ c. (rest : List Tree.ExprTree) → Spec.and_zeros (cond_tree c) rest ≡ goes_on (cond_view condition) (expr_tree e.now ∷ rest)) }
+{
     let Some(condition) = condition else {
         return Ok(is_zero(e.copy(alloc)?));
     };
@@ -236,12 +271,16 @@ fn conjunction(alloc: Global, condition: Option<Cond>, e: &Expr) -> Result<Cond,
 }
 
 /// The relation of an expression to 0.
-fn is_zero(e: Expr) -> Cond {
+fn is_zero(e: Expr) -> Cond
+    ensures { cond_tree result ≡ Spec.is_zero (expr_tree e) }
+{
     Cond::relation(Relation::Eq, e, Expr::literal(0))
 }
 
 /// Whether the argument is the name of an array.
-fn is_whole_array(arrays: &NameSet, argument: &Expr) -> bool {
+fn is_whole_array(arrays: &NameSet, argument: &Expr) -> bool
+    ensures { result ≡ Spec.is_whole_array arrays.now (expr_tree argument.now) }
+{
     match argument {
         Expr::Var(name) => arrays.contains(name),
         _ => false,

@@ -11,7 +11,7 @@ ghost use Rattle.ped_calls.specs.Views.{IsUnitRefusalOf};
 use crate::expanding::{Course, File, Stopped};
 use crate::giving::Given;
 use crate::linking::{look_at_calls, unit_numbers};
-use crate::naming::tables;
+use crate::naming::{tables, with_condition};
 use crate::placing::placed_calls;
 use crate::reading::read_units;
 use crate::refusals::{UnitFinding, UnitRefusal, UnitRule};
@@ -71,18 +71,10 @@ fn expansion_of_units(alloc: Global, text: &[u8]) -> Result<Opened, UnitRefusal>
         tables: &tables,
         numbers: &numbers,
     };
-    match expanded(alloc, file, usize::MAX)? {
-        Some(opened) => Ok(opened),
-        None => Err(first_past(alloc, file)?),
+    match judged(alloc, file, &file.units[0].program.body)? {
+        Judgement::Valid(opened) => Ok(opened),
+        Judgement::PastStatements | Judgement::PastStorage => Err(first_past(alloc, file)?),
     }
-}
-
-/// The program where so many CALLs of the main program are expanded and the later ones are gone, where it is valid.
-fn expanded(alloc: Global, file: File, count: usize) -> Result<Option<Opened>, NoMemory> {
-    Ok(match partial(alloc, file, count)? {
-        Judgement::Valid(opened) => Some(opened),
-        Judgement::PastStatements | Judgement::PastStorage => None,
-    })
 }
 
 /// What comes of expanding the first CALLs.
@@ -95,17 +87,16 @@ enum Judgement {
     PastStorage,
 }
 
-/// The program where so many CALLs of the main program are expanded and the later ones are gone.
-fn partial(alloc: Global, file: File, count: usize) -> Result<Judgement, NoMemory> {
+/// What comes of expanding the CALLs in these statements of the main program.
+fn judged(alloc: Global, file: File, statements: &[Stmt]) -> Result<Judgement, NoMemory> {
     let mut course = Course {
-        left: count,
         room: room(&file.units[0].program.body),
         given: Given::new(alloc, taken(alloc, file)?),
     };
-    match file.main(alloc, &mut course) {
+    match file.main(alloc, &mut course, statements) {
         Ok(body) => {
-            let program = completed(alloc, &file.units[0], course.given, body)?;
-            judged(alloc, program)
+            let program = settled(alloc, &file.units[0], course.given, body)?;
+            judged_program(alloc, program)
         }
         Err(Stopped::Past) => Ok(Judgement::PastStatements),
         Err(Stopped::OutOfMemory) => Err(NoMemory),
@@ -113,7 +104,7 @@ fn partial(alloc: Global, file: File, count: usize) -> Result<Judgement, NoMemor
 }
 
 /// Whether a program is valid, or which of its limits it passes.
-fn judged(alloc: Global, program: Program) -> Result<Judgement, NoMemory> {
+fn judged_program(alloc: Global, program: Program) -> Result<Judgement, NoMemory> {
     if !fits(&program) {
         return Ok(Judgement::PastStatements);
     }
@@ -147,9 +138,9 @@ fn taken(alloc: Global, file: File) -> Result<NameSet, NoMemory> {
     Ok(taken)
 }
 
-/// The program with these arrays behind the declarations of the main program and these statements, without CALLs; comments
-/// that then come before the first statement belong to the declarations.
-fn completed(
+/// The program with these arrays behind the declarations of the main program and these statements; comments before the
+/// first statement belong to the declarations.
+fn settled(
     alloc: Global,
     main: &ProgramUnit,
     given: Given,
@@ -160,7 +151,7 @@ fn completed(
         decls.push(array)?;
     }
     let mut rest = Vec::new(alloc);
-    for statement in without_calls(alloc, body)? {
+    for statement in body {
         place(&mut decls, &mut rest, statement)?;
     }
     Ok(Program {
@@ -179,42 +170,50 @@ fn place(decls: &mut Vec<Decl>, rest: &mut Vec<Stmt>, statement: Stmt) -> Result
     Ok(())
 }
 
-/// Statements without CALLs.
-#[cycle(without_calls)]
-fn without_calls(alloc: Global, statements: Vec<Stmt>) -> Result<Vec<Stmt>, NoMemory> {
-    let mut rest = Vec::new(alloc);
+/// Copies of statements with so many of their CALLs, the first in text order, and without the others.
+#[cycle(first_calls)]
+fn first_calls(alloc: Global, left: &mut usize, statements: &[Stmt]) -> Result<Vec<Stmt>, NoMemory> {
+    let mut copies = Vec::new(alloc);
     for statement in statements {
-        if !is_call(&statement) {
-            rest.push(without_call(alloc, statement)?)?;
+        if !is_call(statement) || takes_one(left) {
+            copies.push(with_first_calls(alloc, left, statement)?)?;
         }
     }
-    Ok(rest)
+    Ok(copies)
 }
 
-#[cycle(without_calls)]
-fn without_call(alloc: Global, statement: Stmt) -> Result<Stmt, NoMemory> {
+#[cycle(first_calls)]
+fn with_first_calls(alloc: Global, left: &mut usize, statement: &Stmt) -> Result<Stmt, NoMemory> {
     match statement {
         Stmt::If {
             condition,
             then_part,
             else_part,
         } => {
-            let then_part = without_calls(alloc, then_part)?;
-            let else_part = without_calls(alloc, else_part)?;
-            Ok(Stmt::If {
-                condition,
-                then_part,
-                else_part,
-            })
+            let then_part = first_calls(alloc, left, then_part)?;
+            match first_calls(alloc, left, else_part) {
+                Ok(else_part) => with_condition(alloc, condition, then_part, else_part),
+                Err(error) => {
+                    drop(then_part);
+                    Err(error)
+                }
+            }
         }
         Stmt::Do(d) => {
-            let mut d = d;
-            let body = without_calls(alloc, std::mem::replace(&mut d.body, Vec::new(alloc)))?;
-            d.body = body;
-            Ok(Stmt::Do(d))
+            let body = first_calls(alloc, left, &d.body)?;
+            Ok(Stmt::Do(d.with_body(body, alloc)?))
         }
-        other => Ok(other),
+        other => other.copy(alloc),
     }
+}
+
+/// Takes one where some are left. Answers whether it did.
+fn takes_one(left: &mut usize) -> bool {
+    if *left == 0 {
+        return false;
+    }
+    *left -= 1;
+    true
 }
 
 /// Whether the statement is a CALL.
@@ -222,7 +221,11 @@ fn is_call(statement: &Stmt) -> bool {
     match statement {
         Stmt::Assign {
             left: Expr::Int(_),
-            right: _,
+            right: Expr::Var(_),
+        } => true,
+        Stmt::Assign {
+            left: Expr::Int(_),
+            right: Expr::Element(_, _),
         } => true,
         _ => false,
     }
@@ -233,7 +236,9 @@ fn first_past(alloc: Global, file: File) -> Result<UnitRefusal, NoMemory> {
     let calls = placed_calls(alloc, &file.units[0])?.calls;
     let mut count = 1;
     for call in calls {
-        match partial(alloc, file, count)? {
+        let mut left = count;
+        let statements = first_calls(alloc, &mut left, &file.units[0].program.body)?;
+        match judged(alloc, file, &statements)? {
             Judgement::Valid(opened) => drop(opened),
             Judgement::PastStatements => return Ok(past(RefusalKind::Limit, call.line)),
             Judgement::PastStorage => return Ok(past(RefusalKind::StorageLimit, call.line)),

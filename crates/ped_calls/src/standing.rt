@@ -103,18 +103,6 @@ pub fn call_statement(alloc: Global, called: &Called) -> Result<Stmt, NoMemory>
     Ok(Stmt::assignment(Expr::literal(0), right))
 }
 
-/// The CALL of a subroutine with these arguments as it stands in trees.
-pub fn call_statement_of(name: &Name, arguments: Vec<Expr>) -> Stmt
-    ensures { stmt_tree result ≡ Units.call_statement (record { name = name.now; arguments = pack_exprs (map expr_tree arguments.items) }) }
-{
-    let right = if arguments.is_empty() {
-        Expr::Var(*name)
-    } else {
-        Expr::Element(*name, arguments)
-    };
-    Stmt::assignment(Expr::literal(0), right)
-}
-
 /// A name with arguments, as a scalar or an element would be written.
 fn reference(alloc: Global, name: &Name, arguments: &[Expr]) -> Result<Expr, NoMemory>
     ensures { IfOk result (λ e. expr_tree e ≡ Units.reference_of name.now (pack_exprs (map expr_tree arguments.now))) }

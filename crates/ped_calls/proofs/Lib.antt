@@ -10,3 +10,4 @@ pub mod Meant
 pub mod Segments
 pub mod Entries
 pub mod FirstOfAll
+pub mod FreeNames

@@ -13,3 +13,4 @@ pub mod Views
 pub mod Seeing
 pub mod Meaning
 pub mod Naming
+pub mod Giving

@@ -4,10 +4,11 @@ pub mod UnitForms
 pub mod Saturating
 pub mod Earliest
 pub mod Read
-pub mod Seen
+pub mod SeenBefore
 pub mod Packed
 pub mod Meant
-pub mod Segments
+pub mod EndedLists
 pub mod Entries
 pub mod FirstOfAll
 pub mod FreeNames
+pub mod CollectedNames

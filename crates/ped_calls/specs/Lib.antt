@@ -14,3 +14,4 @@ pub mod Seeing
 pub mod Meaning
 pub mod Naming
 pub mod Giving
+pub mod Reaching

@@ -181,20 +181,23 @@ fn read_unit(
 /// What the SUBROUTINE statement of a unit says.
 fn heading_of(alloc: Global, head: Option<UnitEntry>) -> Heading {
     match head {
-        Some(UnitEntry {
-            statement,
-            item: UnitItem::Subroutine(name, formals),
-        }) => Heading {
-            name: Some(name),
-            formals,
-            line: statement.line,
-        },
-        Some(UnitEntry { statement, item }) => {
-            drop(item);
-            Heading {
-                name: None,
-                formals: Names::new(alloc),
-                line: statement.line,
+        Some(entry) => {
+            let UnitEntry { statement, item } = entry;
+            let line = statement.line;
+            match item {
+                UnitItem::Subroutine(name, formals) => Heading {
+                    name: Some(name),
+                    formals,
+                    line,
+                },
+                other => {
+                    drop(other);
+                    Heading {
+                        name: None,
+                        formals: Names::new(alloc),
+                        line,
+                    }
+                }
             }
         }
         None => Heading {

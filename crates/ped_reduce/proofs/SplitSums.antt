@@ -4,6 +4,7 @@ use Rattle.std.proofs.lemmas.Bool.{and_parts}
 use Rattle.std.proofs.lemmas.Int.{ints, quot-rem, rem_below}
 use Rattle.ped_base.specs.declared.arithmetic.faults.Fault.{Fault}
 use Rattle.ped_base.specs.declared.arithmetic.faults.Fault.TheVariants.{OutOfRange}
+use Rattle.ped_base.specs.Arithmetic.Faults.{◌>>=◌}
 use Rattle.ped_base.specs.Arithmetic.Arithmetic.{is_in_range, in_range, sum_of, difference_of, product_of, quotient_of, remainder_of}
 use Rattle.ped_splits.specs.ped_reindex.specs.ped_loops.specs.ped_scalar.specs.ped_rules.specs.ped_loop_runs.specs.ped_bodies.specs.ped_steps.specs.ped_views.proofs.Products.{linear}
 use Rattle.ped_splits.specs.ped_reindex.specs.ped_loops.specs.ped_scalar.specs.ped_rules.specs.ped_loop_runs.specs.ped_bodies.specs.ped_steps.specs.ped_laws.specs.ped_store.specs.Stores.{is_storable}
@@ -96,18 +97,10 @@ module _ (n : ℤ) where
   remains : IsNear n → IsNear q → IsNear (q *ℤ pos 65536) → IsNear r → remainder_of n (pos 65536) ≡ Ok r
   remains near near_q near_p near_r =
       let d : n -ℤ q *ℤ pos 65536 ≡ r = omega (arith, ints, whole) in
-      ap (λ (u : Result ℤ Fault). after u) (near_in q near_q)
-      ∙ ap (λ (u : Result ℤ Fault). then_less u) (near_in (q *ℤ pos 65536) near_p)
+      ap (λ (u : Result ℤ Fault). u >>= λ k. product_of k (pos 65536) >>= λ m. difference_of n m) (near_in q near_q)
+      ∙ ap (λ (u : Result ℤ Fault). u >>= λ m. difference_of n m) (near_in (q *ℤ pos 65536) near_p)
       ∙ ap (λ (m : ℤ). in_range m) d
       ∙ near_in r near_r
-    where
-      then_less : Result ℤ Fault → Result ℤ Fault
-      then_less (Ok m) = difference_of n m
-      then_less (Err f) = Err f
-
-      after : Result ℤ Fault → Result ℤ Fault
-      after (Ok k) = then_less (product_of k (pos 65536))
-      after (Err f) = Err f
 
 -- where the scalar's old value y and its new one z have 32 bits, as that behind which the parts began, no part leaves its range
 pub split_sum : (x y z a b n : ℤ) → Is32 x → Is32 y → Is32 z → AreParts x y a b → n -ℤ b ≡ z -ℤ y → AreNewParts x z a n

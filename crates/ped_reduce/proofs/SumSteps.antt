@@ -197,6 +197,7 @@ pub record StandsAt (ps : List Partials) (g : Names) (v : List ℕ) (k : ℤ) (t
   pub variable : (p : Partials) → IsIn p ps → value_named g.constants p.scalar ≡ None
   pub unbound : (p : Partials) → IsIn p ps → g.index p.scalar ≡ None
   pub own : (p : Partials) → IsIn p ps → g.cell p.scalar ≡ Scalar p.scalar
+  pub others : (x : List ℕ) → is_total ps x ≡ false → is_apart ps (g.cell x) ≡ false
   pub inside : (p : Partials) (x : List ℕ) → IsIn p ps → is_array_of p x ≡ true → is_within (g.bounds x) (k ∷ []) ≡ true
 
 module _ (ps : List Partials) (g : Names) (v : List ℕ) (k : ℤ) (told : Cell) (stands : StandsAt ps g v k told) where

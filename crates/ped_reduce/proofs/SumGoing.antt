@@ -1,5 +1,6 @@
 -- Two runs side by side: where the first goes on, so does the second, between their stores a relation holds, and each act of the second comes from one of the first.
 use Rattle.std.proofs.Common.{◌≡◌, ℕ, zero, suc, ◌+◌, List, [], ◌∷◌, ◌++◌, Bool, true, false, Result, Ok, Err, inl, inr, refl, sym, ap, subst, ◌∙◌, if◌then◌else◌}
+use Rattle.std.specs.Prelude.{◌==◌}
 use Rattle.ped_splits.specs.ped_reindex.specs.ped_loops.specs.ped_scalar.specs.ped_rules.specs.ped_loop_runs.specs.ped_bodies.specs.ped_steps.specs.ped_laws.specs.ped_store.specs.Stores.{Store}
 use Rattle.ped_splits.specs.ped_reindex.specs.ped_loops.specs.ped_scalar.specs.ped_rules.specs.ped_loop_runs.specs.ped_bodies.specs.ped_steps.specs.ped_laws.specs.ped_store.specs.Acts.{Touch, Place, Step, ended_turn, entered, closed, Act, store_behind}
 use Rattle.ped_splits.specs.ped_reindex.specs.ped_loops.specs.ped_scalar.specs.ped_rules.specs.ped_loop_runs.specs.ped_bodies.specs.ped_steps.specs.ped_laws.specs.Acts.Orders.{IsIn}
@@ -74,8 +75,11 @@ module _ (W : Store → Store → Type 0) (C : Act → Act → Type 0) where
       (keeps : (ts : List Touch) → kept ts → (s u : Store) → W s u → W (store_behind ts s) (store_behind ts u)) (same : (step : Step) (ts : List Touch) → kept ts → C (act step at ts) (act step at' ts))
       (none : kept []) (exits : kept (exit_touches e scope)) (body body' : Frame → Store → Run) (more : (k : ℕ) → Along (body (frame e k)) (body' (frame e k))) where
     when_kept : (n : ℕ) → kept (exit_when_none n e scope)
-    when_kept zero = exits
-    when_kept (suc n) = none
+    when_kept n = go (n == 0)
+      where
+        go : (b : Bool) → kept (if b then exit_touches e scope else [])
+        go true = exits
+        go false = none
 
     own_along : (step : Step) (ts : List Touch) (f h : Store → Run) → kept ts → Along f h → Along (does step at ts f) (does step at' ts h)
     own_along step ts f h k q s u w = does_along step at at' ts ts f h s u (keeps ts k s u w) (same step ts k) q

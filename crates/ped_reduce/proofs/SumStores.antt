@@ -13,6 +13,7 @@ use Rattle.ped_splits.specs.ped_reindex.specs.ped_loops.specs.ped_scalar.specs.p
 use Rattle.ped_splits.specs.ped_reindex.specs.ped_loops.specs.ped_scalar.specs.ped_rules.specs.ped_loop_runs.specs.ped_bodies.specs.ped_steps.specs.ped_laws.proofs.ActLaws.Stores.{put_other}
 use Rattle.ped_reduce.specs.Lowering.{Partials}
 use Rattle.ped_reduce.proofs.SplitSums.{Is32, AreParts}
+use Rattle.ped_reduce.proofs.SumSight.{AllTouch}
 
 -- one of the arrays in which what is added to this scalar is kept
 abbrev pub is_array_of : Partials → List ℕ → Bool
@@ -153,16 +154,12 @@ module _ (ps : List Partials) (k : ℤ) (v w : Store) where
       unlike : (d : Cell) → is_apart ps d ≡ true → same_cell c d ≡ false
       unlike d e = other_cell c d (λ q. both_ways (is_apart ps c) out (ap (is_apart ps) q ∙ e))
 
-  -- each touch is of another cell
-  abbrev pub AreElsewhere : List Touch → Type 0
-  AreElsewhere [] = Unit {0}
-  AreElsewhere (t ∷ ts) = (is_apart ps t.cell ≡ false) × AreElsewhere ts
-
+  -- touches of other cells, too
   within_touch : (m : Manner) (c : Cell) (x : Content) (s u : Store) → is_apart ps c ≡ false → Within ps k v w s u → Within ps k v w (touched m c x s) (touched m c x u)
   within_touch writes c x s u out h = within_put c x s u out h
   within_touch reads c x s u out h = h
   within_touch is_told c x s u out h = h
 
-  pub within_touches : (ts : List Touch) (s u : Store) → AreElsewhere ts → Within ps k v w s u → Within ps k v w (store_behind ts s) (store_behind ts u)
+  pub within_touches : (ts : List Touch) (s u : Store) → AllTouch (λ c. is_apart ps c ≡ false) ts → Within ps k v w s u → Within ps k v w (store_behind ts s) (store_behind ts u)
   within_touches [] s u out h = h
   within_touches (t ∷ ts) s u out h = within_touches ts (touched t.manner t.cell t.content s) (touched t.manner t.cell t.content u) out.1 (within_touch t.manner t.cell t.content s u out.0 h)

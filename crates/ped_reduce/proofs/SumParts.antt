@@ -57,7 +57,7 @@ good_two Q f a b x y z g h e =
     }
 
 -- a run that goes on, and then another
-going_then : (r : Run) (u : Store) (next : Store → Run) → r.ending ≡ going u → then_run r next ≡ record { acts = r.acts ++ (next u).acts; ending = (next u).ending }
+pub going_then : (r : Run) (u : Store) (next : Store → Run) → r.ending ≡ going u → then_run r next ≡ record { acts = r.acts ++ (next u).acts; ending = (next u).ending }
 going_then r u next e = ap (λ (x : Ending). followed_by r.acts x next) e
 
 -- an expression with a sum
@@ -78,7 +78,7 @@ holds_same P s z same (index_seen c v ∷ xs) h k = holds_same P s z same xs h.1
 number_one : (m n : ℤ) → Number m ≡ Number n → m ≡ n
 number_one m n e = cc
 
-other_part : (x y : List ℕ) (k : ℤ) → is_same_text x y ≡ false → same_cell (part x k) (part y k) ≡ false
+pub other_part : (x y : List ℕ) (k : ℤ) → is_same_text x y ≡ false → same_cell (part x k) (part y k) ≡ false
 other_part x y k h = ap (λ (b : Bool). b && pointwise int_eq (k ∷ []) (k ∷ [])) h
 
 module _ (ps : List Partials) (g : Names) (v : List ℕ) (k : ℤ) (told : Cell) (stands : StandsAt ps g v k told) where

@@ -170,16 +170,16 @@ module _ (bounds : List ℕ → Dimensions) (constants : List (List ℕ × ℤ))
 
     -- a sum
     module _ (a : Partials) (i : IsIn a ps) (left right : ExprTree) (sum : Sum) (is : sum_to a.scalar (Assign left right) ≡ Some sum) (lacks : Lacks ps (expr_names (operand sum))) where
-      came : (s t : Store) → (run_assignment g (place_of p n scope) left right s).ending ≡ going t → CameOfSum ps g v k told stands a sum (place_of p n scope) (run_assignment g (place_of p n scope) left right s) s t
-      came s t e = let shape = sum_shape a.scalar left right sum is in by shape.0 sum shape.1 e
-        where
-          abbrev Came : Sum → ExprTree → ExprTree → Type 0
-          Came z l r = (run_assignment g (place_of p n scope) l r s).ending ≡ going t → CameOfSum ps g v k told stands a z (place_of p n scope) (run_assignment g (place_of p n scope) l r s) s t
+      abbrev Came : Store → Store → Sum → ExprTree → ExprTree → Type 0
+      Came s t z l r = (run_assignment g (place_of p n scope) l r s).ending ≡ going t → CameOfSum ps g v k told stands a z (place_of p n scope) (run_assignment g (place_of p n scope) l r s) s t
 
-          by : left ≡ Var a.scalar → (z : Sum) → IsShape a.scalar z right → Came z left right
-          by l (plus e) (inl r) = subst (λ (y : ExprTree). Came (plus e) y right) (sym l) (subst (Came (plus e) (Var a.scalar)) (sym r) (scalar_first ps g v k told stands a i (place_of p n scope) s t e))
-          by l (plus e) (inr r) = subst (λ (y : ExprTree). Came (plus e) y right) (sym l) (subst (Came (plus e) (Var a.scalar)) (sym r) (scalar_last ps g v k told stands a i (place_of p n scope) s t e))
-          by l (minus e) r = subst (λ (y : ExprTree). Came (minus e) y right) (sym l) (subst (Came (minus e) (Var a.scalar)) (sym r) (taken_away ps g v k told stands a i (place_of p n scope) s t e))
+      came_by : (s t : Store) → left ≡ Var a.scalar → (z : Sum) → IsShape a.scalar z right → Came s t z left right
+      came_by s t l (plus e) (inl r) = subst (λ (y : ExprTree). Came s t (plus e) y right) (sym l) (subst (Came s t (plus e) (Var a.scalar)) (sym r) (scalar_first ps g v k told stands a i (place_of p n scope) s t e))
+      came_by s t l (plus e) (inr r) = subst (λ (y : ExprTree). Came s t (plus e) y right) (sym l) (subst (Came s t (plus e) (Var a.scalar)) (sym r) (scalar_last ps g v k told stands a i (place_of p n scope) s t e))
+      came_by s t l (minus e) r = subst (λ (y : ExprTree). Came s t (minus e) y right) (sym l) (subst (Came s t (minus e) (Var a.scalar)) (sym r) (taken_away ps g v k told stands a i (place_of p n scope) s t e))
+
+      came : (s t : Store) → Came s t sum left right
+      came s t = let shape = sum_shape a.scalar left right sum is in came_by s t shape.0 sum shape.1
 
       sum_goes : Along W C (run p (Assign left right) n scope) (run_all q (added_apart v a sum) m scope)
       sum_goes s u within t e =
@@ -276,12 +276,9 @@ module _ (bounds : List ℕ → Dimensions) (constants : List (List ℕ × ℤ))
           )
 
       entry_kept : (seen : List Seen) (l : Limits) → AllTouch P (numbered 1 seen) → AllTouch P (entry_touches seen (entered_with p n h body seen l) scope)
-      entry_kept seen l reads_kept = all_append P (numbered 1 seen) (exit_when_none e.count e scope) reads_kept (go (e.count == 0))
+      entry_kept seen l reads_kept = let e = entered_with p n h body seen l in all_append P (numbered 1 seen) (exit_when_none e.count e scope) reads_kept (go (e.count == 0))
         where
-          abbrev e : Entered
-          e = entered_with p n h body seen l
-
-          go : (b : Bool) → AllTouch P (if b then exit_touches e scope else [])
+          go : (b : Bool) → AllTouch P (if b then exit_touches (entered_with p n h body seen l) scope else [])
           go true = exits_kept seen l
           go false = tt
 

@@ -166,17 +166,17 @@ pub record CameOfAssignment (g : Names) (place : Place) (left right : ExprTree) 
 going_one : (s u : Store) → going s ≡ going u → s ≡ u
 going_one s u e = cc
 
+abbrev store_next : Place → Store → List Seen → Stored → Run
+store_next place s seen w = does did place (assignment_touches seen w) nothing_done s
+
 pub assignment_came : (g : Names) (place : Place) (left right : ExprTree) (s u : Store) → (run_assignment g place left right s).ending ≡ going u → CameOfAssignment g place left right s u
 assignment_came g place left right s u h = go (assigned g left right s).result refl h
   where
-    abbrev next : List Seen → Stored → Run
-    next seen w = does did place (assignment_touches seen w) nothing_done s
-
-    go : (r : Result Stored ℕ) → (assigned g left right s).result ≡ r → (on_value place (assigned g left right s).seen r next).ending ≡ going u → CameOfAssignment g place left right s u
+    go : (r : Result Stored ℕ) → (assigned g left right s).result ≡ r → (on_value place (assigned g left right s).seen r (store_next place s)).ending ≡ going u → CameOfAssignment g place left right s u
     go (Ok w) e k = record {
       stored = w;
       comes = e;
-      acts = ap (λ (r : Result Stored ℕ). (on_value place (assigned g left right s).seen r next).acts) e;
+      acts = ap (λ (r : Result Stored ℕ). (on_value place (assigned g left right s).seen r (store_next place s)).acts) e;
       behind = sym (going_one (store_behind (assignment_touches (assigned g left right s).seen w) s) u k) ∙ reads_leave (assigned g left right s).seen 1 (write_touch w.cell (Number w.number) (number_behind 1 (assigned g left right s).seen) ∷ []) s;
     }
     go (Err fault) e k = absurd cc

@@ -102,31 +102,33 @@ module _ (ps : List Partials) (k : ℤ) where
   put_kept : (p : Partials) (x : List ℕ) → IsIn p ps → is_array_of p x ≡ true → (y : Content) (e : Store) (c : Cell) → is_own ps k c ≡ false → put (part x k) y e c ≡ e c
   put_kept p x i own y e c h = put_other (part x k) y e c (other_cell (part x k) c (λ q. both_ways (is_own ps k c) h (ap (is_own ps k) (sym q) ∙ own_part p x i own)))
 
+  -- the store with zeros in the parts of a scalar
+  abbrev pub zeros1 : Partials → Store → Store
+  zeros1 p u = put (part p.high k) (Number (pos 0)) u
+
+  abbrev pub zeros2 : Partials → Store → Store
+  zeros2 p u = put (part p.low k) (Number (pos 0)) (zeros1 p u)
+
+  abbrev pub zeros3 : Partials → Store → Store
+  zeros3 p u = put (part p.flag k) (Number (pos 0)) (zeros2 p u)
+
   -- zeros of one scalar more
-  zeroed_more : (p : Partials) (rest : List Partials) (u z : Store) → IsIn p ps → Zeroed rest (put (part p.flag k) (Number (pos 0)) (put (part p.low k) (Number (pos 0)) (put (part p.high k) (Number (pos 0)) u))) z → Zeroed (p ∷ rest) u z
+  zeroed_more : (p : Partials) (rest : List Partials) (u z : Store) → IsIn p ps → Zeroed rest (zeros3 p u) z → Zeroed (p ∷ rest) u z
   zeroed_more p rest u z i h = record {
-    kept = λ c e. h.kept c e ∙ put_kept p p.flag i (flag_array p) (Number (pos 0)) u2 c e ∙ put_kept p p.low i (low_array p) (Number (pos 0)) u1 c e ∙ put_kept p p.high i (high_array p) (Number (pos 0)) u c e;
-    changed = λ c. then_changed (u c) (u3 c) (z c) (then_changed (u c) (u2 c) (u3 c) (then_changed (u c) (u1 c) (u2 c) (put_zero (part p.high k) c u) (put_zero (part p.low k) c u1)) (put_zero (part p.flag k) c u2)) (h.changed c);
+    kept = λ c e. h.kept c e ∙ put_kept p p.flag i (flag_array p) (Number (pos 0)) (zeros2 p u) c e ∙ put_kept p p.low i (low_array p) (Number (pos 0)) (zeros1 p u) c e ∙ put_kept p p.high i (high_array p) (Number (pos 0)) u c e;
+    changed = λ c. then_changed (u c) (zeros3 p u c) (z c)
+    (then_changed (u c) (zeros2 p u c) (zeros3 p u c) (then_changed (u c) (zeros1 p u c) (zeros2 p u c) (put_zero (part p.high k) c u) (put_zero (part p.low k) c (zeros1 p u))) (put_zero (part p.flag k) c (zeros2 p u))) (h.changed c);
     zero_in = zero_in;
   }
     where
-      abbrev u1 : Store
-      u1 = put (part p.high k) (Number (pos 0)) u
-
-      abbrev u2 : Store
-      u2 = put (part p.low k) (Number (pos 0)) u1
-
-      abbrev u3 : Store
-      u3 = put (part p.flag k) (Number (pos 0)) u2
-
-      zero_still : (c : Cell) → u3 c ≡ Number (pos 0) → z c ≡ Number (pos 0)
+      zero_still : (c : Cell) → zeros3 p u c ≡ Number (pos 0) → z c ≡ Number (pos 0)
       zero_still c e = elim (h.changed c) [ inl f ↦ f ∙ e | inr f ↦ f ]
 
       own : AreZero p k z
       own = record {
-        high = zero_still (part p.high k) (stays_zero (part p.flag k) (part p.high k) u2 (stays_zero (part p.low k) (part p.high k) u1 (put_same (part p.high k) (Number (pos 0)) u (part p.high k) (cell_itself (part p.high k)))));
-        low = zero_still (part p.low k) (stays_zero (part p.flag k) (part p.low k) u2 (put_same (part p.low k) (Number (pos 0)) u1 (part p.low k) (cell_itself (part p.low k))));
-        flag = zero_still (part p.flag k) (put_same (part p.flag k) (Number (pos 0)) u2 (part p.flag k) (cell_itself (part p.flag k)));
+        high = zero_still (part p.high k) (stays_zero (part p.flag k) (part p.high k) (zeros2 p u) (stays_zero (part p.low k) (part p.high k) (zeros1 p u) (put_same (part p.high k) (Number (pos 0)) u (part p.high k) (cell_itself (part p.high k)))));
+        low = zero_still (part p.low k) (stays_zero (part p.flag k) (part p.low k) (zeros2 p u) (put_same (part p.low k) (Number (pos 0)) (zeros1 p u) (part p.low k) (cell_itself (part p.low k))));
+        flag = zero_still (part p.flag k) (put_same (part p.flag k) (Number (pos 0)) (zeros2 p u) (part p.flag k) (cell_itself (part p.flag k)));
       }
 
       zero_in : (a : Partials) → IsIn a (p ∷ rest) → AreZero a k z
@@ -150,66 +152,65 @@ module _ (q : Setting) (ps : List Partials) (v : List ℕ) (k : ℤ) (told : Cel
     pub places : (b : Act) → IsIn b (run_all q (zeros v rest) m scope u).acts → b.place.turns ≡ turns_of scope
     pub zeroed : Zeroed ps k rest u behind
 
+  -- the zeros of one scalar, and then those of others
+  module _ (p : Partials) (i : IsIn p ps) (rest : List Partials) (m : ℕ) (u : Store) (more : ZerosGo rest (m + 1 + 1 + 1) (zeros3 ps k p u)) where
+    abbrev u1 : Store
+    u1 = zeros1 ps k p u
+
+    abbrev u2 : Store
+    u2 = zeros2 ps k p u
+
+    abbrev u3 : Store
+    u3 = zeros3 ps k p u
+
+    run1 : RunOfPart ps g v k told stands p i p.high (high_array p) u Any tt (λ m. tt) (run_assignment g (place_of q m scope) (at p.high v) (Int 0) u) (pos 0) (place_of q m scope)
+    run1 = zero_run p i p.high (high_array p) (place_of q m scope) u
+
+    run2 : RunOfPart ps g v k told stands p i p.low (low_array p) u1 Any tt (λ m. tt) (run_assignment g (place_of q (m + 1) scope) (at p.low v) (Int 0) u1) (pos 0) (place_of q (m + 1) scope)
+    run2 = zero_run p i p.low (low_array p) (place_of q (m + 1) scope) u1
+
+    run3 : RunOfPart ps g v k told stands p i p.flag (flag_array p) u2 Any tt (λ m. tt) (run_assignment g (place_of q (m + 1 + 1) scope) (at p.flag v) (Int 0) u2) (pos 0) (place_of q (m + 1 + 1) scope)
+    run3 = zero_run p i p.flag (flag_array p) (place_of q (m + 1 + 1) scope) u2
+
+    abbrev rest3 : Store → Run
+    rest3 x = run_all q (zeros v rest) (m + 1 + 1 + 1) scope x
+
+    abbrev rest2 : Store → Run
+    rest2 x = then_run (run_assignment g (place_of q (m + 1 + 1) scope) (at p.flag v) (Int 0) x) rest3
+
+    abbrev rest1 : Store → Run
+    rest1 x = then_run (run_assignment g (place_of q (m + 1) scope) (at p.low v) (Int 0) x) rest2
+
+    -- the acts in order
+    abbrev acts : List Act
+    acts = act did (place_of q m scope) run1.touched ∷ (act did (place_of q (m + 1) scope) run2.touched ∷ (act did (place_of q (m + 1 + 1) scope) run3.touched ∷ (rest3 u3).acts))
+
+    last : rest2 u2 ≡ record { acts = act did (place_of q (m + 1 + 1) scope) run3.touched ∷ (rest3 u3).acts; ending = (rest3 u3).ending }
+    last = going_then (run_assignment g (place_of q (m + 1 + 1) scope) (at p.flag v) (Int 0) u2) u3 rest3 run3.ending ∙ (λ j. record { acts = run3.acts j ++ (rest3 u3).acts; ending = (rest3 u3).ending })
+
+    middle : rest1 u1 ≡ record { acts = act did (place_of q (m + 1) scope) run2.touched ∷ (act did (place_of q (m + 1 + 1) scope) run3.touched ∷ (rest3 u3).acts); ending = (rest3 u3).ending }
+    middle = going_then (run_assignment g (place_of q (m + 1) scope) (at p.low v) (Int 0) u1) u2 rest2 run2.ending ∙ (λ j. record { acts = run2.acts j ++ (last j).acts; ending = (last j).ending })
+
+    whole : run_all q (zeros v (p ∷ rest)) m scope u ≡ record { acts = acts; ending = (rest3 u3).ending }
+    whole = going_then (run_assignment g (place_of q m scope) (at p.high v) (Int 0) u) u1 rest1 run1.ending ∙ (λ j. record { acts = run1.acts j ++ (middle j).acts; ending = (middle j).ending })
+
+    placed : (b : Act) → IsIn b acts → b.place.turns ≡ turns_of scope
+    placed b (inl e) = ap (λ (a : Act). a.place.turns) e
+    placed b (inr (inl e)) = ap (λ (a : Act). a.place.turns) e
+    placed b (inr (inr (inl e))) = ap (λ (a : Act). a.place.turns) e
+    placed b (inr (inr (inr j))) = more.places b j
+
+    zeros_more : ZerosGo (p ∷ rest) m u
+    zeros_more = record {
+      behind = more.behind;
+      ending = ap (λ (r : Run). r.ending) whole ∙ more.ending;
+      places = λ b i. placed b (subst (IsIn b) (ap (λ (r : Run). r.acts) whole) i);
+      zeroed = zeroed_more ps k p rest u more.behind i more.zeroed;
+    }
+
   pub zeros_go : (rest : List Partials) → ((p : Partials) → IsIn p rest → IsIn p ps) → (m : ℕ) (u : Store) → ZerosGo rest m u
   zeros_go [] all m u = record { behind = u; ending = refl; places = λ b i. absurd i; zeroed = record { kept = λ c h. refl; changed = λ c. inl refl; zero_in = λ p i. absurd i } }
-  zeros_go (p ∷ rest) all m u = record {
-    behind = more.behind;
-    ending = ap (λ (r : Run). r.ending) whole ∙ more.ending;
-    places = λ b i. placed b (subst (IsIn b) (ap (λ (r : Run). r.acts) whole) i);
-    zeroed = zeroed_more ps k p rest u more.behind i more.zeroed;
-  }
-    where
-      i : IsIn p ps
-      i = all p (inl refl)
-
-      abbrev u1 : Store
-      u1 = put (part p.high k) (Number (pos 0)) u
-
-      abbrev u2 : Store
-      u2 = put (part p.low k) (Number (pos 0)) u1
-
-      abbrev u3 : Store
-      u3 = put (part p.flag k) (Number (pos 0)) u2
-
-      more : ZerosGo rest (m + 1 + 1 + 1) u3
-      more = zeros_go rest (λ a j. all a (inr j)) (m + 1 + 1 + 1) u3
-
-      run1 : RunOfPart ps g v k told stands p i p.high (high_array p) u Any tt (λ m. tt) (run_assignment g (place_of q m scope) (at p.high v) (Int 0) u) (pos 0) (place_of q m scope)
-      run1 = zero_run p i p.high (high_array p) (place_of q m scope) u
-
-      run2 : RunOfPart ps g v k told stands p i p.low (low_array p) u1 Any tt (λ m. tt) (run_assignment g (place_of q (m + 1) scope) (at p.low v) (Int 0) u1) (pos 0) (place_of q (m + 1) scope)
-      run2 = zero_run p i p.low (low_array p) (place_of q (m + 1) scope) u1
-
-      run3 : RunOfPart ps g v k told stands p i p.flag (flag_array p) u2 Any tt (λ m. tt) (run_assignment g (place_of q (m + 1 + 1) scope) (at p.flag v) (Int 0) u2) (pos 0) (place_of q (m + 1 + 1) scope)
-      run3 = zero_run p i p.flag (flag_array p) (place_of q (m + 1 + 1) scope) u2
-
-      -- the acts in order
-      abbrev acts : List Act
-      acts = act did (place_of q m scope) run1.touched ∷ (act did (place_of q (m + 1) scope) run2.touched ∷ (act did (place_of q (m + 1 + 1) scope) run3.touched ∷ (run_all q (zeros v rest) (m + 1 + 1 + 1) scope u3).acts))
-
-      abbrev rest3 : Store → Run
-      rest3 x = run_all q (zeros v rest) (m + 1 + 1 + 1) scope x
-
-      abbrev rest2 : Store → Run
-      rest2 x = then_run (run_assignment g (place_of q (m + 1 + 1) scope) (at p.flag v) (Int 0) x) rest3
-
-      abbrev rest1 : Store → Run
-      rest1 x = then_run (run_assignment g (place_of q (m + 1) scope) (at p.low v) (Int 0) x) rest2
-
-      last : rest2 u2 ≡ record { acts = act did (place_of q (m + 1 + 1) scope) run3.touched ∷ (rest3 u3).acts; ending = (rest3 u3).ending }
-      last = going_then (run_assignment g (place_of q (m + 1 + 1) scope) (at p.flag v) (Int 0) u2) u3 rest3 run3.ending ∙ (λ j. record { acts = run3.acts j ++ (rest3 u3).acts; ending = (rest3 u3).ending })
-
-      middle : rest1 u1 ≡ record { acts = act did (place_of q (m + 1) scope) run2.touched ∷ (act did (place_of q (m + 1 + 1) scope) run3.touched ∷ (rest3 u3).acts); ending = (rest3 u3).ending }
-      middle = going_then (run_assignment g (place_of q (m + 1) scope) (at p.low v) (Int 0) u1) u2 rest2 run2.ending ∙ (λ j. record { acts = run2.acts j ++ (last j).acts; ending = (last j).ending })
-
-      whole : run_all q (zeros v (p ∷ rest)) m scope u ≡ record { acts = acts; ending = (rest3 u3).ending }
-      whole = going_then (run_assignment g (place_of q m scope) (at p.high v) (Int 0) u) u1 rest1 run1.ending ∙ (λ j. record { acts = run1.acts j ++ (middle j).acts; ending = (middle j).ending })
-
-      placed : (b : Act) → IsIn b acts → b.place.turns ≡ turns_of scope
-      placed b (inl e) = ap (λ (a : Act). a.place.turns) e
-      placed b (inr (inl e)) = ap (λ (a : Act). a.place.turns) e
-      placed b (inr (inr (inl e))) = ap (λ (a : Act). a.place.turns) e
-      placed b (inr (inr (inr j))) = more.places b j
+  zeros_go (p ∷ rest) all m u = zeros_more p (all p (inl refl)) rest m u (zeros_go rest (λ a j. all a (inr j)) (m + 1 + 1 + 1) (zeros3 ps k p u))
 
 -- from zeros the new store tells that nothing has been added
 pub zeros_within : (ps : List Partials) (k : ℤ) (s u z : Store) → ((c : Cell) → is_apart ps c ≡ false → u c ≡ s c) → Zeroed ps k ps u z → Within ps k s u s z

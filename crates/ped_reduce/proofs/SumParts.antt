@@ -48,7 +48,7 @@ pub record Good (Q : Manner → Cell → Type 0) (e : Evaluated ℤ) (z : ℤ) :
   pub result : e.result ≡ Ok z
   pub by : AllSeenBy Q e.seen
 
-good_two : (Q : Manner → Cell → Type 0) (f : ℤ → ℤ → Result ℤ Fault) (a b : Evaluated ℤ) (x y z : ℤ) → Good Q a x → Good Q b y → by_number (f x y) ≡ Ok z → Good Q (binary f a b) z
+pub good_two : (Q : Manner → Cell → Type 0) (f : ℤ → ℤ → Result ℤ Fault) (a b : Evaluated ℤ) (x y z : ℤ) → Good Q a x → Good Q b y → by_number (f x y) ≡ Ok z → Good Q (binary f a b) z
 good_two Q f a b x y z g h e =
     let is = two_comes f a b x y z g.result h.result e in
     record {

@@ -26,7 +26,7 @@ use Rattle.ped_reduce.proofs.SumTurns.{Trip, AreTrips, SameTotals, Chain, IsTold
 use Rattle.ped_reduce.proofs.SumExits.{AllDistinct, IsNoTotal, ExitsGo, exits_go}
 
 -- what is told stays told where the elements stay
-told_same : (ps : List Partials) (u z : Store) → ((x : List ℕ) (k : ℤ) → z (part x k) ≡ u (part x k)) → (trail : List Trip) → AreTold ps u trail → AreTold ps z trail
+pub told_same : (ps : List Partials) (u z : Store) → ((x : List ℕ) (k : ℤ) → z (part x k) ≡ u (part x k)) → (trail : List Trip) → AreTold ps u trail → AreTold ps z trail
 told_same ps u z same [] h = tt
 told_same ps u z same (t ∷ ts) h = (
   (λ p i. adds_same (t.before (Scalar p.scalar)) (u (part p.high t.value)) (u (part p.low t.value)) (u (part p.flag t.value)) (t.after (Scalar p.scalar)) (z (part p.high t.value)) (z (part p.low t.value)) (z (part p.flag t.value)) (t.after (Scalar p.scalar))
@@ -66,7 +66,7 @@ module _ (ps : List Partials) (distinct : AllDistinct ps) (q : Setting) (v : Lis
 
   module _ (of_exits : IsOfExits) where
     -- its variable gets what it holds already
-    variable_stays : (left : ℕ) (u : Store) → u (cell_of scope v) ≡ left_in_variable x → (c : Cell) → store_behind (exit_when_none left x scope) u c ≡ u c
+    pub variable_stays : (left : ℕ) (u : Store) → u (cell_of scope v) ≡ left_in_variable x → (c : Cell) → store_behind (exit_when_none left x scope) u c ≡ u c
     variable_stays left u h c = go (left == 0)
       where
         go : (b : Bool) → store_behind (if b then exit_touches x scope else []) u c ≡ u c

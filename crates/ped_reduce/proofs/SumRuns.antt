@@ -120,7 +120,7 @@ module _ (v : List ℕ) (ps : List Partials) (h : Head) (body : StmtTrees) (x : 
       go false = free_lists.0
 
 -- none of these names is one of the scalars
-abbrev NoneTotal : List Partials → List (List ℕ) → Type 0
+abbrev pub NoneTotal : List Partials → List (List ℕ) → Type 0
 NoneTotal ps [] = Unit {0}
 NoneTotal ps (x ∷ xs) = (is_total ps x ≡ false) × NoneTotal ps xs
 
@@ -131,11 +131,11 @@ turned x y h = by (is_same_text y x) refl
     by true e = absurd (both_ways (is_same_text x y) h (ap (is_same_text x) (same_is y x e) ∙ same_itself x))
     by false e = e
 
-not_total : (ps : List Partials) (x : List ℕ) → ((p : Partials) → IsIn p ps → is_same_text p.scalar x ≡ false) → is_total ps x ≡ false
+pub not_total : (ps : List Partials) (x : List ℕ) → ((p : Partials) → IsIn p ps → is_same_text p.scalar x ≡ false) → is_total ps x ≡ false
 not_total [] x h = refl
 not_total (p ∷ ps) x h = λ i. turned p.scalar x (h p (inl refl)) i || not_total ps x (λ a j. h a (inr j)) i
 
-none_total : (ps : List Partials) (xs : List (List ℕ)) → ((p : Partials) → IsIn p ps → is_among p.scalar xs ≡ false) → NoneTotal ps xs
+pub none_total : (ps : List Partials) (xs : List (List ℕ)) → ((p : Partials) → IsIn p ps → is_among p.scalar xs ≡ false) → NoneTotal ps xs
 none_total ps [] h = tt
 none_total ps (x ∷ xs) h =
     (not_total ps x (λ p i. (or_parts (is_same_text p.scalar x) (is_among p.scalar xs) (h p i)).0), none_total ps xs (λ p i. (or_parts (is_same_text p.scalar x) (is_among p.scalar xs) (h p i)).1))

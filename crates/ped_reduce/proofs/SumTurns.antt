@@ -136,7 +136,7 @@ module _ (bounds : List ℕ → Dimensions) (constants : List (List ℕ × ℤ))
     pub acts : AreNew ps told (turns left j e scope at old_body s).acts (turns left j e scope at' new_body u).acts
 
   module _ (sums : IsOfSums) where
-    when_kept : (left : ℕ) → AllTouch P (exit_when_none left e scope)
+    pub when_kept : (left : ℕ) → AllTouch P (exit_when_none left e scope)
     when_kept left = go (left == 0)
       where
         go : (b : Bool) → AllTouch P (if b then exit_touches e scope else [])

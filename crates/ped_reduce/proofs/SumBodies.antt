@@ -140,7 +140,7 @@ module _ (v : List ℕ) where
       all_variables_kept (more_stmts s rest) = variables_followed (summed v ps s) (all_summed v ps rest) ∙ (λ i. variables_kept s i ++ all_variables_kept rest i)
 
 -- a run, and then nothing
-then_nothing : (r : Run) → then_run r nothing_done ≡ r
+pub then_nothing : (r : Run) → then_run r nothing_done ≡ r
 then_nothing r = go r.acts r.ending
   where
     acts_none : (acts : List Act) → acts ++ [] ≡ acts

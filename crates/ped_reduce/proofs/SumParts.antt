@@ -271,11 +271,8 @@ module _ (ps : List Partials) (g : Names) (v : List ℕ) (k : ℤ) (told : Cell)
       other_array a x y h own = unlike (is_same_text x y) refl
         where
           unlike : (b : Bool) → is_same_text x y ≡ b → is_same_text x y ≡ false
-          unlike true e = absurd (both_ways (is_array_of a x) h (ap (is_array_of a) (text_is x y e) ∙ own))
+          unlike true e = absurd (both_ways (is_array_of a x) h (ap (is_array_of a) (same_is x y e) ∙ own))
           unlike false e = e
-
-          text_is : (x y : List ℕ) → is_same_text x y ≡ true → x ≡ y
-          text_is x y e = same_is x y e
 
       three_others : (a : Partials) (x : List ℕ) → AreDistinct p a → is_array_of a x ≡ true → behind_sum (part x k) ≡ u (part x k)
       three_others a x apart own =

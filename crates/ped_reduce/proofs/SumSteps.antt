@@ -101,7 +101,7 @@ IsTouched ts m c = (t : Touch) × IsIn t ts × (t.cell ≡ c) × (t.manner ≡ m
 touched_more : (t : Touch) (ts : List Touch) (m : Manner) (c : Cell) → IsTouched ts m c → IsTouched (t ∷ ts) m c
 touched_more t ts m c h = (h.0, inr h.1, h.2, h.3)
 
-seen_map : (Q R : Manner → Cell → Type 0) → ((m : Manner) (c : Cell) → Q m c → R m c) → (xs : List Seen) → AllSeenBy Q xs → AllSeenBy R xs
+pub seen_map : (Q R : Manner → Cell → Type 0) → ((m : Manner) (c : Cell) → Q m c → R m c) → (xs : List Seen) → AllSeenBy Q xs → AllSeenBy R xs
 seen_map Q R f [] h = tt
 seen_map Q R f (cell_seen c content ∷ xs) h = (f reads c h.0, seen_map Q R f xs h.1)
 seen_map Q R f (index_seen c v ∷ xs) h = (f is_told c h.0, seen_map Q R f xs h.1)
@@ -130,7 +130,7 @@ written_last (x ∷ ts) t c h = late (writes_to x c) (written_last ts t c h)
     late false e = e
 
 -- operations on two numbers, where both have come
-two_comes : (f : ℤ → ℤ → Result ℤ Fault) (a b : Evaluated ℤ) (x y z : ℤ) → a.result ≡ Ok x → b.result ≡ Ok y → by_number (f x y) ≡ Ok z → binary f a b ≡ record { seen = a.seen ++ (b.seen ++ []); result = Ok z }
+pub two_comes : (f : ℤ → ℤ → Result ℤ Fault) (a b : Evaluated ℤ) (x y z : ℤ) → a.result ≡ Ok x → b.result ≡ Ok y → by_number (f x y) ≡ Ok z → binary f a b ≡ record { seen = a.seen ++ (b.seen ++ []); result = Ok z }
 two_comes f a b x y z p q r =
     ap (λ (w : Result ℤ ℕ). onward a.seen w (λ u. b >>> λ v. given (by_number (f u v)))) p
     ∙ ap (λ (w : Result ℤ ℕ). having_seen a.seen (onward b.seen w (λ v. given (by_number (f x v))))) q

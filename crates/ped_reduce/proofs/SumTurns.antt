@@ -86,7 +86,7 @@ then_went r next t h = go r.ending refl h
     go (stopped s) q k = absurd cc
     go (failed fault n) q k = absurd cc
 
-going_is : (s t : Store) → going s ≡ going t → s ≡ t
+pub going_is : (s t : Store) → going s ≡ going t → s ≡ t
 going_is s t e = cc
 
 module _ (bounds : List ℕ → Dimensions) (constants : List (List ℕ × ℤ)) (f f' : ℕ → ℕ) (ps : List Partials) (arrays : HaveArrays ps) (v : List ℕ) (told : Cell) (body : StmtTrees) (n m : ℕ) (scope : Scope) (e : Entered) where

@@ -18,17 +18,18 @@ use Rattle.ped_tree.specs.NamesIn.{all_loop_variables}
 use Rattle.ped_tree.specs.Numbering.{statements_count}
 use Rattle.ped_splits.specs.ped_reindex.specs.ped_loops.specs.ped_scalar.specs.ped_rules.specs.ped_loop_runs.specs.ped_bodies.specs.ped_steps.specs.Replacing.{followed, alone}
 use Rattle.ped_splits.specs.ped_reindex.specs.ped_loops.specs.ped_scalar.specs.ped_rules.specs.ped_loop_runs.specs.ped_bodies.specs.ped_steps.specs.ped_laws.specs.ped_store.specs.Cells.{Cell, Scalar, Element, Private, In, Out, same_cell}
-use Rattle.ped_splits.specs.ped_reindex.specs.ped_loops.specs.ped_scalar.specs.ped_rules.specs.ped_loop_runs.specs.ped_bodies.specs.ped_steps.specs.ped_laws.specs.ped_store.specs.Stores.{Content, Undefined, Number, Store, put}
+use Rattle.ped_splits.specs.ped_reindex.specs.ped_loops.specs.ped_scalar.specs.ped_rules.specs.ped_loop_runs.specs.ped_bodies.specs.ped_steps.specs.ped_laws.specs.ped_store.specs.Stores.{Content, Undefined, Number, Store, put, out_of_range}
 use Rattle.ped_splits.specs.ped_reindex.specs.ped_loops.specs.ped_scalar.specs.ped_rules.specs.ped_loop_runs.specs.ped_bodies.specs.ped_steps.specs.ped_laws.specs.ped_store.specs.Storage.{is_within}
 use Rattle.ped_splits.specs.ped_reindex.specs.ped_loops.specs.ped_scalar.specs.ped_rules.specs.ped_loop_runs.specs.ped_bodies.specs.ped_steps.specs.ped_laws.specs.ped_store.specs.Acts.{Manner, reads, writes, is_told, Touch, Turn, Place, entered, ended_turn, Act, store_behind, touched, iterations_of}
 use Rattle.ped_splits.specs.ped_reindex.specs.ped_loops.specs.ped_scalar.specs.ped_rules.specs.ped_loop_runs.specs.ped_bodies.specs.ped_steps.specs.ped_laws.specs.Acts.Orders.{IsIn}
 use Rattle.ped_splits.specs.ped_reindex.specs.ped_loops.specs.ped_scalar.specs.ped_rules.specs.ped_loop_runs.specs.ped_bodies.specs.ped_steps.specs.ped_laws.proofs.ActLaws.SameCells.{cell_itself, cell_is}
+use Rattle.ped_splits.specs.ped_reindex.specs.ped_loops.specs.ped_scalar.specs.ped_rules.specs.ped_loop_runs.specs.ped_bodies.specs.ped_steps.specs.ped_laws.proofs.ActLaws.Lists.{in_parts}
 use Rattle.ped_splits.specs.ped_reindex.specs.ped_loops.specs.ped_scalar.specs.ped_rules.specs.ped_loop_runs.specs.ped_bodies.specs.ped_steps.specs.ped_laws.proofs.ActLaws.Stores.{put_same, put_other, behind_append}
 use Rattle.ped_splits.specs.ped_reindex.specs.ped_loops.specs.ped_scalar.specs.ped_rules.specs.ped_loop_runs.specs.ped_bodies.specs.ped_steps.specs.ped_laws.specs.ped_eval.specs.Scopes.{Setting, Frame, Scope, turns_of, cell_of, index_value, Names, names_in, place_of}
 use Rattle.ped_splits.specs.ped_reindex.specs.ped_loops.specs.ped_scalar.specs.ped_rules.specs.ped_loop_runs.specs.ped_bodies.specs.ped_steps.specs.ped_laws.specs.ped_eval.specs.Evaluation.{Seen, Evaluated, onward, ◌>>>◌, given, numbered, number_behind}
 use Rattle.ped_splits.specs.ped_reindex.specs.ped_loops.specs.ped_scalar.specs.ped_rules.specs.ped_loop_runs.specs.ped_bodies.specs.ped_steps.specs.ped_laws.specs.ped_eval.specs.Values.{value}
 use Rattle.ped_splits.specs.ped_reindex.specs.ped_loops.specs.ped_scalar.specs.ped_rules.specs.ped_loop_runs.specs.ped_bodies.specs.ped_steps.specs.ped_laws.specs.ped_eval.specs.Statements.{write_touch}
-use Rattle.ped_splits.specs.ped_reindex.specs.ped_loops.specs.ped_scalar.specs.ped_rules.specs.ped_loop_runs.specs.ped_bodies.specs.ped_steps.specs.ped_laws.specs.ped_eval.specs.Loops.{Limits, limits, in_bounds, increment, iteration_count, inner_variables, Entered, entered_with, copied_names, frame, value_in, undefined_by, undefined_all, left_in_variable, exit_touches, exit_when_none, entry_touches}
+use Rattle.ped_splits.specs.ped_reindex.specs.ped_loops.specs.ped_scalar.specs.ped_rules.specs.ped_loop_runs.specs.ped_bodies.specs.ped_steps.specs.ped_laws.specs.ped_eval.specs.Loops.{Limits, limits, is_bound, in_bounds, increment, iteration_count, inner_variables, Entered, entered_with, copied_names, frame, value_in, undefined_by, undefined_all, left_in_variable, exit_touches, exit_when_none, entry_touches}
 use Rattle.ped_splits.specs.ped_reindex.specs.ped_loops.specs.ped_scalar.specs.ped_rules.specs.ped_loop_runs.specs.ped_bodies.specs.ped_steps.specs.ped_laws.specs.ped_eval.specs.Runs.{Ending, going, stopped, failed, Run, nothing_done, then_run, does, on_value, on, turns, run_entered, run_from_entry, run_do, run, run_all}
 use Rattle.ped_splits.specs.ped_reindex.specs.ped_loops.specs.ped_scalar.specs.ped_rules.specs.ped_loop_runs.specs.ped_bodies.specs.ped_steps.specs.ped_laws.specs.Runs.Replaying.{act}
 use Rattle.ped_splits.specs.ped_reindex.specs.ped_loops.specs.ped_scalar.specs.ped_rules.specs.ped_loop_runs.specs.ped_bodies.specs.ped_steps.specs.ped_laws.proofs.CoveringLaws.Comings.{came, ok_one, constant_comes}
@@ -296,3 +297,219 @@ module _ (bounds : List ℕ → Dimensions) (constants : List (List ℕ × ℤ))
           ∙ ap (λ (i : ℕ). store_behind (exit_when_none i e scope) s told) none
           ∙ exit_holds s
       entry_leaves s t (suc c) some k = turns_leave c 1 (store_behind (entry_touches seen e scope) s) t k
+
+    -- where the DO goes on, these do, and leave what it leaves but in the arrays
+    pub record WholeGoes (s t : Store) : Type 0 where
+      pub behind : Store
+      pub ending : (run_all new lowered m scope s).ending ≡ going behind
+      pub same : (c : Cell) → is_part ps c ≡ false → behind c ≡ t c
+      pub acts : AreNew ps told (run old (Do h body) n scope s).acts (run_all new lowered m scope s).acts
+
+    module _ (s t : Store) (small : AreSmall ps s) (come : (limits g h s).result ≡ Ok (limit [])) (k : (run_from_entry (limits g h s).seen (e (limits g h s).seen) scope (place_of old n scope) (old_body (limits g h s).seen) s).ending ≡ going t) where
+      abbrev seen : List Seen
+      seen = (limits g h s).seen
+
+      abbrev d : Entered
+      d = e seen
+
+      abbrev at : Place
+      at = place_of old n scope
+
+      abbrev at' : Place
+      at' = place_of new m scope
+
+      abbrev old_turns : Frame → Store → Run
+      old_turns x = run_all old body (n + 1) (x ∷ scope)
+
+      abbrev new_turns : Frame → Store → Run
+      new_turns x = run_all new new_body (m + 1) (x ∷ scope)
+
+      abbrev ts : List Touch
+      ts = entry_touches seen d scope
+
+      abbrev s1 : Store
+      s1 = store_behind ts s
+
+      in_turns : (turns d.count 1 d scope at old_turns s1).ending ≡ going t
+      in_turns = ap (λ (r : Run). r.ending) (sym (entered_in_order h.parallel d.count d scope at old_turns s1 may.serial)) ∙ k
+
+      entry_keeps : (p : Partials) → IsIn p ps → s1 (Scalar p.scalar) ≡ s (Scalar p.scalar)
+      entry_keeps p i =
+          ap (λ (z : Store). z (Scalar p.scalar)) (reads_leave seen 1 (exit_when_none d.count d scope) s)
+          ∙ behind_elsewhere ps (exit_when_none d.count d scope) s (Scalar p.scalar) (when_kept bounds constants f f' ps arrays v told body n m scope d (sums seen) d.count) (total_apart ps p i)
+
+      small1 : AreSmall ps s1
+      small1 p i x held = small p i x (sym (entry_keeps p i) ∙ held)
+
+      turns_go : TurnsGo bounds constants f f' ps arrays v told body n m scope d d.count 1 s1 t s1
+      turns_go = turns_add bounds constants f f' ps arrays v told body n m scope d (sums seen) d.count 1 (omega arith) (omega arith) s1 t s1 small1 (λ c h. refl) in_turns
+
+      abbrev u : Store
+      u = turns_go.behind
+
+      -- the first DO
+      abbrev entry_act : Act
+      entry_act = act (entered d.count) at' ts
+
+      first_is : run new (Do h new_body) m scope s ≡ record { acts = entry_act ∷ (turns d.count 1 d scope at' new_turns s1).acts; ending = (turns d.count 1 d scope at' new_turns s1).ending }
+      first_is =
+          do_is new m scope h new_body new_turns s (limit seen) come
+          ∙ ap (λ (y : Entered). run_from_entry seen y scope at' new_turns s) (sym (entered_same seen))
+          ∙ ap (λ (r : Run). record { acts = entry_act ∷ r.acts; ending = r.ending }) (entered_in_order h.parallel d.count d scope at' new_turns s1 may.serial)
+
+      old_is : run old (Do h body) n scope s ≡ record { acts = act (entered d.count) at ts ∷ (turns d.count 1 d scope at old_turns s1).acts; ending = (turns d.count 1 d scope at old_turns s1).ending }
+      old_is =
+          do_is old n scope h body old_turns s (limit seen) come
+          ∙ ap (λ (r : Run). record { acts = act (entered d.count) at ts ∷ r.acts; ending = r.ending }) (entered_in_order h.parallel d.count d scope at old_turns s1 may.serial)
+
+      first_ending : (run new (Do h new_body) m scope s).ending ≡ going u
+      first_ending = ap (λ (r : Run). r.ending) first_is ∙ turns_go.ending
+
+      -- the DO of the exits
+      abbrev m2 : ℕ
+      m2 = m + (statements_count new_body + 1)
+
+      abbrev seen2 : List Seen
+      seen2 = (limits g h u).seen
+
+      abbrev x : Entered
+      x = entered_with new m2 (bare h) (exits v ps) seen2 (limit seen)
+
+      abbrev at2 : Place
+      at2 = place_of new m2 scope
+
+      abbrev exit_turns : Frame → Store → Run
+      exit_turns y = run_all new (exits v ps) (m2 + 1) (y ∷ scope)
+
+      exit_stands : (j : ℕ) → 1 ≤ j → j ≤ x.count → StandsAt ps (names_in new (frame x j ∷ scope)) v (value_in x j) told
+      exit_stands j from to = record {
+        plain = may.plain;
+        index = ap (λ (c : Bool). if c then Some (value_in x j) else index_value scope v) (same_itself v);
+        cell = refl;
+        variable = λ p i. (may.scalars p i).variable;
+        unbound = λ p i. ap (λ (c : Bool). if c then Some (value_in x j) else index_value scope p.scalar) (may.scalars p i).unlike ∙ (may.scalars p i).unbound;
+        own = λ p i. (may.scalars p i).own;
+        others = λ y none. cell_others ps (frame x j ∷ scope) y none;
+        inside = λ p y i own. may.inside j from to p y i own;
+      }
+
+      of_exits : IsOfExits ps distinct new v told m2 scope x
+      of_exits = record {
+        stands = exit_stands;
+        stores = refl;
+        other = λ p i. totals_apart ps p told i told_apart;
+        calm = λ j. calm_more scope (frame x j) may.outer refl;
+        outer = may.outer;
+      }
+
+      variable_left : u told ≡ left_in_variable x
+      variable_left =
+          turns_go.same told told_apart
+          ∙ entry_leaves seen s t d.count refl in_turns
+          ∙ ap (λ (c : Bool). if c then Undefined else Number (a +ℤ pos d.count *ℤ step)) may.serial
+
+      abbrev ts2 : List Touch
+      ts2 = entry_touches seen2 x scope
+
+      abbrev u1 : Store
+      u1 = store_behind ts2 u
+
+      same1 : (c : Cell) → u1 c ≡ u c
+      same1 c = ap (λ (z : Store). z c) (reads_leave seen2 1 (exit_when_none x.count x scope) u) ∙ variable_stays ps distinct new v told m2 scope x of_exits x.count u variable_left c
+
+      exits_done : ExitTurnsGo ps distinct new v told m2 scope x x.count 1 t u1
+      exits_done =
+          exit_turns_go ps distinct new v told m2 scope x of_exits x.count 1 (omega arith) (omega arith) turns_go.trail turns_go.many turns_go.trips s1 t u1 turns_go.chain
+          (λ p i. same1 (Scalar p.scalar) ∙ turns_go.preserved (Scalar p.scalar) (total_apart ps p i) (λ j from to. refl))
+          (told_same ps u u1 (λ y j. same1 (part y j)) turns_go.trail turns_go.tell)
+          (same1 told ∙ variable_left)
+
+      abbrev z : Store
+      z = exits_done.behind
+
+      abbrev exit_act : Act
+      exit_act = act (entered x.count) at2 ts2
+
+      second_is : run new (Do (bare h) (exits v ps)) m2 scope u ≡ record { acts = exit_act ∷ (turns x.count 1 x scope at2 exit_turns u1).acts; ending = (turns x.count 1 x scope at2 exit_turns u1).ending }
+      second_is =
+          do_is new m2 scope (bare h) (exits v ps) exit_turns u (limit seen) (limits_constant g h a b may.first may.last u s ∙ come)
+          ∙ ap (λ (r : Run). record { acts = exit_act ∷ r.acts; ending = r.ending }) (entered_in_order false x.count x scope at2 exit_turns u1 refl)
+
+      whole_is : run_all new lowered m scope s ≡ record { acts = (run new (Do h new_body) m scope s).acts ++ (run new (Do (bare h) (exits v ps)) m2 scope u).acts; ending = (run new (Do (bare h) (exits v ps)) m2 scope u).ending }
+      whole_is =
+          going_then (run new (Do h new_body) m scope s) u (run_all new (alone (Do (bare h) (exits v ps))) m2 scope) first_ending
+          ∙ ap (λ (r : Run). record { acts = (run new (Do h new_body) m scope s).acts ++ r.acts; ending = r.ending }) (then_nothing (run new (Do (bare h) (exits v ps)) m2 scope u))
+
+      -- what it leaves
+      leaves : (c : Cell) → is_part ps c ≡ false → z c ≡ t c
+      leaves c none = go (is_apart ps c) refl
+        where
+          others : is_apart ps c ≡ false → z c ≡ t c
+          others out = exits_done.kept c (λ p i q. totals_apart ps p c i out q) ∙ same1 c ∙ turns_go.same c out
+
+          total : (d : Cell) → is_part ps d ≡ false → is_apart ps d ≡ true → z d ≡ t d
+          total (Scalar y) part_none own =
+              let p = any_gives (λ (o : Partials). is_same_text y o.scalar) ps own in
+              subst (λ (w : List ℕ). z (Scalar w) ≡ t (Scalar w)) (sym (same_is y p.0.scalar p.2)) (exits_done.totals p.0 p.1)
+          total (Element y js) part_none own = absurd (both_ways (is_array ps y) part_none own)
+          total (Private y path) part_none own = absurd cc
+          total In part_none own = absurd cc
+          total Out part_none own = absurd cc
+
+          go : (c1 : Bool) → is_apart ps c ≡ c1 → z c ≡ t c
+          go true own = total c none own
+          go false out = others out
+
+      -- and its acts
+      calm_one : (b1 : Act) → b1.place.turns ≡ turns_of scope → IsCalm b1.place.turns
+      calm_one b1 q = subst IsCalm (sym q) may.outer
+
+      first_acts : AreNew ps told (act (entered d.count) at ts ∷ (turns d.count 1 d scope at old_turns s1).acts) (entry_act ∷ (turns d.count 1 d scope at' new_turns s1).acts)
+      first_acts =
+          new_append ps told (act (entered d.count) at ts ∷ []) (entry_act ∷ []) (turns d.count 1 d scope at old_turns s1).acts (turns d.count 1 d scope at' new_turns s1).acts
+          (λ b1 i. elim i [ inl q ↦ inl (calm_one b1 (ap (λ (y : Act). y.place.turns) q)) | inr j ↦ absurd j ]) turns_go.acts
+
+      second_acts : (b1 : Act) → IsIn b1 (exit_act ∷ (turns x.count 1 x scope at2 exit_turns u1).acts) → IsCalm b1.place.turns
+      second_acts b1 (inl q) = calm_one b1 (ap (λ (y : Act). y.place.turns) q)
+      second_acts b1 (inr i) = exits_done.calm b1 i
+
+      whole_acts : AreNew ps told (run old (Do h body) n scope s).acts (run_all new lowered m scope s).acts
+      whole_acts =
+          subst (AreNew ps told (run old (Do h body) n scope s).acts) (sym (ap (λ (r : Run). r.acts) whole_is))
+          (λ b1 i. elim (in_parts b1 (run new (Do h new_body) m scope s).acts (run new (Do (bare h) (exits v ps)) m2 scope u).acts i) [
+            | inl j ↦ subst (λ (ys : List Act). AreNew ps told ys (run new (Do h new_body) m scope s).acts) (sym (ap (λ (r : Run). r.acts) old_is))
+                (subst (AreNew ps told (act (entered d.count) at ts ∷ (turns d.count 1 d scope at old_turns s1).acts)) (sym (ap (λ (r : Run). r.acts) first_is)) first_acts) b1 j
+            | inr j ↦ inl (second_acts b1 (subst (IsIn b1) (ap (λ (r : Run). r.acts) second_is) j))
+          ])
+
+      entered_goes : WholeGoes s t
+      entered_goes = record {
+        behind = z;
+        ending = ap (λ (r : Run). r.ending) whole_is ∙ ap (λ (r : Run). r.ending) second_is ∙ exits_done.ending;
+        same = leaves;
+        acts = whole_acts;
+      }
+
+    -- where the limits come to those that are constant
+    limits_are : (s : Store) (l : Limits) → (limits g h s).result ≡ Ok l → l ≡ limit []
+    limits_are s l come =
+        let one = came (value g h.first s).seen (value g h.first s).result (λ x. given (in_bounds x) >>> λ m. value g h.last s >>> λ y. given (in_bounds y) >>> λ n. given (Ok (record { first = m; last = n }))) l come in
+        let two = came [] (in_bounds one.0) (λ m. value g h.last s >>> λ y. given (in_bounds y) >>> λ n. given (Ok (record { first = m; last = n }))) l one.2 in
+        let three = came (value g h.last s).seen (value g h.last s).result (λ y. given (in_bounds y) >>> λ n. given (Ok (record { first = two.0; last = n }))) l two.2 in
+        let four = came [] (in_bounds three.0) (λ n. given (Ok (record { first = two.0; last = n }))) l three.2 in
+        let is_a : two.0 ≡ a = bounded one.0 two.0 two.1 ∙ ok_one one.0 a (sym one.1 ∙ constant_comes g s h.first a may.first) in
+        let is_b : four.0 ≡ b = bounded three.0 four.0 four.1 ∙ ok_one three.0 b (sym three.1 ∙ constant_comes g s h.last b may.last) in
+        sym (ok_one (record { first = two.0; last = four.0 }) l four.2) ∙ (λ i. record { first = is_a i; last = is_b i })
+      where
+        bounded : (y n : ℤ) → in_bounds y ≡ Ok n → n ≡ y
+        bounded y n q = go (is_bound y) q
+          where
+            go : (c : Bool) → (if c then Ok y else Err out_of_range) ≡ Ok n → n ≡ y
+            go true r = sym (ok_one y n r)
+            go false r = absurd cc
+
+    pub whole_goes : (s t : Store) → AreSmall ps s → (run old (Do h body) n scope s).ending ≡ going t → WholeGoes s t
+    whole_goes s t small ending =
+        let w = do_went old n scope h body (λ x. run_all old body (n + 1) (x ∷ scope)) s t ending in
+        let is : w.0 ≡ limit [] = limits_are s w.0 w.1 in
+        entered_goes s t small (w.1 ∙ ap Ok is) (subst (λ (l : Limits). (run_from_entry (limits g h s).seen (entered_with old n h body (limits g h s).seen l) scope (place_of old n scope) (λ x. run_all old body (n + 1) (x ∷ scope)) s).ending ≡ going t) is w.2)

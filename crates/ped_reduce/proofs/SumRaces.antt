@@ -1,0 +1,226 @@
+-- The new acts race only where those of the DO do.
+use Rattle.std.proofs.Common.{◌≡◌, ℕ, ℤ, List, [], ◌∷◌, map, filter, Bool, true, false, ◌&&◌, ◌||◌, ◌⊎◌, inl, inr, refl, sym, ap, subst, ◌∙◌, if◌then◌else◌}
+use Rattle.std.specs.Prelude.{not, ◌==◌}
+use Rattle.std.specs.List.{list_any}
+use Rattle.std.proofs.lemmas.Bool.{and_parts, both_ways, or_parts}
+use Rattle.ped_base.specs.Lists.{is_same_text}
+use Rattle.ped_base.proofs.NameEquality.{same_is}
+use Rattle.ped_splits.specs.ped_reindex.specs.ped_loops.specs.ped_scalar.specs.ped_rules.specs.ped_loop_runs.specs.ped_bodies.specs.ped_steps.specs.ped_laws.specs.ped_store.specs.Cells.{Cell, Scalar, Element, Private, In, Out, same_cell}
+use Rattle.ped_splits.specs.ped_reindex.specs.ped_loops.specs.ped_scalar.specs.ped_rules.specs.ped_loop_runs.specs.ped_bodies.specs.ped_steps.specs.ped_laws.specs.ped_store.specs.Acts.{Manner, reads, writes, is_told, Touch, Turn, Place, Act}
+use Rattle.ped_splits.specs.ped_reindex.specs.ped_loops.specs.ped_scalar.specs.ped_rules.specs.ped_loop_runs.specs.ped_bodies.specs.ped_steps.specs.ped_laws.specs.ped_store.specs.Races.{is_lines, is_write, is_access, Access, accesses_of, accesses, are_apart}
+use Rattle.ped_splits.specs.ped_reindex.specs.ped_loops.specs.ped_scalar.specs.ped_rules.specs.ped_loop_runs.specs.ped_bodies.specs.ped_steps.specs.ped_laws.specs.Acts.Orders.{IsIn}
+use Rattle.ped_splits.specs.ped_reindex.specs.ped_loops.specs.ped_scalar.specs.ped_rules.specs.ped_loop_runs.specs.ped_bodies.specs.ped_steps.specs.ped_laws.specs.Acts.Sets.{written_by, writes_to}
+use Rattle.ped_splits.specs.ped_reindex.specs.ped_loops.specs.ped_scalar.specs.ped_rules.specs.ped_loop_runs.specs.ped_bodies.specs.ped_steps.specs.ped_laws.proofs.ActLaws.SameCells.{cell_is}
+use Rattle.ped_splits.specs.ped_reindex.specs.ped_loops.specs.ped_scalar.specs.ped_rules.specs.ped_loop_runs.specs.ped_bodies.specs.ped_steps.specs.ped_laws.proofs.ActLaws.Conflicting.{accesses_in}
+use Rattle.ped_splits.specs.ped_reindex.specs.ped_loops.specs.ped_scalar.specs.ped_rules.specs.ped_loop_runs.specs.ped_bodies.specs.ped_steps.specs.ped_laws.proofs.ConflictLaws.Scoping.{act_of_access}
+use Rattle.ped_reduce.specs.Lowering.{Partials}
+use Rattle.ped_reduce.proofs.SumStores.{is_array_of, is_array, part, AreDistinct, HaveArrays, array_apart}
+use Rattle.ped_reduce.proofs.SumSteps.{IsTouched, touch_in}
+use Rattle.ped_reduce.proofs.SumParts.{Origin, ComesFrom}
+use Rattle.ped_reduce.proofs.SumTrips.{IsCalm, AreNew}
+use Rattle.ped_reduce.proofs.SumWhole.{is_part}
+
+-- iterations of no PARALLEL DO are apart from none
+pub calm_apart : (ts us : List Turn) → IsCalm ts → are_apart ts us ≡ false
+calm_apart [] us h = refl
+calm_apart (t ∷ ts) [] h = refl
+calm_apart (t ∷ ts) (u ∷ us) h = go (t.statement == u.statement) (t.number == u.number)
+  where
+    parts : (t.parallel ≡ false) × IsCalm ts
+    parts = or_parts t.parallel (list_any (λ (x : Turn). x.parallel) ts) h
+
+    go : (a b : Bool) → (a && (if b then are_apart ts us else t.parallel)) ≡ false
+    go false b = refl
+    go true true = calm_apart ts us parts.1
+    go true false = parts.0
+
+-- a touch as an access
+abbrev pub access_at : Place → Touch → Access
+access_at place t = record { cell = t.cell; writes = is_write t.manner; place = place; reference = t.reference }
+
+-- the touch of an access
+pub from_touch : (place : Place) (ts : List Touch) (x : Access) → IsIn x (map (access_at place) (filter is_access ts)) → (t : Touch) × IsIn t ts × (is_access t ≡ true) × (x ≡ access_at place t)
+from_touch place [] x i = absurd i
+from_touch place (t ∷ ts) x i = go (is_access t) refl i
+  where
+    go : (b : Bool) → is_access t ≡ b → IsIn x (map (access_at place) (if b then t ∷ filter is_access ts else filter is_access ts)) → (u : Touch) × IsIn u (t ∷ ts) × (is_access u ≡ true) × (x ≡ access_at place u)
+    go true e (inl q) = (t, inl refl, e, q)
+    go true e (inr j) = let r = from_touch place ts x j in (r.0, inr r.1, r.2, r.3)
+    go false e j = let r = from_touch place ts x j in (r.0, inr r.1, r.2, r.3)
+
+-- and the access of a touch
+pub to_access : (place : Place) (ts : List Touch) (t : Touch) → IsIn t ts → is_access t ≡ true → IsIn (access_at place t) (map (access_at place) (filter is_access ts))
+to_access place [] t i h = absurd i
+to_access place (u ∷ ts) t i h = go (is_access u) refl i
+  where
+    go : (b : Bool) → is_access u ≡ b → IsIn t (u ∷ ts) → IsIn (access_at place t) (map (access_at place) (if b then u ∷ filter is_access ts else filter is_access ts))
+    go true e (inl q) = inl (ap (access_at place) q)
+    go true e (inr j) = inr (to_access place ts t j h)
+    go false e (inl q) = absurd (both_ways (is_access u) e (ap is_access (sym q) ∙ h))
+    go false e (inr j) = to_access place ts t j h
+
+-- two accesses of the old acts that race
+pub record OldRace (olds : List Act) : Type 0 where
+  pub one : Access
+  pub other : Access
+  pub one_in : IsIn one (accesses olds)
+  pub other_in : IsIn other (accesses olds)
+  pub cells : one.cell ≡ other.cell
+  pub writing : one.writes || other.writes ≡ true
+  pub apart : are_apart one.place.turns other.place.turns ≡ true
+
+-- one of the touches writes the cell
+write_found : (ts : List Touch) (c : Cell) → written_by ts c ≡ true → (t : Touch) × IsIn t ts × (is_write t.manner ≡ true) × (t.cell ≡ c)
+write_found [] c h = absurd cc
+write_found (t ∷ ts) c h = go (writes_to t c) refl h
+  where
+    go : (b : Bool) → writes_to t c ≡ b → (b || written_by ts c) ≡ true → (u : Touch) × IsIn u (t ∷ ts) × (is_write u.manner ≡ true) × (u.cell ≡ c)
+    go true e k = let parts = and_parts (is_write t.manner) (same_cell t.cell c) e in (t, inl refl, parts.0, cell_is t.cell c parts.1)
+    go false e k = let r = write_found ts c k in (r.0, inr r.1, r.2, r.3)
+
+module _ (ps : List Partials) (arrays : HaveArrays ps) (told : Cell) (told_no_part : is_part ps told ≡ false) (olds news : List Act) (come : AreNew ps told olds news)
+    (no_part : (a : Act) → IsIn a olds → (t : Touch) → IsIn t a.touches → is_part ps t.cell ≡ false)
+    (told_kept : (a : Act) → IsIn a olds → (t : Touch) → IsIn t a.touches → t.cell ≡ told → is_write t.manner ≡ true → IsCalm a.place.turns) where
+  -- where an access that races comes from: an old act in the same iterations
+  record From (x : Access) : Type 0 where
+    k : ℤ
+    act : Act
+    found : IsIn act olds
+    turns : x.place.turns ≡ act.place.turns
+    manner : Manner
+    is : x.writes ≡ is_write manner
+    access : (is_write manner || not (is_lines x.cell)) ≡ true
+    origin : Origin ps k told act.touches manner x.cell
+
+  from : (x : Access) → IsIn x (accesses news) → IsCalm x.place.turns ⊎ From x
+  from x i =
+      let a = act_of_access x news i in
+      let t = from_touch a.0.place a.0.touches x a.2 in
+      by a.0 t.0 t.1 t.2 t.3 (come a.0 a.1)
+    where
+      by : (b : Act) (t : Touch) → IsIn t b.touches → is_access t ≡ true → x ≡ access_at b.place t → IsCalm b.place.turns ⊎ ((k : ℤ) × (a : Act) × IsIn a olds × ComesFrom ps k told a b) → IsCalm x.place.turns ⊎ From x
+      by b t j e q (inl calm) = inl (subst (λ (y : Access). IsCalm y.place.turns) (sym q) calm)
+      by b t j e q (inr c) = inr (subst From (sym q) (record {
+        k = c.0;
+        act = c.1;
+        found = c.2;
+        turns = c.3.turns;
+        manner = t.manner;
+        is = refl;
+        access = e;
+        origin = touch_in (Origin ps c.0 told c.1.touches) b.touches t c.3.touches j;
+      }))
+
+  -- an old touch in the same manner of the same cell is an old access
+  old_access : (x : Access) (f : From x) (h : IsTouched f.act.touches f.manner x.cell) → (y : Access) × IsIn y (accesses olds) × (y.cell ≡ x.cell) × (y.writes ≡ x.writes) × (y.place ≡ f.act.place)
+  old_access x f h =
+      let e : is_access h.0 ≡ true = (λ i. is_write (h.3 i) || not (is_lines (h.2 i))) ∙ f.access in
+      (access_at f.act.place h.0, accesses_in olds f.act (access_at f.act.place h.0) f.found (to_access f.act.place f.act.touches h.0 h.1 e), h.2, ap is_write h.3 ∙ sym f.is, refl)
+
+  -- the scalar's write in an old act
+  old_write : (a : Act) → IsIn a olds → (c : Cell) → written_by a.touches c ≡ true → (y : Access) × IsIn y (accesses olds) × (y.cell ≡ c) × (y.writes ≡ true) × (y.place ≡ a.place)
+  old_write a i c h =
+      let w = write_found a.touches c h in
+      let e : is_access w.0 ≡ true = ap (λ (b : Bool). b || not (is_lines w.0.cell)) w.2 in
+      (access_at a.place w.0, accesses_in olds a (access_at a.place w.0) i (to_access a.place a.touches w.0 w.1 e), w.3, w.2, refl)
+
+  one_array : (p o : Partials) (x : List ℕ) → IsIn p ps → IsIn o ps → is_array_of p x ≡ true → is_array_of o x ≡ true → o ≡ p
+  one_array p o x i j own other = elim (arrays.distinct p o i j) [
+    | inl e ↦ e
+    | inr apart ↦ absurd (clash apart own)
+  ]
+    where
+      same : (y : List ℕ) → is_array_of o y ≡ false → is_same_text x y ≡ true → ⊥
+      same y none e = both_ways (is_array_of o y) none (ap (is_array_of o) (sym (same_is x y e)) ∙ other)
+
+      clash : AreDistinct p o → is_array_of p x ≡ true → ⊥
+      clash apart h = go (is_same_text x p.high) (is_same_text x p.low) (is_same_text x p.flag) refl refl refl h
+        where
+          go : (a b c : Bool) → is_same_text x p.high ≡ a → is_same_text x p.low ≡ b → is_same_text x p.flag ≡ c → (a || (b || c)) ≡ true → ⊥
+          go true b c e f g h = same p.high apart.high e
+          go false true c e f g h = same p.low apart.low f
+          go false false true e f g h = same p.flag apart.flag g
+          go false false false e f g h = absurd cc
+
+  part_is : (p : Partials) (x : List ℕ) (k : ℤ) → IsIn p ps → is_array_of p x ≡ true → is_part ps (part x k) ≡ true
+  part_is p x k i own = array_apart ps p x i own
+
+  -- the array of an element
+  abbrev array_of : Cell → List ℕ
+  array_of (Element x js) = x
+  array_of (Scalar x) = []
+  array_of (Private x path) = []
+  array_of In = []
+  array_of Out = []
+
+  module _ (x y : Access) (cells : x.cell ≡ y.cell) (writing : x.writes || y.writes ≡ true) (apart : are_apart x.place.turns y.place.turns ≡ true) (back : are_apart y.place.turns x.place.turns ≡ true) where
+    race_of : (c d : Access) → IsIn c (accesses olds) → IsIn d (accesses olds) → (f : From x) (g : From y) → c.place ≡ f.act.place → d.place ≡ g.act.place → c.cell ≡ d.cell → c.writes || d.writes ≡ true → OldRace olds
+    race_of c d i j f g p q e w = record {
+      one = c;
+      other = d;
+      one_in = i;
+      other_in = j;
+      cells = e;
+      writing = w;
+      apart = (λ z. are_apart (p z).turns (q z).turns) ∙ (λ z. are_apart (sym f.turns z) (sym g.turns z)) ∙ apart;
+    }
+
+    -- no old touch in such an iteration writes the cell of the DO's variable
+    told_written : (z w : Access) (f : From z) → IsTouched f.act.touches f.manner z.cell → z.cell ≡ told → z.writes ≡ true → are_apart z.place.turns w.place.turns ≡ true → ⊥
+    told_written z w f h e written far =
+        let calm = told_kept f.act f.found h.0 h.1 (h.2 ∙ e) (ap is_write h.3 ∙ sym f.is ∙ written) in
+        both_ways (are_apart z.place.turns w.place.turns) (calm_apart z.place.turns w.place.turns (subst IsCalm (sym f.turns) calm)) far
+
+    only_second : (a b : Bool) → a ≡ false → (a || b) ≡ true → b ≡ true
+    only_second false b e h = h
+    only_second true b e h = absurd cc
+
+    only_first : (a b : Bool) → b ≡ false → (a || b) ≡ true → a ≡ true
+    only_first true b e h = refl
+    only_first false true e h = absurd cc
+    only_first false false e h = absurd cc
+
+    reads_only : (m : Manner) → m ≡ is_told → is_write m ≡ false
+    reads_only m e = ap is_write e
+
+    abbrev Part : (z : Access) → From z → Type 0
+    Part z f = (p : Partials) × IsIn p ps × (a : List ℕ) × (is_array_of p a ≡ true) × (z.cell ≡ part a f.k) × (written_by f.act.touches (Scalar p.scalar) ≡ true)
+
+    old_part : (z : Access) (f : From z) (w : Access) (g : From w) → IsTouched f.act.touches f.manner z.cell → Part w g → z.cell ≡ w.cell → ⊥
+    old_part z f w g h q e =
+        both_ways (is_part ps h.0.cell) (no_part f.act f.found h.0 h.1) (ap (is_part ps) (h.2 ∙ e ∙ q.4) ∙ part_is q.0 q.2 g.k q.1 q.3)
+
+    told_part : (z : Access) (w : Access) (g : From w) → z.cell ≡ told → Part w g → z.cell ≡ w.cell → ⊥
+    told_part z w g e q s = both_ways (is_part ps told) told_no_part (ap (is_part ps) (sym e ∙ s ∙ q.4) ∙ part_is q.0 q.2 g.k q.1 q.3)
+
+    both : (f : From x) (g : From y) → OldRace olds
+    both f g = by f.origin g.origin
+      where
+        by : Origin ps f.k told f.act.touches f.manner x.cell → Origin ps g.k told g.act.touches g.manner y.cell → OldRace olds
+        by (inl h) (inl i) =
+            let c = old_access x f h in
+            let d = old_access y g i in
+            race_of c.0 d.0 c.1 d.1 f g c.4 d.4 (c.2 ∙ cells ∙ sym d.2) ((λ z. c.3 z || d.3 z) ∙ writing)
+        by (inl h) (inr (inl e)) = absurd (told_written x y f h (cells ∙ e.1) (only_first x.writes y.writes (g.is ∙ reads_only g.manner e.0) writing) apart)
+        by (inr (inl e)) (inl i) = absurd (told_written y x g i (sym cells ∙ e.1) (only_second x.writes y.writes (f.is ∙ reads_only f.manner e.0) writing) back)
+        by (inr (inl e)) (inr (inl d)) = absurd (both_ways y.writes (g.is ∙ reads_only g.manner d.0) (only_second x.writes y.writes (f.is ∙ reads_only f.manner e.0) writing))
+        by (inl h) (inr (inr q)) = absurd (old_part x f y g h q cells)
+        by (inr (inr q)) (inl i) = absurd (old_part y g x f i q (sym cells))
+        by (inr (inl e)) (inr (inr q)) = absurd (told_part x y g e.1 q cells)
+        by (inr (inr q)) (inr (inl e)) = absurd (told_part y x f e.1 q (sym cells))
+        by (inr (inr q)) (inr (inr r)) =
+            let array : q.2 ≡ r.2 = ap array_of (sym q.4 ∙ cells ∙ r.4) in
+            let one : r.0 ≡ q.0 = one_array q.0 r.0 q.2 q.1 r.1 q.3 (ap (is_array_of r.0) array ∙ r.3) in
+            let c = old_write f.act f.found (Scalar q.0.scalar) q.5 in
+            let d = old_write g.act g.found (Scalar r.0.scalar) r.5 in
+            race_of c.0 d.0 c.1 d.1 f g c.4 d.4 (c.2 ∙ ap (λ (p : Partials). Scalar p.scalar) (sym one) ∙ sym d.2) (ap (λ (b : Bool). b || d.0.writes) c.3)
+
+    -- two accesses of the new acts that race come from two of the old ones that do
+    pub inside_races : IsIn x (accesses news) → IsIn y (accesses news) → OldRace olds
+    inside_races i j = elim (from x i) [
+      | inl calm ↦ absurd (both_ways (are_apart x.place.turns y.place.turns) (calm_apart x.place.turns y.place.turns calm) apart)
+      | inr f ↦ elim (from y j) [
+        | inl calm ↦ absurd (both_ways (are_apart y.place.turns x.place.turns) (calm_apart y.place.turns x.place.turns calm) back)
+        | inr g ↦ both f g
+      ]
+    ]

@@ -92,18 +92,18 @@ module _ (ps : List Partials) (g : Names) (v : List ℕ) (k : ℤ) (told : Cell)
 
   module _ (arrays : HaveArrays ps) (p : Partials) (i : IsIn p ps) (sum : Sum) (lacks : sight.Lacks (λ c. is_apart ps c ≡ false) (is_either ps) (expr_names (operand sum))) where
     -- the parts before a sum, where the scalar holds y
-    record Before (o u : Store) (y : ℤ) : Type 0 where
-      x : ℤ
-      a : ℤ
-      b : ℤ
-      was : o (Scalar p.scalar) ≡ Number x
-      high_is : u (part p.high k) ≡ Number a
-      low_is : u (part p.low k) ≡ Number b
-      parts : AreParts x y a b
-      x_small : Is32 x
-      y_small : Is32 y
+    pub record Before (o u : Store) (y : ℤ) : Type 0 where
+      pub x : ℤ
+      pub a : ℤ
+      pub b : ℤ
+      pub was : o (Scalar p.scalar) ≡ Number x
+      pub high_is : u (part p.high k) ≡ Number a
+      pub low_is : u (part p.low k) ≡ Number b
+      pub parts : AreParts x y a b
+      pub x_small : Is32 x
+      pub y_small : Is32 y
 
-    before : (o w s u : Store) (y : ℤ) → AreSmall ps o → Within ps k o w s u → s (Scalar p.scalar) ≡ Number y → Before o u y
+    pub before : (o w s u : Store) (y : ℤ) → AreSmall ps o → Within ps k o w s u → s (Scalar p.scalar) ≡ Number y → Before o u y
     before o w s u y small within held = go (within.sums p i)
       where
         go : Adds (o (Scalar p.scalar)) (u (part p.high k)) (u (part p.low k)) (u (part p.flag k)) (s (Scalar p.scalar)) → Before o u y
@@ -129,22 +129,22 @@ module _ (ps : List Partials) (g : Names) (v : List ℕ) (k : ℤ) (told : Cell)
       abbrev Q : Manner → Cell → Type 0
       Q m c = Origin ps k told came.touches m c
 
-      tells : Q is_told told
+      pub tells : Q is_told told
       tells = inr (inl (refl, refl))
 
-      of_part : (x : List ℕ) → is_array_of p x ≡ true → (m : Manner) → Q m (part x k)
+      pub of_part : (x : List ℕ) → is_array_of p x ≡ true → (m : Manner) → Q m (part x k)
       of_part x own m = inr (inr (p, i, x, own, refl, came.writes_it))
 
       abbrev z : ℤ
       z = changed sum came.y came.m
 
-      start : Before o u came.y
+      pub start : Before o u came.y
       start = before o w s u came.y small within came.held
 
       abbrev n : ℤ
       n = changed sum start.b came.m
 
-      new : AreNewParts start.x z start.a n
+      pub new : AreNewParts start.x z start.a n
       new = split_sum start.x came.y z start.a start.b n start.x_small start.y_small (storable_32 z came.stored) start.parts (same_change sum start.b came.m came.y)
 
       abbrev high : ℤ
@@ -163,7 +163,7 @@ module _ (ps : List Partials) (g : Names) (v : List ℕ) (k : ℤ) (told : Cell)
       behind_sum = put (part p.flag k) (Number (pos 1)) u2
 
       -- a part that holds a number
-      good_part : (x : List ℕ) (own : is_array_of p x ≡ true) (m : ℤ) (e : Store) → e (part x k) ≡ Number m → Good Q (value g (at x v) e) m
+      pub good_part : (x : List ℕ) (own : is_array_of p x ≡ true) (m : ℤ) (e : Store) → e (part x k) ≡ Number m → Good Q (value g (at x v) e) m
       good_part x own m e holds =
           let is = element_comes ps g v k told stands p i x own e in
           record {
@@ -172,7 +172,7 @@ module _ (ps : List Partials) (g : Names) (v : List ℕ) (k : ℤ) (told : Cell)
           }
 
       -- the operand, and the low part with it
-      good_operand : (e : Store) → ((c : Cell) → is_apart ps c ≡ false → e c ≡ s c) → Good Q (value g (operand sum) e) came.m
+      pub good_operand : (e : Store) → ((c : Cell) → is_apart ps c ≡ false → e c ≡ s c) → Good Q (value g (operand sum) e) came.m
       good_operand e same =
           let is = same_value (operand sum) s e lacks same in
           record {
@@ -180,36 +180,36 @@ module _ (ps : List Partials) (g : Names) (v : List ℕ) (k : ℤ) (told : Cell)
             by = subst (AllSeenBy Q) (sym (ap (λ (y : Evaluated ℤ). y.seen) is)) (seen_map (IsTouched came.touches) Q (λ m c h. inl h) (value g (operand sum) s).seen came.sees);
           }
 
-      good_sum : (e : Store) → ((c : Cell) → is_apart ps c ≡ false → e c ≡ s c) → e (part p.low k) ≡ Number start.b → Good Q (value g (with_sum (at p.low v) sum) e) n
+      pub good_sum : (e : Store) → ((c : Cell) → is_apart ps c ≡ false → e c ≡ s c) → e (part p.low k) ≡ Number start.b → Good Q (value g (with_sum (at p.low v) sum) e) n
       good_sum e same holds =
           subst (λ (y : Evaluated ℤ). Good Q y n) (sym (with_is g (at p.low v) sum e))
           (good_two Q (λ a b. in_range (changed sum a b)) (value g (at p.low v) e) (value g (operand sum) e) start.b came.m n (good_part p.low (low_array p) start.b e holds) (good_operand e same) (ap by_number new.sum))
 
-      good_int : (m : ℕ) (e : Store) → Good Q (value g (Int m) e) (pos m)
+      pub good_int : (m : ℕ) (e : Store) → Good Q (value g (Int m) e) (pos m)
       good_int m e = record { result = refl; by = tt }
 
-      good_high : Good Q (value g high_right u) high
+      pub good_high : Good Q (value g high_right u) high
       good_high =
           good_two Q sum_of (value g (at p.high v) u) (value g (Div (with_sum (at p.low v) sum) (Int 65536)) u) start.a (int_div n (pos 65536)) high (good_part p.high (high_array p) start.a u start.high_is)
           (good_two Q quotient_of (value g (with_sum (at p.low v) sum) u) (value g (Int 65536) u) n (pos 65536) (int_div n (pos 65536)) (good_sum u within.same start.low_is) (good_int 65536 u) (ap by_number new.quotient)) (ap by_number new.high)
 
       -- cells outside are as they were, and so is the low part
-      apart_part : (x : List ℕ) → is_array_of p x ≡ true → is_apart ps (part x k) ≡ true
+      pub apart_part : (x : List ℕ) → is_array_of p x ≡ true → is_apart ps (part x k) ≡ true
       apart_part x own = array_apart ps p x i own
 
-      outside : (x : List ℕ) → is_array_of p x ≡ true → (y : Content) (e : Store) (c : Cell) → is_apart ps c ≡ false → put (part x k) y e c ≡ e c
+      pub outside : (x : List ℕ) → is_array_of p x ≡ true → (y : Content) (e : Store) (c : Cell) → is_apart ps c ≡ false → put (part x k) y e c ≡ e c
       outside x own y e c h = put_other (part x k) y e c (other_cell (part x k) c (λ q. both_ways (is_apart ps c) h (ap (is_apart ps) (sym q) ∙ apart_part x own)))
 
-      same1 : (c : Cell) → is_apart ps c ≡ false → u1 c ≡ s c
+      pub same1 : (c : Cell) → is_apart ps c ≡ false → u1 c ≡ s c
       same1 c h = outside p.high (high_array p) (Number high) u c h ∙ within.same c h
 
-      apart3 : AreThree p
+      pub apart3 : AreThree p
       apart3 = arrays.three p i
 
-      low1 : u1 (part p.low k) ≡ Number start.b
+      pub low1 : u1 (part p.low k) ≡ Number start.b
       low1 = put_other (part p.high k) (Number high) u (part p.low k) (other_part p.high p.low k apart3.high_low) ∙ start.low_is
 
-      good_low : Good Q (value g low_right u1) low
+      pub good_low : Good Q (value g low_right u1) low
       good_low =
           let sum_low = good_sum u1 same1 low1 in
           let e = value g (with_sum (at p.low v) sum) u1 in
@@ -222,13 +222,13 @@ module _ (ps : List Partials) (g : Names) (v : List ℕ) (k : ℤ) (told : Cell)
           }
 
       module _ (first second third : Place) where
-        run1 : RunOfPart ps g v k told stands p i p.high (high_array p) u Q tells (of_part p.high (high_array p)) (run_assignment g first (at p.high v) high_right u) high first
+        pub run1 : RunOfPart ps g v k told stands p i p.high (high_array p) u Q tells (of_part p.high (high_array p)) (run_assignment g first (at p.high v) high_right u) high first
         run1 = part_runs ps g v k told stands p i p.high (high_array p) u Q tells (of_part p.high (high_array p)) high_right high first good_high.result good_high.by new.high_stored
 
-        run2 : RunOfPart ps g v k told stands p i p.low (low_array p) u1 Q tells (of_part p.low (low_array p)) (run_assignment g second (at p.low v) low_right u1) low second
+        pub run2 : RunOfPart ps g v k told stands p i p.low (low_array p) u1 Q tells (of_part p.low (low_array p)) (run_assignment g second (at p.low v) low_right u1) low second
         run2 = part_runs ps g v k told stands p i p.low (low_array p) u1 Q tells (of_part p.low (low_array p)) low_right low second good_low.result good_low.by new.low_stored
 
-        run3 : RunOfPart ps g v k told stands p i p.flag (flag_array p) u2 Q tells (of_part p.flag (flag_array p)) (run_assignment g third (at p.flag v) (Int 1) u2) (pos 1) third
+        pub run3 : RunOfPart ps g v k told stands p i p.flag (flag_array p) u2 Q tells (of_part p.flag (flag_array p)) (run_assignment g third (at p.flag v) (Int 1) u2) (pos 1) third
         run3 = part_runs ps g v k told stands p i p.flag (flag_array p) u2 Q tells (of_part p.flag (flag_array p)) (Int 1) (pos 1) third refl tt refl
 
         pub three_go : three first second third u ≡ record { acts = act did first run1.touched ∷ (act did second run2.touched ∷ (act did third run3.touched ∷ [])); ending = going behind_sum }

@@ -24,15 +24,14 @@ use Rattle.ped_reduce.proofs.SumWhole.{is_part}
 pub calm_apart : (ts us : List Turn) → IsCalm ts → are_apart ts us ≡ false
 calm_apart [] us h = refl
 calm_apart (t ∷ ts) [] h = refl
-calm_apart (t ∷ ts) (u ∷ us) h = go (t.statement == u.statement) (t.number == u.number)
+calm_apart (t ∷ ts) (u ∷ us) h =
+    let parts = or_parts t.parallel (list_any (λ (x : Turn). x.parallel) ts) h in
+    go (t.statement == u.statement) (t.number == u.number) parts.0 (calm_apart ts us parts.1)
   where
-    parts : (t.parallel ≡ false) × IsCalm ts
-    parts = or_parts t.parallel (list_any (λ (x : Turn). x.parallel) ts) h
-
-    go : (a b : Bool) → (a && (if b then are_apart ts us else t.parallel)) ≡ false
-    go false b = refl
-    go true true = calm_apart ts us parts.1
-    go true false = parts.0
+    go : (a b : Bool) → t.parallel ≡ false → are_apart ts us ≡ false → (a && (if b then are_apart ts us else t.parallel)) ≡ false
+    go false b serial rest = refl
+    go true true serial rest = rest
+    go true false serial rest = serial
 
 -- a touch as an access
 abbrev pub access_at : Place → Touch → Access
@@ -41,23 +40,23 @@ access_at place t = record { cell = t.cell; writes = is_write t.manner; place = 
 -- the touch of an access
 pub from_touch : (place : Place) (ts : List Touch) (x : Access) → IsIn x (map (access_at place) (filter is_access ts)) → (t : Touch) × IsIn t ts × (is_access t ≡ true) × (x ≡ access_at place t)
 from_touch place [] x i = absurd i
-from_touch place (t ∷ ts) x i = go (is_access t) refl i
+from_touch place (t ∷ ts) x i = go (is_access t) refl i (from_touch place ts x)
   where
-    go : (b : Bool) → is_access t ≡ b → IsIn x (map (access_at place) (if b then t ∷ filter is_access ts else filter is_access ts)) → (u : Touch) × IsIn u (t ∷ ts) × (is_access u ≡ true) × (x ≡ access_at place u)
-    go true e (inl q) = (t, inl refl, e, q)
-    go true e (inr j) = let r = from_touch place ts x j in (r.0, inr r.1, r.2, r.3)
-    go false e j = let r = from_touch place ts x j in (r.0, inr r.1, r.2, r.3)
+    go : (b : Bool) → is_access t ≡ b → IsIn x (map (access_at place) (if b then t ∷ filter is_access ts else filter is_access ts)) → (IsIn x (map (access_at place) (filter is_access ts)) → (u : Touch) × IsIn u ts × (is_access u ≡ true) × (x ≡ access_at place u)) → (u : Touch) × IsIn u (t ∷ ts) × (is_access u ≡ true) × (x ≡ access_at place u)
+    go true e (inl q) rest = (t, inl refl, e, q)
+    go true e (inr j) rest = let r = rest j in (r.0, inr r.1, r.2, r.3)
+    go false e j rest = let r = rest j in (r.0, inr r.1, r.2, r.3)
 
 -- and the access of a touch
 pub to_access : (place : Place) (ts : List Touch) (t : Touch) → IsIn t ts → is_access t ≡ true → IsIn (access_at place t) (map (access_at place) (filter is_access ts))
 to_access place [] t i h = absurd i
-to_access place (u ∷ ts) t i h = go (is_access u) refl i
+to_access place (u ∷ ts) t i h = go (is_access u) refl i (λ j. to_access place ts t j h)
   where
-    go : (b : Bool) → is_access u ≡ b → IsIn t (u ∷ ts) → IsIn (access_at place t) (map (access_at place) (if b then u ∷ filter is_access ts else filter is_access ts))
-    go true e (inl q) = inl (ap (access_at place) q)
-    go true e (inr j) = inr (to_access place ts t j h)
-    go false e (inl q) = absurd (both_ways (is_access u) e (ap is_access (sym q) ∙ h))
-    go false e (inr j) = to_access place ts t j h
+    go : (b : Bool) → is_access u ≡ b → IsIn t (u ∷ ts) → (IsIn t ts → IsIn (access_at place t) (map (access_at place) (filter is_access ts))) → IsIn (access_at place t) (map (access_at place) (if b then u ∷ filter is_access ts else filter is_access ts))
+    go true e (inl q) rest = inl (ap (access_at place) q)
+    go true e (inr j) rest = inr (rest j)
+    go false e (inl q) rest = absurd (both_ways (is_access u) e (ap is_access (sym q) ∙ h))
+    go false e (inr j) rest = rest j
 
 -- two accesses of the old acts that race
 pub record OldRace (olds : List Act) : Type 0 where
@@ -72,11 +71,11 @@ pub record OldRace (olds : List Act) : Type 0 where
 -- one of the touches writes the cell
 write_found : (ts : List Touch) (c : Cell) → written_by ts c ≡ true → (t : Touch) × IsIn t ts × (is_write t.manner ≡ true) × (t.cell ≡ c)
 write_found [] c h = absurd cc
-write_found (t ∷ ts) c h = go (writes_to t c) refl h
+write_found (t ∷ ts) c h = go (writes_to t c) refl h (write_found ts c)
   where
-    go : (b : Bool) → writes_to t c ≡ b → (b || written_by ts c) ≡ true → (u : Touch) × IsIn u (t ∷ ts) × (is_write u.manner ≡ true) × (u.cell ≡ c)
-    go true e k = let parts = and_parts (is_write t.manner) (same_cell t.cell c) e in (t, inl refl, parts.0, cell_is t.cell c parts.1)
-    go false e k = let r = write_found ts c k in (r.0, inr r.1, r.2, r.3)
+    go : (b : Bool) → writes_to t c ≡ b → (b || written_by ts c) ≡ true → (written_by ts c ≡ true → (u : Touch) × IsIn u ts × (is_write u.manner ≡ true) × (u.cell ≡ c)) → (u : Touch) × IsIn u (t ∷ ts) × (is_write u.manner ≡ true) × (u.cell ≡ c)
+    go true e k rest = let parts = and_parts (is_write t.manner) (same_cell t.cell c) e in (t, inl refl, parts.0, cell_is t.cell c parts.1)
+    go false e k rest = let r = rest k in (r.0, inr r.1, r.2, r.3)
 
 module _ (ps : List Partials) (arrays : HaveArrays ps) (told : Cell) (told_no_part : is_part ps told ≡ false) (olds news : List Act) (come : AreNew ps told olds news)
     (no_part : (a : Act) → IsIn a olds → (t : Touch) → IsIn t a.touches → is_part ps t.cell ≡ false)

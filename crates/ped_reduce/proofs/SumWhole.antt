@@ -136,11 +136,11 @@ values_differ step i j moves less e =
 -- a scalar's cell is none of these, where the scalar is none of them
 cell_others : (ps : List Partials) (scope : Scope) (x : List ℕ) → is_total ps x ≡ false → is_apart ps (cell_of scope x) ≡ false
 cell_others ps [] x h = h
-cell_others ps (f ∷ fs) x h = go (is_among x f.private)
+cell_others ps (f ∷ fs) x h = go (is_among x f.private) (cell_others ps fs x h)
   where
-    go : (b : Bool) → is_apart ps (if b then Private x (iterations_of (turns_of (f ∷ fs))) else cell_of fs x) ≡ false
-    go true = refl
-    go false = cell_others ps fs x h
+    go : (b : Bool) → is_apart ps (cell_of fs x) ≡ false → is_apart ps (if b then Private x (iterations_of (turns_of (f ∷ fs))) else cell_of fs x) ≡ false
+    go true rest = refl
+    go false rest = rest
 
 -- no PARALLEL DO further inside
 calm_more : (scope : Scope) (f : Frame) → IsCalm (turns_of scope) → f.turn.parallel ≡ false → IsCalm (turns_of (f ∷ scope))

@@ -30,4 +30,5 @@ pub mod SumRaces
 pub mod SumSmall
 pub mod SumPlaces
 pub mod SumUntouched
+pub mod SumNumbers
 pub mod SumGoals

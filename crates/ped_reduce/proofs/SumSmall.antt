@@ -1,4 +1,4 @@
--- What a run does to the scalars and to the variable of a DO whose sums are kept apart: the scalars hold small numbers, and in the DO's iterations nothing writes its variable.
+-- Scalars that are the variables of no DO hold small numbers wherever a run has come to.
 use Rattle.std.proofs.Common.{◌≡◌, ℕ, zero, suc, ◌+◌, ℤ, List, [], ◌∷◌, ◌++◌, Bool, true, false, Result, Ok, Err, inl, inr, refl, sym, ap, subst, ◌∙◌}
 use Rattle.std.proofs.lemmas.Bool.{both_ways}
 use Rattle.ped_base.specs.Lists.{is_among}
@@ -38,47 +38,3 @@ small_there ps p ts n scope start front rest no_loop whole begins o i x held =
     let parted = subst (WriteSmall c) (ap touches_of whole ∙ touches_append front rest) all in
     let small = small_after c front start (small_front c (touches_of front) (touches_of rest) parted) (begins o i) in
     storable_32 x (ap is_small (sym held) ∙ small)
-
-module _ (p : Setting) (v : List ℕ) (body : StmtTrees) (none : is_among v (assigned_in_all body) ≡ false) (n : ℕ) (scope : Scope) (outer : IsCalm (turns_of scope)) (told : Cell) (named : is_cell_of v told ≡ true) where
-  -- an act that writes the variable's cell stands in no PARALLEL DO
-  abbrev pub KeepsTold : Act → Type 0
-  KeepsTold a = (t : Touch) → IsIn t a.touches → t.cell ≡ told → is_write t.manner ≡ true → IsCalm a.place.turns
-
-  calm_act : (step : Step) (touches : List Touch) → KeepsTold (record { step = step; place = place_of p n scope; touches = touches })
-  calm_act step touches t i e w = outer
-
-  body_keeps : (f : Frame) (s : Store) → Each KeepsTold (run_all p body (n + 1) (f ∷ scope) s).acts
-  body_keeps f s a i t j e w =
-      let acts = (run_all p body (n + 1) (f ∷ scope) s).acts in
-      absurd (both_ways (written acts told) (all_unassigned p v body (n + 1) (f ∷ scope) s told none named) (ap (written acts) (sym e) ∙ write_there acts a t i j w))
-
-  module _ (e : Entered) where
-    abbrev turns_body : Frame → Store → Run
-    turns_body f = run_all p body (n + 1) (f ∷ scope)
-
-    turns_keep : (left k : ℕ) (s : Store) → Each KeepsTold (turns left k e scope (place_of p n scope) turns_body s).acts
-    turns_keep zero k s = each_none KeepsTold
-    turns_keep (suc left) k s =
-        then_each KeepsTold (turns_body (frame e k) s) (does (ended_turn left) (place_of p n scope) (exit_when_none left e scope) (turns left (k + 1) e scope (place_of p n scope) turns_body)) (body_keeps (frame e k) s)
-        (λ u. does_each KeepsTold (ended_turn left) (place_of p n scope) (exit_when_none left e scope) (turns left (k + 1) e scope (place_of p n scope) turns_body) u (calm_act (ended_turn left) (exit_when_none left e scope)) (turns_keep left (k + 1)))
-
-    parallel_keep : (left k : ℕ) (s : Store) → Each KeepsTold (parallel_turns left k e turns_body s).acts
-    parallel_keep zero k s = each_none KeepsTold
-    parallel_keep (suc left) k s = then_each KeepsTold (turns_body (frame e k) s) (parallel_turns left (k + 1) e turns_body) (body_keeps (frame e k) s) (parallel_keep left (k + 1))
-
-    entered_keep : (b : Bool) (count : ℕ) (s : Store) → Each KeepsTold (run_entered b count e scope (place_of p n scope) turns_body s).acts
-    entered_keep b zero s = each_none KeepsTold
-    entered_keep false (suc count) s = turns_keep (suc count) 1 s
-    entered_keep true (suc count) s =
-        then_each KeepsTold (parallel_turns (suc count) 1 e turns_body s) (does closed (place_of p n scope) (exit_touches e scope) nothing_done) (parallel_keep (suc count) 1 s)
-        (λ u. does_each KeepsTold closed (place_of p n scope) (exit_touches e scope) nothing_done u (calm_act closed (exit_touches e scope)) (λ z. each_none KeepsTold))
-
-  -- of the DO's acts only those of itself write its variable's cell
-  pub told_kept : (h : Head) (s : Store) → Each KeepsTold (run p (Do h body) n scope s).acts
-  told_kept h s =
-      let l = limits (names_in p scope) h s in
-      on_each KeepsTold (λ (x : Limits). Unit {0}) (place_of p n scope) l.seen l.result _ (any_result l.result) (calm_act faulted (numbered 1 l.seen))
-      (λ x o.
-      let e = entered_with p n h body l.seen x in
-      does_each KeepsTold (entered e.count) (place_of p n scope) (entry_touches l.seen e scope) (run_entered h.parallel e.count e scope (place_of p n scope) (λ f. run_all p body (n + 1) (f ∷ scope))) s
-      (calm_act (entered e.count) (entry_touches l.seen e scope)) (entered_keep e h.parallel e.count))

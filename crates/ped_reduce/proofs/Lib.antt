@@ -31,4 +31,5 @@ pub mod SumSmall
 pub mod SumPlaces
 pub mod SumUntouched
 pub mod SumNumbers
+pub mod SumKeeps
 pub mod SumGoals

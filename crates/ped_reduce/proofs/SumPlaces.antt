@@ -1,8 +1,12 @@
 -- At a place of a DO of a valid program: the scalars to which sums are added are read from their own cells, no PARALLEL DO is round it, and its variable is in none of its lists.
-use Rattle.std.proofs.Common.{◌≡◌, ℕ, List, [], ◌∷◌, ◌++◌, Bool, true, false, None, ◌&&◌, ◌||◌, refl, sym, ap, ◌∙◌}
+use Rattle.std.proofs.Common.{◌≡◌, ℕ, List, [], ◌∷◌, ◌++◌, Bool, true, false, ℤ, pos, Option, Some, None, arith, ◌&&◌, ◌||◌, refl, sym, ap, ◌∙◌}
 use Rattle.std.specs.Prelude.{not, nat_le, length}
 use Rattle.std.specs.List.{list_any, list_all}
 use Rattle.std.proofs.lemmas.Bool.{and_parts, both_ways, or_parts}
+use Rattle.std.specs.Option.{unwrap_or}
+use Rattle.std.proofs.lemmas.Int.{ints}
+use Rattle.ped_tree.specs.Constants.ConstantExpressions.{constant_value}
+use Rattle.ped_splits.specs.ped_reindex.specs.ped_loops.specs.ped_scalar.specs.ped_rules.specs.ped_loop_runs.specs.ped_bodies.specs.ped_steps.specs.ped_laws.specs.ped_eval.specs.Loops.{increment}
 use Rattle.std.proofs.lemmas.List.Folds.{list_any-append}
 use Rattle.ped_base.specs.Lists.{is_same_text, is_among, has_some}
 use Rattle.ped_base.proofs.NameEquality.{same_is, same_itself}
@@ -29,7 +33,7 @@ use Rattle.ped_splits.specs.ped_reindex.specs.ped_loops.specs.ped_scalar.specs.p
 use Rattle.ped_splits.specs.ped_reindex.specs.ped_loops.specs.ped_scalar.specs.ped_rules.specs.ped_loop_runs.specs.ped_bodies.specs.ped_steps.specs.ped_laws.specs.ped_eval.specs.Scopes.{Setting, Scope, turns_of, cell_of, index_value}
 use Rattle.ped_splits.specs.ped_reindex.specs.ped_loops.specs.ped_scalar.specs.ped_rules.specs.ped_loop_runs.specs.ped_bodies.specs.ped_steps.proofs.RunLaws.ExpandedPlaces.{untold_at}
 use Rattle.ped_splits.specs.ped_reindex.specs.ped_loops.specs.ped_scalar.specs.ped_rules.specs.ped_loop_runs.specs.ped_bodies.specs.ped_steps.proofs.RunLaws.ExpandedPlacesParts.{IsPart, part_at}
-use Rattle.ped_splits.specs.ped_reindex.specs.ped_loops.specs.ped_scalar.specs.ped_rules.specs.ped_loop_runs.specs.ped_bodies.specs.ped_steps.proofs.RunLaws.ExpandedPlacesStand.{variable_scalar, variable_outside}
+use Rattle.ped_splits.specs.ped_reindex.specs.ped_loops.specs.ped_scalar.specs.ped_rules.specs.ped_loop_runs.specs.ped_bodies.specs.ped_steps.proofs.RunLaws.ExpandedPlacesStand.{variable_scalar, step_not_zero}
 use Rattle.ped_splits.specs.ped_reindex.specs.ped_loops.specs.ped_scalar.specs.ped_rules.specs.ped_loop_runs.specs.ped_bodies.specs.ped_steps.proofs.RunLaws.OwnCells.{own_cell}
 use Rattle.ped_splits.specs.ped_reindex.specs.ped_loops.specs.ped_scalar.specs.ped_rules.specs.ped_loop_runs.specs.ped_bodies.specs.ped_steps.proofs.RunLaws.PrivatisedPrograms.{scalar_unvalued}
 use Rattle.ped_reduce.proofs.SumTrips.{IsCalm}
@@ -84,6 +88,17 @@ module _ (t : ProgramTree) (valid : IsValid t) (l : ℕ) (loop : LoopOf t l) whe
 
   pub plain : value_named (at_last t).values h.variable ≡ None
   plain = scalar_unvalued t h.variable (variable_scalar t valid l loop)
+
+  -- its increment isn't 0
+  pub moves : increment (at_last t).values h ≡ pos 0 → ⊥
+  moves = by (constant_value (at_last t).values h.step) refl
+    where
+      one_some : pos 1 ≡ pos 0 → ⊥
+      one_some e = omega (arith, ints, e)
+
+      by : (o : Option ℤ) → constant_value (at_last t).values h.step ≡ o → unwrap_or o (pos 1) ≡ pos 0 → ⊥
+      by None q e = one_some e
+      by (Some m) q e = step_not_zero t valid l loop m q e
 
   -- a scalar that is no DO's variable near the DO and private nowhere near, where no PARALLEL DO is round it
   module _ (x : List ℕ) (scalar : is_scalar (kind_in t) x ≡ true) (round : is_among x (indices_of (nest_round t l)) ≡ false) (near : is_among x (loop_variables (Do h loop.body)) ≡ false) (shared : is_among x (private_names_in (Do h loop.body)) ≡ false)

@@ -13,7 +13,7 @@ use Rattle.ped_splits.specs.ped_reindex.specs.ped_loops.specs.ped_scalar.specs.p
 use Rattle.ped_splits.specs.ped_reindex.specs.ped_loops.specs.ped_scalar.specs.ped_rules.specs.ped_loop_runs.specs.ped_bodies.specs.ped_steps.specs.ped_laws.specs.Acts.Sets.{AgreeIn, needs, written, wants}
 use Rattle.ped_splits.specs.ped_reindex.specs.ped_loops.specs.ped_scalar.specs.ped_rules.specs.ped_loop_runs.specs.ped_bodies.specs.ped_steps.specs.ped_laws.specs.Acts.Pieces.{StandsFor}
 use Rattle.ped_splits.specs.ped_reindex.specs.ped_loops.specs.ped_scalar.specs.ped_rules.specs.ped_loop_runs.specs.ped_bodies.specs.ped_steps.specs.ped_laws.proofs.ActLaws.Renamings.{agreeing_fits, agreeing_leaves}
-use Rattle.ped_splits.specs.ped_reindex.specs.ped_loops.specs.ped_scalar.specs.ped_rules.specs.ped_loop_runs.specs.ped_bodies.specs.ped_steps.specs.ped_laws.specs.ped_eval.specs.Scopes.{Setting, Scope}
+use Rattle.ped_splits.specs.ped_reindex.specs.ped_loops.specs.ped_scalar.specs.ped_rules.specs.ped_loop_runs.specs.ped_bodies.specs.ped_steps.specs.ped_laws.specs.ped_eval.specs.Scopes.{Setting, Scope, cell_of}
 use Rattle.ped_splits.specs.ped_reindex.specs.ped_loops.specs.ped_scalar.specs.ped_rules.specs.ped_loop_runs.specs.ped_bodies.specs.ped_steps.specs.ped_laws.specs.ped_eval.specs.Runs.{Ending, going, stopped, failed, Run, run, run_all}
 use Rattle.ped_splits.specs.ped_reindex.specs.ped_loops.specs.ped_scalar.specs.ped_rules.specs.ped_loop_runs.specs.ped_bodies.specs.ped_steps.specs.ped_laws.specs.Runs.Replaying.{Finish, goes_on, stops, faults, finish_of, ending_with, has_fault, Replays}
 use Rattle.ped_splits.specs.ped_reindex.specs.ped_loops.specs.ped_scalar.specs.ped_rules.specs.ped_loop_runs.specs.ped_bodies.specs.ped_steps.specs.ped_laws.proofs.RunLaws.Defined.{numbers_needed}
@@ -22,6 +22,7 @@ use Rattle.ped_splits.specs.ped_reindex.specs.ped_loops.specs.ped_scalar.specs.p
 use Rattle.ped_reduce.specs.Lowering.{Partials}
 use Rattle.ped_reduce.proofs.SumStores.{AreSmall, HaveArrays}
 use Rattle.ped_reduce.proofs.SumBodies.{then_nothing}
+use Rattle.ped_reduce.proofs.SumTrips.{AreNew}
 use Rattle.ped_reduce.proofs.SumExits.{AllDistinct}
 use Rattle.ped_reduce.proofs.SumWhole.{is_part, lowered, IsSummable, WholeGoes, whole_goes}
 
@@ -79,6 +80,10 @@ module _ (bounds : List ℕ → Dimensions) (constants : List (List ℕ × ℤ))
     -- from each store that these acts fit the new statements do them
     pub replayed : Replays (run_all new others m scope) new_run.acts goes_on
     replayed = subst (Replays (run_all new others m scope) new_run.acts) new_goes ((all_told new others m scope).replays s)
+
+    -- their acts come from the old ones, or are done in no PARALLEL DO
+    pub its_acts : AreNew ps (cell_of scope h.variable) old_run.acts new_run.acts
+    its_acts = subst (λ (z : Run). AreNew ps (cell_of scope h.variable) z.acts new_run.acts) (sym alone_is) whole.acts
 
     -- what they leave
     new_leaves : store_after new_run.acts s ≡ whole.behind

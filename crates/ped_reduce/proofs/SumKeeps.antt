@@ -46,7 +46,7 @@ use Rattle.ped_splits.specs.ped_reindex.specs.ped_loops.specs.ped_scalar.specs.p
 use Rattle.ped_splits.specs.ped_reindex.specs.ped_loops.specs.ped_scalar.specs.ped_rules.specs.ped_loop_runs.specs.ped_bodies.specs.ped_steps.specs.ped_laws.specs.ped_store.specs.Cells as cells
 use Rattle.ped_splits.specs.ped_reindex.specs.ped_loops.specs.ped_scalar.specs.ped_rules.specs.ped_loop_runs.specs.ped_bodies.specs.ped_steps.specs.ped_laws.proofs.FlowRunLaws.Names.{sorted_among}
 use Rattle.ped_splits.specs.ped_reindex.specs.ped_loops.specs.ped_scalar.specs.ped_rules.specs.ped_loop_runs.specs.ped_bodies.specs.ped_steps.specs.ped_laws.proofs.FlowRunLaws.Stopping.{fitting_stops, loop_stops}
-use $T.proofs.RunLaws.OwnBounds.{agree_left, agree_right, with_bounds, all_bounds}
+use Rattle.ped_splits.specs.ped_reindex.specs.ped_loops.specs.ped_scalar.specs.ped_rules.specs.ped_loop_runs.specs.ped_bodies.specs.ped_steps.proofs.RunLaws.OwnBounds.{agree_left, agree_right, with_bounds, all_bounds}
 use Rattle.ped_splits.specs.ped_reindex.specs.ped_loops.specs.ped_scalar.specs.ped_rules.specs.ped_loop_runs.specs.ped_bodies.specs.ped_steps.specs.ped_weaves.proofs.WeaveLaws.RaceSources.{pairs_free}
 use Rattle.ped_splits.specs.ped_reindex.specs.ped_loops.specs.ped_scalar.specs.ped_rules.specs.ped_loop_runs.specs.Executions.{IsExecuted}
 use Rattle.ped_splits.specs.ped_reindex.specs.ped_loops.specs.ped_scalar.specs.ped_rules.specs.ped_loop_runs.specs.Meaning.{IsExchange, RaceFreeInstead}
@@ -63,7 +63,6 @@ use Rattle.ped_splits.specs.ped_reindex.specs.ped_loops.specs.ped_scalar.specs.p
 use Rattle.ped_reduce.specs.Lists.{listed_name, unless_named, without_list}
 use Rattle.ped_reduce.specs.Lowering.{Partials, zeros, all_summed, exits, bare, lowered_loop}
 use Rattle.ped_reduce.proofs.AlikeRuns.{do_alike}
-use Rattle.ped_reduce.proofs.LoweredCounts.{without_count}
 use Rattle.ped_reduce.proofs.SumStores.{is_array_of, is_array, AreSmall, HaveArrays, array_apart}
 use Rattle.ped_reduce.proofs.SumBodies.{AreClear}
 use Rattle.ped_reduce.proofs.SumTrips.{IsCalm, AreNew}
@@ -159,6 +158,20 @@ without_variables (more_stmts (Print items) rest) = refl
 without_variables (more_stmts (Read items) rest) = refl
 without_variables (more_stmts Stop rest) = refl
 
+unless_count : (o : Option (List ℕ)) (text : List ℕ) (rest : StmtTrees) → statements_count (without_list rest) ≡ statements_count rest → statements_count (unless_named o (more_stmts (Comment text) rest) (without_list rest)) ≡ statements_count (more_stmts (Comment text) rest)
+unless_count None text rest e = refl
+unless_count (Some y) text rest e = omega (arith, e)
+
+same_counts : (ts : StmtTrees) → statements_count (without_list ts) ≡ statements_count ts
+same_counts no_stmts = refl
+same_counts (more_stmts (Comment text) rest) = unless_count (listed_name text) text rest (same_counts rest)
+same_counts (more_stmts (Assign left right) rest) = refl
+same_counts (more_stmts (If c x y) rest) = refl
+same_counts (more_stmts (Do g x) rest) = refl
+same_counts (more_stmts (Print items) rest) = refl
+same_counts (more_stmts (Read items) rest) = refl
+same_counts (more_stmts Stop rest) = refl
+
 -- changed parts of a run whose acts stem from the old ones
 sprung_parts : (ps : List Partials) (By : List Act → List Act → Store → List Act → List Act → Type 0) → ((front behind : List Act) (u : Store) (old new : List Act) → By front behind u old new → AreSprung ps old new)
     → (front : List Act) (parts : List Part) (behind : List Act) (u : Store) → AreChangedBy By front parts behind u → AreSprung ps (old_parts parts) (new_parts parts)
@@ -193,7 +206,7 @@ module _ (t u : ProgramTree) (s : ℕ) (loop : LoopOf t s) (ps : List Partials) 
   number_is = subst (λ (n : ℕ). 0 < n) way.number (number_some way.gap 1 (omega arith))
 
   same_count : statements_count body ≡ statements_count loop.body
-  same_count = without_count loop.body
+  same_count = same_counts loop.body
 
   -- numbers
   abbrev inside : List (ℕ × ℕ)

@@ -1,4 +1,4 @@
--- What is still to be shown of a DO whose sums are kept apart, in order, in a program: each statement by itself. Nothing is proved here.
+-- What is still to be shown of a DO whose sums are kept apart, in order: each statement by itself. Nothing is proved here; that such a program means the same is proved in SumKeeps.
 use Rattle.std.proofs.Common.{◌≡◌, ℕ, ◌+◌, ◌<◌, ◌≤◌, ℤ, List, ◌++◌, Bool, true, false, Some, refl}
 use Rattle.std.specs.Str.Lines.{lines}
 use Rattle.ped_base.specs.Lists.{is_among}
@@ -34,10 +34,10 @@ use Rattle.ped_splits.specs.ped_reindex.specs.ped_loops.specs.ped_scalar.specs.E
 use Rattle.ped_reduce.specs.Lists.{list_of, without_list}
 use Rattle.ped_reduce.specs.Lowering.{Partials, declarations, lowered_loop, Lowered, lowered_at}
 use Rattle.ped_reduce.specs.Reducing.{IsLive}
-use Rattle.ped_reduce.proofs.SumStores.{is_array_of, AreSmall, HaveArrays}
+use Rattle.ped_reduce.proofs.SumStores.{is_array_of, HaveArrays}
 use Rattle.ped_reduce.proofs.SumBodies.{AreClear}
 use Rattle.ped_reduce.proofs.SumExits.{AllDistinct}
-use Rattle.ped_reduce.proofs.SumWhole.{is_part, IsSummable}
+use Rattle.ped_reduce.proofs.SumKeeps.{IsKeptApart}
 
 -- the program in which the sums of a DO are kept apart, in a PARALLEL DO or in order
 abbrev pub kept_apart : Bool → ProgramTree → (s : ℕ) → List Partials → Span → ProgramTree
@@ -61,42 +61,21 @@ pub record MayKeepApart (t : ProgramTree) (s : ℕ) (loop : LoopOf t s) (ps : Li
 
 -- 1. a list that is live in t may be kept apart in the program that is lowered so far: its rules, which are asked of t, hold there too
 abbrev pub LiveMayKeepApart : Type 0
-LiveMayKeepApart = (t : ProgramTree) (s : ℕ) (p q w : Lowered) → IsValid p.tree → (live : IsLive t s p q) → lowered_at false p s (list_of (live.loop.body)) ≡ Some w → (loop : LoopOf p.tree (s + p.more)) × (ps : List Partials) × (v : Span) × MayKeepApart p.tree (s + p.more) loop ps v × (w.tree ≡ kept_apart false p.tree (s + p.more) ps v)
+LiveMayKeepApart = (t : ProgramTree) (s : ℕ) (p q w : Lowered) → IsValid p.tree → (live : IsLive t s p q) → lowered_at false p s (list_of live.loop.body) ≡ Some w
+    → (loop : LoopOf p.tree (s + p.more)) × (ps : List Partials) × (v : Span) × MayKeepApart p.tree (s + p.more) loop ps v × (w.tree ≡ kept_apart false p.tree (s + p.more) ps v)
 
--- 2. a program with one flag less is valid, too
+-- 2. a program with one flag less is valid, too: only the printed length of the DO statement is another, and the pairs are counted without it
 abbrev pub FlagOff : Type 0
 FlagOff = (t : ProgramTree) (s : ℕ) (ps : List Partials) (v : Span) → IsValid (kept_apart true t s ps v) → IsValid (kept_apart false t s ps v)
 
--- 3. on data on which the program runs without a fault the scalars hold small numbers when an execution of the DO begins, since none of them is the variable of a DO
-abbrev pub SmallThere : Type 0
-SmallThere = (t : ProgramTree) (s : ℕ) (loop : LoopOf t s) (ps : List Partials) (v : Span) → MayKeepApart t s loop ps v → (data_bytes : List ℕ) (scope : Scope) (front behind : List Act) (u : Store)
-    → IsExecuted (setting_of t) t (store_at_start (lines data_bytes)) s (statements_count (alone (Do loop.head loop.body))) scope front (run_all (setting_of t) (alone (Do loop.head loop.body)) s scope u).acts behind u → AreSmall ps u
+-- 3. the declarations behind the others give the new arrays their bounds, and leave all other names and the constants as they are; then, and by the rules, the law of SumKeeps may be used
+abbrev pub DeclaredApart : Type 0
+DeclaredApart = (t : ProgramTree) (s : ℕ) (loop : LoopOf t s) (ps : List Partials) (v : Span) → MayKeepApart t s loop ps v → IsValid (kept_apart false t s ps v) → (a : ℤ) × (b : ℤ) × IsKeptApart t (kept_apart false t s ps v) s loop ps a b
 
--- 4. no act of the program touches an element of the new arrays: it is undefined before each execution, and nobody wants it behind
-abbrev pub ArraysUnwanted : Type 0
-ArraysUnwanted = (t : ProgramTree) (s : ℕ) (loop : LoopOf t s) (ps : List Partials) (v : Span) → MayKeepApart t s loop ps v → (data_bytes : List ℕ) (scope : Scope) (front behind : List Act) (u : Store)
-    → IsExecuted (setting_of t) t (store_at_start (lines data_bytes)) s (statements_count (alone (Do loop.head loop.body))) scope front (run_all (setting_of t) (alone (Do loop.head loop.body)) s scope u).acts behind u
-    → (c : Cell) → is_part ps c ≡ true → (u c ≡ Undefined) × (wants (shown_at_end t) behind c ≡ false)
-
--- 5. at a place of the DO, and with the kept statements under their old numbers, all is so as a DO of sums asks
-abbrev pub SummableThere : Type 0
-SummableThere = (t : ProgramTree) (s : ℕ) (loop : LoopOf t s) (ps : List Partials) (v : Span) (may : MayKeepApart t s loop ps v) → IsValid (kept_apart false t s ps v) → (data_bytes : List ℕ) → IsRaceFree t data_bytes
-    → (numbers : List (ℕ × ℕ)) × ((scope : Scope) (front behind : List Act) (u : Store)
-    → IsExecuted (setting_of t) t (store_at_start (lines data_bytes)) s (statements_count (alone (Do loop.head loop.body))) scope front (run_all (setting_of t) (alone (Do loop.head loop.body)) s scope u).acts behind u
-    → (a : ℤ) × (b : ℤ) × IsSummable (setting_of (kept_apart false t s ps v)).bounds (setting_of t).constants (λ n. n) (counted_by numbers) ps may.arrays may.distinct loop.head (without_list loop.body) s s scope a b)
-
--- 6. nothing in the DO writes the cell of its variable, but its own exit
-abbrev pub VariableUnwritten : Type 0
-VariableUnwritten = (t : ProgramTree) (s : ℕ) (loop : LoopOf t s) → IsValid t → is_among loop.head.variable (assigned_in_all loop.body) ≡ false
-
--- 7. the program means the same: by exchanged_keeps, with all cells agreed but the new arrays' elements
-abbrev pub KeptApartKeeps : Type 0
-KeptApartKeeps = (t : ProgramTree) (s : ℕ) (loop : LoopOf t s) (ps : List Partials) (v : Span) → MayKeepApart t s loop ps v → IsValid (kept_apart false t s ps v) → Keeps t (kept_apart false t s ps v)
-
--- 8. and may be trusted where the old one may: no PARALLEL DO comes, the DO of the exits has the variable of the old DO, and the scalars are variables of no DO
+-- 4. the new program may be trusted where the old one may: no PARALLEL DO comes, the DO of the exits has the variable of the old DO, and the scalars are variables of no DO. The law of exchanged statements doesn't give it, since it asks that these write no name that the old ones don't: they write the new arrays
 abbrev pub KeptApartTrusted : Type 0
 KeptApartTrusted = (t : ProgramTree) (s : ℕ) (loop : LoopOf t s) (ps : List Partials) (v : Span) → MayKeepApart t s loop ps v → IsValid (kept_apart false t s ps v) → IsTrusted t → IsTrusted (kept_apart false t s ps v)
 
 -- the law: sums in order mean the same
 abbrev pub SumsInOrder : Type 0
-SumsInOrder = (t : ProgramTree) (s : ℕ) (p q w : Lowered) → IsValid p.tree → (live : IsLive t s p q) → lowered_at false p s (list_of (live.loop.body)) ≡ Some w → IsValid w.tree × Keeps p.tree w.tree × (IsTrusted p.tree → IsTrusted w.tree)
+SumsInOrder = (t : ProgramTree) (s : ℕ) (p q w : Lowered) → IsValid p.tree → (live : IsLive t s p q) → lowered_at false p s (list_of live.loop.body) ≡ Some w → IsValid w.tree × Keeps p.tree w.tree × (IsTrusted p.tree → IsTrusted w.tree)

@@ -46,6 +46,7 @@ use Rattle.ped_splits.specs.ped_reindex.specs.ped_loops.specs.ped_scalar.specs.p
 use Rattle.ped_splits.specs.ped_reindex.specs.ped_loops.specs.ped_scalar.specs.ped_rules.specs.ped_loop_runs.specs.ped_bodies.specs.ped_steps.specs.ped_laws.specs.ped_store.specs.Cells as cells
 use Rattle.ped_splits.specs.ped_reindex.specs.ped_loops.specs.ped_scalar.specs.ped_rules.specs.ped_loop_runs.specs.ped_bodies.specs.ped_steps.specs.ped_laws.proofs.FlowRunLaws.Names.{sorted_among}
 use Rattle.ped_splits.specs.ped_reindex.specs.ped_loops.specs.ped_scalar.specs.ped_rules.specs.ped_loop_runs.specs.ped_bodies.specs.ped_steps.specs.ped_laws.proofs.FlowRunLaws.Stopping.{fitting_stops, loop_stops}
+use Rattle.ped_splits.specs.ped_reindex.specs.ped_loops.specs.ped_scalar.specs.ped_rules.specs.ped_loop_runs.specs.ped_bodies.specs.ped_steps.proofs.RunLaws.FilledGaps.{number_room}
 use Rattle.ped_splits.specs.ped_reindex.specs.ped_loops.specs.ped_scalar.specs.ped_rules.specs.ped_loop_runs.specs.ped_bodies.specs.ped_steps.proofs.RunLaws.OwnBounds.{agree_left, agree_right, with_bounds, all_bounds}
 use Rattle.ped_splits.specs.ped_reindex.specs.ped_loops.specs.ped_scalar.specs.ped_rules.specs.ped_loop_runs.specs.ped_bodies.specs.ped_steps.specs.ped_weaves.proofs.WeaveLaws.RaceSources.{pairs_free}
 use Rattle.ped_splits.specs.ped_reindex.specs.ped_loops.specs.ped_scalar.specs.ped_rules.specs.ped_loop_runs.specs.Executions.{IsExecuted}
@@ -175,7 +176,7 @@ same_counts (more_stmts Stop rest) = refl
 -- changed parts of a run whose acts stem from the old ones
 sprung_parts : (ps : List Partials) (By : List Act → List Act → Store → List Act → List Act → Type 0) → ((front behind : List Act) (u : Store) (old new : List Act) → By front behind u old new → AreSprung ps old new)
     → (front : List Act) (parts : List Part) (behind : List Act) (u : Store) → AreChangedBy By front parts behind u → AreSprung ps (old_parts parts) (new_parts parts)
-sprung_parts ps By each front [] behind u h b i = absurd i
+sprung_parts ps By each front [] behind u h = λ b i. absurd i
 sprung_parts ps By each front (same acts ∷ parts) behind u h = sprung_append ps acts acts (old_parts parts) (new_parts parts) (kept_sprung ps acts) (sprung_parts ps By each (front ++ acts) parts behind (store_after acts u) h)
 sprung_parts ps By each front (changed old new ∷ parts) behind u h =
     sprung_append ps old new (old_parts parts) (new_parts parts) (each front (old_parts parts ++ behind) u old new h.0) (sprung_parts ps By each (front ++ old) parts behind (store_after old u) h.1)

@@ -12,7 +12,7 @@ use Rattle.ped_reduce.specs.Lowering.{Partials, zeros, added_apart, apart_or, su
 use Rattle.ped_reduce.proofs.SumBodies.{CountsAlike, CountAlike}
 
 -- statements behind others count as many more
-followed_count : (xs ys : StmtTrees) → statements_count (followed xs ys) ≡ statements_count xs + statements_count ys
+pub followed_count : (xs ys : StmtTrees) → statements_count (followed xs ys) ≡ statements_count xs + statements_count ys
 followed_count no_stmts ys = omega arith
 followed_count (more_stmts x xs) ys = let e = followed_count xs ys in omega (arith, e)
 

@@ -207,8 +207,7 @@ module _ (ps : List Partials) (k : ℤ) (told : Cell) (o w : Store) where
       let finish : finish_of (f s).ending ≡ goes_on = ap finish_of e in
       let again : f u ≡ record { acts = acts; ending = going (store_after acts u) } = told_by.replays s u fits ∙ ap (λ (x : Finish). record { acts = acts; ending = ending_with x (store_after acts u) }) finish in
       let own : (f s).ending ≡ going (store_after acts s) = ap (λ (r : Run). r.ending) (own_run f told_by s) ∙ ap (λ (x : Finish). ending_with x (store_after acts s)) finish in
-      let is : store_after acts s ≡ t = going_same (store_after acts s) t (sym own ∙ e) in
-      (
+      let is : store_after acts s ≡ t = going_same (store_after acts s) t (sym own ∙ e) in (
         store_after acts u,
         ap (λ (r : Run). r.ending) again,
         subst (λ (z : Store). W z (store_after acts u)) is (within_acts acts s u (clear s) within),
@@ -234,9 +233,11 @@ module _ (ps : List Partials) (g : Names) (others : (x : List ℕ) → is_total 
   assignment_clear left right s a b =
       let e = assigned g left right s in
       let seen = sight.assigned_seen (λ c. is_apart ps c ≡ false) (is_either ps) g scalars elements left right s a b in
-      on_clear e (λ seen w. does did place (assignment_touches seen w) nothing_done s) seen (λ w q.
-      (all_append (λ c. is_apart ps c ≡ false) (numbered 1 e.seen) (write_touch w.cell (Number w.number) (number_behind 1 e.seen) ∷ []) (numbered_touch (λ c. is_apart ps c ≡ false) 1 e.seen seen)
-          (stored w (subst (OfResult (λ (x : Stored). is_apart ps x.cell ≡ false)) q (sight.assigned_is (λ c. is_apart ps c ≡ false) (is_either ps) g scalars elements left right s a)), tt), tt))
+      on_clear e (λ seen w. does did place (assignment_touches seen w) nothing_done s) seen (λ w q. (
+        all_append (λ c. is_apart ps c ≡ false) (numbered 1 e.seen) (write_touch w.cell (Number w.number) (number_behind 1 e.seen) ∷ []) (numbered_touch (λ c. is_apart ps c ≡ false) 1 e.seen seen)
+            (stored w (subst (OfResult (λ (x : Stored). is_apart ps x.cell ≡ false)) q (sight.assigned_is (λ c. is_apart ps c ≡ false) (is_either ps) g scalars elements left right s a)), tt),
+        tt,
+      ))
     where
       stored : (w : Stored) → OfResult (λ (x : Stored). is_apart ps x.cell ≡ false) (Ok w) → is_apart ps w.cell ≡ false
       stored w h = h

@@ -248,14 +248,17 @@ module _ (ps : List Partials) (g : Names) (v : List ℕ) (k : ℤ) (told : Cell)
         pub three_come : (b : Act) → first.turns ≡ old.turns → second.turns ≡ old.turns → third.turns ≡ old.turns → IsIn b (three first second third u).acts → (a : Act) × IsIn a r.acts × ComesFrom ps k told a b
         three_come b e1 e2 e3 j =
             let from : IsIn (act did old came.touches) r.acts = subst (IsIn (act did old came.touches)) (sym came.acts) (inl refl) in
-            let there = subst (IsIn b) (ap (λ (x : Run). x.acts) three_go) j in
-            (act did old came.touches, from, elim there [
-              | inl q ↦ made first run1.touched e1 run1.by q
-              | inr l ↦ elim l [
-                | inl q ↦ made second run2.touched e2 run2.by q
-                | inr m ↦ elim m [ inl q ↦ made third run3.touched e3 run3.by q | inr f ↦ absurd f ]
-              ]
-            ])
+            let there = subst (IsIn b) (ap (λ (x : Run). x.acts) three_go) j in (
+              act did old came.touches,
+              from,
+              elim there [
+                | inl q ↦ made first run1.touched e1 run1.by q
+                | inr l ↦ elim l [
+                  | inl q ↦ made second run2.touched e2 run2.by q
+                  | inr m ↦ elim m [ inl q ↦ made third run3.touched e3 run3.by q | inr f ↦ absurd f ]
+                ]
+              ],
+            )
           where
             made : (place : Place) (ts : List Touch) → place.turns ≡ old.turns → AllTouchBy Q ts → b ≡ act did place ts → ComesFrom ps k told (act did old came.touches) b
             made place ts e by q = subst (ComesFrom ps k told (act did old came.touches)) (sym q) (record { turns = e; touches = by })
@@ -283,8 +286,8 @@ module _ (ps : List Partials) (g : Names) (v : List ℕ) (k : ℤ) (told : Cell)
       pub within_sum : Within ps k o w (put (Scalar p.scalar) (Number z) s) behind_sum
       within_sum = record {
         same = λ c h.
-        outside p.flag (flag_array p) (Number (pos 1)) u2 c h ∙ outside p.low (low_array p) (Number low) u1 c h ∙ same1 c h
-        ∙ sym (put_other (Scalar p.scalar) (Number z) s c (other_cell (Scalar p.scalar) c (λ q. both_ways (is_apart ps c) h (ap (is_apart ps) (sym q) ∙ total_apart ps p i))));
+            outside p.flag (flag_array p) (Number (pos 1)) u2 c h ∙ outside p.low (low_array p) (Number low) u1 c h ∙ same1 c h
+            ∙ sym (put_other (Scalar p.scalar) (Number z) s c (other_cell (Scalar p.scalar) c (λ q. both_ways (is_apart ps c) h (ap (is_apart ps) (sym q) ∙ total_apart ps p i))));
         others = λ c h f. kept p.flag (flag_array p) (Number (pos 1)) u2 c f ∙ kept p.low (low_array p) (Number low) u1 c f ∙ kept p.high (high_array p) (Number high) u c f ∙ within.others c h f;
         sums = sums;
       }
@@ -299,8 +302,8 @@ module _ (ps : List Partials) (g : Names) (v : List ℕ) (k : ℤ) (told : Cell)
             was = start.was;
             is = put_same (Scalar p.scalar) (Number z) s (Scalar p.scalar) (cell_itself (Scalar p.scalar));
             high_is = put_other (part p.flag k) (Number (pos 1)) u2 (part p.high k) (other_part p.flag p.high k (turned p.high p.flag apart3.high_flag))
-            ∙ put_other (part p.low k) (Number low) u1 (part p.high k) (other_part p.low p.high k (turned p.high p.low apart3.high_low))
-            ∙ put_same (part p.high k) (Number high) u (part p.high k) (cell_itself (part p.high k));
+                ∙ put_other (part p.low k) (Number low) u1 (part p.high k) (other_part p.low p.high k (turned p.high p.low apart3.high_low))
+                ∙ put_same (part p.high k) (Number high) u (part p.high k) (cell_itself (part p.high k));
             low_is = put_other (part p.flag k) (Number (pos 1)) u2 (part p.low k) (other_part p.flag p.low k (turned p.low p.flag apart3.low_flag)) ∙ put_same (part p.low k) (Number low) u1 (part p.low k) (cell_itself (part p.low k));
             flag_is = put_same (part p.flag k) (Number (pos 1)) u2 (part p.flag k) (cell_itself (part p.flag k));
             parts = new.parts;

@@ -188,8 +188,7 @@ module _ (bounds : List ℕ → Dimensions) (constants : List (List ℕ × ℤ))
           let r = run p (Assign left right) n scope s in
           let first = place_of q m scope in
           let second = place_of q (m + 1) scope in
-          let third = place_of q (m + 1 + 1) scope in
-          (
+          let third = place_of q (m + 1 + 1) scope in (
             behind_sum ps g v k told stands arrays a i sum lacks old r o w s t u small within c,
             ap (λ (x : Run). x.ending) (three_go ps g v k told stands arrays a i sum lacks old r o w s t u small within c first second third),
             subst (λ (x : Store). W x (behind_sum ps g v k told stands arrays a i sum lacks old r o w s t u small within c)) (sym c.behind) (within_sum ps g v k told stands arrays a i sum lacks old r o w s t u small within c),
@@ -267,8 +266,7 @@ module _ (bounds : List ℕ → Dimensions) (constants : List (List ℕ × ℤ))
 
       exits_kept : (seen : List Seen) (l : Limits) → AllTouch P (exit_touches (entered_with p n h body seen l) scope)
       exits_kept seen l =
-          let e = entered_with p n h body seen l in
-          (
+          let e = entered_with p n h body seen l in (
             stands.others h.variable (not_total ps h.variable (λ a i. (free_parts v ps h body a.scalar (clear.scalars a i)).0)),
             all_append P (undefined_by scope e.behind_bounds h.private) (undefined_all scope e.inner)
                 (undefined_kept e.behind_bounds h.private (none_total ps h.private (λ a i. (free_lists v ps h body a.scalar (clear.scalars a i)).0)))

@@ -146,9 +146,9 @@ module _ (ps : List Partials) (k : ℤ) (v w : Store) where
     same = λ d e. ap (λ (y : Content). if same_cell c d then x else y) (h.same d e);
     others = λ d e f. put_other c x u d (unlike d e) ∙ h.others d e f;
     sums = λ p i.
-    let kept = λ (y : List ℕ) (a : is_array_of p y ≡ true). put_other c x u (part y k) (unlike (part y k) (array_apart ps p y i a)) in
-    adds_same (v (Scalar p.scalar)) (u (part p.high k)) (u (part p.low k)) (u (part p.flag k)) (s (Scalar p.scalar)) (put c x u (part p.high k)) (put c x u (part p.low k)) (put c x u (part p.flag k)) (put c x s (Scalar p.scalar))
-    (kept p.high (high_array p)) (kept p.low (low_array p)) (kept p.flag (flag_array p)) (put_other c x s (Scalar p.scalar) (unlike (Scalar p.scalar) (total_apart ps p i))) (h.sums p i);
+        let kept = λ (y : List ℕ) (a : is_array_of p y ≡ true). put_other c x u (part y k) (unlike (part y k) (array_apart ps p y i a)) in
+        adds_same (v (Scalar p.scalar)) (u (part p.high k)) (u (part p.low k)) (u (part p.flag k)) (s (Scalar p.scalar)) (put c x u (part p.high k)) (put c x u (part p.low k)) (put c x u (part p.flag k)) (put c x s (Scalar p.scalar))
+        (kept p.high (high_array p)) (kept p.low (low_array p)) (kept p.flag (flag_array p)) (put_other c x s (Scalar p.scalar) (unlike (Scalar p.scalar) (total_apart ps p i))) (h.sums p i);
   }
     where
       unlike : (d : Cell) → is_apart ps d ≡ true → same_cell c d ≡ false

@@ -117,7 +117,7 @@ module _ (ps : List Partials) (k : ℤ) where
   zeroed_more p rest u z i h = record {
     kept = λ c e. h.kept c e ∙ put_kept p p.flag i (flag_array p) (Number (pos 0)) (zeros2 p u) c e ∙ put_kept p p.low i (low_array p) (Number (pos 0)) (zeros1 p u) c e ∙ put_kept p p.high i (high_array p) (Number (pos 0)) u c e;
     changed = λ c. then_changed (u c) (zeros3 p u c) (z c)
-    (then_changed (u c) (zeros2 p u c) (zeros3 p u c) (then_changed (u c) (zeros1 p u c) (zeros2 p u c) (put_zero (part p.high k) c u) (put_zero (part p.low k) c (zeros1 p u))) (put_zero (part p.flag k) c (zeros2 p u))) (h.changed c);
+        (then_changed (u c) (zeros2 p u c) (zeros3 p u c) (then_changed (u c) (zeros1 p u c) (zeros2 p u c) (put_zero (part p.high k) c u) (put_zero (part p.low k) c (zeros1 p u))) (put_zero (part p.flag k) c (zeros2 p u))) (h.changed c);
     zero_in = zero_in;
   }
     where
@@ -258,7 +258,7 @@ module _ (bounds : List ℕ → Dimensions) (constants : List (List ℕ × ℤ))
         ending = ap (λ (r : Run). r.ending) parted ∙ sums.1;
         within = sums.2;
         acts = subst (AreNew ps told (run_all old body n scope s).acts) (sym (ap (λ (r : Run). r.acts) parted))
-        (new_append ps told [] (run_all new (zeros v ps) m scope u).acts (run_all old body n scope s).acts (next z.behind).acts
-        (λ b i. inl (subst IsCalm (sym (z.places b i)) calm))
-        (λ b i. let x = sums.3 b i in inr (k, x.0, x.1, x.2)));
+            (new_append ps told [] (run_all new (zeros v ps) m scope u).acts (run_all old body n scope s).acts (next z.behind).acts
+            (λ b i. inl (subst IsCalm (sym (z.places b i)) calm))
+            (λ b i. let x = sums.3 b i in inr (k, x.0, x.1, x.2)));
       }

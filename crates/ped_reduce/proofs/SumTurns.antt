@@ -228,7 +228,7 @@ module _ (bounds : List ℕ → Dimensions) (constants : List (List ℕ × ℤ))
           );
           small = rest.small;
           acts = subst (λ (x : List Act). AreNew ps told x (turns (suc left) j e scope at' new_body u).acts) (sym (ap (λ (r : Run). r.acts) old_is))
-          (subst (AreNew ps told ((old_body (frame e j) s).acts ++ (old_next t1).acts)) (sym (ap (λ (r : Run). r.acts) new_is)) both_new);
+              (subst (AreNew ps told ((old_body (frame e j) s).acts ++ (old_next t1).acts)) (sym (ap (λ (r : Run). r.acts) new_is)) both_new);
         }
 
     pub turns_add : (left j : ℕ) → 1 ≤ j → j + left ≡ e.count + 1 → (s t u : Store) → AreSmall ps s → ((c : Cell) → is_apart ps c ≡ false → u c ≡ s c) → (turns left j e scope at old_body s).ending ≡ going t → TurnsGo left j s t u

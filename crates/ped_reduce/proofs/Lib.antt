@@ -32,4 +32,5 @@ pub mod SumPlaces
 pub mod SumUntouched
 pub mod SumNumbers
 pub mod SumKeeps
+pub mod SumDeclared
 pub mod SumGoals

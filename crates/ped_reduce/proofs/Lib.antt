@@ -32,5 +32,4 @@ pub mod SumPlaces
 pub mod SumUntouched
 pub mod SumNumbers
 pub mod SumKeeps
-pub mod SumDeclared
 pub mod SumGoals

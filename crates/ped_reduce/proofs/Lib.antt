@@ -11,3 +11,4 @@ pub mod MadeAnswers
 pub mod LoweredCounts
 pub mod FreshArrays
 pub mod LoweredPrograms
+pub mod Resembling

@@ -12,3 +12,7 @@ pub mod LoweredCounts
 pub mod FreshArrays
 pub mod LoweredPrograms
 pub mod Resembling
+pub mod SumShapes
+pub mod LoweredNames
+pub mod LoweredStages
+pub mod ResemblingViews

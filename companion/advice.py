@@ -1,8 +1,11 @@
-"""What to try at a loop: steps that ped accepts there, and other ways to be rid of what the loop carries."""
+"""What to try at a loop: steps that ped accepts there, and other ways to be rid of what the loop carries.
+
+Of the steps that want no more than a loop ped itself tells by `advise`; those that take a scalar are tried.
+"""
 
 from __future__ import annotations
 
-from typing import Dict, Iterator, List, Sequence
+from typing import Dict, Iterator, List, Sequence, Tuple
 
 from .expressions import Call, Expression, Operation, Variable
 from .messages import listed
@@ -10,13 +13,19 @@ from .panes import Dependence
 from .ped import Ped
 from .program import Loop, Program
 from .references import INPUT, OUTPUT
-from .refusals import cause_of
+from .refusals import cause_of, refused
+from .replies import Advised
 from .statements import Assignment, Do, Print, Read
-from .trials import Outcome, Trial, carried_names, run_trials, steps_advised
+from .trials import Answers, Outcome, Trial, ask, carried_names
+from .tuning import parts_in
 from .views import View
 
 #: The steps that take a scalar.
 _SCALAR_STEPS = ("privatise", "expand")
+#: Of the steps that `advise` tells those that lead to parallel loops, the most wanted first.
+_LEADING = ("parallel", "distribute", "fuse", "interchange")
+#: Of these those behind which another loop stands at the number of this one.
+_FORMING = ("fuse", "interchange")
 
 
 class Adviser:
@@ -24,12 +33,12 @@ class Adviser:
 
     def __init__(self, view: View, ped: Ped, loops: Sequence[Loop], tries: bool) -> None:
         self._view = view
-        self._outcomes: Dict[Trial, Outcome] = {}
-        self._advised: Dict[int, List[str]] = {}
+        self._answers = Answers({}, {})
         if tries:
-            self._outcomes.update(run_trials(ped, view, [trial for loop in loops for trial in self._trials(loop)]))
-            self._outcomes.update(run_trials(ped, view, [trial for loop in loops for trial in self._joined(loop)]))
-            self._advised = steps_advised(ped, view, [loop.number for loop in loops])
+            numbers = [loop.number for loop in loops]
+            self._answers = ask(ped, view, numbers, [trial for loop in loops for trial in self._trials(loop)])
+            further = [trial for loop in loops for trial in (*self._joined(loop), *self._forming(loop))]
+            self._answers.outcomes.update(ask(ped, view, [], further).outcomes)
 
     def about_name(self, loop: Loop, name: str, rows: Sequence[Dependence]) -> List[str]:
         """What to try against the rows of a name that a loop carries."""
@@ -45,24 +54,67 @@ class Adviser:
 
     def about_loop(self, loop: Loop) -> List[str]:
         """What to try at a loop as a whole."""
-        trials = [*self._joined(loop), _parallel(loop.number)]
-        outcomes = [self._outcomes[trial] for trial in trials if trial in self._outcomes]
-        advice = self._about_outcomes(outcomes)
-        if not advice and not loop.form.parallel and not carried_names(self._view.carried_by(loop)):
+        advice = self.about_scalars(loop)
+        told = sorted((one for one in self.advised(loop) if self._is_told(loop, one)), key=place_of)
+        advice.extend(self.about_step(loop, one) for one in told)
+        if not self._answers.advised and not loop.form.parallel and not carried_names(self._view.carried_by(loop)):
             advice.extend(_about_variables(self._view.program, loop))
-        steps = self._advised.get(loop.number)
-        if steps:
-            advice.append(f"ped allows here: {', '.join(steps)}")
+        others = [f"`{one.command}`" for one in self.advised(loop) if one not in told and one.refusal is None]
+        if others:
+            advice.append(f"ped accepts {listed(others)}")
         return advice
+
+    def about_step(self, loop: Loop, advised: Advised) -> str:
+        """What ped advises of a step, in words."""
+        if advised.refusal is None:
+            return f"try `{advised.command}`: ped accepts it{self._effect(loop, advised)}"
+        return f"`{advised.command}`: {refused(advised.refusal, advised.word)}"
+
+    def _effect(self, loop: Loop, advised: Advised) -> str:
+        """What a step does, where its word alone doesn't say with which loop, or into what."""
+        outcome = self._answers.outcomes.get(Trial((advised.command,), loop.number))
+        if advised.word == "distribute":
+            panes = outcome.panes if outcome is not None else None
+            return f", and {parts_in(self._view, panes, loop.number).words}" if panes else ", and takes the loop apart"
+        if advised.word not in _FORMING:
+            return ""
+        words = f", and makes one of loops {loop.number} and {loop.last + 1}"
+        if advised.word == "interchange":
+            words = f", and puts DO {self._view.program.loops[loop.number + 1].variable} outside"
+        return words if outcome is None else f"{words}, which then carries {listed(outcome.names) or 'nothing'}"
+
+    def about_scalars(self, loop: Loop) -> List[str]:
+        """What came of a step for each of several scalars that a loop carries."""
+        outcomes = self._answers.outcomes
+        return self._about_outcomes([outcomes[trial] for trial in self._joined(loop) if trial in outcomes])
+
+    def advised(self, loop: Loop) -> Tuple[Advised, ...]:
+        """What ped advises at a loop; nothing where it wasn't asked."""
+        return self._answers.advised.get(loop.number, ())
+
+    def _is_told(self, loop: Loop, advised: Advised) -> bool:
+        """Whether more is told of a step than that ped accepts it.
+
+        What leads to a loop that carries nothing is told, and which dependence forbids it. A rule that stands against a
+        step says no more than that it isn't meant for this loop, but for `parallel` where the loop carries nothing.
+        """
+        carries = bool(carried_names(self._view.carried_by(loop)))
+        if advised.word == "parallel":
+            return not loop.form.parallel and not carries
+        if advised.word == "distribute" and advised.refusal is None:
+            return carries
+        outcome = self._answers.outcomes.get(Trial((advised.command,), loop.number))
+        is_better = outcome is not None and outcome.accepted and not outcome.names
+        return advised.word in _FORMING and (advised.is_forbidden or is_better)
 
     def _about_outcomes(self, outcomes: Sequence[Outcome]) -> List[str]:
         """Outcomes in words; those that are refused for one cause together."""
-        refused: Dict[str, List[Outcome]] = {}
+        alike: Dict[str, List[Outcome]] = {}
         for outcome in outcomes:
             if outcome.refusal is not None:
-                refused.setdefault(outcome.refusal, []).append(outcome)
+                alike.setdefault(outcome.refusal, []).append(outcome)
         advice = [_accepted(outcome) for outcome in outcomes if outcome.accepted]
-        advice.extend(self._refused(refusal, together) for refusal, together in refused.items())
+        advice.extend(self._refused(refusal, together) for refusal, together in alike.items())
         return advice
 
     def _refused(self, refusal: str, outcomes: Sequence[Outcome]) -> str:
@@ -71,16 +123,13 @@ class Adviser:
         return f"{steps}: refused {refusal}" + (f": {cause}" if cause else "")
 
     def _outcomes_of(self, loop: Loop, name: str) -> List[Outcome]:
-        trials = _scalar_trials(loop, name)
-        return [self._outcomes[trial] for trial in trials if trial in self._outcomes]
+        outcomes = self._answers.outcomes
+        return [outcomes[trial] for trial in _scalar_trials(loop, name) if trial in outcomes]
 
     def _trials(self, loop: Loop) -> Iterator[Trial]:
         if loop.form.parallel:
             return
-        names = carried_names(self._view.carried_by(loop))
-        if not names:
-            yield _parallel(loop.number)
-        for name in names:
+        for name in carried_names(self._view.carried_by(loop)):
             if name not in (INPUT, OUTPUT) and name not in self._view.program.arrays:
                 yield from _scalar_trials(loop, name)
 
@@ -92,10 +141,17 @@ class Adviser:
         if len(steps) > 1:
             yield Trial(tuple(steps), loop.number)
 
+    def _forming(self, loop: Loop) -> Iterator[Trial]:
+        """Those steps that ped accepts and that put other loops in the place of this one, which may be better."""
+        words = ("fuse", "distribute", "interchange") if carried_names(self._view.carried_by(loop)) else ("fuse",)
+        for one in self.advised(loop):
+            if one.refusal is None and one.word in words:
+                yield Trial((one.command,), loop.number)
 
-def _parallel(loop: int) -> Trial:
-    """The trial of the step that makes the loop of a statement parallel."""
-    return Trial((f"parallel {loop}",), loop)
+
+def place_of(advised: Advised) -> int:
+    """The place of a step among those that lead to parallel loops; the others come last."""
+    return _LEADING.index(advised.word) if advised.word in _LEADING else len(_LEADING)
 
 
 def _scalar_trials(loop: Loop, name: str) -> List[Trial]:
@@ -105,8 +161,6 @@ def _scalar_trials(loop: Loop, name: str) -> List[Trial]:
 def _accepted(outcome: Outcome) -> str:
     """What an accepted trial leads to."""
     steps = listed([f"`{step}`" for step in outcome.trial.steps])
-    if outcome.trial == _parallel(outcome.trial.loop):
-        return f"try {steps}: ped accepts it"
     if len(outcome.trial.steps) > 1:
         return f"try {steps}: ped accepts them, and the loop then carries {listed(outcome.names) or 'nothing'}"
     return f"try {steps}: ped accepts it" + ("" if outcome.names else ", and the loop then carries nothing")

@@ -118,7 +118,7 @@ def _parser() -> argparse.ArgumentParser:
     add("edit", "edit a program and transform its loops, with both panes on a terminal")
     command = add("loops", "say which loops are parallel, what the others carry, and what to try there")
     command.add_argument("loops", metavar="S", type=int, nargs="*", help="the statement numbers of the wanted loops")
-    command.add_argument("--no-trials", dest="trials", action="store_false", help="try no steps in a session")
+    command.add_argument("--no-trials", dest="trials", action="store_false", help="ask for no advice, and try no steps")
     command = add("tune", "say what stands in the way of each loop, and which single step removes it")
     command.add_argument("loops", metavar="S", type=int, nargs="*", help="the statement numbers of the wanted loops")
     _add_filters(add("why", "say of each row of the dependence pane why it is there"))

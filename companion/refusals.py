@@ -106,7 +106,7 @@ RULES: Dict[int, str] = {
     8: "the increment isn't one that the step allows",
     9: "a value of the loop's variable leaves the range of literals",
     10: "no loop with the same header stands directly behind it",
-    11: "all statements of the loop depend on each other",
+    11: "the loop's statements depend on each other, or it has but one",
     12: "an iteration may read the scalar before it assigns it, or it is wanted behind the loop: see statement {S}",
     13: "the name isn't that of a scalar that the step can take",
     14: "a bound of the loop isn't constant, or the loop has no iteration",
@@ -128,8 +128,8 @@ _RULE = re.compile(r"rule (\d+) \w+ at (\d+)")
 _EDIT = re.compile(r"BadEdit (\d+) \w+ at \d+")
 
 
-def cause_of(refusal: str) -> Optional[str]:
-    """What a refusal of a session says, in words; none where it isn't known."""
+def cause_of(refusal: str, word: str = "") -> Optional[str]:
+    """What a refusal of a command with this first word says, in words; none where it isn't known."""
     rule = _RULE.fullmatch(refusal)
     if rule is not None and int(rule.group(1)) in RULES:
         return RULES[int(rule.group(1))].format(S=rule.group(2))
@@ -137,12 +137,12 @@ def cause_of(refusal: str) -> Optional[str]:
     if edit is not None and int(edit.group(1)) in REFUSALS:
         return f"in the program that the edit makes {REFUSALS[int(edit.group(1))].rule}"
     if refusal.startswith("edge "):
-        return "this dependence forbids it"
+        return "the one loop would carry this dependence" if word == "fuse" else "this dependence forbids it"
     return OTHERS.get(refusal)
 
 
-def refused(refusal: str) -> str:
-    """A refusal of a session with its cause."""
-    cause = cause_of(refusal)
+def refused(refusal: str, word: str = "") -> str:
+    """A refusal of a command with this first word, and its cause."""
+    cause = cause_of(refusal, word)
     words: List[str] = [f"refused {refusal}"] + ([cause] if cause else [])
     return ": ".join(words)

@@ -46,6 +46,24 @@ class Race:
 
 
 @dataclass(frozen=True)
+class Advised:
+    """What `advise` says of a step: the step as a command, and why it is refused; none where it could be done."""
+
+    command: str
+    refusal: Optional[str]
+
+    @property
+    def word(self) -> str:
+        """The first word of the command."""
+        return self.command.split()[0]
+
+    @property
+    def is_forbidden(self) -> bool:
+        """Whether a dependence forbids the step."""
+        return (self.refusal or "").startswith("edge ")
+
+
+@dataclass(frozen=True)
 class Reply:
     """The rows that a command has printed."""
 
@@ -74,6 +92,13 @@ class Reply:
         """The race that a `races` has found."""
         match = self.command.word == "races" and _RACE.fullmatch(self.rows[0])
         return Race(match.group(1), int(match.group(2)), int(match.group(3))) if match else None
+
+    @property
+    def advised(self) -> Tuple[Advised, ...]:
+        """What an `advise` says, step by step; nothing where its statement isn't there."""
+        if self.command.word != "advise" or self._answer is not None:
+            return ()
+        return tuple(_advised(step, row, self.command.words[1]) for step, row in zip(_ADVISED, self.rows))
 
     @property
     def _answer(self) -> Optional[str]:
@@ -127,6 +152,13 @@ def _run(rows: Sequence[str]) -> int:
 def _advice(rows: Sequence[str]) -> int:
     told = [row for step, row in zip(_ADVISED, rows) if re.fullmatch(step + " (?:ok|refused .*)", row)]
     return len(told) if len(told) == len(_ADVISED) else 0
+
+
+def _advised(step: str, row: str, loop: str) -> Advised:
+    """A row of `advise`; the number of the loop stands behind the first word of the step."""
+    word, *rest = step.split()
+    answer = row[len(step) + 1:]
+    return Advised(" ".join([word, loop, *rest]), None if answer == "ok" else answer[len("refused "):])
 
 
 def _while(rows: Sequence[str], belongs: Callable[[str], object]) -> int:

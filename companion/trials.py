@@ -1,15 +1,19 @@
-"""Steps that are tried in a session: whether ped accepts them, and what a loop carries behind them."""
+"""What ped is asked in a session: what it advises at loops, and what comes of steps that are tried.
+
+The command `advise` tells of each step that wants no more than a loop. Steps that take a scalar are tried.
+"""
 
 from __future__ import annotations
 
 import re
 from dataclasses import dataclass
+from functools import cached_property
 from typing import Dict, List, Optional, Sequence, Tuple
 
 from .outline import outline_of
-from .panes import Dependence, read_panes
+from .panes import Dependence, Panes, read_panes
 from .ped import Ped
-from .replies import Reply
+from .replies import Advised, Reply
 from .views import View
 
 
@@ -22,6 +26,11 @@ class Trial:
     #: The scalar that the step takes.
     scalar: Optional[str] = None
 
+    @property
+    def script(self) -> List[str]:
+        """The commands; behind them the program is as it was, since a session begins with nothing to undo."""
+        return [*self.steps, "show", *("undo" for _ in self.steps)]
+
 
 @dataclass(frozen=True)
 class Outcome:
@@ -30,8 +39,8 @@ class Outcome:
     trial: Trial
     #: The cause why one of the steps was refused; none where all were accepted.
     refusal: Optional[str]
-    #: The rows that the loop carries behind the steps.
-    carried: Tuple[Dependence, ...]
+    #: The program behind the steps; none where they were refused.
+    panes: Optional[Panes]
 
     @property
     def accepted(self) -> bool:
@@ -44,10 +53,13 @@ class Outcome:
         match = re.fullmatch(r"rule \d+ \w+ at (\d+)", self.refusal or "")
         return int(match.group(1)) if match else None
 
-    @property
+    @cached_property
     def names(self) -> List[str]:
         """The names of what the loop carries behind the steps, without what is rejected."""
-        return carried_names(self.carried)
+        if self.panes is None:
+            return []
+        outline = outline_of(self.panes.source)
+        return carried_names([row for row in self.panes.dependences if outline.carrier(row) == self.trial.loop])
 
 
 def carried_names(rows: Sequence[Dependence]) -> List[str]:
@@ -55,47 +67,34 @@ def carried_names(rows: Sequence[Dependence]) -> List[str]:
     return list(dict.fromkeys(row.name for row in rows if not row.is_rejected))
 
 
-def run_trials(ped: Ped, view: View, trials: Sequence[Trial]) -> Dict[Trial, Outcome]:
-    """Tries steps on the program of a view, each trial by itself."""
-    if not trials:
-        return {}
-    script: List[str] = []
-    for trial in trials:
-        script.extend([*trial.steps, "show", *("undo" for _ in trial.steps)])
-    replies = _session(ped, view, script)
-    outcomes = {}
-    index = 0
-    for trial in trials:
-        count = len(trial.steps)
-        outcomes[trial] = _outcome(trial, replies[index:index + count], replies[index + count])
-        index += 2 * count + 1
-    return outcomes
+@dataclass(frozen=True)
+class Answers:
+    """What ped answers: what it advises at each loop, and the outcome of each trial."""
+
+    advised: Dict[int, Tuple[Advised, ...]]
+    outcomes: Dict[Trial, Outcome]
 
 
-def _outcome(trial: Trial, steps: Sequence[Reply], shown: Reply) -> Outcome:
+def ask(ped: Ped, view: View, loops: Sequence[int], trials: Sequence[Trial]) -> Answers:
+    """Asks what ped advises at loops, and tries steps on the program of a view, each trial by itself."""
+    script = [*(f"advise {loop}" for loop in loops), *(command for trial in trials for command in trial.script)]
+    replies = ped.session(_text(view.panes.lines), _text(script)) if script else []
+    advised = {loop: reply.advised for loop, reply in zip(loops, replies)}
+    rest = iter(replies[len(loops):])
+    outcomes = {trial: _outcome(trial, [next(rest) for _ in trial.script]) for trial in trials}
+    return Answers(advised, outcomes)
+
+
+def _outcome(trial: Trial, replies: Sequence[Reply]) -> Outcome:
     """The outcome by the replies to the steps, and to the `show` behind them.
 
     Where a step is refused, those behind it are carried out all the same; all that were accepted are undone by as many
     `undo` at least, and the others are refused, since a session begins with nothing to undo.
     """
+    steps, shown = replies[:len(trial.steps)], replies[len(trial.steps)]
     refusal = next((step.refusal for step in steps if step.refusal is not None), None)
-    if refusal is not None:
-        return Outcome(trial, refusal, ())
-    panes = read_panes(shown.rows)
-    outline = outline_of(panes.source)
-    carried = (row for row in panes.dependences if outline.carrier(row) == trial.loop)
-    return Outcome(trial, None, tuple(carried))
+    return Outcome(trial, refusal, read_panes(shown.rows) if refusal is None else None)
 
 
-def steps_advised(ped: Ped, view: View, loops: Sequence[int]) -> Dict[int, List[str]]:
-    """For each loop the steps that the command `advise` allows there."""
-    replies = _session(ped, view, [f"advise {loop}" for loop in loops])
-    return {
-        loop: [row[:-len(" ok")] for row in reply.rows if row.endswith(" ok")]
-        for loop, reply in zip(loops, replies)
-    }
-
-
-def _session(ped: Ped, view: View, script: Sequence[str]) -> List[Reply]:
-    """The replies to a script on the program of a view."""
-    return ped.session("".join(line + "\n" for line in view.panes.lines), "".join(line + "\n" for line in script))
+def _text(lines: Sequence[str]) -> str:
+    return "".join(line + "\n" for line in lines)

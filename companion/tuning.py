@@ -9,8 +9,9 @@ from __future__ import annotations
 from dataclasses import dataclass
 from typing import Iterator, List, Optional, Sequence, Tuple
 
+from .messages import listed
 from .outline import LoopLines, Outline, outline_of
-from .panes import Dependence, read_dependences, read_panes
+from .panes import Dependence, Panes, read_dependences, read_panes
 from .ped import Ped
 from .references import INPUT, OUTPUT
 from .replies import Reply
@@ -106,19 +107,30 @@ class Parts:
     numbers: Tuple[int, ...]
     free: Tuple[int, ...]
 
+    @property
+    def words(self) -> str:
+        """What the step does to the loop, in words."""
+        made = f"makes {len(self.numbers)} loops of it"
+        if not self.free:
+            return made
+        verb = "carries" if len(self.free) == 1 else "carry"
+        return f"{made}, of which {listed([str(number) for number in self.free])} {verb} nothing"
+
 
 def parts(ped: Ped, view: View, loop: LoopLines) -> Optional[Parts]:
     """What `distribute` makes of a loop; nothing where ped refuses it."""
     source = "".join(line + "\n" for line in view.panes.lines)
     step, shown = ped.session(source, f"distribute {loop.number}\nshow\n")
-    if step.refusal is not None:
-        return None
-    panes = read_panes(shown.rows)
+    return parts_in(view, read_panes(shown.rows), loop.number) if step.refusal is None else None
+
+
+def parts_in(view: View, panes: Panes, loop: int) -> Parts:
+    """What `distribute` has made of a loop, in the program behind it."""
     outline = outline_of(panes.source)
     carrying = {outline.carrier(row) for row in panes.dependences if not row.is_rejected}
     # Each loop more is a DO more.
     count = len(outline.lines) - len(view.printed.statements) + 1
-    numbers = [loop.number]
+    numbers = [loop]
     while len(numbers) < count:
         numbers.append(outline.loops[numbers[-1]].last + 1)
     return Parts(tuple(numbers), tuple(number for number in numbers if number not in carrying))

@@ -145,7 +145,7 @@ def complaints(script: str, replies: Sequence[Tuple[Optional[Command], Reply]]) 
     for origin, reply in replies:
         if origin is not None and reply.refusal is not None:
             line = refused_line(origin, reply.refusal)
-            yield located(script, Place(line, 1), f"{ERROR}: {refused(reply.refusal)}")
+            yield located(script, Place(line, 1), f"{ERROR}: {refused(reply.refusal, origin.word)}")
 
 
 def refused_line(command: Command, refusal: str) -> int:

@@ -65,9 +65,7 @@ def _ways(
         step, number = result.attempt.step, result.attempt.place.number
         yield f"`{step}`{_where(loop, result)}: then ped accepts `parallel {number}`"
     if apart is not None and apart.free:
-        free = listed([str(number) for number in apart.free])
-        verb = "carries" if len(apart.free) == 1 else "carry"
-        yield f"`distribute {loop.number}` makes {len(apart.numbers)} loops of it, of which {free} {verb} nothing"
+        yield f"`distribute {loop.number}` {apart.words}"
     names = carried_names(view.carried_by(loop))
     if freeing or not names or apart is not None and apart.free:
         return

@@ -1,19 +1,22 @@
 """What to try at the present loop.
 
-What is advised comes from `advised` alone. It has steps tried in sessions of ped, as `pedx loops` and `pedx tune` do.
+What is advised comes from `advised` alone. It asks the command `advise` of ped for the steps that want no more than a
+loop, and has the others tried in sessions, as `pedx loops` and `pedx tune` do.
 """
 
 from __future__ import annotations
 
 import re
 from dataclasses import dataclass
-from typing import Iterator, List, Tuple
+from typing import Dict, Iterator, List, Sequence, Tuple
 
-from ..advice import Adviser
+from ..advice import Adviser, place_of
 from ..messages import listed
 from ..outline import outline_of
 from ..ped import Ped
 from ..program import Loop
+from ..refusals import refused
+from ..replies import Advised
 from ..trials import carried_names
 from ..tuning import attempts, results
 from ..views import View
@@ -21,6 +24,8 @@ from ..views import View
 _ACCEPTED = re.compile(r"try (`[^`]*`(?:(?:,| and) `[^`]*`)*): ped accepts")
 _STEP = re.compile(r"`([^`]*)`")
 _REJECT = "C$PED REJECT"
+#: The keys that carry out a piece of advice; `q` closes the page.
+KEYS = "123456789abcdefghijklmnop"
 
 
 @dataclass(frozen=True)
@@ -32,38 +37,65 @@ class Advice:
 
 
 def advised(ped: Ped, view: View, loop: Loop) -> List[Advice]:
-    """What to try at a loop."""
+    """What to try at a loop: what ped accepts, the most wanted first, and then what it refuses, with the cause."""
     adviser = Adviser(view, ped, [loop], tries=True)
+    steps = adviser.advised(loop)
+    accepted = [one for one in sorted(steps, key=place_of) if one.refusal is None]
+    words = _about_names(adviser, view, loop)
+    words.extend(adviser.about_step(loop, one) for one in accepted if one.word == "parallel")
+    words.extend(_freeing(ped, view, loop, [one.command for one in accepted]))
+    told = {step for one in words for step in _accepted(one)}
+    words.extend(adviser.about_step(loop, one) for one in accepted if one.command not in told)
+    words.extend(_refused(adviser, loop))
+    return sorted([Advice(one, _accepted(one)) for one in words], key=lambda one: not one.steps)
+
+
+def _about_names(adviser: Adviser, view: View, loop: Loop) -> List[str]:
+    """What to try against what a loop carries, name by name, and for several scalars at once."""
     rows = view.carried_by(loop)
     words: List[str] = []
     for name in carried_names(rows):
         words.extend(adviser.about_name(loop, name, [row for row in rows if row.name == name]))
-    words.extend(adviser.about_loop(loop))
-    advice = [Advice(one, _accepted(one)) for one in words]
-    told = {step for one in advice for step in one.steps}
-    return [*advice, *(one for one in _freeing(ped, view, loop) if one.steps[0] not in told)]
+    return [*words, *adviser.about_scalars(loop)]
 
 
-def _freeing(ped: Ped, view: View, loop: Loop) -> Iterator[Advice]:
-    """The steps behind which the loop may be parallel."""
+def _freeing(ped: Ped, view: View, loop: Loop, accepted: Sequence[str]) -> Iterator[str]:
+    """The steps of a loop, or of the one round it, behind which the loop may be parallel."""
     if loop.form.parallel:
         return
     outline = outline_of(view.panes.source)
-    for result in results(ped, view, list(attempts(view, outline, outline.loops[loop.number]))):
-        step = result.attempt.step
-        if result.frees and step is not None:
-            yield Advice(f"try `{step}`: ped accepts it, and then `parallel {result.attempt.place.number}`", (step,))
+    outer = f"interchange {loop.nest[-2]}" if loop.level > 1 else ""
+    tried = [one for one in attempts(view, outline, outline.loops[loop.number]) if one.step in (*accepted, outer)]
+    for result in results(ped, view, tried) if tried else ():
+        if result.frees:
+            then = f"and then `parallel {result.attempt.place.number}`"
+            yield f"try `{result.attempt.step}`: ped accepts it, {then}"
+
+
+def _refused(adviser: Adviser, loop: Loop) -> Iterator[str]:
+    """What ped refuses; that a DO can't become serial needn't be told."""
+    together: Dict[str, List[Advised]] = {}
+    for one in adviser.advised(loop):
+        if one.refusal is not None and (loop.form.parallel or one.word != "serial"):
+            together.setdefault(one.refusal, []).append(one)
+    for refusal, alike in together.items():
+        yield adviser.about_step(loop, alike[0]) if len(alike) == 1 else _refused_together(alike, refusal)
+
+
+def _refused_together(steps: Sequence[Advised], refusal: str) -> str:
+    commands = listed([f"`{one.command}`" for one in steps])
+    if steps[0].is_forbidden:
+        return f"{commands}: refused {refusal}: this dependence forbids them"
+    return f"{commands}: {refused(refusal)}"
 
 
 def advice_page(view: View, loop: Loop, advice: List[Advice]) -> List[str]:
-    """The advice as a page; what can be carried out has a number."""
+    """The advice as a page; what can be carried out has a key."""
     names = carried_names(view.carried_by(loop))
     lines = [f"Loop {loop.number} carries {listed(names) or 'nothing'}.", ""]
-    number = 0
+    keys = iter(KEYS)
     for one in advice:
-        if one.steps:
-            number += 1
-        lines.append(f"{number:3}  {one.words}" if one.steps else f"  -  {one.words}")
+        lines.append(f"{next(keys, ''):>3}  {one.words}" if one.steps else f"  -  {one.words}")
     if any(_REJECT in one.words for one in advice):
         lines.append("     (the key j does that)")
     if not advice:

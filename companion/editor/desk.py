@@ -6,7 +6,7 @@ import re
 from typing import Dict, List, Optional
 
 from ..messages import listed
-from ..panes import Dependence
+from ..panes import Dependence, read_dependence
 from ..trials import carried_names
 from .filters import ALL, Filters
 from ..outline import LoopLines, Outline
@@ -112,7 +112,10 @@ class Desk:
             self._choose(refusal[len(_EDGE):])
 
     def _choose(self, text: str) -> None:
-        """Chooses a row by its text, with filters that show it."""
+        """Chooses a row by its text, with filters that show it.
+
+        What `fuse` is refused for is no row yet; then the two statements are marked.
+        """
         for filters in (self._filters, Filters(), Filters(level=ALL)):
             rows = filters.chosen(self._present, self.loop)
             found = [index for index, row in enumerate(rows) if row.row == text]
@@ -120,6 +123,8 @@ class Desk:
                 self.filters = filters
                 self.row, self.in_rows = found[0], True
                 return
+        row = read_dependence(text)
+        self.named = {row.source[0]: "!", row.sink[0]: "!"}
 
     def go(self, line: int) -> None:
         """Goes to a line."""

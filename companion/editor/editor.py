@@ -15,7 +15,7 @@ from ..replies import Fault, Reply
 from ..statuses import CompanionError
 from ..trials import carried_names
 from . import keys
-from .advice import advice_page, advised
+from .advice import KEYS, advice_page, advised
 from .changes import NoChange
 from .compiling import compile_command, compiled, compiler, run_compiled
 from .desk import Desk
@@ -171,10 +171,13 @@ class Editor:
         self._desk.say("")
         lines = advice_page(view, view.program.loops[loop.number], advice)
         offered = [one.steps for one in advice if one.steps]
-        hint = "a number carries it out; any other key closes the page" if offered else "any key closes the page"
+        hint = "any key closes the page"
+        if offered:
+            hint = "the key before a step carries it out; another one closes the page"
         key = show_page(self._terminal, f"Advice for loop {loop.number}, {loop.header}", lines, hint)
-        if key.isdigit() and 1 <= int(key) <= len(offered):
-            for step in offered[int(key) - 1]:
+        place = KEYS.find(key) if len(key) == 1 else -1
+        if 0 <= place < len(offered):
+            for step in offered[place]:
                 self._carry_out(step, loop.number)
 
     # Changing
@@ -211,7 +214,8 @@ class Editor:
             self._desk.put(self._session.present, statement)
             self._desk.say(f"{command}: ok{self._what_next()}")
         else:
-            self._desk.say(f"{command}: {refused(refusal)}; {keys.ADVICE} tells what ped accepts")
+            cause = refused(refusal, command.split()[0])
+            self._desk.say(f"{command}: {cause}; {keys.ADVICE} tells what ped accepts")
             self._desk.point(refusal)
 
     def _what_next(self) -> str:

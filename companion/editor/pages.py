@@ -2,11 +2,14 @@
 
 from __future__ import annotations
 
+import re
 from typing import List, Sequence
 
 from .pictures import Row, Style, first_shown, folded, visible
 from .terminal import DOWN, END, HOME, OTHER, PAGE_DOWN, PAGE_UP, RESIZED, UP, Terminal
 
+#: What stands before the words of a line: blanks, and perhaps a key or a dash.
+_FRONT = re.compile(r" *(?:[0-9a-z-]  )?")
 _HINT = "arrows and page keys scroll; another key closes the page, and is carried out"
 
 
@@ -40,8 +43,10 @@ def _page(title: str, rows: Sequence[Row], first: int, room: int, width: int, hi
 
 
 def _folded(line: str, width: int) -> List[str]:
-    """A line in rows; further ones stand as far to the right as the first."""
-    front = " " * (len(line) - len(line.lstrip(" ")))
+    """A line in rows; further ones stand as far to the right as the words of the first, behind a key if it has one."""
+    match = _FRONT.match(line)
+    front = match.group() if match is not None else ""
     if len(line) <= width or len(front) + 10 > width:
         return [line] if len(line) <= width else folded(line, width)
-    return [front + row for row in folded(line.strip(" "), width - len(front))]
+    first, *others = folded(line[len(front):].rstrip(" "), width - len(front))
+    return [front + first, *(" " * len(front) + row for row in others)]

@@ -134,6 +134,36 @@ class Steps(Played):
         player.wait("fuse 2: refused")
         self.quit(player)
 
+    def test_refused_fuse(self) -> None:
+        """The one loop would read an element before it is written; this row isn't in the pane yet."""
+        player = self.play(fortran(
+            "INTEGER A(9), B(9)", "DO I = 1, 8", "A(I) = I", "END DO", "DO I = 1, 8", "B(I) = A(I+1)", "END DO", "END"
+        ))
+        player.press("f")
+        rows = player.wait("fuse 1: refused edge 4.1 2.1 A anti 1 (<) (1) proven")
+        self.assertIn("!   2 |        A(I) = I", rows)
+        self.assertIn("!   4          B(I) = A(I+1)", rows)
+        player.press("a")
+        player.wait("-  `fuse 1`: refused edge 4.1 2.1 A anti 1 (<) (1) proven")
+        player.press(ESCAPE)
+        player.wait("? keys")
+        self.quit(player)
+
+    def test_distribute_and_fuse_by_advice(self) -> None:
+        """A sum in the loop keeps it from being parallel; taken apart, the rest is free. Fused, it is as it was."""
+        player = self.play(fortran(
+            "INTEGER A(9), B(9)", "SAVE B", "DO I = 2, 9", "A(I) = A(I-1)+1", "B(I) = 2*A(I)", "END DO", "END"
+        ))
+        player.press("a")
+        rows = player.wait("1  try `distribute 1`: ped accepts it, and makes 2 loops of it, of which 3")
+        self.assertIn("     carries nothing", rows)
+        player.press("1")
+        player.wait("distribute 1: ok")
+        player.press("a")
+        player.wait("1  try `fuse 1`: ped accepts it, and makes one of loops 1 and 3, which then")
+        player.press("1")
+        player.wait("fuse 1: ok; loop 1 carries A")
+
     def test_advice_that_moves_the_loop(self) -> None:
         """Iteration 1 alone writes what all read; behind `peel` the loop has another number."""
         player = self.play(fortran("INTEGER A(9)", "DO I = 1, 9", "A(I) = A(1)+1", "END DO", "END"))

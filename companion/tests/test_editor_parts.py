@@ -3,14 +3,14 @@
 import unittest
 from typing import List
 
-from ..editor.advice import Advice, advised
+from ..editor.advice import Advice, advice_page, advised
 from ..editor.changes import NoChange, edit_between
 from ..editor.desk import Desk
 from ..editor.filters import Filters
 from ..editor.pictures import LEAST_HEIGHT, LEAST_WIDTH, Painter, first_shown, folded, visible
 from ..editor.session import Present, Session
 from ..outline import outline_of
-from .support import example_view, examples, fortran, ped
+from .support import example_view, examples, fortran, ped, view_of
 
 NEST = fortran(
     "INTEGER A(9,9)", "DO I = 2, 9", "K = I", "DO J = 2, 9", "A(I,J) = A(I-1,J)+K", "END DO", "END DO",
@@ -161,13 +161,65 @@ class Pictures(unittest.TestCase):
         self.assertEqual(visible("é".encode().decode("latin-1")), "é")
 
 
-class Advised(unittest.TestCase):
-    def test_steps(self) -> None:
+class Pieces(unittest.TestCase):
+    """Pieces of advice: what can be carried out comes first, the most wanted before the others."""
+
+    def test_scalar(self) -> None:
         view = example_view("squares")
-        self.assertEqual(advised(ped(), view, view.program.loops[3])[:2], [
-            Advice("try `privatise 3 T`: ped accepts it, and the loop then carries nothing", ("privatise 3 T",)),
-            Advice("try `expand 3 T`: ped accepts it, and the loop then carries nothing", ("expand 3 T",)),
+        advice = advised(ped(), view, view.program.loops[3])
+        self.assertEqual([one.steps for one in advice if one.steps], [
+            ("privatise 3 T",), ("expand 3 T",), ("peel 3 first",), ("peel 3 last",),
         ])
+        words = "try `privatise 3 T`: ped accepts it, and the loop then carries nothing"
+        self.assertEqual(advice[0], Advice(words, ("privatise 3 T",)))
+
+    def test_free_loop(self) -> None:
+        view = example_view("squares")
+        self.assertEqual([one.steps for one in advised(ped(), view, view.program.loops[1]) if one.steps], [
+            ("parallel 1",), ("fuse 1",), ("reverse 1",), ("peel 1 first",), ("peel 1 last",),
+        ])
+
+    def test_recurrence(self) -> None:
+        """What a dependence forbids is told once for all steps that it forbids."""
+        told = self.told("DO 10 I = 2, 9", "A(I) = A(I-1)", "10 B(I) = 2*A(I)")
+        self.assertEqual(told, [
+            "try `distribute 1`: ped accepts it, and makes 2 loops of it, of which 3 carries nothing",
+            "try `peel 1 first`: ped accepts it", "try `peel 1 last`: ped accepts it",
+            "`interchange 1`: refused rule 2 NotPerfect at 1: the loop's body has to be one loop and nothing else",
+            "`reverse 1` and `parallel 1`: refused edge 2.2 2.1 A flow 1 (<) (1) proven: this dependence forbids them",
+            "`fuse 1`: refused rule 10 NoNeighbour at 1: no loop with the same header stands directly behind it",
+        ])
+
+    def test_step_that_frees(self) -> None:
+        """Each row needs the one before it, and no column another one."""
+        told = self.told("DO 10 I = 2, 9", "DO 10 J = 2, 9", "10 C(I,J) = C(I-1,J)", loop=2)
+        self.assertEqual(told[:2], [
+            "try `parallel 2`: ped accepts it", "try `interchange 1`: ped accepts it, and then `parallel 1`",
+        ])
+
+    def test_parallel_loop(self) -> None:
+        told = self.told("PARALLEL DO 10 I = 2, 9", "10 A(I) = I")
+        self.assertEqual(told, [
+            "try `serial 1`: ped accepts it",
+            "`interchange 1`: refused rule 2 NotPerfect at 1: the loop's body has to be one loop and nothing else",
+            "`reverse 1`, `distribute 1`, `fuse 1`, `parallel 1`, `peel 1 first` and `peel 1 last`: refused rule 3 "
+            "ParallelState at 1: the step leaves loops alone that are PARALLEL DO or stand in one (`serial`: those "
+            "that aren't PARALLEL DO)",
+        ])
+
+    def told(self, *lines: str, loop: int = 1) -> List[str]:
+        """The advice for a loop of a program with some arrays."""
+        view = view_of(fortran("INTEGER A(9), B(9), C(9,9)", *lines, "END"))
+        return [one.words for one in advised(ped(), view, view.program.loops[loop])]
+
+    def test_keys(self) -> None:
+        """Each piece that can be carried out has a key of its own, and none closes the page."""
+        view = example_view("squares")
+        pieces = [Advice(f"try `privatise 3 T{number}`: ped accepts it", ("step",)) for number in range(30)]
+        page = advice_page(view, view.program.loops[3], [*pieces, Advice("otherwise")])
+        self.assertEqual([row[:5] for row in page[2:12]], [f"  {key}  " for key in "123456789a"])
+        self.assertEqual(len(set(row[:5] for row in page[2:27])), 25)
+        self.assertEqual([row[:5] for row in page[27:]], ["     "] * 5 + ["  -  "])
 
 
 if __name__ == "__main__":

@@ -8,7 +8,7 @@ from ..commands.loops import find_loop, loops
 from ..lines import split_lines
 from ..ped import Ped
 from ..replies import Reply, read_replies
-from ..scripts import read_script
+from ..scripts import Command, read_script
 from ..statuses import CompanionError, Status
 from ..views import View
 from .support import ADVICE, example_view, fortran, ped, view_of
@@ -23,10 +23,10 @@ def verdicts(view: View) -> Dict[int, str]:
 
 
 def advice(view: View, loop: int, program: Optional[Ped] = None) -> List[str]:
-    """What is to be tried at a loop; what ped's own advice is, only where it is that of a fake program."""
+    """What is to be tried at a loop; what else ped accepts, only where it is a fake program that does."""
     rows = loops(view, program or ped(), [loop], tries=True).splitlines()
     told = [row.strip()[2:] for row in rows if row.strip().startswith("- ")]
-    return [row for row in told if program is not None or not row.startswith("ped allows here: ")]
+    return [row for row in told if program is not None or not row.startswith("ped accepts ")]
 
 
 def untried(view: View, loop: int) -> List[str]:
@@ -36,28 +36,22 @@ def untried(view: View, loop: int) -> List[str]:
 
 
 class FakePed(Ped):
-    """A program that accepts all steps, or refuses them all for one cause, and gives advice."""
+    """A program that gives the same advice on each loop, accepts all steps and shows no dependence."""
 
-    def __init__(self, refusal: str = "") -> None:
+    def __init__(self) -> None:
         super().__init__("/nowhere/ped")
-        self.refusal = refusal
         self.scripts: List[str] = []
 
     def session(self, source: str, script: str, data: Optional[str] = None) -> List[Reply]:
         self.scripts.append(script)
-        lines = split_lines(source)
-        rows: List[str] = []
-        for command in read_script(script):
-            rows.extend(self._rows(command.word, command.line, lines))
-        return read_replies(read_script(script), rows)
+        commands = read_script(script)
+        return read_replies(commands, [row for one in commands for row in self._rows(one, split_lines(source))])
 
-    def _rows(self, word: str, line: int, lines: List[str]) -> List[str]:
-        if word == "show":
-            return [f"source {len(lines)}", *(f"{number:5}      {text}" for number, text in enumerate(lines, 1)),
-                    "dependences 0"]
-        if word == "advise":
-            return ADVICE
-        return [f"{line}: refused {self.refusal}" if self.refusal else f"{line}: ok"]
+    @staticmethod
+    def _rows(command: Command, lines: List[str]) -> List[str]:
+        shown = [f"source {len(lines)}", *(f"{number:5}      {text}" for number, text in enumerate(lines, 1))]
+        others = {"advise": ADVICE, "show": [*shown, "dependences 0"]}
+        return others.get(command.word, [f"{command.line}: ok"])
 
 
 class Verdicts(unittest.TestCase):
@@ -141,6 +135,7 @@ class Advice(unittest.TestCase):
             "where you know that no two iterations use one element: C$PED REJECT A before the loop",
             "only old values are read: copy B into another array before the loop, and read that one",
             "iterations that are fewer than 3 apart don't depend on each other",
+            "try `distribute 1`: ped accepts it, and makes 3 loops of it",
         ])
 
     def test_lines(self) -> None:
@@ -148,8 +143,11 @@ class Advice(unittest.TestCase):
         self.assertEqual(advice(view, 1), [
             "READ takes its lines in order: read into an array, in a loop of its own",
             "PRINT keeps its lines in order: store the values in an array, and print them in a loop of their own",
+            "try `distribute 1`: ped accepts it, and makes 2 loops of it",
         ])
-        self.assertEqual(advice(example_view("product"), 17), [])
+        self.assertEqual(advice(example_view("product"), 17), [
+            "`interchange 17`: refused edge 19.2 19.2 (OUT) output 1 (<,*) (*,*) pending: this dependence forbids it",
+        ])
 
     def test_variable_behind_the_loop(self) -> None:
         read = view_of(fortran("INTEGER A(9)", "DO 10 I = 1, 9", "10 A(I) = I", "PRINT *, 2", "PRINT *, I", "END"))
@@ -159,18 +157,63 @@ class Advice(unittest.TestCase):
         ))
         self.assertIn("J is in SAVE, and has no value behind a PARALLEL DO", untried(saved, 1))
 
-    def test_steps(self) -> None:
-        """What `parallel` and `advise` answer is told."""
-        free = view_of(fortran("INTEGER A(9)", "DO 10 I = 1, 9", "10 A(I) = I", "END"))
+    def test_asks_for_advice(self) -> None:
+        """Of a loop that carries nothing `advise` tells, and nothing is tried."""
+        nest = view_of(fortran("INTEGER A(9,9)", "DO 10 I = 1, 9, 2", "DO 10 J = 1, 9", "10 A(I,J) = I", "END"))
         fake = FakePed()
-        self.assertEqual(advice(free, 1, fake), [
-            "try `parallel 1`: ped accepts it", "ped allows here: interchange, parallel, peel first",
+        self.assertEqual(advice(nest, 1, fake), [
+            "try `parallel 1`: ped accepts it", "ped accepts `interchange 1` and `peel 1 first`",
         ])
-        self.assertEqual(fake.scripts, ["parallel 1\nshow\nundo\n", "advise 1\n"])
-        self.assertEqual(advice(free, 1, FakePed("rule 5 IndexEscapes at 3"))[0], (
+        self.assertEqual(fake.scripts, ["advise 1\n"])
+
+    def test_tries_what_may_be_better(self) -> None:
+        """The rows depend on each other: whether the columns do where they come outside is tried."""
+        nest = view_of(fortran("INTEGER A(9,9)", "DO 10 I = 2, 9", "DO 10 J = 1, 9", "10 A(I,J) = A(I-1,J)", "END"))
+        fake = FakePed()
+        self.assertEqual(advice(nest, 1, fake), [
+            "try `interchange 1`: ped accepts it, and puts DO J outside, which then carries nothing",
+            "ped accepts `parallel 1` and `peel 1 first`",
+        ])
+        self.assertEqual(fake.scripts, ["advise 1\n", "interchange 1\nshow\nundo\n"])
+
+    def test_parallel_refused(self) -> None:
+        """The variable is wanted behind the loop, where it would have no value."""
+        wanted = view_of(fortran("INTEGER A(9)", "DO 10 I = 1, 9", "10 A(I) = I", "PRINT *, I", "END"))
+        self.assertEqual(advice(wanted, 1), [
             "`parallel 1`: refused rule 5 IndexEscapes at 3: statement 3 reads the variable of a loop where the step "
-            "would leave it without a value"
-        ))
+            "would leave it without a value",
+        ])
+
+    def test_fuse(self) -> None:
+        """B(I) wants what another iteration writes later: fused, it would be read before."""
+        neighbours = ("INTEGER A(9), B(9)", "DO 10 I = 1, 9", "10 A(I) = I", "DO 20 I = 1, 9")
+        self.assertIn(
+            "try `fuse 1`: ped accepts it, and makes one of loops 1 and 3, which then carries nothing",
+            advice(view_of(fortran(*neighbours, "20 B(I) = A(I)", "END")), 1),
+        )
+        carrying = view_of(fortran(*neighbours, "20 B(I) = A(I-1)", "END"))
+        self.assertEqual(advice(carrying, 1), ["try `parallel 1`: ped accepts it"])
+        self.assertIn("- ped accepts `reverse 1`, `fuse 1`,", loops(carrying, ped(), [1], tries=True))
+        self.assertIn(
+            "`fuse 1`: refused edge 4.1 2.1 A anti 1 (<) (1) proven: the one loop would carry this dependence",
+            advice(view_of(fortran(*neighbours, "20 B(I) = A(I+1)", "END")), 1),
+        )
+
+    def test_distribute(self) -> None:
+        view = view_of(fortran("INTEGER A(9), B(9)", "DO 10 I = 2, 9", "A(I) = A(I-1)", "10 B(I) = 2*A(I)", "END"))
+        self.assertEqual(advice(view, 1), [
+            "try `distribute 1`: ped accepts it, and makes 2 loops of it, of which 3 carries nothing",
+        ])
+
+    def test_interchange(self) -> None:
+        """What the outer loop carries to a lower J forbids the interchange; what it carries to the same J doesn't."""
+        head = ("INTEGER A(9,9)", "DO 10 I = 2, 9", "DO 10 J = 1, 8")
+        self.assertEqual(advice(view_of(fortran(*head, "10 A(I,J) = A(I-1,J+1)", "END")), 1), [
+            "`interchange 1`: refused edge 3.2 3.1 A flow 1 (<,>) (1,-1) proven: this dependence forbids it",
+        ])
+        self.assertEqual(advice(view_of(fortran(*head, "10 A(I,J) = A(I-1,J)", "END")), 1), [
+            "try `interchange 1`: ped accepts it, and puts DO J outside, which then carries nothing",
+        ])
 
 
 if __name__ == "__main__":

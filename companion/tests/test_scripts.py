@@ -4,7 +4,7 @@ import unittest
 
 from ..lines import split_lines
 from ..ped import read_file
-from ..replies import Fault, NoReply, Race, read_replies
+from ..replies import Advised, Fault, NoReply, Race, read_replies
 from ..scripts import read_script, weave
 from .support import ADVICE, EXAMPLES, cases
 
@@ -60,8 +60,16 @@ class Replies(unittest.TestCase):
         self.assertIsNone(replies[8].refusal)
 
     def test_advice(self) -> None:
-        replies = read_replies(read_script("advise 1\nadvise 2\nadvise 9\n"), [*ADVICE, *ADVICE, "3: refused NoSuchStatement"])
+        commands = read_script("advise 1\nadvise 12\nadvise 99\n")
+        replies = read_replies(commands, [*ADVICE, *ADVICE, "3: refused NoSuchStatement"])
         self.assertEqual([len(reply.rows) for reply in replies], [8, 8, 1])
+        self.assertEqual([len(reply.advised) for reply in replies], [8, 8, 0])
+        self.assertEqual(replies[1].advised[:2], (
+            Advised("interchange 12", None), Advised("reverse 12", "rule 8 StepShape at 1"),
+        ))
+        self.assertEqual(replies[1].advised[6:], (
+            Advised("peel 12 first", None), Advised("peel 12 last", "rule 9 Range at 1"),
+        ))
         for rows in (ADVICE[:7], [*ADVICE[1:], ADVICE[0]]):
             with self.assertRaises(NoReply, msg=str(rows)):
                 read_replies(read_script("advise 1\n"), rows)

@@ -10,7 +10,7 @@ use Rattle.ped_session.specs.ped_graph.proofs.OnePane.{one_edges}
 use Rattle.ped_session.specs.ped_valid.specs.Validity.{ReadsValid}
 use Rattle.ped_session.specs.ped_order.specs.ped_eval.specs.Outcomes.{Outcome, outcome}
 use Rattle.ped_session.specs.ped_order.specs.ped_interleavings.specs.Interleavings.{at_start, IsInterleaved}
-use Rattle.ped_session.specs.ped_order.specs.ped_confluence.proofs.OneOutcome.{one_outcome}
+use Rattle.ped_session.specs.ped_order.proofs.OneOutcome.{one_outcome}
 use Rattle.ped_session.specs.ped_transformations.specs.ped_script.specs.Items.{commands_of}
 use Rattle.ped_session.specs.States.{State, opened}
 use Rattle.ped_session.proofs.OneStep.{one_tree}

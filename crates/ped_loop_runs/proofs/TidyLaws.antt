@@ -4,7 +4,7 @@ pub mod UnrejectedEdges
 pub mod TidyPathsSums
 pub mod TidyPathsStops
 pub mod TidyPathsGaps
-mod TidyPathsBut
+pub mod TidyPathsBut
 mod TidyPathsPassed
 pub mod TidyPathsShown
 pub mod TidyPathsInside
@@ -15,6 +15,6 @@ mod Comments
 pub mod WrittenIndices
 pub mod TidyPathsPrivate
 pub mod ExchangedShown
-mod ExchangedDos
+pub mod ExchangedDos
 pub mod ExchangedTidy
 mod Examples

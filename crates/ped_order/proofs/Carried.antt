@@ -2,8 +2,8 @@
 use Rattle.std.proofs.Common.{◌≡◌, ℕ, List, ◌∷◌, subst, ◌∙◌, append_assoc}
 use Rattle.ped_tree.specs.Tree.{ProgramTree}
 use Rattle.ped_store.specs.Races.{Access}
-use Rattle.ped_confluence.specs.ped_laws.specs.ped_edges.specs.Edges.{Edge}
-use Rattle.ped_confluence.specs.ped_laws.specs.Conflicts.Covered.{ComeInRun, IsCarriedInParallel}
+use Rattle.ped_laws.specs.ped_edges.specs.Edges.{Edge}
+use Rattle.ped_laws.specs.Conflicts.Covered.{ComeInRun, IsCarriedInParallel}
 use Rattle.ped_order.specs.Reports.{Report, NoRace, Race, Fault, IsReport}
 use Rattle.ped_order.specs.CarriedRaces.{IsCarried}
 

@@ -3,9 +3,9 @@ use Rattle.std.proofs.Common.{◌≡◌, ℕ, List, [], ◌∷◌, ◌++◌, Opt
 use Rattle.std.proofs.lemmas.List.{append-nil}
 use Rattle.ped_tree.specs.Tree.{ProgramTree}
 use Rattle.ped_store.specs.Races.{Access, accesses, HasNoRace}
-use Rattle.ped_confluence.specs.ped_laws.specs.ped_eval.specs.Follow.{Follow}
-use Rattle.ped_confluence.specs.ped_laws.specs.ped_eval.specs.Runs.{Ending, going, stopped, failed}
-use Rattle.ped_confluence.specs.ped_laws.specs.ped_eval.specs.Outcomes.{Outcome, run_of, outcome_of, Ends}
+use Rattle.ped_laws.specs.ped_eval.specs.Follow.{Follow}
+use Rattle.ped_laws.specs.ped_eval.specs.Runs.{Ending, going, stopped, failed}
+use Rattle.ped_laws.specs.ped_eval.specs.Outcomes.{Outcome, run_of, outcome_of, Ends}
 use Rattle.ped_order.specs.declared.tables.Table.{Table}
 use Rattle.ped_order.specs.declared.watches.FoundRace.{FoundRace}
 use Rattle.ped_order.specs.declared.watches.RaceWatch.{RaceWatch}

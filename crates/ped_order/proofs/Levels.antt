@@ -7,8 +7,8 @@ use Rattle.std.specs.Cmp.Lexicographic.{pointwise}
 use Rattle.ped_store.specs.Cells.{Iteration, same_iteration}
 use Rattle.ped_store.specs.Acts.{Turn}
 use Rattle.ped_store.specs.Races.{are_apart}
-use Rattle.ped_confluence.specs.ped_laws.specs.ped_eval.specs.declared.accesses.Turn as code
-use Rattle.ped_confluence.specs.ped_laws.specs.ped_eval.specs.AccessViews.{turn_view}
+use Rattle.ped_laws.specs.ped_eval.specs.declared.accesses.Turn as code
+use Rattle.ped_laws.specs.ped_eval.specs.AccessViews.{turn_view}
 use Rattle.ped_order.specs.Keys.{iteration_of, is_elsewhere}
 
 -- no place is apart from one outside all DO loops

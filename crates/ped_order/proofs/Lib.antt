@@ -1,3 +1,14 @@
+mod Traces
+mod Doing
+mod Picks
+mod Stepping
+mod Tracing
+mod Halting
+mod Reaching
+mod Outcomes
+mod InOrder
+pub mod OneOutcome
+mod Examples
 mod Searches
 mod Levels
 mod Remembering

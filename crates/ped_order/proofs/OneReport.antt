@@ -7,8 +7,8 @@ use Rattle.std.proofs.lemmas.List.{append-nil}
 use Rattle.ped_tree.specs.Tree.{ProgramTree}
 use Rattle.ped_store.specs.Cells.{Cell}
 use Rattle.ped_store.specs.Races.{Access, accesses, race, HasNoRace}
-use Rattle.ped_confluence.specs.ped_laws.specs.ped_eval.specs.Runs.{Ending, going, stopped, failed}
-use Rattle.ped_confluence.specs.ped_laws.specs.ped_eval.specs.Outcomes.{run_of, Ends, IsRaceFree}
+use Rattle.ped_laws.specs.ped_eval.specs.Runs.{Ending, going, stopped, failed}
+use Rattle.ped_laws.specs.ped_eval.specs.Outcomes.{run_of, Ends, IsRaceFree}
 use Rattle.ped_order.specs.declared.sightings.Sighting.{Sighting}
 use Rattle.ped_order.specs.Sightings.{first_sighting}
 use Rattle.ped_order.specs.FirstRaces.{IsFirstRace, IsRaceAt}

@@ -6,7 +6,7 @@ use Rattle.std.specs.Cmp.{IsEquivalence, IsPartialEquivalence, decided, partial_
 use Rattle.std.specs.Cmp.Lexicographic.{pointwise}
 use Rattle.ped_store.specs.Cells.{same_iteration, same_cell}
 use Rattle.ped_store.specs.IterationLaws.{iterations_decide}
-use Rattle.ped_confluence.specs.ped_laws.proofs.ActLaws.SameCells.{cell_is, is_cell}
+use Rattle.ped_laws.proofs.ActLaws.SameCells.{cell_is, is_cell}
 use Rattle.ped_order.specs.Keys.{Key, same_key, key_writes}
 
 -- the test of keys is equality

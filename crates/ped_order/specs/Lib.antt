@@ -1,8 +1,8 @@
-pub use Rattle.ped_confluence.specs.ped_laws.specs.ped_flow
 pub use Rattle.ped_store
-pub use Rattle.ped_confluence
-pub use Rattle.ped_confluence.specs.ped_interleavings
-pub use Rattle.ped_confluence.specs.ped_laws.specs.ped_eval
+pub use Rattle.ped_laws
+pub use Rattle.ped_interleavings
+pub use Rattle.ped_laws.specs.ped_flow
+pub use Rattle.ped_laws.specs.ped_eval
 pub mod FirstRaces
 pub mod KeyLaws
 pub mod Keys

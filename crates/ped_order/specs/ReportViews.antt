@@ -1,7 +1,7 @@
 -- The reports that the code's reports stand for (this project).
 use Rattle.std.specs.Prelude.{Option, Some, None}
 use Rattle.ped_store.specs.CellViews.{cell_view}
-use Rattle.ped_confluence.specs.ped_laws.specs.ped_eval.specs.Outcomes as outcomes
+use Rattle.ped_laws.specs.ped_eval.specs.Outcomes as outcomes
 use Rattle.ped_order.specs.Reports.{Report, NoRace, Race, Fault}
 use Rattle.ped_order.specs.declared.reports.RaceReport as code
 use Rattle.ped_order.specs.declared.reports.RaceReport.TheVariants as variant

@@ -3,8 +3,8 @@ use Rattle.std.specs.Prelude.{◌≡◌, ℕ, List}
 use Rattle.ped_tree.specs.Tree.{ProgramTree}
 use Rattle.ped_store.specs.Cells.{Cell}
 use Rattle.ped_store.specs.Races.{accesses, HasNoRace}
-use Rattle.ped_confluence.specs.ped_laws.specs.ped_eval.specs.Runs.{failed}
-use Rattle.ped_confluence.specs.ped_laws.specs.ped_eval.specs.Outcomes.{run_of, IsRaceFree}
+use Rattle.ped_laws.specs.ped_eval.specs.Runs.{failed}
+use Rattle.ped_laws.specs.ped_eval.specs.Outcomes.{run_of, IsRaceFree}
 use Rattle.ped_order.specs.FirstRaces.{IsRaceAt}
 
 -- what is found of a program on its data: that it runs without a fault and without a race; a race on a cell, with the statements of the earlier access and of the later one; or a fault by its number, with the statement that meets it (this project)

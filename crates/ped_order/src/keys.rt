@@ -6,11 +6,11 @@ ghost use Rattle.ped_base.specs.Lists.{is_same_text};
 ghost use Rattle.ped_store.specs.Cells.{Private, same_cell, same_iteration};
 ghost use Rattle.ped_store.specs.CellViews.{cell_view};
 ghost use Rattle.ped_store.specs.Iterations.{iterations_writes};
-ghost use Rattle.ped_confluence.specs.ped_laws.specs.ped_eval.specs.AccessViews.{turn_view};
+ghost use Rattle.ped_laws.specs.ped_eval.specs.AccessViews.{turn_view};
 ghost use Rattle.ped_order.specs.Keys.{cell_writes, iteration_of, key_of};
 
 use ped_base::{Name, NoMemory};
-use ped_confluence::ped_laws::ped_eval::Turn;
+use ped_laws::ped_eval::Turn;
 use ped_store::{Cell, Iteration, PrivateCopy};
 use std::alloc::Global;
 use std::hash::{Hash, Hasher};

@@ -2,7 +2,7 @@
 
 ghost use Rattle.std.specs.Prelude.{◌≡◌, ◌↔◌, ℕ, List};
 ghost use Rattle.ped_tree.specs.Tree.{ProgramTree};
-ghost use Rattle.ped_confluence.specs.ped_laws.specs.ped_eval.specs.Outcomes.{IsRaceFree};
+ghost use Rattle.ped_laws.specs.ped_eval.specs.Outcomes.{IsRaceFree};
 ghost use Rattle.ped_order.specs.Reports.{Report, NoRace, IsReport};
 
 /// A program has exactly one report on its data.

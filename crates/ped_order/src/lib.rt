@@ -1,8 +1,11 @@
-//! Races of a program on its data: the first access of its run in order that races with an earlier one, or that there is
-//! none. A watch is told the accesses of the run one by one and remembers of each cell and each execution of a PARALLEL DO
-//! as much as later accesses ask for. The definitions of reports stand in `specs/`.
+//! The order of iterations of PARALLEL DO loops. Where a program runs without a fault and a race it doesn't show: that is a
+//! law, and docs/MEANING.md tells how it is proved. And the races of a program on its data: the first access of its run in
+//! order that races with an earlier one, or that there is none. A watch is told the accesses of the run one by one and
+//! remembers of each cell and each execution of a PARALLEL DO as much as later accesses ask for. The definitions of reports
+//! stand in `specs/`.
 #![tactic(auto)]
 
+mod agreeing;
 mod keys;
 mod laws;
 mod reports;
@@ -11,9 +14,10 @@ mod sightings;
 mod tables;
 mod watches;
 
+pub use agreeing::{interleavings_agree, without_choices};
 pub use laws::{no_race_where_race_free, one_report};
-pub use ped_confluence::ped_laws::ped_eval;
-pub use ped_confluence::{an_interleaving, interleavings_agree, without_choices};
+pub use ped_interleavings::an_interleaving;
+pub use ped_laws::ped_eval;
 pub use ped_store;
 pub use reports::RaceReport;
 pub use searching::races;

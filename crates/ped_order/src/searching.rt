@@ -2,11 +2,11 @@
 
 ghost use Rattle.std.specs.Prelude.{◌≡◌, List, IfOk};
 ghost use Rattle.ped_tree.specs.Views.{program_tree};
-ghost use Rattle.ped_confluence.specs.ped_laws.specs.ped_graph.specs.ped_symbols.specs.Kinds.{table_of};
-ghost use Rattle.ped_confluence.specs.ped_laws.specs.ped_graph.specs.ped_symbols.specs.NameRefusals.{IsValid};
-ghost use Rattle.ped_confluence.specs.ped_laws.specs.ped_edges.specs.Edges.{Edge};
-ghost use Rattle.ped_confluence.specs.ped_laws.specs.ped_graph.specs.Dependences.{AreEdges};
-ghost use Rattle.ped_confluence.specs.ped_laws.specs.ped_eval.specs.OutcomeViews.{outcome_view};
+ghost use Rattle.ped_laws.specs.ped_graph.specs.ped_symbols.specs.Kinds.{table_of};
+ghost use Rattle.ped_laws.specs.ped_graph.specs.ped_symbols.specs.NameRefusals.{IsValid};
+ghost use Rattle.ped_laws.specs.ped_edges.specs.Edges.{Edge};
+ghost use Rattle.ped_laws.specs.ped_graph.specs.Dependences.{AreEdges};
+ghost use Rattle.ped_laws.specs.ped_eval.specs.OutcomeViews.{outcome_view};
 ghost use Rattle.ped_order.specs.Reports.{IsReport};
 ghost use Rattle.ped_order.specs.ReportViews.{report_view, report_of};
 ghost use Rattle.ped_order.specs.CarriedRaces.{IsCarried};
@@ -14,9 +14,9 @@ ghost use Rattle.ped_order.specs.CarriedRaces.{IsCarried};
 use crate::reports::RaceReport;
 use crate::watches::{FoundRace, RaceWatch};
 use ped_base::NoMemory;
-use ped_confluence::ped_laws::conflicts::races_are_covered;
-use ped_confluence::ped_laws::ped_eval::{Outcome, run_watched};
-use ped_confluence::ped_laws::ped_graph::ped_symbols::Symbols;
+use ped_laws::conflicts::races_are_covered;
+use ped_laws::ped_eval::{Outcome, run_watched};
+use ped_laws::ped_graph::ped_symbols::Symbols;
 use ped_tree::Program;
 use std::alloc::Global;
 

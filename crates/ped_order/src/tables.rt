@@ -4,7 +4,7 @@ ghost use Rattle.std.specs.Prelude.{◌≡◌, List, ℕ, ◌∷◌, [], ◌++�
 ghost use Rattle.std.specs.Map.{lookup};
 ghost use Rattle.ped_store.specs.Races.{race};
 ghost use Rattle.ped_store.specs.Races as Races;
-ghost use Rattle.ped_confluence.specs.ped_laws.specs.ped_eval.specs.AccessViews.{access_view, turn_view};
+ghost use Rattle.ped_laws.specs.ped_eval.specs.AccessViews.{access_view, turn_view};
 ghost use Rattle.ped_order.specs.Keys.{same_key, key_of};
 ghost use Rattle.ped_order.specs.Sightings.{first_sighting};
 ghost use Rattle.ped_order.specs.Sightings as Spec;
@@ -14,7 +14,7 @@ use crate::keys::Key;
 use crate::sightings::{Entry, Sighting, earlier_of, rival_in, with_access};
 use indexmap::IndexMap;
 use ped_base::NoMemory;
-use ped_confluence::ped_laws::ped_eval::{Access, Turn};
+use ped_laws::ped_eval::{Access, Turn};
 use std::alloc::Global;
 
 /// The accesses of a run without a race, by what later accesses ask for.

@@ -160,7 +160,7 @@ fn add_apart(
 {
     for p in partials {
         if let Some(sum) = sum_to(&p.scalar, statement) {
-            return add_sum(alloc, all, v, p, sum);
+            return add_sum(alloc, all, v, p, &sum);
         }
     }
     add_one(all, statement.copy(alloc)?)
@@ -172,9 +172,9 @@ fn add_sum(
     all: &mut Vec<Stmt>,
     v: Name,
     p: &Partials,
-    sum: Sum,
+    sum: &Sum,
 ) -> Result<(), NoMemory>
-    ensures { OnOk result (stmt_trees all.new.items ≡ Replacing.followed (stmt_trees all.old.items) (Spec.added_apart v (partials_view p.now) (sum_view sum))) }
+    ensures { OnOk result (stmt_trees all.new.items ≡ Replacing.followed (stmt_trees all.old.items) (Spec.added_apart v (partials_view p.now) (sum_view sum.now))) }
 {
     all.push(high_part(alloc, v, p, sum)?)?;
     all.push(low_part(alloc, v, p, sum)?)?;
@@ -183,8 +183,8 @@ fn add_sum(
 }
 
 /// The high part of what is added.
-fn high_part(alloc: Global, v: Name, p: &Partials, sum: Sum) -> Result<Stmt, NoMemory>
-    ensures { IfOk result (λ s. stmt_tree s ≡ Tree.Assign (Spec.at p.now.high v) (Tree.Add (Spec.at p.now.high v) (Tree.Div (Spec.with_sum (Spec.at p.now.low v) (sum_view sum)) (Tree.Int 65536)))) }
+fn high_part(alloc: Global, v: Name, p: &Partials, sum: &Sum) -> Result<Stmt, NoMemory>
+    ensures { IfOk result (λ s. stmt_tree s ≡ Tree.Assign (Spec.at p.now.high v) (Tree.Add (Spec.at p.now.high v) (Tree.Div (Spec.with_sum (Spec.at p.now.low v) (sum_view sum.now)) (Tree.Int 65536)))) }
 {
     let value = with_sum(alloc, v, p, sum)?;
     let quotient = Expr::quotient(alloc, value, Expr::literal(65536))?;
@@ -195,8 +195,8 @@ fn high_part(alloc: Global, v: Name, p: &Partials, sum: Sum) -> Result<Stmt, NoM
 }
 
 /// The low part of what is added.
-fn low_part(alloc: Global, v: Name, p: &Partials, sum: Sum) -> Result<Stmt, NoMemory>
-    ensures { IfOk result (λ s. stmt_tree s ≡ Tree.Assign (Spec.at p.now.low v) (Tree.Call Mod (Tree.more_exprs (Spec.with_sum (Spec.at p.now.low v) (sum_view sum)) (Tree.more_exprs (Tree.Int 65536) Tree.no_exprs)))) }
+fn low_part(alloc: Global, v: Name, p: &Partials, sum: &Sum) -> Result<Stmt, NoMemory>
+    ensures { IfOk result (λ s. stmt_tree s ≡ Tree.Assign (Spec.at p.now.low v) (Tree.Call Mod (Tree.more_exprs (Spec.with_sum (Spec.at p.now.low v) (sum_view sum.now)) (Tree.more_exprs (Tree.Int 65536) Tree.no_exprs)))) }
 {
     let mut arguments = Vec::new(alloc);
     arguments.push(with_sum(alloc, v, p, sum)?)?;
@@ -209,8 +209,8 @@ fn low_part(alloc: Global, v: Name, p: &Partials, sum: Sum) -> Result<Stmt, NoMe
 }
 
 /// The low part with what is added, or without what is taken away.
-fn with_sum(alloc: Global, v: Name, p: &Partials, sum: Sum) -> Result<Expr, NoMemory>
-    ensures { IfOk result (λ e. expr_tree e ≡ Spec.with_sum (Spec.at p.now.low v) (sum_view sum)) }
+fn with_sum(alloc: Global, v: Name, p: &Partials, sum: &Sum) -> Result<Expr, NoMemory>
+    ensures { IfOk result (λ e. expr_tree e ≡ Spec.with_sum (Spec.at p.now.low v) (sum_view sum.now)) }
 {
     let low = at(alloc, p.low, v)?;
     match sum {

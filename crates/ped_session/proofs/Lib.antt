@@ -15,4 +15,5 @@ mod PrintedSources
 mod RefusedSteps
 mod Shown
 mod States
+mod StepCommands
 mod Stepping

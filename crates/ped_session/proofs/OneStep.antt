@@ -14,7 +14,7 @@ use Rattle.ped_session.specs.ped_graph.specs.DependencePane.{IsDependencePane, I
 use Rattle.ped_session.specs.ped_graph.proofs.OnePane.{one_pane, one_pane_of}
 use Rattle.ped_session.specs.ped_graph.specs.Update.Fresh.{tested_pairs}
 use Rattle.ped_order.specs.ped_interleavings.specs.Interleavings.{at_start}
-use Rattle.ped_order.specs.ped_confluence.proofs.OneOutcome.{one_outcome}
+use Rattle.ped_order.proofs.OneOutcome.{one_outcome}
 use Rattle.ped_transformations.specs.ped_reindex.specs.ped_loops.specs.ped_scalar.specs.ped_rules.specs.ped_loop_runs.specs.ped_bodies.specs.ped_steps.specs.Causes.{Cause}
 use Rattle.ped_session.specs.ped_transformations.specs.ped_script.specs.declared.items.Command.{Command}
 use Rattle.ped_session.specs.ped_transformations.specs.ped_script.specs.declared.items.Command.TheVariants.{Source, Deps, Show, Print, Advise, Replace, Insert, Delete, Interchange, Reverse, Skew, Strip, Peel, Distribute, Fuse, Expand, Privatise, Parallel, Serial, Reject, Undo, Redo, Run, Races, Tested}

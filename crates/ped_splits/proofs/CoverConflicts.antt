@@ -1,18 +1,19 @@
 -- Two DO loops become one: accesses that cross in an execution of the two are covered by a dependence that the one DO carries, whatever forbids the step.
-use Rattle.std.proofs.Common.{◌≡◌, ◌⊎◌, ℕ, ◌+◌, ◌-◌, ◌<◌, ◌≤◌, ◌&&◌, ◌||◌, List, [], ◌∷◌, ◌++◌, length, map, true, Some, inl, inr, if◌then◌else◌, refl, sym, ap, ◌∙◌, subst, append_assoc, append-nil, arith}
+use Rattle.std.proofs.Common.{◌≡◌, ◌⊎◌, ℕ, ◌+◌, ◌-◌, ◌<◌, ◌≤◌, ◌&&◌, ◌||◌, List, [], ◌∷◌, ◌++◌, length, map, true, Some, inl, inr, if◌then◌else◌, refl, sym, ap, ◌∙◌, subst, append_assoc, arith}
+use Rattle.std.specs.Str.Lines.{lines}
 use Rattle.std.proofs.lemmas.Bool.{and_parts}
 use Rattle.std.proofs.lemmas.List.{map-append}
 use Rattle.ped_tree.specs.Numbering.{statement_count, statements_count}
-use Rattle.ped_tree.specs.Tree.{Head, StmtTree, StmtTrees, Assign, If, Do, Print, Read, Stop, Comment, no_stmts, more_stmts, ProgramTree}
+use Rattle.ped_tree.specs.Tree.{Head, StmtTrees, Do, ProgramTree}
 use Rattle.ped_reindex.specs.ped_loops.specs.ped_scalar.specs.ped_rules.specs.ped_loop_runs.specs.ped_bodies.proofs.BodyLaws.TripLists.{loop_apart}
 use Rattle.ped_reindex.specs.ped_loops.specs.ped_scalar.specs.ped_rules.specs.ped_loop_runs.specs.ped_bodies.specs.Trips.{IsMadeOfTrips, bounds_seen, entered_from}
-use Rattle.ped_reindex.specs.ped_loops.specs.ped_scalar.specs.ped_rules.specs.ped_loop_runs.specs.ped_bodies.specs.ped_steps.proofs.RunLaws.RunCells.{EachDo, EachDos}
-use Rattle.ped_reindex.specs.ped_loops.specs.ped_scalar.specs.ped_rules.specs.ped_loop_runs.specs.ped_bodies.specs.ped_steps.proofs.RunLaws.RunPlaces.{all_each, stands_in}
+use Rattle.ped_reindex.specs.ped_loops.specs.ped_scalar.specs.ped_rules.specs.ped_loop_runs.specs.ped_bodies.specs.ped_steps.proofs.RunLaws.RunPlaces.{stands_in}
 use Rattle.ped_reindex.specs.ped_loops.specs.ped_scalar.specs.ped_rules.specs.ped_loop_runs.specs.ped_bodies.specs.ped_steps.specs.Runs.Renumbering.{renumbered_place, renumbered_turn}
 use Rattle.ped_reindex.specs.ped_loops.specs.ped_scalar.specs.ped_rules.specs.ped_loop_runs.proofs.LoopLaws.ApartTurns.{or_turned}
 use Rattle.ped_reindex.specs.ped_loops.specs.ped_scalar.specs.ped_rules.specs.ped_loop_runs.proofs.LoopLaws.LoopParts.{IsOfTrip, act_of_loop}
 use Rattle.ped_reindex.specs.ped_loops.specs.ped_scalar.specs.ped_rules.specs.ped_loop_runs.proofs.PastingLaws.ActNumbers.{all_in as acts_in}
 use Rattle.ped_reindex.specs.ped_loops.specs.ped_scalar.specs.ped_rules.specs.ped_loop_runs.specs.Carried.{IsCarriedInside, IsCoveredAt}
+use Rattle.ped_reindex.specs.ped_loops.specs.ped_scalar.specs.ped_rules.specs.ped_loop_runs.specs.Executions.{IsExecuted}
 use Rattle.ped_reindex.specs.ped_loops.specs.ped_scalar.specs.ped_rules.specs.ped_loop_runs.specs.ped_bodies.specs.ped_steps.specs.ped_laws.specs.ped_graph.specs.ped_edges.specs.Edges.{Edge}
 use Rattle.ped_reindex.specs.ped_loops.specs.ped_scalar.specs.ped_rules.specs.ped_loop_runs.specs.ped_bodies.specs.ped_steps.specs.ped_laws.specs.ped_graph.specs.Dependences.{AreEdges}
 use Rattle.ped_reindex.specs.ped_loops.specs.ped_scalar.specs.ped_rules.specs.ped_loop_runs.specs.ped_bodies.specs.ped_steps.specs.ped_laws.proofs.ActLaws.Lists.{in_parts}
@@ -21,15 +22,16 @@ use Rattle.ped_reindex.specs.ped_loops.specs.ped_scalar.specs.ped_rules.specs.pe
 use Rattle.ped_reindex.specs.ped_loops.specs.ped_scalar.specs.ped_rules.specs.ped_loop_runs.specs.ped_bodies.specs.ped_steps.specs.ped_laws.proofs.ConflictLaws.Scoping.{act_of_access, touch_of_access}
 use Rattle.ped_reindex.specs.ped_loops.specs.ped_scalar.specs.ped_rules.specs.ped_loop_runs.specs.ped_bodies.specs.ped_steps.specs.ped_laws.specs.Acts.Orders.{IsIn}
 use Rattle.ped_reindex.specs.ped_loops.specs.ped_scalar.specs.ped_rules.specs.ped_loop_runs.specs.ped_bodies.specs.ped_steps.specs.ped_laws.specs.Conflicts.Directions.{StandInDirections}
+use Rattle.ped_reindex.specs.ped_loops.specs.ped_scalar.specs.ped_rules.specs.ped_loop_runs.specs.ped_bodies.specs.ped_steps.specs.ped_laws.specs.Runs.Replaying.{finish_of, goes_on}
 use Rattle.ped_reindex.specs.ped_loops.specs.ped_scalar.specs.ped_rules.specs.ped_loop_runs.specs.ped_bodies.specs.ped_steps.specs.ped_laws.specs.Runs.Touching.{Meeting}
-use Rattle.ped_reindex.specs.ped_loops.specs.ped_scalar.specs.ped_rules.specs.ped_loop_runs.specs.ped_bodies.specs.ped_steps.specs.ped_laws.specs.ped_eval.specs.Loops.{Entered, entered_with, frame}
+use Rattle.ped_reindex.specs.ped_loops.specs.ped_scalar.specs.ped_rules.specs.ped_loop_runs.specs.ped_bodies.specs.ped_steps.specs.ped_laws.specs.ped_eval.specs.Loops.{Entered, frame}
 use Rattle.ped_reindex.specs.ped_loops.specs.ped_scalar.specs.ped_rules.specs.ped_loop_runs.specs.ped_bodies.specs.ped_steps.specs.ped_laws.specs.ped_eval.specs.Outcomes.{Ends, run_of, setting_of}
 use Rattle.ped_reindex.specs.ped_loops.specs.ped_scalar.specs.ped_rules.specs.ped_loop_runs.specs.ped_bodies.specs.ped_steps.specs.ped_laws.specs.ped_eval.specs.Runs.{run, run_all}
 use Rattle.ped_reindex.specs.ped_loops.specs.ped_scalar.specs.ped_rules.specs.ped_loop_runs.specs.ped_bodies.specs.ped_steps.specs.ped_laws.specs.ped_eval.specs.Scopes.{Setting, Scope, place_of, turns_of}
 use Rattle.ped_reindex.specs.ped_loops.specs.ped_scalar.specs.ped_rules.specs.ped_loop_runs.specs.ped_bodies.specs.ped_steps.specs.ped_laws.specs.ped_store.specs.Acts.{Act, Place, Turn}
 use Rattle.ped_reindex.specs.ped_loops.specs.ped_scalar.specs.ped_rules.specs.ped_loop_runs.specs.ped_bodies.specs.ped_steps.specs.ped_laws.specs.ped_store.specs.Races.{Access, accesses, accesses_of, conflict}
 use Rattle.ped_reindex.specs.ped_loops.specs.ped_scalar.specs.ped_rules.specs.ped_loop_runs.specs.ped_bodies.specs.ped_steps.specs.ped_laws.specs.ped_store.specs.Cells.{same_cell}
-use Rattle.ped_reindex.specs.ped_loops.specs.ped_scalar.specs.ped_rules.specs.ped_loop_runs.specs.ped_bodies.specs.ped_steps.specs.ped_laws.specs.ped_store.specs.Stores.{Store}
+use Rattle.ped_reindex.specs.ped_loops.specs.ped_scalar.specs.ped_rules.specs.ped_loop_runs.specs.ped_bodies.specs.ped_steps.specs.ped_laws.specs.ped_store.specs.Stores.{Store, store_at_start}
 use Rattle.ped_splits.proofs.CoverFacts.{MayFuse}
 use Rattle.ped_splits.proofs.CoverKinds.{setting_alike}
 use Rattle.ped_splits.proofs.CoverMade as made
@@ -37,10 +39,11 @@ use Rattle.ped_splits.proofs.CoverMeets as meets
 use Rattle.ped_splits.proofs.CoverMeets.{SameInitial}
 use Rattle.ped_splits.proofs.CoverNumbers.{AreBelow, as_first, below_first, gap_below, in_body_of, its_number, less_no, less_yes, test_no, turns_below}
 use Rattle.ped_splits.proofs.CoverTrips.{first_goes_on, pair_acts, second_goes_on}
+use Rattle.ped_splits.proofs.CoverTurns.{AreWithin, StandsWithin, stands_within}
 use Rattle.ped_splits.proofs.JoinCrossing.{renamed_head, second_body, store_between}
 use Rattle.ped_splits.specs.Fusing.{Match}
 use Rattle.ped_splits.specs.Neighbours.{Neighbour, closed_up, fused, next_number}
-use Rattle.ped_splits.specs.OneVariable.{Cross, in_one, number_in_one, renamed, renamed_next, renamed_pair}
+use Rattle.ped_splits.specs.OneVariable.{in_one, number_in_one, renamed, renamed_next, renamed_pair}
 
 heads : {X : Type 0} (x y : X) (xs ys : List X) → x ∷ xs ≡ y ∷ ys → x ≡ y
 heads x y xs ys e = cc
@@ -56,38 +59,6 @@ behind_front (k ∷ at) xs ys e = behind_front at xs ys (tails k k (at ++ xs) (a
 no_longer : {X : Type 0} (xs : List X) (y : X) (ys : List X) → xs ≡ xs ++ y ∷ ys → ⊥
 no_longer [] y ys e = absurd cc
 no_longer (x ∷ xs) y ys e = no_longer xs y ys (tails x x xs (xs ++ y ∷ ys) e)
-
--- the DO loops in statements have numbers of theirs
-mutual
-  do_within : (x : StmtTree) (n lo hi : ℕ) → lo ≤ n → n + statement_count x ≤ hi → EachDo (λ k h b. (lo ≤ k) × (k < hi)) x n
-  do_within (Assign left right) n lo hi h k = tt
-  do_within (If c a b) n lo hi h k = (dos_within a (n + 1) lo hi (omega (arith, h)) (omega (arith, k)), dos_within b (n + 1 + statements_count a) lo hi (omega (arith, h)) (omega (arith, k)))
-  do_within (Do head b) n lo hi h k = ((h, omega (arith, k)), dos_within b (n + 1) lo hi (omega (arith, h)) (omega (arith, k)))
-  do_within (Print items) n lo hi h k = tt
-  do_within (Read items) n lo hi h k = tt
-  do_within Stop n lo hi h k = tt
-  do_within (Comment text) n lo hi h k = tt
-
-  dos_within : (xs : StmtTrees) (n lo hi : ℕ) → lo ≤ n → n + statements_count xs ≤ hi → EachDos (λ k h b. (lo ≤ k) × (k < hi)) xs n
-  dos_within no_stmts n lo hi h k = tt
-  dos_within (more_stmts x rest) n lo hi h k = (do_within x n lo hi h (omega (arith, k)), dos_within rest (n + statement_count x) lo hi (omega (arith, h)) (omega (arith, k)))
-
--- iterations of DO loops with such numbers
-abbrev AreWithin : ℕ → ℕ → List Turn → Type 0
-AreWithin lo hi [] = Unit {0}
-AreWithin lo hi (t ∷ ts) = ((lo ≤ t.statement) × (t.statement < hi)) × AreWithin lo hi ts
-
--- an act in these iterations and further inside, in DO loops with such numbers
-abbrev StandsWithin : ℕ → ℕ → List Turn → Act → Type 0
-StandsWithin lo hi ts a = (more : List Turn) × (a.place.turns ≡ ts ++ more) × AreWithin lo hi more
-
-stands_within : (t : ProgramTree) (ts : StmtTrees) (n : ℕ) (S : Scope) (s : Store) (a : Act) → IsIn a (run_all (setting_of t) ts n S s).acts → StandsWithin n (n + statements_count ts) (turns_of S) a
-stands_within t ts n S s a i =
-    all_each (setting_of t) (λ k h body. (n ≤ k) × (k < n + statements_count ts)) (λ T b. StandsWithin n (n + statements_count ts) (turns_of T) b) (λ T k step touches. ([], sym (append-nil (turns_of T)), tt))
-    (λ k h body seen m j T u b q there inside.
-    let r = (frame (entered_with (setting_of t) k h body seen m) j).turn in
-    (r ∷ inside.0, inside.1 ∙ append_assoc (turns_of T) (r ∷ []) inside.0, (q, inside.2)))
-    ts n S s (dos_within ts n n (n + statements_count ts) (omega arith) (omega arith)) a i
 
 -- an act of a DO that stands in an iteration of it is of that trip
 module _ (p : Setting) (d : Head) (body : StmtTrees) (k : ℕ) (scope : Scope) (v : Store) (old : IsMadeOfTrips p d body k scope v) where
@@ -121,7 +92,29 @@ module _ (p : Setting) (d : Head) (body : StmtTrees) (k : ℕ) (scope : Scope) (
             is = heads j (frame entered r.number).turn js stood.0 (behind_front (turns_of scope) (j ∷ js) ((frame entered r.number).turn ∷ stood.0) (sym at ∙ stood.1 ∙ append_assoc (turns_of scope) ((frame entered r.number).turn ∷ []) stood.0));
           }
 
-module _ (t0 : ProgramTree) (s : ℕ) (m : Match t0 s) (x : MayFuse t0 s m) (start_alike : SameInitial m.neighbour) (data_bytes : List ℕ) (ends : Ends (run_of (renamed m.neighbour) data_bytes).ending) (scope : Scope) (a b : Access) (c : Cross m.neighbour data_bytes scope a b) where
+-- in an execution of the two DO loops that goes on behind both, in a run of the program in which both have one variable, two accesses conflict that references make: one in an iteration of the second DO, and one in a later iteration of the first
+pub record CrossBetween {t : ProgramTree} {s : ℕ} (x : Neighbour t s) (data_bytes : List ℕ) (scope : Scope) (a b : Access) : Type 0 where
+  pub front : List Act
+  pub behind : List Act
+  pub store : Store
+  pub executed : IsExecuted (setting_of (renamed x)) (renamed x) (store_at_start (lines data_bytes)) s (statements_count (renamed_pair x)) scope front (run_all (setting_of (renamed x)) (renamed_pair x) s scope store).acts behind store
+  pub goes : finish_of (run_all (setting_of (renamed x)) (renamed_pair x) s scope store).ending ≡ goes_on
+  pub source : IsIn a (accesses (run_all (setting_of (renamed x)) (renamed_pair x) s scope store).acts)
+  pub sink : IsIn b (accesses (run_all (setting_of (renamed x)) (renamed_pair x) s scope store).acts)
+  pub source_reference : 0 < a.reference
+  pub sink_reference : 0 < b.reference
+  pub conflicts : conflict a b ≡ true
+  pub j : Turn
+  pub js : List Turn
+  pub i : Turn
+  pub is : List Turn
+  pub at_source : a.place.turns ≡ turns_of scope ++ j ∷ js
+  pub at_sink : b.place.turns ≡ turns_of scope ++ i ∷ is
+  pub of_source : j.statement ≡ next_number x
+  pub of_sink : i.statement ≡ s
+  pub earlier : j.number < i.number
+
+module _ (t0 : ProgramTree) (s : ℕ) (m : Match t0 s) (x : MayFuse t0 s m) (start_alike : SameInitial m.neighbour) (data_bytes : List ℕ) (ends : Ends (run_of (renamed m.neighbour) data_bytes).ending) (scope : Scope) (a b : Access) (c : CrossBetween m.neighbour data_bytes scope a b) where
   abbrev n : Neighbour t0 s
   n = m.neighbour
 

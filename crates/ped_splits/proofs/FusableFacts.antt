@@ -120,6 +120,13 @@ no_rule_forbids t s m valid none = record {
   plain = its_bounds t s none m;
 }
 
+-- both are contained
+pub both_contained : (t : ProgramTree) (s : ℕ) (m : Match t s) → NoRule (StandsAgainstFusion s t) → IsContained t s × IsContained t (next_number m.neighbour)
+both_contained t s m none = (
+  contained_by t s (λ n b. unbroken t s none n (inl b)) (λ shown. unshown t s none (inl shown)),
+  contained_by t (next_number m.neighbour) (λ n b. unbroken t s none n (inr (inl (m.neighbour, b)))) (λ shown. unshown t s none (inr (inl (m.neighbour, shown)))),
+)
+
 -- two DO loops that no rule and no dependence forbids to become one
 pub is_fusable : (t : ProgramTree) (s : ℕ) (m : Match t s) → IsValid t → IsTrusted t → IsFusionCause s t None → IsFusable t s m
 is_fusable t s m valid trusted none = record {
@@ -130,9 +137,8 @@ is_fusable t s m valid trusted none = record {
   next_serial = next_fails t s none.0 m is_parallel (no_state t s none.0 m);
   own_unprivate = none_in m.neighbour.own.private (own_fails t s none.0 m has_private (no_private t s none.0 m));
   next_unprivate = none_in m.neighbour.next.private (next_fails t s none.0 m has_private (no_private t s none.0 m));
-  own_contained = contained_by t s (λ n b. unbroken t s none.0 n (inl b)) (λ shown. unshown t s none.0 (inl shown));
-  next_contained =
-      contained_by t (next_number m.neighbour) (λ n b. unbroken t s none.0 n (inr (inl (m.neighbour, b)))) (λ shown. unshown t s none.0 (inr (inl (m.neighbour, shown))));
+  own_contained = (both_contained t s m none.0).0;
+  next_contained = (both_contained t s m none.0).1;
   new_contained =
       contained_by (fused m.neighbour) s (λ n b. unbroken t s none.0 (opened_at (next_number m.neighbour) n) (inr (inr (m, n, b, refl)))) (λ shown. unshown t s none.0 (inr (inr (m, shown))));
   plain = its_bounds t s none.0 m;

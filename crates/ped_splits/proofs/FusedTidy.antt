@@ -7,13 +7,13 @@ use Rattle.ped_tree.specs.NamesIn.{all_loop_variables, loop_variables}
 use Rattle.ped_tree.specs.Numbering.{statements_count}
 use Rattle.ped_tree.specs.Tree.{Head, StmtTree, StmtTrees, Do, no_stmts, more_stmts, ProgramTree}
 use Rattle.ped_reindex.specs.ped_loops.specs.ped_scalar.proofs.TidyReferencesSubstituted.{variables_followed}
-use Rattle.ped_splits.proofs.MovedDos.{Comes, Stood, comes_from}
-use Rattle.ped_reindex.specs.ped_loops.specs.ped_scalar.specs.ped_rules.specs.ped_loop_runs.proofs.TidyLaws.ExchangedShown.{shown_by_either, staying_shown, new_shown}
+use Rattle.ped_reindex.specs.ped_loops.specs.ped_scalar.specs.ped_rules.specs.ped_loop_runs.proofs.TidyLaws.ExchangedDos.{Comes, Stood, comes_from}
+use Rattle.ped_reindex.specs.ped_loops.specs.ped_scalar.specs.ped_rules.specs.ped_loop_runs.proofs.TidyLaws.ExchangedShown.{last_leaves, shown_by_either, staying_shown, new_shown}
 use Rattle.ped_reindex.specs.ped_loops.specs.ped_scalar.specs.ped_rules.specs.ped_loop_runs.proofs.TidyLaws.TidyPathsGaps.{IsOutside, LeaveNoMore, all_behind_none, followed_behind, gap_behind}
 use Rattle.ped_reindex.specs.ped_loops.specs.ped_scalar.specs.ped_rules.specs.ped_loop_runs.proofs.TidyLaws.TidyPathsShown.{shown_by}
 use Rattle.ped_reindex.specs.ped_loops.specs.ped_scalar.specs.ped_rules.specs.ped_loop_runs.proofs.TidyLaws.TidyPathsStops.{all_unstopped}
 use Rattle.ped_reindex.specs.ped_loops.specs.ped_scalar.specs.ped_rules.specs.ped_loop_runs.proofs.TidyLaws.TidyPathsSums.{Summary, IsNoMore, no_more_by, unreached_more}
-use Rattle.ped_splits.proofs.LeftOrPassed.{IsNoMoreBut}
+use Rattle.ped_reindex.specs.ped_loops.specs.ped_scalar.specs.ped_rules.specs.ped_loop_runs.proofs.TidyLaws.TidyPathsBut.{IsNoMoreBut}
 use Rattle.ped_reindex.specs.ped_loops.specs.ped_scalar.specs.ped_rules.specs.ped_loop_runs.proofs.TidyLaws.TidyReferences.{written_is}
 use Rattle.ped_reindex.specs.ped_loops.specs.ped_scalar.specs.ped_rules.specs.ped_loop_runs.proofs.TidyLaws.TidyReferencesGaps.{Stands, each_stands, all_move, each_of_program}
 use Rattle.ped_reindex.specs.ped_loops.specs.ped_scalar.specs.ped_rules.specs.ped_loop_runs.proofs.TidyLaws.WrittenIndices.{none_of, of_none, Unwritten, all_told, all_each, filled_index}
@@ -76,20 +76,6 @@ tidy_unwritten t tidy = all_told (constant_names t.decls) t.body 1 (all_move (St
         let loop : LoopOf t k = record { head = h; body = b; is = stands } in
         none_of (λ w. all_write (constant_names t.decls) w b) (h.variable ∷ all_loop_variables b)
         (λ w among. sym (written_is t k loop w) ∙ (tidy k loop parallel w (record { loop = loop; among = among })).unwritten)
-
-or_there : (p r : Bool) → r ≡ true → (p || ((r && true) || false)) ≡ true
-or_there true r e = refl
-or_there false true e = refl
-or_there false false e = e
-
--- from the exit of a DO that comes last a path leads out
-last_leaves : (cs : List (List ℕ)) (w : List ℕ) (front : StmtTrees) (h : Head) (b : StmtTrees) (s l : ℕ) → l ≡ s + statements_count front → (sum_behind_all cs w l (followed front (alone (Do h b))) s).keeps ≡ true
-last_leaves cs w front h b s l e =
-    let n : ℕ = s + statements_count front in
-    let before : Summary = sum_in_turn (sum_behind_all cs w l front s) (sum_of_all cs w (alone (Do h b)) n) in
-    let trips : Summary = sum_in_turn (sum_behind_all cs w l b (n + 1)) (sum_loop w n h b (sum_of_all cs w b (n + 1))) in
-    ap (λ (z : Summary). z.keeps) (followed_behind cs w l front (alone (Do h b)) s)
-    ∙ or_there before.keeps (sum_behind cs w l (Do h b) n).keeps (ap (λ (r : Bool). (sum_either (sum_at_once r) trips).keeps) (ap (λ (z : ℕ). z == n) e ∙ eq-eqb n n refl))
 
 -- what is shown behind a DO that stays, where no PARALLEL DO is round the gap: so it was there, or behind the last of the old DO loops
 module _ (x : Exchange) (t u : ProgramTree) (w : List ℕ) (is : IsExchanged x t u) (bare : is.comments ≡ no_stmts) (serial : IsSerial x.gap) where

@@ -32,10 +32,13 @@ mod CoverNumbers
 mod CoverMade
 mod CoverBodies
 mod CoverTrips
+mod CoverTurns
+mod CoverFound
 mod CoverDependences
 mod CoverKinds
 mod CoverMeets
 mod CoverConflicts
+mod CoverRuns
 mod CoverCrossing
 mod JoinCrossing
 pub mod NeighbourFound
@@ -46,8 +49,6 @@ pub mod FusableFacts
 pub mod FusionSettled
 mod UnwrittenVariable
 mod FusedTrust
-mod LeftOrPassed
-mod MovedDos
 mod SerialPaths
 mod ParallelRound
 mod FusedTidy

@@ -16,6 +16,7 @@ use Rattle.ped_reindex.specs.ped_loops.specs.ped_scalar.specs.ped_rules.specs.pe
 use Rattle.ped_reindex.specs.ped_loops.specs.ped_scalar.specs.ped_rules.specs.ped_loop_runs.specs.ped_bodies.specs.ped_steps.specs.ped_flow.specs.PlainBounds.{nest_round}
 use Rattle.ped_reindex.specs.ped_loops.specs.ped_scalar.specs.ped_rules.specs.ped_loop_runs.specs.ped_bodies.specs.ped_steps.specs.ped_flow.specs.Questions.{IsContained}
 use Rattle.ped_reindex.specs.ped_loops.specs.ped_scalar.specs.ped_rules.specs.ped_loop_runs.specs.ped_bodies.specs.ped_steps.specs.ped_laws.specs.ped_eval.specs.Outcomes.{setting_of}
+use Rattle.ped_splits.proofs.CoverFacts.{MayFuse, may_fuse}
 use Rattle.ped_splits.proofs.FuseFacts.{IsFusable}
 use Rattle.ped_splits.proofs.RenameGaps.{next_loop, same_nest}
 use Rattle.ped_splits.proofs.RenameUnread.{plain_unnamed}
@@ -35,7 +36,8 @@ pub record IsRenaming (t : ProgramTree) (s : ℕ) (x : Neighbour t s) : Type 0 w
   pub first : is_among x.next.variable (expr_names x.next.first) ≡ false
   pub last : is_among x.next.variable (expr_names x.next.last) ≡ false
 
-module _ (t : ProgramTree) (s : ℕ) (m : Match t s) (f : IsFusable t s m) (differ : m.neighbour.own.variable ≡ m.neighbour.next.variable → ⊥) (absent : is_among m.neighbour.own.variable (stmts_names m.neighbour.next_body) ≡ false) where
+module _ (t : ProgramTree) (s : ℕ) (m : Match t s) (f : MayFuse t s m) (tidy : IsTidy t) (own_contained : IsContained t s) (next_contained : IsContained t (next_number m.neighbour)) (differ : m.neighbour.own.variable ≡ m.neighbour.next.variable → ⊥)
+    (absent : is_among m.neighbour.own.variable (stmts_names m.neighbour.next_body) ≡ false) where
   abbrev x : Neighbour t s
   x = m.neighbour
 
@@ -61,16 +63,19 @@ module _ (t : ProgramTree) (s : ℕ) (m : Match t s) (f : IsFusable t s m) (diff
       go true e = absurd (differ (same_is x.own.variable J e))
       go false e = refl
 
-  pub renaming : IsRenaming t s m.neighbour
-  renaming = record {
+  pub renaming_may : IsRenaming t s m.neighbour
+  renaming_may = record {
     valid = f.valid;
-    tidy = f.trusted.tidy;
+    tidy = tidy;
     serial = f.next_serial;
     private = f.next_unprivate;
-    contained = f.next_contained;
-    own_contained = f.own_contained;
+    contained = next_contained;
+    own_contained = own_contained;
     differ = apart;
     absent = absent;
     first = ap (λ (e : ExprTree). is_among J (expr_names e)) (sym m.alike.first) ∙ plain_unnamed t s (setting_of t).constants J none outside index x.own.first (f.plain x.own.first (inl refl)).built;
     last = ap (λ (e : ExprTree). is_among J (expr_names e)) (sym m.alike.last) ∙ plain_unnamed t s (setting_of t).constants J none outside index x.own.last (f.plain x.own.last (inr refl)).built;
   }
+
+pub renaming : (t : ProgramTree) (s : ℕ) (m : Match t s) → IsFusable t s m → (m.neighbour.own.variable ≡ m.neighbour.next.variable → ⊥) → is_among m.neighbour.own.variable (stmts_names m.neighbour.next_body) ≡ false → IsRenaming t s m.neighbour
+renaming t s m f differ absent = renaming_may t s m (may_fuse t s m f) f.trusted.tidy f.own_contained f.next_contained differ absent

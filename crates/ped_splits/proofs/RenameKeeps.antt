@@ -35,7 +35,7 @@ use Rattle.ped_reindex.specs.ped_loops.specs.ped_scalar.specs.ped_rules.specs.pe
 use Rattle.ped_reindex.specs.ped_loops.specs.ped_scalar.specs.ped_rules.specs.ped_loop_runs.specs.ped_bodies.specs.ped_steps.specs.ped_laws.specs.Runs.Showing.{shown_at_end}
 use Rattle.ped_reindex.specs.ped_loops.specs.ped_scalar.specs.ped_rules.specs.ped_loop_runs.specs.ped_bodies.specs.ped_steps.specs.ped_laws.specs.ped_eval.specs.Loops.{entered_with, frame, undefined_all}
 use Rattle.ped_reindex.specs.ped_loops.specs.ped_scalar.specs.ped_rules.specs.ped_loop_runs.specs.ped_bodies.specs.ped_steps.specs.ped_laws.specs.ped_eval.specs.Outcomes.{Ends, run_of, setting_of}
-use Rattle.ped_reindex.specs.ped_loops.specs.ped_scalar.specs.ped_rules.specs.ped_loop_runs.specs.ped_bodies.specs.ped_steps.specs.ped_laws.specs.ped_eval.specs.Runs.{Run, run, run_all}
+use Rattle.ped_reindex.specs.ped_loops.specs.ped_scalar.specs.ped_rules.specs.ped_loop_runs.specs.ped_bodies.specs.ped_steps.specs.ped_laws.specs.ped_eval.specs.Runs.{Ending, Run, failed, going, run, run_all, stopped}
 use Rattle.ped_reindex.specs.ped_loops.specs.ped_scalar.specs.ped_rules.specs.ped_loop_runs.specs.ped_bodies.specs.ped_steps.specs.ped_laws.specs.ped_eval.specs.Scopes.{Scope, Setting, cell_of, place_of, turns_of}
 use Rattle.ped_reindex.specs.ped_loops.specs.ped_scalar.specs.ped_rules.specs.ped_loop_runs.specs.ped_bodies.specs.ped_steps.specs.ped_laws.specs.ped_store.specs.Acts.{Act, Touch, iterations_of}
 use Rattle.ped_reindex.specs.ped_loops.specs.ped_scalar.specs.ped_rules.specs.ped_loop_runs.specs.ped_bodies.specs.ped_steps.specs.ped_laws.specs.ped_store.specs.Cells.{Cell, Private}
@@ -58,6 +58,12 @@ use Rattle.ped_splits.proofs.RenameStands.{does_renamed, stands_renamed, turned_
 use Rattle.ped_splits.proofs.RenameTold.{told_unraced}
 use Rattle.ped_splits.specs.Fusing.{Match}
 use Rattle.ped_splits.specs.Neighbours.{Neighbour, next_number}
+
+-- what ends as a run that ends
+ends_alike : (e : Ending) (v : Store) → Ends e → Ends (ending_with (finish_of e) v)
+ends_alike (going w) v h = tt
+ends_alike (stopped w) v h = tt
+ends_alike (failed fault n) v h = h
 
 module _ (making : MakingLaw) (t : ProgramTree) (s : ℕ) (x : Neighbour t s) (r : IsRenaming t s x) where
   abbrev p : Setting
@@ -307,6 +313,9 @@ module _ (making : MakingLaw) (t : ProgramTree) (s : ℕ) (x : Neighbour t s) (r
 
     new_run : run_all q u.body 1 [] start ≡ record { acts = new_parts made.0; ending = ending_with (finish_of (run_of t data_bytes).ending) (store_after (new_parts made.0) start) }
     new_run = made.3 start (parts_fit (shown_at_end t) (wants (shown_at_end t)) (wanted_suit (shown_at_end t)) made.0 start start stand (λ c m. refl) old_fits)
+
+    pub renaming_ends : Ends (run_of (renamed x) data_bytes).ending
+    renaming_ends = subst (λ (y : Run). Ends y.ending) (sym new_run) (ends_alike (run_of t data_bytes).ending (store_after (new_parts made.0) start) ends)
 
     pub renaming_alike : referred (run_of t data_bytes).acts ≡ referred (run_of (renamed x) data_bytes).acts
     renaming_alike = ap referred (sym made.1) ∙ parts_referred [] made.0 [] start made.2 ∙ ap (λ (y : Run). referred y.acts) (sym new_run)

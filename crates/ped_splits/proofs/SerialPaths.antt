@@ -13,7 +13,7 @@ use Rattle.ped_reindex.specs.ped_loops.specs.ped_scalar.specs.ped_rules.specs.pe
 use Rattle.ped_reindex.specs.ped_loops.specs.ped_scalar.specs.ped_rules.specs.ped_loop_runs.proofs.TidyLaws.TidyPathsSums.{Summary, IsNoMore, no_more_by, in_turn_more, same_head_clears, own_more, any_number, any_numbers}
 use Rattle.ped_reindex.specs.ped_loops.specs.ped_scalar.specs.ped_rules.specs.ped_loop_runs.proofs.TidyLaws.TidyPathsStops.{all_unstopped, all_behind_unstopped}
 use Rattle.ped_reindex.specs.ped_loops.specs.ped_scalar.specs.ped_rules.specs.ped_loop_runs.proofs.TidyLaws.TidyPathsGaps.{IsPlaced, at_once_more, gap_count, gap_from, behind_gap, followed_sum, followed_behind, behind_placed, all_behind_placed}
-use Rattle.ped_splits.proofs.LeftOrPassed.{IsNoMoreBut, either_first, either_second, no_but, passed_but, but_more, either_but, in_turn_but, but_in_turn, ending, ending_more, loop_but, but_trips}
+use Rattle.ped_reindex.specs.ped_loops.specs.ped_scalar.specs.ped_rules.specs.ped_loop_runs.proofs.TidyLaws.TidyPathsBut.{IsNoMoreBut, either_first, either_second, no_but, passed_but, but_more, either_but, in_turn_but, but_in_turn, ending, ending_more, loop_but, but_trips}
 
 -- no PARALLEL DO is round the gap
 abbrev pub IsSerial : Gap → Type 0

@@ -11,7 +11,7 @@ use Rattle.ped_tree.specs.Tree.{StmtTrees, no_stmts, ProgramTree}
 use Rattle.ped_tree.specs.Numbering.{statements_count}
 use Rattle.ped_reindex.specs.ped_loops.specs.ped_scalar.specs.ped_rules.specs.Carried.{level_at, is_rejected}
 use Rattle.ped_reindex.specs.ped_loops.specs.ped_scalar.specs.ped_rules.specs.ped_loop_runs.proofs.LoopLaws.Carrying.{independent_inside, share_trips}
-use Rattle.ped_reindex.specs.ped_loops.specs.ped_scalar.specs.ped_rules.specs.ped_loop_runs.proofs.LoopLaws.Trips.{trips_carried}
+use Rattle.ped_reindex.specs.ped_loops.specs.ped_scalar.specs.ped_rules.specs.ped_loop_runs.proofs.LoopLaws.Trips.{come_in_run, trips_carried}
 use Rattle.ped_reindex.specs.ped_loops.specs.ped_scalar.specs.ped_rules.specs.ped_loop_runs.specs.Carried.{MakeConflict, IsCoveredAt, is_level, AreInTrips, IsCarriedByLoop, AllStoreWithin}
 use Rattle.ped_reindex.specs.ped_loops.specs.ped_scalar.specs.ped_rules.specs.ped_loop_runs.specs.ped_bodies.specs.ped_steps.specs.ped_flow.specs.PlainBounds.{nest_round}
 use Rattle.ped_reindex.specs.ped_loops.specs.ped_scalar.specs.ped_rules.specs.ped_loop_runs.specs.ped_bodies.specs.ped_steps.specs.ped_flow.specs.Questions.{LoopOf}
@@ -38,38 +38,10 @@ use Rattle.ped_splits.proofs.SplitFacts.{IsSplit, UnrejectedLaw}
 use Rattle.ped_splits.proofs.SplitUnits.{offset, size_of_unit, numbers_are}
 use Rattle.ped_splits.specs.Units.{units, is_within, stands_in}
 
--- items of a list of lists, one behind the other
-arranged : {X : Type 0} (a p q b r s c : List X) (x y : X) → a ++ ((p ++ x ∷ q) ++ (b ++ ((r ++ y ∷ s) ++ c))) ≡ (a ++ p) ++ x ∷ ((q ++ (b ++ r)) ++ y ∷ (s ++ c))
-arranged a p q b r s c x y =
-    let second : b ++ ((r ++ y ∷ s) ++ c) ≡ (b ++ r) ++ y ∷ (s ++ c) = ap (λ zs. b ++ zs) (append_assoc r (y ∷ s) c) ∙ sym (append_assoc b r (y ∷ (s ++ c))) in
-    let behind : q ++ (b ++ ((r ++ y ∷ s) ++ c)) ≡ (q ++ (b ++ r)) ++ y ∷ (s ++ c) = ap (λ zs. q ++ zs) second ∙ sym (append_assoc q (b ++ r) (y ∷ (s ++ c))) in
-    ap (λ zs. a ++ zs) (append_assoc p (x ∷ q) (b ++ ((r ++ y ∷ s) ++ c))) ∙ sym (append_assoc a p (x ∷ (q ++ (b ++ ((r ++ y ∷ s) ++ c))))) ∙ ap (λ zs. (a ++ p) ++ x ∷ zs) behind
-
 of_act : (x : Access) (a : Act) (acts : List Act) → IsIn a acts → IsIn x (accesses_of a) → IsIn x (accesses acts)
 of_act x a [] i j = absurd i
 of_act x a (b ∷ acts) (inl e) j = in_left x (accesses_of b) (accesses acts) (subst (λ (z : Act). IsIn x (accesses_of z)) e j)
 of_act x a (b ∷ acts) (inr i) j = in_right x (accesses_of b) (accesses acts) (of_act x a acts i j)
-
-five : (front earlier between later behind : List Act) → accesses (front ++ (earlier ++ (between ++ (later ++ behind)))) ≡ accesses front ++ (accesses earlier ++ (accesses between ++ (accesses later ++ accesses behind)))
-five front earlier between later behind =
-    flat_map-append accesses_of front (earlier ++ (between ++ (later ++ behind)))
-    ∙ ap (λ zs. accesses front ++ zs) (flat_map-append accesses_of earlier (between ++ (later ++ behind))
-    ∙ ap (λ zs. accesses earlier ++ zs) (flat_map-append accesses_of between (later ++ behind)
-    ∙ ap (λ zs. accesses between ++ zs) (flat_map-append accesses_of later behind)))
-
-come_in_run : (t : ProgramTree) (data_bytes : List ℕ) (front earlier between later behind : List Act) (x y : Access) → (run_of t data_bytes).acts ≡ front ++ (earlier ++ (between ++ (later ++ behind))) → IsIn x (accesses earlier) → IsIn y (accesses later) → ComeInRun t data_bytes x y
-come_in_run t data_bytes front earlier between later behind x y is i j =
-    let p = split_at x (accesses earlier) i in
-    let q = split_at y (accesses later) j in
-    record {
-      before = accesses front ++ p.0;
-      between = p.1 ++ (accesses between ++ q.0);
-      behind = q.1 ++ accesses behind;
-      is = ap accesses is
-          ∙ five front earlier between later behind
-          ∙ (λ z. accesses front ++ (p.2 z ++ (accesses between ++ (q.2 z ++ accesses behind))))
-          ∙ arranged (accesses front) p.0 p.1 (accesses between) q.0 q.1 (accesses behind) x y;
-    }
 
 not_rejected : (m : Mark) → (m ≡ rejected → ⊥) → is_rejected m ≡ false
 not_rejected proven h = refl

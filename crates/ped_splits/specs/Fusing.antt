@@ -56,7 +56,7 @@ WhereNoMatch t s n = LoopOf t s × (Match t s → ⊥) × (n ≡ s)
 abbrev pub WhereFusedLimit : ProgramTree → (s : ℕ) → ℕ → Type 0
 WhereFusedLimit t s n = Match t s × WhereLimit (MakesFused s) t s n
 
--- which rules stand against the step: the statement is no DO; it or the next DO is a PARALLEL DO, or has PRIVATE names; a variable of one of them, or of the one DO that they would become, is read outside its DO; a bound isn't plain; no DO comes next that is alike; the new program isn't valid (ParaScope; this project)
+-- which rules stand against the step: the statement is no DO; it or the next DO is a PARALLEL DO, or has PRIVATE names; a variable of one of them, or of the one DO that they would become, or of a DO in it is read outside that DO, or SAVE alone may show it at the program's end; a bound of the DO isn't plain (that of the next one is equal); no DO comes next that is alike; the new program isn't valid (ParaScope; this project)
 abbrev pub StandsAgainstFusion : (s : ℕ) → ProgramTree → Rules
 StandsAgainstFusion s t =
     also NoLoop (WhereNoLoop t s)

@@ -22,7 +22,7 @@ pub record Neighbour (t : ProgramTree) (s : ℕ) : Type 0 where
   pub numbered : number_at gap 1 ≡ s
   pub comments : statements_count between ≡ 0
 
--- the two have the same bounds and the same increment, written alike, and one variable; or the variable of the first stands nowhere in the body of the second (ParaScope; this project)
+-- the bounds and the increment of the two are equal trees; and they have one variable, or the variable of the first stands nowhere in the body of the second (ParaScope; this project)
 pub record AreAlike (h k : Head) (body : StmtTrees) : Type 0 where
   pub first : h.first ≡ k.first
   pub last : h.last ≡ k.last
@@ -33,7 +33,7 @@ pub record AreAlike (h k : Head) (body : StmtTrees) : Type 0 where
 abbrev pub joined_head : Head → Head → Head
 joined_head h k = record h { rejected = with_names [] (h.rejected ++ k.rejected) }
 
--- the body of the second DO with the variable of the first in the place of its own (ParaScope)
+-- the body of the second DO with the variable of the first in the place of its own, but for the names in C$PED REJECT lines, which stay (ParaScope)
 abbrev pub renamed_body : Head → Head → StmtTrees → StmtTrees
 renamed_body h k body = if is_same_text h.variable k.variable then body else statements_substituted k.variable (Var h.variable) body
 

@@ -6,15 +6,15 @@ ghost use Rattle.ped_reindex.specs.ped_loops.specs.ped_scalar.specs.ped_rules.sp
 ghost use Rattle.ped_splits.specs.Distributing.{distributing};
 ghost use Rattle.ped_reindex.specs.ped_loops.specs.ped_scalar.specs.ped_rules.specs.ped_loop_runs.specs.Carried.{IsCoveredAt};
 ghost use Rattle.ped_reindex.specs.ped_loops.specs.ped_scalar.specs.ped_rules.specs.ped_loop_runs.specs.ped_bodies.specs.ped_steps.specs.Causes.{NoRule};
+ghost use Rattle.ped_reindex.specs.ped_loops.specs.ped_scalar.specs.ped_rules.specs.ped_loop_runs.specs.ped_bodies.specs.ped_steps.specs.Tidy.{IsTidy};
 ghost use Rattle.ped_reindex.specs.ped_loops.specs.ped_scalar.specs.ped_rules.specs.ped_loop_runs.specs.ped_bodies.specs.ped_steps.specs.ped_symbols.specs.NameRefusals.{IsValid};
 ghost use Rattle.ped_reindex.specs.ped_loops.specs.ped_scalar.specs.ped_rules.specs.ped_loop_runs.specs.ped_bodies.specs.ped_steps.specs.ped_laws.specs.ped_graph.specs.Dependences.{AreEdges};
 ghost use Rattle.ped_reindex.specs.ped_loops.specs.ped_scalar.specs.ped_rules.specs.ped_loop_runs.specs.ped_bodies.specs.ped_steps.specs.ped_laws.specs.ped_graph.specs.ped_edges.specs.Edges.{Edge};
 ghost use Rattle.ped_reindex.specs.ped_loops.specs.ped_scalar.specs.ped_rules.specs.ped_loop_runs.specs.ped_bodies.specs.ped_steps.specs.ped_laws.specs.ped_eval.specs.Outcomes.{Ends, run_of};
-ghost use Rattle.ped_reindex.specs.ped_loops.specs.ped_scalar.specs.ped_rules.specs.ped_loop_runs.specs.ped_bodies.specs.ped_steps.specs.ped_laws.specs.ped_eval.specs.Scopes.{Scope, turns_of};
 ghost use Rattle.ped_reindex.specs.ped_loops.specs.ped_scalar.specs.ped_rules.specs.ped_loop_runs.specs.ped_bodies.specs.ped_steps.specs.ped_laws.specs.ped_store.specs.Races.{Access};
 ghost use Rattle.ped_splits.specs.Fusing.{Match, StandsAgainstFusion, fusing};
 ghost use Rattle.ped_splits.specs.Neighbours.{fused};
-ghost use Rattle.ped_splits.specs.OneVariable.{renamed, in_one, Cross};
+ghost use Rattle.ped_splits.specs.OneVariable.{in_one, Cross};
 
 use ped_reindex::ped_loops::ped_scalar::ped_rules::ped_loop_runs::ped_bodies::ped_steps::ped_weaves::ped_laws::conflicts::{
     accesses_are_made, accesses_in_sequence,
@@ -43,12 +43,14 @@ pub fn fusion_is_lawful()
     accesses_are_made();
 }
 
-/// In a run that ends of the program in which two DO loops that may become one have one variable: where in one execution of
-/// the two, two references make conflicting accesses, one in an iteration of the second DO and one in a later iteration of
-/// the first, the dependences of the program with the one DO have one from the first of them to the second, which the one
-/// DO carries, with the directions of the values that the variables of the loops round both have at the accesses. It may
-/// forbid the step (Allen and Kennedy, section 6.2.5).
+/// In a run that ends of a tidy program in which no rule stands against `fuse`: where two references make conflicting
+/// accesses, one in an iteration of the second DO and one in a later iteration of the first, in the same iterations round the
+/// two, the dependences of the program with the one DO have one from the first of them to the second, which the one DO
+/// carries, with the directions of the values that the variables of the loops round both have at the accesses. It may forbid
+/// the step (Allen and Kennedy, section 6.2.5).
 pub fn fused_conflicts_are_covered()
-    ensures { (t : ProgramTree) (s : ℕ) (m : Match t s) → IsValid t → NoRule (StandsAgainstFusion s t) → (data_bytes : List ℕ) → Ends (run_of (renamed m.neighbour) data_bytes).ending → (scope : Scope) (a b : Access) → Cross m.neighbour data_bytes scope a b → (edges : List Edge) → AreEdges (fused m.neighbour) edges
-        → IsCoveredAt (fused m.neighbour) edges (Some (length (turns_of scope) + 1)) (in_one m.neighbour a) b }
-{}
+    ensures { (t : ProgramTree) (s : ℕ) (m : Match t s) → IsValid t → IsTidy t → NoRule (StandsAgainstFusion s t) → (data_bytes : List ℕ) → Ends (run_of t data_bytes).ending → (a b : Access) → (x : Cross m.neighbour data_bytes a b) → (edges : List Edge) → AreEdges (fused m.neighbour) edges
+        → IsCoveredAt (fused m.neighbour) edges (Some (length x.round + 1)) (in_one m.neighbour a) b }
+{
+    accesses_are_made();
+}

@@ -68,7 +68,7 @@ same_number : (n : ℕ) → (n == n) ≡ true
 same_number n = grind (arith, eqb-true)
 
 -- from the exit of a DO that comes last a path leads out
-last_leaves : (cs : List (List ℕ)) (w : List ℕ) (front : StmtTrees) (h : Head) (b : StmtTrees) (s l : ℕ) → l ≡ s + statements_count front → (sum_behind_all cs w l (followed front (alone (Do h b))) s).keeps ≡ true
+pub last_leaves : (cs : List (List ℕ)) (w : List ℕ) (front : StmtTrees) (h : Head) (b : StmtTrees) (s l : ℕ) → l ≡ s + statements_count front → (sum_behind_all cs w l (followed front (alone (Do h b))) s).keeps ≡ true
 last_leaves cs w front h b s l e =
     let n : ℕ = s + statements_count front in
     let before : Summary = sum_in_turn (sum_behind_all cs w l front s) (sum_of_all cs w (alone (Do h b)) n) in

@@ -1,5 +1,5 @@
 use Rattle.std.proofs.Common.{◌≡◌, map, take}
-use Rattle.ped_confluence.specs.ped_laws.specs.ped_eval.specs.AccessViews.{turn_view}
+use Rattle.ped_laws.specs.ped_eval.specs.AccessViews.{turn_view}
 use Rattle.ped_order.specs.Keys.{iteration_of}
 use Rattle.ped_order.proofs.keys.iterations.Given as goal
 

@@ -1,7 +1,7 @@
 use Rattle.std.proofs.Common.{[], sym, ap, subst, ◌∙◌}
 use Rattle.ped_tree.specs.Views.{program_tree}
 use Rattle.ped_store.specs.Races.{accesses}
-use Rattle.ped_confluence.specs.ped_laws.specs.ped_eval.specs.Outcomes.{run_of}
+use Rattle.ped_laws.specs.ped_eval.specs.Outcomes.{run_of}
 use Rattle.ped_order.specs.Reports.{IsReport}
 use Rattle.ped_order.specs.ReportViews.{report_view, report_of}
 use Rattle.ped_order.proofs.Following.{seen_all, reported}

@@ -2,7 +2,7 @@ use Rattle.std.proofs.Common.{◌≡◌, ℕ, ◌+◌, List, map, take, ap, subs
 use Rattle.std.proofs.lemmas.List.{take_all}
 use Rattle.ped_store.specs.Acts.{Turn}
 use Rattle.ped_store.specs.Races.{Access}
-use Rattle.ped_confluence.specs.ped_laws.specs.ped_eval.specs.AccessViews.{access_view, turn_view}
+use Rattle.ped_laws.specs.ped_eval.specs.AccessViews.{access_view, turn_view}
 use Rattle.ped_order.specs.Sightings.{sighting_of}
 use Rattle.ped_order.specs.Tables.{RemembersSoFar, cut}
 use Rattle.ped_order.proofs.Remembering.{added_none, added_all}

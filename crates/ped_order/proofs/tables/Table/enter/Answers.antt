@@ -1,6 +1,6 @@
 use Rattle.std.proofs.Common.{map, ap, ◌∙◌, if◌then◌else◌, Some, None, not, ◌&&◌, ◌||◌, ◌==◌}
 use Rattle.std.specs.Map.{lookup}
-use Rattle.ped_confluence.specs.ped_laws.specs.ped_eval.specs.AccessViews.{access_view, turn_view}
+use Rattle.ped_laws.specs.ped_eval.specs.AccessViews.{access_view, turn_view}
 use Rattle.ped_order.specs.Keys.{Key, same_key}
 use Rattle.ped_order.specs.Sightings.{rival_in, first_of}
 use Rattle.ped_order.proofs.Remembering.{added_nothing, added_further}

@@ -1,7 +1,7 @@
 use Rattle.std.proofs.Common.{List, map, take, ap, sym, ◌∙◌}
 use Rattle.ped_store.specs.Acts.{Turn}
 use Rattle.ped_store.specs.Races.{race}
-use Rattle.ped_confluence.specs.ped_laws.specs.ped_eval.specs.AccessViews.{access_view, turn_view}
+use Rattle.ped_laws.specs.ped_eval.specs.AccessViews.{access_view, turn_view}
 use Rattle.ped_order.specs.Sightings.{earlier_of, first_sighting}
 use Rattle.ped_order.specs.Tables.{cut}
 use Rattle.ped_order.proofs.Remembering.{asked_nothing, asked_further}

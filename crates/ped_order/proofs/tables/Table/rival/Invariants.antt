@@ -1,6 +1,6 @@
 use Rattle.std.proofs.Common.{◌≡◌, List, map, take}
 use Rattle.ped_store.specs.Races.{Access, race}
-use Rattle.ped_confluence.specs.ped_laws.specs.ped_eval.specs.AccessViews.{turn_view, access_view}
+use Rattle.ped_laws.specs.ped_eval.specs.AccessViews.{turn_view, access_view}
 use Rattle.ped_order.specs.Sightings.{first_sighting}
 use Rattle.ped_order.specs.Tables.{Remembers, cut}
 use Rattle.ped_order.proofs.tables.Table.rival.Given as goal

@@ -1,6 +1,6 @@
 use Rattle.std.proofs.Common.{sym, ◌∙◌}
 use Rattle.std.proofs.lemmas.Result.{on_ok_weaker}
-use Rattle.ped_confluence.specs.ped_laws.specs.ped_eval.specs.AccessViews.{access_view}
+use Rattle.ped_laws.specs.ped_eval.specs.AccessViews.{access_view}
 use Rattle.ped_order.proofs.RacesFound.{first_race, no_race_more, none_so_far, none_yet}
 use Rattle.ped_order.proofs.Searches.{none_found}
 use Rattle.ped_order.proofs.watches.RaceWatchWatch.access.Goals as goal

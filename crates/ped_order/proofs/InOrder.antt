@@ -18,7 +18,7 @@ use Rattle.ped_interleavings.specs.ped_eval.specs.Outcomes.{Outcome, setting_of,
 use Rattle.ped_interleavings.specs.Lefts.{Left, finished, begins, ends_turn, open_loop, Lefts, no_lefts, more_lefts, left_of, left_of_all, body_left, turns_left, lefts_by, entered_left, is_finished, many, one_on, unfinished, or_else, pick, wants_choice, with_left}
 use Rattle.ped_interleavings.specs.Steps.{Next, over, met, went, halted, act_of, inside, by_run, seen_next, opened_step, step, step_at}
 use Rattle.ped_interleavings.specs.Interleavings.{Standing, behind_act, standing_by, ended_by, IsInterleavedFrom, IsInterleaved}
-use Rattle.ped_confluence.proofs.Reaching.{step_more}
+use Rattle.ped_order.proofs.Reaching.{step_more}
 
 module _ (p : Setting) where
   -- steps with the choice 0 that leave these one after the other

@@ -7,7 +7,7 @@ use Rattle.ped_interleavings.specs.ped_eval.specs.Loops.{Entered, exit_touches}
 use Rattle.ped_interleavings.specs.Lefts.{Left, finished, open_loop, Lefts, no_lefts, more_lefts, is_finished}
 use Rattle.ped_interleavings.specs.Steps.{went, halted, act_of, step}
 use Rattle.ped_laws.specs.Acts.Fitting.{Find}
-use Rattle.ped_confluence.proofs.Traces.{Trace, nothing, one, fork, Traces, no_traces, more_traces}
+use Rattle.ped_order.proofs.Traces.{Trace, nothing, one, fork, Traces, no_traces, more_traces}
 
 -- how a trace ends: nothing is left behind it, or a STOP does this act
 pub data End : Type 0 where

@@ -14,9 +14,9 @@ use Rattle.ped_laws.specs.Acts.Orders.{IsIn}
 use Rattle.ped_laws.proofs.ActLaws.Lists.{in_parts, in_more, in_middle}
 use Rattle.ped_laws.proofs.ActLaws.Stores.{fits_first}
 use Rattle.ped_laws.proofs.ActLaws.Reorderings.{front_fits, front_leaves}
-use Rattle.ped_confluence.proofs.Traces.{Trace, nothing, one, fork, Traces, no_traces, more_traces, flat, flats, is_nothing, AllApart, AreFree, AllFree, fits_apart}
-use Rattle.ped_confluence.proofs.Doing.{End, all_done, IsAtEnd, Does, DoesEach}
-use Rattle.ped_confluence.proofs.Picks.{IsOpenAt, AllFinished, pick_open, pick_none}
+use Rattle.ped_order.proofs.Traces.{Trace, nothing, one, fork, Traces, no_traces, more_traces, flat, flats, is_nothing, AllApart, AreFree, AllFree, fits_apart}
+use Rattle.ped_order.proofs.Doing.{End, all_done, IsAtEnd, Does, DoesEach}
+use Rattle.ped_order.proofs.Picks.{IsOpenAt, AllFinished, pick_open, pick_none}
 
 still_in : (x a : Act) (before behind all less : List Act) → all ≡ before ++ a ∷ behind → less ≡ before ++ behind → IsIn x less → IsIn x all
 still_in x a before behind all less was is i = subst (IsIn x) (sym was) (in_more x a before behind (subst (IsIn x) is i))

@@ -23,8 +23,8 @@ use Rattle.ped_laws.proofs.ActLaws.Lists.{in_parts, before_left, before_right, b
 use Rattle.ped_laws.proofs.RunLaws.Told.{found_reads, found_reads_first}
 use Rattle.ped_laws.proofs.RunLaws.Sight.{truth_told, limits_told}
 use Rattle.ped_laws.proofs.RunLaws.StatementsTold.{run_told}
-use Rattle.ped_confluence.proofs.Traces.{Trace, nothing, one, fork, Traces, no_traces, more_traces, flat, flats, join, Apart, AllApart, AreFree, AllFree, flat-join, join_assoc, join-nothing, free_join}
-use Rattle.ped_confluence.proofs.Doing.{End, all_done, Does, DoesEach}
+use Rattle.ped_order.proofs.Traces.{Trace, nothing, one, fork, Traces, no_traces, more_traces, flat, flats, join, Apart, AllApart, AreFree, AllFree, flat-join, join_assoc, join-nothing, free_join}
+use Rattle.ped_order.proofs.Doing.{End, all_done, Does, DoesEach}
 
 -- the run goes on
 abbrev pub IsGoing : Ending → Type 0

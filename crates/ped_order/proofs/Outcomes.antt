@@ -18,12 +18,12 @@ use Rattle.ped_laws.specs.FlowRuns.Covering.{some_stops_in_loop}
 use Rattle.ped_laws.specs.Runs.Replaying.{Finish, goes_on, stops, finish_of, ending_with}
 use Rattle.ped_laws.proofs.ActLaws.Lists.{first_in, second_in}
 use Rattle.ped_laws.proofs.ActLaws.Stores.{after_append, fits_first}
-use Rattle.ped_confluence.proofs.Traces.{nothing, flat, join-nothing}
-use Rattle.ped_confluence.proofs.Doing.{all_done, by_stop, Does}
-use Rattle.ped_confluence.proofs.Stepping.{all_steps}
-use Rattle.ped_confluence.proofs.Tracing.{IsGoing, NoneConflict, finish_goes, traced_all}
-use Rattle.ped_confluence.proofs.Halting.{IsStopped, halted_all}
-use Rattle.ped_confluence.proofs.Reaching.{step_more, from_reached}
+use Rattle.ped_order.proofs.Traces.{nothing, flat, join-nothing}
+use Rattle.ped_order.proofs.Doing.{all_done, by_stop, Does}
+use Rattle.ped_order.proofs.Stepping.{all_steps}
+use Rattle.ped_order.proofs.Tracing.{IsGoing, NoneConflict, finish_goes, traced_all}
+use Rattle.ped_order.proofs.Halting.{IsStopped, halted_all}
+use Rattle.ped_order.proofs.Reaching.{step_more, from_reached}
 
 finish_stops : (e : Ending) → IsStopped e → finish_of e ≡ stops
 finish_stops (going s) h = absurd h

@@ -4,8 +4,8 @@ use Rattle.ped_interleavings.specs.ped_eval.specs.ped_store.specs.Stores.{store_
 use Rattle.ped_interleavings.specs.ped_eval.specs.Runs.{run_all}
 use Rattle.ped_interleavings.specs.ped_eval.specs.Outcomes.{setting_of, run_of, outcome}
 use Rattle.ped_interleavings.specs.Interleavings.{at_start}
-use Rattle.ped_confluence.proofs.Outcomes.{none_conflict, agrees}
-use Rattle.ped_confluence.proofs.agreeing.interleavings_agree.Goals as goal
+use Rattle.ped_order.proofs.Outcomes.{none_conflict, agrees}
+use Rattle.ped_order.proofs.agreeing.interleavings_agree.Goals as goal
 
 pub returns : goal.returns
 returns c = λ t data_bytes choices o valid free i.

@@ -16,9 +16,9 @@ use Rattle.ped_laws.proofs.ActLaws.Lists.{before_left, before_right}
 use Rattle.ped_laws.proofs.FlowRunLaws.Unstopped.{IsUnstopped, unstopped}
 use Rattle.ped_laws.proofs.RunLaws.Told.{found_reads}
 use Rattle.ped_laws.proofs.RunLaws.Sight.{truth_told}
-use Rattle.ped_confluence.proofs.Traces.{Trace, nothing, one, flat, join, AreFree, flat-join, free_join}
-use Rattle.ped_confluence.proofs.Doing.{by_stop, Does}
-use Rattle.ped_confluence.proofs.Tracing.{IsGoing, NoneConflict, Traced, traced}
+use Rattle.ped_order.proofs.Traces.{Trace, nothing, one, flat, join, AreFree, flat-join, free_join}
+use Rattle.ped_order.proofs.Doing.{by_stop, Does}
+use Rattle.ped_order.proofs.Tracing.{IsGoing, NoneConflict, Traced, traced}
 
 -- a STOP has ended the run
 abbrev pub IsStopped : Ending → Type 0

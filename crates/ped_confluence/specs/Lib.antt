@@ -1,2 +1,0 @@
-pub use Rattle.ped_laws
-pub use Rattle.ped_interleavings

@@ -16,3 +16,4 @@ pub mod SumShapes
 pub mod LoweredNames
 pub mod LoweredStages
 pub mod ResemblingViews
+pub mod ResemblingArrays

@@ -111,17 +111,17 @@ module _ (y : List ℕ) where
     mutual
       stays_or : (s : StmtTree) → Has (stmt_names s) → Or (stmts_names (summed v ps s))
       stays_or (Assign left right) h = assigned_or left right h
-      stays_or (If c a b) h = elim (has_parts (cond_names c) (stmts_names a ++ stmts_names b) h) [
-        | inl k ↦ inl (in_alone (If c (all_summed v ps a) (all_summed v ps b)) (has_left (cond_names c) (stmts_names (all_summed v ps a) ++ stmts_names (all_summed v ps b)) k))
-        | inr k ↦ elim (has_parts (stmts_names a) (stmts_names b) k) [
-          | inl i ↦ elim (all_stay_or a i) [
-            | inl j ↦ inl (in_alone (If c (all_summed v ps a) (all_summed v ps b)) (has_right (cond_names c) (stmts_names (all_summed v ps a) ++ stmts_names (all_summed v ps b)) (has_left (stmts_names (all_summed v ps a)) (stmts_names (all_summed v ps b)) j)))
+      stays_or (If c a b) h = elim (has_parts (cond_names c ++ stmts_names a) (stmts_names b) h) [
+        | inl k ↦ elim (has_parts (cond_names c) (stmts_names a) k) [
+          | inl i ↦ inl (in_alone (If c (all_summed v ps a) (all_summed v ps b)) (has_left (cond_names c ++ stmts_names (all_summed v ps a)) (stmts_names (all_summed v ps b)) (has_left (cond_names c) (stmts_names (all_summed v ps a)) i)))
+          | inr i ↦ elim (all_stay_or a i) [
+            | inl j ↦ inl (in_alone (If c (all_summed v ps a) (all_summed v ps b)) (has_left (cond_names c ++ stmts_names (all_summed v ps a)) (stmts_names (all_summed v ps b)) (has_right (cond_names c) (stmts_names (all_summed v ps a)) j)))
             | inr j ↦ inr j
           ]
-          | inr i ↦ elim (all_stay_or b i) [
-            | inl j ↦ inl (in_alone (If c (all_summed v ps a) (all_summed v ps b)) (has_right (cond_names c) (stmts_names (all_summed v ps a) ++ stmts_names (all_summed v ps b)) (has_right (stmts_names (all_summed v ps a)) (stmts_names (all_summed v ps b)) j)))
-            | inr j ↦ inr j
-          ]
+        ]
+        | inr k ↦ elim (all_stay_or b k) [
+          | inl j ↦ inl (in_alone (If c (all_summed v ps a) (all_summed v ps b)) (has_right (cond_names c ++ stmts_names (all_summed v ps a)) (stmts_names (all_summed v ps b)) j))
+          | inr j ↦ inr j
         ]
       ]
       stays_or (Do g body) h = elim (has_parts (head_names g) (stmts_names body) h) [
@@ -160,15 +160,15 @@ module _ (y : List ℕ) where
   -- the scalars stand at the exit
   in_exits : (v : List ℕ) (ps : List Partials) → Has (scalars_of ps) → Has (stmts_names (exits v ps))
   in_exits v [] h = untrue h
-  in_exits v (p ∷ ps) h = by (is_same_text y p.scalar) refl h
+  in_exits v (p ∷ ps) h = by (is_same_text y p.scalar) refl h (in_exits v ps)
     where
-      by : (b : Bool) → is_same_text y p.scalar ≡ b → (b || is_among y (scalars_of ps)) ≡ true → Has (stmts_names (exits v (p ∷ ps)))
-      by true e k =
+      by : (b : Bool) → is_same_text y p.scalar ≡ b → (b || is_among y (scalars_of ps)) ≡ true → (Has (scalars_of ps) → Has (stmts_names (exits v ps))) → Has (stmts_names (exits v (p ∷ ps)))
+      by true e k more =
           has_left (stmt_names (exit v p)) (stmts_names (exits v ps))
-          (has_right (cond_names (Rel Eq (at p.flag v) (Int 1))) (stmts_names (alone (addition v p)) ++ [])
-          (has_left (stmts_names (alone (addition v p))) []
+          (has_left (cond_names (Rel Eq (at p.flag v) (Int 1)) ++ stmts_names (alone (addition v p))) []
+          (has_right (cond_names (Rel Eq (at p.flag v) (Int 1))) (stmts_names (alone (addition v p)))
           (in_alone (addition v p) (has_left (p.scalar ∷ []) (expr_names (Add (Var p.scalar) (Add (Mul (at p.high v) (Int 65536)) (at p.low v)))) (or_left (is_same_text y p.scalar) false e)))))
-      by false e k = has_right (stmt_names (exit v p)) (stmts_names (exits v ps)) (in_exits v ps k)
+      by false e k more = has_right (stmt_names (exit v p)) (stmts_names (exits v ps)) (more k)
 
   in_lowered : (parallel : Bool) (ps : List Partials) (h : Head) (body : StmtTrees) → Has (stmt_names (Do h body)) → Has (stmts_names (lowered_loop parallel ps h body))
   in_lowered parallel ps h body k = elim (has_parts (head_names h) (stmts_names body) k) [
@@ -189,12 +189,12 @@ module _ (y : List ℕ) where
     mutual
       pub name_stays : (s : StmtTree) (n : ℕ) (ws : StmtTrees) → Becomes t live s n ws → Has (stmt_names s) → Has (stmts_names ws)
       name_stays (Assign left right) n ws is h = by_is (alone (Assign left right)) ws is (in_alone (Assign left right) h)
-      name_stays (If c a b) n ws (x, z, p, q, is) h = by_is (alone (If c x z)) ws is (in_alone (If c x z) (elim (has_parts (cond_names c) (stmts_names a ++ stmts_names b) h) [
-        | inl k ↦ has_left (cond_names c) (stmts_names x ++ stmts_names z) k
-        | inr k ↦ elim (has_parts (stmts_names a) (stmts_names b) k) [
-          | inl i ↦ has_right (cond_names c) (stmts_names x ++ stmts_names z) (has_left (stmts_names x) (stmts_names z) (names_stay a (n + 1) x p i))
-          | inr i ↦ has_right (cond_names c) (stmts_names x ++ stmts_names z) (has_right (stmts_names x) (stmts_names z) (names_stay b (n + 1 + statements_count a) z q i))
+      name_stays (If c a b) n ws (x, z, p, q, is) h = by_is (alone (If c x z)) ws is (in_alone (If c x z) (elim (has_parts (cond_names c ++ stmts_names a) (stmts_names b) h) [
+        | inl k ↦ elim (has_parts (cond_names c) (stmts_names a) k) [
+          | inl i ↦ has_left (cond_names c ++ stmts_names x) (stmts_names z) (has_left (cond_names c) (stmts_names x) i)
+          | inr i ↦ has_left (cond_names c ++ stmts_names x) (stmts_names z) (has_right (cond_names c) (stmts_names x) (names_stay a (n + 1) x p i))
         ]
+        | inr k ↦ has_right (cond_names c ++ stmts_names x) (stmts_names z) (names_stay b (n + 1 + statements_count a) z q k)
       ]))
       name_stays (Do g body) n ws (inl (x, p, is)) h = by_is (alone (Do g x)) ws is (in_alone (Do g x) (elim (has_parts (head_names g) (stmts_names body) h) [
         | inl k ↦ has_left (head_names g) (stmts_names x) k

@@ -1,5 +1,5 @@
 -- The view of a pair of references is the same in settings that agree on the names in the bounds of the DO loops round them and in their subscripts.
-use Rattle.std.proofs.Common.{◌≡◌, ℕ, ℤ, ◌+◌, ◌-◌, List, [], ◌∷◌, ◌++◌, map, filter, cond, length, take, drop, Bool, true, false, not, ◌&&◌, ◌||◌, None, refl, sym, ap, ◌∙◌}
+use Rattle.std.proofs.Common.{◌≡◌, ℕ, suc, ℤ, ◌+◌, ◌-◌, List, [], ◌∷◌, ◌++◌, map, filter, cond, length, take, drop, Bool, true, false, not, ◌&&◌, ◌||◌, None, refl, sym, ap, ◌∙◌}
 use Rattle.std.specs.List.{list_any}
 use Rattle.std.specs.Map.{lookup}
 use Rattle.std.proofs.lemmas.List.Folds.{list_any-append}
@@ -57,7 +57,7 @@ same_indices a b e = variables_by_heads a ∙ ap (map (λ (h : Head). h.variable
 
 length_by_heads : (nest : List Loop) → length nest ≡ length (heads_of nest)
 length_by_heads [] = refl
-length_by_heads (l ∷ ls) = ap (λ (n : ℕ). 1 + n) (length_by_heads ls)
+length_by_heads (l ∷ ls) = ap suc (length_by_heads ls)
 
 pub same_length : (a b : List Loop) → heads_of a ≡ heads_of b → length a ≡ length b
 same_length a b e = length_by_heads a ∙ ap length e ∙ sym (length_by_heads b)

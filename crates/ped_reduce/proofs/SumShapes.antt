@@ -128,11 +128,11 @@ scalar_among p [] i = absurd i
 
 pub scalar_of : (x : List ℕ) (ps : List Partials) → is_among x (scalars_of ps) ≡ true → (p : Partials) × IsIn p ps × (x ≡ p.scalar)
 scalar_of x [] h = untrue h
-scalar_of x (p ∷ ps) h = by (is_same_text x p.scalar) refl h
+scalar_of x (p ∷ ps) h = by (is_same_text x p.scalar) refl h (scalar_of x ps)
   where
-    by : (b : Bool) → is_same_text x p.scalar ≡ b → (b || is_among x (scalars_of ps)) ≡ true → (q : Partials) × IsIn q (p ∷ ps) × (x ≡ q.scalar)
-    by true e k = (p, inl refl, same_is x p.scalar e)
-    by false e k = let r = scalar_of x ps k in (r.0, inr r.1, r.2)
+    by : (b : Bool) → is_same_text x p.scalar ≡ b → (b || is_among x (scalars_of ps)) ≡ true → (is_among x (scalars_of ps) ≡ true → (q : Partials) × IsIn q ps × (x ≡ q.scalar)) → (q : Partials) × IsIn q (p ∷ ps) × (x ≡ q.scalar)
+    by true e k more = (p, inl refl, same_is x p.scalar e)
+    by false e k more = let r = more k in (r.0, inr r.1, r.2)
 
 -- each of the three arrays
 pub record AreAmong (p : Partials) (ps : List Partials) : Type 0 where

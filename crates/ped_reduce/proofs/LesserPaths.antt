@@ -9,7 +9,7 @@ use Rattle.ped_tree.specs.NamesIn.{all_loop_variables}
 use Rattle.ped_splits.specs.ped_reindex.specs.ped_loops.specs.ped_scalar.specs.ped_rules.specs.ped_loop_runs.specs.ped_bodies.specs.ped_steps.specs.ped_flow.specs.Events.{Manner, reads, assigns, clears, Event, event, unless_constant, scalars_in, all_scalars_in, scalars_in_cond, scalars_in_item, reads_of, left_events, own_events, copied, start_events, exit_events, is_overwriting, is_overwriting_of, overwrites}
 use Rattle.ped_splits.specs.ped_reindex.specs.ped_loops.specs.ped_scalar.specs.ped_rules.specs.ped_loop_runs.specs.ped_bodies.specs.ped_steps.specs.ped_flow.specs.Summaries.{least_of, when, passing, unreached, of_manner, sum_in_turn, sum_either, sum_trips, sum_event, sum_events, sum_loop, sum_of, sum_of_all}
 use Rattle.ped_splits.specs.ped_reindex.specs.ped_loops.specs.ped_scalar.specs.ped_rules.specs.ped_loop_runs.specs.ped_bodies.specs.ped_steps.specs.ped_flow.proofs.Truths.{untrue, or_none}
-use Rattle.ped_splits.specs.ped_reindex.specs.ped_loops.specs.ped_scalar.specs.ped_rules.specs.ped_loop_runs.proofs.TidyLaws.TidyPathsSums.{Summary, IsNoMore, AreNoMore, own_lefts, own_exit, no_more, no_more_by, in_turn_more, either_more, trips_more, unreached_more, append_more, events_keep, events_end, events_more, clear_all, own_more, cleared_more, ClearsAll, copied_more, loop_more, do_more}
+use Rattle.ped_splits.specs.ped_reindex.specs.ped_loops.specs.ped_scalar.specs.ped_rules.specs.ped_loop_runs.proofs.TidyLaws.TidyPathsSums.{Summary, IsNoMore, AreNoMore, own_lefts, own_exit, no_more, no_more_by, in_turn_more, either_more, trips_more, unreached_more, append_more, events_keep, events_more, clear_all, own_more, cleared_more, ClearsAll, copied_more, loop_more, do_more}
 
 -- no more than another
 pub record IsLess (a b : Summary) : Type 0 where
@@ -110,6 +110,17 @@ module _ (w : List ℕ) where
   touched_by m n [] = refl
   touched_by m n (x ∷ xs) = ap (λ (b : Bool). is_same_text w x || b) (touched_by m n xs)
 
+  -- events end no path
+  pub events_end : (es : List Event) → (sum_events w es).ends ≡ false
+  events_end [] = refl
+  events_end (e ∷ es) = by (is_same_text w e.scalar) e.manner (sum_events w es) (events_end es)
+    where
+      by : (b : Bool) (a : Manner) (m : Summary) → m.ends ≡ false → (sum_in_turn (if b then of_manner a e.statement else passing) m).ends ≡ false
+      by true reads m h = h
+      by true assigns m h = refl
+      by true clears m h = refl
+      by false a m h = h
+
   -- events that clear read nothing
   clears_first : (n : ℕ) (xs : List (List ℕ)) → (sum_events w (map (event n clears) xs)).first ≡ None
   clears_first n [] = refl
@@ -157,7 +168,7 @@ module _ (w : List ℕ) where
         ∙ first_read n xs [] (read_first m xs [] (ap (λ (es : List Event). (sum_events w es).first) (no_events (reads_of m xs)) ∙ h)).0 refl
 
     -- events under another number
-    renamed : ℕ → Event → Event
+    abbrev renamed : ℕ → Event → Event
     renamed m e = event m e.manner e.scalar
 
     renamed_first : (m : ℕ) (es : List Event) → (sum_events w es).first ≡ None → (sum_events w (map (renamed m) es)).first ≡ None

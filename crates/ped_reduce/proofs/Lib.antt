@@ -17,3 +17,8 @@ pub mod LoweredNames
 pub mod LoweredStages
 pub mod ResemblingViews
 pub mod ResemblingArrays
+pub mod ReferencesInGaps
+pub mod SummedReferences
+pub mod LesserPaths
+pub mod LoweredPaths
+pub mod LoweredBehind

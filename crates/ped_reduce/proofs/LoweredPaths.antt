@@ -11,18 +11,18 @@ use Rattle.ped_tree.specs.declared.expressions.Intrinsic.TheVariants.{Mod}
 use Rattle.ped_tree.specs.Numbering.{statement_count, statements_count}
 use Rattle.ped_tree.specs.NamesIn.{loop_variables, all_loop_variables}
 use Rattle.ped_splits.specs.ped_reindex.specs.ped_loops.specs.ped_scalar.specs.ped_rules.specs.ped_loop_runs.specs.ped_bodies.specs.ped_steps.specs.ped_flow.specs.Events.{Event, event, reads, assigns, clears, unless_constant, scalars_in, reads_of, left_events, own_events, copied, start_events, exit_events, overwrites}
-use Rattle.ped_splits.specs.ped_reindex.specs.ped_loops.specs.ped_scalar.specs.ped_rules.specs.ped_loop_runs.specs.ped_bodies.specs.ped_steps.specs.ped_flow.specs.Summaries.{passing, sum_in_turn, sum_either, sum_trips, sum_events, sum_loop, sum_of, sum_of_all}
+use Rattle.ped_splits.specs.ped_reindex.specs.ped_loops.specs.ped_scalar.specs.ped_rules.specs.ped_loop_runs.specs.ped_bodies.specs.ped_steps.specs.ped_flow.specs.Summaries.{least_of, when, passing, sum_in_turn, sum_either, sum_trips, sum_events, sum_loop, sum_of, sum_of_all}
 use Rattle.ped_splits.specs.ped_reindex.specs.ped_loops.specs.ped_scalar.specs.ped_rules.specs.ped_loop_runs.specs.ped_bodies.specs.ped_steps.specs.ped_flow.proofs.Truths.{untrue, or_none}
 use Rattle.ped_splits.specs.ped_reindex.specs.ped_loops.specs.ped_scalar.specs.ped_rules.specs.ped_loop_runs.specs.ped_bodies.specs.ped_steps.specs.ped_flow.proofs.SumLaws.{in_turn-assoc}
 use Rattle.ped_splits.specs.ped_reindex.specs.ped_loops.specs.ped_scalar.specs.ped_rules.specs.ped_loop_runs.specs.ped_bodies.specs.ped_steps.specs.Replacing.{followed, alone}
-use Rattle.ped_splits.specs.ped_reindex.specs.ped_loops.specs.ped_scalar.specs.ped_rules.specs.ped_loop_runs.proofs.TidyLaws.TidyPathsSums.{Summary, IsNoMore, AreNoMore, own_exit, events_keep, events_end, own_overwrites, own_lefts, append_more}
+use Rattle.ped_splits.specs.ped_reindex.specs.ped_loops.specs.ped_scalar.specs.ped_rules.specs.ped_loop_runs.proofs.TidyLaws.TidyPathsSums.{Summary, IsNoMore, AreNoMore, own_exit, events_keep, own_overwrites, own_lefts, append_more}
 use Rattle.ped_splits.specs.ped_reindex.specs.ped_loops.specs.ped_scalar.specs.ped_rules.specs.ped_loop_runs.proofs.TidyLaws.TidyPathsGaps.{followed_sum}
 use Rattle.ped_reduce.specs.Lists.{listed_name, unless_named, without_list}
 use Rattle.ped_reduce.specs.Sums.{Sum, plus, minus}
 use Rattle.ped_reduce.specs.Lowering.{Partials, at, zeros, with_sum, added_apart, sum_apart, summed, all_summed, addition, exit, exits, bare, lowered_loop}
 use Rattle.ped_reduce.proofs.Resembling.{scalars_of}
 use Rattle.ped_reduce.proofs.SumShapes.{operand, IsSumOf, IsApart, IsBare, apart_or_bare, scalar_among}
-use Rattle.ped_reduce.proofs.LesserPaths.{IsLess, less_itself, less_by, in_turn_less, either_less, behind_less, cut_less, touches, quiet_events, touches_append, touched_by, cleared_less, read_first, own_less, loop_less, same_less, all_same_less}
+use Rattle.ped_reduce.proofs.LesserPaths.{IsLess, less_itself, less_by, in_turn_less, either_less, behind_less, cut_less, touches, quiet_events, touches_append, touched_by, cleared_less, read_first, events_end, own_less, loop_less, same_less, all_same_less}
 
 module _ (cs : List (List ℕ)) (w : List ℕ) (v : List ℕ) (ps : List Partials) (unsummed : is_among w (scalars_of ps) ≡ false) where
   -- a scalar that isn't the DO's variable
@@ -240,7 +240,124 @@ module _ (cs : List (List ℕ)) (w : List ℕ) (v : List ℕ) (ps : List Partial
         let add = addition_passes p (m + 1) parts.0 in
         λ i. sum_in_turn (sum_in_turn (flag i) (sum_either (sum_in_turn (add i) passing) passing)) (exits_pass qs parts.1 (m + statement_count (exit v p)) i)
 
-  -- what the DO of the exit does to it
-  module _ (h : Head) (is : h.variable ≡ v) where
-    abbrev Behind : ℕ → Summary
-    Behind m = sum_of_all cs w (alone (Do (bare h) (exits h.variable ps))) m
+-- a lowered DO
+module _ (cs : List (List ℕ)) (w : List ℕ) (ps : List Partials) (unsummed : is_among w (scalars_of ps) ≡ false) (parallel : Bool) (h : Head) (body : StmtTrees) (serial : h.parallel ≡ false) where
+  abbrev head : Head
+  head = record h { parallel = parallel }
+
+  abbrev new : StmtTrees
+  new = followed (zeros h.variable ps) (all_summed h.variable ps (without_list body))
+
+  abbrev own : ℕ → Summary
+  own m = sum_events w (own_events cs m (Do h body))
+
+  -- the DO of the exit
+  abbrev Exit : ℕ → Summary
+  Exit m = sum_of_all cs w (alone (Do (bare h) (exits h.variable ps))) m
+
+  -- it clears at least as much
+  starts : AreNoMore w (copied h body) (copied head new)
+  starts e = left_in h.private (if parallel then all_loop_variables new else []) (private_only (ap (λ (b : Bool). is_among w (h.private ++ (if b then all_loop_variables body else []))) (sym serial) ∙ e))
+    where
+      or_left : (a b : Bool) → a ≡ true → (a || b) ≡ true
+      or_left true b k = refl
+      or_left false b k = untrue k
+
+      left_in : (xs ys : List (List ℕ)) → is_among w xs ≡ true → is_among w (xs ++ ys) ≡ true
+      left_in xs ys k = among_append w xs ys ∙ or_left (is_among w xs) (is_among w ys) k
+
+      private_only : is_among w (h.private ++ []) ≡ true → is_among w h.private ≡ true
+      private_only k = ap (is_among w) (sym (append-nil h.private)) ∙ k
+
+  exits_more : AreNoMore w (own_exit h ++ copied h body) (own_exit head ++ copied head new)
+  exits_more e = right_in (own_exit head) (copied head new) (starts (ap (λ (b : Bool). is_among w ((if b then h.variable ∷ [] else []) ++ copied h body)) (sym serial) ∙ e))
+    where
+      or_right : (a b : Bool) → b ≡ true → (a || b) ≡ true
+      or_right true b k = refl
+      or_right false b k = k
+
+      right_in : (xs ys : List (List ℕ)) → is_among w ys ≡ true → is_among w (xs ++ ys) ≡ true
+      right_in xs ys k = among_append w xs ys ∙ or_right (is_among w xs) (is_among w ys) k
+
+  -- where the scalar is another than the DO's variable
+  module _ (other : is_same_text w h.variable ≡ false) where
+    first_less : (n m : ℕ) → IsLess (sum_of cs w (Do head new) m) (sum_of cs w (Do h body) n)
+    first_less n m =
+        in_turn_less (own m) (sum_loop w m head new (sum_of_all cs w new (m + 1))) (own n) (sum_loop w n h body (sum_of_all cs w body (n + 1))) (own_less w cs (Do h body) m n)
+        (loop_less w cs head h new body m n (sum_of_all cs w new (m + 1)) (sum_of_all cs w body (n + 1)) starts exits_more (body_less cs w h.variable ps unsummed other body (n + 1) (m + 1)))
+
+    exit_is : (m : ℕ) → Exit m ≡ sum_in_turn (sum_in_turn (own m) (sum_in_turn (sum_trips (sum_in_turn passing passing)) passing)) passing
+    exit_is m = ap (λ (z : Summary). sum_in_turn (sum_in_turn (own m) (sum_in_turn (sum_trips (sum_in_turn passing z)) passing)) passing) (exits_pass cs w h.variable ps unsummed other ps unsummed (m + 1))
+
+    when_none : (b : Bool) → when b None ≡ None
+    when_none true = refl
+    when_none false = refl
+
+    exit_reads : (m : ℕ) → (own m).first ≡ None → (Exit m).first ≡ None
+    exit_reads m e =
+        ap (λ (z : Summary). z.first) (exit_is m)
+        ∙ (λ i. least_of (least_of (e i) (when_none (own m).keeps i)) (when_none ((own m).keeps && true) i))
+
+    exit_ends : (m : ℕ) → (Exit m).ends ≡ false
+    exit_ends m =
+        ap (λ (z : Summary). z.ends) (exit_is m)
+        ∙ (λ i. (events_end w (own_events cs m (Do h body)) i || none (own m).keeps i) || none ((own m).keeps && true) i)
+      where
+        none : (b : Bool) → (b && false) ≡ false
+        none true = refl
+        none false = refl
+
+    pub other_less : (n m : ℕ) → IsLess (sum_of_all cs w (lowered_loop parallel ps h body) m) (sum_of cs w (Do h body) n)
+    other_less n m =
+        let k = m + statement_count (Do head new) in
+        behind_less (sum_of cs w (Do head new) m) (sum_of cs w (Do h body) n) (Exit k) (first_less n m)
+        (λ e. exit_reads k ((own_less w cs (Do h body) k n).first (none_first (own n).first (when (own n).keeps (sum_loop w n h body (sum_of_all cs w body (n + 1))).first) e))) (exit_ends k)
+      where
+        none_first : (a b : Option ℕ) → least_of a b ≡ None → a ≡ None
+        none_first None b e = refl
+        none_first (Some a) None e = absurd cc
+        none_first (Some a) (Some b) e = absurd cc
+
+  -- where it is that, it is overwritten first
+  own_cut : (m : ℕ) → is_same_text w h.variable ≡ true → (own m).keeps ≡ false
+  own_cut m e = events_keep w (own_events cs m (Do h body)) ∙ ap not (own_overwrites cs w (Do h body) m ∙ ap (λ (b : Bool). b || false) e)
+
+  same_variable_less : (n m : ℕ) → is_same_text w h.variable ≡ true → IsLess (sum_of_all cs w (lowered_loop parallel ps h body) m) (sum_of cs w (Do h body) n)
+  same_variable_less n m e =
+      let loop = sum_loop w m head new (sum_of_all cs w new (m + 1)) in
+      let behind = Exit (m + statement_count (Do head new)) in
+      subst (λ (z : Summary). IsLess z (sum_of cs w (Do h body) n)) (sym (in_turn-assoc (own m) loop behind))
+      (cut_less (own m) (sum_in_turn loop behind) (own n) (sum_loop w n h body (sum_of_all cs w body (n + 1))) (own_less w cs (Do h body) m n) (own_cut m e))
+
+  -- its paths say no more than those of the DO
+  pub lowered_less : (n m : ℕ) → IsLess (sum_of_all cs w (lowered_loop parallel ps h body) m) (sum_of cs w (Do h body) n)
+  lowered_less n m = by (is_same_text w h.variable) refl
+    where
+      by : (b : Bool) → is_same_text w h.variable ≡ b → IsLess (sum_of_all cs w (lowered_loop parallel ps h body) m) (sum_of cs w (Do h body) n)
+      by true e = same_variable_less n m e
+      by false e = other_less e n m
+
+  -- what the DO that adds up does, where no bound reads the scalar
+  abbrev pub Adding : ℕ → Summary
+  Adding m = sum_of cs w (Do (bare h) (exits h.variable ps)) m
+
+  abbrev Trips : ℕ → Summary
+  Trips m = sum_loop w m (bare h) (exits h.variable ps) (sum_of_all cs w (exits h.variable ps) (m + 1))
+
+  pub adding_first : (m : ℕ) → (own m).first ≡ None → (Adding m).first ≡ None
+  adding_first m none = by (is_same_text w h.variable) refl
+    where
+      by : (b : Bool) → is_same_text w h.variable ≡ b → (Adding m).first ≡ None
+      by false e = ap (λ (z : Summary). (sum_in_turn (own m) (sum_in_turn (sum_trips (sum_in_turn passing z)) passing)).first) (exits_pass cs w h.variable ps unsummed e ps unsummed (m + 1)) ∙ (λ i. least_of (none i) (when_none e (own m).keeps i))
+      by true e = λ i. least_of (none i) (when (own_cut m e i) (Trips m).first)
+
+  pub adding_ends : (m : ℕ) → (Adding m).ends ≡ false
+  adding_ends m = by (is_same_text w h.variable) refl
+    where
+      none : (b : Bool) → (b && false) ≡ false
+      none true = refl
+      none false = refl
+
+      by : (b : Bool) → is_same_text w h.variable ≡ b → (Adding m).ends ≡ false
+      by false e = ap (λ (z : Summary). (sum_in_turn (own m) (sum_in_turn (sum_trips (sum_in_turn passing z)) passing)).ends) (exits_pass cs w h.variable ps unsummed e ps unsummed (m + 1)) ∙ (λ i. events_end w (own_events cs m (Do h body)) i || none (own m).keeps i)
+      by true e = λ i. events_end w (own_events cs m (Do h body)) i || (own_cut m e i && (Trips m).ends)

@@ -213,7 +213,7 @@ module _ (s : Setting) (outer : List Loop) (l : Loop) (unvalued : constant_value
     deep = let e = ap length (common_is outer a b) in let more = length_more outer (common_nest a b) in omega (arith, e, more)
 
     not_other : is_other s source sink v ≡ false
-    not_other = ap (λ (c : Bool). not c && (not (is_among v (indices_of sink.nest)) && not (is_among v s.assigned))) (there a other_a outer)
+    not_other = ap (λ (c : Bool). (not c && not (is_among v (indices_of sink.nest))) && not (is_among v s.assigned)) (there a other_a outer)
 
     no_others : other_variables s source sink (Var v) (Var v) ≡ []
     no_others = λ i. cond (not_other i) (v ∷ cond (not_other i) (v ∷ []) []) (cond (not_other i) (v ∷ []) [])

@@ -112,15 +112,27 @@ module _ (k : NameKinds) (x : List ℕ) (scalar : is_scalar k x ≡ true) where
             | inr j ↦ by_constant y (listed es) (is_among y cs) a (no_array (expr_count es) y rank.0) j
           ]
       not_read (Neg e) a right lacks i = not_read e a right lacks i
-      not_read (Add e g) a right lacks i = neither e g a (and_parts (expr_is_right k e) (expr_is_right k g) right) (or_none (has_scalar x e) (has_scalar x g) lacks) i
-      not_read (Sub e g) a right lacks i = neither e g a (and_parts (expr_is_right k e) (expr_is_right k g) right) (or_none (has_scalar x e) (has_scalar x g) lacks) i
-      not_read (Mul e g) a right lacks i = neither e g a (and_parts (expr_is_right k e) (expr_is_right k g) right) (or_none (has_scalar x e) (has_scalar x g) lacks) i
-      not_read (Div e g) a right lacks i = neither e g a (and_parts (expr_is_right k e) (expr_is_right k g) right) (or_none (has_scalar x e) (has_scalar x g) lacks) i
-      not_read (Pow e g) a right lacks i = neither e g a (and_parts (expr_is_right k e) (expr_is_right k g) right) (or_none (has_scalar x e) (has_scalar x g) lacks) i
+      not_read (Add e g) a right lacks i =
+          let r = and_parts (expr_is_right k e) (expr_is_right k g) right in
+          let l = or_none (has_scalar x e) (has_scalar x g) lacks in
+          elim (in_parts a (expr_reads cs indices e) (expr_reads cs indices g) i) [ inl j ↦ not_read e a r.0 l.0 j | inr j ↦ not_read g a r.1 l.1 j ]
+      not_read (Sub e g) a right lacks i =
+          let r = and_parts (expr_is_right k e) (expr_is_right k g) right in
+          let l = or_none (has_scalar x e) (has_scalar x g) lacks in
+          elim (in_parts a (expr_reads cs indices e) (expr_reads cs indices g) i) [ inl j ↦ not_read e a r.0 l.0 j | inr j ↦ not_read g a r.1 l.1 j ]
+      not_read (Mul e g) a right lacks i =
+          let r = and_parts (expr_is_right k e) (expr_is_right k g) right in
+          let l = or_none (has_scalar x e) (has_scalar x g) lacks in
+          elim (in_parts a (expr_reads cs indices e) (expr_reads cs indices g) i) [ inl j ↦ not_read e a r.0 l.0 j | inr j ↦ not_read g a r.1 l.1 j ]
+      not_read (Div e g) a right lacks i =
+          let r = and_parts (expr_is_right k e) (expr_is_right k g) right in
+          let l = or_none (has_scalar x e) (has_scalar x g) lacks in
+          elim (in_parts a (expr_reads cs indices e) (expr_reads cs indices g) i) [ inl j ↦ not_read e a r.0 l.0 j | inr j ↦ not_read g a r.1 l.1 j ]
+      not_read (Pow e g) a right lacks i =
+          let r = and_parts (expr_is_right k e) (expr_is_right k g) right in
+          let l = or_none (has_scalar x e) (has_scalar x g) lacks in
+          elim (in_parts a (expr_reads cs indices e) (expr_reads cs indices g) i) [ inl j ↦ not_read e a r.0 l.0 j | inr j ↦ not_read g a r.1 l.1 j ]
       not_read (Call f es) a right lacks i = none_read es a (and_parts _ (exprs_are_right k es) right).1 lacks i
-
-      neither : (e g : ExprTree) (a : Access) → (expr_is_right k e ≡ true) × (expr_is_right k g ≡ true) → (has_scalar x e ≡ false) × (has_scalar x g ≡ false) → IsIn a (expr_reads cs indices e ++ expr_reads cs indices g) → is_same_text x a.name ≡ false
-      neither e g a right lacks i = elim (in_parts a (expr_reads cs indices e) (expr_reads cs indices g) i) [ inl j ↦ not_read e a right.0 lacks.0 j | inr j ↦ not_read g a right.1 lacks.1 j ]
 
       none_read : (es : ExprTrees) (a : Access) → exprs_are_right k es ≡ true → have_scalar x es ≡ false → IsIn a (exprs_reads cs indices es) → is_same_text x a.name ≡ false
       none_read no_exprs a right lacks i = absurd i

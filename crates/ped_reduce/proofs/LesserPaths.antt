@@ -16,15 +16,15 @@ pub record IsLess (a b : Summary) : Type 0 where
   pub more : IsNoMore a b
   pub first : b.first ≡ None → a.first ≡ None
 
-is_some : {A : Type 0} {n : ℕ} → Some n ≡ None → A
+pub is_some : {A : Type 0} {n : ℕ} → Some n ≡ None → A
 is_some e = absurd cc
 
-none_both : (a b : Option ℕ) → least_of a b ≡ None → (a ≡ None) × (b ≡ None)
+pub none_both : (a b : Option ℕ) → least_of a b ≡ None → (a ≡ None) × (b ≡ None)
 none_both None b h = (refl, h)
 none_both (Some a) None h = absurd cc
 none_both (Some a) (Some b) h = absurd cc
 
-both_none : (a b : Option ℕ) → a ≡ None → b ≡ None → least_of a b ≡ None
+pub both_none : (a b : Option ℕ) → a ≡ None → b ≡ None → least_of a b ≡ None
 both_none a b h k = λ i. least_of (h i) (k i)
 
 when_less : (x y : Bool) (m n : Option ℕ) → (x ≡ true → y ≡ true) → (n ≡ None → m ≡ None) → when y n ≡ None → when x m ≡ None
@@ -150,7 +150,7 @@ module _ (w : List ℕ) where
       ap (λ (b : Bool). (sum_in_turn (if b then of_manner reads n else passing) (sum_events w (reads_of n xs ++ es))).first) p.0 ∙ first_read n xs es p.1 k
 
   module _ (cs : List (List ℕ)) where
-    assigned_first : (n : ℕ) (xs : List (List ℕ)) → (sum_events w (map (event n assigns) xs)).first ≡ None
+    pub assigned_first : (n : ℕ) (xs : List (List ℕ)) → (sum_events w (map (event n assigns) xs)).first ≡ None
     assigned_first n [] = refl
     assigned_first n (x ∷ xs) = by (is_same_text w x) (sum_events w (map (event n assigns) xs)) (assigned_first n xs)
       where
@@ -168,7 +168,7 @@ module _ (w : List ℕ) where
         ∙ first_read n xs [] (read_first m xs [] (ap (λ (es : List Event). (sum_events w es).first) (no_events (reads_of m xs)) ∙ h)).0 refl
 
     -- events under another number
-    abbrev renamed : ℕ → Event → Event
+    abbrev pub renamed : ℕ → Event → Event
     renamed m e = event m e.manner e.scalar
 
     renamed_first : (m : ℕ) (es : List Event) → (sum_events w es).first ≡ None → (sum_events w (map (renamed m) es)).first ≡ None
@@ -206,7 +206,7 @@ module _ (w : List ℕ) where
     lefts_renamed n m [] = refl
     lefts_renamed n m (e ∷ es) = (λ i. left_renamed n m e i ++ lefts_renamed n m es i) ∙ sym (renamed_append m (left_events cs n e) (flat_map (left_events cs n) es))
 
-    own_renamed : (s : StmtTree) (n m : ℕ) → own_events cs m s ≡ map (renamed m) (own_events cs n s)
+    pub own_renamed : (s : StmtTree) (n m : ℕ) → own_events cs m s ≡ map (renamed m) (own_events cs n s)
     own_renamed (Assign left right) n m = (λ i. mapped reads n m (scalars_in cs right) i ++ left_renamed n m left i) ∙ sym (renamed_append m (reads_of n (scalars_in cs right)) (left_events cs n left))
     own_renamed (If c a b) n m = mapped reads n m (scalars_in_cond cs c)
     own_renamed (Do h body) n m =

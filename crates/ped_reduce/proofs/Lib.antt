@@ -22,3 +22,6 @@ pub mod SummedReferences
 pub mod LesserPaths
 pub mod LoweredPaths
 pub mod LoweredBehind
+pub mod ConstantScalars
+pub mod LooseSums
+pub mod ResemblingPaths

@@ -133,19 +133,19 @@ module _ (cs : List (List ℕ)) (w : List ℕ) where
     has_right : (xs ys : List (List ℕ)) → is_among w ys ≡ true → is_among w (xs ++ ys) ≡ true
     has_right xs ys e = among_append w xs ys ∙ or_right (is_among w xs) (is_among w ys) e
 
-    abbrev new : StmtTrees
-    new = followed (zeros h.variable ps) (all_summed h.variable ps (without_list body))
+    abbrev mine : StmtTrees
+    mine = followed (zeros h.variable ps) (all_summed h.variable ps (without_list body))
 
-    loops_there : (b : Bool) → is_same_text w h.variable ≡ b → (b || is_among w (all_loop_variables body)) ≡ true → (b || is_among w (all_loop_variables new)) ≡ true
+    loops_there : (b : Bool) → is_same_text w h.variable ≡ b → (b || is_among w (all_loop_variables body)) ≡ true → (b || is_among w (all_loop_variables mine)) ≡ true
     loops_there true e k = refl
     loops_there false e k =
-        ap (is_among w) (loops_followed cs w h.variable ps unsummed e (zeros h.variable ps) (all_summed h.variable ps (without_list body)))
+        ap (is_among w) (loops_followed h.variable ps (zeros h.variable ps) (all_summed h.variable ps (without_list body)))
         ∙ has_right (all_loop_variables (zeros h.variable ps)) (all_loop_variables (all_summed h.variable ps (without_list body)))
-          (ap (is_among w) (all_same_loops cs w h.variable ps unsummed e (without_list body) ∙ without_loops body) ∙ k)
+          (ap (is_among w) (all_same_loops h.variable ps (without_list body) ∙ without_loops body) ∙ k)
 
     pub lowered_loops : AreNoMore w (loop_variables (Do h body)) (all_loop_variables (lowered_loop parallel ps h body))
     lowered_loops k =
-        has_left (h.variable ∷ all_loop_variables new) (all_loop_variables (alone (Do (bare h) (exits h.variable ps)))) (loops_there (is_same_text w h.variable) refl k)
+        has_left (h.variable ∷ all_loop_variables mine) (all_loop_variables (alone (Do (bare h) (exits h.variable ps)))) (loops_there (is_same_text w h.variable) refl k)
 
 -- what holds of each DO that is lowered: nothing is added to the scalar, and it is no PARALLEL DO
 module _ (t : ProgramTree) (live : List ℕ) (cs : List (List ℕ)) (w : List ℕ) (fits : (n : ℕ) (ps : List Partials) (h : Head) (body : StmtTrees) → IsSummable t n ps h body → (is_among w (scalars_of ps) ≡ false) × (h.parallel ≡ false)) where

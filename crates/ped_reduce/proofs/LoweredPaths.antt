@@ -24,6 +24,31 @@ use Rattle.ped_reduce.proofs.Resembling.{scalars_of}
 use Rattle.ped_reduce.proofs.SumShapes.{operand, IsSumOf, IsApart, IsBare, apart_or_bare, scalar_among}
 use Rattle.ped_reduce.proofs.LesserPaths.{IsLess, less_itself, less_by, in_turn_less, either_less, behind_less, cut_less, touches, quiet_events, touches_append, touched_by, cleared_less, read_first, events_end, own_less, loop_less, same_less, all_same_less}
 
+-- the variables of DO loops stay where sums are kept apart
+module _ (v : List ℕ) (ps : List Partials) where
+  pub loops_followed : (a b : StmtTrees) → all_loop_variables (followed a b) ≡ all_loop_variables a ++ all_loop_variables b
+  loops_followed no_stmts b = refl
+  loops_followed (more_stmts s a) b = ap (λ (z : List (List ℕ)). loop_variables s ++ z) (loops_followed a b) ∙ sym (append_assoc (loop_variables s) (all_loop_variables a) (all_loop_variables b))
+
+  assigned_loops : (left right : ExprTree) (ws : StmtTrees) → IsApart v ps left right ws ⊎ IsBare ps left right ws → all_loop_variables ws ≡ []
+  assigned_loops left right ws (inl a) = ap all_loop_variables a.is
+  assigned_loops left right ws (inr b) = ap all_loop_variables b.is
+
+  mutual
+    same_loops : (s : StmtTree) → all_loop_variables (summed v ps s) ≡ loop_variables s
+    same_loops (Assign left right) = assigned_loops left right (sum_apart v ps (Assign left right)) (apart_or_bare v left right ps)
+    same_loops (If c a b) = append-nil (all_loop_variables (all_summed v ps a) ++ all_loop_variables (all_summed v ps b)) ∙ (λ i. all_same_loops a i ++ all_same_loops b i)
+    same_loops (Do h body) = append-nil (h.variable ∷ all_loop_variables (all_summed v ps body)) ∙ ap (λ (z : List (List ℕ)). h.variable ∷ z) (all_same_loops body)
+    same_loops (Print items) = refl
+    same_loops (Read items) = refl
+    same_loops Stop = refl
+    same_loops (Comment text) = refl
+
+    pub all_same_loops : (ss : StmtTrees) → all_loop_variables (all_summed v ps ss) ≡ all_loop_variables ss
+    all_same_loops no_stmts = refl
+    all_same_loops (more_stmts s rest) = loops_followed (summed v ps s) (all_summed v ps rest) ∙ (λ i. same_loops s i ++ all_same_loops rest i)
+
+
 module _ (cs : List (List ℕ)) (w : List ℕ) (v : List ℕ) (ps : List Partials) (unsummed : is_among w (scalars_of ps) ≡ false) where
   -- a scalar that isn't the DO's variable
   module _ (other : is_same_text w v ≡ false) where
@@ -34,21 +59,24 @@ module _ (cs : List (List ℕ)) (w : List ℕ) (v : List ℕ) (ps : List Partial
         by true = refl
         by false = ap (λ (b : Bool). b || false) h
 
-    neither : (xs ys : List (List ℕ)) → is_among w xs ≡ false → is_among w ys ≡ false → is_among w (xs ++ ys) ≡ false
+    pub neither : (xs ys : List (List ℕ)) → is_among w xs ≡ false → is_among w ys ≡ false → is_among w (xs ++ ys) ≡ false
     neither xs ys h k = among_append w xs ys ∙ (λ i. h i || k i)
 
     -- an element at the DO's variable reads that alone
-    element_none : (array : List ℕ) → is_among w (scalars_in cs (at array v)) ≡ false
+    pub element_none : (array : List ℕ) → is_among w (scalars_in cs (at array v)) ≡ false
     element_none array = neither (unless_constant cs v) [] (among_one v other) refl
 
     reads_quiet : (n : ℕ) (xs : List (List ℕ)) → is_among w xs ≡ false → touches w (reads_of n xs) ≡ false
     reads_quiet n xs h = touched_by w reads n xs ∙ h
 
     -- an assignment to an element at the DO's variable
+    pub element_touches : (n : ℕ) (array : List ℕ) (e : ExprTree) → is_among w (scalars_in cs e) ≡ false → touches w (own_events cs n (Assign (at array v) e)) ≡ false
+    element_touches n array e h =
+        touches_append w (reads_of n (scalars_in cs e)) (reads_of n (scalars_in cs (at array v))) (reads_quiet n (scalars_in cs e) h) (reads_quiet n (scalars_in cs (at array v)) (element_none array))
+
     element_quiet : (n : ℕ) (array : List ℕ) (e : ExprTree) → is_among w (scalars_in cs e) ≡ false → sum_events w (own_events cs n (Assign (at array v) e)) ≡ passing
     element_quiet n array e h =
-        quiet_events w (own_events cs n (Assign (at array v) e))
-        (touches_append w (reads_of n (scalars_in cs e)) (reads_of n (scalars_in cs (at array v))) (reads_quiet n (scalars_in cs e) h) (reads_quiet n (scalars_in cs (at array v)) (element_none array)))
+        quiet_events w (own_events cs n (Assign (at array v) e)) (element_touches n array e h)
 
     turns : (a b : Summary) → a ≡ passing → b ≡ passing → sum_in_turn a b ≡ passing
     turns a b h k = λ i. sum_in_turn (h i) (k i)
@@ -58,7 +86,7 @@ module _ (cs : List (List ℕ)) (w : List ℕ) (v : List ℕ) (ps : List Partial
     zeros_pass (p ∷ qs) m =
         λ i. sum_in_turn (element_quiet m p.high (Int 0) refl i) (sum_in_turn (element_quiet (m + 1) p.low (Int 0) refl i) (sum_in_turn (element_quiet (m + 1 + 1) p.flag (Int 0) refl i) (zeros_pass qs (m + 1 + 1 + 1) i)))
 
-    with_none : (array : List ℕ) (sum : Sum) → is_among w (scalars_in cs (operand sum)) ≡ false → is_among w (scalars_in cs (with_sum (at array v) sum)) ≡ false
+    pub with_none : (array : List ℕ) (sum : Sum) → is_among w (scalars_in cs (operand sum)) ≡ false → is_among w (scalars_in cs (with_sum (at array v) sum)) ≡ false
     with_none array (plus e) h = neither (scalars_in cs (at array v)) (scalars_in cs e) (element_none array) h
     with_none array (minus e) h = neither (scalars_in cs (at array v)) (scalars_in cs e) (element_none array) h
 
@@ -97,7 +125,7 @@ module _ (cs : List (List ℕ)) (w : List ℕ) (v : List ℕ) (ps : List Partial
         by false e = refl
 
     -- what is added is read on the right side
-    operand_less : (x : List ℕ) (left right : ExprTree) (sum : Sum) → IsSumOf x left right sum → is_among w (scalars_in cs right) ≡ false → is_among w (scalars_in cs (operand sum)) ≡ false
+    pub operand_less : (x : List ℕ) (left right : ExprTree) (sum : Sum) → IsSumOf x left right sum → is_among w (scalars_in cs right) ≡ false → is_among w (scalars_in cs (operand sum)) ≡ false
     operand_less x left right sum of h = elim of.shape [
       | inl q ↦ (or_none (is_among w (scalars_in cs (Var x))) (is_among w (scalars_in cs (operand sum))) (sym (among_append w (scalars_in cs (Var x)) (scalars_in cs (operand sum))) ∙ (ap (λ (e : ExprTree). is_among w (scalars_in cs e)) (sym q) ∙ h))).1
       | inr z ↦ elim z [
@@ -134,29 +162,6 @@ module _ (cs : List (List ℕ)) (w : List ℕ) (v : List ℕ) (ps : List Partial
     pub followed_less : (a b : StmtTrees) (m : ℕ) (c d : Summary) → IsLess (sum_of_all cs w a m) c → IsLess (sum_of_all cs w b (m + statements_count a)) d → IsLess (sum_of_all cs w (followed a b) m) (sum_in_turn c d)
     followed_less a b m c d h k = subst (λ (z : Summary). IsLess z (sum_in_turn c d)) (sym (followed_sum cs w a b m)) (in_turn_less (sum_of_all cs w a m) (sum_of_all cs w b (m + statements_count a)) c d h k)
 
-    -- the DO loops stay
-    loops_followed : (a b : StmtTrees) → all_loop_variables (followed a b) ≡ all_loop_variables a ++ all_loop_variables b
-    loops_followed no_stmts b = refl
-    loops_followed (more_stmts s a) b = ap (λ (z : List (List ℕ)). loop_variables s ++ z) (loops_followed a b) ∙ sym (append_assoc (loop_variables s) (all_loop_variables a) (all_loop_variables b))
-
-    assigned_loops : (left right : ExprTree) (ws : StmtTrees) → IsApart v ps left right ws ⊎ IsBare ps left right ws → all_loop_variables ws ≡ []
-    assigned_loops left right ws (inl a) = ap all_loop_variables a.is
-    assigned_loops left right ws (inr b) = ap all_loop_variables b.is
-
-    mutual
-      same_loops : (s : StmtTree) → all_loop_variables (summed v ps s) ≡ loop_variables s
-      same_loops (Assign left right) = assigned_loops left right (sum_apart v ps (Assign left right)) (apart_or_bare v left right ps)
-      same_loops (If c a b) = append-nil (all_loop_variables (all_summed v ps a) ++ all_loop_variables (all_summed v ps b)) ∙ (λ i. all_same_loops a i ++ all_same_loops b i)
-      same_loops (Do h body) = append-nil (h.variable ∷ all_loop_variables (all_summed v ps body)) ∙ ap (λ (z : List (List ℕ)). h.variable ∷ z) (all_same_loops body)
-      same_loops (Print items) = refl
-      same_loops (Read items) = refl
-      same_loops Stop = refl
-      same_loops (Comment text) = refl
-
-      all_same_loops : (ss : StmtTrees) → all_loop_variables (all_summed v ps ss) ≡ all_loop_variables ss
-      all_same_loops no_stmts = refl
-      all_same_loops (more_stmts s rest) = loops_followed (summed v ps s) (all_summed v ps rest) ∙ (λ i. same_loops s i ++ all_same_loops rest i)
-
     -- the statements of the body
     mutual
       summed_less : (s : StmtTree) (n m : ℕ) → IsLess (sum_of_all cs w (summed v ps s) m) (sum_of cs w s n)
@@ -172,7 +177,7 @@ module _ (cs : List (List ℕ)) (w : List ℕ) (v : List ℕ) (ps : List Partial
           (all_summed_less a (n + 1) (m + 1)) (all_summed_less b (n + 1 + statements_count a) (m + 1 + statements_count new_a))))
       summed_less (Do h body) n m =
           let new = all_summed v ps body in
-          let loops = all_same_loops body in
+          let loops = all_same_loops v ps body in
           one_less (Do h new) (sum_of cs w (Do h body) n) m
           (in_turn_less (sum_events w (own_events cs m (Do h body))) (sum_loop w m h new (sum_of_all cs w new (m + 1))) (sum_events w (own_events cs n (Do h body))) (sum_loop w n h body (sum_of_all cs w body (n + 1)))
           (own_less w cs (Do h body) m n)

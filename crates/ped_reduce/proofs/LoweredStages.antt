@@ -286,3 +286,42 @@ module _ (t : ProgramTree) where
       let some = first_least s live.loop in
       let before : Before s p = λ k i. (let less = n.1 k i in omega (arith, less, some)) in
       (n.0, placed s p w q n.0 before live parallel (made_by parallel p s (list_of live.loop.body) w makes))
+
+-- what comes of a program up to a live list, whose DO is lowered but isn't parallel yet: the statements before it are the same or lowered, those round it and behind it the same
+pub record IsResembling (t : ProgramTree) (s : ℕ) (loop : LoopOf t s) (u : ProgramTree) (k : ℕ) : Type 0 where
+  pub live : List ℕ
+  pub gap : Gap
+  pub stands : t.body ≡ filled gap (alone (Do loop.head loop.body))
+  pub at : number_at gap 1 ≡ s
+  pub other : Gap
+  pub alike : GapBecomes t live gap 1 other
+  pub number : number_at other 1 ≡ k
+  pub partials : List Partials
+  pub new : u.body ≡ filled other (lowered_loop false partials loop.head loop.body)
+  pub summable : IsSummable t s partials loop.head loop.body
+  pub more : List (List DeclaratorTree)
+  pub decls : u.decls ≡ t.decls ++ map Integer more
+
+-- lowering gives it
+pub lowered_resembles : (t : ProgramTree) (s : ℕ) (p q w : Lowered) → Lowers t (range_with_len 1 (s - 1)) (not_lowered t) p → (live : IsLive t s p q) → lowered_at false p s (list_of live.loop.body) ≡ Some w → IsResembling t s live.loop w.tree (s + p.more)
+lowered_resembles t s p q w lowers live makes =
+    let both = lowered_place t s p q w false lowers live makes in
+    let stage = both.0 in
+    let place = both.1 in
+    let r = rows place.span place.partials in
+    record {
+      live = p.live;
+      gap = place.gap;
+      stands = place.stands;
+      at = place.at;
+      other = place.other;
+      alike = place.alike;
+      number = place.number;
+      partials = place.partials;
+      new = place.new;
+      summable = place.summable;
+      more = stage.more ++ r.0;
+      decls =
+          place.decls ∙ (λ i. stage.decls i ++ r.1 i) ∙ append_assoc t.decls (map Integer stage.more) (map Integer r.0)
+          ∙ ap (λ (ds : List DeclTree). t.decls ++ ds) (sym (map-append Integer stage.more r.0));
+    }

@@ -25,3 +25,5 @@ pub mod LoweredBehind
 pub mod ConstantScalars
 pub mod LooseSums
 pub mod ResemblingPaths
+pub mod SummedNumbers
+pub mod LevelEdges

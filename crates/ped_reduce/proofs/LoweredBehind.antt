@@ -27,7 +27,7 @@ unless_loops : (o : Option (List ℕ)) (text : List ℕ) (rest : StmtTrees) → 
 unless_loops None text rest e = refl
 unless_loops (Some x) text rest e = e
 
-without_loops : (ts : StmtTrees) → all_loop_variables (without_list ts) ≡ all_loop_variables ts
+pub without_loops : (ts : StmtTrees) → all_loop_variables (without_list ts) ≡ all_loop_variables ts
 without_loops no_stmts = refl
 without_loops (more_stmts (Comment text) rest) = unless_loops (listed_name text) text rest (without_loops rest)
 without_loops (more_stmts (Assign left right) rest) = refl

@@ -296,6 +296,7 @@ pub record IsResembling (t : ProgramTree) (s : ℕ) (loop : LoopOf t s) (u : Pro
   pub other : Gap
   pub alike : GapBecomes t live gap 1 other
   pub number : number_at other 1 ≡ k
+  pub further : s ≤ k
   pub partials : List Partials
   pub new : u.body ≡ filled other (lowered_loop false partials loop.head loop.body)
   pub summable : IsSummable t s partials loop.head loop.body
@@ -317,6 +318,7 @@ lowered_resembles t s p q w lowers live makes =
       other = place.other;
       alike = place.alike;
       number = place.number;
+      further = omega arith;
       partials = place.partials;
       new = place.new;
       summable = place.summable;

@@ -150,7 +150,7 @@ module _ (t u : ProgramTree) (s k : ℕ) (loop : LoopOf t s) (m : IsResembling t
   same_saved = ap (flat_map saved_in) m.decls ∙ flat_map-append saved_in t.decls (map Integer m.more) ∙ ap (λ (xs : List (List ℕ)). flat_map saved_in t.decls ++ xs) (none_saved m.more) ∙ append-nil (flat_map saved_in t.decls)
 
   -- the lowered DO
-  pub new_loop : LoopOf u k
+  abbrev pub new_loop : LoopOf u k
   new_loop = record {
     head = record h { parallel = false };
     body = new;

@@ -1,5 +1,5 @@
 -- The references in the body of a lowered DO: to its arrays, at the DO's variable; or those of the old body, to none of the scalars.
-use Rattle.std.proofs.Common.{◌≡◌, ◌⊎◌, ℕ, suc, ◌+◌, List, [], ◌∷◌, ◌++◌, map, Bool, true, false, ◌&&◌, ◌||◌, Option, Some, None, is_some, if◌then◌else◌, inl, inr, refl, sym, ap, subst, ◌∙◌, arith, append_assoc, append-nil}
+use Rattle.std.proofs.Common.{◌≡◌, ◌⊎◌, ℕ, suc, ◌+◌, ◌<◌, List, [], ◌∷◌, ◌++◌, map, Bool, true, false, ◌&&◌, ◌||◌, Option, Some, None, is_some, if◌then◌else◌, inl, inr, refl, sym, ap, subst, ◌∙◌, arith, append_assoc, append-nil}
 use Rattle.std.specs.List.{list_all}
 use Rattle.std.proofs.lemmas.Bool.{and_parts, both_ways}
 use Rattle.std.proofs.lemmas.List.{map-append}
@@ -58,12 +58,13 @@ pub record IsOfArrays (v : List ℕ) (ps : List Partials) (r : Reference) : Type
   pub array : is_among r.access.name (arrays_of ps) ≡ true
   pub subscripts : r.access.subscripts ≡ Var v ∷ []
 
--- a reference that comes from one of these, to none of the scalars: the same access, in the same DO loops under other numbers
-pub record IsFrom (f : ℕ → ℕ) (base other : List Loop) (ps : List Partials) (old : List Reference) (r : Reference) : Type 0 where
+-- a reference that comes from one of these, to none of the scalars: the same access, in the same DO loops under other numbers, those further in behind a number
+pub record IsFrom (f : ℕ → ℕ) (low : ℕ) (base other : List Loop) (ps : List Partials) (old : List Reference) (r : Reference) : Type 0 where
   pub source : Reference
   pub listed : IsIn source old
   pub access : r.access ≡ source.access
   pub inner : List Loop
+  pub deep : (l : Loop) → IsIn l inner → low < l.number
   pub old_nest : source.nest ≡ base ++ inner
   pub new_nest : r.nest ≡ other ++ map (renumbered f) inner
   pub unsummed : is_among source.access.name (scalars_of ps) ≡ false
@@ -254,18 +255,28 @@ sum_right k x left right sum of h = elim of.shape [
 other_sum : (x y : List ℕ) (left right : ExprTree) (sum : Sum) → IsSumOf x left right sum → is_same_text y x ≡ false → sum_to y (Assign left right) ≡ None
 other_sum x y left right sum of e = ap (λ (z : ExprTree). sum_to y (Assign z right)) of.written ∙ ap (λ (c : Bool). if c then sum_of y right else None) e
 
-module _ (t : ProgramTree) (k : NameKinds) (cs : List (List ℕ)) (v : List ℕ) (ps : List Partials) (f : ℕ → ℕ) (base other : List Loop) (heads : heads_of other ≡ heads_of base) (indexed : is_among v (indices_of base) ≡ true)
+module _ (t : ProgramTree) (k : NameKinds) (cs : List (List ℕ)) (v : List ℕ) (ps : List Partials) (f : ℕ → ℕ) (low : ℕ) (base other : List Loop) (heads : heads_of other ≡ heads_of base) (indexed : is_among v (indices_of base) ≡ true)
     (scalars : (x : List ℕ) → is_among x (scalars_of ps) ≡ true → is_scalar k x ≡ true) where
   -- the statement of a reference to one of the scalars is a sum of it
   abbrev pub InSum : Reference → Type 0
   InSum r = is_among r.access.name (scalars_of ps) ≡ true → is_some (and_then (statement_with r.statement t) (sum_to r.access.name)) ≡ true
 
   abbrev Comes : List Reference → Reference → Type 0
-  Comes old r = IsOfArrays v ps r ⊎ IsFrom f base other ps old r
+  Comes old r = IsOfArrays v ps r ⊎ IsFrom f low base other ps old r
 
   more_listed : (old wide : List Reference) (r : Reference) → ((s : Reference) → IsIn s old → IsIn s wide) → Comes old r → Comes wide r
   more_listed old wide r more (inl a) = inl a
-  more_listed old wide r more (inr c) = inr (record { source = c.source; listed = more c.source c.listed; access = c.access; inner = c.inner; old_nest = c.old_nest; new_nest = c.new_nest; unsummed = c.unsummed })
+  more_listed old wide r more (inr c) = inr (record { source = c.source; listed = more c.source c.listed; access = c.access; inner = c.inner; deep = c.deep; old_nest = c.old_nest; new_nest = c.new_nest; unsummed = c.unsummed })
+
+  -- DO loops behind the number
+  abbrev pub AreDeep : List Loop → Type 0
+  AreDeep inner = (l : Loop) → IsIn l inner → low < l.number
+
+  deeper : (inner : List Loop) (n : ℕ) (h : Head) → low < n → AreDeep inner → AreDeep (inner ++ loop n h ∷ [])
+  deeper inner n h above deep l i = elim (in_parts l inner (loop n h ∷ []) i) [
+    | inl j ↦ deep l j
+    | inr j ↦ elim j [ inl e ↦ (let same = ap (λ (z : Loop). z.number) e in omega (arith, same, above)) | inr w ↦ absurd w ]
+  ]
 
   abbrev old_nest : List Loop → List Loop
   old_nest inner = base ++ inner
@@ -312,20 +323,20 @@ module _ (t : ProgramTree) (k : NameKinds) (cs : List (List ℕ)) (v : List ℕ)
   OwnNew inner m s = numbered_accesses m 1 (new_nest inner) (own_accesses cs (indices_of (new_nest inner)) s)
 
   -- a statement that stays, by itself
-  own_comes : (inner : List Loop) (s : StmtTree) (xs : List StmtTree) (n m : ℕ) → Stand t n (s ∷ xs) → ((x : List ℕ) → is_among x (scalars_of ps) ≡ true → sum_to x s ≡ None) → ((r : Reference) → IsIn r (OwnOld inner n s) → InSum r)
+  own_comes : (inner : List Loop) → AreDeep inner → (s : StmtTree) (xs : List StmtTree) (n m : ℕ) → Stand t n (s ∷ xs) → ((x : List ℕ) → is_among x (scalars_of ps) ≡ true → sum_to x s ≡ None) → ((r : Reference) → IsIn r (OwnOld inner n s) → InSum r)
       → (u : StmtTree) → own_accesses cs (indices_of (new_nest inner)) u ≡ own_accesses cs (indices_of (new_nest inner)) s → (r : Reference) → IsIn r (OwnNew inner m u) → Comes (OwnOld inner n s) r
-  own_comes inner s xs n m st none sums u same r i =
+  own_comes inner deep s xs n m st none sums u same r i =
       let o = own_access m 1 (new_nest inner) (own_accesses cs (indices_of (new_nest inner)) u) r i in
       let there : IsIn r.access (own_accesses cs (indices_of (old_nest inner)) s) =
       subst (λ (is : List (List ℕ)). IsIn r.access (own_accesses cs is s)) (same_variables inner) (subst (λ (xs : List Access). IsIn r.access xs) same o.2) in
       let a = as_reference n 1 (old_nest inner) r.access (own_accesses cs (indices_of (old_nest inner)) s) there in
       let b = own_access n 1 (old_nest inner) (own_accesses cs (indices_of (old_nest inner)) s) a.0 a.1 in
-      inr (record { source = a.0; listed = a.1; access = sym a.2; inner = inner; old_nest = b.1; new_nest = o.1; unsummed = none_summed n s xs a.0 st b.0 (sums a.0 a.1) (λ h. none a.0.access.name h) })
+      inr (record { source = a.0; listed = a.1; access = sym a.2; inner = inner; deep = deep; old_nest = b.1; new_nest = o.1; unsummed = none_summed n s xs a.0 st b.0 (sums a.0 a.1) (λ h. none a.0.access.name h) })
 
   -- a read of what is added
-  read_comes : (inner : List Loop) (left right : ExprTree) (n : ℕ) (p : Partials) (sum : Sum) → Stand t n (Assign left right ∷ []) → expr_is_right k right ≡ true → ((r : Reference) → IsIn r (OwnOld inner n (Assign left right)) → InSum r)
+  read_comes : (inner : List Loop) → AreDeep inner → (left right : ExprTree) (n : ℕ) (p : Partials) (sum : Sum) → Stand t n (Assign left right ∷ []) → expr_is_right k right ≡ true → ((r : Reference) → IsIn r (OwnOld inner n (Assign left right)) → InSum r)
       → IsIn p ps → IsSumOf p.scalar left right sum → (r : Reference) → r.nest ≡ new_nest inner → IsIn r.access (expr_reads cs (indices_of (old_nest inner)) (operand sum)) → Comes (OwnOld inner n (Assign left right)) r
-  read_comes inner left right n p sum st is_right sums among of r nest i =
+  read_comes inner deep left right n p sum st is_right sums among of r nest i =
       let idx = indices_of (old_nest inner) in
       let there = in_left r.access (expr_reads cs idx right) (left_accesses cs idx left) (sum_read cs idx p.scalar left right sum of r.access i) in
       let a = as_reference n 1 (old_nest inner) r.access (own_accesses cs idx (Assign left right)) there in
@@ -337,6 +348,7 @@ module _ (t : ProgramTree) (k : NameKinds) (cs : List (List ℕ)) (v : List ℕ)
         listed = a.1;
         access = sym a.2;
         inner = inner;
+        deep = deep;
         old_nest = b.1;
         new_nest = nest;
         unsummed = none_summed n (Assign left right) [] a.0 st b.0 (sums a.0 a.1) (λ h. other_sum p.scalar a.0.access.name left right sum of other_name);
@@ -346,9 +358,9 @@ module _ (t : ProgramTree) (k : NameKinds) (cs : List (List ℕ)) (v : List ℕ)
   of_arrays r array among o = record { array = ap (λ (z : List ℕ). is_among z (arrays_of ps)) o.0 ∙ among; subscripts = o.1 }
 
   -- an assignment: as it was, or a sum that is kept apart
-  assigned_comes : (inner : List Loop) (left right : ExprTree) (n m : ℕ) → Stand t n (Assign left right ∷ []) → expr_is_right k right ≡ true → ((r : Reference) → IsIn r (OwnOld inner n (Assign left right)) → InSum r) → (ws : StmtTrees)
+  assigned_comes : (inner : List Loop) → AreDeep inner → (left right : ExprTree) (n m : ℕ) → Stand t n (Assign left right ∷ []) → expr_is_right k right ≡ true → ((r : Reference) → IsIn r (OwnOld inner n (Assign left right)) → InSum r) → (ws : StmtTrees)
       → IsApart v ps left right ws ⊎ IsBare ps left right ws → (r : Reference) → IsIn r (statements_references cs (new_nest inner) m ws) → Comes (OwnOld inner n (Assign left right)) r
-  assigned_comes inner left right n m st is_right sums ws (inl a) r i =
+  assigned_comes inner deep left right n m st is_right sums ws (inl a) r i =
       let among = arrays_among a.partials ps a.among in
       let o =
       of_apart cs (indices_of (old_nest inner)) v (indexed_in inner) a.partials a.sum (new_nest inner) m r (same_variables inner) (subst (λ (ts : StmtTrees). IsIn r (statements_references cs (new_nest inner) m ts)) a.is i) in
@@ -357,11 +369,11 @@ module _ (t : ProgramTree) (k : NameKinds) (cs : List (List ℕ)) (v : List ℕ)
           | inl q ↦ of_arrays r a.partials.high among.high q
           | inr w ↦ elim w [ inl q ↦ of_arrays r a.partials.low among.low q | inr q ↦ of_arrays r a.partials.flag among.flag q ]
         ])
-        | inr j ↦ read_comes inner left right n a.partials a.sum st is_right sums a.among a.of r o.0 j
+        | inr j ↦ read_comes inner deep left right n a.partials a.sum st is_right sums a.among a.of r o.0 j
       ]
-  assigned_comes inner left right n m st is_right sums ws (inr b) r i =
+  assigned_comes inner deep left right n m st is_right sums ws (inr b) r i =
       elim (in_parts r (OwnNew inner m (Assign left right)) [] (subst (λ (ts : StmtTrees). IsIn r (statements_references cs (new_nest inner) m ts)) b.is i)) [
-        | inl j ↦ own_comes inner (Assign left right) [] n m st (λ x h. (let p = scalar_of x ps h in ap (λ (z : List ℕ). sum_to z (Assign left right)) p.2 ∙ b.none p.0 p.1)) sums (Assign left right) refl r j
+        | inl j ↦ own_comes inner deep (Assign left right) [] n m st (λ x h. (let p = scalar_of x ps h in ap (λ (z : List ℕ). sum_to z (Assign left right)) p.2 ∙ b.none p.0 p.1)) sums (Assign left right) refl r j
         | inr j ↦ absurd j
       ]
 
@@ -381,11 +393,11 @@ module _ (t : ProgramTree) (k : NameKinds) (cs : List (List ℕ)) (v : List ℕ)
 
   -- the references of statements in which sums are kept apart
   mutual
-    comes : (inner : List Loop) (s : StmtTree) (n m : ℕ) → Stand t n (numbered s) → stmt_is_right k s ≡ true → Tells f v ps s n m → ((r : Reference) → IsIn r (Old inner n s) → InSum r)
+    comes : (inner : List Loop) → AreDeep inner → (s : StmtTree) (n m : ℕ) → low < n → Stand t n (numbered s) → stmt_is_right k s ≡ true → Tells f v ps s n m → ((r : Reference) → IsIn r (Old inner n s) → InSum r)
         → (r : Reference) → IsIn r (statements_references cs (new_nest inner) m (summed v ps s)) → Comes (Old inner n s) r
-    comes inner (Assign left right) n m st is_right tells sums r i =
-        assigned_comes inner left right n m st (and_parts (target_is_right k left) (expr_is_right k right) is_right).1 sums (sum_apart v ps (Assign left right)) (apart_or_bare v left right ps) r i
-    comes inner (If c a b) n m st is_right tells sums r i =
+    comes inner deep (Assign left right) n m above st is_right tells sums r i =
+        assigned_comes inner deep left right n m st (and_parts (target_is_right k left) (expr_is_right k right) is_right).1 sums (sum_apart v ps (Assign left right)) (apart_or_bare v left right ps) r i
+    comes inner deep (If c a b) n m above st is_right tells sums r i =
         let inside = inner_stands t (If c a b) (all_numbered a ++ all_numbered b) n st in
         let rights = and_parts (cond_is_right k c && stmts_are_right k a) (stmts_are_right k b) is_right in
         let new_a = all_summed v ps a in
@@ -397,50 +409,50 @@ module _ (t : ProgramTree) (k : NameKinds) (cs : List (List ℕ)) (v : List ℕ)
           | inl j ↦ elim (in_parts r (OwnNew inner m (If c new_a new_b) ++ statements_references cs (new_nest inner) (m + 1) new_a) (statements_references cs (new_nest inner) (m + 1 + statements_count new_a) new_b) j) [
             | inl q ↦ elim (in_parts r (OwnNew inner m (If c new_a new_b)) (statements_references cs (new_nest inner) (m + 1) new_a) q) [
               | inl o ↦ more_listed own (own ++ of_a ++ of_b) r (λ s w. in_left s (own ++ of_a) of_b (in_left s own of_a w))
-                  (own_comes inner (If c a b) (all_numbered a ++ all_numbered b) n m st (λ x h. refl) (λ s w. sums s (in_left s (own ++ of_a) of_b (in_left s own of_a w))) (If c new_a new_b) refl r o)
+                  (own_comes inner deep (If c a b) (all_numbered a ++ all_numbered b) n m st (λ x h. refl) (λ s w. sums s (in_left s (own ++ of_a) of_b (in_left s own of_a w))) (If c new_a new_b) refl r o)
               | inr o ↦ more_listed of_a (own ++ of_a ++ of_b) r (λ s w. in_left s (own ++ of_a) of_b (in_right s own of_a w))
-                  (all_come inner a (n + 1) (m + 1) (first_stands t (n + 1) (all_numbered a) (all_numbered b) inside) (and_parts (cond_is_right k c) (stmts_are_right k a) rights.0).1 tells.0 (λ s w. sums s (in_left s (own ++ of_a) of_b (in_right s own of_a w))) r o)
+                  (all_come inner deep a (n + 1) (m + 1) (omega (arith, above)) (first_stands t (n + 1) (all_numbered a) (all_numbered b) inside) (and_parts (cond_is_right k c) (stmts_are_right k a) rights.0).1 tells.0 (λ s w. sums s (in_left s (own ++ of_a) of_b (in_right s own of_a w))) r o)
             ]
             | inr q ↦ more_listed of_b (own ++ of_a ++ of_b) r (λ s w. in_right s (own ++ of_a) of_b w)
-                (all_come inner b (n + 1 + statements_count a) (m + 1 + statements_count new_a) (else_stands t a b (n + 1) inside) rights.1 tells.1 (λ s w. sums s (in_right s (own ++ of_a) of_b w)) r q)
+                (all_come inner deep b (n + 1 + statements_count a) (m + 1 + statements_count new_a) (omega (arith, above)) (else_stands t a b (n + 1) inside) rights.1 tells.1 (λ s w. sums s (in_right s (own ++ of_a) of_b w)) r q)
           ]
           | inr j ↦ absurd j
         ]
-    comes inner (Do h body) n m st is_right tells sums r i =
+    comes inner deep (Do h body) n m above st is_right tells sums r i =
         let rights = and_parts (head_is_right k h) (stmts_are_right k body) is_right in
         let new = all_summed v ps body in
-        let deep = inner ++ loop n h ∷ [] in
+        let wider = inner ++ loop n h ∷ [] in
         let own = OwnOld inner n (Do h body) in
         let mine = statements_references cs (old_nest inner ++ loop n h ∷ []) (n + 1) body in
-        let there : AllOld deep (n + 1) body ≡ mine = ap (λ (ls : List Loop). statements_references cs ls (n + 1) body) (sym (deeper_old inner n h)) in
+        let there : AllOld wider (n + 1) body ≡ mine = ap (λ (ls : List Loop). statements_references cs ls (n + 1) body) (sym (deeper_old inner n h)) in
         elim (in_parts r (OwnNew inner m (Do h new) ++ statements_references cs (new_nest inner ++ loop m h ∷ []) (m + 1) new) [] i) [
           | inl j ↦ elim (in_parts r (OwnNew inner m (Do h new)) (statements_references cs (new_nest inner ++ loop m h ∷ []) (m + 1) new) j) [
             | inl o ↦ more_listed own (own ++ mine) r (λ s w. in_left s own mine w)
-                (own_comes inner (Do h body) (all_numbered body) n m st (λ x g. refl) (λ s w. sums s (in_left s own mine w)) (Do h new) refl r o)
-            | inr o ↦ more_listed (AllOld deep (n + 1) body) (own ++ mine) r (λ s w. in_right s own mine (subst (λ (rs : List Reference). IsIn s rs) there w))
-                (all_come deep body (n + 1) (m + 1) (inner_stands t (Do h body) (all_numbered body) n st) rights.1 tells.1 (λ s w. sums s (in_right s own mine (subst (λ (rs : List Reference). IsIn s rs) there w)))
+                (own_comes inner deep (Do h body) (all_numbered body) n m st (λ x g. refl) (λ s w. sums s (in_left s own mine w)) (Do h new) refl r o)
+            | inr o ↦ more_listed (AllOld wider (n + 1) body) (own ++ mine) r (λ s w. in_right s own mine (subst (λ (rs : List Reference). IsIn s rs) there w))
+                (all_come wider (deeper inner n h above deep) body (n + 1) (m + 1) (omega (arith, above)) (inner_stands t (Do h body) (all_numbered body) n st) rights.1 tells.1 (λ s w. sums s (in_right s own mine (subst (λ (rs : List Reference). IsIn s rs) there w)))
                 r (subst (λ (ls : List Loop). IsIn r (statements_references cs ls (m + 1) new)) (deeper_new inner n m h tells.0) o))
           ]
           | inr j ↦ absurd j
         ]
-    comes inner (Print items) n m st is_right tells sums r i = elim (in_parts r (OwnNew inner m (Print items)) [] i) [ inl j ↦ own_comes inner (Print items) [] n m st (λ x h. refl) sums (Print items) refl r j | inr j ↦ absurd j ]
-    comes inner (Read items) n m st is_right tells sums r i = elim (in_parts r (OwnNew inner m (Read items)) [] i) [ inl j ↦ own_comes inner (Read items) [] n m st (λ x h. refl) sums (Read items) refl r j | inr j ↦ absurd j ]
-    comes inner Stop n m st is_right tells sums r i = absurd i
-    comes inner (Comment text) n m st is_right tells sums r i = absurd i
+    comes inner deep (Print items) n m above st is_right tells sums r i = elim (in_parts r (OwnNew inner m (Print items)) [] i) [ inl j ↦ own_comes inner deep (Print items) [] n m st (λ x h. refl) sums (Print items) refl r j | inr j ↦ absurd j ]
+    comes inner deep (Read items) n m above st is_right tells sums r i = elim (in_parts r (OwnNew inner m (Read items)) [] i) [ inl j ↦ own_comes inner deep (Read items) [] n m st (λ x h. refl) sums (Read items) refl r j | inr j ↦ absurd j ]
+    comes inner deep Stop n m above st is_right tells sums r i = absurd i
+    comes inner deep (Comment text) n m above st is_right tells sums r i = absurd i
 
-    pub all_come : (inner : List Loop) (ss : StmtTrees) (n m : ℕ) → Stand t n (all_numbered ss) → stmts_are_right k ss ≡ true → AllTell f v ps ss n m → ((r : Reference) → IsIn r (AllOld inner n ss) → InSum r)
+    pub all_come : (inner : List Loop) → AreDeep inner → (ss : StmtTrees) (n m : ℕ) → low < n → Stand t n (all_numbered ss) → stmts_are_right k ss ≡ true → AllTell f v ps ss n m → ((r : Reference) → IsIn r (AllOld inner n ss) → InSum r)
         → (r : Reference) → IsIn r (statements_references cs (new_nest inner) m (all_summed v ps ss)) → Comes (AllOld inner n ss) r
-    all_come inner no_stmts n m st is_right tells sums r i = absurd i
-    all_come inner (more_stmts s rest) n m st is_right tells sums r i =
+    all_come inner deep no_stmts n m above st is_right tells sums r i = absurd i
+    all_come inner deep (more_stmts s rest) n m above st is_right tells sums r i =
         let rights = and_parts (stmt_is_right k s) (stmts_are_right k rest) is_right in
         let of_s = Old inner n s in
         let of_rest = AllOld inner (n + statement_count s) rest in
         let parts = subst (λ (rs : List Reference). IsIn r rs) (references_followed cs (new_nest inner) m (summed v ps s) (all_summed v ps rest)) i in
         elim (in_parts r (statements_references cs (new_nest inner) m (summed v ps s)) (statements_references cs (new_nest inner) (m + statements_count (summed v ps s)) (all_summed v ps rest)) parts) [
           | inl j ↦ more_listed of_s (of_s ++ of_rest) r (λ x w. in_left x of_s of_rest w)
-              (comes inner s n m (first_stands t n (numbered s) (all_numbered rest) st) rights.0 tells.0 (λ x w. sums x (in_left x of_s of_rest w)) r j)
+              (comes inner deep s n m above (first_stands t n (numbered s) (all_numbered rest) st) rights.0 tells.0 (λ x w. sums x (in_left x of_s of_rest w)) r j)
           | inr j ↦ more_listed of_rest (of_s ++ of_rest) r (λ x w. in_right x of_s of_rest w)
-              (all_come inner rest (n + statement_count s) (m + statements_count (summed v ps s)) (rest_stands t s rest n st) rights.1 tells.1 (λ x w. sums x (in_right x of_s of_rest w)) r j)
+              (all_come inner deep rest (n + statement_count s) (m + statements_count (summed v ps s)) (omega (arith, above)) (rest_stands t s rest n st) rights.1 tells.1 (λ x w. sums x (in_right x of_s of_rest w)) r j)
         ]
 
   -- the zeros at the beginning of each iteration

@@ -27,3 +27,4 @@ pub mod LooseSums
 pub mod ResemblingPaths
 pub mod SummedNumbers
 pub mod LevelEdges
+pub mod ResemblingReferences

@@ -9,7 +9,7 @@ use Rattle.ped_splits.specs.ped_reindex.specs.ped_loops.specs.ped_scalar.specs.p
 use Rattle.ped_splits.specs.ped_reindex.specs.ped_loops.specs.ped_scalar.specs.ped_rules.specs.ped_loop_runs.specs.ped_bodies.specs.ped_steps.specs.ped_views.specs.declared.directions.Direction.TheVariants.{Before, Same, After}
 use Rattle.ped_splits.specs.ped_reindex.specs.ped_loops.specs.ped_scalar.specs.ped_rules.specs.ped_loop_runs.specs.ped_bodies.specs.ped_steps.specs.ped_views.specs.Views.{View}
 use Rattle.ped_splits.specs.ped_reindex.specs.ped_loops.specs.ped_scalar.specs.ped_rules.specs.ped_loop_runs.specs.ped_bodies.specs.ped_steps.specs.ped_views.specs.Vectors.{all_vectors, AreThose, IsPossible, AreVectors}
-use Rattle.ped_splits.specs.ped_reindex.specs.ped_loops.specs.ped_scalar.specs.ped_rules.specs.ped_loop_runs.specs.ped_bodies.specs.ped_steps.specs.ped_refs.specs.References.{Reference, comes_before, pairs}
+use Rattle.ped_splits.specs.ped_reindex.specs.ped_loops.specs.ped_scalar.specs.ped_rules.specs.ped_loop_runs.specs.ped_bodies.specs.ped_steps.specs.ped_refs.specs.References.{Reference, comes_before, is_pair, pairs}
 use Rattle.ped_splits.specs.ped_reindex.specs.ped_loops.specs.ped_scalar.specs.ped_rules.specs.ped_loop_runs.specs.ped_bodies.specs.ped_steps.specs.ped_laws.specs.ped_graph.specs.ped_edges.specs.Edges.{Edge}
 use Rattle.ped_splits.specs.ped_reindex.specs.ped_loops.specs.ped_scalar.specs.ped_rules.specs.ped_loop_runs.specs.ped_bodies.specs.ped_steps.specs.ped_laws.specs.ped_graph.specs.Owners.{have_same_owner, owner_level, is_same, within_iteration}
 use Rattle.ped_splits.specs.ped_reindex.specs.ped_loops.specs.ped_scalar.specs.ped_rules.specs.ped_loop_runs.specs.ped_bodies.specs.ped_steps.specs.ped_laws.specs.ped_graph.specs.Marks.{mark_of}
@@ -217,6 +217,19 @@ pair_of t (p ∷ ps) edges level is e i l = elim (in_parts e is.0 is.1 (subst (I
       record { source = p.0; sink = p.1; listed = inl refl; begins = r.0; ends = r.1; name = r.2; vector = r.3.0; carried = r.3.1 })
   | inr j ↦ (let r = pair_of t ps is.1 level is.4 e j l in record { source = r.source; sink = r.sink; listed = inr r.listed; begins = r.begins; ends = r.ends; name = r.name; vector = r.vector; carried = r.carried })
 ]
+
+-- both references of a pair are references, and they make a pair
+pub both_of : (refs : List Reference) (source sink : Reference) → IsIn (source, sink) (pairs refs) → IsIn source refs × IsIn sink refs × (is_pair source sink ≡ true)
+both_of refs source sink i =
+    let r = from_flat (λ (a : Reference). map (λ (b : Reference). (a, b)) (filter (is_pair a) refs)) (source, sink) refs i in
+    let q = from_mapped (λ (b : Reference). (r.0, b)) (source, sink) (filter (is_pair r.0) refs) r.2 in
+    let w = from_filter (is_pair r.0) q.0 refs q.1 in
+    let first : source ≡ r.0 = ap (λ (z : Reference × Reference). z.0) q.2 in
+    let second : sink ≡ q.0 = ap (λ (z : Reference × Reference). z.1) q.2 in (
+      subst (λ (a : Reference). IsIn a refs) (sym first) r.1,
+      subst (λ (b : Reference). IsIn b refs) (sym second) w.0,
+      (λ j. is_pair (first j) (second j)) ∙ w.1,
+    )
 
 -- such a pair has one
 pub record HasEdge (source sink : Reference) (level : ℕ) (edges : List Edge) : Type 0 where

@@ -143,6 +143,7 @@ module _ (t : ProgramTree) where
     pub span : Span
     pub decls : q.tree.decls ≡ p.tree.decls ++ declarations span partials
     pub live : q.live ≡ p.live ++ s ∷ []
+    pub arrays : partials_of (list_of loop.body) (fresh_arrays p.tree) ≡ Some partials
 
   module _ (s : ℕ) (p q r : Lowered) (stage : IsStage p) (before : Before s p) (live : IsLive t s p r) (parallel : Bool) (made : IsMadeBy parallel p s (list_of live.loop.body) q) where
     abbrev h : Head
@@ -212,6 +213,7 @@ module _ (t : ProgramTree) where
       span = made.span;
       decls = ap (λ (z : Lowered). z.tree.decls) made.made;
       live = ap (λ (z : Lowered). z.live) made.made;
+      arrays = made.arrays;
     }
 
   -- one more DO that is lowered as a PARALLEL DO
@@ -275,7 +277,7 @@ module _ (t : ProgramTree) where
   none_first : Before 1 (not_lowered t)
   none_first k i = untrue i
 
-  first_least : (s : ℕ) → LoopOf t s → 1 ≤ s
+  pub first_least : (s : ℕ) → LoopOf t s → 1 ≤ s
   first_least zero loop = let none : statement_with zero t ≡ None = refl in let wrong = sym none ∙ loop.is in absurd cc
   first_least (suc n) loop = omega arith
 
@@ -303,27 +305,31 @@ pub record IsResembling (t : ProgramTree) (s : ℕ) (loop : LoopOf t s) (u : Pro
   pub more : List (List DeclaratorTree)
   pub decls : u.decls ≡ t.decls ++ map Integer more
 
--- lowering gives it
-pub lowered_resembles : (t : ProgramTree) (s : ℕ) (p q w : Lowered) → Lowers t (range_with_len 1 (s - 1)) (not_lowered t) p → (live : IsLive t s p q) → lowered_at false p s (list_of live.loop.body) ≡ Some w → IsResembling t s live.loop w.tree (s + p.more)
+-- lowering gives it, from a program with the DO itself in that place, for the arrays that are left there
+pub lowered_resembles : (t : ProgramTree) (s : ℕ) (p q w : Lowered) → Lowers t (range_with_len 1 (s - 1)) (not_lowered t) p → (live : IsLive t s p q) → lowered_at false p s (list_of live.loop.body) ≡ Some w
+    → (m : IsResembling t s live.loop w.tree (s + p.more)) × (p.tree.body ≡ filled m.other (alone (Do live.loop.head live.loop.body))) × (partials_of (list_of live.loop.body) (fresh_arrays p.tree) ≡ Some m.partials)
 lowered_resembles t s p q w lowers live makes =
     let both = lowered_place t s p q w false lowers live makes in
     let stage = both.0 in
     let place = both.1 in
-    let r = rows place.span place.partials in
-    record {
-      live = p.live;
-      gap = place.gap;
-      stands = place.stands;
-      at = place.at;
-      other = place.other;
-      alike = place.alike;
-      number = place.number;
-      further = omega arith;
-      partials = place.partials;
-      new = place.new;
-      summable = place.summable;
-      more = stage.more ++ r.0;
-      decls =
-          place.decls ∙ (λ i. stage.decls i ++ r.1 i) ∙ append_assoc t.decls (map Integer stage.more) (map Integer r.0)
-          ∙ ap (λ (ds : List DeclTree). t.decls ++ ds) (sym (map-append Integer stage.more r.0));
-    }
+    let r = rows place.span place.partials in (
+      record {
+        live = p.live;
+        gap = place.gap;
+        stands = place.stands;
+        at = place.at;
+        other = place.other;
+        alike = place.alike;
+        number = place.number;
+        further = omega arith;
+        partials = place.partials;
+        new = place.new;
+        summable = place.summable;
+        more = stage.more ++ r.0;
+        decls =
+            place.decls ∙ (λ i. stage.decls i ++ r.1 i) ∙ append_assoc t.decls (map Integer stage.more) (map Integer r.0)
+            ∙ ap (λ (ds : List DeclTree). t.decls ++ ds) (sym (map-append Integer stage.more r.0));
+      },
+      place.old,
+      place.arrays,
+    )

@@ -9,7 +9,13 @@ use Rattle.ped_base.proofs.NameEquality.{same_itself, same_is}
 use Rattle.ped_tree.specs.Tree.{Head, StmtTree, StmtTrees, Assign, If, Do, Print, Read, Stop, Comment, no_stmts, more_stmts, ProgramTree}
 use Rattle.ped_tree.specs.Accesses.{constant_names}
 use Rattle.ped_tree.specs.Nests.{Loop, indices_of, common_nest}
-use Rattle.ped_tree.specs.Numbering.{numbered, all_numbered, statement_with, statement_count, statements_count}
+use Rattle.ped_tree.proofs.NameLaws.Collected.{among_append}
+use Rattle.ped_tree.specs.NamesIn.{loop_variables, all_loop_variables}
+use Rattle.ped_splits.specs.ped_reindex.specs.ped_loops.specs.ped_scalar.specs.ped_rules.specs.ped_loop_runs.specs.ped_bodies.specs.ped_steps.specs.ped_affine.specs.Assigned.{assigned_in, assigned_in_all}
+use Rattle.ped_splits.specs.ped_reindex.specs.ped_loops.specs.ped_scalar.specs.ped_rules.specs.ped_loop_runs.specs.ped_bodies.specs.ped_steps.proofs.RunLaws.SparedVariables.{IsUnassigned, variables_unassigned}
+use Rattle.ped_splits.specs.ped_reindex.specs.ped_loops.specs.ped_scalar.specs.ped_rules.specs.ped_loop_runs.proofs.TidyLaws.TidyReferencesGaps.{all_at}
+use Rattle.ped_reduce.proofs.LoweredBehind.{without_loops}
+use Rattle.ped_tree.specs.Numbering.{numbered, all_numbered, at_place, statement_with, statement_count, statements_count}
 use Rattle.ped_splits.specs.ped_reindex.specs.ped_loops.specs.ped_scalar.specs.ped_rules.specs.ped_loop_runs.specs.ped_bodies.specs.ped_steps.specs.ped_refs.specs.References.{Reference, statement_references, statements_references, references, innermost_private, private_loop}
 use Rattle.ped_splits.specs.ped_reindex.specs.ped_loops.specs.ped_scalar.specs.ped_rules.specs.ped_loop_runs.specs.ped_bodies.specs.ped_steps.specs.ped_affine.specs.PairViews.{heads_of}
 use Rattle.ped_splits.specs.ped_reindex.specs.ped_loops.specs.ped_scalar.specs.ped_rules.specs.ped_loop_runs.specs.ped_bodies.specs.ped_steps.specs.ped_laws.specs.ped_graph.specs.Owners.{is_same_owner, have_same_owner, level_by, private_level, owner_level}
@@ -39,7 +45,7 @@ use Rattle.ped_reduce.proofs.Resembling.{scalars_of, arrays_of, IsSummable, GapB
 use Rattle.ped_reduce.proofs.ReferencesInGaps.{loop, nest_in_is, from_number, to_number, references_followed, inside, outwards}
 use Rattle.ped_reduce.proofs.SummedReferences.{renumbered, AllTell, IsOfArrays, IsFrom, InSum, all_come, zeros_come}
 use Rattle.ped_reduce.proofs.SummedNumbers.{moved, moved_tells, moved_rises, moved_from, same_number, common_renumbered}
-use Rattle.ped_reduce.proofs.LoweredStages.{IsResembling}
+use Rattle.ped_reduce.proofs.LoweredStages.{IsResembling, first_least}
 use Rattle.ped_reduce.proofs.ResemblingPaths.{not_parallel, same_constants}
 
 false_or : (b : Bool) → (b ≡ true → ⊥) → b ≡ false
@@ -73,6 +79,32 @@ loops_before (in_then c gap b rest) n l i = loops_before gap (n + 1) l i
 loops_before (in_else c b gap rest) n l i = loops_before gap (n + 1 + statements_count b) l i
 loops_before (in_body d gap rest) n l (inl e) = let same = ap (λ (z : Loop). z.number) e in let from = number_from gap (n + 1) in omega (arith, same, from)
 loops_before (in_body d gap rest) n l (inr i) = loops_before gap (n + 1) l i
+
+-- the variables of DO loops are assigned
+module _ (w : List ℕ) where
+  in_left_names : (xs ys : List (List ℕ)) → is_among w xs ≡ true → is_among w (xs ++ ys) ≡ true
+  in_left_names xs ys e = among_append w xs ys ∙ or_left (is_among w xs) (is_among w ys) e
+
+  in_right_names : (xs ys : List (List ℕ)) → is_among w ys ≡ true → is_among w (xs ++ ys) ≡ true
+  in_right_names xs ys e = among_append w xs ys ∙ or_right (is_among w xs) (is_among w ys) e
+
+  either_names : (xs ys us vs : List (List ℕ)) → (is_among w xs ≡ true → is_among w us ≡ true) → (is_among w ys ≡ true → is_among w vs ≡ true) → is_among w (xs ++ ys) ≡ true → is_among w (us ++ vs) ≡ true
+  either_names xs ys us vs f g e = elim (or_split (is_among w xs) (is_among w ys) (sym (among_append w xs ys) ∙ e)) [ inl j ↦ in_left_names us vs (f j) | inr j ↦ in_right_names us vs (g j) ]
+
+  mutual
+    one_assigned : (s : StmtTree) → is_among w (loop_variables s) ≡ true → is_among w (assigned_in s) ≡ true
+    one_assigned (Assign left right) e = untrue e
+    one_assigned (If c a b) e = either_names (all_loop_variables a) (all_loop_variables b) (assigned_in_all a) (assigned_in_all b) (loops_assigned a) (loops_assigned b) e
+    one_assigned (Do h body) e =
+        either_names (h.variable ∷ []) (all_loop_variables body) (h.variable ∷ []) (h.private ++ assigned_in_all body) (λ j. j) (λ j. in_right_names h.private (assigned_in_all body) (loops_assigned body j)) e
+    one_assigned (Print items) e = untrue e
+    one_assigned (Read items) e = untrue e
+    one_assigned Stop e = untrue e
+    one_assigned (Comment text) e = untrue e
+
+    pub loops_assigned : (ss : StmtTrees) → is_among w (all_loop_variables ss) ≡ true → is_among w (assigned_in_all ss) ≡ true
+    loops_assigned no_stmts e = untrue e
+    loops_assigned (more_stmts s rest) e = either_names (loop_variables s) (all_loop_variables rest) (assigned_in s) (assigned_in_all rest) (one_assigned s) (loops_assigned rest) e
 
 -- a list has no references
 unless_references : (cs : List (List ℕ)) (nest : List Loop) (o : Option (List ℕ)) (text : List ℕ) (rest : StmtTrees) (n : ℕ) → statements_references cs nest n (without_list rest) ≡ statements_references cs nest n rest
@@ -184,11 +216,14 @@ module _ (t u : ProgramTree) (s k : ℕ) (loop_is : LoopOf t s) (m : IsResemblin
   abbrev new : StmtTrees
   new = followed (zeros v ps) (all_summed v ps (without_list body))
 
-  abbrev new_head : Head
+  abbrev pub new_head : Head
   new_head = record h { parallel = false }
 
+  abbrev pub inside_body : StmtTrees
+  inside_body = without_list body
+
   -- where the statements of the body begin, behind the zeros
-  abbrev start : ℕ
+  abbrev pub start : ℕ
   start = k + 1 + statements_count (zeros v ps)
 
   abbrev pub number_of : ℕ → ℕ
@@ -200,7 +235,7 @@ module _ (t u : ProgramTree) (s k : ℕ) (loop_is : LoopOf t s) (m : IsResemblin
   abbrev pub new_base : List Loop
   new_base = nest_round u k ++ loop k new_head ∷ []
 
-  starts : s + 1 ≤ start
+  pub starts : s + 1 ≤ start
   starts = let more = m.further in omega (arith, more)
 
   pub old_round : nest_round t s ≡ gap_loops m.gap 1
@@ -229,8 +264,25 @@ module _ (t u : ProgramTree) (s k : ℕ) (loop_is : LoopOf t s) (m : IsResemblin
       last [] = or_left (is_same_text v v) false (same_itself v)
       last (l ∷ ls) = or_right (is_same_text v l.head.variable) (is_among v (indices_of (ls ++ loop s h ∷ []))) (last ls)
 
+  -- no DO in the body has its variable
+  clear : is_among v (all_loop_variables (without_list body)) ≡ false
+  clear = ap (is_among v) (without_loops body) ∙ false_or (is_among v (all_loop_variables body)) (λ e. both_ways (is_among v (assigned_in_all body)) unassigned (loops_assigned v body e))
+    where
+      unassigned : is_among v (assigned_in_all body) ≡ false
+      unassigned = (all_at (IsUnassigned t (kind_in t)) h body t.body 1 (s - 1) s (omega (arith, some)) there (variables_unassigned t valid)).1
+        where
+          some : 1 ≤ s
+          some = first_least t s loop_is
+
+          there : at_place (all_numbered t.body) (s - 1) ≡ Some (Do h body)
+          there = place_of (s == 0) refl loop_is.is
+            where
+              place_of : (b : Bool) → (s == 0) ≡ b → (if b then None else at_place (all_numbered t.body) (s - 1)) ≡ Some (Do h body) → at_place (all_numbered t.body) (s - 1) ≡ Some (Do h body)
+              place_of true e g = absurd cc
+              place_of false e g = g
+
   -- the references of the old body are references of the program
-  of_program : (r : Reference) → IsIn r (statements_references cs base (s + 1) body) → IsIn r (references t)
+  pub of_program : (r : Reference) → IsIn r (statements_references cs base (s + 1) body) → IsIn r (references t)
   of_program r i =
       subst (λ (ts : StmtTrees). IsIn r (statements_references cs [] 1 ts)) (sym m.stands)
       (outwards cs h body no_stmts m.gap [] 1 r
@@ -262,10 +314,10 @@ module _ (t u : ProgramTree) (s k : ℕ) (loop_is : LoopOf t s) (m : IsResemblin
   old_is = ap (λ (ls : List Loop). statements_references cs ls (s + 1) (without_list body)) (append-nil base) ∙ without_references cs base body (s + 1)
 
   -- a reference of the new body
-  pub body_comes : (r : Reference) → IsIn r (statements_references cs new_base (k + 1) new) → IsOfArrays v ps r ⊎ From r
+  pub body_comes : (r : Reference) → IsIn r (statements_references cs new_base (k + 1) new) → IsOfArrays new_base v ps r ⊎ From r
   body_comes r i = elim (in_parts r (statements_references cs new_base (k + 1) (zeros v ps)) (statements_references cs new_base start (all_summed v ps (without_list body))) (subst (IsIn r) (references_followed cs new_base (k + 1) (zeros v ps) (all_summed v ps (without_list body))) i)) [
     | inl j ↦ inl (zeros_come t (kind_in t) cs v ps number_of s base new_base same_bases indexed (scalar_names t s ps h body m.summable) Old ps (λ p w. w) (k + 1) r j)
-    | inr j ↦ elim (all_come t (kind_in t) cs v ps number_of s base new_base same_bases indexed (scalar_names t s ps h body m.summable) [] (λ l w. absurd w) (without_list body) (s + 1) start (omega arith) stands_body right_body
+    | inr j ↦ elim (all_come t (kind_in t) cs v ps number_of s base new_base same_bases indexed (scalar_names t s ps h body m.summable) [] ((λ l w. absurd w), refl) (without_list body) (s + 1) start (omega arith) clear stands_body right_body
         (moved_tells v ps (without_list body) (s + 1) start starts) sums r (subst (λ (ls : List Loop). IsIn r (statements_references cs ls start (all_summed v ps (without_list body)))) (sym (append-nil new_base)) j)) [
       | inl a ↦ inl a
       | inr c ↦ inr (record { source = c.source; listed = subst (IsIn c.source) old_is c.listed; access = c.access; inner = c.inner; deep = c.deep; old_nest = c.old_nest; new_nest = c.new_nest; unsummed = c.unsummed })
@@ -280,7 +332,7 @@ module _ (t u : ProgramTree) (s k : ℕ) (loop_is : LoopOf t s) (m : IsResemblin
           in_sum t s ps h body m.summable x (of_program x old) (omega (arith, from)) (omega (arith, to)) among
 
   -- the reference by its number
-  pub references_resemble : (r : Reference) → IsIn r (references u) → k < r.statement → r.statement ≤ k + statements_count new → IsOfArrays v ps r ⊎ From r
+  pub references_resemble : (r : Reference) → IsIn r (references u) → k < r.statement → r.statement ≤ k + statements_count new → IsOfArrays new_base v ps r ⊎ From r
   references_resemble r i from to =
       body_comes r
       (subst (λ (ls : List Loop). IsIn r (statements_references cs (ls ++ loop k new_head ∷ []) (k + 1) new)) (sym new_round)

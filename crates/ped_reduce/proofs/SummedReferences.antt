@@ -8,6 +8,8 @@ use Rattle.ped_base.proofs.NameEquality.{same_itself, same_flip, same_is}
 use Rattle.ped_tree.specs.Tree.{ExprTree, ExprTrees, Int, Var, Element, Neg, Add, Sub, Mul, Div, Pow, Call, no_exprs, more_exprs, CondTree, ItemTree, Head, StmtTree, StmtTrees, Assign, If, Do, Print, Read, Stop, Comment, no_stmts, more_stmts, ProgramTree}
 use Rattle.ped_tree.specs.declared.expressions.Intrinsic.TheVariants.{Mod}
 use Rattle.ped_tree.specs.Accesses.{Access, read_of, write_of, unless_constant, expr_reads, exprs_reads, left_accesses, own_accesses, listed}
+use Rattle.ped_tree.proofs.NameLaws.Collected.{among_append}
+use Rattle.ped_tree.specs.NamesIn.{loop_variables, all_loop_variables}
 use Rattle.ped_tree.specs.Nests.{Loop, indices_of}
 use Rattle.ped_tree.specs.Numbering.{numbered, all_numbered, statement_with, statement_count, statements_count}
 use Rattle.ped_splits.specs.ped_reindex.specs.ped_loops.specs.ped_scalar.specs.ped_rules.specs.ped_loop_runs.specs.ped_bodies.specs.ped_steps.specs.ped_refs.specs.References.{Reference, numbered_accesses, statement_references, statements_references}
@@ -53,10 +55,13 @@ abbrev mutual
 abbrev pub OfArray : List ℕ → List ℕ → Access → Type 0
 OfArray v array a = (a.name ≡ array) × (a.subscripts ≡ Var v ∷ [])
 
--- a reference to one of the arrays, at the DO's variable
-pub record IsOfArrays (v : List ℕ) (ps : List Partials) (r : Reference) : Type 0 where
+-- a reference to one of the arrays, at the DO's variable, inside DO loops that have other variables
+pub record IsOfArrays (other : List Loop) (v : List ℕ) (ps : List Partials) (r : Reference) : Type 0 where
   pub array : is_among r.access.name (arrays_of ps) ≡ true
   pub subscripts : r.access.subscripts ≡ Var v ∷ []
+  pub inner : List Loop
+  pub nest : r.nest ≡ other ++ inner
+  pub apart : is_among v (indices_of inner) ≡ false
 
 -- a reference that comes from one of these, to none of the scalars: the same access, in the same DO loops under other numbers, those further in behind a number
 pub record IsFrom (f : ℕ → ℕ) (low : ℕ) (base other : List Loop) (ps : List Partials) (old : List Reference) (r : Reference) : Type 0 where
@@ -262,21 +267,28 @@ module _ (t : ProgramTree) (k : NameKinds) (cs : List (List ℕ)) (v : List ℕ)
   InSum r = is_among r.access.name (scalars_of ps) ≡ true → is_some (and_then (statement_with r.statement t) (sum_to r.access.name)) ≡ true
 
   abbrev Comes : List Reference → Reference → Type 0
-  Comes old r = IsOfArrays v ps r ⊎ IsFrom f low base other ps old r
+  Comes old r = IsOfArrays other v ps r ⊎ IsFrom f low base other ps old r
 
   more_listed : (old wide : List Reference) (r : Reference) → ((s : Reference) → IsIn s old → IsIn s wide) → Comes old r → Comes wide r
   more_listed old wide r more (inl a) = inl a
   more_listed old wide r more (inr c) = inr (record { source = c.source; listed = more c.source c.listed; access = c.access; inner = c.inner; deep = c.deep; old_nest = c.old_nest; new_nest = c.new_nest; unsummed = c.unsummed })
 
-  -- DO loops behind the number
+  -- DO loops behind the number, with other variables
   abbrev pub AreDeep : List Loop → Type 0
-  AreDeep inner = (l : Loop) → IsIn l inner → low < l.number
+  AreDeep inner = ((l : Loop) → IsIn l inner → low < l.number) × (is_among v (indices_of inner) ≡ false)
 
-  deeper : (inner : List Loop) (n : ℕ) (h : Head) → low < n → AreDeep inner → AreDeep (inner ++ loop n h ∷ [])
-  deeper inner n h above deep l i = elim (in_parts l inner (loop n h ∷ []) i) [
-    | inl j ↦ deep l j
-    | inr j ↦ elim j [ inl e ↦ (let same = ap (λ (z : Loop). z.number) e in omega (arith, same, above)) | inr w ↦ absurd w ]
-  ]
+  apart_more : (ls : List Loop) (n : ℕ) (h : Head) → is_among v (indices_of ls) ≡ false → is_same_text v h.variable ≡ false → is_among v (indices_of (ls ++ loop n h ∷ [])) ≡ false
+  apart_more [] n h a b = λ i. b i || false
+  apart_more (l ∷ ls) n h a b = let p = or_none (is_same_text v l.head.variable) (is_among v (indices_of ls)) a in λ i. p.0 i || apart_more ls n h p.1 b i
+
+  deeper : (inner : List Loop) (n : ℕ) (h : Head) → low < n → is_same_text v h.variable ≡ false → AreDeep inner → AreDeep (inner ++ loop n h ∷ [])
+  deeper inner n h above differs deep = (behind, apart_more inner n h deep.1 differs)
+    where
+      behind : (l : Loop) → IsIn l (inner ++ loop n h ∷ []) → low < l.number
+      behind l i = elim (in_parts l inner (loop n h ∷ []) i) [
+        | inl j ↦ deep.0 l j
+        | inr j ↦ elim j [ inl e ↦ (let same = ap (λ (z : Loop). z.number) e in omega (arith, same, above)) | inr w ↦ absurd w ]
+      ]
 
   abbrev old_nest : List Loop → List Loop
   old_nest inner = base ++ inner
@@ -331,7 +343,7 @@ module _ (t : ProgramTree) (k : NameKinds) (cs : List (List ℕ)) (v : List ℕ)
       subst (λ (is : List (List ℕ)). IsIn r.access (own_accesses cs is s)) (same_variables inner) (subst (λ (xs : List Access). IsIn r.access xs) same o.2) in
       let a = as_reference n 1 (old_nest inner) r.access (own_accesses cs (indices_of (old_nest inner)) s) there in
       let b = own_access n 1 (old_nest inner) (own_accesses cs (indices_of (old_nest inner)) s) a.0 a.1 in
-      inr (record { source = a.0; listed = a.1; access = sym a.2; inner = inner; deep = deep; old_nest = b.1; new_nest = o.1; unsummed = none_summed n s xs a.0 st b.0 (sums a.0 a.1) (λ h. none a.0.access.name h) })
+      inr (record { source = a.0; listed = a.1; access = sym a.2; inner = inner; deep = deep.0; old_nest = b.1; new_nest = o.1; unsummed = none_summed n s xs a.0 st b.0 (sums a.0 a.1) (λ h. none a.0.access.name h) })
 
   -- a read of what is added
   read_comes : (inner : List Loop) → AreDeep inner → (left right : ExprTree) (n : ℕ) (p : Partials) (sum : Sum) → Stand t n (Assign left right ∷ []) → expr_is_right k right ≡ true → ((r : Reference) → IsIn r (OwnOld inner n (Assign left right)) → InSum r)
@@ -348,14 +360,24 @@ module _ (t : ProgramTree) (k : NameKinds) (cs : List (List ℕ)) (v : List ℕ)
         listed = a.1;
         access = sym a.2;
         inner = inner;
-        deep = deep;
+        deep = deep.0;
         old_nest = b.1;
         new_nest = nest;
         unsummed = none_summed n (Assign left right) [] a.0 st b.0 (sums a.0 a.1) (λ h. other_sum p.scalar a.0.access.name left right sum of other_name);
       })
 
-  of_arrays : (r : Reference) (array : List ℕ) → is_among array (arrays_of ps) ≡ true → OfArray v array r.access → IsOfArrays v ps r
-  of_arrays r array among o = record { array = ap (λ (z : List ℕ). is_among z (arrays_of ps)) o.0 ∙ among; subscripts = o.1 }
+  renumbered_variables : (ls : List Loop) → indices_of (map (renumbered f) ls) ≡ indices_of ls
+  renumbered_variables [] = refl
+  renumbered_variables (l ∷ ls) = ap (λ (xs : List (List ℕ)). l.head.variable ∷ xs) (renumbered_variables ls)
+
+  of_arrays : (inner : List Loop) → AreDeep inner → (r : Reference) → r.nest ≡ new_nest inner → (array : List ℕ) → is_among array (arrays_of ps) ≡ true → OfArray v array r.access → IsOfArrays other v ps r
+  of_arrays inner deep r nest array among o = record {
+    array = ap (λ (z : List ℕ). is_among z (arrays_of ps)) o.0 ∙ among;
+    subscripts = o.1;
+    inner = map (renumbered f) inner;
+    nest = nest;
+    apart = ap (is_among v) (renumbered_variables inner) ∙ deep.1;
+  }
 
   -- an assignment: as it was, or a sum that is kept apart
   assigned_comes : (inner : List Loop) → AreDeep inner → (left right : ExprTree) (n m : ℕ) → Stand t n (Assign left right ∷ []) → expr_is_right k right ≡ true → ((r : Reference) → IsIn r (OwnOld inner n (Assign left right)) → InSum r) → (ws : StmtTrees)
@@ -366,8 +388,8 @@ module _ (t : ProgramTree) (k : NameKinds) (cs : List (List ℕ)) (v : List ℕ)
       of_apart cs (indices_of (old_nest inner)) v (indexed_in inner) a.partials a.sum (new_nest inner) m r (same_variables inner) (subst (λ (ts : StmtTrees). IsIn r (statements_references cs (new_nest inner) m ts)) a.is i) in
       elim o.1 [
         | inl arrays ↦ inl (elim arrays [
-          | inl q ↦ of_arrays r a.partials.high among.high q
-          | inr w ↦ elim w [ inl q ↦ of_arrays r a.partials.low among.low q | inr q ↦ of_arrays r a.partials.flag among.flag q ]
+          | inl q ↦ of_arrays inner deep r o.0 a.partials.high among.high q
+          | inr w ↦ elim w [ inl q ↦ of_arrays inner deep r o.0 a.partials.low among.low q | inr q ↦ of_arrays inner deep r o.0 a.partials.flag among.flag q ]
         ])
         | inr j ↦ read_comes inner deep left right n a.partials a.sum st is_right sums a.among a.of r o.0 j
       ]
@@ -385,6 +407,9 @@ module _ (t : ProgramTree) (k : NameKinds) (cs : List (List ℕ)) (v : List ℕ)
       append_assoc other (map (renumbered f) inner) (loop m h ∷ [])
       ∙ ap (λ (ls : List Loop). other ++ ls) ((λ i. map (renumbered f) inner ++ loop (sym e i) h ∷ []) ∙ sym (map-append (renumbered f) inner (loop n h ∷ [])))
 
+  clear_parts : (xs ys : List (List ℕ)) → is_among v (xs ++ ys) ≡ false → (is_among v xs ≡ false) × (is_among v ys ≡ false)
+  clear_parts xs ys h = or_none (is_among v xs) (is_among v ys) (sym (among_append v xs ys) ∙ h)
+
   abbrev Old : List Loop → ℕ → StmtTree → List Reference
   Old inner n s = statement_references cs (old_nest inner) n s
 
@@ -393,11 +418,11 @@ module _ (t : ProgramTree) (k : NameKinds) (cs : List (List ℕ)) (v : List ℕ)
 
   -- the references of statements in which sums are kept apart
   mutual
-    comes : (inner : List Loop) → AreDeep inner → (s : StmtTree) (n m : ℕ) → low < n → Stand t n (numbered s) → stmt_is_right k s ≡ true → Tells f v ps s n m → ((r : Reference) → IsIn r (Old inner n s) → InSum r)
+    comes : (inner : List Loop) → AreDeep inner → (s : StmtTree) (n m : ℕ) → low < n → is_among v (loop_variables s) ≡ false → Stand t n (numbered s) → stmt_is_right k s ≡ true → Tells f v ps s n m → ((r : Reference) → IsIn r (Old inner n s) → InSum r)
         → (r : Reference) → IsIn r (statements_references cs (new_nest inner) m (summed v ps s)) → Comes (Old inner n s) r
-    comes inner deep (Assign left right) n m above st is_right tells sums r i =
+    comes inner deep (Assign left right) n m above clear st is_right tells sums r i =
         assigned_comes inner deep left right n m st (and_parts (target_is_right k left) (expr_is_right k right) is_right).1 sums (sum_apart v ps (Assign left right)) (apart_or_bare v left right ps) r i
-    comes inner deep (If c a b) n m above st is_right tells sums r i =
+    comes inner deep (If c a b) n m above clear st is_right tells sums r i =
         let inside = inner_stands t (If c a b) (all_numbered a ++ all_numbered b) n st in
         let rights = and_parts (cond_is_right k c && stmts_are_right k a) (stmts_are_right k b) is_right in
         let new_a = all_summed v ps a in
@@ -411,14 +436,14 @@ module _ (t : ProgramTree) (k : NameKinds) (cs : List (List ℕ)) (v : List ℕ)
               | inl o ↦ more_listed own (own ++ of_a ++ of_b) r (λ s w. in_left s (own ++ of_a) of_b (in_left s own of_a w))
                   (own_comes inner deep (If c a b) (all_numbered a ++ all_numbered b) n m st (λ x h. refl) (λ s w. sums s (in_left s (own ++ of_a) of_b (in_left s own of_a w))) (If c new_a new_b) refl r o)
               | inr o ↦ more_listed of_a (own ++ of_a ++ of_b) r (λ s w. in_left s (own ++ of_a) of_b (in_right s own of_a w))
-                  (all_come inner deep a (n + 1) (m + 1) (omega (arith, above)) (first_stands t (n + 1) (all_numbered a) (all_numbered b) inside) (and_parts (cond_is_right k c) (stmts_are_right k a) rights.0).1 tells.0 (λ s w. sums s (in_left s (own ++ of_a) of_b (in_right s own of_a w))) r o)
+                  (all_come inner deep a (n + 1) (m + 1) (omega (arith, above)) (clear_parts (all_loop_variables a) (all_loop_variables b) clear).0 (first_stands t (n + 1) (all_numbered a) (all_numbered b) inside) (and_parts (cond_is_right k c) (stmts_are_right k a) rights.0).1 tells.0 (λ s w. sums s (in_left s (own ++ of_a) of_b (in_right s own of_a w))) r o)
             ]
             | inr q ↦ more_listed of_b (own ++ of_a ++ of_b) r (λ s w. in_right s (own ++ of_a) of_b w)
-                (all_come inner deep b (n + 1 + statements_count a) (m + 1 + statements_count new_a) (omega (arith, above)) (else_stands t a b (n + 1) inside) rights.1 tells.1 (λ s w. sums s (in_right s (own ++ of_a) of_b w)) r q)
+                (all_come inner deep b (n + 1 + statements_count a) (m + 1 + statements_count new_a) (omega (arith, above)) (clear_parts (all_loop_variables a) (all_loop_variables b) clear).1 (else_stands t a b (n + 1) inside) rights.1 tells.1 (λ s w. sums s (in_right s (own ++ of_a) of_b w)) r q)
           ]
           | inr j ↦ absurd j
         ]
-    comes inner deep (Do h body) n m above st is_right tells sums r i =
+    comes inner deep (Do h body) n m above clear st is_right tells sums r i =
         let rights = and_parts (head_is_right k h) (stmts_are_right k body) is_right in
         let new = all_summed v ps body in
         let wider = inner ++ loop n h ∷ [] in
@@ -430,33 +455,33 @@ module _ (t : ProgramTree) (k : NameKinds) (cs : List (List ℕ)) (v : List ℕ)
             | inl o ↦ more_listed own (own ++ mine) r (λ s w. in_left s own mine w)
                 (own_comes inner deep (Do h body) (all_numbered body) n m st (λ x g. refl) (λ s w. sums s (in_left s own mine w)) (Do h new) refl r o)
             | inr o ↦ more_listed (AllOld wider (n + 1) body) (own ++ mine) r (λ s w. in_right s own mine (subst (λ (rs : List Reference). IsIn s rs) there w))
-                (all_come wider (deeper inner n h above deep) body (n + 1) (m + 1) (omega (arith, above)) (inner_stands t (Do h body) (all_numbered body) n st) rights.1 tells.1 (λ s w. sums s (in_right s own mine (subst (λ (rs : List Reference). IsIn s rs) there w)))
+                (all_come wider (deeper inner n h above (or_none (is_same_text v h.variable) (is_among v (all_loop_variables body)) clear).0 deep) body (n + 1) (m + 1) (omega (arith, above)) (or_none (is_same_text v h.variable) (is_among v (all_loop_variables body)) clear).1 (inner_stands t (Do h body) (all_numbered body) n st) rights.1 tells.1 (λ s w. sums s (in_right s own mine (subst (λ (rs : List Reference). IsIn s rs) there w)))
                 r (subst (λ (ls : List Loop). IsIn r (statements_references cs ls (m + 1) new)) (deeper_new inner n m h tells.0) o))
           ]
           | inr j ↦ absurd j
         ]
-    comes inner deep (Print items) n m above st is_right tells sums r i = elim (in_parts r (OwnNew inner m (Print items)) [] i) [ inl j ↦ own_comes inner deep (Print items) [] n m st (λ x h. refl) sums (Print items) refl r j | inr j ↦ absurd j ]
-    comes inner deep (Read items) n m above st is_right tells sums r i = elim (in_parts r (OwnNew inner m (Read items)) [] i) [ inl j ↦ own_comes inner deep (Read items) [] n m st (λ x h. refl) sums (Read items) refl r j | inr j ↦ absurd j ]
-    comes inner deep Stop n m above st is_right tells sums r i = absurd i
-    comes inner deep (Comment text) n m above st is_right tells sums r i = absurd i
+    comes inner deep (Print items) n m above clear st is_right tells sums r i = elim (in_parts r (OwnNew inner m (Print items)) [] i) [ inl j ↦ own_comes inner deep (Print items) [] n m st (λ x h. refl) sums (Print items) refl r j | inr j ↦ absurd j ]
+    comes inner deep (Read items) n m above clear st is_right tells sums r i = elim (in_parts r (OwnNew inner m (Read items)) [] i) [ inl j ↦ own_comes inner deep (Read items) [] n m st (λ x h. refl) sums (Read items) refl r j | inr j ↦ absurd j ]
+    comes inner deep Stop n m above clear st is_right tells sums r i = absurd i
+    comes inner deep (Comment text) n m above clear st is_right tells sums r i = absurd i
 
-    pub all_come : (inner : List Loop) → AreDeep inner → (ss : StmtTrees) (n m : ℕ) → low < n → Stand t n (all_numbered ss) → stmts_are_right k ss ≡ true → AllTell f v ps ss n m → ((r : Reference) → IsIn r (AllOld inner n ss) → InSum r)
+    pub all_come : (inner : List Loop) → AreDeep inner → (ss : StmtTrees) (n m : ℕ) → low < n → is_among v (all_loop_variables ss) ≡ false → Stand t n (all_numbered ss) → stmts_are_right k ss ≡ true → AllTell f v ps ss n m → ((r : Reference) → IsIn r (AllOld inner n ss) → InSum r)
         → (r : Reference) → IsIn r (statements_references cs (new_nest inner) m (all_summed v ps ss)) → Comes (AllOld inner n ss) r
-    all_come inner deep no_stmts n m above st is_right tells sums r i = absurd i
-    all_come inner deep (more_stmts s rest) n m above st is_right tells sums r i =
+    all_come inner deep no_stmts n m above clear st is_right tells sums r i = absurd i
+    all_come inner deep (more_stmts s rest) n m above clear st is_right tells sums r i =
         let rights = and_parts (stmt_is_right k s) (stmts_are_right k rest) is_right in
         let of_s = Old inner n s in
         let of_rest = AllOld inner (n + statement_count s) rest in
         let parts = subst (λ (rs : List Reference). IsIn r rs) (references_followed cs (new_nest inner) m (summed v ps s) (all_summed v ps rest)) i in
         elim (in_parts r (statements_references cs (new_nest inner) m (summed v ps s)) (statements_references cs (new_nest inner) (m + statements_count (summed v ps s)) (all_summed v ps rest)) parts) [
           | inl j ↦ more_listed of_s (of_s ++ of_rest) r (λ x w. in_left x of_s of_rest w)
-              (comes inner deep s n m above (first_stands t n (numbered s) (all_numbered rest) st) rights.0 tells.0 (λ x w. sums x (in_left x of_s of_rest w)) r j)
+              (comes inner deep s n m above (clear_parts (loop_variables s) (all_loop_variables rest) clear).0 (first_stands t n (numbered s) (all_numbered rest) st) rights.0 tells.0 (λ x w. sums x (in_left x of_s of_rest w)) r j)
           | inr j ↦ more_listed of_rest (of_s ++ of_rest) r (λ x w. in_right x of_s of_rest w)
-              (all_come inner deep rest (n + statement_count s) (m + statements_count (summed v ps s)) (omega (arith, above)) (rest_stands t s rest n st) rights.1 tells.1 (λ x w. sums x (in_right x of_s of_rest w)) r j)
+              (all_come inner deep rest (n + statement_count s) (m + statements_count (summed v ps s)) (omega (arith, above)) (clear_parts (loop_variables s) (all_loop_variables rest) clear).1 (rest_stands t s rest n st) rights.1 tells.1 (λ x w. sums x (in_right x of_s of_rest w)) r j)
         ]
 
   -- the zeros at the beginning of each iteration
-  pub zeros_come : (old : List Reference) (qs : List Partials) → ((p : Partials) → IsIn p qs → IsIn p ps) → (m : ℕ) (r : Reference) → IsIn r (statements_references cs other m (zeros v qs)) → IsOfArrays v ps r
+  pub zeros_come : (old : List Reference) (qs : List Partials) → ((p : Partials) → IsIn p qs → IsIn p ps) → (m : ℕ) (r : Reference) → IsIn r (statements_references cs other m (zeros v qs)) → IsOfArrays other v ps r
   zeros_come old [] sub m r i = absurd i
   zeros_come old (p ∷ qs) sub m r i =
       let among = arrays_among p ps (sub p (inl refl)) in
@@ -478,7 +503,7 @@ module _ (t : ProgramTree) (k : NameKinds) (cs : List (List ℕ)) (v : List ℕ)
       there : is_among v (indices_of other) ≡ true
       there = ap (is_among v) (same_indices other base heads) ∙ indexed
 
-      one : (array : List ℕ) (j : ℕ) → is_among array (arrays_of ps) ≡ true → IsIn r (numbered_accesses j 1 other (own_accesses cs (indices_of other) (Assign (at array v) (Int 0)))) → IsOfArrays v ps r
+      one : (array : List ℕ) (j : ℕ) → is_among array (arrays_of ps) ≡ true → IsIn r (numbered_accesses j 1 other (own_accesses cs (indices_of other) (Assign (at array v) (Int 0)))) → IsOfArrays other v ps r
       one array j among w =
           let o = own_access j 1 other (own_accesses cs (indices_of other) (Assign (at array v) (Int 0))) r w in
-          of_arrays r array among (element_writes cs (indices_of other) v there array r.access o.2)
+          of_arrays [] ((λ l w. absurd w), refl) r (o.1 ∙ sym (append-nil other)) array among (element_writes cs (indices_of other) v there array r.access o.2)

@@ -28,3 +28,4 @@ pub mod ResemblingPaths
 pub mod SummedNumbers
 pub mod LevelEdges
 pub mod ResemblingReferences
+pub mod UnsummableAnswers

@@ -11,6 +11,7 @@ pub mod MadeAnswers
 pub mod LoweredCounts
 pub mod FreshArrays
 pub mod LoweredPrograms
+pub mod LoopsRoundGaps
 pub mod Resembling
 pub mod SumShapes
 pub mod LoweredNames

@@ -28,3 +28,7 @@ pub mod ResemblingPaths
 pub mod SummedNumbers
 pub mod LevelEdges
 pub mod ResemblingReferences
+pub mod UnnamedReferences
+pub mod EdgesResemble
+pub mod ResemblingSettings
+pub mod MayBeParallel

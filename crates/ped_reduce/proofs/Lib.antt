@@ -11,6 +11,7 @@ pub mod MadeAnswers
 pub mod LoweredCounts
 pub mod FreshArrays
 pub mod LoweredPrograms
+pub mod LoopsRoundGaps
 pub mod Resembling
 pub mod SumShapes
 pub mod LoweredNames
@@ -32,3 +33,4 @@ pub mod UnnamedReferences
 pub mod EdgesResemble
 pub mod ResemblingSettings
 pub mod MayBeParallel
+pub mod UnsummableAnswers

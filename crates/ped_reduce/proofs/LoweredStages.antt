@@ -30,7 +30,7 @@ use Rattle.ped_splits.specs.ped_reindex.specs.ped_loops.specs.ped_scalar.specs.p
 use Rattle.ped_splits.specs.ped_reindex.specs.ped_loops.specs.ped_scalar.specs.ped_rules.specs.OnlyLoops.{on_loop}
 use Rattle.ped_splits.specs.ped_reindex.specs.ped_loops.specs.ped_scalar.specs.ped_rules.specs.Spans.{Span}
 use Rattle.ped_splits.specs.ped_reindex.specs.ped_loops.specs.ped_scalar.specs.Expanding.{declaration}
-use Rattle.ped_splits.proofs.CoverGaps.{gap_loops, gap_nest}
+use Rattle.ped_reduce.proofs.LoopsRoundGaps.{gap_loops, gap_nest}
 use Rattle.ped_reduce.specs.Lists.{list_of}
 use Rattle.ped_reduce.specs.Lowering.{Partials, fresh_arrays, partials_of, declarations, lowered_loop, Lowered, not_lowered, lowered_at}
 use Rattle.ped_reduce.specs.Reducing.{is_live, is_in_live, IsLive, LowersOne, Lowers}

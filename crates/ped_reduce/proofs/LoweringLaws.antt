@@ -54,16 +54,22 @@ module _ (t : ProgramTree) (none : (s : ℕ) (l : LoopOf t s) → has_list l.hea
 
 -- each statement comes from one
 module _ (t : ProgramTree) where
+  one_origin : (s : ℕ) (p r : Lowered) → length p.origin ≡ statements_count p.tree.body → LowersOne t s p r → length r.origin ≡ statements_count r.tree.body
+  one_origin s p r h (inl live) = made_origins true p s (list_of live.loop.body) r (made_by true p s (list_of live.loop.body) r live.makes) h
+  one_origin s p r h (inr stays) = subst (λ (x : Lowered). length x.origin ≡ statements_count x.tree.body) (sym stays.1) h
+
   pub origins_stay : (ss : List ℕ) (p q : Lowered) → length p.origin ≡ statements_count p.tree.body → Lowers t ss p q → length q.origin ≡ statements_count q.tree.body
   origins_stay [] p q h e = subst (λ (r : Lowered). length r.origin ≡ statements_count r.tree.body) (sym e) h
-  origins_stay (s ∷ ss) p q h (r, inl live, rest) = origins_stay ss r q (made_origins true p s (list_of live.loop.body) r (made_by true p s (list_of live.loop.body) r live.makes) h) rest
-  origins_stay (s ∷ ss) p q h (r, inr stays, rest) = origins_stay ss r q (subst (λ (x : Lowered). length x.origin ≡ statements_count x.tree.body) (sym stays.1) h) rest
+  origins_stay (s ∷ ss) p q h a = origins_stay ss a.0 q (one_origin s p a.0 h a.1) a.2
 
   pub origins_there : (q : Lowered) → IsLowered t q → length q.origin ≡ statements_count q.tree.body
   origins_there q lowered = origins_stay (range_with_len 1 (statements_count t.body)) (not_lowered t) q (length-range_with_len 1 (statements_count t.body)) lowered
 
   -- what comes of a valid program is valid
+  one_valid : (s : ℕ) (p r : Lowered) → IsValid p.tree → LowersOne t s p r → IsValid r.tree
+  one_valid s p r v (inl live) = live.valid
+  one_valid s p r v (inr stays) = subst (λ (x : Lowered). IsValid x.tree) (sym stays.1) v
+
   pub valid_stays : (ss : List ℕ) (p q : Lowered) → IsValid p.tree → Lowers t ss p q → IsValid q.tree
   valid_stays [] p q v e = subst (λ (r : Lowered). IsValid r.tree) (sym e) v
-  valid_stays (s ∷ ss) p q v (r, inl live, rest) = valid_stays ss r q live.valid rest
-  valid_stays (s ∷ ss) p q v (r, inr stays, rest) = valid_stays ss r q (subst (λ (x : Lowered). IsValid x.tree) (sym stays.1) v) rest
+  valid_stays (s ∷ ss) p q v a = valid_stays ss a.0 q (one_valid s p a.0 v a.1) a.2

@@ -8,7 +8,8 @@ use Rattle.ped_tree.specs.Tree.{CondTree, Head, StmtTree, StmtTrees, If, Do, no_
 use Rattle.ped_tree.specs.Accesses.{constant_names}
 use Rattle.ped_tree.specs.NamesIn.{loop_variables, all_loop_variables, saved_in}
 use Rattle.ped_tree.specs.Numbering.{statement_count, statements_count}
-use Rattle.ped_splits.specs.ped_reindex.specs.ped_loops.specs.ped_scalar.specs.ped_rules.specs.ped_loop_runs.specs.ped_bodies.specs.ped_steps.specs.ped_symbols.specs.Kinds.{Kind, kind_in, names_at, names_of, at_last}
+use Rattle.ped_splits.specs.ped_reindex.specs.ped_loops.specs.ped_scalar.specs.ped_rules.specs.ped_loop_runs.specs.ped_bodies.specs.ped_steps.specs.ped_symbols.specs.declared.symbols.Kind.{Kind}
+use Rattle.ped_splits.specs.ped_reindex.specs.ped_loops.specs.ped_scalar.specs.ped_rules.specs.ped_loop_runs.specs.ped_bodies.specs.ped_steps.specs.ped_symbols.specs.Kinds.{kind_in, names_of}
 use Rattle.ped_splits.specs.ped_reindex.specs.ped_loops.specs.ped_scalar.specs.ped_rules.specs.ped_loop_runs.specs.ped_bodies.specs.ped_steps.specs.ped_symbols.specs.NameRefusals.{IsValid}
 use Rattle.ped_splits.specs.ped_reindex.specs.ped_loops.specs.ped_scalar.specs.ped_rules.specs.ped_loop_runs.specs.ped_bodies.specs.ped_steps.specs.ped_symbols.specs.Sites.{Site, statement, private_site, stmt_sites, stmts_sites, decl_sites, program_sites, site_uses}
 use Rattle.ped_splits.specs.ped_reindex.specs.ped_loops.specs.ped_scalar.specs.ped_rules.specs.ped_loop_runs.specs.ped_bodies.specs.ped_steps.specs.ped_symbols.specs.Uses.{own_uses, cond_uses}
@@ -18,11 +19,11 @@ use Rattle.ped_splits.specs.ped_reindex.specs.ped_loops.specs.ped_scalar.specs.p
 use Rattle.ped_splits.specs.ped_reindex.specs.ped_loops.specs.ped_scalar.specs.ped_rules.specs.ped_loop_runs.specs.ped_bodies.specs.ped_steps.specs.ped_flow.proofs.Truths.{untrue}
 use Rattle.ped_splits.specs.ped_reindex.specs.ped_loops.specs.ped_scalar.specs.ped_rules.specs.ped_loop_runs.specs.ped_bodies.specs.ped_steps.specs.ped_laws.proofs.FlowRunLaws.Stopping.{fitting_stops, loop_stops}
 use Rattle.ped_splits.specs.ped_reindex.specs.ped_loops.specs.ped_scalar.specs.ped_rules.specs.ped_loop_runs.specs.ped_bodies.specs.ped_steps.specs.ped_laws.specs.ped_eval.specs.Loops.{sorted_once}
-use Rattle.ped_splits.specs.ped_reindex.specs.ped_loops.specs.ped_scalar.specs.ped_rules.specs.ped_loop_runs.specs.ped_bodies.specs.ped_steps.specs.ped_laws.specs.ped_eval.specs.Outcomes.{bounds_of, setting_of, run_of, Ended, Fault, outcome_of, Ends}
+use Rattle.ped_splits.specs.ped_reindex.specs.ped_loops.specs.ped_scalar.specs.ped_rules.specs.ped_loop_runs.specs.ped_bodies.specs.ped_steps.specs.ped_laws.specs.ped_eval.specs.Outcomes.{bounds_of, setting_of, run_of, LiveRow, live_rows, Ended, outcome_of, Ends}
 use Rattle.ped_splits.specs.ped_reindex.specs.ped_loops.specs.ped_scalar.specs.ped_rules.specs.ped_loop_runs.specs.ped_bodies.specs.ped_steps.specs.ped_laws.specs.ped_eval.specs.Runs.{Run, Ending, going, stopped, failed, run, run_all}
 use Rattle.ped_splits.specs.ped_reindex.specs.ped_loops.specs.ped_scalar.specs.ped_rules.specs.ped_loop_runs.specs.ped_bodies.specs.ped_steps.specs.ped_laws.specs.ped_eval.specs.Scopes.{Setting, Scope}
 use Rattle.ped_splits.specs.ped_reindex.specs.ped_loops.specs.ped_scalar.specs.ped_rules.specs.ped_loop_runs.specs.ped_bodies.specs.ped_steps.specs.ped_laws.specs.ped_store.specs.Cells.{Out}
-use Rattle.ped_splits.specs.ped_reindex.specs.ped_loops.specs.ped_scalar.specs.ped_rules.specs.ped_loop_runs.specs.ped_bodies.specs.ped_steps.specs.ped_laws.specs.ped_store.specs.Stores.{store_at_start, lines_in}
+use Rattle.ped_splits.specs.ped_reindex.specs.ped_loops.specs.ped_scalar.specs.ped_rules.specs.ped_loop_runs.specs.ped_bodies.specs.ped_steps.specs.ped_laws.specs.ped_store.specs.Stores.{Store, store_at_start, lines_in}
 use Rattle.ped_splits.specs.ped_reindex.specs.ped_loops.specs.ped_scalar.specs.ped_rules.specs.ped_loop_runs.specs.ped_bodies.specs.ped_steps.specs.ped_laws.specs.ped_store.specs.Variables.{values_of}
 use Rattle.ped_splits.specs.ped_reindex.specs.ped_loops.specs.ped_scalar.specs.ped_rules.specs.ped_loop_runs.specs.ped_bodies.specs.ped_steps.specs.ped_laws.specs.ped_store.specs.Races.{accesses, HasNoRace}
 use Rattle.ped_splits.specs.ped_reindex.specs.ped_loops.specs.ped_scalar.specs.ped_rules.specs.ped_loop_runs.specs.ped_bodies.specs.ped_steps.specs.Replacing.{alone, program_with}
@@ -77,6 +78,10 @@ module _ (x y : StmtTree) (same : uses_of x ≡ uses_of y) where
       by_more (Do h (filled gap (alone x))) (Do h (filled gap (alone y))) rest rest
       (do_uses h (filled gap (alone x)) ∙ (λ i. own_uses (Do h no_stmts) ++ (flat_map site_uses (private_site h.private) ++ filled_uses gap i)) ∙ sym (do_uses h (filled gap (alone y)))) refl
 
+-- the rows of live-out variables, by what names stand for
+rows_by : (List ℕ → Option Kind) → List (List ℕ) → Store → List LiveRow
+rows_by kind names s = map (λ (z : List ℕ). record { name = z; values = values_of (bounds_of (kind z)) z s }) names
+
 -- programs with the same declarations whose statements use the same names, in order, have the same settings
 module _ (t u : ProgramTree) (decls : t.decls ≡ u.decls) (uses : uses_in u.body ≡ uses_in t.body) where
   all_uses : flat_map site_uses (program_sites u) ≡ flat_map site_uses (program_sites t)
@@ -95,9 +100,12 @@ module _ (t u : ProgramTree) (decls : t.decls ≡ u.decls) (uses : uses_in u.bod
   settings_same = λ i. record { bounds = λ z. bounds_of (kinds_same z i); constants = same_values t u decls i; number = λ n. n }
 
   -- so a run that ends alike has the same outcome
+  rows_same : (s : Store) → live_rows u s ≡ live_rows t s
+  rows_same s = λ i. rows_by (λ z. kinds_same z i) (sorted_once (flat_map saved_in (sym decls i))) s
+
   pub outcome_same : (e : Ending) → outcome_of u e ≡ outcome_of t e
-  outcome_same (going s) = λ i. Ended (lines_in (s Out)) (map (λ z. record { name = z; values = values_of (bounds_of (kinds_same z i)) z s }) (sorted_once (flat_map saved_in (sym decls i))))
-  outcome_same (stopped s) = λ i. Ended (lines_in (s Out)) (map (λ z. record { name = z; values = values_of (bounds_of (kinds_same z i)) z s }) (sorted_once (flat_map saved_in (sym decls i))))
+  outcome_same (going s) = ap (Ended (lines_in (s Out))) (rows_same s)
+  outcome_same (stopped s) = ap (Ended (lines_in (s Out))) (rows_same s)
   outcome_same (failed fault statement) = refl
 
 module _ (t : ProgramTree) (s : ℕ) (loop : LoopOf t s) (names : List (List ℕ)) where

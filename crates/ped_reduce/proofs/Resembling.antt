@@ -15,7 +15,7 @@ use Rattle.ped_splits.specs.ped_reindex.specs.ped_loops.specs.ped_scalar.specs.p
 use Rattle.ped_splits.specs.ped_reindex.specs.ped_loops.specs.ped_scalar.specs.ped_rules.specs.ped_loop_runs.specs.ped_bodies.specs.ped_steps.proofs.RunLaws.FilledGaps.{counted, number_from, number_room}
 use Rattle.ped_splits.specs.ped_reindex.specs.ped_loops.specs.ped_scalar.specs.ped_rules.specs.ped_loop_runs.specs.ped_bodies.specs.ped_steps.proofs.RunLaws.ReplacedTrees as trees
 use Rattle.ped_splits.specs.ped_reindex.specs.ped_loops.specs.ped_scalar.specs.ped_rules.specs.ped_loop_runs.specs.ped_bodies.specs.ped_steps.specs.ped_laws.specs.Acts.Orders.{IsIn}
-use Rattle.ped_splits.proofs.CoverGaps.{gap_loops}
+use Rattle.ped_reduce.proofs.LoopsRoundGaps.{gap_loops}
 use Rattle.ped_reduce.specs.Lists.{list_of}
 use Rattle.ped_reduce.specs.Lowering.{Partials, lowered_loop}
 use Rattle.ped_reduce.specs.Reducing.{StandsAgainstSumming}

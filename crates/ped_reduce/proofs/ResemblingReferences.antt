@@ -34,8 +34,8 @@ use Rattle.ped_splits.specs.ped_reindex.specs.ped_loops.specs.ped_scalar.specs.p
 use Rattle.ped_splits.specs.ped_reindex.specs.ped_loops.specs.ped_scalar.specs.ped_rules.specs.ped_loop_runs.specs.ped_bodies.specs.ped_steps.specs.ped_laws.proofs.ActLaws.Lists.{in_left, in_right, in_parts}
 use Rattle.ped_splits.specs.ped_reindex.specs.ped_loops.specs.ped_scalar.specs.ped_rules.specs.ped_loop_runs.specs.ped_bodies.specs.ped_steps.specs.ped_laws.proofs.FlowRunLaws.Standing.{Stand, whole_stands, inner_stands, first_stands}
 use Rattle.ped_splits.specs.ped_reindex.specs.ped_loops.specs.ped_scalar.specs.Scalars as scalars
-use Rattle.ped_splits.proofs.CoverGaps.{gap_loops, gap_nest}
-use Rattle.ped_splits.proofs.SplitPieces.{gap_stands}
+use Rattle.ped_reduce.proofs.LoopsRoundGaps.{gap_loops, gap_nest}
+use Rattle.ped_reduce.proofs.LoopsRoundGaps.{gap_stands}
 use Rattle.ped_reduce.specs.Lists.{list_of, listed_name, unless_named, without_list}
 use Rattle.ped_reduce.specs.Sums.{Sum, sum_to}
 use Rattle.ped_reduce.specs.Lowering.{Partials, and_then, zeros, all_summed, exits, bare, lowered_loop}

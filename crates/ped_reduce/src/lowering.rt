@@ -181,7 +181,10 @@ fn lowered_in<L: Ledger>(
     ensures { IfOk result (IsLiveAt (program_tree scene.now.tree.now) number lowered.now) }
 {
     let names = list_of(alloc, &d.body)?;
-    if names.is_empty() || names.len() > 8 {
+    if names.is_empty() {
+        return Ok(None);
+    }
+    if names.len() > 8 {
         return Ok(None);
     }
     if is_in_live(alloc, scene.tree, lowered, number)? {

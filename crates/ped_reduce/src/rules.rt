@@ -4,7 +4,7 @@ ghost use Rattle.std.specs.Prelude.{◌≡◌, ◌<◌, ◌+◌, ◌^◌, IfOk};
 ghost use Rattle.std.specs.List.{list_any};
 ghost use Rattle.ped_tree.specs.Numbering.{statements_count};
 ghost use Rattle.ped_tree.specs.Views.{stmt_trees, program_tree, head_of};
-ghost use Rattle.ped_tree.specs.Tree.{ProgramTree, StmtTrees};
+ghost use Rattle.ped_tree.specs.Tree.{ProgramTree};
 ghost use Rattle.ped_splits.specs.ped_reindex.specs.ped_loops.specs.ped_scalar.specs.ped_rules.specs.ped_loop_runs.specs.ped_bodies.specs.ped_steps.specs.Scenes.{IsSceneOf};
 ghost use Rattle.ped_splits.specs.ped_reindex.specs.ped_loops.specs.ped_scalar.specs.ped_rules.specs.ped_loop_runs.specs.ped_bodies.specs.ped_steps.specs.ped_symbols.specs.Kinds.{table_of};
 ghost use Rattle.ped_splits.specs.ped_reindex.specs.ped_loops.specs.ped_scalar.specs.ped_rules.specs.ped_loop_runs.specs.ped_bodies.specs.ped_steps.specs.ped_symbols.specs.RightUses.RightUses as uses;
@@ -127,45 +127,50 @@ fn has_unsummable<L: Ledger>(
     ensures { IfOk result (λ r. r ≡ Spec.has_unsummable (program_tree scene.now.tree.now) number names.now (head_of d.now) (stmt_trees d.now.body.items)) }
 {
     let found = occurrences(alloc, scene.tree)?;
-    let extent = extent_of(number, d);
-    Ok(is_some_unsummable(scene, &found, extent, names))
+    Ok(is_some_unsummable(scene, &found, number, d, names))
 }
 
-/// Whether a DO with this extent can't add to one of these names, where these are all references of the program.
+/// The same, where these are all references of the program.
 fn is_some_unsummable<L: Ledger>(
     scene: &Scene<L>,
     found: &[Occurrence],
-    extent: Extent,
+    number: u32,
+    d: &Do,
     names: &[Name],
 ) -> bool
-    requires small { extent.number + extent.count < 2 ^ 32 }
+    requires small { number + statements_count (stmt_trees d.now.body.items) + 1 < 2 ^ 32 }
     requires scene { IsSceneOf (program_tree scene.now.tree.now) scene.now }
     requires all { references_of found.now ≡ references (program_tree scene.now.tree.now) }
-    ensures { (body : StmtTrees) → extent.count ≡ statements_count body + 1 → result ≡ list_any (Spec.is_unsummable (program_tree scene.now.tree.now) extent.number body) names.now }
+    ensures { result ≡ list_any (Spec.is_unsummable (program_tree scene.now.tree.now) number (stmt_trees d.now.body.items)) names.now }
 {
     for name in names {
-        if is_unsummable(scene, found, extent, name) {
+        if is_unsummable(scene, found, number, d, name) {
             return true;
         }
     }
     false
 }
 
-/// Whether a DO with this extent can't add to the name, where these are all references of the program.
+/// Whether the DO with this number can't add to the name, where these are all references of the program.
 fn is_unsummable<L: Ledger>(
     scene: &Scene<L>,
     found: &[Occurrence],
-    extent: Extent,
+    number: u32,
+    d: &Do,
     name: &Name,
 ) -> bool
-    requires small { extent.number + extent.count < 2 ^ 32 }
+    requires small { number + statements_count (stmt_trees d.now.body.items) + 1 < 2 ^ 32 }
     requires scene { IsSceneOf (program_tree scene.now.tree.now) scene.now }
     requires all { references_of found.now ≡ references (program_tree scene.now.tree.now) }
-    ensures { (body : StmtTrees) → extent.count ≡ statements_count body + 1 → result ≡ Spec.is_unsummable (program_tree scene.now.tree.now) extent.number body name.now }
+    ensures { result ≡ Spec.is_unsummable (program_tree scene.now.tree.now) number (stmt_trees d.now.body.items) name.now }
 {
-    !is_scalar(scene.symbols, name)
-        || is_index_of(name, &scene.tree.body)
-        || !is_referred(found, extent, name)
+    if !is_scalar(scene.symbols, name) {
+        return true;
+    }
+    if is_index_of(name, &scene.tree.body) {
+        return true;
+    }
+    !is_referred(found, extent_of(number, d), name)
 }
 
 /// Whether the name is that of a scalar variable of the program.

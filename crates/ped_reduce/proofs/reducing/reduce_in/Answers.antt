@@ -13,4 +13,5 @@ returns-in-Some g c =
     let t = program_tree c.args.scene.now.tree.now in
     let s = c.args.number in
     let names = c.args.names.now in
-    answers.refused s names t c.in-Some.first.rule c.in-Some.first.statement c.against.result c.against.ensures (answers.early_first s names t c.in-Some.first c.in-Some.ensures)
+    let first = subst (IsFirstOf (also_against_sums s names t no_rules)) c.in-Some.is c.in_ok-early.ensures in
+    answers.refused s names t c.in-Some.first.rule c.in-Some.first.statement c.against.result c.against.ensures (answers.early_first s names t c.in-Some.first first)

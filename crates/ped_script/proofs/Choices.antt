@@ -1,35 +1,35 @@
--- The choices of a run, word by word.
-use Rattle.std.proofs.Common.{◌≡◌, ℕ, List, [], ◌∷◌, ◌++◌, Option, Some, None, option_map, option_and_then, refl, sym, ap, ◌∙◌, append_assoc, append-nil}
-use Rattle.ped_script.specs.Words.{Text, number_of, numbers_of}
+-- What the words of a line write, word by word: the choices of a run, and the names of a reduction.
+use Rattle.std.proofs.Common.{◌≡◌, List, [], ◌∷◌, ◌++◌, Option, Some, None, option_map, option_and_then, refl, sym, ap, ◌∙◌, append_assoc, append-nil}
+use Rattle.ped_script.specs.Words.{Text, all_of}
 
--- the choices so far, and those of the words that are left
-abbrev pub all_choices : List ℕ → List Text → Option (List ℕ)
-all_choices cs words = option_map (λ ns. cs ++ ns) (numbers_of 18 words)
+-- what was read so far, and what the words that are left write
+abbrev pub all_read : {A : Type 0} → (Text → Option A) → List A → List Text → Option (List A)
+all_read read xs words = option_map (λ ys. xs ++ ys) (all_of read words)
 
-moved : (cs : List ℕ) (n : ℕ) (o : Option (List ℕ)) → option_map (λ ns. (cs ++ n ∷ []) ++ ns) o ≡ option_map (λ ns. cs ++ ns) (option_map (λ ns. n ∷ ns) o)
-moved cs n None = refl
-moved cs n (Some ns) = ap Some (append_assoc cs (n ∷ []) ns)
+moved : {A : Type 0} (xs : List A) (x : A) (o : Option (List A)) → option_map (λ ys. (xs ++ x ∷ []) ++ ys) o ≡ option_map (λ ys. xs ++ ys) (option_map (λ ys. x ∷ ys) o)
+moved xs x None = refl
+moved xs x (Some ys) = ap Some (append_assoc xs (x ∷ []) ys)
 
-all_of_none : (o : Option (List ℕ)) → option_map (λ ns. [] ++ ns) o ≡ o
+all_of_none : {A : Type 0} (o : Option (List A)) → option_map (λ ys. [] ++ ys) o ≡ o
 all_of_none None = refl
-all_of_none (Some ns) = refl
+all_of_none (Some ys) = refl
 
 -- before the first word
-pub at_first : (cs : List ℕ) (words : List Text) → cs ≡ [] → all_choices cs words ≡ numbers_of 18 words
-at_first cs words e = ap (λ (cs : List ℕ). all_choices cs words) e ∙ all_of_none (numbers_of 18 words)
+pub at_first : {A : Type 0} (read : Text → Option A) (xs : List A) (words : List Text) → xs ≡ [] → all_read read xs words ≡ all_of read words
+at_first {A} read xs words e = ap (λ (xs : List A). all_read read xs words) e ∙ all_of_none (all_of read words)
 
--- a word that is a choice
-pub at_choice : (cs new : List ℕ) (n : ℕ) (word : Text) (left rest : List Text) → left ≡ word ∷ rest → number_of 18 word ≡ Some n → new ≡ cs ++ n ∷ [] → all_choices new rest ≡ all_choices cs left
-at_choice cs new n word left rest e h m =
-    ap (λ (x : List ℕ). all_choices x rest) m ∙ moved cs n (numbers_of 18 rest)
-    ∙ ap (λ o. option_map (λ ns. cs ++ ns) (option_and_then (λ n. option_map (λ ns. n ∷ ns) (numbers_of 18 rest)) o)) (sym h)
-    ∙ ap (all_choices cs) (sym e)
+-- a word that writes something
+pub at_some : {A : Type 0} (read : Text → Option A) (xs new : List A) (x : A) (word : Text) (left rest : List Text) → left ≡ word ∷ rest → read word ≡ Some x → new ≡ xs ++ x ∷ [] → all_read read new rest ≡ all_read read xs left
+at_some {A} read xs new x word left rest e h m =
+    ap (λ (ys : List A). all_read read ys rest) m ∙ moved xs x (all_of read rest)
+    ∙ ap (λ o. option_map (λ ys. xs ++ ys) (option_and_then (λ y. option_map (λ ys. y ∷ ys) (all_of read rest)) o)) (sym h)
+    ∙ ap (all_read read xs) (sym e)
 
--- a word that is none
-pub at_other : (cs : List ℕ) (word : Text) (left rest : List Text) → left ≡ word ∷ rest → number_of 18 word ≡ None → all_choices cs left ≡ None
-at_other cs word left rest e h =
-    ap (all_choices cs) e ∙ ap (λ o. option_map (λ ns. cs ++ ns) (option_and_then (λ n. option_map (λ ns. n ∷ ns) (numbers_of 18 rest)) o)) h
+-- a word that writes nothing
+pub at_other : {A : Type 0} (read : Text → Option A) (xs : List A) (word : Text) (left rest : List Text) → left ≡ word ∷ rest → read word ≡ None → all_read read xs left ≡ None
+at_other read xs word left rest e h =
+    ap (all_read read xs) e ∙ ap (λ o. option_map (λ ys. xs ++ ys) (option_and_then (λ y. option_map (λ ys. y ∷ ys) (all_of read rest)) o)) h
 
 -- behind the last word
-pub at_last : (cs : List ℕ) (left : List Text) → left ≡ [] → all_choices cs left ≡ Some cs
-at_last cs left e = ap (all_choices cs) e ∙ ap Some (append-nil cs)
+pub at_last : {A : Type 0} (read : Text → Option A) (xs : List A) (left : List Text) → left ≡ [] → all_read read xs left ≡ Some xs
+at_last read xs left e = ap (all_read read xs) e ∙ ap Some (append-nil xs)

@@ -4,9 +4,9 @@ use Rattle.std.specs.Cmp.Lexicographic.{bytes_decides}
 use Rattle.std.specs.Option.{option_or}
 use Rattle.ped_base.specs.Lists.{is_same_text}
 use Rattle.ped_script.specs.declared.items.Command.{Command}
-use Rattle.ped_script.specs.declared.items.Command.TheVariants.{Replace, Delete, Skew, Strip, Expand, Privatise, Reject, Run}
+use Rattle.ped_script.specs.declared.items.Command.TheVariants.{Replace, Delete, Skew, Strip, Expand, Privatise, Reduce, Reject, Run}
 use Rattle.ped_script.specs.Words.{Text, number_of, numbers_of, factor_of, name_of}
-use Rattle.ped_script.specs.Rows.{command_of}
+use Rattle.ped_script.specs.Rows.{number, few_names, command_of}
 use Rattle.ped_script.specs.Shapes.{alone, with_number, peeled, with_two}
 
 -- a row that doesn't fit is passed over
@@ -48,6 +48,10 @@ pub run_row : (ws : List Text) → command_of (codes "run" ∷ ws) ≡ option_ma
 unfolding command_of
 run_row ws = last (option_map (λ cs. Run cs) (numbers_of 18 ws))
 
+pub reduce_row : (ws : List Text) → command_of (codes "reduce" ∷ ws) ≡ number (λ s. few_names (λ names. Reduce s names)) ws
+unfolding command_of
+reduce_row ws = last (number (λ s. few_names (λ names. Reduce s names)) ws)
+
 pub one_word : (w : Text) → is_same_text w (codes "run") ≡ false → command_of (w ∷ []) ≡ alone w
 unfolding command_of alone
 one_word w e = simp (skip, take, e) refl
@@ -60,13 +64,13 @@ pub no_number : (w a : Text) (ws : List Text) → is_same_text w (codes "run") �
 unfolding command_of
 no_number w a ws e h = simp (h, skip, e) refl
 
-pub four_words : (w a b c : Text) (ws : List Text) (n : ℕ) → is_same_text w (codes "run") ≡ false → number_of 9 a ≡ Some n → command_of (w ∷ a ∷ b ∷ c ∷ ws) ≡ None
+pub four_words : (w a b c : Text) (ws : List Text) (n : ℕ) → is_same_text w (codes "run") ≡ false → is_same_text w (codes "reduce") ≡ false → number_of 9 a ≡ Some n → command_of (w ∷ a ∷ b ∷ c ∷ ws) ≡ None
 unfolding command_of
-four_words w a b c ws n e h = simp (h, neither {A = ℕ}, neither {A = ℤ}, neither {A = Text}, no_end, e) refl
+four_words w a b c ws n e r h = simp (h, neither {A = ℕ}, neither {A = ℤ}, neither {A = Text}, no_end, e, r) refl
 
-pub three_words : (w a b : Text) (n : ℕ) → is_same_text w (codes "run") ≡ false → number_of 9 a ≡ Some n → command_of (w ∷ a ∷ b ∷ []) ≡ with_two w n b
+pub three_words : (w a b : Text) (n : ℕ) → is_same_text w (codes "run") ≡ false → is_same_text w (codes "reduce") ≡ false → number_of 9 a ≡ Some n → command_of (w ∷ a ∷ b ∷ []) ≡ with_two w n b
 unfolding command_of with_two peeled
-three_words w a b n e h =
+three_words w a b n e r h =
     let P : Text → Type 0 = λ w. command_of (w ∷ a ∷ b ∷ []) ≡ with_two w n b in
     by_word w (codes "replace") P (simp (h, last) (only (λ k. Replace n k []) (number_of 9 b))) (λ e1.
     by_word w (codes "delete") P (simp (h, last) (only (Delete n) (number_of 9 b))) (λ e2.
@@ -76,4 +80,4 @@ three_words w a b n e h =
     by_word w (codes "expand") P (simp (h, last) (only (Expand n) (name_of b))) (λ e6.
     by_word w (codes "privatise") P (simp (h, last) (only (Privatise n) (name_of b))) (λ e7.
     by_word w (codes "reject") P (simp (h, last) (only (Reject n) (name_of b))) (λ e8.
-    simp (h, skip, e, e1, e2, e3, e4, e5, e6, e7, e8) refl))))))))
+    simp (h, skip, e, r, e1, e2, e3, e4, e5, e6, e7, e8) refl))))))))

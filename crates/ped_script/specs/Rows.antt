@@ -1,10 +1,10 @@
 -- The commands of a script, row by row: what words are which command (this project).
-use Rattle.std.specs.Prelude.{◌≡◌, ◌⊎◌, ℕ, ℤ, pos, List, [], ◌∷◌, true, false, codes, Option, Some, None, option_map, option_and_then, if◌then◌else◌}
+use Rattle.std.specs.Prelude.{◌≡◌, ◌⊎◌, ℕ, ℤ, pos, List, [], ◌∷◌, length, nat_le, true, false, ◌&&◌, codes, Option, Some, None, option_map, option_and_then, if◌then◌else◌}
 use Rattle.std.specs.Option.{option_or}
-use Rattle.ped_base.specs.Lists.{is_same_text}
-use Rattle.ped_script.specs.Words.{Text, number_of, numbers_of, factor_of, name_of}
+use Rattle.ped_base.specs.Lists.{has_some, is_same_text}
+use Rattle.ped_script.specs.Words.{Text, number_of, numbers_of, factor_of, name_of, names_of}
 use Rattle.ped_script.specs.declared.items.Command.{Command}
-use Rattle.ped_script.specs.declared.items.Command.TheVariants.{Source, Deps, Show, Print, Advise, Replace, Insert, Delete, Interchange, Reverse, Skew, Strip, Peel, Distribute, Fuse, Expand, Privatise, Parallel, Serial, Reject, Undo, Redo, Run, Races, Tested}
+use Rattle.ped_script.specs.declared.items.Command.TheVariants.{Source, Deps, Show, Print, Advise, Replace, Insert, Delete, Interchange, Reverse, Skew, Strip, Peel, Distribute, Fuse, Expand, Privatise, Reduce, Parallel, Serial, Reject, Undo, Redo, Run, Races, Tested}
 
 -- the command that words are, where they fit the row
 abbrev pub Row : Type 0
@@ -35,6 +35,14 @@ abbrev pub name : (Text → Row) → Row
 name next [] = None
 name next (w ∷ ws) = option_and_then (λ x. next x ws) (name_of w)
 
+-- the command on these names, where they are at least one and at most eight
+abbrev pub on_few : (List Text → Command) → List Text → Option Command
+on_few to_command names = if has_some names && nat_le (length names) 8 then Some (to_command names) else None
+
+-- one to eight names of variables
+abbrev pub few_names : (List Text → Command) → Row
+few_names to_command ws = option_and_then (on_few to_command) (names_of ws)
+
 -- choices of a run, as many as there are: at most eighteen digits each
 abbrev pub choices : (List ℕ → Command) → Row
 choices to_command ws = option_map to_command (numbers_of 18 ws)
@@ -61,6 +69,7 @@ rows =
     ∷ word (codes "fuse") (number (λ s. done (Fuse s)))
     ∷ word (codes "expand") (number (λ s. name (λ t. done (Expand s t))))
     ∷ word (codes "privatise") (number (λ s. name (λ t. done (Privatise s t))))
+    ∷ word (codes "reduce") (number (λ s. few_names (λ names. Reduce s names)))
     ∷ word (codes "parallel") (number (λ s. done (Parallel s)))
     ∷ word (codes "serial") (number (λ s. done (Serial s)))
     ∷ word (codes "reject") (number (λ s. name (λ v. done (Reject s v))))

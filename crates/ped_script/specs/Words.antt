@@ -32,10 +32,14 @@ is_number word = has_some word && list_all is_digit word && not (has_leading_zer
 abbrev pub number_of : ℕ → Text → Option ℕ
 number_of most word = if is_number word && nat_le (length word) most then Some (digits_value 10 word) else None
 
+-- what the words write, where each of them writes something
+abbrev pub all_of : {A : Type 0} → (Text → Option A) → List Text → Option (List A)
+all_of read [] = Some []
+all_of read (w ∷ ws) = option_and_then (λ x. option_map (λ xs. x ∷ xs) (all_of read ws)) (read w)
+
 -- the numbers that the words write, each of at most so many digits
 abbrev pub numbers_of : ℕ → List Text → Option (List ℕ)
-numbers_of most [] = Some []
-numbers_of most (w ∷ ws) = option_and_then (λ n. option_map (λ ns. n ∷ ns) (numbers_of most ws)) (number_of most w)
+numbers_of most words = all_of (number_of most) words
 
 -- a number of at most nine digits, or one with a minus sign before it
 abbrev pub factor_of : Text → Option ℤ
@@ -47,3 +51,7 @@ abbrev pub name_of : Text → Option Text
 name_of word =
     let capitals = map to_ascii_uppercase word in
     if Letters.is_name capitals && nat_le (length capitals) 31 then Some capitals else None
+
+-- the names that the words write, in capitals
+abbrev pub names_of : List Text → Option (List Text)
+names_of words = all_of name_of words

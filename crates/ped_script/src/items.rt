@@ -1,6 +1,6 @@
 //! What a script is made of: commands, each with its line.
 
-use ped_base::{Bytes, Listed, Name};
+use ped_base::{Bytes, Listed, Name, Names};
 
 /// A command. The number of a statement, the number of a line and the size of a strip are at most 999,999,999.
 #[derive(Drop)]
@@ -62,6 +62,8 @@ pub enum Command {
     Expand(u32, Name),
     /// Makes a scalar private to the iterations of this loop.
     Privatise(u32, Name),
+    /// Gives each iteration of this loop sums of its own for one to eight scalars, which are added at its exit.
+    Reduce(u32, Names),
     /// Makes this loop parallel.
     Parallel(u32),
     /// Makes this loop serial.

@@ -2,14 +2,18 @@
 
 ghost use Rattle.std.specs.Prelude.{◌≡◌, [], ◌∷◌, false, codes, List, ℕ, Some, IfOk};
 ghost use Rattle.ped_base.specs.Lists.{is_same_text};
-ghost use Rattle.ped_script.specs.Words.{Text, words_of, number_of, numbers_of};
-ghost use Rattle.ped_script.specs.Rows.{command_of};
+ghost use Rattle.ped_script.specs.Words.{Text, words_of, number_of, numbers_of, names_of};
+ghost use Rattle.ped_script.specs.Rows.{command_of, few_names};
+ghost use Rattle.ped_script.specs.declared.items.Command.TheVariants.{Reduce};
 ghost use Rattle.ped_script.specs.Shapes as Shapes;
 
 use crate::items::Command;
 use crate::words::{choice, factor, first_word, has_word, is_word, name, number};
-use ped_base::{Listed, NoMemory};
+use ped_base::{Listed, Names, NoMemory};
 use std::alloc::Global;
+
+/// The most scalars that one reduction takes.
+const MOST_SUMS: usize = 8;
 
 /// The command of a line, where its words are one. The text of an edit stands on other lines, and is empty
 /// here.
@@ -21,6 +25,9 @@ pub fn command(alloc: Global, line: &[u8]) -> Result<Option<Command>, NoMemory>
     };
     if is_word(first, b"run") {
         return run(alloc, rest);
+    }
+    if is_word(first, b"reduce") {
+        return reduce(alloc, rest);
     }
     let Some((second, rest)) = first_word(rest) else {
         return Ok(alone(first));
@@ -51,6 +58,48 @@ fn run(alloc: Global, line: &[u8]) -> Result<Option<Command>, NoMemory>
         left = rest;
     }
     Ok(Some(Command::Run(choices)))
+}
+
+/// A reduction, where these words are the number of its loop and one to eight names.
+fn reduce(alloc: Global, line: &[u8]) -> Result<Option<Command>, NoMemory>
+    ensures { IfOk result (λ c. c ≡ command_of (codes "reduce" ∷ words_of line.now)) }
+{
+    let Some((word, rest)) = first_word(line) else {
+        return Ok(None);
+    };
+    let Some(n) = number(word) else {
+        return Ok(None);
+    };
+    reduce_at(alloc, n, rest)
+}
+
+/// A reduction at this loop, where these words are one to eight names.
+fn reduce_at(alloc: Global, n: u32, line: &[u8]) -> Result<Option<Command>, NoMemory>
+    ensures { IfOk result (λ c. c ≡ few_names (λ names. Reduce n names) (words_of line.now)) }
+{
+    let Some(names) = names(alloc, line)? else {
+        return Ok(None);
+    };
+    if names.is_empty() || names.len() > MOST_SUMS {
+        return Ok(None);
+    }
+    Ok(Some(Command::Reduce(n, names)))
+}
+
+/// The names that the words of a line write, where each of them writes one.
+fn names(alloc: Global, line: &[u8]) -> Result<Option<Names>, NoMemory>
+    ensures { IfOk result (λ names. names ≡ names_of (words_of line.now)) }
+{
+    let mut names = Names::new(alloc);
+    let mut left = line;
+    while let Some((word, rest)) = first_word(left) {
+        let Some(name) = name(word) else {
+            return Ok(None);
+        };
+        names.push(name)?;
+        left = rest;
+    }
+    Ok(Some(names))
 }
 
 /// The command that is one word.

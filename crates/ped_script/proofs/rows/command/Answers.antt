@@ -46,8 +46,9 @@ returns-then-has_word c =
     let b = c.in-Some-first_word-2.third.now in
     let n = c.in-Some-number.n in
     let other : is_same_text w (codes "run") ≡ false = sym c.is_word.ensures ∙ c.if-is_word.false in
+    let another : is_same_text w (codes "reduce") ≡ false = sym c.is_word-2.ensures ∙ c.if-is_word-2.false in
     let more = some_word (words_of c.in-Some-first_word-2.rest.now) (sym c.has_word.ensures ∙ c.if-has_word.true) in
-    sym (four_words w a b more.0 more.1 n other (sym c.number.ensures ∙ c.in-Some-number.is))
+    sym (four_words w a b more.0 more.1 n other another (sym c.number.ensures ∙ c.in-Some-number.is))
     ∙ ap (λ (ws : List Text). command_of (w ∷ a ∷ b ∷ ws)) (sym more.2)
     ∙ ap (λ (ws : List Text). command_of (w ∷ a ∷ ws)) (sym c.in-Some-first_word-2.ensures.word)
     ∙ ap (λ (ws : List Text). command_of (w ∷ ws)) (sym c.in-Some-first_word.ensures.word)
@@ -60,8 +61,9 @@ returns c =
     let b = c.in-Some-first_word-2.third.now in
     let n = c.in-Some-number.n in
     let other : is_same_text w (codes "run") ≡ false = sym c.is_word.ensures ∙ c.if-is_word.false in
+    let another : is_same_text w (codes "reduce") ≡ false = sym c.is_word-2.ensures ∙ c.if-is_word-2.false in
     let last = no_word (words_of c.in-Some-first_word-2.rest.now) (sym c.has_word.ensures ∙ c.if-has_word.false) in
-    c.with_two.ensures ∙ sym (three_words w a b n other (sym c.number.ensures ∙ c.in-Some-number.is))
+    c.with_two.ensures ∙ sym (three_words w a b n other another (sym c.number.ensures ∙ c.in-Some-number.is))
     ∙ ap (λ (ws : List Text). command_of (w ∷ a ∷ b ∷ ws)) (sym last)
     ∙ ap (λ (ws : List Text). command_of (w ∷ a ∷ ws)) (sym c.in-Some-first_word-2.ensures.word)
     ∙ ap (λ (ws : List Text). command_of (w ∷ ws)) (sym c.in-Some-first_word.ensures.word)

@@ -1,0 +1,35 @@
+-- `reduce` is lawful.
+use Rattle.std.proofs.Common.{◌≡◌, ℕ, List, Some, None, refl, sym, subst}
+use Rattle.ped_tree.specs.Tree.{ProgramTree}
+use Rattle.ped_splits.specs.ped_reindex.specs.ped_loops.specs.ped_scalar.specs.ped_rules.specs.ped_loop_runs.specs.ped_bodies.specs.ped_steps.specs.ped_laws.specs.ped_graph.specs.Update.Fresh.{IsOneToOne}
+use Rattle.ped_splits.specs.ped_reindex.specs.ped_loops.specs.ped_scalar.specs.ped_rules.specs.ped_loop_runs.specs.ped_bodies.specs.ped_steps.specs.ped_symbols.specs.NameRefusals.{IsValid}
+use Rattle.ped_splits.specs.ped_reindex.specs.ped_loops.specs.ped_scalar.specs.ped_rules.specs.ped_loop_runs.specs.ped_bodies.specs.ped_steps.specs.ped_flow.specs.Questions.{LoopOf}
+use Rattle.ped_splits.specs.ped_reindex.specs.ped_loops.specs.ped_scalar.specs.ped_rules.specs.ped_loop_runs.specs.ped_bodies.specs.ped_steps.specs.Causes.{NoRule}
+use Rattle.ped_splits.specs.ped_reindex.specs.ped_loops.specs.ped_scalar.specs.ped_rules.specs.ped_loop_runs.specs.ped_bodies.specs.ped_steps.specs.Replacing.{all_kept}
+use Rattle.ped_splits.specs.ped_reindex.specs.ped_loops.specs.ped_scalar.specs.ped_rules.specs.ped_loop_runs.specs.ped_bodies.specs.ped_steps.proofs.OneCause.{one_cause}
+use Rattle.ped_splits.specs.ped_reindex.specs.ped_loops.specs.ped_scalar.specs.ped_rules.specs.ped_loop_runs.specs.Unrejected.{IsTrusted}
+use Rattle.ped_splits.specs.ped_reindex.specs.ped_loops.specs.ped_scalar.specs.ped_rules.specs.Lawful.{IsFaithful, IsLawful}
+use Rattle.ped_splits.specs.ped_reindex.specs.ped_loops.specs.ped_scalar.specs.ped_rules.proofs.KeptNumbers.{all_one_to_one}
+use Rattle.ped_splits.specs.ped_reindex.specs.ped_loops.proofs.OneHead.{TrustedLaw, ClearedLaw}
+use Rattle.ped_reduce.specs.Reducing.{with_reduction, carried_beside, StandsAgainstReducing, reducing}
+use Rattle.ped_reduce.proofs.ReducedPrograms.{reduced_is, reduced_keeps, reduced_trusted}
+use Rattle.ped_reduce.proofs.ReducingRules as rules
+
+module _ (trusted_law : TrustedLaw) (cleared : ClearedLaw) (s : ℕ) (names : List (List ℕ)) where
+  faithful : (t : ProgramTree) → IsValid t → NoRule (StandsAgainstReducing s names t) → IsTrusted t → IsFaithful t (with_reduction t s names)
+  faithful t valid none trusted = subst (IsFaithful t) (sym (reduced_is t s loop names)) (record {
+    trusted = reduced_trusted t s loop names valid (rules.is_contained s names t none) trusted_law cleared trusted;
+    keeps = reduced_keeps t s loop names;
+  })
+    where
+      loop : LoopOf t s
+      loop = rules.its_loop s names t none
+
+  pub lawful : IsLawful (reducing s names)
+  lawful = record {
+    one_cause = λ t c d p q. one_cause t (StandsAgainstReducing s names t) (carried_beside t s names) (rules.chain s names t).one c d p q;
+    one_made = rules.one_made s names;
+    one_to_one = λ t new keep p. subst IsOneToOne (sym p.1) (all_one_to_one t);
+    some_made = λ t valid none. (with_reduction t s names, all_kept t, (refl, refl), rules.is_valid s names t none.0);
+    keeps = λ t new keep valid none p trusted. subst (IsFaithful t) (sym p.0) (faithful t valid none.0 trusted);
+  }

@@ -1,0 +1,11 @@
+pub use Rattle.ped_splits
+pub mod Lists
+pub mod Sums
+pub mod Lowering
+pub mod Reducing
+pub mod CodeLists
+pub mod CodeSums
+pub mod CodeRules
+pub mod CodeLowering
+pub mod CodeLowered
+pub mod CodeReducing

@@ -1,0 +1,33 @@
+//! What is true of the step, and of lowering. The functions do nothing; their contracts are the laws.
+
+ghost use Rattle.std.specs.Prelude.{◌≡◌, ℕ, List, length, false};
+ghost use Rattle.ped_tree.specs.Numbering.{statements_count};
+ghost use Rattle.ped_tree.specs.Tree.{ProgramTree};
+ghost use Rattle.ped_splits.specs.ped_reindex.specs.ped_loops.specs.ped_scalar.specs.ped_rules.specs.Lawful.{IsLawful};
+ghost use Rattle.ped_splits.specs.ped_reindex.specs.ped_loops.specs.ped_scalar.specs.ped_rules.specs.ped_loop_runs.specs.ped_bodies.specs.ped_steps.specs.ped_symbols.specs.NameRefusals.{IsValid};
+ghost use Rattle.ped_splits.specs.ped_reindex.specs.ped_loops.specs.ped_scalar.specs.ped_rules.specs.ped_loop_runs.specs.ped_bodies.specs.ped_steps.specs.ped_flow.specs.Questions.{LoopOf};
+ghost use Rattle.ped_reduce.specs.Lists.{has_list};
+ghost use Rattle.ped_reduce.specs.Lowering.{Lowered, not_lowered};
+ghost use Rattle.ped_reduce.specs.Reducing.{IsLowered, reducing};
+
+use ped_splits::ped_reindex::ped_loops::ped_scalar::ped_rules::ped_loop_runs::{
+    private_names_cleared, stays_trusted,
+};
+
+/// `reduce` has one first cause at most and makes one program. Where nothing forbids it, that one is valid; and if the old one
+/// is tidy and without C$PED REJECT, so is the new one, and it means the same: the list is a comment (ParaScope).
+pub fn reduction_is_lawful()
+    ensures { (s : ℕ) (names : List (List ℕ)) → IsLawful (reducing s names) }
+{
+    stays_trusted();
+    private_names_cleared();
+}
+
+/// A program is lowered in one way. What comes of it is valid where the program is, and each of its statements comes from one.
+/// Where no DO has a list, nothing is lowered (this project).
+pub fn one_lowering()
+    ensures one { (t : ProgramTree) (q r : Lowered) → IsLowered t q → IsLowered t r → q ≡ r }
+    ensures valid { (t : ProgramTree) (q : Lowered) → IsValid t → IsLowered t q → IsValid q.tree }
+    ensures origins { (t : ProgramTree) (q : Lowered) → IsLowered t q → length q.origin ≡ statements_count q.tree.body }
+    ensures none { (t : ProgramTree) → ((s : ℕ) (l : LoopOf t s) → has_list l.head l.body ≡ false) → IsLowered t (not_lowered t) }
+{}

@@ -1,4 +1,5 @@
 pub mod ListedComments
+pub mod ListAnswers
 pub mod AlikeRuns
 pub mod ReducedPrograms
 pub mod ReducingRules
@@ -6,6 +7,7 @@ pub mod ReducingLawful
 pub mod SummingRules
 pub mod ReducingAnswers
 pub mod LoweringLaws
+pub mod UnlowerableAnswers
 pub mod LoweringAnswers
 pub mod MadeAnswers
 pub mod LoweredCounts

@@ -1,5 +1,6 @@
 -- From what the code of `reduce` finds to what it answers.
-use Rattle.std.proofs.Common.{◌≡◌, ℕ, List, [], ◌∷◌, Bool, true, false, ◌||◌, inl, inr, Option, Some, None, Ok, Err, MatchOption, refl, sym, ap, ◌∙◌, subst, arith}
+use Rattle.std.proofs.Common.{◌≡◌, ◌↔◌, ℕ, List, [], ◌∷◌, Bool, true, false, ◌||◌, IsTrue, inl, inr, Option, Some, None, Ok, Err, MatchOption, refl, sym, ap, ◌∙◌, subst, arith}
+use Rattle.std.proofs.lemmas.Bool.{both_ways}
 use Rattle.ped_tree.specs.Tree.{Head, StmtTree, StmtTrees, Do, ProgramTree}
 use Rattle.ped_tree.specs.Views.{stmt_tree, stmt_trees}
 use Rattle.ped_tree.specs.declared.statements.Stmt.{Stmt}
@@ -45,6 +46,10 @@ some_made new keep found change is h = subst (λ (o : Option Change). MatchOptio
 
 pub none_made : (new : ProgramTree) (keep : List (ℕ × ℕ)) (found : Option Change) → found ≡ None → MatchOption found (IsValid new → ⊥) (IsChange new keep) → IsValid new → ⊥
 none_made new keep found is h = subst (λ (o : Option Change). MatchOption o (IsValid new → ⊥) (IsChange new keep)) is h
+
+-- what the code says no to isn't so
+pub not_so : (P : Type 0) (found : Bool) → IsTrue found ↔ P → found ≡ false → P → ⊥
+not_so P found is no p = let yes : found ≡ true = is.1 p in both_ways found no yes
 
 module _ (s : ℕ) (names : List (List ℕ)) (t : ProgramTree) where
   abbrev no_sum : Rules

@@ -78,10 +78,6 @@ module _ (x y : StmtTree) (same : uses_of x ≡ uses_of y) where
       by_more (Do h (filled gap (alone x))) (Do h (filled gap (alone y))) rest rest
       (do_uses h (filled gap (alone x)) ∙ (λ i. own_uses (Do h no_stmts) ++ (flat_map site_uses (private_site h.private) ++ filled_uses gap i)) ∙ sym (do_uses h (filled gap (alone y)))) refl
 
--- the rows of live-out variables, by what names stand for
-rows_by : (List ℕ → Option Kind) → List (List ℕ) → Store → List LiveRow
-rows_by kind names s = map (λ (z : List ℕ). record { name = z; values = values_of (bounds_of (kind z)) z s }) names
-
 -- programs with the same declarations whose statements use the same names, in order, have the same settings
 module _ (t u : ProgramTree) (decls : t.decls ≡ u.decls) (uses : uses_in u.body ≡ uses_in t.body) where
   all_uses : flat_map site_uses (program_sites u) ≡ flat_map site_uses (program_sites t)
@@ -101,12 +97,12 @@ module _ (t u : ProgramTree) (decls : t.decls ≡ u.decls) (uses : uses_in u.bod
 
   -- so a run that ends alike has the same outcome
   rows_same : (s : Store) → live_rows u s ≡ live_rows t s
-  rows_same s = λ i. rows_by (λ z. kinds_same z i) (sorted_once (flat_map saved_in (sym decls i))) s
+  rows_same s = λ i. map (λ (z : List ℕ). record { name = z; values = values_of (bounds_of (kinds_same z i)) z s }) (sorted_once (flat_map saved_in (sym decls i)))
 
   pub outcome_same : (e : Ending) → outcome_of u e ≡ outcome_of t e
   outcome_same (going s) = ap (Ended (lines_in (s Out))) (rows_same s)
   outcome_same (stopped s) = ap (Ended (lines_in (s Out))) (rows_same s)
-  outcome_same (failed fault statement) = refl
+  outcome_same (failed fault n) = refl
 
 module _ (t : ProgramTree) (s : ℕ) (loop : LoopOf t s) (names : List (List ℕ)) where
   abbrev listed : StmtTrees

@@ -49,7 +49,7 @@ none_made new keep found is h = subst (λ (o : Option Change). MatchOption o (Is
 
 -- what the code says no to isn't so
 pub not_so : (P : Type 0) (found : Bool) → IsTrue found ↔ P → found ≡ false → P → ⊥
-not_so P found is no p = let yes : found ≡ true = is.1 p in both_ways found no yes
+not_so P found is none p = both_ways found none (is.1 p)
 
 module _ (s : ℕ) (names : List (List ℕ)) (t : ProgramTree) where
   abbrev no_sum : Rules
@@ -136,14 +136,14 @@ module _ (s : ℕ) (names : List (List ℕ)) (t : ProgramTree) where
         module _ (new : has_list h body ≡ false) (lowers : IsUnlowerable t s names → ⊥) where
           -- the rules behind Limit are those on sums
           there : (q : Rule) (m : ℕ) → behind_limit s names t q m → private q m
-          there q m (inl (e, l, holds, same)) = inl (e, l, ap (λ (b : Bool). b || has_list l.head l.body) holds, same)
+          there q m (inl (e, w)) = inl (e, (w.0, ap (λ (b : Bool). b || has_list w.0.head w.0.body) w.1, w.2))
           there q m (inr p) = inr p
 
           fails : (k : LoopOf t s) → has_list k.head k.body ≡ false
           fails k = let e = one_loop t s k loop in (λ i. has_list (e.0 i) (e.1 i)) ∙ new
 
           back : (q : Rule) (m : ℕ) → private q m → behind_limit s names t q m
-          back q m (inl (e, l, holds, same)) = inl (e, l, true_first (has_private_or_twice t s names l.head l.body) (has_list l.head l.body) (fails l) holds, same)
+          back q m (inl (e, w)) = inl (e, (w.0, true_first (has_private_or_twice t s names w.0.head w.0.body) (has_list w.0.head w.0.body) (fails w.0) w.1, w.2))
           back q m (inr p) = inr p
 
           behind_first : (r : Rule) (n : ℕ) → IsFirstRule (behind_limit s names t) r n → IsFirstRule private r n

@@ -4,8 +4,8 @@ use Rattle.ped_splits.specs.ped_reindex.specs.ped_loops.specs.ped_scalar.specs.p
 use Rattle.ped_reduce.proofs.UnlowerableAnswers as answers
 use Rattle.ped_reduce.proofs.reducing.is_unlowerable.Goals as goal
 
-pub overflow_sub-result : goal.overflow_sub-result
-overflow_sub-result g c = answers.numbered (program_tree c.args.scene.now.tree.now) c.args.number (head_of c.args.d.now) (stmt_trees c.args.d.now.body.items) c.requires.is
+pub overflow_sub-number : goal.overflow_sub-number
+overflow_sub-number g c = answers.numbered (program_tree c.args.scene.now.tree.now) c.args.number (head_of c.args.d.now) (stmt_trees c.args.d.now.body.items) c.requires.is
 
 pub lower_front-requires-clause-inside : goal.lower_front-requires-clause-inside
 lower_front-requires-clause-inside g c = answers.there (program_tree c.args.scene.now.tree.now) c.args.number (head_of c.args.d.now) (stmt_trees c.args.d.now.body.items) c.requires.is

@@ -19,8 +19,8 @@ use Rattle.ped_session.specs.ped_transformations.specs.ped_reindex.specs.ped_loo
 use Rattle.ped_session.specs.ped_transformations.specs.ped_reindex.specs.Skewing.{StandsAgainstSkewing}
 use Rattle.ped_session.specs.ped_transformations.specs.ped_reindex.specs.Stripping.{StandsAgainstStripping}
 use Rattle.ped_session.specs.ped_transformations.specs.ped_reindex.specs.Peeling.{StandsAgainstPeeling}
-use Rattle.ped_session.specs.ped_transformations.specs.ped_splits.specs.Distributing.{StandsAgainstDistribution}
-use Rattle.ped_session.specs.ped_transformations.specs.ped_splits.specs.Fusing.{forbids_fusion, IsFusionCause}
+use Rattle.ped_session.specs.ped_transformations.specs.ped_reduce.specs.ped_splits.specs.Distributing.{StandsAgainstDistribution}
+use Rattle.ped_session.specs.ped_transformations.specs.ped_reduce.specs.ped_splits.specs.Fusing.{forbids_fusion, IsFusionCause}
 use Rattle.ped_session.specs.ped_transformations.specs.ped_reindex.specs.ped_loops.specs.ped_scalar.specs.Privatising.{StandsAgainstPrivatising}
 use Rattle.ped_session.specs.ped_transformations.specs.ped_reindex.specs.ped_loops.specs.ped_scalar.specs.Expanding.{StandsAgainstExpanding}
 use Rattle.ped_session.specs.ped_transformations.specs.ped_reindex.specs.ped_loops.specs.ped_scalar.specs.ped_rules.specs.Carried.{carried, crossing}

@@ -17,7 +17,7 @@ use Rattle.ped_order.specs.ped_interleavings.specs.Interleavings.{at_start}
 use Rattle.ped_order.proofs.OneOutcome.{one_outcome}
 use Rattle.ped_transformations.specs.ped_reindex.specs.ped_loops.specs.ped_scalar.specs.ped_rules.specs.ped_loop_runs.specs.ped_bodies.specs.ped_steps.specs.Causes.{Cause}
 use Rattle.ped_session.specs.ped_transformations.specs.ped_script.specs.declared.items.Command.{Command}
-use Rattle.ped_session.specs.ped_transformations.specs.ped_script.specs.declared.items.Command.TheVariants.{Source, Deps, Show, Print, Advise, Replace, Insert, Delete, Interchange, Reverse, Skew, Strip, Peel, Distribute, Fuse, Expand, Privatise, Parallel, Serial, Reject, Undo, Redo, Run, Races, Tested}
+use Rattle.ped_session.specs.ped_transformations.specs.ped_script.specs.declared.items.Command.TheVariants.{Source, Deps, Show, Print, Advise, Replace, Insert, Delete, Interchange, Reverse, Skew, Strip, Peel, Distribute, Fuse, Expand, Privatise, Reduce, Parallel, Serial, Reject, Undo, Redo, Run, Races, Tested}
 use Rattle.ped_session.specs.declared.changes.Change.TheVariants.{Edit}
 use Rattle.ped_session.specs.declared.replies.Refusal.{Refusal}
 use Rattle.ped_session.specs.declared.replies.Refusal.TheVariants.{BadEdit, Step, NothingToUndo, NothingToRedo, NoSuchStatement, NoSuchLine}
@@ -176,6 +176,7 @@ one_other (Distribute number) d s m n p q a b = absurd a
 one_other (Fuse number) d s m n p q a b = absurd a
 one_other (Expand number name) d s m n p q a b = absurd a
 one_other (Privatise number name) d s m n p q a b = absurd a
+one_other (Reduce number names) d s m n p q a b = absurd a
 one_other (Parallel number) d s m n p q a b = absurd a
 one_other (Serial number) d s m n p q a b = absurd a
 one_other (Reject number name) d s m n p q a b = absurd a

@@ -15,11 +15,10 @@ use Rattle.ped_splits.specs.ped_reindex.specs.ped_loops.specs.ped_scalar.specs.p
 use Rattle.ped_splits.specs.ped_reindex.specs.ped_loops.specs.ped_scalar.specs.ped_rules.specs.ped_loop_runs.specs.ped_bodies.specs.ped_steps.specs.ped_symbols.specs.NameRefusals.{name_refusals, IsValid}
 use Rattle.ped_splits.specs.ped_reindex.specs.ped_loops.specs.ped_scalar.specs.ped_rules.specs.ped_loop_runs.specs.ped_bodies.specs.ped_steps.specs.ped_flow.proofs.Truths.{untrue, and_split}
 use Rattle.ped_splits.specs.ped_reindex.specs.ped_loops.specs.ped_scalar.specs.ped_rules.specs.OnlyLoops.{on_loop}
-use Rattle.ped_splits.specs.ped_reindex.specs.ped_loops.specs.ped_scalar.specs.ped_rules.specs.Spans.{Span}
 use Rattle.ped_reduce.specs.Lists.{without_list}
 use Rattle.ped_reduce.specs.Lowering.{Partials, declarations, zeros, all_summed, exits, bare, lowered_loop}
 use Rattle.ped_reduce.proofs.SerialPrograms.{serial, all_serial, begins_same, refused_as_serial}
-use Rattle.ped_reduce.proofs.SumGoals.{kept_apart, FlagOff}
+use Rattle.ped_reduce.proofs.SumGoals.{FlagOff}
 
 and_more : (a b c d : Bool) → (a ≡ true → c ≡ true) → (b ≡ true → d ≡ true) → (a && b) ≡ true → (c && d) ≡ true
 and_more a b c d h k e = let p = and_split a b e in λ i. h p.0 i && k p.1 i
@@ -179,7 +178,7 @@ module _ (ds : List DeclTree) (on off : StmtTrees) (less : IsLess on off) where
         let whole = and_split (decls_fit 0 ds && stmts_fit (at_body (program on)) on) (begins_with_statement on) valid.fits in
         let parts = and_split (decls_fit 0 ds) (stmts_fit (at_body (program on)) on) whole.0 in
         λ i. (parts.0 i && less.fit (at_body (program on)) parts.1 i) && (begins_alike ∙ whole.1) i
-    );
+        );
     names = sym (refused_as_serial [] (program off)) ∙ ap (λ (ts : StmtTrees). name_refusals [] (program ts)) less.same ∙ refused_as_serial [] (program on) ∙ valid.names;
   }
 

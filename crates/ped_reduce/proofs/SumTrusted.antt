@@ -1,5 +1,5 @@
 -- A program in which the sums of a DO are kept apart, in order, may be trusted where the old one may: it stays tidy, and no C$PED REJECT comes.
-use Rattle.std.proofs.Common.{◌≡◌, ℕ, ◌+◌, List, [], ◌∷◌, ◌++◌, Bool, true, false, ◌&&◌, ◌||◌, not, ◌⊎◌, inl, inr, Option, Some, None, append-nil, refl, sym, ap, subst, ◌∙◌, arith}
+use Rattle.std.proofs.Common.{◌≡◌, ℕ, ◌+◌, List, [], ◌∷◌, ◌++◌, Bool, true, false, ◌&&◌, ◌||◌, not, ◌⊎◌, inl, inr, if◌then◌else◌, Option, Some, None, append-nil, refl, sym, ap, subst, ◌∙◌, arith}
 use Rattle.std.specs.List.{flat_map, list_any}
 use Rattle.std.proofs.lemmas.Bool.{both_ways}
 use Rattle.std.proofs.lemmas.List.Concat.{flat_map-append}
@@ -11,7 +11,6 @@ use Rattle.ped_tree.specs.Nests.{Loop}
 use Rattle.ped_tree.specs.Numbering.{statement_count, statements_count}
 use Rattle.ped_tree.specs.Tree.{ExprTree, Int, CondTree, Rel, Head, StmtTree, StmtTrees, Assign, If, Do, Print, Read, Stop, Comment, no_stmts, more_stmts, DeclTree, ProgramTree}
 use Rattle.ped_tree.specs.declared.conditions.Relation.TheVariants.{Eq}
-use Rattle.ped_splits.specs.ped_reindex.specs.ped_loops.specs.ped_scalar.specs.ped_rules.specs.ped_loop_runs.specs.ped_bodies.specs.ped_steps.specs.ped_symbols.specs.NameRefusals.{IsValid}
 use Rattle.ped_splits.specs.ped_reindex.specs.ped_loops.specs.ped_scalar.specs.ped_rules.specs.ped_loop_runs.specs.ped_bodies.specs.ped_steps.specs.ped_flow.proofs.Truths.{or_none, and_split}
 use Rattle.ped_splits.specs.ped_reindex.specs.ped_loops.specs.ped_scalar.specs.ped_rules.specs.ped_loop_runs.specs.ped_bodies.specs.ped_steps.specs.ped_flow.specs.PlainBounds.{all_loops_round, nest_round}
 use Rattle.ped_splits.specs.ped_reindex.specs.ped_loops.specs.ped_scalar.specs.ped_rules.specs.ped_loop_runs.specs.ped_bodies.specs.ped_steps.specs.ped_flow.specs.Questions.{LoopOf, IsShownBehind}
@@ -22,7 +21,7 @@ use Rattle.ped_splits.specs.ped_reindex.specs.ped_loops.specs.ped_scalar.specs.p
 use Rattle.ped_splits.specs.ped_reindex.specs.ped_loops.specs.ped_scalar.specs.ped_rules.specs.ped_loop_runs.specs.ped_bodies.specs.ped_steps.specs.Replacing.{followed, alone}
 use Rattle.ped_splits.specs.ped_reindex.specs.ped_loops.specs.ped_scalar.specs.ped_rules.specs.ped_loop_runs.specs.ped_bodies.specs.ped_steps.specs.Runs.Gaps.{Gap, at_front, past, in_then, in_else, in_body, filled}
 use Rattle.ped_splits.specs.ped_reindex.specs.ped_loops.specs.ped_scalar.specs.ped_rules.specs.ped_loop_runs.specs.ped_bodies.specs.ped_steps.proofs.RunLaws.ReplacedTrees.{HasGap, program_gap}
-use Rattle.ped_splits.specs.ped_reindex.specs.ped_loops.specs.ped_scalar.specs.ped_rules.specs.ped_loop_runs.specs.Exchanges.{Exchange, old_of, start_of, loop_of, IsExchanged}
+use Rattle.ped_splits.specs.ped_reindex.specs.ped_loops.specs.ped_scalar.specs.ped_rules.specs.ped_loop_runs.specs.Exchanges.{Exchange, start_of, loop_of, IsExchanged}
 use Rattle.ped_splits.specs.ped_reindex.specs.ped_loops.specs.ped_scalar.specs.ped_rules.specs.ped_loop_runs.specs.Unrejected.{has_rejection, some_rejection, IsTrusted}
 use Rattle.ped_splits.specs.ped_reindex.specs.ped_loops.specs.ped_scalar.specs.ped_rules.specs.ped_loop_runs.specs.Writing.{writes_name, writes, all_write, writes_index, some_write_index}
 use Rattle.ped_splits.specs.ped_reindex.specs.ped_loops.specs.ped_scalar.specs.ped_rules.specs.ped_loop_runs.proofs.TidyLaws.TidyPathsPrivate.{cleared_private}
@@ -56,6 +55,22 @@ again : (a b : Bool) → ((a || b) || (a || false)) ≡ (a || b)
 again true b = refl
 again false b = or_false b
 
+-- a list is comments, of which nothing is told
+module _ (all : StmtTrees → Bool) (told : StmtTree → Bool) (more : (s : StmtTree) (rest : StmtTrees) → all (more_stmts s rest) ≡ (told s || all rest)) (commented : (text : List ℕ) → told (Comment text) ≡ false) where
+  unless_tells : (o : Option (List ℕ)) (text : List ℕ) (rest : StmtTrees) → all (without_list rest) ≡ all rest → all (unless_named o (more_stmts (Comment text) rest) (without_list rest)) ≡ all (more_stmts (Comment text) rest)
+  unless_tells None text rest e = refl
+  unless_tells (Some y) text rest e = e ∙ sym (more (Comment text) rest ∙ ap (λ (b : Bool). b || all rest) (commented text))
+
+  without_tells : (ts : StmtTrees) → all (without_list ts) ≡ all ts
+  without_tells no_stmts = refl
+  without_tells (more_stmts (Comment text) rest) = unless_tells (listed_name text) text rest (without_tells rest)
+  without_tells (more_stmts (Assign left right) rest) = refl
+  without_tells (more_stmts (If c a b) rest) = refl
+  without_tells (more_stmts (Do h body) rest) = refl
+  without_tells (more_stmts (Print items) rest) = refl
+  without_tells (more_stmts (Read items) rest) = refl
+  without_tells (more_stmts Stop rest) = refl
+
 -- what is told of statements by "or", and of no assignment and no comment, is told of statements in which sums are kept apart as of the old ones
 module _ (all : StmtTrees → Bool) (told : StmtTree → Bool) (own : Head → Bool) (none : all no_stmts ≡ false) (more : (s : StmtTree) (rest : StmtTrees) → all (more_stmts s rest) ≡ (told s || all rest))
     (assigned : (left right : ExprTree) → told (Assign left right) ≡ false) (commented : (text : List ℕ) → told (Comment text) ≡ false)
@@ -79,8 +94,11 @@ module _ (all : StmtTrees → Bool) (told : StmtTree → Bool) (own : Head → B
   exits_tell [] = none
   exits_tell (p ∷ qs) = more (exit v p) (exits v qs) ∙ (λ i. exit_tells i || exits_tell qs i)
     where
+      addition_tells : all (alone (addition v p)) ≡ false
+      addition_tells = one_more _ _ no_stmts none
+
       exit_tells : told (exit v p) ≡ false
-      exit_tells = of_if (Rel Eq (at p.flag v) (Int 1)) (alone (addition v p)) no_stmts ∙ (λ i. one_more _ _ no_stmts none i || none i)
+      exit_tells = of_if (Rel Eq (at p.flag v) (Int 1)) (alone (addition v p)) no_stmts ∙ (λ i. addition_tells i || none i)
 
   added_tells : (p : Partials) (sum : Sum) → all (added_apart v p sum) ≡ false
   added_tells p sum = one_more _ _ _ (one_more _ _ _ (one_more _ _ no_stmts none))
@@ -103,22 +121,8 @@ module _ (all : StmtTrees → Bool) (told : StmtTree → Bool) (own : Head → B
     all_tell no_stmts = refl
     all_tell (more_stmts s rest) = followed_tells (summed v ps s) (all_summed v ps rest) ∙ (λ i. one_tells s i || all_tell rest i) ∙ sym (more s rest)
 
-  unless_tells : (o : Option (List ℕ)) (text : List ℕ) (rest : StmtTrees) → all (without_list rest) ≡ all rest → all (unless_named o (more_stmts (Comment text) rest) (without_list rest)) ≡ all (more_stmts (Comment text) rest)
-  unless_tells None text rest e = refl
-  unless_tells (Some y) text rest e = e ∙ sym (more (Comment text) rest ∙ ap (λ (b : Bool). b || all rest) (commented text))
-
-  without_tells : (ts : StmtTrees) → all (without_list ts) ≡ all ts
-  without_tells no_stmts = refl
-  without_tells (more_stmts (Comment text) rest) = unless_tells (listed_name text) text rest (without_tells rest)
-  without_tells (more_stmts (Assign left right) rest) = refl
-  without_tells (more_stmts (If c a b) rest) = refl
-  without_tells (more_stmts (Do h body) rest) = refl
-  without_tells (more_stmts (Print items) rest) = refl
-  without_tells (more_stmts (Read items) rest) = refl
-  without_tells (more_stmts Stop rest) = refl
-
   body_tells : (body : StmtTrees) → all (followed (zeros v ps) (all_summed v ps (without_list body))) ≡ all body
-  body_tells body = followed_tells (zeros v ps) (all_summed v ps (without_list body)) ∙ (λ i. zeros_tell ps i || (all_tell (without_list body) ∙ without_tells body) i)
+  body_tells body = followed_tells (zeros v ps) (all_summed v ps (without_list body)) ∙ (λ i. zeros_tell ps i || (all_tell (without_list body) ∙ without_tells all told more commented body) i)
 
   loops_tell : (h g : Head) (body : StmtTrees) → all (more_stmts (Do h (followed (zeros v ps) (all_summed v ps (without_list body)))) (alone (Do g (exits v ps)))) ≡ ((own h || all body) || own g)
   loops_tell h g body =
@@ -241,24 +245,10 @@ module _ (cs : List (List ℕ)) (v : List ℕ) (ps : List Partials) where
   exits_index [] = refl
   exits_index (p ∷ qs) = exits_index qs
 
-  unless_index : (o : Option (List ℕ)) (text : List ℕ) (rest : StmtTrees) → some_write_index cs (without_list rest) ≡ some_write_index cs rest → some_write_index cs (unless_named o (more_stmts (Comment text) rest) (without_list rest)) ≡ some_write_index cs rest
-  unless_index None text rest e = refl
-  unless_index (Some y) text rest e = e
-
-  without_index : (ts : StmtTrees) → some_write_index cs (without_list ts) ≡ some_write_index cs ts
-  without_index no_stmts = refl
-  without_index (more_stmts (Comment text) rest) = unless_index (listed_name text) text rest (without_index rest)
-  without_index (more_stmts (Assign left right) rest) = refl
-  without_index (more_stmts (If c a b) rest) = refl
-  without_index (more_stmts (Do h body) rest) = refl
-  without_index (more_stmts (Print items) rest) = refl
-  without_index (more_stmts (Read items) rest) = refl
-  without_index (more_stmts Stop rest) = refl
-
   body_index : (body : StmtTrees) → AreOther (all_loop_variables body) → some_write_index cs body ≡ false → some_write_index cs (followed (zeros v ps) (all_summed v ps (without_list body))) ≡ false
   body_index body other e =
       followed_index cs (zeros v ps) (all_summed v ps (without_list body))
-      ∙ (λ i. zeros_index ps i || all_index (without_list body) (λ w k. other w (ap (is_among w) (sym (without_loops body)) ∙ k)) (without_index body ∙ e) i)
+      ∙ (λ i. zeros_index ps i || all_index (without_list body) (λ w k. other w (ap (is_among w) (sym (without_loops body)) ∙ k)) (without_tells (some_write_index cs) (writes_index cs) (λ s rest. refl) (λ text. refl) body ∙ e) i)
 
 -- in a gap round which no PARALLEL DO stands
 module _ (cs : List (List ℕ)) (old new : StmtTrees) (unwritten : some_write_index cs old ≡ false → some_write_index cs new ≡ false) where
@@ -372,7 +362,7 @@ module _ (t : ProgramTree) (s : ℕ) (loop : LoopOf t s) (ps : List Partials) (v
   new_index none =
       let first = or_none ((d.parallel && written cs d body) || some_write_index cs body) false none in
       let old = or_none (d.parallel && written cs d body) (some_write_index cs body) first.0 in
-      λ i. body_index cs d.variable ps body (λ w k. other w (right_among cs d.variable ps w (d.variable ∷ []) (all_loop_variables body) k)) old.1 i || (exits_index cs d.variable ps i || false)
+      λ i. body_index cs d.variable ps body (λ w k. other w (right_among cs d.variable ps w (d.variable ∷ []) (all_loop_variables body) k)) old.1 i || (exits_index cs d.variable ps ps i || false)
 
   -- no PARALLEL DO stands round the DO
   serial : list_any (λ (m : Loop). m.head.parallel) (gap_loops gap.gap 1) ≡ false

@@ -32,6 +32,10 @@ pub mod ResemblingReferences
 pub mod UnnamedReferences
 pub mod EdgesResemble
 pub mod ResemblingSettings
+pub mod CleanReferences
+pub mod AssignedStays
+pub mod OuterLoops
+pub mod ViewsAlike
 pub mod MayBeParallel
 pub mod UnsummableAnswers
 pub mod SplitSums
@@ -59,3 +63,4 @@ pub mod TidyExchanges
 pub mod SerialPrograms
 pub mod SumFlags
 pub mod SumTrusted
+pub mod LoweringKeeps

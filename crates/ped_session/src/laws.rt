@@ -7,6 +7,8 @@ ghost use Rattle.ped_valid.specs.Validity.{ReadsValid};
 ghost use Rattle.ped_order.specs.ped_eval.specs.Outcomes.{Outcome, outcome, IsRaceFree};
 ghost use Rattle.ped_order.specs.ped_interleavings.specs.Interleavings.{IsInterleaved};
 ghost use Rattle.ped_transformations.specs.ped_reindex.specs.ped_loops.specs.ped_scalar.specs.ped_rules.specs.ped_loop_runs.specs.Unrejected.{IsTrusted};
+ghost use Rattle.ped_transformations.specs.ped_reduce.specs.Lowering.{Lowered};
+ghost use Rattle.ped_transformations.specs.ped_reduce.specs.Reducing.{IsLowered};
 ghost use Rattle.ped_transformations.specs.ped_reindex.specs.ped_loops.specs.ped_scalar.specs.ped_rules.specs.Lawful.{IsFaithful};
 ghost use Rattle.ped_session.specs.ped_transformations.specs.ped_script.specs.declared.items.Command.{Command};
 ghost use Rattle.ped_session.specs.ped_transformations.specs.ped_script.specs.declared.items.Command.TheVariants.{Undo, Redo, Run};
@@ -25,7 +27,7 @@ ghost use Rattle.ped_session.specs.Histories.{ArePrinted, HaveSameSources, Times
 
 use ped_order::{interleavings_agree, without_choices};
 use ped_transformations::every_step_is_lawful;
-use ped_transformations::ped_reduce::lowering_keeps_the_meaning;
+use ped_transformations::ped_reduce::{lowering_keeps_the_meaning, one_lowering};
 
 /// A command has one reply at most in a state, and leads to one state.
 pub fn one_step()
@@ -106,11 +108,16 @@ pub fn interleavings_keep_the_meaning()
     lowering_keeps_the_meaning();
 }
 
-/// Where no DO of a program has a list of sums, its outcomes are those of the program as it is, whatever the choices are.
+/// Where no DO of a program has a list of sums, or none that is live, its outcomes are those of the program as it is, whatever
+/// the choices are.
 pub fn without_lists()
-    ensures { (choices data_bytes : List ℕ) (t : ProgramTree) (o : Outcome) → HasNoList t →
+    ensures none { (choices data_bytes : List ℕ) (t : ProgramTree) (o : Outcome) → HasNoList t →
         IsLoweredRun choices data_bytes t o ↔ IsInterleaved t data_bytes choices o }
-{}
+    ensures none_live { (choices data_bytes : List ℕ) (t : ProgramTree) (q : Lowered) (o : Outcome) → IsLowered t q → q.live ≡ [] →
+        IsLoweredRun choices data_bytes t o ↔ IsInterleaved t data_bytes choices o }
+{
+    one_lowering();
+}
 
 /// `run` without choices shows the outcome of the run in order of what the present program is lowered to, whatever that races
 /// or faults at; and where no DO has a list of sums, that of the run in order of the present program.

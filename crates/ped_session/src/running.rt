@@ -22,7 +22,7 @@ use crate::versions::Version;
 use ped_machine::Machine;
 use ped_order::ped_eval::{Outcome, run_in_order};
 use ped_order::{an_interleaving, without_choices};
-use ped_transformations::ped_reduce::{Lowered, lower, one_lowering};
+use ped_transformations::ped_reduce::{Lowered, lower};
 use ped_transformations::ped_reindex::ped_loops::ped_scalar::ped_rules::ped_loop_runs::ped_bodies::ped_steps::Scene;
 use ped_transformations::ped_reindex::ped_loops::ped_scalar::ped_rules::ped_loop_runs::ped_bodies::ped_steps::ped_weaves::ped_laws::ped_flow::flow_of;
 use std::alloc::Global;
@@ -42,7 +42,6 @@ pub(crate) fn run_version<L: Ledger>(
     requires graph { graph.now ≡ held_of (tree_of version.now) }
     ensures { IfOk result (λ o. IsLoweredRun choices.now input.now (tree_of version.now) (outcome_view o)) }
 {
-    one_lowering();
     if some_holds_list(alloc, &version.program.body)? {
         let lowered = lower_version(alloc, version, graph)?;
         return run_lowered(alloc, &lowered, input, choices);
@@ -104,10 +103,13 @@ fn told_by(lowered: &Lowered, outcome: Outcome) -> Outcome
 fn origin_at(origin: &[u32], number: u32) -> u32
     ensures { result ≡ Spec.origin_at origin.now number }
 {
-    if 1 <= number && number as usize <= origin.len() {
-        return origin[number as usize - 1];
+    if number == 0 {
+        return 0;
     }
-    number
+    match origin.get(number as usize - 1) {
+        Some(own) => *own,
+        None => number,
+    }
 }
 
 /// Runs a valid program, whose names these are, as it is. Where there are no choices, a run in order serves, which keeps the

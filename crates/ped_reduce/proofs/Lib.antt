@@ -59,6 +59,7 @@ pub mod SumUntouched
 pub mod SumNumbers
 pub mod SumKeeps
 pub mod SumGoals
+pub mod SumDeclared
 pub mod TidyExchanges
 pub mod SerialPrograms
 pub mod SumFlags

@@ -34,6 +34,10 @@ pub mod ResemblingReferences
 pub mod UnnamedReferences
 pub mod EdgesResemble
 pub mod ResemblingSettings
+pub mod CleanReferences
+pub mod AssignedStays
+pub mod OuterLoops
+pub mod ViewsAlike
 pub mod MayBeParallel
 pub mod UnsummableAnswers
 pub mod SplitSums
@@ -57,3 +61,9 @@ pub mod SumUntouched
 pub mod SumNumbers
 pub mod SumKeeps
 pub mod SumGoals
+pub mod SumDeclared
+pub mod TidyExchanges
+pub mod SerialPrograms
+pub mod SumFlags
+pub mod SumTrusted
+pub mod LoweringKeeps

@@ -1,5 +1,5 @@
 -- Lowering keeps the meaning of a program that may be trusted, list by list: sums are kept apart, in order, and then the DO becomes a PARALLEL DO.
-use Rattle.std.proofs.Common.{◌≡◌, ℕ, zero, suc, ◌+◌, ◌-◌, List, [], ◌∷◌, ◌++◌, Bool, true, false, Option, Some, None, inl, inr, refl, sym, ap, subst, ◌∙◌, arith}
+use Rattle.std.proofs.Common.{◌≡◌, ℕ, zero, suc, ◌+◌, ◌-◌, List, [], ◌∷◌, ◌++◌, true, false, Option, Some, inl, inr, refl, sym, ap, subst, ◌∙◌, arith}
 use Rattle.std.specs.Prelude.{option_map}
 use Rattle.std.specs.List.{range_with_len}
 use Rattle.ped_tree.specs.Tree.{StmtTree, ProgramTree}
@@ -13,9 +13,9 @@ use Rattle.ped_splits.specs.ped_reindex.specs.ped_loops.specs.ped_scalar.specs.p
 use Rattle.ped_splits.specs.ped_reindex.specs.ped_loops.specs.ped_scalar.specs.ped_rules.specs.Lawful.{IsFaithful, IsLawful}
 use Rattle.ped_splits.specs.ped_reindex.specs.ped_loops.specs.Paralleling.{paralleling}
 use Rattle.ped_reduce.specs.Lists.{list_of}
-use Rattle.ped_reduce.specs.Lowering.{Partials, and_then, partials_of, fresh_arrays, lowered_with, lowered_statement, Lowered, not_lowered, lowered_at}
+use Rattle.ped_reduce.specs.Lowering.{and_then, partials_of, fresh_arrays, lowered_with, lowered_statement, Lowered, not_lowered, lowered_at}
 use Rattle.ped_reduce.specs.Reducing.{IsLive, LowersOne, Lowers, IsLowered}
-use Rattle.ped_reduce.proofs.LoweredPrograms.{IsMadeBy, made_by}
+use Rattle.ped_reduce.proofs.LoweredPrograms.{made_by}
 use Rattle.ped_reduce.proofs.MayBeParallel.{may_be_parallel, becomes_parallel}
 
 -- what is known of sums in order: where lowering has come to a live list, the program in which its sums are kept apart is valid, means the same, and may be trusted as the one before

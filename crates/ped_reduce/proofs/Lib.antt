@@ -59,4 +59,8 @@ pub mod SumUntouched
 pub mod SumNumbers
 pub mod SumKeeps
 pub mod SumGoals
+pub mod TidyExchanges
+pub mod SerialPrograms
+pub mod SumFlags
+pub mod SumTrusted
 pub mod LoweringKeeps

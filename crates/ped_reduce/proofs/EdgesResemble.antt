@@ -42,7 +42,7 @@ use Rattle.ped_reduce.proofs.ReferencesInGaps.{loop, from_number, to_number}
 use Rattle.ped_reduce.proofs.SummedReferences.{renumbered, IsOfArrays}
 use Rattle.ped_reduce.proofs.SummedNumbers.{moved_rises, moved_from, same_number, common_renumbered}
 use Rattle.ped_reduce.proofs.UnnamedReferences.{all_unnamed}
-use Rattle.ped_reduce.proofs.LevelEdges.{IsCarriedPair, IsOfPair, pair_of, edge_of, both_of}
+use Rattle.ped_reduce.proofs.LevelEdges.{IsCarriedPair, IsOfPair, HasEdge, pair_of, edge_of, both_of}
 use Rattle.ped_reduce.proofs.LoweredStages.{IsResembling}
 use Rattle.ped_reduce.proofs.ResemblingPaths.{new_loop}
 use Rattle.ped_reduce.proofs.ResemblingReferences as refs
@@ -296,15 +296,16 @@ module _ (t u : ProgramTree) (s k : ℕ) (loop_is : LoopOf t s) (m : IsResemblin
         (λ j. is_level (level_at t s) (level j) && (is_in_body s (extent_of t s) (begins j).0 && is_in_body s (extent_of t s) (ends j).0))
         ∙ (λ j. itself (level_at t s) j && (in_old_body a x j && in_old_body b y j))
 
-    old_edge : (x : F pair.source) (y : F pair.sink) (olds : List Edge) → AreEdges t olds → HasOld olds
-    old_edge x y olds are_old =
+    -- the pair from which it comes is carried
+    carried_old : (x : F pair.source) (y : F pair.sink) → IsCarriedPair t x.source y.source (level_at t s) pair.vector
+    carried_old x y =
         let c = pair.carried in
         let view = views pair.source pair.sink x y both.0 both.1 in
         let loops : length (view_of u pair.source pair.sink).loops ≡ length (view_of t x.source y.source).loops = ap (λ (w : View). length w.loops) view in
         let low = c.from in
         let high = c.to in
         let level = same_level in
-        let old : IsCarriedPair t x.source y.source (level_at t s) pair.vector = record {
+        record {
           owner = same_owner pair.source pair.sink x y (sym same_name) c.owner;
           possible = subst (λ (w : View). IsPossible w pair.vector) view c.possible;
           long = c.long ∙ loops;
@@ -312,15 +313,20 @@ module _ (t u : ProgramTree) (s k : ℕ) (loop_is : LoopOf t s) (m : IsResemblin
           carries = ap (λ (n : ℕ). is_of (Some n) (carriage_from 1 pair.vector)) (sym level) ∙ c.carries;
           from = omega (arith, low, level);
           to = omega (arith, high, level, loops);
-        } in
-        let there = is_listed (references t) x.source y.source (of_program_old pair.source x) (of_program_old pair.sink y) (old_pair pair.source pair.sink x y both.2) in
-        let g = edge_of t x.source y.source (level_at t s) pair.vector (pairs (references t)) olds are_old there old in
-        record {
-          edge = g.edge;
-          listed = g.listed;
-          carried = carried_by g.edge pair.source pair.sink x y g.begins g.ends g.of_level;
-          unsummed = ap (λ (n : List ℕ). is_among n (scalars_of ps)) g.name ∙ x.unsummed;
         }
+
+    by_edge : (x : F pair.source) (y : F pair.sink) (olds : List Edge) → HasEdge x.source y.source (level_at t s) olds → HasOld olds
+    by_edge x y olds g = record {
+      edge = g.edge;
+      listed = g.listed;
+      carried = carried_by g.edge pair.source pair.sink x y g.begins g.ends g.of_level;
+      unsummed = ap (λ (n : List ℕ). is_among n (scalars_of ps)) g.name ∙ x.unsummed;
+    }
+
+    old_edge : (x : F pair.source) (y : F pair.sink) (olds : List Edge) → AreEdges t olds → HasOld olds
+    old_edge x y olds are_old =
+        let there = is_listed (references t) x.source y.source (of_program_old pair.source x) (of_program_old pair.sink y) (old_pair pair.source pair.sink x y both.2) in
+        by_edge x y olds (edge_of t x.source y.source (level_at t s) pair.vector (pairs (references t)) olds are_old there (carried_old x y))
 
     pub edges_resemble : (olds : List Edge) → AreEdges t olds → HasOld olds
     edges_resemble olds are_old =

@@ -120,7 +120,7 @@ module _ (h : Head) (body : StmtTrees) (w : List ℕ) (own : is_among w (loop_va
   has_right : (xs ys : List (List ℕ)) → is_among w ys ≡ true → is_among w (xs ++ ys) ≡ true
   has_right xs ys e = among_append w xs ys ∙ or_right (is_among w xs) (is_among w ys) e
 
-  in_gap : (gap : Gap) → is_among w (all_loop_variables (filled gap (alone (Do h body)))) ≡ true
+  pub in_gap : (gap : Gap) → is_among w (all_loop_variables (filled gap (alone (Do h body)))) ≡ true
   in_gap (at_front rest) = has_left (loop_variables (Do h body)) (all_loop_variables rest) own
   in_gap (past z gap) = has_right (loop_variables z) (all_loop_variables (filled gap (alone (Do h body)))) (in_gap gap)
   in_gap (in_then c gap b rest) =

@@ -47,7 +47,7 @@ as_told n k nest a [] i = absurd i
 as_told n k nest a (x ∷ xs) (inl e) = (k, inl (λ j. record { statement = n; number = k; access = e j; nest = nest }))
 as_told n k nest a (x ∷ xs) (inr i) = let r = as_told n (suc k) nest a xs i in (r.0, inr r.1)
 
-more_outside : (x : List ℕ) (ls : List Loop) (n : ℕ) (h : Head) → is_among x (indices_of ls) ≡ false → is_same_text x h.variable ≡ false → is_among x (indices_of (ls ++ loop n h ∷ [])) ≡ false
+pub more_outside : (x : List ℕ) (ls : List Loop) (n : ℕ) (h : Head) → is_among x (indices_of ls) ≡ false → is_same_text x h.variable ≡ false → is_among x (indices_of (ls ++ loop n h ∷ [])) ≡ false
 more_outside x [] n h a b = λ i. b i || false
 more_outside x (l ∷ ls) n h a b =
     let p = or_parts (is_same_text x l.head.variable) (is_among x (indices_of ls)) a in

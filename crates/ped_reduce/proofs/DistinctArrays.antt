@@ -74,7 +74,7 @@ module _ (t : ProgramTree) where
           let from = left.from in
           let same = numbers_same n left.number (omega (arith, h)) left.most (same_is (numbered n) y e ∙ left.is) in
           absurd (omega (arith, from, same))
-      ))
+          ))
 
       by : (b : Bool) → Differ (Left (n + 1) count) → Differ (cond b (numbered n ∷ Left (n + 1) count) (Left (n + 1) count))
       by true rest = (other, rest)

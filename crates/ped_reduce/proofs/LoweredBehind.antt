@@ -141,7 +141,7 @@ module _ (cs : List (List ℕ)) (w : List ℕ) where
     loops_there false e k =
         ap (is_among w) (loops_followed h.variable ps (zeros h.variable ps) (all_summed h.variable ps (without_list body)))
         ∙ has_right (all_loop_variables (zeros h.variable ps)) (all_loop_variables (all_summed h.variable ps (without_list body)))
-          (ap (is_among w) (all_same_loops h.variable ps (without_list body) ∙ without_loops body) ∙ k)
+        (ap (is_among w) (all_same_loops h.variable ps (without_list body) ∙ without_loops body) ∙ k)
 
     pub lowered_loops : AreNoMore w (loop_variables (Do h body)) (all_loop_variables (lowered_loop parallel ps h body))
     lowered_loops k =

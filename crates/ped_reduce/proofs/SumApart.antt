@@ -63,7 +63,7 @@ none_of f [] a h i = absurd i
 none_of f (x ∷ xs) a h (inl e) = ap f e ∙ (or_parts (f x) (list_any f xs) h).0
 none_of f (x ∷ xs) a h (inr i) = none_of f xs a (or_parts (f x) (list_any f xs) h).1 i
 
-found : {A : Type 0} (f : A → Bool) (xs : List A) → list_any f xs ≡ true → (a : A) × IsIn a xs × (f a ≡ true)
+pub found : {A : Type 0} (f : A → Bool) (xs : List A) → list_any f xs ≡ true → (a : A) × IsIn a xs × (f a ≡ true)
 found f [] h = untrue h
 found f (x ∷ xs) h = elim (or_split (f x) (list_any f xs) h) [ inl e ↦ (x, inl refl, e) | inr k ↦ (let a = found f xs k in (a.0, inr a.1, a.2)) ]
 
@@ -250,8 +250,9 @@ module _ (t : ProgramTree) (s : ℕ) (loop : LoopOf t s) (ps : List Partials) (v
   kind_mid : (y : List ℕ) → kind_of mid y ≡ kind_of t y
   kind_mid y =
       let other = not_longer y in
-      let small : nat_lt 2147483647 (unsigned_abs (pos 0)) ≡ false = refl in
-      sym (kind_same mid new (0 ∷ y) (pos 0) (pos 0) small small y other) ∙ kind_same t new (0 ∷ y) (pos 0) (pos 0) small small y other
+      let lo = int_min v.first v.last in
+      let hi = int_max v.first v.last in
+      sym (kind_same mid new (0 ∷ y) lo hi least greatest y other) ∙ kind_same t new (0 ∷ y) lo hi least greatest y other
 
   fresh : (y : List ℕ) → is_array ps y ≡ true → is_among y (names_of t) ≡ false
   fresh y e = let p = found (λ (p : Partials). is_array_of p y) ps e in m.fresh p.0 y p.1 p.2

@@ -82,7 +82,7 @@ module _ (ps : List Partials) where
       let no_total : is_total ps y ≡ false = total_is y ps ∙ false_or (is_among y (scalars_of ps)) (quiet y k) in
       let no_array : is_array ps y ≡ false = false_or (is_array ps y) (λ e. both_ways (is_among y names) (unused y e) k) in
       λ i. no_total i || no_array i
-  ))
+      ))
 
   unused_parts : (xs ys : List (List ℕ)) → Unused (xs ++ ys) → Unused xs × Unused ys
   unused_parts xs ys h = (λ y e. (or_parts (is_among y xs) (is_among y ys) (sym (among_append y xs ys) ∙ h y e)).0, λ y e. (or_parts (is_among y xs) (is_among y ys) (sym (among_append y xs ys) ∙ h y e)).1)
@@ -156,7 +156,7 @@ module _ (ps : List Partials) where
           let q = scalar_of y ps among in
           let some = summed_there nest n (Assign left right) there sums y among (refers y among h) in
           none_there q.0 (done q.0 q.1) (ap (λ (z : List ℕ). is_some (sum_to z (Assign left right))) (sym q.2) ∙ some)
-      ))
+          ))
         where
           none_there : (q : Partials) → IsIn q [] ⊎ (sum_to q.scalar (Assign left right) ≡ None) → is_some (sum_to q.scalar (Assign left right)) ≡ true → ⊥
           none_there q (inl i) some = absurd i
@@ -267,20 +267,20 @@ module _ (ps : List Partials) where
                   let one = (or_parts (is_same_text q.scalar g.variable) (is_among q.scalar (all_loop_variables body)) (loops q.scalar among)).0 in
                   let rest = both_apart q.scalar g.private (all_loop_variables body) (d.0 q.scalar among) (inside q.scalar among) in
                   λ j. one j || rest j
-              );
+                  );
               variable = (let rest = both_apart v g.private (all_loop_variables body) w.0 (unassigned_loops body w.1) in λ j. o.0 j || rest j);
             },
             clear_all inner (n + 1) body (inner_stands t s (all_numbered body) n st) (λ x among. more_outside x nest n g (outside x among) (or_parts (is_same_text x g.variable) false (variable x among)).0) r.1 p.1 u.1 inside d.1 w.1,
           )
       clear_one nest n (Print items) st outside right sums unused loops private own =
           lacks (flat_map item_names items) unused (quiet_by nest n (Print items) (is_there t (Print items) [] n st) sums (λ y. refl) (flat_map item_names items) (λ y among h. (
-              let a = items_told y cs (indices_of nest) (named y among) (outside y among) items h in
-              (a.0, in_left a.0 (flat_map (item_reads cs (indices_of nest)) items) (write_of (codes "(OUT)") [] ∷ []) a.1, a.2)
+          let a = items_told y cs (indices_of nest) (named y among) (outside y among) items h in
+          (a.0, in_left a.0 (flat_map (item_reads cs (indices_of nest)) items) (write_of (codes "(OUT)") [] ∷ []) a.1, a.2)
           )))
       clear_one nest n (Read items) st outside right sums unused loops private own =
           lacks (flat_map expr_names items) unused (quiet_by nest n (Read items) (is_there t (Read items) [] n st) sums (λ y. refl) (flat_map expr_names items) (λ y among h. (
-              let a = lefts_told y cs (indices_of nest) (named y among) (outside y among) k items right h in
-              (a.0, inr a.1, a.2)
+          let a = lefts_told y cs (indices_of nest) (named y among) (outside y among) k items right h in
+          (a.0, inr a.1, a.2)
           )))
       clear_one nest n Stop st outside right sums unused loops private own = tt
       clear_one nest n (Comment text) st outside right sums unused loops private own = tt

@@ -231,8 +231,8 @@ module _ (t : ProgramTree) (s : ℕ) (p q w : Lowered) (valid : IsValid t) (stag
       let o = found (λ (o : Partials). is_array_of o y) made_new.partials e in
       let absent = unnamed_statements p.tree y (fresh o.0 y o.1 o.2) in
       false_or (is_among y (stmts_names live.loop.body)) (λ there. both_ways (is_among y (stmts_names p.tree.body)) absent (
-          ap (λ (ts : StmtTrees). is_among y (stmts_names ts)) place.old
-          ∙ in_whole y (Do live.loop.head live.loop.body) place.other (among_append y (head_names live.loop.head) (stmts_names live.loop.body) ∙ or_right (is_among y (head_names live.loop.head)) (is_among y (stmts_names live.loop.body)) there)
+      ap (λ (ts : StmtTrees). is_among y (stmts_names ts)) place.old
+      ∙ in_whole y (Do live.loop.head live.loop.body) place.other (among_append y (head_names live.loop.head) (stmts_names live.loop.body) ∙ or_right (is_among y (head_names live.loop.head)) (is_among y (stmts_names live.loop.body)) there)
       ))
 
   -- the DO loops round it have the heads that they had

@@ -32,8 +32,8 @@ lowered_in_order p s names q e =
     let m = made_by true p s names q e in (
       lowered_with false p s m.body m.span m.partials,
       ap (λ (o : Option StmtTree). and_then o (lowered_statement false p s names)) m.is
-      ∙ ap (λ (o : Option Span). and_then o (λ (v : Span). option_map (lowered_with false p s m.body v) (partials_of names (fresh_arrays p.tree)))) m.spans
-      ∙ ap (option_map (lowered_with false p s m.body m.span)) m.arrays,
+          ∙ ap (λ (o : Option Span). and_then o (λ (v : Span). option_map (lowered_with false p s m.body v) (partials_of names (fresh_arrays p.tree)))) m.spans
+          ∙ ap (option_map (lowered_with false p s m.body m.span)) m.arrays,
     )
 
 -- a program with one flag less is valid, and one in which sums are kept apart may be trusted: so sums in order mean the same

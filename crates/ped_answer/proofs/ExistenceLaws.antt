@@ -11,7 +11,9 @@ mod InterchangeCauses
 mod ReindexCauses
 mod FirstCauses
 mod LoopPaths
+mod Lowerings
 mod Refusing
 pub mod Replying
 mod Reporting
 mod ScalarCauses
+mod SumCauses

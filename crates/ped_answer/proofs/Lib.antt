@@ -1,3 +1,4 @@
+mod AmongCauses
 mod Counting
 mod EachItems
 mod ExistenceLaws

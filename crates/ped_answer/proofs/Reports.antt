@@ -8,27 +8,23 @@ use Rattle.ped_session.specs.ped_refs.specs.References.{references, pair_count}
 use Rattle.ped_session.specs.ped_symbols.specs.NameRefusals.{IsValid}
 use Rattle.ped_session.specs.ped_valid.specs.Validity.{ReadsValid}
 use Rattle.ped_session.specs.ped_valid.proofs.OneVerdict.{valid_prints}
-use Rattle.ped_session.specs.ped_order.specs.ped_eval.specs.Outcomes.{Outcome, outcome}
-use Rattle.ped_session.specs.ped_order.specs.ped_interleavings.specs.Interleavings.{IsInterleaved}
+use Rattle.ped_session.specs.ped_order.specs.ped_eval.specs.Outcomes.{Outcome}
 use Rattle.ped_session.specs.ped_transformations.specs.ped_script.specs.Items.{commands_of}
 use Rattle.ped_session.specs.ped_transformations.specs.ped_script.specs.declared.items.Item.{Item}
+use Rattle.ped_session.specs.LoweredRuns.{IsLoweredRun}
 use Rattle.ped_session.specs.States.{State, opened}
 use Rattle.ped_session.specs.Scripts.{Said, AnswersItems}
 use Rattle.ped_session.specs.Histories.{ArePrinted}
 use Rattle.ped_answer.specs.declared.tallies.Tally as code
 use Rattle.ped_answer.specs.Generated.{Tally, Figures, Applies, IsWordOn, figure_line, runs_line, report, Reports}
 use Rattle.ped_answer.specs.Tallies.{first_count, counted, Counts, ReportsLast, Reported}
-use Rattle.ped_answer.specs.ped_session.specs.ped_transformations.specs.ped_splits.proofs.Existence.Edges.{edges_of_program}
+use Rattle.ped_answer.specs.ped_session.specs.ped_transformations.specs.ped_reduce.specs.ped_splits.proofs.Existence.Edges.{edges_of_program}
 use Rattle.ped_answer.proofs.ExistenceLaws.Replying.{reads_printed}
 use Rattle.ped_answer.proofs.Tallying.{says_items}
 
 -- whatever a script does, all sources are printed
 abbrev pub StayPrinted : Type 0
 StayPrinted = (t : ProgramTree) → IsValid t → (items : List Item) (data_bytes : List ℕ) (said : Said) (last : State) → AnswersItems items data_bytes (opened t) said last → ArePrinted last
-
--- without choices a program runs as it does in order
-abbrev pub RunsInOrder : Type 0
-RunsInOrder = (t : ProgramTree) (data_bytes : List ℕ) (o : Outcome) → IsInterleaved t data_bytes [] o → o ≡ outcome t data_bytes
 
 -- what is said of the last program with these figures
 abbrev said_by : ℕ → ProgramTree → ℕ → ℕ → ℕ → ℕ → List ℕ → List ℕ
@@ -67,11 +63,11 @@ of_last n last s p accepted refused tested e edges word text statements pairs as
     ∙ ap (λ (x : ℕ). report n (figures_by (statements_count last.body) (pair_count (references last)) accepted refused tested x) word) as_many
 
 -- in a session that was opened on the program
-pub reported : StayPrinted → RunsInOrder → (n : ℕ) (s next : State) (t : ProgramTree) → ReadsValid (program n) t → s ≡ opened t
-    → (first : Outcome) → ((u : ProgramTree) → ReadsValid s.present u → IsInterleaved u [] [] first)
+pub reported : StayPrinted → (n : ℕ) (s next : State) (t : ProgramTree) → ReadsValid (program n) t → s ≡ opened t
+    → (first : Outcome) → ((u : ProgramTree) → ReadsValid s.present u → IsLoweredRun [] [] u first)
     → (count : code.Tally) (before after : ℕ) → Counts (Applies (commands_of (script n))) s next (first_count s.tested) count before after
     → (bytes : List ℕ) → ((last : ProgramTree) → ReadsValid next.present last → ReportsLast n first count last bytes) → Reported n s before after bytes
-reported stay in_order n s next t reads e first ran count before after k bytes rest =
+reported stay n s next t reads e first ran count before after k bytes rest =
     let items = commands_of (script n) in
     let applied = subst (λ (x : State). Applies items x k.tally next) e k.applies in
     let said = says_items items (opened t) next k.tally applied in
@@ -80,7 +76,6 @@ reported stay in_order n s next t reads e first ran count before after k bytes r
     let r = rest last.0 last.1 in
     let edges = edges_of_program last.0 in
     let here = subst (λ (x : State). ReadsValid x.present t) (sym e) ((valid_prints t reads.valid t).1 refl) in
-    let first_is = in_order t [] first (ran t here) in
     let accepted : count.accepted ≡ k.tally.accepted = ap (λ (c : code.Tally). c.accepted) k.counts ∙ (let z : 0 + k.tally.accepted ≡ k.tally.accepted = omega arith in z) in
     let refused : count.refused ≡ k.tally.refused = ap (λ (c : code.Tally). c.refused) k.counts ∙ (let z : 0 + k.tally.refused ≡ k.tally.refused = omega arith in z) in
     let tested : count.tested ≡ pair_count (references t) + k.tally.tests = ap (λ (c : code.Tally). c.tested) k.counts ∙ ap (λ (x : State). x.tested + k.tally.tests) e in
@@ -95,10 +90,12 @@ reported stay in_order n s next t reads e first ran count before after k bytes r
         reads = last.1;
         edges = edges.0;
         are_edges = edges.1;
+        began = first;
+        runs_first = ran t here;
         ended = r.ended;
-        runs = r.runs;
+        runs_last = r.runs;
         word = r.word;
-        word_on = subst (λ (o : Outcome). IsWordOn o r.ended r.word) first_is r.word_on;
+        word_on = r.word_on;
         says = r.says edges.0 edges.1 ∙ same_said n last.0 (length edges.0) r.word accepted refused tested;
       };
       tally = k.tally;

@@ -7,7 +7,7 @@ use Rattle.ped_words.specs.Requests.{Request, show, session, generate}
 use Rattle.ped_session.specs.ped_tree.specs.Tree.{StmtTree, ProgramTree}
 use Rattle.ped_session.specs.ped_tree.specs.Numbering.{statement_with}
 use Rattle.ped_session.specs.ped_transformations.specs.ped_script.specs.declared.items.Command.{Command}
-use Rattle.ped_session.specs.ped_transformations.specs.ped_script.specs.declared.items.Command.TheVariants.{Source, Deps, Show, Print, Advise, Replace, Insert, Delete, Interchange, Reverse, Skew, Strip, Peel, Distribute, Fuse, Expand, Privatise, Parallel, Serial, Reject, Undo, Redo, Run, Races, Tested}
+use Rattle.ped_session.specs.ped_transformations.specs.ped_script.specs.declared.items.Command.TheVariants.{Source, Deps, Show, Print, Advise, Replace, Insert, Delete, Interchange, Reverse, Skew, Strip, Peel, Distribute, Fuse, Expand, Privatise, Reduce, Parallel, Serial, Reject, Undo, Redo, Run, Races, Tested}
 use Rattle.ped_session.specs.ped_transformations.specs.ped_reindex.specs.ped_loops.specs.ped_scalar.specs.ped_rules.specs.Steps.{StepAt}
 use Rattle.ped_session.specs.declared.replies.Refusal.{Refusal}
 use Rattle.ped_session.specs.declared.replies.Refusal.TheVariants.{NoSuchLine}
@@ -165,6 +165,7 @@ moves (Peel number last) d s next reply h = step_moves (Peel number last) _ s ne
 moves (Distribute number) d s next reply h = step_moves (Distribute number) _ s next reply (still_by (Distribute number) (λ e. cc) (λ e. cc)) (λ is. is) h
 moves (Expand number name) d s next reply h = step_moves (Expand number name) _ s next reply (still_by (Expand number name) (λ e. cc) (λ e. cc)) (λ is. is) h
 moves (Privatise number name) d s next reply h = step_moves (Privatise number name) _ s next reply (still_by (Privatise number name) (λ e. cc) (λ e. cc)) (λ is. is) h
+moves (Reduce number names) d s next reply h = step_moves (Reduce number names) _ s next reply (still_by (Reduce number names) (λ e. cc) (λ e. cc)) (λ is. is) h
 moves (Parallel number) d s next reply h = step_moves (Parallel number) _ s next reply (still_by (Parallel number) (λ e. cc) (λ e. cc)) (λ is. is) h
 moves (Serial number) d s next reply h = step_moves (Serial number) _ s next reply (still_by (Serial number) (λ e. cc) (λ e. cc)) (λ is. is) h
 moves (Reject number name) d s next reply h = step_moves (Reject number name) _ s next reply (still_by (Reject number name) (λ e. cc) (λ e. cc)) (λ is. is) h

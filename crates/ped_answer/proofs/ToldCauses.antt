@@ -7,9 +7,8 @@ use Rattle.ped_words.specs.Requests.{Request, show, session, generate}
 use Rattle.ped_session.specs.ped_tree.specs.Tree.{ProgramTree}
 use Rattle.ped_session.specs.ped_valid.specs.Validity.{ReadsValid}
 use Rattle.ped_session.specs.ped_graph.specs.ped_edges.specs.Edges.{Edge}
-use Rattle.ped_session.specs.ped_graph.specs.Dependences.{AreEdges}
 use Rattle.ped_session.specs.ped_transformations.specs.ped_script.specs.declared.items.Command.{Command}
-use Rattle.ped_session.specs.ped_transformations.specs.ped_script.specs.declared.items.Command.TheVariants.{Source, Deps, Show, Print, Advise, Replace, Insert, Delete, Interchange, Reverse, Skew, Strip, Peel, Distribute, Fuse, Expand, Privatise, Parallel, Serial, Reject, Undo, Redo, Run, Races, Tested}
+use Rattle.ped_session.specs.ped_transformations.specs.ped_script.specs.declared.items.Command.TheVariants.{Source, Deps, Show, Print, Advise, Replace, Insert, Delete, Interchange, Reverse, Skew, Strip, Peel, Distribute, Fuse, Expand, Privatise, Reduce, Parallel, Serial, Reject, Undo, Redo, Run, Races, Tested}
 use Rattle.ped_session.specs.ped_transformations.specs.Table.{step_of}
 use Rattle.ped_session.specs.ped_transformations.specs.ped_reindex.specs.ped_loops.specs.Interchanging.{StandsAgainstInterchange}
 use Rattle.ped_session.specs.ped_transformations.specs.ped_reindex.specs.ped_loops.specs.Reversing.{StandsAgainstReversal}
@@ -19,13 +18,14 @@ use Rattle.ped_session.specs.ped_transformations.specs.ped_reindex.specs.ped_loo
 use Rattle.ped_session.specs.ped_transformations.specs.ped_reindex.specs.Skewing.{StandsAgainstSkewing}
 use Rattle.ped_session.specs.ped_transformations.specs.ped_reindex.specs.Stripping.{StandsAgainstStripping}
 use Rattle.ped_session.specs.ped_transformations.specs.ped_reindex.specs.Peeling.{StandsAgainstPeeling}
-use Rattle.ped_session.specs.ped_transformations.specs.ped_splits.specs.Distributing.{StandsAgainstDistribution}
-use Rattle.ped_session.specs.ped_transformations.specs.ped_splits.specs.Fusing.{forbids_fusion, IsFusionCause}
+use Rattle.ped_session.specs.ped_transformations.specs.ped_reduce.specs.Reducing.{StandsAgainstReducing, carried_beside}
+use Rattle.ped_session.specs.ped_transformations.specs.ped_reduce.specs.ped_splits.specs.Distributing.{StandsAgainstDistribution}
+use Rattle.ped_session.specs.ped_transformations.specs.ped_reduce.specs.ped_splits.specs.Fusing.{forbids_fusion, IsFusionCause}
 use Rattle.ped_session.specs.ped_transformations.specs.ped_reindex.specs.ped_loops.specs.ped_scalar.specs.Privatising.{StandsAgainstPrivatising}
 use Rattle.ped_session.specs.ped_transformations.specs.ped_reindex.specs.ped_loops.specs.ped_scalar.specs.Expanding.{StandsAgainstExpanding}
 use Rattle.ped_session.specs.ped_transformations.specs.ped_reindex.specs.ped_loops.specs.ped_scalar.specs.ped_rules.specs.Carried.{carried, crossing}
 use Rattle.ped_session.specs.ped_transformations.specs.ped_reindex.specs.ped_loops.specs.ped_scalar.specs.ped_rules.specs.Steps.{StepAt, MaybeStep, no_step, some_step, MatchStep}
-use Rattle.ped_session.specs.ped_transformations.specs.ped_reindex.specs.ped_loops.specs.ped_scalar.specs.ped_rules.specs.ped_loop_runs.specs.ped_bodies.specs.ped_steps.specs.Causes.{Rules, Cause, rule, dependence, IsFirstCause, none_forbids}
+use Rattle.ped_session.specs.ped_transformations.specs.ped_reindex.specs.ped_loops.specs.ped_scalar.specs.ped_rules.specs.ped_loop_runs.specs.ped_bodies.specs.ped_steps.specs.Causes.{Cause, rule, dependence, none_forbids}
 use Rattle.ped_session.specs.declared.replies.Reply.{Reply}
 use Rattle.ped_session.specs.declared.replies.Reply.TheVariants.{Changed, Refused}
 use Rattle.ped_session.specs.declared.replies.Refusal.TheVariants.{Step, NoSuchStatement}
@@ -36,27 +36,15 @@ use Rattle.ped_session.specs.Steps as session_steps
 use Rattle.ped_session.specs.Scripts.{Said, said_by, AnswersCommand}
 use Rattle.ped_answer.specs.declared.answering.Status.{Status}
 use Rattle.ped_answer.specs.Answer.{IsWhole, Answers}
-use Rattle.ped_answer.specs.StepCauses.{IsAmong, IsAmongFused, Forbids}
+use Rattle.ped_answer.specs.StepCauses.{IsAmongFused, Forbids}
 use Rattle.ped_answer.specs.Headline.{TellsOfStep, no_statement, forbidden, accepted, TellsCause, CausesRequest}
+use Rattle.ped_answer.proofs.AmongCauses.{first_among, true_isnt_false, none_among}
 use Rattle.ped_answer.proofs.EachItems.{SoOfValid, session_each}
 
 -- what forbids a step of a command is what its first causes are among, and where it has no first cause, nothing forbids it
 record AreCauses (command : Command) (at : StepAt) : Type 0 where
   first : (t : ProgramTree) (c : Cause) → at.IsCause t (Some c) → Forbids command t c
   none : (t : ProgramTree) → at.IsCause t None → (c : Cause) → Forbids command t c → ⊥
-
-first_among : (t : ProgramTree) (stands : Rules) (forbids : Edge → Bool) (c : Cause) → IsFirstCause t stands forbids (Some c) → IsAmong t stands forbids c
-first_among t stands forbids (rule r n) h = h.0
-first_among t stands forbids (dependence e) h =
-    let found = h.3 in
-    (h.1, h.2, subst (λ (es : List Edge). Contains es e) (sym found.2) (Contains-append_right found.0 (e ∷ found.1) e (0, omega arith, refl)), found.3)
-
-true_isnt_false : (b : Bool) → b ≡ true → b ≡ false → ⊥
-true_isnt_false b t f = cc
-
-none_among : (t : ProgramTree) (stands : Rules) (forbids : Edge → Bool) → IsFirstCause t stands forbids None → (c : Cause) → IsAmong t stands forbids c → ⊥
-none_among t stands forbids h (rule r n) is = h.0 r n is
-none_among t stands forbids h (dependence e) is = true_isnt_false (forbids e) is.3 (All-contains (λ (f : Edge). forbids f ≡ false) is.0 e (h.1 is.0 is.1) is.2)
 
 first_fused : (s : ℕ) (t : ProgramTree) (c : Cause) → IsFusionCause s t (Some c) → IsAmongFused s t c
 first_fused s t (rule r n) h = h.0
@@ -80,6 +68,7 @@ are_causes (Peel s last) = record { first = λ t. first_among t (StandsAgainstPe
 are_causes (Distribute s) = record { first = λ t. first_among t (StandsAgainstDistribution s t) none_forbids; none = λ t. none_among t (StandsAgainstDistribution s t) none_forbids }
 are_causes (Expand s x) = record { first = λ t. first_among t (StandsAgainstExpanding s x t) none_forbids; none = λ t. none_among t (StandsAgainstExpanding s x t) none_forbids }
 are_causes (Privatise s x) = record { first = λ t. first_among t (StandsAgainstPrivatising s x t) none_forbids; none = λ t. none_among t (StandsAgainstPrivatising s x t) none_forbids }
+are_causes (Reduce s names) = record { first = λ t. first_among t (StandsAgainstReducing s names t) (carried_beside t s names); none = λ t. none_among t (StandsAgainstReducing s names t) (carried_beside t s names) }
 are_causes (Reject s x) = record { first = λ t. first_among t (StandsAgainstRejection s x t) none_forbids; none = λ t. none_among t (StandsAgainstRejection s x t) none_forbids }
 are_causes (Fuse s) = record { first = first_fused s; none = none_fused s }
 are_causes Source = tt

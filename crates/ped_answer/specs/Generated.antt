@@ -9,13 +9,13 @@ use Rattle.ped_session.specs.ped_refs.specs.References.{references, pair_count}
 use Rattle.ped_session.specs.ped_graph.specs.ped_edges.specs.Edges.{Edge}
 use Rattle.ped_session.specs.ped_graph.specs.Dependences.{AreEdges}
 use Rattle.ped_session.specs.ped_valid.specs.Validity.{ReadsValid, RefusesText}
-use Rattle.ped_session.specs.ped_order.specs.ped_eval.specs.Outcomes.{LiveRow, Outcome, Ended, outcome}
-use Rattle.ped_session.specs.ped_order.specs.ped_interleavings.specs.Interleavings.{IsInterleaved}
+use Rattle.ped_session.specs.ped_order.specs.ped_eval.specs.Outcomes.{LiveRow, Outcome, Ended}
 use Rattle.ped_session.specs.ped_transformations.specs.ped_script.specs.Items.{commands_of}
 use Rattle.ped_session.specs.ped_transformations.specs.ped_script.specs.declared.items.Command.{Command}
 use Rattle.ped_session.specs.ped_transformations.specs.ped_script.specs.declared.items.Item.{Item}
 use Rattle.ped_session.specs.declared.replies.Reply.{Reply}
 use Rattle.ped_session.specs.declared.replies.Reply.TheVariants.{Changed, Shown, Refused}
+use Rattle.ped_session.specs.LoweredRuns.{IsLoweredRun}
 use Rattle.ped_session.specs.States.{State, opened}
 use Rattle.ped_session.specs.Steps.{IsStep}
 use Rattle.ped_session.specs.Scripts.{tests_of}
@@ -110,7 +110,7 @@ report n f word =
     ++ figure_line (codes "edges") f.edges
     ++ runs_line word
 
--- what is reported of the first program: its script of this size is applied in a session on it, and it is run in order, and the last program without choices
+-- what is reported of the first program: its script of this size is applied in a session on it, and it and the last program are run without choices
 pub record Reports (n : ℕ) (first : ProgramTree) (bytes : List ℕ) : Type 0 where
   pub tally : Tally
   pub behind : State
@@ -119,10 +119,12 @@ pub record Reports (n : ℕ) (first : ProgramTree) (bytes : List ℕ) : Type 0 w
   pub reads : ReadsValid behind.present last
   pub edges : List Edge
   pub are_edges : AreEdges last edges
+  pub began : Outcome
+  pub runs_first : IsLoweredRun [] [] first began
   pub ended : Outcome
-  pub runs : IsInterleaved last [] [] ended
+  pub runs_last : IsLoweredRun [] [] last ended
   pub word : List ℕ
-  pub word_on : IsWordOn (outcome first []) ended word
+  pub word_on : IsWordOn began ended word
   pub says : bytes ≡ report n (record {
     statements = statements_count last.body;
     pairs = pair_count (references last);

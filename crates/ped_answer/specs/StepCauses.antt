@@ -4,10 +4,11 @@ use Rattle.ped_session.specs.ped_tree.specs.Tree.{ProgramTree}
 use Rattle.ped_session.specs.ped_graph.specs.ped_edges.specs.Edges.{Edge}
 use Rattle.ped_session.specs.ped_graph.specs.Dependences.{AreEdges}
 use Rattle.ped_session.specs.ped_transformations.specs.ped_script.specs.declared.items.Command.{Command}
-use Rattle.ped_session.specs.ped_transformations.specs.ped_script.specs.declared.items.Command.TheVariants.{Interchange, Reverse, Skew, Strip, Peel, Distribute, Fuse, Expand, Privatise, Parallel, Serial, Reject}
-use Rattle.ped_session.specs.ped_transformations.specs.ped_splits.specs.Distributing.{StandsAgainstDistribution}
-use Rattle.ped_session.specs.ped_transformations.specs.ped_splits.specs.Fusing.{Match, StandsAgainstFusion, AreBack, forbids_fusion, with_present_numbers}
-use Rattle.ped_session.specs.ped_transformations.specs.ped_splits.specs.Neighbours.{next_number}
+use Rattle.ped_session.specs.ped_transformations.specs.ped_script.specs.declared.items.Command.TheVariants.{Interchange, Reverse, Skew, Strip, Peel, Distribute, Fuse, Expand, Privatise, Reduce, Parallel, Serial, Reject}
+use Rattle.ped_session.specs.ped_transformations.specs.ped_reduce.specs.Reducing.{StandsAgainstReducing, carried_beside}
+use Rattle.ped_session.specs.ped_transformations.specs.ped_reduce.specs.ped_splits.specs.Distributing.{StandsAgainstDistribution}
+use Rattle.ped_session.specs.ped_transformations.specs.ped_reduce.specs.ped_splits.specs.Fusing.{Match, StandsAgainstFusion, AreBack, forbids_fusion, with_present_numbers}
+use Rattle.ped_session.specs.ped_transformations.specs.ped_reduce.specs.ped_splits.specs.Neighbours.{next_number}
 use Rattle.ped_session.specs.ped_transformations.specs.ped_reindex.specs.Skewing.{StandsAgainstSkewing}
 use Rattle.ped_session.specs.ped_transformations.specs.ped_reindex.specs.Stripping.{StandsAgainstStripping}
 use Rattle.ped_session.specs.ped_transformations.specs.ped_reindex.specs.Peeling.{StandsAgainstPeeling}
@@ -32,11 +33,12 @@ IsAmongFused s t (rule r n) = StandsAgainstFusion s t r n
 IsAmongFused s t (dependence e) =
     (m : Match t s) × (edges : List Edge) × AreBack m.neighbour edges × (f : Edge) × Contains edges f × (forbids_fusion m.neighbour f ≡ true) × (e ≡ with_present_numbers (next_number m.neighbour) f)
 
--- what forbids the step of a command in a program: a rule that stands, or a dependence that it may not pass over, which four steps have, since they change the order of iterations: `interchange`, `reverse`, `parallel` and `fuse`. One row for each step of the table of steps (Allen and Kennedy, sections 2.2.5, 5.2; ParaScope)
+-- what forbids the step of a command in a program: a rule that stands, or a dependence that it may not pass over, which five steps have, since they change the order of iterations: `interchange`, `reverse`, `parallel`, `reduce` and `fuse`. One row for each step of the table of steps (Allen and Kennedy, sections 2.2.5, 5.2, 5.6; ParaScope)
 abbrev pub Forbids : Command → ProgramTree → Cause → Type 0
 Forbids (Interchange s) t c = IsAmong t (StandsAgainstInterchange s t) (crossing t s) c
 Forbids (Reverse s) t c = IsAmong t (StandsAgainstReversal s t) (carried t s) c
 Forbids (Parallel s) t c = IsAmong t (StandsAgainstParallel s t) (carried t s) c
+Forbids (Reduce s names) t c = IsAmong t (StandsAgainstReducing s names t) (carried_beside t s names) c
 Forbids (Serial s) t c = IsAmong t (StandsAgainstSerial s t) none_forbids c
 Forbids (Skew s factor) t c = IsAmong t (StandsAgainstSkewing s factor t) none_forbids c
 Forbids (Strip s size) t c = IsAmong t (StandsAgainstStripping s size t) none_forbids c

@@ -8,8 +8,8 @@ use Rattle.ped_session.specs.ped_graph.specs.ped_edges.specs.Edges.{Edge}
 use Rattle.ped_session.specs.ped_graph.specs.Dependences.{AreEdges}
 use Rattle.ped_session.specs.ped_valid.specs.Validity.{ReadsValid}
 use Rattle.ped_session.specs.ped_order.specs.ped_eval.specs.Outcomes.{Outcome}
-use Rattle.ped_session.specs.ped_order.specs.ped_interleavings.specs.Interleavings.{IsInterleaved}
 use Rattle.ped_session.specs.ped_transformations.specs.ped_script.specs.Items.{commands_of}
+use Rattle.ped_session.specs.LoweredRuns.{IsLoweredRun}
 use Rattle.ped_session.specs.States.{State, opened}
 use Rattle.ped_answer.specs.declared.answering.Status.{Status}
 use Rattle.ped_answer.specs.declared.answering.Status.TheVariants.{Done}
@@ -34,7 +34,7 @@ pub record Counts (Are : State → Tally → State → Type 0) (s next : State) 
 -- what is reported of the last program, where the first one has run so and this was counted
 pub record ReportsLast (n : ℕ) (first : Outcome) (count : code.Tally) (last : ProgramTree) (bytes : List ℕ) : Type 0 where
   pub ended : Outcome
-  pub runs : IsInterleaved last [] [] ended
+  pub runs : IsLoweredRun [] [] last ended
   pub word : List ℕ
   pub word_on : IsWordOn first ended word
   pub says : (edges : List Edge) → AreEdges last edges → bytes ≡ report n (record {

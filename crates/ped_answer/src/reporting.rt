@@ -18,12 +18,12 @@ use itoa::Buffer;
 use ped_session::ped_base::{Bytes, NoMemory, push_number};
 use ped_session::ped_script::commands;
 use ped_session::ped_verdict::Steps;
-use ped_session::{Outcome, Session, sources_are_printed, without_choices};
+use ped_session::{Outcome, Session, sources_are_printed};
 use std::alloc::Global;
 use std::sync::ledger::Ledger;
 
 /// The eight lines on the program of this size, in a session that was opened on it: its script is applied, and it is run
-/// in order before and without choices behind.
+/// without choices before and behind.
 pub fn report<L: Ledger>(
     alloc: Global,
     size: u32,
@@ -37,7 +37,6 @@ pub fn report<L: Ledger>(
     ensures most { (tally : Spec.Tally) (last : State) → Applies (commands_of (made.script size)) session.old tally last → steps.new ≤ steps.old + tally.tests }
 {
     sources_are_printed();
-    without_choices();
     let first = session.run(alloc, &[], &[])?;
     let tally = apply_script(alloc, size, session, steps)?;
     report_last(alloc, size, session, &first, tally)

@@ -32,6 +32,10 @@ pub mod ResemblingReferences
 pub mod UnnamedReferences
 pub mod EdgesResemble
 pub mod ResemblingSettings
+pub mod CleanReferences
+pub mod AssignedStays
+pub mod OuterLoops
+pub mod ViewsAlike
 pub mod MayBeParallel
 pub mod UnsummableAnswers
 pub mod SplitSums
@@ -64,3 +68,4 @@ pub mod StillContained
 pub mod DistinctArrays
 pub mod SumLive
 pub mod SumOrder
+pub mod LoweringKeeps

@@ -85,6 +85,9 @@ module _ (t : ProgramTree) (n : ℕ) (ps : List Partials) (h : Head) (body : Stm
   bounds_by (Some x) None c v e = absurd cc
   bounds_by None b c v e = absurd cc
 
+  pub bounds_valued : ((x : ℤ) × (constant_value (table_of t).constants h.first ≡ Some x)) × ((y : ℤ) × (constant_value (table_of t).constants h.last ≡ Some y))
+  bounds_valued = let values = (table_of t).constants in bounds_by (constant_value values h.first) (constant_value values h.last) (constant_value values h.step) spans.0 spans.1
+
   -- so they read no scalar
   pub bounds_unread : (scalars_in (constant_names t.decls) h.first ≡ []) × (scalars_in (constant_names t.decls) h.last ≡ [])
   bounds_unread =

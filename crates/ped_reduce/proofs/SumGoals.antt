@@ -78,4 +78,4 @@ KeptApartTrusted = (t : ProgramTree) (s : ℕ) (loop : LoopOf t s) (ps : List Pa
 
 -- the law: sums in order mean the same, at each list that is live, behind those before it
 abbrev pub SumsInOrder : Type 0
-SumsInOrder = (t : ProgramTree) (s : ℕ) (p q w : Lowered) → IsValid t → Lowers t (range_with_len 1 (s - 1)) (not_lowered t) p → (live : IsLive t s p q) → lowered_at false p s (list_of live.loop.body) ≡ Some w → IsValid w.tree × Keeps p.tree w.tree × (IsTrusted p.tree → IsTrusted w.tree)
+SumsInOrder = (t : ProgramTree) (s : ℕ) (p q w : Lowered) → IsValid t → Lowers t (range_with_len 1 (s - 1)) (not_lowered t) p → IsValid p.tree → (live : IsLive t s p q) → lowered_at false p s (list_of live.loop.body) ≡ Some w → IsValid w.tree × Keeps p.tree w.tree × (IsTrusted p.tree → IsTrusted w.tree)

@@ -79,7 +79,7 @@ false_or true h = absurd (h refl)
 false_or false h = refl
 
 -- an access of a statement by itself as a reference
-as_reference : (n k : ℕ) (nest : List Loop) (a : Access) (accesses : List Access) → IsIn a accesses → (r : Reference) × IsIn r (numbered_accesses n k nest accesses) × (r.access ≡ a)
+pub as_reference : (n k : ℕ) (nest : List Loop) (a : Access) (accesses : List Access) → IsIn a accesses → (r : Reference) × IsIn r (numbered_accesses n k nest accesses) × (r.access ≡ a)
 as_reference n k nest a [] i = absurd i
 as_reference n k nest a (x ∷ xs) (inl e) = (record { statement = n; number = k; access = x; nest = nest }, inl refl, sym e)
 as_reference n k nest a (x ∷ xs) (inr i) = let r = as_reference n (suc k) nest a xs i in (r.0, inr r.1, r.2)

@@ -4,12 +4,15 @@ ghost use Rattle.std.specs.Prelude.{◌≡◌, ℕ, List, length, false};
 ghost use Rattle.ped_tree.specs.Numbering.{statements_count};
 ghost use Rattle.ped_tree.specs.Tree.{ProgramTree};
 ghost use Rattle.ped_splits.specs.ped_reindex.specs.ped_loops.specs.ped_scalar.specs.ped_rules.specs.Lawful.{IsLawful};
+ghost use Rattle.ped_splits.specs.ped_reindex.specs.ped_loops.specs.ped_scalar.specs.ped_rules.specs.ped_loop_runs.specs.Unrejected.{IsTrusted};
 ghost use Rattle.ped_splits.specs.ped_reindex.specs.ped_loops.specs.ped_scalar.specs.ped_rules.specs.ped_loop_runs.specs.ped_bodies.specs.ped_steps.specs.ped_symbols.specs.NameRefusals.{IsValid};
+ghost use Rattle.ped_splits.specs.ped_reindex.specs.ped_loops.specs.ped_scalar.specs.ped_rules.specs.ped_loop_runs.specs.ped_bodies.specs.ped_steps.specs.Runs.Meaning.{Keeps};
 ghost use Rattle.ped_splits.specs.ped_reindex.specs.ped_loops.specs.ped_scalar.specs.ped_rules.specs.ped_loop_runs.specs.ped_bodies.specs.ped_steps.specs.ped_flow.specs.Questions.{LoopOf};
 ghost use Rattle.ped_reduce.specs.Lists.{has_list};
 ghost use Rattle.ped_reduce.specs.Lowering.{Lowered, not_lowered};
 ghost use Rattle.ped_reduce.specs.Reducing.{IsLowered, reducing};
 
+use ped_splits::ped_reindex::ped_loops::parallel_is_lawful;
 use ped_splits::ped_reindex::ped_loops::ped_scalar::ped_rules::ped_loop_runs::{
     private_names_cleared, stays_trusted,
 };
@@ -31,3 +34,15 @@ pub fn one_lowering()
     ensures origins { (t : ProgramTree) (q : Lowered) → IsLowered t q → length q.origin ≡ statements_count q.tree.body }
     ensures none { (t : ProgramTree) → ((s : ℕ) (l : LoopOf t s) → has_list l.head l.body ≡ false) → IsLowered t (not_lowered t) }
 {}
+
+/// What comes of a program by lowering may be trusted as the program, and means the same: on all data on which the program runs
+/// without a fault and without a race, the lowered one has the same outcome and no race (Allen and Kennedy, section 5.6;
+/// ParaScope; this project).
+pub fn lowering_keeps_the_meaning()
+    ensures { (t : ProgramTree) (q : Lowered) → IsValid t → IsTrusted t → IsLowered t q → IsTrusted q.tree × Keeps t q.tree }
+{
+    parallel_is_lawful();
+    one_lowering();
+    stays_trusted();
+    private_names_cleared();
+}

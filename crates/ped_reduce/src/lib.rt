@@ -16,7 +16,8 @@ mod rules;
 mod summing;
 mod sums;
 
-pub use laws::{one_lowering, reduction_is_lawful};
+pub use laws::{lowering_keeps_the_meaning, one_lowering, reduction_is_lawful};
+pub use lists::has_list;
 pub use lowering::{Lowered, lower};
 pub use ped_splits;
 pub use reducing::reduce;

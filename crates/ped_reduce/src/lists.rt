@@ -39,7 +39,7 @@ pub(crate) fn without_list<'a>(alloc: Global, body: &'a [Stmt]) -> Result<&'a [S
 }
 
 /// Whether the body of a DO has a list.
-pub(crate) fn has_list(alloc: Global, d: &Do) -> Result<bool, NoMemory>
+pub fn has_list(alloc: Global, d: &Do) -> Result<bool, NoMemory>
     ensures { IfOk result (λ has. has ≡ Spec.has_list (head_of d.now) (stmt_trees d.now.body.items)) }
 {
     let names = list_of(alloc, &d.body)?;

@@ -5,7 +5,7 @@ use Rattle.ped_session.specs.ped_tree.specs.Tree.{StmtTree, ProgramTree}
 use Rattle.ped_session.specs.ped_tree.specs.Numbering.{statement_with}
 use Rattle.ped_session.specs.ped_graph.specs.DependencePane.{IsDependencePaneOf}
 use Rattle.ped_session.specs.ped_transformations.specs.ped_script.specs.declared.items.Command.{Command}
-use Rattle.ped_session.specs.ped_transformations.specs.ped_script.specs.declared.items.Command.TheVariants.{Source, Deps, Show, Print, Advise, Replace, Insert, Delete, Interchange, Reverse, Skew, Strip, Peel, Distribute, Fuse, Expand, Privatise, Parallel, Serial, Reject, Undo, Redo, Run, Races, Tested}
+use Rattle.ped_session.specs.ped_transformations.specs.ped_script.specs.declared.items.Command.TheVariants.{Source, Deps, Show, Print, Advise, Replace, Insert, Delete, Interchange, Reverse, Skew, Strip, Peel, Distribute, Fuse, Expand, Privatise, Reduce, Parallel, Serial, Reject, Undo, Redo, Run, Races, Tested}
 use Rattle.ped_session.specs.declared.replies.Refusal.{Refusal}
 use Rattle.ped_session.specs.declared.replies.Refusal.TheVariants.{NoSuchLine}
 use Rattle.ped_session.specs.declared.replies.Reply.{Reply}
@@ -73,6 +73,7 @@ does_other (Distribute number) d s next reply h = absurd h
 does_other (Fuse number) d s next reply h = absurd h
 does_other (Expand number name) d s next reply h = absurd h
 does_other (Privatise number name) d s next reply h = absurd h
+does_other (Reduce number names) d s next reply h = absurd h
 does_other (Parallel number) d s next reply h = absurd h
 does_other (Serial number) d s next reply h = absurd h
 does_other (Reject number name) d s next reply h = absurd h

@@ -1,12 +1,18 @@
 -- Transformations keep the meaning of a session's programs.
 use Rattle.std.proofs.Common.{◌≡◌, inl, inr, ℕ, List, [], ◌∷◌, map, Option, Some, None, refl, sym, ap, ◌∙◌, subst}
+use Rattle.std.specs.List.{range_with_len}
 use Rattle.ped_session.specs.ped_tree.specs.Tree.{ProgramTree}
+use Rattle.ped_session.specs.ped_tree.specs.Numbering.{statements_count}
 use Rattle.ped_session.specs.ped_tree.specs.Printing.{program_text}
 use Rattle.ped_valid.specs.ped_symbols.specs.NameRefusals.{IsValid}
 use Rattle.ped_valid.specs.Validity.{ReadsValid}
 use Rattle.ped_valid.proofs.OneVerdict.{valid_prints}
-use Rattle.ped_order.specs.ped_eval.specs.Outcomes.{Outcome, outcome, IsRaceFree}
+use Rattle.ped_order.specs.ped_eval.specs.Runs.{Ending, going, stopped, failed}
+use Rattle.ped_order.specs.ped_eval.specs.Outcomes.{Outcome, run_of, outcome_of, outcome, Ends, IsRaceFree}
 use Rattle.ped_order.specs.ped_interleavings.specs.Interleavings.{IsInterleaved}
+use Rattle.ped_transformations.specs.ped_reduce.specs.Lowering.{Lowered, not_lowered}
+use Rattle.ped_transformations.specs.ped_reduce.specs.Reducing.{IsLowered}
+use Rattle.ped_transformations.specs.ped_reduce.proofs.LoweringLaws.{valid_stays}
 use Rattle.ped_transformations.specs.ped_reindex.specs.ped_loops.specs.ped_scalar.specs.ped_rules.specs.ped_loop_runs.specs.Unrejected.{IsTrusted}
 use Rattle.ped_transformations.specs.ped_reindex.specs.ped_loops.specs.ped_scalar.specs.ped_rules.specs.Lawful.{IsFaithful, Owes, IsLawful}
 use Rattle.ped_transformations.specs.ped_reindex.specs.ped_loops.specs.ped_scalar.specs.ped_rules.specs.ped_loop_runs.specs.ped_bodies.specs.ped_steps.specs.Runs.Meaning.{Keeps}
@@ -21,6 +27,7 @@ use Rattle.ped_session.specs.declared.changes.Change.{Change}
 use Rattle.ped_session.specs.declared.replies.Reply.{Reply}
 use Rattle.ped_session.specs.States.{Other, State, opened}
 use Rattle.ped_session.specs.Blocks.{block, IsRunBlock}
+use Rattle.ped_session.specs.LoweredRuns.{told_by, IsLoweredRun}
 use Rattle.ped_transformations.specs.ped_reindex.specs.ped_loops.specs.ped_scalar.specs.ped_rules.specs.Steps.{StepKind, transformation, rejection, StepAt}
 use Rattle.ped_session.specs.Steps.{Edits, accepted, refused, change_by, Transforms, missing, forbidden, transformed, GoesBack, GoesForward, Shows, IsStep}
 use Rattle.ped_session.specs.Scripts.{Said, said_by, AnswersCommand, AnswersItems}
@@ -69,11 +76,30 @@ came source (other ∷ past) earlier t u kept (inr comes) from to trusted =
 abbrev pub Agree : Type 0
 Agree = (t : ProgramTree) (data_bytes choices : List ℕ) (o : Outcome) → IsValid t → IsRaceFree t data_bytes → IsInterleaved t data_bytes choices o → o ≡ outcome t data_bytes
 
+-- what a program that may be trusted is lowered to may be trusted and means the same
+abbrev pub LoweringKeeps : Type 0
+LoweringKeeps = (t : ProgramTree) (q : Lowered) → IsValid t → IsTrusted t → IsLowered t q → IsTrusted q.tree × Keeps t q.tree
+
+-- an outcome without a fault is told as it is
+told_at_end : (q : Lowered) (t : ProgramTree) (e : Ending) → Ends e → told_by q (outcome_of t e) ≡ outcome_of t e
+told_at_end q t (going s) ends = refl
+told_at_end q t (stopped s) ends = refl
+told_at_end q t (failed fault statement) ends = absurd ends
+
+-- so it has the outcome of its run in order with all choices, also where it is lowered
+lowered_agrees : Agree → LoweringKeeps → (choices d : List ℕ) (u : ProgramTree) (o : Outcome) → IsValid u → IsTrusted u → IsRaceFree u d → IsLoweredRun choices d u o → o ≡ outcome u d
+lowered_agrees agree lower choices d u o valid trusted free run =
+    let q = run.lowered in
+    let keeps = (lower u q valid trusted run.lowers).1 in
+    let lowered_valid = valid_stays u (range_with_len 1 (statements_count u.body)) (not_lowered u) q valid run.lowers in
+    let ended : run.tells.0 ≡ outcome u d = agree q.tree d choices run.tells.0 lowered_valid (keeps.race_free d free) run.tells.1 ∙ keeps.same d free in
+    run.tells.2 ∙ ap (told_by q) ended ∙ told_at_end q u (run_of u d).ending free.0
+
 -- so each outcome of the present program, with whatever choices, is that of each of these
-pub as_before : Agree → (s : State) (d choices : List ℕ) (u : ProgramTree) (o : Outcome) → IsMeaningKept s → ReadsValid s.present u → IsInterleaved u d choices o → IsAsBefore s d o
-as_before agree s d choices u o kept reads is = λ earlier t comes from trusted free.
-    let keeps = (came s.present s.past earlier t u kept.past comes from reads trusted).keeps in
-    agree u d choices o reads.valid (keeps.race_free d free) is ∙ keeps.same d free
+pub as_before : Agree → LoweringKeeps → (s : State) (d choices : List ℕ) (u : ProgramTree) (o : Outcome) → IsMeaningKept s → ReadsValid s.present u → IsLoweredRun choices d u o → IsAsBefore s d o
+as_before agree lower s d choices u o kept reads run = λ earlier t comes from trusted free.
+    let faithful = came s.present s.past earlier t u kept.past comes from reads trusted in
+    lowered_agrees agree lower choices d u o reads.valid faithful.trusted (faithful.keeps.race_free d free) run ∙ faithful.keeps.same d free
 
 -- a state that is as it was
 same : (s next : State) → IsMeaningKept s → next ≡ s → IsMeaningKept next
@@ -117,27 +143,27 @@ line_keeps all line (Some c) d s next said k h = command_keeps all c d s next h.
 pub opened_keeps : (t : ProgramTree) → IsMeaningKept (opened t)
 opened_keeps t = record { past = tt; future = tt }
 
-run_shows : Agree → (line : ℕ) (choices d : List ℕ) (s next : State) (said : Said) → IsMeaningKept s → AnswersCommand line (Some (Run choices)) d s said next → ShowsAsBefore s d said.bytes
-run_shows agree line choices d s next said k h = λ earlier t comes from trusted free.
+run_shows : Agree → LoweringKeeps → (line : ℕ) (choices d : List ℕ) (s next : State) (said : Said) → IsMeaningKept s → AnswersCommand line (Some (Run choices)) d s said next → ShowsAsBefore s d said.bytes
+run_shows agree lower line choices d s next said k h = λ earlier t comes from trusted free.
     let shows : Shows (IsRunBlock choices d) s h.0 next = h.1 in
     ap (λ (x : Said). x.bytes) (h.2 ∙ ap (λ (r : Reply). said_by line r next) shows.prints.0) ∙ shows.so.2
-    ∙ ap block (as_before agree s d choices shows.tree shows.so.0 k shows.reads shows.so.1 earlier t comes from trusted free)
+    ∙ ap block (as_before agree lower s d choices shows.tree shows.so.0 k shows.reads shows.so.1 earlier t comes from trusted free)
 
 -- a `run` shows what the earlier programs show
-line_shows : Agree → (line : ℕ) (command : Option Command) (d : List ℕ) (s next : State) (said : Said) → IsMeaningKept s → AnswersCommand line command d s said next → RunsAsBefore command d s said
-line_shows agree line command d s next said k h = λ choices is. run_shows agree line choices d s next said k (subst (λ (c : Option Command). AnswersCommand line c d s said next) is h)
+line_shows : Agree → LoweringKeeps → (line : ℕ) (command : Option Command) (d : List ℕ) (s next : State) (said : Said) → IsMeaningKept s → AnswersCommand line command d s said next → RunsAsBefore command d s said
+line_shows agree lower line command d s next said k h = λ choices is. run_shows agree lower line choices d s next said k (subst (λ (c : Option Command). AnswersCommand line c d s said next) is h)
 
 -- the items of a script
-pub items_as_before : Agree → AllLawful → (items : List Item) (d : List ℕ) (s last : State) (said : Said) → IsMeaningKept s → AnswersItems items d s said last → AnswersAsBefore items d s said last
-items_as_before agree all [] d s last said k h = (k, h.0, h.1)
-items_as_before agree all (item ∷ items) d s last said k h = (
+pub items_as_before : Agree → LoweringKeeps → AllLawful → (items : List Item) (d : List ℕ) (s last : State) (said : Said) → IsMeaningKept s → AnswersItems items d s said last → AnswersAsBefore items d s said last
+items_as_before agree lower all [] d s last said k h = (k, h.0, h.1)
+items_as_before agree lower all (item ∷ items) d s last said k h = (
   k,
   h.0,
   h.1,
   h.2,
-  line_shows agree item.line item.command d s h.1 h.0 k h.2,
+  line_shows agree lower item.line item.command d s h.1 h.0 k h.2,
   h.3,
-  items_as_before agree all items d h.1 last h.3 (line_keeps all item.line item.command d s h.1 h.0 k h.2) h.4,
+  items_as_before agree lower all items d h.1 last h.3 (line_keeps all item.line item.command d s h.1 h.0 k h.2) h.4,
   h.5,
 )
 

@@ -6,13 +6,16 @@ mod HistoryMoves
 mod KeptEnds
 pub mod KeptMeanings
 mod LinesLeft
+mod ListedLoops
 mod Moves
 pub mod OneAnswer
 mod OneFinding
+pub mod OneRun
 pub mod OneStep
 mod PresentProgram
 mod PrintedSources
 mod RefusedSteps
+mod RunsInOrder
 mod Shown
 mod States
 mod StepCommands

@@ -13,11 +13,9 @@ use Rattle.ped_valid.proofs.OneVerdict.{one_of_both}
 use Rattle.ped_session.specs.ped_graph.specs.DependencePane.{IsDependencePane, IsDependencePaneOf}
 use Rattle.ped_session.specs.ped_graph.proofs.OnePane.{one_pane, one_pane_of}
 use Rattle.ped_session.specs.ped_graph.specs.Update.Fresh.{tested_pairs}
-use Rattle.ped_order.specs.ped_interleavings.specs.Interleavings.{at_start}
-use Rattle.ped_order.proofs.OneOutcome.{one_outcome}
 use Rattle.ped_transformations.specs.ped_reindex.specs.ped_loops.specs.ped_scalar.specs.ped_rules.specs.ped_loop_runs.specs.ped_bodies.specs.ped_steps.specs.Causes.{Cause}
 use Rattle.ped_session.specs.ped_transformations.specs.ped_script.specs.declared.items.Command.{Command}
-use Rattle.ped_session.specs.ped_transformations.specs.ped_script.specs.declared.items.Command.TheVariants.{Source, Deps, Show, Print, Advise, Replace, Insert, Delete, Interchange, Reverse, Skew, Strip, Peel, Distribute, Fuse, Expand, Privatise, Parallel, Serial, Reject, Undo, Redo, Run, Races, Tested}
+use Rattle.ped_session.specs.ped_transformations.specs.ped_script.specs.declared.items.Command.TheVariants.{Source, Deps, Show, Print, Advise, Replace, Insert, Delete, Interchange, Reverse, Skew, Strip, Peel, Distribute, Fuse, Expand, Privatise, Reduce, Parallel, Serial, Reject, Undo, Redo, Run, Races, Tested}
 use Rattle.ped_session.specs.declared.changes.Change.TheVariants.{Edit}
 use Rattle.ped_session.specs.declared.replies.Refusal.{Refusal}
 use Rattle.ped_session.specs.declared.replies.Refusal.TheVariants.{BadEdit, Step, NothingToUndo, NothingToRedo, NoSuchStatement, NoSuchLine}
@@ -37,6 +35,7 @@ use Rattle.ped_transformations.proofs.LawfulTable.{determined_step}
 use Rattle.ped_transformations.proofs.OneAdvice.{one_advice}
 use Rattle.ped_order.proofs.OneReport.{one_at_most}
 use Rattle.ped_session.proofs.OneFinding.{one_found}
+use Rattle.ped_session.proofs.OneRun.{one_lowered_run}
 
 -- a text has one valid tree at most
 pub one_tree : (text : List ℕ) (t u : ProgramTree) → ReadsValid text t → ReadsValid text u → t ≡ u
@@ -125,7 +124,7 @@ one_forward (other ∷ future) s p q m n a b = (a.0 ∙ sym b.0, a.1 ∙ sym b.1
 
 one_run : (choices data_bytes : List ℕ) (s : State) (p q : Reply) (m n : State) → Shows (IsRunBlock choices data_bytes) s p m → Shows (IsRunBlock choices data_bytes) s q n → (p ≡ q) × (m ≡ n)
 one_run choices data_bytes s p q m n a b = one_shows (IsRunBlock choices data_bytes)
-    (λ t x y e f. e.2 ∙ ap block (one_outcome t (at_start t data_bytes choices) e.0 f.0 e.1 f.1) ∙ sym f.2) s p q m n a b
+    (λ t x y e f. e.2 ∙ ap block (one_lowered_run choices data_bytes t e.0 f.0 e.1 f.1) ∙ sym f.2) s p q m n a b
 
 -- a step, whose first cause is one
 one_transform : (at : StepAt) (s : State) (p q : Reply) (m n : State) → IsDetermined at → Transforms at s p m → Transforms at s q n → (p ≡ q) × (m ≡ n)
@@ -176,6 +175,7 @@ one_other (Distribute number) d s m n p q a b = absurd a
 one_other (Fuse number) d s m n p q a b = absurd a
 one_other (Expand number name) d s m n p q a b = absurd a
 one_other (Privatise number name) d s m n p q a b = absurd a
+one_other (Reduce number names) d s m n p q a b = absurd a
 one_other (Parallel number) d s m n p q a b = absurd a
 one_other (Serial number) d s m n p q a b = absurd a
 one_other (Reject number name) d s m n p q a b = absurd a

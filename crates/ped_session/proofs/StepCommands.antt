@@ -1,7 +1,7 @@
 -- Which commands take a step.
 use Rattle.std.proofs.Common.{◌≡◌, ℕ, List, Option, None, refl}
 use Rattle.ped_session.specs.ped_transformations.specs.ped_script.specs.declared.items.Command.{Command}
-use Rattle.ped_session.specs.ped_transformations.specs.ped_script.specs.declared.items.Command.TheVariants.{Source, Deps, Show, Print, Advise, Replace, Insert, Delete, Interchange, Reverse, Skew, Strip, Peel, Distribute, Fuse, Expand, Privatise, Parallel, Serial, Reject, Undo, Redo, Run, Races, Tested}
+use Rattle.ped_session.specs.ped_transformations.specs.ped_script.specs.declared.items.Command.TheVariants.{Source, Deps, Show, Print, Advise, Replace, Insert, Delete, Interchange, Reverse, Skew, Strip, Peel, Distribute, Fuse, Expand, Privatise, Reduce, Parallel, Serial, Reject, Undo, Redo, Run, Races, Tested}
 use Rattle.ped_transformations.specs.Table.{step_of}
 use Rattle.ped_transformations.specs.CodeKinds.{IsPlace}
 
@@ -40,6 +40,7 @@ takes_step (Distribute number) is none = none
 takes_step (Fuse number) is none = none
 takes_step (Expand number name) is none = none
 takes_step (Privatise number name) is none = none
+takes_step (Reduce number names) is none = none
 takes_step (Parallel number) is none = none
 takes_step (Serial number) is none = none
 takes_step (Reject number name) is none = none

@@ -4,7 +4,7 @@ use Rattle.std.specs.Fmt.{decimal, signed_decimal}
 use Rattle.std.specs.List.{flat_map}
 use Rattle.ped_session.specs.ped_tree.specs.Tree.{ProgramTree}
 use Rattle.ped_order.specs.ped_eval.specs.Outcomes.{LiveRow, Outcome, Ended, Fault}
-use Rattle.ped_order.specs.ped_interleavings.specs.Interleavings.{IsInterleaved}
+use Rattle.ped_session.specs.LoweredRuns.{IsLoweredRun}
 
 -- a line that the program has printed, behind a bar and a blank
 abbrev pub output_row : List ℕ → List ℕ
@@ -28,6 +28,6 @@ abbrev pub block : Outcome → List ℕ
 block (Ended output live) = flat_map output_row output ++ codes "ended" ++ 10 ∷ flat_map live_row live
 block (Fault number statement) = fault_row number statement
 
--- the block of the outcome to which a program comes on its data, where these choices, and 0 behind their end, pick which iteration of an open PARALLEL DO does the next step (this project)
+-- the block of the outcome to which a program comes on its data, where these choices, and 0 behind their end, pick which iteration of an open PARALLEL DO does the next step; where it has live lists of sums, what it is lowered to runs (this project)
 abbrev pub IsRunBlock : (choices data_bytes : List ℕ) → ProgramTree → List ℕ → Type 0
-IsRunBlock choices data_bytes t bytes = (o : Outcome) × IsInterleaved t data_bytes choices o × (bytes ≡ block o)
+IsRunBlock choices data_bytes t bytes = (o : Outcome) × IsLoweredRun choices data_bytes t o × (bytes ≡ block o)

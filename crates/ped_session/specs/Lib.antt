@@ -10,6 +10,8 @@ pub mod Blocks
 pub mod Changing
 pub mod Histories
 pub mod Holding
+pub mod Listing
+pub mod LoweredRuns
 pub mod Meanings
 pub mod Panes
 pub mod RaceRows

@@ -16,6 +16,7 @@ use crate::scripts::{bad_command_row, reply_text};
 use crate::session::Session;
 use ped_order::interleavings_agree;
 use ped_transformations::every_step_is_lawful;
+use ped_transformations::ped_reduce::lowering_keeps_the_meaning;
 use std::alloc::Global;
 use std::sync::ledger::Ledger;
 
@@ -49,6 +50,7 @@ pub fn answer_items<L: Ledger>(
 {
     every_step_is_lawful();
     interleavings_agree();
+    lowering_keeps_the_meaning();
     let _ = &session.present;
     let mut answered = Answered {
         bytes: Bytes::new(alloc),

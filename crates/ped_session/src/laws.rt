@@ -1,12 +1,14 @@
 //! What holds of every session. Each function here does nothing; its contract is the law.
 
-ghost use Rattle.std.specs.Prelude.{◌≡◌, ℕ, List, []};
+ghost use Rattle.std.specs.Prelude.{◌≡◌, ◌↔◌, ℕ, List, []};
 ghost use Rattle.ped_session.specs.ped_tree.specs.Tree.{ProgramTree};
 ghost use Rattle.ped_valid.specs.ped_symbols.specs.NameRefusals.{IsValid};
 ghost use Rattle.ped_valid.specs.Validity.{ReadsValid};
 ghost use Rattle.ped_order.specs.ped_eval.specs.Outcomes.{Outcome, outcome, IsRaceFree};
 ghost use Rattle.ped_order.specs.ped_interleavings.specs.Interleavings.{IsInterleaved};
 ghost use Rattle.ped_transformations.specs.ped_reindex.specs.ped_loops.specs.ped_scalar.specs.ped_rules.specs.ped_loop_runs.specs.Unrejected.{IsTrusted};
+ghost use Rattle.ped_transformations.specs.ped_reduce.specs.Lowering.{Lowered};
+ghost use Rattle.ped_transformations.specs.ped_reduce.specs.Reducing.{IsLowered};
 ghost use Rattle.ped_transformations.specs.ped_reindex.specs.ped_loops.specs.ped_scalar.specs.ped_rules.specs.Lawful.{IsFaithful};
 ghost use Rattle.ped_session.specs.ped_transformations.specs.ped_script.specs.declared.items.Command.{Command};
 ghost use Rattle.ped_session.specs.ped_transformations.specs.ped_script.specs.declared.items.Command.TheVariants.{Undo, Redo, Run};
@@ -16,6 +18,7 @@ ghost use Rattle.ped_session.specs.declared.replies.Reply as code_reply;
 ghost use Rattle.ped_session.specs.declared.replies.Reply.TheVariants.{Changed, Refused};
 ghost use Rattle.ped_session.specs.States.{State, opened};
 ghost use Rattle.ped_session.specs.Blocks.{block};
+ghost use Rattle.ped_session.specs.LoweredRuns.{HasNoList, IsLoweredRun, IsLoweredInOrder};
 ghost use Rattle.ped_session.specs.Steps.{Shows, IsStep, IsMove};
 ghost use Rattle.ped_session.specs.Scripts.{Said, AnswersItems};
 ghost use Rattle.ped_session.specs.Meanings.{IsMeaningKept, ComesFrom};
@@ -24,6 +27,7 @@ ghost use Rattle.ped_session.specs.Histories.{ArePrinted, HaveSameSources, Times
 
 use ped_order::{interleavings_agree, without_choices};
 use ped_transformations::every_step_is_lawful;
+use ped_transformations::ped_reduce::{lowering_keeps_the_meaning, one_lowering};
 
 /// A command has one reply at most in a state, and leads to one state.
 pub fn one_step()
@@ -89,23 +93,39 @@ pub fn runs_are_as_before()
 {
     every_step_is_lawful();
     interleavings_agree();
+    lowering_keeps_the_meaning();
 }
 
 /// Whatever choices are given to the present program, its outcome is that of the run in order of each program from which it
 /// has come by transformations alone, where that one is tidy and without C$PED REJECT and runs in order without a fault
-/// and without a race.
+/// and without a race. Sums of lists that are live may be done in any order, too.
 pub fn interleavings_keep_the_meaning()
     ensures { (s : State) (earlier : List ℕ) (t u : ProgramTree) (data_bytes choices : List ℕ) (o : Outcome) →
         IsMeaningKept s → ComesFrom s.present s.past earlier → ReadsValid earlier t → ReadsValid s.present u → IsTrusted t →
-        IsRaceFree t data_bytes → IsInterleaved u data_bytes choices o → o ≡ outcome t data_bytes }
+        IsRaceFree t data_bytes → IsLoweredRun choices data_bytes u o → o ≡ outcome t data_bytes }
 {
     interleavings_agree();
+    lowering_keeps_the_meaning();
 }
 
-/// `run` without choices shows the outcome of the run in order, whatever the program races or faults at.
+/// Where no DO of a program has a list of sums, or none that is live, its outcomes are those of the program as it is, whatever
+/// the choices are.
+pub fn without_lists()
+    ensures none { (choices data_bytes : List ℕ) (t : ProgramTree) (o : Outcome) → HasNoList t →
+        IsLoweredRun choices data_bytes t o ↔ IsInterleaved t data_bytes choices o }
+    ensures none_live { (choices data_bytes : List ℕ) (t : ProgramTree) (q : Lowered) (o : Outcome) → IsLowered t q → q.live ≡ [] →
+        IsLoweredRun choices data_bytes t o ↔ IsInterleaved t data_bytes choices o }
+{
+    one_lowering();
+}
+
+/// `run` without choices shows the outcome of the run in order of what the present program is lowered to, whatever that races
+/// or faults at; and where no DO has a list of sums, that of the run in order of the present program.
 pub fn runs_in_order()
-    ensures { (data_bytes : List ℕ) (s next : State) (reply : code_reply.Reply) → IsStep (Run []) data_bytes s reply next →
-        Shows (λ t bytes. bytes ≡ block (outcome t data_bytes)) s reply next }
+    ensures lowered { (data_bytes : List ℕ) (s next : State) (reply : code_reply.Reply) → IsStep (Run []) data_bytes s reply next →
+        Shows (λ t bytes. (o : Outcome) × IsLoweredInOrder data_bytes t o × (bytes ≡ block o)) s reply next }
+    ensures plain { (data_bytes : List ℕ) (s next : State) (reply : code_reply.Reply) → IsStep (Run []) data_bytes s reply next →
+        ((t : ProgramTree) → ReadsValid s.present t → HasNoList t) → Shows (λ t bytes. bytes ≡ block (outcome t data_bytes)) s reply next }
 {
     without_choices();
 }

@@ -11,6 +11,7 @@ mod changing;
 mod editing;
 mod keeping;
 mod laws;
+mod listing;
 mod moving;
 mod race_rows;
 mod replies;
@@ -27,7 +28,7 @@ pub use changes::Change;
 pub use laws::{
     interleavings_keep_the_meaning, moves_restore_each_other, one_answer, one_step,
     refused_changes_nothing, runs_are_as_before, runs_in_order, sources_are_printed,
-    sources_keep_the_meaning, transformations_keep_the_meaning, undo_restores,
+    sources_keep_the_meaning, transformations_keep_the_meaning, undo_restores, without_lists,
 };
 pub use ped_base;
 pub use ped_order::ped_eval::{LiveRow, Outcome};

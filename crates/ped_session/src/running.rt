@@ -1,33 +1,135 @@
 //! Runs of a session's programs.
 
-ghost use Rattle.std.specs.Prelude.{IfOk};
+ghost use Rattle.std.specs.Prelude.{◌≡◌, IfOk};
+ghost use Rattle.ped_session.specs.ped_tree.specs.Views.{program_tree};
+ghost use Rattle.ped_session.specs.ped_graph.specs.Held.{held_of};
+ghost use Rattle.ped_valid.specs.ped_symbols.specs.Kinds.{table_of};
+ghost use Rattle.ped_valid.specs.ped_symbols.specs.NameRefusals.{IsValid};
 ghost use Rattle.ped_order.specs.ped_eval.specs.OutcomeViews.{outcome_view};
 ghost use Rattle.ped_order.specs.ped_interleavings.specs.Interleavings.{IsInterleaved};
+ghost use Rattle.ped_transformations.specs.ped_reduce.specs.Reducing.{IsLowered};
+ghost use Rattle.ped_transformations.specs.ped_reduce.specs.CodeLowered.{lowered_view};
 ghost use Rattle.ped_session.specs.Holding.{tree_of, IsVersion};
+ghost use Rattle.ped_session.specs.LoweredRuns as Spec;
+ghost use Rattle.ped_session.specs.LoweredRuns.{IsLoweredRun};
 
+use crate::listing::some_holds_list;
 use crate::ped_base::NoMemory;
+use crate::ped_graph::Graph;
+use crate::ped_graph::ped_symbols::Symbols;
+use crate::ped_tree::Program;
 use crate::versions::Version;
 use ped_machine::Machine;
 use ped_order::ped_eval::{Outcome, run_in_order};
 use ped_order::{an_interleaving, without_choices};
+use ped_transformations::ped_reduce::{Lowered, lower};
+use ped_transformations::ped_reindex::ped_loops::ped_scalar::ped_rules::ped_loop_runs::ped_bodies::ped_steps::Scene;
+use ped_transformations::ped_reindex::ped_loops::ped_scalar::ped_rules::ped_loop_runs::ped_bodies::ped_steps::ped_weaves::ped_laws::ped_flow::flow_of;
 use std::alloc::Global;
+use std::sync::ledger::Ledger;
 
-/// Runs a program on these data. The choices pick which iteration of an open PARALLEL DO does the next step, and behind
-/// their end 0 does. Where there are none, a run in order serves, which keeps the private copies of one iteration at a time.
-pub(crate) fn run_version(
+/// Runs what a program, whose graph this is, is lowered to, on these data. The choices pick which iteration of an open
+/// PARALLEL DO does the next step, and behind their end 0 does. A fault is told with the statement of the program itself.
+/// Where no DO has a list of sums, the program runs as it is.
+pub(crate) fn run_version<L: Ledger>(
     alloc: Global,
     version: &Version,
+    graph: &Graph<L>,
     input: &[u8],
     choices: &[u64],
 ) -> Result<Outcome, NoMemory>
-    requires { IsVersion version.now }
-    ensures { IfOk result (λ o. IsInterleaved (tree_of version.now) input.now choices.now (outcome_view o)) }
+    requires version { IsVersion version.now }
+    requires graph { graph.now ≡ held_of (tree_of version.now) }
+    ensures { IfOk result (λ o. IsLoweredRun choices.now input.now (tree_of version.now) (outcome_view o)) }
+{
+    if some_holds_list(alloc, &version.program.body)? {
+        let lowered = lower_version(alloc, version, graph)?;
+        return run_lowered(alloc, &lowered, input, choices);
+    }
+    run_program(alloc, &version.program, &version.symbols, input, choices)
+}
+
+/// What a program is lowered to.
+fn lower_version<L: Ledger>(
+    alloc: Global,
+    version: &Version,
+    graph: &Graph<L>,
+) -> Result<Lowered, NoMemory>
+    requires version { IsVersion version.now }
+    requires graph { graph.now ≡ held_of (tree_of version.now) }
+    ensures lowered { IfOk result (λ l. IsLowered (tree_of version.now) (lowered_view l)) }
+    ensures valid { IfOk result (λ l. IsValid (program_tree l.tree)) }
+    ensures symbols { IfOk result (λ l. l.symbols ≡ table_of (program_tree l.tree)) }
+{
+    let flow = flow_of(alloc, &version.program)?;
+    let scene = Scene {
+        tree: &version.program,
+        symbols: &version.symbols,
+        graph,
+        flow: &flow,
+    };
+    lower(alloc, &scene)
+}
+
+/// Runs what a program is lowered to, and tells the outcome of the program itself.
+fn run_lowered(
+    alloc: Global,
+    lowered: &Lowered,
+    input: &[u8],
+    choices: &[u64],
+) -> Result<Outcome, NoMemory>
+    requires valid { IsValid (program_tree lowered.now.tree) }
+    requires symbols { lowered.now.symbols ≡ table_of (program_tree lowered.now.tree) }
+    ensures { IfOk result (λ o. Spec.TellsRun choices.now input.now (lowered_view lowered.now) (outcome_view o)) }
+{
+    let outcome = run_program(alloc, &lowered.tree, &lowered.symbols, input, choices)?;
+    Ok(told_by(lowered, outcome))
+}
+
+/// An outcome of what a program is lowered to, as it is told of the program itself.
+fn told_by(lowered: &Lowered, outcome: Outcome) -> Outcome
+    ensures { outcome_view result ≡ Spec.told_by (lowered_view lowered.now) (outcome_view outcome) }
+{
+    match outcome {
+        Outcome::Ended { output, live } => Outcome::Ended { output, live },
+        Outcome::Fault { fault, statement } => Outcome::Fault {
+            fault,
+            statement: origin_at(&lowered.origin, statement),
+        },
+    }
+}
+
+/// The number of the statement from which the one with this number comes, by these for all statements.
+fn origin_at(origin: &[u32], number: u32) -> u32
+    ensures { result ≡ Spec.origin_at origin.now number }
+{
+    if number == 0 {
+        return 0;
+    }
+    match origin.get(number as usize - 1) {
+        Some(own) => *own,
+        None => number,
+    }
+}
+
+/// Runs a valid program, whose names these are, as it is. Where there are no choices, a run in order serves, which keeps the
+/// private copies of one iteration at a time.
+fn run_program(
+    alloc: Global,
+    program: &Program,
+    symbols: &Symbols,
+    input: &[u8],
+    choices: &[u64],
+) -> Result<Outcome, NoMemory>
+    requires valid { IsValid (program_tree program.now) }
+    requires symbols { symbols.now ≡ table_of (program_tree program.now) }
+    ensures { IfOk result (λ o. IsInterleaved (program_tree program.now) input.now choices.now (outcome_view o)) }
 {
     an_interleaving();
     without_choices();
     if choices.is_empty() {
-        return run_in_order(alloc, &version.program, &version.symbols, input);
+        return run_in_order(alloc, program, symbols, input);
     }
-    let mut machine = Machine::new(alloc, &version.program, &version.symbols, input)?;
+    let mut machine = Machine::new(alloc, program, symbols, input)?;
     machine.run(choices)
 }

@@ -13,10 +13,10 @@ ghost use Rattle.ped_valid.specs.Refusals.{IsRefusalOf};
 ghost use Rattle.ped_session.specs.ped_graph.specs.ped_edges.specs.Edges as plain;
 ghost use Rattle.ped_session.specs.ped_graph.specs.Dependences.{AreEdges};
 ghost use Rattle.ped_order.specs.ped_eval.specs.OutcomeViews.{outcome_view};
-ghost use Rattle.ped_order.specs.ped_interleavings.specs.Interleavings.{IsInterleaved};
 ghost use Rattle.ped_session.specs.declared.replies.Reply.{Reply};
 ghost use Rattle.ped_transformations.specs.Table.{step_of};
 ghost use Rattle.ped_transformations.specs.CodeKinds.{IsPlace};
+ghost use Rattle.ped_session.specs.LoweredRuns.{IsLoweredRun};
 ghost use Rattle.ped_session.specs.Meanings.{IsAsBefore};
 ghost use Rattle.ped_session.specs.States.{State, opened};
 ghost use Rattle.ped_session.specs.Steps.{IsStep, IsOther, IsMove};
@@ -34,6 +34,7 @@ use ped_history::History;
 use ped_order::interleavings_agree;
 use ped_order::ped_eval::Outcome;
 use ped_print::print;
+use ped_transformations::ped_reduce::lowering_keeps_the_meaning;
 use ped_transformations::place_of;
 use ped_valid::{OpenRefusal, Opened, open_program};
 use std::alloc::Global;
@@ -146,16 +147,18 @@ impl<L: Ledger> Session<L> {
         self.tested
     }
 
-    /// Runs the present program on the lines of its data. The choices pick which iteration of an open PARALLEL DO does the
-    /// next step, and behind their end 0 does. Whatever they are, the outcome is also that of the run in order of each
-    /// program from which the present one has come by transformations alone, where that one is tidy and without
-    /// C$PED REJECT and runs in order without a fault and without a race.
+    /// Runs the present program on the lines of its data: what it is lowered to, so that sums of a list that is live may be
+    /// done in any order; a fault is told with the statement of the present program. The choices pick which iteration of an
+    /// open PARALLEL DO does the next step, and behind their end 0 does. Whatever they are, the outcome is also that of the
+    /// run in order of each program from which the present one has come by transformations alone, where that one is tidy and
+    /// without C$PED REJECT and runs in order without a fault and without a race.
     pub fn run(&self, alloc: Global, input: &[u8], choices: &[u64]) -> Result<Outcome, NoMemory>
-        ensures outcome { IfOk result (λ o. (t : ProgramTree) → ReadsValid self.now.present t → IsInterleaved t input.now choices.now (outcome_view o)) }
+        ensures outcome { IfOk result (λ o. (t : ProgramTree) → ReadsValid self.now.present t → IsLoweredRun choices.now input.now t (outcome_view o)) }
         ensures before { IfOk result (λ o. IsAsBefore self.now input.now (outcome_view o)) }
     {
         interleavings_agree();
-        run_version(alloc, &self.present, input, choices)
+        lowering_keeps_the_meaning();
+        run_version(alloc, &self.present, &self.graph, input, choices)
     }
 
     /// Answers a command; programs are run on these data. A refused command leaves the session as it was, and so does

@@ -103,7 +103,7 @@ impl<L: Ledger> Session<L> {
         Ok(Reply::Shown(advice(alloc, &scene, number)?))
     }
 
-    /// The outcome of the present program on these data, with these choices.
+    /// The outcome of the present program on these data, with these choices: that of what it is lowered to.
     pub(crate) fn show_run(
         &self,
         alloc: Global,
@@ -112,7 +112,7 @@ impl<L: Ledger> Session<L> {
     ) -> Result<Reply, NoMemory>
         ensures { IfOk result (λ reply. Shows (IsRunBlock choices.now input.now) self.now reply self.now) }
     {
-        let outcome = run_version(alloc, &self.present, input, choices)?;
+        let outcome = run_version(alloc, &self.present, &self.graph, input, choices)?;
         Ok(Reply::Shown(block(alloc, &outcome)?))
     }
 

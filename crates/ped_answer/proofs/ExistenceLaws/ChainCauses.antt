@@ -22,7 +22,7 @@ use Rattle.ped_answer.specs.ped_session.specs.ped_transformations.specs.ped_rein
 use Rattle.ped_answer.specs.ped_session.specs.ped_transformations.specs.ped_reindex.specs.ped_loops.specs.ped_scalar.specs.ped_rules.proofs.Chains.{IsChain, chain_end, first_here, first_later, none_later, none_at_end}
 use Rattle.ped_answer.specs.ped_session.specs.ped_transformations.specs.ped_reindex.specs.ped_loops.specs.ped_scalar.specs.ped_rules.proofs.Decided.{loop_decided, valid_decided, limit_stands}
 use Rattle.ped_answer.specs.ped_session.specs.ped_transformations.specs.ped_reindex.specs.ped_loops.specs.ped_scalar.specs.ped_rules.proofs.EscapeRule.{by_statement, by_saved, by_nothing}
-use Rattle.ped_answer.specs.ped_session.specs.ped_transformations.specs.ped_splits.proofs.Existence.Edges.{edges_of_program}
+use Rattle.ped_answer.specs.ped_session.specs.ped_transformations.specs.ped_reduce.specs.ped_splits.proofs.Existence.Edges.{edges_of_program}
 
 -- the rule names a statement, or none
 abbrev pub Settled : (ℕ → Type 0) → Type 0

@@ -5,7 +5,7 @@ use Rattle.ped_answer.specs.ped_session.specs.ped_tree.specs.Tree.{ProgramTree}
 use Rattle.ped_answer.specs.ped_session.specs.ped_symbols.specs.NameRefusals.{IsValid}
 use Rattle.ped_answer.specs.ped_session.specs.ped_transformations.specs.ped_reindex.specs.ped_loops.specs.ped_scalar.specs.ped_rules.specs.ped_loop_runs.specs.ped_bodies.specs.ped_steps.specs.Causes.{Cause}
 use Rattle.ped_answer.specs.ped_session.specs.ped_transformations.specs.ped_script.specs.declared.items.Command.{Command}
-use Rattle.ped_answer.specs.ped_session.specs.ped_transformations.specs.ped_script.specs.declared.items.Command.TheVariants.{Source, Deps, Show, Print, Advise, Replace, Insert, Delete, Interchange, Reverse, Skew, Strip, Peel, Distribute, Fuse, Expand, Privatise, Parallel, Serial, Reject, Undo, Redo, Run, Races, Tested}
+use Rattle.ped_answer.specs.ped_session.specs.ped_transformations.specs.ped_script.specs.declared.items.Command.TheVariants.{Source, Deps, Show, Print, Advise, Replace, Insert, Delete, Interchange, Reverse, Skew, Strip, Peel, Distribute, Fuse, Expand, Privatise, Reduce, Parallel, Serial, Reject, Undo, Redo, Run, Races, Tested}
 use Rattle.ped_answer.specs.ped_session.specs.ped_transformations.specs.ped_reindex.specs.ped_loops.specs.ped_scalar.specs.ped_rules.specs.Steps.{StepAt, MaybeStep, no_step, some_step, MatchStep}
 use Rattle.ped_answer.specs.ped_session.specs.ped_transformations.specs.ped_reindex.specs.ped_loops.specs.ped_scalar.specs.ped_rules.specs.Lawful.{IsDetermined}
 use Rattle.ped_answer.specs.ped_session.specs.ped_transformations.specs.Table.{step_of}
@@ -16,6 +16,7 @@ use Rattle.ped_answer.proofs.ExistenceLaws.FuseCauses.{fuse_cause}
 use Rattle.ped_answer.proofs.ExistenceLaws.InterchangeCauses.{interchange_cause}
 use Rattle.ped_answer.proofs.ExistenceLaws.LoopCauses.{parallel_cause, serial_cause, reversal_cause, rejection_cause}
 use Rattle.ped_answer.proofs.ExistenceLaws.ScalarCauses.{privatising_cause, expanding_cause}
+use Rattle.ped_answer.proofs.ExistenceLaws.SumCauses.{reducing_cause}
 
 -- a step is forbidden by a first cause, or it makes a valid program
 abbrev pub Goes : StepAt → ProgramTree → Type 0
@@ -48,6 +49,7 @@ each_cause (Strip number size) = λ t. strip_cause t number size
 each_cause (Peel number last) = λ t. peel_cause t number last
 each_cause (Distribute number) = λ t. distribute_cause t number
 each_cause (Fuse number) = λ t. fuse_cause t number
+each_cause (Reduce number names) = λ t. reducing_cause t number names
 each_cause (Parallel number) = λ t. parallel_cause t number
 each_cause (Serial number) = λ t. serial_cause t number
 each_cause (Reject number name) = λ t. rejection_cause t number name

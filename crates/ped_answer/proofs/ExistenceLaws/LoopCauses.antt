@@ -21,7 +21,7 @@ use Rattle.ped_answer.specs.ped_session.specs.ped_transformations.specs.ped_rein
 use Rattle.ped_answer.specs.ped_session.specs.ped_transformations.specs.ped_reindex.specs.ped_loops.specs.Reversing.{reversed, MakesReversed, StandsAgainstReversal}
 use Rattle.ped_answer.specs.ped_session.specs.ped_transformations.specs.ped_reindex.specs.ped_loops.specs.Rejecting.{is_pending_of, NothingPending, WhereNothing, StandsAgainstRejection}
 use Rattle.ped_answer.specs.ped_session.specs.ped_transformations.specs.ped_reindex.specs.ped_loops.proofs.RejectRules.{nothing_pending, some_pending}
-use Rattle.ped_answer.specs.ped_session.specs.ped_transformations.specs.ped_splits.proofs.Existence.Edges.{edges_of_program}
+use Rattle.ped_answer.specs.ped_session.specs.ped_transformations.specs.ped_reduce.specs.ped_splits.proofs.Existence.Edges.{edges_of_program}
 use Rattle.ped_answer.proofs.ExistenceLaws.ChainCauses.{Settled, Found, found_link, found_last, settled_no_loop, settled_where, settled_escape, settled_limit, some_cause}
 
 module _ (t : ProgramTree) (s : ℕ) where

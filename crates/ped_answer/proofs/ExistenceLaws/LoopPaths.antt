@@ -18,7 +18,7 @@ use Rattle.ped_answer.specs.ped_session.specs.ped_transformations.specs.ped_rein
 use Rattle.ped_answer.specs.ped_session.specs.ped_transformations.specs.ped_reindex.specs.ped_loops.specs.ped_scalar.proofs.LiveSaid.{behind_first, shown_decided}
 use Rattle.ped_answer.specs.ped_session.specs.ped_transformations.specs.ped_reindex.specs.ped_loops.specs.ped_scalar.specs.ped_rules.proofs.Decided.{loop_decided}
 use Rattle.ped_answer.specs.Existence.Deciding.{Decided}
-use Rattle.ped_answer.specs.ped_session.specs.ped_transformations.specs.ped_splits.proofs.Existence.Deciding.{decided_same, true_decided}
+use Rattle.ped_answer.specs.ped_session.specs.ped_transformations.specs.ped_reduce.specs.ped_splits.proofs.Existence.Deciding.{decided_same, true_decided}
 
 module _ (t : ProgramTree) (s : ℕ) (x : List ℕ) where
   -- the first statement with an exposed read, or none

@@ -16,7 +16,7 @@ use Rattle.ped_answer.specs.ped_session.specs.ped_order.specs.ped_eval.specs.Out
 use Rattle.ped_answer.specs.ped_session.specs.ped_order.specs.ped_interleavings.specs.Interleavings.{Standing, at_start, IsInterleavedFrom}
 use Rattle.ped_answer.specs.ped_session.specs.ped_order.proofs.OneReport.{one_at_least}
 use Rattle.ped_answer.specs.ped_session.specs.ped_transformations.specs.ped_script.specs.declared.items.Command.{Command}
-use Rattle.ped_answer.specs.ped_session.specs.ped_transformations.specs.ped_script.specs.declared.items.Command.TheVariants.{Source, Deps, Show, Print, Advise, Replace, Insert, Delete, Interchange, Reverse, Skew, Strip, Peel, Distribute, Fuse, Expand, Privatise, Parallel, Serial, Reject, Undo, Redo, Run, Races, Tested}
+use Rattle.ped_answer.specs.ped_session.specs.ped_transformations.specs.ped_script.specs.declared.items.Command.TheVariants.{Source, Deps, Show, Print, Advise, Replace, Insert, Delete, Interchange, Reverse, Skew, Strip, Peel, Distribute, Fuse, Expand, Privatise, Reduce, Parallel, Serial, Reject, Undo, Redo, Run, Races, Tested}
 use Rattle.ped_answer.specs.ped_session.specs.ped_transformations.specs.ped_script.specs.declared.items.Item.{Item}
 use Rattle.ped_answer.specs.ped_session.specs.declared.changes.Change.TheVariants.{Edit}
 use Rattle.ped_answer.specs.ped_session.specs.declared.replies.Refusal.{Refusal}
@@ -27,6 +27,7 @@ use Rattle.ped_answer.specs.ped_session.specs.States.{Other, State, opened, chan
 use Rattle.ped_answer.specs.ped_session.specs.Splices.{spliced, are_lines, is_place, edit_keep}
 use Rattle.ped_answer.specs.ped_session.specs.Panes.{IsSourcePane, ArePanes, tested_row}
 use Rattle.ped_answer.specs.ped_session.specs.Blocks.{block, IsRunBlock}
+use Rattle.ped_answer.specs.ped_session.specs.LoweredRuns.{told_by, IsLoweredRun}
 use Rattle.ped_answer.specs.ped_session.specs.RaceRows.{race_row, IsRaceRow}
 use Rattle.ped_answer.specs.ped_session.specs.ped_transformations.specs.ped_reindex.specs.ped_loops.specs.ped_scalar.specs.ped_rules.specs.Steps.{StepAt, MaybeStep, no_step, some_step, MatchStep}
 use Rattle.ped_answer.specs.ped_session.specs.ped_transformations.specs.Table as table
@@ -37,6 +38,7 @@ use Rattle.ped_answer.specs.ped_session.specs.Scripts.{Said, said_by, bad_comman
 use Rattle.ped_answer.proofs.ExistenceLaws.Advices.{advice_of}
 use Rattle.ped_answer.proofs.ExistenceLaws.Edges.{pane_of_program, pane_of_statement}
 use Rattle.ped_answer.proofs.ExistenceLaws.FirstCauses.{Goes, each_goes}
+use Rattle.ped_answer.proofs.ExistenceLaws.Lowerings.{some_lowered}
 use Rattle.ped_answer.proofs.ExistenceLaws.Refusing.{refusal_for}
 
 -- a reply and a state of which this is so; all sources there are printed texts of valid programs
@@ -65,6 +67,13 @@ race_rows data_bytes t = let r = one_at_least t data_bytes in (race_row r.0, (r.
 -- a run comes to an outcome, from wherever it stands
 abbrev pub SomeOutcome : Type 0
 SomeOutcome = (t : ProgramTree) (st : Standing) → (o : Outcome) × IsInterleavedFrom t st o
+
+-- so each program has an outcome with each list of choices: what it is lowered to has one
+pub lowered_outcome : SomeOutcome → (choices data_bytes : List ℕ) (t : ProgramTree) → (o : Outcome) × IsLoweredRun choices data_bytes t o
+lowered_outcome comes choices d t =
+    let q = some_lowered t in
+    let u = comes q.0.tree (at_start q.0.tree d choices) in
+    (told_by q.0 u.0, record { lowered = q.0; lowers = q.1; tells = (u.0, u.1, refl) })
 
 module _ (comes : SomeOutcome) (s : State) (all : ArePrinted s) where
   stays : (why : Refusal) → Answered (λ reply. λ next. Refuses why s reply next)
@@ -152,7 +161,7 @@ module _ (comes : SomeOutcome) (s : State) (all : ArePrinted s) where
 
   -- with whatever choices
   run_block : (choices data_bytes : List ℕ) (t : ProgramTree) → (bytes : List ℕ) × IsRunBlock choices data_bytes t bytes
-  run_block choices data_bytes t = let o = comes t (at_start t data_bytes choices) in (block o.0, (o.0, o.1, refl))
+  run_block choices data_bytes t = let o = lowered_outcome comes choices data_bytes t in (block o.0, (o.0, o.1, refl))
 
   -- a command that takes no step
   others : (c : Command) (data_bytes : List ℕ) → MatchStep (table.step_of c) (Answered (λ reply. λ next. IsOther c data_bytes s reply next)) (λ at. ⊤)
@@ -178,6 +187,7 @@ module _ (comes : SomeOutcome) (s : State) (all : ArePrinted s) where
   others (Fuse number) d = tt
   others (Expand number name) d = tt
   others (Privatise number name) d = tt
+  others (Reduce number names) d = tt
   others (Parallel number) d = tt
   others (Serial number) d = tt
   others (Reject number name) d = tt

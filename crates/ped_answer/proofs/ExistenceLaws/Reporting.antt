@@ -4,8 +4,7 @@ use Rattle.std.proofs.lemmas.List.Elements.{All-nil}
 use Rattle.ped_gen.specs.Generated.{script}
 use Rattle.ped_answer.specs.ped_session.specs.ped_tree.specs.Tree.{ProgramTree}
 use Rattle.ped_answer.specs.ped_session.specs.ped_symbols.specs.NameRefusals.{IsValid}
-use Rattle.ped_answer.specs.ped_session.specs.ped_order.specs.ped_eval.specs.Outcomes.{Outcome, outcome}
-use Rattle.ped_answer.specs.ped_session.specs.ped_order.specs.ped_interleavings.specs.Interleavings.{at_start}
+use Rattle.ped_answer.specs.ped_session.specs.ped_order.specs.ped_eval.specs.Outcomes.{Outcome}
 use Rattle.ped_answer.specs.ped_session.specs.ped_transformations.specs.ped_script.specs.Items.{commands_of}
 use Rattle.ped_answer.specs.ped_session.specs.ped_transformations.specs.ped_script.specs.declared.items.Command.{Command}
 use Rattle.ped_answer.specs.ped_session.specs.ped_transformations.specs.ped_script.specs.declared.items.Item.{Item}
@@ -14,8 +13,8 @@ use Rattle.ped_answer.specs.ped_session.specs.Histories.{IsPrinted, ArePrinted}
 use Rattle.ped_answer.specs.Existence.Deciding.{Decided}
 use Rattle.ped_answer.specs.Generated.{Tally, no_tally, tally_both, tally_of, bad_command_tally, AppliesCommand, Applies, EndAlike, IsWordOn, alike, unlike, Reports}
 use Rattle.ped_answer.proofs.ExistenceLaws.Alike.{alike_decided}
-use Rattle.ped_answer.specs.ped_session.specs.ped_transformations.specs.ped_splits.proofs.Existence.Edges.{edges_of_program}
-use Rattle.ped_answer.proofs.ExistenceLaws.Replying.{SomeOutcome, replies, reads_printed}
+use Rattle.ped_answer.specs.ped_session.specs.ped_transformations.specs.ped_reduce.specs.ped_splits.proofs.Existence.Edges.{edges_of_program}
+use Rattle.ped_answer.proofs.ExistenceLaws.Replying.{SomeOutcome, lowered_outcome, replies, reads_printed}
 
 -- what lines come to, and the state behind them, whose sources are all printed
 record Applied (A : Tally → State → Type 0) : Type 0 where
@@ -49,8 +48,9 @@ some_report comes n t valid =
     let done = applies comes (commands_of (script n)) (opened t) (record { past = All-nil (λ (o : Other). IsPrinted o.0); present = (t, valid, refl); future = All-nil (λ (o : Other). IsPrinted o.0) }) in
     let last = reads_printed done.next.present done.printed.present in
     let edges = edges_of_program last.0 in
-    let ended = comes last.0 (at_start last.0 [] []) in
-    let word = word_on (outcome t []) ended.0 in (
+    let began = lowered_outcome comes [] [] t in
+    let ended = lowered_outcome comes [] [] last.0 in
+    let word = word_on began.0 ended.0 in (
       _,
       record {
         tally = done.tally;
@@ -60,8 +60,10 @@ some_report comes n t valid =
         reads = last.1;
         edges = edges.0;
         are_edges = edges.1;
+        began = began.0;
+        runs_first = began.1;
         ended = ended.0;
-        runs = ended.1;
+        runs_last = ended.1;
         word = word.0;
         word_on = word.1;
         says = refl;

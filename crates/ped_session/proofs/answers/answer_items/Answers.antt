@@ -77,7 +77,7 @@ returns-clause-before g c =
     let past = c.loop-item-test.false in
     let s = c.session.inside in (
       inv.said,
-      items_as_before c.interleavings_agree.ensures c.every_step_is_lawful.ensures c.args.items.now c.args.input.now c.args.session.now c.loop-item.session inv.said
+      items_as_before c.interleavings_agree.ensures c.lowering_keeps_the_meaning.ensures c.every_step_is_lawful.ensures c.args.items.now c.args.input.now c.args.session.now c.loop-item.session inv.said
           (kept_in s.present s.graph s.history.past s.history.future c.session.invariant c.args.session.now s.tested c.session.view_is)
           (items_all c.args.items.now c.loop-item.item-index c.args.input.now c.args.session.now c.loop-item.session inv.said (omega (arith, past)) inv.answers),
       inv.bytes,

@@ -1,31 +1,19 @@
-use Rattle.std.proofs.Common.{◌≡◌, ℕ, List, [], ◌∷◌, length, ◌==◌, true, false, refl, sym, ◌∙◌, subst, arith}
-use Rattle.std.proofs.lemmas.Bool.Decides.{nat_tests}
+use Rattle.std.proofs.Common.{sym, ◌∙◌}
 use Rattle.std.proofs.lemmas.Result.{IfOk-weaker}
-use Rattle.ped_session.specs.ped_tree.specs.Tree.{ProgramTree}
-use Rattle.ped_order.specs.ped_eval.specs.Outcomes.{Outcome}
 use Rattle.ped_order.specs.ped_eval.specs.OutcomeViews.{outcome_view}
-use Rattle.ped_order.specs.ped_interleavings.specs.Interleavings.{Standing, IsInterleavedFrom, at_start, IsInterleaved}
-use Rattle.ped_machine.specs.Roots.{held}
+use Rattle.ped_transformations.specs.ped_reduce.specs.CodeLowered.{lowered_view}
 use Rattle.ped_session.specs.Holding.{tree_of}
+use Rattle.ped_session.proofs.ListedLoops.{has_no_list}
+use Rattle.ped_session.proofs.OneRun.{runs_itself}
+use Rattle.ped_session.proofs.RunsInOrder.{lowered_to_itself}
 use Rattle.ped_session.proofs.running.run_version.Goals as goal
 
-no_choices : (cs : List ℕ) → (length cs == 0) ≡ true → cs ≡ []
-no_choices [] h = refl
-no_choices (c ∷ cs) h = let some : (length (c ∷ cs) == 0) ≡ false = grind (arith, nat_tests) in absurd cc
-
-pub returns-then-is_empty : goal.returns-then-is_empty
-returns-then-is_empty c =
-    let t = tree_of c.args.version.now in
-    let d = c.args.input.now in
-    let choices = c.args.choices.now in
-    let (o, comes) = c.an_interleaving.ensures t (at_start t d choices) in
-    let in_order = c.without_choices.ensures t d o (subst (λ (cs : List ℕ). IsInterleaved t d cs o) (no_choices choices (sym c.is_empty.ensures ∙ c.if-is_empty.true)) comes) in
-    IfOk-weaker c.run_in_order.result _ _ (λ found is. subst (λ (x : Outcome). IsInterleaved t d choices x) (in_order ∙ sym is) comes) c.run_in_order.ensures
+pub returns-then-branch : goal.returns-then-branch
+returns-then-branch g c =
+    IfOk-weaker c.run_lowered.result _ _ (λ o tells. record { lowered = lowered_view c.in_ok-lowered.lowered; lowers = c.in_ok-lowered.ensures.lowered; tells = tells }) c.run_lowered.ensures
 
 pub returns : goal.returns
-returns c =
+returns g c =
     let t = tree_of c.args.version.now in
-    let start = at_start t c.args.input.now c.args.choices.now in
-    IfOk-weaker c.run.result _ _ (λ o is.
-    subst (λ (u : ProgramTree). IsInterleavedFrom u start (outcome_view o)) c.in_ok-machine.ensures.tree
-    (subst (λ (st : Standing). IsInterleavedFrom (held c.in_ok-machine.machine).tree st (outcome_view o)) (c.in_ok-machine.ensures.stands c.args.choices.now) is)) c.run.ensures.outcome
+    let none = has_no_list t (sym c.in_ok-some_holds_list.ensures ∙ c.if-branch.false) in
+    IfOk-weaker c.run_program.result _ _ (λ o is. runs_itself c.args.choices.now c.args.input.now t (outcome_view o) (lowered_to_itself t none) is) c.run_program.ensures

@@ -1,5 +1,5 @@
 -- Where the sums of a DO may be kept apart, and the new program is valid, all is known of both programs by which the new one keeps the meaning of the old one.
-use Rattle.std.proofs.Common.{◌≡◌, ◌⊎◌, ℕ, suc, ◌+◌, ◌-◌, ◌≤◌, ◌<◌, ℤ, pos, neg_ℤ, ◌+ℤ◌, ◌-ℤ◌, ◌*ℤ◌, ◌<ℤ◌, ◌≤ℤ◌, int_le, int_lt, unsigned_abs, List, [], ◌∷◌, ◌++◌, length, Bool, true, false, cond, ◌&&◌, ◌||◌, Option, Some, None, if◌then◌else◌, append-nil, inl, inr, refl, sym, ap, subst, ◌∙◌, arith}
+use Rattle.std.proofs.Common.{◌≡◌, ◌⊎◌, ℕ, suc, ◌+◌, ◌-◌, ◌≤◌, ℤ, pos, neg_ℤ, ◌+ℤ◌, ◌*ℤ◌, ◌≤ℤ◌, int_le, int_lt, unsigned_abs, List, [], ◌∷◌, ◌++◌, length, Bool, true, false, cond, ◌&&◌, ◌||◌, Option, Some, None, if◌then◌else◌, append-nil, inl, inr, refl, sym, ap, subst, ◌∙◌, arith}
 use Rattle.std.specs.Prelude.{nat_lt}
 use Rattle.std.specs.Int.{int_min, int_max}
 use Rattle.std.specs.List.{flat_map, list_any}
@@ -7,7 +7,7 @@ use Rattle.std.proofs.Math.IntN.{*ℤ_comm}
 use Rattle.std.proofs.lemmas.Bool.{both_ways, or_parts}
 use Rattle.std.proofs.lemmas.Bool.Decides.{nat_tests}
 use Rattle.std.proofs.lemmas.Int.{ints, by_lt_z}
-use @LAWS.specs.ped_graph.specs.ped_views.proofs.Products.{linear, mul-le, neg-mul}
+use Rattle.ped_splits.specs.ped_reindex.specs.ped_loops.specs.ped_scalar.specs.ped_rules.specs.ped_loop_runs.specs.ped_bodies.specs.ped_steps.specs.ped_laws.specs.ped_graph.specs.ped_views.proofs.Products.{linear, mul-le, neg-mul}
 use Rattle.ped_base.specs.Dimensions.{Dimensions}
 use Rattle.ped_base.specs.Lists.{is_same_text, is_among}
 use Rattle.ped_base.proofs.NameEquality.{same_is}
@@ -15,47 +15,45 @@ use Rattle.ped_tree.specs.Constants.ConstantExpressions.{constant_value}
 use Rattle.ped_tree.specs.NamesIn.{loop_variables, all_loop_variables, private_names_in, stmt_names, stmts_names}
 use Rattle.ped_tree.specs.Nests.{Loop, indices_of}
 use Rattle.ped_tree.specs.Numbering.{numbered, all_numbered, statement_count, statements_count, statement_with}
-use Rattle.ped_tree.specs.Tree.{Head, StmtTree, StmtTrees, If, Do, DeclTree, ProgramTree}
-use @SYMS.specs.declared.symbols.Kind.{Kind}
-use @SYMS.specs.Kinds.{kind_of, kind_in, names_of, at_last, table_of}
-use @SYMS.specs.NameRefusals.{IsValid}
-use @SYMS.specs.RightUses.RightUses.{is_scalar_kind}
-use @SYMS.specs.Sites.{decl_sites, stmts_sites}
-use @SYMS.proofs.RightUseLaws.Whole.{names_occur, same_values}
-use @FLOW.specs.PlainBounds.{all_loops_round, nest_round}
-use @FLOW.specs.Questions.{LoopOf}
-use @FLOW.proofs.Truths.{untrue, or_split}
-use @LAWS.specs.Acts.Orders.{IsIn}
-use @LAWS.specs.ped_store.specs.Storage.{is_within}
-use @LAWS.specs.ped_eval.specs.Loops.{increment, iteration_count}
-use @LAWS.specs.ped_eval.specs.Outcomes.{bounds_of, setting_of}
-use @LAWS.proofs.FlowRunLaws.Standing.{Stand, whole_stands, first_stands, rest_stands, inner_stands, else_stands, is_there}
-use @LAWS.proofs.PlainLaws.Nests.{all_loops_among}
-use @STEPS.specs.Replacing.{alone, program_with, all_replaced}
-use @STEPS.specs.Runs.Expanding.{array_bounds, with_array}
-use @STEPS.specs.Runs.Gaps.{Gap, at_front, past, in_then, in_else, in_body, filled, number_at}
-use @STEPS.proofs.RunLaws.ConstantBounds.{Counts, constant_counts, constant_step}
-use @STEPS.proofs.RunLaws.ExpandedNamesArrays.{kind_same}
-use @STEPS.proofs.RunLaws.ExpandedNamesSites.{stmts_at}
-use @STEPS.proofs.RunLaws.NamesKept.{occurs, occurs_append}
-use @RUNS.specs.Statements.{GivesWay}
-use @RUNS.proofs.PastingLaws.OneStatement.{gives_way}
-use @RULES.specs.OnlyLoops.{on_loop}
-use @RULES.specs.Spans.{Values, Span, has_iteration, last_value, span_by, span_of, is_far, spans_far}
-use @RULES.proofs.OneLoop.{one_loop}
-use @RULES.proofs.RightSteps.{near_is}
-use @SCALAR.specs.Scalars.{is_scalar}
-use @SCALAR.specs.Expanding.{is_private_near}
+use Rattle.ped_tree.specs.Tree.{Head, StmtTrees, If, Do, ProgramTree}
+use Rattle.ped_splits.specs.ped_reindex.specs.ped_loops.specs.ped_scalar.specs.ped_rules.specs.ped_loop_runs.specs.ped_bodies.specs.ped_steps.specs.ped_symbols.specs.declared.symbols.Kind.{Kind}
+use Rattle.ped_splits.specs.ped_reindex.specs.ped_loops.specs.ped_scalar.specs.ped_rules.specs.ped_loop_runs.specs.ped_bodies.specs.ped_steps.specs.ped_symbols.specs.Kinds.{kind_of, kind_in, names_of, table_of}
+use Rattle.ped_splits.specs.ped_reindex.specs.ped_loops.specs.ped_scalar.specs.ped_rules.specs.ped_loop_runs.specs.ped_bodies.specs.ped_steps.specs.ped_symbols.specs.NameRefusals.{IsValid}
+use Rattle.ped_splits.specs.ped_reindex.specs.ped_loops.specs.ped_scalar.specs.ped_rules.specs.ped_loop_runs.specs.ped_bodies.specs.ped_steps.specs.ped_symbols.specs.RightUses.RightUses.{is_scalar_kind}
+use Rattle.ped_splits.specs.ped_reindex.specs.ped_loops.specs.ped_scalar.specs.ped_rules.specs.ped_loop_runs.specs.ped_bodies.specs.ped_steps.specs.ped_symbols.specs.Sites.{decl_sites, stmts_sites}
+use Rattle.ped_splits.specs.ped_reindex.specs.ped_loops.specs.ped_scalar.specs.ped_rules.specs.ped_loop_runs.specs.ped_bodies.specs.ped_steps.specs.ped_symbols.proofs.RightUseLaws.Whole.{names_occur, same_values}
+use Rattle.ped_splits.specs.ped_reindex.specs.ped_loops.specs.ped_scalar.specs.ped_rules.specs.ped_loop_runs.specs.ped_bodies.specs.ped_steps.specs.ped_flow.specs.PlainBounds.{all_loops_round, nest_round}
+use Rattle.ped_splits.specs.ped_reindex.specs.ped_loops.specs.ped_scalar.specs.ped_rules.specs.ped_loop_runs.specs.ped_bodies.specs.ped_steps.specs.ped_flow.specs.Questions.{LoopOf}
+use Rattle.ped_splits.specs.ped_reindex.specs.ped_loops.specs.ped_scalar.specs.ped_rules.specs.ped_loop_runs.specs.ped_bodies.specs.ped_steps.specs.ped_flow.proofs.Truths.{untrue, or_split}
+use Rattle.ped_splits.specs.ped_reindex.specs.ped_loops.specs.ped_scalar.specs.ped_rules.specs.ped_loop_runs.specs.ped_bodies.specs.ped_steps.specs.ped_laws.specs.Acts.Orders.{IsIn}
+use Rattle.ped_splits.specs.ped_reindex.specs.ped_loops.specs.ped_scalar.specs.ped_rules.specs.ped_loop_runs.specs.ped_bodies.specs.ped_steps.specs.ped_laws.specs.ped_store.specs.Storage.{is_within}
+use Rattle.ped_splits.specs.ped_reindex.specs.ped_loops.specs.ped_scalar.specs.ped_rules.specs.ped_loop_runs.specs.ped_bodies.specs.ped_steps.specs.ped_laws.specs.ped_eval.specs.Loops.{increment, iteration_count}
+use Rattle.ped_splits.specs.ped_reindex.specs.ped_loops.specs.ped_scalar.specs.ped_rules.specs.ped_loop_runs.specs.ped_bodies.specs.ped_steps.specs.ped_laws.specs.ped_eval.specs.Outcomes.{bounds_of, setting_of}
+use Rattle.ped_splits.specs.ped_reindex.specs.ped_loops.specs.ped_scalar.specs.ped_rules.specs.ped_loop_runs.specs.ped_bodies.specs.ped_steps.specs.ped_laws.proofs.FlowRunLaws.Standing.{Stand, whole_stands, first_stands, rest_stands, inner_stands, else_stands, is_there}
+use Rattle.ped_splits.specs.ped_reindex.specs.ped_loops.specs.ped_scalar.specs.ped_rules.specs.ped_loop_runs.specs.ped_bodies.specs.ped_steps.specs.ped_laws.proofs.PlainLaws.Nests.{all_loops_among}
+use Rattle.ped_splits.specs.ped_reindex.specs.ped_loops.specs.ped_scalar.specs.ped_rules.specs.ped_loop_runs.specs.ped_bodies.specs.ped_steps.specs.Replacing.{alone, all_replaced}
+use Rattle.ped_splits.specs.ped_reindex.specs.ped_loops.specs.ped_scalar.specs.ped_rules.specs.ped_loop_runs.specs.ped_bodies.specs.ped_steps.specs.Runs.Expanding.{array_bounds}
+use Rattle.ped_splits.specs.ped_reindex.specs.ped_loops.specs.ped_scalar.specs.ped_rules.specs.ped_loop_runs.specs.ped_bodies.specs.ped_steps.specs.Runs.Gaps.{Gap, at_front, past, in_then, in_else, in_body, filled}
+use Rattle.ped_splits.specs.ped_reindex.specs.ped_loops.specs.ped_scalar.specs.ped_rules.specs.ped_loop_runs.specs.ped_bodies.specs.ped_steps.proofs.RunLaws.ConstantBounds.{Counts, constant_counts, constant_step}
+use Rattle.ped_splits.specs.ped_reindex.specs.ped_loops.specs.ped_scalar.specs.ped_rules.specs.ped_loop_runs.specs.ped_bodies.specs.ped_steps.proofs.RunLaws.ExpandedNamesArrays.{kind_same}
+use Rattle.ped_splits.specs.ped_reindex.specs.ped_loops.specs.ped_scalar.specs.ped_rules.specs.ped_loop_runs.specs.ped_bodies.specs.ped_steps.proofs.RunLaws.ExpandedNamesSites.{stmts_at}
+use Rattle.ped_splits.specs.ped_reindex.specs.ped_loops.specs.ped_scalar.specs.ped_rules.specs.ped_loop_runs.specs.ped_bodies.specs.ped_steps.proofs.RunLaws.NamesKept.{occurs, occurs_append}
+use Rattle.ped_splits.specs.ped_reindex.specs.ped_loops.specs.ped_scalar.specs.ped_rules.specs.ped_loop_runs.specs.Statements.{GivesWay}
+use Rattle.ped_splits.specs.ped_reindex.specs.ped_loops.specs.ped_scalar.specs.ped_rules.specs.ped_loop_runs.proofs.PastingLaws.OneStatement.{gives_way}
+use Rattle.ped_splits.specs.ped_reindex.specs.ped_loops.specs.ped_scalar.specs.ped_rules.specs.OnlyLoops.{on_loop}
+use Rattle.ped_splits.specs.ped_reindex.specs.ped_loops.specs.ped_scalar.specs.ped_rules.specs.Spans.{Values, Span, has_iteration, last_value, span_by, span_of, is_far}
+use Rattle.ped_splits.specs.ped_reindex.specs.ped_loops.specs.ped_scalar.specs.ped_rules.proofs.OneLoop.{one_loop}
+use Rattle.ped_splits.specs.ped_reindex.specs.ped_loops.specs.ped_scalar.specs.ped_rules.proofs.RightSteps.{near_is}
 use Rattle.ped_reduce.specs.Lowering.{Partials, declarations, lowered_loop}
 use Rattle.ped_reduce.proofs.LoopsRoundGaps.{gap_loops, gap_nest}
 use Rattle.ped_reduce.proofs.ResemblingPaths.{in_gap}
 use Rattle.ped_reduce.proofs.LoweredNames.{in_lowered}
-use Rattle.ped_reduce.proofs.SumStores.{is_array_of, is_array, is_total, HaveArrays, array_apart}
+use Rattle.ped_reduce.proofs.SumStores.{is_array_of, is_array, is_total, array_apart}
 use Rattle.ped_reduce.proofs.SumPlaces.{moves}
 use Rattle.ped_reduce.proofs.SumKeeps.{IsKeptApart}
 use Rattle.ped_reduce.proofs.SumGoals.{kept_apart, MayKeepApart, DeclaredApart}
 use Rattle.ped_reduce.proofs.SumNames.{IsUnlike, lowered_lacks, filled_more}
-use Rattle.ped_reduce.proofs.SumDeclared.{saved_declared, program, values_declared, kinds_declared, names_declared, IsDeclared, arrays_declared}
+use Rattle.ped_reduce.proofs.SumDeclared.{saved_declared, program, values_declared, kinds_declared, names_declared, arrays_declared}
 
 -- what none is, one isn't; and what one is, is found
 none_of : {A : Type 0} (f : A → Bool) (xs : List A) (a : A) → list_any f xs ≡ false → IsIn a xs → f a ≡ false

@@ -1,12 +1,12 @@
 -- In the body of a DO with a live list the scalars stand in sums alone, in none of which one of them is added, and new arrays nowhere; no DO in it has one of them, or the DO's own variable, as its variable or in its PRIVATE list.
-use Rattle.std.proofs.Common.{◌≡◌, ◌⊎◌, ℕ, suc, ◌+◌, List, [], ◌∷◌, ◌++◌, map, Bool, true, false, ◌&&◌, ◌||◌, Option, Some, None, is_some, inl, inr, refl, sym, ap, subst, ◌∙◌}
+use Rattle.std.proofs.Common.{◌≡◌, ◌⊎◌, ℕ, suc, ◌+◌, List, [], ◌∷◌, ◌++◌, Bool, true, false, ◌&&◌, ◌||◌, Option, Some, None, is_some, inl, inr, refl, sym, ap, ◌∙◌}
 use Rattle.std.specs.Prelude.{codes}
-use Rattle.std.specs.List.{flat_map, list_any, list_all}
+use Rattle.std.specs.List.{flat_map}
 use Rattle.std.proofs.lemmas.Bool.{and_parts, both_ways, or_parts}
 use Rattle.ped_base.specs.Lists.{is_same_text, is_among}
 use Rattle.ped_base.proofs.NameEquality.{same_itself, same_is}
 use Rattle.ped_tree.proofs.NameLaws.Collected.{among_append}
-use Rattle.ped_tree.specs.Accesses.{Access, write_of, expr_reads, cond_reads, left_accesses, item_reads, private_writes, own_accesses}
+use Rattle.ped_tree.specs.Accesses.{Access, write_of, expr_reads, left_accesses, item_reads, private_writes, own_accesses}
 use Rattle.ped_tree.specs.NamesIn.{expr_names, cond_names, item_names, head_names, stmt_names, stmts_names, loop_variables, all_loop_variables, private_names_in, all_private_names_in}
 use Rattle.ped_tree.specs.Nests.{Loop, indices_of}
 use Rattle.ped_tree.specs.Numbering.{numbered, all_numbered, statement_count, statements_count, statement_with}
@@ -25,9 +25,9 @@ use Rattle.ped_reduce.proofs.Resembling.{scalars_of}
 use Rattle.ped_reduce.proofs.SumShapes.{operand, IsSumOf, sum_is, scalar_among, scalar_of}
 use Rattle.ped_reduce.proofs.SummedReferences.{not_read, sum_read, sum_right, other_sum}
 use Rattle.ped_reduce.proofs.ReferencesInGaps.{loop}
-use Rattle.ped_reduce.proofs.NamedReads.{IsTold, expr_told, cond_told, items_told, left_told, lefts_told}
+use Rattle.ped_reduce.proofs.NamedReads.{expr_told, cond_told, items_told, left_told, lefts_told}
 use Rattle.ped_reduce.proofs.SumStores.{is_array, is_total, is_either}
-use Rattle.ped_reduce.proofs.SumBodies.{Lacks, OneOr, IsSumOr, IsFreeOf, IsClearHead, IsClear, AreClear}
+use Rattle.ped_reduce.proofs.SumBodies.{Lacks, OneOr, IsSumOr, IsClear, AreClear}
 
 or_left : (a b : Bool) → a ≡ true → (a || b) ≡ true
 or_left true b h = refl

@@ -1,5 +1,5 @@
 -- The sums of a list that is live may be kept apart in what has come of the program by lowering the lists before it: what its rules say of the program holds there, too.
-use Rattle.std.proofs.Common.{◌≡◌, ◌⊎◌, ℕ, zero, suc, ◌+◌, ◌-◌, ◌<◌, ◌≤◌, ◌==◌, List, [], ◌∷◌, ◌++◌, map, length, Bool, true, false, not, ◌&&◌, ◌||◌, Option, Some, None, is_some, if◌then◌else◌, append-nil, inl, inr, refl, sym, ap, subst, ◌∙◌, arith}
+use Rattle.std.proofs.Common.{◌≡◌, ℕ, zero, suc, ◌+◌, ◌-◌, ◌<◌, ◌≤◌, ◌==◌, List, [], ◌∷◌, ◌++◌, length, Bool, true, false, not, ◌&&◌, ◌||◌, Option, Some, None, is_some, if◌then◌else◌, inl, inr, refl, sym, ap, subst, ◌∙◌, arith}
 use Rattle.std.specs.Prelude.{nat_lt}
 use Rattle.std.specs.List.{list_any, range_with_len}
 use Rattle.std.proofs.lemmas.Bool.{both_ways, and_parts, or_parts, ltb-true, not-false}
@@ -7,7 +7,7 @@ use Rattle.ped_base.specs.Lists.{is_same_text, is_among}
 use Rattle.ped_base.proofs.NameEquality.{same_is}
 use Rattle.ped_tree.proofs.NameLaws.Collected.{among_append}
 use Rattle.ped_tree.specs.Accesses.{constant_names}
-use Rattle.ped_tree.specs.NamesIn.{head_names, loop_variables, all_loop_variables, private_names_in, all_private_names_in, stmt_names, stmts_names}
+use Rattle.ped_tree.specs.NamesIn.{head_names, all_loop_variables, private_names_in, all_private_names_in, stmts_names}
 use Rattle.ped_tree.specs.Nests.{Loop, indices_of}
 use Rattle.ped_tree.specs.Numbering.{numbered, all_numbered, at_place, statements_count, statement_with}
 use Rattle.ped_tree.proofs.Numbers.{length-all_numbered}
@@ -25,9 +25,8 @@ use Rattle.ped_splits.specs.ped_reindex.specs.ped_loops.specs.ped_scalar.specs.p
 use Rattle.ped_splits.specs.ped_reindex.specs.ped_loops.specs.ped_scalar.specs.ped_rules.specs.ped_loop_runs.specs.ped_bodies.specs.ped_steps.specs.ped_laws.specs.Acts.Orders.{IsIn}
 use Rattle.ped_splits.specs.ped_reindex.specs.ped_loops.specs.ped_scalar.specs.ped_rules.specs.ped_loop_runs.specs.ped_bodies.specs.ped_steps.specs.ped_laws.proofs.FlowRunLaws.Standing.{Stand, whole_stands, first_stands, inner_stands, is_there}
 use Rattle.ped_splits.specs.ped_reindex.specs.ped_loops.specs.ped_scalar.specs.ped_rules.specs.ped_loop_runs.specs.ped_bodies.specs.ped_steps.specs.Replacing.{alone}
-use Rattle.ped_splits.specs.ped_reindex.specs.ped_loops.specs.ped_scalar.specs.ped_rules.specs.ped_loop_runs.specs.ped_bodies.specs.ped_steps.specs.Runs.Gaps.{filled, number_at}
 use Rattle.ped_splits.specs.ped_reindex.specs.ped_loops.specs.ped_scalar.specs.ped_rules.specs.ped_loop_runs.specs.ped_bodies.specs.ped_steps.specs.declared.rules.Rule.TheVariants.{ParallelState, IndexEscapes, NotScalar, AlreadyPrivate}
-use Rattle.ped_splits.specs.ped_reindex.specs.ped_loops.specs.ped_scalar.specs.ped_rules.specs.ped_loop_runs.specs.ped_bodies.specs.ped_steps.proofs.RunLaws.ExpandedPlacesParts.{IsPart, part_at}
+use Rattle.ped_splits.specs.ped_reindex.specs.ped_loops.specs.ped_scalar.specs.ped_rules.specs.ped_loop_runs.specs.ped_bodies.specs.ped_steps.proofs.RunLaws.ExpandedPlacesParts.{part_at}
 use Rattle.ped_splits.specs.ped_reindex.specs.ped_loops.specs.ped_scalar.specs.ped_rules.specs.ped_loop_runs.specs.ped_bodies.specs.ped_steps.proofs.RunLaws.PrivatisedPrograms.{scalar_named}
 use Rattle.ped_splits.specs.ped_reindex.specs.ped_loops.specs.ped_scalar.specs.ped_rules.specs.ped_loop_runs.specs.ped_bodies.specs.ped_steps.proofs.RunLaws.SparedVariables.{IsUnassigned, variables_unassigned}
 use Rattle.ped_splits.specs.ped_reindex.specs.ped_loops.specs.ped_scalar.specs.ped_rules.specs.ped_loop_runs.proofs.TidyLaws.TidyReferencesGaps.{all_at}
@@ -39,16 +38,15 @@ use Rattle.ped_splits.specs.ped_reindex.specs.ped_loops.specs.ped_scalar.specs.E
 use Rattle.ped_splits.specs.ped_reindex.specs.ped_loops.proofs.Contained.{contained}
 use Rattle.ped_splits.specs.ped_reindex.proofs.UnnamedCells.{unnamed_statements}
 use Rattle.ped_reduce.specs.Lists.{list_of, without_list}
-use Rattle.ped_reduce.specs.Sums.{Sum, sum_of, sum_to}
-use Rattle.ped_reduce.specs.Lowering.{Partials, and_then, near_only, fresh_arrays, partials_of, Lowered, not_lowered, lowered_at}
+use Rattle.ped_reduce.specs.Sums.{sum_of, sum_to}
+use Rattle.ped_reduce.specs.Lowering.{Partials, and_then, near_only, fresh_arrays, Lowered, not_lowered, lowered_at}
 use Rattle.ped_reduce.specs.Reducing.{is_unsummable, has_unsummable, has_private_or_twice, sum_at, IsLive, Lowers}
 use Rattle.ped_reduce.proofs.LoopsRoundGaps.{gap_loops, gap_nest, gap_stands}
 use Rattle.ped_reduce.proofs.LoweredPrograms.{IsMadeBy, made_by}
 use Rattle.ped_reduce.proofs.Resembling.{scalars_of, IsSummable}
-use Rattle.ped_reduce.proofs.SumShapes.{scalar_among, scalar_of}
+use Rattle.ped_reduce.proofs.SumShapes.{scalar_among}
 use Rattle.ped_reduce.proofs.LoweredStages.{IsStage, IsPlace, IsResembling, lowered_place, lowered_resembles, first_least}
 use Rattle.ped_reduce.proofs.ReferencesInGaps.{loop, from_number, to_number}
-use Rattle.ped_reduce.proofs.ResemblingPaths.{no_variable}
 use Rattle.ped_reduce.proofs.ResemblingReferences.{gap_heads, scalar_names, in_sum, of_program}
 use Rattle.ped_reduce.proofs.ResemblingSettings.{gap_has}
 use Rattle.ped_reduce.proofs.StillContained.{stage_loop, still_contained}

@@ -1,11 +1,10 @@
 -- A name that stands in what a DO becomes whose sums are kept apart stands in the DO, or is that of one of the scalars or of their arrays; and the other way round.
 use Rattle.std.proofs.Common.{◌≡◌, ◌⊎◌, ℕ, List, [], ◌∷◌, ◌++◌, Bool, true, false, ◌||◌, inl, inr, refl, sym, ap, ◌∙◌}
-use Rattle.std.proofs.lemmas.Bool.{both_ways, or_parts}
+use Rattle.std.proofs.lemmas.Bool.{or_parts}
 use Rattle.ped_base.specs.Lists.{is_same_text, is_among}
 use Rattle.ped_tree.proofs.NameLaws.Collected.{among_append}
-use Rattle.ped_tree.specs.declared.conditions.Relation.TheVariants.{Eq}
 use Rattle.ped_tree.specs.declared.expressions.Intrinsic.TheVariants.{Mod}
-use Rattle.ped_tree.specs.Tree.{ExprTree, Int, Var, Add, Sub, Mul, Div, Call, no_exprs, more_exprs, Rel, Head, StmtTree, StmtTrees, Assign, If, Do, Print, Read, Stop, Comment, no_stmts, more_stmts}
+use Rattle.ped_tree.specs.Tree.{ExprTree, Int, Var, Add, Div, Call, no_exprs, more_exprs, Head, StmtTree, StmtTrees, Assign, If, Do, Print, Read, Stop, Comment, no_stmts, more_stmts}
 use Rattle.ped_tree.specs.NamesIn.{expr_names, cond_names, head_names, stmt_names, stmts_names}
 use Rattle.ped_splits.specs.ped_reindex.specs.ped_loops.specs.ped_scalar.specs.ped_rules.specs.ped_loop_runs.specs.ped_bodies.specs.ped_steps.specs.ped_flow.proofs.Truths.{untrue, or_split}
 use Rattle.ped_splits.specs.ped_reindex.specs.ped_loops.specs.ped_scalar.specs.ped_rules.specs.ped_loop_runs.specs.ped_bodies.specs.ped_steps.specs.ped_laws.specs.Acts.Orders.{IsIn}
@@ -13,7 +12,7 @@ use Rattle.ped_splits.specs.ped_reindex.specs.ped_loops.specs.ped_scalar.specs.p
 use Rattle.ped_splits.specs.ped_reindex.specs.ped_loops.specs.ped_scalar.specs.ped_rules.specs.ped_loop_runs.specs.ped_bodies.specs.ped_steps.specs.Runs.Gaps.{Gap, at_front, past, in_then, in_else, in_body, filled}
 use Rattle.ped_reduce.specs.Lists.{without_list}
 use Rattle.ped_reduce.specs.Sums.{Sum, plus, minus}
-use Rattle.ped_reduce.specs.Lowering.{Partials, at, zeros, with_sum, added_apart, sum_apart, summed, all_summed, addition, exit, exits, bare, lowered_loop}
+use Rattle.ped_reduce.specs.Lowering.{Partials, at, zeros, with_sum, added_apart, sum_apart, summed, all_summed, exit, exits, bare, lowered_loop}
 use Rattle.ped_reduce.proofs.SumShapes.{operand, IsSumOf, IsApart, IsBare, apart_or_bare}
 use Rattle.ped_reduce.proofs.LoweredNames.{names_followed, without_names}
 

@@ -45,6 +45,9 @@ module _ (x : List ℕ) (cs indices : List (List ℕ)) (named : is_among x cs �
   one : (y : List ℕ) → Has (y ∷ []) → is_same_text x y ≡ true
   one y h = elim (or_split (is_same_text x y) false h) [ inl e ↦ e | inr k ↦ untrue k ]
 
+  either_told : (xs ys : List (List ℕ)) (p q : List Access) → (Has xs → IsTold p) → (Has ys → IsTold q) → Has (xs ++ ys) → IsTold (p ++ q)
+  either_told xs ys p q f g h = elim (parts xs ys h) [ inl k ↦ told_left p q (f k) | inr k ↦ told_right p q (g k) ]
+
   mutual
     pub expr_told : (e : ExprTree) → is_among x (expr_names e) ≡ true → IsTold (expr_reads cs indices e)
     expr_told (Int n) h = untrue h
@@ -54,40 +57,22 @@ module _ (x : List ℕ) (cs indices : List (List ℕ)) (named : is_among x cs �
       | inr k ↦ told_left (exprs_reads cs indices es) (unless_constant cs (read_of y (listed es))) (exprs_told es k)
     ]
     expr_told (Neg a) h = expr_told a h
-    expr_told (Add a b) h = both_told a b h
-    expr_told (Sub a b) h = both_told a b h
-    expr_told (Mul a b) h = both_told a b h
-    expr_told (Div a b) h = both_told a b h
-    expr_told (Pow a b) h = both_told a b h
+    expr_told (Add a b) h = either_told (expr_names a) (expr_names b) (expr_reads cs indices a) (expr_reads cs indices b) (expr_told a) (expr_told b) h
+    expr_told (Sub a b) h = either_told (expr_names a) (expr_names b) (expr_reads cs indices a) (expr_reads cs indices b) (expr_told a) (expr_told b) h
+    expr_told (Mul a b) h = either_told (expr_names a) (expr_names b) (expr_reads cs indices a) (expr_reads cs indices b) (expr_told a) (expr_told b) h
+    expr_told (Div a b) h = either_told (expr_names a) (expr_names b) (expr_reads cs indices a) (expr_reads cs indices b) (expr_told a) (expr_told b) h
+    expr_told (Pow a b) h = either_told (expr_names a) (expr_names b) (expr_reads cs indices a) (expr_reads cs indices b) (expr_told a) (expr_told b) h
     expr_told (Call f es) h = exprs_told es h
-
-    both_told : (a b : ExprTree) → is_among x (expr_names a ++ expr_names b) ≡ true → IsTold (expr_reads cs indices a ++ expr_reads cs indices b)
-    both_told a b h = elim (parts (expr_names a) (expr_names b) h) [
-      | inl k ↦ told_left (expr_reads cs indices a) (expr_reads cs indices b) (expr_told a k)
-      | inr k ↦ told_right (expr_reads cs indices a) (expr_reads cs indices b) (expr_told b k)
-    ]
 
     exprs_told : (es : ExprTrees) → is_among x (exprs_names es) ≡ true → IsTold (exprs_reads cs indices es)
     exprs_told no_exprs h = untrue h
-    exprs_told (more_exprs e rest) h = elim (parts (expr_names e) (exprs_names rest) h) [
-      | inl k ↦ told_left (expr_reads cs indices e) (exprs_reads cs indices rest) (expr_told e k)
-      | inr k ↦ told_right (expr_reads cs indices e) (exprs_reads cs indices rest) (exprs_told rest k)
-    ]
+    exprs_told (more_exprs e rest) h = either_told (expr_names e) (exprs_names rest) (expr_reads cs indices e) (exprs_reads cs indices rest) (expr_told e) (exprs_told rest) h
 
   pub cond_told : (c : CondTree) → is_among x (cond_names c) ≡ true → IsTold (cond_reads cs indices c)
-  cond_told (Rel r a b) h = elim (parts (expr_names a) (expr_names b) h) [
-    | inl k ↦ told_left (expr_reads cs indices a) (expr_reads cs indices b) (expr_told a k)
-    | inr k ↦ told_right (expr_reads cs indices a) (expr_reads cs indices b) (expr_told b k)
-  ]
+  cond_told (Rel r a b) h = either_told (expr_names a) (expr_names b) (expr_reads cs indices a) (expr_reads cs indices b) (expr_told a) (expr_told b) h
   cond_told (Not a) h = cond_told a h
-  cond_told (And a b) h = elim (parts (cond_names a) (cond_names b) h) [
-    | inl k ↦ told_left (cond_reads cs indices a) (cond_reads cs indices b) (cond_told a k)
-    | inr k ↦ told_right (cond_reads cs indices a) (cond_reads cs indices b) (cond_told b k)
-  ]
-  cond_told (Or a b) h = elim (parts (cond_names a) (cond_names b) h) [
-    | inl k ↦ told_left (cond_reads cs indices a) (cond_reads cs indices b) (cond_told a k)
-    | inr k ↦ told_right (cond_reads cs indices a) (cond_reads cs indices b) (cond_told b k)
-  ]
+  cond_told (And a b) h = either_told (cond_names a) (cond_names b) (cond_reads cs indices a) (cond_reads cs indices b) (cond_told a) (cond_told b) h
+  cond_told (Or a b) h = either_told (cond_names a) (cond_names b) (cond_reads cs indices a) (cond_reads cs indices b) (cond_told a) (cond_told b) h
 
   item_told : (i : ItemTree) → Has (item_names i) → IsTold (item_reads cs indices i)
   item_told (Value e) h = expr_told e h
@@ -95,10 +80,7 @@ module _ (x : List ℕ) (cs indices : List (List ℕ)) (named : is_among x cs �
 
   pub items_told : (is : List ItemTree) → is_among x (flat_map item_names is) ≡ true → IsTold (flat_map (item_reads cs indices) is)
   items_told [] h = untrue h
-  items_told (i ∷ is) h = elim (parts (item_names i) (flat_map item_names is) h) [
-    | inl k ↦ told_left (item_reads cs indices i) (flat_map (item_reads cs indices) is) (item_told i k)
-    | inr k ↦ told_right (item_reads cs indices i) (flat_map (item_reads cs indices) is) (items_told is k)
-  ]
+  items_told (i ∷ is) h = either_told (item_names i) (flat_map item_names is) (item_reads cs indices i) (flat_map (item_reads cs indices) is) (item_told i) (items_told is) h
 
   module _ (k : NameKinds) where
     pub left_told : (e : ExprTree) → target_is_right k e ≡ true → is_among x (expr_names e) ≡ true → IsTold (left_accesses cs indices e)
@@ -120,7 +102,4 @@ module _ (x : List ℕ) (cs indices : List (List ℕ)) (named : is_among x cs �
     lefts_told [] right h = untrue h
     lefts_told (e ∷ es) right h =
         let r = and_parts (target_is_right k e) (list_all (target_is_right k) es) right in
-        elim (parts (expr_names e) (flat_map expr_names es) h) [
-          | inl j ↦ told_left (left_accesses cs indices e) (flat_map (left_accesses cs indices) es) (left_told e r.0 j)
-          | inr j ↦ told_right (left_accesses cs indices e) (flat_map (left_accesses cs indices) es) (lefts_told es r.1 j)
-        ]
+        either_told (expr_names e) (flat_map expr_names es) (left_accesses cs indices e) (flat_map (left_accesses cs indices) es) (left_told e r.0) (lefts_told es r.1) h

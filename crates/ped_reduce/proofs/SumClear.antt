@@ -221,13 +221,13 @@ module _ (ps : List Partials) where
 
     mutual
       clear_one : (nest : List Loop) (n : ℕ) (s : StmtTree) → Stand t n (numbered s) → Outside nest → stmt_is_right k s ≡ true → AreInSums (statement_references cs nest n s) → Unused (stmt_names s) → AreFree (loop_variables s) → AreFree (private_names_in s) → is_among v (assigned_in s) ≡ false → IsClear ps v s
-      clear_one nest n (Assign left right) st outside right sums unused loops private own =
-          let r = and_parts (target_is_right k left) (expr_is_right k right) right in
+      clear_one nest n (Assign left right) st outside correct sums unused loops private own =
+          let r = and_parts (target_is_right k left) (expr_is_right k right) correct in
           assignment_is_clear nest n left right (is_there t (Assign left right) [] n st) outside r.0 r.1 sums unused
-      clear_one nest n (If c a b) st outside right sums unused loops private own =
+      clear_one nest n (If c a b) st outside correct sums unused loops private own =
           let s = If c a b in
           let inside = inner_stands t s (all_numbered a ++ all_numbered b) n st in
-          let r = and_parts (cond_is_right k c && stmts_are_right k a) (stmts_are_right k b) right in
+          let r = and_parts (cond_is_right k c && stmts_are_right k a) (stmts_are_right k b) correct in
           let mine = numbered_accesses n 1 nest (own_accesses cs (indices_of nest) s) in
           let p = in_sums_parts (mine ++ statements_references cs nest (n + 1) a) (statements_references cs nest (n + 1 + statements_count a) b) sums in
           let q = in_sums_parts mine (statements_references cs nest (n + 1) a) p.0 in
@@ -237,13 +237,13 @@ module _ (ps : List Partials) where
           let d = free_parts (all_private_names_in a) (all_private_names_in b) private in
           let o = names_apart v (assigned_in_all a) (assigned_in_all b) own in (
             lacks (cond_names c) w.0 (quiet_by nest n s (is_there t s (all_numbered a ++ all_numbered b) n st) q.0 (λ y. refl) (cond_names c) (λ y among h. cond_told y cs (indices_of nest) (named y among) (outside y among) c h)),
-            clear_all nest (n + 1) a (first_stands t (n + 1) (all_numbered a) (all_numbered b) inside) outside (and_parts (cond_is_right k c) (stmts_are_right k a) r.0).1 q.1 w.1 l.0 d.0 o.0,
-            clear_all nest (n + 1 + statements_count a) b (else_stands t a b (n + 1) inside) outside r.1 p.1 u.1 l.1 d.1 o.1,
+            (clear_all nest (n + 1) a (first_stands t (n + 1) (all_numbered a) (all_numbered b) inside) outside (and_parts (cond_is_right k c) (stmts_are_right k a) r.0).1 q.1 w.1 l.0 d.0 o.0,
+            clear_all nest (n + 1 + statements_count a) b (else_stands t a b (n + 1) inside) outside r.1 p.1 u.1 l.1 d.1 o.1),
           )
-      clear_one nest n (Do g body) st outside right sums unused loops private own =
+      clear_one nest n (Do g body) st outside correct sums unused loops private own =
           let s = Do g body in
           let there = is_there t s (all_numbered body) n st in
-          let r = and_parts (head_is_right k g) (stmts_are_right k body) right in
+          let r = and_parts (head_is_right k g) (stmts_are_right k body) correct in
           let mine = numbered_accesses n 1 nest (own_accesses cs (indices_of nest) s) in
           let inner = nest ++ loop n g ∷ [] in
           let p = in_sums_parts mine (statements_references cs inner (n + 1) body) sums in
@@ -272,26 +272,26 @@ module _ (ps : List Partials) where
             },
             clear_all inner (n + 1) body (inner_stands t s (all_numbered body) n st) (λ x among. more_outside x nest n g (outside x among) (or_parts (is_same_text x g.variable) false (variable x among)).0) r.1 p.1 u.1 inside d.1 w.1,
           )
-      clear_one nest n (Print items) st outside right sums unused loops private own =
+      clear_one nest n (Print items) st outside correct sums unused loops private own =
           lacks (flat_map item_names items) unused (quiet_by nest n (Print items) (is_there t (Print items) [] n st) sums (λ y. refl) (flat_map item_names items) (λ y among h. (
           let a = items_told y cs (indices_of nest) (named y among) (outside y among) items h in
           (a.0, in_left a.0 (flat_map (item_reads cs (indices_of nest)) items) (write_of (codes "(OUT)") [] ∷ []) a.1, a.2)
           )))
-      clear_one nest n (Read items) st outside right sums unused loops private own =
+      clear_one nest n (Read items) st outside correct sums unused loops private own =
           lacks (flat_map expr_names items) unused (quiet_by nest n (Read items) (is_there t (Read items) [] n st) sums (λ y. refl) (flat_map expr_names items) (λ y among h. (
-          let a = lefts_told y cs (indices_of nest) (named y among) (outside y among) k items right h in
+          let a = lefts_told y cs (indices_of nest) (named y among) (outside y among) k items correct h in
           (a.0, inr a.1, a.2)
           )))
-      clear_one nest n Stop st outside right sums unused loops private own = tt
-      clear_one nest n (Comment text) st outside right sums unused loops private own = tt
+      clear_one nest n Stop st outside correct sums unused loops private own = tt
+      clear_one nest n (Comment text) st outside correct sums unused loops private own = tt
 
       pub clear_all : (nest : List Loop) (n : ℕ) (ss : StmtTrees) → Stand t n (all_numbered ss) → ((x : List ℕ) → is_among x (scalars_of ps) ≡ true → is_among x (indices_of nest) ≡ false) → stmts_are_right k ss ≡ true
           → ((r : Reference) → IsIn r (statements_references cs nest n ss) → is_among r.access.name (scalars_of ps) ≡ true → is_some (and_then (statement_with r.statement t) (sum_to r.access.name)) ≡ true)
           → ((y : List ℕ) → is_array ps y ≡ true → is_among y (stmts_names ss) ≡ false) → ((x : List ℕ) → is_among x (scalars_of ps) ≡ true → is_among x (all_loop_variables ss) ≡ false) → ((x : List ℕ) → is_among x (scalars_of ps) ≡ true → is_among x (all_private_names_in ss) ≡ false)
           → is_among v (assigned_in_all ss) ≡ false → AreClear ps v ss
-      clear_all nest n no_stmts st outside right sums unused loops private own = tt
-      clear_all nest n (more_stmts s rest) st outside right sums unused loops private own =
-          let r = and_parts (stmt_is_right k s) (stmts_are_right k rest) right in
+      clear_all nest n no_stmts st outside correct sums unused loops private own = tt
+      clear_all nest n (more_stmts s rest) st outside correct sums unused loops private own =
+          let r = and_parts (stmt_is_right k s) (stmts_are_right k rest) correct in
           let p = in_sums_parts (statement_references cs nest n s) (statements_references cs nest (n + statement_count s) rest) sums in
           let u = unused_parts (stmt_names s) (stmts_names rest) unused in
           let l = free_parts (loop_variables s) (all_loop_variables rest) loops in

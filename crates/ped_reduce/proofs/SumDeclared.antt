@@ -135,30 +135,24 @@ module _ (v : Span) (body : StmtTrees) (near : nat_lt 2147483647 (unsigned_abs (
     module _ (ds : List DeclTree) (p : Partials) (three : AreThree p) (absent : (x : List ℕ) → is_array_of p x ≡ true → IsAbsent ds x) where
       own_declared : (x : List ℕ) → is_array_of p x ≡ true → IsDeclared (one_more (one_more (one_more ds p.high) p.low) p.flag) x
       own_declared x i = elim (or_split (is_same_text x p.high) (is_same_text x p.low || is_same_text x p.flag) i) [
-        | inl e ↦ subst All (sym (same_is x p.high e))
+        | inl e ↦ subst (IsDeclared (one_more (one_more (one_more ds p.high) p.low) p.flag)) (sym (same_is x p.high e))
             (declared_then (one_more (one_more ds p.high) p.low) p.flag p.high three.high_flag (declared_then (one_more ds p.high) p.low p.high three.high_low (declared_now ds p.high (absent p.high (high_array p)))))
         | inr k ↦ elim (or_split (is_same_text x p.low) (is_same_text x p.flag) k) [
-          | inl e ↦ subst All (sym (same_is x p.low e))
+          | inl e ↦ subst (IsDeclared (one_more (one_more (one_more ds p.high) p.low) p.flag)) (sym (same_is x p.low e))
               (declared_then (one_more (one_more ds p.high) p.low) p.flag p.low three.low_flag
               (declared_now (one_more ds p.high) p.low (absent_then ds p.high p.low (same_flip p.low p.high ∙ three.high_low) (absent p.low (low_array p)))))
-          | inr e ↦ subst All (sym (same_is x p.flag e))
+          | inr e ↦ subst (IsDeclared (one_more (one_more (one_more ds p.high) p.low) p.flag)) (sym (same_is x p.flag e))
               (declared_now (one_more (one_more ds p.high) p.low) p.flag
               (absent_then (one_more ds p.high) p.low p.flag (same_flip p.flag p.low ∙ three.low_flag) (absent_then ds p.high p.flag (same_flip p.flag p.high ∙ three.high_flag) (absent p.flag (flag_array p)))))
         ]
       ]
-        where
-          abbrev All : List ℕ → Type 0
-          All y = IsDeclared (one_more (one_more (one_more ds p.high) p.low) p.flag) y
 
     -- each of the arrays is declared so
     pub arrays_declared : (ps : List Partials) (ds : List DeclTree) → ((p : Partials) → IsIn p ps → AreThree p) → AllDistinct ps → ((x : List ℕ) → is_array ps x ≡ true → IsAbsent ds x) → (x : List ℕ) → is_array ps x ≡ true
         → IsDeclared (ds ++ declarations v ps) x
     arrays_declared [] ds three distinct absent x i = untrue i
-    arrays_declared (p ∷ ps) ds three distinct absent x i = subst (λ (es : List DeclTree). IsDeclared es x) (sym (three_more ds p ps)) (by (is_array_of p x) refl i)
+    arrays_declared (p ∷ ps) ds three distinct absent x i = subst (λ (es : List DeclTree). IsDeclared es x) (sym (three_more ds p ps)) (by (is_array_of p x) refl i (arrays_declared ps (one_more (one_more (one_more ds p.high) p.low) p.flag) (λ q j. three q (inr j)) distinct.1 still_absent x))
       where
-        abbrev more : List DeclTree
-        more = one_more (one_more (one_more ds p.high) p.low) p.flag
-
         before : (a b : Bool) → a ≡ true → (a || b) ≡ true
         before true b e = refl
         before false b e = untrue e
@@ -177,11 +171,11 @@ module _ (v : Span) (body : StmtTrees) (near : nat_lt 2147483647 (unsigned_abs (
             go true same = absurd (both_ways (is_array ps y) (ap (is_array ps) (same_is y z same) ∙ own_no_others p ps z distinct.0 e) k)
             go false same = same
 
-        still_absent : (y : List ℕ) → is_array ps y ≡ true → IsAbsent more y
+        still_absent : (y : List ℕ) → is_array ps y ≡ true → IsAbsent (one_more (one_more (one_more ds p.high) p.low) p.flag) y
         still_absent y k =
             absent_then (one_more (one_more ds p.high) p.low) p.flag y (other y p.flag k (flag_array p))
             (absent_then (one_more ds p.high) p.low y (other y p.low k (low_array p)) (absent_then ds p.high y (other y p.high k (high_array p)) (absent y (behind (is_array_of p y) (is_array ps y) k))))
 
-        by : (b : Bool) → is_array_of p x ≡ b → (b || is_array ps x) ≡ true → IsDeclared (more ++ declarations v ps) x
-        by true e k = declared_behind ps more x (own_no_others p ps x distinct.0 e) (own_declared ds p (three p (inl refl)) own_absent x e)
-        by false e k = arrays_declared ps more (λ q j. three q (inr j)) distinct.1 still_absent x k
+        by : (b : Bool) → is_array_of p x ≡ b → (b || is_array ps x) ≡ true → (is_array ps x ≡ true → IsDeclared (one_more (one_more (one_more ds p.high) p.low) p.flag ++ declarations v ps) x) → IsDeclared (one_more (one_more (one_more ds p.high) p.low) p.flag ++ declarations v ps) x
+        by true e k more = declared_behind ps (one_more (one_more (one_more ds p.high) p.low) p.flag) x (own_no_others p ps x distinct.0 e) (own_declared ds p (three p (inl refl)) own_absent x e)
+        by false e k more = more k

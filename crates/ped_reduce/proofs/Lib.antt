@@ -68,4 +68,8 @@ pub mod StillContained
 pub mod DistinctArrays
 pub mod SumLive
 pub mod SumOrder
+pub mod TidyExchanges
+pub mod SerialPrograms
+pub mod SumFlags
+pub mod SumTrusted
 pub mod LoweringKeeps

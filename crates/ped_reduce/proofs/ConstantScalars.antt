@@ -1,11 +1,14 @@
--- A constant expression reads no scalar.
-use Rattle.std.proofs.Common.{◌≡◌, ℕ, ℤ, List, [], ◌∷◌, ◌++◌, Bool, true, false, Option, Some, None, if◌then◌else◌, refl, sym, ap, ◌∙◌}
+-- A constant expression reads no scalar; no name stands in it but those of constants.
+use Rattle.std.proofs.Common.{◌≡◌, ℕ, ℤ, List, [], ◌∷◌, ◌++◌, Bool, true, false, ◌||◌, Option, Some, None, if◌then◌else◌, refl, sym, ap, ◌∙◌}
 use Rattle.std.specs.Prelude.{option_and_then, Result}
 use Rattle.std.specs.Result.{result_ok}
-use Rattle.ped_base.specs.Lists.{is_among}
+use Rattle.ped_base.specs.Lists.{is_same_text, is_among}
+use Rattle.ped_base.proofs.NameEquality.{same_is}
 use Rattle.ped_base.specs.declared.arithmetic.faults.Fault.{Fault}
 use Rattle.ped_base.specs.Arithmetic.Arithmetic.{sum_of, difference_of, negation_of, product_of, quotient_of, power_of}
 use Rattle.ped_tree.specs.Tree.{ExprTree, ExprTrees, Int, Var, Element, Neg, Add, Sub, Mul, Div, Pow, Call, no_exprs, more_exprs}
+use Rattle.ped_tree.proofs.NameLaws.Collected.{among_append}
+use Rattle.ped_tree.specs.NamesIn.{expr_names, exprs_names}
 use Rattle.ped_tree.specs.Constants.ConstantExpressions.{unary_value, binary_value, onto, intrinsic_result, constant_value, constant_values}
 use Rattle.ped_tree.specs.Constants.NamedConstants.{value_named}
 use Rattle.ped_splits.specs.ped_reindex.specs.ped_loops.specs.ped_scalar.specs.ped_rules.specs.ped_loop_runs.specs.ped_bodies.specs.ped_steps.specs.ped_flow.specs.Events.{scalars_in, all_scalars_in}
@@ -52,3 +55,29 @@ module _ (values : List (List ℕ × ℤ)) (cs : List (List ℕ)) (others : (x :
     constants_unread : (es : ExprTrees) (ns : List ℤ) → constant_values values es ≡ Some ns → all_scalars_in cs es ≡ []
     constants_unread no_exprs ns h = refl
     constants_unread (more_exprs e rest) ns h = let p = of_more (constant_value values e) (constant_values values rest) ns h in λ i. constant_unread e p.0.0 p.0.1 i ++ constants_unread rest p.1.0 p.1.1 i
+
+-- a name that has no value doesn't stand in a constant expression
+module _ (values : List (List ℕ × ℤ)) (x : List ℕ) (unvalued : value_named values x ≡ None) where
+  variable_differs : (y : List ℕ) (n : ℤ) (b : Bool) → is_same_text x y ≡ b → value_named values y ≡ Some n → b ≡ false
+  variable_differs y n true e h = nothing (sym unvalued ∙ ap (value_named values) (same_is x y e) ∙ h)
+  variable_differs y n false e h = refl
+
+  joined : (xs ys : List (List ℕ)) → is_among x xs ≡ false → is_among x ys ≡ false → is_among x (xs ++ ys) ≡ false
+  joined xs ys h k = among_append x xs ys ∙ (λ i. h i || k i)
+
+  mutual
+    pub constant_lacks : (e : ExprTree) (n : ℤ) → constant_value values e ≡ Some n → is_among x (expr_names e) ≡ false
+    constant_lacks (Int k) n h = refl
+    constant_lacks (Var y) n h = λ i. variable_differs y n (is_same_text x y) refl h i || false
+    constant_lacks (Element y es) n h = nothing h
+    constant_lacks (Neg a) n h = let p = of_one negation_of (constant_value values a) n h in constant_lacks a p.0 p.1
+    constant_lacks (Add a b) n h = let p = of_two sum_of (constant_value values a) (constant_value values b) n h in joined (expr_names a) (expr_names b) (constant_lacks a p.0.0 p.0.1) (constant_lacks b p.1.0 p.1.1)
+    constant_lacks (Sub a b) n h = let p = of_two difference_of (constant_value values a) (constant_value values b) n h in joined (expr_names a) (expr_names b) (constant_lacks a p.0.0 p.0.1) (constant_lacks b p.1.0 p.1.1)
+    constant_lacks (Mul a b) n h = let p = of_two product_of (constant_value values a) (constant_value values b) n h in joined (expr_names a) (expr_names b) (constant_lacks a p.0.0 p.0.1) (constant_lacks b p.1.0 p.1.1)
+    constant_lacks (Div a b) n h = let p = of_two quotient_of (constant_value values a) (constant_value values b) n h in joined (expr_names a) (expr_names b) (constant_lacks a p.0.0 p.0.1) (constant_lacks b p.1.0 p.1.1)
+    constant_lacks (Pow a b) n h = let p = of_two power_of (constant_value values a) (constant_value values b) n h in joined (expr_names a) (expr_names b) (constant_lacks a p.0.0 p.0.1) (constant_lacks b p.1.0 p.1.1)
+    constant_lacks (Call f es) n h = let p = of_values (intrinsic_result f) (constant_values values es) n h in constants_lack es p.0 p.1
+
+    constants_lack : (es : ExprTrees) (ns : List ℤ) → constant_values values es ≡ Some ns → is_among x (exprs_names es) ≡ false
+    constants_lack no_exprs ns h = refl
+    constants_lack (more_exprs e rest) ns h = let p = of_more (constant_value values e) (constant_values values rest) ns h in joined (expr_names e) (exprs_names rest) (constant_lacks e p.0.0 p.0.1) (constants_lack rest p.1.0 p.1.1)

@@ -32,6 +32,10 @@ pub mod ResemblingReferences
 pub mod UnnamedReferences
 pub mod EdgesResemble
 pub mod ResemblingSettings
+pub mod CleanReferences
+pub mod AssignedStays
+pub mod OuterLoops
+pub mod ViewsAlike
 pub mod MayBeParallel
 pub mod UnsummableAnswers
 pub mod SplitSums
@@ -55,3 +59,4 @@ pub mod SumUntouched
 pub mod SumNumbers
 pub mod SumKeeps
 pub mod SumGoals
+pub mod LoweringKeeps

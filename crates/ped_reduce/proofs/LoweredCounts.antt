@@ -1,7 +1,7 @@
 -- How many statements a DO becomes when it is lowered.
 use Rattle.std.proofs.Common.{◌≡◌, ℕ, suc, ◌+◌, ◌*◌, List, [], ◌∷◌, ◌++◌, length, filter, Bool, true, false, ◌||◌, Option, Some, None, is_some, refl, sym, ap, ◌∙◌, arith, cond, length-append}
 use Rattle.std.specs.List.{list_any}
-use Rattle.std.proofs.lemmas.Grind.{filter-append}
+use Rattle.std.proofs.lemmas.List.Elements.{filter-append}
 use Rattle.ped_tree.specs.Tree.{CondTree, ExprTree, ItemTree, Head, StmtTree, StmtTrees, Assign, If, Do, Print, Read, Stop, Comment, no_stmts, more_stmts}
 use Rattle.ped_tree.specs.Numbering.{numbered, all_numbered, statement_count, statements_count}
 use Rattle.ped_splits.specs.ped_reindex.specs.ped_loops.specs.ped_scalar.specs.ped_rules.specs.ped_loop_runs.specs.ped_bodies.specs.ped_steps.specs.Replacing.{followed, alone}
@@ -12,12 +12,12 @@ use Rattle.ped_reduce.specs.Lowering.{Partials, zeros, added_apart, apart_or, su
 
 -- a list has no number
 unless_count : (o : Option (List ℕ)) (text : List ℕ) (rest : StmtTrees) → statements_count (without_list rest) ≡ statements_count rest → statements_count (unless_named o (more_stmts (Comment text) rest) (without_list rest)) ≡ statements_count rest
-unless_count None text rest e = refl
+unless_count None text rest e = omega arith
 unless_count (Some x) text rest e = e
 
 pub without_count : (ts : StmtTrees) → statements_count (without_list ts) ≡ statements_count ts
 without_count no_stmts = refl
-without_count (more_stmts (Comment text) rest) = unless_count (listed_name text) text rest (without_count rest)
+without_count (more_stmts (Comment text) rest) = let e = unless_count (listed_name text) text rest (without_count rest) in omega (arith, e)
 without_count (more_stmts (Assign left right) rest) = refl
 without_count (more_stmts (If c a b) rest) = refl
 without_count (more_stmts (Do h body) rest) = refl
@@ -48,7 +48,7 @@ exits_count v [] = refl
 exits_count v (p ∷ ps) = let rest = exits_count v ps in omega (arith, rest)
 
 -- only an assignment is a sum
-no_sum : (s : StmtTree) → ((x : List ℕ) → sum_to x s ≡ None) → (ps : List Partials) → is_sum ps s ≡ false
+pub no_sum : (s : StmtTree) → ((x : List ℕ) → sum_to x s ≡ None) → (ps : List Partials) → is_sum ps s ≡ false
 no_sum s none [] = refl
 no_sum s none (p ∷ ps) = (λ i. is_some (none p.scalar i) || is_sum ps s) ∙ no_sum s none ps
 
@@ -72,7 +72,7 @@ sums_in ps ss = length (filter (is_sum ps) ss)
 pub sums_append : (ps : List Partials) (xs ys : List StmtTree) → sums_in ps (xs ++ ys) ≡ sums_in ps xs + sums_in ps ys
 sums_append ps xs ys = ap length (filter-append (is_sum ps) xs ys) ∙ length-append (filter (is_sum ps) xs) (filter (is_sum ps) ys)
 
-first_sums : (ps : List Partials) (s : StmtTree) (ss : List StmtTree) → is_sum ps s ≡ false → sums_in ps (s ∷ ss) ≡ sums_in ps ss
+pub first_sums : (ps : List Partials) (s : StmtTree) (ss : List StmtTree) → is_sum ps s ≡ false → sums_in ps (s ∷ ss) ≡ sums_in ps ss
 first_sums ps s ss e = ap (λ (b : Bool). length (cond b (s ∷ filter (is_sum ps) ss) (filter (is_sum ps) ss))) e
 
 one_sum : (b : Bool) (s : StmtTree) → so_many b ≡ 1 + 2 * length (cond b (s ∷ []) [])

@@ -1,7 +1,7 @@
 -- What comes of lowering one DO: how it is made, and how many statements it has.
 use Rattle.std.proofs.Common.{◌≡◌, ℕ, ◌+◌, ◌*◌, ◌≤◌, List, [], ◌∷◌, ◌++◌, length, take, drop, replicate, Bool, true, false, Option, Some, None, filter, cond, refl, sym, ap, ◌∙◌, subst, arith, length-append, length-take-le, length-drop}
 use Rattle.std.specs.Prelude.{option_map}
-use Rattle.std.proofs.lemmas.Grind.{length-replicate}
+use Rattle.std.proofs.lemmas.List.{length-replicate}
 use Rattle.ped_tree.specs.Tree.{Head, StmtTree, StmtTrees, Assign, If, Do, Print, Read, Stop, Comment, ProgramTree}
 use Rattle.ped_tree.specs.Numbering.{all_numbered, statement_count, statements_count, statement_with}
 use Rattle.ped_tree.proofs.Numbers.{length-all_numbered}
@@ -103,10 +103,10 @@ module _ (parallel : Bool) (p : Lowered) (s : ℕ) (names : List (List ℕ)) (q 
       let inner = summed_origins m.partials (all_numbered m.body) (s + 1) in
       let exits = replicate (2 * k + 1) s in
       let behind = drop (at + c) p.origin in
-      let one = length-append front (zeros ++ (inner ++ (exits ++ behind))) in
-      let two = length-append zeros (inner ++ (exits ++ behind)) in
-      let three = length-append inner (exits ++ behind) in
-      let four = length-append exits behind in
+      let one = length-append front zeros in
+      let two = length-append (front ++ zeros) inner in
+      let three = length-append (front ++ zeros ++ inner) exits in
+      let four = length-append (front ++ zeros ++ inner ++ exits) behind in
       let a = length-take-le at p.origin (omega (arith, fit, there)) in
       let b = length-replicate (3 * k) s in
       let d = summed_length m.partials (all_numbered m.body) (s + 1) in
@@ -114,5 +114,5 @@ module _ (parallel : Bool) (p : Lowered) (s : ℕ) (names : List (List ℕ)) (q 
       let f = length-replicate (2 * k + 1) s in
       let g = length-drop (at + c) p.origin in
       let count = made_count parallel p s names q m in
-      let whole : length (front ++ (zeros ++ (inner ++ (exits ++ behind)))) ≡ statements_count q.tree.body = omega (arith, one, two, three, four, a, b, d, e, f, g, count, fit, there) in
+      let whole : length (front ++ zeros ++ inner ++ exits ++ behind) ≡ statements_count q.tree.body = omega (arith, one, two, three, four, a, b, d, e, f, g, count, fit, there) in
       ap (λ (r : Lowered). length r.origin) m.made ∙ whole

@@ -39,6 +39,7 @@ use Rattle.ped_reduce.proofs.Resembling.{scalars_of, replaced_filled}
 use Rattle.ped_reduce.proofs.LoweredStages.{IsResembling, lowered_resembles}
 use Rattle.ped_reduce.proofs.ResemblingPaths.{new_loop, contained_again}
 use Rattle.ped_reduce.proofs.EdgesResemble.{ViewsResemble, HasOld, edges_resemble}
+use Rattle.ped_reduce.proofs.ViewsAlike.{views_are}
 use Rattle.ped_splits.specs.ped_reindex.specs.ped_loops.proofs.Contained.{contained}
 
 each_of : {X : Type 0} (P : X → Type 0) (xs : List X) (x : X) → All P xs → IsIn x xs → P x
@@ -143,7 +144,7 @@ module _ (t : ProgramTree) (s : ℕ) (p q w : Lowered) (valid : IsValid t) (new_
       ∙ replaced_filled (on_loop (lowered_loop true m.partials)) (s + p.more) live.loop.head live.loop.body m.other 1 m.number
 
   -- the PARALLEL DO in its place gives what the list is lowered to
-  flagged_is : flagged w.tree (s + p.more) true ≡ q.tree
+  pub flagged_is : flagged w.tree (s + p.more) true ≡ q.tree
   flagged_is = λ i. record { decls = same_decls i; body = bodies i }
     where
       bodies : all_replaced (on_loop (with_flag true)) (s + p.more) w.tree.body 1 ≡ q.tree.body
@@ -164,26 +165,32 @@ module _ (t : ProgramTree) (s : ℕ) (p q w : Lowered) (valid : IsValid t) (new_
   no_rule r n (inr (inr (inr (inl x)))) = x.1.1 (flagged w.tree (s + p.more) true) (all_kept w.tree) (refl, refl) (subst IsValid (sym flagged_is) live.valid)
   no_rule r n (inr (inr (inr (inr x)))) = absurd x
 
-  -- no dependence forbids it, where the views are the same
-  module _ (views : ViewsResemble t w.tree s (s + p.more) live.loop m valid new_valid) where
-    none_carried : (edges : List Edge) → AreEdges w.tree edges → (e : Edge) → IsIn e edges → is_carried_by w.tree (s + p.more) e ≡ true → ⊥
-    none_carried edges are e i carries = some_edges t (λ olds are_old. (
-        let old = edges_resemble t w.tree s (s + p.more) live.loop m valid new_valid views edges are e i carries olds are_old in
-        let free = each_of (λ (f : Edge). carried_beside t s names f ≡ false) olds old.edge (live.free.1 olds are_old) old.listed in
-        let kept = not_marked old.edge.mark (edges_unrejected t olds trusted.unrejected are_old old.edge old.listed) in
-        let other : is_among old.edge.name names ≡ false = ap (is_among old.edge.name) (sym m.summable.scalars) ∙ old.unsummed in
-        both_ways (carried_beside t s names old.edge) free (λ j. (old.carried j && not (kept j)) && not (other j))
-    ))
+  -- the views of pairs are the same
+  views : ViewsResemble t w.tree s (s + p.more) live.loop m valid new_valid
+  views = views_are t w.tree s (s + p.more) live.loop m valid new_valid
 
-    false_or : (b : Bool) → (b ≡ true → ⊥) → b ≡ false
-    false_or true h = absurd (h refl)
-    false_or false h = refl
+  none_carried : (edges : List Edge) → AreEdges w.tree edges → (e : Edge) → IsIn e edges → is_carried_by w.tree (s + p.more) e ≡ true → ⊥
+  none_carried edges are e i carries = some_edges t (λ olds are_old. (
+      let old = edges_resemble t w.tree s (s + p.more) live.loop m valid new_valid views edges are e i carries olds are_old in
+      let free = each_of (λ (f : Edge). carried_beside t s names f ≡ false) olds old.edge (live.free.1 olds are_old) old.listed in
+      let kept = not_marked old.edge.mark (edges_unrejected t olds trusted.unrejected are_old old.edge old.listed) in
+      let other : is_among old.edge.name names ≡ false = ap (is_among old.edge.name) (sym m.summable.scalars) ∙ old.unsummed in
+      both_ways (carried_beside t s names old.edge) free (λ j. (old.carried j && not (kept j)) && not (other j))
+  ))
 
-    all_free : (edges all : List Edge) → ((e : Edge) → IsIn e edges → is_carried_by w.tree (s + p.more) e ≡ true → ⊥) → All (λ e. carried w.tree (s + p.more) e ≡ false) edges
-    all_free [] all none = All-nil _
-    all_free (e ∷ es) all none =
-        All-cons _ e es (false_or (carried w.tree (s + p.more) e) (λ h. none e (inl refl) (and_parts (is_carried_by w.tree (s + p.more) e) (not (is_rejected e.mark)) h).0)) (all_free es all (λ f i. none f (inr i)))
+  false_or : (b : Bool) → (b ≡ true → ⊥) → b ≡ false
+  false_or true h = absurd (h refl)
+  false_or false h = refl
 
-    -- so it may become a PARALLEL DO
-    pub may_be_parallel : (paralleling (s + p.more)).IsCause w.tree None
-    may_be_parallel = (no_rule, λ edges are. all_free edges edges (none_carried edges are))
+  all_free : (edges : List Edge) → ((e : Edge) → IsIn e edges → is_carried_by w.tree (s + p.more) e ≡ true → ⊥) → All (λ e. carried w.tree (s + p.more) e ≡ false) edges
+  all_free [] none = All-nil _
+  all_free (e ∷ es) none =
+      All-cons _ e es (false_or (carried w.tree (s + p.more) e) (λ h. none e (inl refl) (and_parts (is_carried_by w.tree (s + p.more) e) (not (is_rejected e.mark)) h).0)) (all_free es (λ f i. none f (inr i)))
+
+  -- so it may become a PARALLEL DO
+  pub may_be_parallel : (paralleling (s + p.more)).IsCause w.tree None
+  may_be_parallel = (no_rule, λ edges are. all_free edges (none_carried edges are))
+
+  -- which gives what the list is lowered to
+  pub becomes_parallel : (paralleling (s + p.more)).Makes w.tree q.tree (all_kept w.tree)
+  becomes_parallel = (sym flagged_is, refl)

@@ -85,6 +85,9 @@ module _ (t : ProgramTree) (n : ℕ) (ps : List Partials) (h : Head) (body : Stm
   bounds_by (Some x) None c v e = absurd cc
   bounds_by None b c v e = absurd cc
 
+  pub bounds_valued : ((x : ℤ) × (constant_value (table_of t).constants h.first ≡ Some x)) × ((y : ℤ) × (constant_value (table_of t).constants h.last ≡ Some y))
+  bounds_valued = let values = (table_of t).constants in bounds_by (constant_value values h.first) (constant_value values h.last) (constant_value values h.step) spans.0 spans.1
+
   -- so they read no scalar
   pub bounds_unread : (scalars_in (constant_names t.decls) h.first ≡ []) × (scalars_in (constant_names t.decls) h.last ≡ [])
   bounds_unread =
@@ -120,7 +123,7 @@ module _ (h : Head) (body : StmtTrees) (w : List ℕ) (own : is_among w (loop_va
   has_right : (xs ys : List (List ℕ)) → is_among w ys ≡ true → is_among w (xs ++ ys) ≡ true
   has_right xs ys e = among_append w xs ys ∙ or_right (is_among w xs) (is_among w ys) e
 
-  in_gap : (gap : Gap) → is_among w (all_loop_variables (filled gap (alone (Do h body)))) ≡ true
+  pub in_gap : (gap : Gap) → is_among w (all_loop_variables (filled gap (alone (Do h body)))) ≡ true
   in_gap (at_front rest) = has_left (loop_variables (Do h body)) (all_loop_variables rest) own
   in_gap (past z gap) = has_right (loop_variables z) (all_loop_variables (filled gap (alone (Do h body)))) (in_gap gap)
   in_gap (in_then c gap b rest) =

@@ -112,7 +112,7 @@ unless_references : (cs : List (List ℕ)) (nest : List Loop) (o : Option (List 
 unless_references cs nest None text rest n e = refl
 unless_references cs nest (Some x) text rest n e = let same : n ≡ n + 0 = omega arith in e ∙ ap (λ (k : ℕ). statements_references cs nest k rest) same
 
-without_references : (cs : List (List ℕ)) (nest : List Loop) (ss : StmtTrees) (n : ℕ) → statements_references cs nest n (without_list ss) ≡ statements_references cs nest n ss
+pub without_references : (cs : List (List ℕ)) (nest : List Loop) (ss : StmtTrees) (n : ℕ) → statements_references cs nest n (without_list ss) ≡ statements_references cs nest n ss
 without_references cs nest no_stmts n = refl
 without_references cs nest (more_stmts (Comment text) rest) n = unless_references cs nest (listed_name text) text rest n (without_references cs nest rest n)
 without_references cs nest (more_stmts (Assign left right) rest) n = refl
@@ -290,7 +290,7 @@ module _ (t u : ProgramTree) (s k : ℕ) (loop_is : LoopOf t s) (m : IsResemblin
       (subst (λ (j : ℕ). IsIn r (statements_references cs (gap_loops m.gap 1 ++ loop j h ∷ []) (j + 1) body)) (sym m.at)
       (subst (λ (ls : List Loop). IsIn r (statements_references cs (ls ++ loop s h ∷ []) (s + 1) body)) old_round i))))
 
-  stands_body : Stand t (s + 1) (all_numbered (without_list body))
+  pub stands_body : Stand t (s + 1) (all_numbered (without_list body))
   stands_body =
       subst (Stand t (s + 1)) (sym (without_numbered body))
       (inner_stands t (Do h body) (all_numbered body) s
@@ -298,7 +298,7 @@ module _ (t u : ProgramTree) (s k : ℕ) (loop_is : LoopOf t s) (m : IsResemblin
       (subst (λ (n : ℕ). Stand t n (all_numbered (alone (Do h body)))) m.at
       (gap_stands t m.gap (alone (Do h body)) 1 (subst (λ (ts : StmtTrees). Stand t 1 (all_numbered ts)) m.stands (whole_stands t))))))
 
-  right_body : stmts_are_right (kind_in t) (without_list body) ≡ true
+  pub right_body : stmts_are_right (kind_in t) (without_list body) ≡ true
   right_body =
       let whole = right_filled (kind_in t) m.gap (alone (Do h body)) (ap (stmts_are_right (kind_in t)) (sym m.stands) ∙ (right_program t valid).statements) in
       let one = and_parts (stmt_is_right (kind_in t) (Do h body)) true whole in

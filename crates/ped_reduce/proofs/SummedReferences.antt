@@ -79,7 +79,7 @@ false_or true h = absurd (h refl)
 false_or false h = refl
 
 -- an access of a statement by itself as a reference
-as_reference : (n k : ℕ) (nest : List Loop) (a : Access) (accesses : List Access) → IsIn a accesses → (r : Reference) × IsIn r (numbered_accesses n k nest accesses) × (r.access ≡ a)
+pub as_reference : (n k : ℕ) (nest : List Loop) (a : Access) (accesses : List Access) → IsIn a accesses → (r : Reference) × IsIn r (numbered_accesses n k nest accesses) × (r.access ≡ a)
 as_reference n k nest a [] i = absurd i
 as_reference n k nest a (x ∷ xs) (inl e) = (record { statement = n; number = k; access = x; nest = nest }, inl refl, sym e)
 as_reference n k nest a (x ∷ xs) (inr i) = let r = as_reference n (suc k) nest a xs i in (r.0, inr r.1, r.2)
@@ -247,7 +247,7 @@ sum_read cs indices x left right sum of a i = elim of.shape [
   ]
 ]
 
-sum_right : (k : NameKinds) (x : List ℕ) (left right : ExprTree) (sum : Sum) → IsSumOf x left right sum → expr_is_right k right ≡ true → expr_is_right k (operand sum) ≡ true
+pub sum_right : (k : NameKinds) (x : List ℕ) (left right : ExprTree) (sum : Sum) → IsSumOf x left right sum → expr_is_right k right ≡ true → expr_is_right k (operand sum) ≡ true
 sum_right k x left right sum of h = elim of.shape [
   | inl q ↦ (and_parts (expr_is_right k (Var x)) (expr_is_right k (operand sum)) (ap (expr_is_right k) (sym q) ∙ h)).1
   | inr w ↦ elim w [

@@ -36,7 +36,7 @@ module _ (x : List ℕ) (cs : List (List ℕ)) where
 
   module _ (indices : List (List ℕ)) where
     index_apart : (b : Bool) (y : List ℕ) → is_same_text x y ≡ false → Apart (if b then [] else unless_constant cs (read_of y []))
-    index_apart true y h a i = absurd i
+    index_apart true y h = none_apart
     index_apart false y h = one_apart (is_among y cs) (read_of y []) h
 
     mutual
@@ -114,6 +114,9 @@ module _ (x : List ℕ) (cs : List (List ℕ)) where
     abbrev Unnamed : List Reference → Type 0
     Unnamed refs = (r : Reference) → IsIn r refs → is_same_text x r.access.name ≡ false
 
+    none_unnamed : Unnamed []
+    none_unnamed r i = absurd i
+
     own_unnamed : (n : ℕ) (nest : List Loop) (accesses : List Access) → Apart accesses → Unnamed (numbered_accesses n 1 nest accesses)
     own_unnamed n nest accesses h r i = h r.access (own_access n 1 nest accesses r i).2
 
@@ -144,11 +147,11 @@ module _ (x : List ℕ) (cs : List (List ℕ)) where
       one_unnamed nest n (Read items) h =
           own_unnamed n nest (own_accesses cs (indices_of nest) (Read items))
           (both_apart (write_of (codes "(IN)") [] ∷ []) (flat_map (left_accesses cs (indices_of nest)) items) (single_apart (write_of (codes "(IN)") []) input) (lefts_apart (indices_of nest) items h))
-      one_unnamed nest n Stop h r i = absurd i
-      one_unnamed nest n (Comment text) h r i = absurd i
+      one_unnamed nest n Stop h = none_unnamed
+      one_unnamed nest n (Comment text) h = none_unnamed
 
       pub all_unnamed : (nest : List Loop) (n : ℕ) (ss : StmtTrees) → is_among x (stmts_names ss) ≡ false → Unnamed (statements_references cs nest n ss)
-      all_unnamed nest n no_stmts h r i = absurd i
+      all_unnamed nest n no_stmts h = none_unnamed
       all_unnamed nest n (more_stmts s rest) h =
           let p = parts (stmt_names s) (stmts_names rest) h in
           both_unnamed (statement_references cs nest n s) (statements_references cs nest (n + statement_count s) rest) (one_unnamed nest n s p.0) (all_unnamed nest (n + statement_count s) rest p.1)

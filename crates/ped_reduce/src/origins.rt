@@ -108,13 +108,10 @@ fn add_one_summed(
             all.push(number)?;
             return add_summed(all, partials, &d.body, number + 1);
         }
-        Stmt::Assign { left: _, right: _ } => {
+        Stmt::Assign { left: _, right: _ } | Stmt::Print(_) | Stmt::Read(_) | Stmt::Stop => {
             if is_sum(partials, statement) {
                 return add_times(all, number, 3);
             }
-            return add_times(all, number, 1);
-        }
-        Stmt::Print(_) | Stmt::Read(_) | Stmt::Stop => {
             return add_times(all, number, 1);
         }
     }
@@ -169,13 +166,13 @@ fn count_sums_in(partials: &[Partials], statement: &Stmt) -> u32
             else_part,
         } => count_sums(partials, then_part) + count_sums(partials, else_part),
         Stmt::Do(d) => count_sums(partials, &d.body),
-        Stmt::Assign { left: _, right: _ } => {
+        Stmt::Comment(_) => 0,
+        Stmt::Assign { left: _, right: _ } | Stmt::Print(_) | Stmt::Read(_) | Stmt::Stop => {
             if is_sum(partials, statement) {
                 1
             } else {
                 0
             }
         }
-        Stmt::Comment(_) | Stmt::Print(_) | Stmt::Read(_) | Stmt::Stop => 0,
     }
 }

@@ -36,7 +36,7 @@ fn loop_apart(alloc: Global, partials: &[Partials], d: &Do) -> Result<Stmt, NoMe
 {
     let mut body = zeros(alloc, d.variable, partials)?;
     let rest = without_list(alloc, &d.body)?;
-    add_summed(alloc, &mut body, d.variable, partials, rest)?;
+    add_summed(alloc, d.variable, partials, rest, &mut body)?;
     let mut new = with_body(alloc, d, body)?;
     new.parallel = true;
     Ok(Stmt::of_loop(new))
@@ -88,15 +88,15 @@ fn at(alloc: Global, array: Name, v: Name) -> Result<Expr, NoMemory>
 #[cycle(summed)]
 fn add_summed(
     alloc: Global,
-    all: &mut Vec<Stmt>,
     v: Name,
     partials: &[Partials],
     statements: &[Stmt],
+    all: &mut Vec<Stmt>,
 ) -> Result<(), NoMemory>
     ensures { OnOk result (stmt_trees all.new.items ≡ Replacing.followed (stmt_trees all.old.items) (Spec.all_summed v (map partials_view partials.now) (stmt_trees statements.now))) }
 {
     for statement in statements {
-        add_one_summed(alloc, all, v, partials, statement)?;
+        add_one_summed(alloc, v, partials, statement, all)?;
     }
     Ok(())
 }
@@ -105,10 +105,10 @@ fn add_summed(
 #[cycle(summed)]
 fn add_one_summed(
     alloc: Global,
-    all: &mut Vec<Stmt>,
     v: Name,
     partials: &[Partials],
     statement: &Stmt,
+    all: &mut Vec<Stmt>,
 ) -> Result<(), NoMemory>
     ensures { OnOk result (stmt_trees all.new.items ≡ Replacing.followed (stmt_trees all.old.items) (Spec.summed v (map partials_view partials.now) (stmt_tree statement.now))) }
 {
@@ -122,15 +122,15 @@ fn add_one_summed(
             else_part,
         } => {
             let mut then_new = Vec::new(alloc);
-            add_summed(alloc, &mut then_new, v, partials, then_part)?;
+            add_summed(alloc, v, partials, then_part, &mut then_new)?;
             let mut else_new = Vec::new(alloc);
-            add_summed(alloc, &mut else_new, v, partials, else_part)?;
+            add_summed(alloc, v, partials, else_part, &mut else_new)?;
             let condition = condition.copy(alloc)?;
             return add_one(all, Stmt::block_if(condition, then_new, else_new));
         }
         Stmt::Do(d) => {
             let mut body = Vec::new(alloc);
-            add_summed(alloc, &mut body, v, partials, &d.body)?;
+            add_summed(alloc, v, partials, &d.body, &mut body)?;
             let new = with_body(alloc, d, body)?;
             return add_one(all, Stmt::of_loop(new));
         }

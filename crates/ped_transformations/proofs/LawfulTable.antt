@@ -2,23 +2,25 @@
 use Rattle.std.proofs.Common.{ℕ, ℤ, List, Bool}
 use Rattle.std.specs.Prelude.{⊤}
 use Rattle.ped_script.specs.declared.items.Command.{Command}
-use Rattle.ped_script.specs.declared.items.Command.TheVariants.{Source, Deps, Show, Print, Advise, Replace, Insert, Delete, Interchange, Reverse, Skew, Strip, Peel, Distribute, Fuse, Expand, Privatise, Parallel, Serial, Reject, Undo, Redo, Run, Races, Tested}
-use Rattle.ped_splits.specs.ped_reindex.specs.ped_loops.specs.ped_scalar.specs.ped_rules.specs.Steps.{StepAt, MatchStep}
-use Rattle.ped_splits.specs.ped_reindex.specs.ped_loops.specs.ped_scalar.specs.ped_rules.specs.Lawful.{IsDetermined, IsLawful}
-use Rattle.ped_splits.specs.ped_reindex.specs.ped_loops.specs.ped_scalar.proofs.LawfulSteps.{lawful_privatising, lawful_expanding}
-use Rattle.ped_splits.specs.ped_reindex.specs.ped_loops.specs.Interchanging.{interchanging}
-use Rattle.ped_splits.specs.ped_reindex.specs.ped_loops.specs.Reversing.{reversing}
-use Rattle.ped_splits.specs.ped_reindex.specs.ped_loops.specs.Paralleling.{paralleling}
-use Rattle.ped_splits.specs.ped_reindex.specs.ped_loops.specs.Serialising.{serialising}
-use Rattle.ped_splits.specs.ped_reindex.specs.ped_loops.specs.Rejecting.{rejecting}
-use Rattle.ped_splits.specs.ped_reindex.specs.Skewing.{skewing}
-use Rattle.ped_splits.specs.ped_reindex.specs.Stripping.{stripping}
-use Rattle.ped_splits.specs.ped_reindex.specs.Peeling.{peeling}
-use Rattle.ped_splits.specs.Distributing.{distributing}
-use Rattle.ped_splits.specs.Fusing.{fusing}
-use Rattle.ped_splits.specs.ped_reindex.specs.ped_loops.proofs.Determined.{determined_parallel, determined_serial, determined_reversal, determined_interchange, determined_rejection}
-use Rattle.ped_splits.specs.ped_reindex.proofs.Determined.{determined_skew, determined_strip, determined_peel}
-use Rattle.ped_splits.proofs.Determined.{determined_distribution, determined_fusion}
+use Rattle.ped_script.specs.declared.items.Command.TheVariants.{Source, Deps, Show, Print, Advise, Replace, Insert, Delete, Interchange, Reverse, Skew, Strip, Peel, Distribute, Fuse, Expand, Privatise, Reduce, Parallel, Serial, Reject, Undo, Redo, Run, Races, Tested}
+use Rattle.ped_reduce.specs.ped_splits.specs.ped_reindex.specs.ped_loops.specs.ped_scalar.specs.ped_rules.specs.Steps.{StepAt, MatchStep}
+use Rattle.ped_reduce.specs.ped_splits.specs.ped_reindex.specs.ped_loops.specs.ped_scalar.specs.ped_rules.specs.Lawful.{IsDetermined, IsLawful}
+use Rattle.ped_reduce.specs.ped_splits.specs.ped_reindex.specs.ped_loops.specs.ped_scalar.proofs.LawfulSteps.{lawful_privatising, lawful_expanding}
+use Rattle.ped_reduce.specs.ped_splits.specs.ped_reindex.specs.ped_loops.specs.Interchanging.{interchanging}
+use Rattle.ped_reduce.specs.ped_splits.specs.ped_reindex.specs.ped_loops.specs.Reversing.{reversing}
+use Rattle.ped_reduce.specs.ped_splits.specs.ped_reindex.specs.ped_loops.specs.Paralleling.{paralleling}
+use Rattle.ped_reduce.specs.ped_splits.specs.ped_reindex.specs.ped_loops.specs.Serialising.{serialising}
+use Rattle.ped_reduce.specs.ped_splits.specs.ped_reindex.specs.ped_loops.specs.Rejecting.{rejecting}
+use Rattle.ped_reduce.specs.ped_splits.specs.ped_reindex.specs.Skewing.{skewing}
+use Rattle.ped_reduce.specs.ped_splits.specs.ped_reindex.specs.Stripping.{stripping}
+use Rattle.ped_reduce.specs.ped_splits.specs.ped_reindex.specs.Peeling.{peeling}
+use Rattle.ped_reduce.specs.ped_splits.specs.Distributing.{distributing}
+use Rattle.ped_reduce.specs.ped_splits.specs.Fusing.{fusing}
+use Rattle.ped_reduce.specs.Reducing.{reducing}
+use Rattle.ped_reduce.specs.ped_splits.specs.ped_reindex.specs.ped_loops.proofs.Determined.{determined_parallel, determined_serial, determined_reversal, determined_interchange, determined_rejection}
+use Rattle.ped_reduce.specs.ped_splits.specs.ped_reindex.proofs.Determined.{determined_skew, determined_strip, determined_peel}
+use Rattle.ped_reduce.specs.ped_splits.proofs.Determined.{determined_distribution, determined_fusion}
+use Rattle.ped_transformations.proofs.DeterminedReduction.{determined_reduction}
 use Rattle.ped_transformations.specs.Table.{step_of}
 
 determined_by : (at : StepAt) → IsLawful at → IsDetermined at
@@ -28,6 +30,7 @@ determined_by at lawful = record { one_cause = lawful.one_cause; one_made = lawf
 pub determined_step : (command : Command) → MatchStep (step_of command) ⊤ IsDetermined
 determined_step (Expand number name) = determined_by _ (lawful_expanding number name)
 determined_step (Privatise number name) = determined_by _ (lawful_privatising number name)
+determined_step (Reduce number names) = determined_reduction number names
 determined_step (Interchange number) = determined_interchange number
 determined_step (Reverse number) = determined_reversal number
 determined_step (Parallel number) = determined_parallel number
@@ -52,7 +55,7 @@ determined_step (Run choices) = tt
 determined_step Races = tt
 determined_step Tested = tt
 
--- the steps on loops are lawful
+-- the steps on loops, and reductions, are lawful
 pub record LoopsLawful : Type 0 where
   pub interchange : (s : ℕ) → IsLawful (interchanging s)
   pub reversal : (s : ℕ) → IsLawful (reversing s)
@@ -64,6 +67,7 @@ pub record LoopsLawful : Type 0 where
   pub peel : (s : ℕ) (last : Bool) → IsLawful (peeling s last)
   pub distribution : (s : ℕ) → IsLawful (distributing s)
   pub fusion : (s : ℕ) → IsLawful (fusing s)
+  pub reduction : (s : ℕ) (names : List (List ℕ)) → IsLawful (reducing s names)
 
 -- each step of the table is lawful
 abbrev pub AllLawful : Type 0
@@ -72,6 +76,7 @@ AllLawful = (command : Command) → MatchStep (step_of command) ⊤ IsLawful
 pub lawful_step : LoopsLawful → AllLawful
 lawful_step loops (Expand number name) = lawful_expanding number name
 lawful_step loops (Privatise number name) = lawful_privatising number name
+lawful_step loops (Reduce number names) = loops.reduction number names
 lawful_step loops (Interchange number) = loops.interchange number
 lawful_step loops (Reverse number) = loops.reversal number
 lawful_step loops (Parallel number) = loops.parallel number

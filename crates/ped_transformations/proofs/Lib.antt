@@ -1,4 +1,5 @@
 mod AdviceLines
 pub mod ByPlace
+mod DeterminedReduction
 pub mod LawfulTable
 pub mod OneAdvice

@@ -1,6 +1,6 @@
 pub use Rattle.ped_script
-pub use Rattle.ped_splits
-pub use Rattle.ped_splits.specs.ped_reindex
+pub use Rattle.ped_reduce
+pub use Rattle.ped_reduce.specs.ped_splits.specs.ped_reindex
 pub mod Advice
 pub mod CodeAdvice
 pub mod CodeKinds

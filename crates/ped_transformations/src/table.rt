@@ -2,22 +2,23 @@
 
 ghost use Rattle.std.specs.Prelude.{◌≡◌, IfOk};
 ghost use Rattle.ped_tree.specs.Views.{program_tree};
-ghost use Rattle.ped_splits.specs.ped_reindex.specs.ped_loops.specs.ped_scalar.specs.ped_rules.specs.ped_loop_runs.specs.ped_bodies.specs.ped_steps.specs.Scenes.{IsSceneOf};
+ghost use Rattle.ped_reduce.specs.ped_splits.specs.ped_reindex.specs.ped_loops.specs.ped_scalar.specs.ped_rules.specs.ped_loop_runs.specs.ped_bodies.specs.ped_steps.specs.Scenes.{IsSceneOf};
 ghost use Rattle.ped_transformations.specs.declared.table.Kind.TheVariants as Kind;
 ghost use Rattle.ped_transformations.specs.Table.{step_of};
 ghost use Rattle.ped_transformations.specs.CodeKinds.{IsPlace, AnswersStep};
 
 use ped_base::NoMemory;
-use ped_script::Command;
-use ped_splits::ped_reindex::ped_loops::ped_scalar::ped_rules::ped_loop_runs::ped_bodies::ped_steps::{
+use ped_reduce::ped_splits::ped_reindex::ped_loops::ped_scalar::ped_rules::ped_loop_runs::ped_bodies::ped_steps::{
     Change, Refused, Scene,
 };
-use ped_splits::ped_reindex::ped_loops::ped_scalar::{expand, privatise};
-use ped_splits::ped_reindex::ped_loops::{
+use ped_reduce::ped_splits::ped_reindex::ped_loops::ped_scalar::{expand, privatise};
+use ped_reduce::ped_splits::ped_reindex::ped_loops::{
     interchange, make_parallel, make_serial, reject, reverse,
 };
-use ped_splits::ped_reindex::{peel, skew, strip};
-use ped_splits::{distribute, fuse};
+use ped_reduce::ped_splits::ped_reindex::{peel, skew, strip};
+use ped_reduce::ped_splits::{distribute, fuse};
+use ped_reduce::reduce;
+use ped_script::Command;
 use std::alloc::Global;
 use std::sync::ledger::Ledger;
 
@@ -46,6 +47,7 @@ pub fn place_of(command: &Command) -> Option<Place>
     match command {
         Command::Privatise(number, _) => Some(transformation(*number)),
         Command::Expand(number, _) => Some(transformation(*number)),
+        Command::Reduce(number, _) => Some(transformation(*number)),
         Command::Interchange(number) => Some(transformation(*number)),
         Command::Reverse(number) => Some(transformation(*number)),
         Command::Skew(number, _) => Some(transformation(*number)),
@@ -91,55 +93,24 @@ pub fn answer<L: Ledger>(
 {
     match command {
         Command::Privatise(number, name) => {
-            let found = privatise(alloc, scene, *number, name)?;
-            return Ok(Some(found));
+            return Ok(Some(privatise(alloc, scene, *number, name)?));
         }
-        Command::Expand(number, name) => {
-            let found = expand(alloc, scene, *number, name)?;
-            return Ok(Some(found));
+        Command::Expand(number, name) => return Ok(Some(expand(alloc, scene, *number, name)?)),
+        Command::Reduce(number, names) => {
+            return Ok(Some(reduce(alloc, scene, *number, names.as_slice())?));
         }
-        Command::Interchange(number) => {
-            let found = interchange(alloc, scene, *number)?;
-            return Ok(Some(found));
-        }
-        Command::Reverse(number) => {
-            let found = reverse(alloc, scene, *number)?;
-            return Ok(Some(found));
-        }
-        Command::Skew(number, factor) => {
-            let found = skew(alloc, scene, *number, *factor)?;
-            return Ok(Some(found));
-        }
-        Command::Strip(number, size) => {
-            let found = strip(alloc, scene, *number, *size)?;
-            return Ok(Some(found));
-        }
+        Command::Interchange(number) => return Ok(Some(interchange(alloc, scene, *number)?)),
+        Command::Reverse(number) => return Ok(Some(reverse(alloc, scene, *number)?)),
+        Command::Skew(number, factor) => return Ok(Some(skew(alloc, scene, *number, *factor)?)),
+        Command::Strip(number, size) => return Ok(Some(strip(alloc, scene, *number, *size)?)),
         Command::Peel { statement, last } => {
-            let found = peel(alloc, scene, *statement, *last)?;
-            return Ok(Some(found));
+            return Ok(Some(peel(alloc, scene, *statement, *last)?));
         }
-        Command::Distribute(number) => {
-            let found = distribute(alloc, scene, *number)?;
-            return Ok(Some(found));
-        }
-        Command::Fuse(number) => {
-            let found = fuse(alloc, scene, *number)?;
-            return Ok(Some(found));
-        }
-        Command::Parallel(number) => {
-            let found = make_parallel(alloc, scene, *number)?;
-            return Ok(Some(found));
-        }
-        Command::Serial(number) => {
-            let found = make_serial(alloc, scene, *number)?;
-            return Ok(Some(found));
-        }
-        Command::Reject(number, name) => {
-            let found = reject(alloc, scene, *number, name)?;
-            return Ok(Some(found));
-        }
-        _ => {
-            return Ok(None);
-        }
+        Command::Distribute(number) => return Ok(Some(distribute(alloc, scene, *number)?)),
+        Command::Fuse(number) => return Ok(Some(fuse(alloc, scene, *number)?)),
+        Command::Parallel(number) => return Ok(Some(make_parallel(alloc, scene, *number)?)),
+        Command::Serial(number) => return Ok(Some(make_serial(alloc, scene, *number)?)),
+        Command::Reject(number, name) => return Ok(Some(reject(alloc, scene, *number, name)?)),
+        _ => return Ok(None),
     }
 }

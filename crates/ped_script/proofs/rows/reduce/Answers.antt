@@ -1,4 +1,4 @@
-use Rattle.std.proofs.Common.{◌≡◌, List, None, option_and_then, sym, ap, ◌∙◌}
+use Rattle.std.proofs.Common.{List, option_and_then, sym, ap, ◌∙◌}
 use Rattle.std.proofs.lemmas.Result.{IfOk-weaker}
 use Rattle.ped_script.specs.declared.items.Command.TheVariants.{Reduce}
 use Rattle.ped_script.specs.Words.{Text, words_of}

@@ -59,4 +59,9 @@ pub mod SumUntouched
 pub mod SumNumbers
 pub mod SumKeeps
 pub mod SumGoals
+pub mod SumDeclared
+pub mod TidyExchanges
+pub mod SerialPrograms
+pub mod SumFlags
+pub mod SumTrusted
 pub mod LoweringKeeps

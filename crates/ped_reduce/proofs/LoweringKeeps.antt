@@ -20,7 +20,7 @@ use Rattle.ped_reduce.proofs.MayBeParallel.{may_be_parallel, becomes_parallel}
 
 -- what is known of sums in order: where lowering has come to a live list, the program in which its sums are kept apart is valid, means the same, and may be trusted as the one before
 abbrev pub SumsKept : Type 0
-SumsKept = (t : ProgramTree) (s : ℕ) (p q w : Lowered) → IsValid t → Lowers t (range_with_len 1 (s - 1)) (not_lowered t) p → IsValid p.tree → (live : IsLive t s p q) → lowered_at false p s (list_of live.loop.body) ≡ Some w → IsValid w.tree × Keeps p.tree w.tree × (IsTrusted p.tree → IsTrusted w.tree)
+SumsKept = (t : ProgramTree) (s : ℕ) (p q w : Lowered) → IsValid t → Lowers t (range_with_len 1 (s - 1)) (not_lowered t) p → (live : IsLive t s p q) → lowered_at false p s (list_of live.loop.body) ≡ Some w → IsValid w.tree × Keeps p.tree w.tree × (IsTrusted p.tree → IsTrusted w.tree)
 
 -- where a DO is lowered as a PARALLEL DO, it may be lowered in order
 in_order : (p q : Lowered) (s : ℕ) (names : List (List ℕ)) → lowered_at true p s names ≡ Some q → (w : Lowered) × (lowered_at false p s names ≡ Some w)
@@ -54,7 +54,7 @@ module _ (lawful : (s : ℕ) → IsLawful (paralleling s)) (sums : SumsKept) (t 
   live_kept : (s : ℕ) (p q : Lowered) → Lowers t (range_with_len 1 (s - 1)) (not_lowered t) p → IsKept p → IsLive t s p q → IsKept q
   live_kept s p q front kept live =
       let w = in_order p q s (list_of live.loop.body) live.makes in
-      let apart = sums t s p q w.0 valid front kept.is_valid live w.1 in
+      let apart = sums t s p q w.0 valid front live w.1 in
       let safe = apart.2 kept.is_trusted in
       let cause = may_be_parallel t s p q w.0 valid apart.0 trusted front live w.1 in
       let makes = becomes_parallel t s p q w.0 valid apart.0 trusted front live w.1 in

@@ -183,9 +183,9 @@ module _ (t : ProgramTree) (s : ℕ) (p q w : Lowered) (valid : IsValid t) (new_
   false_or false h = refl
 
   all_free : (edges : List Edge) → ((e : Edge) → IsIn e edges → is_carried_by w.tree (s + p.more) e ≡ true → ⊥) → All (λ e. carried w.tree (s + p.more) e ≡ false) edges
-  all_free [] none = All-nil _
+  all_free [] none = All-nil (λ (e : Edge). carried w.tree (s + p.more) e ≡ false)
   all_free (e ∷ es) none =
-      All-cons _ e es (false_or (carried w.tree (s + p.more) e) (λ h. none e (inl refl) (and_parts (is_carried_by w.tree (s + p.more) e) (not (is_rejected e.mark)) h).0)) (all_free es (λ f i. none f (inr i)))
+      All-cons (λ (x : Edge). carried w.tree (s + p.more) x ≡ false) e es (false_or (carried w.tree (s + p.more) e) (λ h. none e (inl refl) (and_parts (is_carried_by w.tree (s + p.more) e) (not (is_rejected e.mark)) h).0)) (all_free es (λ f i. none f (inr i)))
 
   -- so it may become a PARALLEL DO
   pub may_be_parallel : (paralleling (s + p.more)).IsCause w.tree None

@@ -31,7 +31,7 @@ use Rattle.ped_reduce.proofs.ResemblingReferences.{From}
 use Rattle.ped_reduce.proofs.EdgesResemble.{ViewsResemble, same_common, same_heads_of}
 
 -- the constants behind declarations
-decl_values : Values → List DeclTree → Values
+abbrev decl_values : Values → List DeclTree → Values
 decl_values vs [] = vs
 decl_values vs (d ∷ ds) = decl_values (behind_decl vs d) ds
 

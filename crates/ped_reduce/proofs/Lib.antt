@@ -7,7 +7,6 @@ pub mod ReducingLawful
 pub mod SummingRules
 pub mod ReducingAnswers
 pub mod LoweringLaws
-pub mod UnlowerableAnswers
 pub mod LoweringAnswers
 pub mod MadeAnswers
 pub mod LoweredCounts
@@ -42,6 +41,7 @@ pub mod OuterLoops
 pub mod ViewsAlike
 pub mod MayBeParallel
 pub mod UnsummableAnswers
+pub mod UnlowerableAnswers
 pub mod SplitSums
 pub mod SumStores
 pub mod SumSight

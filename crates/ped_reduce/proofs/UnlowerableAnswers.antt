@@ -55,11 +55,14 @@ module _ (t : ProgramTree) (s : ℕ) (h : Head) (body : StmtTrees) (is : IsLoop 
     -- it stands in none
     pub by_lowering : has_list h body ≡ false → is_in_live t (lowered_view l) s ≡ false → (valid : Bool) → IsTrue valid ↔ IsLowerable s names l → IsTrue (not valid) ↔ IsUnlowerable t s names
     by_lowering new outside true is = ((λ h. let wrong : false ≡ true = h in absurd cc), λ u. absurd (lowerable_not (is.0 refl) u))
-    by_lowering new outside false is = ((λ h. record {
-      loop = loop;
-      new = new;
-      before = lowered_view l;
-      lowers = lowers;
-      outside = outside;
-      invalid = λ q makes valid. (let wrong : false ≡ true = is.1 (q, makes, valid) in absurd cc);
-    }), λ u. refl)
+    by_lowering new outside false is = (
+      (λ h. record {
+        loop = loop;
+        new = new;
+        before = lowered_view l;
+        lowers = lowers;
+        outside = outside;
+        invalid = λ q makes valid. (let wrong : false ≡ true = is.1 (q, makes, valid) in absurd cc);
+      }),
+      λ u. refl,
+    )

@@ -10,6 +10,8 @@ pub mod LoweringAnswers
 pub mod MadeAnswers
 pub mod LoweredCounts
 pub mod FreshArrays
+pub mod SummedCode
+pub mod OriginsCode
 pub mod LoweredPrograms
 pub mod LoopsRoundGaps
 pub mod Resembling

@@ -25,8 +25,8 @@ in_order p q s names makes =
     let m = made_by true p s names q makes in (
       lowered_with false p s m.body m.span m.partials,
       ap (λ (o : Option StmtTree). and_then o (lowered_statement false p s names)) m.is
-      ∙ ap (λ (o : Option Span). and_then o (λ (v : Span). option_map (lowered_with false p s m.body v) (partials_of names (fresh_arrays p.tree)))) m.spans
-      ∙ ap (option_map (lowered_with false p s m.body m.span)) m.arrays,
+          ∙ ap (λ (o : Option Span). and_then o (λ (v : Span). option_map (lowered_with false p s m.body v) (partials_of names (fresh_arrays p.tree)))) m.spans
+          ∙ ap (option_map (lowered_with false p s m.body m.span)) m.arrays,
     )
 
 -- the numbers up to the next

@@ -150,7 +150,7 @@ module _ (t : ProgramTree) (s : ℕ) (p q w : Lowered) (valid : IsValid t) (new_
       bodies =
           ap (λ (ts : StmtTrees). all_replaced (on_loop (with_flag true)) (s + p.more) ts 1) m.new
           ∙ replaced_first (on_loop (with_flag true)) (s + p.more) (new_loop t w.tree s (s + p.more) live.loop m).head (new_loop t w.tree s (s + p.more) live.loop m).body
-            (alone (Do (bare live.loop.head) (exits live.loop.head.variable m.partials))) m.other 1 m.number
+          (alone (Do (bare live.loop.head) (exits live.loop.head.variable m.partials))) m.other 1 m.number
           ∙ sym live_body
 
   still_contained : IsContained w.tree (s + p.more)
@@ -175,7 +175,7 @@ module _ (t : ProgramTree) (s : ℕ) (p q w : Lowered) (valid : IsValid t) (new_
       let kept = not_marked old.edge.mark (edges_unrejected t olds trusted.unrejected are_old old.edge old.listed) in
       let other : is_among old.edge.name names ≡ false = ap (is_among old.edge.name) (sym m.summable.scalars) ∙ old.unsummed in
       both_ways (carried_beside t s names old.edge) free (λ j. (old.carried j && not (kept j)) && not (other j))
-  ))
+      ))
 
   false_or : (b : Bool) → (b ≡ true → ⊥) → b ≡ false
   false_or true h = absurd (h refl)

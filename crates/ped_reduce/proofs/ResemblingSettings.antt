@@ -157,7 +157,7 @@ module _ (t u : ProgramTree) (s k : ℕ) (loop_is : LoopOf t s) (m : IsResemblin
   same_loops x =
       ap (has x) m.new
       ∙ gap_has x t m.live (alone (Do loop_is.head loop_is.body)) (lowered_loop false m.partials loop_is.head loop_is.body)
-        (lowered_has x false m.partials loop_is.head loop_is.body ∙ sym (alone_has x (Do loop_is.head loop_is.body))) m.gap 1 m.other m.alike
+      (lowered_has x false m.partials loop_is.head loop_is.body ∙ sym (alone_has x (Do loop_is.head loop_is.body))) m.gap 1 m.other m.alike
       ∙ sym (ap (has x) m.stands)
 
   module _ (valid : IsValid t) (new_valid : IsValid u) (bad : List ℕ → Bool) where

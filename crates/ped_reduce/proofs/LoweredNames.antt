@@ -171,15 +171,15 @@ module _ (y : List ℕ) where
 
   pub in_lowered : (parallel : Bool) (ps : List Partials) (h : Head) (body : StmtTrees) → Has (stmt_names (Do h body)) → Has (stmts_names (lowered_loop parallel ps h body))
   in_lowered parallel ps h body k = elim (has_parts (head_names h) (stmts_names body) k) [
-        | inl j ↦ has_left (head_names h ++ stmts_names (followed (zeros h.variable ps) (all_summed h.variable ps (without_list body)))) (stmts_names (alone (Do (bare h) (exits h.variable ps))))
-            (has_left (head_names h) (stmts_names (followed (zeros h.variable ps) (all_summed h.variable ps (without_list body)))) j)
-        | inr j ↦ elim (all_stay_or h.variable ps (without_list body) (ap (is_among y) (without_names h.variable ps body) ∙ j)) [
-          | inl i ↦ has_left (head_names h ++ stmts_names (followed (zeros h.variable ps) (all_summed h.variable ps (without_list body)))) (stmts_names (alone (Do (bare h) (exits h.variable ps))))
-              (has_right (head_names h) (stmts_names (followed (zeros h.variable ps) (all_summed h.variable ps (without_list body)))) (in_second (zeros h.variable ps) (all_summed h.variable ps (without_list body)) i))
-          | inr i ↦ has_right (head_names h ++ stmts_names (followed (zeros h.variable ps) (all_summed h.variable ps (without_list body)))) (stmts_names (alone (Do (bare h) (exits h.variable ps))))
-              (in_alone (Do (bare h) (exits h.variable ps)) (has_right (head_names (bare h)) (stmts_names (exits h.variable ps)) (in_exits h.variable ps i)))
-        ]
-      ]
+    | inl j ↦ has_left (head_names h ++ stmts_names (followed (zeros h.variable ps) (all_summed h.variable ps (without_list body)))) (stmts_names (alone (Do (bare h) (exits h.variable ps))))
+        (has_left (head_names h) (stmts_names (followed (zeros h.variable ps) (all_summed h.variable ps (without_list body)))) j)
+    | inr j ↦ elim (all_stay_or h.variable ps (without_list body) (ap (is_among y) (without_names h.variable ps body) ∙ j)) [
+      | inl i ↦ has_left (head_names h ++ stmts_names (followed (zeros h.variable ps) (all_summed h.variable ps (without_list body)))) (stmts_names (alone (Do (bare h) (exits h.variable ps))))
+          (has_right (head_names h) (stmts_names (followed (zeros h.variable ps) (all_summed h.variable ps (without_list body)))) (in_second (zeros h.variable ps) (all_summed h.variable ps (without_list body)) i))
+      | inr i ↦ has_right (head_names h ++ stmts_names (followed (zeros h.variable ps) (all_summed h.variable ps (without_list body)))) (stmts_names (alone (Do (bare h) (exits h.variable ps))))
+          (in_alone (Do (bare h) (exits h.variable ps)) (has_right (head_names (bare h)) (stmts_names (exits h.variable ps)) (in_exits h.variable ps i)))
+    ]
+  ]
 
   module _ (t : ProgramTree) (live : List ℕ) where
     by_is : (xs ws : StmtTrees) → ws ≡ xs → Has (stmts_names xs) → Has (stmts_names ws)

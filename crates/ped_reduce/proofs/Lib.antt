@@ -1,4 +1,5 @@
 pub mod ListedComments
+pub mod ListAnswers
 pub mod AlikeRuns
 pub mod ReducedPrograms
 pub mod ReducingRules
@@ -40,6 +41,7 @@ pub mod OuterLoops
 pub mod ViewsAlike
 pub mod MayBeParallel
 pub mod UnsummableAnswers
+pub mod UnlowerableAnswers
 pub mod SplitSums
 pub mod SumStores
 pub mod SumSight

@@ -17,6 +17,7 @@ use Rattle.ped_splits.specs.ped_reindex.specs.ped_loops.specs.ped_scalar.specs.p
 use Rattle.ped_splits.specs.ped_reindex.specs.ped_loops.specs.ped_scalar.specs.ped_rules.specs.ped_loop_runs.specs.ped_bodies.specs.ped_steps.specs.ped_symbols.specs.StorageLimits.{has_many_pairs}
 use Rattle.ped_splits.specs.ped_reindex.specs.ped_loops.specs.ped_scalar.specs.ped_rules.specs.ped_loop_runs.specs.ped_bodies.specs.ped_steps.specs.ped_symbols.specs.NameRefusals.{uses_real, uses_other_rank, Before, behind_site, is_declared_twice, at_site, next_line, at_first, at_sites, name_refusals}
 
+-- the head of a DO as that of no PARALLEL DO
 abbrev serial_head : Head → Head
 serial_head h = record h { parallel = false }
 
@@ -59,10 +60,11 @@ begins_same (more_stmts (Read items) rest) = refl
 begins_same (more_stmts Stop rest) = refl
 begins_same (more_stmts (Comment text) rest) = refl
 
--- the references are those that were, each in DO loops that are no PARALLEL DOs
+-- a DO round a reference as no PARALLEL DO
 abbrev serial_loop : Loop → Loop
 serial_loop l = record { number = l.number; head = serial_head l.head }
 
+-- a reference in such DO loops: the references are those that were
 abbrev serial_reference : Reference → Reference
 serial_reference r = record { statement = r.statement; number = r.number; access = r.access; nest = map serial_loop r.nest }
 
@@ -153,7 +155,7 @@ many_same rs number =
     ap (λ (xs : List Reference). not (is_within_pair_limit xs)) (filtered_same (λ r. nat_le r.statement number) (λ r. nat_le r.statement number) rs (λ r. refl))
     ∙ ap (λ (k : ℕ). not (nat_le k 200000)) (pairs_same (references_until number rs))
 
--- the sites are those that were
+-- a site with its statement so: the sites are those that were
 abbrev serial_site : Site → Site
 serial_site (declaration d) = declaration d
 serial_site (statement s) = statement (serial s)
@@ -230,6 +232,7 @@ many_sites d refs others h b lines (s ∷ rest) = ap₂ (λ (f g : List Finding)
         ++ refused_if q StorageLimit (next_line lines)) (h (b.statements + 1))
     one (private_names x) = refl
 
+-- the program with a DO in the place of each PARALLEL DO
 abbrev pub serial_program : ProgramTree → ProgramTree
 serial_program t = record { decls = t.decls; body = all_serial t.body }
 

@@ -101,6 +101,7 @@ shorter_word =
 
 -- a DO in the place of a PARALLEL DO
 module _ (h : Head) (body : StmtTrees) where
+  -- the head of a PARALLEL DO, or of a DO
   abbrev flag : Bool → Head
   flag parallel = record h { parallel = parallel }
 
@@ -166,6 +167,7 @@ module _ (on off : StmtTree → StmtTrees) (less : (z : StmtTree) → IsLess (on
 
 -- programs of such statements
 module _ (ds : List DeclTree) (on off : StmtTrees) (less : IsLess on off) where
+  -- the program of these declarations and statements
   abbrev program : StmtTrees → ProgramTree
   program ts = record { decls = ds; body = ts }
 

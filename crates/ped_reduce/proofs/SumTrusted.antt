@@ -187,6 +187,7 @@ module _ (cs : List (List ℕ)) (v : List ℕ) (ps : List Partials) where
   round true b c e k = k e
   round false b c e k = refl
 
+  -- these names are those of no arrays
   abbrev AreOther : List (List ℕ) → Type 0
   AreOther names = (w : List ℕ) → is_among w names ≡ true → IsOther w
 
@@ -291,6 +292,7 @@ exits_loops v [] = refl
 exits_loops v (p ∷ ps) = exits_loops v ps
 
 module _ (t : ProgramTree) (s : ℕ) (loop : LoopOf t s) (ps : List Partials) (v : Span) (may : MayKeepApart t s loop ps v) where
+  -- the old DO, and the new one
   abbrev d : Head
   d = loop.head
 
@@ -300,6 +302,7 @@ module _ (t : ProgramTree) (s : ℕ) (loop : LoopOf t s) (ps : List Partials) (v
   abbrev body : StmtTrees
   body = loop.body
 
+  -- the new body, and the new statements
   abbrev inner : StmtTrees
   inner = followed (zeros loop.head.variable ps) (all_summed loop.head.variable ps (without_list loop.body))
 
@@ -315,6 +318,7 @@ module _ (t : ProgramTree) (s : ℕ) (loop : LoopOf t s) (ps : List Partials) (v
   gap : HasGap (on_loop (lowered_loop false ps)) s (Do loop.head loop.body) 1 t.body u.body
   gap = program_gap (on_loop (lowered_loop false ps)) s (Do loop.head loop.body) t loop.is
 
+  -- one is exchanged for the other
   abbrev exchange : Exchange
   exchange = record { gap = gap.gap; front = no_stmts; head = loop.head; body = loop.body; new = lowered_loop false ps loop.head loop.body }
 

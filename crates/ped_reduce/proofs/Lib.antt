@@ -71,9 +71,9 @@ pub mod SumClear
 pub mod StillContained
 pub mod DistinctArrays
 pub mod SumLive
-pub mod SumOrder
 pub mod TidyExchanges
 pub mod SerialPrograms
 pub mod SumFlags
 pub mod SumTrusted
+pub mod SumOrder
 pub mod LoweringKeeps

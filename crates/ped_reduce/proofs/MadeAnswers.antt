@@ -25,6 +25,10 @@ same_lowered p q e = cc
 nothing_some : (r : Lowered) → None ≡ Some r → ⊥
 nothing_some r e = cc
 
+-- with the tree that the code makes
+pub with_tree : (q : Lowered) (u : ProgramTree) → u ≡ q.tree → Some q ≡ Some (record { tree = u; origin = q.origin; live = q.live; more = q.more })
+with_tree q u e = ap (λ (v : ProgramTree). Some (record { tree = v; origin = q.origin; live = q.live; more = q.more })) (sym e)
+
 module _ (s : ℕ) (names : List (List ℕ)) (l : CodeLowered) where
   abbrev at : Option Lowered
   at = lowered_at true (lowered_view l) s names

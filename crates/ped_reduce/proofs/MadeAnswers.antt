@@ -9,7 +9,6 @@ use Rattle.ped_splits.specs.ped_reindex.specs.ped_loops.specs.ped_scalar.specs.p
 use Rattle.ped_splits.specs.ped_reindex.specs.ped_loops.specs.ped_scalar.specs.ped_rules.specs.ped_loop_runs.specs.ped_bodies.specs.ped_steps.specs.ped_flow.specs.Questions.{IsLoop}
 use Rattle.ped_splits.specs.ped_reindex.specs.ped_loops.specs.ped_scalar.specs.ped_rules.specs.CodeSpans.{IsCourse, span_in}
 use Rattle.ped_splits.specs.ped_reindex.specs.ped_loops.specs.ped_scalar.specs.ped_rules.specs.Spans.{Span, span_of, spans_far}
-use Rattle.ped_splits.specs.ped_reindex.specs.ped_loops.specs.ped_scalar.specs.ped_rules.specs.declared.spans.Course.{Course}
 use Rattle.ped_splits.specs.ped_reindex.specs.ped_loops.specs.ped_scalar.specs.ped_rules.specs.declared.spans.Course.TheVariants.{Unknown, Far, Near}
 use Rattle.ped_splits.specs.ped_reindex.specs.ped_loops.specs.ped_scalar.specs.ped_rules.specs.declared.spans.Span.{Span as CodeSpan}
 use Rattle.ped_splits.specs.ped_reindex.specs.ped_loops.specs.ped_scalar.specs.Expanding.{of_span}
@@ -17,7 +16,7 @@ use Rattle.ped_splits.specs.ped_reindex.specs.ped_loops.specs.ped_scalar.proofs.
 use Rattle.ped_reduce.specs.declared.lowering.Lowered.{Lowered as CodeLowered}
 use Rattle.ped_reduce.specs.declared.lowering.Made.{Made}
 use Rattle.ped_reduce.specs.Lowering.{Partials, Lowered, and_then, near_only, fresh_arrays, partials_of, lowered_with, lowered_statement, lowered_at}
-use Rattle.ped_reduce.specs.CodeLowered.{lowered_view, IsKept, IsNext, IsNextBy, IsLowerable, IsMade, next_view}
+use Rattle.ped_reduce.specs.CodeLowered.{lowered_view, IsNext, IsNextBy, IsLowerable, IsMade, next_view}
 
 same_lowered : (p q : Lowered) → Some p ≡ Some q → p ≡ q
 same_lowered p q e = cc

@@ -1,4 +1,5 @@
 pub mod ListedComments
+pub mod ListAnswers
 pub mod AlikeRuns
 pub mod ReducedPrograms
 pub mod ReducingRules
@@ -40,6 +41,7 @@ pub mod OuterLoops
 pub mod ViewsAlike
 pub mod MayBeParallel
 pub mod UnsummableAnswers
+pub mod UnlowerableAnswers
 pub mod SplitSums
 pub mod SumStores
 pub mod SumSight
@@ -69,9 +71,9 @@ pub mod SumClear
 pub mod StillContained
 pub mod DistinctArrays
 pub mod SumLive
-pub mod SumOrder
 pub mod TidyExchanges
 pub mod SerialPrograms
 pub mod SumFlags
 pub mod SumTrusted
+pub mod SumOrder
 pub mod LoweringKeeps

@@ -1,4 +1,5 @@
 pub mod ListedComments
+pub mod ListAnswers
 pub mod AlikeRuns
 pub mod ReducedPrograms
 pub mod ReducingRules
@@ -41,6 +42,7 @@ pub mod OuterLoops
 pub mod ViewsAlike
 pub mod MayBeParallel
 pub mod UnsummableAnswers
+pub mod UnlowerableAnswers
 pub mod SplitSums
 pub mod SumStores
 pub mod SumSight
@@ -62,4 +64,17 @@ pub mod SumUntouched
 pub mod SumNumbers
 pub mod SumKeeps
 pub mod SumGoals
+pub mod SumNames
+pub mod SumDeclared
+pub mod SumApart
+pub mod NamedReads
+pub mod SumClear
+pub mod StillContained
+pub mod DistinctArrays
+pub mod SumLive
+pub mod TidyExchanges
+pub mod SerialPrograms
+pub mod SumFlags
+pub mod SumTrusted
+pub mod SumOrder
 pub mod LoweringKeeps

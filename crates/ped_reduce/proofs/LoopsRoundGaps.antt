@@ -49,7 +49,6 @@ module _ (l : ℕ) (ts : StmtTrees) (some : 0 < statements_count ts) where
       let behind = all_none_from l rest (n + statement_count (Do g a)) (omega (arith, room, e)) in
       (λ i. here i ++ behind i) ∙ append-nil (loop n g ∷ all_loops_round l a (n + 1)) ∙ ap (λ (ls : List Loop). loop n g ∷ ls) (gap_nest gap (n + 1) e)
 
-
 module _ (t : ProgramTree) where
   pub gap_stands : (gap : Gap) (ts : StmtTrees) (n : ℕ) → Stand t n (all_numbered (filled gap ts)) → Stand t (number_at gap n) (all_numbered ts)
   gap_stands (at_front rest) ts n h = followed_stands ts rest n h

@@ -48,7 +48,6 @@ module _ (v : List ℕ) (ps : List Partials) where
     all_same_loops no_stmts = refl
     all_same_loops (more_stmts s rest) = loops_followed (summed v ps s) (all_summed v ps rest) ∙ (λ i. same_loops s i ++ all_same_loops rest i)
 
-
 module _ (cs : List (List ℕ)) (w : List ℕ) (v : List ℕ) (ps : List Partials) (unsummed : is_among w (scalars_of ps) ≡ false) where
   -- a scalar that isn't the DO's variable
   module _ (other : is_same_text w v ≡ false) where

@@ -123,7 +123,7 @@ module _ (v : List ℕ) (ps : List Partials) where
       tells (If c a b) n m h = (
         all_tell a (n + 1) (m + 1) (λ k from to. (let e = h k (omega (arith, from)) (omega (arith, to)) in let none = all_none_below b (n + 1 + statements_count a) k (omega (arith, to)) in omega (arith, e, none))),
         all_tell b (n + 1 + statements_count a) (m + 1 + statements_count (all_summed v ps a))
-        (λ k from to. (let e = h k (omega (arith, from)) (omega (arith, to)) in let all = all_counted_below a (n + 1) k (omega (arith, from)) in omega (arith, e, all))),
+            (λ k from to. (let e = h k (omega (arith, from)) (omega (arith, to)) in let all = all_counted_below a (n + 1) k (omega (arith, from)) in omega (arith, e, all))),
       )
       tells (Do g body) n m h = (
         let e = h n (omega arith) (omega arith) in let none = all_none_below body (n + 1) n (omega arith) in omega (arith, e, none),
@@ -139,7 +139,7 @@ module _ (v : List ℕ) (ps : List Partials) where
       all_tell (more_stmts s rest) n m h = (
         tells s n m (λ k from to. (let e = h k from (omega (arith, to)) in let none = all_none_below rest (n + statement_count s) k to in omega (arith, e, none))),
         all_tell rest (n + statement_count s) (m + statements_count (summed v ps s))
-        (λ k from to. (let e = h k (omega (arith, from)) (omega (arith, to)) in let all = counted_below s n k from in omega (arith, e, all))),
+            (λ k from to. (let e = h k (omega (arith, from)) (omega (arith, to)) in let all = counted_below s n k from in omega (arith, e, all))),
       )
 
   -- the new number of a statement, where the statements go from n to m

@@ -92,15 +92,18 @@ module _ (t : ProgramTree) (s : ℕ) (h : Head) (body : StmtTrees) (is : IsLoop 
   -- what comes of one that is
   pub live_by : (names ≡ [] → ⊥) → length names ≤ 8 → is_in_live t (lowered_view l) s ≡ false → IsFree t s names → (o : Option CodeLowered) → IsNext s names l o → IsLiveAt t s l o
   live_by some few outside free None none = λ r live. none r (ap (λ (xs : List (List ℕ)). lowered_at true (lowered_view l) s xs) (sym (same_names live.loop)) ∙ live.makes) live.valid
-  live_by some few outside free (Some new) next = (record {
-    loop = loop;
-    some = some_of names some;
-    few = few;
-    outside = outside;
-    free = free;
-    makes = next.0;
-    valid = next.1.valid;
-  }, next.1)
+  live_by some few outside free (Some new) next = (
+    record {
+      loop = loop;
+      some = some_of names some;
+      few = few;
+      outside = outside;
+      free = free;
+      makes = next.0;
+      valid = next.1.valid;
+    },
+    next.1,
+  )
 
 -- one statement more
 module _ (t : ProgramTree) (s : ℕ) (l : CodeLowered) where

@@ -76,7 +76,7 @@ module _ (s : ℕ) (names : List (List ℕ)) (l : CodeLowered) where
       pub lowerable_made : IsLowerable s names l ↔ IsValid (program_tree made.tree)
       lowerable_made = (
         (λ g. subst (λ (p : Lowered). IsValid p.tree) (same_lowered g.0 (next_view s l body made) (sym g.1 ∙ at_made)) g.2),
-        (λ valid. (next_view s l body made, at_made, valid))
+        (λ valid. (next_view s l body made, at_made, valid)),
       )
 
   -- the values of the DO's variable

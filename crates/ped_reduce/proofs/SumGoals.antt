@@ -1,4 +1,4 @@
--- What is still to be shown of a DO whose sums are kept apart, in order: each statement by itself. Nothing is proved here; that such a program means the same is proved in SumKeeps.
+-- What is said of a DO whose sums are kept apart, in order: each statement by itself. Nothing is proved here: that such a program means the same is proved in SumKeeps, and these statements in SumLive, SumFlags, SumApart, SumTrusted and SumOrder.
 use Rattle.std.proofs.Common.{◌≡◌, ℕ, ◌+◌, ◌-◌, ℤ, List, ◌++◌, Bool, true, false, Some}
 use Rattle.std.specs.List.{range_with_len}
 use Rattle.ped_base.specs.Lists.{is_among}

@@ -1,4 +1,4 @@
-use Rattle.std.proofs.Common.{◌≡◌, ℕ, ◌+◌, List, map, sym, ap, ◌∙◌}
+use Rattle.std.proofs.Common.{◌≡◌, ◌+◌, List, map, sym, ap, ◌∙◌}
 use Rattle.ped_tree.specs.Tree.{StmtTree, If, Do}
 use Rattle.ped_tree.specs.Numbering.{numbered, all_numbered}
 use Rattle.ped_tree.specs.Views.{cond_tree, stmt_tree, stmt_trees, head_of}

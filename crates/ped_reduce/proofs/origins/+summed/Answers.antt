@@ -20,7 +20,7 @@ add_one_summed-returns-in-If t c =
     let a = stmt_trees c.in-If.then_part.items in
     let b = stmt_trees c.in-If.else_part.items in
     let tree : stmt_tree c.args.statement.now ≡ If (cond_tree c.in-If.condition) a b = ◌∙◌ {A = StmtTree} (ap stmt_tree c.in-If.is) (stmt_tree-If c.in-If.condition c.in-If.then_part c.in-If.else_part) in
-    let first : two ≡ one ++ summed_origins ps (all_numbered a) (n + 1) = c.in_ok-add_summed-in-If.ensures ∙ ap (λ (ss : List Stmt). one ++ summed_origins ps (all_numbered (stmt_trees ss)) (n + 1)) c.deref.ensures.value in
+    let first : two ≡ one ++ summed_origins ps (all_numbered a) (n + 1) = ◌∙◌ {A = List ℕ} c.in_ok-add_summed-in-If.ensures (ap (λ (ss : List Stmt). one ++ summed_origins ps (all_numbered (stmt_trees ss)) (n + 1)) c.deref.ensures.value) in
     let at : c.count_statements.result ≡ statements_count a = c.count_statements.ensures ∙ ap (λ (ss : List Stmt). statements_count (stmt_trees ss)) c.deref-in-If.ensures.value in
     let later = summed_origins ps (all_numbered (stmt_trees c.deref-in-If-2.result.now)) (n + 1 + c.count_statements.result) in
     let same : two ++ later ≡ two ++ summed_origins ps (all_numbered b) (n + 1 + statements_count a) = λ i. two ++ summed_origins ps (all_numbered (stmt_trees (c.deref-in-If-2.ensures.value i))) (n + 1 + at i) in

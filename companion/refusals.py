@@ -114,7 +114,7 @@ RULES: Dict[int, str] = {
     16: "the factor or the size is out of range",
     17: "the name is private already (`reduce`: or given twice, or the loop has a list of sums)",
     18: "there is nothing pending of this name that the loop carries",
-    19: "statement {S} names a scalar of the list and is no sum of it, as K = K+e",
+    19: "statement {S} has the scalar otherwise than to add to it",
 }
 
 OTHERS: Dict[str, str] = {

@@ -1,7 +1,7 @@
 -- The names in a program stand in what comes of it by lowering, too.
-use Rattle.std.proofs.Common.{◌≡◌, ◌⊎◌, ℕ, ◌+◌, List, [], ◌∷◌, ◌++◌, Bool, true, false, ◌||◌, Option, Some, None, inl, inr, refl, sym, ap, subst, ◌∙◌, append_assoc, append-nil}
+use Rattle.std.proofs.Common.{◌≡◌, ◌⊎◌, ℕ, ◌+◌, List, [], ◌∷◌, ◌++◌, Bool, true, false, ◌||◌, Option, Some, None, inl, inr, refl, sym, ap, ◌∙◌, append_assoc}
 use Rattle.ped_base.specs.Lists.{is_same_text, is_among}
-use Rattle.ped_base.proofs.NameEquality.{same_itself, same_is}
+use Rattle.ped_base.proofs.NameEquality.{same_is}
 use Rattle.ped_tree.proofs.NameLaws.Collected.{among_append}
 use Rattle.ped_tree.specs.declared.conditions.Relation.TheVariants.{Eq}
 use Rattle.ped_tree.specs.declared.expressions.Intrinsic.TheVariants.{Mod}
@@ -10,7 +10,6 @@ use Rattle.ped_tree.specs.NamesIn.{expr_names, cond_names, head_names, stmt_name
 use Rattle.ped_tree.specs.Numbering.{statement_count, statements_count}
 use Rattle.ped_splits.specs.ped_reindex.specs.ped_loops.specs.ped_scalar.specs.ped_rules.specs.ped_loop_runs.specs.ped_bodies.specs.ped_steps.specs.ped_flow.proofs.Truths.{untrue, or_split}
 use Rattle.ped_splits.specs.ped_reindex.specs.ped_loops.specs.ped_scalar.specs.ped_rules.specs.ped_loop_runs.specs.ped_bodies.specs.ped_steps.specs.Replacing.{followed, alone}
-use Rattle.ped_splits.specs.ped_reindex.specs.ped_loops.specs.ped_scalar.specs.ped_rules.specs.ped_loop_runs.specs.ped_bodies.specs.ped_steps.specs.ped_laws.specs.Acts.Orders.{IsIn}
 use Rattle.ped_reduce.specs.Lists.{listed_name, unless_named, without_list}
 use Rattle.ped_reduce.specs.Sums.{Sum, plus, minus}
 use Rattle.ped_reduce.specs.Lowering.{Partials, at, zeros, with_sum, added_apart, sum_apart, summed, all_summed, addition, exit, exits, bare, lowered_loop}
@@ -39,7 +38,7 @@ module _ (y : List ℕ) where
   has_parts : (xs ys : List (List ℕ)) → Has (xs ++ ys) → Has xs ⊎ Has ys
   has_parts xs ys h = or_split (is_among y xs) (is_among y ys) (sym (among_append y xs ys) ∙ h)
 
-  names_followed : (a b : StmtTrees) → stmts_names (followed a b) ≡ stmts_names a ++ stmts_names b
+  pub names_followed : (a b : StmtTrees) → stmts_names (followed a b) ≡ stmts_names a ++ stmts_names b
   names_followed no_stmts b = refl
   names_followed (more_stmts s a) b = ap (λ (z : List (List ℕ)). stmt_names s ++ z) (names_followed a b) ∙ sym (append_assoc (stmt_names s) (stmts_names a) (stmts_names b))
 
@@ -147,7 +146,7 @@ module _ (y : List ℕ) where
     unless_names None text rest e = refl
     unless_names (Some x) text rest e = e
 
-    without_names : (ts : StmtTrees) → stmts_names (without_list ts) ≡ stmts_names ts
+    pub without_names : (ts : StmtTrees) → stmts_names (without_list ts) ≡ stmts_names ts
     without_names no_stmts = refl
     without_names (more_stmts (Comment text) rest) = unless_names (listed_name text) text rest (without_names rest)
     without_names (more_stmts (Assign left right) rest) = refl
@@ -170,17 +169,17 @@ module _ (y : List ℕ) where
           (in_alone (addition v p) (has_left (p.scalar ∷ []) (expr_names (Add (Var p.scalar) (Add (Mul (at p.high v) (Int 65536)) (at p.low v)))) (or_left (is_same_text y p.scalar) false e)))))
       by false e k more = has_right (stmt_names (exit v p)) (stmts_names (exits v ps)) (more k)
 
-  in_lowered : (parallel : Bool) (ps : List Partials) (h : Head) (body : StmtTrees) → Has (stmt_names (Do h body)) → Has (stmts_names (lowered_loop parallel ps h body))
+  pub in_lowered : (parallel : Bool) (ps : List Partials) (h : Head) (body : StmtTrees) → Has (stmt_names (Do h body)) → Has (stmts_names (lowered_loop parallel ps h body))
   in_lowered parallel ps h body k = elim (has_parts (head_names h) (stmts_names body) k) [
-        | inl j ↦ has_left (head_names h ++ stmts_names (followed (zeros h.variable ps) (all_summed h.variable ps (without_list body)))) (stmts_names (alone (Do (bare h) (exits h.variable ps))))
-            (has_left (head_names h) (stmts_names (followed (zeros h.variable ps) (all_summed h.variable ps (without_list body)))) j)
-        | inr j ↦ elim (all_stay_or h.variable ps (without_list body) (ap (is_among y) (without_names h.variable ps body) ∙ j)) [
-          | inl i ↦ has_left (head_names h ++ stmts_names (followed (zeros h.variable ps) (all_summed h.variable ps (without_list body)))) (stmts_names (alone (Do (bare h) (exits h.variable ps))))
-              (has_right (head_names h) (stmts_names (followed (zeros h.variable ps) (all_summed h.variable ps (without_list body)))) (in_second (zeros h.variable ps) (all_summed h.variable ps (without_list body)) i))
-          | inr i ↦ has_right (head_names h ++ stmts_names (followed (zeros h.variable ps) (all_summed h.variable ps (without_list body)))) (stmts_names (alone (Do (bare h) (exits h.variable ps))))
-              (in_alone (Do (bare h) (exits h.variable ps)) (has_right (head_names (bare h)) (stmts_names (exits h.variable ps)) (in_exits h.variable ps i)))
-        ]
-      ]
+    | inl j ↦ has_left (head_names h ++ stmts_names (followed (zeros h.variable ps) (all_summed h.variable ps (without_list body)))) (stmts_names (alone (Do (bare h) (exits h.variable ps))))
+        (has_left (head_names h) (stmts_names (followed (zeros h.variable ps) (all_summed h.variable ps (without_list body)))) j)
+    | inr j ↦ elim (all_stay_or h.variable ps (without_list body) (ap (is_among y) (without_names h.variable ps body) ∙ j)) [
+      | inl i ↦ has_left (head_names h ++ stmts_names (followed (zeros h.variable ps) (all_summed h.variable ps (without_list body)))) (stmts_names (alone (Do (bare h) (exits h.variable ps))))
+          (has_right (head_names h) (stmts_names (followed (zeros h.variable ps) (all_summed h.variable ps (without_list body)))) (in_second (zeros h.variable ps) (all_summed h.variable ps (without_list body)) i))
+      | inr i ↦ has_right (head_names h ++ stmts_names (followed (zeros h.variable ps) (all_summed h.variable ps (without_list body)))) (stmts_names (alone (Do (bare h) (exits h.variable ps))))
+          (in_alone (Do (bare h) (exits h.variable ps)) (has_right (head_names (bare h)) (stmts_names (exits h.variable ps)) (in_exits h.variable ps i)))
+    ]
+  ]
 
   module _ (t : ProgramTree) (live : List ℕ) where
     by_is : (xs ws : StmtTrees) → ws ≡ xs → Has (stmts_names xs) → Has (stmts_names ws)

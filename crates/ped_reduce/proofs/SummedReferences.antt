@@ -1,11 +1,10 @@
 -- The references in the body of a lowered DO: to its arrays, at the DO's variable; or those of the old body, to none of the scalars.
 use Rattle.std.proofs.Common.{◌≡◌, ◌⊎◌, ℕ, suc, ◌+◌, ◌<◌, List, [], ◌∷◌, ◌++◌, map, Bool, true, false, ◌&&◌, ◌||◌, Option, Some, None, is_some, if◌then◌else◌, inl, inr, refl, sym, ap, subst, ◌∙◌, arith, append_assoc, append-nil}
-use Rattle.std.specs.List.{list_all}
 use Rattle.std.proofs.lemmas.Bool.{and_parts, both_ways}
 use Rattle.std.proofs.lemmas.List.{map-append}
 use Rattle.ped_base.specs.Lists.{is_same_text, is_among}
-use Rattle.ped_base.proofs.NameEquality.{same_itself, same_flip, same_is}
-use Rattle.ped_tree.specs.Tree.{ExprTree, ExprTrees, Int, Var, Element, Neg, Add, Sub, Mul, Div, Pow, Call, no_exprs, more_exprs, CondTree, ItemTree, Head, StmtTree, StmtTrees, Assign, If, Do, Print, Read, Stop, Comment, no_stmts, more_stmts, ProgramTree}
+use Rattle.ped_base.proofs.NameEquality.{same_flip, same_is}
+use Rattle.ped_tree.specs.Tree.{ExprTree, ExprTrees, Int, Var, Element, Neg, Add, Sub, Mul, Div, Pow, Call, no_exprs, more_exprs, Head, StmtTree, StmtTrees, Assign, If, Do, Print, Read, Stop, Comment, no_stmts, more_stmts, ProgramTree}
 use Rattle.ped_tree.specs.declared.expressions.Intrinsic.TheVariants.{Mod}
 use Rattle.ped_tree.specs.Accesses.{Access, read_of, write_of, unless_constant, expr_reads, exprs_reads, left_accesses, own_accesses, listed}
 use Rattle.ped_tree.proofs.NameLaws.Collected.{among_append}
@@ -19,7 +18,6 @@ use Rattle.ped_splits.specs.ped_reindex.specs.ped_loops.specs.ped_scalar.specs.p
 use Rattle.ped_splits.specs.ped_reindex.specs.ped_loops.specs.ped_scalar.specs.ped_rules.specs.ped_loop_runs.specs.ped_bodies.specs.ped_steps.specs.ped_symbols.specs.Uses.{expr_count}
 use Rattle.ped_splits.specs.ped_reindex.specs.ped_loops.specs.ped_scalar.specs.ped_rules.specs.ped_loop_runs.specs.ped_bodies.specs.ped_steps.specs.ped_symbols.specs.RightUses.RightUses.{NameKinds, is_scalar_kind, is_array_kind, is_scalar, has_rank, is_rank, expr_is_right, exprs_are_right, target_is_right, cond_is_right, head_is_right, stmt_is_right, stmts_are_right}
 use Rattle.ped_splits.specs.ped_reindex.specs.ped_loops.specs.ped_scalar.specs.ped_rules.specs.ped_loop_runs.specs.ped_bodies.specs.ped_steps.specs.ped_flow.proofs.Truths.{untrue, or_none}
-use Rattle.ped_splits.specs.ped_reindex.specs.ped_loops.specs.ped_scalar.specs.ped_rules.specs.ped_loop_runs.specs.ped_bodies.specs.ped_steps.specs.Replacing.{followed, alone}
 use Rattle.ped_splits.specs.ped_reindex.specs.ped_loops.specs.ped_scalar.specs.ped_rules.specs.ped_loop_runs.specs.ped_bodies.specs.ped_steps.specs.ped_sums.specs.Substitution.{has_scalar, have_scalar}
 use Rattle.ped_splits.specs.ped_reindex.specs.ped_loops.specs.ped_scalar.specs.ped_rules.specs.ped_loop_runs.specs.ped_bodies.specs.ped_steps.specs.ped_laws.specs.Acts.Orders.{IsIn}
 use Rattle.ped_splits.specs.ped_reindex.specs.ped_loops.specs.ped_scalar.specs.ped_rules.specs.ped_loop_runs.specs.ped_bodies.specs.ped_steps.specs.ped_laws.proofs.ActLaws.Lists.{in_left, in_right, in_parts}
@@ -28,7 +26,7 @@ use Rattle.ped_splits.specs.ped_reindex.specs.ped_loops.specs.ped_scalar.specs.p
 use Rattle.ped_reduce.specs.Sums.{Sum, plus, minus, sum_of, sum_to}
 use Rattle.ped_reduce.specs.Lowering.{Partials, at, zeros, with_sum, added_apart, sum_apart, summed, all_summed, and_then}
 use Rattle.ped_reduce.proofs.Resembling.{arrays_of, scalars_of}
-use Rattle.ped_reduce.proofs.SumShapes.{operand, IsSumOf, IsApart, IsBare, apart_or_bare, scalar_among, scalar_of, AreAmong, arrays_among}
+use Rattle.ped_reduce.proofs.SumShapes.{operand, IsSumOf, IsApart, IsBare, apart_or_bare, scalar_among, scalar_of, arrays_among}
 use Rattle.ped_reduce.proofs.ResemblingViews.{same_indices}
 use Rattle.ped_reduce.proofs.ReferencesInGaps.{loop, references_followed}
 
@@ -238,7 +236,7 @@ module _ (cs indices : List (List ℕ)) (v : List ℕ) (indexed : is_among v ind
         by s a j = subst (λ (xs : List (List ℕ)). IsIn a (own_accesses cs xs s)) e j
 
 -- what is added stands on the right side of a sum
-sum_read : (cs indices : List (List ℕ)) (x : List ℕ) (left right : ExprTree) (sum : Sum) → IsSumOf x left right sum → (a : Access) → IsIn a (expr_reads cs indices (operand sum)) → IsIn a (expr_reads cs indices right)
+pub sum_read : (cs indices : List (List ℕ)) (x : List ℕ) (left right : ExprTree) (sum : Sum) → IsSumOf x left right sum → (a : Access) → IsIn a (expr_reads cs indices (operand sum)) → IsIn a (expr_reads cs indices right)
 sum_read cs indices x left right sum of a i = elim of.shape [
   | inl q ↦ subst (λ (e : ExprTree). IsIn a (expr_reads cs indices e)) (sym q) (in_right a (expr_reads cs indices (Var x)) (expr_reads cs indices (operand sum)) i)
   | inr w ↦ elim w [
@@ -257,7 +255,7 @@ sum_right k x left right sum of h = elim of.shape [
 ]
 
 -- a sum of one scalar is none of another
-other_sum : (x y : List ℕ) (left right : ExprTree) (sum : Sum) → IsSumOf x left right sum → is_same_text y x ≡ false → sum_to y (Assign left right) ≡ None
+pub other_sum : (x y : List ℕ) (left right : ExprTree) (sum : Sum) → IsSumOf x left right sum → is_same_text y x ≡ false → sum_to y (Assign left right) ≡ None
 other_sum x y left right sum of e = ap (λ (z : ExprTree). sum_to y (Assign z right)) of.written ∙ ap (λ (c : Bool). if c then sum_of y right else None) e
 
 module _ (t : ProgramTree) (k : NameKinds) (cs : List (List ℕ)) (v : List ℕ) (ps : List Partials) (f : ℕ → ℕ) (low : ℕ) (base other : List Loop) (heads : heads_of other ≡ heads_of base) (indexed : is_among v (indices_of base) ≡ true)

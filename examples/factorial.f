@@ -1,0 +1,7 @@
+      PROGRAM FACT
+C     A PRODUCT IS NO SUM: ITS ITERATIONS STAY IN ORDER.
+      SAVE M
+      M=1
+      DO 10 I=1,6
+   10 M=M*I
+      END

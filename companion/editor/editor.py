@@ -205,7 +205,10 @@ class Editor:
         if asks is Asks.VARIABLE:
             rows = [row for row in rows if row.mark == "pending"]
         names = [name for name in carried_names(rows) if not name.startswith("(")]
-        return names if asks is Asks.VARIABLE else [name for name in names if name not in self._desk.outline.arrays]
+        if asks is Asks.VARIABLE:
+            return names
+        scalars = [name for name in names if name not in self._desk.outline.arrays]
+        return [" ".join(scalars), *scalars] if asks is Asks.SUMS and len(scalars) > 1 else scalars
 
     def _carry_out(self, command: str, statement: int) -> None:
         with self._busy(command):

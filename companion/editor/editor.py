@@ -215,17 +215,19 @@ class Editor:
             refusal = self._session.step(command)
         if refusal is None:
             self._desk.put(self._session.present, statement)
-            self._desk.say(f"{command}: ok{self._what_next()}")
+            self._desk.say(f"{command}: ok{self._what_next(command.split()[0])}")
         else:
             cause = refused(refusal, command.split()[0])
             self._desk.say(f"{command}: {cause}; {keys.ADVICE} tells what ped accepts")
             self._desk.point(refusal)
 
-    def _what_next(self) -> str:
-        """What a step has led to."""
+    def _what_next(self, word: str) -> str:
+        """What a step has led to; behind `reduce` the loop still carries its sums."""
         loop = self._desk.loop
         if loop is None:
             return ""
+        if word == "reduce":
+            return f"; the iterations of loop {loop.number} may be done in any order"
         hint = "; p makes it parallel" if self._desk.is_free else ""
         return f"; loop {loop.number} {self._desk.verdict}{hint}"
 

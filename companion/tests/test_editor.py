@@ -140,7 +140,7 @@ class Steps(Played):
         player.press("+")
         player.wait("reduce 1: which scalars does it sum up? K L")
         player.press(ENTER)
-        rows = player.wait("reduce 1 K L: ok")
+        rows = player.wait("reduce 1 K L: ok; the iterations of loop 1 may be done in any order")
         self.assertIn("C$REDUCE K", "\n".join(rows))
         player.press("u")
         player.wait("undone: reduce 1 K L")

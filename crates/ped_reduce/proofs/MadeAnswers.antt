@@ -9,7 +9,6 @@ use Rattle.ped_splits.specs.ped_reindex.specs.ped_loops.specs.ped_scalar.specs.p
 use Rattle.ped_splits.specs.ped_reindex.specs.ped_loops.specs.ped_scalar.specs.ped_rules.specs.ped_loop_runs.specs.ped_bodies.specs.ped_steps.specs.ped_flow.specs.Questions.{IsLoop}
 use Rattle.ped_splits.specs.ped_reindex.specs.ped_loops.specs.ped_scalar.specs.ped_rules.specs.CodeSpans.{IsCourse, span_in}
 use Rattle.ped_splits.specs.ped_reindex.specs.ped_loops.specs.ped_scalar.specs.ped_rules.specs.Spans.{Span, span_of, spans_far}
-use Rattle.ped_splits.specs.ped_reindex.specs.ped_loops.specs.ped_scalar.specs.ped_rules.specs.declared.spans.Course.{Course}
 use Rattle.ped_splits.specs.ped_reindex.specs.ped_loops.specs.ped_scalar.specs.ped_rules.specs.declared.spans.Course.TheVariants.{Unknown, Far, Near}
 use Rattle.ped_splits.specs.ped_reindex.specs.ped_loops.specs.ped_scalar.specs.ped_rules.specs.declared.spans.Span.{Span as CodeSpan}
 use Rattle.ped_splits.specs.ped_reindex.specs.ped_loops.specs.ped_scalar.specs.Expanding.{of_span}
@@ -17,13 +16,17 @@ use Rattle.ped_splits.specs.ped_reindex.specs.ped_loops.specs.ped_scalar.proofs.
 use Rattle.ped_reduce.specs.declared.lowering.Lowered.{Lowered as CodeLowered}
 use Rattle.ped_reduce.specs.declared.lowering.Made.{Made}
 use Rattle.ped_reduce.specs.Lowering.{Partials, Lowered, and_then, near_only, fresh_arrays, partials_of, lowered_with, lowered_statement, lowered_at}
-use Rattle.ped_reduce.specs.CodeLowered.{lowered_view, IsKept, IsNext, IsNextBy, IsLowerable, IsMade, next_view}
+use Rattle.ped_reduce.specs.CodeLowered.{lowered_view, IsNext, IsNextBy, IsLowerable, IsMade, next_view}
 
 same_lowered : (p q : Lowered) → Some p ≡ Some q → p ≡ q
 same_lowered p q e = cc
 
 nothing_some : (r : Lowered) → None ≡ Some r → ⊥
 nothing_some r e = cc
+
+-- with the tree that the code makes
+pub with_tree : (q : Lowered) (u : ProgramTree) → u ≡ q.tree → Some q ≡ Some (record { tree = u; origin = q.origin; live = q.live; more = q.more })
+with_tree q u e = ap (λ (v : ProgramTree). Some (record { tree = v; origin = q.origin; live = q.live; more = q.more })) (sym e)
 
 module _ (s : ℕ) (names : List (List ℕ)) (l : CodeLowered) where
   abbrev at : Option Lowered
@@ -73,7 +76,7 @@ module _ (s : ℕ) (names : List (List ℕ)) (l : CodeLowered) where
       pub lowerable_made : IsLowerable s names l ↔ IsValid (program_tree made.tree)
       lowerable_made = (
         (λ g. subst (λ (p : Lowered). IsValid p.tree) (same_lowered g.0 (next_view s l body made) (sym g.1 ∙ at_made)) g.2),
-        (λ valid. (next_view s l body made, at_made, valid))
+        (λ valid. (next_view s l body made, at_made, valid)),
       )
 
   -- the values of the DO's variable

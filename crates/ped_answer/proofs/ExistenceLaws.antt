@@ -11,7 +11,7 @@ mod InterchangeCauses
 mod ReindexCauses
 mod FirstCauses
 mod LoopPaths
-mod Lowerings
+pub mod Lowerings
 mod Refusing
 pub mod Replying
 mod Reporting

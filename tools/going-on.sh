@@ -14,7 +14,8 @@
 # The small program is written here, and is no crate of the repository. It is proved and built in a copy of the sources, in three or
 # four minutes, over the libraries which .ci/run or ./prove has left in the crates' folders out/ for the present sources; of these none is
 # proved or built here. It is kept in this checkout's out/ for the next call. PROGRAM is one that was built elsewhere; with it none is
-# built. There is a line for each session, and the status is 0 only where all is as wanted. docs/HOSTILE.md has the figures.
+# built. There is a line for each session, and the status is 0 only where all is as wanted. docs/HOSTILE.md has the figures. While it
+# builds, out/ has a second crates.txt, which `rt ci` refuses: don't run the gate in this checkout meanwhile.
 set -eu
 export LC_ALL=C
 self=$(readlink -f -- "${BASH_SOURCE[0]}")

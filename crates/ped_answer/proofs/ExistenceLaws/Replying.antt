@@ -16,7 +16,7 @@ use Rattle.ped_answer.specs.ped_session.specs.ped_order.specs.ped_eval.specs.Out
 use Rattle.ped_answer.specs.ped_session.specs.ped_order.specs.ped_interleavings.specs.Interleavings.{Standing, at_start, IsInterleavedFrom}
 use Rattle.ped_answer.specs.ped_session.specs.ped_order.proofs.OneReport.{one_at_least}
 use Rattle.ped_answer.specs.ped_session.specs.ped_transformations.specs.ped_script.specs.declared.items.Command.{Command}
-use Rattle.ped_answer.specs.ped_session.specs.ped_transformations.specs.ped_script.specs.declared.items.Command.TheVariants.{Source, Deps, Show, Print, Advise, Replace, Insert, Delete, Interchange, Reverse, Skew, Strip, Peel, Distribute, Fuse, Expand, Privatise, Reduce, Parallel, Serial, Reject, Undo, Redo, Run, Races, Tested}
+use Rattle.ped_answer.specs.ped_session.specs.ped_transformations.specs.ped_script.specs.declared.items.Command.TheVariants.{Source, Deps, Show, Print, Advise, Replace, Insert, Delete, Interchange, Reverse, Skew, Strip, Peel, Distribute, Fuse, Expand, Privatise, Reduce, Parallel, Serial, Reject, Auto, Undo, Redo, Run, Races, Tested}
 use Rattle.ped_answer.specs.ped_session.specs.ped_transformations.specs.ped_script.specs.declared.items.Item.{Item}
 use Rattle.ped_answer.specs.ped_session.specs.declared.changes.Change.TheVariants.{Edit}
 use Rattle.ped_answer.specs.ped_session.specs.declared.replies.Refusal.{Refusal}

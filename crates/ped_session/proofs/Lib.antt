@@ -1,5 +1,6 @@
 mod Accepted
 mod Answering
+pub mod AutoSteps
 mod Doing
 mod Examples
 mod HistoryMoves

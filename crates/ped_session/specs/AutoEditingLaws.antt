@@ -25,7 +25,7 @@ use Rattle.ped_session.specs.declared.replies.Reply.{Reply}
 use Rattle.ped_session.specs.declared.replies.Reply.TheVariants.{Changed, Refused}
 use Rattle.ped_session.specs.States.{State, changed_to}
 use Rattle.ped_session.specs.Steps.{Transforms, missing, forbidden, transformed, change_by}
-use Rattle.ped_session.specs.AutoEditing.{TakesStep, session_editing}
+use Rattle.ped_session.specs.AutoEditing.{TransformsTo, TakesStep, session_editing}
 
 -- a step was accepted
 pub record IsTaken (at : StepAt) (s next : State) : Type 0 where
@@ -101,17 +101,17 @@ taken_or_refused at one s next c a b =
     no_cause c (one.one_cause a.tree (Some c) None (subst (λ (v : ProgramTree). at.IsCause v (Some c)) (one_program s.present b.tree a.tree b.reads a.reads) b.is) a.free)
 
 -- so does a command
-next_by : (step : MaybeStep) → MatchStep step ⊤ IsDetermined → (s m n : State) → MatchStep step ⊥ (λ at. Transforms at s Changed m) → MatchStep step ⊥ (λ at. Transforms at s Changed n) → m ≡ n
+next_by : (step : MaybeStep) → MatchStep step ⊤ IsDetermined → (s m n : State) → MatchStep step ⊥ (TransformsTo s Changed m) → MatchStep step ⊥ (TransformsTo s Changed n) → m ≡ n
 next_by no_step one s m n a b = absurd a
-next_by (some_step at) one s m n a b = one_taken at one s m n (taken at s m a) (taken at s n b)
+next_by (some_step at) one s m n a b = one_taken at one s m n (taken at s m a.1) (taken at s n b.1)
 
-cause_by : (step : MaybeStep) → MatchStep step ⊤ IsDetermined → (s : State) (c d : Cause) → MatchStep step ⊥ (λ at. Transforms at s (Refused (Step c)) s) → MatchStep step ⊥ (λ at. Transforms at s (Refused (Step d)) s) → c ≡ d
+cause_by : (step : MaybeStep) → MatchStep step ⊤ IsDetermined → (s : State) (c d : Cause) → MatchStep step ⊥ (TransformsTo s (Refused (Step c)) s) → MatchStep step ⊥ (TransformsTo s (Refused (Step d)) s) → c ≡ d
 cause_by no_step one s c d a b = absurd a
-cause_by (some_step at) one s c d a b = one_refused at one s c d (refused_for at s s c a) (refused_for at s s d b)
+cause_by (some_step at) one s c d a b = one_refused at one s c d (refused_for at s s c a.1) (refused_for at s s d b.1)
 
-either_by : (step : MaybeStep) → MatchStep step ⊤ IsDetermined → (s next : State) (c : Cause) → MatchStep step ⊥ (λ at. Transforms at s Changed next) → MatchStep step ⊥ (λ at. Transforms at s (Refused (Step c)) s) → ⊥
+either_by : (step : MaybeStep) → MatchStep step ⊤ IsDetermined → (s next : State) (c : Cause) → MatchStep step ⊥ (TransformsTo s Changed next) → MatchStep step ⊥ (TransformsTo s (Refused (Step c)) s) → ⊥
 either_by no_step one s next c a b = a
-either_by (some_step at) one s next c a b = taken_or_refused at one s next c (taken at s next a) (refused_for at s s c b)
+either_by (some_step at) one s next c a b = taken_or_refused at one s next c (taken at s next a.1) (refused_for at s s c b.1)
 
 -- the source behind an accepted step reads as the program that the step makes
 reads_new : (at : StepAt) (s next : State) (a : IsTaken at s next) → ReadsValid next.present a.new
@@ -120,17 +120,17 @@ reads_new at s next a =
 
 -- it has no fewer statements
 grows_by : (step : MaybeStep) → MatchStep step ⊤ (λ at. (t new : ProgramTree) (keep : List (ℕ × ℕ)) → is_some (statement_with at.statement t) ≡ true → at.IsCause t None → at.Makes t new keep → count_of t ≤ count_of new)
-    → (s next : State) (t : ProgramTree) → MatchStep step ⊥ (λ at. Transforms at s Changed next) → ReadsValid s.present t → (u : ProgramTree) × ReadsValid next.present u × (count_of t ≤ count_of u)
+    → (s next : State) (t : ProgramTree) → MatchStep step ⊥ (TransformsTo s Changed next) → ReadsValid s.present t → (u : ProgramTree) × ReadsValid next.present u × (count_of t ≤ count_of u)
 grows_by no_step grow s next t h reads = absurd h
 grows_by (some_step at) grow s next t h reads =
-    let a = taken at s next h in
+    let a = taken at s next h.1 in
     (a.new, reads_new at s next a,
     subst (λ (v : ProgramTree). count_of v ≤ count_of a.new) (one_program s.present a.tree t a.reads reads) (grow a.tree a.new a.keep a.there a.free a.makes))
 
 -- behind `parallel` it has fewer DOs that aren't PARALLEL DOs
 falls : (number : ℕ) (s next : State) (t u : ProgramTree) → TakesStep (Parallel number) s Changed next → ReadsValid s.present t → ReadsValid next.present u → length (serial_loops u) < length (serial_loops t)
 falls number s next t u h reads after =
-    let a = taken _ s next h in
+    let a = taken _ s next h.1 in
     subst (λ (w : ProgramTree). length (serial_loops w) < length (serial_loops t)) (one_program next.present a.new u (reads_new _ s next a) after)
     (subst (λ (v : ProgramTree). length (serial_loops a.new) < length (serial_loops v)) (one_program s.present a.tree t a.reads reads) (parallel_falls number a.tree a.new a.keep a.there a.free a.makes))
 

@@ -1,7 +1,7 @@
 use Rattle.std.proofs.Common.{◌∙◌, ap, refl, List, ◌++◌, ℕ, Bool, ◌||◌}
 use Rattle.ped_session.specs.Scripts.{said_by}
 use Rattle.ped_session.proofs.Answering.{same_answered}
-use Rattle.ped_session.proofs.answers.answer_command.Goals as goal
+use Rattle.ped_session.proofs.answers.answer_reply.Goals as goal
 
 pub returns-clause-answers : goal.returns-clause-answers
 returns-clause-answers g c = record {

@@ -182,7 +182,7 @@ module _ (x : List ℕ) where
             let here : is_among y cs ≡ false = ap (λ (z : List ℕ). is_among z cs) (sym (same_is x y e)) ∙ no_constant in
             let there : IsIn one (if is_among y cs then [] else one ∷ []) = subst (λ (b : Bool). IsIn one (if b then [] else one ∷ [])) (sym here) (inl refl) in
             both_ways (is_same_text x one.name) (h one there) (ap (is_same_text x) name ∙ e)
-        ))
+            ))
 
         module _ (no_index : is_among x indices ≡ false) where
           index_named : (y : List ℕ) (b : Bool) → is_among y indices ≡ b → Unread (if b then [] else unless_constant cs (read_of y [])) → is_same_text x y ≡ false
@@ -351,7 +351,7 @@ module _ (x : List ℕ) where
           let there : statement_with r.0.statement t ≡ Some s = ap (λ (j : ℕ). statement_with j t) o.0 ∙ is_there t s xs n st in
           both_ways (is_some (sum_to x s)) (ap is_some none)
           (sym (ap (λ (z : Option StmtTree). is_some (and_then z (sum_to x))) there) ∙ sums r.0 r.1 (ap (λ (z : Access). is_same_text x z.name) r.2 ∙ e))
-      ))
+          ))
 
       assign_bare : (n : ℕ) (nest : List Loop) (left right : ExprTree) → is_among x (indices_of nest) ≡ false → Stand t n (Assign left right ∷ []) → expr_is_right k right ≡ true → ((r : Reference) → IsIn r (Own n nest (Assign left right)) → InSum r)
           → (o : Option Sum) → sum_to x (Assign left right) ≡ o → Bare (own_accesses cs (indices_of nest) (Assign left right))
@@ -377,7 +377,7 @@ module _ (x : List ℕ) where
             let mine : Unread (own_accesses cs (indices_of nest) (If c a b)) = unread n nest (If c a b) (all_numbered a ++ all_numbered b) st (λ r w. sums r (in_left r (own ++ of_a) of_b (in_left r own of_a w))) refl in
             both_clear (own ++ of_a) of_b
             (both_clear own of_a (own_clear n nest (own_accesses cs (indices_of nest) (If c a b)) heads (cond_bare (indices_of nest) c (cond_lacks (indices_of nest) no_constant free c mine)))
-              (all_summed nest (n + 1) a heads free variables.0 (first_stands t (n + 1) (all_numbered a) (all_numbered b) inside) (and_parts (cond_is_right k c) (stmts_are_right k a) rights.0).1 (λ r w. sums r (in_left r (own ++ of_a) of_b (in_right r own of_a w)))))
+            (all_summed nest (n + 1) a heads free variables.0 (first_stands t (n + 1) (all_numbered a) (all_numbered b) inside) (and_parts (cond_is_right k c) (stmts_are_right k a) rights.0).1 (λ r w. sums r (in_left r (own ++ of_a) of_b (in_right r own of_a w)))))
             (all_summed nest (n + 1 + statements_count a) b heads free variables.1 (else_stands t a b (n + 1) inside) rights.1 (λ r w. sums r (in_right r (own ++ of_a) of_b w)))
         one_summed nest n (Do h body) heads free clear st fits sums =
             let rights = and_parts (head_is_right k h) (stmts_are_right k body) fits in

@@ -1,30 +1,30 @@
 -- A dependence that a lowered DO carries gives one that the DO carries in the program, on none of the scalars.
-use Rattle.std.proofs.Common.{◌≡◌, ◌⊎◌, ℕ, suc, ◌+◌, ◌-◌, ◌≤◌, ◌<◌, ◌==◌, List, [], ◌∷◌, ◌++◌, map, length, take, Bool, true, false, not, ◌&&◌, ◌||◌, Option, Some, None, nat_le, if◌then◌else◌, refl, sym, ap, subst, ◌∙◌, inl, inr, arith, eqb-true, append-nil, append_assoc}
+use Rattle.std.proofs.Common.{◌≡◌, ◌⊎◌, ℕ, ◌+◌, ◌≤◌, ◌<◌, ◌==◌, List, [], ◌∷◌, ◌++◌, map, length, take, Bool, true, false, ◌&&◌, ◌||◌, Option, Some, None, nat_le, if◌then◌else◌, refl, sym, ap, subst, ◌∙◌, inl, inr, arith, eqb-true, append_assoc}
 use Rattle.std.specs.Prelude.{nat_lt, option_map}
 use Rattle.std.specs.Option.{option_or}
-use Rattle.std.specs.List.{list_any, list_all}
+use Rattle.std.specs.List.{list_all}
 use Rattle.std.proofs.lemmas.Bool.{and_parts, both_ways, ltb-true, leb-true, lt-ltb, le-leb}
 use Rattle.ped_base.specs.Lists.{has_some, is_same_text, is_among}
 use Rattle.ped_base.proofs.NameEquality.{same_itself, same_is}
 use Rattle.ped_tree.specs.NamesIn.{all_loop_variables}
-use Rattle.ped_tree.specs.Tree.{Head, StmtTrees, Do, Var, ProgramTree}
+use Rattle.ped_tree.specs.Tree.{Head, Var, ProgramTree}
 use Rattle.ped_tree.specs.Accesses.{Access, constant_names}
 use Rattle.ped_tree.specs.Constants.ConstantExpressions.{constant_value}
-use Rattle.ped_tree.specs.Nests.{Loop, indices_of, common_nest}
+use Rattle.ped_tree.specs.Nests.{Loop, common_nest}
 use Rattle.ped_tree.specs.Numbering.{statements_count}
 use Rattle.ped_splits.specs.ped_reindex.specs.ped_loops.specs.ped_scalar.specs.ped_rules.specs.ped_loop_runs.specs.ped_bodies.specs.ped_steps.specs.ped_refs.specs.References.{Reference, references, outermost, innermost_private, private_loop, is_pair, pairs}
-use Rattle.ped_splits.specs.ped_reindex.specs.ped_loops.specs.ped_scalar.specs.ped_rules.specs.ped_loop_runs.specs.ped_bodies.specs.ped_steps.specs.ped_affine.specs.PairViews.{Site, heads_of, view_at}
+use Rattle.ped_splits.specs.ped_reindex.specs.ped_loops.specs.ped_scalar.specs.ped_rules.specs.ped_loop_runs.specs.ped_bodies.specs.ped_steps.specs.ped_affine.specs.PairViews.{heads_of, view_at}
 use Rattle.ped_splits.specs.ped_reindex.specs.ped_loops.specs.ped_scalar.specs.ped_rules.specs.ped_loop_runs.specs.ped_bodies.specs.ped_steps.specs.ped_views.specs.declared.directions.Direction.{Direction}
 use Rattle.ped_splits.specs.ped_reindex.specs.ped_loops.specs.ped_scalar.specs.ped_rules.specs.ped_loop_runs.specs.ped_bodies.specs.ped_steps.specs.ped_views.specs.Views.{View}
 use Rattle.ped_splits.specs.ped_reindex.specs.ped_loops.specs.ped_scalar.specs.ped_rules.specs.ped_loop_runs.specs.ped_bodies.specs.ped_steps.specs.ped_views.specs.Vectors.{IsPossible}
 use Rattle.ped_splits.specs.ped_reindex.specs.ped_loops.specs.ped_scalar.specs.ped_rules.specs.ped_loop_runs.specs.ped_bodies.specs.ped_steps.specs.ped_laws.specs.ped_graph.specs.ped_edges.specs.Edges.{Edge}
 use Rattle.ped_splits.specs.ped_reindex.specs.ped_loops.specs.ped_scalar.specs.ped_rules.specs.ped_loop_runs.specs.ped_bodies.specs.ped_steps.specs.ped_laws.specs.ped_graph.specs.Owners.{is_same_owner, have_same_owner, level_by, private_level, owner_level, is_same}
 use Rattle.ped_splits.specs.ped_reindex.specs.ped_loops.specs.ped_scalar.specs.ped_rules.specs.ped_loop_runs.specs.ped_bodies.specs.ped_steps.specs.ped_laws.specs.ped_graph.specs.DependencePane.{is_level, is_in_body, extent_of}
-use Rattle.ped_splits.specs.ped_reindex.specs.ped_loops.specs.ped_scalar.specs.ped_rules.specs.ped_loop_runs.specs.ped_bodies.specs.ped_steps.specs.ped_laws.specs.ped_graph.specs.Dependences.{carriage_from, is_of, place_of, setting_in, site_of, view_of, EdgesOfPairs, AreEdges}
+use Rattle.ped_splits.specs.ped_reindex.specs.ped_loops.specs.ped_scalar.specs.ped_rules.specs.ped_loop_runs.specs.ped_bodies.specs.ped_steps.specs.ped_laws.specs.ped_graph.specs.Dependences.{place_of, carriage_from, is_of, setting_in, site_of, view_of, AreEdges}
 use Rattle.ped_splits.specs.ped_reindex.specs.ped_loops.specs.ped_scalar.specs.ped_rules.specs.ped_loop_runs.specs.ped_bodies.specs.ped_steps.specs.ped_symbols.specs.NameRefusals.{IsValid}
 use Rattle.ped_splits.specs.ped_reindex.specs.ped_loops.specs.ped_scalar.specs.ped_rules.specs.ped_loop_runs.specs.ped_bodies.specs.ped_steps.specs.ped_symbols.specs.Kinds.{table_of}
 use Rattle.ped_splits.specs.ped_reindex.specs.ped_loops.specs.ped_scalar.specs.ped_rules.specs.ped_loop_runs.specs.ped_bodies.specs.ped_steps.specs.ped_symbols.proofs.RightUseLaws.Whole.{others_unvalued}
-use Rattle.ped_splits.specs.ped_reindex.specs.ped_loops.specs.ped_scalar.specs.ped_rules.specs.ped_loop_runs.specs.ped_bodies.specs.ped_steps.specs.ped_flow.proofs.Truths.{untrue, or_none}
+use Rattle.ped_splits.specs.ped_reindex.specs.ped_loops.specs.ped_scalar.specs.ped_rules.specs.ped_loop_runs.specs.ped_bodies.specs.ped_steps.specs.ped_flow.proofs.Truths.{untrue}
 use Rattle.ped_splits.specs.ped_reindex.specs.ped_loops.specs.ped_scalar.specs.ped_rules.specs.ped_loop_runs.specs.ped_bodies.specs.ped_steps.specs.ped_flow.specs.PlainBounds.{nest_round}
 use Rattle.ped_splits.specs.ped_reindex.specs.ped_loops.specs.ped_scalar.specs.ped_rules.specs.ped_loop_runs.specs.ped_bodies.specs.ped_steps.specs.ped_flow.specs.Questions.{LoopOf}
 use Rattle.ped_splits.specs.ped_reindex.specs.ped_loops.specs.ped_scalar.specs.ped_rules.specs.ped_loop_runs.specs.ped_bodies.specs.ped_steps.specs.ped_laws.specs.Acts.Orders.{IsIn}
@@ -34,18 +34,17 @@ use Rattle.ped_splits.specs.ped_reindex.specs.ped_loops.specs.ped_scalar.specs.p
 use Rattle.ped_splits.specs.ped_reindex.specs.ped_loops.specs.ped_scalar.specs.ped_rules.specs.Carried.{level_at, is_carried_by}
 use Rattle.ped_splits.specs.ped_reindex.specs.ped_loops.specs.ped_scalar.specs.ped_rules.proofs.CarriedEdges.{in_body}
 use Rattle.ped_splits.specs.ped_reindex.specs.ped_loops.proofs.LoopSurroundings.{variable_apart}
-use Rattle.ped_reduce.specs.Lists.{list_of}
 use Rattle.ped_reduce.specs.Lowering.{Partials}
 use Rattle.ped_reduce.proofs.Resembling.{scalars_of}
 use Rattle.ped_reduce.proofs.ResemblingViews.{same_length}
 use Rattle.ped_reduce.proofs.ResemblingArrays.{carried_apart}
 use Rattle.ped_reduce.proofs.ReferencesInGaps.{loop, from_number, to_number}
-use Rattle.ped_reduce.proofs.SummedReferences.{renumbered, IsOfArrays, IsFrom}
+use Rattle.ped_reduce.proofs.SummedReferences.{renumbered, IsOfArrays}
 use Rattle.ped_reduce.proofs.SummedNumbers.{moved_rises, moved_from, same_number, common_renumbered}
 use Rattle.ped_reduce.proofs.UnnamedReferences.{all_unnamed}
 use Rattle.ped_reduce.proofs.LevelEdges.{IsCarriedPair, IsOfPair, HasEdge, pair_of, edge_of, both_of}
 use Rattle.ped_reduce.proofs.LoweredStages.{IsResembling}
-use Rattle.ped_reduce.proofs.ResemblingPaths.{same_constants, new_loop}
+use Rattle.ped_reduce.proofs.ResemblingPaths.{new_loop}
 use Rattle.ped_reduce.proofs.ResemblingReferences as refs
 use Rattle.ped_reduce.proofs.ResemblingReferences.{From, Old, references_resemble, gap_heads, same_bases, loops_before, old_round, new_round, of_program}
 
@@ -292,15 +291,21 @@ module _ (t u : ProgramTree) (s k : ℕ) (loop_is : LoopOf t s) (m : IsResemblin
       pub carried : is_carried_by t s edge ≡ true
       pub unsummed : is_among edge.name (scalars_of ps) ≡ false
 
-    old_edge : (x : F pair.source) (y : F pair.sink) (olds : List Edge) → AreEdges t olds → HasOld olds
-    old_edge x y olds are_old =
+    carried_by : (edge : Edge) (a b : Reference) (x : F a) (y : F b) → edge.source ≡ place_of x.source → edge.sink ≡ place_of y.source → edge.level ≡ Some (level_at t s) → is_carried_by t s edge ≡ true
+    carried_by edge a b x y begins ends level =
+        (λ j. is_level (level_at t s) (level j) && (is_in_body s (extent_of t s) (begins j).0 && is_in_body s (extent_of t s) (ends j).0))
+        ∙ (λ j. itself (level_at t s) j && (in_old_body a x j && in_old_body b y j))
+
+    -- the pair from which it comes is carried
+    carried_old : (x : F pair.source) (y : F pair.sink) → IsCarriedPair t x.source y.source (level_at t s) pair.vector
+    carried_old x y =
         let c = pair.carried in
         let view = views pair.source pair.sink x y both.0 both.1 in
         let loops : length (view_of u pair.source pair.sink).loops ≡ length (view_of t x.source y.source).loops = ap (λ (w : View). length w.loops) view in
         let low = c.from in
         let high = c.to in
         let level = same_level in
-        let old : IsCarriedPair t x.source y.source (level_at t s) pair.vector = record {
+        record {
           owner = same_owner pair.source pair.sink x y (sym same_name) c.owner;
           possible = subst (λ (w : View). IsPossible w pair.vector) view c.possible;
           long = c.long ∙ loops;
@@ -308,17 +313,20 @@ module _ (t u : ProgramTree) (s k : ℕ) (loop_is : LoopOf t s) (m : IsResemblin
           carries = ap (λ (n : ℕ). is_of (Some n) (carriage_from 1 pair.vector)) (sym level) ∙ c.carries;
           from = omega (arith, low, level);
           to = omega (arith, high, level, loops);
-        } in
-        let there = is_listed (references t) x.source y.source (of_program_old pair.source x) (of_program_old pair.sink y) (old_pair pair.source pair.sink x y both.2) in
-        let g = edge_of t x.source y.source (level_at t s) pair.vector (pairs (references t)) olds are_old there old in
-        record {
-          edge = g.edge;
-          listed = g.listed;
-          carried =
-              (λ j. is_level (level_at t s) (g.of_level j) && (is_in_body s (extent_of t s) (g.begins j).0 && is_in_body s (extent_of t s) (g.ends j).0))
-              ∙ (λ j. itself (level_at t s) j && (in_old_body pair.source x j && in_old_body pair.sink y j));
-          unsummed = ap (λ (n : List ℕ). is_among n (scalars_of ps)) g.name ∙ x.unsummed;
         }
+
+    by_edge : (x : F pair.source) (y : F pair.sink) (olds : List Edge) → HasEdge x.source y.source (level_at t s) olds → HasOld olds
+    by_edge x y olds g = record {
+      edge = g.edge;
+      listed = g.listed;
+      carried = carried_by g.edge pair.source pair.sink x y g.begins g.ends g.of_level;
+      unsummed = ap (λ (n : List ℕ). is_among n (scalars_of ps)) g.name ∙ x.unsummed;
+    }
+
+    old_edge : (x : F pair.source) (y : F pair.sink) (olds : List Edge) → AreEdges t olds → HasOld olds
+    old_edge x y olds are_old =
+        let there = is_listed (references t) x.source y.source (of_program_old pair.source x) (of_program_old pair.sink y) (old_pair pair.source pair.sink x y both.2) in
+        by_edge x y olds (edge_of t x.source y.source (level_at t s) pair.vector (pairs (references t)) olds are_old there (carried_old x y))
 
     pub edges_resemble : (olds : List Edge) → AreEdges t olds → HasOld olds
     edges_resemble olds are_old =

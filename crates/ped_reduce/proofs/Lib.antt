@@ -10,6 +10,8 @@ pub mod LoweringAnswers
 pub mod MadeAnswers
 pub mod LoweredCounts
 pub mod FreshArrays
+pub mod SummedCode
+pub mod OriginsCode
 pub mod LoweredPrograms
 pub mod LoopsRoundGaps
 pub mod Resembling
@@ -59,7 +61,15 @@ pub mod SumUntouched
 pub mod SumNumbers
 pub mod SumKeeps
 pub mod SumGoals
+pub mod SumNames
 pub mod SumDeclared
+pub mod SumApart
+pub mod NamedReads
+pub mod SumClear
+pub mod StillContained
+pub mod DistinctArrays
+pub mod SumLive
+pub mod SumOrder
 pub mod TidyExchanges
 pub mod SerialPrograms
 pub mod SumFlags

@@ -73,7 +73,7 @@ module _ (cs : List (List ℕ)) (w : List ℕ) where
     any_unread Stop n m h = refl
     any_unread (Comment text) n m h = refl
 
-    all_any_unread : (ss : StmtTrees) (n m : ℕ) → all_first_outside cs w ss n ≡ None → all_first_outside cs w ss m ≡ None
+    pub all_any_unread : (ss : StmtTrees) (n m : ℕ) → all_first_outside cs w ss n ≡ None → all_first_outside cs w ss m ≡ None
     all_any_unread no_stmts n m h = refl
     all_any_unread (more_stmts s rest) n m h =
         let p = none_both (first_outside cs w s n) (all_first_outside cs w rest (n + statement_count s)) h in

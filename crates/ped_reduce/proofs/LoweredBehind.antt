@@ -19,7 +19,7 @@ use Rattle.ped_splits.specs.ped_reindex.specs.ped_loops.specs.ped_scalar.specs.p
 use Rattle.ped_reduce.specs.Lists.{listed_name, unless_named, without_list}
 use Rattle.ped_reduce.specs.Lowering.{Partials, zeros, all_summed, exits, bare, lowered_loop}
 use Rattle.ped_reduce.proofs.Resembling.{scalars_of, IsSummable, Becomes, AllBecome, GapBecomes, pasts, filled_pasts, number_pasts}
-use Rattle.ped_reduce.proofs.LesserPaths.{IsLess, less_itself, less_by, in_turn_less, either_less, unreached_less, behind_less, own_less, loop_less, all_same_less}
+use Rattle.ped_reduce.proofs.LesserPaths.{IsLess, less_itself, less_by, in_turn_less, either_less, unreached_less, behind_less, own_less, loop_less, same_less, all_same_less}
 use Rattle.ped_reduce.proofs.LoweredPaths.{all_same_loops, loops_followed, lowered_less, adding_first, adding_ends}
 
 -- the DO loops of statements without their list
@@ -141,7 +141,7 @@ module _ (cs : List (List ℕ)) (w : List ℕ) where
     loops_there false e k =
         ap (is_among w) (loops_followed h.variable ps (zeros h.variable ps) (all_summed h.variable ps (without_list body)))
         ∙ has_right (all_loop_variables (zeros h.variable ps)) (all_loop_variables (all_summed h.variable ps (without_list body)))
-          (ap (is_among w) (all_same_loops h.variable ps (without_list body) ∙ without_loops body) ∙ k)
+        (ap (is_among w) (all_same_loops h.variable ps (without_list body) ∙ without_loops body) ∙ k)
 
     pub lowered_loops : AreNoMore w (loop_variables (Do h body)) (all_loop_variables (lowered_loop parallel ps h body))
     lowered_loops k =
@@ -208,18 +208,42 @@ module _ (t : ProgramTree) (live : List ℕ) (cs : List (List ℕ)) (w : List �
         by_less (followed x y) ws m (sum_of_all cs w (more_stmts s rest) n) is
         (followed_less cs w x y m (sum_of cs w s n) (sum_of_all cs w rest (n + statement_count s)) (become_less s n m x p) (all_become_less rest (n + statement_count s) (m + statements_count x) y q))
 
-  -- the DO in the gap, lowered but not yet parallel
-  module _ (ps : List Partials) (h : Head) (body : StmtTrees) (unsummed : is_among w (scalars_of ps) ≡ false) (serial : h.parallel ≡ false) where
+  at_once_same : (a b : Bool) → b ≡ true → IsLess (sum_at_once a) (sum_at_once b)
+  at_once_same a false e = untrue e
+  at_once_same true true e = less_itself passing
+  at_once_same false true e = unreached_less passing
+
+  not_equal : (k m : ℕ) → m < k → (k == m) ≡ false
+  not_equal k m e = grind (arith, eqb-true, e)
+
+  is_at : (k n : ℕ) → n ≡ k → (k == n) ≡ true
+  is_at k n e = grind (arith, eqb-true, e)
+
+  -- a statement with what stands behind it, of which the DO isn't one
+  rest_less : (s k : ℕ) (a b : Summary) (rest : StmtTrees) (n m : ℕ) → k < m → IsLess a b → IsLess (sum_either (sum_in_turn a (sum_of_all cs w rest m)) (sum_behind_all cs w k rest m)) (sum_either (sum_in_turn b (sum_of_all cs w rest n)) (sum_behind_all cs w s rest n))
+  rest_less s k a b rest n m behind h =
+      either_less (sum_in_turn a (sum_of_all cs w rest m)) (sum_behind_all cs w k rest m) (sum_in_turn b (sum_of_all cs w rest n)) (sum_behind_all cs w s rest n)
+      (in_turn_less a (sum_of_all cs w rest m) b (sum_of_all cs w rest n) h (all_same_less w cs rest m n))
+      (nothing_less cs w (sum_behind_all cs w k rest m) (sum_behind_all cs w s rest n) (all_behind_none cs w rest k m (inl behind)))
+
+  -- from the exit of a DO itself, which may have another flag, or another body
+  own_behind : (s k : ℕ) (h head : Head) (body new_body : StmtTrees) (n m : ℕ) → n ≡ s → m ≡ k → IsLess (sum_behind cs w k (Do head new_body) m) (sum_behind cs w s (Do h body) n)
+  own_behind s k h head body new_body n m e f =
+      either_less (sum_at_once (k == m)) (sum_in_turn (sum_behind_all cs w k new_body (m + 1)) (sum_loop w m head new_body (sum_of_all cs w new_body (m + 1))))
+      (sum_at_once (s == n)) (sum_in_turn (sum_behind_all cs w s body (n + 1)) (sum_loop w n h body (sum_of_all cs w body (n + 1))))
+      (at_once_same (k == m) (s == n) (is_at s n e))
+      (nothing_less cs w (sum_in_turn (sum_behind_all cs w k new_body (m + 1)) (sum_loop w m head new_body (sum_of_all cs w new_body (m + 1)))) (sum_in_turn (sum_behind_all cs w s body (n + 1)) (sum_loop w n h body (sum_of_all cs w body (n + 1))))
+      (in_turn_none cs w (sum_behind_all cs w k new_body (m + 1)) (sum_loop w m head new_body (sum_of_all cs w new_body (m + 1))) (all_behind_none cs w new_body k (m + 1) (inl (omega (arith, f))))))
+
+  -- the DO in the gap, with these statements in its place, which have its variables and whose paths say no more
+  module _ (h : Head) (body new : StmtTrees) (some : 0 < statements_count new) (new_loops : AreNoMore w (loop_variables (Do h body)) (all_loop_variables new)) (new_less : (n m : ℕ) → IsLess (sum_of_all cs w new m) (sum_of cs w (Do h body) n)) where
     abbrev it : StmtTrees
     it = alone (Do h body)
-
-    abbrev new : StmtTrees
-    new = lowered_loop false ps h body
 
     gap_loops_more : (gap : Gap) (n : ℕ) (other : Gap) → GapBecomes t live gap n other → AreNoMore w (all_loop_variables (filled gap it)) (all_loop_variables (filled other new))
     gap_loops_more (at_front rest) n other is =
         subst (λ (g : Gap). AreNoMore w (all_loop_variables (more_stmts (Do h body) rest)) (all_loop_variables (filled g new))) (sym is)
-        (followed_loops_more new rest (loop_variables (Do h body)) (all_loop_variables rest) (lowered_loops cs w ps unsummed false h body) (λ e. e))
+        (followed_loops_more new rest (loop_variables (Do h body)) (all_loop_variables rest) new_loops (λ e. e))
     gap_loops_more (past z gap) n other (x, g, p, q, is) =
         subst (λ (o : Gap). AreNoMore w (all_loop_variables (more_stmts z (filled gap it))) (all_loop_variables (filled o new))) (sym is)
         (subst (λ (ts : StmtTrees). AreNoMore w (all_loop_variables (more_stmts z (filled gap it))) (all_loop_variables ts)) (sym (filled_pasts x g new))
@@ -243,7 +267,7 @@ module _ (t : ProgramTree) (live : List ℕ) (cs : List (List ℕ)) (w : List �
     gap_less : (gap : Gap) (n m : ℕ) (other : Gap) → GapBecomes t live gap n other → IsLess (sum_of_all cs w (filled other new) m) (sum_of_all cs w (filled gap it) n)
     gap_less (at_front rest) n m other is =
         subst (λ (g : Gap). IsLess (sum_of_all cs w (filled g new) m) (sum_of_all cs w (more_stmts (Do h body) rest) n)) (sym is)
-        (followed_less cs w new rest m (sum_of cs w (Do h body) n) (sum_of_all cs w rest (n + statement_count (Do h body))) (lowered_less cs w ps unsummed false h body serial n m)
+        (followed_less cs w new rest m (sum_of cs w (Do h body) n) (sum_of_all cs w rest (n + statement_count (Do h body))) (new_less n m)
         (all_same_less w cs rest (m + statements_count new) (n + statement_count (Do h body))))
     gap_less (past z gap) n m other (x, g, p, q, is) =
         subst (λ (o : Gap). IsLess (sum_of_all cs w (filled o new) m) (sum_of_all cs w (more_stmts z (filled gap it)) n)) (sym is)
@@ -271,6 +295,69 @@ module _ (t : ProgramTree) (live : List ℕ) (cs : List (List ℕ)) (w : List �
         (do_less cs w d a x n m (gap_loops_more gap (n + 1) g q) (gap_less gap (n + 1) (m + 1) g q))
         (all_same_less w cs rest (m + statement_count (Do d x)) (n + statement_count (Do d a))))
 
+    module _ (s k : ℕ) (new_behind : (rest : StmtTrees) (n m : ℕ) → n ≡ s → m ≡ k → IsLess (sum_behind_all cs w k (followed new rest) m) (sum_behind_all cs w s (more_stmts (Do h body) rest) n)) where
+      -- the paths from its exit say no more
+      pub gap_behind_by : (gap : Gap) (n m : ℕ) (other : Gap) → GapBecomes t live gap n other → number_at gap n ≡ s → number_at other m ≡ k → IsLess (sum_behind_all cs w k (filled other new) m) (sum_behind_all cs w s (filled gap it) n)
+      gap_behind_by (at_front rest) n m other is e f =
+          subst (λ (g : Gap). IsLess (sum_behind_all cs w k (filled g new) m) (sum_behind_all cs w s (more_stmts (Do h body) rest) n)) (sym is)
+          (new_behind rest n m e (ap (λ (g : Gap). number_at g m) (sym is) ∙ f))
+      gap_behind_by (past z gap) n m other (x, g, p, q, is) e f =
+          let m1 = m + statements_count x in
+          let at : number_at g m1 ≡ k = sym (number_pasts x g m) ∙ (ap (λ (o : Gap). number_at o m) (sym is) ∙ f) in
+          let from = number_from g m1 in
+          let inner = gap_behind_by gap (n + statement_count z) m1 g q e at in
+          let before = sum_in_turn (sum_behind_all cs w k x m) (sum_of_all cs w (filled g new) m1) in
+          let old = sum_in_turn (sum_behind cs w s z n) (sum_of_all cs w (filled gap it) (n + statement_count z)) in
+          subst (λ (o : Gap). IsLess (sum_behind_all cs w k (filled o new) m) (sum_behind_all cs w s (more_stmts z (filled gap it)) n)) (sym is)
+          (subst (λ (ts : StmtTrees). IsLess (sum_behind_all cs w k ts m) (sum_behind_all cs w s (more_stmts z (filled gap it)) n)) (sym (filled_pasts x g new))
+          (subst (λ (y : Summary). IsLess y (sum_behind_all cs w s (more_stmts z (filled gap it)) n)) (sym (followed_behind cs w k x (filled g new) m))
+          (either_less before (sum_behind_all cs w k (filled g new) m1) old (sum_behind_all cs w s (filled gap it) (n + statement_count z))
+          (nothing_less cs w before old (in_turn_none cs w (sum_behind_all cs w k x m) (sum_of_all cs w (filled g new) m1) (all_behind_none cs w x k m (inr (omega (arith, from, at)))))) inner)))
+      gap_behind_by (in_then c gap b rest) n m other (g, q, is) e f =
+          let a = filled gap it in
+          let x = filled g new in
+          let at : number_at g (m + 1) ≡ k = ap (λ (o : Gap). number_at o m) (sym is) ∙ f in
+          let room = number_room g new (m + 1) in
+          let inner = gap_behind_by gap (n + 1) (m + 1) g q e at in
+          subst (λ (o : Gap). IsLess (sum_behind_all cs w k (filled o new) m) (sum_behind_all cs w s (more_stmts (If c a b) rest) n)) (sym is)
+          (rest_less s k (sum_either (sum_behind_all cs w k x (m + 1)) (sum_behind_all cs w k b (m + 1 + statements_count x))) (sum_either (sum_behind_all cs w s a (n + 1)) (sum_behind_all cs w s b (n + 1 + statements_count a))) rest
+          (n + statement_count (If c a b)) (m + statement_count (If c x b)) (omega (arith, room, at, some))
+          (either_less (sum_behind_all cs w k x (m + 1)) (sum_behind_all cs w k b (m + 1 + statements_count x)) (sum_behind_all cs w s a (n + 1)) (sum_behind_all cs w s b (n + 1 + statements_count a)) inner
+          (nothing_less cs w (sum_behind_all cs w k b (m + 1 + statements_count x)) (sum_behind_all cs w s b (n + 1 + statements_count a)) (all_behind_none cs w b k (m + 1 + statements_count x) (inl (omega (arith, room, at, some)))))))
+      gap_behind_by (in_else c b gap rest) n m other (y, g, p, q, is) e f =
+          let a = filled gap it in
+          let x = filled g new in
+          let m1 = m + 1 + statements_count y in
+          let at : number_at g m1 ≡ k = ap (λ (o : Gap). number_at o m) (sym is) ∙ f in
+          let room = number_room g new m1 in
+          let from = number_from g m1 in
+          let inner = gap_behind_by gap (n + 1 + statements_count b) m1 g q e at in
+          subst (λ (o : Gap). IsLess (sum_behind_all cs w k (filled o new) m) (sum_behind_all cs w s (more_stmts (If c b a) rest) n)) (sym is)
+          (rest_less s k (sum_either (sum_behind_all cs w k y (m + 1)) (sum_behind_all cs w k x m1)) (sum_either (sum_behind_all cs w s b (n + 1)) (sum_behind_all cs w s a (n + 1 + statements_count b))) rest
+          (n + statement_count (If c b a)) (m + statement_count (If c y x)) (omega (arith, room, at, some))
+          (either_less (sum_behind_all cs w k y (m + 1)) (sum_behind_all cs w k x m1) (sum_behind_all cs w s b (n + 1)) (sum_behind_all cs w s a (n + 1 + statements_count b))
+          (nothing_less cs w (sum_behind_all cs w k y (m + 1)) (sum_behind_all cs w s b (n + 1)) (all_behind_none cs w y k (m + 1) (inr (omega (arith, from, at))))) inner))
+      gap_behind_by (in_body d gap rest) n m other (g, q, is) e f =
+          let a = filled gap it in
+          let x = filled g new in
+          let at : number_at g (m + 1) ≡ k = ap (λ (o : Gap). number_at o m) (sym is) ∙ f in
+          let room = number_room g new (m + 1) in
+          let from = number_from g (m + 1) in
+          let inner = gap_behind_by gap (n + 1) (m + 1) g q e at in
+          let trips = sum_loop w m d x (sum_of_all cs w x (m + 1)) in
+          let others = sum_loop w n d a (sum_of_all cs w a (n + 1)) in
+          subst (λ (o : Gap). IsLess (sum_behind_all cs w k (filled o new) m) (sum_behind_all cs w s (more_stmts (Do d a) rest) n)) (sym is)
+          (rest_less s k (sum_either (sum_at_once (k == m)) (sum_in_turn (sum_behind_all cs w k x (m + 1)) trips)) (sum_either (sum_at_once (s == n)) (sum_in_turn (sum_behind_all cs w s a (n + 1)) others)) rest
+          (n + statement_count (Do d a)) (m + statement_count (Do d x)) (omega (arith, room, at, some))
+          (either_less (sum_at_once (k == m)) (sum_in_turn (sum_behind_all cs w k x (m + 1)) trips) (sum_at_once (s == n)) (sum_in_turn (sum_behind_all cs w s a (n + 1)) others)
+          (nothing_less cs w (sum_at_once (k == m)) (sum_at_once (s == n)) (at_once_none cs w (k == m) (not_equal k m (omega (arith, from, at)))))
+          (in_turn_less (sum_behind_all cs w k x (m + 1)) trips (sum_behind_all cs w s a (n + 1)) others inner (trips_less cs w d a x n m (gap_loops_more gap (n + 1) g q) (gap_less gap (n + 1) (m + 1) g q)))))
+
+  -- the DO in the gap, lowered but not yet parallel
+  module _ (ps : List Partials) (h : Head) (body : StmtTrees) (unsummed : is_among w (scalars_of ps) ≡ false) (serial : h.parallel ≡ false) where
+    abbrev new : StmtTrees
+    new = lowered_loop false ps h body
+
     abbrev head : Head
     head = record h { parallel = false }
 
@@ -280,40 +367,11 @@ module _ (t : ProgramTree) (live : List ℕ) (cs : List (List ℕ)) (w : List �
     abbrev adding : StmtTree
     adding = Do (bare h) (exits h.variable ps)
 
-    at_once_same : (a b : Bool) → b ≡ true → IsLess (sum_at_once a) (sum_at_once b)
-    at_once_same a false e = untrue e
-    at_once_same true true e = less_itself passing
-    at_once_same false true e = unreached_less passing
-
-    not_equal : (k m : ℕ) → m < k → (k == m) ≡ false
-    not_equal k m e = grind (arith, eqb-true, e)
-
-    is_at : (k n : ℕ) → n ≡ k → (k == n) ≡ true
-    is_at k n e = grind (arith, eqb-true, e)
-
     module _ (quiet : (j : ℕ) → (sum_events w (own_events cs j (Do h body))).first ≡ None) (s k : ℕ) where
-      -- from its own exit
-      own_behind : (n m : ℕ) → n ≡ s → m ≡ k → IsLess (sum_behind cs w k (Do head new_body) m) (sum_behind cs w s (Do h body) n)
-      own_behind n m e f =
-          either_less (sum_at_once (k == m)) (sum_in_turn (sum_behind_all cs w k new_body (m + 1)) (sum_loop w m head new_body (sum_of_all cs w new_body (m + 1))))
-          (sum_at_once (s == n)) (sum_in_turn (sum_behind_all cs w s body (n + 1)) (sum_loop w n h body (sum_of_all cs w body (n + 1))))
-          (at_once_same (k == m) (s == n) (is_at s n e))
-          (nothing_less cs w (sum_in_turn (sum_behind_all cs w k new_body (m + 1)) (sum_loop w m head new_body (sum_of_all cs w new_body (m + 1)))) (sum_in_turn (sum_behind_all cs w s body (n + 1)) (sum_loop w n h body (sum_of_all cs w body (n + 1))))
-          (in_turn_none cs w (sum_behind_all cs w k new_body (m + 1)) (sum_loop w m head new_body (sum_of_all cs w new_body (m + 1))) (all_behind_none cs w new_body k (m + 1) (inl (omega (arith, f))))))
-
-      -- a statement with what stands behind it, of which the DO isn't one
-      rest_less : (a b : Summary) (rest : StmtTrees) (n m : ℕ) → k < m → IsLess a b → IsLess (sum_either (sum_in_turn a (sum_of_all cs w rest m)) (sum_behind_all cs w k rest m)) (sum_either (sum_in_turn b (sum_of_all cs w rest n)) (sum_behind_all cs w s rest n))
-      rest_less a b rest n m behind h =
-          either_less (sum_in_turn a (sum_of_all cs w rest m)) (sum_behind_all cs w k rest m) (sum_in_turn b (sum_of_all cs w rest n)) (sum_behind_all cs w s rest n)
-          (in_turn_less a (sum_of_all cs w rest m) b (sum_of_all cs w rest n) h (all_same_less w cs rest m n))
-          (nothing_less cs w (sum_behind_all cs w k rest m) (sum_behind_all cs w s rest n) (all_behind_none cs w rest k m (inl behind)))
-
-      -- the paths from the exit say no more
-      pub gap_behind : (gap : Gap) (n m : ℕ) (other : Gap) → GapBecomes t live gap n other → number_at gap n ≡ s → number_at other m ≡ k → IsLess (sum_behind_all cs w k (filled other new) m) (sum_behind_all cs w s (filled gap it) n)
-      gap_behind (at_front rest) n m other is e f =
+      lowered_behind : (rest : StmtTrees) (n m : ℕ) → n ≡ s → m ≡ k → IsLess (sum_behind_all cs w k (followed new rest) m) (sum_behind_all cs w s (more_stmts (Do h body) rest) n)
+      lowered_behind rest n m e at =
           let m1 = m + statement_count (Do head new_body) in
           let m2 = m1 + statement_count adding in
-          let at : m ≡ k = ap (λ (g : Gap). number_at g m) (sym is) ∙ f in
           let b = sum_behind cs w k (Do head new_body) m in
           let r = sum_of_all cs w rest m2 in
           let x = sum_of cs w adding m1 in
@@ -321,60 +379,24 @@ module _ (t : ProgramTree) (live : List ℕ) (cs : List (List ℕ)) (w : List �
           let n2 = n + statement_count (Do h body) in
           let first : IsLess (sum_in_turn b (sum_in_turn x r)) (sum_in_turn old (sum_of_all cs w rest n2)) =
           subst (λ (z : Summary). IsLess z (sum_in_turn old (sum_of_all cs w rest n2))) (in_turn-assoc b x r)
-          (in_turn_less (sum_in_turn b x) r old (sum_of_all cs w rest n2) (behind_less b old x (own_behind n m e at) (λ z. adding_first cs w ps unsummed false h body serial m1 (quiet m1)) (adding_ends cs w ps unsummed false h body serial m1)) (all_same_less w cs rest m2 n2)) in
+          (in_turn_less (sum_in_turn b x) r old (sum_of_all cs w rest n2) (behind_less b old x (own_behind s k h head body new_body n m e at) (λ z. adding_first cs w ps unsummed false h body serial m1 (quiet m1)) (adding_ends cs w ps unsummed false h body serial m1)) (all_same_less w cs rest m2 n2)) in
           let second = either_none cs w (sum_in_turn (sum_behind cs w k adding m1) r) (sum_behind_all cs w k rest m2)
           (in_turn_none cs w (sum_behind cs w k adding m1) r (behind_none cs w adding k m1 (inl (omega (arith, at))))) (all_behind_none cs w rest k m2 (inl (omega (arith, at)))) in
-          subst (λ (g : Gap). IsLess (sum_behind_all cs w k (filled g new) m) (sum_behind_all cs w s (more_stmts (Do h body) rest) n)) (sym is)
-          (either_less (sum_in_turn b (sum_in_turn x r)) (sum_either (sum_in_turn (sum_behind cs w k adding m1) r) (sum_behind_all cs w k rest m2)) (sum_in_turn old (sum_of_all cs w rest n2)) (sum_behind_all cs w s rest n2)
-          first (nothing_less cs w (sum_either (sum_in_turn (sum_behind cs w k adding m1) r) (sum_behind_all cs w k rest m2)) (sum_behind_all cs w s rest n2) second))
-      gap_behind (past z gap) n m other (x, g, p, q, is) e f =
-          let m1 = m + statements_count x in
-          let at : number_at g m1 ≡ k = sym (number_pasts x g m) ∙ (ap (λ (o : Gap). number_at o m) (sym is) ∙ f) in
-          let from = number_from g m1 in
-          let inner = gap_behind gap (n + statement_count z) m1 g q e at in
-          let before = sum_in_turn (sum_behind_all cs w k x m) (sum_of_all cs w (filled g new) m1) in
-          let old = sum_in_turn (sum_behind cs w s z n) (sum_of_all cs w (filled gap it) (n + statement_count z)) in
-          subst (λ (o : Gap). IsLess (sum_behind_all cs w k (filled o new) m) (sum_behind_all cs w s (more_stmts z (filled gap it)) n)) (sym is)
-          (subst (λ (ts : StmtTrees). IsLess (sum_behind_all cs w k ts m) (sum_behind_all cs w s (more_stmts z (filled gap it)) n)) (sym (filled_pasts x g new))
-          (subst (λ (y : Summary). IsLess y (sum_behind_all cs w s (more_stmts z (filled gap it)) n)) (sym (followed_behind cs w k x (filled g new) m))
-          (either_less before (sum_behind_all cs w k (filled g new) m1) old (sum_behind_all cs w s (filled gap it) (n + statement_count z))
-          (nothing_less cs w before old (in_turn_none cs w (sum_behind_all cs w k x m) (sum_of_all cs w (filled g new) m1) (all_behind_none cs w x k m (inr (omega (arith, from, at)))))) inner)))
-      gap_behind (in_then c gap b rest) n m other (g, q, is) e f =
-          let a = filled gap it in
-          let x = filled g new in
-          let at : number_at g (m + 1) ≡ k = ap (λ (o : Gap). number_at o m) (sym is) ∙ f in
-          let room = number_room g new (m + 1) in
-          let inner = gap_behind gap (n + 1) (m + 1) g q e at in
-          subst (λ (o : Gap). IsLess (sum_behind_all cs w k (filled o new) m) (sum_behind_all cs w s (more_stmts (If c a b) rest) n)) (sym is)
-          (rest_less (sum_either (sum_behind_all cs w k x (m + 1)) (sum_behind_all cs w k b (m + 1 + statements_count x))) (sum_either (sum_behind_all cs w s a (n + 1)) (sum_behind_all cs w s b (n + 1 + statements_count a))) rest
-          (n + statement_count (If c a b)) (m + statement_count (If c x b)) (omega (arith, room, at))
-          (either_less (sum_behind_all cs w k x (m + 1)) (sum_behind_all cs w k b (m + 1 + statements_count x)) (sum_behind_all cs w s a (n + 1)) (sum_behind_all cs w s b (n + 1 + statements_count a)) inner
-          (nothing_less cs w (sum_behind_all cs w k b (m + 1 + statements_count x)) (sum_behind_all cs w s b (n + 1 + statements_count a)) (all_behind_none cs w b k (m + 1 + statements_count x) (inl (omega (arith, room, at)))))))
-      gap_behind (in_else c b gap rest) n m other (y, g, p, q, is) e f =
-          let a = filled gap it in
-          let x = filled g new in
-          let m1 = m + 1 + statements_count y in
-          let at : number_at g m1 ≡ k = ap (λ (o : Gap). number_at o m) (sym is) ∙ f in
-          let room = number_room g new m1 in
-          let from = number_from g m1 in
-          let inner = gap_behind gap (n + 1 + statements_count b) m1 g q e at in
-          subst (λ (o : Gap). IsLess (sum_behind_all cs w k (filled o new) m) (sum_behind_all cs w s (more_stmts (If c b a) rest) n)) (sym is)
-          (rest_less (sum_either (sum_behind_all cs w k y (m + 1)) (sum_behind_all cs w k x m1)) (sum_either (sum_behind_all cs w s b (n + 1)) (sum_behind_all cs w s a (n + 1 + statements_count b))) rest
-          (n + statement_count (If c b a)) (m + statement_count (If c y x)) (omega (arith, room, at))
-          (either_less (sum_behind_all cs w k y (m + 1)) (sum_behind_all cs w k x m1) (sum_behind_all cs w s b (n + 1)) (sum_behind_all cs w s a (n + 1 + statements_count b))
-          (nothing_less cs w (sum_behind_all cs w k y (m + 1)) (sum_behind_all cs w s b (n + 1)) (all_behind_none cs w y k (m + 1) (inr (omega (arith, from, at))))) inner))
-      gap_behind (in_body d gap rest) n m other (g, q, is) e f =
-          let a = filled gap it in
-          let x = filled g new in
-          let at : number_at g (m + 1) ≡ k = ap (λ (o : Gap). number_at o m) (sym is) ∙ f in
-          let room = number_room g new (m + 1) in
-          let from = number_from g (m + 1) in
-          let inner = gap_behind gap (n + 1) (m + 1) g q e at in
-          let trips = sum_loop w m d x (sum_of_all cs w x (m + 1)) in
-          let others = sum_loop w n d a (sum_of_all cs w a (n + 1)) in
-          subst (λ (o : Gap). IsLess (sum_behind_all cs w k (filled o new) m) (sum_behind_all cs w s (more_stmts (Do d a) rest) n)) (sym is)
-          (rest_less (sum_either (sum_at_once (k == m)) (sum_in_turn (sum_behind_all cs w k x (m + 1)) trips)) (sum_either (sum_at_once (s == n)) (sum_in_turn (sum_behind_all cs w s a (n + 1)) others)) rest
-          (n + statement_count (Do d a)) (m + statement_count (Do d x)) (omega (arith, room, at))
-          (either_less (sum_at_once (k == m)) (sum_in_turn (sum_behind_all cs w k x (m + 1)) trips) (sum_at_once (s == n)) (sum_in_turn (sum_behind_all cs w s a (n + 1)) others)
-          (nothing_less cs w (sum_at_once (k == m)) (sum_at_once (s == n)) (at_once_none cs w (k == m) (not_equal k m (omega (arith, from, at)))))
-          (in_turn_less (sum_behind_all cs w k x (m + 1)) trips (sum_behind_all cs w s a (n + 1)) others inner (trips_less cs w d a x n m (gap_loops_more gap (n + 1) g q) (gap_less gap (n + 1) (m + 1) g q)))))
+          either_less (sum_in_turn b (sum_in_turn x r)) (sum_either (sum_in_turn (sum_behind cs w k adding m1) r) (sum_behind_all cs w k rest m2)) (sum_in_turn old (sum_of_all cs w rest n2)) (sum_behind_all cs w s rest n2)
+          first (nothing_less cs w (sum_either (sum_in_turn (sum_behind cs w k adding m1) r) (sum_behind_all cs w k rest m2)) (sum_behind_all cs w s rest n2) second)
+
+      -- the paths from the exit say no more
+      pub gap_behind : (gap : Gap) (n m : ℕ) (other : Gap) → GapBecomes t live gap n other → number_at gap n ≡ s → number_at other m ≡ k → IsLess (sum_behind_all cs w k (filled other (lowered_loop false ps h body)) m) (sum_behind_all cs w s (filled gap (alone (Do h body))) n)
+      gap_behind = gap_behind_by h body (lowered_loop false ps h body) (omega arith) (lowered_loops cs w ps unsummed false h body) (lowered_less cs w ps unsummed false h body serial) s k lowered_behind
+
+  -- the DO in the gap, as it is
+  module _ (h : Head) (body : StmtTrees) (s k : ℕ) where
+    same_behind : (rest : StmtTrees) (n m : ℕ) → n ≡ s → m ≡ k → IsLess (sum_behind_all cs w k (more_stmts (Do h body) rest) m) (sum_behind_all cs w s (more_stmts (Do h body) rest) n)
+    same_behind rest n m e at =
+        rest_less s k (sum_behind cs w k (Do h body) m) (sum_behind cs w s (Do h body) n) rest (n + statement_count (Do h body)) (m + statement_count (Do h body)) (omega (arith, at)) (own_behind s k h h body body n m e at)
+
+    same_variables : AreNoMore w (loop_variables (Do h body)) (all_loop_variables (alone (Do h body)))
+    same_variables = alone_loops (Do h body) (loop_variables (Do h body)) (λ e. e)
+
+    pub same_gap_behind : (gap : Gap) (n m : ℕ) (other : Gap) → GapBecomes t live gap n other → number_at gap n ≡ s → number_at other m ≡ k → IsLess (sum_behind_all cs w k (filled other (alone (Do h body))) m) (sum_behind_all cs w s (filled gap (alone (Do h body))) n)
+    same_gap_behind = gap_behind_by h body (alone (Do h body)) (omega arith) same_variables (λ n m. one_less cs w (Do h body) (sum_of cs w (Do h body) n) m (same_less w cs (Do h body) m n)) s k same_behind

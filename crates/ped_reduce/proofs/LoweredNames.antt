@@ -39,7 +39,7 @@ module _ (y : List ℕ) where
   has_parts : (xs ys : List (List ℕ)) → Has (xs ++ ys) → Has xs ⊎ Has ys
   has_parts xs ys h = or_split (is_among y xs) (is_among y ys) (sym (among_append y xs ys) ∙ h)
 
-  names_followed : (a b : StmtTrees) → stmts_names (followed a b) ≡ stmts_names a ++ stmts_names b
+  pub names_followed : (a b : StmtTrees) → stmts_names (followed a b) ≡ stmts_names a ++ stmts_names b
   names_followed no_stmts b = refl
   names_followed (more_stmts s a) b = ap (λ (z : List (List ℕ)). stmt_names s ++ z) (names_followed a b) ∙ sym (append_assoc (stmt_names s) (stmts_names a) (stmts_names b))
 
@@ -147,7 +147,7 @@ module _ (y : List ℕ) where
     unless_names None text rest e = refl
     unless_names (Some x) text rest e = e
 
-    without_names : (ts : StmtTrees) → stmts_names (without_list ts) ≡ stmts_names ts
+    pub without_names : (ts : StmtTrees) → stmts_names (without_list ts) ≡ stmts_names ts
     without_names no_stmts = refl
     without_names (more_stmts (Comment text) rest) = unless_names (listed_name text) text rest (without_names rest)
     without_names (more_stmts (Assign left right) rest) = refl
@@ -170,7 +170,7 @@ module _ (y : List ℕ) where
           (in_alone (addition v p) (has_left (p.scalar ∷ []) (expr_names (Add (Var p.scalar) (Add (Mul (at p.high v) (Int 65536)) (at p.low v)))) (or_left (is_same_text y p.scalar) false e)))))
       by false e k more = has_right (stmt_names (exit v p)) (stmts_names (exits v ps)) (more k)
 
-  in_lowered : (parallel : Bool) (ps : List Partials) (h : Head) (body : StmtTrees) → Has (stmt_names (Do h body)) → Has (stmts_names (lowered_loop parallel ps h body))
+  pub in_lowered : (parallel : Bool) (ps : List Partials) (h : Head) (body : StmtTrees) → Has (stmt_names (Do h body)) → Has (stmts_names (lowered_loop parallel ps h body))
   in_lowered parallel ps h body k = elim (has_parts (head_names h) (stmts_names body) k) [
         | inl j ↦ has_left (head_names h ++ stmts_names (followed (zeros h.variable ps) (all_summed h.variable ps (without_list body)))) (stmts_names (alone (Do (bare h) (exits h.variable ps))))
             (has_left (head_names h) (stmts_names (followed (zeros h.variable ps) (all_summed h.variable ps (without_list body)))) j)

@@ -1,5 +1,5 @@
 -- Lowering keeps the meaning of a program that may be trusted, list by list: sums are kept apart, in order, and then the DO becomes a PARALLEL DO.
-use Rattle.std.proofs.Common.{◌≡◌, ℕ, zero, suc, ◌+◌, ◌-◌, List, [], ◌∷◌, ◌++◌, Bool, true, false, Option, Some, None, inl, inr, refl, sym, ap, subst, ◌∙◌, arith}
+use Rattle.std.proofs.Common.{◌≡◌, ℕ, zero, suc, ◌+◌, ◌-◌, List, [], ◌∷◌, ◌++◌, true, false, Option, Some, inl, inr, refl, sym, ap, subst, ◌∙◌, arith}
 use Rattle.std.specs.Prelude.{option_map}
 use Rattle.std.specs.List.{range_with_len}
 use Rattle.ped_tree.specs.Tree.{StmtTree, ProgramTree}
@@ -13,14 +13,11 @@ use Rattle.ped_splits.specs.ped_reindex.specs.ped_loops.specs.ped_scalar.specs.p
 use Rattle.ped_splits.specs.ped_reindex.specs.ped_loops.specs.ped_scalar.specs.ped_rules.specs.Lawful.{IsFaithful, IsLawful}
 use Rattle.ped_splits.specs.ped_reindex.specs.ped_loops.specs.Paralleling.{paralleling}
 use Rattle.ped_reduce.specs.Lists.{list_of}
-use Rattle.ped_reduce.specs.Lowering.{Partials, and_then, partials_of, fresh_arrays, lowered_with, lowered_statement, Lowered, not_lowered, lowered_at}
+use Rattle.ped_reduce.specs.Lowering.{and_then, partials_of, fresh_arrays, lowered_with, lowered_statement, Lowered, not_lowered, lowered_at}
 use Rattle.ped_reduce.specs.Reducing.{IsLive, LowersOne, Lowers, IsLowered}
-use Rattle.ped_reduce.proofs.LoweredPrograms.{IsMadeBy, made_by}
+use Rattle.ped_reduce.proofs.LoweredPrograms.{made_by}
+use Rattle.ped_reduce.proofs.SumGoals.{SumsInOrder}
 use Rattle.ped_reduce.proofs.MayBeParallel.{may_be_parallel, becomes_parallel}
-
--- what is known of sums in order: where lowering has come to a live list, the program in which its sums are kept apart is valid, means the same, and may be trusted as the one before
-abbrev pub SumsKept : Type 0
-SumsKept = (t : ProgramTree) (s : ℕ) (p q w : Lowered) → IsValid t → Lowers t (range_with_len 1 (s - 1)) (not_lowered t) p → (live : IsLive t s p q) → lowered_at false p s (list_of live.loop.body) ≡ Some w → IsValid w.tree × Keeps p.tree w.tree × (IsTrusted p.tree → IsTrusted w.tree)
 
 -- where a DO is lowered as a PARALLEL DO, it may be lowered in order
 in_order : (p q : Lowered) (s : ℕ) (names : List (List ℕ)) → lowered_at true p s names ≡ Some q → (w : Lowered) × (lowered_at false p s names ≡ Some w)
@@ -28,8 +25,8 @@ in_order p q s names makes =
     let m = made_by true p s names q makes in (
       lowered_with false p s m.body m.span m.partials,
       ap (λ (o : Option StmtTree). and_then o (lowered_statement false p s names)) m.is
-      ∙ ap (λ (o : Option Span). and_then o (λ (v : Span). option_map (lowered_with false p s m.body v) (partials_of names (fresh_arrays p.tree)))) m.spans
-      ∙ ap (option_map (lowered_with false p s m.body m.span)) m.arrays,
+          ∙ ap (λ (o : Option Span). and_then o (λ (v : Span). option_map (lowered_with false p s m.body v) (partials_of names (fresh_arrays p.tree)))) m.spans
+          ∙ ap (option_map (lowered_with false p s m.body m.span)) m.arrays,
     )
 
 -- the numbers up to the next
@@ -43,7 +40,7 @@ module _ (t : ProgramTree) where
   lowers_further [] s p q r lowers one = (r, subst (λ (z : Lowered). LowersOne t s z r) lowers one, refl)
   lowers_further (k ∷ ks) s p q r (z, first, lowers) one = (z, first, lowers_further ks s z q r lowers one)
 
-module _ (lawful : (s : ℕ) → IsLawful (paralleling s)) (sums : SumsKept) (t : ProgramTree) (valid : IsValid t) (trusted : IsTrusted t) where
+module _ (lawful : (s : ℕ) → IsLawful (paralleling s)) (sums : SumsInOrder) (t : ProgramTree) (valid : IsValid t) (trusted : IsTrusted t) where
   -- a stage is valid, may be trusted, and means the same
   pub record IsKept (p : Lowered) : Type 0 where
     pub is_valid : IsValid p.tree
@@ -54,7 +51,7 @@ module _ (lawful : (s : ℕ) → IsLawful (paralleling s)) (sums : SumsKept) (t 
   live_kept : (s : ℕ) (p q : Lowered) → Lowers t (range_with_len 1 (s - 1)) (not_lowered t) p → IsKept p → IsLive t s p q → IsKept q
   live_kept s p q front kept live =
       let w = in_order p q s (list_of live.loop.body) live.makes in
-      let apart = sums t s p q w.0 valid front live w.1 in
+      let apart = sums t s p q w.0 valid front kept.is_valid live w.1 in
       let safe = apart.2 kept.is_trusted in
       let cause = may_be_parallel t s p q w.0 valid apart.0 trusted front live w.1 in
       let makes = becomes_parallel t s p q w.0 valid apart.0 trusted front live w.1 in

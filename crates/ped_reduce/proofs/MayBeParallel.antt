@@ -1,20 +1,19 @@
 -- Where a list is live, nothing forbids that its DO, lowered, becomes a PARALLEL DO.
-use Rattle.std.proofs.Common.{◌≡◌, ◌⊎◌, ℕ, ◌+◌, ◌-◌, ◌≤◌, ◌<◌, List, [], ◌∷◌, ◌++◌, Bool, true, false, not, ◌&&◌, All, Option, Some, None, refl, sym, ap, subst, ◌∙◌, inl, inr, arith}
-use Rattle.std.specs.Prelude.{option_map}
+use Rattle.std.proofs.Common.{◌≡◌, ℕ, ◌+◌, ◌-◌, List, [], ◌∷◌, ◌++◌, Bool, true, false, not, ◌&&◌, All, Some, None, refl, sym, ap, subst, ◌∙◌, inl, inr, arith}
 use Rattle.std.specs.List.{range_with_len}
 use Rattle.std.proofs.lemmas.Bool.{and_parts, both_ways}
 use Rattle.std.proofs.lemmas.List.Elements.{All-nil, All-cons, All-head, All-tail}
 use Rattle.ped_base.specs.Lists.{is_among}
-use Rattle.ped_tree.specs.Tree.{Head, StmtTree, StmtTrees, If, Do, no_stmts, more_stmts, DeclTree, ProgramTree}
-use Rattle.ped_tree.specs.Numbering.{statement_count, statements_count, statement_with}
+use Rattle.ped_tree.specs.Tree.{Head, StmtTree, StmtTrees, If, Do, more_stmts, ProgramTree}
+use Rattle.ped_tree.specs.Numbering.{statement_count, statements_count}
 use Rattle.ped_splits.specs.ped_reindex.specs.ped_loops.specs.ped_scalar.specs.ped_rules.specs.ped_loop_runs.specs.ped_bodies.specs.ped_steps.specs.ped_symbols.specs.Kinds.{table_of}
 use Rattle.ped_splits.specs.ped_reindex.specs.ped_loops.specs.ped_scalar.specs.ped_rules.specs.ped_loop_runs.specs.ped_bodies.specs.ped_steps.specs.ped_symbols.specs.NameRefusals.{IsValid}
 use Rattle.ped_splits.specs.ped_reindex.specs.ped_loops.specs.ped_scalar.specs.ped_rules.specs.ped_loop_runs.specs.ped_bodies.specs.ped_steps.specs.ped_laws.specs.ped_graph.specs.ped_edges.specs.Edges.{Mark, proven, pending, rejected, Edge}
 use Rattle.ped_splits.specs.ped_reindex.specs.ped_loops.specs.ped_scalar.specs.ped_rules.specs.ped_loop_runs.specs.ped_bodies.specs.ped_steps.specs.ped_laws.specs.ped_graph.specs.Dependences.{AreEdges}
 use Rattle.ped_splits.specs.ped_reindex.specs.ped_loops.specs.ped_scalar.specs.ped_rules.specs.ped_loop_runs.specs.ped_bodies.specs.ped_steps.specs.ped_flow.proofs.Truths.{untrue}
-use Rattle.ped_splits.specs.ped_reindex.specs.ped_loops.specs.ped_scalar.specs.ped_rules.specs.ped_loop_runs.specs.ped_bodies.specs.ped_steps.specs.ped_flow.specs.Questions.{LoopOf, IsContained}
+use Rattle.ped_splits.specs.ped_reindex.specs.ped_loops.specs.ped_scalar.specs.ped_rules.specs.ped_loop_runs.specs.ped_bodies.specs.ped_steps.specs.ped_flow.specs.Questions.{IsContained}
 use Rattle.ped_splits.specs.ped_reindex.specs.ped_loops.specs.ped_scalar.specs.ped_rules.specs.ped_loop_runs.specs.ped_bodies.specs.ped_steps.specs.declared.rules.Rule.TheVariants.{IndexEscapes}
-use Rattle.ped_splits.specs.ped_reindex.specs.ped_loops.specs.ped_scalar.specs.ped_rules.specs.ped_loop_runs.specs.ped_bodies.specs.ped_steps.specs.Causes.{NoRule, IsFirstCause}
+use Rattle.ped_splits.specs.ped_reindex.specs.ped_loops.specs.ped_scalar.specs.ped_rules.specs.ped_loop_runs.specs.ped_bodies.specs.ped_steps.specs.Causes.{NoRule}
 use Rattle.ped_splits.specs.ped_reindex.specs.ped_loops.specs.ped_scalar.specs.ped_rules.specs.ped_loop_runs.specs.ped_bodies.specs.ped_steps.specs.Replacing.{followed, alone, all_replaced, all_kept}
 use Rattle.ped_splits.specs.ped_reindex.specs.ped_loops.specs.ped_scalar.specs.ped_rules.specs.ped_loop_runs.specs.ped_bodies.specs.ped_steps.specs.Runs.Gaps.{Gap, at_front, past, in_then, in_else, in_body, filled, number_at}
 use Rattle.ped_splits.specs.ped_reindex.specs.ped_loops.specs.ped_scalar.specs.ped_rules.specs.ped_loop_runs.specs.ped_bodies.specs.ped_steps.proofs.RunLaws.FilledGaps.{number_from, number_room}
@@ -30,15 +29,15 @@ use Rattle.ped_splits.specs.ped_reindex.specs.ped_loops.specs.ped_scalar.specs.p
 use Rattle.ped_splits.specs.ped_reindex.specs.ped_loops.specs.ped_scalar.specs.ped_rules.proofs.EscapeRule.{by_nothing}
 use Rattle.ped_splits.specs.ped_reindex.specs.ped_loops.specs.ped_scalar.specs.ped_rules.proofs.OneLoop.{one_loop}
 use Rattle.ped_splits.specs.ped_reindex.specs.ped_loops.specs.Flags.{with_flag, flagged}
-use Rattle.ped_splits.specs.ped_reindex.specs.ped_loops.specs.Paralleling.{MakesParallel, StandsAgainstParallel, paralleling}
+use Rattle.ped_splits.specs.ped_reindex.specs.ped_loops.specs.Paralleling.{StandsAgainstParallel, paralleling}
 use Rattle.ped_reduce.specs.Lists.{list_of}
-use Rattle.ped_reduce.specs.Lowering.{Partials, and_then, near_only, declarations, bare, exits, fresh_arrays, partials_of, lowered_loop, lowered_with, lowered_statement, Lowered, not_lowered, lowered_at}
+use Rattle.ped_reduce.specs.Lowering.{Partials, near_only, declarations, bare, exits, fresh_arrays, partials_of, lowered_loop, Lowered, not_lowered, lowered_at}
 use Rattle.ped_reduce.specs.Reducing.{carried_beside, IsLive, Lowers}
 use Rattle.ped_reduce.proofs.LoweredPrograms.{IsMadeBy, made_by}
-use Rattle.ped_reduce.proofs.Resembling.{scalars_of, replaced_filled}
+use Rattle.ped_reduce.proofs.Resembling.{replaced_filled}
 use Rattle.ped_reduce.proofs.LoweredStages.{IsResembling, lowered_resembles}
 use Rattle.ped_reduce.proofs.ResemblingPaths.{new_loop, contained_again}
-use Rattle.ped_reduce.proofs.EdgesResemble.{ViewsResemble, HasOld, edges_resemble}
+use Rattle.ped_reduce.proofs.EdgesResemble.{ViewsResemble, edges_resemble}
 use Rattle.ped_reduce.proofs.ViewsAlike.{views_are}
 use Rattle.ped_splits.specs.ped_reindex.specs.ped_loops.proofs.Contained.{contained}
 
@@ -151,7 +150,7 @@ module _ (t : ProgramTree) (s : ℕ) (p q w : Lowered) (valid : IsValid t) (new_
       bodies =
           ap (λ (ts : StmtTrees). all_replaced (on_loop (with_flag true)) (s + p.more) ts 1) m.new
           ∙ replaced_first (on_loop (with_flag true)) (s + p.more) (new_loop t w.tree s (s + p.more) live.loop m).head (new_loop t w.tree s (s + p.more) live.loop m).body
-            (alone (Do (bare live.loop.head) (exits live.loop.head.variable m.partials))) m.other 1 m.number
+          (alone (Do (bare live.loop.head) (exits live.loop.head.variable m.partials))) m.other 1 m.number
           ∙ sym live_body
 
   still_contained : IsContained w.tree (s + p.more)
@@ -176,7 +175,7 @@ module _ (t : ProgramTree) (s : ℕ) (p q w : Lowered) (valid : IsValid t) (new_
       let kept = not_marked old.edge.mark (edges_unrejected t olds trusted.unrejected are_old old.edge old.listed) in
       let other : is_among old.edge.name names ≡ false = ap (is_among old.edge.name) (sym m.summable.scalars) ∙ old.unsummed in
       both_ways (carried_beside t s names old.edge) free (λ j. (old.carried j && not (kept j)) && not (other j))
-  ))
+      ))
 
   false_or : (b : Bool) → (b ≡ true → ⊥) → b ≡ false
   false_or true h = absurd (h refl)

@@ -103,11 +103,11 @@ module _ (t : ProgramTree) (n : ℕ) (ps : List Partials) (h : Head) (body : Stm
       (λ i. is_among w (bounds_unread.0 i ++ bounds_unread.1 i)) (assigned_first w (constant_names t.decls) j (h.variable ∷ []))
 
 -- arrays declare no constant, and save nothing
-no_constants : (more : List (List DeclaratorTree)) → flat_map constants_in (map Integer more) ≡ []
+pub no_constants : (more : List (List DeclaratorTree)) → flat_map constants_in (map Integer more) ≡ []
 no_constants [] = refl
 no_constants (d ∷ ds) = no_constants ds
 
-none_saved : (more : List (List DeclaratorTree)) → flat_map saved_in (map Integer more) ≡ []
+pub none_saved : (more : List (List DeclaratorTree)) → flat_map saved_in (map Integer more) ≡ []
 none_saved [] = refl
 none_saved (d ∷ ds) = none_saved ds
 

@@ -319,9 +319,9 @@ module _ (t u : ProgramTree) (s k : ℕ) (loop_is : LoopOf t s) (m : IsResemblin
     | inl j ↦ inl (zeros_come t (kind_in t) cs v ps number_of s base new_base same_bases indexed (scalar_names t s ps h body m.summable) Old ps (λ p w. w) (k + 1) r j)
     | inr j ↦ elim (all_come t (kind_in t) cs v ps number_of s base new_base same_bases indexed (scalar_names t s ps h body m.summable) [] ((λ l w. absurd w), refl) (without_list body) (s + 1) start (omega arith) clear stands_body right_body
         (moved_tells v ps (without_list body) (s + 1) start starts) sums r (subst (λ (ls : List Loop). IsIn r (statements_references cs ls start (all_summed v ps (without_list body)))) (sym (append-nil new_base)) j)) [
-      | inl a ↦ inl a
-      | inr c ↦ inr (record { source = c.source; listed = subst (IsIn c.source) old_is c.listed; access = c.access; inner = c.inner; deep = c.deep; old_nest = c.old_nest; new_nest = c.new_nest; unsummed = c.unsummed })
-    ]
+          | inl a ↦ inl a
+          | inr c ↦ inr (record { source = c.source; listed = subst (IsIn c.source) old_is c.listed; access = c.access; inner = c.inner; deep = c.deep; old_nest = c.old_nest; new_nest = c.new_nest; unsummed = c.unsummed })
+        ]
   ]
     where
       sums : (x : Reference) → IsIn x (statements_references cs (base ++ []) (s + 1) (without_list body)) → is_among x.access.name (scalars_of ps) ≡ true → is_some (and_then (statement_with x.statement t) (sum_to x.access.name)) ≡ true

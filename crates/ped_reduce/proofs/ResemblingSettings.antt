@@ -1,5 +1,5 @@
 -- A program with a lowered DO has the named constants of the program and the same variables of DO loops; so views of pairs are the same, where what the outermost DO assigns is the same but for names that stand in no bound and no subscript.
-use Rattle.std.proofs.Common.{◌≡◌, ℕ, ◌+◌, List, [], ◌∷◌, ◌++◌, map, length, Bool, true, false, ◌||◌, refl, sym, ap, ◌∙◌, inl, inr, append-nil, append_assoc}
+use Rattle.std.proofs.Common.{◌≡◌, ℕ, ◌+◌, List, [], ◌∷◌, ◌++◌, map, Bool, true, false, ◌||◌, refl, sym, ap, ◌∙◌, inl, inr, append-nil, append_assoc}
 use Rattle.std.specs.List.{flat_map}
 use Rattle.ped_base.specs.Lists.{is_same_text, is_among}
 use Rattle.ped_tree.proofs.NameLaws.Collected.{among_append, among_collected}
@@ -15,7 +15,7 @@ use Rattle.ped_splits.specs.ped_reindex.specs.ped_loops.specs.ped_scalar.specs.p
 use Rattle.ped_splits.specs.ped_reindex.specs.ped_loops.specs.ped_scalar.specs.ped_rules.specs.ped_loop_runs.specs.ped_bodies.specs.ped_steps.specs.ped_symbols.proofs.RightUseLaws.Quiet.{behind_append, said_stays, stmts_declare_nothing}
 use Rattle.ped_splits.specs.ped_reindex.specs.ped_loops.specs.ped_scalar.specs.ped_rules.specs.ped_loop_runs.specs.ped_bodies.specs.ped_steps.specs.ped_refs.specs.References.{Reference, references, outermost}
 use Rattle.ped_splits.specs.ped_reindex.specs.ped_loops.specs.ped_scalar.specs.ped_rules.specs.ped_loop_runs.specs.ped_bodies.specs.ped_steps.specs.ped_affine.specs.PairViews.{heads_of}
-use Rattle.ped_splits.specs.ped_reindex.specs.ped_loops.specs.ped_scalar.specs.ped_rules.specs.ped_loop_runs.specs.ped_bodies.specs.ped_steps.specs.ped_laws.specs.ped_graph.specs.Dependences.{assigned_by, setting_in, site_of, view_of}
+use Rattle.ped_splits.specs.ped_reindex.specs.ped_loops.specs.ped_scalar.specs.ped_rules.specs.ped_loop_runs.specs.ped_bodies.specs.ped_steps.specs.ped_laws.specs.ped_graph.specs.Dependences.{assigned_by, setting_in, site_of}
 use Rattle.ped_splits.specs.ped_reindex.specs.ped_loops.specs.ped_scalar.specs.ped_rules.specs.ped_loop_runs.specs.ped_bodies.specs.ped_steps.specs.ped_flow.specs.Questions.{LoopOf}
 use Rattle.ped_splits.specs.ped_reindex.specs.ped_loops.specs.ped_scalar.specs.ped_rules.specs.ped_loop_runs.specs.ped_bodies.specs.ped_steps.specs.Replacing.{followed, alone}
 use Rattle.ped_splits.specs.ped_reindex.specs.ped_loops.specs.ped_scalar.specs.ped_rules.specs.ped_loop_runs.specs.ped_bodies.specs.ped_steps.specs.Runs.Gaps.{Gap, at_front, past, in_then, in_else, in_body, filled}
@@ -26,7 +26,7 @@ use Rattle.ped_reduce.proofs.Resembling.{Becomes, AllBecome, GapBecomes, filled_
 use Rattle.ped_reduce.proofs.LoweredStages.{IsResembling}
 use Rattle.ped_reduce.proofs.LoweredPaths.{all_same_loops}
 use Rattle.ped_reduce.proofs.LoweredBehind.{without_loops}
-use Rattle.ped_reduce.proofs.ResemblingViews.{AgreeBut, AreClean, HeadsClean, AreAlike, same_view}
+use Rattle.ped_reduce.proofs.ResemblingViews.{AgreeBut, AreClean, HeadsClean, same_view}
 use Rattle.ped_reduce.proofs.ResemblingReferences.{From}
 use Rattle.ped_reduce.proofs.EdgesResemble.{ViewsResemble, same_common, same_heads_of}
 
@@ -134,7 +134,7 @@ module _ (x : List ℕ) where
       abbrev filled_new : Gap → Bool
       filled_new g = has (filled g new)
 
-      gap_has : (gap : Gap) (n : ℕ) (other : Gap) → GapBecomes t live gap n other → has (filled other new) ≡ has (filled gap old)
+      pub gap_has : (gap : Gap) (n : ℕ) (other : Gap) → GapBecomes t live gap n other → has (filled other new) ≡ has (filled gap old)
       gap_has (at_front rest) n other is = ap filled_new is ∙ followed_has new rest ∙ ap (λ (b : Bool). b || has rest) same ∙ sym (followed_has old rest)
       gap_has (past s gap) n other (y, g, p, q, is) =
           let first = one_has s n y p in
@@ -157,7 +157,7 @@ module _ (t u : ProgramTree) (s k : ℕ) (loop_is : LoopOf t s) (m : IsResemblin
   same_loops x =
       ap (has x) m.new
       ∙ gap_has x t m.live (alone (Do loop_is.head loop_is.body)) (lowered_loop false m.partials loop_is.head loop_is.body)
-        (lowered_has x false m.partials loop_is.head loop_is.body ∙ sym (alone_has x (Do loop_is.head loop_is.body))) m.gap 1 m.other m.alike
+      (lowered_has x false m.partials loop_is.head loop_is.body ∙ sym (alone_has x (Do loop_is.head loop_is.body))) m.gap 1 m.other m.alike
       ∙ sym (ap (has x) m.stands)
 
   module _ (valid : IsValid t) (new_valid : IsValid u) (bad : List ℕ → Bool) where

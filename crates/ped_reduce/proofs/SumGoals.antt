@@ -1,30 +1,16 @@
 -- What is still to be shown of a DO whose sums are kept apart, in order: each statement by itself. Nothing is proved here; that such a program means the same is proved in SumKeeps.
-use Rattle.std.proofs.Common.{◌≡◌, ℕ, ◌+◌, ◌<◌, ◌≤◌, ℤ, List, ◌++◌, Bool, true, false, Some, refl}
-use Rattle.std.specs.Str.Lines.{lines}
+use Rattle.std.proofs.Common.{◌≡◌, ℕ, ◌+◌, ◌-◌, ℤ, List, ◌++◌, Bool, true, false, Some}
+use Rattle.std.specs.List.{range_with_len}
 use Rattle.ped_base.specs.Lists.{is_among}
 use Rattle.ped_tree.specs.Grammar.Words.{is_name}
 use Rattle.ped_tree.specs.NamesIn.{all_loop_variables}
-use Rattle.ped_tree.specs.Numbering.{statements_count}
-use Rattle.ped_tree.specs.Tree.{Do, ProgramTree}
+use Rattle.ped_tree.specs.Tree.{ProgramTree}
 use Rattle.ped_splits.specs.ped_reindex.specs.ped_loops.specs.ped_scalar.specs.ped_rules.specs.ped_loop_runs.specs.ped_bodies.specs.ped_steps.specs.ped_symbols.specs.Kinds.{names_of, table_of}
 use Rattle.ped_splits.specs.ped_reindex.specs.ped_loops.specs.ped_scalar.specs.ped_rules.specs.ped_loop_runs.specs.ped_bodies.specs.ped_steps.specs.ped_symbols.specs.NameRefusals.{IsValid}
-use Rattle.ped_splits.specs.ped_reindex.specs.ped_loops.specs.ped_scalar.specs.ped_rules.specs.ped_loop_runs.specs.ped_bodies.specs.ped_steps.specs.ped_affine.specs.Assigned.{assigned_in_all}
 use Rattle.ped_splits.specs.ped_reindex.specs.ped_loops.specs.ped_scalar.specs.ped_rules.specs.ped_loop_runs.specs.ped_bodies.specs.ped_steps.specs.ped_flow.specs.Questions.{LoopOf, IsContained}
-use Rattle.ped_splits.specs.ped_reindex.specs.ped_loops.specs.ped_scalar.specs.ped_rules.specs.ped_loop_runs.specs.ped_bodies.specs.ped_steps.specs.ped_laws.specs.ped_store.specs.Cells.{Cell, Scalar}
-use Rattle.ped_splits.specs.ped_reindex.specs.ped_loops.specs.ped_scalar.specs.ped_rules.specs.ped_loop_runs.specs.ped_bodies.specs.ped_steps.specs.ped_laws.specs.ped_store.specs.Stores.{Undefined, Store, store_at_start}
-use Rattle.ped_splits.specs.ped_reindex.specs.ped_loops.specs.ped_scalar.specs.ped_rules.specs.ped_loop_runs.specs.ped_bodies.specs.ped_steps.specs.ped_laws.specs.ped_store.specs.Acts.{Touch, Act}
 use Rattle.ped_splits.specs.ped_reindex.specs.ped_loops.specs.ped_scalar.specs.ped_rules.specs.ped_loop_runs.specs.ped_bodies.specs.ped_steps.specs.ped_laws.specs.Acts.Orders.{IsIn}
-use Rattle.ped_splits.specs.ped_reindex.specs.ped_loops.specs.ped_scalar.specs.ped_rules.specs.ped_loop_runs.specs.ped_bodies.specs.ped_steps.specs.ped_laws.specs.Acts.Sets.{wants}
-use Rattle.ped_splits.specs.ped_reindex.specs.ped_loops.specs.ped_scalar.specs.ped_rules.specs.ped_loop_runs.specs.ped_bodies.specs.ped_steps.specs.ped_laws.specs.Runs.Replaying.{goes_on, finish_of}
-use Rattle.ped_splits.specs.ped_reindex.specs.ped_loops.specs.ped_scalar.specs.ped_rules.specs.ped_loop_runs.specs.ped_bodies.specs.ped_steps.specs.ped_laws.specs.Runs.Showing.{shown_at_end}
-use Rattle.ped_splits.specs.ped_reindex.specs.ped_loops.specs.ped_scalar.specs.ped_rules.specs.ped_loop_runs.specs.ped_bodies.specs.ped_steps.specs.ped_laws.specs.ped_eval.specs.Scopes.{Setting, Scope, cell_of}
-use Rattle.ped_splits.specs.ped_reindex.specs.ped_loops.specs.ped_scalar.specs.ped_rules.specs.ped_loop_runs.specs.ped_bodies.specs.ped_steps.specs.ped_laws.specs.ped_eval.specs.Outcomes.{setting_of, IsRaceFree}
-use Rattle.ped_splits.specs.ped_reindex.specs.ped_loops.specs.ped_scalar.specs.ped_rules.specs.ped_loop_runs.specs.ped_bodies.specs.ped_steps.specs.ped_laws.specs.ped_eval.specs.Runs.{run_all}
 use Rattle.ped_splits.specs.ped_reindex.specs.ped_loops.specs.ped_scalar.specs.ped_rules.specs.ped_loop_runs.specs.ped_bodies.specs.ped_steps.specs.Replacing.{alone, all_replaced}
 use Rattle.ped_splits.specs.ped_reindex.specs.ped_loops.specs.ped_scalar.specs.ped_rules.specs.ped_loop_runs.specs.ped_bodies.specs.ped_steps.specs.Runs.Meaning.{Keeps}
-use Rattle.ped_splits.specs.ped_reindex.specs.ped_loops.specs.ped_scalar.specs.ped_rules.specs.ped_loop_runs.specs.ped_bodies.specs.ped_steps.specs.Runs.Renumbering.{renumbered}
-use Rattle.ped_splits.specs.ped_reindex.specs.ped_loops.specs.ped_scalar.specs.ped_rules.specs.ped_loop_runs.specs.Executions.{IsExecuted}
-use Rattle.ped_splits.specs.ped_reindex.specs.ped_loops.specs.ped_scalar.specs.ped_rules.specs.ped_loop_runs.specs.Numbers.{counted_by}
 use Rattle.ped_splits.specs.ped_reindex.specs.ped_loops.specs.ped_scalar.specs.ped_rules.specs.ped_loop_runs.specs.Unrejected.{IsTrusted}
 use Rattle.ped_splits.specs.ped_reindex.specs.ped_loops.specs.ped_scalar.specs.ped_rules.specs.OnlyLoops.{on_loop}
 use Rattle.ped_splits.specs.ped_reindex.specs.ped_loops.specs.ped_scalar.specs.ped_rules.specs.Spans.{Span, span_of, spans_far}
@@ -32,8 +18,8 @@ use Rattle.ped_splits.specs.ped_reindex.specs.ped_loops.specs.ped_scalar.specs.S
 use Rattle.ped_splits.specs.ped_reindex.specs.ped_loops.specs.ped_scalar.specs.Privatising.{is_in_parallel}
 use Rattle.ped_splits.specs.ped_reindex.specs.ped_loops.specs.ped_scalar.specs.Expanding.{is_private_near}
 use Rattle.ped_reduce.specs.Lists.{list_of, without_list}
-use Rattle.ped_reduce.specs.Lowering.{Partials, declarations, lowered_loop, Lowered, lowered_at}
-use Rattle.ped_reduce.specs.Reducing.{IsLive}
+use Rattle.ped_reduce.specs.Lowering.{Partials, declarations, lowered_loop, Lowered, not_lowered, lowered_at}
+use Rattle.ped_reduce.specs.Reducing.{IsLive, Lowers}
 use Rattle.ped_reduce.proofs.SumStores.{is_array_of, HaveArrays}
 use Rattle.ped_reduce.proofs.SumBodies.{AreClear}
 use Rattle.ped_reduce.proofs.SumExits.{AllDistinct}
@@ -59,10 +45,10 @@ pub record MayKeepApart (t : ProgramTree) (s : ℕ) (loop : LoopOf t s) (ps : Li
   pub name : (p : Partials) (x : List ℕ) → IsIn p ps → is_array_of p x ≡ true → is_name x ≡ true
   pub fresh : (p : Partials) (x : List ℕ) → IsIn p ps → is_array_of p x ≡ true → is_among x (names_of t) ≡ false
 
--- 1. a list that is live in t may be kept apart in the program that is lowered so far: its rules, which are asked of t, hold there too
+-- 1. a list that is live in t may be kept apart in what has come of t by lowering the lists before it: its rules, which are asked of t, hold there too
 abbrev pub LiveMayKeepApart : Type 0
-LiveMayKeepApart = (t : ProgramTree) (s : ℕ) (p q w : Lowered) → IsValid p.tree → (live : IsLive t s p q) → lowered_at false p s (list_of live.loop.body) ≡ Some w
-    → (loop : LoopOf p.tree (s + p.more)) × (ps : List Partials) × (v : Span) × MayKeepApart p.tree (s + p.more) loop ps v × (w.tree ≡ kept_apart false p.tree (s + p.more) ps v)
+LiveMayKeepApart = (t : ProgramTree) (s : ℕ) (p q w : Lowered) → IsValid t → IsValid p.tree → Lowers t (range_with_len 1 (s - 1)) (not_lowered t) p → (live : IsLive t s p q) → lowered_at false p s (list_of live.loop.body) ≡ Some w
+    → (loop : LoopOf p.tree (s + p.more)) × (ps : List Partials) × (v : Span) × MayKeepApart p.tree (s + p.more) loop ps v × (w.tree ≡ kept_apart false p.tree (s + p.more) ps v) × (q.tree ≡ kept_apart true p.tree (s + p.more) ps v)
 
 -- 2. a program with one flag less is valid, too: only the printed length of the DO statement is another, and the pairs are counted without it
 abbrev pub FlagOff : Type 0
@@ -76,6 +62,6 @@ DeclaredApart = (t : ProgramTree) (s : ℕ) (loop : LoopOf t s) (ps : List Parti
 abbrev pub KeptApartTrusted : Type 0
 KeptApartTrusted = (t : ProgramTree) (s : ℕ) (loop : LoopOf t s) (ps : List Partials) (v : Span) → MayKeepApart t s loop ps v → IsValid (kept_apart false t s ps v) → IsTrusted t → IsTrusted (kept_apart false t s ps v)
 
--- the law: sums in order mean the same
+-- the law: sums in order mean the same, at each list that is live, behind those before it
 abbrev pub SumsInOrder : Type 0
-SumsInOrder = (t : ProgramTree) (s : ℕ) (p q w : Lowered) → IsValid p.tree → (live : IsLive t s p q) → lowered_at false p s (list_of live.loop.body) ≡ Some w → IsValid w.tree × Keeps p.tree w.tree × (IsTrusted p.tree → IsTrusted w.tree)
+SumsInOrder = (t : ProgramTree) (s : ℕ) (p q w : Lowered) → IsValid t → Lowers t (range_with_len 1 (s - 1)) (not_lowered t) p → IsValid p.tree → (live : IsLive t s p q) → lowered_at false p s (list_of live.loop.body) ≡ Some w → IsValid w.tree × Keeps p.tree w.tree × (IsTrusted p.tree → IsTrusted w.tree)

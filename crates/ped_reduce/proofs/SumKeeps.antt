@@ -112,7 +112,7 @@ among_right y xs ys h = list_any-append (is_same_text y) xs ys ∙ late (is_amon
     late true e = refl
     late false e = e
 
-in_whole : (y : List ℕ) (x : StmtTree) (gap : Gap) → is_among y (stmt_names x) ≡ true → is_among y (stmts_names (filled gap (alone x))) ≡ true
+pub in_whole : (y : List ℕ) (x : StmtTree) (gap : Gap) → is_among y (stmt_names x) ≡ true → is_among y (stmts_names (filled gap (alone x))) ≡ true
 in_whole y x (at_front rest) h = among_left y (stmt_names x) (stmts_names rest) h
 in_whole y x (past z gap) h = among_right y (stmt_names z) (stmts_names (filled gap (alone x))) (in_whole y x gap h)
 in_whole y x (in_then c gap other rest) h = among_left y (stmt_names (If c (filled gap (alone x)) other)) (stmts_names rest) (among_left y (cond_names c ++ stmts_names (filled gap (alone x))) (stmts_names other) (among_right y (cond_names c) (stmts_names (filled gap (alone x))) (in_whole y x gap h)))

@@ -238,7 +238,7 @@ module _ (cs indices : List (List ℕ)) (v : List ℕ) (indexed : is_among v ind
         by s a j = subst (λ (xs : List (List ℕ)). IsIn a (own_accesses cs xs s)) e j
 
 -- what is added stands on the right side of a sum
-sum_read : (cs indices : List (List ℕ)) (x : List ℕ) (left right : ExprTree) (sum : Sum) → IsSumOf x left right sum → (a : Access) → IsIn a (expr_reads cs indices (operand sum)) → IsIn a (expr_reads cs indices right)
+pub sum_read : (cs indices : List (List ℕ)) (x : List ℕ) (left right : ExprTree) (sum : Sum) → IsSumOf x left right sum → (a : Access) → IsIn a (expr_reads cs indices (operand sum)) → IsIn a (expr_reads cs indices right)
 sum_read cs indices x left right sum of a i = elim of.shape [
   | inl q ↦ subst (λ (e : ExprTree). IsIn a (expr_reads cs indices e)) (sym q) (in_right a (expr_reads cs indices (Var x)) (expr_reads cs indices (operand sum)) i)
   | inr w ↦ elim w [
@@ -257,7 +257,7 @@ sum_right k x left right sum of h = elim of.shape [
 ]
 
 -- a sum of one scalar is none of another
-other_sum : (x y : List ℕ) (left right : ExprTree) (sum : Sum) → IsSumOf x left right sum → is_same_text y x ≡ false → sum_to y (Assign left right) ≡ None
+pub other_sum : (x y : List ℕ) (left right : ExprTree) (sum : Sum) → IsSumOf x left right sum → is_same_text y x ≡ false → sum_to y (Assign left right) ≡ None
 other_sum x y left right sum of e = ap (λ (z : ExprTree). sum_to y (Assign z right)) of.written ∙ ap (λ (c : Bool). if c then sum_of y right else None) e
 
 module _ (t : ProgramTree) (k : NameKinds) (cs : List (List ℕ)) (v : List ℕ) (ps : List Partials) (f : ℕ → ℕ) (low : ℕ) (base other : List Loop) (heads : heads_of other ≡ heads_of base) (indexed : is_among v (indices_of base) ≡ true)

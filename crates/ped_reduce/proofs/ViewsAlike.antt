@@ -1,16 +1,14 @@
 -- A pair of references that comes from one in a program has the same view there: no scalar of a lowered DO stands in a subscript or in an initial value, and all else is assigned as it was.
-use Rattle.std.proofs.Common.{◌≡◌, ◌⊎◌, ℕ, ◌+◌, List, [], ◌∷◌, ◌++◌, map, Bool, true, false, not, ◌||◌, Option, is_some, refl, sym, ap, subst, ◌∙◌, inl, inr, arith, append_assoc}
+use Rattle.std.proofs.Common.{◌≡◌, ℕ, ◌+◌, List, [], ◌∷◌, ◌++◌, map, Bool, true, false, not, ◌||◌, Option, is_some, refl, sym, ap, subst, ◌∙◌, inl, inr, arith, append_assoc}
 use Rattle.std.proofs.lemmas.Bool.{both_ways}
 use Rattle.ped_base.specs.Lists.{has_some, is_same_text, is_among}
-use Rattle.ped_base.proofs.NameEquality.{same_itself, same_is}
-use Rattle.ped_tree.proofs.NameLaws.Collected.{among_append}
+use Rattle.ped_base.proofs.NameEquality.{same_is}
 use Rattle.ped_tree.specs.Tree.{Head, StmtTree, StmtTrees, Do, ProgramTree}
 use Rattle.ped_tree.specs.Accesses.{constant_names}
 use Rattle.ped_tree.specs.Nests.{Loop, indices_of}
 use Rattle.ped_tree.specs.NamesIn.{expr_names, stmts_names, loop_variables, all_loop_variables}
-use Rattle.ped_tree.specs.Numbering.{statement_with, statements_count}
-use Rattle.ped_splits.specs.ped_reindex.specs.ped_loops.specs.ped_scalar.specs.ped_rules.specs.ped_loop_runs.specs.ped_bodies.specs.ped_steps.specs.ped_refs.specs.References.{Reference, statements_references, references, outermost_number, outermost}
-use Rattle.ped_splits.specs.ped_reindex.specs.ped_loops.specs.ped_scalar.specs.ped_rules.specs.ped_loop_runs.specs.ped_bodies.specs.ped_steps.specs.ped_affine.specs.Assigned.{assigned_in}
+use Rattle.ped_tree.specs.Numbering.{statement_with}
+use Rattle.ped_splits.specs.ped_reindex.specs.ped_loops.specs.ped_scalar.specs.ped_rules.specs.ped_loop_runs.specs.ped_bodies.specs.ped_steps.specs.ped_refs.specs.References.{Reference, statements_references, outermost_number, outermost}
 use Rattle.ped_splits.specs.ped_reindex.specs.ped_loops.specs.ped_scalar.specs.ped_rules.specs.ped_loop_runs.specs.ped_bodies.specs.ped_steps.specs.ped_affine.specs.PairViews.{heads_of}
 use Rattle.ped_splits.specs.ped_reindex.specs.ped_loops.specs.ped_scalar.specs.ped_rules.specs.ped_loop_runs.specs.ped_bodies.specs.ped_steps.specs.ped_laws.specs.ped_graph.specs.Dependences.{assigned_by}
 use Rattle.ped_splits.specs.ped_reindex.specs.ped_loops.specs.ped_scalar.specs.ped_rules.specs.ped_loop_runs.specs.ped_bodies.specs.ped_steps.specs.ped_laws.specs.Acts.Orders.{IsIn}
@@ -22,12 +20,11 @@ use Rattle.ped_splits.specs.ped_reindex.specs.ped_loops.specs.ped_scalar.specs.p
 use Rattle.ped_splits.specs.ped_reindex.specs.ped_loops.specs.ped_scalar.specs.ped_rules.specs.ped_loop_runs.specs.ped_bodies.specs.ped_steps.specs.ped_flow.specs.PlainBounds.{nest_round}
 use Rattle.ped_splits.specs.ped_reindex.specs.ped_loops.specs.ped_scalar.specs.ped_rules.specs.ped_loop_runs.specs.ped_bodies.specs.ped_steps.specs.ped_flow.specs.Questions.{LoopOf}
 use Rattle.ped_splits.specs.ped_reindex.specs.ped_loops.specs.ped_scalar.specs.ped_rules.specs.ped_loop_runs.specs.ped_bodies.specs.ped_steps.specs.Replacing.{alone}
-use Rattle.ped_splits.specs.ped_reindex.specs.ped_loops.specs.ped_scalar.specs.ped_rules.specs.ped_loop_runs.specs.ped_bodies.specs.ped_steps.specs.Runs.Gaps.{filled}
 use Rattle.ped_splits.specs.ped_reindex.specs.ped_loops.specs.ped_scalar.specs.ped_rules.specs.ped_loop_runs.specs.ped_bodies.specs.ped_steps.proofs.RunLaws.PrivatisedPrograms.{scalar_named}
 use Rattle.ped_reduce.specs.Lists.{without_list}
 use Rattle.ped_reduce.specs.Lowering.{Partials, lowered_loop}
 use Rattle.ped_reduce.specs.Reducing.{sum_at}
-use Rattle.ped_reduce.proofs.Resembling.{arrays_of, scalars_of}
+use Rattle.ped_reduce.proofs.Resembling.{scalars_of}
 use Rattle.ped_reduce.proofs.LoopsRoundGaps.{gap_loops}
 use Rattle.ped_reduce.proofs.LoweredBehind.{without_loops}
 use Rattle.ped_reduce.proofs.LoweredStages.{IsResembling}
@@ -39,9 +36,9 @@ use Rattle.ped_reduce.proofs.ResemblingReferences.{From, gap_heads, of_program, 
 use Rattle.ped_reduce.proofs.SummedReferences.{renumbered}
 use Rattle.ped_reduce.proofs.EdgesResemble.{ViewsResemble}
 use Rattle.ped_reduce.proofs.ResemblingSettings.{IsClear, views_resemble}
-use Rattle.ped_reduce.proofs.CleanReferences.{Lack, HeadsLack, IsClearOf, nest_lacks, all_unnamed, all_summed, subscripts_clean, heads_clean}
-use Rattle.ped_reduce.proofs.AssignedStays.{has, alone_has, alone_same, no_array, whole_same}
-use Rattle.ped_reduce.proofs.OuterLoops.{outer_head, outer_body, outer_stands, outer_same}
+use Rattle.ped_reduce.proofs.CleanReferences.{HeadsLack, IsClearOf, all_unnamed, all_summed, subscripts_clean, heads_clean}
+use Rattle.ped_reduce.proofs.AssignedStays.{alone_has, alone_same, no_array, whole_same}
+use Rattle.ped_reduce.proofs.OuterLoops.{outer_stands, outer_same}
 
 false_or : (b : Bool) → (b ≡ true → ⊥) → b ≡ false
 false_or true h = absurd (h refl)

@@ -42,7 +42,4 @@ pub fn lowering_keeps_the_meaning()
     ensures { (t : ProgramTree) (q : Lowered) → IsValid t → IsTrusted t → IsLowered t q → IsTrusted q.tree × Keeps t q.tree }
 {
     parallel_is_lawful();
-    one_lowering();
-    stays_trusted();
-    private_names_cleared();
 }

@@ -1,4 +1,4 @@
-use Rattle.std.proofs.Common.{ℕ, ◌-◌, ◌≤◌, Option, subst}
+use Rattle.std.proofs.Common.{◌-◌, Option, subst}
 use Rattle.ped_scalar.specs.ped_rules.specs.ped_loop_runs.specs.ped_bodies.specs.ped_steps.specs.declared.causes.Refused.{Refused}
 use Rattle.ped_auto.specs.Editing.{Answers}
 use Rattle.ped_auto.specs.Strategy.{Tries}

@@ -9,6 +9,6 @@ mod report;
 mod strategy;
 
 pub use editor::Editor;
-pub use laws::{auto_replays, one_auto};
+pub use laws::{accepted_are_commands, auto_replays, one_auto};
 pub use report::AutoReport;
 pub use strategy::auto;

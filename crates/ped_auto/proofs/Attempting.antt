@@ -1,14 +1,13 @@
 -- What the code does at a DO, part by part.
-use Rattle.std.proofs.Common.{◌≡◌, inl, inr, ℕ, List, Bool, true, false, MatchBool, Option, Some, None, refl, sym, subst, ap, ◌∙◌}
+use Rattle.std.proofs.Common.{◌≡◌, inl, inr, ℕ, Bool, true, false, Option, Some, None, refl, sym, subst}
 use Rattle.std.specs.Option.{is_none}
-use Rattle.ped_reduce.specs.ped_splits.specs.ped_reindex.specs.ped_loops.specs.ped_scalar.specs.ped_rules.specs.ped_loop_runs.specs.ped_bodies.specs.ped_steps.specs.Causes.{Cause}
-use Rattle.ped_reduce.specs.ped_splits.specs.ped_reindex.specs.ped_loops.specs.ped_scalar.specs.ped_rules.specs.ped_loop_runs.specs.ped_bodies.specs.ped_steps.specs.CodeCauses.{cause_of}
-use Rattle.ped_reduce.specs.ped_splits.specs.ped_reindex.specs.ped_loops.specs.ped_scalar.specs.ped_rules.specs.ped_loop_runs.specs.ped_bodies.specs.ped_steps.specs.declared.causes.Refused.{Refused}
+use Rattle.ped_scalar.specs.ped_rules.specs.ped_loop_runs.specs.ped_bodies.specs.ped_steps.specs.CodeCauses.{cause_of}
+use Rattle.ped_scalar.specs.ped_rules.specs.ped_loop_runs.specs.ped_bodies.specs.ped_steps.specs.declared.causes.Refused.{Refused}
 use Rattle.ped_script.specs.declared.items.Command.{Command}
-use Rattle.ped_script.specs.declared.items.Command.TheVariants.{Parallel, Reduce, Distribute}
+use Rattle.ped_script.specs.declared.items.Command.TheVariants.{Parallel, Distribute}
 use Rattle.ped_auto.specs.CarriedNames.{are_scalars, are_few_scalars}
 use Rattle.ped_auto.specs.Editing.{Editing, IsEditing}
-use Rattle.ped_auto.specs.Strategy.{Stage, Takes, Tries, TriesPrivate, Privatises, Reduces, OrElse, Attempts, Divides, Visits, VisitsAgain}
+use Rattle.ped_auto.specs.Strategy.{Stage, Tries, Privatises, Reduces, OrElse, Attempts, Divides, Visits, VisitsAgain}
 use Rattle.ped_auto.specs.CodeStages.{Leads, IsCut, AnyOutcome, Tried, Refusal}
 use Rattle.ped_auto.proofs.Leading.{AlwaysLeads, leads_here, leads_on, leads_tries, leads_named, leads_private, leads_reduce, leads_or, leads_attempts, leads_divides}
 use Rattle.ped_auto.proofs.OneCourse.{HasOne, one_tries, one_named, one_private, one_attempt}

@@ -1,12 +1,10 @@
 -- The strategy cut off by want of memory.
-use Rattle.std.proofs.Common.{◌≡◌, ◌⊎◌, inl, inr, ℕ, ◌+◌, ◌-◌, ◌≤◌, List, [], ◌∷◌, ◌++◌, Bool, true, false, MatchBool, Option, Some, None, refl, sym, subst, ap, ◌∙◌, arith}
+use Rattle.std.proofs.Common.{◌≡◌, inl, inr, ℕ, ◌+◌, ◌-◌, ◌≤◌, List, [], ◌∷◌, ◌++◌, Bool, true, false, refl, sym, subst, ap, ◌∙◌, arith}
 use Rattle.ped_script.specs.declared.items.Command.{Command}
-use Rattle.ped_script.specs.declared.items.Command.TheVariants.{Parallel, Privatise, Reduce, Distribute}
-use Rattle.ped_reduce.specs.ped_splits.specs.ped_reindex.specs.ped_loops.specs.ped_scalar.specs.ped_rules.specs.ped_loop_runs.specs.ped_bodies.specs.ped_steps.specs.Causes.{Cause}
-use Rattle.ped_reduce.specs.ped_splits.specs.ped_reindex.specs.ped_loops.specs.ped_scalar.specs.ped_rules.specs.ped_loop_runs.specs.ped_bodies.specs.ped_steps.specs.CodeCauses.{cause_of}
-use Rattle.ped_auto.specs.Editing.{Editing, IsOfStrategy, IsEditing, Answers}
+use Rattle.ped_scalar.specs.ped_rules.specs.ped_loop_runs.specs.ped_bodies.specs.ped_steps.specs.Causes.{Cause}
+use Rattle.ped_auto.specs.Editing.{Editing, IsOfStrategy, IsEditing}
 use Rattle.ped_auto.specs.Strategy.{Stage, Takes, Tries, OrElse}
-use Rattle.ped_auto.specs.CodeStages.{stage, Leads, IsCut, AnyOutcome, Tried}
+use Rattle.ped_auto.specs.CodeStages.{stage, Leads, IsCut, AnyOutcome}
 use Rattle.ped_auto.proofs.Leading.{AlwaysLeads, leads_here, leads_on, leads_takes, leads_same}
 use Rattle.ped_auto.proofs.OneCourse.{HasOne, one_tries}
 

@@ -1,15 +1,14 @@
 -- Each command that a further round accepts leaves fewer DOs that aren't PARALLEL DOs, so the rounds end.
-use Rattle.std.proofs.Common.{◌≡◌, ℕ, zero, suc, ◌+◌, ◌≤◌, ◌<◌, List, [], ◌∷◌, ◌++◌, length, filter, Bool, true, false, not, MatchBool, refl, sym, subst, ap, ◌∙◌, arith, length-append}
+use Rattle.std.proofs.Common.{◌≡◌, ℕ, zero, suc, ◌+◌, ◌≤◌, ◌<◌, [], ◌∷◌, length, Bool, true, false, not, refl, sym, subst, ap, ◌∙◌, arith, length-append}
 use Rattle.std.specs.List.{range_with_len}
 use Rattle.std.proofs.lemmas.List.Filters.{length-filter_both}
 use Rattle.std.proofs.lemmas.List.FromFn.{length-range_with_len}
 use Rattle.ped_script.specs.declared.items.Command.TheVariants.{Parallel}
-use Rattle.ped_reduce.specs.ped_splits.specs.ped_reindex.specs.ped_loops.specs.ped_scalar.specs.ped_rules.specs.ped_loop_runs.specs.ped_bodies.specs.ped_steps.specs.ped_flow.specs.ped_tree.specs.Tree.{ProgramTree}
+use Rattle.ped_scalar.specs.ped_rules.specs.ped_loop_runs.specs.ped_bodies.specs.ped_steps.specs.ped_flow.specs.ped_tree.specs.Tree.{ProgramTree}
 use Rattle.ped_auto.specs.SerialLoops.{is_serial_loop, count_of, serial_loops}
 use Rattle.ped_auto.specs.Editing.{Editing, IsEditing}
-use Rattle.ped_auto.specs.Strategy.{Stage, Takes, Tries, VisitsAgain, Meets, RoundFrom, Round}
-use Rattle.ped_auto.specs.CodeStages.{Leads}
-use Rattle.ped_auto.proofs.Leading.{by_test, leads_again, leads_meets, leads_takes}
+use Rattle.ped_auto.specs.Strategy.{Stage, Tries, VisitsAgain, Meets, RoundFrom, Round}
+use Rattle.ped_auto.proofs.Leading.{by_test}
 
 -- between two stages no more commands were accepted than DOs have become PARALLEL DOs
 pub record Falls {S : Type 0} (e : Editing S) (p q : Stage S) : Type 0 where
@@ -58,4 +57,29 @@ few_loops t =
     let numbers = range_with_len 1 (count_of t) in
     let both = length-filter_both (is_serial_loop t) (λ n. not (is_serial_loop t n)) (λ n. refl) numbers in
     let all : length numbers ≡ count_of t = length-range_with_len 1 (count_of t) in
+    omega arith
+
+-- the DOs that the first of further rounds begins with are at most 4,000
+pub fewer_first : {S : Type 0} (e : Editing S) → IsEditing e → (s : S) (accepted : ℕ) (t : ProgramTree) → e.Reads s t → accepted + length (serial_loops t) ≤ accepted + 4000
+fewer_first e laws s accepted t reads =
+    let few : length (serial_loops t) ≤ count_of t = few_loops t in
+    let small : count_of t ≤ 4000 = laws.small s t reads in
+    omega arith
+
+-- a further round keeps the bound on commands and DOs
+pub fewer_behind : {S : Type 0} (e : Editing S) → IsEditing e → (m r : Stage S) (bound : ℕ) → Round e (VisitsAgain e) m r
+    → ((t : ProgramTree) → e.Reads m.now t → length m.accepted + length (serial_loops t) ≤ bound) → (t : ProgramTree) → e.Reads r.now t → length r.accepted + length (serial_loops t) ≤ bound
+fewer_behind e laws m r bound round before t reads =
+    let f = falls_round e laws m r round in
+    let fewer : length r.accepted + length (serial_loops t) ≤ length m.accepted + length (serial_loops f.before) =
+    subst (λ u. length r.accepted + length (serial_loops u) ≤ length m.accepted + length (serial_loops f.before)) (laws.one_program r.now f.behind t f.reads_behind reads) f.fewer in
+    let first : length m.accepted + length (serial_loops f.before) ≤ bound = before f.before f.reads_before in
+    omega arith
+
+-- .. so no more commands than that were accepted
+pub few_accepted : {S : Type 0} (e : Editing S) → IsEditing e → (m r : Stage S) (bound : ℕ) → Round e (VisitsAgain e) m r
+    → ((t : ProgramTree) → e.Reads m.now t → length m.accepted + length (serial_loops t) ≤ bound) → length m.accepted ≤ bound
+few_accepted e laws m r bound round before =
+    let f = falls_round e laws m r round in
+    let first : length m.accepted + length (serial_loops f.before) ≤ bound = before f.before f.reads_before in
     omega arith

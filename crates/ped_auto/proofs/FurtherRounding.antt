@@ -1,5 +1,5 @@
 -- Further rounds, on the way.
-use Rattle.std.proofs.Common.{◌≡◌, ℕ, zero, suc, ◌+◌, ◌≤◌, List, [], ◌∷◌, ◌++◌, length, refl, sym, subst, ap, ◌∙◌, arith, length-append}
+use Rattle.std.proofs.Common.{◌≡◌, ℕ, zero, suc, ◌+◌, ◌≤◌, length, subst, ap, ◌∙◌, arith, length-append}
 use Rattle.ped_auto.specs.Editing.{Editing, IsEditing}
 use Rattle.ped_auto.specs.Strategy.{Stage, VisitsAgain, Round, AcceptsNothing, FurtherRounds}
 use Rattle.ped_auto.specs.CodeStages.{Leads, IsCut}

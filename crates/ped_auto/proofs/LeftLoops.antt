@@ -1,19 +1,18 @@
 -- The DOs that a further round leaves, on the way.
-use Rattle.std.proofs.Common.{◌≡◌, ℕ, ◌+◌, ◌-◌, ◌≤◌, ◌<◌, List, [], ◌∷◌, ◌++◌, map, filter, length, get_or, Bool, true, false, cond, refl, sym, subst, ap, ◌∙◌, arith, length-append, append-nil}
-use Rattle.std.specs.List.{All, AllByRecursion, range_with_len}
+use Rattle.std.proofs.Common.{◌≡◌, inl, inr, ℕ, ◌+◌, ◌-◌, ◌≤◌, ◌<◌, List, [], ◌∷◌, ◌++◌, map, filter, length, true, false, cond, refl, sym, subst, ap, ◌∙◌, arith, append-nil}
+use Rattle.std.specs.List.{AllByRecursion, range_with_len}
 use Rattle.std.proofs.lemmas.List.{map-id}
-use Rattle.std.proofs.lemmas.List.Elements.{All-nil, All-cons, All-from_recursion, recursion_from_All}
+use Rattle.std.proofs.lemmas.List.Elements.{All-from_recursion}
 use Rattle.std.proofs.lemmas.List.FromFn.{filter_of_map_range_with_len_more}
 use Rattle.ped_script.specs.declared.items.Command.{Command}
 use Rattle.ped_script.specs.declared.items.Command.TheVariants.{Parallel}
-use Rattle.ped_reduce.specs.ped_splits.specs.ped_reindex.specs.ped_loops.specs.ped_scalar.specs.ped_rules.specs.ped_loop_runs.specs.ped_bodies.specs.ped_steps.specs.ped_flow.specs.ped_tree.specs.Tree.{ProgramTree}
-use Rattle.ped_reduce.specs.ped_splits.specs.ped_reindex.specs.ped_loops.specs.ped_scalar.specs.ped_rules.specs.ped_loop_runs.specs.ped_bodies.specs.ped_steps.specs.Causes.{Cause}
-use Rattle.ped_reduce.specs.ped_splits.specs.ped_reindex.specs.ped_loops.specs.ped_scalar.specs.ped_rules.specs.ped_loop_runs.specs.ped_bodies.specs.ped_steps.specs.CodeCauses.{cause_of, IsShort}
-use Rattle.ped_reduce.specs.ped_splits.specs.ped_reindex.specs.ped_loops.specs.ped_scalar.specs.ped_rules.specs.ped_loop_runs.specs.ped_bodies.specs.ped_steps.specs.declared.causes.Refused.{Refused}
-use Rattle.ped_auto.specs.SerialLoops.{is_serial_loop, count_of, serial_loops}
+use Rattle.ped_scalar.specs.ped_rules.specs.ped_loop_runs.specs.ped_bodies.specs.ped_steps.specs.ped_flow.specs.ped_tree.specs.Tree.{ProgramTree}
+use Rattle.ped_scalar.specs.ped_rules.specs.ped_loop_runs.specs.ped_bodies.specs.ped_steps.specs.CodeCauses.{cause_of, IsShort}
+use Rattle.ped_scalar.specs.ped_rules.specs.ped_loop_runs.specs.ped_bodies.specs.ped_steps.specs.declared.causes.Refused.{Refused}
+use Rattle.ped_auto.specs.SerialLoops.{is_serial_loop, count_of}
 use Rattle.ped_auto.specs.Editing.{Editing, IsEditing}
-use Rattle.ped_auto.specs.Strategy.{Stage, AreLeft}
-use Rattle.ped_auto.specs.CodeStages.{causes_of}
+use Rattle.ped_auto.specs.Strategy.{AreLeft}
+use Rattle.ped_auto.specs.CodeStages.{causes_of, TellsCause}
 use Rattle.ped_auto.specs.CodeReports.{AreShort}
 
 -- the DOs that aren't PARALLEL DOs before the statement with this number
@@ -108,3 +107,22 @@ short_causes e s (x ∷ xs) h = (h.0.1, short_causes e s xs h.1)
 
 pub all_short : {S : Type 0} (e : Editing S) (s : S) (number : ℕ) (left : List (ℕ × Refused)) → AreLeftSoFar e s number left → AreShort left
 all_short e s number left h = All-from_recursion (λ l. IsShort l.1) left (short_causes e s left h.causes)
+
+-- a further visit tells the cause of a DO where nothing was accepted before nor is at it
+pub left_visited : {S : Type 0} (e : Editing S) (s next : S) (number : ℕ) (first accepted more : List Command) (left told : List (ℕ × Refused)) → IsEditing e → 1 ≤ number
+    → (t : ProgramTree) → e.Reads s t → number ≤ count_of t → is_serial_loop t number ≡ true
+    → length first ≤ length accepted → (length accepted ≡ length first → AreLeftSoFar e s number left) → TellsCause e number s accepted left next more told
+    → length more ≡ length first → AreLeftSoFar e next (number + 1) told
+left_visited e s next number first accepted more left told laws from_one t reads within serial behind so_far (inl h) same = absurd (let taken = h.0 in omega arith)
+left_visited {S} e s next number first accepted more left told laws from_one t reads within serial behind so_far (inr h) same =
+    let none : length accepted ≡ length first = ap length (sym h.4) ∙ same in
+    let here = left_told e s number left h.0 laws from_one t reads within serial h.1 h.2 (so_far none) in
+    subst (λ (xs : List (ℕ × Refused)). AreLeftSoFar e next (number + 1) xs) (sym h.5)
+    (subst (λ (x : S). AreLeftSoFar e x (number + 1) (left ++ (number, h.0) ∷ [])) (sym h.3) here)
+
+-- the same in other words for the state, the commands and the causes
+pub left_in_words : {S : Type 0} (e : Editing S) (number : ℕ) (first : List Command) (s x : S) (accepted commands : List Command) (left causes : List (ℕ × Refused)) → x ≡ s → commands ≡ accepted → causes ≡ left
+    → (length accepted ≡ length first → AreLeftSoFar e s number left) → length commands ≡ length first → AreLeftSoFar e x number causes
+left_in_words {S} e number first s x accepted commands left causes states same told so_far none =
+    subst (λ (xs : List (ℕ × Refused)). AreLeftSoFar e x number xs) (sym told)
+    (subst (λ (y : S). AreLeftSoFar e y number left) (sym states) (so_far (ap length (sym same) ∙ none)))

@@ -12,3 +12,4 @@ pub mod Attempting
 pub mod Rounding
 pub mod Falling
 pub mod FurtherRounding
+pub mod Accepted

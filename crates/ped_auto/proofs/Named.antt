@@ -1,15 +1,13 @@
 -- What is tried on the names that a DO carries.
-use Rattle.std.proofs.Common.{◌≡◌, ℕ, List, [], ◌∷◌, ◌++◌, map, take, length, Bool, true, false, not, ◌&&◌, MatchBool, Option, Some, None, refl, sym, subst, ap, ◌∙◌}
-use Rattle.std.specs.List.{list_all}
-use Rattle.ped_script.specs.declared.items.Command.{Command}
-use Rattle.ped_script.specs.declared.items.Command.TheVariants.{Parallel, Privatise, Reduce, Distribute}
-use Rattle.ped_reduce.specs.ped_splits.specs.ped_reindex.specs.ped_loops.specs.ped_scalar.specs.ped_rules.specs.ped_loop_runs.specs.ped_bodies.specs.ped_steps.specs.ped_flow.specs.ped_tree.specs.Tree.{ProgramTree}
+use Rattle.std.proofs.Common.{◌≡◌, ℕ, List, Bool, true, false, MatchBool, refl, sym, subst}
+use Rattle.ped_script.specs.declared.items.Command.TheVariants.{Parallel, Reduce}
+use Rattle.ped_scalar.specs.ped_rules.specs.ped_loop_runs.specs.ped_bodies.specs.ped_steps.specs.ped_flow.specs.ped_tree.specs.Tree.{ProgramTree}
 use Rattle.ped_auto.specs.CarriedNames.{AreCarried, are_scalars, are_few_scalars}
 use Rattle.ped_auto.specs.Editing.{Editing, IsEditing}
 use Rattle.ped_auto.specs.Strategy.{Stage, Tries, TriesEach, TriesPrivate, WithNames}
 use Rattle.ped_auto.specs.CodeStages.{Leads, AnyOutcome}
-use Rattle.ped_auto.proofs.Leading.{AlwaysLeads, leads_here, leads_tries, leads_named}
-use Rattle.ped_auto.proofs.OneCourse.{LeadsToOne, one_carried, one_each}
+use Rattle.ped_auto.proofs.Leading.{leads_here, leads_tries}
+use Rattle.ped_auto.proofs.OneCourse.{one_carried, one_each}
 
 -- what a test that passes does, and one that fails
 pub on_true : (b : Bool) (P Q : Type 0) → b ≡ true → MatchBool b P Q → P

@@ -1,17 +1,16 @@
 -- From a stage the strategy leads to one stage alone.
-use Rattle.std.proofs.Common.{◌≡◌, ◌≢◌, inl, inr, ℕ, zero, suc, ◌+◌, ◌≤◌, ◌<◌, List, [], ◌∷◌, ◌++◌, map, length, Bool, true, false, MatchBool, refl, sym, subst, ap, ◌∙◌, arith}
+use Rattle.std.proofs.Common.{◌≡◌, inl, inr, ℕ, zero, suc, ◌+◌, ◌≤◌, ◌<◌, List, [], ◌∷◌, map, Bool, true, false, MatchBool, refl, sym, subst, ap, ◌∙◌, arith}
 use Rattle.std.specs.List.{AllByRecursion}
 use Rattle.ped_script.specs.declared.items.Command.{Command}
 use Rattle.ped_script.specs.declared.items.Command.TheVariants.{Parallel, Privatise, Reduce, Distribute}
-use Rattle.ped_reduce.specs.ped_splits.specs.ped_reindex.specs.ped_loops.specs.ped_scalar.specs.ped_rules.specs.ped_loop_runs.specs.ped_bodies.specs.ped_steps.specs.ped_flow.specs.ped_tree.specs.Tree.{ProgramTree}
-use Rattle.ped_reduce.specs.ped_splits.specs.ped_reindex.specs.ped_loops.specs.ped_scalar.specs.ped_rules.specs.ped_loop_runs.specs.ped_bodies.specs.ped_steps.specs.ped_laws.specs.ped_graph.specs.ped_edges.specs.Edges.{Edge}
-use Rattle.ped_reduce.specs.ped_splits.specs.ped_reindex.specs.ped_loops.specs.ped_scalar.specs.ped_rules.specs.ped_loop_runs.specs.ped_bodies.specs.ped_steps.specs.ped_laws.specs.ped_graph.proofs.OnePane.{one_edges}
-use Rattle.ped_reduce.specs.ped_splits.specs.ped_reindex.specs.ped_loops.specs.ped_scalar.specs.ped_rules.specs.ped_loop_runs.specs.ped_bodies.specs.ped_steps.specs.Causes.{Cause}
+use Rattle.ped_scalar.specs.ped_rules.specs.ped_loop_runs.specs.ped_bodies.specs.ped_steps.specs.ped_flow.specs.ped_tree.specs.Tree.{ProgramTree}
+use Rattle.ped_scalar.specs.ped_rules.specs.ped_loop_runs.specs.ped_bodies.specs.ped_steps.specs.ped_laws.specs.ped_graph.proofs.OnePane.{one_edges}
+use Rattle.ped_scalar.specs.ped_rules.specs.ped_loop_runs.specs.ped_bodies.specs.ped_steps.specs.Causes.{Cause}
 use Rattle.ped_auto.specs.SerialLoops.{is_serial_loop, count_of, serial_loops}
 use Rattle.ped_auto.specs.CarriedNames.{carried_names, AreCarried, are_scalars, are_few_scalars}
 use Rattle.ped_auto.specs.Editing.{Editing, IsEditing}
 use Rattle.ped_auto.specs.Replay.{Replays}
-use Rattle.ped_auto.specs.Strategy.{Stage, Takes, Leaves, Tries, TriesEach, WithNames, TriesPrivate, OrElse, Attempts, Divides, Visits, VisitsAgain, Meets, IsOver, RoundFrom, Round, AcceptsNothing, FurtherRounds, Report, starting, AreLeft, IsAuto}
+use Rattle.ped_auto.specs.Strategy.{Stage, Takes, Tries, TriesEach, WithNames, TriesPrivate, OrElse, Attempts, Divides, Visits, VisitsAgain, Meets, IsOver, RoundFrom, Round, AcceptsNothing, FurtherRounds, Report, starting, AreLeft, IsAuto}
 use Rattle.ped_auto.specs.CodeStages.{stage, Leads}
 use Rattle.ped_auto.proofs.Leading.{leads_on, leads_round, leads_visits, leads_further}
 

@@ -1,6 +1,6 @@
 -- A round over the statements, on the way.
-use Rattle.std.proofs.Common.{◌≡◌, ◌↔◌, inl, inr, ℕ, zero, suc, ◌+◌, ◌≤◌, ◌<◌, List, [], ◌∷◌, ◌++◌, map, length, Bool, true, false, MatchBool, refl, sym, subst, ap, ◌∙◌, arith}
-use Rattle.ped_reduce.specs.ped_splits.specs.ped_reindex.specs.ped_loops.specs.ped_scalar.specs.ped_rules.specs.ped_loop_runs.specs.ped_bodies.specs.ped_steps.specs.ped_flow.specs.ped_tree.specs.Tree.{ProgramTree}
+use Rattle.std.proofs.Common.{◌≡◌, ℕ, zero, suc, ◌+◌, ◌≤◌, ◌<◌, Bool, true, false, MatchBool, refl, sym, subst, ap, ◌∙◌, arith}
+use Rattle.ped_scalar.specs.ped_rules.specs.ped_loop_runs.specs.ped_bodies.specs.ped_steps.specs.ped_flow.specs.ped_tree.specs.Tree.{ProgramTree}
 use Rattle.ped_auto.specs.SerialLoops.{is_serial_loop, count_of}
 use Rattle.ped_auto.specs.Editing.{Editing, IsEditing}
 use Rattle.ped_auto.specs.Strategy.{Stage, Meets, IsOver, RoundFrom, Round}
@@ -86,3 +86,52 @@ pub cut_round : {S : Type 0} (e : Editing S) → IsEditing e → (Visit : ℕ �
 cut_round e laws Visit lead p m number on t reads within serial now tests cut =
     cut_within e (Visit number) (Round e Visit) p m now tests cut on.came
     (λ q h. let k = on.back q h in round_part e laws Visit lead number m q t reads within serial k.0 k.1)
+
+-- the statement with this number is there, and whether it is a DO and no PARALLEL DO
+pub record IsMet {S : Type 0} (e : Editing S) (s : S) (number : ℕ) (serial : Bool) : Type 0 where
+  pub program : ProgramTree
+  pub reads : e.Reads s program
+  pub within : number ≤ count_of program
+  pub answers : is_serial_loop program number ≡ serial
+
+-- what the editor says of it
+pub met_by : {S : Type 0} (e : Editing S) → IsEditing e → (s : S) (number count : ℕ) (answer serial : Bool) → ((t : ProgramTree) × e.Reads s t × (count ≡ count_of t)) → number ≤ count
+    → ((t : ProgramTree) × e.Reads s t × (answer ≡ is_serial_loop t number)) → answer ≡ serial → IsMet e s number serial
+met_by e laws s number count answer serial counted within asked is =
+    let same : counted.0 ≡ asked.0 = laws.one_program s counted.0 asked.0 counted.1 asked.1 in
+    record {
+      program = counted.0;
+      reads = counted.1;
+      within = subst (λ n. number ≤ n) counted.2 within;
+      answers = ap (λ t. is_serial_loop t number) same ∙ sym asked.2 ∙ is;
+    }
+
+-- a round goes on over a DO, and over another statement
+pub round_over_loop : {S : Type 0} (e : Editing S) → IsEditing e → (Visit : ℕ → Stage S → Stage S → Type 0) → VisitLeads e Visit → ((number : ℕ) → LeadsToOne (Visit number))
+    → (p m r x : Stage S) (number : ℕ) → IsOnRound e Visit p m number → IsMet e m.now number true → Visit number m r → x ≡ r → IsOnRound e Visit p x (number + 1)
+round_over_loop {S} e laws Visit lead one p m r x number on met visit same =
+    subst (λ (y : Stage S). IsOnRound e Visit p y (number + 1)) (sym same)
+    (round_goes_on e laws Visit lead one p m r number on (meets_loop e Visit number m r met.program met.reads met.within met.answers visit))
+
+pub round_over_other : {S : Type 0} (e : Editing S) → IsEditing e → (Visit : ℕ → Stage S → Stage S → Type 0) → VisitLeads e Visit → ((number : ℕ) → LeadsToOne (Visit number))
+    → (p m x : Stage S) (number : ℕ) → IsOnRound e Visit p m number → IsMet e m.now number false → x ≡ m → IsOnRound e Visit p x (number + 1)
+round_over_other {S} e laws Visit lead one p m x number on met same =
+    subst (λ (y : Stage S). IsOnRound e Visit p y (number + 1)) (sym same)
+    (round_goes_on e laws Visit lead one p m m number on (meets_other e Visit number m met.program met.reads met.within met.answers))
+
+-- a round is cut off at a DO that the editor has told
+pub cut_at_loop : {S : Type 0} (e : Editing S) → IsEditing e → (Visit : ℕ → Stage S → Stage S → Type 0) → VisitLeads e Visit → (p m : Stage S) (number : ℕ) → IsOnRound e Visit p m number
+    → IsMet e m.now number true → (now : S) (tests : ℕ) → IsCut e (Visit number) m now tests → IsCut e (Round e Visit) p now tests
+cut_at_loop e laws Visit lead p m number on met now tests cut =
+    cut_round e laws Visit lead p m number on met.program met.reads met.within met.answers now tests cut
+
+-- the present program has a statement with this number, so the next is at most 4,001
+pub next_small : {S : Type 0} (e : Editing S) → IsEditing e → (s : S) (number count : ℕ) → ((t : ProgramTree) × e.Reads s t × (count ≡ count_of t)) → number ≤ count → number + 1 ≤ 4001
+next_small e laws s number count counted within =
+    let small : count_of counted.0 ≤ 4000 = laws.small s counted.0 counted.1 in
+    let same : count ≡ count_of counted.0 = counted.2 in
+    omega arith
+
+-- past the last statement of the present program
+pub over_by : {S : Type 0} (e : Editing S) (p : Stage S) (number count : ℕ) → ((t : ProgramTree) × e.Reads p.now t × (count ≡ count_of t)) → count < number → IsOver e number p
+over_by e p number count counted past = (counted.0, counted.1, subst (λ n. n < number) counted.2 past)

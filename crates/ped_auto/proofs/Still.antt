@@ -1,8 +1,7 @@
 -- The statement with a number is still there.
-use Rattle.std.proofs.Common.{◌≡◌, ℕ, ◌≤◌, Bool, true, false, arith}
-use Rattle.ped_script.specs.declared.items.Command.{Command}
+use Rattle.std.proofs.Common.{ℕ, ◌≤◌, arith}
 use Rattle.ped_auto.specs.SerialLoops.{count_of}
-use Rattle.ped_auto.specs.Editing.{Editing, IsEditing}
+use Rattle.ped_auto.specs.Editing.{Editing}
 use Rattle.ped_auto.specs.Strategy.{Stage}
 use Rattle.ped_auto.specs.CodeStages.{Leads, HasStatement}
 

@@ -1,11 +1,11 @@
 -- `auto` as a whole: done, or cut off.
-use Rattle.std.proofs.Common.{◌≡◌, ℕ, ◌+◌, ◌-◌, ◌≤◌, List, [], ◌∷◌, ◌++◌, refl, sym, subst, ap, ◌∙◌, arith}
+use Rattle.std.proofs.Common.{◌≡◌, ℕ, ◌+◌, ◌-◌, ◌≤◌, List, [], ◌++◌, subst, ap, ◌∙◌, arith}
 use Rattle.ped_script.specs.declared.items.Command.{Command}
-use Rattle.ped_reduce.specs.ped_splits.specs.ped_reindex.specs.ped_loops.specs.ped_scalar.specs.ped_rules.specs.ped_loop_runs.specs.ped_bodies.specs.ped_steps.specs.Causes.{Cause}
+use Rattle.ped_scalar.specs.ped_rules.specs.ped_loop_runs.specs.ped_bodies.specs.ped_steps.specs.Causes.{Cause}
 use Rattle.ped_auto.specs.Editing.{Editing, IsEditing}
 use Rattle.ped_auto.specs.Replay.{Replays}
-use Rattle.ped_auto.specs.Strategy.{Stage, Visits, Round, FurtherRounds, Report, starting, AreLeft, IsAuto}
-use Rattle.ped_auto.specs.CutOff.{IsFront, IsCutOff}
+use Rattle.ped_auto.specs.Strategy.{Stage, Visits, Round, Report, starting, AreLeft, IsAuto}
+use Rattle.ped_auto.specs.CutOff.{IsCutOff}
 use Rattle.ped_auto.specs.CodeStages.{stage, Leads, IsCut}
 use Rattle.ped_auto.proofs.Leading.{leads_here, leads_visits, leads_round, leads_further}
 use Rattle.ped_auto.proofs.OneCourse.{one_visit, one_round, one_auto}

@@ -9,8 +9,6 @@ mod report;
 mod strategy;
 
 pub use editor::Editor;
-pub use laws::{auto_replays, one_auto};
-pub use ped_reduce;
-pub use ped_script;
+pub use laws::{accepted_are_commands, auto_replays, one_auto};
 pub use report::AutoReport;
 pub use strategy::auto;

@@ -1,7 +1,7 @@
-use Rattle.std.proofs.Common.{◌≡◌, ℕ, ◌-◌, ◌≤◌, length, sym, ap, subst, ◌∙◌, arith}
+use Rattle.std.proofs.Common.{◌≡◌, ◌-◌, ◌≤◌, length, arith}
 use Rattle.ped_script.specs.declared.items.Command.TheVariants.{Reduce}
 use Rattle.ped_auto.specs.CarriedNames.{are_few_scalars}
-use Rattle.ped_auto.specs.Strategy.{Stage, Tries, Reduces}
+use Rattle.ped_auto.specs.Strategy.{Tries, Reduces}
 use Rattle.ped_auto.specs.CodeStages.{stage, AnyOutcome, CutsOff}
 use Rattle.ped_auto.proofs.Leading.{leads_here, leads_named, leads_reduce}
 use Rattle.ped_auto.proofs.Cutting.{cut_here, cut_within}

@@ -1,10 +1,9 @@
-use Rattle.std.proofs.Common.{◌≡◌, ℕ, ◌-◌, ◌≤◌, Bool, true, false, sym, subst, ◌∙◌, arith}
-use Rattle.std.specs.Option.{is_none}
+use Rattle.std.proofs.Common.{◌-◌, Bool, false, subst, ◌∙◌, arith}
 use Rattle.std.proofs.Math.Nat.{le_trans}
 use Rattle.std.proofs.lemmas.Result.{IfOk-weaker, on_err_weaker}
 use Rattle.ped_script.specs.declared.items.Command.TheVariants.{Parallel}
 use Rattle.ped_auto.specs.CarriedNames.{are_scalars}
-use Rattle.ped_auto.specs.Strategy.{Stage, Tries, Attempts, Privatises, Reduces}
+use Rattle.ped_auto.specs.Strategy.{Attempts, Privatises, Reduces}
 use Rattle.ped_auto.specs.CodeStages.{stage, Goes, AnyOutcome, CutsOff}
 use Rattle.ped_auto.proofs.Leading.{leads_tries, leads_named, leads_private}
 use Rattle.ped_auto.proofs.Attempting.{tried_taken, tried_left, still_refused, attempt_plain, attempt_private, attempt_sums, cut_plain, cut_private, cut_sums}
@@ -77,7 +76,9 @@ add_up-requires g c =
 pub returns-clause-done : goal.returns-clause-done
 returns-clause-done g c =
     let e = g.E.Editor.editing in
-    IfOk-weaker c.add_up.result _ _ (λ done h before low.
+    IfOk-weaker c.add_up.result
+    (λ (done : Bool). Goes (λ p q. Reduces e c.args.number p done q) c.make_private.new.editor c.make_private.new.accepted c.make_private.new.steps c.add_up.new.editor c.add_up.new.accepted c.add_up.new.steps)
+    (λ (done : Bool). Goes (λ p q. Attempts e c.args.number p done q) c.args.editor.now c.args.accepted.now c.args.steps.now c.add_up.new.editor c.add_up.new.accepted c.add_up.new.steps) (λ done h before low.
     let p = stage c.args.editor.now c.args.accepted.now (c.args.steps.now - before) in
     let q = stage c.try_command.new.editor c.try_command.new.accepted (c.try_command.new.steps - before) in
     let r = stage c.make_private.new.editor c.make_private.new.accepted (c.make_private.new.steps - before) in

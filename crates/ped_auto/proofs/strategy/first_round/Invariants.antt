@@ -1,6 +1,4 @@
-use Rattle.std.proofs.Common.{◌≡◌, ℕ, ◌+◌, ◌-◌, ◌≤◌}
-use Rattle.ped_reduce.specs.ped_splits.specs.ped_reindex.specs.ped_loops.specs.ped_scalar.specs.ped_rules.specs.ped_loop_runs.specs.ped_bodies.specs.ped_steps.specs.ped_flow.specs.ped_tree.specs.Tree.{ProgramTree}
-use Rattle.ped_auto.specs.SerialLoops.{count_of}
+use Rattle.std.proofs.Common.{ℕ, ◌-◌, ◌≤◌}
 use Rattle.ped_auto.specs.Strategy.{Visits}
 use Rattle.ped_auto.specs.CodeStages.{stage}
 use Rattle.ped_auto.proofs.Rounding.{IsOnRound}

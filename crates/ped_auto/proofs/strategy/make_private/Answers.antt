@@ -1,9 +1,9 @@
-use Rattle.std.proofs.Common.{◌≡◌, ℕ, ◌-◌, ◌≤◌, Bool, true, false, not, sym, ap, subst, ◌∙◌, arith}
+use Rattle.std.proofs.Common.{◌-◌, Bool, subst, arith}
 use Rattle.std.specs.Option.{is_none}
 use Rattle.std.proofs.Math.Nat.{le_trans}
 use Rattle.ped_script.specs.declared.items.Command.TheVariants.{Parallel}
 use Rattle.ped_auto.specs.CarriedNames.{are_scalars}
-use Rattle.ped_auto.specs.Strategy.{Stage, Tries, TriesEach, TriesPrivate, Privatises}
+use Rattle.ped_auto.specs.Strategy.{Tries, TriesEach, TriesPrivate, Privatises}
 use Rattle.ped_auto.specs.CodeStages.{stage, AnyOutcome, IsCut, CutsOff}
 use Rattle.ped_auto.proofs.Leading.{leads_here, leads_named, leads_private, leads_each}
 use Rattle.ped_auto.proofs.Cutting.{cut_here, cut_within}

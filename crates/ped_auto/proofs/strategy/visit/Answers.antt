@@ -1,9 +1,8 @@
-use Rattle.std.proofs.Common.{◌≡◌, ℕ, ◌-◌, ◌≤◌, Bool, true, false, sym, subst, ◌∙◌, arith}
-use Rattle.std.specs.Option.{is_none}
+use Rattle.std.proofs.Common.{◌-◌, Bool, true, sym, subst, ◌∙◌, arith}
 use Rattle.std.proofs.Math.Nat.{le_trans}
 use Rattle.ped_script.specs.declared.items.Command.TheVariants.{Distribute}
-use Rattle.ped_auto.specs.Strategy.{Stage, Tries, Attempts, Visits}
-use Rattle.ped_auto.specs.CodeStages.{stage, Goes, AnyOutcome, CutsOff}
+use Rattle.ped_auto.specs.Strategy.{Attempts, Visits}
+use Rattle.ped_auto.specs.CodeStages.{stage, CutsOff}
 use Rattle.ped_auto.proofs.Leading.{leads_tries, leads_attempts}
 use Rattle.ped_auto.proofs.Attempting.{tried_taken, tried_left, visit_attempted, visit_undivided, visit_divided, cut_attempt, cut_division, cut_divided}
 use Rattle.ped_auto.proofs.Still.{still_there}

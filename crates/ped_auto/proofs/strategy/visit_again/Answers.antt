@@ -1,8 +1,8 @@
-use Rattle.std.proofs.Common.{◌≡◌, ℕ, ◌-◌, ◌≤◌, ap, arith}
+use Rattle.std.proofs.Common.{◌-◌, ap}
 use Rattle.std.specs.Option.{is_none}
 use Rattle.ped_script.specs.declared.items.Command.TheVariants.{Parallel}
-use Rattle.ped_auto.specs.Strategy.{Stage, Tries, VisitsAgain}
-use Rattle.ped_auto.specs.CodeStages.{stage, Goes, AnyOutcome, CutsOff}
+use Rattle.ped_auto.specs.Strategy.{VisitsAgain}
+use Rattle.ped_auto.specs.CodeStages.{stage, CutsOff}
 use Rattle.ped_auto.proofs.Leading.{leads_again}
 use Rattle.ped_auto.proofs.Attempting.{cut_again, same_where_left}
 use Rattle.ped_auto.proofs.Outcomes.{when_err, cut_left}

@@ -1,5 +1,5 @@
 pub use Rattle.ped_script
-pub use Rattle.ped_scalar
+pub use Rattle.ped_reduce
 pub mod CarriedNames
 pub mod CodeReports
 pub mod CodeStages

@@ -46,7 +46,7 @@ pub record IsRefusedFor (at : StepAt) (s : State) (why : Cause) : Type 0 where
   pub is : at.IsCause tree (Some why)
 
 -- a source has one program at most
-one_program : (text : List ℕ) (t u : ProgramTree) → ReadsValid text t → ReadsValid text u → t ≡ u
+pub one_program : (text : List ℕ) (t u : ProgramTree) → ReadsValid text t → ReadsValid text u → t ≡ u
 one_program text t u p q = elim (one_of_both text) [
   | inl tree ↦ tree.only t p ∙ sym (tree.only u q)
   | inr refusal ↦ absurd (refusal.treeless t p)

@@ -4,6 +4,7 @@ ghost use Rattle.std.specs.Prelude.{◌≡◌};
 ghost use Rattle.ped_session.specs.ped_tree.specs.Tree.{ProgramTree};
 ghost use Rattle.ped_session.specs.ped_tree.specs.Views.{program_tree};
 ghost use Rattle.ped_valid.specs.ped_symbols.specs.Kinds.{table_of};
+ghost use Rattle.ped_valid.specs.ped_symbols.specs.RightUses.RightUses as uses;
 ghost use Rattle.ped_transformations.specs.ped_reindex.specs.ped_loops.specs.ped_scalar.specs.Scalars as Scalars;
 ghost use Rattle.ped_transformations.specs.ped_auto.specs.SerialLoops as Loops;
 ghost use Rattle.ped_session.specs.CodeStepReplies.{IsOfStep, Says};
@@ -83,7 +84,13 @@ fn is_serial_at(program: &Program, number: u32) -> bool
 fn is_scalar_of(symbols: &Symbols, name: &Name) -> bool
     ensures { (t : ProgramTree) → symbols.now ≡ table_of t → result ≡ Scalars.is_scalar t name.now }
 {
-    match symbols.kind(name) {
+    is_scalar_kind(symbols.kind(name))
+}
+
+fn is_scalar_kind(kind: Option<Kind>) -> bool
+    ensures { result ≡ uses.is_scalar_kind kind }
+{
+    match kind {
         Some(Kind::Scalar) => true,
         Some(Kind::Array(_)) => false,
         Some(Kind::Constant(_)) => false,

@@ -1,7 +1,8 @@
 //! The names of what a DO carries.
 
 ghost use Rattle.std.specs.Prelude.{◌≡◌, ◌++◌, [], map, filter, not, IfOk, OnOk};
-ghost use Rattle.ped_base.specs.Lists.{is_among, is_same_text};
+ghost use Rattle.std.specs.List.{list_any};
+ghost use Rattle.ped_base.specs.Lists.{is_same_text};
 ghost use Rattle.ped_session.specs.ped_tree.specs.Views.{program_tree};
 ghost use Rattle.ped_session.specs.ped_tree.specs.Names.Collecting as Collecting;
 ghost use Rattle.ped_session.specs.ped_graph.specs.Held.{held_of};
@@ -87,25 +88,25 @@ fn names_once(alloc: Global, edges: &[Edge]) -> Result<Vec<RefName>, NoMemory>
 {
     let mut names = Vec::new(alloc);
     for edge in edges {
-        add_name(&mut names, edge.name)?;
+        add_name(&mut names, &edge.name)?;
     }
     Ok(names)
 }
 
 /// Adds a name, where it isn't there.
-fn add_name(names: &mut Vec<RefName>, name: RefName) -> Result<(), NoMemory>
-    ensures { OnOk result (map name_text names.new.items ≡ Collecting.with_name (map name_text names.old.items) (name_text name)) }
+fn add_name(names: &mut Vec<RefName>, name: &RefName) -> Result<(), NoMemory>
+    ensures { OnOk result (map name_text names.new.items ≡ Collecting.with_name (map name_text names.old.items) (name_text name.now)) }
 {
-    if is_there(names, &name) {
+    if is_there(names, name) {
         return Ok(());
     }
-    names.push(name)?;
+    names.push(*name)?;
     Ok(())
 }
 
 /// Whether this is one of the names.
 fn is_there(names: &[RefName], name: &RefName) -> bool
-    ensures { result ≡ is_among (name_text name.now) (map name_text names.now) }
+    ensures { result ≡ list_any (λ other. is_same_text (name_text name.now) (name_text other)) names.now }
 {
     for other in names {
         if is_same(name, other) {
@@ -148,6 +149,7 @@ fn is_text(name: &RefName, expected: &[u8]) -> bool
 }
 
 /// The names with the data lines and the output behind the others.
+#[tactic(auto, using(crate::proofs::CarriedTexts::last_by_text))]
 fn files_last(alloc: Global, names: &[RefName]) -> Result<Vec<RefName>, NoMemory>
     ensures { IfOk result (λ all. map name_text all.items ≡ Spec.files_last (map name_text names.now)) }
 {
@@ -159,7 +161,7 @@ fn files_last(alloc: Global, names: &[RefName]) -> Result<Vec<RefName>, NoMemory
 
 /// Adds those that are neither the data lines nor the output.
 fn push_variables(all: &mut Vec<RefName>, names: &[RefName]) -> Result<(), NoMemory>
-    ensures { OnOk result (map name_text all.new.items ≡ map name_text all.old.items ++ filter (λ x. not (Spec.is_file x)) (map name_text names.now)) }
+    ensures { OnOk result (all.new.items ≡ all.old.items ++ filter (λ name. not (Spec.is_file (name_text name))) names.now) }
 {
     for name in names {
         if !is_file(name) {
@@ -171,7 +173,7 @@ fn push_variables(all: &mut Vec<RefName>, names: &[RefName]) -> Result<(), NoMem
 
 /// Adds the data lines and the output, where they are there.
 fn push_files(all: &mut Vec<RefName>, names: &[RefName]) -> Result<(), NoMemory>
-    ensures { OnOk result (map name_text all.new.items ≡ map name_text all.old.items ++ filter Spec.is_file (map name_text names.now)) }
+    ensures { OnOk result (all.new.items ≡ all.old.items ++ filter (λ name. Spec.is_file (name_text name)) names.now) }
 {
     for name in names {
         if is_file(name) {

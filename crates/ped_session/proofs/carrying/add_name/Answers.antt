@@ -11,7 +11,7 @@ pub returns-then-is_there : goal.returns-then-is_there
 returns-then-is_there c =
     name_there (map name_text c.args.names.now.items) (name_text c.args.name.now)
     (sym (there_by_text (name_text c.args.name.now) c.args.names.now.items)
-    ∙ ap (λ (xs : List RefName). list_any (λ other. is_same_text (name_text c.args.name.now) (name_text other)) xs) (sym c.deref.ensures.value) ∙ c.if-is_there.ensures)
+    ∙ ap (λ (xs : List RefName). list_any (λ other. is_same_text (name_text c.args.name.now) (name_text other)) xs) (sym c.deref.ensures.value) ∙ sym c.if-is_there.ensures)
 
 pub returns : goal.returns
 returns c =
@@ -19,4 +19,4 @@ returns c =
     ∙ map-append name_text c.args.names.now.items (c.args.name.now ∷ [])
     ∙ name_new (map name_text c.args.names.now.items) (name_text c.args.name.now)
     (sym (there_by_text (name_text c.args.name.now) c.args.names.now.items)
-    ∙ ap (λ (xs : List RefName). list_any (λ other. is_same_text (name_text c.args.name.now) (name_text other)) xs) (sym c.deref.ensures.value) ∙ c.else-is_there.ensures)
+    ∙ ap (λ (xs : List RefName). list_any (λ other. is_same_text (name_text c.args.name.now) (name_text other)) xs) (sym c.deref.ensures.value) ∙ sym c.if-is_there.ensures)

@@ -120,7 +120,8 @@ fn answer_auto<L: Ledger>(
 {
     let report = auto(alloc, session, steps)?;
     let text = auto_text(alloc, line, &report, session.source())?;
-    answered.bytes.extend_from_slice(text.as_slice())
+    answered.bytes.extend_from_slice(text.as_slice())?;
+    Ok(())
 }
 
 /// Answers another command on this line by its reply.

@@ -19,3 +19,12 @@ returns-clause-answers g c = record {
       (unrefused c.args.answered.now.refused);
   ticks = let least : c.args.steps.now ≤ c.auto.new.steps = c.auto.ensures.least in omega (arith, least);
 }
+
+pub returns-clause-most : goal.returns-clause-most
+returns-clause-most g c = λ said next h. c.in_ok-report.ensures.most h.0.report next said.tests h.0.does
+
+pub returns-in_err-report-clause-most : goal.returns-in_err-report-clause-most
+returns-in_err-report-clause-most g c = λ said next h. c.in_err-report.ensures.most h.0.report next said.tests h.0.does
+
+pub returns-in_err-text-clause-most : goal.returns-in_err-text-clause-most
+returns-in_err-text-clause-most g c = λ said next h. c.in_ok-report.ensures.most h.0.report next said.tests h.0.does

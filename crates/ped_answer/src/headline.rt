@@ -46,7 +46,4 @@ pub fn runs_are_as_before()
 pub fn auto_is_told()
     ensures { (request : Option plain.Request) (files : Contents) (s : Status) (bytes : List ℕ) → IsWhole s →
         Answers request files s bytes → AutoRequest request files bytes }
-{
-    ped_session::auto_replays();
-    ped_session::auto_keeps_the_meaning();
-}
+{}

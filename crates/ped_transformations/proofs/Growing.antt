@@ -6,7 +6,6 @@ use Rattle.ped_tree.specs.Numbering.{statement_with, statements_count}
 use Rattle.ped_auto.specs.ped_reduce.specs.ped_splits.specs.ped_reindex.specs.ped_loops.specs.ped_scalar.specs.ped_rules.specs.OnlyLoops.{on_loop}
 use Rattle.ped_auto.specs.ped_reduce.specs.ped_splits.specs.ped_reindex.specs.ped_loops.specs.ped_scalar.specs.ped_rules.specs.Steps.{StepAt, MatchStep}
 use Rattle.ped_auto.specs.ped_reduce.specs.ped_splits.specs.ped_reindex.specs.ped_loops.specs.ped_scalar.specs.ped_rules.specs.ped_loop_runs.specs.ped_bodies.specs.ped_steps.specs.declared.rules.Rule.TheVariants.{NoLoop, ParallelState}
-use Rattle.ped_auto.specs.ped_reduce.specs.ped_splits.specs.ped_reindex.specs.ped_loops.specs.ped_scalar.specs.ped_rules.specs.ped_loop_runs.specs.ped_bodies.specs.ped_steps.specs.ped_flow.specs.Questions.{LoopOf}
 use Rattle.ped_auto.specs.ped_reduce.specs.ped_splits.specs.ped_reindex.specs.ped_loops.specs.ped_scalar.specs.ped_rules.specs.ped_loop_runs.specs.ped_bodies.specs.ped_steps.specs.Causes.{NoRule}
 use Rattle.ped_auto.specs.ped_reduce.specs.ped_splits.specs.ped_reindex.specs.ped_loops.specs.ped_scalar.specs.ped_rules.specs.ped_loop_runs.specs.ped_bodies.specs.ped_steps.specs.Replacing.{alone, program_with}
 use Rattle.ped_auto.specs.ped_reduce.specs.ped_splits.specs.ped_reindex.specs.ped_loops.specs.ped_scalar.specs.ped_rules.specs.ped_loop_runs.specs.ped_bodies.specs.ped_steps.specs.Runs.Gaps.{filled}
@@ -15,8 +14,8 @@ use Rattle.ped_auto.specs.ped_reduce.specs.ped_splits.specs.ped_reindex.specs.pe
 use Rattle.ped_auto.specs.ped_reduce.specs.ped_splits.specs.ped_reindex.specs.ped_loops.specs.ped_scalar.specs.Privatising.{with_private}
 use Rattle.ped_auto.specs.ped_reduce.specs.ped_splits.specs.ped_reindex.specs.ped_loops.specs.Flags.{with_flag}
 use Rattle.ped_auto.specs.ped_reduce.specs.ped_splits.specs.ped_reindex.specs.ped_loops.specs.Paralleling.{StandsAgainstParallel, paralleling}
-use Rattle.ped_auto.specs.ped_reduce.specs.ped_splits.specs.Blocks.{AreBlocks}
-use Rattle.ped_auto.specs.ped_reduce.specs.ped_splits.specs.Distributing.{loops_of, StandsAgainstDistribution}
+use Rattle.ped_auto.specs.ped_reduce.specs.ped_splits.specs.Distributing.{loops_of}
+use Rattle.ped_auto.specs.ped_reduce.specs.ped_splits.proofs.DistributedCounts.{no_fewer}
 use Rattle.ped_auto.specs.ped_reduce.specs.Reducing.{with_listed}
 use Rattle.ped_auto.specs.ped_reduce.proofs.ListedComments.{listed_count}
 use Rattle.ped_auto.specs.ped_script.specs.declared.items.Command.{Command}
@@ -58,10 +57,6 @@ on_loop_count new h (Read items) = omega arith
 on_loop_count new h Stop = omega arith
 on_loop_count new h (Comment text) = omega arith
 
--- the statements of a DO that is taken apart stand in the new ones, of which there is one at least
-distributed_count : (t : ProgramTree) (s : ℕ) (l : LoopOf t s) (found : List (List ℕ)) → AreBlocks t s l.head l.body found → NoRule (StandsAgainstDistribution s t) → statements_count (alone (Do l.head l.body)) ≤ statements_count (loops_of found l.head l.body)
-distributed_count t s l found are none = ?
-
 -- the step of such a command makes a program with no fewer statements
 pub step_grows : (c : Command) → IsOfStrategy c → MatchStep (step_of c) ⊤ (λ at. (t new : ProgramTree) (keep : List (ℕ × ℕ)) → is_some (statement_with at.statement t) ≡ true → at.IsCause t None → at.Makes t new keep → count_of t ≤ count_of new)
 step_grows (Parallel s) is = λ t new keep there free made.
@@ -77,7 +72,7 @@ step_grows (Reduce s names) is = λ t new keep there free made.
 step_grows (Distribute s) is = λ t new keep there free made.
     let l = made.0 in
     subst (λ (u : ProgramTree). count_of t ≤ count_of u) (sym made.3)
-    (grown (on_loop (loops_of made.1)) s (Do l.head l.body) t l.is (distributed_count t s l made.1 made.2 free.0))
+    (grown (on_loop (loops_of made.1)) s (Do l.head l.body) t l.is (no_fewer t s l made.1 made.2 free.0))
 step_grows Source is = absurd is
 step_grows (Deps of) is = absurd is
 step_grows Show is = absurd is

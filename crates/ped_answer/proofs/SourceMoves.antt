@@ -1,6 +1,7 @@
 -- Each command moves along the sources of a session as the history has them.
 use Rattle.std.proofs.Common.{◌≡◌, ℕ, suc, Bool, true, false, ◌+◌, ◌<◌, inl, inr, List, [], ◌∷◌, ◌++◌, map, take, length, slice_get, Option, Some, None, refl, sym, ap, ◌∙◌, subst, arith}
 use Rattle.std.specs.Prelude.{MatchBool, reverse}
+use Rattle.std.specs.List.{flat_map}
 use Rattle.std.proofs.lemmas.List.{append_assoc, length-append, length-reverse, length-map, reverse-append}
 use Rattle.ped_io.specs.Outside.{Contents}
 use Rattle.ped_words.specs.Requests.{Request, show, session, generate}
@@ -18,6 +19,7 @@ use Rattle.ped_session.specs.Splices.{are_lines, is_place}
 use Rattle.ped_session.specs.Steps.{Refuses, Prints, Shows, ShowsOf, ShowsStatement, Edits, accepted, refused, Transforms, missing, forbidden, transformed, GoesBack, GoesForward, IsStep, IsMove}
 use Rattle.ped_session.specs.ped_transformations.specs.ped_auto.specs.Replay.{Replays}
 use Rattle.ped_session.specs.ped_transformations.specs.Table.{step_of}
+use Rattle.ped_session.specs.AutoAnswers.{accepted_row, left_row}
 use Rattle.ped_session.specs.AutoEditing.{TransformsTo, session_editing}
 use Rattle.ped_session.specs.AutoEditingLaws.{taken}
 use Rattle.ped_session.specs.Scripts.{Said, SaysAuto, AnswersCommand}
@@ -193,7 +195,7 @@ auto_moves : (line : ℕ) (s next : State) (said : Said) → SaysAuto line s sai
 auto_moves line s next said h = record {
   count = length h.0.report.accepted;
   puts = puts_all h.0.report.accepted s next said.tests (auto_steps s next h.0.report said.tests h.0.does);
-  rest = _;
+  rest = flat_map accepted_row h.0.report.accepted ++ flat_map left_row h.0.report.left ++ next.present;
   says = h.0.says;
 }
 

@@ -43,8 +43,8 @@ use Rattle.ped_answer.proofs.EachItems.{SoOfValid, session_each}
 
 -- what forbids a step of a command is what its first causes are among, and where it has no first cause, nothing forbids it
 pub record AreCauses (command : Command) (at : StepAt) : Type 0 where
-  first : (t : ProgramTree) (c : Cause) → at.IsCause t (Some c) → Forbids command t c
-  none : (t : ProgramTree) → at.IsCause t None → (c : Cause) → Forbids command t c → ⊥
+  pub first : (t : ProgramTree) (c : Cause) → at.IsCause t (Some c) → Forbids command t c
+  pub none : (t : ProgramTree) → at.IsCause t None → (c : Cause) → Forbids command t c → ⊥
 
 first_fused : (s : ℕ) (t : ProgramTree) (c : Cause) → IsFusionCause s t (Some c) → IsAmongFused s t c
 first_fused s t (rule r n) h = h.0

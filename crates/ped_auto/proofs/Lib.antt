@@ -1,0 +1,15 @@
+pub mod Leading
+pub mod OneCourse
+pub mod Cutting
+pub mod Named
+pub mod Whole
+pub mod LeftLoops
+pub mod EachName
+pub mod Outcomes
+pub mod Still
+pub mod ScalarNames
+pub mod Attempting
+pub mod Rounding
+pub mod Falling
+pub mod FurtherRounding
+pub mod Accepted

@@ -13,3 +13,4 @@ pub mod Rounding
 pub mod Falling
 pub mod FurtherRounding
 pub mod Accepted
+pub mod SerialCounts

@@ -3,12 +3,14 @@
 # memory, it compares the source, the source a step back and the source a step forward again with what they were before the
 # command, and gives the command once more. So whatever growth is refused, what it writes in the end is the same.
 #
-#   tools/going-on.sh [NUMBER]     the growth to begin with; the first where none is given
+#   tools/going-on.sh [--from NUMBER]     each growth, from this one on
+#   tools/going-on.sh NUMBER ..           these growths alone
 #
 # The program is written here, and is no crate of the repository: `rt try` builds it without proof, with checks that stop where one
-# fails, and refuses the growths one by one. That takes a quarter of an hour. Behind 2,000 runs or ten minutes `rt try` stops and says
-# where, and it is begun there anew. What it says is written; the status is 0 only where no run was stopped or wrote something else.
-# It wants a kit whose `rt try --fail-alloc` takes a range; rattle-kit-13f takes one number, and says so.
+# fails, and refuses the growths. All of them take a quarter of an hour, and a kit whose `rt try --fail-alloc` takes a range: behind
+# 2,000 runs or ten minutes it stops and says where, and is begun there anew. That of rattle-kit-13f takes one number, so single
+# growths can be tried there, for each of which the program is built anew, in a minute or two. The status is 0 only where no run was
+# stopped or wrote something else.
 set -eu
 top=$(cd -- "$(dirname -- "${BASH_SOURCE[0]}")/.." && pwd)
 work=$(mktemp -d)
@@ -126,8 +128,10 @@ fn answer<L: Ledger>(
     if before.as_slice() != behind.as_slice() {
         out.extend_from_slice(b"the session isn't as it was\n")?;
     }
-    let reply = session.apply(alloc, command, &[], steps)?;
-    push_reply(alloc, line, &reply, out)
+    match session.apply(alloc, command, &[], steps) {
+        Ok(reply) => push_reply(alloc, line, &reply, out),
+        Err(NoMemory) => out.extend_from_slice(b"the command finds no memory twice\n"),
+    }
 }
 
 /// Adds what is printed of a reply.
@@ -157,17 +161,43 @@ fn push_sources<L: Ledger>(
 }
 END_OF_MAIN
 
-status=0
-next=${1:-1}
-while [ -n "$next" ]; do
-    failed=0
-    rt try --steps 1 --fail-alloc "$next.." -- program.f script >said 2>&1 || failed=$?
-    cat said
-    next=$(sed -n 's/.*next=\([0-9]*\).*/\1/p' said | tail -n 1)
-    # Status 6 says that it has stopped at the next.
-    if [ "$failed" -ne 0 ] && { [ "$failed" -ne 6 ] || [ -z "$next" ]; }; then
-        status=1
-        next=
-    fi
-done
-exit "$status"
+# Tries these growths alone. What is wanted is written with ample memory; where the program has no memory for itself, it writes nothing.
+try_alone() {
+    local number status=0
+    rt try --steps 1 -- program.f script >ample 2>said || { cat said; return 1; }
+    for number; do
+        rt try --steps 1 --fail-alloc "$number" -- program.f script >got 2>said || true
+        if cmp -s ample got && grep -q '^run=ended status=0 ' said; then
+            printf 'growth %s: it goes on, and writes the same\n' "$number"
+        elif [ ! -s got ] && grep -q '^run=ended status=6 ' said; then
+            printf 'growth %s: it has no memory for itself\n' "$number"
+        else
+            printf 'growth %s: it writes something else, or was stopped\n' "$number"
+            cat said
+            status=1
+        fi
+    done
+    return "$status"
+}
+
+# Tries all growths from this one on.
+try_from() {
+    local status=0 next=$1 failed
+    while [ -n "$next" ]; do
+        failed=0
+        rt try --steps 1 --fail-alloc "$next.." -- program.f script >said 2>&1 || failed=$?
+        cat said
+        next=$(sed -n 's/.*next=\([0-9]*\).*/\1/p' said | tail -n 1)
+        # Status 6 says that it has stopped at the next.
+        if [ "$failed" -ne 0 ] && { [ "$failed" -ne 6 ] || [ -z "$next" ]; }; then
+            status=1
+            next=
+        fi
+    done
+    return "$status"
+}
+
+case ${1---from} in
+    --from) try_from "${2:-1}" ;;
+    *) try_alone "$@" ;;
+esac

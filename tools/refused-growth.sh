@@ -6,8 +6,8 @@
 #
 #   tools/refused-growth.sh [--program PROGRAM] [--every STEP] [--onward] [SESSION ..]
 #
-# The sessions are `wavefront`, `reversal`, whose step is undone and done again, and `twelve`, which does each step; all where none is
-# given. With --every only each such growth is refused, from the first one on; with --onward all behind it are refused with it. The
+# The sessions are `wavefront`, `reversal`, whose step is undone and done again, `twelve`, which does each step but `reduce`, and `sums`,
+# which does that one; all where none is given. With --every only each such growth is refused, from the first one on; with --onward all behind it are refused with it. The
 # program is the one that .ci/run or ./prove has proved and built from the present sources; nothing is proved or built here. There is
 # a line for each session, and the status is 0 only where all is as wanted. docs/HOSTILE.md has the figures.
 set -eu
@@ -41,74 +41,15 @@ fi
 if ! [ -f "$program" ] || ! [ -x "$program" ]; then
     stop 'the proved program is not built; .ci/run or ./prove builds it'
 fi
-[ $# -gt 0 ] || set -- wavefront reversal twelve
+[ $# -gt 0 ] || set -- wavefront reversal twelve sums
 
 work=$(mktemp -d)
 trap 'rm -rf -- "$work"' EXIT
 cd -- "$work"
 
-# Counts the calls for memory that the program itself makes, and refuses the one of the number GROWTH, where ONWARD is set with all
-# behind it. At the end it writes how many there were into the file GROWTHS, where that is named.
-cat >growth.c <<'END_OF_SOURCE'
-#define _GNU_SOURCE
-#include <dlfcn.h>
-#include <errno.h>
-#include <link.h>
-#include <stdio.h>
-#include <stdlib.h>
-
-static unsigned long calls, refused;
-static int onward;
-static char *first, *last;
-
-static int find_program(struct dl_phdr_info *info, size_t size, void *data) {
-    (void)size, (void)data;
-    for (int i = 0; i < info->dlpi_phnum; i++) {
-        const ElfW(Phdr) *part = &info->dlpi_phdr[i];
-        char *begin = (char *)info->dlpi_addr + part->p_vaddr;
-        if (part->p_type != PT_LOAD || !(part->p_flags & PF_X)) continue;
-        if (!first || begin < first) first = begin;
-        if (begin + part->p_memsz > last) last = begin + part->p_memsz;
-    }
-    return 1; /* The first object is the program. */
-}
-
-__attribute__((constructor)) static void begin(void) {
-    const char *number = getenv("GROWTH");
-    refused = number ? strtoul(number, 0, 10) : 0;
-    onward = getenv("ONWARD") != 0;
-    dl_iterate_phdr(find_program, 0);
-}
-
-__attribute__((destructor)) static void end(void) {
-    const char *name = getenv("GROWTHS");
-    FILE *file = name ? fopen(name, "w") : 0;
-    if (!file) return;
-    fprintf(file, "%lu\n", calls);
-    fclose(file);
-}
-
-static int is_refused(void *caller) {
-    if ((char *)caller < first || (char *)caller >= last) return 0;
-    calls++;
-    if (!refused || (onward ? calls < refused : calls != refused)) return 0;
-    errno = ENOMEM;
-    return 1;
-}
-
-void *malloc(size_t size) {
-    static void *(*next)(size_t);
-    if (!next) next = (void *(*)(size_t))dlsym(RTLD_NEXT, "malloc");
-    return is_refused(__builtin_return_address(0)) ? 0 : next(size);
-}
-
-void *realloc(void *old, size_t size) {
-    static void *(*next)(void *, size_t);
-    if (!next) next = (void *(*)(void *, size_t))dlsym(RTLD_NEXT, "realloc");
-    return is_refused(__builtin_return_address(0)) ? 0 : next(old, size);
-}
-END_OF_SOURCE
-"${CC:-cc}" -O2 -shared -fPIC -o growth.so growth.c -ldl || stop 'growth.c cannot be compiled'
+# shellcheck source=tools/growth.sh
+. "$top/tools/growth.sh"
+make_growth
 
 # ---- Sessions
 
@@ -212,6 +153,37 @@ print
 END_OF_SCRIPT
 }
 
+sums() {
+    cat >program.f <<'END_OF_PROGRAM'
+      INTEGER A(4)
+      SAVE K, L
+      K=9
+      L=0
+      DO 10 I=1,4
+      A(I)=I*I
+      K=K-A(I)
+   10 IF (A(I).GT.4) L=A(I)+L
+      DO 20 I=1,2
+C$REDUCE K
+   20 K=K+I
+      PRINT *,K
+      END
+END_OF_PROGRAM
+    cat >script <<'END_OF_SCRIPT'
+reduce 3 K
+reduce 3 K L
+deps 3
+run
+run 3 2 1 0 2 1
+undo
+run 1 1
+redo
+reduce 9 K
+run 3 3 3
+print
+END_OF_SCRIPT
+}
+
 # ---- Runs
 
 # Refuses growths by their numbers, and writes a line for each: its number, `front` or what else came, and how many bytes.
@@ -243,6 +215,7 @@ for session in "$@"; do
         wavefront) wavefront ;;
         reversal) reversal ;;
         twelve) twelve ;;
+        sums) sums ;;
         *) stop "there is no session $session" ;;
     esac
     ample_status=0

@@ -1,6 +1,6 @@
 -- Programs that differ in one statement, where the new one does in each place what the old one did.
 use Rattle.std.proofs.Common.{◌≡◌, ℕ, ◌+◌, List, ◌∷◌, ◌++◌, Bool, true, false, refl, ap}
-use Rattle.ped_tree.specs.Tree.{Head, CondTree, StmtTree, StmtTrees, If, Do}
+use Rattle.ped_tree.specs.Tree.{Head, StmtTree, StmtTrees}
 use Rattle.ped_tree.specs.NamesIn.{loop_variables, all_loop_variables}
 use Rattle.ped_tree.specs.Numbering.{statement_count, statements_count}
 use Rattle.ped_splits.specs.ped_reindex.specs.ped_loops.specs.ped_scalar.specs.ped_rules.specs.ped_loop_runs.specs.ped_bodies.specs.ped_steps.specs.ped_laws.specs.ped_eval.specs.Runs.{Run, then_run, on, run_if, run_from_entry, run_do, run, run_all}

@@ -1,5 +1,5 @@
 -- Statements in a gap: the DO loops round them, and what is known of a statement that stands there.
-use Rattle.std.proofs.Common.{◌≡◌, ℕ, ◌+◌, ◌<◌, List, [], ◌∷◌, ◌++◌, ◌||◌, Some, refl, sym, ap, subst, ◌∙◌, append_assoc, append-nil, arith}
+use Rattle.std.proofs.Common.{◌≡◌, ℕ, ◌+◌, ◌<◌, List, [], ◌∷◌, ◌++◌, Some, refl, sym, ap, subst, ◌∙◌, append_assoc, append-nil, arith}
 use Rattle.ped_tree.specs.Tree.{StmtTree, StmtTrees, If, Do, no_stmts, more_stmts, ProgramTree}
 use Rattle.ped_tree.specs.Nests.{Loop}
 use Rattle.ped_tree.specs.Numbering.{all_numbered, numbered, statement_with, statement_count, statements_count}
@@ -48,7 +48,6 @@ module _ (l : ℕ) (ts : StmtTrees) (some : 0 < statements_count ts) where
       let here = one_more l g a n (omega (arith, from, e)) (omega (arith, room, e, some)) in
       let behind = all_none_from l rest (n + statement_count (Do g a)) (omega (arith, room, e)) in
       (λ i. here i ++ behind i) ∙ append-nil (loop n g ∷ all_loops_round l a (n + 1)) ∙ ap (λ (ls : List Loop). loop n g ∷ ls) (gap_nest gap (n + 1) e)
-
 
 module _ (t : ProgramTree) where
   pub gap_stands : (gap : Gap) (ts : StmtTrees) (n : ℕ) → Stand t n (all_numbered (filled gap ts)) → Stand t (number_at gap n) (all_numbered ts)

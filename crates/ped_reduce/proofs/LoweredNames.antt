@@ -1,7 +1,7 @@
 -- The names in a program stand in what comes of it by lowering, too.
-use Rattle.std.proofs.Common.{◌≡◌, ◌⊎◌, ℕ, ◌+◌, List, [], ◌∷◌, ◌++◌, Bool, true, false, ◌||◌, Option, Some, None, inl, inr, refl, sym, ap, subst, ◌∙◌, append_assoc, append-nil}
+use Rattle.std.proofs.Common.{◌≡◌, ◌⊎◌, ℕ, ◌+◌, List, [], ◌∷◌, ◌++◌, Bool, true, false, ◌||◌, Option, Some, None, inl, inr, refl, sym, ap, ◌∙◌, append_assoc}
 use Rattle.ped_base.specs.Lists.{is_same_text, is_among}
-use Rattle.ped_base.proofs.NameEquality.{same_itself, same_is}
+use Rattle.ped_base.proofs.NameEquality.{same_is}
 use Rattle.ped_tree.proofs.NameLaws.Collected.{among_append}
 use Rattle.ped_tree.specs.declared.conditions.Relation.TheVariants.{Eq}
 use Rattle.ped_tree.specs.declared.expressions.Intrinsic.TheVariants.{Mod}
@@ -10,7 +10,6 @@ use Rattle.ped_tree.specs.NamesIn.{expr_names, cond_names, head_names, stmt_name
 use Rattle.ped_tree.specs.Numbering.{statement_count, statements_count}
 use Rattle.ped_splits.specs.ped_reindex.specs.ped_loops.specs.ped_scalar.specs.ped_rules.specs.ped_loop_runs.specs.ped_bodies.specs.ped_steps.specs.ped_flow.proofs.Truths.{untrue, or_split}
 use Rattle.ped_splits.specs.ped_reindex.specs.ped_loops.specs.ped_scalar.specs.ped_rules.specs.ped_loop_runs.specs.ped_bodies.specs.ped_steps.specs.Replacing.{followed, alone}
-use Rattle.ped_splits.specs.ped_reindex.specs.ped_loops.specs.ped_scalar.specs.ped_rules.specs.ped_loop_runs.specs.ped_bodies.specs.ped_steps.specs.ped_laws.specs.Acts.Orders.{IsIn}
 use Rattle.ped_reduce.specs.Lists.{listed_name, unless_named, without_list}
 use Rattle.ped_reduce.specs.Sums.{Sum, plus, minus}
 use Rattle.ped_reduce.specs.Lowering.{Partials, at, zeros, with_sum, added_apart, sum_apart, summed, all_summed, addition, exit, exits, bare, lowered_loop}
@@ -172,15 +171,15 @@ module _ (y : List ℕ) where
 
   pub in_lowered : (parallel : Bool) (ps : List Partials) (h : Head) (body : StmtTrees) → Has (stmt_names (Do h body)) → Has (stmts_names (lowered_loop parallel ps h body))
   in_lowered parallel ps h body k = elim (has_parts (head_names h) (stmts_names body) k) [
-        | inl j ↦ has_left (head_names h ++ stmts_names (followed (zeros h.variable ps) (all_summed h.variable ps (without_list body)))) (stmts_names (alone (Do (bare h) (exits h.variable ps))))
-            (has_left (head_names h) (stmts_names (followed (zeros h.variable ps) (all_summed h.variable ps (without_list body)))) j)
-        | inr j ↦ elim (all_stay_or h.variable ps (without_list body) (ap (is_among y) (without_names h.variable ps body) ∙ j)) [
-          | inl i ↦ has_left (head_names h ++ stmts_names (followed (zeros h.variable ps) (all_summed h.variable ps (without_list body)))) (stmts_names (alone (Do (bare h) (exits h.variable ps))))
-              (has_right (head_names h) (stmts_names (followed (zeros h.variable ps) (all_summed h.variable ps (without_list body)))) (in_second (zeros h.variable ps) (all_summed h.variable ps (without_list body)) i))
-          | inr i ↦ has_right (head_names h ++ stmts_names (followed (zeros h.variable ps) (all_summed h.variable ps (without_list body)))) (stmts_names (alone (Do (bare h) (exits h.variable ps))))
-              (in_alone (Do (bare h) (exits h.variable ps)) (has_right (head_names (bare h)) (stmts_names (exits h.variable ps)) (in_exits h.variable ps i)))
-        ]
-      ]
+    | inl j ↦ has_left (head_names h ++ stmts_names (followed (zeros h.variable ps) (all_summed h.variable ps (without_list body)))) (stmts_names (alone (Do (bare h) (exits h.variable ps))))
+        (has_left (head_names h) (stmts_names (followed (zeros h.variable ps) (all_summed h.variable ps (without_list body)))) j)
+    | inr j ↦ elim (all_stay_or h.variable ps (without_list body) (ap (is_among y) (without_names h.variable ps body) ∙ j)) [
+      | inl i ↦ has_left (head_names h ++ stmts_names (followed (zeros h.variable ps) (all_summed h.variable ps (without_list body)))) (stmts_names (alone (Do (bare h) (exits h.variable ps))))
+          (has_right (head_names h) (stmts_names (followed (zeros h.variable ps) (all_summed h.variable ps (without_list body)))) (in_second (zeros h.variable ps) (all_summed h.variable ps (without_list body)) i))
+      | inr i ↦ has_right (head_names h ++ stmts_names (followed (zeros h.variable ps) (all_summed h.variable ps (without_list body)))) (stmts_names (alone (Do (bare h) (exits h.variable ps))))
+          (in_alone (Do (bare h) (exits h.variable ps)) (has_right (head_names (bare h)) (stmts_names (exits h.variable ps)) (in_exits h.variable ps i)))
+    ]
+  ]
 
   module _ (t : ProgramTree) (live : List ℕ) where
     by_is : (xs ws : StmtTrees) → ws ≡ xs → Has (stmts_names xs) → Has (stmts_names ws)

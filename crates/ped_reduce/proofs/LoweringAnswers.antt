@@ -1,5 +1,5 @@
 -- From what the code of lowering finds to what comes of a program.
-use Rattle.std.proofs.Common.{◌≡◌, ◌↔◌, ℕ, ◌-◌, ◌*◌, ◌<◌, ◌≤◌, List, [], ◌∷◌, ◌++◌, length, All, Bool, true, false, inr, Option, Some, None, is_some, is_none, IsTrue, refl, sym, ap, ◌∙◌, subst, arith}
+use Rattle.std.proofs.Common.{◌≡◌, ◌↔◌, ℕ, ◌-◌, ◌*◌, ◌≤◌, List, [], ◌∷◌, ◌++◌, length, All, Bool, true, false, not, inr, Option, Some, None, is_some, is_none, IsTrue, refl, sym, ap, ◌∙◌, subst, arith}
 use Rattle.std.proofs.lemmas.Bool.{both_ways}
 use Rattle.std.proofs.lemmas.List.Elements.{All-head, All-tail}
 use Rattle.ped_base.specs.Lists.{has_some}
@@ -26,6 +26,11 @@ forbids_not : (forbids : Edge → Bool) (front behind : List Edge) (e : Edge) �
 forbids_not forbids [] behind e does all = let doesnt : forbids e ≡ false = All-head (λ f. forbids f ≡ false) e behind all in both_ways (forbids e) doesnt does
 forbids_not forbids (f ∷ front) behind e does all = forbids_not forbids front behind e does (All-tail (λ g. forbids g ≡ false) f (front ++ e ∷ behind) all)
 
+-- where one is there the other isn't
+pub turned : (a b : Bool) → a ≡ not b → b ≡ not a
+turned a true e = sym (ap not e)
+turned a false e = sym (ap not e)
+
 some_of : (names : List (List ℕ)) → (names ≡ [] → ⊥) → has_some names ≡ true
 some_of [] some = absurd (some refl)
 some_of (x ∷ xs) some = refl
@@ -39,6 +44,9 @@ module _ (t : ProgramTree) (s : ℕ) (names : List (List ℕ)) where
   pub late_found : (o : Option Standing) → is_some o ≡ true → IsFirstOf (behind_limit s names t) o → IsFree t s names → ⊥
   late_found None e h free = let wrong : false ≡ true = e in absurd cc
   late_found (Some found) e h free = free.0 found.rule found.statement (rules.other_in_chain s names t (behind_limit s names t) found.rule found.statement h.0)
+
+  pub not_free : (IsFree t s names → ⊥) → IsTrue false ↔ IsFree t s names
+  not_free forbidden = ((λ h. let wrong : false ≡ true = h in absurd cc), λ free. absurd (forbidden free))
 
   none_of : (stands : Rules) (o : Option Standing) → is_some o ≡ false → IsFirstOf stands o → NoRule stands
   none_of stands None e h = h
@@ -69,30 +77,24 @@ module _ (t : ProgramTree) (s : ℕ) (h : Head) (body : StmtTrees) (is : IsLoop 
   same_names : (k : LoopOf t s) → list_of k.body ≡ names
   same_names k = ap list_of (one_loop t s k loop).1
 
-  pub not_without : (r : Lowered) → names ≡ [] → IsLive t s (lowered_view l) r → ⊥
-  not_without r none live = let wrong : true ≡ false = sym live.some ∙ ap has_some (same_names live.loop ∙ none) in absurd cc
-
-  pub not_many : (r : Lowered) → 8 < length names → IsLive t s (lowered_view l) r → ⊥
-  not_many r many live = let few = live.few in let same = ap length (same_names live.loop) in omega (arith, many, few, same)
-
-  pub not_inside : (r : Lowered) → is_in_live t (lowered_view l) s ≡ true → IsLive t s (lowered_view l) r → ⊥
-  not_inside r inside live = both_ways (is_in_live t (lowered_view l) s) live.outside inside
-
   pub not_forbidden : (r : Lowered) → (IsFree t s names → ⊥) → IsLive t s (lowered_view l) r → ⊥
   not_forbidden r forbidden live = forbidden (subst (IsFree t s) (same_names live.loop) live.free)
 
   -- what comes of one that is
   pub live_by : (names ≡ [] → ⊥) → length names ≤ 8 → is_in_live t (lowered_view l) s ≡ false → IsFree t s names → (o : Option CodeLowered) → IsNext s names l o → IsLiveAt t s l o
   live_by some few outside free None none = λ r live. none r (ap (λ (xs : List (List ℕ)). lowered_at true (lowered_view l) s xs) (sym (same_names live.loop)) ∙ live.makes) live.valid
-  live_by some few outside free (Some new) next = (record {
-    loop = loop;
-    some = some_of names some;
-    few = few;
-    outside = outside;
-    free = free;
-    makes = next.0;
-    valid = next.1.valid;
-  }, next.1)
+  live_by some few outside free (Some new) next = (
+    record {
+      loop = loop;
+      some = some_of names some;
+      few = few;
+      outside = outside;
+      free = free;
+      makes = next.0;
+      valid = next.1.valid;
+    },
+    next.1,
+  )
 
 -- one statement more
 module _ (t : ProgramTree) (s : ℕ) (l : CodeLowered) where

@@ -1,5 +1,6 @@
 -- From what the code of `reduce` finds to what it answers.
-use Rattle.std.proofs.Common.{◌≡◌, ℕ, List, [], ◌∷◌, Bool, true, false, ◌||◌, inl, inr, Option, Some, None, Ok, Err, MatchOption, refl, sym, ap, ◌∙◌, subst, arith}
+use Rattle.std.proofs.Common.{◌≡◌, ◌↔◌, ℕ, List, [], ◌∷◌, Bool, true, false, ◌||◌, IsTrue, inl, inr, Option, Some, None, Ok, Err, MatchOption, refl, sym, ap, ◌∙◌, subst, arith}
+use Rattle.std.proofs.lemmas.Bool.{both_ways}
 use Rattle.ped_tree.specs.Tree.{Head, StmtTree, StmtTrees, Do, ProgramTree}
 use Rattle.ped_tree.specs.Views.{stmt_tree, stmt_trees}
 use Rattle.ped_tree.specs.declared.statements.Stmt.{Stmt}
@@ -45,6 +46,10 @@ some_made new keep found change is h = subst (λ (o : Option Change). MatchOptio
 
 pub none_made : (new : ProgramTree) (keep : List (ℕ × ℕ)) (found : Option Change) → found ≡ None → MatchOption found (IsValid new → ⊥) (IsChange new keep) → IsValid new → ⊥
 none_made new keep found is h = subst (λ (o : Option Change). MatchOption o (IsValid new → ⊥) (IsChange new keep)) is h
+
+-- what the code says no to isn't so
+pub not_so : (P : Type 0) (found : Bool) → IsTrue found ↔ P → found ≡ false → P → ⊥
+not_so P found is none p = both_ways found none (is.1 p)
 
 module _ (s : ℕ) (names : List (List ℕ)) (t : ProgramTree) where
   abbrev no_sum : Rules
@@ -131,14 +136,14 @@ module _ (s : ℕ) (names : List (List ℕ)) (t : ProgramTree) where
         module _ (new : has_list h body ≡ false) (lowers : IsUnlowerable t s names → ⊥) where
           -- the rules behind Limit are those on sums
           there : (q : Rule) (m : ℕ) → behind_limit s names t q m → private q m
-          there q m (inl (e, l, holds, same)) = inl (e, l, ap (λ (b : Bool). b || has_list l.head l.body) holds, same)
+          there q m (inl (e, w)) = inl (e, (w.0, ap (λ (b : Bool). b || has_list w.0.head w.0.body) w.1, w.2))
           there q m (inr p) = inr p
 
           fails : (k : LoopOf t s) → has_list k.head k.body ≡ false
           fails k = let e = one_loop t s k loop in (λ i. has_list (e.0 i) (e.1 i)) ∙ new
 
           back : (q : Rule) (m : ℕ) → private q m → behind_limit s names t q m
-          back q m (inl (e, l, holds, same)) = inl (e, l, true_first (has_private_or_twice t s names l.head l.body) (has_list l.head l.body) (fails l) holds, same)
+          back q m (inl (e, w)) = inl (e, (w.0, true_first (has_private_or_twice t s names w.0.head w.0.body) (has_list w.0.head w.0.body) (fails w.0) w.1, w.2))
           back q m (inr p) = inr p
 
           behind_first : (r : Rule) (n : ℕ) → IsFirstRule (behind_limit s names t) r n → IsFirstRule private r n

@@ -1,11 +1,10 @@
 -- The rules against `reduce`: each names one statement; and what is so where none stands.
-use Rattle.std.proofs.Common.{◌≡◌, ℕ, ◌+◌, List, Bool, inl, inr, Option, Some, None, refl, sym, ap, ◌∙◌, subst, arith}
+use Rattle.std.proofs.Common.{◌≡◌, ℕ, ◌+◌, List, Bool, inl, inr, Some, refl, sym, ap, ◌∙◌, arith}
 use Rattle.ped_tree.specs.Tree.{Head, StmtTrees, ProgramTree}
 use Rattle.ped_tree.specs.Numbering.{statements_count}
 use Rattle.ped_splits.specs.ped_reindex.specs.ped_loops.specs.ped_scalar.specs.ped_rules.specs.ped_loop_runs.specs.ped_bodies.specs.ped_steps.specs.ped_symbols.specs.Kinds.{table_of}
 use Rattle.ped_splits.specs.ped_reindex.specs.ped_loops.specs.ped_scalar.specs.ped_rules.specs.ped_loop_runs.specs.ped_bodies.specs.ped_steps.specs.ped_symbols.specs.NameRefusals.{IsValid}
 use Rattle.ped_splits.specs.ped_reindex.specs.ped_loops.specs.ped_scalar.specs.ped_rules.specs.ped_loop_runs.specs.ped_bodies.specs.ped_steps.specs.ped_flow.specs.Questions.{LoopOf, IsContained}
-use Rattle.ped_splits.specs.ped_reindex.specs.ped_loops.specs.ped_scalar.specs.ped_rules.specs.ped_loop_runs.specs.ped_bodies.specs.ped_steps.specs.declared.rules.Rule.{Rule}
 use Rattle.ped_splits.specs.ped_reindex.specs.ped_loops.specs.ped_scalar.specs.ped_rules.specs.ped_loop_runs.specs.ped_bodies.specs.ped_steps.specs.declared.rules.Rule.TheVariants.{NoLoop, ParallelState, IndexEscapes, Range, NotScalar, NotConstant, Limit, AlreadyPrivate, NotSum}
 use Rattle.ped_splits.specs.ped_reindex.specs.ped_loops.specs.ped_scalar.specs.ped_rules.specs.ped_loop_runs.specs.ped_bodies.specs.ped_steps.specs.Causes.{Rules, NoRule}
 use Rattle.ped_splits.specs.ped_reindex.specs.ped_loops.specs.ped_scalar.specs.ped_rules.specs.ped_loop_runs.specs.ped_bodies.specs.ped_steps.specs.Replacing.{all_kept}

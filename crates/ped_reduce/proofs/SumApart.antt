@@ -44,7 +44,7 @@ use Rattle.ped_splits.specs.ped_reindex.specs.ped_loops.specs.ped_scalar.specs.p
 use Rattle.ped_splits.specs.ped_reindex.specs.ped_loops.specs.ped_scalar.specs.ped_rules.specs.Spans.{Values, Span, has_iteration, last_value, span_by, span_of, is_far}
 use Rattle.ped_splits.specs.ped_reindex.specs.ped_loops.specs.ped_scalar.specs.ped_rules.proofs.OneLoop.{one_loop}
 use Rattle.ped_splits.specs.ped_reindex.specs.ped_loops.specs.ped_scalar.specs.ped_rules.proofs.RightSteps.{near_is}
-use Rattle.ped_reduce.specs.Lowering.{Partials, declarations, lowered_loop}
+use Rattle.ped_reduce.specs.Lowering.{Partials, lowered_loop}
 use Rattle.ped_reduce.proofs.LoopsRoundGaps.{gap_loops, gap_nest}
 use Rattle.ped_reduce.proofs.ResemblingPaths.{in_gap}
 use Rattle.ped_reduce.proofs.LoweredNames.{in_lowered}
@@ -53,7 +53,7 @@ use Rattle.ped_reduce.proofs.SumPlaces.{moves}
 use Rattle.ped_reduce.proofs.SumKeeps.{IsKeptApart}
 use Rattle.ped_reduce.proofs.SumGoals.{kept_apart, MayKeepApart, DeclaredApart}
 use Rattle.ped_reduce.proofs.SumNames.{IsUnlike, lowered_lacks, filled_more}
-use Rattle.ped_reduce.proofs.SumDeclared.{saved_declared, program, values_declared, kinds_declared, names_declared, arrays_declared}
+use Rattle.ped_reduce.proofs.SumDeclared.{saved_declared, values_declared, kinds_declared, names_declared, arrays_declared}
 
 -- what none is, one isn't; and what one is, is found
 none_of : {A : Type 0} (f : A → Bool) (xs : List A) (a : A) → list_any f xs ≡ false → IsIn a xs → f a ≡ false
@@ -274,8 +274,8 @@ module _ (t : ProgramTree) (s : ℕ) (loop : LoopOf t s) (ps : List Partials) (v
     still_named e =
         names_are mid y
         ∙ or_more (occurs y (flat_map decl_sites t.decls)) (is_among y (stmts_names t.body)) (is_among y (stmts_names new))
-          (λ k. ap (λ (ts : StmtTrees). is_among y (stmts_names ts)) the_way.new ∙ filled_more y (alone (Do loop.head loop.body)) (lowered_loop false ps loop.head loop.body) to_lowered the_way.gap (ap (λ (ts : StmtTrees). is_among y (stmts_names ts)) (sym the_way.old) ∙ k))
-          (sym (names_are t y) ∙ e)
+        (λ k. ap (λ (ts : StmtTrees). is_among y (stmts_names ts)) the_way.new ∙ filled_more y (alone (Do loop.head loop.body)) (lowered_loop false ps loop.head loop.body) to_lowered the_way.gap (ap (λ (ts : StmtTrees). is_among y (stmts_names ts)) (sym the_way.old) ∙ k))
+        (sym (names_are t y) ∙ e)
 
     scalar_named : is_total ps y ≡ true → is_among y (names_of t) ≡ true
     scalar_named e =
@@ -305,8 +305,8 @@ module _ (t : ProgramTree) (s : ℕ) (loop : LoopOf t s) (ps : List Partials) (v
       was_named e =
           names_are t y
           ∙ or_more (occurs y (flat_map decl_sites t.decls)) (is_among y (stmts_names new)) (is_among y (stmts_names t.body))
-            (λ k. ap (λ (ts : StmtTrees). is_among y (stmts_names ts)) the_way.old ∙ filled_more y (lowered_loop false ps loop.head loop.body) (alone (Do loop.head loop.body)) from_lowered the_way.gap (ap (λ (ts : StmtTrees). is_among y (stmts_names ts)) (sym the_way.new) ∙ k))
-            (sym (names_are mid y) ∙ e)
+          (λ k. ap (λ (ts : StmtTrees). is_among y (stmts_names ts)) the_way.old ∙ filled_more y (lowered_loop false ps loop.head loop.body) (alone (Do loop.head loop.body)) from_lowered the_way.gap (ap (λ (ts : StmtTrees). is_among y (stmts_names ts)) (sym the_way.new) ∙ k))
+          (sym (names_are mid y) ∙ e)
 
     names_mid : is_array ps y ≡ false → is_among y (names_of mid) ≡ is_among y (names_of t)
     names_mid none = same_truth (is_among y (names_of mid)) (is_among y (names_of t)) (by (is_total ps y) refl) still_named

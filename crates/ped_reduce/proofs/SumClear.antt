@@ -237,8 +237,10 @@ module _ (ps : List Partials) where
           let d = free_parts (all_private_names_in a) (all_private_names_in b) private in
           let o = names_apart v (assigned_in_all a) (assigned_in_all b) own in (
             lacks (cond_names c) w.0 (quiet_by nest n s (is_there t s (all_numbered a ++ all_numbered b) n st) q.0 (λ y. refl) (cond_names c) (λ y among h. cond_told y cs (indices_of nest) (named y among) (outside y among) c h)),
-            (clear_all nest (n + 1) a (first_stands t (n + 1) (all_numbered a) (all_numbered b) inside) outside (and_parts (cond_is_right k c) (stmts_are_right k a) r.0).1 q.1 w.1 l.0 d.0 o.0,
-            clear_all nest (n + 1 + statements_count a) b (else_stands t a b (n + 1) inside) outside r.1 p.1 u.1 l.1 d.1 o.1),
+            (
+              clear_all nest (n + 1) a (first_stands t (n + 1) (all_numbered a) (all_numbered b) inside) outside (and_parts (cond_is_right k c) (stmts_are_right k a) r.0).1 q.1 w.1 l.0 d.0 o.0,
+              clear_all nest (n + 1 + statements_count a) b (else_stands t a b (n + 1) inside) outside r.1 p.1 u.1 l.1 d.1 o.1,
+            ),
           )
       clear_one nest n (Do g body) st outside correct sums unused loops private own =
           let s = Do g body in

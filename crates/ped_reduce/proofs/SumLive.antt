@@ -147,6 +147,13 @@ sum_there t n x h = by (statement_with n t) refl h
     by None e k = untrue k
     by (Some s) e k = record { statement = s; stands = e; sums = k }
 
+-- a statement in a DO, which is one of so many, is a sum of the scalar
+record IsSumIn (t : ProgramTree) (s count : ℕ) (x : List ℕ) : Type 0 where
+  place : ℕ
+  inside : place < count + 1
+  right : ExprTree
+  stands : statement_with (s + place) t ≡ Some (Assign (Var x) right)
+
 module _ (t : ProgramTree) (s : ℕ) (p q w : Lowered) (valid : IsValid t) (stage_valid : IsValid p.tree) (lowers : Lowers t (range_with_len 1 (s - 1)) (not_lowered t) p) (live : IsLive t s p q) (makes : lowered_at false p s (list_of live.loop.body) ≡ Some w) where
   abbrev h : Head
   h = live.loop.head
@@ -287,29 +294,42 @@ module _ (t : ProgramTree) (s : ℕ) (p q w : Lowered) (valid : IsValid t) (stag
     shared : is_private_near p.tree (s + p.more) live.loop.head live.loop.body x ≡ false
     shared = ap (λ (b : Bool). is_among x (private_names_in (Do live.loop.head live.loop.body)) || b) (round_same (λ g. is_among x g.private)) ∙ shared_old
 
-    -- a sum of it stands in the DO, and so in the DO of the other program, which is right, too
+    -- a reference to it stands in a sum of it in the DO
+    sum_by : (r : Reference) → IsIn r (references t) → scalars.is_reference_in s (statements_count live.loop.body + 1) x r ≡ true → IsSumIn t s (statements_count live.loop.body) x
+    sum_by r i refers =
+        let first = and_parts (nat_lt s r.statement && nat_lt r.statement (s + (statements_count live.loop.body + 1))) (is_same_text x r.access.name) refers in
+        let bounds = and_parts (nat_lt s r.statement) (nat_lt r.statement (s + (statements_count live.loop.body + 1))) first.0 in
+        let from : s < r.statement = ltb-true s r.statement bounds.0 in
+        let to : r.statement < s + (statements_count live.loop.body + 1) = ltb-true r.statement (s + (statements_count live.loop.body + 1)) bounds.1 in
+        let name : x ≡ r.access.name = same_is x r.access.name first.1 in
+        let summed = in_sum t s made_new.partials live.loop.head live.loop.body summable r i from (omega (arith, to)) (ap (λ (z : List ℕ). is_among z (scalars_of made_new.partials)) (sym name) ∙ among) in
+        let is : s + (r.statement - s) ≡ r.statement = omega (arith, from) in
+        sum_in_by r.statement (r.statement - s) is (omega (arith, from, to)) (sum_there t r.statement x (ap (λ (z : List ℕ). is_some (sum_at t z r.statement)) name ∙ summed))
+      where
+        sum_in_by : (n j : ℕ) → s + j ≡ n → j < statements_count live.loop.body + 1 → IsSumThere t n x → IsSumIn t s (statements_count live.loop.body) x
+        sum_in_by n j is less there =
+            let assigned = assigned_by_sum x there.statement there.sums in
+            record { place = j; inside = less; right = assigned.right; stands = ap (λ (k : ℕ). statement_with k t) is ∙ there.stands ∙ ap (λ (z : StmtTree). Some z) assigned.is }
+
+    sum_in : IsSumIn t s (statements_count live.loop.body) x
+    sum_in =
+        let r = found (scalars.is_reference_in s (statements_count live.loop.body + 1) x) (references t) (not-false (scalars.is_referred t s live.loop.body x) own_rule.1) in
+        sum_by r.0 r.1 r.2
+
+    -- so one stands in the DO of the other program, which is right, too
     scalar_there : is_scalar (kind_in p.tree) x ≡ true
-    scalar_there =
-        let count = statements_count live.loop.body in
-        let r = found (scalars.is_reference_in s (count + 1) x) (references t) (not-false (scalars.is_referred t s live.loop.body x) own_rule.1) in
-        let first = and_parts (nat_lt s r.0.statement && nat_lt r.0.statement (s + (count + 1))) (is_same_text x r.0.access.name) r.2 in
-        let bounds = and_parts (nat_lt s r.0.statement) (nat_lt r.0.statement (s + (count + 1))) first.0 in
-        let from : s < r.0.statement = ltb-true s r.0.statement bounds.0 in
-        let to : r.0.statement < s + (count + 1) = ltb-true r.0.statement (s + (count + 1)) bounds.1 in
-        let name : x ≡ r.0.access.name = same_is x r.0.access.name first.1 in
-        let summed = in_sum t s made_new.partials live.loop.head live.loop.body summable r.0 r.1 from (omega (arith, to)) (ap (λ (z : List ℕ). is_among z (scalars_of made_new.partials)) (sym name) ∙ among) in
-        let there = sum_there t r.0.statement x (ap (λ (z : List ℕ). is_some (sum_at t z r.0.statement)) name ∙ summed) in
-        let assigned = assigned_by_sum x there.statement there.sums in
-        let i = r.0.statement - s in
-        let is : s + i ≡ r.0.statement = omega (arith, from) in
-        let long = length_numbered live.loop.head live.loop.body in
-        let same = same_place t p.tree (numbered (Do live.loop.head live.loop.body)) s (s + p.more) i old_stands new_stands (omega (arith, long, from, to)) in
-        let stands : statement_with (s + p.more + i) p.tree ≡ Some (Assign (Var x) assigned.right) = sym same ∙ ap (λ (n : ℕ). statement_with n t) is ∙ there.stands ∙ ap (λ (z : StmtTree). Some z) assigned.is in
-        let part = part_at p.tree stage_valid (s + p.more + i) (Assign (Var x) assigned.right) stands in
-        (and_parts (target_is_right (kind_in p.tree) (Var x)) (expr_is_right (kind_in p.tree) assigned.right) part.right).0
+    scalar_there = right_by sum_in
       where
         length_numbered : (g : Head) (ts : StmtTrees) → length (numbered (Do g ts)) ≡ statements_count ts + 1
         length_numbered g ts = let e = length-all_numbered ts in omega (arith, e)
+
+        right_by : IsSumIn t s (statements_count live.loop.body) x → is_scalar (kind_in p.tree) x ≡ true
+        right_by m =
+            let long = length_numbered live.loop.head live.loop.body in
+            let less = m.inside in
+            let same = same_place t p.tree (numbered (Do live.loop.head live.loop.body)) s (s + p.more) m.place old_stands new_stands (omega (arith, long, less)) in
+            let part = part_at p.tree stage_valid (s + p.more + m.place) (Assign (Var x) m.right) (sym same ∙ m.stands) in
+            (and_parts (target_is_right (kind_in p.tree) (Var x)) (expr_is_right (kind_in p.tree) m.right) part.right).0
 
     outside : is_among x (indices_of (nest_round t s ++ loop s live.loop.head ∷ [])) ≡ false
     outside =

@@ -4,13 +4,15 @@ use Rattle.ped_splits.specs.ped_reindex.specs.ped_loops.specs.ped_scalar.specs.p
 use Rattle.ped_splits.specs.ped_reindex.specs.ped_loops.specs.ped_scalar.specs.ped_rules.specs.ped_loop_runs.specs.ped_bodies.specs.ped_steps.specs.Runs.Meaning.{Keeps}
 use Rattle.ped_splits.specs.ped_reindex.specs.ped_loops.specs.ped_scalar.specs.ped_rules.specs.ped_loop_runs.specs.Unrejected.{IsTrusted}
 use Rattle.ped_reduce.proofs.SumKeeps.{kept_apart_keeps}
-use Rattle.ped_reduce.proofs.SumGoals.{kept_apart, FlagOff, KeptApartTrusted, SumsInOrder}
+use Rattle.ped_reduce.proofs.SumGoals.{kept_apart, SumsInOrder}
 use Rattle.ped_reduce.proofs.SumApart.{declared_apart}
 use Rattle.ped_reduce.proofs.SumLive.{live_may_keep_apart}
+use Rattle.ped_reduce.proofs.SumFlags.{flag_off}
+use Rattle.ped_reduce.proofs.SumTrusted.{kept_apart_trusted}
 
--- a program with one flag less is valid, and one in which sums are kept apart may be trusted: so sums in order mean the same
-pub sums_in_order : FlagOff → KeptApartTrusted → SumsInOrder
-sums_in_order flag_off kept_apart_trusted t s p q w valid lowers stage live makes =
+-- the DO in order is valid as the PARALLEL DO is; all is known of both programs by which the new one keeps the meaning; and it may be trusted as the old one may
+pub sums_in_order : SumsInOrder
+sums_in_order t s p q w valid lowers stage live makes =
     let m = live_may_keep_apart t s p q w valid stage lowers live makes in
     let new_valid = flag_off p.tree (s + p.more) m.1 m.2 (subst IsValid m.5 live.valid) in
     let known = declared_apart p.tree (s + p.more) m.0 m.1 m.2 m.3 new_valid in (

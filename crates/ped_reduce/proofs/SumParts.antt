@@ -1,5 +1,5 @@
 -- The three statements that come in the place of a sum: they go on, and their acts come from that of the sum.
-use Rattle.std.proofs.Common.{◌≡◌, ℕ, ℤ, pos, ◌+ℤ◌, ◌-ℤ◌, int_div, int_rem, List, [], ◌∷◌, ◌++◌, Bool, true, false, ◌&&◌, ◌||◌, ◌⊎◌, inl, inr, Result, Ok, Err, refl, sym, ap, subst, ◌∙◌, arith}
+use Rattle.std.proofs.Common.{◌≡◌, ℕ, ℤ, pos, ◌+ℤ◌, ◌-ℤ◌, int_div, int_rem, List, [], ◌∷◌, ◌++◌, Bool, true, false, ◌&&◌, ◌⊎◌, inl, inr, Result, Ok, refl, sym, ap, subst, ◌∙◌, arith}
 use Rattle.std.specs.Ordering.{int_eq}
 use Rattle.std.specs.Cmp.Lexicographic.{pointwise}
 use Rattle.std.proofs.lemmas.Bool.{and_parts, both_ways, or_parts}
@@ -10,11 +10,11 @@ use Rattle.ped_base.specs.declared.arithmetic.faults.Fault.{Fault}
 use Rattle.ped_base.specs.Arithmetic.Arithmetic.{in_range, sum_of, quotient_of, remainder_of}
 use Rattle.ped_tree.specs.Constants.ConstantExpressions.{intrinsic_result}
 use Rattle.ped_tree.specs.declared.expressions.Intrinsic.TheVariants.{Mod}
-use Rattle.ped_tree.specs.Tree.{ExprTree, Int, Var, Add, Div, Call, no_exprs, more_exprs}
+use Rattle.ped_tree.specs.Tree.{ExprTree, Int, Add, Div, Call, no_exprs, more_exprs}
 use Rattle.ped_tree.specs.NamesIn.{expr_names}
-use Rattle.ped_splits.specs.ped_reindex.specs.ped_loops.specs.ped_scalar.specs.ped_rules.specs.ped_loop_runs.specs.ped_bodies.specs.ped_steps.specs.ped_laws.specs.ped_store.specs.Cells.{Cell, Scalar, Element, Private, In, Out, same_cell}
-use Rattle.ped_splits.specs.ped_reindex.specs.ped_loops.specs.ped_scalar.specs.ped_rules.specs.ped_loop_runs.specs.ped_bodies.specs.ped_steps.specs.ped_laws.specs.ped_store.specs.Stores.{Content, Number, Store, put, number_read, is_storable}
-use Rattle.ped_splits.specs.ped_reindex.specs.ped_loops.specs.ped_scalar.specs.ped_rules.specs.ped_loop_runs.specs.ped_bodies.specs.ped_steps.specs.ped_laws.specs.ped_store.specs.Acts.{Manner, reads, writes, is_told, Touch, Place, did, Act}
+use Rattle.ped_splits.specs.ped_reindex.specs.ped_loops.specs.ped_scalar.specs.ped_rules.specs.ped_loop_runs.specs.ped_bodies.specs.ped_steps.specs.ped_laws.specs.ped_store.specs.Cells.{Cell, Scalar, same_cell}
+use Rattle.ped_splits.specs.ped_reindex.specs.ped_loops.specs.ped_scalar.specs.ped_rules.specs.ped_loop_runs.specs.ped_bodies.specs.ped_steps.specs.ped_laws.specs.ped_store.specs.Stores.{Content, Number, Store, put, number_read}
+use Rattle.ped_splits.specs.ped_reindex.specs.ped_loops.specs.ped_scalar.specs.ped_rules.specs.ped_loop_runs.specs.ped_bodies.specs.ped_steps.specs.ped_laws.specs.ped_store.specs.Acts.{Manner, reads, is_told, Touch, Place, did, Act}
 use Rattle.ped_splits.specs.ped_reindex.specs.ped_loops.specs.ped_scalar.specs.ped_rules.specs.ped_loop_runs.specs.ped_bodies.specs.ped_steps.specs.ped_laws.specs.Acts.Orders.{IsIn}
 use Rattle.ped_splits.specs.ped_reindex.specs.ped_loops.specs.ped_scalar.specs.ped_rules.specs.ped_loop_runs.specs.ped_bodies.specs.ped_steps.specs.ped_laws.specs.Acts.Sets.{written_by}
 use Rattle.ped_splits.specs.ped_reindex.specs.ped_loops.specs.ped_scalar.specs.ped_rules.specs.ped_loop_runs.specs.ped_bodies.specs.ped_steps.specs.ped_laws.proofs.ActLaws.SameCells.{text_itself, cell_itself, other_cell}
@@ -30,7 +30,7 @@ use Rattle.ped_splits.specs.ped_reindex.specs.ped_loops.specs.ped_scalar.specs.p
 use Rattle.ped_reduce.specs.Sums.{Sum, plus, minus}
 use Rattle.ped_reduce.specs.Lowering.{Partials, at, with_sum}
 use Rattle.ped_reduce.proofs.SplitSums.{Is32, AreParts, AreNewParts, storable_32, no_parts, split_sum}
-use Rattle.ped_reduce.proofs.SumStores.{is_array_of, is_array, is_total, is_either, is_apart, is_own, part, IsNone, IsSome, Adds, Within, AreSmall, AreDistinct, AreThree, HaveArrays, high_array, low_array, flag_array, total_apart, array_apart, adds_same}
+use Rattle.ped_reduce.proofs.SumStores.{is_array_of, is_array, is_total, is_either, is_apart, is_own, part, Adds, Within, AreSmall, AreDistinct, AreThree, HaveArrays, high_array, low_array, flag_array, total_apart, array_apart, adds_same}
 use Rattle.ped_reduce.proofs.SumSight as sight
 use Rattle.ped_reduce.proofs.SumSteps.{operand, changed, AllSeenBy, AllTouchBy, by_append, IsTouched, StandsAt, CameOfSum, RunOfPart, two_comes, element_comes, part_runs, seen_map}
 

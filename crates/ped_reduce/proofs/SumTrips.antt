@@ -1,35 +1,29 @@
 -- The trips of a DO in which sums are kept apart: each begins with zeros, and tells in its own elements what it has added to each scalar.
-use Rattle.std.proofs.Common.{◌≡◌, ℕ, zero, suc, ◌+◌, ◌≤◌, ◌<◌, ℤ, pos, List, [], ◌∷◌, ◌++◌, length, Bool, true, false, ◌&&◌, ◌||◌, ◌⊎◌, inl, inr, Option, Some, None, refl, sym, ap, subst, ◌∙◌, if◌then◌else◌, arith}
+use Rattle.std.proofs.Common.{◌≡◌, ℕ, ◌+◌, ℤ, pos, List, [], ◌∷◌, ◌++◌, Bool, true, false, ◌&&◌, ◌⊎◌, inl, inr, refl, sym, ap, subst, ◌∙◌}
 use Rattle.std.specs.Ordering.{int_eq}
 use Rattle.std.specs.Cmp.Lexicographic.{pointwise}
 use Rattle.std.specs.List.{list_any}
-use Rattle.std.proofs.lemmas.Bool.{and_parts, both_ways, or_parts}
-use Rattle.std.proofs.lemmas.List.Folds.{list_any-append}
+use Rattle.std.proofs.lemmas.Bool.{and_parts, both_ways}
 use Rattle.ped_base.specs.Dimensions.{Dimensions}
-use Rattle.ped_base.specs.Lists.{is_same_text, is_among}
-use Rattle.ped_base.proofs.NameEquality.{same_is, same_itself}
-use Rattle.ped_tree.specs.Constants.NamedConstants.{value_named}
-use Rattle.ped_tree.specs.Tree.{Int, Head, StmtTree, StmtTrees, Assign, Do, no_stmts, more_stmts}
-use Rattle.ped_tree.specs.Numbering.{statement_count, statements_count}
+use Rattle.ped_base.specs.Lists.{is_same_text}
+use Rattle.ped_tree.specs.Tree.{Int, StmtTrees}
+use Rattle.ped_tree.specs.Numbering.{statements_count}
 use Rattle.ped_splits.specs.ped_reindex.specs.ped_loops.specs.ped_scalar.specs.ped_rules.specs.ped_loop_runs.specs.ped_bodies.specs.ped_steps.specs.Replacing.{followed}
 use Rattle.ped_splits.specs.ped_reindex.specs.ped_loops.specs.ped_scalar.specs.ped_rules.specs.ped_loop_runs.specs.ped_bodies.specs.ped_steps.specs.ped_laws.specs.ped_store.specs.Cells.{Cell, Scalar, Element, Private, In, Out, same_cell}
 use Rattle.ped_splits.specs.ped_reindex.specs.ped_loops.specs.ped_scalar.specs.ped_rules.specs.ped_loop_runs.specs.ped_bodies.specs.ped_steps.specs.ped_laws.specs.ped_store.specs.Stores.{Content, Number, Store, put}
-use Rattle.ped_splits.specs.ped_reindex.specs.ped_loops.specs.ped_scalar.specs.ped_rules.specs.ped_loop_runs.specs.ped_bodies.specs.ped_steps.specs.ped_laws.specs.ped_store.specs.Storage.{is_within}
-use Rattle.ped_splits.specs.ped_reindex.specs.ped_loops.specs.ped_scalar.specs.ped_rules.specs.ped_loop_runs.specs.ped_bodies.specs.ped_steps.specs.ped_laws.specs.ped_store.specs.Acts.{Manner, Touch, Turn, Place, did, Act, iterations_of}
+use Rattle.ped_splits.specs.ped_reindex.specs.ped_loops.specs.ped_scalar.specs.ped_rules.specs.ped_loop_runs.specs.ped_bodies.specs.ped_steps.specs.ped_laws.specs.ped_store.specs.Acts.{Manner, Turn, Place, did, Act}
 use Rattle.ped_splits.specs.ped_reindex.specs.ped_loops.specs.ped_scalar.specs.ped_rules.specs.ped_loop_runs.specs.ped_bodies.specs.ped_steps.specs.ped_laws.specs.Acts.Orders.{IsIn}
 use Rattle.ped_splits.specs.ped_reindex.specs.ped_loops.specs.ped_scalar.specs.ped_rules.specs.ped_loop_runs.specs.ped_bodies.specs.ped_steps.specs.ped_laws.proofs.ActLaws.SameCells.{cell_itself, other_cell}
 use Rattle.ped_splits.specs.ped_reindex.specs.ped_loops.specs.ped_scalar.specs.ped_rules.specs.ped_loop_runs.specs.ped_bodies.specs.ped_steps.specs.ped_laws.proofs.ActLaws.Lists.{in_left, in_right, in_parts}
 use Rattle.ped_splits.specs.ped_reindex.specs.ped_loops.specs.ped_scalar.specs.ped_rules.specs.ped_loop_runs.specs.ped_bodies.specs.ped_steps.specs.ped_laws.proofs.ActLaws.Stores.{put_same, put_other}
-use Rattle.ped_splits.specs.ped_reindex.specs.ped_loops.specs.ped_scalar.specs.ped_rules.specs.ped_loop_runs.specs.ped_bodies.specs.ped_steps.specs.ped_laws.specs.ped_eval.specs.Scopes.{Setting, Frame, Scope, turns_of, cell_of, index_value, Names, names_in, place_of}
-use Rattle.ped_splits.specs.ped_reindex.specs.ped_loops.specs.ped_scalar.specs.ped_rules.specs.ped_loop_runs.specs.ped_bodies.specs.ped_steps.specs.ped_laws.specs.ped_eval.specs.Values.{value}
-use Rattle.ped_splits.specs.ped_reindex.specs.ped_loops.specs.ped_scalar.specs.ped_rules.specs.ped_loop_runs.specs.ped_bodies.specs.ped_steps.specs.ped_laws.specs.ped_eval.specs.Loops.{Entered, frame, value_in}
-use Rattle.ped_splits.specs.ped_reindex.specs.ped_loops.specs.ped_scalar.specs.ped_rules.specs.ped_loop_runs.specs.ped_bodies.specs.ped_steps.specs.ped_laws.specs.ped_eval.specs.Runs.{Ending, going, Run, nothing_done, then_run, run_assignment, run, run_all}
+use Rattle.ped_splits.specs.ped_reindex.specs.ped_loops.specs.ped_scalar.specs.ped_rules.specs.ped_loop_runs.specs.ped_bodies.specs.ped_steps.specs.ped_laws.specs.ped_eval.specs.Scopes.{Setting, Scope, turns_of, Names, names_in, place_of}
+use Rattle.ped_splits.specs.ped_reindex.specs.ped_loops.specs.ped_scalar.specs.ped_rules.specs.ped_loop_runs.specs.ped_bodies.specs.ped_steps.specs.ped_laws.specs.ped_eval.specs.Runs.{going, Run, then_run, run_assignment, run_all}
 use Rattle.ped_splits.specs.ped_reindex.specs.ped_loops.specs.ped_scalar.specs.ped_rules.specs.ped_loop_runs.specs.ped_bodies.specs.ped_steps.specs.ped_laws.specs.Runs.Replaying.{act}
 use Rattle.ped_splits.specs.ped_reindex.specs.ped_loops.specs.ped_scalar.specs.ped_rules.specs.ped_loop_runs.proofs.PastingLaws.PastedLoops.{run_followed}
 use Rattle.ped_reduce.specs.Lowering.{Partials, at, zeros, all_summed}
 use Rattle.ped_reduce.proofs.SplitSums.{Is32}
-use Rattle.ped_reduce.proofs.SumStores.{is_array_of, is_array, is_total, is_apart, is_own, part, IsNone, IsSome, Adds, Within, AreSmall, HaveArrays, high_array, low_array, flag_array, array_apart, adds_same}
-use Rattle.ped_reduce.proofs.SumSteps.{StandsAt, AllSeenBy, RunOfPart, part_runs}
+use Rattle.ped_reduce.proofs.SumStores.{is_array_of, is_array, is_apart, is_own, part, Adds, Within, AreSmall, HaveArrays, high_array, low_array, flag_array, array_apart}
+use Rattle.ped_reduce.proofs.SumSteps.{StandsAt, RunOfPart, part_runs}
 use Rattle.ped_reduce.proofs.SumParts.{ComesFrom, going_then}
 use Rattle.ped_reduce.proofs.SumBodies.{AreClear, CountAlike}
 use Rattle.ped_reduce.proofs.SumRuns.{all_along}

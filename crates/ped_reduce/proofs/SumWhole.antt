@@ -1,6 +1,5 @@
 -- A DO with a list, its sums kept apart and its exits behind it: where the DO goes on, these do, and leave what it leaves but in the new arrays.
-use Rattle.std.proofs.Common.{◌≡◌, ℕ, zero, suc, ◌+◌, ◌-◌, ◌≤◌, ◌<◌, ℤ, pos, ◌+ℤ◌, ◌-ℤ◌, ◌*ℤ◌, List, [], ◌∷◌, ◌++◌, length, Bool, true, false, ◌&&◌, ◌||◌, ◌⊎◌, inl, inr, Option, Some, None, Result, Ok, Err, refl, sym, ap, subst, ◌∙◌, if◌then◌else◌, arith}
-use Rattle.std.specs.Prelude.{◌==◌}
+use Rattle.std.proofs.Common.{◌≡◌, ℕ, zero, suc, ◌+◌, ◌-◌, ◌≤◌, ◌<◌, ℤ, pos, ◌+ℤ◌, ◌-ℤ◌, ◌*ℤ◌, List, [], ◌∷◌, ◌++◌, Bool, true, false, ◌||◌, inl, inr, Some, None, Result, Ok, Err, refl, sym, ap, subst, ◌∙◌, if◌then◌else◌, arith}
 use Rattle.std.specs.List.{list_any}
 use Rattle.std.proofs.Math.IntN.{*ℤ_comm}
 use Rattle.std.specs.Prelude.{unsigned_abs}
@@ -13,12 +12,11 @@ use Rattle.ped_base.specs.Lists.{is_same_text, is_among}
 use Rattle.ped_base.proofs.NameEquality.{same_is, same_itself}
 use Rattle.ped_tree.specs.Constants.NamedConstants.{value_named}
 use Rattle.ped_tree.specs.Constants.ConstantExpressions.{constant_value}
-use Rattle.ped_tree.specs.Tree.{Head, StmtTrees, Do, no_stmts, more_stmts}
-use Rattle.ped_tree.specs.NamesIn.{all_loop_variables}
+use Rattle.ped_tree.specs.Tree.{Head, StmtTrees, Do, more_stmts}
 use Rattle.ped_tree.specs.Numbering.{statements_count}
 use Rattle.ped_splits.specs.ped_reindex.specs.ped_loops.specs.ped_scalar.specs.ped_rules.specs.ped_loop_runs.specs.ped_bodies.specs.ped_steps.specs.Replacing.{followed, alone}
 use Rattle.ped_splits.specs.ped_reindex.specs.ped_loops.specs.ped_scalar.specs.ped_rules.specs.ped_loop_runs.specs.ped_bodies.specs.ped_steps.specs.ped_laws.specs.ped_store.specs.Cells.{Cell, Scalar, Element, Private, In, Out, same_cell}
-use Rattle.ped_splits.specs.ped_reindex.specs.ped_loops.specs.ped_scalar.specs.ped_rules.specs.ped_loop_runs.specs.ped_bodies.specs.ped_steps.specs.ped_laws.specs.ped_store.specs.Stores.{Content, Undefined, Number, Store, put, out_of_range}
+use Rattle.ped_splits.specs.ped_reindex.specs.ped_loops.specs.ped_scalar.specs.ped_rules.specs.ped_loop_runs.specs.ped_bodies.specs.ped_steps.specs.ped_laws.specs.ped_store.specs.Stores.{Undefined, Number, Store, put}
 use Rattle.ped_splits.specs.ped_reindex.specs.ped_loops.specs.ped_scalar.specs.ped_rules.specs.ped_loop_runs.specs.ped_bodies.specs.ped_steps.specs.ped_laws.specs.ped_store.specs.Storage.{is_within}
 use Rattle.ped_splits.specs.ped_reindex.specs.ped_loops.specs.ped_scalar.specs.ped_rules.specs.ped_loop_runs.specs.ped_bodies.specs.ped_steps.specs.ped_laws.specs.ped_store.specs.Acts.{Manner, reads, writes, is_told, Touch, Turn, Place, entered, ended_turn, Act, store_behind, touched, iterations_of}
 use Rattle.ped_splits.specs.ped_reindex.specs.ped_loops.specs.ped_scalar.specs.ped_rules.specs.ped_loop_runs.specs.ped_bodies.specs.ped_steps.specs.ped_laws.specs.Acts.Orders.{IsIn}
@@ -26,14 +24,14 @@ use Rattle.ped_splits.specs.ped_reindex.specs.ped_loops.specs.ped_scalar.specs.p
 use Rattle.ped_splits.specs.ped_reindex.specs.ped_loops.specs.ped_scalar.specs.ped_rules.specs.ped_loop_runs.specs.ped_bodies.specs.ped_steps.specs.ped_laws.proofs.ActLaws.Lists.{in_parts}
 use Rattle.ped_splits.specs.ped_reindex.specs.ped_loops.specs.ped_scalar.specs.ped_rules.specs.ped_loop_runs.specs.ped_bodies.specs.ped_steps.specs.ped_laws.proofs.ActLaws.Stores.{put_same, put_other, behind_append}
 use Rattle.ped_splits.specs.ped_reindex.specs.ped_loops.specs.ped_scalar.specs.ped_rules.specs.ped_loop_runs.specs.ped_bodies.specs.ped_steps.specs.ped_laws.specs.ped_eval.specs.Scopes.{Setting, Frame, Scope, turns_of, cell_of, index_value, Names, names_in, place_of}
-use Rattle.ped_splits.specs.ped_reindex.specs.ped_loops.specs.ped_scalar.specs.ped_rules.specs.ped_loop_runs.specs.ped_bodies.specs.ped_steps.specs.ped_laws.specs.ped_eval.specs.Evaluation.{Seen, Evaluated, onward, ◌>>>◌, given, numbered, number_behind}
+use Rattle.ped_splits.specs.ped_reindex.specs.ped_loops.specs.ped_scalar.specs.ped_rules.specs.ped_loop_runs.specs.ped_bodies.specs.ped_steps.specs.ped_laws.specs.ped_eval.specs.Evaluation.{Seen, Evaluated, onward, ◌>>>◌, given, number_behind}
 use Rattle.ped_splits.specs.ped_reindex.specs.ped_loops.specs.ped_scalar.specs.ped_rules.specs.ped_loop_runs.specs.ped_bodies.specs.ped_steps.specs.ped_laws.specs.ped_eval.specs.Values.{value}
-use Rattle.ped_splits.specs.ped_reindex.specs.ped_loops.specs.ped_scalar.specs.ped_rules.specs.ped_loop_runs.specs.ped_bodies.specs.ped_steps.specs.ped_laws.specs.ped_eval.specs.Statements.{write_touch}
-use Rattle.ped_splits.specs.ped_reindex.specs.ped_loops.specs.ped_scalar.specs.ped_rules.specs.ped_loop_runs.specs.ped_bodies.specs.ped_steps.specs.ped_laws.specs.ped_eval.specs.Loops.{Limits, limits, is_bound, in_bounds, increment, iteration_count, inner_variables, Entered, entered_with, copied_names, frame, value_in, undefined_by, undefined_all, left_in_variable, exit_touches, exit_when_none, entry_touches}
-use Rattle.ped_splits.specs.ped_reindex.specs.ped_loops.specs.ped_scalar.specs.ped_rules.specs.ped_loop_runs.specs.ped_bodies.specs.ped_steps.specs.ped_laws.specs.ped_eval.specs.Runs.{Ending, going, stopped, failed, Run, nothing_done, then_run, does, on_value, on, turns, run_entered, run_from_entry, run_do, run, run_all}
+use Rattle.ped_splits.specs.ped_reindex.specs.ped_loops.specs.ped_scalar.specs.ped_rules.specs.ped_loop_runs.specs.ped_bodies.specs.ped_steps.specs.ped_laws.specs.ped_eval.specs.Loops.{Limits, limits, in_bounds, increment, iteration_count, inner_variables, Entered, entered_with, copied_names, frame, value_in, undefined_by, undefined_all, left_in_variable, exit_touches, exit_when_none, entry_touches}
+use Rattle.ped_splits.specs.ped_reindex.specs.ped_loops.specs.ped_scalar.specs.ped_rules.specs.ped_loop_runs.specs.ped_bodies.specs.ped_steps.specs.ped_laws.specs.ped_eval.specs.Runs.{going, Run, does, on_value, turns, run_entered, run_from_entry, run_do, run, run_all}
 use Rattle.ped_splits.specs.ped_reindex.specs.ped_loops.specs.ped_scalar.specs.ped_rules.specs.ped_loop_runs.specs.ped_bodies.specs.ped_steps.specs.ped_laws.specs.Runs.Replaying.{act}
-use Rattle.ped_splits.specs.ped_reindex.specs.ped_loops.specs.ped_scalar.specs.ped_rules.specs.ped_loop_runs.specs.ped_bodies.specs.ped_steps.specs.ped_laws.proofs.CoveringLaws.Comings.{came, ok_one, constant_comes}
+use Rattle.ped_splits.specs.ped_reindex.specs.ped_loops.specs.ped_scalar.specs.ped_rules.specs.ped_loop_runs.specs.ped_bodies.specs.ped_steps.specs.ped_laws.proofs.CoveringLaws.Comings.{constant_comes}
 use Rattle.ped_splits.specs.ped_reindex.specs.ped_loops.specs.ped_scalar.specs.ped_rules.specs.ped_loop_runs.specs.ped_bodies.specs.ped_steps.specs.ped_laws.proofs.FlowRunLaws.Names.{same_cells}
+use Rattle.ped_splits.specs.ped_reindex.specs.ped_loops.specs.ped_scalar.specs.ped_rules.specs.ped_loop_runs.specs.ped_bodies.specs.ped_steps.proofs.RunLaws.ConstantBounds.{constant_limits}
 use Rattle.ped_reduce.specs.Lowering.{Partials, zeros, all_summed, exits, bare}
 use Rattle.ped_reduce.proofs.SumStores.{is_array_of, is_array, is_total, is_apart, part, AreSmall, HaveArrays, total_apart}
 use Rattle.ped_reduce.proofs.SumSight.{AllTouch, all_append}
@@ -42,8 +40,8 @@ use Rattle.ped_reduce.proofs.SumParts.{going_then}
 use Rattle.ped_reduce.proofs.SumBodies.{AreClear, CountAlike, then_nothing}
 use Rattle.ped_reduce.proofs.SumRuns.{NoneTotal, not_total, none_total}
 use Rattle.ped_reduce.proofs.SumTrips.{IsCalm, AreNew, new_append}
-use Rattle.ped_reduce.proofs.SumTurns.{Trip, AreTrips, SameTotals, Chain, AreTold, then_went, going_is, IsOfSums, TurnsGo, when_kept, turns_add}
-use Rattle.ped_reduce.proofs.SumExits.{AllDistinct, IsNoTotal}
+use Rattle.ped_reduce.proofs.SumTurns.{then_went, going_is, IsOfSums, TurnsGo, when_kept, turns_add}
+use Rattle.ped_reduce.proofs.SumExits.{AllDistinct}
 use Rattle.ped_reduce.proofs.SumLoops.{told_same, variable_stays, IsOfExits, ExitTurnsGo, exit_turns_go}
 
 -- an element of the new arrays
@@ -492,21 +490,7 @@ module _ (bounds : List ℕ → Dimensions) (constants : List (List ℕ × ℤ))
 
     -- where the limits come to those that are constant
     limits_are : (s : Store) (l : Limits) → (limits g h s).result ≡ Ok l → l ≡ limit []
-    limits_are s l come =
-        let one = came (value g h.first s).seen (value g h.first s).result (λ x. given (in_bounds x) >>> λ m. value g h.last s >>> λ y. given (in_bounds y) >>> λ n. given (Ok (record { first = m; last = n }))) l come in
-        let two = came [] (in_bounds one.0) (λ m. value g h.last s >>> λ y. given (in_bounds y) >>> λ n. given (Ok (record { first = m; last = n }))) l one.2 in
-        let three = came (value g h.last s).seen (value g h.last s).result (λ y. given (in_bounds y) >>> λ n. given (Ok (record { first = two.0; last = n }))) l two.2 in
-        let four = came [] (in_bounds three.0) (λ n. given (Ok (record { first = two.0; last = n }))) l three.2 in
-        let is_a : two.0 ≡ a = bounded one.0 two.0 two.1 ∙ ok_one one.0 a (sym one.1 ∙ constant_comes g s h.first a may.first) in
-        let is_b : four.0 ≡ b = bounded three.0 four.0 four.1 ∙ ok_one three.0 b (sym three.1 ∙ constant_comes g s h.last b may.last) in
-        sym (ok_one (record { first = two.0; last = four.0 }) l four.2) ∙ (λ i. record { first = is_a i; last = is_b i })
-      where
-        bounded : (y n : ℤ) → in_bounds y ≡ Ok n → n ≡ y
-        bounded y n q = go (is_bound y) q
-          where
-            go : (c : Bool) → (if c then Ok y else Err out_of_range) ≡ Ok n → n ≡ y
-            go true r = sym (ok_one y n r)
-            go false r = absurd cc
+    limits_are s l come = let c = constant_limits g s h a b may.first may.last l come in λ i. record { first = c.0 i; last = c.1 i }
 
     pub whole_goes : (s t : Store) → AreSmall ps s → (run old (Do h body) n scope s).ending ≡ going t → WholeGoes s t
     whole_goes s t small ending =

@@ -1,14 +1,12 @@
 -- The new numbers of statements where sums are kept apart: each goes further by two for each sum before it.
-use Rattle.std.proofs.Common.{◌≡◌, ◌⊎◌, ℕ, suc, ◌+◌, ◌-◌, ◌*◌, ◌≤◌, ◌<◌, ◌==◌, List, [], ◌∷◌, ◌++◌, map, length, Bool, true, false, ◌&&◌, if◌then◌else◌, refl, sym, ap, ◌∙◌, inl, inr, arith, eqb-true}
+use Rattle.std.proofs.Common.{◌≡◌, ◌⊎◌, ℕ, suc, ◌+◌, ◌-◌, ◌≤◌, ◌<◌, ◌==◌, List, [], ◌∷◌, map, length, Bool, true, false, if◌then◌else◌, refl, sym, ap, ◌∙◌, inl, inr, arith, eqb-true}
 use Rattle.std.specs.Prelude.{nat_lt}
-use Rattle.std.proofs.lemmas.Bool.{cases_lt, lt-ltb, le-ltb, ltb-true}
-use Rattle.std.proofs.lemmas.Bool.Decides.{nat_tests}
-use Rattle.ped_tree.specs.Tree.{ExprTree, Head, StmtTree, StmtTrees, Assign, If, Do, Print, Read, Stop, Comment, no_stmts, more_stmts}
+use Rattle.std.proofs.lemmas.Bool.{cases_lt, lt-ltb, le-ltb}
+use Rattle.ped_tree.specs.Tree.{ExprTree, StmtTree, StmtTrees, Assign, If, Do, Print, Read, Stop, Comment, no_stmts, more_stmts}
 use Rattle.ped_tree.specs.Nests.{Loop, common_nest}
 use Rattle.ped_tree.specs.Numbering.{statement_count, statements_count}
 use Rattle.ped_splits.specs.ped_reindex.specs.ped_loops.specs.ped_scalar.specs.ped_rules.specs.ped_loop_runs.specs.ped_bodies.specs.ped_steps.proofs.RunLaws.FilledGaps.{counted}
-use Rattle.ped_splits.specs.ped_reindex.specs.ped_loops.specs.ped_scalar.specs.ped_rules.specs.ped_loop_runs.specs.ped_bodies.specs.ped_steps.specs.Replacing.{alone}
-use Rattle.ped_reduce.specs.Lowering.{Partials, added_apart, sum_apart, summed, all_summed}
+use Rattle.ped_reduce.specs.Lowering.{Partials, sum_apart, summed, all_summed}
 use Rattle.ped_reduce.proofs.SumShapes.{IsApart, IsBare, apart_or_bare}
 use Rattle.ped_reduce.proofs.SummedReferences.{renumbered, Tells, AllTell}
 
@@ -123,7 +121,7 @@ module _ (v : List ℕ) (ps : List Partials) where
       tells (If c a b) n m h = (
         all_tell a (n + 1) (m + 1) (λ k from to. (let e = h k (omega (arith, from)) (omega (arith, to)) in let none = all_none_below b (n + 1 + statements_count a) k (omega (arith, to)) in omega (arith, e, none))),
         all_tell b (n + 1 + statements_count a) (m + 1 + statements_count (all_summed v ps a))
-        (λ k from to. (let e = h k (omega (arith, from)) (omega (arith, to)) in let all = all_counted_below a (n + 1) k (omega (arith, from)) in omega (arith, e, all))),
+            (λ k from to. (let e = h k (omega (arith, from)) (omega (arith, to)) in let all = all_counted_below a (n + 1) k (omega (arith, from)) in omega (arith, e, all))),
       )
       tells (Do g body) n m h = (
         let e = h n (omega arith) (omega arith) in let none = all_none_below body (n + 1) n (omega arith) in omega (arith, e, none),
@@ -139,7 +137,7 @@ module _ (v : List ℕ) (ps : List Partials) where
       all_tell (more_stmts s rest) n m h = (
         tells s n m (λ k from to. (let e = h k from (omega (arith, to)) in let none = all_none_below rest (n + statement_count s) k to in omega (arith, e, none))),
         all_tell rest (n + statement_count s) (m + statements_count (summed v ps s))
-        (λ k from to. (let e = h k (omega (arith, from)) (omega (arith, to)) in let all = counted_below s n k from in omega (arith, e, all))),
+            (λ k from to. (let e = h k (omega (arith, from)) (omega (arith, to)) in let all = counted_below s n k from in omega (arith, e, all))),
       )
 
   -- the new number of a statement, where the statements go from n to m

@@ -1,6 +1,7 @@
 -- The rules against sums in any order, one behind the other, with others behind them.
-use Rattle.std.proofs.Common.{◌≡◌, ◌⊎◌, ℕ, ◌<◌, ◌≤◌, List, Bool, true, false, inl, inr, Option, Some, None, refl, sym, ap, subst, arith}
+use Rattle.std.proofs.Common.{◌≡◌, ◌⊎◌, ℕ, ◌+◌, ◌<◌, ◌≤◌, List, Bool, true, false, inl, inr, Option, Some, None, refl, sym, ap, ◌∙◌, subst, arith}
 use Rattle.ped_tree.specs.Tree.{Head, StmtTrees, ProgramTree}
+use Rattle.ped_tree.specs.Numbering.{statements_count}
 use Rattle.ped_splits.specs.ped_reindex.specs.ped_loops.specs.ped_scalar.specs.ped_rules.specs.ped_loop_runs.specs.ped_bodies.specs.ped_steps.specs.ped_symbols.specs.Kinds.{table_of}
 use Rattle.ped_splits.specs.ped_reindex.specs.ped_loops.specs.ped_scalar.specs.ped_rules.specs.ped_loop_runs.specs.ped_bodies.specs.ped_steps.specs.ped_flow.specs.Questions.{IsLoop, LoopOf}
 use Rattle.ped_splits.specs.ped_reindex.specs.ped_loops.specs.ped_scalar.specs.ped_rules.specs.ped_loop_runs.specs.ped_bodies.specs.ped_steps.specs.declared.rules.Rule.{Rule}
@@ -10,11 +11,11 @@ use Rattle.ped_splits.specs.ped_reindex.specs.ped_loops.specs.ped_scalar.specs.p
 use Rattle.ped_splits.specs.ped_reindex.specs.ped_loops.specs.ped_scalar.specs.ped_rules.specs.Chains.{no_rules, also, WhereLoop}
 use Rattle.ped_splits.specs.ped_reindex.specs.ped_loops.specs.ped_scalar.specs.ped_rules.specs.Rules.{WhereNoLoop, WhereEscape, isnt_constant}
 use Rattle.ped_splits.specs.ped_reindex.specs.ped_loops.specs.ped_scalar.specs.ped_rules.proofs.Chains.{first_later, none_later, none_at_end}
-use Rattle.ped_splits.specs.ped_reindex.specs.ped_loops.specs.ped_scalar.specs.ped_rules.proofs.OneLoop.{fails_there}
+use Rattle.ped_splits.specs.ped_reindex.specs.ped_loops.specs.ped_scalar.specs.ped_rules.proofs.OneLoop.{one_loop, fails_there}
 use Rattle.ped_splits.specs.ped_reindex.specs.ped_loops.specs.ped_scalar.specs.Privatising.{is_in_parallel}
 use Rattle.ped_splits.specs.ped_reindex.specs.ped_loops.specs.ped_scalar.specs.Expanding.{has_far_value}
 use Rattle.ped_reduce.specs.declared.rules.Standing.{Standing}
-use Rattle.ped_reduce.specs.Reducing.{has_unsummable, has_private_or_twice, WhereNoSum, also_against_sums}
+use Rattle.ped_reduce.specs.Reducing.{has_unsummable, has_private_or_twice, first_beside_sums, WhereNoSum, also_against_sums}
 use Rattle.ped_reduce.specs.CodeRules.{also_from_range, IsFirstOf, behind_limit}
 
 -- all rules that stand have numbers above this one
@@ -32,6 +33,9 @@ module _ (r : Rule) (P : ℕ → Type 0) (others : Rules) where
       least : (q : Rule) (m : ℕ) → also r P others q m → number_of r ≤ number_of q
       least q m (inl (e, g)) = let same = ap number_of e in omega (arith, same)
       least q m (inr h) = let a = rest q m h in omega (arith, a)
+
+none_some : (n : ℕ) → None ≡ Some n → ⊥
+none_some n e = cc
 
 module _ (s : ℕ) (names : List (List ℕ)) (t : ProgramTree) where
   abbrev far : Head → StmtTrees → Bool
@@ -154,6 +158,10 @@ module _ (s : ℕ) (names : List (List ℕ)) (t : ProgramTree) where
   pub behind_above : AreAbove 15 (behind_limit s names t)
   behind_above = also_above AlreadyPrivate (WhereLoop t s private) no_sum 15 (omega arith) no_sum_above
 
+  -- the statement is no DO
+  pub no_loop_first : ((h : Head) (body : StmtTrees) → IsLoop t s h body → ⊥) → IsFirstRule (also_against_sums s names t no_rules) NoLoop s
+  no_loop_first none = here_first NoLoop (WhereNoLoop t s) state s ((λ l. none l.head l.body l.is), refl) state_above
+
   -- where the statement is a DO
   module _ (h : Head) (body : StmtTrees) (is : IsLoop t s h body) where
     abbrev loop : LoopOf t s
@@ -214,6 +222,12 @@ module _ (s : ℕ) (names : List (List ℕ)) (t : ProgramTree) where
     no_sum_first fine n p =
         first_later AlreadyPrivate (WhereLoop t s private) no_sum (not_where private fine) NotSum n
         (here_first NotSum (WhereNoSum t s names) no_rules n p (none_above 19))
+
+    -- no statement refers to a name without being a sum of it
+    pub no_sum_nowhere : first_beside_sums t s (statements_count body + 1) names ≡ None → (n : ℕ) → WhereNoSum t s names n → ⊥
+    no_sum_nowhere none n p =
+        let same = (one_loop t s p.0 loop).1 in
+        none_some n (sym none ∙ ap (λ (ss : StmtTrees). first_beside_sums t s (statements_count ss + 1) names) (sym same) ∙ p.1)
 
     pub none_behind : private h body ≡ false → ((n : ℕ) → WhereNoSum t s names n → ⊥) → IsFirstOf (behind_limit s names t) None
     none_behind fine none =

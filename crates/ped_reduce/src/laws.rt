@@ -1,6 +1,6 @@
 //! What is true of the step, and of lowering. The functions do nothing; their contracts are the laws.
 
-ghost use Rattle.std.specs.Prelude.{◌≡◌, ℕ, List, length, false};
+ghost use Rattle.std.specs.Prelude.{◌≡◌, ◌≤◌, [], ℕ, List, All, length, false};
 ghost use Rattle.ped_tree.specs.Numbering.{statements_count};
 ghost use Rattle.ped_tree.specs.Tree.{ProgramTree};
 ghost use Rattle.ped_splits.specs.ped_reindex.specs.ped_loops.specs.ped_scalar.specs.ped_rules.specs.Lawful.{IsLawful};
@@ -26,13 +26,15 @@ pub fn reduction_is_lawful()
     private_names_cleared();
 }
 
-/// A program is lowered in one way. What comes of it is valid where the program is, and each of its statements comes from one.
-/// Where no DO has a list, nothing is lowered (this project).
+/// A program is lowered in one way. What comes of it is valid where the program is, and each of its statements comes from one of
+/// the program. Where no DO has a list, or none has one that is live, nothing is lowered (this project).
 pub fn one_lowering()
     ensures one { (t : ProgramTree) (q r : Lowered) → IsLowered t q → IsLowered t r → q ≡ r }
     ensures valid { (t : ProgramTree) (q : Lowered) → IsValid t → IsLowered t q → IsValid q.tree }
     ensures origins { (t : ProgramTree) (q : Lowered) → IsLowered t q → length q.origin ≡ statements_count q.tree.body }
+    ensures inside { (t : ProgramTree) (q : Lowered) → IsLowered t q → All (λ n. (1 ≤ n) × (n ≤ statements_count t.body)) q.origin }
     ensures none { (t : ProgramTree) → ((s : ℕ) (l : LoopOf t s) → has_list l.head l.body ≡ false) → IsLowered t (not_lowered t) }
+    ensures none_live { (t : ProgramTree) (q : Lowered) → IsLowered t q → q.live ≡ [] → q ≡ not_lowered t }
 {}
 
 /// What comes of a program by lowering may be trusted as the program, and means the same: on all data on which the program runs

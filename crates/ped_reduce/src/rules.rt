@@ -1,6 +1,6 @@
 //! The rules that stand against sums in any order.
 
-ghost use Rattle.std.specs.Prelude.{◌≡◌, ◌<◌, ◌+◌, ◌^◌, IfOk};
+ghost use Rattle.std.specs.Prelude.{◌≡◌, ◌<◌, ◌+◌, ◌^◌, not, false, IfOk};
 ghost use Rattle.std.specs.List.{list_any};
 ghost use Rattle.ped_tree.specs.Numbering.{statements_count};
 ghost use Rattle.ped_tree.specs.Views.{stmt_trees, program_tree, head_of};
@@ -12,7 +12,9 @@ ghost use Rattle.ped_splits.specs.ped_reindex.specs.ped_loops.specs.ped_scalar.s
 ghost use Rattle.ped_splits.specs.ped_reindex.specs.ped_loops.specs.ped_scalar.specs.ped_rules.specs.ped_loop_runs.specs.ped_bodies.specs.ped_steps.specs.ped_refs.specs.Occurrences.{references_of};
 ghost use Rattle.ped_splits.specs.ped_reindex.specs.ped_loops.specs.ped_scalar.specs.ped_rules.specs.ped_loop_runs.specs.ped_bodies.specs.ped_steps.specs.ped_refs.specs.References.{references};
 ghost use Rattle.ped_splits.specs.ped_reindex.specs.ped_loops.specs.ped_scalar.specs.Scalars as Scalars;
+ghost use Rattle.ped_splits.specs.ped_reindex.specs.ped_loops.specs.ped_scalar.specs.Expanding.{has_far_value};
 ghost use Rattle.ped_splits.specs.ped_reindex.specs.ped_loops.specs.ped_scalar.specs.ped_rules.specs.Chains.{no_rules};
+ghost use Rattle.ped_splits.specs.ped_reindex.specs.ped_loops.specs.ped_scalar.specs.ped_rules.specs.Rules.{isnt_constant};
 ghost use Rattle.ped_splits.specs.ped_reindex.specs.ped_loops.specs.ped_scalar.specs.ped_rules.specs.Spans.{span_of};
 ghost use Rattle.ped_splits.specs.ped_reindex.specs.ped_loops.specs.ped_scalar.specs.ped_rules.specs.CodeSpans.{IsCourse};
 ghost use Rattle.ped_reduce.specs.Reducing as Spec;
@@ -21,14 +23,14 @@ ghost use Rattle.ped_reduce.specs.CodeRules.{also_from_range, behind_limit, IsFi
 use crate::privacy::{has_twice, is_in_parallel, is_index_of, is_some_private};
 use crate::referring::{Extent, first_beside_sums, is_referred};
 use ped_base::{Name, NoMemory};
-use ped_splits::ped_reindex::ped_loops::ped_scalar::ped_rules::ped_loop_runs::ped_bodies::ped_steps::{
-    Rule, Scene, loops_round,
-};
 use ped_splits::ped_reindex::ped_loops::ped_scalar::ped_rules::ped_loop_runs::ped_bodies::ped_steps::ped_weaves::ped_laws::ped_graph::ped_refs::{
     Occurrence, occurrences,
 };
 use ped_splits::ped_reindex::ped_loops::ped_scalar::ped_rules::ped_loop_runs::ped_bodies::ped_steps::ped_weaves::ped_laws::ped_graph::ped_symbols::{
     Kind, Symbols,
+};
+use ped_splits::ped_reindex::ped_loops::ped_scalar::ped_rules::ped_loop_runs::ped_bodies::ped_steps::{
+    Rule, Scene, loops_round,
 };
 use ped_splits::ped_reindex::ped_loops::ped_scalar::ped_rules::{Course, course_of, escapes};
 use ped_tree::{Do, count_statements};
@@ -93,25 +95,50 @@ fn early_by_course<L: Ledger>(
     requires course { IsCourse (span_of (table_of (program_tree scene.now.tree.now)).constants (head_of d.now)) course }
     ensures { IfOk result (IsFirstOf (also_from_range number names.now (program_tree scene.now.tree.now) no_rules)) }
 {
-    if let Course::Far = course {
-        return Ok(Some(Standing {
-            rule: Rule::Range,
-            statement: number,
-        }));
+    match course {
+        Course::Far => {
+            return Ok(Some(Standing {
+                rule: Rule::Range,
+                statement: number,
+            }));
+        }
+        Course::Near(_span) => {
+            return early_by_names(alloc, scene, number, d, names, true);
+        }
+        Course::Unknown => {
+            return early_by_names(alloc, scene, number, d, names, false);
+        }
     }
+}
+
+/// The same, where Range doesn't stand either; `known` says whether the bounds are constant and there is an iteration.
+fn early_by_names<L: Ledger>(
+    alloc: Global,
+    scene: &Scene<L>,
+    number: u32,
+    d: &Do,
+    names: &[Name],
+    known: bool,
+) -> Result<Option<Standing>, NoMemory>
+    requires scene { IsSceneOf (program_tree scene.now.tree.now) scene.now }
+    requires is { IsLoop (program_tree scene.now.tree.now) number (head_of d.now) (stmt_trees d.now.body.items) }
+    requires near { has_far_value (table_of (program_tree scene.now.tree.now)).constants (head_of d.now) (stmt_trees d.now.body.items) ≡ false }
+    requires known { isnt_constant (table_of (program_tree scene.now.tree.now)).constants (head_of d.now) (stmt_trees d.now.body.items) ≡ not known }
+    ensures { IfOk result (IsFirstOf (also_from_range number names.now (program_tree scene.now.tree.now) no_rules)) }
+{
     if has_unsummable(alloc, scene, number, d, names)? {
         return Ok(Some(Standing {
             rule: Rule::NotScalar,
             statement: number,
         }));
     }
-    if let Course::Unknown = course {
-        return Ok(Some(Standing {
-            rule: Rule::NotConstant,
-            statement: number,
-        }));
+    if known {
+        return Ok(None);
     }
-    Ok(None)
+    Ok(Some(Standing {
+        rule: Rule::NotConstant,
+        statement: number,
+    }))
 }
 
 /// Whether the DO with this number can't add to one of these names.
@@ -210,11 +237,14 @@ pub(crate) fn has_private_or_twice<L: Ledger>(
     d: &Do,
     names: &[Name],
 ) -> Result<bool, NoMemory>
-    requires scene { IsSceneOf (program_tree scene.now.tree.now) scene.now }
+    requires { IsSceneOf (program_tree scene.now.tree.now) scene.now }
     ensures { IfOk result (λ r. r ≡ Spec.has_private_or_twice (program_tree scene.now.tree.now) number names.now (head_of d.now) (stmt_trees d.now.body.items)) }
 {
     let round = loops_round(alloc, scene.tree, number)?;
-    Ok(is_some_private(names, d, &round) || has_twice(names))
+    if is_some_private(names, d, &round) {
+        return Ok(true);
+    }
+    Ok(has_twice(names))
 }
 
 /// The first statement in the body of the DO with this number that refers to one of these names and is no sum of it.

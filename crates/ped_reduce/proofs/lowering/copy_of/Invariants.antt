@@ -4,4 +4,4 @@ use Rattle.ped_splits.specs.ped_reindex.specs.ped_loops.specs.ped_scalar.specs.p
 use Rattle.ped_reduce.proofs.lowering.copy_of.Given as goal
 
 abbrev pub invariant-loop-statement : goal.invariant-loop-statement
-invariant-loop-statement l = followed (stmt_trees l.body.items) (stmt_trees (drop l.statement-index l.program.body.items)) ≡ stmt_trees l.program.body.items
+invariant-loop-statement l = followed (stmt_trees l.body.items) (stmt_trees (drop l.statement-index l.statement-items)) ≡ stmt_trees l.statement-items

@@ -12,7 +12,7 @@ returns-in-Some c =
     let l = c.args.lowered.now in
     let h = head_of c.args.d.now in
     let body = stmt_trees c.args.d.now.body.items in
-    let makes = subst (λ (o : Option Made). IsMade s c.args.names.now l h body o) c.in-Some.is c.in_ok-made_with.ensures in
+    let makes = subst (λ (o : Option Made). IsMade s c.args.names.now l h body o) c.in-Some.is c.in_ok-made.ensures in
     IfOk-weaker c.if_valid.result _ _ (next_made s c.args.names.now l h body c.requires.is c.in-Some.made makes) c.if_valid.ensures
 
 pub returns-in-None : goal.returns-in-None
@@ -21,4 +21,4 @@ returns-in-None c =
     let l = c.args.lowered.now in
     let h = head_of c.args.d.now in
     let body = stmt_trees c.args.d.now.body.items in
-    no_next_made s c.args.names.now l h body c.requires.is (subst (λ (o : Option Made). IsMade s c.args.names.now l h body o) c.in-None.is c.in_ok-made_with.ensures)
+    no_next_made s c.args.names.now l h body c.requires.is (subst (λ (o : Option Made). IsMade s c.args.names.now l h body o) c.in-None.is c.in_ok-made.ensures)

@@ -1,6 +1,5 @@
-use Rattle.std.proofs.Common.{Option, subst}
+use Rattle.std.proofs.Common.{subst}
 use Rattle.ped_tree.specs.Views.{program_tree}
-use Rattle.ped_splits.specs.ped_reindex.specs.ped_loops.specs.ped_scalar.specs.ped_rules.specs.ped_loop_runs.specs.ped_bodies.specs.ped_steps.specs.declared.causes.Refused.{Refused}
 use Rattle.ped_reduce.specs.CodeReducing.{IsFirstRefusal}
 use Rattle.ped_reduce.proofs.ReducingAnswers as answers
 use Rattle.ped_reduce.proofs.reducing.unless_unlowerable.Goals as goal

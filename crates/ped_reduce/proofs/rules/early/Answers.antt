@@ -3,6 +3,7 @@ use Rattle.std.specs.List.{list_any}
 use Rattle.std.proofs.lemmas.Result.{IfOk-weaker}
 use Rattle.ped_tree.specs.Nests.{Loop}
 use Rattle.ped_tree.specs.Views.{program_tree, stmt_trees, head_of}
+use Rattle.ped_splits.specs.ped_reindex.specs.ped_loops.specs.ped_scalar.specs.ped_rules.specs.ped_loop_runs.specs.ped_bodies.specs.ped_steps.specs.ped_refs.specs.Loops.{nest_of}
 use Rattle.ped_splits.specs.ped_reindex.specs.ped_loops.specs.ped_scalar.specs.ped_rules.specs.ped_loop_runs.specs.ped_bodies.specs.ped_steps.specs.ped_symbols.specs.Kinds.{Table}
 use Rattle.ped_splits.specs.ped_reindex.specs.ped_loops.specs.ped_scalar.specs.ped_rules.specs.ped_loop_runs.specs.ped_bodies.specs.ped_steps.specs.ped_symbols.specs.RightUses.RightLoops.{step_is_right}
 use Rattle.ped_splits.specs.ped_reindex.specs.ped_loops.specs.ped_scalar.specs.ped_rules.specs.ped_loop_runs.specs.ped_bodies.specs.ped_steps.proofs.Answering.{few_numbers}
@@ -20,16 +21,18 @@ returns-then-is_in_parallel g c =
     let t = program_tree c.args.scene.now.tree.now in
     let h = head_of c.args.d.now in
     let body = stmt_trees c.args.d.now.body.items in
-    let test = ap (λ (nest : List Loop). h.parallel || list_any (λ (m : Loop). m.head.parallel) nest) c.in_ok-round.ensures in
-    rules.state_first c.args.number c.args.names.now t h body c.requires.is (sym (c.is_in_parallel.ensures ∙ test) ∙ c.if-is_in_parallel.true)
+    let nest = ap nest_of c.deref.ensures.value ∙ c.in_ok-round.ensures in
+    let test = c.is_in_parallel.ensures ∙ ap (λ (loops : List Loop). h.parallel || list_any (λ (m : Loop). m.head.parallel) loops) nest in
+    rules.state_first c.args.number c.args.names.now t h body c.requires.is (sym test ∙ c.if-is_in_parallel.true)
 
 pub returns-in-Some : goal.returns-in-Some
 returns-in-Some g c =
     let t = program_tree c.args.scene.now.tree.now in
     let h = head_of c.args.d.now in
     let body = stmt_trees c.args.d.now.body.items in
-    let test = ap (λ (nest : List Loop). h.parallel || list_any (λ (m : Loop). m.head.parallel) nest) c.in_ok-round.ensures in
-    rules.escape_first c.args.number c.args.names.now t h body c.requires.is (sym (c.is_in_parallel.ensures ∙ test) ∙ c.if-is_in_parallel.false) c.in-Some.statement c.in-Some.ensures
+    let nest = ap nest_of c.deref.ensures.value ∙ c.in_ok-round.ensures in
+    let test = c.is_in_parallel.ensures ∙ ap (λ (loops : List Loop). h.parallel || list_any (λ (m : Loop). m.head.parallel) loops) nest in
+    rules.escape_first c.args.number c.args.names.now t h body c.requires.is (sym test ∙ c.if-is_in_parallel.false) c.in-Some.statement c.in-Some.ensures
 
 pub course_of-requires : goal.course_of-requires
 course_of-requires g c =
@@ -54,6 +57,7 @@ returns g c =
     let t = program_tree c.args.scene.now.tree.now in
     let h = head_of c.args.d.now in
     let body = stmt_trees c.args.d.now.body.items in
-    let test = ap (λ (nest : List Loop). h.parallel || list_any (λ (m : Loop). m.head.parallel) nest) c.in_ok-round.ensures in
-    let serial = sym (c.is_in_parallel.ensures ∙ test) ∙ c.if-is_in_parallel.false in
+    let nest = ap nest_of c.deref.ensures.value ∙ c.in_ok-round.ensures in
+    let test = c.is_in_parallel.ensures ∙ ap (λ (loops : List Loop). h.parallel || list_any (λ (m : Loop). m.head.parallel) loops) nest in
+    let serial = sym test ∙ c.if-is_in_parallel.false in
     IfOk-weaker c.early_by_course.result _ _ (rules.ranged c.args.number c.args.names.now t h body c.requires.is serial c.in_default.ensures) c.early_by_course.ensures

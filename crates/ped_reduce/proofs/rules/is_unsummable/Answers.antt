@@ -1,4 +1,4 @@
-use Rattle.std.proofs.Common.{List, ◌+◌, ap, ◌∙◌, sym}
+use Rattle.std.proofs.Common.{List, ◌+◌, ap, ◌∙◌, sym, arith}
 use Rattle.std.specs.List.{list_any}
 use Rattle.ped_base.specs.Lists.{is_among}
 use Rattle.ped_tree.specs.NamesIn.{all_loop_variables}
@@ -21,6 +21,11 @@ returns-then-is_index_of g c =
     let t = program_tree c.args.scene.now.tree.now in
     let among = sym (c.is_index_of.ensures ∙ ap (λ (ss : List Stmt). is_among c.args.name.now (all_loop_variables (stmt_trees ss))) c.deref.ensures.value) ∙ c.if-is_index_of.true in
     an_index t c.args.number (stmt_trees c.args.d.now.body.items) c.args.name.now (sym (c.is_scalar.ensures t c.requires.scene.symbols) ∙ c.if-not-is_scalar.false) among
+
+pub is_referred-requires : goal.is_referred-requires
+is_referred-requires g c =
+    let sum = ap (λ (e : Extent). e.number + e.count) c.extent_of.ensures in
+    omega (arith, sum, c.requires.small)
 
 pub returns : goal.returns
 returns g c =

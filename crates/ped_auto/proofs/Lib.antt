@@ -1,15 +1,16 @@
-pub mod Leading
-pub mod OneCourse
-pub mod Cutting
-pub mod Named
-pub mod Whole
-pub mod LeftLoops
-pub mod EachName
-pub mod Outcomes
-pub mod Still
-pub mod ScalarNames
-pub mod Attempting
-pub mod Rounding
-pub mod Falling
-pub mod FurtherRounding
-pub mod Accepted
+mod Leading
+mod OneCourse
+mod Cutting
+mod Named
+mod Whole
+mod LeftLoops
+mod EachName
+mod Outcomes
+mod Still
+mod ScalarNames
+mod Attempting
+mod Rounding
+mod Falling
+mod FurtherRounding
+mod Accepted
+pub mod SerialCounts

@@ -1,5 +1,5 @@
 mod Leading
-mod OneCourse
+pub mod OneCourse
 mod Cutting
 mod Named
 mod Whole
@@ -13,4 +13,3 @@ mod Rounding
 mod Falling
 mod FurtherRounding
 mod Accepted
-pub mod SerialCounts

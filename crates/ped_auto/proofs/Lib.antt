@@ -13,3 +13,4 @@ mod Rounding
 mod Falling
 mod FurtherRounding
 mod Accepted
+pub mod SomeCourse

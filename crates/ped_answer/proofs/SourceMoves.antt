@@ -1,6 +1,7 @@
 -- Each command moves along the sources of a session as the history has them.
-use Rattle.std.proofs.Common.{◌≡◌, ℕ, suc, Bool, true, false, ◌+◌, ◌<◌, inl, inr, List, [], ◌∷◌, ◌++◌, map, take, length, slice_get, Option, Some, None, refl, sym, ap, ◌∙◌, subst, arith}
-use Rattle.std.specs.Prelude.{MatchBool, reverse}
+use Rattle.std.proofs.Common.{◌≡◌, ℕ, suc, Bool, true, false, ◌+◌, ◌<◌, inl, inr, List, [], ◌∷◌, ◌++◌, map, take, length, slice_get, Option, Some, None, refl, sym, ap, ◌∙◌, subst, arith, append_assoc}
+use Rattle.std.specs.Prelude.{MatchBool, reverse, codes}
+use Rattle.std.specs.Fmt.{decimal}
 use Rattle.std.specs.List.{flat_map}
 use Rattle.std.proofs.lemmas.List.{append_assoc, length-append, length-reverse, length-map, reverse-append}
 use Rattle.ped_io.specs.Outside.{Contents}
@@ -19,6 +20,7 @@ use Rattle.ped_session.specs.Splices.{are_lines, is_place}
 use Rattle.ped_session.specs.Steps.{Refuses, Prints, Shows, ShowsOf, ShowsStatement, Edits, accepted, refused, Transforms, missing, forbidden, transformed, GoesBack, GoesForward, IsStep, IsMove}
 use Rattle.ped_session.specs.ped_transformations.specs.ped_auto.specs.Replay.{Replays}
 use Rattle.ped_session.specs.ped_transformations.specs.Table.{step_of}
+use Rattle.ped_session.specs.Replies.{answer_row}
 use Rattle.ped_session.specs.AutoAnswers.{accepted_row, left_row}
 use Rattle.ped_session.specs.AutoEditing.{TransformsTo, session_editing}
 use Rattle.ped_session.specs.AutoEditingLaws.{taken}
@@ -192,12 +194,16 @@ puts_all [] s last tests h = ap sources_of h.0
 puts_all (c ∷ cs) s last tests h = (sources_of h.0, puts s h.0 (taken_leaves (step_of c) s h.0 h.3.0), puts_all cs h.0 last h.2 h.4)
 
 auto_moves : (line : ℕ) (s next : State) (said : Said) → SaysAuto line s said next → MovesByAuto line (sources_of s) said.bytes (sources_of next)
-auto_moves line s next said h = record {
-  count = length h.0.report.accepted;
-  puts = puts_all h.0.report.accepted s next said.tests (auto_steps s next h.0.report said.tests h.0.does);
-  rest = flat_map accepted_row h.0.report.accepted ++ flat_map left_row h.0.report.left ++ next.present;
-  says = h.0.says;
-}
+auto_moves line s next said h =
+    let first = answer_row line (codes "auto " ++ decimal (length h.0.report.accepted)) in
+    let accepted = flat_map accepted_row h.0.report.accepted in
+    let left = flat_map left_row h.0.report.left in
+    record {
+      count = length h.0.report.accepted;
+      puts = puts_all h.0.report.accepted s next said.tests (auto_steps s next h.0.report said.tests h.0.does);
+      rest = accepted ++ (left ++ next.present);
+      says = h.0.says ∙ append_assoc (first ++ accepted) left next.present ∙ append_assoc first accepted (left ++ next.present);
+    }
 
 line_moves : (line : ℕ) (command : Option Command) (d : List ℕ) (s next : State) (said : Said) → AnswersCommand line command d s said next → KeepsHistory line command d s said next
 line_moves line None d s next said h = record { here = stands s; there = stands next; moves = (ap (λ (x : Said). x.bytes) h.0, ap sources_of h.1) }

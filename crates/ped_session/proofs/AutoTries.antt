@@ -29,7 +29,7 @@ is_there : (o : Option StmtTree) → (o ≡ None → ⊥) → is_some o ≡ true
 is_there None none = absurd (none refl)
 is_there (Some x) none = refl
 
-there : (t : ProgramTree) (number : ℕ) → IsNumber t number → is_some (statement_with number t) ≡ true
+pub there : (t : ProgramTree) (number : ℕ) → IsNumber t number → is_some (statement_with number t) ≡ true
 there t number is = is_there (statement_with number t) (λ none. not_both ((statement_with-none number t).0 none))
   where
     not_both : (number ≡ 0) ⊎ (count_of t < number) → ⊥

@@ -1,7 +1,7 @@
 mod Accepted
 mod Answering
 pub mod AutoSteps
-mod AutoTries
+pub mod AutoTries
 mod CarriedTexts
 mod Doing
 mod Examples

@@ -1,0 +1,14 @@
+pub mod Exchanged
+pub mod Nested
+pub mod UnitForms
+pub mod Saturating
+pub mod Earliest
+pub mod Read
+pub mod SeenBefore
+pub mod Packed
+pub mod Meant
+pub mod EndedLists
+pub mod Entries
+pub mod FirstOfAll
+pub mod FreeNames
+pub mod CollectedNames

@@ -50,6 +50,7 @@ case("private fine","ok", stmt("DO 10 I=1,2"), stmt("PRIVATE K"), stmt("CALL S(K
 case("aliased arrays","refused 23 at 2", stmt("INTEGER A(3)"), stmt("CALL S(A,A)"), E, stmt("SUBROUTINE S(B,C)"), stmt("INTEGER B(3),C(3)"), stmt("B(1)=C(2)"), E)
 case("call in parallel in unit","refused 24 at 5", stmt("CALL S"), E, stmt("SUBROUTINE S"), stmt("PARALLEL DO 10 I=1,2"), stmt("CALL T","10"), E, stmt("SUBROUTINE T"), E)
 case("recursion outside","refused 21 at 5", stmt("CALL S"), E, stmt("SUBROUTINE S"), stmt("K=1"), stmt("CALL S"), E)
+case("recursion by many CALLs","refused 21 at 4", stmt("CALL S"), E, stmt("SUBROUTINE S"), stmt("CALL T"), E, stmt("SUBROUTINE T"), stmt("CALL T"), stmt("CALL T"), stmt("CALL T"), stmt("CALL S"), E)
 case("unit reaches recursion","refused 21 at 7", stmt("CALL A"), E, stmt("SUBROUTINE A"), stmt("CALL B"), E, stmt("SUBROUTINE B"), stmt("CALL B"), E)
 case("KX in unit","ok", stmt("CALL S"), E, stmt("SUBROUTINE S"), stmt("KX1=KX2"), E)
 case("local of two calls","ok", stmt("CALL S"), stmt("CALL S"), E, stmt("SUBROUTINE S"), stmt("INTEGER L(2)"), stmt("L(1)=K"), stmt("CALL T(L,K)"), E, stmt("SUBROUTINE T(L,K)"), stmt("INTEGER L(2)"), stmt("L(2)=L(1)+K"), E)

@@ -2,7 +2,7 @@
 use Rattle.std.proofs.Common.{◌≡◌, ℕ, Bool, true, false, cond, List, [], ◌∷◌, ◌++◌, map, Option, Some, None, refl, sym, ap, subst, ◌∙◌, append_assoc, inl, inr}
 use Rattle.std.specs.Prelude.{codes, IsTrue}
 use Rattle.std.specs.List.{list_all, flat_map, join_by}
-use Rattle.std.proofs.lemmas.List.{map-id, map_map}
+use Rattle.std.proofs.lemmas.List.{map-id}
 use Rattle.std.specs.Cmp.Lexicographic.{same_text}
 use Rattle.ped_base.specs.Letters.{is_alphanumeric}
 use Rattle.ped_base.specs.Lists.{is_same_text}
@@ -25,7 +25,7 @@ use Rattle.ped_valid.specs.ped_parse.specs.ped_statements.specs.Listing.{is_end,
 use Rattle.ped_valid.specs.ped_parse.specs.ped_statements.specs.Saturated.{reading_with_literals, IsReadAs}
 use Rattle.ped_valid.specs.ped_parse.specs.ped_statements.specs.StatementReading.{name_at}
 use Rattle.ped_valid.specs.ped_parse.specs.ped_statements.proofs.Pieces.{expr_finds, expr_part, ends_part, name_found, name_back}
-use Rattle.ped_valid.specs.ped_parse.specs.ped_statements.proofs.Several.{Finds, IsReadBack, shrinks, several_found, several_again}
+use Rattle.ped_valid.specs.ped_parse.specs.ped_statements.proofs.Several.{Finds, IsReadBack, Shrinks, shrinks, several_found, several_again}
 use Rattle.ped_calls.specs.Forms.{Called, UnitItem, plain, calls, calls_if, begins_unit, returns, ArgumentsForm, no_arguments, some_arguments, CallForm, a_call, UnitForm, call, if_call, subroutine, a_return, arguments_form_text, call_form_text, formals_form_text, unit_form_text, arguments_form_trees, call_form_called, unit_form_item, ReadsUnitItem, HasNoUnitForm, IsUnitItem}
 use Rattle.ped_calls.specs.UnitReading.{closed, arguments_of, called, called_of, closed_names, formals_of, subroutine_of, if_call_of, unit_item_in, or_unit_item, called_with_literals, item_with_literals, IsItemReadAs}
 
@@ -38,19 +38,19 @@ same_words x w h = same_text x w (sym h)
 
 -- expressions, as a list of forms
 
-first_form : ExprsForm → ExprForm
+abbrev first_form : ExprsForm → ExprForm
 first_form (one e) = e
 first_form (more e rest) = e
 
-further_forms : ExprsForm → List ExprForm
+abbrev further_forms : ExprsForm → List ExprForm
 further_forms (one e) = []
 further_forms (more e rest) = first_form rest ∷ further_forms rest
 
-packed_form : ExprForm → List ExprForm → ExprsForm
+abbrev packed_form : ExprForm → List ExprForm → ExprsForm
 packed_form e [] = one e
 packed_form e (f ∷ fs) = more e (packed_form f fs)
 
-behind_commas : (fs : List ExprForm) → List ℕ
+abbrev behind_commas : (fs : List ExprForm) → List ℕ
 behind_commas fs = flat_map (λ f. codes "," ++ expr_form_text f) fs
 
 listed_text : (es : ExprsForm) → exprs_form_text es ≡ join_by expr_form_text (codes ",") (first_form es ∷ further_forms es)
@@ -74,7 +74,7 @@ packed_text e (f ∷ fs) = listed_text (more e (packed_form f fs)) ∙ ap (join_
     listed_again e f [] = refl
     listed_again e f (g ∷ gs) = ap (λ (rest : List ExprForm). e ∷ rest) (listed_again f g gs)
 
-with_form : (ℕ → ℕ) → ExprForm → ExprTree
+abbrev with_form : (ℕ → ℕ) → ExprForm → ExprTree
 with_form v e = with_literals v (expr_form_tree e)
 
 listed_trees : (v : ℕ → ℕ) (es : ExprsForm) → pack_exprs (map (with_form v) (first_form es ∷ further_forms es)) ≡ all_with_literals v (exprs_form_trees es)
@@ -93,7 +93,7 @@ exprs_found v ts x h = let f = expr_finds v ts x h in (f.0, refl, f.1, f.2)
 exprs_back : (v : ℕ → ℕ) → IsReadBack expr_form_text (with_form v) (λ e. true) ends_part (expr_of v)
 exprs_back v e rest g h = expr_part v e rest h
 
-pub exprs_shrink : (v : ℕ → ℕ) → (ts : List ℕ) (x : ExprTree × List ℕ) → expr_of v ts ≡ Some x → _
+pub exprs_shrink : (v : ℕ → ℕ) → Shrinks (expr_of v)
 exprs_shrink v = shrinks expr_form_text (with_form v) (λ e. true) (expr_of v) (exprs_found v)
 
 all_true : (fs : List ExprForm) → list_all (λ e. true) fs ≡ true
@@ -103,11 +103,11 @@ all_true (f ∷ fs) = all_true fs
 -- arguments
 
 -- a form of arguments with this text and these trees
-FoundArguments : (ℕ → ℕ) → List ℕ → List ExprTree → Type 0
+abbrev FoundArguments : (ℕ → ℕ) → List ℕ → List ExprTree → Type 0
 FoundArguments v ts es = (a : ArgumentsForm) × (arguments_form_text a ≡ ts) × (all_with_literals v (arguments_form_trees a) ≡ pack_exprs es)
 
 arguments_found : (v : ℕ → ℕ) (ts : List ℕ) (es : List ExprTree) → arguments_of v ts ≡ Some es → FoundArguments v ts es
-unfolding arguments_of FoundArguments
+unfolding arguments_of
 arguments_found v ts es h =
     elim (chosen (is_end ts) (Some []) (after (codes "(") ts >>= λ q. several (expr_of v) q >>= λ y. closed y.0 y.1) (Some es) h) [
       | inl g ↦ (no_arguments, sym (ends_nothing ts g.0), ap pack_exprs (some_is [] es g.1))
@@ -146,11 +146,11 @@ arguments_again v (some_arguments es) =
 
 -- CALL
 
-FoundCalled : (ℕ → ℕ) → List ℕ → Called → Type 0
+abbrev FoundCalled : (ℕ → ℕ) → List ℕ → Called → Type 0
 FoundCalled v ts c = (f : CallForm) × (call_form_text f ≡ codes "CALL" ++ ts) × (called_with_literals v (call_form_called f) ≡ c)
 
 called_found : (v : ℕ → ℕ) (ts : List ℕ) (c : Called) → called_of v ts ≡ Some c → FoundCalled v ts c
-unfolding called_of FoundCalled FoundArguments
+unfolding called_of
 called_found v ts c h =
     let a = bind_some (name_at ts) (λ x. arguments_of v x.1 >>= λ es. Some (called x.0 es)) c h in
     let b = bind_some (arguments_of v a.0.1) (λ es. Some (called a.0.0 es)) c a.2 in
@@ -175,11 +175,11 @@ called_again v x is a =
 
 -- SUBROUTINE
 
-FoundFormals : List ℕ → List (List ℕ) → Type 0
+abbrev FoundFormals : List ℕ → List (List ℕ) → Type 0
 FoundFormals ts names = IsTrue (list_all is_name names) × (formals_form_text names ≡ ts)
 
 formals_found : (ts : List ℕ) (names : List (List ℕ)) → formals_of ts ≡ Some names → FoundFormals ts names
-unfolding formals_of FoundFormals
+unfolding formals_of
 formals_found ts names h =
     elim (chosen (is_end ts) (Some []) (after (codes "(") ts >>= λ q. several name_at q >>= λ y. closed_names y.0 y.1) (Some names) h) [
       | inl g ↦
@@ -216,11 +216,11 @@ ends_subroutine : (names : List (List ℕ)) → stops is_alphanumeric (formals_f
 ends_subroutine [] = refl
 ends_subroutine (x ∷ xs) = refl
 
-FoundUnit : (ℕ → ℕ) → List ℕ → UnitItem → Type 0
+abbrev pub FoundUnit : (ℕ → ℕ) → List ℕ → UnitItem → Type 0
 FoundUnit v ts i = (f : UnitForm) × (unit_form_text f ≡ ts) × (item_with_literals v (unit_form_item f) ≡ i)
 
 subroutine_found : (v : ℕ → ℕ) (ts : List ℕ) (i : UnitItem) → subroutine_of ts ≡ Some i → FoundUnit v (codes "SUBROUTINE" ++ ts) i
-unfolding subroutine_of FoundUnit FoundFormals
+unfolding subroutine_of
 subroutine_found v ts i h =
     let a = bind_some (name_at ts) (λ x. formals_of x.1 >>= λ names. Some (begins_unit x.0 names)) i h in
     let b = bind_some (formals_of a.0.1) (λ names. Some (begins_unit a.0.0 names)) i a.2 in
@@ -253,7 +253,7 @@ if_text c d ts q r p s t = ap (λ (w : List ℕ). codes "IF(" ++ c ++ codes ")" 
     regroup c r = simp append_assoc
 
 if_call_found : (v : ℕ → ℕ) (ts : List ℕ) (i : UnitItem) → if_call_of v ts ≡ Some i → FoundUnit v (codes "IF(" ++ ts) i
-unfolding if_call_of FoundUnit FoundCalled
+unfolding if_call_of
 if_call_found v ts i h =
     let a = bind_some (cond_of v ts) (λ c. after (codes ")CALL") c.1 >>= λ q. called_of v q >>= λ d. Some (calls_if c.0 d)) i h in
     let b = bind_some (after (codes ")CALL") a.0.1) (λ q. called_of v q >>= λ d. Some (calls_if a.0.0 d)) i a.2 in
@@ -277,7 +277,7 @@ if_call_again v e (a_call x is a) =
 -- all of them
 
 pub unit_found : (v : ℕ → ℕ) (ts : List ℕ) (i : UnitItem) → unit_item_in v ts ≡ Some i → FoundUnit v ts i
-unfolding unit_item_in FoundUnit FoundCalled
+unfolding unit_item_in
 unit_found v ts i h =
     elim (chosen (is_same_text ts (codes "RETURN")) (Some returns) _ (Some i) h) [
       | inl g ↦ (a_return, sym (same_words ts (codes "RETURN") g.0), some_is returns i g.1)
@@ -328,7 +328,6 @@ by_form v text (subroutine x is formals are) none p = (none, (subroutine x is fo
 by_form v text a_return none p = (none, (a_return, p, refl))
 
 found_is_read : (v : ℕ → ℕ) (text : List ℕ) (i : UnitItem) → HasNoForm text → unit_item_in v text ≡ Some i → IsItemReadAs v text i
-unfolding FoundUnit
 found_is_read v text i none h = let f = unit_found v text i h in (unit_form_item f.0, by_form v text f.0 none f.1, sym f.2)
 
 outside_is_read : (v : ℕ → ℕ) (text : List ℕ) (o : Option UnitItem) → IsReading text outside_profile → unit_item_in v text ≡ o → IsItemReadAs v text (go_on o (plain outside_profile) (λ i. i))

@@ -24,7 +24,6 @@ use ped_valid::ped_parse::ped_expressions::{
 use ped_valid::ped_parse::ped_statements::read_statement;
 use std::alloc::Global;
 
-#[tactic(auto, using(crate::proofs::UnitForms::item_is_read))]
 /// What the text of a statement is, where a literal above 4294967295 is read as that number, as in `read_statement`.
 pub fn read_unit_item(alloc: Global, text: &[u8]) -> Result<UnitItem, NoMemory>
     ensures { IfOk result (λ i. IsItemReadAs saturated text.now (unit_item_of i)) }

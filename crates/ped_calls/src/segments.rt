@@ -1,11 +1,11 @@
 //! The statements of a file, unit by unit (ANSI X3.9-1978, sections 2.4 and 3.5).
 
-ghost use Rattle.std.specs.Prelude.{◌≡◌, ◌||◌, IfOk, map};
+ghost use Rattle.std.specs.Prelude.{◌≡◌, ◌||◌, [], IfOk, map};
 ghost use Rattle.ped_tree.specs.Grammar.Occurrences as Occurrences;
 ghost use Rattle.ped_tree.specs.Grammar.ItemViews.{reading_of};
 ghost use Rattle.ped_calls.specs.Reading as Spec;
 ghost use Rattle.ped_calls.specs.Reading.{segments_of};
-ghost use Rattle.ped_calls.specs.Views.{unit_item_of, unit_entry_of, segment_of};
+ghost use Rattle.ped_calls.specs.Views.{unit_item_of, unit_entry_of, head_of, segment_of};
 
 use crate::items::{UnitEntry, UnitItem};
 use ped_base::NoMemory;
@@ -45,7 +45,9 @@ pub fn segments(alloc: Global, entries: Vec<UnitEntry>) -> Result<Vec<Segment>, 
 
 impl Segment {
     /// A unit with this SUBROUTINE statement, before its other statements.
-    fn headed(alloc: Global, head: Option<UnitEntry>) -> Segment {
+    fn headed(alloc: Global, head: Option<UnitEntry>) -> Segment
+        ensures { segment_of result ≡ record { head = head_of head; entries = [] } }
+    {
         Segment {
             head,
             entries: Vec::new(alloc),

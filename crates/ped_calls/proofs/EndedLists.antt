@@ -31,34 +31,32 @@ owned_onto s ended e rest h = λ i. record { head = s.head; entries = own i } �
     further = ap (λ (b : Bool). cond b (record { head = Some e; entries = own_entries false rest } ∷ further_segments false rest) (further_segments (ended || ends e.item) rest)) h
 
 -- at first there is the main program without statements
-pub nothing_onto : (done : List Segment) (s : Segment) (rest : List UnitEntry) → done ≡ [] → s ≡ record { head = None; entries = [] } → done ++ segments_onto s false rest ≡ segments_of rest
-nothing_onto done s rest h is = ap (λ (ss : List Segment). ss ++ segments_onto s false rest) h ∙ ap (λ (t : Segment). segments_onto t false rest) is
-
--- behind these statements the units are those that are done and the one that goes on
-abbrev pub GoesOn : List UnitEntry → List Segment → Segment → Bool → Type 0
-GoesOn before done s ended = (rest : List UnitEntry) → done ++ segments_onto s ended rest ≡ segments_of (before ++ rest)
+pub nothing_onto : (done : List Segment) (s : Segment) (all : List UnitEntry) → done ≡ [] → s ≡ record { head = None; entries = [] } → done ++ segments_onto s false all ≡ segments_of all
+nothing_onto done s all h is = ap (λ (ss : List Segment). ss ++ segments_onto s false all) h ∙ ap (λ (t : Segment). segments_onto t false all) is
 
 -- a statement more begins another unit
-pub begun_more : (before : List UnitEntry) (done : List Segment) (s next : Segment) (ended : Bool) (e : UnitEntry) → GoesOn before done s ended → (ended && begins e.item) ≡ true → next ≡ record { head = Some e; entries = [] }
-    → GoesOn (before ++ e ∷ []) (done ++ s ∷ []) next false
-begun_more before done s next ended e inv h is rest =
+pub begun_more : (whole done : List Segment) (s next : Segment) (ended : Bool) (e : UnitEntry) (left rest : List UnitEntry) → done ++ segments_onto s ended left ≡ whole → left ≡ e ∷ rest → (ended && begins e.item) ≡ true → next ≡ record { head = Some e; entries = [] }
+    → (done ++ s ∷ []) ++ segments_onto next false rest ≡ whole
+begun_more whole done s next ended e left rest inv l h is =
     ap (λ (t : Segment). (done ++ s ∷ []) ++ segments_onto t false rest) is
     ∙ append_assoc done (s ∷ []) (segments_onto (record { head = Some e; entries = [] }) false rest)
     ∙ ap (λ (ss : List Segment). done ++ ss) (sym (begun_onto s ended e rest h))
-    ∙ inv (e ∷ rest)
-    ∙ ap segments_of (sym (append_assoc before (e ∷ []) rest))
+    ∙ ap (λ (es : List UnitEntry). done ++ segments_onto s ended es) (sym l)
+    ∙ inv
 
 -- a statement more belongs to the unit itself
-pub owned_more : (before : List UnitEntry) (done : List Segment) (s : Segment) (ended : Bool) (e : UnitEntry) → GoesOn before done s ended → (ended && begins e.item) ≡ false
-    → GoesOn (before ++ e ∷ []) done (record s { entries = s.entries ++ e ∷ [] }) (ended || ends e.item)
-owned_more before done s ended e inv h rest =
-    ap (λ (ss : List Segment). done ++ ss) (sym (owned_onto s ended e rest h))
-    ∙ inv (e ∷ rest)
-    ∙ ap segments_of (sym (append_assoc before (e ∷ []) rest))
+pub owned_more : (whole done : List Segment) (s next : Segment) (ended now : Bool) (e : UnitEntry) (left rest : List UnitEntry) → done ++ segments_onto s ended left ≡ whole → left ≡ e ∷ rest → (ended && begins e.item) ≡ false → next ≡ record s { entries = s.entries ++ e ∷ [] } → now ≡ (ended || ends e.item)
+    → done ++ segments_onto next now rest ≡ whole
+owned_more whole done s next ended now e left rest inv l h is n =
+    ap (λ (t : Segment). done ++ segments_onto t now rest) is
+    ∙ ap (λ (b : Bool). done ++ segments_onto (record s { entries = s.entries ++ e ∷ [] }) b rest) n
+    ∙ ap (λ (ss : List Segment). done ++ ss) (sym (owned_onto s ended e rest h))
+    ∙ ap (λ (es : List UnitEntry). done ++ segments_onto s ended es) (sym l)
+    ∙ inv
 
 -- no statement is left
-pub all_done : (all : List UnitEntry) (done : List Segment) (s : Segment) (ended : Bool) → GoesOn all done s ended → done ++ s ∷ [] ≡ segments_of all
-all_done all done s ended inv =
+pub all_done : (whole done : List Segment) (s : Segment) (ended : Bool) (left : List UnitEntry) → done ++ segments_onto s ended left ≡ whole → left ≡ [] → done ++ s ∷ [] ≡ whole
+all_done whole done s ended left inv l =
     ap (λ (es : List UnitEntry). done ++ (record s { entries = es }) ∷ []) (sym (append-nil s.entries))
-    ∙ inv []
-    ∙ ap segments_of (append-nil all)
+    ∙ ap (λ (es : List UnitEntry). done ++ segments_onto s ended es) (sym l)
+    ∙ inv

@@ -7,7 +7,6 @@ from __future__ import annotations
 
 from typing import Dict, Iterator, List, Sequence, Tuple
 
-from .expressions import Call, Expression, Operation, Variable
 from .messages import listed
 from .panes import Dependence
 from .ped import Ped
@@ -15,7 +14,8 @@ from .program import Loop, Program
 from .references import INPUT, OUTPUT
 from .refusals import cause_of, refused
 from .replies import Advised
-from .statements import Assignment, Do, Print, Read
+from .statements import Do, Print, Read
+from .sums import is_reduction, reduction, sums_of
 from .trials import Answers, Outcome, Trial, ask, carried_names
 from .tuning import parts_in
 from .views import View
@@ -48,7 +48,7 @@ class Adviser:
         if name in program.arrays:
             return list(_about_array(loop, name, rows))
         advice = self._about_outcomes(self._outcomes_of(loop, name))
-        if _is_reduction(program, name, rows):
+        if is_reduction(program, name, rows) and not any(one.accepted for one in self._summing(loop)):
             advice.append(f"{name} is summed up: store the terms in an array, and sum them up in a loop of its own")
         return advice
 
@@ -84,9 +84,10 @@ class Adviser:
         return words if outcome is None else f"{words}, which then carries {listed(outcome.names) or 'nothing'}"
 
     def about_scalars(self, loop: Loop) -> List[str]:
-        """What came of a step for each of several scalars that a loop carries."""
+        """What came of a step for each of several scalars that a loop carries, and of that for its sums."""
         outcomes = self._answers.outcomes
-        return self._about_outcomes([outcomes[trial] for trial in self._joined(loop) if trial in outcomes])
+        joined = [outcomes[trial] for trial in self._joined(loop) if trial in outcomes]
+        return self._about_outcomes([*joined, *(one for one in self._summing(loop) if one not in joined)])
 
     def advised(self, loop: Loop) -> Tuple[Advised, ...]:
         """What ped advises at a loop; nothing where it wasn't asked."""
@@ -126,18 +127,37 @@ class Adviser:
         outcomes = self._answers.outcomes
         return [outcomes[trial] for trial in _scalar_trials(loop, name) if trial in outcomes]
 
+    def _sums(self, loop: Loop) -> List[str]:
+        return sums_of(self._view.program, self._view.carried_by(loop))
+
+    def _summing(self, loop: Loop) -> List[Outcome]:
+        """What came of the steps that say what a loop sums up."""
+        outcomes = self._answers.outcomes
+        trials = [trial for trial in (*self._trials(loop), *self._joined(loop)) if trial.sums]
+        return [outcomes[trial] for trial in trials if trial in outcomes]
+
     def _trials(self, loop: Loop) -> Iterator[Trial]:
         if loop.form.parallel:
             return
-        for name in carried_names(self._view.carried_by(loop)):
+        names = carried_names(self._view.carried_by(loop))
+        for name in names:
             if name not in (INPUT, OUTPUT) and name not in self._view.program.arrays:
                 yield from _scalar_trials(loop, name)
+        sums = self._sums(loop)
+        if sums and sums == names:
+            yield Trial((reduction(loop.number, sums),), loop.number)
 
     def _joined(self, loop: Loop) -> Iterator[Trial]:
-        """For a loop that carries several scalars, an accepted step for each, all in one trial."""
+        """For a loop that carries several scalars, an accepted step for each, all in one trial.
+
+        Those that are left may be what the loop sums up; then the step for them comes last.
+        """
         names = carried_names(self._view.carried_by(loop))
-        accepted = [[one for one in self._outcomes_of(loop, name) if one.accepted] for name in names]
-        steps = [outcomes[0].trial.steps[0] for outcomes in accepted if outcomes]
+        accepted = {name: [one for one in self._outcomes_of(loop, name) if one.accepted] for name in names}
+        steps = [outcomes[0].trial.steps[0] for outcomes in accepted.values() if outcomes]
+        left = [name for name in names if not accepted[name]]
+        if steps and left and all(name in self._sums(loop) for name in left):
+            steps.append(reduction(loop.number, left))
         if len(steps) > 1:
             yield Trial(tuple(steps), loop.number)
 
@@ -161,9 +181,13 @@ def _scalar_trials(loop: Loop, name: str) -> List[Trial]:
 def _accepted(outcome: Outcome) -> str:
     """What an accepted trial leads to."""
     steps = listed([f"`{step}`" for step in outcome.trial.steps])
-    if len(outcome.trial.steps) > 1:
-        return f"try {steps}: ped accepts them, and the loop then carries {listed(outcome.names) or 'nothing'}"
-    return f"try {steps}: ped accepts it" + ("" if outcome.names else ", and the loop then carries nothing")
+    is_one = len(outcome.trial.steps) == 1
+    words = f"try {steps}: ped accepts {'it' if is_one else 'them'}"
+    if outcome.trial.sums:
+        return f"{words}, and the iterations may then be done in any order"
+    if is_one and outcome.names:
+        return words
+    return f"{words}, and the loop then carries {listed(outcome.names) or 'nothing'}"
 
 
 def _about_reads(program: Program, outcome: Outcome) -> str:
@@ -213,27 +237,3 @@ def _about_array(loop: Loop, name: str, rows: Sequence[Dependence]) -> Iterator[
     known = [distance for distance in distances if distance is not None]
     if len(known) == len(distances) and min(known) > 1:
         yield f"iterations that are fewer than {min(known)} apart don't depend on each other"
-
-
-def _is_reduction(program: Program, name: str, rows: Sequence[Dependence]) -> bool:
-    """Whether all the rows are of one statement that adds to a scalar, or takes the greater or the less."""
-    statements = {place[0] for row in rows for place in (row.source, row.sink)}
-    form = program.statement(min(statements)).form
-    if len(statements) != 1 or not isinstance(form, Assignment) or form.target.text != name:
-        return False
-    value = form.value
-    operands: List[Expression] = []
-    if isinstance(value, Operation) and value.operator in ("+", "*"):
-        operands = list(_operands(value))
-    elif isinstance(value, Call) and value.name[:3] in ("MAX", "MIN"):
-        operands = list(value.arguments)
-    return any(isinstance(operand, Variable) and operand.name == name for operand in operands)
-
-
-def _operands(operation: Operation) -> Iterator[Expression]:
-    """The operands of operations with one operator in one another."""
-    for part in operation.operands:
-        if isinstance(part, Operation) and part.operator == operation.operator:
-            yield from _operands(part)
-        else:
-            yield part

@@ -110,9 +110,9 @@ RULES: Dict[int, str] = {
     12: "an iteration may read the scalar before it assigns it, or it is wanted behind the loop: see statement {S}",
     13: "the name isn't that of a scalar that the step can take",
     14: "a bound of the loop isn't constant, or the loop has no iteration",
-    15: "the new program passes a limit of the language",
+    15: "the new program passes a limit of the language (`reduce`: or what `run` makes of it does)",
     16: "the factor or the size is out of range",
-    17: "the name is private already",
+    17: "the name is private already (`reduce`: or given twice, or the loop has a list of sums)",
     18: "there is nothing pending of this name that the loop carries",
     19: "statement {S} has the scalar otherwise than to add to it",
 }

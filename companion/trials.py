@@ -31,6 +31,11 @@ class Trial:
         """The commands; behind them the program is as it was, since a session begins with nothing to undo."""
         return [*self.steps, "show", *("undo" for _ in self.steps)]
 
+    @property
+    def sums(self) -> bool:
+        """Whether the last step says what the loop sums up."""
+        return self.steps[-1].startswith("reduce ")
+
 
 @dataclass(frozen=True)
 class Outcome:

@@ -1,7 +1,7 @@
 """What a single step does for a loop that isn't parallel: each step is tried in a session, and `parallel` behind it.
 
 Whether a step is carried out and whether the loop may then be parallel is ped's answer. What is looked up here is only
-where the loop stands behind the step, and what it then carries.
+where the loop stands behind the step, and what it then carries. `reduce` leaves the loop a DO, and needs no `parallel`.
 """
 
 from __future__ import annotations
@@ -15,6 +15,7 @@ from .panes import Dependence, Panes, read_dependences, read_panes
 from .ped import Ped
 from .references import INPUT, OUTPUT
 from .replies import Reply
+from .sums import reduction, sums_of
 from .trials import carried_names
 from .views import View
 
@@ -46,6 +47,11 @@ class Attempt:
         number = self.place.number
         return [*steps, f"deps {number}", f"parallel {number}", *["undo"] * (len(steps) + 1)]
 
+    @property
+    def sums(self) -> bool:
+        """Whether the step says what the loop sums up."""
+        return (self.step or "").startswith("reduce ")
+
 
 @dataclass(frozen=True)
 class Result:
@@ -60,15 +66,19 @@ class Result:
 
     @property
     def frees(self) -> bool:
-        """Whether the loop may be parallel behind the step."""
-        return self.refusal is None and self.hindrance is None
+        """Whether the iterations may be done in any order behind the step."""
+        return self.refusal is None and (self.hindrance is None or self.attempt.sums)
 
 
 def attempts(view: View, outline: Outline, loop: LoopLines) -> Iterator[Attempt]:
     """The steps that may do something for a loop, and first none at all."""
     here = Place(loop.number, loop.last, loop.level)
     yield Attempt(None, here)
-    names = carried_names(view.carried_by(view.program.loops[loop.number]))
+    carried = view.carried_by(view.program.loops[loop.number])
+    names = carried_names(carried)
+    sums = sums_of(view.program, carried)
+    if sums and sums == names:
+        yield Attempt(reduction(loop.number, sums), here)
     for name in names:
         if name not in (INPUT, OUTPUT) and name not in view.printed.arrays:
             yield Attempt(f"privatise {loop.number} {name}", here)

@@ -178,7 +178,7 @@ all_commands() {
     awk -v size="$1" 'BEGIN {
         text = "source\ndeps\ndeps 3\nshow\nprint\nadvise 2\nreplace 1 2\n      K = 1\n.\ninsert 4\n      K = 2\n      K = 3\n.\n"
         text = text "delete 1 2\ninterchange 1\nreverse 1\nskew 1 -2\nstrip 1 16\npeel 1 first\npeel 1 last\ndistribute 1\n"
-        text = text "fuse 1\nexpand 1 T\nprivatise 1 T\nparallel 1\nserial 1\nreject 1 A\nundo\nredo\nraces\n"
+        text = text "fuse 1\nexpand 1 T\nprivatise 1 T\nreduce 1 T U\nparallel 1\nserial 1\nreject 1 A\nundo\nredo\nraces\n"
         for (total = length(text); total <= size; total += length(text)) printf "%s", text
     }'
 }

@@ -15,8 +15,8 @@ most_crates_with_edits=12
 most_test_lines=250
 most_crates_with_tests=2
 most_ways=5000
-most_lemma_files=303
-most_lemma_imports=2284
+most_lemma_files=310
+most_lemma_imports=2624
 most_needless_doors=122
 
 edits() {

@@ -18,7 +18,8 @@ has that of its file. A source is one of these, or several with `; ` between:
     (plain words)                               plain words about lists and numbers
 
 A file whose first line says `Contracts of private functions alone speak of ..` stands at the end of its layer's page by that line
-alone, and needs no sources. No other crate names it, and no definition outside such files.
+alone, and needs no sources. No definition outside such files names it, and no definition of another crate; private functions of another
+crate may speak of it. What public contracts speak of in spite of that line is listed below (`CITED`), and has its row.
 
 In docs/definitions.head.md, behind the line `<!-- names -->`, each name in backquotes must be a definition, a constructor or a
 field of crates/*/specs, a function or a type of crates/*/src, or a name that a definition takes from the standard library. Where
@@ -33,6 +34,8 @@ from pages import CRATES, TOP, Complaints, crate_head, read_layers, to_cell, wri
 
 HEAD_PAGE = TOP / "docs" / "definitions.head.md"
 PRIVATE_WORDS = "Contracts of private functions alone speak of"
+# Definitions that a public contract speaks of, of files that say that contracts of private functions alone do.
+CITED = {"ped_reduce/specs/CodeLowered.antt": ["lowered_view"]}
 NAMES_MARK = "<!-- names -->"
 
 SOURCE = re.compile(r"^(.*) \(((?:ANSI X3\.9-1978|Allen and Kennedy|ParaScope|this project|plain words|sections? [0-9])[^()]*)\)(.*)$")
@@ -125,7 +128,11 @@ class DefinitionFile:
         self.says, source = split_comment(self.head)
         self.source = shorten(source, self.shown)
         self.is_private = PRIVATE_WORDS in self.head
+        self.cited = CITED.get(self.shown, [])
         self.read(lines)
+        for name in self.cited:
+            if not any(name in row.names for row in self.rows):
+                complaints.add(f"{self.shown}: no {name}, which CITED has")
 
     def read(self, lines):
         comment = []
@@ -163,7 +170,7 @@ class DefinitionFile:
     def add(self, name, comment):
         """Adds a definition. One that is held together with others and has no comment stands in the row of the one before."""
         self.define(name)
-        if self.is_private:
+        if self.is_private and name not in self.cited:
             return
         if not comment and self.depth > 0 and self.rows:
             self.rows[-1].names.append(name)
@@ -178,12 +185,16 @@ class DefinitionFile:
 
     def lines(self):
         """The file in its layer's page."""
-        text = self.says if self.says.endswith(".") else self.says + "."
+        says = self.private_says() + f" {PRIVATE_WORDS} its other definitions." if self.is_private else self.says
+        text = says if says.endswith(".") else says + "."
         return ["", f"### `{self.shown}`", "", text] + (
             ["", "| Definition | Says | Source |", "|---|---|---|"] + [str(row) for row in self.rows] if self.rows else [])
 
+    def private_says(self):
+        return self.head.split(" " + PRIVATE_WORDS)[0]
+
     def private_line(self):
-        return f"- `{self.shown}`: {self.head.split(' ' + PRIVATE_WORDS)[0]}"
+        return f"- `{self.shown}`: {self.private_says()}"
 
 
 def definition_files(crate):
@@ -199,12 +210,12 @@ def layer_page(layer, files):
              f"{layer.says[:1].upper()}{layer.says[1:]}. The crates stand from the lowest up, in the order of crates.txt. "
              "[DEFINITIONS.md](../DEFINITIONS.md) says how to read definitions, and what the sources are."]
     for crate in layer.crates:
-        shown = [file for file in files[crate] if not file.is_private]
+        shown = [file for file in files[crate] if file.rows or not file.is_private]
         if any(file.rows for file in shown):
             lines += ["", f"## {crate}", "", crate_head(crate)]
             for file in shown:
                 lines += file.lines()
-    private = [file.private_line() for crate in layer.crates for file in files[crate] if file.is_private]
+    private = [file.private_line() for crate in layer.crates for file in files[crate] if file.is_private and not file.rows]
     if private:
         lines += ["", "## What contracts of private functions alone cite", "",
                   "No contract of a function that another crate can call speaks of these files.", ""] + private
@@ -234,12 +245,12 @@ def read_code():
 
 
 def check_private(files):
-    """Complains of files for private functions that more than these, in their crate, can cite."""
+    """Complains of files for private functions that a definition names which is not of such a file of the same crate."""
     private = {file.path for of_crate in files.values() for file in of_crate if file.is_private}
     for path, used in uses:
         crate = CRATES / used.relative_to(CRATES).parts[0]
-        is_code = crate / "src" in path.parents
-        if used in private and path not in private and not is_code or used in private and crate not in path.parents:
+        is_code = path.suffix == ".rt"
+        if used in private and not is_code and (path not in private or crate not in path.parents):
             complaints.add(f"{used.relative_to(TOP)} isn't for private functions alone: {path.relative_to(TOP)} names it")
 
 

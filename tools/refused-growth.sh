@@ -6,8 +6,8 @@
 #
 #   tools/refused-growth.sh [--program PROGRAM] [--every STEP] [--onward] [SESSION ..]
 #
-# The sessions are `wavefront`, `reversal`, whose step is undone and done again, and `twelve`, which does each step; all where none is
-# given. With --every only each such growth is refused, from the first one on; with --onward all behind it are refused with it. The
+# The sessions are `wavefront`, `reversal`, whose step is undone and done again, `twelve`, which does each step but `reduce`, and `sums`,
+# which does that one; all where none is given. With --every only each such growth is refused, from the first one on; with --onward all behind it are refused with it. The
 # program is the one that .ci/run or ./prove has proved and built from the present sources; nothing is proved or built here. There is
 # a line for each session, and the status is 0 only where all is as wanted. docs/HOSTILE.md has the figures.
 set -eu
@@ -41,7 +41,7 @@ fi
 if ! [ -f "$program" ] || ! [ -x "$program" ]; then
     stop 'the proved program is not built; .ci/run or ./prove builds it'
 fi
-[ $# -gt 0 ] || set -- wavefront reversal twelve
+[ $# -gt 0 ] || set -- wavefront reversal twelve sums
 
 work=$(mktemp -d)
 trap 'rm -rf -- "$work"' EXIT
@@ -153,6 +153,37 @@ print
 END_OF_SCRIPT
 }
 
+sums() {
+    cat >program.f <<'END_OF_PROGRAM'
+      INTEGER A(4)
+      SAVE K, L
+      K=9
+      L=0
+      DO 10 I=1,4
+      A(I)=I*I
+      K=K-A(I)
+   10 IF (A(I).GT.4) L=A(I)+L
+      DO 20 I=1,2
+C$REDUCE K
+   20 K=K+I
+      PRINT *,K
+      END
+END_OF_PROGRAM
+    cat >script <<'END_OF_SCRIPT'
+reduce 3 K
+reduce 3 K L
+deps 3
+run
+run 3 2 1 0 2 1
+undo
+run 1 1
+redo
+reduce 9 K
+run 3 3 3
+print
+END_OF_SCRIPT
+}
+
 # ---- Runs
 
 # Refuses growths by their numbers, and writes a line for each: its number, `front` or what else came, and how many bytes.
@@ -184,6 +215,7 @@ for session in "$@"; do
         wavefront) wavefront ;;
         reversal) reversal ;;
         twelve) twelve ;;
+        sums) sums ;;
         *) stop "there is no session $session" ;;
     esac
     ample_status=0

@@ -63,7 +63,8 @@ def _ways(
     freeing = [result for result in others if result.frees]
     for result in freeing:
         step, number = result.attempt.step, result.attempt.place.number
-        yield f"`{step}`{_where(loop, result)}: then ped accepts `parallel {number}`"
+        then = "the iterations may be done in any order" if result.attempt.sums else f"ped accepts `parallel {number}`"
+        yield f"`{step}`{_where(loop, result)}: then {then}"
     if apart is not None and apart.free:
         yield f"`distribute {loop.number}` {apart.words}"
     names = carried_names(view.carried_by(loop))

@@ -205,24 +205,29 @@ class Editor:
         if asks is Asks.VARIABLE:
             rows = [row for row in rows if row.mark == "pending"]
         names = [name for name in carried_names(rows) if not name.startswith("(")]
-        return names if asks is Asks.VARIABLE else [name for name in names if name not in self._desk.outline.arrays]
+        if asks is Asks.VARIABLE:
+            return names
+        scalars = [name for name in names if name not in self._desk.outline.arrays]
+        return [" ".join(scalars), *scalars] if asks is Asks.SUMS and len(scalars) > 1 else scalars
 
     def _carry_out(self, command: str, statement: int) -> None:
         with self._busy(command):
             refusal = self._session.step(command)
         if refusal is None:
             self._desk.put(self._session.present, statement)
-            self._desk.say(f"{command}: ok{self._what_next()}")
+            self._desk.say(f"{command}: ok{self._what_next(command.split()[0])}")
         else:
             cause = refused(refusal, command.split()[0])
             self._desk.say(f"{command}: {cause}; {keys.ADVICE} tells what ped accepts")
             self._desk.point(refusal)
 
-    def _what_next(self) -> str:
-        """What a step has led to."""
+    def _what_next(self, word: str) -> str:
+        """What a step has led to; behind `reduce` the loop still carries its sums."""
         loop = self._desk.loop
         if loop is None:
             return ""
+        if word == "reduce":
+            return f"; the iterations of loop {loop.number} may be done in any order"
         hint = "; p makes it parallel" if self._desk.is_free else ""
         return f"; loop {loop.number} {self._desk.verdict}{hint}"
 

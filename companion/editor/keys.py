@@ -13,6 +13,7 @@ class Asks(Enum):
 
     NOTHING = ""
     SCALAR = "which scalar?"
+    SUMS = "which scalars does it sum up?"
     VARIABLE = "whose pending dependences aren't there?"
     FACTOR = "by which factor?"
     SIZE = "how many iterations in a strip?"
@@ -33,6 +34,7 @@ STEPS: Dict[str, Step] = {
     "s": Step("serial", Asks.NOTHING, "make the PARALLEL DO a DO"),
     "v": Step("privatise", Asks.SCALAR, "give each iteration a scalar of its own"),
     "x": Step("expand", Asks.SCALAR, "make an array of a scalar, an element for each iteration"),
+    "+": Step("reduce", Asks.SUMS, "do the iterations of a loop that sums up in any order"),
     "i": Step("interchange", Asks.NOTHING, "have the loop and the one in it change places"),
     "r": Step("reverse", Asks.NOTHING, "go through the iterations in the opposite order"),
     "k": Step("skew", Asks.FACTOR, "add the variable, times a factor, to the inner bounds"),

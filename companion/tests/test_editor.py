@@ -134,6 +134,18 @@ class Steps(Played):
         player.wait("fuse 2: refused")
         self.quit(player)
 
+    def test_sums(self) -> None:
+        """All scalars that the loop carries are offered first."""
+        player = self.play(fortran("DO I = 1, 8", "K = K+I", "L = L-I", "END DO", "PRINT *, K, L", "END"))
+        player.press("+")
+        player.wait("reduce 1: which scalars does it sum up? K L")
+        player.press(ENTER)
+        rows = player.wait("reduce 1 K L: ok; the iterations of loop 1 may be done in any order")
+        self.assertIn("C$REDUCE K", "\n".join(rows))
+        player.press("u")
+        player.wait("undone: reduce 1 K L")
+        self.quit(player)
+
     def test_refused_fuse(self) -> None:
         """The one loop would read an element before it is written; this row isn't in the pane yet."""
         player = self.play(fortran(

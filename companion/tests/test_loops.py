@@ -106,8 +106,39 @@ class Advice(unittest.TestCase):
         self.assertEqual(advice(example_view("private"), 10), [
             "`privatise 10 ISUM` and `expand 10 ISUM`: refused rule 12 ExposedOrLive at 11: statement 11 may read ISUM "
             "before the iteration assigns it",
-            "ISUM is summed up: store the terms in an array, and sum them up in a loop of its own",
+            "try `reduce 10 ISUM`: ped accepts it, and the iterations may then be done in any order",
         ])
+
+    def test_product(self) -> None:
+        """A product is summed up, in a way, but not by additions."""
+        view = view_of(fortran("DO 10 I = 1, 9", "10 K = K*I", "PRINT *, K", "END"))
+        self.assertEqual(advice(view, 1)[1:], [
+            "K is summed up: store the terms in an array, and sum them up in a loop of its own",
+        ])
+
+    def test_open_sum(self) -> None:
+        """The bounds are open, so `reduce` is refused."""
+        view = view_of(fortran("READ *, N", "DO 10 I = 1, N", "10 K = K-I", "PRINT *, K", "END"))
+        self.assertIn(
+            "`reduce 2 K`: refused rule 14 NotConstant at 2: a bound of the loop isn't constant, or the loop has no "
+            "iteration", advice(view, 2),
+        )
+
+    def test_sums(self) -> None:
+        """Two scalars are summed up, one of them in an IF, and one is private."""
+        view = view_of(fortran(
+            "DO 10 I = 1, 9", "K = I*I", "IF (K.GT.9) L = L+(K-I)", "10 M = K+M", "PRINT *, L, M", "END"
+        ))
+        self.assertEqual(advice(view, 1)[-1], (
+            "try `privatise 1 K` and `reduce 1 L M`: ped accepts them, and the iterations may then be done in any order"
+        ))
+
+    def test_sum_and_array(self) -> None:
+        """What is left besides the sum is no sum, so `reduce` isn't tried."""
+        view = view_of(fortran(
+            "INTEGER A(9)", "DO 10 I = 2, 9", "A(I) = A(I-1)", "10 K = K+A(I)", "PRINT *, K", "END"
+        ))
+        self.assertFalse([row for row in advice(view, 1) if "reduce" in row])
 
     def test_two_scalars(self) -> None:
         view = view_of(fortran(

@@ -71,6 +71,11 @@ class Ways(unittest.TestCase):
             "`expand 1 K` takes a part away; the loop then carries M",
         ])
 
+    def test_sums(self) -> None:
+        """No step makes the loop a PARALLEL DO, but its iterations may be done in any order."""
+        rows = told(fortran("DO I = 1, 9", "K = K-I", "L = L+I*I", "END DO", "PRINT *, K, L", "END"))
+        self.assertEqual(rows[1:], ["`reduce 1 K L`: then the iterations may be done in any order"])
+
     def test_distribution(self) -> None:
         """A is a recurrence, and B is computed from it: the second loop is free. Its DO is statement 3."""
         rows = told(fortran("INTEGER A(9), B(9)", "DO I = 2, 9", "A(I) = A(I-1)+I", "B(I) = 2*A(I)", "END DO", "END"))

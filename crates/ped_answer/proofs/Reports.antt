@@ -16,7 +16,7 @@ use Rattle.ped_session.specs.States.{State, opened}
 use Rattle.ped_session.specs.Scripts.{Said, AnswersItems}
 use Rattle.ped_session.specs.Histories.{ArePrinted}
 use Rattle.ped_answer.specs.declared.tallies.Tally as code
-use Rattle.ped_answer.specs.Generated.{Tally, Figures, Applies, IsWordOn, figure_line, runs_line, report, Reports}
+use Rattle.ped_answer.specs.Generated.{Tally, Figures, Applies, figure_line, runs_line, report, Reports}
 use Rattle.ped_answer.specs.Tallies.{first_count, counted, Counts, ReportsLast, Reported}
 use Rattle.ped_answer.specs.ped_session.specs.ped_transformations.specs.ped_reduce.specs.ped_splits.proofs.Existence.Edges.{edges_of_program}
 use Rattle.ped_answer.proofs.ExistenceLaws.Replying.{reads_printed}

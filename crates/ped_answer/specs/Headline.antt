@@ -168,7 +168,7 @@ HistoryRequest (Some (generate number)) files bytes = ⊤
 
 -- Runs.
 
--- before an item and behind it, each transformation of the history keeps the meaning of a program that is tidy and without C$PED REJECT, and leaves it so; and a `run`, whatever choices it has, shows what the programs show from which the present one has come by transformations alone, where these are tidy and without C$PED REJECT and run on the data without a fault and without a race. A program is tidy where no reference in a PARALLEL DO writes the variable of it or of a DO in it, and each path from that PARALLEL DO's exit to the end overwrites such a variable that is saved (ParaScope; this project)
+-- before an item and behind it, each transformation of the history keeps the meaning of a program that is tidy and without C$PED REJECT, and leaves it so; and a `run`, whatever choices it has, shows what the programs show from which the present one has come by transformations alone, where these are tidy and without C$PED REJECT and run on the data without a fault and without a race; sums of lists that are live may be done in any order. A program is tidy where no reference in a PARALLEL DO writes the variable of it or of a DO in it, and each path from that PARALLEL DO's exit to the end overwrites such a variable that is saved (ParaScope; this project)
 pub record KeepsMeaning (line : ℕ) (command : Option Command) (data_bytes : List ℕ) (s : State) (said : Said) (next : State) : Type 0 where
   pub here : IsMeaningKept s
   pub there : IsMeaningKept next

@@ -114,9 +114,10 @@ pub fn ped_main<F: Shelf, K: Sink, L: Ledger>(
 
     // Where a session's answer is written whole, each `run` of its script shows what the programs show from which the
     // present one has come by transformations alone, if they are tidy and without C$PED REJECT and run on the data
-    // without a fault and without a race. Tidy: no reference in a PARALLEL DO writes the variable of it or of a DO in it,
-    // and each path from that PARALLEL DO's exit to the end overwrites such a variable that is saved. And in each state,
-    // each transformation of the history keeps the meaning of such a program, and leaves it tidy and without C$PED REJECT.
+    // without a fault and without a race, also where sums of lists that are live are done in any order. Tidy: no reference
+    // in a PARALLEL DO writes the variable of it or of a DO in it, and each path from that PARALLEL DO's exit to the end
+    // overwrites such a variable that is saved. And in each state, each transformation of the history keeps the meaning of
+    // such a program, and leaves it tidy and without C$PED REJECT.
     ensures runs { (files : Contents) → F.told shelf.old ≡ Some files →
         (before : List ℕ) → K.taken out.old ≡ Some before → IsWhole result →
         (bytes : List ℕ) × (K.taken out.new ≡ Some (before ++ bytes))

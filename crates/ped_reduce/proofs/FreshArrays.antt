@@ -1,5 +1,5 @@
 -- Names for arrays that don't occur in a program, three for each scalar.
-use Rattle.std.proofs.Common.{◌≡◌, ℕ, suc, ◌+◌, ◌-◌, ◌<◌, Bool, true, false, not, List, [], ◌∷◌, ◌++◌, map, filter, length, drop, Option, Some, None, MatchOption, refl, sym, ap, ◌∙◌, subst, cond, arith, append-nil, append_assoc}
+use Rattle.std.proofs.Common.{◌≡◌, ℕ, suc, ◌+◌, ◌-◌, ◌<◌, Bool, true, false, not, List, [], ◌∷◌, ◌++◌, map, filter, Option, Some, None, refl, sym, ap, ◌∙◌, cond, arith, append_assoc}
 use Rattle.std.specs.Prelude.{codes, option_map}
 use Rattle.std.specs.Fmt.{decimal}
 use Rattle.std.proofs.lemmas.List.{map-append}
@@ -33,15 +33,6 @@ module _ (t : ProgramTree) where
 
 -- one scalar's arrays, by how many names there are
 module _ (x : List ℕ) (xs : List (List ℕ)) where
-  pub none_first : (fresh : List (List ℕ)) → fresh ≡ [] → partials_of (x ∷ xs) fresh ≡ None
-  none_first fresh e = ap (partials_of (x ∷ xs)) e
-
-  pub none_second : (a : List ℕ) (fresh rest : List (List ℕ)) → fresh ≡ a ∷ rest → rest ≡ [] → partials_of (x ∷ xs) fresh ≡ None
-  none_second a fresh rest e f = ap (partials_of (x ∷ xs)) (e ∙ ap (λ (ys : List (List ℕ)). a ∷ ys) f)
-
-  pub none_third : (a b : List ℕ) (fresh rest more : List (List ℕ)) → fresh ≡ a ∷ rest → rest ≡ b ∷ more → more ≡ [] → partials_of (x ∷ xs) fresh ≡ None
-  none_third a b fresh rest more e f g = ap (partials_of (x ∷ xs)) (e ∙ ap (λ (ys : List (List ℕ)). a ∷ ys) (f ∙ ap (λ (ys : List (List ℕ)). b ∷ ys) g))
-
   pub some_three : (a b c : List ℕ) (fresh rest more last : List (List ℕ)) → fresh ≡ a ∷ rest → rest ≡ b ∷ more → more ≡ c ∷ last
       → partials_of (x ∷ xs) fresh ≡ option_map (λ ps. (record { scalar = x; high = a; low = b; flag = c }) ∷ ps) (partials_of xs last)
   some_three a b c fresh rest more last e f g =

@@ -1,80 +1,80 @@
 pub mod ListedComments
-pub mod ListAnswers
-pub mod AlikeRuns
-pub mod ReducedPrograms
+mod ListAnswers
+mod AlikeRuns
+mod ReducedPrograms
 pub mod ReducingRules
-pub mod ReducingLawful
+mod ReducingLawful
 pub mod SummingRules
-pub mod ReducingAnswers
-pub mod LoweredCounts
-pub mod FreshArrays
-pub mod SummedCode
-pub mod OriginsCode
-pub mod LoweredPrograms
+mod ReducingAnswers
+mod LoweredCounts
+mod FreshArrays
+mod SummedCode
+mod OriginsCode
+mod LoweredPrograms
 pub mod LoweringLaws
-pub mod LoweringAnswers
-pub mod MadeAnswers
-pub mod LoweringCode
-pub mod LoopsRoundGaps
-pub mod Resembling
-pub mod SumShapes
-pub mod LoweredNames
-pub mod LoweredStages
-pub mod ResemblingViews
-pub mod ResemblingArrays
-pub mod ReferencesInGaps
-pub mod SummedReferences
-pub mod LesserPaths
-pub mod LoweredPaths
-pub mod LoweredBehind
-pub mod ConstantScalars
-pub mod LooseSums
-pub mod ResemblingPaths
-pub mod SummedNumbers
-pub mod LevelEdges
-pub mod ResemblingReferences
-pub mod UnnamedReferences
-pub mod EdgesResemble
-pub mod ResemblingSettings
-pub mod CleanReferences
-pub mod AssignedStays
-pub mod OuterLoops
-pub mod ViewsAlike
-pub mod MayBeParallel
-pub mod UnsummableAnswers
-pub mod UnlowerableAnswers
-pub mod SplitSums
-pub mod SumStores
-pub mod SumSight
-pub mod SumGoing
-pub mod SumSteps
-pub mod SumParts
-pub mod SumBodies
-pub mod SumRuns
-pub mod SumTrips
-pub mod SumTurns
-pub mod SumExits
-pub mod SumLoops
-pub mod SumWhole
-pub mod SumStands
-pub mod SumRaces
-pub mod SumSmall
-pub mod SumPlaces
-pub mod SumUntouched
-pub mod SumNumbers
-pub mod SumKeeps
-pub mod SumGoals
-pub mod SumNames
-pub mod SumDeclared
-pub mod SumApart
-pub mod NamedReads
-pub mod SumClear
-pub mod StillContained
-pub mod DistinctArrays
-pub mod SumLive
-pub mod TidyExchanges
-pub mod SerialPrograms
-pub mod SumFlags
-pub mod SumTrusted
-pub mod SumOrder
-pub mod LoweringKeeps
+mod LoweringAnswers
+mod MadeAnswers
+mod LoweringCode
+mod LoopsRoundGaps
+mod Resembling
+mod SumShapes
+mod LoweredNames
+mod LoweredStages
+mod ResemblingViews
+mod ResemblingArrays
+mod ReferencesInGaps
+mod SummedReferences
+mod LesserPaths
+mod LoweredPaths
+mod LoweredBehind
+mod ConstantScalars
+mod LooseSums
+mod ResemblingPaths
+mod SummedNumbers
+mod LevelEdges
+mod ResemblingReferences
+mod UnnamedReferences
+mod EdgesResemble
+mod ResemblingSettings
+mod CleanReferences
+mod AssignedStays
+mod OuterLoops
+mod ViewsAlike
+mod MayBeParallel
+mod UnsummableAnswers
+mod UnlowerableAnswers
+mod SplitSums
+mod SumStores
+mod SumSight
+mod SumGoing
+mod SumSteps
+mod SumParts
+mod SumBodies
+mod SumRuns
+mod SumTrips
+mod SumTurns
+mod SumExits
+mod SumLoops
+mod SumWhole
+mod SumStands
+mod SumRaces
+mod SumSmall
+mod SumPlaces
+mod SumUntouched
+mod SumNumbers
+mod SumKeeps
+mod SumGoals
+mod SumNames
+mod SumDeclared
+mod SumApart
+mod NamedReads
+mod SumClear
+mod StillContained
+mod DistinctArrays
+mod SumLive
+mod TidyExchanges
+mod SerialPrograms
+mod SumFlags
+mod SumTrusted
+mod SumOrder
+mod LoweringKeeps

@@ -1,14 +1,12 @@
 -- How many statements a DO becomes when it is lowered.
-use Rattle.std.proofs.Common.{◌≡◌, ℕ, suc, ◌+◌, ◌*◌, List, [], ◌∷◌, ◌++◌, length, filter, Bool, true, false, ◌||◌, Option, Some, None, is_some, refl, sym, ap, ◌∙◌, arith, cond, length-append}
-use Rattle.std.specs.List.{list_any}
+use Rattle.std.proofs.Common.{◌≡◌, ℕ, ◌+◌, ◌*◌, List, [], ◌∷◌, ◌++◌, length, filter, Bool, true, false, ◌||◌, Option, Some, None, is_some, refl, ap, ◌∙◌, arith, cond, length-append}
 use Rattle.std.proofs.lemmas.List.Elements.{filter-append}
-use Rattle.ped_tree.specs.Tree.{CondTree, ExprTree, ItemTree, Head, StmtTree, StmtTrees, Assign, If, Do, Print, Read, Stop, Comment, no_stmts, more_stmts}
+use Rattle.ped_tree.specs.Tree.{ExprTree, Head, StmtTree, StmtTrees, Assign, If, Do, Print, Read, Stop, Comment, no_stmts, more_stmts}
 use Rattle.ped_tree.specs.Numbering.{numbered, all_numbered, statement_count, statements_count}
-use Rattle.ped_splits.specs.ped_reindex.specs.ped_loops.specs.ped_scalar.specs.ped_rules.specs.ped_loop_runs.specs.ped_bodies.specs.ped_steps.specs.Replacing.{followed, alone}
 use Rattle.ped_splits.specs.ped_reindex.specs.ped_loops.specs.ped_scalar.specs.ped_rules.specs.ped_loop_runs.specs.ped_bodies.specs.ped_steps.proofs.RunLaws.FilledGaps.{counted}
 use Rattle.ped_reduce.specs.Lists.{listed_name, unless_named, without_list}
 use Rattle.ped_reduce.specs.Sums.{Sum, sum_to}
-use Rattle.ped_reduce.specs.Lowering.{Partials, zeros, added_apart, apart_or, sum_apart, summed, all_summed, exits, bare, lowered_loop, is_sum, gained}
+use Rattle.ped_reduce.specs.Lowering.{Partials, zeros, apart_or, sum_apart, summed, all_summed, exits, lowered_loop, is_sum, gained}
 
 -- a list has no number
 unless_count : (o : Option (List ℕ)) (text : List ℕ) (rest : StmtTrees) → statements_count (without_list rest) ≡ statements_count rest → statements_count (unless_named o (more_stmts (Comment text) rest) (without_list rest)) ≡ statements_count rest

@@ -1,5 +1,5 @@
 -- From what the code of lowering finds to what comes of a program.
-use Rattle.std.proofs.Common.{◌≡◌, ◌↔◌, ℕ, ◌-◌, ◌*◌, ◌<◌, ◌≤◌, List, [], ◌∷◌, ◌++◌, length, All, Bool, true, false, not, inr, Option, Some, None, is_some, is_none, IsTrue, refl, sym, ap, ◌∙◌, subst, arith}
+use Rattle.std.proofs.Common.{◌≡◌, ◌↔◌, ℕ, ◌-◌, ◌*◌, ◌≤◌, List, [], ◌∷◌, ◌++◌, length, All, Bool, true, false, not, inr, Option, Some, None, is_some, is_none, IsTrue, refl, sym, ap, ◌∙◌, subst, arith}
 use Rattle.std.proofs.lemmas.Bool.{both_ways}
 use Rattle.std.proofs.lemmas.List.Elements.{All-head, All-tail}
 use Rattle.ped_base.specs.Lists.{has_some}
@@ -77,30 +77,24 @@ module _ (t : ProgramTree) (s : ℕ) (h : Head) (body : StmtTrees) (is : IsLoop 
   same_names : (k : LoopOf t s) → list_of k.body ≡ names
   same_names k = ap list_of (one_loop t s k loop).1
 
-  pub not_without : (r : Lowered) → names ≡ [] → IsLive t s (lowered_view l) r → ⊥
-  not_without r none live = let wrong : true ≡ false = sym live.some ∙ ap has_some (same_names live.loop ∙ none) in absurd cc
-
-  pub not_many : (r : Lowered) → 8 < length names → IsLive t s (lowered_view l) r → ⊥
-  not_many r many live = let few = live.few in let same = ap length (same_names live.loop) in omega (arith, many, few, same)
-
-  pub not_inside : (r : Lowered) → is_in_live t (lowered_view l) s ≡ true → IsLive t s (lowered_view l) r → ⊥
-  not_inside r inside live = both_ways (is_in_live t (lowered_view l) s) live.outside inside
-
   pub not_forbidden : (r : Lowered) → (IsFree t s names → ⊥) → IsLive t s (lowered_view l) r → ⊥
   not_forbidden r forbidden live = forbidden (subst (IsFree t s) (same_names live.loop) live.free)
 
   -- what comes of one that is
   pub live_by : (names ≡ [] → ⊥) → length names ≤ 8 → is_in_live t (lowered_view l) s ≡ false → IsFree t s names → (o : Option CodeLowered) → IsNext s names l o → IsLiveAt t s l o
   live_by some few outside free None none = λ r live. none r (ap (λ (xs : List (List ℕ)). lowered_at true (lowered_view l) s xs) (sym (same_names live.loop)) ∙ live.makes) live.valid
-  live_by some few outside free (Some new) next = (record {
-    loop = loop;
-    some = some_of names some;
-    few = few;
-    outside = outside;
-    free = free;
-    makes = next.0;
-    valid = next.1.valid;
-  }, next.1)
+  live_by some few outside free (Some new) next = (
+    record {
+      loop = loop;
+      some = some_of names some;
+      few = few;
+      outside = outside;
+      free = free;
+      makes = next.0;
+      valid = next.1.valid;
+    },
+    next.1,
+  )
 
 -- one statement more
 module _ (t : ProgramTree) (s : ℕ) (l : CodeLowered) where

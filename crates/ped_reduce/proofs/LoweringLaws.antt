@@ -1,5 +1,5 @@
 -- Lowering goes from statement to statement, and comes to one end.
-use Rattle.std.proofs.Common.{◌≡◌, ◌⊎◌, ◌≤◌, ◌<◌, ℕ, zero, suc, ◌+◌, ◌*◌, List, [], ◌∷◌, ◌++◌, length, take, drop, replicate, All, Bool, true, false, inl, inr, Option, Some, None, refl, sym, ap, ◌∙◌, subst, arith}
+use Rattle.std.proofs.Common.{◌≡◌, ◌≤◌, ◌<◌, ℕ, zero, suc, ◌+◌, ◌*◌, List, [], ◌∷◌, ◌++◌, length, take, drop, replicate, All, Bool, true, false, inl, inr, Some, None, refl, sym, ap, ◌∙◌, subst, arith}
 use Rattle.std.specs.List.{range_with_len}
 use Rattle.std.proofs.lemmas.Bool.{both_ways}
 use Rattle.std.proofs.lemmas.List.Elements.{All-nil, All-same, All-replicate, All-append, All-take, All-drop, All-from_get_or}
@@ -12,7 +12,7 @@ use Rattle.ped_splits.specs.ped_reindex.specs.ped_loops.specs.ped_scalar.specs.p
 use Rattle.ped_splits.specs.ped_reindex.specs.ped_loops.specs.ped_scalar.specs.ped_rules.specs.ped_loop_runs.specs.ped_bodies.specs.ped_steps.specs.ped_flow.proofs.Answering.{loop_fits}
 use Rattle.ped_splits.specs.ped_reindex.specs.ped_loops.specs.ped_scalar.specs.ped_rules.proofs.OneLoop.{one_loop}
 use Rattle.ped_reduce.specs.Lists.{list_of, has_list}
-use Rattle.ped_reduce.specs.Lowering.{Partials, Lowered, not_lowered, repeated, is_sum, summed_origins, gained, lowered_with, lowered_at}
+use Rattle.ped_reduce.specs.Lowering.{Partials, Lowered, not_lowered, repeated, is_sum, summed_origins, lowered_at}
 use Rattle.ped_reduce.specs.Reducing.{IsLive, LowersOne, Lowers, IsLowered}
 use Rattle.ped_reduce.proofs.LoweredPrograms.{IsMadeBy, made_by, made_count, made_origins}
 

@@ -9,15 +9,14 @@ use Rattle.ped_splits.specs.ped_reindex.specs.ped_loops.specs.ped_scalar.specs.p
 use Rattle.ped_splits.specs.ped_reindex.specs.ped_loops.specs.ped_scalar.specs.ped_rules.specs.ped_loop_runs.specs.ped_bodies.specs.ped_steps.specs.ped_flow.specs.Questions.{IsLoop}
 use Rattle.ped_splits.specs.ped_reindex.specs.ped_loops.specs.ped_scalar.specs.ped_rules.specs.CodeSpans.{IsCourse, span_in}
 use Rattle.ped_splits.specs.ped_reindex.specs.ped_loops.specs.ped_scalar.specs.ped_rules.specs.Spans.{Span, span_of, spans_far}
-use Rattle.ped_splits.specs.ped_reindex.specs.ped_loops.specs.ped_scalar.specs.ped_rules.specs.declared.spans.Course.{Course}
-use Rattle.ped_splits.specs.ped_reindex.specs.ped_loops.specs.ped_scalar.specs.ped_rules.specs.declared.spans.Course.TheVariants.{Unknown, Far, Near}
+use Rattle.ped_splits.specs.ped_reindex.specs.ped_loops.specs.ped_scalar.specs.ped_rules.specs.declared.spans.Course.TheVariants.{Near}
 use Rattle.ped_splits.specs.ped_reindex.specs.ped_loops.specs.ped_scalar.specs.ped_rules.specs.declared.spans.Span.{Span as CodeSpan}
 use Rattle.ped_splits.specs.ped_reindex.specs.ped_loops.specs.ped_scalar.specs.Expanding.{of_span}
 use Rattle.ped_splits.specs.ped_reindex.specs.ped_loops.specs.ped_scalar.proofs.ExpandRules.{known_near}
 use Rattle.ped_reduce.specs.declared.lowering.Lowered.{Lowered as CodeLowered}
 use Rattle.ped_reduce.specs.declared.lowering.Made.{Made}
 use Rattle.ped_reduce.specs.Lowering.{Partials, Lowered, and_then, near_only, fresh_arrays, partials_of, lowered_with, lowered_statement, lowered_at}
-use Rattle.ped_reduce.specs.CodeLowered.{lowered_view, IsKept, IsNext, IsNextBy, IsLowerable, IsMade, next_view}
+use Rattle.ped_reduce.specs.CodeLowered.{lowered_view, IsNext, IsNextBy, IsLowerable, IsMade, next_view}
 
 same_lowered : (p q : Lowered) → Some p ≡ Some q → p ≡ q
 same_lowered p q e = cc
@@ -51,9 +50,6 @@ module _ (s : ℕ) (names : List (List ℕ)) (l : CodeLowered) where
     pub no_next : IsNext s names l None
     no_next r e valid = no_loop (statement_with (s + l.more) (program_tree l.tree)) none r e
 
-    pub not_lowerable : IsLowerable s names l → ⊥
-    not_lowerable h = no_loop (statement_with (s + l.more) (program_tree l.tree)) none h.0 h.1
-
   -- where there is one
   module _ (h : Head) (body : StmtTrees) (is : IsLoop (program_tree l.tree) (s + l.more) h body) where
     at_loop : at ≡ of (Do h body)
@@ -62,9 +58,6 @@ module _ (s : ℕ) (names : List (List ℕ)) (l : CodeLowered) where
     -- no program is made
     pub no_next_made : IsMade s names l h body None → IsNext s names l None
     no_next_made none r e valid = nothing_some r (sym none ∙ sym at_loop ∙ e)
-
-    pub not_lowerable_made : IsMade s names l h body None → IsLowerable s names l → ⊥
-    not_lowerable_made none g = nothing_some g.0 (sym none ∙ sym at_loop ∙ g.1)
 
     module _ (made : Made) (makes : IsMade s names l h body (Some made)) where
       at_made : at ≡ Some (next_view s l body made)
@@ -77,13 +70,10 @@ module _ (s : ℕ) (names : List (List ℕ)) (l : CodeLowered) where
       pub lowerable_made : IsLowerable s names l ↔ IsValid (program_tree made.tree)
       lowerable_made = (
         (λ g. subst (λ (p : Lowered). IsValid p.tree) (same_lowered g.0 (next_view s l body made) (sym g.1 ∙ at_made)) g.2),
-        (λ valid. (next_view s l body made, at_made, valid))
+        (λ valid. (next_view s l body made, at_made, valid)),
       )
 
   -- the values of the DO's variable
-  far_only : (v : Span) → spans_far v ≡ true → near_only (Some v) ≡ None
-  far_only v far = ap (λ (b : Bool). if b then None else Some v) far
-
   near_is : (v : Span) → spans_far v ≡ false → near_only (Some v) ≡ Some v
   near_is v near = ap (λ (b : Bool). if b then None else Some v) near
 
@@ -93,12 +83,6 @@ module _ (s : ℕ) (names : List (List ℕ)) (l : CodeLowered) where
 
     by_span : (o : Option Span) → near_only found ≡ o → of (Do h body) ≡ and_then o (λ v. option_map (lowered_with true (lowered_view l) s body v) (partials_of names (fresh_arrays (program_tree l.tree))))
     by_span o e = ap (λ (z : Option Span). and_then z (λ v. option_map (lowered_with true (lowered_view l) s body v) (partials_of names (fresh_arrays (program_tree l.tree))))) e
-
-    pub none_unknown : IsCourse found Unknown → IsMade s names l h body None
-    none_unknown none = by_span None (ap near_only none)
-
-    pub none_far : IsCourse found Far → IsMade s names l h body None
-    none_far far = by_span None (ap near_only far.1 ∙ far_only far.0 far.2)
 
     module _ (span : CodeSpan) (near : IsCourse found (Near span)) where
       spans : near_only found ≡ Some (span_in span)

@@ -1,5 +1,5 @@
 -- What the code of origins puts together, statement behind statement.
-use Rattle.std.proofs.Common.{◌≡◌, ℕ, ◌+◌, ◌<◌, List, [], ◌∷◌, ◌++◌, length, drop, get_or, Bool, false, None, refl, sym, ap, ◌∙◌, arith, rules, append_assoc}
+use Rattle.std.proofs.Common.{◌≡◌, ℕ, ◌+◌, ◌<◌, List, [], ◌∷◌, ◌++◌, length, drop, get_or, Bool, false, refl, sym, ap, ◌∙◌, arith, rules, append_assoc}
 use Rattle.ped_tree.specs.Tree.{CondTree, Head, StmtTree, StmtTrees, If, Do}
 use Rattle.ped_tree.specs.Numbering.{numbered, all_numbered, statement_count, statements_count}
 use Rattle.ped_tree.specs.Views.{stmt_tree, stmt_trees, head_of}
@@ -7,7 +7,6 @@ use Rattle.ped_tree.specs.declared.statements.Do.{Do as DoLoop}
 use Rattle.ped_tree.specs.declared.statements.Stmt as variant
 use Rattle.ped_tree.specs.declared.statements.Stmt.{Stmt}
 use Rattle.ped_tree.proofs.Numbers.{length-numbered, length-all_numbered, stmt_trees-drop}
-use Rattle.ped_reduce.specs.Sums.{sum_to}
 use Rattle.ped_reduce.specs.Lowering.{Partials, repeated, is_sum, summed_origins}
 use Rattle.ped_reduce.proofs.LoweredCounts.{no_sum, first_sums, sums_in, sums_append}
 
@@ -76,11 +75,3 @@ sums_if ps c a b = sym (first_sums ps (If c a b) (all_numbered a ++ all_numbered
 
 pub sums_do : (ps : List Partials) (h : Head) (body : StmtTrees) → sums_in ps (all_numbered body) ≡ sums_in ps (numbered (Do h body))
 sums_do ps h body = sym (first_sums ps (Do h body) (all_numbered body) (no_sum (Do h body) (λ x. refl) ps))
-
--- a statement that is no sum and has no others in it
-module _ (ps : List Partials) (s : StmtTree) (none : (x : List ℕ) → sum_to x s ≡ None) (one : numbered s ≡ s ∷ []) where
-  pub origins_alone : (n : ℕ) → n ∷ [] ≡ summed_origins ps (numbered s) n
-  origins_alone n = ap (λ (b : Bool). repeated b n ++ []) (sym (no_sum s none ps)) ∙ ap (λ (ss : List StmtTree). summed_origins ps ss n) (sym one)
-
-  pub sums_alone : 0 ≡ sums_in ps (numbered s)
-  sums_alone = sym (first_sums ps s [] (no_sum s none ps)) ∙ ap (sums_in ps) (sym one)

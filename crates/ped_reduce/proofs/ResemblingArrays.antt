@@ -1,15 +1,12 @@
 -- Two references to one array, each at the variable of a DO round both: no vector of theirs has `=` for the DO loops round that DO and `<` for it (Allen and Kennedy, section 3.3.2: strong SIV with distance 0).
-use Rattle.std.proofs.Common.{◌≡◌, ℕ, zero, suc, ◌+◌, ◌-◌, ◌*◌, ◌≤◌, ◌==◌, ℤ, pos, negsuc, ◌+ℤ◌, ◌*ℤ◌, ◌<ℤ◌, List, [], ◌∷◌, ◌++◌, map, filter, cond, length, take, drop, Bool, true, false, not, ◌&&◌, ◌||◌, Option, Some, None, if◌then◌else◌, refl, sym, ap, subst, ◌∙◌, arith, eqb-true, append-nil}
-use Rattle.std.specs.Prelude.{slice_index_or, nat_le, unsigned_abs}
+use Rattle.std.proofs.Common.{◌≡◌, ℕ, zero, suc, ◌+◌, ◌≤◌, ◌==◌, ℤ, pos, negsuc, ◌+ℤ◌, ◌*ℤ◌, List, [], ◌∷◌, ◌++◌, map, cond, length, take, drop, Bool, true, false, not, ◌&&◌, ◌||◌, Option, Some, None, if◌then◌else◌, refl, sym, ap, subst, ◌∙◌, arith, eqb-true, append-nil}
 use Rattle.std.specs.Ordering.{int_eq}
 use Rattle.std.specs.Cmp.Lexicographic.{pointwise}
 use Rattle.std.specs.List.{list_any, list_all, AllByRecursion}
 use Rattle.std.proofs.lemmas.Int.{ints}
-use Rattle.std.proofs.lemmas.Bool.{both_ways}
 use Rattle.ped_base.specs.Lists.{is_same_text, is_among}
 use Rattle.ped_base.proofs.NameEquality.{same_itself}
-use Rattle.ped_tree.proofs.NameLaws.Collected.{among_append}
-use Rattle.ped_tree.specs.Tree.{ExprTree, Var}
+use Rattle.ped_tree.specs.Tree.{Var}
 use Rattle.ped_tree.specs.Constants.ConstantExpressions.{constant_value}
 use Rattle.ped_tree.specs.Nests.{Loop, indices_of, common_nest}
 use Rattle.ped_splits.specs.ped_reindex.specs.ped_loops.specs.ped_scalar.specs.ped_rules.specs.ped_loop_runs.specs.ped_bodies.specs.ped_steps.specs.ped_flow.proofs.Truths.{untrue, or_none}
@@ -17,14 +14,14 @@ use Rattle.ped_splits.specs.ped_reindex.specs.ped_loops.specs.ped_scalar.specs.p
 use Rattle.ped_splits.specs.ped_reindex.specs.ped_loops.specs.ped_scalar.specs.ped_rules.specs.ped_loop_runs.specs.ped_bodies.specs.ped_steps.specs.ped_views.specs.declared.directions.Direction.TheVariants.{Before, Same, After}
 use Rattle.ped_splits.specs.ped_reindex.specs.ped_loops.specs.ped_scalar.specs.ped_rules.specs.ped_loop_runs.specs.ped_bodies.specs.ped_steps.specs.ped_views.specs.declared.strong_rows.StrongRow.{StrongRow}
 use Rattle.ped_splits.specs.ped_reindex.specs.ped_loops.specs.ped_scalar.specs.ped_rules.specs.ped_loop_runs.specs.ped_bodies.specs.ped_steps.specs.ped_views.specs.Whole.{is_zero}
-use Rattle.ped_splits.specs.ped_reindex.specs.ped_loops.specs.ped_scalar.specs.ped_rules.specs.ped_loop_runs.specs.ped_bodies.specs.ped_steps.specs.ped_views.specs.Views.{Range, SubscriptPair, View}
+use Rattle.ped_splits.specs.ped_reindex.specs.ped_loops.specs.ped_scalar.specs.ped_rules.specs.ped_loop_runs.specs.ped_bodies.specs.ped_steps.specs.ped_views.specs.Views.{SubscriptPair}
 use Rattle.ped_splits.specs.ped_reindex.specs.ped_loops.specs.ped_scalar.specs.ped_rules.specs.ped_loop_runs.specs.ped_bodies.specs.ped_steps.specs.ped_views.specs.Forms.{Occurrence, occurring, Form, strong_siv, other_form, common_form, form_of}
 use Rattle.ped_splits.specs.ped_reindex.specs.ped_loops.specs.ped_scalar.specs.ped_rules.specs.ped_loop_runs.specs.ped_bodies.specs.ped_steps.specs.ped_views.specs.Excluded.{StandsByValue, by_value, rows_in, group_of, MeetTogether, loop_at, direction_at, FormExcludes}
 use Rattle.ped_splits.specs.ped_reindex.specs.ped_loops.specs.ped_scalar.specs.ped_rules.specs.ped_loop_runs.specs.ped_bodies.specs.ped_steps.specs.ped_views.specs.Vectors.{IsPossible}
 use Rattle.ped_splits.specs.ped_reindex.specs.ped_loops.specs.ped_scalar.specs.ped_rules.specs.ped_loop_runs.specs.ped_bodies.specs.ped_steps.specs.ped_affine.specs.Ranges.{Setting}
-use Rattle.ped_splits.specs.ped_reindex.specs.ped_loops.specs.ped_scalar.specs.ped_rules.specs.ped_loop_runs.specs.ped_bodies.specs.ped_steps.specs.ped_affine.specs.AffineForms.{AffineForm, form, is_small, is_limited, within_limits, unknown_coefficient, unknown_form, variable_form, constant_or, affine_of}
-use Rattle.ped_splits.specs.ped_reindex.specs.ped_loops.specs.ped_scalar.specs.ped_rules.specs.ped_loop_runs.specs.ped_bodies.specs.ped_steps.specs.ped_affine.specs.PairViews.{Site, Depths, depths_of, is_other, other_variables, terms_of, row_of, other_coefficients, unusable, usable_pair, subscript_pair, position_of, view_at}
-use Rattle.ped_splits.specs.ped_reindex.specs.ped_loops.specs.ped_scalar.specs.ped_rules.specs.ped_loop_runs.specs.ped_bodies.specs.ped_steps.specs.ped_laws.specs.ped_graph.specs.Dependences.{Carriage, carried, independent, backward, carriage_from, is_of}
+use Rattle.ped_splits.specs.ped_reindex.specs.ped_loops.specs.ped_scalar.specs.ped_rules.specs.ped_loop_runs.specs.ped_bodies.specs.ped_steps.specs.ped_affine.specs.AffineForms.{AffineForm, is_small, is_limited, within_limits, unknown_coefficient, unknown_form, variable_form, constant_or, affine_of}
+use Rattle.ped_splits.specs.ped_reindex.specs.ped_loops.specs.ped_scalar.specs.ped_rules.specs.ped_loop_runs.specs.ped_bodies.specs.ped_steps.specs.ped_affine.specs.PairViews.{Site, Depths, depths_of, is_other, other_variables, terms_of, other_coefficients, unusable, usable_pair, subscript_pair, position_of, view_at}
+use Rattle.ped_splits.specs.ped_reindex.specs.ped_loops.specs.ped_scalar.specs.ped_rules.specs.ped_loop_runs.specs.ped_bodies.specs.ped_steps.specs.ped_laws.specs.ped_graph.specs.Dependences.{carriage_from, is_of}
 
 -- numbers that all are 0
 abbrev AllZero : List ℤ → Type 0

@@ -44,7 +44,7 @@ use Rattle.ped_splits.specs.ped_reindex.specs.ped_loops.specs.ped_scalar.specs.p
 use Rattle.ped_splits.specs.ped_reindex.specs.ped_loops.specs.ped_scalar.specs.ped_rules.specs.Spans.{Values, Span, has_iteration, last_value, span_by, span_of, is_far}
 use Rattle.ped_splits.specs.ped_reindex.specs.ped_loops.specs.ped_scalar.specs.ped_rules.proofs.OneLoop.{one_loop}
 use Rattle.ped_splits.specs.ped_reindex.specs.ped_loops.specs.ped_scalar.specs.ped_rules.proofs.RightSteps.{near_is}
-use Rattle.ped_reduce.specs.Lowering.{Partials, declarations, lowered_loop}
+use Rattle.ped_reduce.specs.Lowering.{Partials, lowered_loop}
 use Rattle.ped_reduce.proofs.LoopsRoundGaps.{gap_loops, gap_nest}
 use Rattle.ped_reduce.proofs.ResemblingPaths.{in_gap}
 use Rattle.ped_reduce.proofs.LoweredNames.{in_lowered}
@@ -53,7 +53,7 @@ use Rattle.ped_reduce.proofs.SumPlaces.{moves}
 use Rattle.ped_reduce.proofs.SumKeeps.{IsKeptApart}
 use Rattle.ped_reduce.proofs.SumGoals.{kept_apart, MayKeepApart, DeclaredApart}
 use Rattle.ped_reduce.proofs.SumNames.{IsUnlike, lowered_lacks, filled_more}
-use Rattle.ped_reduce.proofs.SumDeclared.{saved_declared, program, values_declared, kinds_declared, names_declared, arrays_declared}
+use Rattle.ped_reduce.proofs.SumDeclared.{saved_declared, values_declared, kinds_declared, names_declared, arrays_declared}
 
 -- what none is, one isn't; and what one is, is found
 none_of : {A : Type 0} (f : A → Bool) (xs : List A) (a : A) → list_any f xs ≡ false → IsIn a xs → f a ≡ false

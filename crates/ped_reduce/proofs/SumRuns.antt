@@ -1,7 +1,6 @@
 -- Statements in which sums are kept apart go on where the statements do.
 use Rattle.std.proofs.Common.{◌≡◌, ℕ, suc, ◌+◌, ℤ, List, [], ◌∷◌, ◌++◌, Bool, true, false, ◌||◌, ◌⊎◌, inl, inr, Option, Some, None, refl, sym, ap, subst, ◌∙◌, if◌then◌else◌}
 use Rattle.std.specs.Prelude.{not, ◌&&◌, ◌==◌}
-use Rattle.std.specs.List.{list_any}
 use Rattle.std.proofs.lemmas.Bool.{both_ways, or_parts}
 use Rattle.std.proofs.lemmas.List.Folds.{list_any-append}
 use Rattle.ped_base.specs.Dimensions.{Dimensions}
@@ -20,7 +19,7 @@ use Rattle.ped_splits.specs.ped_reindex.specs.ped_loops.specs.ped_scalar.specs.p
 use Rattle.ped_splits.specs.ped_reindex.specs.ped_loops.specs.ped_scalar.specs.ped_rules.specs.ped_loop_runs.specs.ped_bodies.specs.ped_steps.specs.ped_laws.specs.ped_eval.specs.Evaluation.{Seen, numbered, number_behind}
 use Rattle.ped_splits.specs.ped_reindex.specs.ped_loops.specs.ped_scalar.specs.ped_rules.specs.ped_loop_runs.specs.ped_bodies.specs.ped_steps.specs.ped_laws.specs.ped_eval.specs.Values.{truth}
 use Rattle.ped_splits.specs.ped_reindex.specs.ped_loops.specs.ped_scalar.specs.ped_rules.specs.ped_loop_runs.specs.ped_bodies.specs.ped_steps.specs.ped_laws.specs.ped_eval.specs.Loops.{Limits, limits, increment, iteration_count, sorted_once, inner_variables, Entered, entered_with, frame, undefined_by, undefined_all, exit_touches, exit_when_none, entry_touches}
-use Rattle.ped_splits.specs.ped_reindex.specs.ped_loops.specs.ped_scalar.specs.ped_rules.specs.ped_loop_runs.specs.ped_bodies.specs.ped_steps.specs.ped_laws.specs.ped_eval.specs.Runs.{going, Run, nothing_done, then_run, does, on, run_assignment, run_print, run_read, run_if, run_from_entry, run_do, run, run_all}
+use Rattle.ped_splits.specs.ped_reindex.specs.ped_loops.specs.ped_scalar.specs.ped_rules.specs.ped_loop_runs.specs.ped_bodies.specs.ped_steps.specs.ped_laws.specs.ped_eval.specs.Runs.{going, Run, nothing_done, then_run, does, run_assignment, run_print, run_read, run_if, run_from_entry, run_do, run, run_all}
 use Rattle.ped_splits.specs.ped_reindex.specs.ped_loops.specs.ped_scalar.specs.ped_rules.specs.ped_loop_runs.specs.ped_bodies.specs.ped_steps.specs.ped_laws.proofs.RunLaws.Sight.{truth_told, limits_told}
 use Rattle.ped_splits.specs.ped_reindex.specs.ped_loops.specs.ped_scalar.specs.ped_rules.specs.ped_loop_runs.specs.ped_bodies.specs.ped_steps.specs.ped_laws.proofs.RunLaws.StatementsTold.{run_told}
 use Rattle.ped_splits.specs.ped_reindex.specs.ped_loops.specs.ped_scalar.specs.ped_rules.specs.ped_loop_runs.specs.ped_bodies.specs.ped_steps.specs.ped_laws.proofs.FlowRunLaws.Names.{inner_among}
@@ -32,7 +31,7 @@ use Rattle.ped_reduce.proofs.SumSight as sight
 use Rattle.ped_reduce.proofs.SumSight.{AllTouch, all_append, numbered_touch}
 use Rattle.ped_reduce.proofs.SumGoing.{GoesAlong, Along, nothing_along, then_along, does_along, on_along, chosen_along, entry_along}
 use Rattle.ped_reduce.proofs.SumSteps.{operand, StandsAt, CameOfSum, scalar_first, scalar_last, taken_away}
-use Rattle.ped_reduce.proofs.SumParts.{ComesFrom, holds_same, three, behind_sum, three_go, three_come, within_sum}
+use Rattle.ped_reduce.proofs.SumParts.{ComesFrom, holds_same, behind_sum, three_go, three_come, within_sum}
 use Rattle.ped_reduce.proofs.SumBodies.{Lacks, OneOr, IsSumOr, IsFreeOf, IsClearHead, IsClear, AreClear, CountsAlike, CountAlike, all_variables_kept, then_nothing, same_touches, told_along, scalars, elements, assignment_clear, print_clear, read_clear}
 
 -- what a sum looks like

@@ -4,7 +4,7 @@ use Rattle.std.specs.Char.{to_ascii_uppercase}
 use Rattle.ped_base.specs.Letters.{name_of}
 use Rattle.ped_base.specs.Lists.{is_same_text, has_some}
 use Rattle.ped_tree.specs.Grammar.Columns.{is_blank}
-use Rattle.ped_tree.specs.Tree.{Head, StmtTree, StmtTrees, Assign, If, Do, Print, Read, Stop, Comment, no_stmts, more_stmts}
+use Rattle.ped_tree.specs.Tree.{Head, StmtTrees, Assign, If, Do, Print, Read, Stop, Comment, no_stmts, more_stmts}
 
 -- the text of a comment in capitals, without blanks
 abbrev pub folded : List ℕ → List ℕ

@@ -52,14 +52,14 @@ abbrev pub with_sum : ExprTree → Sum → ExprTree
 with_sum a (plus e) = Add a e
 with_sum a (minus e) = Sub a e
 
--- what is added goes to the low part, which stays less than 65536 in size; the rest goes to the high part
+-- KXa(v) = KXa(v)+(KXb(v)+e)/65536; KXb(v) = MOD(KXb(v)+e,65536); KXc(v) = 1: what an iteration adds to a scalar is kept as KXa(v)*65536+KXb(v), where KXb(v) stays less than 65536 in size (this project)
 abbrev pub added_apart : List ℕ → Partials → Sum → StmtTrees
 added_apart v p sum =
     more_stmts (Assign (at p.high v) (Add (at p.high v) (Div (with_sum (at p.low v) sum) (Int 65536))))
     (more_stmts (Assign (at p.low v) (Call Mod (more_exprs (with_sum (at p.low v) sum) (more_exprs (Int 65536) no_exprs))))
     (alone (Assign (at p.flag v) (Int 1))))
 
--- these statements, where nothing is added; else the statements that add it apart
+-- the statements that keep apart what a sum adds; where the statement is no sum, the others
 abbrev pub apart_or : List ℕ → Partials → Option Sum → StmtTrees → StmtTrees
 apart_or v p None others = others
 apart_or v p (Some sum) others = added_apart v p sum
@@ -165,7 +165,7 @@ abbrev pub near_only : Option Span → Option Span
 near_only None = None
 near_only (Some v) = if spans_far v then None else Some v
 
--- the statement with number s, where it is a DO whose variable has values that literals have, is lowered for these scalars
+-- the statement with number s is lowered for these scalars; there is nothing where it isn't a DO, where its bounds aren't constant or it has no iteration, where a value of its variable is more than 2147483647 in size, or where too few names KX1, KX2 and so on are left
 abbrev pub lowered_statement : Bool → Lowered → (s : ℕ) → List (List ℕ) → StmtTree → Option Lowered
 lowered_statement parallel p s names (Do h body) =
     and_then (near_only (span_of (table_of p.tree).constants h)) (λ v. option_map (lowered_with parallel p s body v) (partials_of names (fresh_arrays p.tree)))

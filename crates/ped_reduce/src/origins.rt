@@ -168,11 +168,7 @@ fn count_sums_in(partials: &[Partials], statement: &Stmt) -> u32
         Stmt::Do(d) => count_sums(partials, &d.body),
         Stmt::Comment(_) => 0,
         Stmt::Assign { left: _, right: _ } | Stmt::Print(_) | Stmt::Read(_) | Stmt::Stop => {
-            if is_sum(partials, statement) {
-                1
-            } else {
-                0
-            }
+            if is_sum(partials, statement) { 1 } else { 0 }
         }
     }
 }

@@ -21,7 +21,11 @@ use ped_tree::{Cond, Do, Expr, Intrinsic, Relation, Stmt};
 use std::alloc::Global;
 
 /// The DO with all sums kept apart as a PARALLEL DO, and behind it the DO that adds them to the scalars.
-pub(crate) fn lowered_loop(alloc: Global, partials: &[Partials], d: &Do) -> Result<Vec<Stmt>, NoMemory>
+pub(crate) fn lowered_loop(
+    alloc: Global,
+    partials: &[Partials],
+    d: &Do,
+) -> Result<Vec<Stmt>, NoMemory>
     ensures { IfOk result (λ all. stmt_trees all.items ≡ Spec.lowered_loop true (map partials_view partials.now) (head_of d.now) (stmt_trees d.now.body.items)) }
 {
     let mut all = Vec::new(alloc);
@@ -202,10 +206,7 @@ fn low_part(alloc: Global, v: Name, p: &Partials, sum: &Sum) -> Result<Stmt, NoM
     arguments.push(with_sum(alloc, v, p, sum)?)?;
     arguments.push(Expr::literal(65536))?;
     let left = at(alloc, p.low, v)?;
-    Ok(Stmt::assignment(
-        left,
-        Expr::call(Intrinsic::Mod, arguments),
-    ))
+    Ok(Stmt::assignment(left, Expr::call(Intrinsic::Mod, arguments)))
 }
 
 /// The low part with what is added, or without what is taken away.

@@ -4,6 +4,8 @@ ghost use Rattle.std.specs.Prelude.{ℕ, List, Option};
 ghost use Rattle.ped_answer.specs.ped_io.specs.Outside.{Contents};
 ghost use Rattle.ped_answer.specs.ped_session.specs.ped_tree.specs.Tree.{ProgramTree};
 ghost use Rattle.ped_answer.specs.ped_session.specs.ped_symbols.specs.NameRefusals.{IsValid};
+ghost use Rattle.ped_answer.specs.ped_session.specs.ped_transformations.specs.ped_reduce.specs.Lowering.{Lowered};
+ghost use Rattle.ped_answer.specs.ped_session.specs.ped_transformations.specs.ped_reduce.specs.Reducing.{IsLowered};
 ghost use Rattle.ped_answer.specs.ped_session.specs.ped_transformations.specs.ped_script.specs.declared.items.Command.{Command};
 ghost use Rattle.ped_answer.specs.ped_session.specs.ped_transformations.specs.ped_script.specs.declared.items.Item.{Item};
 ghost use Rattle.ped_answer.specs.ped_session.specs.declared.replies.Reply.{Reply};
@@ -16,6 +18,12 @@ ghost use Rattle.ped_answer.specs.ped_words.specs.Requests.{Request};
 ghost use Rattle.ped_answer.specs.Answer.{Answers};
 
 use ped_session::an_interleaving;
+
+/// Each program is lowered, whatever lists of sums it has: of each list it is settled whether it is live. That no program is
+/// lowered in a second way says `one_lowering` of ped_reduce.
+pub fn lowerings_exist()
+    ensures { (t : ProgramTree) → (q : Lowered) × IsLowered t q }
+{}
 
 /// Each command has a reply in each state whose sources are printed texts of valid programs, and leads to a state. That it
 /// has no second reply says `one_step` of ped_session, and that no script leads to other sources `sources_are_printed`.

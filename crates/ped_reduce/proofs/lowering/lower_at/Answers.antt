@@ -1,6 +1,5 @@
-use Rattle.std.proofs.Common.{Option, inl, subst}
+use Rattle.std.proofs.Common.{inl, subst}
 use Rattle.ped_tree.specs.Views.{program_tree}
-use Rattle.ped_reduce.specs.declared.lowering.Lowered.{Lowered}
 use Rattle.ped_reduce.specs.CodeLowered.{IsLiveAt}
 use Rattle.ped_reduce.proofs.LoweringAnswers.{stays, unlowered}
 use Rattle.ped_reduce.proofs.lowering.lower_at.Goals as goal

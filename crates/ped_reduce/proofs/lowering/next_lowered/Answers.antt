@@ -1,4 +1,4 @@
-use Rattle.std.proofs.Common.{◌≡◌, ℕ, ◌+◌, List, length, ap, arith}
+use Rattle.std.proofs.Common.{◌≡◌, ◌+◌, List, length, ap, arith}
 use Rattle.ped_tree.specs.Numbering.{statements_count}
 use Rattle.ped_tree.specs.Views.{program_tree, stmt_trees, head_of}
 use Rattle.ped_tree.specs.declared.statements.Stmt.{Stmt}

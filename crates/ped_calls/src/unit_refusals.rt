@@ -2,6 +2,7 @@
 
 ghost use Rattle.std.specs.Prelude.{◌≡◌, IfOk, Some, map};
 ghost use Rattle.std.specs.List.{flat_map};
+ghost use Rattle.ped_tree.specs.Views.{decl_tree};
 ghost use Rattle.ped_tree.specs.Grammar.Refusal.{earliest, first_of};
 ghost use Rattle.ped_tree.specs.Grammar.ItemViews.{item_of, reading_of};
 ghost use Rattle.ped_tree.specs.Grammar.ProgramRefusals as ProgramRefusals;
@@ -123,7 +124,9 @@ fn says_of_main(item: &Item) -> bool
     }
 }
 
-fn is_main_declaration(decl: &Decl) -> bool {
+fn is_main_declaration(decl: &Decl) -> bool
+    ensures { result ≡ Spec.is_main_declaration (decl_tree decl.now) }
+{
     match decl {
         Decl::Program(_) | Decl::Save(_) => true,
         Decl::Implicit

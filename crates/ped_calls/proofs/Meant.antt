@@ -9,6 +9,7 @@ use Rattle.ped_tree.specs.Tree.{ExprTree}
 use Rattle.ped_tree.specs.Views.{expr_tree, value_tree}
 use Rattle.ped_tree.specs.declared.expressions.Expr.{Expr}
 use Rattle.ped_valid.specs.ped_symbols.specs.Entries.{entry_of, with_entry}
+use Rattle.ped_calls.specs.Expanding.{or_itself, meaning}
 
 -- the plain tree, where there is one
 abbrev pub tree_found : Option Expr → Option ExprTree
@@ -47,3 +48,7 @@ table_finds x es = names.looked_up x es
 pub none_found : {X : Type 0} (o : Option X) → is_some o ≡ false → o ≡ None
 none_found None h = refl
 none_found (Some v) h = absurd cc
+
+-- what stands for a name, by what the table finds
+pub meant : (es : List (List ℕ × Expr)) (x : List ℕ) (o : Option Expr) → lookup ((code.eq-value).it x) es ≡ o → or_itself x (tree_found o) ≡ meaning (map value_tree es) x
+meant es x o h = sym (ap (or_itself x) (found_meant es x ∙ ap tree_found (sym (table_finds x es) ∙ h)))

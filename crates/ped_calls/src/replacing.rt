@@ -62,9 +62,19 @@ impl Meanings {
         ensures { result ≡ Spec.name_meant (meanings_of self.now) name.now }
     {
         match self.exprs.get(name) {
-            Some(Expr::Var(other)) => *other,
-            _ => *name,
+            Some(e) => name_or(name, e),
+            None => *name,
         }
+    }
+}
+
+/// The name that an expression is, else another.
+fn name_or(name: &Name, e: &Expr) -> Name
+    ensures { result ≡ Spec.name_or name.now (expr_tree e.now) }
+{
+    match e {
+        Expr::Var(other) => *other,
+        _ => *name,
     }
 }
 

@@ -1,20 +1,16 @@
-use Rattle.std.proofs.Common.{rules, ◌≡◌, ℕ, List, map, Option, Some, None, Result, Ok, Err, IfOk, sym, ap, ◌∙◌}
+use Rattle.std.proofs.Common.{rules, ◌≡◌, ℕ, List, Some, None, Result, Ok, Err, IfOk, sym, ap, ◌∙◌}
 use Rattle.std.specs.Map.{lookup}
 use Rattle.ped_base.specs.contracts.identifiers.NamePartialEq.TheImpl as code
 use Rattle.ped_tree.specs.Tree.{ExprTree, Var}
-use Rattle.ped_tree.specs.Views.{expr_tree, expr_level, value_tree}
+use Rattle.ped_tree.specs.Views.{expr_tree, expr_level}
 use Rattle.ped_tree.specs.declared.expressions.Expr.{Expr}
 use Rattle.ped_tree.specs.declared.expressions.Expr.TheOpen as open_expr
 use Rattle.ped_tree.specs.declared.expressions.Expr.TheVariants as variant
 use Rattle.ped_tree.specs.declared.expressions.Expr.TheFolds.{fold-roll-Expr}
-use Rattle.ped_calls.specs.Expanding.{or_itself, meaning}
-use Rattle.ped_calls.proofs.Meant.{tree_found, found_meant, table_finds}
+use Rattle.ped_calls.proofs.Meant.{meant}
 use Rattle.ped_calls.proofs.replacing.Meanings.of.Goals as goal
 
--- what stands for a name, by what the table finds
-meant : (es : List (List ℕ × Expr)) (x : List ℕ) (o : Option Expr) → lookup ((code.eq-value).it x) es ≡ o → or_itself x (tree_found o) ≡ meaning (map value_tree es) x
-meant es x o h = sym (ap (or_itself x) (found_meant es x ∙ ap tree_found (sym (table_finds x es) ∙ h)))
-
+-- a copy stands for the same
 copied : {E : Type 0} (result : Result Expr E) (e : Expr) (t : ExprTree) → expr_tree e ≡ t → IfOk result (λ new. expr_tree new ≡ expr_tree e) → IfOk result (λ new. expr_tree new ≡ t)
 copied (Ok new) e t h k = k ∙ h
 copied (Err x) e t h k = tt

@@ -1,9 +1,9 @@
 //! The refusals 7 to 13 that stand in a unit beside those of its statements with something plain for each CALL.
 
-ghost use Rattle.std.specs.Prelude.{◌≡◌, IfOk, Some, map};
+ghost use Rattle.std.specs.Prelude.{◌≡◌, IfOk, Some, map, true};
 ghost use Rattle.std.specs.List.{flat_map};
 ghost use Rattle.ped_tree.specs.Views.{decl_tree};
-ghost use Rattle.ped_tree.specs.Grammar.Refusal.{earliest, first_of};
+ghost use Rattle.ped_tree.specs.Grammar.Refusal.{earliest, first_of, refused_if, Syntax};
 ghost use Rattle.ped_tree.specs.Grammar.ItemViews.{item_of, reading_of};
 ghost use Rattle.ped_tree.specs.Grammar.ProgramRefusals as ProgramRefusals;
 ghost use Rattle.ped_tree.specs.Grammar.RefusalViews.{found_of};
@@ -37,6 +37,7 @@ pub fn other_refusal(alloc: Global, segment: &Segment) -> Result<Option<Refusal>
 }
 
 /// The first of what is refused at CALLs for their arguments.
+#[tactic(auto, using(ped_tree::proofs::GrammarLaws::First::earliest_append))]
 fn at_calls(alloc: Global, entries: &[UnitEntry]) -> Result<Option<Refusal>, NoMemory>
     ensures { IfOk result (λ found. found_of found ≡ first_of (flat_map Spec.at_call (map unit_entry_of entries.now))) }
 {
@@ -75,7 +76,10 @@ fn at_directives(found: Option<Refusal>, statement: &Statement) -> Option<Refusa
     at_notes(found, statement.directives.as_slice())
 }
 
-fn at_notes(found: Option<Refusal>, directives: &[NoteLine]) -> Option<Refusal> {
+#[tactic(auto, using(ped_tree::proofs::GrammarLaws::First::earliest_append))]
+fn at_notes(found: Option<Refusal>, directives: &[NoteLine]) -> Option<Refusal>
+    ensures { found_of result ≡ earliest (found_of found) (flat_map (λ d. refused_if true Syntax d.line) (map note_of directives.now)) }
+{
     let mut found = found;
     for directive in directives {
         found = standing(found, true, RefusalKind::Syntax, directive.line);
@@ -84,6 +88,7 @@ fn at_notes(found: Option<Refusal>, directives: &[NoteLine]) -> Option<Refusal> 
 }
 
 /// The first of what was found and what is refused at statements of a subroutine alone.
+#[tactic(auto, using(ped_tree::proofs::GrammarLaws::First::earliest_append))]
 fn at_subroutine_entries(found: Option<Refusal>, entries: &[UnitEntry]) -> Option<Refusal>
     ensures { found_of result ≡ earliest (found_of found) (flat_map Spec.at_subroutine_entry (map unit_entry_of entries.now)) }
 {

@@ -1,6 +1,8 @@
 -- The first of several lists of refusals, by the first of each.
 use Rattle.std.proofs.Common.{◌≡◌, ℕ, Bool, true, false, cond, List, [], ◌∷◌, ◌++◌, Option, Some, None, refl, sym, ap, ◌∙◌, eqb, eqb-true, ltb, ◌||◌, ◌&&◌, arith}
 use Rattle.ped_tree.specs.Grammar.Refusal.{Finding, number_of, earlier, earliest, first_of, is_before}
+use Rattle.std.specs.List.{flat_map}
+use Rattle.ped_tree.proofs.GrammarLaws.First.{earliest_append}
 use Rattle.ped_calls.specs.Seeing.{combined}
 
 -- by line, and then by number
@@ -58,3 +60,11 @@ combined_first found (r ∷ rs) =
     ∙ ap (combined found) (sym (combined_first (Some r) rs))
     ∙ sym (combined_more found r (first_of rs))
     ∙ combined_first (earlier found r) rs
+
+-- one of several more has been looked at
+pub earliest_step : {X : Type 0} (f : X → List Finding) (whole found next : Option Finding) (xs rest : List X) (x : X) → earliest found (flat_map f xs) ≡ whole → xs ≡ x ∷ rest → next ≡ earliest found (f x) → earliest next (flat_map f rest) ≡ whole
+earliest_step {X} f whole found next xs rest x before is n =
+    ap (λ (o : Option Finding). earliest o (flat_map f rest)) n
+    ∙ sym (earliest_append found (f x) (flat_map f rest))
+    ∙ ap (λ (ys : List X). earliest found (flat_map f ys)) (sym is)
+    ∙ before

@@ -37,7 +37,6 @@ pub fn other_refusal(alloc: Global, segment: &Segment) -> Result<Option<Refusal>
 }
 
 /// The first of what is refused at CALLs for their arguments.
-#[tactic(auto, using(ped_tree::proofs::GrammarLaws::First::earliest_append))]
 fn at_calls(alloc: Global, entries: &[UnitEntry]) -> Result<Option<Refusal>, NoMemory>
     ensures { IfOk result (λ found. found_of found ≡ first_of (flat_map Spec.at_call (map unit_entry_of entries.now))) }
 {
@@ -76,7 +75,6 @@ fn at_directives(found: Option<Refusal>, statement: &Statement) -> Option<Refusa
     at_notes(found, statement.directives.as_slice())
 }
 
-#[tactic(auto, using(ped_tree::proofs::GrammarLaws::First::earliest_append))]
 fn at_notes(found: Option<Refusal>, directives: &[NoteLine]) -> Option<Refusal>
     ensures { found_of result ≡ earliest (found_of found) (flat_map (λ d. refused_if true Syntax d.line) (map note_of directives.now)) }
 {
@@ -88,7 +86,6 @@ fn at_notes(found: Option<Refusal>, directives: &[NoteLine]) -> Option<Refusal>
 }
 
 /// The first of what was found and what is refused at statements of a subroutine alone.
-#[tactic(auto, using(ped_tree::proofs::GrammarLaws::First::earliest_append))]
 fn at_subroutine_entries(found: Option<Refusal>, entries: &[UnitEntry]) -> Option<Refusal>
     ensures { found_of result ≡ earliest (found_of found) (flat_map Spec.at_subroutine_entry (map unit_entry_of entries.now)) }
 {

@@ -6,6 +6,7 @@ pub mod Earliest
 pub mod Read
 pub mod SeenBefore
 pub mod Packed
+pub mod CallLimits
 pub mod Meant
 pub mod EndedLists
 pub mod Entries

@@ -68,3 +68,11 @@ earliest_step {X} f whole found next xs rest x before is n =
     ∙ sym (earliest_append found (f x) (flat_map f rest))
     ∙ ap (λ (ys : List X). earliest found (flat_map f ys)) (sym is)
     ∙ before
+
+-- the first of some, the first of that and more, and the first of that and still more
+pub earliest_twice : (all more still : List Finding) (found next last : Option Finding) → found ≡ first_of all → next ≡ earliest found more → last ≡ earliest next still → last ≡ first_of (all ++ (more ++ still))
+earliest_twice all more still found next last f n l =
+    l
+    ∙ ap (λ (o : Option Finding). earliest o still) (n ∙ ap (λ (o : Option Finding). earliest o more) f)
+    ∙ sym (earliest_append (first_of all) more still)
+    ∙ sym (earliest_append None all (more ++ still))

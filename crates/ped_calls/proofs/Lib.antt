@@ -5,6 +5,7 @@ pub mod Saturating
 pub mod Earliest
 pub mod Read
 pub mod SeenBefore
+pub mod KeptCalls
 pub mod Packed
 pub mod CallLimits
 pub mod Meant

@@ -38,11 +38,9 @@ ends_next (e ∷ es) = is_end_next es ∷ ends_next es
 abbrev pub seen_as : Bool → Bool → UnitEntry → Entry
 seen_as in_subroutine before_end e = record { statement = e.statement; reading = as_reading stand_in in_subroutine before_end e.item }
 
--- statements with something plain in the place of each CALL, by what is known of the next one of each
-abbrev pub seen_by : Bool → List Bool → List UnitEntry → List Entry
-seen_by in_subroutine (b ∷ bs) (e ∷ es) = seen_as in_subroutine b e ∷ seen_by in_subroutine bs es
-seen_by in_subroutine [] es = []
-seen_by in_subroutine (b ∷ bs) [] = []
+-- a statement with its CALL as it stands in trees
+abbrev pub kept_as : Bool → Bool → UnitEntry → Entry
+kept_as in_subroutine before_end e = record { statement = e.statement; reading = as_reading units.call_statement in_subroutine before_end e.item }
 
 -- a unit that was begun, where an END has come in it or not, goes on with statements, and further units behind it
 abbrev pub segments_onto : Segment → Bool → List UnitEntry → List Segment

@@ -1,6 +1,6 @@
 //! Files read as program units, or refused by the rules 1 to 13.
 
-ghost use Rattle.std.specs.Prelude.{◌≡◌, ℕ, List, None, IfOk, IfErr, map};
+ghost use Rattle.std.specs.Prelude.{◌≡◌, ◌++◌, ◌∷◌, [], ℕ, List, None, IfOk, IfErr, map};
 ghost use Rattle.ped_tree.specs.Grammar.Grouping.{statements_of};
 ghost use Rattle.ped_tree.specs.Grammar.LineRefusals.{first_line_refusal};
 ghost use Rattle.ped_tree.specs.Grammar.Refusal.{first_of};
@@ -8,13 +8,13 @@ ghost use Rattle.ped_tree.specs.Grammar.RefusalViews.{finding_of, found_of};
 ghost use Rattle.ped_tree.specs.Grammar.Statement.{Statements as PlainStatements};
 ghost use Rattle.ped_tree.specs.Grammar.StatementViews.{note_of, statement_of, statements_view};
 ghost use Rattle.ped_valid.specs.ped_parse.specs.ped_expressions.specs.ExpressionReading.{saturated};
-ghost use Rattle.ped_calls.specs.Units.{ProgramUnits, all_units};
-ghost use Rattle.ped_calls.specs.Reading.{Segment as PlainSegment, segments_of};
+ghost use Rattle.ped_calls.specs.Units.{ProgramUnit as PlainUnit, ProgramUnits, all_units};
+ghost use Rattle.ped_calls.specs.Reading.{Segment as PlainSegment, segments_of, IsHeaded};
 ghost use Rattle.ped_calls.specs.Refusals.{ReadsUnits, segments_refusals};
-ghost use Rattle.ped_calls.specs.Seeing.{AreItemsReadAs, IsReadUnit, AreReadUnits, AreReadEach, IsBuiltOf, AreBuiltOf, combined};
+ghost use Rattle.ped_calls.specs.Seeing.{AreItemsReadAs, HeadsUnit, IsReadUnit, AreReadUnits, AreReadEach, IsBuiltOf, AreBuiltOf, combined};
 ghost use Rattle.ped_calls.specs.UnitReading.{IsItemReadAs};
 ghost use Rattle.ped_calls.specs.Verdicts.{found_in_text, RefusesUnits};
-ghost use Rattle.ped_calls.specs.Views.{unit_entry_of, segment_of, program_unit_of, IsUnitRefusalOf};
+ghost use Rattle.ped_calls.specs.Views.{unit_entry_of, head_of, segment_of, program_unit_of, IsUnitRefusalOf};
 
 use crate::forms::read_unit_item;
 use crate::items::{UnitEntry, UnitItem};
@@ -131,7 +131,10 @@ fn read_last(
     last: Segment,
     directives: &[NoteLine],
     lines: u64,
-) -> Result<Vec<ReadUnit>, NoMemory> {
+) -> Result<Vec<ReadUnit>, NoMemory>
+    ensures { IfOk result (λ units. (all : PlainStatements) → all.lines ≡ lines → all.directives ≡ map note_of directives.now
+        → AreReadUnits all (map segment_of segments.items ++ segment_of last ∷ []) units.items) }
+{
     let mut units = match read_earlier(alloc, segments, lines) {
         Ok(units) => units,
         Err(error) => {
@@ -179,7 +182,9 @@ fn read_unit(
 }
 
 /// What the SUBROUTINE statement of a unit says.
-fn heading_of(alloc: Global, head: Option<UnitEntry>) -> Heading {
+fn heading_of(alloc: Global, head: Option<UnitEntry>) -> Heading
+    ensures { (u : PlainUnit) → HeadsUnit result u → IsHeaded (head_of head) u }
+{
     match head {
         Some(entry) => {
             let UnitEntry { statement, item } = entry;

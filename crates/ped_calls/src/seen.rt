@@ -1,13 +1,13 @@
 //! The statements of a unit as statements of the profile: something plain stands for each CALL.
 
-ghost use Rattle.std.specs.Prelude.{◌≡◌, ◌++◌, ◌∷◌, [], List, Bool, Some, IfOk, OnOk, map};
+ghost use Rattle.std.specs.Prelude.{◌≡◌, ◌++◌, ◌∷◌, [], List, Bool, Option, Some, IfOk, OnOk, map, drop};
 ghost use Rattle.ped_tree.specs.Grammar.ItemViews.{reading_of, entry_of};
-ghost use Rattle.ped_calls.specs.Forms.{UnitItem as PlainItem};
+ghost use Rattle.ped_calls.specs.Forms.{Called as PlainCalled, UnitItem as PlainItem};
 ghost use Rattle.ped_calls.specs.Units.{call_statement as call_statement_tree};
 ghost use Rattle.ped_calls.specs.Reading as Spec;
 ghost use Rattle.ped_calls.specs.Reading.{UnitEntry as PlainEntry};
 ghost use Rattle.ped_calls.specs.Refusals.{call_in};
-ghost use Rattle.ped_calls.specs.Seeing.{AreSeen, call_view, ends_next, seen_as};
+ghost use Rattle.ped_calls.specs.Seeing.{AreSeen, call_view, ends_next, kept_as, seen_as};
 ghost use Rattle.ped_calls.specs.Views.{called_of, unit_item_of, unit_entry_of};
 
 use crate::items::{Called, UnitEntry, UnitItem};
@@ -146,12 +146,27 @@ impl Seen {
     {
         let Seen { entries, calls } = self;
         let mut kept = Vec::new(alloc);
-        let mut place = 0;
         for entry in entries {
-            kept.push(with_call(alloc, entry, &calls[place])?)?;
-            place += 1;
+            let place = kept.len();
+            kept.push(with_call_at(alloc, entry, &calls, place)?)?;
         }
         Ok(kept)
+    }
+}
+
+/// A statement with its CALL, where there is one for it at this place.
+fn with_call_at(
+    alloc: Global,
+    entry: Entry,
+    calls: &[Option<Called>],
+    place: usize,
+) -> Result<Entry, NoMemory>
+    ensures { IfOk result (λ e. (in_subroutine before_end : Bool) (x : PlainEntry) (more : List (Option PlainCalled)) → map call_view (drop place calls.now) ≡ call_in x.item ∷ more → entry_of entry ≡ seen_as in_subroutine before_end x
+        → entry_of e ≡ kept_as in_subroutine before_end x) }
+{
+    match calls.get(place) {
+        Some(call) => with_call(alloc, entry, call),
+        None => Ok(entry),
     }
 }
 

@@ -76,3 +76,12 @@ earliest_twice all more still found next last f n l =
     ∙ ap (λ (o : Option Finding). earliest o still) (n ∙ ap (λ (o : Option Finding). earliest o more) f)
     ∙ sym (earliest_append (first_of all) more still)
     ∙ sym (earliest_append None all (more ++ still))
+
+-- the first of some and of more is the first of their firsts
+pub both_first : (some more : List Finding) (found other both : Option Finding) → found ≡ first_of some → other ≡ first_of more → both ≡ combined found other → both ≡ first_of (some ++ more)
+both_first some more found other both f o b =
+    b
+    ∙ ap (combined found) o
+    ∙ combined_first found more
+    ∙ ap (λ (x : Option Finding). earliest x more) f
+    ∙ sym (earliest_append None some more)

@@ -12,5 +12,6 @@ pub mod Meant
 pub mod EndedLists
 pub mod Entries
 pub mod FirstOfAll
+pub mod ReadUnits
 pub mod FreeNames
 pub mod CollectedNames

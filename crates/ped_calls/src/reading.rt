@@ -9,7 +9,7 @@ ghost use Rattle.ped_tree.specs.Grammar.Statement.{Statements as PlainStatements
 ghost use Rattle.ped_tree.specs.Grammar.StatementViews.{note_of, statement_of, statements_view};
 ghost use Rattle.ped_valid.specs.ped_parse.specs.ped_expressions.specs.ExpressionReading.{saturated};
 ghost use Rattle.ped_calls.specs.Units.{ProgramUnit as PlainUnit, ProgramUnits, all_units};
-ghost use Rattle.ped_calls.specs.Reading.{Segment as PlainSegment, segments_of, IsHeaded};
+ghost use Rattle.ped_calls.specs.Reading.{Segment as PlainSegment, segments_of, is_subroutine, IsHeaded};
 ghost use Rattle.ped_calls.specs.Refusals.{ReadsUnits, segments_refusals};
 ghost use Rattle.ped_calls.specs.Seeing.{AreItemsReadAs, HeadsUnit, IsReadUnit, AreReadUnits, AreReadEach, IsBuiltOf, AreBuiltOf, combined};
 ghost use Rattle.ped_calls.specs.UnitReading.{IsItemReadAs};
@@ -168,7 +168,7 @@ fn read_unit(
 {
     let other = other_refusal(alloc, &segment)?;
     let Segment { head, entries } = segment;
-    let in_subroutine = head.is_some();
+    let in_subroutine = is_headed(&head);
     let head = heading_of(alloc, head);
     let seen = seen_statements(alloc, entries, in_subroutine)?;
     let saved = saved_names(alloc, &seen.entries)?;
@@ -179,6 +179,16 @@ fn read_unit(
         saved,
         first: first_of_both(other, first),
     })
+}
+
+/// Whether a unit has a SUBROUTINE statement.
+fn is_headed(head: &Option<UnitEntry>) -> bool
+    ensures { result ≡ is_subroutine (head_of head.now) }
+{
+    match head {
+        Some(_) => true,
+        None => false,
+    }
 }
 
 /// What the SUBROUTINE statement of a unit says.

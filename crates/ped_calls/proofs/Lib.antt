@@ -13,5 +13,6 @@ pub mod EndedLists
 pub mod Entries
 pub mod FirstOfAll
 pub mod ReadUnits
+pub mod BuiltUnits
 pub mod FreeNames
 pub mod CollectedNames

@@ -1,17 +1,18 @@
 -- What is read of the statements of a file, where literals are saturated, is refused as they are, and is what they say where nothing is refused.
 use Rattle.std.proofs.Common.{◌≡◌, ℕ, List, [], ◌∷◌, ◌++◌, map, Bool, true, false, Option, Some, None, refl, sym, ap, ap₂, subst, ◌∙◌}
 use Rattle.std.specs.Prelude.{◌||◌}
-use Rattle.std.specs.List.{flat_map}
-use Rattle.ped_tree.specs.Tree.{ProgramTree}
+use Rattle.std.specs.List.{flat_map, list_any}
+use Rattle.ped_tree.specs.Tree.{ProgramTree, more_stmts, no_stmts}
 use Rattle.ped_tree.specs.Grammar.Refusal.{Finding, refused_if, first_of}
 use Rattle.ped_tree.specs.Grammar.Statement.{Statement, Statements}
-use Rattle.ped_tree.specs.Grammar.Items.{Item, Reading, says, outside_profile, no_form, Entry}
+use Rattle.ped_tree.specs.Grammar.Items.{Item, Reading, says, outside_profile, no_form, logical_if, Entry}
 use Rattle.ped_tree.specs.Grammar.Contexts.{Context, at_start, behind, behind_all}
+use Rattle.ped_tree.specs.Grammar.Literals.{stmt_has_large_literal}
 use Rattle.ped_tree.specs.Grammar.Grouping.{statements_of}
 use Rattle.ped_tree.specs.Grammar.LineRefusals.{first_line_refusal}
 use Rattle.ped_tree.specs.Grammar.Occurrences.{saved_names}
 use Rattle.ped_tree.specs.Grammar.ProgramForms.{first_lines}
-use Rattle.ped_tree.specs.Grammar.ProgramRefusals.{where_it_says, is_too_large, passes_limit, at_statement, at_statements, at_end, program_refusals}
+use Rattle.ped_tree.specs.Grammar.ProgramRefusals.{listed_stmts, where_it_says, is_too_large, passes_limit, at_statement, at_statements, at_end, program_refusals}
 use Rattle.ped_valid.specs.ped_parse.specs.ped_blocks.specs.Machine.{nothing_built, take_entries, built_program}
 use Rattle.ped_valid.specs.ped_parse.specs.ped_blocks.proofs.BlocksFound.{none_stands, left_empty, right_empty, first_none}
 use Rattle.ped_valid.specs.ped_parse.specs.ped_expressions.specs.ExpressionReading.{saturated}
@@ -46,7 +47,7 @@ small_item saved c rest in_subroutine before_end (plain outside_profile) h k = r
 small_item saved c rest in_subroutine before_end (plain no_form) h k = refl
 small_item saved c rest in_subroutine before_end (calls d) h k = ap calls (small_called d (neither _ _ k).0)
 small_item saved c rest in_subroutine before_end (calls_if e d) h k =
-    let condition = cond_small_saturated e (neither _ _ (not_large saved c rest _ h)).0 in
+    let condition = cond_small_saturated e (neither _ (list_any stmt_has_large_literal (listed_stmts (more_stmts (stand_in d) no_stmts))) (not_large saved c rest (logical_if e (more_stmts (stand_in d) no_stmts)) h)).0 in
     let call = small_called d (neither _ _ k).0 in
     λ j. calls_if (condition j) (call j)
 small_item saved c rest in_subroutine before_end (begins_unit x formals) h k = refl

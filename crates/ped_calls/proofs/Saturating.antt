@@ -48,9 +48,10 @@ item_arguments (does s) = statement_arguments s
 item_arguments i = no_exprs
 
 small_arguments : (es : ExprTrees) → have_large_literal es ≡ false → all_with_literals saturated es ≡ es
+unfolding item_arguments statement_arguments right_arguments
 small_arguments es h = ap item_arguments (small_same (does (Assign (Int 0) (Call Max es))) h)
 
-small_called : (c : Called) → have_large_literal c.arguments ≡ false → called_with_literals saturated c ≡ c
+pub small_called : (c : Called) → have_large_literal c.arguments ≡ false → called_with_literals saturated c ≡ c
 small_called c h = λ i. record { name = c.name; arguments = small_arguments c.arguments h i }
 
 -- something plain in the place of a CALL
@@ -206,7 +207,7 @@ at_entry_with e = λ i.
 at_call_with : (e : UnitEntry) → at_call (entry_with_literals saturated e) ≡ at_call e
 at_call_with e = λ i. refused_if (call_in_with e.item i) Limit e.statement.line
 
-subroutine_with : (head : Option UnitEntry) → is_subroutine (head_with head) ≡ is_subroutine head
+pub subroutine_with : (head : Option UnitEntry) → is_subroutine (head_with head) ≡ is_subroutine head
 subroutine_with None = refl
 subroutine_with (Some e) = refl
 

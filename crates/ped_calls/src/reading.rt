@@ -8,6 +8,7 @@ ghost use Rattle.ped_tree.specs.Grammar.RefusalViews.{finding_of, found_of};
 ghost use Rattle.ped_tree.specs.Grammar.Statement.{Statements as PlainStatements};
 ghost use Rattle.ped_tree.specs.Grammar.StatementViews.{note_of, statement_of, statements_view};
 ghost use Rattle.ped_valid.specs.ped_parse.specs.ped_expressions.specs.ExpressionReading.{saturated};
+ghost use Rattle.ped_valid.specs.ped_parse.specs.ped_lines.specs.Errors.{IsErrorOf};
 ghost use Rattle.ped_calls.specs.Units.{ProgramUnit as PlainUnit, ProgramUnits, all_units};
 ghost use Rattle.ped_calls.specs.Reading.{Segment as PlainSegment, segments_of, is_subroutine, IsHeaded};
 ghost use Rattle.ped_calls.specs.Refusals.{ReadsUnits, segments_refusals};
@@ -58,8 +59,17 @@ pub fn read_units(alloc: Global, text: &[u8]) -> Result<Vec<ProgramUnit>, UnitRe
 {
     match statements(alloc, text) {
         Ok(cut) => nested(alloc, cut),
-        Err(LinesError::Refused(refusal)) => Err(at(refusal)),
-        Err(LinesError::NoMemory) => Err(UnitRefusal::NoMemory),
+        Err(error) => Err(of_lines(error)),
+    }
+}
+
+/// Why a text whose lines aren't read isn't opened.
+fn of_lines(error: LinesError) -> UnitRefusal
+    ensures { (text : List ℕ) → IsErrorOf text error → IsUnitRefusalOf text result }
+{
+    match error {
+        LinesError::Refused(refusal) => at(refusal),
+        LinesError::NoMemory => UnitRefusal::NoMemory,
     }
 }
 

@@ -6,8 +6,9 @@ use Rattle.ped_tree.specs.declared.grammar.statements.Statement as lines
 use Rattle.ped_tree.specs.declared.grammar.statements.NoteLine.{NoteLine}
 use Rattle.ped_calls.specs.Reading.{UnitEntry, segments_of}
 use Rattle.ped_calls.specs.Refusals.{segments_refusals}
-use Rattle.ped_calls.specs.Seeing.{AreItemsReadAs}
+use Rattle.ped_calls.specs.Seeing.{AreItemsReadAs, AreReadUnits}
 use Rattle.ped_calls.specs.Views.{unit_entry_of}
+use Rattle.ped_calls.specs.declared.reading.ReadUnit.{ReadUnit}
 use Rattle.ped_calls.proofs.Read.{refused_units_here, units_here}
 use Rattle.ped_calls.proofs.reading.nested.Goals as goal
 
@@ -17,7 +18,7 @@ returns-in-Some-clause-refused c text l same =
     let all = statements_view c.args.cut in
     c.at.ensures text (refused_units_here c.args.cut es c.first_of_all.result c.in-Some.refusal
     (subst (λ (ss : List lines.Statement). AreItemsReadAs (map statement_of ss) es) c.into_vec.ensures c.in_ok-entries.ensures)
-    (c.first_of_all.ensures all (segments_of es) (c.in_ok-units.ensures all refl (ap (λ (ns : List NoteLine). map note_of ns) (sym c.as_slice.ensures))))
+    (c.first_of_all.ensures all (segments_of es) (subst (λ (us : List ReadUnit). AreReadUnits all (segments_of es) us) (sym c.deref.ensures.value) (c.in_ok-units.ensures all refl (ap (λ (ns : List NoteLine). map note_of ns) (sym c.as_slice.ensures)))))
     c.in-Some.is text l same)
 
 pub returns-clause-units : goal.returns-clause-units
@@ -27,5 +28,5 @@ returns-clause-units c =
     let read = c.in_ok-units.ensures all refl (ap (λ (ns : List NoteLine). map note_of ns) (sym c.as_slice.ensures)) in
     units_here c.args.cut es c.first_of_all.result c.in_ok-built-in-None.field-0.items
     (subst (λ (ss : List lines.Statement). AreItemsReadAs (map statement_of ss) es) c.into_vec.ensures c.in_ok-entries.ensures)
-    (c.first_of_all.ensures all (segments_of es) read)
+    (c.first_of_all.ensures all (segments_of es) (subst (λ (us : List ReadUnit). AreReadUnits all (segments_of es) us) (sym c.deref.ensures.value) read))
     c.in-None.is (c.in_ok-built-in-None.ensures all (segments_of es) read)

@@ -108,9 +108,10 @@ all_as_written all [] [] h b = tt
 all_as_written all [] (u ∷ us) h b = absurd b
 all_as_written all (s ∷ ss) [] h b = absurd b
 all_as_written all (s ∷ []) (u ∷ us) h b = (built_as_written all s u h b.0, all_as_written all [] us refl b.1)
-all_as_written all (s ∷ t ∷ ss) (u ∷ us) h b =
-    (built_as_written (before_another all) s u (left_empty (segment_refusals (before_another all) s) (segments_refusals all (t ∷ ss)) h) b.0,
-    all_as_written all (t ∷ ss) us (right_empty (segment_refusals (before_another all) s) (segments_refusals all (t ∷ ss)) h) b.1)
+all_as_written all (s ∷ t ∷ ss) (u ∷ us) h b = (
+  built_as_written (before_another all) s u (left_empty (segment_refusals (before_another all) s) (segments_refusals all (t ∷ ss)) h) b.0,
+  all_as_written all (t ∷ ss) us (right_empty (segment_refusals (before_another all) s) (segments_refusals all (t ∷ ss)) h) b.1,
+)
 
 -- the units that a text reads as, in a list
 pub record UnitsRead (text : List ℕ) (us : List ProgramUnit) : Type 0 where

@@ -282,20 +282,20 @@ unit_found v ts i h =
     elim (chosen (is_same_text ts (codes "RETURN")) (Some returns) _ (Some i) h) [
       | inl g ↦ (a_return, sym (same_words ts (codes "RETURN") g.0), some_is returns i g.1)
       | inr g ↦ elim (stops_or_goes (after (codes "CALL") ts) _ (λ q. called_of v q >>= λ c. Some (calls c)) (Some i) g.1) [
-          | inr k ↦
-              let a = bind_some (called_of v k.0) (λ c. Some (calls c)) i k.2 in
-              let f = called_found v k.0 a.0 a.1 in
-              (call f.0, f.1 ∙ sym (after_is (codes "CALL") ts k.0 k.1), ap calls f.2 ∙ some_is (calls a.0) i a.2)
-          | inl k ↦ elim (stops_or_goes (after (codes "SUBROUTINE") ts) _ (λ q. subroutine_of q) (Some i) k.1) [
-              | inr l ↦
-                  let f = subroutine_found v l.0 i l.2 in
-                  (f.0, f.1 ∙ sym (after_is (codes "SUBROUTINE") ts l.0 l.1), f.2)
-              | inl l ↦
-                  let a = bind_some (after (codes "IF(") ts) (λ q. if_call_of v q) i l.1 in
-                  let f = if_call_found v a.0 i a.2 in
-                  (f.0, f.1 ∙ sym (after_is (codes "IF(") ts a.0 a.1), f.2)
-            ]
+        | inr k ↦
+            let a = bind_some (called_of v k.0) (λ c. Some (calls c)) i k.2 in
+            let f = called_found v k.0 a.0 a.1 in
+            (call f.0, f.1 ∙ sym (after_is (codes "CALL") ts k.0 k.1), ap calls f.2 ∙ some_is (calls a.0) i a.2)
+        | inl k ↦ elim (stops_or_goes (after (codes "SUBROUTINE") ts) _ (λ q. subroutine_of q) (Some i) k.1) [
+          | inr l ↦
+              let f = subroutine_found v l.0 i l.2 in
+              (f.0, f.1 ∙ sym (after_is (codes "SUBROUTINE") ts l.0 l.1), f.2)
+          | inl l ↦
+              let a = bind_some (after (codes "IF(") ts) (λ q. if_call_of v q) i l.1 in
+              let f = if_call_found v a.0 i a.2 in
+              (f.0, f.1 ∙ sym (after_is (codes "IF(") ts a.0 a.1), f.2)
         ]
+      ]
     ]
 
 pub unit_again : (v : ℕ → ℕ) (f : UnitForm) → unit_item_in v (unit_form_text f) ≡ Some (item_with_literals v (unit_form_item f))

@@ -69,7 +69,12 @@ struct Within<'m> {
 impl<'u> File<'u> {
     /// Statements of the main program with their CALLs expanded. Without recursion CALLs stand in one another no deeper than
     /// there are subroutines.
-    pub fn main(&self, alloc: Global, course: &mut Course, statements: &[Stmt]) -> Result<Vec<Stmt>, Stopped> {
+    pub fn main(
+        &self,
+        alloc: Global,
+        course: &mut Course,
+        statements: &[Stmt],
+    ) -> Result<Vec<Stmt>, Stopped> {
         let meanings = Meanings::nothing(alloc);
         let within = Within {
             depth: 0,
@@ -126,7 +131,13 @@ impl<'u> File<'u> {
             } => {
                 let then_part = self.statements(alloc, course, within, then_part)?;
                 match self.statements(alloc, course, within, else_part) {
-                    Ok(else_part) => conditional(alloc, within.meanings, condition, then_part, else_part),
+                    Ok(else_part) => conditional(
+                        alloc,
+                        within.meanings,
+                        condition,
+                        then_part,
+                        else_part,
+                    ),
                     Err(stopped) => {
                         drop(then_part);
                         Err(stopped)
@@ -181,7 +192,13 @@ impl<'u> File<'u> {
         let formals = unit.formals.as_slice();
         let mut place = 0;
         while place < arguments.len() {
-            let e = bound(alloc, course, within.constants, &mut body, &arguments[place])?;
+            let e = bound(
+                alloc,
+                course,
+                within.constants,
+                &mut body,
+                &arguments[place],
+            )?;
             if place < formals.len() {
                 meanings.keep(&formals[place], e)?;
             }
@@ -265,7 +282,11 @@ fn fixed_value(constants: &Consts, e: &Expr) -> Option<i64> {
 }
 
 /// Has literals stand for named constants.
-fn add_constants(alloc: Global, meanings: &mut Meanings, constants: &Consts) -> Result<(), NoMemory> {
+fn add_constants(
+    alloc: Global,
+    meanings: &mut Meanings,
+    constants: &Consts,
+) -> Result<(), NoMemory> {
     let mut place = 0;
     while let Some((name, value)) = constants.get_index(place) {
         meanings.keep(&name, literal(alloc, value)?)?;
@@ -326,7 +347,11 @@ fn call_comment(alloc: Global, name: &Name, arguments: &[Expr]) -> Result<Stmt, 
 
 /// The first bytes of a text, so many where it has as many.
 fn first_bytes(text: &[u8], count: usize) -> &[u8] {
-    if text.len() <= count { text } else { &text[..count] }
+    if text.len() <= count {
+        text
+    } else {
+        &text[..count]
+    }
 }
 
 /// The block IF with the condition 0.EQ.0 and these statements.

@@ -18,9 +18,7 @@ use crate::items::{Called, UnitItem};
 use ped_base::{Names, NoMemory};
 use ped_tree::Expr;
 use ped_tree::grammar::StatementReading;
-use ped_valid::ped_parse::ped_expressions::{
-    Failure, after, cond, expr, name_of, split_word,
-};
+use ped_valid::ped_parse::ped_expressions::{Failure, after, cond, expr, name_of, split_word};
 use ped_valid::ped_parse::ped_statements::read_statement;
 use std::alloc::Global;
 
@@ -31,7 +29,11 @@ pub fn read_unit_item(alloc: Global, text: &[u8]) -> Result<UnitItem, NoMemory>
     match read_statement(alloc, text)? {
         StatementReading::Says(item) => Ok(UnitItem::Plain(StatementReading::Says(item))),
         StatementReading::OutsideProfile => {
-            unit_item_or(alloc, text, UnitItem::Plain(StatementReading::OutsideProfile))
+            unit_item_or(
+                alloc,
+                text,
+                UnitItem::Plain(StatementReading::OutsideProfile),
+            )
         }
         StatementReading::NoForm => {
             unit_item_or(alloc, text, UnitItem::Plain(StatementReading::NoForm))

@@ -28,7 +28,11 @@ pub struct Link {
 ///
 /// `At` exactly where one of the rules is broken, with the first by line and then by number; `NoMemory` where memory runs
 /// out.
-pub fn look_at_calls(alloc: Global, units: &[ProgramUnit], tables: &[Symbols]) -> Result<(), UnitRefusal> {
+pub fn look_at_calls(
+    alloc: Global,
+    units: &[ProgramUnit],
+    tables: &[Symbols],
+) -> Result<(), UnitRefusal> {
     let found = first_link_refusal(alloc, units, tables)?;
     match found {
         Some(finding) => Err(UnitRefusal::At(finding)),
@@ -52,7 +56,10 @@ fn first_link_refusal(
 }
 
 /// The number of the first subroutine of each name.
-pub fn unit_numbers(alloc: Global, units: &[ProgramUnit]) -> Result<IndexMap<Name, usize>, NoMemory> {
+pub fn unit_numbers(
+    alloc: Global,
+    units: &[ProgramUnit],
+) -> Result<IndexMap<Name, usize>, NoMemory> {
     let mut numbers = IndexMap::new(alloc);
     let mut number = 0;
     for unit in units {
@@ -412,7 +419,11 @@ fn add_passings(
 }
 
 /// Adds an arrow, where both its ends are there.
-fn add_arrow(arrows: &mut Vec<Arrow>, from: Option<usize>, to: Option<usize>) -> Result<(), NoMemory> {
+fn add_arrow(
+    arrows: &mut Vec<Arrow>,
+    from: Option<usize>,
+    to: Option<usize>,
+) -> Result<(), NoMemory> {
     if let Some(from) = from {
         if let Some(to) = to {
             arrows.push(Arrow { from, to })?;

@@ -172,7 +172,11 @@ fn place(decls: &mut Vec<Decl>, rest: &mut Vec<Stmt>, statement: Stmt) -> Result
 
 /// Copies of statements with so many of their CALLs, the first in text order, and without the others.
 #[cycle(first_calls)]
-fn first_calls(alloc: Global, left: &mut usize, statements: &[Stmt]) -> Result<Vec<Stmt>, NoMemory> {
+fn first_calls(
+    alloc: Global,
+    left: &mut usize,
+    statements: &[Stmt],
+) -> Result<Vec<Stmt>, NoMemory> {
     let mut copies = Vec::new(alloc);
     for statement in statements {
         if !is_call(statement) || takes_one(left) {

@@ -116,7 +116,12 @@ impl<'l> Walk<'l> {
 
     /// Goes over statements with these loops round them.
     #[cycle(walk)]
-    fn statements(&mut self, alloc: Global, around: &Around, statements: &[Stmt]) -> Result<(), NoMemory> {
+    fn statements(
+        &mut self,
+        alloc: Global,
+        around: &Around,
+        statements: &[Stmt],
+    ) -> Result<(), NoMemory> {
         for statement in statements {
             self.statement(alloc, around, statement)?;
         }
@@ -124,7 +129,12 @@ impl<'l> Walk<'l> {
     }
 
     #[cycle(walk)]
-    fn statement(&mut self, alloc: Global, around: &Around, statement: &Stmt) -> Result<(), NoMemory> {
+    fn statement(
+        &mut self,
+        alloc: Global,
+        around: &Around,
+        statement: &Stmt,
+    ) -> Result<(), NoMemory> {
         match statement {
             Stmt::Comment(_) => Ok(()),
             Stmt::If {
@@ -168,7 +178,13 @@ impl<'l> Walk<'l> {
     }
 
     /// Adds the CALL with this name and these arguments.
-    fn call(&mut self, alloc: Global, around: &Around, line: u64, called: &Expr) -> Result<(), NoMemory> {
+    fn call(
+        &mut self,
+        alloc: Global,
+        around: &Around,
+        line: u64,
+        called: &Expr,
+    ) -> Result<(), NoMemory> {
         match called {
             Expr::Var(name) => self.add(alloc, around, line, name, &[]),
             Expr::Element(name, arguments) => self.add(alloc, around, line, name, arguments),

@@ -1,6 +1,5 @@
 //! What arrows lead to.
 
-
 use ped_base::NoMemory;
 use std::alloc::Global;
 

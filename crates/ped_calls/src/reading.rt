@@ -157,7 +157,11 @@ fn read_last(
 }
 
 /// Units with their first refusals, behind each of which another begins.
-fn read_earlier(alloc: Global, segments: Vec<Segment>, lines: u64) -> Result<Vec<ReadUnit>, NoMemory>
+fn read_earlier(
+    alloc: Global,
+    segments: Vec<Segment>,
+    lines: u64,
+) -> Result<Vec<ReadUnit>, NoMemory>
     ensures { IfOk result (λ units. (all : PlainStatements) → all.lines ≡ lines → AreReadEach all (map segment_of segments.items) units.items) }
 {
     let mut units = Vec::new(alloc);

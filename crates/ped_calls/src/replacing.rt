@@ -211,12 +211,7 @@ pub fn assignment_replaced(
 }
 
 /// A loop with what stands for each name in its head, and with this body.
-pub fn loop_replaced(
-    alloc: Global,
-    m: &Meanings,
-    d: &Do,
-    body: Vec<Stmt>,
-) -> Result<Do, NoMemory>
+pub fn loop_replaced(alloc: Global, m: &Meanings, d: &Do, body: Vec<Stmt>) -> Result<Do, NoMemory>
     ensures { IfOk result (λ new. do_tree new ≡ Tree.Do (Spec.head_replaced (meanings_of m.now) (head_of d.now)) (stmt_trees body.items)) }
 {
     match control_replaced(alloc, m, d) {

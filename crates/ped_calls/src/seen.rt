@@ -110,7 +110,10 @@ fn as_reading(
         UnitItem::Plain(reading) => Ok((reading, None)),
         UnitItem::Call(called) => {
             let statement = stand_in(alloc, &called)?;
-            Ok((StatementReading::Says(Item::Simple(statement)), Some(called)))
+            Ok((
+                StatementReading::Says(Item::Simple(statement)),
+                Some(called),
+            ))
         }
         UnitItem::LogicalIfCall(condition, called) => match stand_in(alloc, &called) {
             Ok(statement) => {

@@ -90,9 +90,7 @@ fn begins(item: &UnitItem) -> bool
 {
     match item {
         UnitItem::Subroutine(_, _) => true,
-        UnitItem::Plain(_)
-        | UnitItem::Call(_)
-        | UnitItem::LogicalIfCall(_, _)
-        | UnitItem::Return => false,
+        UnitItem::Plain(_) | UnitItem::Call(_) | UnitItem::LogicalIfCall(_, _) | UnitItem::Return =>
+            false,
     }
 }

@@ -40,7 +40,7 @@ loop-entry-preserved c =
     let first : drop place bs ≡ c.index.result.now ∷ drop (place + 1) bs = grind (arith, common_steps, below) in
     record {
       entries = seen_more c.args.in_subroutine (map entry_of c.loop-entry.seen.entries.items) (as_entries stand_in c.args.in_subroutine (map unit_entry_of c.args.entries.items)) (map entry_of c.add.new.self.entries.items) bs place c.index.result.now e left rest
-      c.loop-entry.invariant.entries c.loop-entry.invariant.ends is first c.in_ok-add.ensures.entries;
+          c.loop-entry.invariant.entries c.loop-entry.invariant.ends is first c.in_ok-add.ensures.entries;
       calls = calls_more (map call_view c.loop-entry.seen.calls.items) (calls_in_entries (map unit_entry_of c.args.entries.items)) (map call_view c.add.new.self.calls.items) e left rest c.loop-entry.invariant.calls is c.in_ok-add.ensures.calls;
       ends = ends_more bs place c.index.result.now e left rest c.loop-entry.invariant.ends is first;
     }

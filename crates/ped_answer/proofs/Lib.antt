@@ -12,5 +12,6 @@ mod SameEnds
 mod ScriptRuns
 mod SourceMoves
 mod Tallying
+mod ToldAuto
 mod ToldCauses
 mod WholeAnswers

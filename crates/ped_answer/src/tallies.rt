@@ -69,8 +69,13 @@ fn apply_command<L: Ledger>(
     ensures least { steps.old ≤ steps.new }
     ensures most { (one : Spec.Tally) (next : State) → AppliesCommand (Some command.now) session.old one next → steps.new ≤ steps.old + one.tests }
 {
-    let reply = session.apply(alloc, command, &[], steps)?;
-    count(tally, &reply, session);
+    match command {
+        Command::Auto => tally.refused += 1,
+        _ => {
+            let reply = session.apply(alloc, command, &[], steps)?;
+            count(tally, &reply, session);
+        }
+    }
     Ok(())
 }
 

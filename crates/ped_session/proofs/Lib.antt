@@ -1,5 +1,8 @@
 mod Accepted
 mod Answering
+pub mod AutoSteps
+pub mod AutoTries
+mod CarriedTexts
 mod Doing
 mod Examples
 mod HistoryMoves

@@ -24,6 +24,9 @@ ghost use Rattle.ped_session.specs.Scripts.{Said, AnswersItems};
 ghost use Rattle.ped_session.specs.Meanings.{IsMeaningKept, ComesFrom};
 ghost use Rattle.ped_session.specs.RunsAsBefore.{AnswersAsBefore};
 ghost use Rattle.ped_session.specs.Histories.{ArePrinted, HaveSameSources, Times};
+ghost use Rattle.ped_transformations.specs.ped_auto.specs.Strategy.{Report, IsAuto};
+ghost use Rattle.ped_session.specs.AutoEditing.{session_editing};
+ghost use Rattle.ped_session.specs.AutoAnswers.{AcceptsAll};
 
 use ped_order::{interleavings_agree, without_choices};
 use ped_transformations::every_step_is_lawful;
@@ -117,6 +120,21 @@ pub fn without_lists()
         IsLoweredRun choices data_bytes t o ↔ IsInterleaved t data_bytes choices o }
 {
     one_lowering();
+}
+
+/// The steps that `auto` takes are accepted one behind another, and lead from the state before it to the one behind it: so
+/// its script, replayed, gives the source that it shows.
+pub fn auto_replays()
+    ensures { (s last : State) (report : Report) (tests : ℕ) → IsAuto session_editing s report last tests → AcceptsAll report.accepted s last }
+{}
+
+/// `auto` keeps that each transformation in the history keeps the meaning, and its source has come from the former one by
+/// transformations alone: so all that holds of such sources holds of these two.
+pub fn auto_keeps_the_meaning()
+    ensures kept { (s last : State) (report : Report) (tests : ℕ) → IsMeaningKept s → IsAuto session_editing s report last tests → IsMeaningKept last }
+    ensures comes { (s last : State) (report : Report) (tests : ℕ) → IsAuto session_editing s report last tests → ComesFrom last.present last.past s.present }
+{
+    every_step_is_lawful();
 }
 
 /// `run` without choices shows the outcome of the run in order of what the present program is lowered to, whatever that races

@@ -1,5 +1,5 @@
 -- Each program has its report, whatever its size.
-use Rattle.std.proofs.Common.{refl, inl, inr, ℕ, List, [], ◌∷◌, codes, Option, Some, None}
+use Rattle.std.proofs.Common.{◌≡◌, refl, inl, inr, ℕ, List, [], ◌∷◌, codes, Option, Some, None, ◌⊎◌}
 use Rattle.std.proofs.lemmas.List.Elements.{All-nil}
 use Rattle.ped_gen.specs.Generated.{script}
 use Rattle.ped_answer.specs.ped_session.specs.ped_tree.specs.Tree.{ProgramTree}
@@ -12,6 +12,8 @@ use Rattle.ped_answer.specs.ped_session.specs.States.{Other, State, opened}
 use Rattle.ped_answer.specs.ped_session.specs.Histories.{IsPrinted, ArePrinted}
 use Rattle.ped_answer.specs.Existence.Deciding.{Decided}
 use Rattle.ped_answer.specs.Generated.{Tally, no_tally, tally_both, tally_of, bad_command_tally, AppliesCommand, Applies, EndAlike, IsWordOn, alike, unlike, Reports}
+use Rattle.ped_answer.specs.ped_session.specs.ped_transformations.specs.ped_script.specs.declared.items.Command.TheVariants.{Auto}
+use Rattle.ped_answer.proofs.ExistenceLaws.Autos.{auto_or_other}
 use Rattle.ped_answer.proofs.ExistenceLaws.Alike.{alike_decided}
 use Rattle.ped_answer.specs.ped_session.specs.ped_transformations.specs.ped_reduce.specs.ped_splits.proofs.Existence.Edges.{edges_of_program}
 use Rattle.ped_answer.proofs.ExistenceLaws.Replying.{SomeOutcome, lowered_outcome, replies, reads_printed}
@@ -25,9 +27,13 @@ record Applied (A : Tally → State → Type 0) : Type 0 where
 
 applies_command : SomeOutcome → (command : Option Command) (s : State) → ArePrinted s → Applied (AppliesCommand command s)
 applies_command comes None s all = record { tally = bad_command_tally; next = s; is = (refl, refl); printed = all }
-applies_command comes (Some c) s all =
-    let a = replies comes s all c [] in
-    record { tally = tally_of a.reply a.next; next = a.next; is = (a.reply, a.is, refl); printed = a.printed }
+applies_command comes (Some c) s all = by (auto_or_other c)
+  where
+    by : (c ≡ Auto) ⊎ (c ≡ Auto → ⊥) → Applied (AppliesCommand (Some c) s)
+    by (inl is) = record { tally = bad_command_tally; next = s; is = inr (is, (refl, refl)); printed = all }
+    by (inr other) =
+        let a = replies comes s all c other [] in
+        record { tally = tally_of a.reply a.next; next = a.next; is = inl (a.reply, a.is, refl); printed = a.printed }
 
 applies : SomeOutcome → (items : List Item) (s : State) → ArePrinted s → Applied (Applies items s)
 applies comes [] s all = record { tally = no_tally; next = s; is = (refl, refl); printed = all }

@@ -35,7 +35,7 @@ from pages import CRATES, TOP, Complaints, crate_head, read_layers, to_cell, wri
 HEAD_PAGE = TOP / "docs" / "definitions.head.md"
 PRIVATE_WORDS = "Contracts of private functions alone speak of"
 # Definitions that a public contract speaks of, of files that say that contracts of private functions alone do.
-CITED = {"ped_reduce/specs/CodeLowered.antt": ["lowered_view"]}
+CITED = {"ped_reduce/specs/CodeLowered.antt": ["lowered_view"], "ped_auto/specs/CodeStages.antt": ["causes_of"]}
 NAMES_MARK = "<!-- names -->"
 
 SOURCE = re.compile(r"^(.*) \(((?:ANSI X3\.9-1978|Allen and Kennedy|ParaScope|this project|plain words|sections? [0-9])[^()]*)\)(.*)$")
@@ -99,14 +99,16 @@ def shorten(source, path):
 
 
 def keep_uses(line, path):
-    """Keeps the files of definitions that a line names."""
+    """Keeps the files of definitions that a line names; one that it takes nothing of but what is CITED doesn't count."""
+    taken = set(re.split(r", *", line.partition("{")[2].partition("}")[0]))
     for crate, names in IMPORT.findall(line):
         # Behind the file may stand a name of it; the longest path that is a file counts.
         parts = names.strip(".").split(".")
         while parts and not (CRATES / crate / "specs" / "/".join(parts)).with_suffix(".antt").is_file():
             parts.pop()
-        if parts:
-            uses.append((path, CRATES / crate / "specs" / ("/".join(parts) + ".antt")))
+        file = "/".join(parts) + ".antt"
+        if parts and not taken <= set(CITED.get(f"{crate}/specs/{file}", [])):
+            uses.append((path, CRATES / crate / "specs" / file))
 
 
 class DefinitionFile:

@@ -7,6 +7,7 @@ from typing import Callable, Dict, Iterator, List, Optional, Sequence
 
 from ..commands.why import explained
 from ..faults import FAULTS
+from ..lists import live_sums
 from ..messages import counted
 from ..openmp import openmp_lines
 from ..ped import read_file, shown
@@ -352,7 +353,8 @@ class Editor:
         if not live:
             self._desk.say("nothing was done")
             return
-        lines = openmp_lines(present.panes.lines, present.view.printed, live == "y")
+        sums = live_sums(self._session.ped, present.panes.lines, present.view.printed)
+        lines = openmp_lines(present.panes.lines, present.view.printed, sums, live == "y")
         name = self._write("write the OpenMP program to", self._names.openmp, "".join(one + "\n" for one in lines))
         if name is None:
             return

@@ -4,9 +4,8 @@ What changes of the printed program:
 
 - A PARALLEL DO becomes a DO behind a directive `C$OMP PARALLEL DO`, whose PRIVATE clause names the scalars of its
   PRIVATE list, and the variables of the loops in it, which are private in ped without being named.
-- So does a DO whose list of sums is live, with a clause REDUCTION(+:..) of the names in the list. ped leaves the
-  variable of such a loop its value behind it, and OpenMP doesn't; where something may want that, a DO without
-  statements follows, which counts the variable up.
+- So does a DO whose list of sums is live, with a clause REDUCTION(+:..) of the names in the list. Its variable has no
+  value behind it then; ped sees to it that nothing wants one, where it accepts the list.
 - PRIVATE is left out. The scalars that a DO in a PARALLEL DO names are private to the PARALLEL DO, too, where nothing
   else in it uses them. A DO that stands in no PARALLEL DO needs no copies, since its iterations come one by one.
 - Comments that OpenMP would read, `C$` and something behind it, get a blank behind the C; a directive C$PED stays.
@@ -52,8 +51,6 @@ class _Translation:
         self._numbers = {statement.line: statement.number for statement in program.statements}
         self._statements = {statement.first_line: statement for statement in read_statements(lines)}
         self._new_names = self._renamed()
-        #: The loops that are open: what counts the variable of each up behind it, nothing where that isn't wanted.
-        self._behind: List[List[str]] = []
 
     def lines(self) -> Iterator[str]:
         """The translated lines."""
@@ -79,15 +76,7 @@ class _Translation:
             text = text.replace("PARALLEL DO", "DO", 1)
         if isinstance(form, Private) or isinstance(form, ProgramName) and form.name in self._program.constants:
             return
-        made = list(_cut(self._lines[statement.first_line - 1][:FIRST_COLUMN - 1], text))
-        yield from made
-        if loop is not None:
-            self._behind.append(made if sums and self._is_wanted(loop.variable) else [])
-        elif form == Word("ENDDO"):
-            again = self._behind.pop()
-            yield from again
-            if again:
-                yield from made
+        yield from _cut(self._lines[statement.first_line - 1][:FIRST_COLUMN - 1], text)
 
     def _text(self, statement: WrittenStatement) -> str:
         """What a statement has from column 7 on, its indentation included."""
@@ -102,10 +91,6 @@ class _Translation:
         for one in inner:
             names.extend(name.name for name in one.private if not self._used_outside(name.name, loop, inner))
         return [self._new_names.get(name, name) for name in dict.fromkeys(names) if name != loop.variable]
-
-    def _is_wanted(self, variable: str) -> bool:
-        """Whether something may want what a loop leaves in its variable."""
-        return variable in self._program.saved or any(one.name == variable for one in self._program.references())
 
     def _used_outside(self, name: str, loop: Loop, inner: Sequence[Loop]) -> bool:
         """Whether a loop uses a scalar outside those loops in it that have it in PRIVATE."""

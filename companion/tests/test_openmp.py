@@ -92,12 +92,11 @@ class Text(unittest.TestCase):
             )
         ))
 
-    def test_variable_behind_sums(self) -> None:
-        """Behind the loop the variable holds 10; a DO without statements leaves it so."""
-        text = fortran("DO I = 1, 9", "MAX = MAX+I", "END DO", "PRINT *, I, MAX(2,3)", "END")
+    def test_renamed_sum(self) -> None:
+        text = fortran("DO I = 1, 9", "MAX = MAX+I", "END DO", "PRINT *, MAX(2,3)", "END")
         self.assertEqual(translated(text, sums={1: ["MAX"]}), split_lines(
             "C$OMP PARALLEL DO REDUCTION(+:K0)\n" + fortran(
-                "DO I = 1, 9", "K0 = K0+I", "END DO", "DO I = 1, 9", "END DO", "PRINT *, I, MAX(2,3)", "END",
+                "DO I = 1, 9", "K0 = K0+I", "END DO", "PRINT *, MAX(2,3)", "END",
             )
         ))
 
@@ -136,16 +135,19 @@ class Lists(unittest.TestCase):
         ), {1: ("K",)})
 
     def test_comments_alone(self) -> None:
-        """A product; a sum that is wanted on the way; a name too many; bounds that are open; a list that comes too late."""
+        """A product; a sum that is wanted on the way; a name too many; a list that comes too late; and others."""
         for body in (
             ["C$REDUCE K", "K = K*I"], ["C$REDUCE K", "K = K+I", "L = K"], ["C$REDUCE K", "C$REDUCE M", "M = I", "K = K+I"],
             ["C$ OTHER", "C$REDUCE K", "K = K+I"], ["M = 1", "C$REDUCE K", "K = K+I"],
         ):
             with self.subTest(body):
                 self.assertEqual(live_lists("DO I = 1, 9", *body, "END DO", "PRINT *, K", "END"), {})
-        self.assertEqual(
-            live_lists("READ *, N", "DO I = 1, N", "C$REDUCE K", "K = K+I", "END DO", "PRINT *, K", "END"), {}
-        )
+        for first, last in (("1, N", "PRINT *, K"), ("1, 9", "PRINT *, K, I")):
+            # The bounds are open; the variable is wanted behind the loop.
+            with self.subTest(first):
+                self.assertEqual(
+                    live_lists("READ *, N", f"DO I = {first}", "C$REDUCE K", "K = K+I", "END DO", last, "END"), {}
+                )
 
     def test_inner_list(self) -> None:
         """The list of the inner loop is live where that of the outer one isn't."""
@@ -203,9 +205,9 @@ OTHERS: Dict[str, str] = {
         "DOUBLEPRECISION = WHILE", "END DO", "PRINT *, DOUBLEPRECISION", "END",
     ),
     "sums": fortran(
-        "INTEGER A(99)", "SAVE K, L, I, J", "K = 2147483000", "L = 0", "J = 0", "DO 10 I = 1, 99", "10 A(I) = I*I-50*I",
+        "INTEGER A(99)", "SAVE K, L, J", "K = 2147483000", "L = 0", "J = 0", "DO 10 I = 1, 99", "10 A(I) = I*I-50*I",
         "DO 20 I = 99, 1, -2", "C$REDUCE K", "C$REDUCE L", "C$REDUCE J", "IF (A(I).GT.0) K = K-A(I)", "DO 30 M = 1, 3",
-        "30 L = L+M*A(I)", "20 J = I+J", "PRINT *, I, J", "END",
+        "30 L = L+M*A(I)", "20 J = I+J", "PRINT *, J", "END",
     ).replace("      C$", "C$"),
 }
 

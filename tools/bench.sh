@@ -481,7 +481,7 @@ for loops in 10 50 200; do
     for_auto "$loops" >"$work/auto.f"
     "$ped" session "$work/auto.f" "$work/auto" >"$work/report"
     printf 'source\n' >"$work/source"
-    statements=$("$ped" session "$work/auto.f" "$work/source" | awk 'substr($0, 6, 5) ~ /[0-9]/ { n++ } END { print n }')
+    statements=$("$ped" session "$work/auto.f" "$work/source" | awk 'NR > 1 && substr($0, 6, 5) ~ /[0-9]/ { n++ } END { print n }')
     { echo tested; awk '/^\+ / { print substr($0, 3); print "tested" }' "$work/report"; } >"$work/steps"
     "$ped" session "$work/auto.f" "$work/steps" >"$work/told"
     awk -v loops="$loops" -v statements="$statements" -v told="$work/told" \

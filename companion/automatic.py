@@ -47,8 +47,7 @@ class Rest:
 
 def rests(ped: Ped, view: View) -> Dict[int, List[Rest]]:
     """For each loop of a program what `auto` would leave of it; nothing where the program leaves no room to ask."""
-    marked = list(_marked(view))
-    text = "".join(line + "\n" for line in marked)
+    text = "".join(line + "\n" for line in marked(view))
     if len(text) > _MOST_BYTES:
         return {}
     automatic, shown = ped.session(text, "auto\nsource\n")
@@ -71,7 +70,7 @@ def _mark(view: View) -> str:
     return next(mark for mark in marks if not any(line.startswith(mark) for line in view.panes.lines))
 
 
-def _marked(view: View) -> Iterator[str]:
+def marked(view: View) -> Iterator[str]:
     """The printed program, with a comment before each loop, and before its directives."""
     mark = _mark(view)
     loops = {

@@ -4,6 +4,7 @@ import re
 import unittest
 from typing import Dict, List, Optional
 
+from ..automatic import marked, rests
 from ..commands.loops import find_loop, loops
 from ..lines import split_lines
 from ..ped import Ped
@@ -307,6 +308,17 @@ class LeftLoops(unittest.TestCase):
         self.assertEqual([row.split(": refused")[0] for row in left(view)], [
             "1: `auto` leaves loop 1 of it", "2: `auto` leaves it as loop 5", "4: `auto` leaves it as loop 2",
         ])
+
+    def test_marks(self) -> None:
+        """The comments before the loops change nothing of what `auto` does; and each loop that is left is found again."""
+        for name in ("chains", "knapsack", "private", "relief", "seidel"):
+            view = example_view(name)
+            with self.subTest(name):
+                texts = ["".join(line + "\n" for line in lines) for lines in (view.panes.lines, marked(view))]
+                plain, other = [ped().session(text, "auto\n")[0] for text in texts]
+                self.assertEqual((plain.taken, plain.left), (other.taken, other.left))
+                found = [rest for of_loop in rests(ped(), view).values() for rest in of_loop]
+                self.assertEqual(sorted(rest.number for rest in found), [one.number for one in plain.left])
 
     def test_comment_like_a_mark(self) -> None:
         text = "CLOOP0 1\n" + fortran("DO 10 I = 2, 9", "10 K = I-K", "PRINT *, K", "END")

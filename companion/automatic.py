@@ -7,7 +7,7 @@ again: what `distribute` makes of a loop stands in its place, one loop behind th
 from __future__ import annotations
 
 from dataclasses import dataclass
-from typing import Dict, Iterator, List, Optional, Sequence, Tuple
+from typing import Dict, Iterator, List, Optional, Sequence
 
 from .lines import is_comment
 from .outline import outline_of
@@ -84,7 +84,7 @@ def marked(view: View) -> Iterator[str]:
 
 
 def _owners(mark: str, rows: Sequence[str]) -> Dict[int, int]:
-    """For each loop of a source pane the loop that it was before, by the last comment in the same list of statements."""
+    """For each loop of a source pane the loop that it was before, by the last comment in its list of statements."""
     source = read_source(rows)
     outline = outline_of(source)
     # One entry for each list of statements that is open: the loop of the last comment in it.

@@ -1,7 +1,8 @@
 """What a session answers, taken apart: the rows that each command of a script has printed.
 
 docs/COMMANDS.md says what each command prints. A change and a refusal are answered in one row that begins with the
-line of the command, and so is the first row of `auto`; what is shown has no such number, and is told by its first words.
+line of the command, and the first row of an `auto` begins so; what is shown has no such number, and is told by its
+first words.
 """
 
 from __future__ import annotations
@@ -160,7 +161,7 @@ def _count(command: Command, rows: Sequence[str]) -> int:
 
 
 def _automatic(rows: Sequence[str], answer: str) -> int:
-    """How many rows an `auto` has printed: its answer, the steps that it has taken, the loops that are left, the source."""
+    """How many rows an `auto` has printed: its answer, the steps that it has taken, the loops left, the source."""
     taken = int(answer[len(_AUTO):])
     if _while(rows[1:], lambda row: row.startswith(_TAKEN)) != taken:
         return 0

@@ -24,7 +24,7 @@ def verdicts(view: View) -> Dict[int, str]:
 
 
 def advice(view: View, loop: int, program: Optional[Ped] = None) -> List[str]:
-    """What is to be tried at a loop; what else ped accepts and why `auto` leaves it, only where a fake program says so."""
+    """What is to be tried at a loop; what else ped accepts, and why `auto` leaves it, only of a fake program."""
     rows = loops(view, program or ped(), [loop], tries=True).splitlines()
     told = [row.strip()[2:] for row in rows if row.strip().startswith("- ")]
     return [row for row in told if program is not None or not row.startswith(("ped accepts ", "`auto` leaves "))]
@@ -288,7 +288,7 @@ class LeftLoops(unittest.TestCase):
         ])
 
     def test_numbers_anew(self) -> None:
-        """The first loop is taken apart, so the others have other numbers behind it; of the second one a part is left."""
+        """The first loop is taken apart, so the others have other numbers; of the second one a part is left."""
         view = view_of(fortran(
             "INTEGER A(9), B(9), C(9)", "DO 10 I = 2, 9", "A(I) = I", "10 B(I) = A(I-1)",
             "DO 20 I = 2, 9", "A(I) = A(I-1)", "20 C(I) = A(I)", "C$PED REJECT B", "DO 30 I = 2, 9", "30 B(I) = B(I-1)",
@@ -310,7 +310,7 @@ class LeftLoops(unittest.TestCase):
         ])
 
     def test_marks(self) -> None:
-        """The comments before the loops change nothing of what `auto` does; and each loop that is left is found again."""
+        """The comments before the loops change nothing of what `auto` does, and all that are left are found again."""
         for name in ("chains", "knapsack", "private", "relief", "seidel"):
             view = example_view(name)
             with self.subTest(name):

@@ -137,7 +137,8 @@ class Lists(unittest.TestCase):
     def test_comments_alone(self) -> None:
         """A product; a sum that is wanted on the way; a name too many; a list that comes too late; and others."""
         for body in (
-            ["C$REDUCE K", "K = K*I"], ["C$REDUCE K", "K = K+I", "L = K"], ["C$REDUCE K", "C$REDUCE M", "M = I", "K = K+I"],
+            ["C$REDUCE K", "K = K*I"], ["C$REDUCE K", "K = K+I", "L = K"],
+            ["C$REDUCE K", "C$REDUCE M", "M = I", "K = K+I"],
             ["C$ OTHER", "C$REDUCE K", "K = K+I"], ["M = 1", "C$REDUCE K", "K = K+I"],
         ):
             with self.subTest(body):

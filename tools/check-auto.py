@@ -4,9 +4,9 @@
     tools/check-auto.py [--program PROGRAM] [FILE ..]
 
 Of each program, which is a file NAME.f or stands in a file NAME.cases: `auto` tells its steps, and the same steps in a script are
-all accepted and lead to the source that it shows; each DO that it leaves is refused `parallel` there, for the cause that it tells,
-and no other DO is left that isn't a PARALLEL DO; as many `undo` as steps lead back to the source at the opening, and no further,
-and as many `redo` to the source that it shows. A program that isn't valid is passed over.
+all accepted and lead to the source that it shows; each DO that it leaves is refused `parallel` there for the cause that it tells, and
+no other DO of it isn't a PARALLEL DO; as many `undo` as steps lead back to the source at the opening, and no further, and as many
+`redo` to the source that it shows. A program that isn't valid is passed over.
 
 The program is the one that .ci/run or ./prove has proved and built from the present sources; nothing is proved or built here. The
 last line counts the programs and their steps. The status is 0 only where there are some and all agree.
@@ -22,7 +22,8 @@ import tempfile
 TOP = pathlib.Path(__file__).resolve().parent.parent
 SECONDS = 30
 PROVED = '. "$1/tools/program.sh" && program_of "$(sources_sum)"'
-REFUSED_TEXT = 5
+# The program is refused, or longer than a program may be.
+NO_PROGRAM = (5, 7)
 # A row of the source pane: the statement's number, and a DO that isn't a PARALLEL DO.
 SERIAL_DO = re.compile(r" *\d+ +(\d+) +DO [A-Z][A-Z0-9]* = ")
 
@@ -40,7 +41,8 @@ def words_of(program, folder, script):
 
 def answer(program, folder, script):
     """What a script answers on the program of a folder, and with which status."""
-    done = subprocess.run(words_of(program, folder, script), stdin=subprocess.DEVNULL, capture_output=True, timeout=SECONDS, check=False)
+    words = words_of(program, folder, script)
+    done = subprocess.run(words, stdin=subprocess.DEVNULL, capture_output=True, timeout=SECONDS, check=False)
     return done.stdout.decode("latin-1"), done.returncode
 
 
@@ -48,6 +50,11 @@ def want(what, wanted, got):
     """Both are the same, or they differ."""
     if wanted != got:
         raise Differs(f"{what}:\nwanted {wanted!r}\ngot    {got!r}")
+
+
+def ok_rows(line, count):
+    """The answers to so many accepted lines from this one on."""
+    return "".join(f"{number}: ok\n" for number in range(line, line + count))
 
 
 def told(text):
@@ -69,28 +76,28 @@ def told(text):
 def replay(program, folder):
     """How many steps `auto` takes on the program of a folder; none where that isn't valid."""
     text, status = answer(program, folder, ["auto"])
-    if status == REFUSED_TEXT:
+    if status in NO_PROGRAM:
         return None
     want("the status of `auto`", 0, status)
     steps, left, source = told(text)
 
-    ok = "".join(f"{line}: ok\n" for line in range(1, len(steps) + 1))
-    want("the steps in a script", (ok + source, 0), answer(program, folder, steps + ["print"]))
-
-    tries = steps + [f"parallel {number}" for number, _ in left]
-    refusals = "".join(f"{line}: refused {cause}\n" for line, (_, cause) in enumerate(left, len(steps) + 1))
-    want("the DOs that are left", ok + refusals, answer(program, folder, tries)[0])
-    pane, _ = answer(program, folder, steps + ["source"])
+    ok = ok_rows(1, len(steps))
+    tries = [f"parallel {number}" for number, _ in left]
+    got, _ = answer(program, folder, steps + ["print", "source"] + tries)
+    want("the steps in a script", ok + source, got[:len(ok + source)])
+    pane = got[len(ok + source):]
     serial = [found.group(1) for found in map(SERIAL_DO.match, pane.split("\n")) if found]
     want("the DOs that aren't PARALLEL DOs", serial, [number for number, _ in left])
+    refusals = "".join(f"{line}: refused {cause}\n" for line, (_, cause) in enumerate(left, len(steps) + 3))
+    want("the causes", refusals, pane[len(pane) - len(refusals):])
 
-    first, _ = answer(program, folder, ["print"])
-    moves = ["auto"] + ["undo"] * len(steps) + ["print", "undo"] + ["redo"] * len(steps) + ["print", "redo"]
-    went = [f"{line}: ok\n" for line in range(2, len(moves) + 1)]
-    back, forth = went[:len(steps)], went[len(steps) + 2:2 * len(steps) + 2]
-    wanted = text + "".join(back) + first + f"{len(steps) + 3}: refused NothingToUndo\n"
-    wanted += "".join(forth) + source + f"{len(moves)}: refused NothingToRedo\n"
-    want("`undo` and `redo` behind it", (wanted, 1), answer(program, folder, moves))
+    back = ["undo"] * len(steps) + ["print", "undo"]
+    forth = ["redo"] * len(steps) + ["print", "redo"]
+    got, _ = answer(program, folder, ["print", "auto"] + back + forth)
+    opening = got[:got.find("2: auto")]
+    wanted = opening + "2" + text[1:] + ok_rows(3, len(steps)) + opening + f"{len(steps) + 4}: refused NothingToUndo\n"
+    wanted += ok_rows(len(steps) + 5, len(steps)) + source + f"{2 * len(steps) + 6}: refused NothingToRedo\n"
+    want("`undo` and `redo` behind it", wanted, got)
     return len(steps)
 
 

@@ -20,7 +20,7 @@ import sys
 import tempfile
 
 TOP = pathlib.Path(__file__).resolve().parent.parent
-SECONDS = 30
+SECONDS = 120
 PROVED = '. "$1/tools/program.sh" && program_of "$(sources_sum)"'
 # The program is refused, or longer than a program may be.
 NO_PROGRAM = (5, 7)
@@ -101,6 +101,16 @@ def replay(program, folder):
     return len(steps)
 
 
+def once(folders):
+    """The folders whose programs haven't come before: cases may have one program with many scripts."""
+    seen = set()
+    for folder, place in folders:
+        text = (folder / "program.f").read_bytes()
+        if text not in seen:
+            seen.add(text)
+            yield folder, place
+
+
 def folders_of(work, files):
     """The folders of all programs, each with where it stands."""
     cases = [str(file) for file in files if file.suffix == ".cases"]
@@ -116,8 +126,9 @@ def folders_of(work, files):
             yield work / str(number), (work / str(number) / "name").read_text().strip()
 
 
-def check(program, folder, place):
-    """The count of steps, and what differs."""
+def check(asked):
+    """The count of steps that a program tells in a folder, and what differs."""
+    program, folder, place = asked
     try:
         return replay(program, folder), None
     except (Differs, subprocess.TimeoutExpired) as found:
@@ -129,17 +140,17 @@ def main(words):
     if words[:1] == ["--program"]:
         program, words = words[1], words[2:]
     else:
-        asked = subprocess.run(["bash", "-c", PROVED, "bash", str(TOP)], capture_output=True, text=True, check=True)
-        program = asked.stdout.strip()
+        named = subprocess.run(["bash", "-c", PROVED, "bash", str(TOP)], capture_output=True, text=True, check=True)
+        program = named.stdout.strip()
     program = pathlib.Path(program).resolve()
     if not os.access(program, os.X_OK):
         print("auto: none was replayed: the proved program is not built; .ci/run or ./prove builds it")
         return 1
     files = [pathlib.Path(word).resolve() for word in words]
     files = files or sorted([*TOP.glob("examples/**/*.f"), *TOP.glob("cases/sessions/*.cases")])
-    with tempfile.TemporaryDirectory() as work, concurrent.futures.ThreadPoolExecutor(os.cpu_count()) as threads:
-        programs = list(folders_of(pathlib.Path(work), files))
-        results = list(threads.map(lambda found: check(program, *found), programs))
+    with tempfile.TemporaryDirectory() as work, concurrent.futures.ProcessPoolExecutor() as workers:
+        asked = [(program, *found) for found in once(folders_of(pathlib.Path(work), files))]
+        results = list(workers.map(check, asked, chunksize=20))
     counts = [steps for steps, _ in results if steps is not None]
     differ = [what for _, what in results if what is not None]
     for what in differ:

@@ -1,13 +1,13 @@
 -- No line of a script that is made is `auto`.
 use Rattle.std.proofs.Common.{◌≡◌, ◌∙◌, refl, sym, ap, subst, ◌⊎◌, inl, inr, ℕ, zero, suc, ◌+◌, ◌*◌, ◌%◌, ◌-◌, ◌<◌, Bool, true, false, cond, List, [], ◌∷◌, ◌++◌, Option, Some, None, option_and_then, leb, codes, arith}
-use Rattle.std.specs.Prelude.{◌/◌, ◌&&◌, ◌==◌, if◌then◌else◌, nat_lt}
+use Rattle.std.specs.Prelude.{◌/◌, ◌==◌, if◌then◌else◌, nat_lt}
 use Rattle.std.specs.List.{AllByRecursion, list_all, flat_map, range_with_len}
 use Rattle.std.specs.Option.{option_or}
 use Rattle.std.specs.Str.Lines.{lines}
 use Rattle.std.specs.Fmt.{decimal, digits, digits_onto, digit_glyph}
 use Rattle.std.proofs.Math.Nat.{mod-lt}
 use Rattle.std.proofs.lemmas.Bool.{lt-ltb, le-leb, and_from}
-use Rattle.ped_gen.specs.Generated.{text_of, commands, script}
+use Rattle.ped_gen.specs.Generated.{commands, script}
 use Rattle.ped_session.specs.ped_tree.specs.Grammar.Characters.{is_printable}
 use Rattle.ped_session.specs.ped_valid.specs.ped_parse.specs.ped_lines.proofs.PrintedLaws.Lines.{IsLine, printable_line, lines_written}
 use Rattle.ped_session.specs.ped_transformations.specs.ped_script.specs.Words.{Text, words_of, number_of}

@@ -13,7 +13,11 @@ use Rattle.ped_session.proofs.AutoSteps.{is_step}
 pub replayed : (n : ℕ) (cs : List Command) (d : List ℕ) (s last : State) (tests : ℕ) → Replays session_editing s cs last tests
     → AnswersItems (items_on n cs) d s (all_accepted (items_on n cs) tests) last
 replayed n [] d s last tests h = (ap (all_accepted []) h.1, h.0)
-replayed n (c ∷ cs) d s last tests h =
-    (said_by n Changed h.0, h.0, inl (Changed, is_step c d s h.0 Changed h.3.0, refl),
-    all_accepted (items_on (n + 1) cs) h.2, replayed (n + 1) cs d h.0 last h.2 h.4,
-    ap (all_accepted (items_on n (c ∷ cs))) (h.5 ∙ ap (λ (m : ℕ). m + h.2) h.3.1))
+replayed n (c ∷ cs) d s last tests h = (
+  said_by n Changed h.0,
+  h.0,
+  inl (Changed, is_step c d s h.0 Changed h.3.0, refl),
+  all_accepted (items_on (n + 1) cs) h.2,
+  replayed (n + 1) cs d h.0 last h.2 h.4,
+  ap (all_accepted (items_on n (c ∷ cs))) (h.5 ∙ ap (λ (m : ℕ). m + h.2) h.3.1),
+)

@@ -129,9 +129,10 @@ loop_named p h body f =
     let first = and_parts _ (expr_fits h.first) last.0 in
     let variable = and_parts _ (is_name h.variable) first.0 in
     let behind = expr_uses h.first ++ expr_uses h.last ++ expr_uses h.step in
-    let bounds = both_named (expr_uses h.first) (expr_uses h.last ++ expr_uses h.step) (expr_named h.first first.1) (both_named (expr_uses h.last) (expr_uses h.step) (expr_named h.last last.1) (expr_named h.step step.1)) in
-    (both_named (map (used_as Rejected) h.rejected) (used_as Index h.variable ∷ behind) (names_named Rejected h.rejected rejected.1) (first_named Index h.variable behind variable.1 bounds),
-    private_named h.private _ _ alone.1)
+    let bounds = both_named (expr_uses h.first) (expr_uses h.last ++ expr_uses h.step) (expr_named h.first first.1) (both_named (expr_uses h.last) (expr_uses h.step) (expr_named h.last last.1) (expr_named h.step step.1)) in (
+      both_named (map (used_as Rejected) h.rejected) (used_as Index h.variable ∷ behind) (names_named Rejected h.rejected rejected.1) (first_named Index h.variable behind variable.1 bounds),
+      private_named h.private _ _ alone.1,
+    )
 
 mutual
   stmt_named : (p : Surroundings) (s : StmtTree) → stmt_fits p s ≡ true → AreNamedSites (stmt_sites s)

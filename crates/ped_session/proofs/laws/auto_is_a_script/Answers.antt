@@ -23,6 +23,6 @@ pub returns-clause-answers : goal.returns-clause-answers
 returns-clause-answers g c = λ s last report tests d h.
     subst (λ (items : List Item). AnswersItems items d s (all_accepted (items_on 1 report.accepted) tests) last)
     (sym (script_again c.rows_are_commands.ensures report.accepted
-        (c.accepted_are_commands.ensures.strategy s last report tests h)
-        (c.accepted_are_commands.ensures.written s last report tests short_names h)))
+    (c.accepted_are_commands.ensures.strategy s last report tests h)
+    (c.accepted_are_commands.ensures.written s last report tests short_names h)))
     (replayed 1 report.accepted d s last tests (auto_steps s last report tests h))

@@ -1,0 +1,17 @@
+pub use Rattle.ped_valid
+pub use Rattle.ped_sums
+pub mod Forms
+pub mod Units
+pub mod Reading
+pub mod Refusals
+pub mod Linking
+pub mod Expanding
+pub mod Verdicts
+pub mod UnitReading
+pub mod Places
+pub mod Views
+pub mod Seeing
+pub mod Meaning
+pub mod Naming
+pub mod Giving
+pub mod Reaching

@@ -1,0 +1,93 @@
+//! The variables that statements of a unit assign, and those that they have as DO variables.
+
+use ped_base::{Name, NoMemory};
+use ped_tree::names::NameSet;
+use ped_tree::{Expr, Stmt};
+use std::alloc::Global;
+
+/// The variables that statements assign, read into or have as DO variables.
+pub fn assigned(alloc: Global, statements: &[Stmt]) -> Result<NameSet, NoMemory> {
+    let mut names = NameSet::new(alloc);
+    add_assigned(&mut names, statements)?;
+    Ok(names)
+}
+
+#[cycle(add_assigned)]
+fn add_assigned(names: &mut NameSet, statements: &[Stmt]) -> Result<(), NoMemory> {
+    for statement in statements {
+        add_assigned_in(names, statement)?;
+    }
+    Ok(())
+}
+
+#[cycle(add_assigned)]
+fn add_assigned_in(names: &mut NameSet, statement: &Stmt) -> Result<(), NoMemory> {
+    match statement {
+        Stmt::Assign { left, right: _ } => add_left(names, left),
+        Stmt::If {
+            condition: _,
+            then_part,
+            else_part,
+        } => {
+            add_assigned(names, then_part)?;
+            add_assigned(names, else_part)
+        }
+        Stmt::Do(d) => {
+            names.insert(&d.variable)?;
+            add_assigned(names, &d.body)
+        }
+        Stmt::Read(items) => add_lefts(names, items),
+        Stmt::Print(_) | Stmt::Stop | Stmt::Comment(_) => Ok(()),
+    }
+}
+
+fn add_lefts(names: &mut NameSet, items: &[Expr]) -> Result<(), NoMemory> {
+    for item in items {
+        add_left(names, item)?;
+    }
+    Ok(())
+}
+
+fn add_left(names: &mut NameSet, left: &Expr) -> Result<(), NoMemory> {
+    match left {
+        Expr::Var(name) => names.insert(name),
+        Expr::Element(name, _) => names.insert(name),
+        _ => Ok(()),
+    }
+}
+
+/// The variables that statements have as DO variables.
+pub fn indexes(alloc: Global, statements: &[Stmt]) -> Result<NameSet, NoMemory> {
+    let mut names = NameSet::new(alloc);
+    add_indexes(&mut names, statements)?;
+    Ok(names)
+}
+
+#[cycle(add_indexes)]
+fn add_indexes(names: &mut NameSet, statements: &[Stmt]) -> Result<(), NoMemory> {
+    for statement in statements {
+        add_indexes_in(names, statement)?;
+    }
+    Ok(())
+}
+
+#[cycle(add_indexes)]
+fn add_indexes_in(names: &mut NameSet, statement: &Stmt) -> Result<(), NoMemory> {
+    match statement {
+        Stmt::If {
+            condition: _,
+            then_part,
+            else_part,
+        } => {
+            add_indexes(names, then_part)?;
+            add_indexes(names, else_part)
+        }
+        Stmt::Do(d) => {
+            names.insert(&d.variable)?;
+            add_indexes(names, &d.body)
+        }
+        Stmt::Assign { .. } | Stmt::Print(_) | Stmt::Read(_) | Stmt::Stop | Stmt::Comment(_) => {
+            Ok(())
+        }
+    }
+}

@@ -1,0 +1,27 @@
+//! Files of program units: a main program and subroutines, read, refused or expanded to one program, in which each CALL
+//! is a marked block (ANSI X3.9-1978, sections 15.6 to 15.9).
+#![tactic(auto)]
+
+mod assigning;
+mod expanding;
+mod forms;
+mod giving;
+mod items;
+mod linking;
+mod naming;
+mod occurring;
+mod opening;
+mod placing;
+mod printing;
+mod reaching;
+mod reading;
+mod refusals;
+mod replacing;
+mod seen;
+mod segments;
+mod standing;
+mod unit_refusals;
+mod units;
+
+pub use opening::{expand_units, expansion};
+pub use refusals::{UnitFinding, UnitRefusal, UnitRule};

@@ -16,3 +16,8 @@ pub mod ReadUnits
 pub mod BuiltUnits
 pub mod FreeNames
 pub mod CollectedNames
+pub mod Binding
+pub mod SmallValues
+pub mod Expansions
+pub mod CourseSteps
+pub mod Measures

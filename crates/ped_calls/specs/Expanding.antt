@@ -18,7 +18,7 @@ use Rattle.ped_valid.specs.ped_symbols.specs.Entries.{entry_of, with_entry}
 use Rattle.ped_valid.specs.ped_symbols.specs.Kinds.{at_last, kind_in, names_of}
 use Rattle.ped_valid.specs.ped_symbols.specs.Values.{Values, fixed_value}
 use Rattle.ped_calls.specs.Forms.{Called}
-use Rattle.ped_calls.specs.Units.{ProgramUnit, ProgramUnits, unit_of, call_of, call_statement, instead_of, all_with_calls, called_text}
+use Rattle.ped_calls.specs.Units.{ProgramUnit, ProgramUnits, unit_of, call_of, all_with_calls, called_text}
 use Rattle.ped_calls.specs.Refusals.{for_names}
 
 -- KX with a number behind it (this project)
@@ -133,22 +133,6 @@ head_replaced m h = record {
 abbrev pub called_replaced : Meanings → Called → Called
 called_replaced m c = record { name = c.name; arguments = all_replaced m c.arguments }
 
-abbrev mutual
-  -- a statement with what stands for each name; a subroutine's name is no variable
-  pub stmt_replaced : Meanings → StmtTree → StmtTree
-  stmt_replaced m (Assign left right) = instead_of (λ c. call_statement (called_replaced m c)) (Assign (replaced m left) (replaced m right)) (call_of left right)
-  stmt_replaced m (If condition then_part else_part) = If (cond_replaced m condition) (stmts_replaced m then_part) (stmts_replaced m else_part)
-  stmt_replaced m (Do h body) = Do (head_replaced m h) (stmts_replaced m body)
-  stmt_replaced m (Print items) = Print (map (item_replaced m) items)
-  stmt_replaced m (Read items) = Read (map (replaced m) items)
-  stmt_replaced m Stop = Stop
-  stmt_replaced m (Comment text) = Comment text
-
-  -- the same of statements
-  pub stmts_replaced : Meanings → StmtTrees → StmtTrees
-  stmts_replaced m no_stmts = no_stmts
-  stmts_replaced m (more_stmts s rest) = more_stmts (stmt_replaced m s) (stmts_replaced m rest)
-
 -- an argument is the name of a variable, where these are the named constants (ANSI X3.9-1978, section 15.9.3)
 abbrev pub is_variable_name : Values → ExprTree → Bool
 is_variable_name constants (Var x) = not (is_some (value_named constants x))
@@ -244,10 +228,10 @@ pub record AllExpanded (S : Type 0) : Type 0 where
   pub statements : StmtTrees
   pub state : S
 
--- a statement, or what a function makes of the CALL that it is and of the state
-abbrev pub expanded_or : {S : Type 0} → (Called → S → Expanded S) → StmtTree → S → Option Called → Expanded S
-expanded_or f s state None = record { statement = s; state = state }
-expanded_or f s state (Some c) = f c state
+-- a statement, or what a function makes of the CALL that it is, with what stands for the names in its arguments, and of the state
+abbrev pub expanded_or : {S : Type 0} → Meanings → (Called → S → Expanded S) → StmtTree → S → Option Called → Expanded S
+expanded_or m f s state None = record { statement = s; state = state }
+expanded_or m f s state (Some c) = f (called_replaced m c) state
 
 -- an IF with an expanded THEN part and an ELSE part that is expanded behind it
 abbrev pub if_expanded : {S : Type 0} → CondTree → AllExpanded S → (S → AllExpanded S) → Expanded S
@@ -262,20 +246,20 @@ abbrev pub then_expanded : {S : Type 0} → Expanded S → (S → AllExpanded S)
 then_expanded e rest = record { statements = more_stmts e.statement (rest e.state).statements; state = (rest e.state).state }
 
 abbrev mutual
-  -- a statement where each CALL in it gives way to what a function makes of it, in text order, with a state that goes along
-  pub expanded_in : {S : Type 0} → (Called → S → Expanded S) → StmtTree → S → Expanded S
-  expanded_in f (Assign left right) state = expanded_or f (Assign left right) state (call_of left right)
-  expanded_in f (If condition then_part else_part) state = if_expanded condition (all_expanded_in f then_part state) (all_expanded_in f else_part)
-  expanded_in f (Do h body) state = do_expanded h (all_expanded_in f body state)
-  expanded_in f (Print items) state = record { statement = Print items; state = state }
-  expanded_in f (Read items) state = record { statement = Read items; state = state }
-  expanded_in f Stop state = record { statement = Stop; state = state }
-  expanded_in f (Comment text) state = record { statement = Comment text; state = state }
+  -- a statement with what stands for each name, where each CALL in it gives way to what a function makes of it, in text order, with a state that goes along; a subroutine's name is no variable
+  pub expanded_in : {S : Type 0} → Meanings → (Called → S → Expanded S) → StmtTree → S → Expanded S
+  expanded_in m f (Assign left right) state = expanded_or m f (Assign (replaced m left) (replaced m right)) state (call_of left right)
+  expanded_in m f (If condition then_part else_part) state = if_expanded (cond_replaced m condition) (all_expanded_in m f then_part state) (all_expanded_in m f else_part)
+  expanded_in m f (Do h body) state = do_expanded (head_replaced m h) (all_expanded_in m f body state)
+  expanded_in m f (Print items) state = record { statement = Print (map (item_replaced m) items); state = state }
+  expanded_in m f (Read items) state = record { statement = Read (map (replaced m) items); state = state }
+  expanded_in m f Stop state = record { statement = Stop; state = state }
+  expanded_in m f (Comment text) state = record { statement = Comment text; state = state }
 
   -- the same of statements
-  pub all_expanded_in : {S : Type 0} → (Called → S → Expanded S) → StmtTrees → S → AllExpanded S
-  all_expanded_in f no_stmts state = record { statements = no_stmts; state = state }
-  all_expanded_in f (more_stmts s rest) state = then_expanded (expanded_in f s state) (all_expanded_in f rest)
+  pub all_expanded_in : {S : Type 0} → Meanings → (Called → S → Expanded S) → StmtTrees → S → AllExpanded S
+  all_expanded_in m f no_stmts state = record { statements = no_stmts; state = state }
+  all_expanded_in m f (more_stmts s rest) state = then_expanded (expanded_in m f s state) (all_expanded_in m f rest)
 
 -- a block with these expanded statements
 abbrev pub block_with : Called → Bound → AllExpanded Given → Expanded Given
@@ -283,7 +267,7 @@ block_with c b e = record { statement = block_of c b.assignments e.statements; s
 
 -- the block of a CALL of this subroutine, whose arguments were bound and whose names have these meanings, where a function expands its own CALLs: these know no named constants any more
 abbrev pub body_expanded : (Called → Given → Expanded Given) → ProgramUnit → Called → Bound → Renamed → Expanded Given
-body_expanded inner v c b r = block_with c b (all_expanded_in inner (stmts_replaced r.meanings v.tree.body) r.given)
+body_expanded inner v c b r = block_with c b (all_expanded_in r.meanings inner v.tree.body r.given)
 
 -- the block of a CALL of this subroutine, where its arguments were bound and a function expands its own CALLs
 abbrev pub bound_expanded : (Called → Given → Expanded Given) → ProgramUnit → Called → Bound → Expanded Given
@@ -301,15 +285,15 @@ call_expanded (suc depth) us constants c g = unit_expanded (call_expanded depth 
 
 -- before the first CALL: the names of the main program are taken, that in PROGRAM too (this project)
 abbrev pub nothing_given : ProgramUnits → Given
-nothing_given us = record { taken = names_of (for_names us.main) ++ flat_map program_name us.main.tree.decls; arrays = [] }
+nothing_given us = record { taken = first_occurrences [] (names_of (for_names us.main) ++ flat_map program_name us.main.tree.decls); arrays = [] }
 
 -- a CALL of the main program: without recursion CALLs stand in one another no deeper than there are subroutines
 abbrev pub main_call_expanded : ProgramUnits → Called → Given → Expanded Given
 main_call_expanded us c g = call_expanded (length us.others) us (constants_of us.main) c g
 
--- statements of the main program with each CALL expanded, in text order
+-- statements of the main program with each CALL expanded, in text order; each name stands for itself
 abbrev pub main_expanded : ProgramUnits → StmtTrees → AllExpanded Given
-main_expanded us body = all_expanded_in (main_call_expanded us) body (nothing_given us)
+main_expanded us body = all_expanded_in [] (main_call_expanded us) body (nothing_given us)
 
 -- the main program with other statements, behind whose declarations these arrays are declared
 abbrev pub with_statements : ProgramUnits → AllExpanded Given → ProgramTree

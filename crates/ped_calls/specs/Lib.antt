@@ -15,3 +15,6 @@ pub mod Meaning
 pub mod Naming
 pub mod Giving
 pub mod Reaching
+pub mod Binding
+pub mod Courses
+pub mod Opening

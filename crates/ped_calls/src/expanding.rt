@@ -1,17 +1,33 @@
 //! Each CALL expanded to a marked block with the statements of its subroutine (ANSI X3.9-1978, section 15.9.3).
 
-use crate::giving::{Given, literal};
-use crate::occurring::body_names;
-use crate::printing::push_called;
+ghost use Rattle.std.specs.Prelude.{◌≡◌, ◌≤◌, ◌<◌, ◌+◌, ◌⊎◌, [], ℕ, List, IfOk, IfErr, OnOk, MatchOption, map};
+ghost use Rattle.ped_tree.specs.Tree.{If};
+ghost use Rattle.ped_tree.specs.Views.{expr_tree, pack_exprs, cond_tree, stmt_tree, stmt_trees};
+ghost use Rattle.ped_tree.specs.Numbering as Numbering;
+ghost use Rattle.ped_tree.specs.Grammar.LimitNumbers.{most_blocks_nested};
+ghost use Rattle.ped_print.specs.Lengths.{limited};
+ghost use Rattle.ped_valid.specs.ped_symbols.specs.Kinds.{table_of};
+ghost use Rattle.ped_calls.specs.Units as Units;
+ghost use Rattle.ped_calls.specs.Refusals.{for_names};
+ghost use Rattle.ped_calls.specs.Expanding as Spec;
+ghost use Rattle.ped_calls.specs.Giving.{given_of};
+ghost use Rattle.ped_calls.specs.Meaning.{meanings_of};
+ghost use Rattle.ped_calls.specs.Courses.{units_of, KnowsFile, IsUnderWay, GoesOn, StopsAt, Passes, IsTooDeep, AreTooDeep, expanded_at, all_expanded_at, called_at, block_at, inside_at, IsMissing, IsFound};
+ghost use Rattle.ped_calls.specs.Views.{program_unit_of};
+ghost use Rattle.ped_calls.specs.declared.expanding.Stopped.TheVariants as variant;
+
+use crate::binding::{add_names, bind};
+use crate::blocks::{bare_block, begun, block, joined};
+use crate::giving::Given;
 use crate::replacing::{
     Meanings, all_replaced, assignment_replaced, cond_replaced, items_replaced, loop_replaced,
 };
 use crate::units::ProgramUnit;
 use indexmap::IndexMap;
-use ped_base::{Bytes, Name, NoMemory};
+use ped_base::{Name, NoMemory};
 use ped_limits::{MOST_BLOCKS_NESTED, statement_count};
-use ped_tree::constants::{Consts, constant};
-use ped_tree::{Cond, Expr, Relation, Stmt};
+use ped_tree::constants::Consts;
+use ped_tree::{Cond, Do, Expr, Stmt};
 use ped_valid::ped_symbols::Symbols;
 use std::alloc::{AllocFailed, Global};
 
@@ -25,12 +41,16 @@ pub enum Stopped {
 }
 
 impl From<NoMemory> for Stopped {
+    ghost from_gives = { λ _ e. e ≡ variant.OutOfMemory };
+
     fn from(_: NoMemory) -> Stopped {
         Stopped::OutOfMemory
     }
 }
 
 impl<T: Drop> From<AllocFailed<T>> for Stopped {
+    ghost from_gives = { λ _ e. e ≡ variant.OutOfMemory };
+
     fn from(_: AllocFailed<T>) -> Stopped {
         Stopped::OutOfMemory
     }
@@ -59,11 +79,18 @@ pub struct Course {
 /// Where statements are expanded: in how many CALLs, in how many more at most, with what stands for their names, and by which
 /// named constants.
 #[derive(Clone, Copy)]
-struct Within<'m> {
+pub struct Within<'m> {
     depth: usize,
     deeper: usize,
     meanings: &'m Meanings,
     constants: &'m Consts,
+}
+
+/// A subroutine with what its names stand for.
+#[derive(Clone, Copy)]
+pub struct Subroutine<'u> {
+    unit: &'u ProgramUnit,
+    table: &'u Symbols,
 }
 
 impl<'u> File<'u> {
@@ -74,7 +101,19 @@ impl<'u> File<'u> {
         alloc: Global,
         course: &mut Course,
         statements: &[Stmt],
-    ) -> Result<Vec<Stmt>, Stopped> {
+    ) -> Result<Vec<Stmt>, Stopped>
+        requires file { KnowsFile self.now }
+        requires course { IsUnderWay course.old }
+        ensures statements { IfOk result (λ all. stmt_trees all.items ≡ (Spec.all_expanded_in [] (Spec.main_call_expanded (units_of self.now.units.now)) (stmt_trees statements.now) (given_of course.old.given)).statements) }
+        ensures course { OnOk result (GoesOn course.old course.new
+            (Numbering.statements_count (stmt_trees statements.now))
+            (Numbering.statements_count (Spec.all_expanded_in [] (Spec.main_call_expanded (units_of self.now.units.now)) (stmt_trees statements.now) (given_of course.old.given)).statements)
+            (Spec.all_expanded_in [] (Spec.main_call_expanded (units_of self.now.units.now)) (stmt_trees statements.now) (given_of course.old.given)).state) }
+        ensures stopped { IfErr result (λ e. StopsAt e (Passes course.old.room
+            (Numbering.statements_count (stmt_trees statements.now))
+            (Numbering.statements_count (Spec.all_expanded_in [] (Spec.main_call_expanded (units_of self.now.units.now)) (stmt_trees statements.now) (given_of course.old.given)).statements)
+            (AreTooDeep 0 (Spec.all_expanded_in [] (Spec.main_call_expanded (units_of self.now.units.now)) (stmt_trees statements.now) (given_of course.old.given)).statements))) }
+    {
         let meanings = Meanings::nothing(alloc);
         let within = Within {
             depth: 0,
@@ -93,7 +132,19 @@ impl<'u> File<'u> {
         course: &mut Course,
         within: &Within,
         statements: &[Stmt],
-    ) -> Result<Vec<Stmt>, Stopped> {
+    ) -> Result<Vec<Stmt>, Stopped>
+        requires file { KnowsFile self.now }
+        requires course { IsUnderWay course.old }
+        ensures statements { IfOk result (λ all. stmt_trees all.items ≡ (all_expanded_at self.now within.now (stmt_trees statements.now) (given_of course.old.given)).statements) }
+        ensures course { OnOk result (GoesOn course.old course.new
+            (Numbering.statements_count (stmt_trees statements.now))
+            (Numbering.statements_count (all_expanded_at self.now within.now (stmt_trees statements.now) (given_of course.old.given)).statements)
+            (all_expanded_at self.now within.now (stmt_trees statements.now) (given_of course.old.given)).state) }
+        ensures stopped { IfErr result (λ e. StopsAt e (Passes course.old.room
+            (Numbering.statements_count (stmt_trees statements.now))
+            (Numbering.statements_count (all_expanded_at self.now within.now (stmt_trees statements.now) (given_of course.old.given)).statements)
+            (AreTooDeep within.now.depth (all_expanded_at self.now within.now (stmt_trees statements.now) (given_of course.old.given)).statements))) }
+    {
         let mut all = Vec::new(alloc);
         for statement in statements {
             all.push(self.statement(alloc, course, within, statement)?)?;
@@ -101,6 +152,7 @@ impl<'u> File<'u> {
         Ok(all)
     }
 
+    /// A statement with what stands for its names, and with its CALLs expanded.
     #[cycle(expand)]
     fn statement(
         &self,
@@ -108,18 +160,30 @@ impl<'u> File<'u> {
         course: &mut Course,
         within: &Within,
         statement: &Stmt,
-    ) -> Result<Stmt, Stopped> {
+    ) -> Result<Stmt, Stopped>
+        requires file { KnowsFile self.now }
+        requires course { IsUnderWay course.old }
+        ensures statement { IfOk result (λ s. stmt_tree s ≡ (expanded_at self.now within.now (stmt_tree statement.now) (given_of course.old.given)).statement) }
+        ensures course { OnOk result (GoesOn course.old course.new
+            (Numbering.statement_count (stmt_tree statement.now))
+            (Numbering.statement_count (expanded_at self.now within.now (stmt_tree statement.now) (given_of course.old.given)).statement)
+            (expanded_at self.now within.now (stmt_tree statement.now) (given_of course.old.given)).state) }
+        ensures stopped { IfErr result (λ e. StopsAt e (Passes course.old.room
+            (Numbering.statement_count (stmt_tree statement.now))
+            (Numbering.statement_count (expanded_at self.now within.now (stmt_tree statement.now) (given_of course.old.given)).statement)
+            (IsTooDeep within.now.depth (expanded_at self.now within.now (stmt_tree statement.now) (given_of course.old.given)).statement))) }
+    {
         match statement {
             Stmt::Assign {
                 left: Expr::Int(_),
                 right: Expr::Var(name),
-            } => self.call(alloc, course, within, name, Vec::new(alloc)),
+            } => self.call(alloc, course, within, name, &[]),
             Stmt::Assign {
                 left: Expr::Int(_),
                 right: Expr::Element(name, arguments),
             } => {
                 let arguments = all_replaced(alloc, within.meanings, arguments)?;
-                self.call(alloc, course, within, name, arguments)
+                self.call(alloc, course, within, name, &arguments)
             }
             Stmt::Assign { left, right } => {
                 Ok(assignment_replaced(alloc, within.meanings, left, right)?)
@@ -131,13 +195,13 @@ impl<'u> File<'u> {
             } => {
                 let then_part = self.statements(alloc, course, within, then_part)?;
                 match self.statements(alloc, course, within, else_part) {
-                    Ok(else_part) => conditional(
+                    Ok(else_part) => Ok(conditional(
                         alloc,
                         within.meanings,
                         condition,
                         then_part,
                         else_part,
-                    ),
+                    )?),
                     Err(stopped) => {
                         drop(then_part);
                         Err(stopped)
@@ -146,11 +210,11 @@ impl<'u> File<'u> {
             }
             Stmt::Do(d) => {
                 let body = self.statements(alloc, course, within, &d.body)?;
-                Ok(Stmt::Do(loop_replaced(alloc, within.meanings, d, body)?))
+                Ok(Stmt::of_loop(loop_replaced(alloc, within.meanings, d, body)?))
             }
-            Stmt::Print(items) => Ok(Stmt::Print(items_replaced(alloc, within.meanings, items)?)),
-            Stmt::Read(items) => Ok(Stmt::Read(all_replaced(alloc, within.meanings, items)?)),
-            Stmt::Stop => Ok(Stmt::Stop),
+            Stmt::Print(items) => Ok(Stmt::print(items_replaced(alloc, within.meanings, items)?)),
+            Stmt::Read(items) => Ok(Stmt::read(all_replaced(alloc, within.meanings, items)?)),
+            Stmt::Stop => Ok(Stmt::stop()),
             Stmt::Comment(_) => Ok(statement.copy(alloc)?),
         }
     }
@@ -163,50 +227,111 @@ impl<'u> File<'u> {
         course: &mut Course,
         within: &Within,
         name: &Name,
-        arguments: Vec<Expr>,
-    ) -> Result<Stmt, Stopped> {
-        let body = self.body(alloc, course, within, name, &arguments)?;
-        Ok(block(alloc, body)?)
+        arguments: &[Expr],
+    ) -> Result<Stmt, Stopped>
+        requires file { KnowsFile self.now }
+        requires course { IsUnderWay course.old }
+        ensures statement { IfOk result (λ s. stmt_tree s ≡ (called_at self.now within.now name.now (map expr_tree arguments.now) (given_of course.old.given)).statement) }
+        ensures course { OnOk result (GoesOn course.old course.new
+            1
+            (Numbering.statement_count (called_at self.now within.now name.now (map expr_tree arguments.now) (given_of course.old.given)).statement)
+            (called_at self.now within.now name.now (map expr_tree arguments.now) (given_of course.old.given)).state) }
+        ensures stopped { IfErr result (λ e. StopsAt e (Passes course.old.room
+            1
+            (Numbering.statement_count (called_at self.now within.now name.now (map expr_tree arguments.now) (given_of course.old.given)).statement)
+            (IsTooDeep within.now.depth (called_at self.now within.now name.now (map expr_tree arguments.now) (given_of course.old.given)).statement))) }
+    {
+        match self.found(within, name) {
+            Some(called) => self.block(alloc, course, within, called, name, arguments),
+            None => Ok(bare_block(alloc, name, arguments)?),
+        }
     }
 
-    /// The comment that names a CALL, the assignments of arguments, and the expanded statements of its subroutine.
+    /// The subroutine of a name, where CALLs may stand deeper in one another and there is one.
+    fn found(&self, within: &Within, name: &Name) -> Option<Subroutine<'u>>
+        requires { KnowsFile self.now }
+        ensures { MatchOption result (IsMissing self.now within.now name.now) (λ s. IsFound self.now within.now name.now s) }
+    {
+        if within.deeper == 0 {
+            return None;
+        }
+        match self.numbers.get(name) {
+            Some(number) => Some(Subroutine {
+                unit: &self.units[*number],
+                table: &self.tables[*number],
+            }),
+            None => None,
+        }
+    }
+
+    /// The block of a CALL of a subroutine: the comment that names the CALL, the assignments of arguments, and the expanded
+    /// statements of the subroutine.
     #[cycle(expand)]
-    fn body(
+    fn block(
         &self,
         alloc: Global,
         course: &mut Course,
         within: &Within,
+        called: Subroutine,
         name: &Name,
         arguments: &[Expr],
-    ) -> Result<Vec<Stmt>, Stopped> {
-        let mut body = Vec::new(alloc);
-        body.push(call_comment(alloc, name, arguments)?)?;
-        if within.deeper == 0 {
-            return Ok(body);
-        }
-        let Some(number) = self.numbers.get(name) else {
-            return Ok(body);
-        };
-        let unit = &self.units[*number];
+    ) -> Result<Stmt, Stopped>
+        requires file { KnowsFile self.now }
+        requires course { IsUnderWay course.old }
+        requires found { IsFound self.now within.now name.now called }
+        ensures statement { IfOk result (λ s. stmt_tree s ≡ (block_at self.now within.now called name.now (map expr_tree arguments.now) (given_of course.old.given)).statement) }
+        ensures course { OnOk result (GoesOn course.old course.new
+            1
+            (Numbering.statement_count (block_at self.now within.now called name.now (map expr_tree arguments.now) (given_of course.old.given)).statement)
+            (block_at self.now within.now called name.now (map expr_tree arguments.now) (given_of course.old.given)).state) }
+        ensures stopped { IfErr result (λ e. StopsAt e (Passes course.old.room
+            1
+            (Numbering.statement_count (block_at self.now within.now called name.now (map expr_tree arguments.now) (given_of course.old.given)).statement)
+            (IsTooDeep within.now.depth (block_at self.now within.now called name.now (map expr_tree arguments.now) (given_of course.old.given)).statement))) }
+    {
+        let mut front = begun(alloc, name, arguments)?;
         let mut meanings = Meanings::nothing(alloc);
-        let formals = unit.formals.as_slice();
-        let mut place = 0;
-        while place < arguments.len() {
-            let e = bound(
-                alloc,
-                course,
-                within.constants,
-                &mut body,
-                &arguments[place],
-            )?;
-            if place < formals.len() {
-                meanings.keep(&formals[place], e)?;
-            }
-            place += 1;
-        }
-        take_room(course, within.depth, body.len() - 1, &unit.program.body)?;
-        add_constants(alloc, &mut meanings, self.tables[*number].consts())?;
-        add_locals(alloc, &mut meanings, course, unit, &self.tables[*number])?;
+        bind(
+            alloc,
+            &mut course.given,
+            within.constants,
+            called.unit.formals.as_slice(),
+            arguments,
+            &mut meanings,
+            &mut front,
+        )?;
+        let statements = self.inside(alloc, course, within, called, front.len() - 1, meanings)?;
+        Ok(block(alloc, joined(front, statements)?))
+    }
+
+    /// The expanded statements of a subroutine, where these stand for its dummy arguments and so many assignments stand
+    /// before.
+    #[cycle(expand)]
+    fn inside(
+        &self,
+        alloc: Global,
+        course: &mut Course,
+        within: &Within,
+        called: Subroutine,
+        assignments: usize,
+        formals: Meanings,
+    ) -> Result<Vec<Stmt>, Stopped>
+        requires file { KnowsFile self.now }
+        requires course { IsUnderWay course.old }
+        requires found { (x : List ℕ) × IsFound self.now within.now x called }
+        ensures statements { IfOk result (λ all. stmt_trees all.items ≡ (inside_at self.now within.now called (meanings_of formals) (given_of course.old.given)).statements) }
+        ensures course { OnOk result (GoesOn course.old course.new
+            0
+            (assignments + Numbering.statements_count (inside_at self.now within.now called (meanings_of formals) (given_of course.old.given)).statements)
+            (inside_at self.now within.now called (meanings_of formals) (given_of course.old.given)).state) }
+        ensures stopped { IfErr result (λ e. StopsAt e (Passes course.old.room
+            0
+            (assignments + Numbering.statements_count (inside_at self.now within.now called (meanings_of formals) (given_of course.old.given)).statements)
+            ((most_blocks_nested ≤ within.now.depth) ⊎ AreTooDeep (within.now.depth + 1) (inside_at self.now within.now called (meanings_of formals) (given_of course.old.given)).statements))) }
+    {
+        take_room(course, within.depth, assignments, &called.unit.program.body)?;
+        let mut meanings = formals;
+        add_names(alloc, &mut meanings, &mut course.given, called.unit, called.table)?;
         let none = Consts::new(alloc);
         let inner = Within {
             depth: within.depth + 1,
@@ -214,11 +339,7 @@ impl<'u> File<'u> {
             meanings: &meanings,
             constants: &none,
         };
-        let statements = self.statements(alloc, course, &inner, &unit.program.body)?;
-        for statement in statements {
-            body.push(statement)?;
-        }
-        Ok(body)
+        self.statements(alloc, course, &inner, &called.unit.program.body)
     }
 }
 
@@ -228,11 +349,14 @@ fn take_room(
     depth: usize,
     assignments: usize,
     statements: &[Stmt],
-) -> Result<(), Stopped> {
-    let mut count = assignments;
-    for statement in statements {
-        count = count.saturating_add(statement_count(statement));
-    }
+) -> Result<(), Stopped>
+    requires { IsUnderWay course.old }
+    ensures room { OnOk result (course.new.room + (assignments + Numbering.statements_count (stmt_trees statements.now)) ≡ course.old.room) }
+    ensures depth { OnOk result (depth < most_blocks_nested) }
+    ensures given { OnOk result (course.new.given ≡ course.old.given) }
+    ensures stopped { IfErr result (λ e. StopsAt e ((most_blocks_nested ≤ depth) ⊎ (course.old.room < assignments + Numbering.statements_count (stmt_trees statements.now)))) }
+{
+    let count = count_from(assignments, statements);
     if depth >= MOST_BLOCKS_NESTED || count > course.room {
         return Err(Stopped::Past);
     }
@@ -240,77 +364,15 @@ fn take_room(
     Ok(())
 }
 
-/// What an argument is bound to: the variable whose name it is, the literal of its value, or a new name to which it is
-/// assigned.
-fn bound(
-    alloc: Global,
-    course: &mut Course,
-    constants: &Consts,
-    assignments: &mut Vec<Stmt>,
-    argument: &Expr,
-) -> Result<Expr, NoMemory> {
-    if is_variable_name(constants, argument) {
-        return argument.copy(alloc);
+/// How many statements these are and so many others; `usize::MAX` where there are more.
+pub fn count_from(others: usize, statements: &[Stmt]) -> usize
+    ensures { result ≡ limited (others + Numbering.statements_count (stmt_trees statements.now)) }
+{
+    let mut count = others;
+    for statement in statements {
+        count = count.saturating_add(statement_count(statement));
     }
-    match fixed_value(constants, argument) {
-        Some(value) => literal(alloc, value),
-        None => {
-            let name = course.given.new_name(alloc)?;
-            let right = argument.copy(alloc)?;
-            assignments.push(Stmt::assignment(Expr::Var(name), right))?;
-            Ok(Expr::Var(name))
-        }
-    }
-}
-
-/// Whether the expression is the name of a variable.
-fn is_variable_name(constants: &Consts, e: &Expr) -> bool {
-    match e {
-        Expr::Var(name) => constants.get(name).is_none(),
-        _ => false,
-    }
-}
-
-/// The value of a constant expression that isn't too large.
-fn fixed_value(constants: &Consts, e: &Expr) -> Option<i64> {
-    let value = constant(e, constants)?;
-    if -2_147_483_647 <= value && value <= 2_147_483_647 {
-        Some(value as i64)
-    } else {
-        None
-    }
-}
-
-/// Has literals stand for named constants.
-fn add_constants(
-    alloc: Global,
-    meanings: &mut Meanings,
-    constants: &Consts,
-) -> Result<(), NoMemory> {
-    let mut place = 0;
-    while let Some((name, value)) = constants.get_index(place) {
-        meanings.keep(&name, literal(alloc, value)?)?;
-        place += 1;
-    }
-    Ok(())
-}
-
-/// Has new names stand for all other names in the statements of a unit, in the order in which they occur first.
-fn add_locals(
-    alloc: Global,
-    meanings: &mut Meanings,
-    course: &mut Course,
-    unit: &ProgramUnit,
-    table: &Symbols,
-) -> Result<(), NoMemory> {
-    let names = body_names(alloc, &unit.program.body)?;
-    for name in names.as_slice() {
-        if !meanings.has(name) {
-            let new = course.given.new_local(alloc, table.kind(name))?;
-            meanings.keep(name, Expr::Var(new))?;
-        }
-    }
-    Ok(())
+    count
 }
 
 /// The IF with what stands for the names in its condition, and with these parts.
@@ -320,45 +382,15 @@ fn conditional(
     condition: &Cond,
     then_part: Vec<Stmt>,
     else_part: Vec<Stmt>,
-) -> Result<Stmt, Stopped> {
+) -> Result<Stmt, NoMemory>
+    ensures { IfOk result (λ s. stmt_tree s ≡ If (Spec.cond_replaced (meanings_of m.now) (cond_tree condition.now)) (stmt_trees then_part.items) (stmt_trees else_part.items)) }
+{
     match cond_replaced(alloc, m, condition) {
-        Ok(condition) => Ok(Stmt::If {
-            condition,
-            then_part,
-            else_part,
-        }),
+        Ok(condition) => Ok(Stmt::block_if(condition, then_part, else_part)),
         Err(error) => {
             drop(then_part);
             drop(else_part);
-            Err(Stopped::from(error))
+            Err(error)
         }
     }
-}
-
-/// The comment that names a CALL, cut to a line.
-fn call_comment(alloc: Global, name: &Name, arguments: &[Expr]) -> Result<Stmt, NoMemory> {
-    let mut text = Bytes::new(alloc);
-    text.extend_from_slice(b"$CALL ")?;
-    push_called(&mut text, name, arguments)?;
-    let mut cut = Bytes::new(alloc);
-    cut.extend_from_slice(first_bytes(text.as_slice(), 71))?;
-    Ok(Stmt::Comment(cut))
-}
-
-/// The first bytes of a text, so many where it has as many.
-fn first_bytes(text: &[u8], count: usize) -> &[u8] {
-    if text.len() <= count {
-        text
-    } else {
-        &text[..count]
-    }
-}
-
-/// The block IF with the condition 0.EQ.0 and these statements.
-fn block(alloc: Global, body: Vec<Stmt>) -> Result<Stmt, NoMemory> {
-    Ok(Stmt::If {
-        condition: Cond::relation(Relation::Eq, Expr::literal(0), Expr::literal(0)),
-        then_part: body,
-        else_part: Vec::new(alloc),
-    })
 }

@@ -3,7 +3,10 @@
 #![tactic(auto)]
 
 mod assigning;
+mod binding;
+mod blocks;
 mod expanding;
+mod first_calls;
 mod forms;
 mod giving;
 mod items;
@@ -19,6 +22,7 @@ mod refusals;
 mod replacing;
 mod seen;
 mod segments;
+mod settling;
 mod standing;
 mod unit_refusals;
 mod units;

@@ -1,28 +1,42 @@
 //! Files of program units opened as the programs that they expand to.
 
-ghost use Rattle.std.specs.Prelude.{◌≡◌, IfOk, IfErr};
+ghost use Rattle.std.specs.Prelude.{◌≡◌, ◌≤◌, ◌+◌, ◌++◌, [], ℕ, IfOk, IfErr, OnOk, map};
+ghost use Rattle.std.specs.List.{flat_map};
 ghost use Rattle.ped_tree.specs.Tree.{ProgramTree};
-ghost use Rattle.ped_tree.specs.Views.{program_tree};
+ghost use Rattle.ped_tree.specs.NamesIn.{first_occurrences};
+ghost use Rattle.ped_tree.specs.Names.Collecting.{with_names};
+ghost use Rattle.ped_tree.specs.Numbering.{statements_count};
+ghost use Rattle.ped_tree.specs.Views.{decl_tree, stmt_trees, program_tree};
 ghost use Rattle.ped_tree.specs.Printing.{program_text};
+ghost use Rattle.ped_tree.specs.Grammar.LimitNumbers.{most_statements};
+ghost use Rattle.ped_valid.specs.ped_symbols.specs.Declarations.{program_name};
 ghost use Rattle.ped_valid.specs.ped_symbols.specs.Kinds.{table_of};
-ghost use Rattle.ped_calls.specs.Verdicts.{IsExpansion};
+ghost use Rattle.ped_valid.specs.ped_symbols.specs.NameRefusals.{IsValid};
+ghost use Rattle.ped_calls.specs.Expanding.{nothing_given, expansion as plain_expansion};
+ghost use Rattle.ped_calls.specs.Verdicts.{IsExpansion, IsFirstPast};
+ghost use Rattle.ped_calls.specs.Units.{ProgramUnits};
+ghost use Rattle.ped_tree.specs.Grammar.RefusalViews.{kind_of};
+ghost use Rattle.ped_calls.specs.Courses.{KnowsFile, IsUnderWay, units_of};
+ghost use Rattle.ped_calls.specs.Opening.{Judges, JudgesProgram, StartsWell, IsPastAt, FindsPast};
+ghost use Rattle.ped_calls.specs.Giving.{given_of, HasNext};
 ghost use Rattle.ped_calls.specs.Views.{IsUnitRefusalOf};
 
-use crate::expanding::{Course, File, Stopped};
+use crate::expanding::{Course, File, Stopped, count_from};
+use crate::first_calls::first_calls;
 use crate::giving::Given;
 use crate::linking::{look_at_calls, unit_numbers};
-use crate::naming::{tables, with_condition};
+use crate::naming::tables;
 use crate::placing::placed_calls;
 use crate::reading::read_units;
 use crate::refusals::{UnitFinding, UnitRefusal, UnitRule};
-use crate::units::ProgramUnit;
-use ped_base::{Bytes, NoMemory};
+use crate::settling::settled;
+use ped_base::{Bytes, Name, NoMemory};
 use ped_fits::fits;
-use ped_limits::{MOST_STATEMENTS, statement_count};
+use ped_limits::MOST_STATEMENTS;
 use ped_print::print;
 use ped_tree::grammar::RefusalKind;
 use ped_tree::names::NameSet;
-use ped_tree::{Decl, Expr, Program, Stmt, copy_decls};
+use ped_tree::{Decl, Program, Stmt};
 use ped_valid::ped_symbols::{NameRefusal, Symbols, symbols_of};
 use ped_valid::{OpenRefusal, Opened, open_program};
 use std::alloc::Global;
@@ -61,7 +75,11 @@ pub fn expansion(alloc: Global, text: &[u8]) -> Result<Opened, UnitRefusal>
 }
 
 /// The program that the units of a file expand to.
-fn expansion_of_units(alloc: Global, text: &[u8]) -> Result<Opened, UnitRefusal> {
+fn expansion_of_units(alloc: Global, text: &[u8]) -> Result<Opened, UnitRefusal>
+    ensures tree { IfOk result (λ o. IsExpansion text.now (program_tree o.program)) }
+    ensures table { IfOk result (λ o. o.symbols ≡ table_of (program_tree o.program)) }
+    ensures refused { IfErr result (λ e. IsUnitRefusalOf text.now e) }
+{
     let units = read_units(alloc, text)?;
     let tables = tables(alloc, &units)?;
     look_at_calls(alloc, &units, &tables)?;
@@ -71,6 +89,17 @@ fn expansion_of_units(alloc: Global, text: &[u8]) -> Result<Opened, UnitRefusal>
         tables: &tables,
         numbers: &numbers,
     };
+    expanded(alloc, file)
+}
+
+/// The program that the units of a file expand to, where their names and their CALLs are right.
+fn expanded(alloc: Global, file: File) -> Result<Opened, UnitRefusal>
+    requires file { KnowsFile file }
+    requires starts { StartsWell (units_of file.units.now) }
+    ensures tree { IfOk result (λ o. (program_tree o.program ≡ plain_expansion (units_of file.units.now)) × IsValid (program_tree o.program)) }
+    ensures table { IfOk result (λ o. o.symbols ≡ table_of (program_tree o.program)) }
+    ensures refused { IfErr result (IsPastAt (units_of file.units.now)) }
+{
     match judged(alloc, file, &file.units[0].program.body)? {
         Judgement::Valid(opened) => Ok(opened),
         Judgement::PastStatements | Judgement::PastStorage => Err(first_past(alloc, file)?),
@@ -78,6 +107,7 @@ fn expansion_of_units(alloc: Global, text: &[u8]) -> Result<Opened, UnitRefusal>
 }
 
 /// What comes of expanding the first CALLs.
+#[derive(Drop)]
 enum Judgement {
     /// A valid program.
     Valid(Opened),
@@ -88,14 +118,21 @@ enum Judgement {
 }
 
 /// What comes of expanding the CALLs in these statements of the main program.
-fn judged(alloc: Global, file: File, statements: &[Stmt]) -> Result<Judgement, NoMemory> {
-    let mut course = Course {
-        room: room(&file.units[0].program.body),
-        given: Given::new(alloc, taken(alloc, file)?),
-    };
+fn judged(alloc: Global, file: File, statements: &[Stmt]) -> Result<Judgement, NoMemory>
+    requires file { KnowsFile file }
+    requires few { statements_count (units_of file.units.now).main.tree.body ≤ most_statements }
+    ensures { IfOk result (λ j. (later : ℕ) → statements_count (stmt_trees statements.now) + later ≡ statements_count (units_of file.units.now).main.tree.body
+        → Judges (units_of file.units.now) (stmt_trees statements.now) later j) }
+{
+    let mut course = start(alloc, file)?;
     match file.main(alloc, &mut course, statements) {
         Ok(body) => {
-            let program = settled(alloc, &file.units[0], course.given, body)?;
+            let program = settled(
+                alloc,
+                &file.units[0].program.decls,
+                course.given.arrays,
+                body,
+            )?;
             judged_program(alloc, program)
         }
         Err(Stopped::Past) => Ok(Judgement::PastStatements),
@@ -103,8 +140,26 @@ fn judged(alloc: Global, file: File, statements: &[Stmt]) -> Result<Judgement, N
     }
 }
 
+/// Before the first CALL is expanded.
+fn start(alloc: Global, file: File) -> Result<Course, NoMemory>
+    requires file { KnowsFile file }
+    requires few { statements_count (units_of file.units.now).main.tree.body ≤ most_statements }
+    ensures room { IfOk result (λ c. c.room + statements_count (units_of file.units.now).main.tree.body ≡ most_statements) }
+    ensures given { IfOk result (λ c. given_of c.given ≡ nothing_given (units_of file.units.now)) }
+    ensures underway { IfOk result (λ c. IsUnderWay c) }
+{
+    let taken = taken(alloc, &file.tables[0], &file.units[0].program.decls)?;
+    Ok(Course {
+        room: MOST_STATEMENTS.saturating_sub(count_from(0, &file.units[0].program.body)),
+        given: Given::new(alloc, taken),
+    })
+}
+
 /// Whether a program is valid, or which of its limits it passes.
-fn judged_program(alloc: Global, program: Program) -> Result<Judgement, NoMemory> {
+fn judged_program(alloc: Global, program: Program) -> Result<Judgement, NoMemory>
+    requires { program.lines.items ≡ [] }
+    ensures { IfOk result (JudgesProgram (program_tree program)) }
+{
     if !fits(&program) {
         return Ok(Judgement::PastStatements);
     }
@@ -115,145 +170,90 @@ fn judged_program(alloc: Global, program: Program) -> Result<Judgement, NoMemory
     }
 }
 
-/// How many statements may still come to these.
-fn room(statements: &[Stmt]) -> usize {
-    let mut count: usize = 0;
-    for statement in statements {
-        count = count.saturating_add(statement_count(statement));
-    }
-    MOST_STATEMENTS.saturating_sub(count)
-}
-
-/// The names of the main program, that in PROGRAM too.
-fn taken(alloc: Global, file: File) -> Result<NameSet, NoMemory> {
+/// The names of a table, and that in PROGRAM too.
+fn taken(alloc: Global, table: &Symbols, decls: &[Decl]) -> Result<NameSet, NoMemory>
+    ensures { IfOk result (λ taken. taken ≡ first_occurrences [] (map (λ e. e.0) table.now.kinds ++ flat_map program_name (map decl_tree decls.now))) }
+{
     let mut taken = NameSet::new(alloc);
-    for name in file.tables[0].names(alloc)?.as_slice() {
-        taken.insert(name)?;
-    }
-    for decl in &file.units[0].program.decls {
-        if let Decl::Program(name) = decl {
-            taken.insert(name)?;
-        }
-    }
+    let names = table.names(alloc)?;
+    add_all(&mut taken, names.as_slice())?;
+    add_program_names(&mut taken, decls)?;
     Ok(taken)
 }
 
-/// The program with these arrays behind the declarations of the main program and these statements; comments before the
-/// first statement belong to the declarations.
-fn settled(
-    alloc: Global,
-    main: &ProgramUnit,
-    given: Given,
-    body: Vec<Stmt>,
-) -> Result<Program, NoMemory> {
-    let mut decls = copy_decls(&main.program.decls, alloc)?;
-    for array in given.arrays {
-        decls.push(array)?;
-    }
-    let mut rest = Vec::new(alloc);
-    for statement in body {
-        place(&mut decls, &mut rest, statement)?;
-    }
-    Ok(Program {
-        decls,
-        body: rest,
-        lines: Vec::new(alloc),
-    })
-}
-
-/// Adds a statement, or a comment before the first statement to the declarations.
-fn place(decls: &mut Vec<Decl>, rest: &mut Vec<Stmt>, statement: Stmt) -> Result<(), NoMemory> {
-    match statement {
-        Stmt::Comment(text) if rest.is_empty() => decls.push(Decl::Comment(text))?,
-        other => rest.push(other)?,
+fn add_all(taken: &mut NameSet, names: &[Name]) -> Result<(), NoMemory>
+    ensures { OnOk result (taken.new ≡ with_names taken.old names.now) }
+{
+    for name in names {
+        taken.insert(name)?;
     }
     Ok(())
 }
 
-/// Copies of statements with so many of their CALLs, the first in text order, and without the others.
-#[cycle(first_calls)]
-fn first_calls(
-    alloc: Global,
-    left: &mut usize,
-    statements: &[Stmt],
-) -> Result<Vec<Stmt>, NoMemory> {
-    let mut copies = Vec::new(alloc);
-    for statement in statements {
-        if !is_call(statement) || takes_one(left) {
-            copies.push(with_first_calls(alloc, left, statement)?)?;
-        }
+fn add_program_names(taken: &mut NameSet, decls: &[Decl]) -> Result<(), NoMemory>
+    ensures { OnOk result (taken.new ≡ with_names taken.old (flat_map program_name (map decl_tree decls.now))) }
+{
+    for decl in decls {
+        add_program_name(taken, decl)?;
     }
-    Ok(copies)
+    Ok(())
 }
 
-#[cycle(first_calls)]
-fn with_first_calls(alloc: Global, left: &mut usize, statement: &Stmt) -> Result<Stmt, NoMemory> {
-    match statement {
-        Stmt::If {
-            condition,
-            then_part,
-            else_part,
-        } => {
-            let then_part = first_calls(alloc, left, then_part)?;
-            match first_calls(alloc, left, else_part) {
-                Ok(else_part) => with_condition(alloc, condition, then_part, else_part),
-                Err(error) => {
-                    drop(then_part);
-                    Err(error)
-                }
-            }
-        }
-        Stmt::Do(d) => {
-            let body = first_calls(alloc, left, &d.body)?;
-            Ok(Stmt::Do(d.with_body(body, alloc)?))
-        }
-        other => other.copy(alloc),
+fn add_program_name(taken: &mut NameSet, decl: &Decl) -> Result<(), NoMemory>
+    ensures { OnOk result (taken.new ≡ with_names taken.old (program_name (decl_tree decl.now))) }
+{
+    match decl {
+        Decl::Program(name) => taken.insert(name),
+        Decl::Implicit
+        | Decl::Integer(_)
+        | Decl::Dimension(_)
+        | Decl::Parameter(_)
+        | Decl::Save(_)
+        | Decl::Comment(_) => Ok(()),
     }
 }
 
-/// Takes one where some are left. Answers whether it did.
-fn takes_one(left: &mut usize) -> bool {
-    if *left == 0 {
-        return false;
-    }
-    *left -= 1;
-    true
-}
-
-/// Whether the statement is a CALL.
-fn is_call(statement: &Stmt) -> bool {
-    match statement {
-        Stmt::Assign {
-            left: Expr::Int(_),
-            right: Expr::Var(_),
-        } => true,
-        Stmt::Assign {
-            left: Expr::Int(_),
-            right: Expr::Element(_, _),
-        } => true,
-        _ => false,
-    }
-}
-
-/// The refusal at the first CALL of the main program by whose expansion a limit is passed.
-fn first_past(alloc: Global, file: File) -> Result<UnitRefusal, NoMemory> {
-    let calls = placed_calls(alloc, &file.units[0])?.calls;
-    let mut count = 1;
-    for call in calls {
-        let mut left = count;
-        let statements = first_calls(alloc, &mut left, &file.units[0].program.body)?;
-        match judged(alloc, file, &statements)? {
-            Judgement::Valid(opened) => drop(opened),
-            Judgement::PastStatements => return Ok(past(RefusalKind::Limit, call.line)),
-            Judgement::PastStorage => return Ok(past(RefusalKind::StorageLimit, call.line)),
+/// The refusal at the first CALL of the main program by whose expansion a limit is passed, where the program with all CALLs
+/// expanded isn't valid.
+fn first_past(alloc: Global, file: File) -> Result<UnitRefusal, NoMemory>
+    requires file { KnowsFile file }
+    requires starts { StartsWell (units_of file.units.now) }
+    requires invalid { IsValid (plain_expansion (units_of file.units.now)) → ⊥ }
+    ensures { IfOk result (IsPastAt (units_of file.units.now)) }
+{
+    let found = placed_calls(alloc, &file.units[0])?;
+    let mut place = 0;
+    while place < found.calls.len() {
+        if let Some(kind) = past_at(alloc, file, place + 1)? {
+            return Ok(past(kind, found.calls[place].line));
         }
-        count += 1;
+        place += 1;
     }
     unreachable!()
 }
 
+/// The limit that is passed where so many CALLs are expanded.
+fn past_at(alloc: Global, file: File, count: usize) -> Result<Option<RefusalKind>, NoMemory>
+    requires file { KnowsFile file }
+    requires few { statements_count (units_of file.units.now).main.tree.body ≤ most_statements }
+    ensures { IfOk result (FindsPast (units_of file.units.now) count) }
+{
+    let mut left = count;
+    let statements = first_calls(alloc, &mut left, &file.units[0].program.body)?;
+    match judged(alloc, file, &statements)? {
+        Judgement::Valid(opened) => {
+            drop(opened);
+            Ok(None)
+        }
+        Judgement::PastStatements => Ok(Some(RefusalKind::Limit)),
+        Judgement::PastStorage => Ok(Some(RefusalKind::StorageLimit)),
+    }
+}
+
 /// A limit of texts that is passed at a line.
-fn past(kind: RefusalKind, line: u64) -> UnitRefusal {
+fn past(kind: RefusalKind, line: u64) -> UnitRefusal
+    ensures { (us : ProgramUnits) → IsFirstPast us (kind_of kind) line → IsPastAt us result }
+{
     UnitRefusal::At(UnitFinding {
         rule: UnitRule::Text(kind),
         line,

@@ -1,0 +1,37 @@
+-- Expanding ends: CALLs stand less deep in one another in a subroutine, and parts have less weight.
+use Rattle.std.proofs.Common.{◌≡◌, ◌≤◌, ◌<◌, ◌+◌, ◌-◌, ◌*◌, ℕ, List, [], ◌∷◌, map, arith}
+use Rattle.std.proofs.lemmas.Nat.{mul-add-lt}
+use Rattle.ped_tree.specs.Tree.{StmtTree, StmtTrees, Assign, If, Do, Print, Read, Stop, Comment, no_stmts, more_stmts}
+use Rattle.ped_tree.specs.Views.{stmt_trees}
+use Rattle.ped_calls.specs.declared.units.ProgramUnit.{ProgramUnit}
+
+abbrev mutual
+  -- how many parts a statement has, itself among them
+  pub stmt_weight : StmtTree → ℕ
+  stmt_weight (Assign left right) = 1
+  stmt_weight (If condition then_part else_part) = 1 + (stmts_weight then_part + stmts_weight else_part)
+  stmt_weight (Do h body) = 1 + stmts_weight body
+  stmt_weight (Print items) = 1
+  stmt_weight (Read items) = 1
+  stmt_weight Stop = 1
+  stmt_weight (Comment text) = 1
+
+  -- the same of statements
+  pub stmts_weight : StmtTrees → ℕ
+  stmts_weight no_stmts = 0
+  stmts_weight (more_stmts s rest) = 1 + (stmt_weight s + stmts_weight rest)
+
+-- the same of all statements of units
+abbrev pub units_weight : List ProgramUnit → ℕ
+units_weight [] = 0
+units_weight (u ∷ us) = stmts_weight (stmt_trees u.program.body.items) + units_weight us
+
+-- the measure of statements with this weight, where CALLs stand so much deeper in one another at most
+abbrev pub expand_measure : List ProgramUnit → ℕ → ℕ → ℕ
+expand_measure us deeper weight = deeper * (4 * (units_weight us + 1)) + weight
+
+-- the statements of a subroutine
+pub inside_smaller : (us : List ProgramUnit) (deeper w : ℕ) → 0 < deeper → w ≤ units_weight us → expand_measure us (deeper - 1) (4 * w + 3) < expand_measure us deeper 0
+inside_smaller us deeper w h k =
+    let p = mul-add-lt (deeper - 1) (4 * (units_weight us + 1)) (4 * w + 3) deeper (omega (arith, h)) (omega (arith, k)) in
+    omega (arith, p)

@@ -3,13 +3,13 @@ use Rattle.std.proofs.Common.{◌≡◌, ◌≤◌, ◌<◌, ◌+◌, ◌⊎◌,
 use Rattle.ped_tree.specs.Tree.{CondTree, Head, StmtTree, StmtTrees, If, Do, no_stmts, more_stmts}
 use Rattle.ped_tree.specs.Numbering.{statement_count, statements_count}
 use Rattle.ped_calls.specs.Forms.{Called}
-use Rattle.ped_calls.specs.Expanding.{Given, Meanings, Expanded, AllExpanded, behind_stmts, expanded_in, all_expanded_in}
+use Rattle.ped_calls.specs.Expanding.{Given, Meanings, Expanded, AllExpanded, behind_stmts, cond_replaced, head_replaced, expanded_in, all_expanded_in}
 use Rattle.ped_calls.specs.Giving.{given_of}
 use Rattle.ped_calls.specs.Courses.{IsUnderWay, GoesOn, Passes, too_many, too_deep, IsTooDeep, AreTooDeep, StopsAt, ExpandsOn}
 use Rattle.ped_calls.specs.declared.expanding.Course.{Course}
 use Rattle.ped_calls.specs.declared.expanding.Stopped.{Stopped}
 use Rattle.ped_calls.specs.declared.expanding.Stopped.TheVariants.{Past, OutOfMemory}
-use Rattle.ped_calls.proofs.Expansions.{Counts, all_grow, deep_behind, deep_before}
+use Rattle.ped_calls.proofs.Expansions.{Counts, all_grow, deep_behind, deep_before, deep_then, deep_else, deep_loop}
 
 -- why it stopped, said of more
 pub stops_by : {P Q : Type 0} (e : Stopped) → (P → Q) → StopsAt e P → StopsAt e Q
@@ -109,3 +109,70 @@ module _ (m : Meanings) (f : Called → Given → Expanded Given) (all : StmtTre
       let whole : behind_stmts done (more_stmts e.statement r.statements) ≡ (all_expanded_in m f all (given_of old.given)).statements =
         ap (λ (x : AllExpanded Given). behind_stmts done x.statements) (sym shape) ∙ inv.statements in
       too_deep (subst (AreTooDeep depth) whole (deep_behind depth done (more_stmts e.statement r.statements) (deep_before depth e.statement r.statements h)))
+
+module _ (m : Meanings) (f : Called → Given → Expanded Given) (counts : Counts f) (old : Course) where
+  -- both parts of an IF
+  pub if_goes : (c : CondTree) (a b : StmtTrees) (mid new : Course)
+      → GoesOn old mid (statements_count a) (statements_count (all_expanded_in m f a (given_of old.given)).statements) (all_expanded_in m f a (given_of old.given)).state
+      → GoesOn mid new (statements_count b) (statements_count (all_expanded_in m f b (given_of mid.given)).statements) (all_expanded_in m f b (given_of mid.given)).state
+      → GoesOn old new (statement_count (If c a b)) (statement_count (expanded_in m f (If c a b) (given_of old.given)).statement) (expanded_in m f (If c a b) (given_of old.given)).state
+  if_goes c a b mid new first second =
+      let same : statements_count (all_expanded_in m f b (given_of mid.given)).statements ≡ statements_count (all_expanded_in m f b (all_expanded_in m f a (given_of old.given)).state).statements =
+        ap (λ (g : Given). statements_count (all_expanded_in m f b g).statements) first.given in
+      let one = first.room in
+      let two = second.room in
+      record {
+        given = second.given ∙ ap (λ (g : Given). (all_expanded_in m f b g).state) first.given;
+        room = omega (arith, same, one, two);
+        underway = second.underway;
+      }
+
+  -- an IF of its parts
+  pub if_made : (c : CondTree) (a b : StmtTrees) (mid : Course) (s : StmtTree) (t e : StmtTrees)
+      → given_of mid.given ≡ (all_expanded_in m f a (given_of old.given)).state
+      → t ≡ (all_expanded_in m f a (given_of old.given)).statements
+      → e ≡ (all_expanded_in m f b (given_of mid.given)).statements
+      → s ≡ If (cond_replaced m c) t e
+      → s ≡ (expanded_in m f (If c a b) (given_of old.given)).statement
+  if_made c a b mid s t e g ht he h =
+      h ∙ ap (λ (x : StmtTrees). If (cond_replaced m c) x e) ht
+      ∙ ap (λ (x : StmtTrees). If (cond_replaced m c) (all_expanded_in m f a (given_of old.given)).statements x) (he ∙ ap (λ (k : Given). (all_expanded_in m f b k).statements) g)
+
+  -- a limit is passed in the THEN part
+  pub then_past : (depth : ℕ) (c : CondTree) (a b : StmtTrees)
+      → Passes old.room (statements_count a) (statements_count (all_expanded_in m f a (given_of old.given)).statements) (AreTooDeep depth (all_expanded_in m f a (given_of old.given)).statements)
+      → Passes old.room (statement_count (If c a b)) (statement_count (expanded_in m f (If c a b) (given_of old.given)).statement) (IsTooDeep depth (expanded_in m f (If c a b) (given_of old.given)).statement)
+  then_past depth c a b (too_many h) =
+      let more : statements_count b ≤ statements_count (all_expanded_in m f b (all_expanded_in m f a (given_of old.given)).state).statements = all_grow m f counts b _ in
+      too_many (omega (arith, h, more))
+  then_past depth c a b (too_deep h) = too_deep (deep_then depth (cond_replaced m c) _ _ h)
+
+  -- a limit is passed in the ELSE part
+  pub else_past : (depth : ℕ) (c : CondTree) (a b : StmtTrees) (mid : Course)
+      → GoesOn old mid (statements_count a) (statements_count (all_expanded_in m f a (given_of old.given)).statements) (all_expanded_in m f a (given_of old.given)).state
+      → Passes mid.room (statements_count b) (statements_count (all_expanded_in m f b (given_of mid.given)).statements) (AreTooDeep depth (all_expanded_in m f b (given_of mid.given)).statements)
+      → Passes old.room (statement_count (If c a b)) (statement_count (expanded_in m f (If c a b) (given_of old.given)).statement) (IsTooDeep depth (expanded_in m f (If c a b) (given_of old.given)).statement)
+  else_past depth c a b mid first (too_many h) =
+      let same : statements_count (all_expanded_in m f b (given_of mid.given)).statements ≡ statements_count (all_expanded_in m f b (all_expanded_in m f a (given_of old.given)).state).statements =
+        ap (λ (g : Given). statements_count (all_expanded_in m f b g).statements) first.given in
+      let one = first.room in
+      too_many (omega (arith, same, one, h))
+  else_past depth c a b mid first (too_deep h) =
+      too_deep (deep_else depth (cond_replaced m c) _ _ (subst (λ (g : Given). AreTooDeep depth (all_expanded_in m f b g).statements) first.given h))
+
+  -- the body of a loop
+  pub do_goes : (h : Head) (b : StmtTrees) (new : Course)
+      → GoesOn old new (statements_count b) (statements_count (all_expanded_in m f b (given_of old.given)).statements) (all_expanded_in m f b (given_of old.given)).state
+      → GoesOn old new (statement_count (Do h b)) (statement_count (expanded_in m f (Do h b) (given_of old.given)).statement) (expanded_in m f (Do h b) (given_of old.given)).state
+  do_goes h b new body = let one = body.room in record { given = body.given; room = omega (arith, one); underway = body.underway }
+
+  -- a limit is passed in a loop
+  pub do_past : (depth : ℕ) (h : Head) (b : StmtTrees)
+      → Passes old.room (statements_count b) (statements_count (all_expanded_in m f b (given_of old.given)).statements) (AreTooDeep depth (all_expanded_in m f b (given_of old.given)).statements)
+      → Passes old.room (statement_count (Do h b)) (statement_count (expanded_in m f (Do h b) (given_of old.given)).statement) (IsTooDeep depth (expanded_in m f (Do h b) (given_of old.given)).statement)
+  do_past depth h b (too_many k) = too_many (omega (arith, k))
+  do_past depth h b (too_deep k) = too_deep (deep_loop depth (head_replaced m h) _ k)
+
+-- a statement without CALLs takes no room
+pub stays : (old : Course) (n : ℕ) (g : Given) → IsUnderWay old → given_of old.given ≡ g → GoesOn old old n n g
+stays old n g h k = record { given = k; room = refl; underway = h }

@@ -21,3 +21,8 @@ pub mod SmallValues
 pub mod Expansions
 pub mod CourseSteps
 pub mod Measures
+pub mod BlockSteps
+pub mod PlainExpanding
+pub mod FirstCalls
+pub mod Settled
+pub mod Judged

@@ -1,5 +1,5 @@
 -- What expanding the first CALLs of a main program comes to, as the code tells. Contracts of private functions alone speak of it.
-use Rattle.std.specs.Prelude.{◌≡◌, ◌≤◌, ◌+◌, ◌++◌, ℕ, List, [], ◌∷◌, map, Option, Some, None, Bool, true, false, not, ◌||◌, nat_lt}
+use Rattle.std.specs.Prelude.{◌≡◌, ◌+◌, ◌++◌, ℕ, List, [], ◌∷◌, map, Option, Some, None, Bool, true, false, not, ◌||◌, nat_lt}
 use Rattle.ped_tree.specs.Tree.{StmtTree, StmtTrees, Assign, If, Do, Print, Read, Stop, Comment, DeclTree, ProgramTree}
 use Rattle.ped_tree.specs.Views.{program_tree}
 use Rattle.ped_tree.specs.Numbering.{statements_count}
@@ -54,9 +54,8 @@ is_comment (Read items) = false
 is_comment Stop = false
 is_comment (Comment text) = true
 
--- a main program has no more statements than a program may have, and no comment before its first statement; without CALLs it is valid
+-- no comment stands before the first statement of a main program, which is valid where it has no CALL
 pub record StartsWell (us : ProgramUnits) : Type 0 where
-  pub few : statements_count us.main.tree.body ≤ most_statements
   pub begins : begins_with_statement us.main.tree.body ≡ true
   pub valid : calls_count us.main.tree.body ≡ 0 → IsValid us.main.tree
 

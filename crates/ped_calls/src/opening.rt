@@ -1,6 +1,6 @@
 //! Files of program units opened as the programs that they expand to.
 
-ghost use Rattle.std.specs.Prelude.{◌≡◌, ◌≤◌, ◌+◌, ◌++◌, [], ℕ, IfOk, IfErr, OnOk, map};
+ghost use Rattle.std.specs.Prelude.{◌≡◌, ◌≤◌, ◌<◌, ◌+◌, ◌++◌, [], ℕ, IfOk, IfErr, OnOk, MatchOption, map};
 ghost use Rattle.std.specs.List.{flat_map};
 ghost use Rattle.ped_tree.specs.Tree.{ProgramTree};
 ghost use Rattle.ped_tree.specs.NamesIn.{first_occurrences};
@@ -119,12 +119,29 @@ enum Judgement {
 
 /// What comes of expanding the CALLs in these statements of the main program.
 fn judged(alloc: Global, file: File, statements: &[Stmt]) -> Result<Judgement, NoMemory>
-    requires file { KnowsFile file }
-    requires few { statements_count (units_of file.units.now).main.tree.body ≤ most_statements }
+    requires { KnowsFile file }
     ensures { IfOk result (λ j. (later : ℕ) → statements_count (stmt_trees statements.now) + later ≡ statements_count (units_of file.units.now).main.tree.body
         → Judges (units_of file.units.now) (stmt_trees statements.now) later j) }
 {
-    let mut course = start(alloc, file)?;
+    let Some(room) = room(&file.units[0].program.body) else {
+        return Ok(Judgement::PastStatements);
+    };
+    judged_within(alloc, file, room, statements)
+}
+
+/// The same, where there is room for so many more statements.
+fn judged_within(
+    alloc: Global,
+    file: File,
+    room: usize,
+    statements: &[Stmt],
+) -> Result<Judgement, NoMemory>
+    requires file { KnowsFile file }
+    requires room { room + statements_count (units_of file.units.now).main.tree.body ≡ most_statements }
+    ensures { IfOk result (λ j. (later : ℕ) → statements_count (stmt_trees statements.now) + later ≡ statements_count (units_of file.units.now).main.tree.body
+        → Judges (units_of file.units.now) (stmt_trees statements.now) later j) }
+{
+    let mut course = start(alloc, file, room)?;
     match file.main(alloc, &mut course, statements) {
         Ok(body) => {
             let program = settled(
@@ -140,17 +157,29 @@ fn judged(alloc: Global, file: File, statements: &[Stmt]) -> Result<Judgement, N
     }
 }
 
-/// Before the first CALL is expanded.
-fn start(alloc: Global, file: File) -> Result<Course, NoMemory>
+/// How many statements may still come to these; none where there are too many already.
+fn room(statements: &[Stmt]) -> Option<usize>
+    ensures { MatchOption result (most_statements < statements_count (stmt_trees statements.now)) (λ n. n + statements_count (stmt_trees statements.now) ≡ most_statements) }
+{
+    let count = count_from(0, statements);
+    if count > MOST_STATEMENTS {
+        None
+    } else {
+        Some(MOST_STATEMENTS - count)
+    }
+}
+
+/// Before the first CALL is expanded, where there is room for so many more statements.
+fn start(alloc: Global, file: File, room: usize) -> Result<Course, NoMemory>
     requires file { KnowsFile file }
-    requires few { statements_count (units_of file.units.now).main.tree.body ≤ most_statements }
-    ensures room { IfOk result (λ c. c.room + statements_count (units_of file.units.now).main.tree.body ≡ most_statements) }
+    requires few { room ≤ most_statements }
+    ensures room { IfOk result (λ c. c.room ≡ room) }
     ensures given { IfOk result (λ c. given_of c.given ≡ nothing_given (units_of file.units.now)) }
-    ensures underway { IfOk result (λ c. IsUnderWay c) }
+    ensures underway { IfOk result IsUnderWay }
 {
     let taken = taken(alloc, &file.tables[0], &file.units[0].program.decls)?;
     Ok(Course {
-        room: MOST_STATEMENTS.saturating_sub(count_from(0, &file.units[0].program.body)),
+        room,
         given: Given::new(alloc, taken),
     })
 }
@@ -234,8 +263,7 @@ fn first_past(alloc: Global, file: File) -> Result<UnitRefusal, NoMemory>
 
 /// The limit that is passed where so many CALLs are expanded.
 fn past_at(alloc: Global, file: File, count: usize) -> Result<Option<RefusalKind>, NoMemory>
-    requires file { KnowsFile file }
-    requires few { statements_count (units_of file.units.now).main.tree.body ≤ most_statements }
+    requires { KnowsFile file }
     ensures { IfOk result (FindsPast (units_of file.units.now) count) }
 {
     let mut left = count;

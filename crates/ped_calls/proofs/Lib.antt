@@ -26,3 +26,4 @@ pub mod PlainExpanding
 pub mod FirstCalls
 pub mod Settled
 pub mod Judged
+pub mod FormCalls

@@ -1,8 +1,10 @@
 -- Expanding ends: CALLs stand less deep in one another in a subroutine, and parts have less weight.
-use Rattle.std.proofs.Common.{◌≡◌, ◌≤◌, ◌<◌, ◌+◌, ◌-◌, ◌*◌, ℕ, List, [], ◌∷◌, map, arith}
+use Rattle.std.proofs.Common.{◌≡◌, ◌≤◌, ◌<◌, ◌+◌, ◌-◌, ◌*◌, ℕ, zero, suc, List, [], ◌∷◌, map, drop, Some, ap, arith}
+use Rattle.std.specs.Prelude.{slice_get}
 use Rattle.std.proofs.lemmas.Nat.{mul-add-lt}
 use Rattle.ped_tree.specs.Tree.{StmtTree, StmtTrees, Assign, If, Do, Print, Read, Stop, Comment, no_stmts, more_stmts}
 use Rattle.ped_tree.specs.Views.{stmt_trees}
+use Rattle.ped_tree.specs.declared.statements.Stmt.{Stmt}
 use Rattle.ped_calls.specs.declared.units.ProgramUnit.{ProgramUnit}
 
 abbrev mutual
@@ -35,3 +37,24 @@ pub inside_smaller : (us : List ProgramUnit) (deeper w : ℕ) → 0 < deeper →
 inside_smaller us deeper w h k =
     let p = mul-add-lt (deeper - 1) (4 * (units_weight us + 1)) (4 * w + 3) deeper (omega (arith, h)) (omega (arith, k)) in
     omega (arith, p)
+
+drop_weight : (n : ℕ) (ss : List Stmt) → stmts_weight (stmt_trees (drop n ss)) ≤ stmts_weight (stmt_trees ss)
+drop_weight zero ss = omega arith
+drop_weight (suc n) [] = omega arith
+drop_weight (suc n) (s ∷ ss) = let less = drop_weight n ss in omega (arith, less)
+
+-- a statement of a list
+pub one_weight : (n : ℕ) (ss : List Stmt) (s : StmtTree) (rest : StmtTrees) → stmt_trees (drop n ss) ≡ more_stmts s rest → stmt_weight s < stmts_weight (stmt_trees ss)
+one_weight n ss s rest h =
+    let less = drop_weight n ss in
+    let same : stmts_weight (stmt_trees (drop n ss)) ≡ 1 + (stmt_weight s + stmts_weight rest) = ap stmts_weight h in
+    omega (arith, less, same)
+
+-- the statements of a unit
+pub unit_weight : (us : List ProgramUnit) (n : ℕ) (u : ProgramUnit) → slice_get us n ≡ Some u → stmts_weight (stmt_trees u.program.body.items) ≤ units_weight us
+unit_weight [] n u h = absurd cc
+unit_weight (v ∷ us) zero u h =
+    let same : v ≡ u = cc in
+    let is : stmts_weight (stmt_trees v.program.body.items) ≡ stmts_weight (stmt_trees u.program.body.items) = ap (λ (w : ProgramUnit). stmts_weight (stmt_trees w.program.body.items)) same in
+    omega (arith, is)
+unit_weight (v ∷ us) (suc n) u h = let more = unit_weight us n u h in omega (arith, more)

@@ -115,8 +115,8 @@ front_or_behind (more_stmts (Comment text) rest) h = at_comment (comment_fits te
       ap (λ (q : Surroundings). stmts_fit q rest) (sym same) ∙ (ap (λ (b : Bool). b && stmts_fit (moved p 0) rest) (sym k) ∙ h p)))
 
 fits_false : (a b c : Bool) → (a ≡ false) ⊎ (b ≡ false) → (a && b && c) ≡ false
-fits_false a b c (inl h) = first_false a _ h
-fits_false a b c (inr h) = last_false a _ (first_false b c h)
+fits_false a b c (inl h) = first_false (a && b) c (first_false a b h)
+fits_false a b c (inr h) = first_false (a && b) c (last_false a b h)
 
 parts_false : (t : ProgramTree) → ((phase : ℕ) → decls_fit phase (front_comments t.body) ≡ false) ⊎ ((p : Surroundings) → stmts_fit p (behind_comments t.body) ≡ false)
     → (decls_fit 0 (settled t).decls ≡ false) ⊎ (stmts_fit (at_body (settled t)) (settled t).body ≡ false)

@@ -13,7 +13,7 @@ use Rattle.ped_calls.specs.Binding.{local_meanings}
 use Rattle.ped_calls.specs.Giving.{given_of}
 use Rattle.ped_calls.specs.Courses.{IsUnderWay, GoesOn, Passes, too_many, too_deep, IsTooDeep, AreTooDeep}
 use Rattle.ped_calls.specs.declared.expanding.Course.{Course}
-use Rattle.ped_calls.proofs.Binding.{bound_count}
+use Rattle.ped_calls.proofs.BoundArguments.{bound_count}
 use Rattle.ped_calls.proofs.Expansions.{deep_block}
 
 -- the expressions of a list that was packed
@@ -64,7 +64,7 @@ block_goes cs es inner v c old mid new formals assignments room given meant few 
     let e = inside inner v formals (given_of mid.given) in
     let made = block_made inner v c b formals (given_of mid.given) meant given in
     let counted : statement_count (bound_expanded inner v c b).statement ≡ length b.assignments + statements_count e.statements + 1 =
-      ap (λ (x : Expanded Given). statement_count x.statement) made ∙ block_count cs es (given_of old.given) c e.statements in
+    ap (λ (x : Expanded Given). statement_count x.statement) made ∙ block_count cs es (given_of old.given) c e.statements in
     let one = goes.room in
     record {
       given = goes.given ∙ ap (λ (x : Expanded Given). x.state) (sym made);
@@ -85,7 +85,7 @@ block_past cs es inner v c depth old mid formals assignments room given meant fe
     let e = inside inner v formals (given_of mid.given) in
     let made = block_made inner v c b formals (given_of mid.given) meant given in
     let counted : statement_count (bound_expanded inner v c b).statement ≡ length b.assignments + statements_count e.statements + 1 =
-      ap (λ (x : Expanded Given). statement_count x.statement) made ∙ block_count cs es (given_of old.given) c e.statements in
+    ap (λ (x : Expanded Given). statement_count x.statement) made ∙ block_count cs es (given_of old.given) c e.statements in
     too_many (omega (arith, counted, room, few, h))
 block_past cs es inner v c depth old mid formals assignments room given meant few (too_deep h) =
     let b = bound_arguments cs es (given_of old.given) in

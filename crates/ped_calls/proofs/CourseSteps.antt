@@ -25,16 +25,20 @@ behind_last : (done : List StmtTree) (s : StmtTree) (rest : StmtTrees) → behin
 behind_last [] s rest = refl
 behind_last (d ∷ done) s rest = ap (more_stmts d) (behind_last done s rest)
 
+-- an expanded statement before others
+abbrev before : Expanded Given → AllExpanded Given → AllExpanded Given
+before e rest = record { statements = more_stmts e.statement rest.statements; state = rest.state }
+
 module _ (m : Meanings) (f : Called → Given → Expanded Given) (all : StmtTrees) (old : Course) where
   -- at first
   pub expands_first : IsUnderWay old → ExpandsOn m f all old all [] old
   expands_first h = record { statements = refl; state = refl; room = omega arith; underway = h }
 
   one_more : (left rest : StmtTrees) (s : StmtTree) (g h : Given) → left ≡ more_stmts s rest → h ≡ (expanded_in m f s g).state
-      → all_expanded_in m f left g ≡ record { statements = more_stmts (expanded_in m f s g).statement (all_expanded_in m f rest h).statements; state = (all_expanded_in m f rest h).state }
+      → all_expanded_in m f left g ≡ before (expanded_in m f s g) (all_expanded_in m f rest h)
   one_more left rest s g h l is =
       ap (λ (ss : StmtTrees). all_expanded_in m f ss g) l
-      ∙ ap (λ (k : Given). record { statements = more_stmts (expanded_in m f s g).statement (all_expanded_in m f rest k).statements; state = (all_expanded_in m f rest k).state }) (sym is)
+      ∙ ap (λ (k : Given). before (expanded_in m f s g) (all_expanded_in m f rest k)) (sym is)
 
   -- one statement more
   pub expands_more : (left rest : StmtTrees) (s : StmtTree) (done more : List StmtTree) (new next : Course)
@@ -48,18 +52,18 @@ module _ (m : Meanings) (f : Called → Given → Expanded Given) (all : StmtTre
       let r = all_expanded_in m f rest (given_of next.given) in
       let shape = one_more left rest s (given_of new.given) (given_of next.given) l goes.given in
       let counted : statements_count (all_expanded_in m f left (given_of new.given)).statements ≡ statement_count e.statement + statements_count r.statements =
-        ap (λ (x : AllExpanded Given). statements_count x.statements) shape in
-      let before : statements_count left ≡ statement_count s + statements_count rest = ap statements_count l in
+      ap (λ (x : AllExpanded Given). statements_count x.statements) shape in
+      let counted_left : statements_count left ≡ statement_count s + statements_count rest = ap statements_count l in
       let was = inv.room in
       let took = goes.room in
       record {
         statements =
-          ap (λ (ss : List StmtTree). behind_stmts ss r.statements) hm
-          ∙ behind_last done e.statement r.statements
-          ∙ ap (λ (x : AllExpanded Given). behind_stmts done x.statements) (sym shape)
-          ∙ inv.statements;
+            ap (λ (ss : List StmtTree). behind_stmts ss r.statements) hm
+            ∙ behind_last done e.statement r.statements
+            ∙ ap (λ (x : AllExpanded Given). behind_stmts done x.statements) (sym shape)
+            ∙ inv.statements;
         state = ap (λ (x : AllExpanded Given). x.state) (sym shape) ∙ inv.state;
-        room = omega (arith, counted, before, was, took);
+        room = omega (arith, counted, counted_left, was, took);
         underway = goes.underway;
       }
 
@@ -77,11 +81,11 @@ module _ (m : Meanings) (f : Called → Given → Expanded Given) (all : StmtTre
       → GoesOn old new (statements_count all) (statements_count (all_expanded_in m f all (given_of old.given)).statements) (all_expanded_in m f all (given_of old.given)).state
   goes_on left done new inv l =
       let counted : statements_count (all_expanded_in m f left (given_of new.given)).statements ≡ 0 = ap (λ (x : AllExpanded Given). statements_count x.statements) (none_more left (given_of new.given) l) in
-      let before : statements_count left ≡ 0 = ap statements_count l in
+      let counted_left : statements_count left ≡ 0 = ap statements_count l in
       let was = inv.room in
       record {
         given = ap (λ (x : AllExpanded Given). x.state) (sym (none_more left (given_of new.given) l)) ∙ inv.state;
-        room = omega (arith, counted, before, was);
+        room = omega (arith, counted, counted_left, was);
         underway = inv.underway;
       }
 
@@ -97,17 +101,17 @@ module _ (m : Meanings) (f : Called → Given → Expanded Given) (all : StmtTre
       let r = all_expanded_in m f rest e.state in
       let shape = one_more left rest s (given_of new.given) e.state l refl in
       let counted : statements_count (all_expanded_in m f left (given_of new.given)).statements ≡ statement_count e.statement + statements_count r.statements =
-        ap (λ (x : AllExpanded Given). statements_count x.statements) shape in
-      let before : statements_count left ≡ statement_count s + statements_count rest = ap statements_count l in
+      ap (λ (x : AllExpanded Given). statements_count x.statements) shape in
+      let counted_left : statements_count left ≡ statement_count s + statements_count rest = ap statements_count l in
       let more : statements_count rest ≤ statements_count r.statements = all_grow m f counts rest e.state in
       let was = inv.room in
-      too_many (omega (arith, counted, before, more, was, h))
+      too_many (omega (arith, counted, counted_left, more, was, h))
   expands_past depth left rest s done new counts inv l (too_deep h) =
       let e = expanded_in m f s (given_of new.given) in
       let r = all_expanded_in m f rest e.state in
       let shape = one_more left rest s (given_of new.given) e.state l refl in
       let whole : behind_stmts done (more_stmts e.statement r.statements) ≡ (all_expanded_in m f all (given_of old.given)).statements =
-        ap (λ (x : AllExpanded Given). behind_stmts done x.statements) (sym shape) ∙ inv.statements in
+      ap (λ (x : AllExpanded Given). behind_stmts done x.statements) (sym shape) ∙ inv.statements in
       too_deep (subst (AreTooDeep depth) whole (deep_behind depth done (more_stmts e.statement r.statements) (deep_before depth e.statement r.statements h)))
 
 module _ (m : Meanings) (f : Called → Given → Expanded Given) (counts : Counts f) (old : Course) where
@@ -118,7 +122,7 @@ module _ (m : Meanings) (f : Called → Given → Expanded Given) (counts : Coun
       → GoesOn old new (statement_count (If c a b)) (statement_count (expanded_in m f (If c a b) (given_of old.given)).statement) (expanded_in m f (If c a b) (given_of old.given)).state
   if_goes c a b mid new first second =
       let same : statements_count (all_expanded_in m f b (given_of mid.given)).statements ≡ statements_count (all_expanded_in m f b (all_expanded_in m f a (given_of old.given)).state).statements =
-        ap (λ (g : Given). statements_count (all_expanded_in m f b g).statements) first.given in
+      ap (λ (g : Given). statements_count (all_expanded_in m f b g).statements) first.given in
       let one = first.room in
       let two = second.room in
       record {
@@ -154,7 +158,7 @@ module _ (m : Meanings) (f : Called → Given → Expanded Given) (counts : Coun
       → Passes old.room (statement_count (If c a b)) (statement_count (expanded_in m f (If c a b) (given_of old.given)).statement) (IsTooDeep depth (expanded_in m f (If c a b) (given_of old.given)).statement)
   else_past depth c a b mid first (too_many h) =
       let same : statements_count (all_expanded_in m f b (given_of mid.given)).statements ≡ statements_count (all_expanded_in m f b (all_expanded_in m f a (given_of old.given)).state).statements =
-        ap (λ (g : Given). statements_count (all_expanded_in m f b g).statements) first.given in
+      ap (λ (g : Given). statements_count (all_expanded_in m f b g).statements) first.given in
       let one = first.room in
       too_many (omega (arith, same, one, h))
   else_past depth c a b mid first (too_deep h) =

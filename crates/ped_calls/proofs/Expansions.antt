@@ -21,7 +21,7 @@ assignment_grows : {S : Type 0} (m : Meanings) (f : Called → S → Expanded S)
 assignment_grows m f h left right state None = omega arith
 assignment_grows m f h left right state (Some c) = h _ state
 
-abbrev mutual
+mutual
   -- no statement is lost
   pub grows : {S : Type 0} (m : Meanings) (f : Called → S → Expanded S) → Counts f → (s : StmtTree) (state : S) → statement_count s ≤ statement_count (expanded_in m f s state).statement
   grows m f h (Assign left right) state = assignment_grows m f h (replaced m left) (replaced m right) state (call_of left right)

@@ -27,7 +27,7 @@ kept_assignment None m left right rest h = let k = h (m - 0) in omega (arith, k)
 kept_assignment (Some c) zero left right rest h = let k = h (0 - 1) in omega (arith, k)
 kept_assignment (Some c) (suc n) left right rest h = let k = h (suc n - 1) in omega (arith, k)
 
-abbrev mutual
+mutual
   then_kept : (m : ℕ) (s : StmtTree) → statement_count (with_first_calls m s) + (parts_count s - m) ≡ statement_count s
   then_kept m (Assign left right) = omega arith
   then_kept m (If c t e) =
@@ -66,7 +66,7 @@ whole_assignment None m left right rest h le = ap (more_stmts (Assign left right
 whole_assignment (Some c) zero left right rest h le = absurd (omega (arith, le))
 whole_assignment (Some c) (suc n) left right rest h le = ap (more_stmts (Assign left right)) (h (suc n - 1) (omega (arith, le)))
 
-abbrev mutual
+mutual
   one_whole : (m : ℕ) (s : StmtTree) → parts_count s ≤ m → with_first_calls m s ≡ s
   one_whole m (Assign left right) le = refl
   one_whole m (If c t e) le = λ i. If c (all_whole m t (omega (arith, le)) i) (all_whole (m - calls_count t) e (omega (arith, le)) i)
@@ -93,7 +93,7 @@ placed_one : (loops : List Head) (lines : List ℕ) (o : Option Called) → leng
 placed_one loops lines None = refl
 placed_one loops lines (Some c) = refl
 
-abbrev mutual
+mutual
   placed_here : (loops : List Head) (lines : List ℕ) (s : StmtTree) → length (calls_in loops lines s) ≡ call_count s
   placed_here loops lines (Assign left right) = placed_one loops lines (call_of left right)
   placed_here loops lines (If c t e) =

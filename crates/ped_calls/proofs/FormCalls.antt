@@ -58,7 +58,7 @@ plain_calls s (a_simple t) = let both = trees_both (comments_of s) (t ∷ []) in
 plain_calls s a_continue = let both = trees_both (comments_of s) [] in let none = comments_none s in omega (arith, both, none)
 plain_calls s (a_logical_if c ss) = let both = trees_both (comments_of s) (plain_trees (a_logical_if c ss)) in let none = comments_none s in omega (arith, both, none)
 
-abbrev mutual
+mutual
   pub body_calls : (b : BodyForm) → trees_calls (body_trees b) ≡ entries_calls (body_entries b)
   body_calls nothing = refl
   body_calls (and_then b p) =

@@ -16,7 +16,7 @@ pub mod ReadUnits
 pub mod BuiltUnits
 pub mod FreeNames
 pub mod CollectedNames
-pub mod Binding
+pub mod BoundArguments
 pub mod SmallValues
 pub mod Expansions
 pub mod CourseSteps

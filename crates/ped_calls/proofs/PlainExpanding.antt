@@ -3,10 +3,10 @@ use Rattle.std.proofs.Common.{◌≡◌, ◌+◌, ℕ, List, [], ◌∷◌, map,
 use Rattle.ped_tree.specs.Tree.{ExprTree, ExprTrees, Int, Var, Element, Neg, Add, Sub, Mul, Div, Pow, Call, no_exprs, more_exprs, CondTree, Rel, Not, And, Or, ItemTree, Value, Text, Head, StmtTree, StmtTrees, Assign, If, Do, Print, Read, Stop, Comment, no_stmts, more_stmts}
 use Rattle.ped_calls.specs.Forms.{Called}
 use Rattle.ped_calls.specs.Units.{call_of}
-use Rattle.ped_calls.specs.Expanding.{Expanded, AllExpanded, name_meant, replaced, all_replaced, cond_replaced, item_replaced, head_replaced, expanded_or, if_expanded, do_expanded, expanded_in, all_expanded_in}
+use Rattle.ped_calls.specs.Expanding.{Expanded, AllExpanded, name_meant, replaced, all_replaced, cond_replaced, item_replaced, head_replaced, expanded_or, if_expanded, do_expanded, then_expanded, expanded_in, all_expanded_in}
 use Rattle.ped_calls.specs.Verdicts.{one_for, call_count, calls_count}
 
-abbrev mutual
+mutual
   pub same_expr : (e : ExprTree) → replaced [] e ≡ e
   same_expr (Int n) = refl
   same_expr (Var x) = refl
@@ -60,23 +60,36 @@ no_call : (o : Option Called) → one_for o ≡ 0 → o ≡ None
 no_call None h = refl
 no_call (Some c) h = absurd cc
 
-abbrev mutual
-  pub one_same : {S : Type 0} (f : Called → S → Expanded S) (s : StmtTree) (state : S) → call_count s ≡ 0 → expanded_in [] f s state ≡ record { statement = s; state = state }
+-- a statement as it is
+abbrev as_it_is : {S : Type 0} → StmtTree → S → Expanded S
+as_it_is s state = record { statement = s; state = state }
+
+-- statements as they are
+abbrev all_as_they_are : {S : Type 0} → StmtTrees → S → AllExpanded S
+all_as_they_are ss state = record { statements = ss; state = state }
+
+mutual
+  pub one_same : {S : Type 0} (f : Called → S → Expanded S) (s : StmtTree) (state : S) → call_count s ≡ 0 → expanded_in [] f s state ≡ as_it_is s state
   one_same {S} f (Assign left right) state h =
       ap (expanded_or [] f (Assign (replaced [] left) (replaced [] right)) state) (no_call (call_of left right) h)
-      ∙ (λ i. record { statement = Assign (same_expr left i) (same_expr right i); state = state })
+      ∙ ap (λ (s : StmtTree). as_it_is {S} s state) (λ i. Assign (same_expr left i) (same_expr right i))
   one_same {S} f (If condition then_part else_part) state h =
-      (λ i. if_expanded (same_cond condition i) (all_same f then_part state (omega (arith, h)) i) (all_expanded_in [] f else_part))
-      ∙ ap (λ (x : AllExpanded S). record { statement = If condition then_part x.statements; state = x.state }) (all_same f else_part state (omega (arith, h)))
-  one_same {S} f (Do head body) state h = λ i. do_expanded (same_head head i) (all_same f body state h i)
-  one_same {S} f (Print items) state h = λ i. record { statement = Print (same_items items i); state = state }
-  one_same {S} f (Read items) state h = λ i. record { statement = Read (same_lefts items i); state = state }
+      let t : all_expanded_in [] f then_part state ≡ all_as_they_are then_part state = all_same f then_part state (omega (arith, h)) in
+      let e : all_expanded_in [] f else_part state ≡ all_as_they_are else_part state = all_same f else_part state (omega (arith, h)) in
+      ap (λ (c : CondTree). if_expanded c (all_expanded_in [] f then_part state) (all_expanded_in [] f else_part)) (same_cond condition)
+      ∙ ap (λ (x : AllExpanded S). if_expanded condition x (all_expanded_in [] f else_part)) t
+      ∙ ap (λ (x : AllExpanded S). as_it_is {S} (If condition then_part x.statements) x.state) e
+  one_same {S} f (Do head body) state h =
+      ap (λ (k : Head). do_expanded k (all_expanded_in [] f body state)) (same_head head)
+      ∙ ap (do_expanded head) (all_same f body state h)
+  one_same {S} f (Print items) state h = ap (λ (x : List ItemTree). as_it_is {S} (Print x) state) (same_items items)
+  one_same {S} f (Read items) state h = ap (λ (x : List ExprTree). as_it_is {S} (Read x) state) (same_lefts items)
   one_same {S} f Stop state h = refl
   one_same {S} f (Comment text) state h = refl
 
   -- statements without CALLs
-  pub all_same : {S : Type 0} (f : Called → S → Expanded S) (ss : StmtTrees) (state : S) → calls_count ss ≡ 0 → all_expanded_in [] f ss state ≡ record { statements = ss; state = state }
+  pub all_same : {S : Type 0} (f : Called → S → Expanded S) (ss : StmtTrees) (state : S) → calls_count ss ≡ 0 → all_expanded_in [] f ss state ≡ all_as_they_are ss state
   all_same {S} f no_stmts state h = refl
   all_same {S} f (more_stmts s rest) state h =
-      ap (λ (x : Expanded S). record { statements = more_stmts x.statement (all_expanded_in [] f rest x.state).statements; state = (all_expanded_in [] f rest x.state).state }) (one_same f s state (omega (arith, h)))
-      ∙ ap (λ (x : AllExpanded S). record { statements = more_stmts s x.statements; state = x.state }) (all_same f rest state (omega (arith, h)))
+      ap (λ (x : Expanded S). then_expanded x (all_expanded_in [] f rest)) (one_same f s state (omega (arith, h)))
+      ∙ ap (λ (x : AllExpanded S). all_as_they_are {S} (more_stmts s x.statements) x.state) (all_same f rest state (omega (arith, h)))

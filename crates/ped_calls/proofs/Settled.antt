@@ -111,8 +111,8 @@ front_or_behind (more_stmts (Comment text) rest) h = at_comment (comment_fits te
         → ((phase : ℕ) → decls_fit phase (front_comments (more_stmts (Comment text) rest)) ≡ false) ⊎ ((p : Surroundings) → stmts_fit p (behind_comments rest) ≡ false)
     at_comment false k = inl (λ phase. first_false (comment_fits text) _ k)
     at_comment true k = further (front_or_behind rest (λ p.
-      let same : moved p 0 ≡ p = (let zero_more : p.statements + 0 ≡ p.statements = omega arith in λ i. record p { statements = zero_more i }) in
-      ap (λ (q : Surroundings). stmts_fit q rest) (sym same) ∙ (ap (λ (b : Bool). b && stmts_fit (moved p 0) rest) (sym k) ∙ h p)))
+        let same : moved p 0 ≡ p = (let zero_more : p.statements + 0 ≡ p.statements = omega arith in λ i. record p { statements = zero_more i }) in
+        ap (λ (q : Surroundings). stmts_fit q rest) (sym same) ∙ (ap (λ (b : Bool). b && stmts_fit (moved p 0) rest) (sym k) ∙ h p)))
 
 fits_false : (a b c : Bool) → (a ≡ false) ⊎ (b ≡ false) → (a && b && c) ≡ false
 fits_false a b c (inl h) = first_false (a && b) c (first_false a b h)

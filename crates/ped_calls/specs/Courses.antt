@@ -100,8 +100,8 @@ block_at f w s x arguments g =
 -- the statements of a subroutine expanded there, where these stand for its dummy arguments
 abbrev pub inside_at : File → Within → Subroutine → Meanings → plain.Given → AllExpanded plain.Given
 inside_at f w s formals g =
-    let r = local_meanings (program_unit_of s.unit.now) formals g in
-    all_expanded_in r.meanings (call_expanded (w.deeper - 1) (units_of f.units.now) []) (program_unit_of s.unit.now).tree.body r.given
+    all_expanded_in (local_meanings (program_unit_of s.unit.now) formals g).meanings (call_expanded (w.deeper - 1) (units_of f.units.now) [])
+    (program_unit_of s.unit.now).tree.body (local_meanings (program_unit_of s.unit.now) formals g).given
 
 -- CALLs can't stand deeper in one another there, or no subroutine has the name
 abbrev pub IsMissing : File → Within → List ℕ → Type 0

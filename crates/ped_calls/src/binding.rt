@@ -50,12 +50,7 @@ pub fn bind(
 }
 
 /// Has the dummy argument at a place stand for an expression, where there is one.
-fn keep_at(
-    meanings: &mut Meanings,
-    formals: &[Name],
-    place: usize,
-    e: Expr,
-) -> Result<(), NoMemory>
+fn keep_at(meanings: &mut Meanings, formals: &[Name], place: usize, e: Expr) -> Result<(), NoMemory>
     ensures { OnOk result (meanings_of meanings.new ≡ with_formals (meanings_of meanings.old) (drop place formals.now) (expr_tree e ∷ [])) }
 {
     if place < formals.len() {
@@ -173,11 +168,7 @@ pub fn add_names(
 }
 
 /// Has literals stand for named constants.
-fn add_constants(
-    alloc: Global,
-    meanings: &mut Meanings,
-    constants: &Consts,
-) -> Result<(), NoMemory>
+fn add_constants(alloc: Global, meanings: &mut Meanings, constants: &Consts) -> Result<(), NoMemory>
     requires { AreSmall constants.now }
     ensures { OnOk result (meanings_of meanings.new ≡ with_constants (meanings_of meanings.old) constants.now) }
 {

@@ -331,7 +331,13 @@ impl<'u> File<'u> {
     {
         take_room(course, within.depth, assignments, &called.unit.program.body)?;
         let mut meanings = formals;
-        add_names(alloc, &mut meanings, &mut course.given, called.unit, called.table)?;
+        add_names(
+            alloc,
+            &mut meanings,
+            &mut course.given,
+            called.unit,
+            called.table,
+        )?;
         let none = Consts::new(alloc);
         let inner = Within {
             depth: within.depth + 1,

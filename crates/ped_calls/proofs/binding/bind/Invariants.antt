@@ -8,6 +8,6 @@ use Rattle.ped_calls.proofs.binding.bind.Given as goal
 abbrev pub invariant-loop-place : goal.invariant-loop-place
 invariant-loop-place l = record {
   binds : BindsOn l.constants l.formals (map expr_tree l.arguments) (meanings_of l.initial.meanings) (map stmt_tree l.initial.front.items) (given_of l.initial.given)
-    (map expr_tree (drop l.place l.arguments)) l.place (meanings_of l.meanings) (map stmt_tree l.front.items) (given_of l.given);
+      (map expr_tree (drop l.place l.arguments)) l.place (meanings_of l.meanings) (map stmt_tree l.front.items) (given_of l.given);
   next : HasNext l.given;
 }

@@ -73,36 +73,36 @@ binds_more cs fs all m front g left rest place now next done more before behind 
     let one = bound_arguments cs (e ∷ []) before in
     let others = bound_arguments cs rest behind in
     let whole : bound_arguments cs left before ≡ then_bound one others =
-      ap (λ (es : List ExprTree). bound_arguments cs es before) l ∙ bound_first cs e rest before ∙ ap (λ (h : Given). then_bound one (bound_arguments cs rest h)) (sym hg) in
+    ap (λ (es : List ExprTree). bound_arguments cs es before) l ∙ bound_first cs e rest before ∙ ap (λ (h : Given). then_bound one (bound_arguments cs rest h)) (sym hg) in
     record {
       meanings =
-        ap (λ (n : Meanings). with_formals n (drop (place + 1) fs) others.meant) hn
-        ∙ ap (λ (xs : List (List ℕ)). with_formals (with_formals now (drop place fs) (meant ∷ [])) xs others.meant) (sym (drop-drop 1 place fs))
-        ∙ formals_first now (drop place fs) meant others.meant
-        ∙ ap (λ (ts : List ExprTree). with_formals now (drop place fs) (ts ++ others.meant)) hm
-        ∙ ap (λ (b : Bound). with_formals now (drop place fs) b.meant) (sym whole)
-        ∙ inv.meanings;
+          ap (λ (n : Meanings). with_formals n (drop (place + 1) fs) others.meant) hn
+          ∙ ap (λ (xs : List (List ℕ)). with_formals (with_formals now (drop place fs) (meant ∷ [])) xs others.meant) (sym (drop-drop 1 place fs))
+          ∙ formals_first now (drop place fs) meant others.meant
+          ∙ ap (λ (ts : List ExprTree). with_formals now (drop place fs) (ts ++ others.meant)) hm
+          ∙ ap (λ (b : Bound). with_formals now (drop place fs) b.meant) (sym whole)
+          ∙ inv.meanings;
       assignments =
-        ap (λ (ss : List StmtTree). ss ++ others.assignments) ha
-        ∙ append_assoc done one.assignments others.assignments
-        ∙ ap (λ (b : Bound). done ++ b.assignments) (sym whole)
-        ∙ inv.assignments;
+          ap (λ (ss : List StmtTree). ss ++ others.assignments) ha
+          ∙ append_assoc done one.assignments others.assignments
+          ∙ ap (λ (b : Bound). done ++ b.assignments) (sym whole)
+          ∙ inv.assignments;
       given = ap (λ (b : Bound). b.given) (sym whole) ∙ inv.given;
     }
 
 -- the rest of a list from a place on
 drop_at : {X : Type 0} (xs : List X) (n : ℕ) (x : X) → slice_get xs n ≡ Some x → drop n xs ≡ x ∷ drop (n + 1) xs
-drop_at xs n x h =
-    at_drop_more (λ ys. ys) xs n x (slice_get_within xs n x h) ∙ ap (λ y. y ∷ drop (n + 1) xs) (get_or_from_slice_get xs n x x h)
+drop_at {X} xs n x h =
+    at_drop_more (λ (ys : List X). ys) xs n x (slice_get_within xs n x h) ∙ ap (λ (y : X). y ∷ drop (n + 1) xs) (get_or_from_slice_get xs n x x h)
 
 -- nothing stands at a place
 drop_past : {X : Type 0} (xs : List X) (n : ℕ) → slice_get xs n ≡ None → drop (n + 1) xs ≡ drop n xs
-drop_past xs n h =
+drop_past {X} xs n h =
     let past : length xs ≤ n = by_case (slice_get_cases xs n).1 in
     drop_all (n + 1) xs (omega (arith, past)) ∙ sym (drop_all n xs past)
   where
-    by_case : ((x : _) × (n < length xs) × (slice_get xs n ≡ Some x) × (get_or xs n x ≡ x)) ⊎ ((length xs ≤ n) × (slice_get xs n ≡ None)) → length xs ≤ n
-    by_case (inl k) = absurd (none-some k.0 (sym h ∙ k.2.0))
+    by_case : ((x : X) × (n < length xs) × (slice_get xs n ≡ Some x) × (get_or xs n x ≡ x)) ⊎ ((length xs ≤ n) × (slice_get xs n ≡ None)) → length xs ≤ n
+    by_case (inl k) = absurd (none-some k.0 (sym h ∙ k.2))
     by_case (inr k) = k.0
 
 -- the constant at a place

@@ -27,3 +27,4 @@ pub mod FirstCalls
 pub mod Settled
 pub mod Judged
 pub mod FormCalls
+pub mod CallsTold

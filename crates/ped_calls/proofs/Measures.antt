@@ -1,9 +1,10 @@
 -- Expanding ends: CALLs stand less deep in one another in a subroutine, and parts have less weight.
-use Rattle.std.proofs.Common.{◌≡◌, ◌≤◌, ◌<◌, ◌+◌, ◌-◌, ◌*◌, ℕ, zero, suc, List, [], ◌∷◌, map, drop, Some, ap, arith}
+use Rattle.std.proofs.Common.{◌≡◌, ◌≤◌, ◌<◌, ◌+◌, ◌-◌, ◌*◌, ℕ, zero, suc, List, [], ◌∷◌, map, length, get_or, drop, Some, sym, ap, ◌∙◌, arith}
+use Rattle.std.proofs.lemmas.List.{at_drop_more}
 use Rattle.std.specs.Prelude.{slice_get}
 use Rattle.std.proofs.lemmas.Nat.{mul-add-lt}
 use Rattle.ped_tree.specs.Tree.{StmtTree, StmtTrees, Assign, If, Do, Print, Read, Stop, Comment, no_stmts, more_stmts}
-use Rattle.ped_tree.specs.Views.{stmt_trees}
+use Rattle.ped_tree.specs.Views.{stmt_tree, stmt_trees}
 use Rattle.ped_tree.specs.declared.statements.Stmt.{Stmt}
 use Rattle.ped_calls.specs.declared.units.ProgramUnit.{ProgramUnit}
 
@@ -58,3 +59,12 @@ unit_weight (v ∷ us) zero u h =
     let is : stmts_weight (stmt_trees v.program.body.items) ≡ stmts_weight (stmt_trees u.program.body.items) = ap (λ (w : ProgramUnit). stmts_weight (stmt_trees w.program.body.items)) same in
     omega (arith, is)
 unit_weight (v ∷ us) (suc n) u h = let more = unit_weight us n u h in omega (arith, more)
+
+-- the first of the statements that are left
+pub stmts_left : (ss : List Stmt) (i : ℕ) (x : Stmt) → i < length ss → x ≡ get_or ss i x → stmt_trees (drop i ss) ≡ more_stmts (stmt_tree x) (stmt_trees (drop (i + 1) ss))
+stmts_left ss i x h e =
+    ap stmt_trees (at_drop_more (λ (ys : List Stmt). ys) ss i x h) ∙ ap (λ (y : Stmt). more_stmts (stmt_tree y) (stmt_trees (drop (i + 1) ss))) (sym e)
+
+-- a statement of a list by its place
+pub item_weight : (ss : List Stmt) (i : ℕ) (x : Stmt) → i < length ss → x ≡ get_or ss i x → stmt_weight (stmt_tree x) < stmts_weight (stmt_trees ss)
+item_weight ss i x h e = one_weight i ss (stmt_tree x) (stmt_trees (drop (i + 1) ss)) (stmts_left ss i x h e)

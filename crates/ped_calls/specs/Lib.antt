@@ -18,3 +18,4 @@ pub mod Reaching
 pub mod Binding
 pub mod Courses
 pub mod Opening
+pub mod CallViews

@@ -1,7 +1,7 @@
 //! Each CALL expanded to a marked block with the statements of its subroutine (ANSI X3.9-1978, section 15.9.3).
 
 ghost use Rattle.std.specs.Prelude.{◌≡◌, ◌≤◌, ◌<◌, ◌+◌, ◌⊎◌, [], ℕ, List, IfOk, IfErr, OnOk, MatchOption, map};
-ghost use Rattle.ped_tree.specs.Tree.{If};
+ghost use Rattle.ped_tree.specs.Tree.{Assign, If};
 ghost use Rattle.ped_tree.specs.Views.{expr_tree, pack_exprs, cond_tree, stmt_tree, stmt_trees};
 ghost use Rattle.ped_tree.specs.Numbering as Numbering;
 ghost use Rattle.ped_tree.specs.Grammar.LimitNumbers.{most_blocks_nested};
@@ -18,6 +18,7 @@ ghost use Rattle.ped_calls.specs.declared.expanding.Stopped.TheVariants as varia
 
 use crate::binding::{add_names, bind};
 use crate::blocks::{bare_block, begun, block, joined};
+use crate::calls::{arguments_replaced, called_name};
 use crate::giving::Given;
 use crate::replacing::{
     Meanings, all_replaced, assignment_replaced, cond_replaced, items_replaced, loop_replaced,
@@ -174,20 +175,7 @@ impl<'u> File<'u> {
             (IsTooDeep within.now.depth (expanded_at self.now within.now (stmt_tree statement.now) (given_of course.old.given)).statement))) }
     {
         match statement {
-            Stmt::Assign {
-                left: Expr::Int(_),
-                right: Expr::Var(name),
-            } => self.call(alloc, course, within, name, &[]),
-            Stmt::Assign {
-                left: Expr::Int(_),
-                right: Expr::Element(name, arguments),
-            } => {
-                let arguments = all_replaced(alloc, within.meanings, arguments)?;
-                self.call(alloc, course, within, name, &arguments)
-            }
-            Stmt::Assign { left, right } => {
-                Ok(assignment_replaced(alloc, within.meanings, left, right)?)
-            }
+            Stmt::Assign { left, right } => self.assignment(alloc, course, within, left, right),
             Stmt::If {
                 condition,
                 then_part,
@@ -216,6 +204,37 @@ impl<'u> File<'u> {
             Stmt::Read(items) => Ok(Stmt::read(all_replaced(alloc, within.meanings, items)?)),
             Stmt::Stop => Ok(Stmt::stop()),
             Stmt::Comment(_) => Ok(statement.copy(alloc)?),
+        }
+    }
+
+    /// An assignment with what stands for its names, or the block of the CALL that it is.
+    #[cycle(expand)]
+    fn assignment(
+        &self,
+        alloc: Global,
+        course: &mut Course,
+        within: &Within,
+        left: &Expr,
+        right: &Expr,
+    ) -> Result<Stmt, Stopped>
+        requires file { KnowsFile self.now }
+        requires course { IsUnderWay course.old }
+        ensures statement { IfOk result (λ s. stmt_tree s ≡ (expanded_at self.now within.now (Assign (expr_tree left.now) (expr_tree right.now)) (given_of course.old.given)).statement) }
+        ensures course { OnOk result (GoesOn course.old course.new
+            1
+            (Numbering.statement_count (expanded_at self.now within.now (Assign (expr_tree left.now) (expr_tree right.now)) (given_of course.old.given)).statement)
+            (expanded_at self.now within.now (Assign (expr_tree left.now) (expr_tree right.now)) (given_of course.old.given)).state) }
+        ensures stopped { IfErr result (λ e. StopsAt e (Passes course.old.room
+            1
+            (Numbering.statement_count (expanded_at self.now within.now (Assign (expr_tree left.now) (expr_tree right.now)) (given_of course.old.given)).statement)
+            (IsTooDeep within.now.depth (expanded_at self.now within.now (Assign (expr_tree left.now) (expr_tree right.now)) (given_of course.old.given)).statement))) }
+    {
+        match called_name(left, right) {
+            Some(name) => {
+                let arguments = arguments_replaced(alloc, within.meanings, right)?;
+                self.call(alloc, course, within, name, &arguments)
+            }
+            None => Ok(assignment_replaced(alloc, within.meanings, left, right)?),
         }
     }
 

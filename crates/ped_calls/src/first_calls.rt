@@ -1,14 +1,15 @@
 //! Statements with the first of their CALLs, in text order, and without the others.
 
-ghost use Rattle.std.specs.Prelude.{◌≡◌, ◌-◌, ◌==◌, if◌then◌else◌, IfOk, OnOk, map};
+ghost use Rattle.std.specs.Prelude.{◌≡◌, ◌-◌, ◌==◌, ◌&&◌, if◌then◌else◌, IfOk, OnOk, map};
 ghost use Rattle.ped_tree.specs.Tree.{StmtTrees, more_stmts};
 ghost use Rattle.ped_tree.specs.Views.{stmt_tree, stmt_trees};
 ghost use Rattle.ped_calls.specs.Expanding.{behind_stmts};
 ghost use Rattle.ped_calls.specs.Verdicts as Spec;
 
+use crate::calls::is_call;
 use crate::naming::with_condition;
 use ped_base::NoMemory;
-use ped_tree::{Expr, Stmt};
+use ped_tree::Stmt;
 use std::alloc::Global;
 
 /// Copies of statements with so many of their CALLs, the first in text order, and without the others.
@@ -42,13 +43,9 @@ fn add_first_calls(
 {
     match statement {
         Stmt::Assign {
-            left: Expr::Int(_),
-            right: Expr::Var(_),
-        } => add_one_of(alloc, left, statement, copies),
-        Stmt::Assign {
-            left: Expr::Int(_),
-            right: Expr::Element(_, _),
-        } => add_one_of(alloc, left, statement, copies),
+            left: first,
+            right: second,
+        } => add_assignment(alloc, left, is_call(first, second), statement, copies),
         Stmt::If {
             condition,
             then_part,
@@ -64,32 +61,31 @@ fn add_first_calls(
             copies.push(Stmt::of_loop(d.with_body(body, alloc)?))?;
             Ok(())
         }
-        Stmt::Assign { left: _, right: _ }
-        | Stmt::Print(_)
-        | Stmt::Read(_)
-        | Stmt::Stop
-        | Stmt::Comment(_) => {
+        Stmt::Print(_) | Stmt::Read(_) | Stmt::Stop | Stmt::Comment(_) => {
             copies.push(statement.copy(alloc)?)?;
             Ok(())
         }
     }
 }
 
-/// Adds a copy of a statement where some are left, and takes one of them.
-fn add_one_of(
+/// Adds a copy of an assignment; of a CALL where some are left, and takes one of them.
+fn add_assignment(
     alloc: Global,
     left: &mut usize,
+    is_call: bool,
     statement: &Stmt,
     copies: &mut Vec<Stmt>,
 ) -> Result<(), NoMemory>
     ensures statements { OnOk result ((rest : StmtTrees) → behind_stmts (map stmt_tree copies.new.items) rest
-        ≡ behind_stmts (map stmt_tree copies.old.items) (if left.old == 0 then rest else more_stmts (stmt_tree statement.now) rest)) }
-    ensures left { OnOk result (left.new ≡ left.old - 1) }
+        ≡ behind_stmts (map stmt_tree copies.old.items) (if is_call && left.old == 0 then rest else more_stmts (stmt_tree statement.now) rest)) }
+    ensures left { OnOk result (left.new ≡ left.old - (if is_call then 1 else 0)) }
 {
-    if *left == 0 {
-        return Ok(());
+    if is_call {
+        if *left == 0 {
+            return Ok(());
+        }
+        *left -= 1;
     }
-    *left -= 1;
     copies.push(statement.copy(alloc)?)?;
     Ok(())
 }

@@ -5,6 +5,7 @@
 mod assigning;
 mod binding;
 mod blocks;
+mod calls;
 mod expanding;
 mod first_calls;
 mod forms;

@@ -12,6 +12,9 @@ decreases-statements l = expand_measure l.self.now.units.now l.within.now.deeper
 abbrev pub decreases-statement : goal.decreases-statement
 decreases-statement l = expand_measure l.self.now.units.now l.within.now.deeper (4 * stmt_weight (stmt_tree l.statement.now))
 
+abbrev pub decreases-assignment : goal.decreases-assignment
+decreases-assignment l = expand_measure l.self.now.units.now l.within.now.deeper 3
+
 abbrev pub decreases-call : goal.decreases-call
 decreases-call l = expand_measure l.self.now.units.now l.within.now.deeper 2
 

@@ -28,3 +28,4 @@ pub mod Settled
 pub mod Judged
 pub mod FormCalls
 pub mod CallsTold
+pub mod PlainFiles

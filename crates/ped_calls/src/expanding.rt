@@ -261,7 +261,7 @@ impl<'u> File<'u> {
             (IsTooDeep within.now.depth (called_at self.now within.now name.now (map expr_tree arguments.now) (given_of course.old.given)).statement))) }
     {
         match self.found(within, name) {
-            Some(called) => self.block(alloc, course, within, called, name, arguments),
+            Some(called) => self.block(alloc, course, within, &called, name, arguments),
             None => Ok(bare_block(alloc, name, arguments)?),
         }
     }
@@ -291,22 +291,22 @@ impl<'u> File<'u> {
         alloc: Global,
         course: &mut Course,
         within: &Within,
-        called: Subroutine,
+        called: &Subroutine,
         name: &Name,
         arguments: &[Expr],
     ) -> Result<Stmt, Stopped>
         requires file { KnowsFile self.now }
         requires course { IsUnderWay course.old }
-        requires found { IsFound self.now within.now name.now called }
-        ensures statement { IfOk result (λ s. stmt_tree s ≡ (block_at self.now within.now called name.now (map expr_tree arguments.now) (given_of course.old.given)).statement) }
+        requires found { IsFound self.now within.now name.now called.now }
+        ensures statement { IfOk result (λ s. stmt_tree s ≡ (block_at self.now within.now called.now name.now (map expr_tree arguments.now) (given_of course.old.given)).statement) }
         ensures course { OnOk result (GoesOn course.old course.new
             1
-            (Numbering.statement_count (block_at self.now within.now called name.now (map expr_tree arguments.now) (given_of course.old.given)).statement)
-            (block_at self.now within.now called name.now (map expr_tree arguments.now) (given_of course.old.given)).state) }
+            (Numbering.statement_count (block_at self.now within.now called.now name.now (map expr_tree arguments.now) (given_of course.old.given)).statement)
+            (block_at self.now within.now called.now name.now (map expr_tree arguments.now) (given_of course.old.given)).state) }
         ensures stopped { IfErr result (λ e. StopsAt e (Passes course.old.room
             1
-            (Numbering.statement_count (block_at self.now within.now called name.now (map expr_tree arguments.now) (given_of course.old.given)).statement)
-            (IsTooDeep within.now.depth (block_at self.now within.now called name.now (map expr_tree arguments.now) (given_of course.old.given)).statement))) }
+            (Numbering.statement_count (block_at self.now within.now called.now name.now (map expr_tree arguments.now) (given_of course.old.given)).statement)
+            (IsTooDeep within.now.depth (block_at self.now within.now called.now name.now (map expr_tree arguments.now) (given_of course.old.given)).statement))) }
     {
         let mut front = begun(alloc, name, arguments)?;
         let mut meanings = Meanings::nothing(alloc);
@@ -331,22 +331,22 @@ impl<'u> File<'u> {
         alloc: Global,
         course: &mut Course,
         within: &Within,
-        called: Subroutine,
+        called: &Subroutine,
         assignments: usize,
         formals: Meanings,
     ) -> Result<Vec<Stmt>, Stopped>
         requires file { KnowsFile self.now }
         requires course { IsUnderWay course.old }
-        requires found { (x : List ℕ) × IsFound self.now within.now x called }
-        ensures statements { IfOk result (λ all. stmt_trees all.items ≡ (inside_at self.now within.now called (meanings_of formals) (given_of course.old.given)).statements) }
+        requires found { (x : List ℕ) × IsFound self.now within.now x called.now }
+        ensures statements { IfOk result (λ all. stmt_trees all.items ≡ (inside_at self.now within.now called.now (meanings_of formals) (given_of course.old.given)).statements) }
         ensures course { OnOk result (GoesOn course.old course.new
             0
-            (assignments + Numbering.statements_count (inside_at self.now within.now called (meanings_of formals) (given_of course.old.given)).statements)
-            (inside_at self.now within.now called (meanings_of formals) (given_of course.old.given)).state) }
+            (assignments + Numbering.statements_count (inside_at self.now within.now called.now (meanings_of formals) (given_of course.old.given)).statements)
+            (inside_at self.now within.now called.now (meanings_of formals) (given_of course.old.given)).state) }
         ensures stopped { IfErr result (λ e. StopsAt e (Passes course.old.room
             0
-            (assignments + Numbering.statements_count (inside_at self.now within.now called (meanings_of formals) (given_of course.old.given)).statements)
-            ((most_blocks_nested ≤ within.now.depth) ⊎ AreTooDeep (within.now.depth + 1) (inside_at self.now within.now called (meanings_of formals) (given_of course.old.given)).statements))) }
+            (assignments + Numbering.statements_count (inside_at self.now within.now called.now (meanings_of formals) (given_of course.old.given)).statements)
+            ((most_blocks_nested ≤ within.now.depth) ⊎ AreTooDeep (within.now.depth + 1) (inside_at self.now within.now called.now (meanings_of formals) (given_of course.old.given)).statements))) }
     {
         take_room(course, within.depth, assignments, &called.unit.program.body)?;
         let mut meanings = formals;

@@ -80,12 +80,14 @@ fn add_assignment(
         ≡ behind_stmts (map stmt_tree copies.old.items) (if is_call && left.old == 0 then rest else more_stmts (stmt_tree statement.now) rest)) }
     ensures left { OnOk result (left.new ≡ left.old - (if is_call then 1 else 0)) }
 {
-    if is_call {
-        if *left == 0 {
-            return Ok(());
-        }
-        *left -= 1;
+    if !is_call {
+        copies.push(statement.copy(alloc)?)?;
+        return Ok(());
     }
+    if *left == 0 {
+        return Ok(());
+    }
+    *left -= 1;
     copies.push(statement.copy(alloc)?)?;
     Ok(())
 }

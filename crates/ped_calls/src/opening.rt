@@ -89,16 +89,16 @@ fn expansion_of_units(alloc: Global, text: &[u8]) -> Result<Opened, UnitRefusal>
         tables: &tables,
         numbers: &numbers,
     };
-    expanded(alloc, file)
+    expanded(alloc, &file)
 }
 
 /// The program that the units of a file expand to, where their names and their CALLs are right.
-fn expanded(alloc: Global, file: File) -> Result<Opened, UnitRefusal>
-    requires file { KnowsFile file }
-    requires starts { StartsWell (units_of file.units.now) }
-    ensures tree { IfOk result (λ o. (program_tree o.program ≡ plain_expansion (units_of file.units.now)) × IsValid (program_tree o.program)) }
+fn expanded(alloc: Global, file: &File) -> Result<Opened, UnitRefusal>
+    requires file { KnowsFile file.now }
+    requires starts { StartsWell (units_of file.now.units.now) }
+    ensures tree { IfOk result (λ o. (program_tree o.program ≡ plain_expansion (units_of file.now.units.now)) × IsValid (program_tree o.program)) }
     ensures table { IfOk result (λ o. o.symbols ≡ table_of (program_tree o.program)) }
-    ensures refused { IfErr result (IsPastAt (units_of file.units.now)) }
+    ensures refused { IfErr result (IsPastAt (units_of file.now.units.now)) }
 {
     match judged(alloc, file, &file.units[0].program.body)? {
         Judgement::Valid(opened) => Ok(opened),
@@ -118,10 +118,10 @@ enum Judgement {
 }
 
 /// What comes of expanding the CALLs in these statements of the main program.
-fn judged(alloc: Global, file: File, statements: &[Stmt]) -> Result<Judgement, NoMemory>
-    requires { KnowsFile file }
-    ensures { IfOk result (λ j. (later : ℕ) → statements_count (stmt_trees statements.now) + later ≡ statements_count (units_of file.units.now).main.tree.body
-        → Judges (units_of file.units.now) (stmt_trees statements.now) later j) }
+fn judged(alloc: Global, file: &File, statements: &[Stmt]) -> Result<Judgement, NoMemory>
+    requires { KnowsFile file.now }
+    ensures { IfOk result (λ j. (later : ℕ) → statements_count (stmt_trees statements.now) + later ≡ statements_count (units_of file.now.units.now).main.tree.body
+        → Judges (units_of file.now.units.now) (stmt_trees statements.now) later j) }
 {
     let Some(room) = room(&file.units[0].program.body) else {
         return Ok(Judgement::PastStatements);
@@ -132,14 +132,14 @@ fn judged(alloc: Global, file: File, statements: &[Stmt]) -> Result<Judgement, N
 /// The same, where there is room for so many more statements.
 fn judged_within(
     alloc: Global,
-    file: File,
+    file: &File,
     room: usize,
     statements: &[Stmt],
 ) -> Result<Judgement, NoMemory>
-    requires file { KnowsFile file }
-    requires room { room + statements_count (units_of file.units.now).main.tree.body ≡ most_statements }
-    ensures { IfOk result (λ j. (later : ℕ) → statements_count (stmt_trees statements.now) + later ≡ statements_count (units_of file.units.now).main.tree.body
-        → Judges (units_of file.units.now) (stmt_trees statements.now) later j) }
+    requires file { KnowsFile file.now }
+    requires room { room + statements_count (units_of file.now.units.now).main.tree.body ≡ most_statements }
+    ensures { IfOk result (λ j. (later : ℕ) → statements_count (stmt_trees statements.now) + later ≡ statements_count (units_of file.now.units.now).main.tree.body
+        → Judges (units_of file.now.units.now) (stmt_trees statements.now) later j) }
 {
     let mut course = start(alloc, file, room)?;
     match file.main(alloc, &mut course, statements) {
@@ -170,11 +170,11 @@ fn room(statements: &[Stmt]) -> Option<usize>
 }
 
 /// Before the first CALL is expanded, where there is room for so many more statements.
-fn start(alloc: Global, file: File, room: usize) -> Result<Course, NoMemory>
-    requires file { KnowsFile file }
+fn start(alloc: Global, file: &File, room: usize) -> Result<Course, NoMemory>
+    requires file { KnowsFile file.now }
     requires few { room ≤ most_statements }
     ensures room { IfOk result (λ c. c.room ≡ room) }
-    ensures given { IfOk result (λ c. given_of c.given ≡ nothing_given (units_of file.units.now)) }
+    ensures given { IfOk result (λ c. given_of c.given ≡ nothing_given (units_of file.now.units.now)) }
     ensures underway { IfOk result IsUnderWay }
 {
     let taken = taken(alloc, &file.tables[0], &file.units[0].program.decls)?;
@@ -244,11 +244,11 @@ fn add_program_name(taken: &mut NameSet, decl: &Decl) -> Result<(), NoMemory>
 
 /// The refusal at the first CALL of the main program by whose expansion a limit is passed, where the program with all CALLs
 /// expanded isn't valid.
-fn first_past(alloc: Global, file: File) -> Result<UnitRefusal, NoMemory>
-    requires file { KnowsFile file }
-    requires starts { StartsWell (units_of file.units.now) }
-    requires invalid { IsValid (plain_expansion (units_of file.units.now)) → ⊥ }
-    ensures { IfOk result (IsPastAt (units_of file.units.now)) }
+fn first_past(alloc: Global, file: &File) -> Result<UnitRefusal, NoMemory>
+    requires file { KnowsFile file.now }
+    requires starts { StartsWell (units_of file.now.units.now) }
+    requires invalid { IsValid (plain_expansion (units_of file.now.units.now)) → ⊥ }
+    ensures { IfOk result (IsPastAt (units_of file.now.units.now)) }
 {
     let found = placed_calls(alloc, &file.units[0])?;
     let mut place = 0;
@@ -262,9 +262,9 @@ fn first_past(alloc: Global, file: File) -> Result<UnitRefusal, NoMemory>
 }
 
 /// The limit that is passed where so many CALLs are expanded.
-fn past_at(alloc: Global, file: File, count: usize) -> Result<Option<RefusalKind>, NoMemory>
-    requires { KnowsFile file }
-    ensures { IfOk result (FindsPast (units_of file.units.now) count) }
+fn past_at(alloc: Global, file: &File, count: usize) -> Result<Option<RefusalKind>, NoMemory>
+    requires { KnowsFile file.now }
+    ensures { IfOk result (FindsPast (units_of file.now.units.now) count) }
 {
     let mut left = count;
     let statements = first_calls(alloc, &mut left, &file.units[0].program.body)?;

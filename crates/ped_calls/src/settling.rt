@@ -1,8 +1,8 @@
 //! The expanded statements of a main program settled to a program: arrays that were given names are declared, and comments
 //! before the first statement belong to the declarations.
 
-ghost use Rattle.std.specs.Prelude.{◌≡◌, ◌++◌, [], IfOk, OnOk, map};
-ghost use Rattle.ped_tree.specs.Tree.{StmtTrees, more_stmts, Comment};
+ghost use Rattle.std.specs.Prelude.{◌≡◌, ◌++◌, ◌∷◌, [], true, IfOk, OnOk, map};
+ghost use Rattle.ped_tree.specs.Tree.{StmtTrees, more_stmts, Remark};
 ghost use Rattle.ped_tree.specs.Views.{decl_tree, stmt_tree, stmt_trees, program_tree};
 ghost use Rattle.ped_calls.specs.Verdicts as Spec;
 ghost use Rattle.ped_calls.specs.Opening.{placed, is_comment as is_comment_tree};
@@ -49,7 +49,7 @@ fn place_all(alloc: Global, declared: Vec<Decl>, body: Vec<Stmt>) -> Result<Prog
     let mut decls = declared;
     let mut rest = Vec::new(alloc);
     for statement in body {
-        place(&mut decls, &mut rest, statement)?;
+        place(alloc, &mut decls, &mut rest, statement)?;
     }
     Ok(Program {
         decls,
@@ -59,17 +59,37 @@ fn place_all(alloc: Global, declared: Vec<Decl>, body: Vec<Stmt>) -> Result<Prog
 }
 
 /// Adds a statement, or a comment before the first statement to the declarations.
-fn place(decls: &mut Vec<Decl>, rest: &mut Vec<Stmt>, statement: Stmt) -> Result<(), NoMemory>
+fn place(
+    alloc: Global,
+    decls: &mut Vec<Decl>,
+    rest: &mut Vec<Stmt>,
+    statement: Stmt,
+) -> Result<(), NoMemory>
     ensures { OnOk result ((left : StmtTrees) → placed (map decl_tree decls.new.items) (map stmt_tree rest.new.items) left ≡ placed (map decl_tree decls.old.items) (map stmt_tree rest.old.items) (more_stmts (stmt_tree statement) left)) }
 {
-    if !rest.is_empty() || !is_comment(&statement) {
+    if !rest.is_empty() {
         rest.push(statement)?;
         return Ok(());
     }
-    match statement {
-        Stmt::Comment(text) => push_comment(decls, text),
-        Stmt::Assign { .. }
-        | Stmt::If { .. }
+    if !is_comment(&statement) {
+        rest.push(statement)?;
+        return Ok(());
+    }
+    push_comment(alloc, decls, &statement)
+}
+
+/// Adds a comment among statements to declarations.
+fn push_comment(alloc: Global, decls: &mut Vec<Decl>, comment: &Stmt) -> Result<(), NoMemory>
+    ensures { OnOk result (is_comment_tree (stmt_tree comment.now) ≡ true → (left : StmtTrees) → placed (map decl_tree decls.new.items) [] left ≡ placed (map decl_tree decls.old.items) [] (more_stmts (stmt_tree comment.now) left)) }
+{
+    match comment {
+        Stmt::Comment(text) => push_remark(alloc, decls, text.as_slice()),
+        Stmt::Assign { left: _, right: _ }
+        | Stmt::If {
+            condition: _,
+            then_part: _,
+            else_part: _,
+        }
         | Stmt::Do(_)
         | Stmt::Print(_)
         | Stmt::Read(_)
@@ -77,10 +97,12 @@ fn place(decls: &mut Vec<Decl>, rest: &mut Vec<Stmt>, statement: Stmt) -> Result
     }
 }
 
-fn push_comment(decls: &mut Vec<Decl>, text: Bytes) -> Result<(), NoMemory>
-    ensures { OnOk result ((left : StmtTrees) → placed (map decl_tree decls.new.items) [] left ≡ placed (map decl_tree decls.old.items) [] (more_stmts (Comment text) left)) }
+fn push_remark(alloc: Global, decls: &mut Vec<Decl>, text: &[u8]) -> Result<(), NoMemory>
+    ensures { OnOk result (map decl_tree decls.new.items ≡ map decl_tree decls.old.items ++ Remark text.now ∷ []) }
 {
-    decls.push(Decl::Comment(text))?;
+    let mut copy = Bytes::new(alloc);
+    copy.extend_from_slice(text)?;
+    decls.push(Decl::Comment(copy))?;
     Ok(())
 }
 

@@ -29,3 +29,5 @@ pub mod Judged
 pub mod FormCalls
 pub mod CallsTold
 pub mod PlainFiles
+pub mod MainSteps
+pub mod MainStarts

@@ -93,11 +93,16 @@ settled_by (some_step at) s t all reads is goes = by (goes t reads.valid)
     by (inl (c, cause)) = inr (c, (is.0, forbidden t reads here c cause (refl, refl)))
     by (inr (none, new, keep, makes, valid)) =
         let next : State = changed_to (program_text new) (change_by at.kind) (tested_pairs t new keep) s in
-        inl (next, next.tested, ((is.0, transformed t new keep reads here none makes valid refl refl), refl), record {
-          past = All-cons IsPrintedOther (s.present, change_by at.kind) s.past all.present all.past;
-          present = (new, valid, refl);
-          future = All-nil IsPrintedOther;
-        })
+        inl (
+          next,
+          next.tested,
+          ((is.0, transformed t new keep reads here none makes valid refl refl), refl),
+          record {
+            past = All-cons IsPrintedOther (s.present, change_by at.kind) s.past all.present all.past;
+            present = (new, valid, refl);
+            future = All-nil IsPrintedOther;
+          },
+        )
 
 -- so each command that the strategy tries is accepted or refused
 session_decided : course.IsDecided session_editing ArePrinted

@@ -16,3 +16,8 @@ pub mod ReadUnits
 pub mod BuiltUnits
 pub mod FreeNames
 pub mod CollectedNames
+pub mod NumberedNames
+pub mod SmallKinds
+pub mod DimensionedNames
+pub mod TablesSoFar
+pub mod SameArrays

@@ -21,3 +21,6 @@ pub mod SmallKinds
 pub mod DimensionedNames
 pub mod TablesSoFar
 pub mod SameArrays
+pub mod ReadCharacters
+pub mod BoundedStatements
+pub mod BoundedForms

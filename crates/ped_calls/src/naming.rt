@@ -1,6 +1,6 @@
 //! The names of units: what they stand for, or the first of the rules 14 to 19 that they break.
 
-ghost use Rattle.std.specs.Prelude.{◌≡◌, ◌++◌, [], ◌∷◌, List, ℕ, IfOk, IfErr, OnOk, map, if◌then◌else◌};
+ghost use Rattle.std.specs.Prelude.{◌≡◌, ◌++◌, [], ◌∷◌, List, ℕ, IfOk, IfErr, OnOk, All, map};
 ghost use Rattle.std.specs.List.{flat_map};
 ghost use Rattle.ped_base.specs.Lists as Lists;
 ghost use Rattle.ped_tree.specs.Tree as Tree;
@@ -11,7 +11,7 @@ ghost use Rattle.ped_valid.specs.ped_symbols.specs.Uses.{type_uses, dimension_us
 ghost use Rattle.ped_valid.specs.ped_symbols.specs.Declarations.{is_dimensioning, names_with};
 ghost use Rattle.ped_calls.specs.Units.{with_calls, all_with_calls};
 ghost use Rattle.ped_calls.specs.Refusals as Spec;
-ghost use Rattle.ped_calls.specs.Naming.{HaveTables, IsFirstNameRefusal, JudgesNames, JudgesAllNames, tables_view, goes_on, cond_view};
+ghost use Rattle.ped_calls.specs.Naming.{HasFew, HaveTables, IsFirstNameRefusal, JudgesNames, JudgesAllNames, tables_view, goes_on, cond_view};
 ghost use Rattle.ped_calls.specs.Views.{program_unit_of};
 
 use crate::reading::{at, first_of_both};
@@ -30,6 +30,7 @@ use std::alloc::Global;
 ///
 /// `At` exactly where the names of a unit break a rule, with the first of all units; `NoMemory` where memory runs out.
 pub fn tables(alloc: Global, units: &[ProgramUnit]) -> Result<Vec<Symbols>, UnitRefusal>
+    requires { All HasFew (map program_unit_of units.now) }
     ensures tables { IfOk result (λ tables. HaveTables (map program_unit_of units.now) tables.items) }
     ensures refused { IfErr result (IsFirstNameRefusal (map program_unit_of units.now)) }
 {
@@ -44,6 +45,7 @@ fn all_tables(
     alloc: Global,
     units: &[ProgramUnit],
 ) -> Result<Result<Vec<Symbols>, Refusal>, NoMemory>
+    requires { All HasFew (map program_unit_of units.now) }
     ensures { IfOk result (λ r. JudgesAllNames (map program_unit_of units.now) (tables_view r)) }
 {
     let mut tables = Vec::new(alloc);
@@ -62,6 +64,7 @@ fn all_tables(
 
 /// What the names of a unit stand for, or their first refusal.
 fn table(alloc: Global, unit: &ProgramUnit) -> Result<Result<Symbols, Refusal>, NoMemory>
+    requires { HasFew (program_unit_of unit.now) }
     ensures { IfOk result (JudgesNames (program_unit_of unit.now)) }
 {
     let program = for_names(alloc, unit)?;

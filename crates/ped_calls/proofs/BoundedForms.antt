@@ -33,15 +33,15 @@ IsShortReading f r = Unit {0}
 abbrev pub AreShort : (Called → StmtTree) → List Entry → Type 0
 AreShort f es = AllByRecursion (λ (e : Entry). IsShortReading f e.reading) es
 
-front_short : (f : Called → StmtTree) (xs ys : List Entry) → AreShort f (xs ++ ys) → AreShort f xs
+pub front_short : (f : Called → StmtTree) (xs ys : List Entry) → AreShort f (xs ++ ys) → AreShort f xs
 front_short f [] ys h = tt
 front_short f (x ∷ xs) ys h = (h.0, front_short f xs ys h.1)
 
-back_short : (f : Called → StmtTree) (xs ys : List Entry) → AreShort f (xs ++ ys) → AreShort f ys
+pub back_short : (f : Called → StmtTree) (xs ys : List Entry) → AreShort f (xs ++ ys) → AreShort f ys
 back_short f [] ys h = h
 back_short f (x ∷ xs) ys h = back_short f xs ys h.1
 
-notes_bounded : (f : Called → StmtTree) (ns : List Note) → AreBounded f (map (λ n. Comment n.text) ns)
+pub notes_bounded : (f : Called → StmtTree) (ns : List Note) → AreBounded f (map (λ n. Comment n.text) ns)
 notes_bounded f [] = tt
 notes_bounded f (n ∷ ns) = ((λ k nest m. omega arith), notes_bounded f ns)
 
@@ -101,7 +101,7 @@ mutual
   ending_bounded f (with_inner d) h = loop_bounded f d h
 
 -- how many numbered statements a reading says
-abbrev numbered_by : Reading → ℕ
+abbrev pub numbered_by : Reading → ℕ
 numbered_by (says i) = numbered_in i
 numbered_by r = 0
 
@@ -111,18 +111,18 @@ numbered_all [] = 0
 numbered_all (e ∷ es) = numbered_by e.reading + numbered_all es
 
 -- how many there are in trees
-abbrev count_of : List StmtTree → ℕ
+abbrev pub count_of : List StmtTree → ℕ
 count_of ss = statements_count (pack_stmts ss)
 
-entries_both : (xs ys : List Entry) → numbered_all (xs ++ ys) ≡ numbered_all xs + numbered_all ys
+pub entries_both : (xs ys : List Entry) → numbered_all (xs ++ ys) ≡ numbered_all xs + numbered_all ys
 entries_both [] ys = refl
 entries_both (x ∷ xs) ys = let more = entries_both xs ys in omega (arith, more)
 
-trees_both : (xs ys : List StmtTree) → count_of (xs ++ ys) ≡ count_of xs + count_of ys
+pub trees_both : (xs ys : List StmtTree) → count_of (xs ++ ys) ≡ count_of xs + count_of ys
 trees_both [] ys = refl
 trees_both (x ∷ xs) ys = let more = trees_both xs ys in omega (arith, more)
 
-notes_uncounted : (ns : List Note) → count_of (map (λ n. Comment n.text) ns) ≡ 0
+pub notes_uncounted : (ns : List Note) → count_of (map (λ n. Comment n.text) ns) ≡ 0
 notes_uncounted [] = refl
 notes_uncounted (n ∷ ns) = notes_uncounted ns
 

@@ -37,10 +37,6 @@ packed_bounded f (s ∷ ss) h k nest n =
     let next = n + statement_count (with_calls f s) in
     omega (arith, length-append (statement_references k nest n (with_calls f s)) (statements_references k nest next (all_with_calls f (pack_stmts ss))), h.0 k nest n, packed_bounded f ss h.1 k nest next)
 
-pub comments_bounded : (f : Called → StmtTree) (texts : List (List ℕ)) → AreBounded f (map (λ t. Comment t) texts)
-comments_bounded f [] = tt
-comments_bounded f (t ∷ ts) = ((λ k nest n. omega arith), comments_bounded f ts)
-
 -- an IF
 pub if_bounded : (f : Called → StmtTree) (c : CondTree) (ts es : List StmtTree) → length (own_text (If c no_stmts no_stmts)) ≤ 1300 → AreBounded f ts → AreBounded f es → IsBounded f (If c (pack_stmts ts) (pack_stmts es))
 if_bounded f c ts es short h j = λ k nest n.

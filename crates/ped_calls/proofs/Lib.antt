@@ -24,3 +24,5 @@ pub mod SameArrays
 pub mod ReadCharacters
 pub mod BoundedStatements
 pub mod BoundedForms
+pub mod BoundedCalls
+pub mod FewUnits

@@ -73,7 +73,8 @@ mutual
       let front = body_bounded f b (front_short f (body_entries b) (rest_entries r) h.1) in
       let back = rest_bounded f r (back_short f (body_entries b) (rest_entries r) h.1) in
       let inner = joined f (body_trees b) (comments_of (first_of_rest r)) front (remarks f (first_of_rest r)) in
-      joined f (comments_of s) _ (remarks f s) (if_bounded f c (body_trees b ++ comments_of (first_of_rest r)) (rest_trees r) h.0 inner back, tt)
+      let here : StmtTree = If c (pack_stmts (body_trees b ++ comments_of (first_of_rest r))) (pack_stmts (rest_trees r)) in
+      joined f (comments_of s) (here ∷ []) (remarks f s) (if_bounded f c (body_trees b ++ comments_of (first_of_rest r)) (rest_trees r) h.0 inner back, tt)
   part_bounded f (a_do d) h = loop_bounded f d h
 
   rest_bounded : (f : Called → StmtTree) (r : RestForm) → AreShort f (rest_entries r) → AreBounded f (rest_trees r)
@@ -93,7 +94,9 @@ mutual
       let last = ending_bounded f e (back_short f (private_entries p ++ body_entries b) (ending_entries e) k.1) in
       let front = joined f (comments_of_private p) (body_trees b) (private_bounded f p) body in
       let all = joined f (comments_of_private p ++ body_trees b) (ending_trees e) front last in
-      joined f (comments_of s) _ (remarks f s) (do_bounded f (whole_head h (names_of_private p) (rejected_names s.directives)) (comments_of_private p ++ body_trees b ++ ending_trees e) k.0 own all, tt)
+      let head = whole_head h (names_of_private p) (rejected_names s.directives) in
+      let here : StmtTree = Do head (pack_stmts (comments_of_private p ++ body_trees b ++ ending_trees e)) in
+      joined f (comments_of s) (here ∷ []) (remarks f s) (do_bounded f head (comments_of_private p ++ body_trees b ++ ending_trees e) k.0 own all, tt)
 
   ending_bounded : (f : Called → StmtTree) (e : EndingForm) → AreShort f (ending_entries e) → AreBounded f (ending_trees e)
   ending_bounded f (at_plain s p) h = joined f (comments_of s) (plain_trees p) (remarks f s) (plain_bounded f p h.0)

@@ -8,25 +8,25 @@ use Rattle.ped_tree.specs.Tree.{ExprTree, CondTree, StmtTree, StmtTrees, Assign,
 use Rattle.ped_tree.specs.Views.{pack_stmts}
 use Rattle.ped_tree.specs.Numbering.{statement_count, statements_count}
 use Rattle.ped_tree.specs.Accesses.{constant_names}
-use Rattle.ped_tree.specs.Printing.{own_text, private_text}
+use Rattle.ped_tree.specs.Printing.{own_text, do_text, private_text}
 use Rattle.ped_tree.specs.Grammar.ExpressionForms.{ReferenceForm, scalar, element, reference_form_tree, expr_form_tree}
+use Rattle.ped_tree.specs.Grammar.ConditionForms.{cond_form_tree}
 use Rattle.ped_tree.specs.Grammar.Statement.{Statement, Statements}
 use Rattle.ped_tree.specs.Grammar.Refusal.{Limit}
 use Rattle.ped_tree.specs.Grammar.Grouping.{statements_of}
-use Rattle.ped_tree.specs.Grammar.Items.{Item, does, continues, logical_if, Reading, says, outside_profile, no_form, Entry}
-use Rattle.ped_tree.specs.Grammar.StatementForms.{SimpleForm, assignment, print, read, stop, continue, StatementForm, program, implicit, integer, dimension, parameter, save, save_all, simple, if_simple, if_then, else_if_then, else_alone, end_of_if, do_loop, end_of_do, private, end, item_form_tree, simple_item, behind_if, statement_item, ReadsItem}
-use Rattle.ped_tree.specs.Grammar.Reading.{IsReading}
-use Rattle.ped_tree.specs.Grammar.Contexts.{Context, at_start, numbered_in, open_variables, behind}
+use Rattle.ped_tree.specs.Grammar.Items.{Item, does, continues, logical_if, ends_program, Reading, says, outside_profile, no_form, Entry}
+use Rattle.ped_tree.specs.Grammar.StatementForms.{SimpleForm, assignment, print, read, stop, continue, StatementForm, program, implicit, integer, dimension, parameter, save, save_all, simple, if_simple, if_then, else_if_then, else_alone, end_of_if, do_loop, end_of_do, private, end, item_form_tree, simple_item, behind_if, control_form_head, statement_item}
+use Rattle.ped_tree.specs.Grammar.Contexts.{Context, at_start, numbered_in, open_variables, behind, behind_all}
 use Rattle.ped_tree.specs.Grammar.Occurrences.{saved_names}
 use Rattle.ped_tree.specs.Grammar.ProgramForms.{ProgramForm, decl_entry, program_entries, behind_front, all_trees, program_form_tree}
 use Rattle.ped_tree.specs.Grammar.BlockForms.{entry, body_entries, body_trees, comments_of}
-use Rattle.ped_tree.specs.Grammar.ProgramRefusals.{where_it_says, is_too_large, are_too_many, is_too_deep, has_many_references, is_too_long, passes_limit, private_behind, at_statement, at_statements, program_refusals}
+use Rattle.ped_tree.specs.Grammar.ProgramRefusals.{where_it_says, is_too_large, are_too_many, is_too_deep, has_many_references, is_too_long, passes_limit, private_behind, at_statement, at_statements, at_end, program_refusals}
 use Rattle.ped_valid.specs.ped_parse.specs.ped_blocks.proofs.BlocksFound.{none_stands, left_empty, right_empty, first_none}
 use Rattle.ped_valid.specs.ped_symbols.specs.ped_refs.specs.References.{statements_references}
 use Rattle.ped_calls.specs.Forms.{Called, UnitItem, plain, calls, calls_if, begins_unit, returns, IsUnitItem}
 use Rattle.ped_calls.specs.Units.{ProgramUnit, ProgramUnits, all_units, call_of, call_statement, instead_of, with_calls, all_with_calls}
 use Rattle.ped_calls.specs.Reading.{UnitEntry, AreUnitEntries, Segment, ends, begins, own_entries, further_segments, segments_of, is_end_next, return_reading, as_reading, as_entries, is_subroutine, stand_in, seen_entries, kept_entries, IsUnitOf, AreUnitsOf}
-use Rattle.ped_calls.specs.Refusals.{call_in, call_passes_limit, at_call, other_refusals, segment_refusals, before_another, segments_refusals, ReadsUnits, dimensioned, using_arguments, for_names}
+use Rattle.ped_calls.specs.Refusals.{call_in, call_passes_limit, at_call, at_head, at_subroutine_entry, other_refusals, segment_refusals, before_another, segments_refusals, ReadsUnits, dimensioned, using_arguments, for_names}
 use Rattle.ped_calls.specs.Naming.{HasFew}
 use Rattle.ped_calls.proofs.ReadCharacters.{assignment_few, print_few, read_few}
 use Rattle.ped_calls.proofs.BoundedStatements.{IsBounded, AreBounded, joined, own_bounded, packed_bounded}
@@ -86,12 +86,12 @@ form_short f saved (parameter c rest) h = tt
 form_short f saved (save names are) h = tt
 form_short f saved save_all h = tt
 form_short f saved (simple s) h = simple_short f saved s h
-form_short f saved (if_simple c s) h = behind_short f _ s h
-form_short f saved (if_then c) h = first_text _ [] h
-form_short f saved (else_if_then c) h = first_text _ [] h
+form_short f saved (if_simple c s) h = behind_short f (cond_form_tree c) s h
+form_short f saved (if_then c) h = first_text (own_text (If (cond_form_tree c) no_stmts no_stmts)) [] h
+form_short f saved (else_if_then c) h = first_text (own_text (If (cond_form_tree c) no_stmts no_stmts)) [] h
 form_short f saved else_alone h = tt
 form_short f saved end_of_if h = tt
-form_short f saved (do_loop parallel label c) h = first_text _ [] h
+form_short f saved (do_loop parallel label c) h = first_text (do_text (control_form_head parallel c)) [] h
 form_short f saved end_of_do h = tt
 form_short f saved (private names are) h = first_text (private_text names) [] h
 form_short f saved end h = tt
@@ -124,7 +124,7 @@ record KeptShort (f : Called → StmtTree) (n : ℕ) (seen kept : Reading) : Typ
 abbrev IsPassed : List (List ℕ) → Context → List Entry → Reading → Type 0
 IsPassed saved c rest r = where_it_says (passes_limit saved c rest) r ≡ false
 
-plain_kept : (f : Called → StmtTree) (saved : List (List ℕ)) (c : Context) (rest : List Entry) (text : List ℕ) (r : Reading) → IsReading text r → IsPassed saved c rest r → c.statements ≤ 4000 → KeptShort f c.statements r r
+plain_kept : (f : Called → StmtTree) (saved : List (List ℕ)) (c : Context) (rest : List Entry) (text : List ℕ) (r : Reading) → IsUnitItem text (plain r) → IsPassed saved c rest r → c.statements ≤ 4000 → KeptShort f c.statements r r
 plain_kept f saved c rest text (says i) read h k =
     let w = within_item saved c rest i h in
     record {
@@ -247,7 +247,7 @@ few_form : (arrays saved : List (List ℕ)) (form : ProgramForm) (constants : Li
 few_form arrays saved form constants kept =
     let f = using_arguments arrays in
     let ds = map decl_entry form.declarations in
-    let last = entry form.ending _ ∷ [] in
+    let last = entry form.ending ends_program ∷ [] in
     let body = body_entries form.body in
     let own = back_short f ds body (front_short f (ds ++ body) last kept.short) in
     let trees = joined f (body_trees form.body) (comments_of form.ending) (body_bounded f form.body own) (notes_bounded f form.ending.comments) in
@@ -267,7 +267,7 @@ few_unit all s u read h is =
     let saved = saved_names seen in
     let refused = right_empty (other_refusals s) (program_refusals all seen) h in
     let others = left_empty (other_refusals s) (program_refusals all seen) h in
-    let kept = all_kept arrays saved (is_subroutine s.head) at_start s.entries read (omega arith) (left_empty _ _ refused) (left_empty _ _ others) in
+    let kept = all_kept arrays saved (is_subroutine s.head) at_start s.entries read (omega arith) (left_empty (at_statements saved at_start seen) (at_end (behind_all at_start seen) all) refused) (left_empty (flat_map at_call s.entries) (if is_subroutine s.head then at_head s.head ++ flat_map at_subroutine_entry s.entries else []) others) in
     let few = few_form arrays saved is.form (constant_names (for_names u).decls) (subst (AllKept (using_arguments arrays) 0) (sym is.written) kept) in
     record {
       statements = subst (λ (t : ProgramTree). statements_count (all_with_calls (using_arguments arrays) t.body) < 2 ^ 32) is.nested few.0;

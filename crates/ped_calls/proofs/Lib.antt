@@ -26,3 +26,4 @@ pub mod BoundedStatements
 pub mod BoundedForms
 pub mod BoundedCalls
 pub mod FewUnits
+pub mod LiteralBounds

@@ -1,7 +1,7 @@
 -- What the names of the units stand for that were looked at so far, or the first of their refusals.
-use Rattle.std.proofs.Common.{◌≡◌, List, [], ◌∷◌, ◌++◌, map, Option, Some, None, refl, sym, ap, ◌∙◌, append-nil, Bool, true, false, if◌then◌else◌}
+use Rattle.std.proofs.Common.{◌≡◌, ℕ, ◌<◌, List, [], ◌∷◌, ◌++◌, map, length, get_or, All, subst, arith, Option, Some, None, refl, sym, ap, ◌∙◌, append-nil, Bool, true, false, if◌then◌else◌}
 use Rattle.std.specs.List.{flat_map}
-use Rattle.std.proofs.lemmas.List.{map-append}
+use Rattle.std.proofs.lemmas.List.{map-append, get_or-map, length-map}
 use Rattle.std.proofs.lemmas.List.Concat.{flat_map-append}
 use Rattle.ped_tree.specs.Grammar.Refusal.{Finding, earlier, is_before, first_of}
 use Rattle.ped_valid.specs.ped_symbols.specs.Kinds.{Table, table_of}
@@ -9,7 +9,9 @@ use Rattle.ped_valid.specs.ped_symbols.specs.NameRefusals.{name_refusals}
 use Rattle.ped_calls.specs.Units.{ProgramUnit}
 use Rattle.ped_calls.specs.Refusals.{for_names, lines_for_names, units_name_refusals}
 use Rattle.ped_calls.specs.Seeing.{combined}
-use Rattle.ped_calls.specs.Naming.{AreTables, HaveTables}
+use Rattle.ped_calls.specs.Naming.{HasFew, HaveTables}
+use Rattle.ped_calls.specs.Views.{program_unit_of}
+use Rattle.ped_calls.specs.declared.units.ProgramUnit as code
 use Rattle.ped_calls.proofs.Earliest.{both_first}
 
 -- the first refusal of these units, and their tables where there is none
@@ -57,3 +59,9 @@ wrong_more us u found tables f h first = record {
   first = both_first (units_name_refusals us) (name_refusals (lines_for_names u) (for_names u)) found (Some f) (combined found (Some f)) h.first (sym first) refl ∙ ap first_of (sym (one_more us u));
   right = λ e. absurd (some_stays found f e);
 }
+
+-- one of units that all have few statements and references
+pub few_here : (us : List code.ProgramUnit) (i : ℕ) (u : code.ProgramUnit) → i < length us → u ≡ get_or us i u → All HasFew (map program_unit_of us) → HasFew (program_unit_of u)
+few_here us i u lt is h =
+    subst (λ (v : code.ProgramUnit). HasFew (program_unit_of v)) (sym is)
+    (subst HasFew (get_or-map program_unit_of us i u (program_unit_of u) lt) (h i (program_unit_of u) (omega (arith, lt, length-map us program_unit_of))))

@@ -31,3 +31,14 @@ pub mod CallsTold
 pub mod PlainFiles
 pub mod MainSteps
 pub mod MainStarts
+pub mod NumberedNames
+pub mod SmallKinds
+pub mod DimensionedNames
+pub mod TablesSoFar
+pub mod SameArrays
+pub mod ReadCharacters
+pub mod BoundedStatements
+pub mod BoundedForms
+pub mod BoundedCalls
+pub mod FewUnits
+pub mod LiteralBounds

@@ -1,12 +1,14 @@
 -- What the names of units stand for, or which of their refusals is the first, as the code tells. Contracts of private functions alone speak of it.
-use Rattle.std.specs.Prelude.{◌≡◌, List, [], ◌∷◌, map, Option, Some, None, Result, Ok, Err}
+use Rattle.std.specs.Prelude.{◌≡◌, ◌<◌, ◌^◌, List, [], ◌∷◌, map, length, Option, Some, None, Result, Ok, Err}
 use Rattle.std.specs.Global.{Vec}
 use Rattle.ped_tree.specs.Tree.{ExprTree, CondTree}
+use Rattle.ped_tree.specs.Numbering.{statements_count}
 use Rattle.ped_tree.specs.Views.{cond_tree}
 use Rattle.ped_tree.specs.Grammar.Refusal.{first_of}
 use Rattle.ped_tree.specs.Grammar.RefusalViews.{finding_of}
 use Rattle.ped_tree.specs.declared.conditions.Cond.{Cond}
 use Rattle.ped_tree.specs.declared.grammar.refusals.Refusal.{Refusal}
+use Rattle.ped_valid.specs.ped_symbols.specs.ped_refs.specs.References.{references}
 use Rattle.ped_valid.specs.ped_symbols.specs.Kinds.{Table, table_of}
 use Rattle.ped_valid.specs.ped_symbols.specs.NameRefusals.{name_refusals}
 use Rattle.ped_calls.specs.Units.{ProgramUnit}
@@ -15,6 +17,11 @@ use Rattle.ped_calls.specs.Verdicts.{found_in_text}
 use Rattle.ped_calls.specs.Views.{unit_finding_of}
 use Rattle.ped_calls.specs.declared.refusals.UnitRefusal.{UnitRefusal}
 use Rattle.ped_calls.specs.declared.refusals.UnitRefusal.TheVariants.{At, NoMemory}
+
+-- a unit has few statements and few references, as each that is read
+pub record HasFew (u : ProgramUnit) : Type 0 where
+  pub statements : statements_count (for_names u).body < 2 ^ 32
+  pub references : length (references (for_names u)) < 2 ^ 32
 
 -- the names of a unit are right, and this is what they stand for; or this is the first of their refusals
 abbrev pub JudgesNames : ProgramUnit → Result Table Refusal → Type 0

@@ -1,11 +1,11 @@
 //! New names, each given once, and the arrays that are declared with them.
 
-ghost use Rattle.std.specs.Prelude.{◌≡◌, ◌≤◌, [], IfOk, OnOk, map, unsigned_abs};
+ghost use Rattle.std.specs.Prelude.{◌≡◌, [], IfOk, OnOk, map};
 ghost use Rattle.ped_sums.specs.Sums as Sums;
 ghost use Rattle.ped_tree.specs.Views.{expr_tree, bound_tree, decl_tree};
 ghost use Rattle.ped_calls.specs.Expanding as Spec;
 ghost use Rattle.ped_calls.specs.Expanding.{numbered_name, free_name, with_new, with_local};
-ghost use Rattle.ped_calls.specs.Giving.{given_of, HasNext};
+ghost use Rattle.ped_calls.specs.Giving.{given_of, HasNext, IsSmall, HasSmallBounds, HasSmallKind, decls_of};
 
 use itoa::Buffer;
 use ped_base::{Bounds, Bytes, Name, NoMemory};
@@ -57,14 +57,14 @@ impl Given {
 
     /// The next new name for something of this kind; an array is declared.
     pub fn new_local(&mut self, alloc: Global, kind: Option<Kind>) -> Result<Name, NoMemory>
-        requires { HasNext self.old }
+        requires next { HasNext self.old }
+        requires small { HasSmallKind kind }
         ensures name { IfOk result (λ name. name ≡ free_name (given_of self.old).taken) }
         ensures given { OnOk result (given_of self.new ≡ with_local (given_of self.old) kind) }
         ensures next { OnOk result (HasNext self.new) }
     {
         let name = self.new_name(alloc)?;
-        if let Some(Kind::Array(bounds)) = kind {
-            let decl = array_declaration(alloc, &name, &bounds)?;
+        if let Some(decl) = declaration(alloc, &name, &kind)? {
             self.arrays.push(decl)?;
         }
         Ok(name)
@@ -85,8 +85,24 @@ fn numbered(alloc: Global, n: u64) -> Result<Name, NoMemory>
     }
 }
 
+/// The declaration of a name that is given to something of this kind: none but of an array.
+fn declaration(
+    alloc: Global,
+    name: &Name,
+    kind: &Option<Kind>,
+) -> Result<Option<Decl>, NoMemory>
+    requires { HasSmallKind kind.now }
+    ensures { IfOk result (λ d. decls_of d ≡ Spec.declared_as name.now kind.now) }
+{
+    match kind {
+        Some(Kind::Array(bounds)) => Ok(Some(array_declaration(alloc, name, bounds)?)),
+        Some(Kind::Scalar) | Some(Kind::Constant(_)) | None => Ok(None),
+    }
+}
+
 /// The declaration of an array with these bounds.
 fn array_declaration(alloc: Global, name: &Name, bounds: &Bounds) -> Result<Decl, NoMemory>
+    requires { HasSmallBounds bounds.now }
     ensures { IfOk result (λ d. decl_tree d ≡ Spec.array_declaration name.now bounds.now) }
 {
     let bounds = literal_bounds(alloc, bounds)?;
@@ -100,6 +116,7 @@ fn array_declaration(alloc: Global, name: &Name, bounds: &Bounds) -> Result<Decl
 
 /// The bounds of dimensions as literals.
 fn literal_bounds(alloc: Global, bounds: &Bounds) -> Result<Vec<Bound>, NoMemory>
+    requires { HasSmallBounds bounds.now }
     ensures { IfOk result (λ all. map bound_tree all.items ≡ Spec.literal_bounds bounds.now.lower bounds.now.upper) }
 {
     let mut all = Vec::new(alloc);
@@ -111,7 +128,10 @@ fn literal_bounds(alloc: Global, bounds: &Bounds) -> Result<Vec<Bound>, NoMemory
     Ok(all)
 }
 
+/// The bounds of a dimension as literals.
 fn literal_bound(alloc: Global, lower: i64, upper: i64) -> Result<Bound, NoMemory>
+    requires lower { IsSmall lower }
+    requires upper { IsSmall upper }
     ensures { IfOk result (λ b. bound_tree b ≡ record { lower = Sums.literal lower; upper = Sums.literal upper }) }
 {
     let lower = literal(alloc, lower)?;
@@ -126,7 +146,7 @@ fn literal_bound(alloc: Global, lower: i64, upper: i64) -> Result<Bound, NoMemor
 
 /// The literal of a number, with a sign where the number is negative (ANSI X3.9-1978, section 4.3).
 pub fn literal(alloc: Global, n: i64) -> Result<Expr, NoMemory>
-    requires { unsigned_abs n ≤ 2147483647 }
+    requires { IsSmall n }
     ensures { IfOk result (λ e. expr_tree e ≡ Sums.literal n) }
 {
     let size = Expr::literal(n.unsigned_abs() as u32);

@@ -1,13 +1,17 @@
 //! The names of units: what they stand for, or the first of the rules 14 to 19 that they break.
 
-ghost use Rattle.std.specs.Prelude.{◌≡◌, ◌++◌, [], ◌∷◌, List, ℕ, IfOk, IfErr, OnOk, map, if◌then◌else◌};
+ghost use Rattle.std.specs.Prelude.{◌≡◌, ◌++◌, [], ◌∷◌, List, ℕ, IfOk, IfErr, OnOk, All, map};
+ghost use Rattle.std.specs.List.{flat_map};
 ghost use Rattle.ped_base.specs.Lists as Lists;
 ghost use Rattle.ped_tree.specs.Tree as Tree;
 ghost use Rattle.ped_tree.specs.NamesIn as NamesIn;
+ghost use Rattle.ped_tree.specs.Names.Collecting.{with_names};
 ghost use Rattle.ped_tree.specs.Views.{declarator_tree, decl_tree, stmt_tree, stmt_trees, cond_tree, program_tree, expr_tree, pack_exprs};
+ghost use Rattle.ped_valid.specs.ped_symbols.specs.Uses.{type_uses, dimension_uses};
+ghost use Rattle.ped_valid.specs.ped_symbols.specs.Declarations.{is_dimensioning, names_with};
 ghost use Rattle.ped_calls.specs.Units.{with_calls, all_with_calls};
 ghost use Rattle.ped_calls.specs.Refusals as Spec;
-ghost use Rattle.ped_calls.specs.Naming.{HaveTables, IsFirstNameRefusal, JudgesNames, JudgesAllNames, tables_view, goes_on, cond_view};
+ghost use Rattle.ped_calls.specs.Naming.{HasFew, HaveTables, IsFirstNameRefusal, JudgesNames, JudgesAllNames, tables_view, goes_on, cond_view};
 ghost use Rattle.ped_calls.specs.Views.{program_unit_of};
 
 use crate::reading::{at, first_of_both};
@@ -26,6 +30,7 @@ use std::alloc::Global;
 ///
 /// `At` exactly where the names of a unit break a rule, with the first of all units; `NoMemory` where memory runs out.
 pub fn tables(alloc: Global, units: &[ProgramUnit]) -> Result<Vec<Symbols>, UnitRefusal>
+    requires { All HasFew (map program_unit_of units.now) }
     ensures tables { IfOk result (λ tables. HaveTables (map program_unit_of units.now) tables.items) }
     ensures refused { IfErr result (IsFirstNameRefusal (map program_unit_of units.now)) }
 {
@@ -40,6 +45,7 @@ fn all_tables(
     alloc: Global,
     units: &[ProgramUnit],
 ) -> Result<Result<Vec<Symbols>, Refusal>, NoMemory>
+    requires { All HasFew (map program_unit_of units.now) }
     ensures { IfOk result (λ r. JudgesAllNames (map program_unit_of units.now) (tables_view r)) }
 {
     let mut tables = Vec::new(alloc);
@@ -58,6 +64,7 @@ fn all_tables(
 
 /// What the names of a unit stand for, or their first refusal.
 fn table(alloc: Global, unit: &ProgramUnit) -> Result<Result<Symbols, Refusal>, NoMemory>
+    requires { HasFew (program_unit_of unit.now) }
     ensures { IfOk result (JudgesNames (program_unit_of unit.now)) }
 {
     let program = for_names(alloc, unit)?;
@@ -136,7 +143,10 @@ pub fn dimensioned(alloc: Global, decls: &[Decl]) -> Result<NameSet, NoMemory>
     Ok(arrays)
 }
 
-fn add_typed_arrays(arrays: &mut NameSet, declared: &[Declarator]) -> Result<(), NoMemory> {
+/// Adds the names that INTEGER gives dimensions.
+fn add_typed_arrays(arrays: &mut NameSet, declared: &[Declarator]) -> Result<(), NoMemory>
+    ensures { OnOk result (arrays.new ≡ with_names arrays.old (names_with is_dimensioning (flat_map type_uses (map declarator_tree declared.now)))) }
+{
     for d in declared {
         if !d.bounds.is_empty() {
             arrays.insert(&d.name)?;
@@ -145,7 +155,10 @@ fn add_typed_arrays(arrays: &mut NameSet, declared: &[Declarator]) -> Result<(),
     Ok(())
 }
 
-fn add_arrays(arrays: &mut NameSet, declared: &[Declarator]) -> Result<(), NoMemory> {
+/// Adds the names of DIMENSION.
+fn add_arrays(arrays: &mut NameSet, declared: &[Declarator]) -> Result<(), NoMemory>
+    ensures { OnOk result (arrays.new ≡ with_names arrays.old (names_with is_dimensioning (flat_map dimension_uses (map declarator_tree declared.now)))) }
+{
     for d in declared {
         arrays.insert(&d.name)?;
     }
@@ -197,9 +210,11 @@ fn without_call(alloc: Global, arrays: &NameSet, statement: &Stmt) -> Result<Stm
         }
         Stmt::Do(d) => {
             let body = without_calls(alloc, arrays, &d.body)?;
-            Ok(Stmt::Do(d.with_body(body, alloc)?))
+            Ok(Stmt::of_loop(d.with_body(body, alloc)?))
         }
-        other => other.copy(alloc),
+        Stmt::Assign { .. } | Stmt::Print(_) | Stmt::Read(_) | Stmt::Stop | Stmt::Comment(_) => {
+            statement.copy(alloc)
+        }
     }
 }
 
@@ -213,11 +228,7 @@ pub fn with_condition(
     ensures { IfOk result (λ s. stmt_tree s ≡ Tree.If (cond_tree condition.now) (stmt_trees then_part.items) (stmt_trees else_part.items)) }
 {
     match condition.copy(alloc) {
-        Ok(condition) => Ok(Stmt::If {
-            condition,
-            then_part,
-            else_part,
-        }),
+        Ok(condition) => Ok(Stmt::block_if(condition, then_part, else_part)),
         Err(error) => {
             drop(then_part);
             drop(else_part);
@@ -231,11 +242,11 @@ fn using(alloc: Global, arrays: &NameSet, arguments: &[Expr]) -> Result<Stmt, No
     ensures { IfOk result (λ s. stmt_tree s ≡ Tree.If (Spec.condition_of (Spec.plain_arguments arrays.now (map expr_tree arguments.now))) Tree.no_stmts Tree.no_stmts) }
 {
     let condition = condition(alloc, arrays, arguments)?;
-    Ok(Stmt::If {
+    Ok(Stmt::block_if(
         condition,
-        then_part: Vec::new(alloc),
-        else_part: Vec::new(alloc),
-    })
+        Vec::new(alloc),
+        Vec::new(alloc),
+    ))
 }
 
 /// A condition in which exactly the arguments stand that are no arrays as a whole.

@@ -16,3 +16,10 @@ pub mod ReadUnits
 pub mod BuiltUnits
 pub mod FreeNames
 pub mod CollectedNames
+mod Members
+mod Added
+mod Reached
+mod Ranked
+mod Passed
+mod FirstFound
+mod Numbered

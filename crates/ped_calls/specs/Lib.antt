@@ -15,3 +15,12 @@ pub mod Meaning
 pub mod Naming
 pub mod Giving
 pub mod Reaching
+pub mod Ranking
+pub mod Placing
+pub mod Numbers
+pub mod FirstLinks
+pub mod Scenes
+pub mod Recursions
+pub mod Arguments
+pub mod Links
+pub mod ArrowViews

@@ -1,8 +1,7 @@
 -- The first of the refusals by CALLs, of some and of more.
-use Rattle.std.proofs.Common.{◌≡◌, ◌⊎◌, inl, inr, ℕ, Bool, true, false, cond, List, Option, Some, None, refl, sym, ap, subst, ◌∙◌, eqb, eqb-true, ltb, ◌||◌, ◌&&◌, arith}
+use Rattle.std.proofs.Common.{◌≡◌, ◌⊎◌, inl, inr, ℕ, Bool, true, false, cond, Option, Some, None, refl, sym, ap, ◌∙◌, eqb, eqb-true, ltb, ◌||◌, ◌&&◌, arith}
 use Rattle.std.specs.Prelude.{IsTrue}
 use Rattle.ped_calls.specs.Linking.{LinkRefusal, number_of_link, is_before}
-use Rattle.ped_calls.specs.Verdicts as verdicts
 use Rattle.ped_calls.specs.Verdicts.{number_of_rule, of_links}
 use Rattle.ped_calls.specs.Views.{rule_of}
 use Rattle.ped_calls.specs.FirstLinks.{is_before_finding, comes_first, earlier_link, standing_link, first_link_of, IsFirstAmong, IsFirstOf, NoneStands, EitherStands, StandsIf}
@@ -91,10 +90,10 @@ one_first rule line r holds e h = record {
 }
 
 no_truth : IsTrue false → ⊥
-no_truth h = h
+no_truth h = absurd cc
 
 -- one rule at one line, where a test says that it stands
 pub standing_first : (one : LinkRefusal → ℕ → Type 0) (found : Option UnitFinding) (test : Bool) (rule : UnitRule) (line : ℕ) (r : LinkRefusal) (holds : Type 0) → rule_of rule ≡ of_links r → IsFirstOf one found → (IsTrue test → holds) → (holds → IsTrue test)
     → IsFirstOf (EitherStands one (StandsIf r line holds)) (standing_link found test rule line)
-standing_first one found true rule line r holds e h f g = both_first one (StandsIf r line holds) found (Some (record { rule = rule; line = line })) h (one_first rule line r holds e (f tt))
+standing_first one found true rule line r holds e h f g = both_first one (StandsIf r line holds) found (Some (record { rule = rule; line = line })) h (one_first rule line r holds e (f refl))
 standing_first one found false rule line r holds e h f g = first_as one (EitherStands one (StandsIf r line holds)) found (λ q other s. inl s) (λ q other s. elim s [ inl x ↦ x | inr y ↦ absurd (no_truth (g y.2)) ]) h

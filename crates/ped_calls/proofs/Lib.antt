@@ -23,3 +23,9 @@ mod Ranked
 mod Passed
 mod FirstFound
 mod Numbered
+mod LinkStages
+mod NumberedUnits
+mod Recursive
+mod Heads
+mod FormalNumbers
+mod Used

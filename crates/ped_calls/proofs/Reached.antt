@@ -1,5 +1,5 @@
 -- What is marked and what is reached.
-use Rattle.std.proofs.Common.{◌≡◌, ◌⊎◌, inl, inr, ℕ, ◌<◌, Bool, true, false, List, [], ◌∷◌, ◌++◌, length, get_or, refl, sym, ap, subst, ◌∙◌, arith}
+use Rattle.std.proofs.Common.{◌≡◌, ◌⊎◌, inl, inr, ℕ, zero, suc, ◌<◌, Bool, true, false, List, [], ◌∷◌, ◌++◌, length, get_or, refl, sym, ap, subst, ◌∙◌, arith}
 use Rattle.ped_calls.specs.Linking.{IsIn}
 use Rattle.ped_calls.specs.Reaching.{Leads, LeadAlong, IsReached, IsMarked, AreAdded}
 use Rattle.ped_calls.proofs.Members.{in_either, in_one}
@@ -12,7 +12,7 @@ pub record IsSearch (ends : List (List ℕ)) (seeds : List ℕ) (marks : List Bo
   pub done : (i : ℕ) → IsMarked marks i → IsIn i waiting ⊎ ((j : ℕ) → Leads ends i j → IsMarked marks j)
   pub sound : (j : ℕ) → IsMarked marks j → IsReached ends seeds j
 
-along_more : (ends : List (List ℕ)) (i j k : ℕ) (path : List ℕ) → LeadAlong ends i path j → Leads ends j k → LeadAlong ends i (path ++ k ∷ []) k
+pub along_more : (ends : List (List ℕ)) (i j k : ℕ) (path : List ℕ) → LeadAlong ends i path j → Leads ends j k → LeadAlong ends i (path ++ k ∷ []) k
 along_more ends i j k [] e l = (subst (λ (n : ℕ). Leads ends n k) (sym e) l, refl)
 along_more ends i j k (m ∷ path) h l = (h.0, along_more ends m j k path h.1 l)
 
@@ -83,3 +83,9 @@ waits_within marks waiting rest number ends seeds s w = s.waits number (subst (�
     last : (j : ℕ) (xs : List ℕ) → IsIn j (xs ++ j ∷ [])
     last j [] = inl refl
     last j (x ∷ xs) = inr (last j xs)
+
+-- an arrow begins at a number that has ends
+pub leads_within : (ends : List (List ℕ)) (i j : ℕ) → Leads ends i j → i < length ends
+leads_within [] i j h = absurd h
+leads_within (e ∷ es) zero j h = omega arith
+leads_within (e ∷ es) (suc i) j h = let below = leads_within es i j h in omega (arith, below)

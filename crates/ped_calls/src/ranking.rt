@@ -13,7 +13,7 @@ use std::alloc::Global;
 /// Which numbers arrows may lead back to. All to which they do are among them.
 pub fn may_return(alloc: Global, arrows: &Arrows) -> Result<Vec<bool>, NoMemory>
     ensures wide { IfOk result (λ marks. length marks.items ≡ length (ends_of arrows.now)) }
-    ensures marked { IfOk result (λ marks. (i j : ℕ) → i < length (ends_of arrows.now) → Leads (ends_of arrows.now) i j → IsReached (ends_of arrows.now) (j ∷ []) i → IsMarked marks.items i) }
+    ensures marked { IfOk result (λ marks. (i j : ℕ) → Leads (ends_of arrows.now) i j → IsReached (ends_of arrows.now) (j ∷ []) i → IsMarked marks.items i) }
 {
     let ranks = ranks(alloc, arrows)?;
     let rising = rise(arrows, &ranks);

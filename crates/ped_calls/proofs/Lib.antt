@@ -29,3 +29,5 @@ mod Recursive
 mod Heads
 mod FormalNumbers
 mod Used
+mod CallSteps
+mod Twice

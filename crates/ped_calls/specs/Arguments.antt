@@ -5,12 +5,17 @@ use Rattle.ped_base.specs.Lists.{is_among}
 use Rattle.ped_base.specs.Dimensions.{Dimensions}
 use Rattle.ped_valid.specs.ped_symbols.specs.declared.symbols.Kind.{Kind}
 use Rattle.ped_valid.specs.ped_symbols.specs.Entries.{entry_of}
-use Rattle.ped_valid.specs.ped_symbols.specs.Kinds.{Table}
+use Rattle.ped_valid.specs.ped_symbols.specs.Kinds.{Table, table_of}
 use Rattle.ped_calls.specs.Units.{ProgramUnit, ProgramUnits, all_units}
-use Rattle.ped_calls.specs.Linking.{IsIn, Placed, calls_of, associated, Association, IsUsed, assigns, indexes, bounds_by, is_scalar}
+use Rattle.ped_calls.specs.Linking.{IsIn, Placed, calls_of, associated, Association, IsUsed, IsAssigned, IsIndex, assigns, indexes, kind_there, bounds_by, is_scalar, is_constant, LinkRefusal, Arguments, Aliased}
 use Rattle.ped_calls.specs.Numbers.{number_of_unit, place_among, ArePlaces, IsMarkedNumber}
-use Rattle.ped_calls.specs.Scenes.{unit_at}
+use Rattle.ped_calls.specs.Refusals.{for_names}
+use Rattle.ped_calls.specs.FirstLinks.{EitherStands}
+use Rattle.ped_calls.specs.Scenes.{unit_at, StandsAtCalls}
 use Rattle.ped_calls.specs.Placing.{argument_name}
+use Rattle.ped_calls.specs.declared.placing.Around.{Around}
+use Rattle.ped_calls.specs.declared.placing.PlacedCall.{PlacedCall}
+use Rattle.ped_calls.specs.declared.arguments.At.{At}
 use Rattle.ped_calls.specs.declared.formals.Formals.{Formals}
 use Rattle.ped_calls.specs.declared.formals.Marks.{Marks}
 
@@ -72,12 +77,18 @@ pub record IsPassed (us : ProgramUnits) (i k from to : ℕ) : Type 0 where
   pub begins : formal_number (all_units us) k association.formal ≡ Some from
   pub ends : formal_number (all_units us) i formal ≡ Some to
 
+-- the marks are those of the dummy arguments that are assigned, and of those that are DO variables
+pub record AreMarks (us : ProgramUnits) (marks : Marks) : Type 0 where
+  pub formals : AreFormals (all_units us) marks.formals
+  pub assigned : AreUses assigns us marks.assigned.items
+  pub indexes : AreUses indexes us marks.indexes.items
+
 -- an argument that stands for this doesn't fit a dummy argument that stands for that: no array with the same bounds for an array, an array for a scalar, no scalar for a scalar that is assigned
-abbrev pub IsOtherKind : Option Kind → Option Kind → Bool → Type 0
+abbrev pub IsOtherKind : Option Kind → Option Kind → Type 0 → Type 0
 IsOtherKind formal argument assigned =
     ((d : Dimensions) × (bounds_by formal ≡ Some d) × (bounds_by argument ≡ Some d → ⊥))
     ⊎ (((d : Dimensions) × (bounds_by formal ≡ None) × (bounds_by argument ≡ Some d))
-    ⊎ ((bounds_by formal ≡ None) × (assigned ≡ true) × (is_scalar argument ≡ false)))
+    ⊎ ((bounds_by formal ≡ None) × assigned × (is_scalar argument ≡ false)))
 
 -- an argument is one of these names
 abbrev pub is_one_of : Option (List ℕ) → List (List ℕ) → Bool
@@ -89,12 +100,66 @@ abbrev pub kind_of_argument : Table → Option (List ℕ) → Option Kind
 kind_of_argument table None = None
 kind_of_argument table (Some x) = entry_of table.kinds x
 
--- an argument doesn't fit its dummy argument, by the marks of those that are assigned and of those that are DO variables
-abbrev pub IsMisfit : Table → Table → List (List ℕ) → List (List ℕ) → Bool → Bool → List ℕ → Option (List ℕ) → Type 0
-IsMisfit caller callee variables private assigned index formal argument =
-    IsOtherKind (entry_of callee.kinds formal) (kind_of_argument caller argument) assigned
-    ⊎ (((assigned ≡ true) × IsTrue (is_one_of argument variables))
-    ⊎ ((index ≡ true) × IsTrue (is_one_of argument private)))
+-- the same in a unit
+abbrev pub kind_of_name : ProgramUnit → Option (List ℕ) → Option Kind
+kind_of_name u None = None
+kind_of_name u (Some x) = kind_there u x
+
+-- an argument, by the name that it is, doesn't fit its dummy argument, at a CALL with these loops round it
+abbrev pub IsMisfit : ProgramUnits → ProgramUnit → ProgramUnit → Around → List ℕ → Option (List ℕ) → Type 0
+IsMisfit us u v around formal argument =
+    IsOtherKind (kind_there v formal) (kind_of_name u argument) (IsAssigned us v formal)
+    ⊎ ((IsAssigned us v formal × IsTrue (is_one_of argument around.variables))
+    ⊎ (IsIndex us v formal × IsTrue (is_one_of argument around.private)))
+
+-- one of these arguments doesn't fit its dummy argument
+abbrev pub SomeMisfit : ProgramUnits → ProgramUnit → ProgramUnit → Around → List (List ℕ) → List (Option (List ℕ)) → Type 0
+SomeMisfit us u v around (f ∷ fs) (a ∷ rest) = IsMisfit us u v around f a ⊎ SomeMisfit us u v around fs rest
+SomeMisfit us u v around [] arguments = ⊥
+SomeMisfit us u v around (f ∷ fs) [] = ⊥
+
+-- a CALL has another number of arguments than dummy arguments, or one that doesn't fit
+abbrev pub HasMisfit : ProgramUnits → ProgramUnit → ProgramUnit → PlacedCall → Type 0
+HasMisfit us u v c =
+    (length c.arguments ≡ length v.formals → ⊥)
+    ⊎ ((length c.arguments ≡ length v.formals) × SomeMisfit us u v c.around v.formals c.arguments)
+
+-- a variable's name is an argument of a dummy argument, and that or this one is assigned
+abbrev pub IsAgain : ProgramUnits → ProgramUnit → List ℕ → List ℕ → List (List ℕ) → List (Option (List ℕ)) → Type 0
+IsAgain us v formal name (f ∷ fs) (a ∷ rest) = ((a ≡ Some name) × (IsAssigned us v formal ⊎ IsAssigned us v f)) ⊎ IsAgain us v formal name fs rest
+IsAgain us v formal name [] arguments = ⊥
+IsAgain us v formal name (f ∷ fs) [] = ⊥
+
+-- an argument is a variable's name that stands again behind it, and one of both dummy arguments is assigned
+abbrev pub IsAliasedFirst : ProgramUnits → ProgramUnit → ProgramUnit → List ℕ → Option (List ℕ) → List (List ℕ) → List (Option (List ℕ)) → Type 0
+IsAliasedFirst us u v formal None fs rest = ⊥
+IsAliasedFirst us u v formal (Some x) fs rest = (is_constant (kind_there u x) ≡ false) × IsAgain us v formal x fs rest
+
+-- one of these arguments is such
+abbrev pub SomeAliased : ProgramUnits → ProgramUnit → ProgramUnit → List (List ℕ) → List (Option (List ℕ)) → Type 0
+SomeAliased us u v (f ∷ fs) (a ∷ rest) = IsAliasedFirst us u v f a fs rest ⊎ SomeAliased us u v fs rest
+SomeAliased us u v [] arguments = ⊥
+SomeAliased us u v (f ∷ fs) [] = ⊥
+
+-- the CALL of the unit with this number is looked at so
+pub record IsAt (us : ProgramUnits) (i : ℕ) (at : At) : Type 0 where
+  pub below : at.callee < length (all_units us)
+  pub formals : at.formals.now ≡ (unit_at us at.callee).formals
+  pub caller : at.caller_table.now ≡ table_of (for_names (unit_at us i))
+  pub callee : at.callee_table.now ≡ table_of (for_names (unit_at us at.callee))
+  pub marks : AreMarks us at.marks.now
+
+-- a CALL of the unit with this number calls one that its arguments don't fit
+abbrev pub MisfitsAt : ProgramUnits → ℕ → PlacedCall → Type 0
+MisfitsAt us i c = (k : ℕ) × (number_of_unit (all_units us) c.name ≡ Some k) × HasMisfit us (unit_at us i) (unit_at us k) c
+
+-- a CALL of the unit with this number hands over one name twice, and it is assigned
+abbrev pub AliasedAt : ProgramUnits → ℕ → PlacedCall → Type 0
+AliasedAt us i c = (k : ℕ) × (number_of_unit (all_units us) c.name ≡ Some k) × SomeAliased us (unit_at us i) (unit_at us k) (unit_at us k).formals c.arguments
+
+-- what stands at these CALLs of the unit with this number for their arguments
+abbrev pub StandsForArguments : ProgramUnits → ℕ → List PlacedCall → LinkRefusal → ℕ → Type 0
+StandsForArguments us i calls = EitherStands (StandsAtCalls calls Arguments (MisfitsAt us i)) (StandsAtCalls calls Aliased (AliasedAt us i))
 
 -- a dummy argument with this number is used by its unit itself
 abbrev pub IsSeed : (ProgramUnit → List (List ℕ)) → ProgramUnits → ℕ → Type 0
@@ -112,9 +177,3 @@ ArePassed us from to = (i : ℕ) × (k : ℕ) × (i < length (all_units us)) × 
 abbrev pub with_some : List ℕ → Option ℕ → List ℕ
 with_some ns None = ns
 with_some ns (Some n) = ns ++ n ∷ []
-
--- the marks are those of the dummy arguments that are assigned, and of those that are DO variables
-pub record AreMarks (us : ProgramUnits) (marks : Marks) : Type 0 where
-  pub formals : AreFormals (all_units us) marks.formals
-  pub assigned : AreUses assigns us marks.assigned.items
-  pub indexes : AreUses indexes us marks.indexes.items

@@ -8,6 +8,7 @@ use Rattle.ped_calls.specs.Numbers.{number_of_unit}
 use Rattle.ped_calls.specs.FirstLinks.{EitherStands}
 use Rattle.ped_calls.specs.Scenes.{StandsAtCalls}
 use Rattle.ped_calls.specs.Views.{program_unit_of, rule_of}
+use Rattle.ped_calls.specs.declared.placing.Found.{Found}
 use Rattle.ped_calls.specs.declared.placing.PlacedCall.{PlacedCall}
 use Rattle.ped_calls.specs.declared.units.ProgramUnit as code
 use Rattle.ped_calls.specs.declared.refusals.UnitRefusal.{UnitRefusal}
@@ -49,3 +50,9 @@ IsParallel c = c.around.parallel ≡ true
 -- one of these CALLs names no unit, or stands in a PARALLEL DO
 abbrev pub StandsAtPlaces : List ProgramUnit → List PlacedCall → LinkRefusal → ℕ → Type 0
 StandsAtPlaces us calls = EitherStands (StandsAtCalls calls NoUnit (CallsNone us)) (StandsAtCalls calls CallPlace IsParallel)
+
+-- what stands at the CALLs and PRIVATE statements that some walks found
+pub record PlacesFound (us : ProgramUnits) (walks : List Found) (r : LinkRefusal) (line : ℕ) : Type 0 where
+  pub walk : Found
+  pub is_walk : IsIn walk walks
+  pub stands : EitherStands (StandsAtLines walk.private.items) (StandsAtPlaces (all_units us) walk.calls.items) r line

@@ -1,12 +1,13 @@
 //! Whether the arguments of CALLs fit dummy arguments (ANSI X3.9-1978, section 15.9.3).
 
-ghost use Rattle.std.specs.Prelude.{◌≡◌, ◌↔◌, ◌<◌, ◌≤◌, Some, IfOk, IsTrue, length};
+ghost use Rattle.std.specs.Prelude.{◌≡◌, ◌↔◌, ◌<◌, ◌≤◌, ◌+◌, ℕ, [], Some, None, IfOk, IsTrue, length, drop, get_or};
+ghost use Rattle.ped_base.specs.Lists as Lists;
 ghost use Rattle.ped_valid.specs.ped_symbols.specs.Entries.{entry_of};
 ghost use Rattle.ped_calls.specs.Units.{ProgramUnits};
 ghost use Rattle.ped_calls.specs.Linking as Rules;
 ghost use Rattle.ped_calls.specs.Arguments as Spec;
 ghost use Rattle.ped_calls.specs.FirstLinks.{IsFirstOf};
-ghost use Rattle.ped_calls.specs.Scenes.{IsScene, AtArguments};
+ghost use Rattle.ped_calls.specs.Scenes.{IsScene, unit_at, AtArguments};
 
 use crate::first_links::{first_of_two, standing};
 use crate::formals::Marks;
@@ -40,6 +41,7 @@ fn misfits_in(
     calls: &[PlacedCall],
 ) -> Option<UnitFinding>
     requires { unit < length scene.now.units.now }
+    ensures { (us : ProgramUnits) → IsScene us scene.now → Spec.AreMarks us marks.now → IsFirstOf (Spec.StandsForArguments us unit calls.now) result }
 {
     let mut found = None;
     for call in calls {
@@ -72,7 +74,9 @@ struct At<'l> {
 
 impl<'l> At<'l> {
     /// Whether the number of arguments differs, or one doesn't fit.
-    fn has_bad_arguments(&self) -> bool {
+    fn has_bad_arguments(&self) -> bool
+        ensures { (us : ProgramUnits) (i : ℕ) → Spec.IsAt us i self.now → IsTrue result ↔ Spec.HasMisfit us (unit_at us i) (unit_at us self.now.callee) self.now.call.now }
+    {
         let arguments = self.call.arguments.as_slice();
         if arguments.len() != self.formals.len() {
             return true;
@@ -88,7 +92,10 @@ impl<'l> At<'l> {
     }
 
     /// Whether an argument doesn't fit its dummy argument.
-    fn misfits(&self, formal: &Name, argument: &Option<Name>) -> bool {
+    fn misfits(&self, formal: &Name, argument: &Option<Name>) -> bool
+        ensures { (us : ProgramUnits) (i : ℕ) → Spec.IsAt us i self.now → IsTrue (Lists.is_among formal.now (unit_at us self.now.callee).formals)
+            → IsTrue result ↔ Spec.IsMisfit us (unit_at us i) (unit_at us self.now.callee) self.now.call.now.around formal.now argument.now }
+    {
         let assigned = self.marks.is_assigned(self.callee, formal);
         let index = self.marks.is_index(self.callee, formal);
         let around = &self.call.around;
@@ -99,7 +106,10 @@ impl<'l> At<'l> {
     }
 
     /// Whether one variable's name stands for two dummy arguments of which one is assigned.
-    fn is_aliased(&self) -> bool {
+    fn is_aliased(&self) -> bool
+        ensures { (us : ProgramUnits) (i : ℕ) → Spec.IsAt us i self.now
+            → IsTrue result ↔ Spec.SomeAliased us (unit_at us i) (unit_at us self.now.callee) self.now.formals.now self.now.call.now.arguments }
+    {
         let mut place = 0;
         while place < self.count() {
             if self.is_aliased_at(place) {
@@ -127,6 +137,9 @@ impl<'l> At<'l> {
     fn is_aliased_at(&self, place: usize) -> bool
         requires arguments { place < length self.now.call.now.arguments }
         requires formals { place < length self.now.formals.now }
+        ensures { (us : ProgramUnits) (i : ℕ) → Spec.IsAt us i self.now
+            → IsTrue result ↔ Spec.IsAliasedFirst us (unit_at us i) (unit_at us self.now.callee) (get_or self.now.formals.now place []) (get_or self.now.call.now.arguments place None)
+                (drop (place + 1) self.now.formals.now) (drop (place + 1) self.now.call.now.arguments) }
     {
         match &self.call.arguments.as_slice()[place] {
             Some(name) if !is_constant(self.caller_table, name) => {
@@ -140,6 +153,8 @@ impl<'l> At<'l> {
     fn is_aliased_behind(&self, place: usize, name: &Name) -> bool
         requires arguments { place < length self.now.call.now.arguments }
         requires formals { place < length self.now.formals.now }
+        ensures { (us : ProgramUnits) (i : ℕ) → Spec.IsAt us i self.now
+            → IsTrue result ↔ Spec.IsAgain us (unit_at us self.now.callee) (get_or self.now.formals.now place []) name.now (drop (place + 1) self.now.formals.now) (drop (place + 1) self.now.call.now.arguments) }
     {
         let arguments = self.call.arguments.as_slice();
         let first = self.marks.is_assigned(self.callee, &self.formals[place]);
@@ -178,7 +193,7 @@ fn is_constant(table: &Symbols, name: &Name) -> bool
 /// Whether an argument that stands for this doesn't fit a dummy argument that stands for that: another array or none for an
 /// array, an array for a scalar, no scalar for one that is assigned.
 fn is_other_kind(formal: Option<Kind>, argument: Option<Kind>, assigned: bool) -> bool
-    ensures { IsTrue result ↔ Spec.IsOtherKind formal argument assigned }
+    ensures { IsTrue result ↔ Spec.IsOtherKind formal argument (IsTrue assigned) }
 {
     match (formal, argument) {
         (Some(Kind::Array(bounds)), Some(Kind::Array(other))) => bounds != other,

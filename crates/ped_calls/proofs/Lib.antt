@@ -31,3 +31,5 @@ mod FormalNumbers
 mod Used
 mod CallSteps
 mod Twice
+mod Misfits
+mod Aliases

@@ -20,7 +20,7 @@ formals_there [] k d h = absurd (omega (arith, h))
 formals_there (u ∷ us) zero d h = refl
 formals_there (u ∷ us) (suc k) d h = formals_there us k d (omega (arith, h))
 
-named_so : (e : ExprTree) (x : List ℕ) → argument_name e ≡ Some x → e ≡ Var x
+pub named_so : (e : ExprTree) (x : List ℕ) → argument_name e ≡ Some x → e ≡ Var x
 named_so (Int n) x h = absurd cc
 named_so (Var y) x h = ap Var (inner y x h)
   where

@@ -1,6 +1,9 @@
 -- Dummy arguments by numbers, and how they are used, as the code looks at the arguments of CALLs. Contracts of private functions alone speak of it.
 use Rattle.std.specs.Prelude.{◌≡◌, ◌<◌, ◌↔◌, ◌⊎◌, ℕ, zero, suc, ◌+◌, List, [], ◌∷◌, ◌++◌, length, take, map, Bool, true, false, Option, Some, None, IsTrue}
 use Rattle.std.specs.List.{flat_map}
+use Rattle.std.specs.declared.hash.FoldHasher.{FoldHasher}
+use Rattle.std.specs.declared.hash.BuildHasherDefault.{BuildHasherDefault}
+use Rattle.indexmap.specs.IndexMap.{IndexMap}
 use Rattle.ped_base.specs.Lists.{is_among}
 use Rattle.ped_base.specs.Dimensions.{Dimensions}
 use Rattle.ped_valid.specs.ped_symbols.specs.declared.symbols.Kind.{Kind}
@@ -55,10 +58,14 @@ AllPlaces (u ∷ us) (es ∷ rest) = ArePlaces u.formals es × AllPlaces us rest
 AllPlaces [] (es ∷ rest) = ⊥
 AllPlaces (u ∷ us) [] = ⊥
 
+-- a table of places
+abbrev pub PlaceTable : Type 0
+PlaceTable = IndexMap (List ℕ) ℕ (BuildHasherDefault FoldHasher)
+
 -- these are the numbers of the dummy arguments of units
 pub record AreFormals (us : List ProgramUnit) (f : Formals) : Type 0 where
   pub bases : f.bases.items ≡ bases_from 0 us
-  pub places : AllPlaces us (map (λ places. places.entries) f.places.items)
+  pub places : AllPlaces us (map (λ (t : PlaceTable). t.entries) f.places.items)
   pub count : f.count ≡ formal_count us
 
 -- the marked numbers are those of the dummy arguments that are used so

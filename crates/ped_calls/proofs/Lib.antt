@@ -33,3 +33,4 @@ mod CallSteps
 mod Twice
 mod Misfits
 mod Aliases
+mod PlacesMet

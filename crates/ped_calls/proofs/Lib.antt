@@ -34,3 +34,4 @@ mod Twice
 mod Misfits
 mod Aliases
 mod PlacesMet
+mod ArgumentsMet

@@ -1,5 +1,5 @@
 -- What stands at CALLs and PRIVATE statements, by units and by what walks over them find.
-use Rattle.std.proofs.Common.{◌≡◌, ◌⊎◌, inl, inr, ℕ, List, [], ◌∷◌, Bool, true, false, Option, Some, None, drop, refl, sym, ap, subst, ◌∙◌}
+use Rattle.std.proofs.Common.{◌≡◌, ◌⊎◌, inl, inr, ℕ, List, [], ◌∷◌, ◌++◌, Bool, true, false, Option, Some, None, drop, refl, sym, ap, subst, ◌∙◌}
 use Rattle.std.specs.List.{list_any}
 use Rattle.std.specs.Prelude.{IsTrue, if◌then◌else◌}
 use Rattle.std.proofs.lemmas.Bool.{or_left, or_right, or_cases}
@@ -9,13 +9,16 @@ use Rattle.ped_valid.specs.ped_symbols.specs.NameRefusals.{next_line}
 use Rattle.ped_valid.specs.ped_symbols.specs.Sites.{Site, declaration, statement, private_names, program_sites}
 use Rattle.ped_calls.specs.Units.{ProgramUnit, ProgramUnits, all_units, unit_of}
 use Rattle.ped_calls.specs.Linking.{IsIn, Placed, calls_of, Sited, sited, LinkRefusal, NoUnit, Recursion, Arguments, Aliased, CallPlace}
-use Rattle.ped_calls.specs.Links.{PlacesFound}
+use Rattle.ped_calls.specs.FirstLinks.{IsFirstOf, EitherStands, first_link_of}
+use Rattle.ped_calls.specs.Links.{StandsAtLines, StandsAtPlaces, PlacesFound}
 use Rattle.ped_calls.specs.Numbers.{number_of_unit}
 use Rattle.ped_calls.specs.Placing.{placed_call, private_line, private_lines}
 use Rattle.ped_calls.specs.Scenes.{IsWalked, AreWalked, AtPlaces}
 use Rattle.ped_calls.specs.declared.placing.Found.{Found}
 use Rattle.ped_calls.specs.declared.placing.PlacedCall.{PlacedCall}
-use Rattle.ped_calls.proofs.Members.{in_map, map_in, in_left, in_right, in_either}
+use Rattle.ped_calls.specs.declared.refusals.UnitFinding.{UnitFinding}
+use Rattle.ped_calls.proofs.FirstFound.{both_first, first_as}
+use Rattle.ped_calls.proofs.Members.{in_map, map_in, in_left, in_right, in_either, in_one}
 use Rattle.ped_calls.proofs.NumberedUnits.{unit_of_number, no_number}
 
 -- a PRIVATE statement that names one of these, among sites with lines
@@ -139,3 +142,26 @@ places_to us fs w CallPlace line h =
     record { walk = walk.0; is_walk = walk.1; stands = inr (inr (record { is_rule = refl; call = placed_call h.call; is_call = found_call h.unit walk.0 h.call walk.2 h.is_call; stands = parallel_to h.call.loops h.stands.0 h.stands.1 h.stands.2; there = h.there })) }
 places_to us fs w Recursion line h = absurd h
 places_to us fs w Aliased line h = absurd h
+
+-- no walk found anything
+pub no_places : (us : ProgramUnits) → IsFirstOf (PlacesFound us []) None
+no_places us r line h = h.is_walk
+
+-- one walk more
+pub places_more : (us : ProgramUnits) (fs all : List Found) (f : Found) (found lines calls : Option UnitFinding) → all ≡ fs ++ f ∷ [] → IsFirstOf (PlacesFound us fs) found → IsFirstOf (StandsAtLines f.private.items) lines → IsFirstOf (StandsAtPlaces (all_units us) f.calls.items) calls
+    → IsFirstOf (PlacesFound us all) (first_link_of (first_link_of found lines) calls)
+places_more us fs all f found lines calls e h l k =
+    let one = both_first (PlacesFound us fs) (StandsAtLines f.private.items) found lines h l in
+    let two = both_first (EitherStands (PlacesFound us fs) (StandsAtLines f.private.items)) (StandsAtPlaces (all_units us) f.calls.items) (first_link_of found lines) calls one k in
+    subst (λ (gs : List Found). IsFirstOf (PlacesFound us gs) (first_link_of (first_link_of found lines) calls)) (sym e)
+    (first_as (EitherStands (EitherStands (PlacesFound us fs) (StandsAtLines f.private.items)) (StandsAtPlaces (all_units us) f.calls.items)) (PlacesFound us (fs ++ f ∷ [])) (first_link_of (first_link_of found lines) calls) together apart two)
+  where
+    together : (r : LinkRefusal) (line : ℕ) → EitherStands (EitherStands (PlacesFound us fs) (StandsAtLines f.private.items)) (StandsAtPlaces (all_units us) f.calls.items) r line → PlacesFound us (fs ++ f ∷ []) r line
+    together r line (inl (inl s)) = record { walk = s.walk; is_walk = in_left s.walk fs (f ∷ []) s.is_walk; stands = s.stands }
+    together r line (inl (inr s)) = record { walk = f; is_walk = in_right f fs (f ∷ []) (inl refl); stands = inl s }
+    together r line (inr s) = record { walk = f; is_walk = in_right f fs (f ∷ []) (inl refl); stands = inr s }
+    apart : (r : LinkRefusal) (line : ℕ) → PlacesFound us (fs ++ f ∷ []) r line → EitherStands (EitherStands (PlacesFound us fs) (StandsAtLines f.private.items)) (StandsAtPlaces (all_units us) f.calls.items) r line
+    apart r line s = elim (in_either s.walk fs (f ∷ []) s.is_walk) [
+      | inl i ↦ inl (inl (record { walk = s.walk; is_walk = i; stands = s.stands }))
+      | inr j ↦ elim (subst (λ (g : Found). EitherStands (StandsAtLines g.private.items) (StandsAtPlaces (all_units us) g.calls.items) r line) (in_one s.walk f j) s.stands) [ inl x ↦ inl (inr x) | inr y ↦ inr y ]
+    ]

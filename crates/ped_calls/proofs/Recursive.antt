@@ -1,19 +1,20 @@
 -- CALLs that lead back, by units and by their numbers.
 use Rattle.std.proofs.Common.{◌≡◌, ◌⊎◌, inl, inr, ℕ, ◌+◌, ◌<◌, ◌↔◌, List, [], ◌∷◌, ◌++◌, Bool, true, false, Option, Some, None, length, map, get_or, refl, sym, ap, subst, ◌∙◌, eqb, ltb, ◌||◌, ◌&&◌, arith}
-use Rattle.ped_calls.specs.Units.{ProgramUnit, ProgramUnits, all_units, unit_of}
+use Rattle.std.proofs.lemmas.Bool.{cases_lt}
+use Rattle.ped_calls.specs.Units.{ProgramUnit, ProgramUnits, all_units}
 use Rattle.ped_calls.specs.Linking.{IsIn, Placed, calls_of, CallsUnit, LeadsAlong, Reaches, LinkRefusal, NoUnit, Recursion, Arguments, Aliased, CallPlace, IsAtCall, OfCalled, IsRecursive, is_before}
-use Rattle.ped_calls.specs.Verdicts.{number_of_rule, of_links}
-use Rattle.ped_calls.specs.Views.{rule_of}
-use Rattle.ped_calls.specs.FirstLinks.{comes_first, IsFirstAmong, IsFirstOf, EitherStands}
+use Rattle.ped_calls.specs.Verdicts.{number_of_rule}
+use Rattle.ped_calls.specs.FirstLinks.{comes_first, IsFirstOf, EitherStands, first_link_of}
 use Rattle.ped_calls.specs.Numbers.{number_of_unit, IsMarkedNumber}
 use Rattle.ped_calls.specs.Placing.{placed_call}
 use Rattle.ped_calls.specs.Reaching.{Leads, LeadAlong, IsReached, IsMarked}
-use Rattle.ped_calls.specs.Recursions.{IsLeading, MayComeFirst}
+use Rattle.ped_calls.specs.Recursions.{IsLeading, MayComeFirst, IsFoundIn}
 use Rattle.ped_calls.specs.Scenes.{unit_at, CallsAt, CallsMarked, StandsAtCalls, AtRecursions}
 use Rattle.ped_calls.specs.declared.placing.PlacedCall.{PlacedCall}
 use Rattle.ped_calls.specs.declared.refusals.UnitFinding.{UnitFinding}
 use Rattle.ped_calls.specs.declared.refusals.UnitRule.TheVariants as rule
-use Rattle.ped_calls.proofs.Members.{in_map, map_in, place_in, in_place}
+use Rattle.ped_calls.proofs.FirstFound.{both_first, first_as}
+use Rattle.ped_calls.proofs.Members.{in_map, map_in, in_place}
 use Rattle.ped_calls.proofs.NumberedUnits.{unit_of_number, number_of_unit_of}
 use Rattle.ped_calls.proofs.Reached.{along_more}
 
@@ -164,3 +165,26 @@ skipped_unit us ends marks found i one a below returns none h = skipped one (Lea
     later : (b : Bool) → (b ≡ true → ⊥) → b ≡ false
     later true f = absurd (f refl)
     later false f = refl
+
+-- none in no unit
+pub none_below : (us : ProgramUnits) (ends : List (List ℕ)) → IsFirstOf (LeadingBelow us ends 0) None
+none_below us ends r line h = absurd (omega (arith, h.1))
+
+-- one unit more
+pub unit_more : (us : ProgramUnits) (ends : List (List ℕ)) (marks : List Bool) (found more : Option UnitFinding) (i : ℕ) → AreCallers us ends → i < length (all_units us)
+    → ((k j : ℕ) → Leads ends k j → IsReached ends (j ∷ []) k → IsMarked marks k)
+    → IsFoundIn us ends marks found i more → IsFirstOf (LeadingBelow us ends i) found → IsFirstOf (LeadingBelow us ends (i + 1)) (first_link_of found more)
+unit_more us ends marks found more i a below returns f h =
+    first_as (EitherStands (LeadingBelow us ends i) (LeadingAt us ends i)) (LeadingBelow us ends (i + 1)) (first_link_of found more) together apart (both f)
+  where
+    together : (r : LinkRefusal) (line : ℕ) → EitherStands (LeadingBelow us ends i) (LeadingAt us ends i) r line → LeadingBelow us ends (i + 1) r line
+    together r line (inl s) = (s.0, omega (arith, s.1), s.2)
+    together r line (inr s) = (i, omega arith, s)
+    apart : (r : LinkRefusal) (line : ℕ) → LeadingBelow us ends (i + 1) r line → EitherStands (LeadingBelow us ends i) (LeadingAt us ends i) r line
+    apart r line s = elim (cases_lt s.0 i) [
+      | inl low ↦ inl (s.0, low, s.2)
+      | inr high ↦ inr (subst (λ (n : ℕ). LeadingAt us ends n r line) (omega (arith, high, s.1)) s.2)
+    ]
+    both : IsFoundIn us ends marks found i more → IsFirstOf (EitherStands (LeadingBelow us ends i) (LeadingAt us ends i)) (first_link_of found more)
+    both (inl k) = both_first (LeadingBelow us ends i) (LeadingAt us ends i) found more h k
+    both (inr k) = subst (λ (o : Option UnitFinding). IsFirstOf (EitherStands (LeadingBelow us ends i) (LeadingAt us ends i)) (first_link_of found o)) (sym k.0) (skipped_unit us ends marks found i (LeadingBelow us ends i) a below returns k.1 h)

@@ -96,3 +96,9 @@ pub no_marks : (n j : ℕ) → IsMarked (replicate n false) j → ⊥
 no_marks zero j m = no_truth m
 no_marks (suc n) zero m = no_truth m
 no_marks (suc n) (suc j) m = no_marks n j m
+
+-- what stands at a place is in the list
+pub in_at : (ns : List ℕ) (i : ℕ) → i < length ns → IsIn (get_or ns i 0) ns
+in_at [] i h = absurd (omega (arith, h))
+in_at (n ∷ ns) zero h = inl refl
+in_at (n ∷ ns) (suc i) h = inr (in_at ns i (omega (arith, h)))

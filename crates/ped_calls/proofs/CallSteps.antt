@@ -70,3 +70,8 @@ line_more lines all n found e h =
     from r line (inr s) = (s.0, in_right line lines (n ∷ []) (inl s.1))
     to : (r : LinkRefusal) (line : ℕ) → StandsAtLines (lines ++ n ∷ []) r line → EitherStands (StandsAtLines lines) (StandsIf Arguments n (Unit {0})) r line
     to r line s = elim (in_either line lines (n ∷ []) s.1) [ inl x ↦ inl (s.0, x) | inr y ↦ inr (s.0, in_one line n y, tt) ]
+
+-- nothing stands at no CALLs
+pub no_places_called : (us : List ProgramUnit) → IsFirstOf (StandsAtPlaces us []) None
+no_places_called us r line (inl s) = s.is_call
+no_places_called us r line (inr s) = s.is_call

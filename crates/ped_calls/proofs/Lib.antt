@@ -35,3 +35,5 @@ mod Misfits
 mod Aliases
 mod PlacesMet
 mod ArgumentsMet
+mod Passings
+mod ArrowsAdded

@@ -3,6 +3,7 @@ use Rattle.std.proofs.Common.{◌≡◌, ℕ, ◌<◌, ◌≤◌, List, [], ◌�
 use Rattle.ped_calls.specs.Linking.{IsIn}
 use Rattle.ped_calls.specs.Reaching.{Leads, LeadAlong, IsReached}
 use Rattle.ped_calls.specs.Ranking.{rank_of, Rise, RiseFrom}
+use Rattle.ped_calls.proofs.Members.{in_one}
 
 rises_along : (ends : List (List ℕ)) (ranks : List ℕ) (path : List ℕ) (j i : ℕ) → Rise ends ranks → LeadAlong ends j path i → 0 < rank_of ranks i → (0 < rank_of ranks j) × (rank_of ranks j ≤ rank_of ranks i)
 rises_along ends ranks [] j i r e h = subst (λ (n : ℕ). (0 < rank_of ranks n) × (rank_of ranks n ≤ rank_of ranks i)) (sym e) (h, omega arith)
@@ -13,13 +14,13 @@ rises_along ends ranks (k ∷ path) j i r l h =
 
 -- arrows don't lead back to a number with a rank
 pub none_returns : (ends : List (List ℕ)) (ranks : List ℕ) (i j : ℕ) → Rise ends ranks → Leads ends i j → IsReached ends (j ∷ []) i → 0 < rank_of ranks i → ⊥
-none_returns ends ranks i j r l (record { seed = s; is_seed = inl e; path = path; leads = leads }) h =
-    let back = rises_along ends ranks path s i r leads h in
-    let there : 0 < rank_of ranks j = subst (λ (n : ℕ). 0 < rank_of ranks n) e back.0 in
-    let low : rank_of ranks j ≤ rank_of ranks i = subst (λ (n : ℕ). rank_of ranks n ≤ rank_of ranks i) e back.1 in
+none_returns ends ranks i j r l back h =
+    let from_seed = rises_along ends ranks back.path back.seed i r back.leads h in
+    let seed : back.seed ≡ j = in_one back.seed j back.is_seed in
+    let there : 0 < rank_of ranks j = subst (λ (n : ℕ). 0 < rank_of ranks n) seed from_seed.0 in
+    let low : rank_of ranks j ≤ rank_of ranks i = subst (λ (n : ℕ). rank_of ranks n ≤ rank_of ranks i) seed from_seed.1 in
     let up = (r i j l there).1 in
     absurd (omega (arith, low, up))
-none_returns ends ranks i j r l (record { seed = s; is_seed = inr e; path = path; leads = leads }) h = absurd e
 
 -- ranks rise from a number to each of these
 pub rise_to : (ranks : List ℕ) (i j : ℕ) (js : List ℕ) → RiseFrom ranks i js → IsIn j js → 0 < rank_of ranks j → (0 < rank_of ranks i) × (rank_of ranks i < rank_of ranks j)

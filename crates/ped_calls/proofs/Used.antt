@@ -112,3 +112,7 @@ marked_used own us ends seeds marks a s m = λ k x below among. (there k x below
     there : (k : ℕ) (x : List ℕ) → k < length (all_units us) → (o : Option ℕ) → formal_number (all_units us) k x ≡ o → IsMarkedNumber marks (formal_number (all_units us) k x) → IsUsed own us (unit_at us k) x
     there k x below None e h = absurd (subst (IsMarkedNumber marks) e h)
     there k x below (Some n) e h = reached_used own us ends seeds n a s ((m n).0 (subst (IsMarkedNumber marks) e h)) k x below e
+
+-- a dummy argument of one of the first units is used by its unit itself, and has this number
+abbrev pub SeedBelow : (ProgramUnit → List (List ℕ)) → ProgramUnits → ℕ → ℕ → Type 0
+SeedBelow own us m n = (k : ℕ) × (x : List ℕ) × (k < m) × IsTrue (is_among x (unit_at us k).formals) × IsTrue (is_among x (own (unit_at us k))) × (formal_number (all_units us) k x ≡ Some n)

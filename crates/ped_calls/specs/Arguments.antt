@@ -90,6 +90,21 @@ pub record AreMarks (us : ProgramUnits) (marks : Marks) : Type 0 where
   pub assigned : AreUses assigns us marks.assigned.items
   pub indexes : AreUses indexes us marks.indexes.items
 
+-- the number of the dummy argument of the unit with this number that an argument is, where it is one
+abbrev pub passed_number : List ProgramUnit → ℕ → Option (List ℕ) → Option ℕ
+passed_number us i None = None
+passed_number us i (Some x) = formal_number us i x
+
+-- one of these arguments in the unit with the first number is passed for one of these dummy arguments of the unit with the second
+abbrev pub PassesIn : List ProgramUnit → ℕ → ℕ → List (List ℕ) → List (Option (List ℕ)) → ℕ → ℕ → Type 0
+PassesIn us i k (f ∷ fs) (a ∷ rest) from to = ((formal_number us k f ≡ Some from) × (passed_number us i a ≡ Some to)) ⊎ PassesIn us i k fs rest from to
+PassesIn us i k [] arguments from to = ⊥
+PassesIn us i k (f ∷ fs) [] from to = ⊥
+
+-- one of these CALLs of the unit with this number passes a dummy argument for another
+abbrev pub CallsPass : ProgramUnits → ℕ → List PlacedCall → ℕ → ℕ → Type 0
+CallsPass us i calls from to = (c : PlacedCall) × IsIn c calls × ((k : ℕ) × (number_of_unit (all_units us) c.name ≡ Some k) × PassesIn (all_units us) i k (unit_at us k).formals c.arguments from to)
+
 -- an argument that stands for this doesn't fit a dummy argument that stands for that: no array with the same bounds for an array, an array for a scalar, no scalar for a scalar that is assigned
 abbrev pub IsOtherKind : Option Kind → Option Kind → Type 0 → Type 0
 IsOtherKind formal argument assigned =

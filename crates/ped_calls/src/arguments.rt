@@ -1,6 +1,6 @@
 //! Whether the arguments of CALLs fit dummy arguments (ANSI X3.9-1978, section 15.9.3).
 
-ghost use Rattle.std.specs.Prelude.{◌≡◌, ◌↔◌, ◌<◌, ◌≤◌, ◌+◌, ℕ, [], Some, None, IfOk, IsTrue, length, drop, get_or};
+ghost use Rattle.std.specs.Prelude.{◌≡◌, ◌↔◌, ◌⊎◌, ◌<◌, ◌≤◌, ◌+◌, ℕ, [], Some, None, IfOk, IsTrue, length, drop, get_or};
 ghost use Rattle.ped_base.specs.Lists as Lists;
 ghost use Rattle.ped_valid.specs.ped_symbols.specs.Entries.{entry_of};
 ghost use Rattle.ped_calls.specs.Units.{ProgramUnits};
@@ -10,7 +10,7 @@ ghost use Rattle.ped_calls.specs.FirstLinks.{IsFirstOf};
 ghost use Rattle.ped_calls.specs.Scenes.{IsScene, unit_at, AtArguments};
 
 use crate::first_links::{first_of_two, standing};
-use crate::formals::Marks;
+use crate::formals::{Marks, lesser};
 use crate::placing::PlacedCall;
 use crate::refusals::{UnitFinding, UnitRule};
 use crate::scenes::Scene;
@@ -24,11 +24,9 @@ pub fn first_misfit(alloc: Global, scene: &Scene) -> Result<Option<UnitFinding>,
 {
     let marks = Marks::new(alloc, scene)?;
     let mut found = None;
-    let mut unit = 0;
-    while unit < scene.units.len() {
+    for unit in 0..scene.units.len() {
         let more = misfits_in(scene, &marks, unit, &scene.walks[unit].calls);
         found = first_of_two(found, more);
-        unit += 1;
     }
     Ok(found)
 }
@@ -81,12 +79,10 @@ impl<'l> At<'l> {
         if arguments.len() != self.formals.len() {
             return true;
         }
-        let mut place = 0;
-        while place < arguments.len() {
+        for place in 0..arguments.len() {
             if self.misfits(&self.formals[place], &arguments[place]) {
                 return true;
             }
-            place += 1;
         }
         false
     }
@@ -110,12 +106,10 @@ impl<'l> At<'l> {
         ensures { (us : ProgramUnits) (i : ℕ) → Spec.IsAt us i self.now
             → IsTrue result ↔ Spec.SomeAliased us (unit_at us i) (unit_at us self.now.callee) self.now.formals.now self.now.call.now.arguments }
     {
-        let mut place = 0;
-        while place < self.count() {
+        for place in 0..self.count() {
             if self.is_aliased_at(place) {
                 return true;
             }
-            place += 1;
         }
         false
     }
@@ -124,13 +118,9 @@ impl<'l> At<'l> {
     fn count(&self) -> usize
         ensures arguments { result ≤ length self.now.call.now.arguments }
         ensures formals { result ≤ length self.now.formals.now }
+        ensures { (result ≡ length self.now.call.now.arguments) ⊎ (result ≡ length self.now.formals.now) }
     {
-        let arguments = self.call.arguments.len();
-        if self.formals.len() < arguments {
-            self.formals.len()
-        } else {
-            arguments
-        }
+        lesser(self.call.arguments.len(), self.formals.len())
     }
 
     /// Whether the variable's name at a place stands again behind it, and one of the two is assigned.
@@ -158,13 +148,11 @@ impl<'l> At<'l> {
     {
         let arguments = self.call.arguments.as_slice();
         let first = self.marks.is_assigned(self.callee, &self.formals[place]);
-        let mut other = place + 1;
-        while other < self.count() {
+        for other in place + 1..self.count() {
             let second = self.marks.is_assigned(self.callee, &self.formals[other]);
             if (first || second) && is_name(&arguments[other], name) {
                 return true;
             }
-            other += 1;
         }
         false
     }

@@ -1,6 +1,6 @@
 //! Dummy arguments by numbers, and those that are assigned or DO variables, in their units or where they are passed on.
 
-ghost use Rattle.std.specs.Prelude.{◌≡◌, ◌↔◌, ◌⊎◌, ◌<◌, ◌++◌, ◌∷◌, [], ℕ, List, Some, map, IfOk, IfSome, OnOk, IsTrue, length};
+ghost use Rattle.std.specs.Prelude.{◌≡◌, ◌↔◌, ◌⊎◌, ◌<◌, ◌≤◌, ◌++◌, ◌∷◌, [], ℕ, List, Some, map, IfOk, IfSome, OnOk, IsTrue, length};
 ghost use Rattle.ped_base.specs.Lists as Lists;
 ghost use Rattle.ped_calls.specs.Units.{ProgramUnit as PlainUnit, ProgramUnits, all_units};
 ghost use Rattle.ped_calls.specs.Linking as Rules;
@@ -79,6 +79,17 @@ impl Formals {
             None
         }
     }
+
+    /// The number of the dummy argument of a unit that an argument is, where it is one.
+    fn passed_number(&self, unit: usize, argument: &Option<Name>) -> Option<usize>
+        ensures below { IfSome result (λ n. n < self.now.count) }
+        ensures number { (us : List PlainUnit) → AreFormals us self.now → unit < length us → result ≡ Spec.passed_number us unit argument.now }
+    {
+        match argument {
+            Some(name) => self.number(unit, name),
+            None => None,
+        }
+    }
 }
 
 /// Which dummy arguments are assigned, and which are DO variables, in their units or in those that they are passed to.
@@ -150,12 +161,10 @@ fn seeds(
         → (n : ℕ) → Rules.IsIn n seeds.items ↔ Spec.IsSeed (Spec.used_names as_indexes) us n) }
 {
     let mut seeds = Vec::new(alloc);
-    let mut unit = 0;
-    while unit < scene.units.len() {
+    for unit in 0..scene.units.len() {
         let names = names_used(alloc, &scene.units[unit], as_indexes)?;
         let own = scene.units[unit].formals.as_slice();
         add_seeds(&mut seeds, formals, unit, own, &names)?;
-        unit += 1;
     }
     Ok(seeds)
 }
@@ -208,10 +217,8 @@ fn passings(alloc: Global, scene: &Scene, formals: &Formals) -> Result<Arrows, N
         → (from to : ℕ) → Leads (ends_of arrows) from to ↔ Spec.ArePassed us from to) }
 {
     let mut arrows = Arrows::new(alloc, formals.count)?;
-    let mut unit = 0;
-    while unit < scene.units.len() {
+    for unit in 0..scene.units.len() {
         add_passings(&mut arrows, scene, formals, unit, &scene.walks[unit].calls)?;
-        unit += 1;
     }
     Ok(arrows)
 }
@@ -225,7 +232,9 @@ fn add_passings(
     calls: &[PlacedCall],
 ) -> Result<(), NoMemory>
     requires { length (ends_of arrows.old) ≡ formals.now.count }
-    ensures { length (ends_of arrows.new) ≡ length (ends_of arrows.old) }
+    ensures wide { length (ends_of arrows.new) ≡ length (ends_of arrows.old) }
+    ensures added { OnOk result ((us : ProgramUnits) → IsScene us scene.now → AreFormals (all_units us) formals.now → unit < length (all_units us)
+        → (from to : ℕ) → Leads (ends_of arrows.new) from to ↔ (Leads (ends_of arrows.old) from to ⊎ Spec.CallsPass us unit calls.now from to)) }
 {
     for call in calls {
         if let Some(callee) = scene.callee(&call.name) {
@@ -246,17 +255,25 @@ fn add_passings_of(
     arguments: &[Option<Name>],
 ) -> Result<(), NoMemory>
     requires { length (ends_of arrows.old) ≡ formals.now.count }
-    ensures { length (ends_of arrows.new) ≡ length (ends_of arrows.old) }
+    ensures wide { length (ends_of arrows.new) ≡ length (ends_of arrows.old) }
+    ensures added { OnOk result ((us : List PlainUnit) → AreFormals us formals.now → unit < length us → callee < length us
+        → (from to : ℕ) → Leads (ends_of arrows.new) from to ↔ (Leads (ends_of arrows.old) from to ⊎ Spec.PassesIn us unit callee names.now arguments.now from to)) }
 {
-    let mut place = 0;
-    while place < names.len() && place < arguments.len() {
-        if let Some(argument) = &arguments[place] {
-            let from = formals.number(callee, &names[place]);
-            add_arrow(arrows, from, formals.number(unit, argument))?;
-        }
-        place += 1;
+    for place in 0..lesser(names.len(), arguments.len()) {
+        let from = formals.number(callee, &names[place]);
+        let to = formals.passed_number(unit, &arguments[place]);
+        add_arrow(arrows, from, to)?;
     }
     Ok(())
+}
+
+/// The lesser one of two numbers.
+pub fn lesser(a: usize, b: usize) -> usize
+    ensures first { result ≤ a }
+    ensures second { result ≤ b }
+    ensures { (result ≡ a) ⊎ (result ≡ b) }
+{
+    if a < b { a } else { b }
 }
 
 /// Adds an arrow, where both its ends are there.

@@ -101,14 +101,12 @@ fn first_at_heads(alloc: Global, scene: &Scene) -> Result<Option<UnitFinding>, N
     ensures { IfOk result (λ found. (us : ProgramUnits) → IsScene us scene.now → Spec.AreNamed us → IsFirstOf (AtHeads us) found) }
 {
     let mut found = None;
-    let mut number = 0;
-    while number < scene.units.len() {
+    for number in 0..scene.units.len() {
         let unit = &scene.units[number];
         let repeats = number > 0 && is_repeated(unit, number, scene.numbers);
         found = standing(found, repeats, UnitRule::NoUnit, unit.line);
         let twice = stands_twice(alloc, unit.formals.as_slice())?;
         found = standing(found, twice, UnitRule::Arguments, unit.line);
-        number += 1;
     }
     Ok(found)
 }

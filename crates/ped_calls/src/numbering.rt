@@ -19,10 +19,8 @@ pub fn unit_numbers(
     ensures { IfOk result (λ numbers. Spec.AreNumbers (map program_unit_of units.now) numbers.entries) }
 {
     let mut numbers = IndexMap::new(alloc);
-    let mut number = 1;
-    while number < units.len() {
+    for number in 1..units.len() {
         keep_unit(&mut numbers, &units[number], number)?;
-        number += 1;
     }
     Ok(numbers)
 }
@@ -65,10 +63,8 @@ pub fn places(alloc: Global, names: &[Name]) -> Result<IndexMap<Name, usize>, No
     ensures { IfOk result (λ places. Spec.ArePlaces names.now places.entries) }
 {
     let mut places = IndexMap::new(alloc);
-    let mut place = 0;
-    while place < names.len() {
+    for place in 0..names.len() {
         keep(&mut places, &names[place], place)?;
-        place += 1;
     }
     Ok(places)
 }

@@ -4,7 +4,7 @@
 ghost use Rattle.std.specs.Prelude.{◌≡◌, ◌↔◌, ◌<◌, ◌||◌, ◌==◌, [], ◌∷◌, ℕ, IfOk, OnOk, IsTrue, length, map, not, replicate};
 ghost use Rattle.ped_calls.specs.ArrowViews.{ends_of};
 ghost use Rattle.ped_calls.specs.Reaching.{Leads, IsReached, AreBelow, IsMarked};
-ghost use Rattle.ped_calls.specs.Ranking.{Rise, RiseFrom};
+ghost use Rattle.ped_calls.specs.Ranking.{Rise, RisesTo, RiseFrom};
 
 use crate::reaching::Arrows;
 use ped_base::NoMemory;
@@ -26,9 +26,16 @@ fn unranked(alloc: Global, rising: bool, ranks: &[usize]) -> Result<Vec<bool>, N
 {
     let mut marks = Vec::new(alloc);
     for rank in ranks {
-        marks.push(!rising || *rank == 0)?;
+        marks.push(is_unranked(rising, *rank))?;
     }
     Ok(marks)
+}
+
+/// Whether this is no rank, or ranks don't rise.
+fn is_unranked(rising: bool, rank: usize) -> bool
+    ensures { result ≡ (not rising || (rank == 0)) }
+{
+    !rising || rank == 0
 }
 
 /// Whether ranks rise along arrows.
@@ -51,11 +58,20 @@ fn rise_from(ranks: &[usize], from: usize, ends: &[usize]) -> bool
     ensures { IsTrue result ↔ RiseFrom ranks.now from ends.now }
 {
     for to in ends {
-        if ranks[*to] > 0 && (ranks[from] == 0 || ranks[from] >= ranks[*to]) {
+        if !rises(ranks, from, *to) {
             return false;
         }
     }
     true
+}
+
+/// Whether ranks rise from one number to another, where this has a rank.
+fn rises(ranks: &[usize], from: usize, to: usize) -> bool
+    requires from { from < length ranks.now }
+    requires to { to < length ranks.now }
+    ensures { IsTrue result ↔ RisesTo ranks.now from to }
+{
+    ranks[to] == 0 || (ranks[from] > 0 && ranks[from] < ranks[to])
 }
 
 /// A rank for each number that can be taken away, from 1 on; 0 for the others.
@@ -94,8 +110,16 @@ fn count_up(counts: &mut [usize], numbers: &[usize])
     ensures { length counts.new ≡ length counts.old }
 {
     for number in numbers {
-        counts[*number] = counts[*number].saturating_add(1);
+        count_one_more(counts, *number);
     }
+}
+
+/// Counts one more at this number.
+fn count_one_more(counts: &mut [usize], number: usize)
+    requires { number < length counts.old }
+    ensures { length counts.new ≡ length counts.old }
+{
+    counts[number] = counts[number].saturating_add(1);
 }
 
 /// Counts one less at each of these numbers, and has those wait at which none is left.
@@ -110,13 +134,20 @@ fn count_down(
     ensures waiting { OnOk result (AreBelow (length counts.old) waiting.new.items) }
 {
     for number in numbers {
-        let left = counts[*number].saturating_sub(1);
-        counts[*number] = left;
-        if left == 0 {
+        if count_one_less(counts, *number) {
             waiting.push(*number)?;
         }
     }
     Ok(())
+}
+
+/// Counts one less at this number. Answers whether none is left.
+fn count_one_less(counts: &mut [usize], number: usize) -> bool
+    requires { number < length counts.old }
+    ensures { length counts.new ≡ length counts.old }
+{
+    counts[number] = counts[number].saturating_sub(1);
+    counts[number] == 0
 }
 
 /// So many zeros.
@@ -135,12 +166,10 @@ fn places_of_zeros(alloc: Global, numbers: &[usize]) -> Result<Vec<usize>, NoMem
     ensures { IfOk result (λ places. AreBelow (length numbers.now) places.items) }
 {
     let mut places = Vec::new(alloc);
-    let mut place = 0;
-    while place < numbers.len() {
+    for place in 0..numbers.len() {
         if numbers[place] == 0 {
             places.push(place)?;
         }
-        place += 1;
     }
     Ok(places)
 }

@@ -10,7 +10,7 @@ use std::alloc::Global;
 #[derive(Drop)]
 pub struct Arrows {
     ends: Vec<Vec<usize>>,
-    ghost within: { EndBelow (length ends.items) (ends_in ends.items) },
+    ghost within: { EndBelow (length (ends_in ends.items)) (ends_in ends.items) },
 }
 
 impl Arrows {
@@ -48,7 +48,8 @@ impl Arrows {
         ensures ok { OnOk result (ends_of self.new ≡ slice_set (ends_of self.old) from (get_or (ends_of self.old) from [] ++ to ∷ [])) }
         ensures err { OnErr result (ends_of self.new ≡ ends_of self.old) }
     {
-        add_end(&mut self.ends, from, to)
+        add_end(&mut self.ends, from, to)?;
+        Ok(())
     }
 
     /// Which numbers arrows lead to from these, themselves among them. Each number is looked at once.

@@ -1,6 +1,6 @@
 //! CALLs that lead back to the units in which they stand (ANSI X3.9-1978, section 15.6.3).
 
-ghost use Rattle.std.specs.Prelude.{◌≡◌, ◌↔◌, ◌⊎◌, ◌×◌, ◌<◌, ℕ, Some, IfOk, IfSome, OnOk, IsTrue, length};
+ghost use Rattle.std.specs.Prelude.{◌≡◌, ◌↔◌, ◌⊎◌, ◌<◌, ℕ, Some, IfOk, IfSome, OnOk, IsTrue, length};
 ghost use Rattle.ped_calls.specs.Units.{ProgramUnits, all_units};
 ghost use Rattle.ped_calls.specs.Linking as Rules;
 ghost use Rattle.ped_calls.specs.FirstLinks as First;
@@ -27,11 +27,9 @@ pub fn first_recursion(alloc: Global, scene: &Scene) -> Result<Option<UnitFindin
     let callers = callers(alloc, scene)?;
     let marks = may_return(alloc, &callers)?;
     let mut found = None;
-    let mut unit = 0;
-    while unit < scene.units.len() {
+    for unit in 0..scene.units.len() {
         let more = recursion_in(alloc, scene, &callers, &marks, found, unit)?;
         found = first_of_two(found, more);
-        unit += 1;
     }
     Ok(found)
 }
@@ -97,10 +95,8 @@ fn callers(alloc: Global, scene: &Scene) -> Result<Arrows, NoMemory>
     ensures arrows { IfOk result (λ arrows. (us : ProgramUnits) → IsScene us scene.now → (k i : ℕ) → Leads (ends_of arrows) k i ↔ CallsAt us i k) }
 {
     let mut arrows = Arrows::new(alloc, scene.units.len())?;
-    let mut unit = 0;
-    while unit < scene.units.len() {
+    for unit in 0..scene.units.len() {
         add_callers(&mut arrows, scene, unit, &scene.walks[unit].calls)?;
-        unit += 1;
     }
     Ok(arrows)
 }

@@ -42,3 +42,24 @@ pub mod BoundedForms
 pub mod BoundedCalls
 pub mod FewUnits
 pub mod LiteralBounds
+mod Members
+mod Added
+mod Reached
+mod Ranked
+mod Passed
+mod FirstFound
+mod Numbered
+mod LinkStages
+mod NumberedUnits
+mod Recursive
+mod Heads
+mod FormalNumbers
+mod Used
+mod CallSteps
+mod Twice
+mod Misfits
+mod Aliases
+mod PlacesMet
+mod ArgumentsMet
+mod Passings
+mod ArrowsAdded

@@ -19,3 +19,12 @@ pub mod Binding
 pub mod Courses
 pub mod Opening
 pub mod CallViews
+pub mod Ranking
+pub mod Placing
+pub mod Numbers
+pub mod FirstLinks
+pub mod Scenes
+pub mod Recursions
+pub mod Arguments
+pub mod Links
+pub mod ArrowViews

@@ -2,25 +2,32 @@
 //! is a marked block (ANSI X3.9-1978, sections 15.6 to 15.9).
 #![tactic(auto)]
 
+mod arguments;
 mod assigning;
 mod binding;
 mod blocks;
 mod calls;
 mod expanding;
 mod first_calls;
+mod first_links;
+mod formals;
 mod forms;
 mod giving;
 mod items;
 mod linking;
 mod naming;
+mod numbering;
 mod occurring;
 mod opening;
 mod placing;
 mod printing;
+mod ranking;
 mod reaching;
 mod reading;
+mod recursion;
 mod refusals;
 mod replacing;
+mod scenes;
 mod seen;
 mod segments;
 mod settling;

@@ -1,0 +1,133 @@
+-- Names of subroutines that are repeated, by units and by their numbers.
+use Rattle.std.proofs.Common.{◌≡◌, ℕ, zero, suc, ◌+◌, ◌-◌, ◌<◌, List, [], ◌∷◌, ◌++◌, Bool, true, false, Option, Some, None, length, map, take, drop, get_or, refl, sym, ap, ◌∙◌, ◌||◌, if◌then◌else◌, arith}
+use Rattle.ped_base.specs.Lists.{is_same_text, is_among}
+use Rattle.ped_valid.specs.ped_symbols.specs.NameRefusals.{has_twice}
+use Rattle.ped_calls.specs.Units.{ProgramUnit, ProgramUnits, all_units}
+use Rattle.ped_calls.specs.Linking.{LinkRefusal, NoUnit, Recursion, Arguments, Aliased, CallPlace}
+use Rattle.ped_calls.specs.Numbers.{number_among, number_of_unit}
+use Rattle.ped_calls.specs.Scenes.{unit_at, AtHeads}
+use Rattle.ped_calls.proofs.Members.{place_in, in_place}
+
+-- the name of a unit
+abbrev name_of : ProgramUnit → List ℕ
+name_of u = u.name
+
+-- a name among the first of units has a number among theirs
+among_numbered : (us rest : List ProgramUnit) (n : ℕ) (x : List ℕ) → is_among x (map name_of us) ≡ true → (j : ℕ) × (number_among (us ++ rest) n x ≡ Some j) × (j < n + length us)
+among_numbered [] rest n x h = absurd cc
+among_numbered (u ∷ us) rest n x h = by (is_same_text x u.name) refl h
+  where
+    by : (b : Bool) → is_same_text x u.name ≡ b → (b || is_among x (map name_of us)) ≡ true → (j : ℕ) × (number_among ((u ∷ us) ++ rest) n x ≡ Some j) × (j < n + length (u ∷ us))
+    by true e k = (n, ap (λ (b : Bool). if b then Some n else number_among (us ++ rest) (n + 1) x) e, omega arith)
+    by false e k =
+        let there = among_numbered us rest (n + 1) x k in
+        let below = there.2 in
+        (there.0, ap (λ (b : Bool). if b then Some n else number_among (us ++ rest) (n + 1) x) e ∙ there.1, omega (arith, below))
+
+-- a name with a number among the first of units is among theirs
+numbered_among : (us : List ProgramUnit) (n m j : ℕ) (x : List ℕ) → number_among us n x ≡ Some j → j < n + m → is_among x (map name_of (take m us)) ≡ true
+numbered_among [] n m j x h l = absurd cc
+numbered_among (u ∷ us) n zero j x h l = absurd (above (u ∷ us) n j h)
+  where
+    above : (vs : List ProgramUnit) (k i : ℕ) → number_among vs k x ≡ Some i → i < k + 0 → ⊥
+    above [] k i e below = absurd cc
+    above (v ∷ vs) k i e below = by (is_same_text x v.name) e
+      where
+        inner : (a b : ℕ) → Some a ≡ Some b → a ≡ b
+        inner a b q = cc
+        by : (b : Bool) → (if b then Some k else number_among vs (k + 1) x) ≡ Some i → ⊥
+        by true q = let is = inner k i q in absurd (omega (arith, is, below))
+        by false q = above vs (k + 1) i q (omega (arith, below))
+numbered_among (u ∷ us) n (suc m) j x h l = by (is_same_text x u.name) h
+  where
+    by : (b : Bool) → (if b then Some n else number_among us (n + 1) x) ≡ Some j → (b || is_among x (map name_of (take m us))) ≡ true
+    by true e = refl
+    by false e = numbered_among us (n + 1) m j x e (omega (arith, l))
+
+-- a subroutine has the name of one with a lesser number
+pub record RepeatsAt (us : ProgramUnits) (n : ℕ) (line : ℕ) : Type 0 where
+  pub number : ℕ
+  pub above : 0 < number
+  pub below : number < n
+  pub earlier : ℕ
+  pub is_earlier : number_of_unit (all_units us) (unit_at us number).name ≡ Some earlier
+  pub less : earlier < number
+  pub there : (unit_at us number).line ≡ line
+
+-- a unit with a number below this lists a dummy argument twice
+pub record TwiceAt (us : ProgramUnits) (n : ℕ) (line : ℕ) : Type 0 where
+  pub number : ℕ
+  pub below : number < n
+  pub twice : has_twice (unit_at us number).formals ≡ true
+  pub there : (unit_at us number).line ≡ line
+
+-- what stands at the SUBROUTINE statements of the first units
+abbrev pub HeadsBelow : ProgramUnits → ℕ → LinkRefusal → ℕ → Type 0
+HeadsBelow us n NoUnit line = RepeatsAt us n line
+HeadsBelow us n Recursion line = ⊥
+HeadsBelow us n Arguments line = TwiceAt us n line
+HeadsBelow us n Aliased line = ⊥
+HeadsBelow us n CallPlace line = ⊥
+
+at_front : (before behind : List ProgramUnit) (u d : ProgramUnit) → get_or (before ++ u ∷ behind) (length before) d ≡ u
+at_front [] behind u d = refl
+at_front (b ∷ bs) behind u d = at_front bs behind u d
+
+split_at : (us : List ProgramUnit) (k : ℕ) (d : ProgramUnit) → k < length us → us ≡ take k us ++ get_or us k d ∷ drop (k + 1) us
+split_at [] k d h = absurd (omega (arith, h))
+split_at (u ∷ us) zero d h = refl
+split_at (u ∷ us) (suc k) d h = ap (λ (vs : List ProgramUnit). u ∷ vs) (split_at us k d (omega (arith, h))) ∙ ap (λ (n : ℕ). u ∷ (take k us ++ get_or us k d ∷ drop n (u ∷ us))) (omega arith)
+
+longer : (xs ys : List ProgramUnit) (y : ProgramUnit) → length xs < length (xs ++ y ∷ ys)
+longer [] ys y = omega arith
+longer (x ∷ xs) ys y = let less = longer xs ys y in omega (arith, less)
+
+pub heads_from : (us : ProgramUnits) (n : ℕ) → n ≡ length (all_units us) → (r : LinkRefusal) (line : ℕ) → HeadsBelow us n r line → AtHeads us r line
+heads_from us n wide NoUnit line h =
+    let k = h.number in
+    let below = h.below in
+    let above = h.above in
+    let less = h.less in
+    let place : k ≡ suc (k - 1) = omega (arith, above) in
+    let unit : unit_at us k ≡ get_or us.others (k - 1) us.main = ap (λ (j : ℕ). get_or (all_units us) j us.main) place in
+    record {
+      before = take (k - 1) us.others;
+      unit = get_or us.others (k - 1) us.main;
+      behind = drop (k - 1 + 1) us.others;
+      stand = split_at us.others (k - 1) us.main (omega (arith, wide, below, above));
+      repeats = numbered_among us.others 1 (k - 1) h.earlier (get_or us.others (k - 1) us.main).name (ap (λ (v : ProgramUnit). number_of_unit (all_units us) v.name) (sym unit) ∙ h.is_earlier) (omega (arith, less, above));
+      there = ap (λ (v : ProgramUnit). v.line) (sym unit) ∙ h.there;
+    }
+heads_from us n wide Arguments line h = record { unit = unit_at us h.number; is_unit = in_place (all_units us) h.number us.main (omega (arith, wide, h.below)); twice = h.twice; there = h.there }
+heads_from us n wide Recursion line h = absurd h
+heads_from us n wide Aliased line h = absurd h
+heads_from us n wide CallPlace line h = absurd h
+
+pub heads_to : (us : ProgramUnits) (n : ℕ) → n ≡ length (all_units us) → (r : LinkRefusal) (line : ℕ) → AtHeads us r line → HeadsBelow us n r line
+heads_to us n wide NoUnit line h =
+    let k = suc (length h.before) in
+    let long = ap length h.stand in
+    let less = longer h.before h.behind h.unit in
+    let unit : unit_at us k ≡ h.unit = ap (λ (vs : List ProgramUnit). get_or vs (length h.before) us.main) h.stand ∙ at_front h.before h.behind h.unit us.main in
+    let there = among_numbered h.before (h.unit ∷ h.behind) 1 h.unit.name h.repeats in
+    let low = there.2 in
+    record {
+      number = k;
+      above = omega arith;
+      below = omega (arith, wide, long, less);
+      earlier = there.0;
+      is_earlier = ap (λ (v : ProgramUnit). number_of_unit (all_units us) v.name) unit ∙ ap (λ (vs : List ProgramUnit). number_among vs 1 h.unit.name) h.stand ∙ there.1;
+      less = omega (arith, low);
+      there = ap (λ (v : ProgramUnit). v.line) unit ∙ h.there;
+    }
+heads_to us n wide Arguments line h =
+    let place = place_in h.unit (all_units us) us.main h.is_unit in
+    record {
+      number = place.0;
+      below = omega (arith, wide, place.1);
+      twice = ap (λ (v : ProgramUnit). has_twice v.formals) place.2 ∙ h.twice;
+      there = ap (λ (v : ProgramUnit). v.line) place.2 ∙ h.there;
+    }
+heads_to us n wide Recursion line h = absurd h
+heads_to us n wide Aliased line h = absurd h
+heads_to us n wide CallPlace line h = absurd h

@@ -1,0 +1,213 @@
+//! Whether the arguments of CALLs fit dummy arguments (ANSI X3.9-1978, section 15.9.3).
+
+ghost use Rattle.std.specs.Prelude.{◌≡◌, ◌↔◌, ◌⊎◌, ◌<◌, ◌≤◌, ◌+◌, ℕ, [], Some, None, IfOk, IsTrue, length, drop, get_or};
+ghost use Rattle.ped_base.specs.Lists as Lists;
+ghost use Rattle.ped_valid.specs.ped_symbols.specs.Entries.{entry_of};
+ghost use Rattle.ped_calls.specs.Units.{ProgramUnits};
+ghost use Rattle.ped_calls.specs.Linking as Rules;
+ghost use Rattle.ped_calls.specs.Arguments as Spec;
+ghost use Rattle.ped_calls.specs.FirstLinks.{IsFirstOf};
+ghost use Rattle.ped_calls.specs.Scenes.{IsScene, unit_at, AtArguments};
+
+use crate::first_links::{first_of_two, standing};
+use crate::formals::{Marks, lesser};
+use crate::placing::PlacedCall;
+use crate::refusals::{UnitFinding, UnitRule};
+use crate::scenes::Scene;
+use ped_base::{Name, NoMemory, is_among};
+use ped_valid::ped_symbols::{Kind, Symbols};
+use std::alloc::Global;
+
+/// The first of what is refused at CALLs for their arguments.
+pub fn first_misfit(alloc: Global, scene: &Scene) -> Result<Option<UnitFinding>, NoMemory>
+    ensures { IfOk result (λ found. (us : ProgramUnits) → IsScene us scene.now → IsFirstOf (AtArguments us) found) }
+{
+    let marks = Marks::new(alloc, scene)?;
+    let mut found = None;
+    for unit in 0..scene.units.len() {
+        let more = misfits_in(scene, &marks, unit, &scene.walks[unit].calls);
+        found = first_of_two(found, more);
+    }
+    Ok(found)
+}
+
+/// The first of what is refused at these CALLs of a unit for their arguments.
+fn misfits_in(
+    scene: &Scene,
+    marks: &Marks,
+    unit: usize,
+    calls: &[PlacedCall],
+) -> Option<UnitFinding>
+    requires { unit < length scene.now.units.now }
+    ensures { (us : ProgramUnits) → IsScene us scene.now → Spec.AreMarks us marks.now → IsFirstOf (Spec.StandsForArguments us unit calls.now) result }
+{
+    let mut found = None;
+    for call in calls {
+        if let Some(callee) = scene.callee(&call.name) {
+            let at = At {
+                call,
+                callee,
+                formals: scene.units[callee].formals.as_slice(),
+                caller_table: &scene.tables[unit],
+                callee_table: &scene.tables[callee],
+                marks,
+            };
+            found = standing(found, at.has_bad_arguments(), UnitRule::Arguments, call.line);
+            found = standing(found, at.is_aliased(), UnitRule::Aliased, call.line);
+        }
+    }
+    found
+}
+
+/// A CALL with what its arguments are looked at by.
+#[derive(Clone, Copy)]
+struct At<'l> {
+    call: &'l PlacedCall,
+    callee: usize,
+    formals: &'l [Name],
+    caller_table: &'l Symbols,
+    callee_table: &'l Symbols,
+    marks: &'l Marks,
+}
+
+impl<'l> At<'l> {
+    /// Whether the number of arguments differs, or one doesn't fit.
+    fn has_bad_arguments(&self) -> bool
+        ensures { (us : ProgramUnits) (i : ℕ) → Spec.IsAt us i self.now → IsTrue result ↔ Spec.HasMisfit us (unit_at us i) (unit_at us self.now.callee) self.now.call.now }
+    {
+        let arguments = self.call.arguments.as_slice();
+        if arguments.len() != self.formals.len() {
+            return true;
+        }
+        for place in 0..arguments.len() {
+            if self.misfits(&self.formals[place], &arguments[place]) {
+                return true;
+            }
+        }
+        false
+    }
+
+    /// Whether an argument doesn't fit its dummy argument.
+    fn misfits(&self, formal: &Name, argument: &Option<Name>) -> bool
+        ensures { (us : ProgramUnits) (i : ℕ) → Spec.IsAt us i self.now → IsTrue (Lists.is_among formal.now (unit_at us self.now.callee).formals)
+            → IsTrue result ↔ Spec.IsMisfit us (unit_at us i) (unit_at us self.now.callee) self.now.call.now.around formal.now argument.now }
+    {
+        let assigned = self.marks.is_assigned(self.callee, formal);
+        let index = self.marks.is_index(self.callee, formal);
+        let around = &self.call.around;
+        let kind = kind_of_argument(self.caller_table, argument);
+        is_other_kind(self.callee_table.kind(formal), kind, assigned)
+            || (assigned && is_one_of(argument, around.variables.as_slice()))
+            || (index && is_one_of(argument, around.private.as_slice()))
+    }
+
+    /// Whether one variable's name stands for two dummy arguments of which one is assigned.
+    fn is_aliased(&self) -> bool
+        ensures { (us : ProgramUnits) (i : ℕ) → Spec.IsAt us i self.now
+            → IsTrue result ↔ Spec.SomeAliased us (unit_at us i) (unit_at us self.now.callee) self.now.formals.now self.now.call.now.arguments }
+    {
+        for place in 0..self.count() {
+            if self.is_aliased_at(place) {
+                return true;
+            }
+        }
+        false
+    }
+
+    /// How many dummy arguments have an argument.
+    fn count(&self) -> usize
+        ensures arguments { result ≤ length self.now.call.now.arguments }
+        ensures formals { result ≤ length self.now.formals.now }
+        ensures { (result ≡ length self.now.call.now.arguments) ⊎ (result ≡ length self.now.formals.now) }
+    {
+        lesser(self.call.arguments.len(), self.formals.len())
+    }
+
+    /// Whether the variable's name at a place stands again behind it, and one of the two is assigned.
+    fn is_aliased_at(&self, place: usize) -> bool
+        requires arguments { place < length self.now.call.now.arguments }
+        requires formals { place < length self.now.formals.now }
+        ensures { (us : ProgramUnits) (i : ℕ) → Spec.IsAt us i self.now
+            → IsTrue result ↔ Spec.IsAliasedFirst us (unit_at us i) (unit_at us self.now.callee) (get_or self.now.formals.now place []) (get_or self.now.call.now.arguments place None)
+                (drop (place + 1) self.now.formals.now) (drop (place + 1) self.now.call.now.arguments) }
+    {
+        match &self.call.arguments.as_slice()[place] {
+            Some(name) if !is_constant(self.caller_table, name) => {
+                self.is_aliased_behind(place, name)
+            }
+            _ => false,
+        }
+    }
+
+    /// Whether a variable's name stands behind a place, where it stands too, and one of the two is assigned.
+    fn is_aliased_behind(&self, place: usize, name: &Name) -> bool
+        requires arguments { place < length self.now.call.now.arguments }
+        requires formals { place < length self.now.formals.now }
+        ensures { (us : ProgramUnits) (i : ℕ) → Spec.IsAt us i self.now
+            → IsTrue result ↔ Spec.IsAgain us (unit_at us self.now.callee) (get_or self.now.formals.now place []) name.now (drop (place + 1) self.now.formals.now) (drop (place + 1) self.now.call.now.arguments) }
+    {
+        let arguments = self.call.arguments.as_slice();
+        let first = self.marks.is_assigned(self.callee, &self.formals[place]);
+        for other in place + 1..self.count() {
+            let second = self.marks.is_assigned(self.callee, &self.formals[other]);
+            if (first || second) && is_name(&arguments[other], name) {
+                return true;
+            }
+        }
+        false
+    }
+}
+
+/// What an argument stands for, where it is a name.
+fn kind_of_argument(table: &Symbols, argument: &Option<Name>) -> Option<Kind>
+    ensures { result ≡ Spec.kind_of_argument table.now argument.now }
+{
+    match argument {
+        Some(name) => table.kind(name),
+        None => None,
+    }
+}
+
+/// Whether a name stands for a constant.
+fn is_constant(table: &Symbols, name: &Name) -> bool
+    ensures { result ≡ Rules.is_constant (entry_of table.now.kinds name.now) }
+{
+    match table.kind(name) {
+        Some(Kind::Constant(_)) => true,
+        Some(Kind::Scalar) | Some(Kind::Array(_)) | None => false,
+    }
+}
+
+/// Whether an argument that stands for this doesn't fit a dummy argument that stands for that: another array or none for an
+/// array, an array for a scalar, no scalar for one that is assigned.
+fn is_other_kind(formal: Option<Kind>, argument: Option<Kind>, assigned: bool) -> bool
+    ensures { IsTrue result ↔ Spec.IsOtherKind formal argument (IsTrue assigned) }
+{
+    match (formal, argument) {
+        (Some(Kind::Array(bounds)), Some(Kind::Array(other))) => bounds != other,
+        (Some(Kind::Array(_)), _) => true,
+        (_, Some(Kind::Array(_))) => true,
+        (_, Some(Kind::Scalar)) => false,
+        (_, _) => assigned,
+    }
+}
+
+/// Whether an argument is this name.
+fn is_name(argument: &Option<Name>, name: &Name) -> bool
+    ensures { IsTrue result ↔ (argument.now ≡ Some name.now) }
+{
+    match argument {
+        Some(other) => other == name,
+        None => false,
+    }
+}
+
+/// Whether an argument is one of these names.
+fn is_one_of(argument: &Option<Name>, names: &[Name]) -> bool
+    ensures { result ≡ Spec.is_one_of argument.now names.now }
+{
+    match argument {
+        Some(name) => is_among(name, names),
+        None => false,
+    }
+}

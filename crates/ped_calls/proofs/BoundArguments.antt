@@ -112,3 +112,7 @@ constant_at m cs place v h = ap (with_constants m) (sym (drop_at cs place v h))
 -- no constant is at a place
 pub no_constant_at : (m : Meanings) (cs : Values) (place : ℕ) → slice_get cs place ≡ None → with_constants m (drop (place + 1) cs) ≡ with_constants m (drop place cs)
 no_constant_at m cs place h = ap (with_constants m) (drop_past cs place h)
+
+-- the dummy argument at a place of their list
+pub formal_kept : (m : Meanings) (fs : List (List ℕ)) (place : ℕ) (d : List ℕ) (e : ExprTree) → place < length fs → with_entry m (get_or fs place d) e ≡ with_formals m (drop place fs) (e ∷ [])
+formal_kept m fs place d e h = sym (formal_at m (drop place fs) (get_or fs place d) (drop (place + 1) fs) e (at_drop_more (λ (ys : List (List ℕ)). ys) fs place d h))

@@ -1,6 +1,9 @@
 -- How room and names go along while statements are expanded one behind the other.
-use Rattle.std.proofs.Common.{◌≡◌, ◌≤◌, ◌<◌, ◌+◌, ◌⊎◌, ℕ, List, [], ◌∷◌, ◌++◌, refl, sym, ap, subst, ◌∙◌, arith, inl, inr}
+use Rattle.std.proofs.Common.{◌≡◌, ◌≤◌, ◌<◌, ◌+◌, ◌⊎◌, ℕ, List, [], ◌∷◌, ◌++◌, map, refl, sym, ap, subst, ◌∙◌, arith, inl, inr}
 use Rattle.ped_tree.specs.Tree.{CondTree, Head, StmtTree, StmtTrees, If, Do, no_stmts, more_stmts}
+use Rattle.std.proofs.lemmas.List.{map_push}
+use Rattle.ped_tree.specs.Views.{stmt_tree, pack_stmts}
+use Rattle.ped_tree.specs.declared.statements.Stmt.{Stmt}
 use Rattle.ped_tree.specs.Numbering.{statement_count, statements_count}
 use Rattle.ped_calls.specs.Forms.{Called}
 use Rattle.ped_calls.specs.Expanding.{Given, Meanings, Expanded, AllExpanded, behind_stmts, cond_replaced, head_replaced, expanded_in, all_expanded_in}
@@ -24,6 +27,18 @@ stops_here OutOfMemory h = tt
 behind_last : (done : List StmtTree) (s : StmtTree) (rest : StmtTrees) → behind_stmts (done ++ s ∷ []) rest ≡ behind_stmts done (more_stmts s rest)
 behind_last [] s rest = refl
 behind_last (d ∷ done) s rest = ap (more_stmts d) (behind_last done s rest)
+
+-- a copy behind others
+pub behind_pushed : (done : List Stmt) (s : Stmt) (t : StmtTree) (rest : StmtTrees) → stmt_tree s ≡ t → behind_stmts (map stmt_tree (done ++ s ∷ [])) rest ≡ behind_stmts (map stmt_tree done) (more_stmts t rest)
+behind_pushed done s t rest h =
+    ap (λ (ss : List StmtTree). behind_stmts ss rest) (map_push stmt_tree done s)
+    ∙ behind_last (map stmt_tree done) (stmt_tree s) rest
+    ∙ ap (λ (u : StmtTree). behind_stmts (map stmt_tree done) (more_stmts u rest)) h
+
+-- statements packed are those behind which nothing stands
+pub packed_behind : (ss : List StmtTree) → pack_stmts ss ≡ behind_stmts ss no_stmts
+packed_behind [] = refl
+packed_behind (s ∷ ss) = ap (more_stmts s) (packed_behind ss)
 
 -- an expanded statement before others
 abbrev before : Expanded Given → AllExpanded Given → AllExpanded Given

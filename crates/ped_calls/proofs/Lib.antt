@@ -17,7 +17,6 @@ pub mod BuiltUnits
 pub mod FreeNames
 pub mod CollectedNames
 pub mod BoundArguments
-pub mod SmallValues
 pub mod Expansions
 pub mod CourseSteps
 pub mod Measures

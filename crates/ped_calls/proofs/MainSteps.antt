@@ -1,18 +1,20 @@
 -- The units of a file by their numbers, and the statements of its main program.
-use Rattle.std.proofs.Common.{◌≡◌, ◌<◌, ◌-◌, ℕ, List, [], ◌∷◌, map, length, drop, Option, Some, sym, ap, ◌∙◌, option_map, arith}
+use Rattle.std.proofs.Common.{◌≡◌, ◌<◌, ◌+◌, ◌-◌, ℕ, suc, List, [], ◌∷◌, map, length, drop, Bool, true, false, Some, None, refl, sym, ap, ◌∙◌, option_map, arith, if◌then◌else◌}
 use Rattle.std.specs.Prelude.{slice_get}
 use Rattle.std.proofs.lemmas.List.{length-map, length-drop}
 use Rattle.std.proofs.lemmas.Option.{slice_get-map, same_Some}
 use Rattle.ped_tree.specs.Tree.{StmtTrees}
-use Rattle.ped_valid.specs.ped_symbols.specs.Entries.{entry_of}
+use Rattle.ped_base.specs.Lists.{is_same_text}
 use Rattle.ped_valid.specs.ped_symbols.specs.Kinds.{Table, table_of}
 use Rattle.ped_valid.specs.ped_symbols.specs.Values.{Values}
-use Rattle.ped_calls.specs.Units.{ProgramUnits, unit_of}
+use Rattle.ped_calls.specs.Units.{ProgramUnits, unit_of, unit_among}
+use Rattle.ped_calls.specs.Units as units
+use Rattle.ped_calls.specs.Numbers.{number_among, number_of_unit}
 use Rattle.ped_calls.specs.Refusals.{for_names}
 use Rattle.ped_calls.specs.Expanding.{Given, Meanings, all_expanded_in, call_expanded, main_call_expanded, constants_of}
 use Rattle.ped_calls.specs.Naming.{AreTables}
 use Rattle.ped_calls.specs.Views.{program_unit_of}
-use Rattle.ped_calls.specs.Courses.{units_of, numbered, HaveNumbers}
+use Rattle.ped_calls.specs.Courses.{units_of}
 use Rattle.ped_calls.specs.declared.units.ProgramUnit.{ProgramUnit}
 
 -- where nothing stands for names, CALLs are expanded as those of the main program
@@ -24,11 +26,60 @@ main_same us m deeper cs ss g hm hd hc = λ i. all_expanded_in (hm i) (call_expa
 pub others_count : (us : List ProgramUnit) → length us - 1 ≡ length (units_of us).others
 others_count us = omega (arith, length-drop 1 (map program_unit_of us), length-map us program_unit_of)
 
--- a unit by its number
-pub unit_found : (us : List ProgramUnit) (numbers : List (List ℕ × ℕ)) (x : List ℕ) (n : ℕ) (u : ProgramUnit) → HaveNumbers (map program_unit_of us) numbers → entry_of numbers x ≡ Some n → slice_get us n ≡ Some u
-    → unit_of (units_of us) x ≡ Some (program_unit_of u)
-unit_found us numbers x n u have there is =
-    sym (have.first x) ∙ ap (numbered (map program_unit_of us)) there ∙ slice_get-map program_unit_of us n ∙ ap (option_map program_unit_of) is
+-- a unit by its number among units from a number on
+pub record NumberedUnit (us : List units.ProgramUnit) (n : ℕ) (x : List ℕ) (k : ℕ) : Type 0 where
+  pub place : ℕ
+  pub is : k ≡ n + place
+  pub below : place < length us
+  pub unit : slice_get us place ≡ unit_among us x
+
+pub number_found : (us : List units.ProgramUnit) (n : ℕ) (x : List ℕ) (k : ℕ) → number_among us n x ≡ Some k → NumberedUnit us n x k
+number_found [] n x k h = absurd cc
+number_found (u ∷ us) n x k h = by (is_same_text x u.name) refl h
+  where
+    by : (b : Bool) → is_same_text x u.name ≡ b → (if b then Some n else number_among us (n + 1) x) ≡ Some k → NumberedUnit (u ∷ us) n x k
+    by true e m =
+        let same : n ≡ k = cc in
+        record { place = 0; is = omega (arith, same); below = omega arith; unit = ap (λ (b : Bool). if b then Some u else unit_among us x) (sym e) }
+    by false e m =
+        let more = number_found us (n + 1) x k m in
+        let is = more.is in
+        let below = more.below in
+        record { place = suc more.place; is = omega (arith, is); below = omega (arith, below); unit = more.unit ∙ ap (λ (b : Bool). if b then Some u else unit_among us x) (sym e) }
+
+pub number_missing : (us : List units.ProgramUnit) (n : ℕ) (x : List ℕ) → number_among us n x ≡ None → unit_among us x ≡ None
+number_missing [] n x h = refl
+number_missing (u ∷ us) n x h = by (is_same_text x u.name) refl h
+  where
+    by : (b : Bool) → is_same_text x u.name ≡ b → (if b then Some n else number_among us (n + 1) x) ≡ None → unit_among (u ∷ us) x ≡ None
+    by true e m = absurd cc
+    by false e m = ap (λ (b : Bool). if b then Some u else unit_among us x) e ∙ number_missing us (n + 1) x m
+
+behind_first : (us : List units.ProgramUnit) (place : ℕ) → slice_get us (1 + place) ≡ slice_get (drop 1 us) place
+behind_first [] place = refl
+behind_first (u ∷ us) place = let more : 1 + place ≡ suc place = omega arith in ap (slice_get (u ∷ us)) more
+
+below_first : (us : List units.ProgramUnit) (place : ℕ) → place < length (drop 1 us) → 1 + place < length us
+below_first [] place h = absurd (omega (arith, h))
+below_first (u ∷ us) place h = omega (arith, h)
+
+-- the number of a subroutine is below the count of units
+pub number_below : (us : List ProgramUnit) (x : List ℕ) (k : ℕ) → number_of_unit (map program_unit_of us) x ≡ Some k → k < length us
+number_below us x k h =
+    let found = number_found (drop 1 (map program_unit_of us)) 1 x k h in
+    let below = below_first (map program_unit_of us) found.place found.below in
+    let is = found.is in
+    omega (arith, below, is, length-map us program_unit_of)
+
+-- the subroutine with a number
+pub unit_found : (us : List ProgramUnit) (x : List ℕ) (k : ℕ) (u : ProgramUnit) → number_of_unit (map program_unit_of us) x ≡ Some k → slice_get us k ≡ Some u → unit_of (units_of us) x ≡ Some (program_unit_of u)
+unit_found us x k u h is =
+    let found = number_found (drop 1 (map program_unit_of us)) 1 x k h in
+    sym found.unit
+    ∙ sym (behind_first (map program_unit_of us) found.place)
+    ∙ ap (slice_get (map program_unit_of us)) (sym found.is)
+    ∙ slice_get-map program_unit_of us k
+    ∙ ap (option_map program_unit_of) is
 
 -- a table by the number of its unit
 pub table_found : (us : List ProgramUnit) (tables : List Table) (n : ℕ) (u : ProgramUnit) (t : Table) → AreTables (map program_unit_of us) tables → slice_get us n ≡ Some u → slice_get tables n ≡ Some t
@@ -39,10 +90,6 @@ table_found us tables n u t are is there =
     ∙ slice_get-map (λ v. table_of (for_names v)) (map program_unit_of us) n
     ∙ ap (option_map (λ v. table_of (for_names v))) (slice_get-map program_unit_of us n ∙ ap (option_map program_unit_of) is) in
     same_Some t (table_of (for_names (program_unit_of u))) (sym there ∙ found)
-
--- a number is below their count
-pub number_below : (us : List ProgramUnit) (numbers : List (List ℕ × ℕ)) (x : List ℕ) (n : ℕ) → HaveNumbers (map program_unit_of us) numbers → entry_of numbers x ≡ Some n → n < length us
-number_below us numbers x n have there = let h = have.below x n there in omega (arith, h, length-map us program_unit_of)
 
 -- there are as many tables as units
 pub tables_count : (us : List ProgramUnit) (tables : List Table) → AreTables (map program_unit_of us) tables → length tables ≡ length us

@@ -1,15 +1,16 @@
 -- What the names of a subroutine stand for, as the code tells. Contracts of private functions alone speak of it.
-use Rattle.std.specs.Prelude.{◌≡◌, ◌≤◌, ◌++◌, ℕ, ℤ, List, drop, Option, is_some, unsigned_abs, All, if◌then◌else◌}
+use Rattle.std.specs.Prelude.{◌≡◌, ◌++◌, ℕ, ℤ, List, drop, Option, is_some, All, if◌then◌else◌}
 use Rattle.ped_tree.specs.Tree.{ExprTree, StmtTree}
 use Rattle.ped_valid.specs.ped_symbols.specs.declared.symbols.Kind.{Kind}
 use Rattle.ped_valid.specs.ped_symbols.specs.Entries.{entry_of}
 use Rattle.ped_valid.specs.ped_symbols.specs.Values.{Values}
 use Rattle.ped_calls.specs.Units.{ProgramUnit}
+use Rattle.ped_calls.specs.Giving.{IsSmall}
 use Rattle.ped_calls.specs.Expanding.{Given, Meanings, Renamed, with_constants, constants_of, body_names, renamed, with_renamed, with_formals, bound_arguments}
 
 -- values that literals with signs have
 abbrev pub AreSmall : Values → Type 0
-AreSmall values = All (λ (v : List ℕ × ℤ). unsigned_abs v.1 ≤ 2147483647) values
+AreSmall values = All (λ (v : List ℕ × ℤ). IsSmall v.1) values
 
 -- a name of this kind, with a new name where nothing stands for it yet
 abbrev pub renamed_one : List ℕ → Option Kind → Renamed → Renamed

@@ -1,13 +1,12 @@
 -- What goes along while CALLs are expanded, as the code keeps it. Contracts of private functions alone speak of it.
-use Rattle.std.specs.Prelude.{◌≡◌, ◌≤◌, ◌<◌, ◌+◌, ◌-◌, ◌⊎◌, ℕ, List, [], ◌∷◌, map, drop, length, slice_get, Bool, false, Option, Some, None}
+use Rattle.std.specs.Prelude.{◌≡◌, ◌≤◌, ◌<◌, ◌+◌, ◌-◌, ◌⊎◌, ℕ, List, [], ◌∷◌, map, drop, length, slice_get, false, Some, None}
 use Rattle.ped_tree.specs.Tree.{ExprTree, StmtTree, StmtTrees, no_stmts}
 use Rattle.ped_tree.specs.Views.{pack_exprs}
 use Rattle.ped_tree.specs.Numbering.{statements_count}
 use Rattle.ped_tree.specs.Grammar.Fits.{Surroundings, stmt_fits, stmts_fit}
 use Rattle.ped_tree.specs.Grammar.LimitNumbers.{most_statements}
-use Rattle.ped_valid.specs.ped_symbols.specs.Entries.{entry_of}
 use Rattle.ped_valid.specs.ped_symbols.specs.Kinds.{table_of}
-use Rattle.ped_calls.specs.Units.{ProgramUnit, ProgramUnits, unit_of, unit_among}
+use Rattle.ped_calls.specs.Units.{ProgramUnit, ProgramUnits, unit_of}
 use Rattle.ped_calls.specs.Forms.{Called}
 use Rattle.ped_calls.specs.Refusals.{for_names}
 use Rattle.ped_calls.specs.Expanding as plain
@@ -16,6 +15,7 @@ use Rattle.ped_calls.specs.Binding.{local_meanings}
 use Rattle.ped_calls.specs.Giving.{given_of, HasNext}
 use Rattle.ped_calls.specs.Meaning.{meanings_of}
 use Rattle.ped_calls.specs.Naming.{AreTables}
+use Rattle.ped_calls.specs.Numbers.{AreNumbers}
 use Rattle.ped_calls.specs.Views.{program_unit_of}
 use Rattle.ped_calls.specs.declared.expanding.Course.{Course}
 use Rattle.ped_calls.specs.declared.expanding.File.{File}
@@ -34,21 +34,11 @@ first_unit (u ∷ us) = u
 abbrev pub units_of : List code.ProgramUnit → ProgramUnits
 units_of us = record { main = first_unit (map program_unit_of us); others = drop 1 (map program_unit_of us) }
 
--- the unit with a number, where there is a number
-abbrev pub numbered : List ProgramUnit → Option ℕ → Option ProgramUnit
-numbered us None = None
-numbered us (Some n) = slice_get us n
-
--- numbers of units, the main program first, by the names of subroutines: of each name that of the first
-pub record HaveNumbers (us : List ProgramUnit) (numbers : List (List ℕ × ℕ)) : Type 0 where
-  pub below : (x : List ℕ) (n : ℕ) → entry_of numbers x ≡ Some n → n < length us
-  pub first : (x : List ℕ) → numbered us (entry_of numbers x) ≡ unit_among (drop 1 us) x
-
 -- the tables and the numbers are those of the units, of which there is one at least
 pub record KnowsFile (f : File) : Type 0 where
   pub some : 0 < length f.units.now
   pub tables : AreTables (map program_unit_of f.units.now) f.tables.now
-  pub numbers : HaveNumbers (map program_unit_of f.units.now) f.numbers.now.entries
+  pub numbers : AreNumbers (map program_unit_of f.units.now) f.numbers.now.entries
 
 -- there is no more room than a program has, and the next new name is known
 pub record IsUnderWay (c : Course) : Type 0 where

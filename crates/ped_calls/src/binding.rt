@@ -1,7 +1,7 @@
 //! What the names of a subroutine stand for in the block of a CALL: dummy arguments for arguments, constants for their
 //! literals, all other names for new ones (ANSI X3.9-1978, section 15.9).
 
-ghost use Rattle.std.specs.Prelude.{◌≡◌, ◌≤◌, ◌+◌, ◌++◌, ◌∷◌, [], IfOk, IfSome, OnOk, map, drop, unsigned_abs};
+ghost use Rattle.std.specs.Prelude.{◌≡◌, ◌+◌, ◌++◌, ◌∷◌, [], IfOk, IfSome, OnOk, map, drop};
 ghost use Rattle.ped_tree.specs.Tree.{Var, Assign};
 ghost use Rattle.ped_tree.specs.Views.{expr_tree, stmt_tree};
 ghost use Rattle.ped_valid.specs.ped_symbols.specs.Kinds.{table_of};
@@ -10,7 +10,7 @@ ghost use Rattle.ped_valid.specs.ped_symbols.specs.Entries.{entry_of};
 ghost use Rattle.ped_calls.specs.Refusals.{for_names};
 ghost use Rattle.ped_calls.specs.Expanding as Spec;
 ghost use Rattle.ped_calls.specs.Expanding.{free_name, with_new, with_formals, with_constants, bound_arguments};
-ghost use Rattle.ped_calls.specs.Giving.{given_of, HasNext};
+ghost use Rattle.ped_calls.specs.Giving.{given_of, HasNext, IsSmall, HasSmallKind};
 ghost use Rattle.ped_calls.specs.Meaning.{meanings_of};
 ghost use Rattle.ped_calls.specs.Binding.{AreSmall, local_meanings, renamed_one};
 ghost use Rattle.ped_calls.specs.Views.{program_unit_of};
@@ -129,7 +129,7 @@ fn is_variable_name(constants: &Consts, e: &Expr) -> bool
 /// The value of a constant expression that isn't too large.
 fn fixed_value(constants: &Consts, e: &Expr) -> Option<i64>
     ensures value { result ≡ Values.fixed_value constants.now (expr_tree e.now) }
-    ensures small { IfSome result (λ n. unsigned_abs n ≤ 2147483647) }
+    ensures small { IfSome result IsSmall }
 {
     match constant(e, constants) {
         Some(value) => within(value),
@@ -139,7 +139,7 @@ fn fixed_value(constants: &Consts, e: &Expr) -> Option<i64>
 
 fn within(value: i128) -> Option<i64>
     ensures value { result ≡ Values.within (Some value) }
-    ensures small { IfSome result (λ n. unsigned_abs n ≤ 2147483647) }
+    ensures small { IfSome result IsSmall }
 {
     if -2_147_483_647 <= value && value <= 2_147_483_647 {
         Some(value as i64)
@@ -200,7 +200,7 @@ fn add_constant(
     name: &Name,
     value: i64,
 ) -> Result<(), NoMemory>
-    requires { unsigned_abs value ≤ 2147483647 }
+    requires { IsSmall value }
     ensures { OnOk result (meanings_of meanings.new ≡ with_constants (meanings_of meanings.old) ((name.now, value) ∷ [])) }
 {
     let e = literal(alloc, value)?;
@@ -237,7 +237,8 @@ fn add_local(
     table: &Symbols,
     name: &Name,
 ) -> Result<(), NoMemory>
-    requires { HasNext given.old }
+    requires next { HasNext given.old }
+    requires small { HasSmallKind (entry_of table.now.kinds name.now) }
     ensures meanings { OnOk result (meanings_of meanings.new ≡ (renamed_one name.now (entry_of table.now.kinds name.now) (record { meanings = meanings_of meanings.old; given = given_of given.old })).meanings) }
     ensures given { OnOk result (given_of given.new ≡ (renamed_one name.now (entry_of table.now.kinds name.now) (record { meanings = meanings_of meanings.old; given = given_of given.old })).given) }
     ensures next { OnOk result (HasNext given.new) }

@@ -1,6 +1,6 @@
 //! Each CALL expanded to a marked block with the statements of its subroutine (ANSI X3.9-1978, section 15.9.3).
 
-ghost use Rattle.std.specs.Prelude.{◌≡◌, ◌≤◌, ◌<◌, ◌+◌, ◌⊎◌, [], ℕ, List, IfOk, IfErr, OnOk, MatchOption, map};
+ghost use Rattle.std.specs.Prelude.{◌≡◌, ◌≤◌, ◌<◌, ◌+◌, ◌⊎◌, [], ℕ, List, Some, IfOk, IfErr, OnOk, MatchOption, map, length, slice_get};
 ghost use Rattle.ped_tree.specs.Tree.{Assign, If};
 ghost use Rattle.ped_tree.specs.Views.{expr_tree, pack_exprs, cond_tree, stmt_tree, stmt_trees};
 ghost use Rattle.ped_tree.specs.Numbering as Numbering;
@@ -20,6 +20,7 @@ use crate::binding::{add_names, bind};
 use crate::blocks::{bare_block, begun, block, joined};
 use crate::calls::{arguments_replaced, called_name};
 use crate::giving::Given;
+use crate::numbering::number_of;
 use crate::replacing::{
     Meanings, all_replaced, assignment_replaced, cond_replaced, items_replaced, loop_replaced,
 };
@@ -274,12 +275,24 @@ impl<'u> File<'u> {
         if within.deeper == 0 {
             return None;
         }
-        match self.numbers.get(name) {
-            Some(number) => Some(Subroutine {
-                unit: &self.units[*number],
-                table: &self.tables[*number],
-            }),
+        match number_of(self.numbers, name) {
+            Some(number) => Some(self.subroutine(number)),
             None => None,
+        }
+    }
+
+    /// The subroutine with a number.
+    #[tactic(auto, using(std::proofs::lemmas::Option::slice_get_read, crate::proofs::MainSteps::table_found))]
+    fn subroutine(&self, number: usize) -> Subroutine<'u>
+        requires file { KnowsFile self.now }
+        requires unit { number < length self.now.units.now }
+        requires table { number < length self.now.tables.now }
+        ensures unit { slice_get self.now.units.now number ≡ Some result.unit.now }
+        ensures table { result.table.now ≡ table_of (for_names (program_unit_of result.unit.now)) }
+    {
+        Subroutine {
+            unit: &self.units[number],
+            table: &self.tables[number],
         }
     }
 

@@ -62,7 +62,7 @@ calls_append loops lines (t ∷ ts) s =
     ap (λ (xs : List Placed). calls_in loops lines t ++ xs) (calls_append loops (drop (length (stmt_sites t)) lines) ts s)
     ∙ sym (append_assoc (calls_in loops lines t) (all_calls_in loops (drop (length (stmt_sites t)) lines) (pack_stmts ts)) (calls_in loops (drop (length (stmts_sites (pack_stmts ts))) (drop (length (stmt_sites t)) lines)) s))
     ∙ ap (λ (ls : List ℕ). (calls_in loops lines t ++ all_calls_in loops (drop (length (stmt_sites t)) lines) (pack_stmts ts)) ++ calls_in loops ls s)
-    (drop-drop (length (stmts_sites (pack_stmts ts))) (length (stmt_sites t)) lines ∙ ap (λ (k : ℕ). drop k lines) (sym (length-append (stmt_sites t) (stmts_sites (pack_stmts ts)))))
+        (drop-drop (length (stmts_sites (pack_stmts ts))) (length (stmt_sites t)) lines ∙ ap (λ (k : ℕ). drop k lines) (sym (length-append (stmt_sites t) (stmts_sites (pack_stmts ts)))))
 
 -- one statement more
 pub passes_more : (formals : List (List ℕ)) (loops : List Head) (ss all : List StmtTree) (s : StmtTree) (f g h : Found) (l m n : List ℕ) → all ≡ ss ++ s ∷ []
@@ -76,7 +76,7 @@ passes_more formals loops ss all s f g h l m n e a b =
     ∙ ap (map placed_call) (sym (calls_append loops l ss s)) in
     subst (λ (xs : List StmtTree). Passes formals (stmts_sites (pack_stmts xs)) (map placed_call (all_calls_in loops l (pack_stmts xs))) f l h n) (sym e)
     (passes_as formals (stmts_sites (pack_stmts ss) ++ stmt_sites s) (stmts_sites (pack_stmts (ss ++ s ∷ []))) _ _ f h l n (sym (sites_append ss s)) same
-    (passes_both formals (stmts_sites (pack_stmts ss)) (stmt_sites s) _ _ f g h l m n a b))
+        (passes_both formals (stmts_sites (pack_stmts ss)) (stmt_sites s) _ _ f g h l m n a b))
 
 or_false : (b : Bool) → b ≡ (b || false)
 or_false true = refl
@@ -94,18 +94,14 @@ within_loops loops h around within a w =
   where
     variables : (ls : List Head) → map (λ (k : Head). k.variable) ls ++ h.variable ∷ [] ≡ map (λ (k : Head). k.variable) (ls ++ h ∷ [])
     variables ls = sym (map_push (λ (k : Head). k.variable) ls h)
-
     private : (ls : List Head) → flat_map (λ (k : Head). k.private) ls ++ h.private ≡ flat_map (λ (k : Head). k.private) (ls ++ h ∷ [])
     private [] = sym (append-nil h.private)
     private (k ∷ ks) = append_assoc k.private (flat_map (λ (r : Head). r.private) ks) h.private ∙ ap (λ (xs : List (List ℕ)). k.private ++ xs) (private ks)
-
     parallel : (ls : List Head) → (list_any (λ (k : Head). k.parallel) ls || h.parallel) ≡ list_any (λ (k : Head). k.parallel) (ls ++ h ∷ [])
     parallel [] = or_false h.parallel
     parallel (k ∷ ks) = or_moved k.parallel (list_any (λ (r : Head). r.parallel) ks) h.parallel ∙ ap (λ (b : Bool). k.parallel || b) (parallel ks)
-
     said : List (List ℕ) → List (List ℕ) → Bool → Around
     said vs ps b = record { variables = vs; private = ps; parallel = b }
-
     together : {vs ws : List (List ℕ)} {ps qs : List (List ℕ)} {b c : Bool} → vs ≡ ws → ps ≡ qs → b ≡ c → said vs ps b ≡ said ws qs c
     together v p b = λ i. said (v i) (p i) (b i)
 

@@ -80,7 +80,6 @@ no_unit_number us x h = by (number_of_unit (all_units us) x) refl
   where
     none : (a : ProgramUnit) → Some a ≡ None → ⊥
     none a e = absurd cc
-
     by : (o : Option ℕ) → number_of_unit (all_units us) x ≡ o → number_of_unit (all_units us) x ≡ None
     by None e = e
     by (Some k) e = absurd (none _ (sym (unit_of_number us x k e).0 ∙ h))
@@ -161,7 +160,6 @@ places_more us fs all f found lines calls e h l k =
     together r line (inl (inl s)) = record { walk = s.walk; is_walk = in_left s.walk fs (f ∷ []) s.is_walk; stands = s.stands }
     together r line (inl (inr s)) = record { walk = f; is_walk = in_right f fs (f ∷ []) (inl refl); stands = inl s }
     together r line (inr s) = record { walk = f; is_walk = in_right f fs (f ∷ []) (inl refl); stands = inr s }
-
     apart : (r : LinkRefusal) (line : ℕ) → PlacesFound us (fs ++ f ∷ []) r line → EitherStands (EitherStands (PlacesFound us fs) (StandsAtLines f.private.items)) (StandsAtPlaces (all_units us) f.calls.items) r line
     apart r line s = elim (in_either s.walk fs (f ∷ []) s.is_walk) [
       | inl i ↦ inl (inl (record { walk = s.walk; is_walk = i; stands = s.stands }))

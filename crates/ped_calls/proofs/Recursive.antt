@@ -180,13 +180,11 @@ unit_more us ends marks found more i a below returns f h =
     together : (r : LinkRefusal) (line : ℕ) → EitherStands (LeadingBelow us ends i) (LeadingAt us ends i) r line → LeadingBelow us ends (i + 1) r line
     together r line (inl s) = (s.0, omega (arith, s.1), s.2)
     together r line (inr s) = (i, omega arith, s)
-
     apart : (r : LinkRefusal) (line : ℕ) → LeadingBelow us ends (i + 1) r line → EitherStands (LeadingBelow us ends i) (LeadingAt us ends i) r line
     apart r line s = elim (cases_lt s.0 i) [
       | inl low ↦ inl (s.0, low, s.2)
       | inr high ↦ inr (subst (λ (n : ℕ). LeadingAt us ends n r line) (omega (arith, high, s.1)) s.2)
     ]
-
     both : IsFoundIn us ends marks found i more → IsFirstOf (EitherStands (LeadingBelow us ends i) (LeadingAt us ends i)) (first_link_of found more)
     both (inl k) = both_first (LeadingBelow us ends i) (LeadingAt us ends i) found more h k
     both (inr k) = subst (λ (o : Option UnitFinding). IsFirstOf (EitherStands (LeadingBelow us ends i) (LeadingAt us ends i)) (first_link_of found o)) (sym k.0) (skipped_unit us ends marks found i (LeadingBelow us ends i) a below returns k.1 h)

@@ -242,7 +242,11 @@ fn using(alloc: Global, arrays: &NameSet, arguments: &[Expr]) -> Result<Stmt, No
     ensures { IfOk result (λ s. stmt_tree s ≡ Tree.If (Spec.condition_of (Spec.plain_arguments arrays.now (map expr_tree arguments.now))) Tree.no_stmts Tree.no_stmts) }
 {
     let condition = condition(alloc, arrays, arguments)?;
-    Ok(Stmt::block_if(condition, Vec::new(alloc), Vec::new(alloc)))
+    Ok(Stmt::block_if(
+        condition,
+        Vec::new(alloc),
+        Vec::new(alloc),
+    ))
 }
 
 /// A condition in which exactly the arguments stand that are no arrays as a whole.

@@ -1,10 +1,12 @@
 -- One arrow more.
-use Rattle.std.proofs.Common.{◌≡◌, ◌⊎◌, inl, inr, ℕ, ◌<◌, List, [], ◌∷◌, ◌++◌, length, get_or, sym, subst, arith}
+use Rattle.std.proofs.Common.{◌≡◌, ◌⊎◌, inl, inr, ℕ, ◌<◌, List, [], ◌∷◌, ◌++◌, Result, Ok, Err, length, get_or, take, drop, refl, sym, ap, subst, ◌∙◌, arith}
 use Rattle.std.proofs.Math.ListN.{set}
 use Rattle.std.proofs.lemmas.Bool.{cases_eq}
-use Rattle.std.proofs.lemmas.List.{length-set, get_or-set_same, get_or-set_other}
+use Rattle.std.proofs.lemmas.List.{length-set, length-map, get_or-set_same, get_or-set_other, get_or-map, map-set, set-get_or, take_at}
 use Rattle.ped_calls.specs.Linking.{IsIn}
-use Rattle.ped_calls.specs.Reaching.{Leads, EndBelow}
+use Rattle.std.specs.Global.{Vec}
+use Rattle.std.specs.Prelude.{OnOk, OnErr}
+use Rattle.ped_calls.specs.Reaching.{ends_in, Leads, EndBelow}
 use Rattle.ped_calls.proofs.Members.{in_left, in_right, in_either, in_one}
 
 -- the arrows with one more
@@ -38,3 +40,40 @@ ends_below ends from to below low h i j l =
       | inl x ↦ let less = h i j x in omega (arith, less, same)
       | inr y ↦ let is = y.1 in omega (arith, is, low, same)
     ]
+
+-- a slice that is written back is what it was written to
+pub written_back : {X : Type 0} (n : ℕ) (new old : List X) → n ≡ length old → length new ≡ length old → take n (new ++ drop (length new) old) ≡ new
+written_back n new old e l = take_at new (drop (length new) old) n (l ∙ sym e)
+
+-- what holds anyway holds after an error
+pub on_err : {A E : Type 0} (r : Result A E) (P : Type 0) → P → OnErr r P
+on_err (Ok x) P p = tt
+on_err (Err e) P p = p
+
+-- the ends with those of a number exchanged
+end_put : (ends : List (Vec ℕ)) (from : ℕ) (v : Vec ℕ) → ends_in (set ends from v) ≡ set (ends_in ends) from v.items
+end_put ends from v = map-set (λ (w : Vec ℕ). w.items) ends from v
+
+pub same_end : (ends : List (Vec ℕ)) (from : ℕ) (d v : Vec ℕ) → from < length ends → v.items ≡ (get_or ends from d).items → ends_in (set ends from v) ≡ ends_in ends
+same_end ends from d v below e =
+    end_put ends from v
+    ∙ ap (set (ends_in ends) from) (e ∙ sym (get_or-map (λ (w : Vec ℕ). w.items) ends from d [] below))
+    ∙ set-get_or (ends_in ends) from []
+
+pub one_end_more : (ends : List (Vec ℕ)) (from to : ℕ) (d v : Vec ℕ) → from < length ends → v.items ≡ (get_or ends from d).items ++ to ∷ [] → ends_in (set ends from v) ≡ with_arrow (ends_in ends) from to
+one_end_more ends from to d v below e =
+    end_put ends from v
+    ∙ ap (set (ends_in ends) from) (e ∙ ap (λ (ns : List ℕ). ns ++ to ∷ []) (sym (get_or-map (λ (w : Vec ℕ). w.items) ends from d [] below)))
+
+-- all arrows end below the bound, whether one was added or not
+within_by : {A E : Type 0} (r : Result A E) (old new : List (List ℕ)) (from to : ℕ) → from < length old → to < length old → EndBelow (length old) old → OnOk r (new ≡ with_arrow old from to) → OnErr r (new ≡ old) → EndBelow (length new) new × (length new ≡ length old)
+within_by (Ok x) old new from to f t h ok err = (subst (λ (es : List (List ℕ)). EndBelow (length es) es) (sym ok) (ends_below old from to f t h), ap length ok ∙ length-set old from (get_or old from [] ++ to ∷ []))
+within_by (Err x) old new from to f t h ok err = (subst (λ (es : List (List ℕ)). EndBelow (length es) es) (sym err) h, ap length err)
+
+pub added_within : {A E : Type 0} (r : Result A E) (all now : List (Vec ℕ)) (n from to : ℕ) → n ≡ length all → from < length (ends_in all) → to < length (ends_in all) → EndBelow (length (ends_in all)) (ends_in all)
+    → OnOk r (ends_in now ≡ with_arrow (ends_in all) from to) → OnErr r (ends_in now ≡ ends_in all)
+    → EndBelow (length (ends_in (take n (now ++ drop (length now) all)))) (ends_in (take n (now ++ drop (length now) all)))
+added_within r all now n from to e f t h ok err =
+    let known = within_by r (ends_in all) (ends_in now) from to f t h ok err in
+    let long : length now ≡ length all = sym (length-map now (λ (w : Vec ℕ). w.items)) ∙ known.1 ∙ length-map all (λ (w : Vec ℕ). w.items) in
+    subst (λ (vs : List (Vec ℕ)). EndBelow (length (ends_in vs)) (ends_in vs)) (sym (written_back n now all e long)) known.0

@@ -1,11 +1,16 @@
 -- Names of subroutines that are repeated, by units and by their numbers.
-use Rattle.std.proofs.Common.{◌≡◌, ℕ, zero, suc, ◌+◌, ◌-◌, ◌<◌, List, [], ◌∷◌, ◌++◌, Bool, true, false, Option, Some, None, length, map, take, drop, get_or, refl, sym, ap, ◌∙◌, ◌||◌, if◌then◌else◌, arith}
+use Rattle.std.proofs.Common.{◌≡◌, inl, inr, ℕ, zero, suc, ◌+◌, ◌-◌, ◌<◌, List, [], ◌∷◌, ◌++◌, Bool, true, false, Option, Some, None, length, map, take, drop, get_or, refl, sym, ap, subst, ◌∙◌, ◌||◌, if◌then◌else◌, arith}
 use Rattle.ped_base.specs.Lists.{is_same_text, is_among}
 use Rattle.ped_valid.specs.ped_symbols.specs.NameRefusals.{has_twice}
 use Rattle.ped_calls.specs.Units.{ProgramUnit, ProgramUnits, all_units}
 use Rattle.ped_calls.specs.Linking.{LinkRefusal, NoUnit, Recursion, Arguments, Aliased, CallPlace}
 use Rattle.ped_calls.specs.Numbers.{number_among, number_of_unit}
 use Rattle.ped_calls.specs.Scenes.{unit_at, AtHeads}
+use Rattle.ped_calls.specs.FirstLinks.{IsFirstOf, EitherStands, StandsIf, standing_link}
+use Rattle.ped_calls.specs.declared.refusals.UnitFinding.{UnitFinding}
+use Rattle.ped_calls.specs.declared.refusals.UnitRule.TheVariants as rule
+use Rattle.std.proofs.lemmas.Bool.{cases_lt}
+use Rattle.ped_calls.proofs.FirstFound.{first_as, standing_first}
 use Rattle.ped_calls.proofs.Members.{place_in, in_place}
 
 -- the name of a unit
@@ -131,3 +136,54 @@ heads_to us n wide Arguments line h =
 heads_to us n wide Recursion line h = absurd h
 heads_to us n wide Aliased line h = absurd h
 heads_to us n wide CallPlace line h = absurd h
+
+-- none at no SUBROUTINE statement
+pub no_heads : (us : ProgramUnits) → IsFirstOf (HeadsBelow us 0) None
+no_heads us NoUnit line h = absurd (omega (arith, h.below))
+no_heads us Recursion line h = h
+no_heads us Arguments line h = absurd (omega (arith, h.below))
+no_heads us Aliased line h = h
+no_heads us CallPlace line h = h
+
+-- the unit with this number has the name of one with a lesser number
+abbrev pub RepeatsHere : ProgramUnits → ℕ → Type 0
+RepeatsHere us n = (0 < n) × ((j : ℕ) × (number_of_unit (all_units us) (unit_at us n).name ≡ Some j) × (j < n))
+
+-- what stands at one more SUBROUTINE statement
+abbrev HeadMore : ProgramUnits → ℕ → LinkRefusal → ℕ → Type 0
+HeadMore us n = EitherStands (EitherStands (HeadsBelow us n) (StandsIf NoUnit (unit_at us n).line (RepeatsHere us n))) (StandsIf Arguments (unit_at us n).line (has_twice (unit_at us n).formals ≡ true))
+
+head_together : (us : ProgramUnits) (n : ℕ) (r : LinkRefusal) (line : ℕ) → HeadMore us n r line → HeadsBelow us (n + 1) r line
+head_together us n NoUnit line (inl (inl s)) = record { number = s.number; above = s.above; below = omega (arith, s.below); earlier = s.earlier; is_earlier = s.is_earlier; less = s.less; there = s.there }
+head_together us n Arguments line (inl (inl s)) = record { number = s.number; below = omega (arith, s.below); twice = s.twice; there = s.there }
+head_together us n Recursion line (inl (inl s)) = s
+head_together us n Aliased line (inl (inl s)) = s
+head_together us n CallPlace line (inl (inl s)) = s
+head_together us n r line (inl (inr s)) = subst (λ (q : LinkRefusal). HeadsBelow us (n + 1) q line) (sym s.0) (record { number = n; above = s.2.0; below = omega arith; earlier = s.2.1.0; is_earlier = s.2.1.1; less = s.2.1.2; there = sym s.1 })
+head_together us n r line (inr s) = subst (λ (q : LinkRefusal). HeadsBelow us (n + 1) q line) (sym s.0) (record { number = n; below = omega arith; twice = s.2; there = sym s.1 })
+
+head_apart : (us : ProgramUnits) (n : ℕ) (r : LinkRefusal) (line : ℕ) → HeadsBelow us (n + 1) r line → HeadMore us n r line
+head_apart us n NoUnit line s = elim (cases_lt s.number n) [
+  | inl low ↦ inl (inl (record { number = s.number; above = s.above; below = low; earlier = s.earlier; is_earlier = s.is_earlier; less = s.less; there = s.there }))
+  | inr high ↦
+      let is : s.number ≡ n = omega (arith, high, s.below) in
+      inl (inr (refl, sym (ap (λ (k : ℕ). (unit_at us k).line) (sym is) ∙ s.there), (omega (arith, is, s.above), (s.earlier, ap (λ (k : ℕ). number_of_unit (all_units us) (unit_at us k).name) (sym is) ∙ s.is_earlier, omega (arith, is, s.less)))))
+]
+head_apart us n Arguments line s = elim (cases_lt s.number n) [
+  | inl low ↦ inl (inl (record { number = s.number; below = low; twice = s.twice; there = s.there }))
+  | inr high ↦
+      let is : s.number ≡ n = omega (arith, high, s.below) in
+      inr (refl, sym (ap (λ (k : ℕ). (unit_at us k).line) (sym is) ∙ s.there), ap (λ (k : ℕ). has_twice (unit_at us k).formals) (sym is) ∙ s.twice)
+]
+head_apart us n Recursion line s = inl (inl s)
+head_apart us n Aliased line s = inl (inl s)
+head_apart us n CallPlace line s = inl (inl s)
+
+-- one SUBROUTINE statement more
+pub heads_more : (us : ProgramUnits) (n : ℕ) (found : Option UnitFinding) (repeats twice : Bool) → IsFirstOf (HeadsBelow us n) found → (repeats ≡ true → RepeatsHere us n) → (RepeatsHere us n → repeats ≡ true) → twice ≡ has_twice (unit_at us n).formals
+    → IsFirstOf (HeadsBelow us (n + 1)) (standing_link (standing_link found repeats rule.NoUnit (unit_at us n).line) twice rule.Arguments (unit_at us n).line)
+heads_more us n found repeats twice h f g e =
+    let line = (unit_at us n).line in
+    let one = standing_first (HeadsBelow us n) found repeats rule.NoUnit line NoUnit (RepeatsHere us n) refl h f g in
+    let two = standing_first (EitherStands (HeadsBelow us n) (StandsIf NoUnit line (RepeatsHere us n))) (standing_link found repeats rule.NoUnit line) twice rule.Arguments line Arguments (has_twice (unit_at us n).formals ≡ true) refl one (λ t. sym e ∙ t) (λ t. e ∙ t) in
+    first_as (HeadMore us n) (HeadsBelow us (n + 1)) (standing_link (standing_link found repeats rule.NoUnit line) twice rule.Arguments line) (head_together us n) (head_apart us n) two

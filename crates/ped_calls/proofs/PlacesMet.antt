@@ -1,5 +1,5 @@
 -- What stands at CALLs and PRIVATE statements, by units and by what walks over them find.
-use Rattle.std.proofs.Common.{◌≡◌, ◌⊎◌, inl, inr, ℕ, List, [], ◌∷◌, ◌++◌, Bool, true, false, Option, Some, None, drop, refl, sym, ap, subst, ◌∙◌}
+use Rattle.std.proofs.Common.{◌≡◌, ◌⊎◌, inl, inr, ℕ, zero, suc, ◌<◌, List, [], ◌∷◌, ◌++◌, Bool, true, false, Option, Some, None, length, drop, get_or, refl, sym, ap, subst, ◌∙◌, arith}
 use Rattle.std.specs.List.{list_any}
 use Rattle.std.specs.Prelude.{IsTrue, if◌then◌else◌}
 use Rattle.std.proofs.lemmas.Bool.{or_left, or_right, or_cases}
@@ -165,3 +165,10 @@ places_more us fs all f found lines calls e h l k =
       | inl i ↦ inl (inl (record { walk = s.walk; is_walk = i; stands = s.stands }))
       | inr j ↦ elim (subst (λ (g : Found). EitherStands (StandsAtLines g.private.items) (StandsAtPlaces (all_units us) g.calls.items) r line) (in_one s.walk f j) s.stands) [ inl x ↦ inl (inr x) | inr y ↦ inr y ]
     ]
+
+-- the walk of the unit with a number
+pub walk_there : (us : List ProgramUnit) (fs : List Found) (k : ℕ) (d : ProgramUnit) (f : Found) → AreWalked us fs → k < length us → f ≡ get_or fs k f → IsWalked (get_or us k d) f
+walk_there [] fs k d f w h e = absurd (omega (arith, h))
+walk_there (u ∷ us) [] k d f w h e = absurd w
+walk_there (u ∷ us) (g ∷ gs) zero d f w h e = subst (IsWalked u) (sym e) w.0
+walk_there (u ∷ us) (g ∷ gs) (suc k) d f w h e = walk_there us gs k d f w.1 (omega (arith, h)) e

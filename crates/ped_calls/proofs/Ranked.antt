@@ -1,9 +1,12 @@
 -- Where ranks rise along arrows, none leads back to a number with a rank.
-use Rattle.std.proofs.Common.{◌≡◌, ℕ, ◌<◌, ◌≤◌, List, [], ◌∷◌, ◌++◌, get_or, refl, sym, subst, inl, inr, arith}
+use Rattle.std.proofs.Common.{◌≡◌, ℕ, zero, suc, ◌<◌, ◌≤◌, Bool, true, false, not, ◌||◌, List, [], ◌∷◌, ◌++◌, length, map, get_or, refl, sym, ap, subst, ◌∙◌, inl, inr, arith}
+use Rattle.std.specs.Prelude.{◌==◌}
+use Rattle.std.proofs.lemmas.List.{get_or-map}
 use Rattle.ped_calls.specs.Linking.{IsIn}
-use Rattle.ped_calls.specs.Reaching.{Leads, LeadAlong, IsReached}
+use Rattle.ped_calls.specs.Reaching.{Leads, LeadAlong, IsReached, IsMarked}
 use Rattle.ped_calls.specs.Ranking.{rank_of, Rise, RiseFrom}
 use Rattle.ped_calls.proofs.Members.{in_one}
+use Rattle.ped_calls.proofs.Reached.{leads_within}
 
 rises_along : (ends : List (List ℕ)) (ranks : List ℕ) (path : List ℕ) (j i : ℕ) → Rise ends ranks → LeadAlong ends j path i → 0 < rank_of ranks i → (0 < rank_of ranks j) × (rank_of ranks j ≤ rank_of ranks i)
 rises_along ends ranks [] j i r e h = subst (λ (n : ℕ). (0 < rank_of ranks n) × (rank_of ranks n ≤ rank_of ranks i)) (sym e) (h, omega arith)
@@ -38,3 +41,16 @@ rise_to_all ranks i (j ∷ js) f = (f j (inl refl), rise_to_all ranks i js (λ k
 pub rise_more : (ranks : List ℕ) (i j : ℕ) (js : List ℕ) → RiseFrom ranks i js → (0 < rank_of ranks j → (0 < rank_of ranks i) × (rank_of ranks i < rank_of ranks j)) → RiseFrom ranks i (js ++ j ∷ [])
 rise_more ranks i j [] r h = (h, tt)
 rise_more ranks i j (k ∷ ks) r h = (r.0, rise_more ranks i j ks r.1 h)
+
+-- all to which arrows lead back are among those without a rank, where ranks rise, and else among all
+pub marked_all : (ends : List (List ℕ)) (ranks : List ℕ) (rising : Bool) (marks : List Bool) → (rising ≡ true → Rise ends ranks) → length ranks ≡ length ends → marks ≡ map (λ (r : ℕ). not rising || (r == 0)) ranks
+    → (i j : ℕ) → Leads ends i j → IsReached ends (j ∷ []) i → IsMarked marks i
+marked_all ends ranks rising marks f wide e i j l r =
+    let below = leads_within ends i j l in
+    let within : i < length ranks = omega (arith, below, wide) in
+    ap (λ (ms : List Bool). get_or ms i false) e ∙ get_or-map (λ (n : ℕ). not rising || (n == 0)) ranks i 0 false within ∙ by rising refl (rank_of ranks i) refl
+  where
+    by : (b : Bool) → rising ≡ b → (n : ℕ) → rank_of ranks i ≡ n → (not b || (n == 0)) ≡ true
+    by false e n k = refl
+    by true e zero k = refl
+    by true e (suc n) k = absurd (none_returns ends ranks i j (f e) l r (omega (arith, k)))

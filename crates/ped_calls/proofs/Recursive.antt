@@ -8,13 +8,13 @@ use Rattle.ped_calls.specs.FirstLinks.{comes_first, IsFirstOf, EitherStands, fir
 use Rattle.ped_calls.specs.Numbers.{number_of_unit, IsMarkedNumber}
 use Rattle.ped_calls.specs.Placing.{placed_call}
 use Rattle.ped_calls.specs.Reaching.{Leads, LeadAlong, IsReached, IsMarked}
-use Rattle.ped_calls.specs.Recursions.{IsLeading, MayComeFirst, IsFoundIn}
+use Rattle.ped_calls.specs.Recursions.{CallsIn, IsLeading, MayComeFirst, IsFoundIn}
 use Rattle.ped_calls.specs.Scenes.{unit_at, CallsAt, CallsMarked, StandsAtCalls, AtRecursions}
 use Rattle.ped_calls.specs.declared.placing.PlacedCall.{PlacedCall}
 use Rattle.ped_calls.specs.declared.refusals.UnitFinding.{UnitFinding}
 use Rattle.ped_calls.specs.declared.refusals.UnitRule.TheVariants as rule
 use Rattle.ped_calls.proofs.FirstFound.{both_first, first_as}
-use Rattle.ped_calls.proofs.Members.{in_map, map_in, in_place}
+use Rattle.ped_calls.proofs.Members.{in_map, map_in, in_place, in_left, in_right, in_either, in_one}
 use Rattle.ped_calls.proofs.NumberedUnits.{unit_of_number, number_of_unit_of}
 use Rattle.ped_calls.proofs.Reached.{along_more}
 
@@ -188,3 +188,52 @@ unit_more us ends marks found more i a below returns f h =
     both : IsFoundIn us ends marks found i more → IsFirstOf (EitherStands (LeadingBelow us ends i) (LeadingAt us ends i)) (first_link_of found more)
     both (inl k) = both_first (LeadingBelow us ends i) (LeadingAt us ends i) found more h k
     both (inr k) = subst (λ (o : Option UnitFinding). IsFirstOf (EitherStands (LeadingBelow us ends i) (LeadingAt us ends i)) (first_link_of found o)) (sym k.0) (skipped_unit us ends marks found i (LeadingBelow us ends i) a below returns k.1 h)
+
+-- the arrows of one CALL more
+pub callers_step : (us : ProgramUnits) (calls all : List PlacedCall) (c : PlacedCall) (unit : ℕ) (callee : Option ℕ) (old mid new : List (List ℕ)) → all ≡ calls ++ c ∷ [] → callee ≡ number_of_unit (all_units us) c.name
+    → ((k i : ℕ) → Leads mid k i ↔ (Leads old k i ⊎ ((i ≡ unit) × CallsIn (all_units us) calls k))) → ((k i : ℕ) → Leads new k i ↔ (Leads mid k i ⊎ ((i ≡ unit) × (callee ≡ Some k))))
+    → (k i : ℕ) → Leads new k i ↔ (Leads old k i ⊎ ((i ≡ unit) × CallsIn (all_units us) all k))
+callers_step us calls all c unit callee old mid new e named before now k i = (from, to)
+  where
+    more : CallsIn (all_units us) calls k → CallsIn (all_units us) all k
+    more x = (x.0, subst (IsIn x.0) (sym e) (in_left x.0 calls (c ∷ []) x.1), x.2)
+    here : callee ≡ Some k → CallsIn (all_units us) all k
+    here h = (c, subst (IsIn c) (sym e) (in_right c calls (c ∷ []) (inl refl)), sym named ∙ h)
+    from : Leads new k i → Leads old k i ⊎ ((i ≡ unit) × CallsIn (all_units us) all k)
+    from l = elim ((now k i).0 l) [
+      | inl m ↦ elim ((before k i).0 m) [ inl o ↦ inl o | inr x ↦ inr (x.0, more x.1) ]
+      | inr h ↦ inr (h.0, here h.1)
+    ]
+    to : Leads old k i ⊎ ((i ≡ unit) × CallsIn (all_units us) all k) → Leads new k i
+    to (inl o) = (now k i).1 (inl ((before k i).1 (inl o)))
+    to (inr x) = elim (in_either x.1.0 calls (c ∷ []) (subst (IsIn x.1.0) e x.1.1)) [
+      | inl y ↦ (now k i).1 (inl ((before k i).1 (inr (x.0, (x.1.0, y, x.1.2)))))
+      | inr z ↦ (now k i).1 (inr (x.0, named ∙ ap (λ (d : PlacedCall). number_of_unit (all_units us) d.name) (sym (in_one x.1.0 c z)) ∙ x.1.2))
+    ]
+
+-- the arrows of one unit more
+pub callers_more : (us : ProgramUnits) (n : ℕ) (calls : List PlacedCall) (old new : List (List ℕ)) → calls ≡ map placed_call (calls_of (unit_at us n)) → n < length (all_units us)
+    → ((k i : ℕ) → Leads old k i ↔ ((i < n) × CallsAt us i k)) → ((k i : ℕ) → Leads new k i ↔ (Leads old k i ⊎ ((i ≡ n) × CallsIn (all_units us) calls k)))
+    → (k i : ℕ) → Leads new k i ↔ ((i < n + 1) × CallsAt us i k)
+callers_more us n calls old new e below before now k i = (from, to)
+  where
+    from : Leads new k i → (i < n + 1) × CallsAt us i k
+    from l = elim ((now k i).0 l) [
+      | inl o ↦ let known = (before k i).0 o in let low = known.0 in (omega (arith, low), known.1)
+      | inr x ↦
+          let call = in_map placed_call x.1.0 (calls_of (unit_at us n)) (subst (IsIn x.1.0) e x.1.1) in
+          let is = x.0 in
+          (omega (arith, is), subst (λ (m : ℕ). CallsAt us m k) (sym is) (below, (call.0, call.1, ap (λ (d : PlacedCall). number_of_unit (all_units us) d.name) (sym call.2) ∙ x.1.2)))
+    ]
+    to : (i < n + 1) × CallsAt us i k → Leads new k i
+    to h = elim (cases_lt i n) [
+      | inl low ↦ (now k i).1 (inl ((before k i).1 (low, h.1)))
+      | inr high ↦
+          let is : i ≡ n = omega (arith, high, h.0) in
+          let at : CallsAt us n k = subst (λ (m : ℕ). CallsAt us m k) is h.1 in
+          (now k i).1 (inr (is, (placed_call at.1.0, subst (IsIn (placed_call at.1.0)) (sym e) (map_in placed_call at.1.0 (calls_of (unit_at us n)) at.1.1), at.1.2)))
+    ]
+
+-- the arrows of all units
+pub all_callers : (us : ProgramUnits) (n : ℕ) (ends : List (List ℕ)) → n ≡ length (all_units us) → ((k i : ℕ) → Leads ends k i ↔ ((i < n) × CallsAt us i k)) → AreCallers us ends
+all_callers us n ends wide f k i = (λ l. ((f k i).0 l).1, λ h. (f k i).1 (omega (arith, wide, h.0), h))

@@ -118,7 +118,7 @@ impl<'l> At<'l> {
     fn count(&self) -> usize
         ensures arguments { result ≤ length self.now.call.now.arguments }
         ensures formals { result ≤ length self.now.formals.now }
-        ensures { (result ≡ length self.now.call.now.arguments) ⊎ (result ≡ length self.now.formals.now) }
+        ensures one { (result ≡ length self.now.call.now.arguments) ⊎ (result ≡ length self.now.formals.now) }
     {
         lesser(self.call.arguments.len(), self.formals.len())
     }

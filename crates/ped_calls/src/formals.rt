@@ -271,7 +271,7 @@ fn add_passings_of(
 pub fn lesser(a: usize, b: usize) -> usize
     ensures first { result ≤ a }
     ensures second { result ≤ b }
-    ensures { (result ≡ a) ⊎ (result ≡ b) }
+    ensures one { (result ≡ a) ⊎ (result ≡ b) }
 {
     if a < b { a } else { b }
 }

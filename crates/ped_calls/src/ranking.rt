@@ -134,20 +134,29 @@ fn count_down(
     ensures waiting { OnOk result (AreBelow (length counts.old) waiting.new.items) }
 {
     for number in numbers {
-        if count_one_less(counts, *number) {
-            waiting.push(*number)?;
-        }
+        count_one_less(counts, waiting, *number)?;
     }
     Ok(())
 }
 
-/// Counts one less at this number. Answers whether none is left.
-fn count_one_less(counts: &mut [usize], number: usize) -> bool
-    requires { number < length counts.old }
-    ensures { length counts.new ≡ length counts.old }
+/// Counts one less at this number, and has it wait where none is left.
+fn count_one_less(
+    counts: &mut [usize],
+    waiting: &mut Vec<usize>,
+    number: usize,
+) -> Result<(), NoMemory>
+    requires number { number < length counts.old }
+    requires waiting { AreBelow (length counts.old) waiting.old.items }
+    ensures wide { OnOk result (length counts.new ≡ length counts.old) }
+    ensures waiting { OnOk result (AreBelow (length counts.old) waiting.new.items) }
 {
-    counts[number] = counts[number].saturating_sub(1);
-    counts[number] == 0
+    let left = counts[number].saturating_sub(1);
+    counts[number] = left;
+    if left > 0 {
+        return Ok(());
+    }
+    waiting.push(number)?;
+    Ok(())
 }
 
 /// So many zeros.
@@ -167,9 +176,18 @@ fn places_of_zeros(alloc: Global, numbers: &[usize]) -> Result<Vec<usize>, NoMem
 {
     let mut places = Vec::new(alloc);
     for place in 0..numbers.len() {
-        if numbers[place] == 0 {
-            places.push(place)?;
-        }
+        add_zero(&mut places, place, numbers[place])?;
     }
     Ok(places)
+}
+
+/// Adds the place of a number where it is zero.
+fn add_zero(places: &mut Vec<usize>, place: usize, number: usize) -> Result<(), NoMemory>
+    ensures { OnOk result ((bound : ℕ) → place < bound → AreBelow bound places.old.items → AreBelow bound places.new.items) }
+{
+    if number > 0 {
+        return Ok(());
+    }
+    places.push(place)?;
+    Ok(())
 }

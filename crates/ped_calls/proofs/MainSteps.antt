@@ -1,17 +1,23 @@
 -- The units of a file by their numbers, and the statements of its main program.
-use Rattle.std.proofs.Common.{◌≡◌, ◌<◌, ◌+◌, ◌-◌, ℕ, suc, List, [], ◌∷◌, map, length, drop, Bool, true, false, Some, None, refl, sym, ap, ◌∙◌, option_map, arith, if◌then◌else◌}
+use Rattle.std.proofs.Common.{◌≡◌, ◌<◌, ◌+◌, ◌-◌, ℕ, suc, List, [], ◌∷◌, map, length, drop, get_or, ◌++◌, Bool, true, false, Some, None, refl, sym, ap, ◌∙◌, option_map, arith, if◌then◌else◌}
 use Rattle.std.specs.Prelude.{slice_get}
 use Rattle.std.proofs.lemmas.List.{length-map, length-drop}
 use Rattle.std.proofs.lemmas.Option.{slice_get-map, same_Some}
+use Rattle.std.specs.List.{flat_map}
 use Rattle.ped_tree.specs.Tree.{StmtTrees}
+use Rattle.ped_tree.specs.NamesIn.{first_occurrences}
+use Rattle.ped_tree.specs.Names.Collecting.{with_name, with_names}
+use Rattle.ped_tree.specs.Views.{decl_tree}
+use Rattle.ped_valid.specs.ped_symbols.specs.declared.symbols.Kind.{Kind}
+use Rattle.ped_valid.specs.ped_symbols.specs.Declarations.{program_name}
 use Rattle.ped_base.specs.Lists.{is_same_text}
-use Rattle.ped_valid.specs.ped_symbols.specs.Kinds.{Table, table_of}
+use Rattle.ped_valid.specs.ped_symbols.specs.Kinds.{Table, table_of, kind_of, names_of}
 use Rattle.ped_valid.specs.ped_symbols.specs.Values.{Values}
 use Rattle.ped_calls.specs.Units.{ProgramUnits, unit_of, unit_among}
 use Rattle.ped_calls.specs.Units as units
 use Rattle.ped_calls.specs.Numbers.{number_among, number_of_unit}
 use Rattle.ped_calls.specs.Refusals.{for_names}
-use Rattle.ped_calls.specs.Expanding.{Given, Meanings, all_expanded_in, call_expanded, main_call_expanded, constants_of}
+use Rattle.ped_calls.specs.Expanding.{Given, Meanings, all_expanded_in, call_expanded, main_call_expanded, constants_of, nothing_given}
 use Rattle.ped_calls.specs.Naming.{AreTables}
 use Rattle.ped_calls.specs.Views.{program_unit_of}
 use Rattle.ped_calls.specs.Courses.{units_of}
@@ -94,3 +100,34 @@ table_found us tables n u t are is there =
 -- there are as many tables as units
 pub tables_count : (us : List ProgramUnit) (tables : List Table) → AreTables (map program_unit_of us) tables → length tables ≡ length us
 tables_count us tables are = ap length are ∙ length-map (map program_unit_of us) (λ u. table_of (for_names u)) ∙ length-map us program_unit_of
+
+-- the table of the main program
+pub main_table : (us : List ProgramUnit) (tables : List Table) (t : Table) → 0 < length us → AreTables (map program_unit_of us) tables → t ≡ get_or tables 0 t → t ≡ table_of (for_names (units_of us).main)
+main_table [] tables t some are h = absurd (omega (arith, some))
+main_table (u ∷ us) tables t some are h = h ∙ ap (λ (ts : List Table). get_or ts 0 t) are
+
+-- the main program
+pub main_unit : (us : List ProgramUnit) (u : ProgramUnit) → 0 < length us → u ≡ get_or us 0 u → program_unit_of u ≡ (units_of us).main
+main_unit [] u some h = absurd (omega (arith, some))
+main_unit (v ∷ us) u some h = ap program_unit_of h
+
+first_parts : (f : List ℕ → Kind) (xs : List (List ℕ)) → map (λ (e : List ℕ × Kind). e.0) (map (λ x. (x, f x)) xs) ≡ xs
+first_parts f [] = refl
+first_parts f (x ∷ xs) = ap (λ (rest : List (List ℕ)). x ∷ rest) (first_parts f xs)
+
+-- what is taken before the first CALL
+pub nothing_yet : (us : List ProgramUnit) (tables : List Table) (t : Table) (u : ProgramUnit) (taken : List (List ℕ)) → 0 < length us → AreTables (map program_unit_of us) tables → t ≡ get_or tables 0 t → u ≡ get_or us 0 u
+    → taken ≡ first_occurrences [] (map (λ (e : List ℕ × Kind). e.0) t.kinds ++ flat_map program_name (map decl_tree u.program.decls.items))
+    → record { taken = taken; arrays = [] } ≡ nothing_given (units_of us)
+nothing_yet us tables t u taken some are ht hu h =
+    let main = (units_of us).main in
+    let names : map (λ (e : List ℕ × Kind). e.0) t.kinds ≡ names_of (for_names main) =
+      ap (λ (x : Table). map (λ (e : List ℕ × Kind). e.0) x.kinds) (main_table us tables t some are ht) ∙ first_parts (kind_of (for_names main)) (names_of (for_names main)) in
+    let decls : map decl_tree u.program.decls.items ≡ main.tree.decls = ap (λ (v : units.ProgramUnit). v.tree.decls) (main_unit us u some hu) in
+    let is : taken ≡ first_occurrences [] (names_of (for_names main) ++ flat_map program_name main.tree.decls) = h ∙ (λ i. first_occurrences [] (names i ++ flat_map program_name (decls i))) in
+    λ i. record { taken = is i; arrays = [] }
+
+-- names that are added behind others
+pub with_both : (a xs ys : List (List ℕ)) → with_names (with_names a xs) ys ≡ with_names a (xs ++ ys)
+with_both a [] ys = refl
+with_both a (x ∷ xs) ys = with_both (with_name a x) xs ys

@@ -39,7 +39,7 @@ count_one cs false None e es g body h = let k = h (with_new g) in omega (arith, 
 -- each assignment of an argument is one statement
 pub bound_count : (cs : Values) (es : List ExprTree) (g : Given) (body : StmtTrees)
     → statements_count (behind_stmts (bound_arguments cs es g).assignments body) ≡ length (bound_arguments cs es g).assignments + statements_count body
-bound_count cs [] g body = refl
+bound_count cs [] g body = omega arith
 bound_count cs (e ∷ es) g body = count_one cs (is_variable_name cs e) (fixed_value cs e) e es g body (λ h. bound_count cs es h body)
 
 with_none : (m : Meanings) (fs : List (List ℕ)) → with_formals m fs [] ≡ m

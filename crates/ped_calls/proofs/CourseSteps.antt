@@ -20,9 +20,9 @@ stops_by Past f h = f h
 stops_by OutOfMemory f h = tt
 
 -- memory ran out
-pub stops_here : {P : Type 0} (e : Stopped) → e ≡ OutOfMemory → StopsAt e P
-stops_here Past h = absurd cc
-stops_here OutOfMemory h = tt
+pub stops_here : (P : Type 0) (e : Stopped) → e ≡ OutOfMemory → StopsAt e P
+stops_here P Past h = absurd cc
+stops_here P OutOfMemory h = tt
 
 behind_last : (done : List StmtTree) (s : StmtTree) (rest : StmtTrees) → behind_stmts (done ++ s ∷ []) rest ≡ behind_stmts done (more_stmts s rest)
 behind_last [] s rest = refl
@@ -164,7 +164,7 @@ module _ (m : Meanings) (f : Called → Given → Expanded Given) (counts : Coun
   then_past depth c a b (too_many h) =
       let more : statements_count b ≤ statements_count (all_expanded_in m f b (all_expanded_in m f a (given_of old.given)).state).statements = all_grow m f counts b _ in
       too_many (omega (arith, h, more))
-  then_past depth c a b (too_deep h) = too_deep (deep_then depth (cond_replaced m c) _ _ h)
+  then_past depth c a b (too_deep h) = too_deep (deep_then depth (cond_replaced m c) (all_expanded_in m f a (given_of old.given)).statements (all_expanded_in m f b (all_expanded_in m f a (given_of old.given)).state).statements h)
 
   -- a limit is passed in the ELSE part
   pub else_past : (depth : ℕ) (c : CondTree) (a b : StmtTrees) (mid : Course)
@@ -177,7 +177,7 @@ module _ (m : Meanings) (f : Called → Given → Expanded Given) (counts : Coun
       let one = first.room in
       too_many (omega (arith, same, one, h))
   else_past depth c a b mid first (too_deep h) =
-      too_deep (deep_else depth (cond_replaced m c) _ _ (subst (λ (g : Given). AreTooDeep depth (all_expanded_in m f b g).statements) first.given h))
+      too_deep (deep_else depth (cond_replaced m c) (all_expanded_in m f a (given_of old.given)).statements (all_expanded_in m f b (all_expanded_in m f a (given_of old.given)).state).statements (subst (λ (g : Given). AreTooDeep depth (all_expanded_in m f b g).statements) first.given h))
 
   -- the body of a loop
   pub do_goes : (h : Head) (b : StmtTrees) (new : Course)
@@ -190,7 +190,7 @@ module _ (m : Meanings) (f : Called → Given → Expanded Given) (counts : Coun
       → Passes old.room (statements_count b) (statements_count (all_expanded_in m f b (given_of old.given)).statements) (AreTooDeep depth (all_expanded_in m f b (given_of old.given)).statements)
       → Passes old.room (statement_count (Do h b)) (statement_count (expanded_in m f (Do h b) (given_of old.given)).statement) (IsTooDeep depth (expanded_in m f (Do h b) (given_of old.given)).statement)
   do_past depth h b (too_many k) = too_many (omega (arith, k))
-  do_past depth h b (too_deep k) = too_deep (deep_loop depth (head_replaced m h) _ k)
+  do_past depth h b (too_deep k) = too_deep (deep_loop depth (head_replaced m h) (all_expanded_in m f b (given_of old.given)).statements k)
 
 -- a statement without CALLs takes no room
 pub stays : (old : Course) (n : ℕ) (g : Given) → IsUnderWay old → given_of old.given ≡ g → GoesOn old old n n g

@@ -121,19 +121,20 @@ own_first s e rest is item source said none others =
       sourced = (sourced_one s e (is_end_next rest) is source here.reads, more.sourced);
     }
 
+own_by : (s : Statement) (e : UnitEntry) (rest : List UnitEntry) (b : Bool) → e.statement ≡ s → IsUnitItem s.text e.item → StatementSourced s
+    → AllSay (as_entries stand_in false (if b then [] else e ∷ rest)) → entries_calls (as_entries call_statement false (if b then [] else e ∷ rest)) ≡ 0
+    → (AllSay (as_entries stand_in false rest) → entries_calls (as_entries call_statement false rest) ≡ 0 → PlainOwn rest)
+    → PlainOwn (if b then [] else e ∷ rest)
+own_by s e rest true is item source said none others = record { same = refl; sourced = tt }
+own_by s e rest false is item source said none others = own_first s e rest is item source said none others
+
 pub own_plain : (ended : Bool) (ss : List Statement) (es : List UnitEntry) → AreUnitEntries ss es → AllByRecursion StatementSourced ss
     → AllSay (as_entries stand_in false (own_entries ended es)) → entries_calls (as_entries call_statement false (own_entries ended es)) ≡ 0 → PlainOwn (own_entries ended es)
 own_plain ended [] [] are sources said none = record { same = refl; sourced = tt }
 own_plain ended [] (e ∷ es) are sources said none = absurd are
 own_plain ended (s ∷ ss) [] are sources said none = absurd are
-own_plain ended (s ∷ ss) (e ∷ es) are sources said none = by_end (ended && begins e.item) said none
-  where
-    rest : List UnitEntry
-    rest = own_entries (ended || ends e.item) es
-
-    by_end : (b : Bool) → AllSay (as_entries stand_in false (if b then [] else e ∷ rest)) → entries_calls (as_entries call_statement false (if b then [] else e ∷ rest)) ≡ 0 → PlainOwn (if b then [] else e ∷ rest)
-    by_end true h k = record { same = refl; sourced = tt }
-    by_end false h k = own_first s e rest are.0 are.1 sources.0 h k (λ m n. own_plain (ended || ends e.item) ss es are.2 sources.1 m n)
+own_plain ended (s ∷ ss) (e ∷ es) are sources said none =
+    own_by s e (own_entries (ended || ends e.item) es) (ended && begins e.item) are.0 are.1 sources.0 said none (λ m n. own_plain (ended || ends e.item) ss es are.2 sources.1 m n)
 
 -- the main program's statements
 abbrev segments_main : List UnitEntry → Segment

@@ -39,27 +39,29 @@ pub record NumberedUnit (us : List units.ProgramUnit) (n : ℕ) (x : List ℕ) (
   pub below : place < length us
   pub unit : slice_get us place ≡ unit_among us x
 
+number_by : (u : units.ProgramUnit) (us : List units.ProgramUnit) (n : ℕ) (x : List ℕ) (k : ℕ) (b : Bool) → is_same_text x u.name ≡ b → (if b then Some n else number_among us (n + 1) x) ≡ Some k
+    → (number_among us (n + 1) x ≡ Some k → NumberedUnit us (n + 1) x k) → NumberedUnit (u ∷ us) n x k
+number_by u us n x k true e m others =
+    let same : n ≡ k = cc in
+    record { place = 0; is = omega (arith, same); below = omega arith; unit = ap (λ (b : Bool). if b then Some u else unit_among us x) (sym e) }
+number_by u us n x k false e m others =
+    let more = others m in
+    let is = more.is in
+    let below = more.below in
+    record { place = suc more.place; is = omega (arith, is); below = omega (arith, below); unit = more.unit ∙ ap (λ (b : Bool). if b then Some u else unit_among us x) (sym e) }
+
 pub number_found : (us : List units.ProgramUnit) (n : ℕ) (x : List ℕ) (k : ℕ) → number_among us n x ≡ Some k → NumberedUnit us n x k
 number_found [] n x k h = absurd cc
-number_found (u ∷ us) n x k h = by (is_same_text x u.name) refl h
-  where
-    by : (b : Bool) → is_same_text x u.name ≡ b → (if b then Some n else number_among us (n + 1) x) ≡ Some k → NumberedUnit (u ∷ us) n x k
-    by true e m =
-        let same : n ≡ k = cc in
-        record { place = 0; is = omega (arith, same); below = omega arith; unit = ap (λ (b : Bool). if b then Some u else unit_among us x) (sym e) }
-    by false e m =
-        let more = number_found us (n + 1) x k m in
-        let is = more.is in
-        let below = more.below in
-        record { place = suc more.place; is = omega (arith, is); below = omega (arith, below); unit = more.unit ∙ ap (λ (b : Bool). if b then Some u else unit_among us x) (sym e) }
+number_found (u ∷ us) n x k h = number_by u us n x k (is_same_text x u.name) refl h (number_found us (n + 1) x k)
+
+missing_by : (u : units.ProgramUnit) (us : List units.ProgramUnit) (n : ℕ) (x : List ℕ) (b : Bool) → is_same_text x u.name ≡ b → (if b then Some n else number_among us (n + 1) x) ≡ None
+    → (number_among us (n + 1) x ≡ None → unit_among us x ≡ None) → unit_among (u ∷ us) x ≡ None
+missing_by u us n x true e m others = absurd cc
+missing_by u us n x false e m others = ap (λ (b : Bool). if b then Some u else unit_among us x) e ∙ others m
 
 pub number_missing : (us : List units.ProgramUnit) (n : ℕ) (x : List ℕ) → number_among us n x ≡ None → unit_among us x ≡ None
 number_missing [] n x h = refl
-number_missing (u ∷ us) n x h = by (is_same_text x u.name) refl h
-  where
-    by : (b : Bool) → is_same_text x u.name ≡ b → (if b then Some n else number_among us (n + 1) x) ≡ None → unit_among (u ∷ us) x ≡ None
-    by true e m = absurd cc
-    by false e m = ap (λ (b : Bool). if b then Some u else unit_among us x) e ∙ number_missing us (n + 1) x m
+number_missing (u ∷ us) n x h = missing_by u us n x (is_same_text x u.name) refl h (number_missing us (n + 1) x)
 
 behind_first : (us : List units.ProgramUnit) (place : ℕ) → slice_get us (1 + place) ≡ slice_get (drop 1 us) place
 behind_first [] place = refl
@@ -122,7 +124,7 @@ pub nothing_yet : (us : List ProgramUnit) (tables : List Table) (t : Table) (u :
 nothing_yet us tables t u taken some are ht hu h =
     let main = (units_of us).main in
     let names : map (λ (e : List ℕ × Kind). e.0) t.kinds ≡ names_of (for_names main) =
-      ap (λ (x : Table). map (λ (e : List ℕ × Kind). e.0) x.kinds) (main_table us tables t some are ht) ∙ first_parts (kind_of (for_names main)) (names_of (for_names main)) in
+    ap (λ (x : Table). map (λ (e : List ℕ × Kind). e.0) x.kinds) (main_table us tables t some are ht) ∙ first_parts (kind_of (for_names main)) (names_of (for_names main)) in
     let decls : map decl_tree u.program.decls.items ≡ main.tree.decls = ap (λ (v : units.ProgramUnit). v.tree.decls) (main_unit us u some hu) in
     let is : taken ≡ first_occurrences [] (names_of (for_names main) ++ flat_map program_name main.tree.decls) = h ∙ (λ i. first_occurrences [] (names i ++ flat_map program_name (decls i))) in
     λ i. record { taken = is i; arrays = [] }

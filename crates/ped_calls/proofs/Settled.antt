@@ -90,6 +90,22 @@ decls_after (Dimension names ∷ ds) front h phase = decl_last_false _ _ _ _ (de
 decls_after (Parameter values ∷ ds) front h phase = decl_last_false _ _ _ _ (decls_after ds front h (decl_rank (Parameter values)))
 decls_after (Save names ∷ ds) front h phase = decl_last_false _ _ _ _ (decls_after ds front h (decl_rank (Save names)))
 
+-- a comment before statements that fit nowhere, or that doesn't fit itself
+comment_further : (text : List ℕ) (rest : StmtTrees) → ((phase : ℕ) → decls_fit phase (front_comments rest) ≡ false) ⊎ ((p : Surroundings) → stmts_fit p (behind_comments rest) ≡ false)
+    → ((phase : ℕ) → decls_fit phase (front_comments (more_stmts (Comment text) rest)) ≡ false) ⊎ ((p : Surroundings) → stmts_fit p (behind_comments rest) ≡ false)
+comment_further text rest (inl k) = inl (λ phase. last_false (comment_fits text) _ (k phase))
+comment_further text rest (inr k) = inr k
+
+moved_nowhere : (p : Surroundings) → moved p 0 ≡ p
+moved_nowhere p = let none : p.statements + 0 ≡ p.statements = omega arith in λ i. record p { statements = none i }
+
+comment_by : (text : List ℕ) (rest : StmtTrees) (b : Bool) → comment_fits text ≡ b → ((p : Surroundings) → (comment_fits text && stmts_fit (moved p 0) rest) ≡ false)
+    → (((p : Surroundings) → stmts_fit p rest ≡ false) → ((phase : ℕ) → decls_fit phase (front_comments rest) ≡ false) ⊎ ((p : Surroundings) → stmts_fit p (behind_comments rest) ≡ false))
+    → ((phase : ℕ) → decls_fit phase (front_comments (more_stmts (Comment text) rest)) ≡ false) ⊎ ((p : Surroundings) → stmts_fit p (behind_comments rest) ≡ false)
+comment_by text rest false k h others = inl (λ phase. first_false (comment_fits text) _ k)
+comment_by text rest true k h others =
+    comment_further text rest (others (λ p. ap (λ (q : Surroundings). stmts_fit q rest) (sym (moved_nowhere p)) ∙ (ap (λ (b : Bool). b && stmts_fit (moved p 0) rest) (sym k) ∙ h p)))
+
 -- a comment or what is behind it doesn't fit
 front_or_behind : (ss : StmtTrees) → ((p : Surroundings) → stmts_fit p ss ≡ false)
     → ((phase : ℕ) → decls_fit phase (front_comments ss) ≡ false) ⊎ ((p : Surroundings) → stmts_fit p (behind_comments ss) ≡ false)
@@ -100,19 +116,7 @@ front_or_behind (more_stmts (Do head body) rest) h = inr h
 front_or_behind (more_stmts (Print items) rest) h = inr h
 front_or_behind (more_stmts (Read items) rest) h = inr h
 front_or_behind (more_stmts Stop rest) h = inr h
-front_or_behind (more_stmts (Comment text) rest) h = at_comment (comment_fits text) refl
-  where
-    further : ((phase : ℕ) → decls_fit phase (front_comments rest) ≡ false) ⊎ ((p : Surroundings) → stmts_fit p (behind_comments rest) ≡ false)
-        → ((phase : ℕ) → decls_fit phase (front_comments (more_stmts (Comment text) rest)) ≡ false) ⊎ ((p : Surroundings) → stmts_fit p (behind_comments rest) ≡ false)
-    further (inl k) = inl (λ phase. last_false (comment_fits text) _ (k phase))
-    further (inr k) = inr k
-
-    at_comment : (b : Bool) → comment_fits text ≡ b
-        → ((phase : ℕ) → decls_fit phase (front_comments (more_stmts (Comment text) rest)) ≡ false) ⊎ ((p : Surroundings) → stmts_fit p (behind_comments rest) ≡ false)
-    at_comment false k = inl (λ phase. first_false (comment_fits text) _ k)
-    at_comment true k = further (front_or_behind rest (λ p.
-        let same : moved p 0 ≡ p = (let zero_more : p.statements + 0 ≡ p.statements = omega arith in λ i. record p { statements = zero_more i }) in
-        ap (λ (q : Surroundings). stmts_fit q rest) (sym same) ∙ (ap (λ (b : Bool). b && stmts_fit (moved p 0) rest) (sym k) ∙ h p)))
+front_or_behind (more_stmts (Comment text) rest) h = comment_by text rest (comment_fits text) refl h (front_or_behind rest)
 
 fits_false : (a b c : Bool) → (a ≡ false) ⊎ (b ≡ false) → (a && b && c) ≡ false
 fits_false a b c (inl h) = first_false (a && b) c (first_false a b h)

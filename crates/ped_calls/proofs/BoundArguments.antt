@@ -113,6 +113,16 @@ constant_at m cs place v h = ap (with_constants m) (sym (drop_at cs place v h))
 pub no_constant_at : (m : Meanings) (cs : Values) (place : ℕ) → slice_get cs place ≡ None → with_constants m (drop (place + 1) cs) ≡ with_constants m (drop place cs)
 no_constant_at m cs place h = ap (with_constants m) (drop_past cs place h)
 
+-- the first of what is left of a list
+pub first_left : {X : Type 0} (xs : List X) (i : ℕ) (x : X) → i < length xs → x ≡ get_or xs i x → drop i xs ≡ x ∷ drop (i + 1) xs
+first_left {X} xs i x h e = at_drop_more (λ (ys : List X). ys) xs i x h ∙ ap (λ (y : X). y ∷ drop (i + 1) xs) (sym e)
+
 -- the dummy argument at a place of their list
-pub formal_kept : (m : Meanings) (fs : List (List ℕ)) (place : ℕ) (d : List ℕ) (e : ExprTree) → place < length fs → with_entry m (get_or fs place d) e ≡ with_formals m (drop place fs) (e ∷ [])
-formal_kept m fs place d e h = sym (formal_at m (drop place fs) (get_or fs place d) (drop (place + 1) fs) e (at_drop_more (λ (ys : List (List ℕ)). ys) fs place d h))
+pub formal_kept : (m : Meanings) (fs : List (List ℕ)) (place : ℕ) (f : List ℕ) (e : ExprTree) → place < length fs → f ≡ get_or fs place f → with_entry m f e ≡ with_formals m (drop place fs) (e ∷ [])
+formal_kept m fs place f e h is = sym (formal_at m (drop place fs) f (drop (place + 1) fs) e (first_left fs place f h is))
+
+-- all arguments
+pub binds_last : (cs : Values) (fs : List (List ℕ)) (all : List ExprTree) (m : Meanings) (front : List StmtTree) (g : Given) (left : List ExprTree) (place : ℕ) (now : Meanings) (done : List StmtTree) (behind : Given)
+    → BindsOn cs fs all m front g left place now done behind → left ≡ [] → now ≡ with_formals m fs (bound_arguments cs all g).meant
+binds_last cs fs all m front g left place now done behind inv none =
+    sym (with_none now (drop place fs)) ∙ ap (λ (es : List ExprTree). with_formals now (drop place fs) (bound_arguments cs es behind).meant) (sym none) ∙ inv.meanings

@@ -189,7 +189,7 @@ fn add_constant_at(
     ensures { OnOk result (with_constants (meanings_of meanings.new) (drop (place + 1) constants.now) ≡ with_constants (meanings_of meanings.old) (drop place constants.now)) }
 {
     match constants.get_index(place) {
-        Some((name, value)) => add_constant(alloc, meanings, &name, value),
+        Some(entry) => add_constant(alloc, meanings, entry),
         None => Ok(()),
     }
 }
@@ -197,14 +197,13 @@ fn add_constant_at(
 fn add_constant(
     alloc: Global,
     meanings: &mut Meanings,
-    name: &Name,
-    value: i64,
+    constant: (Name, i64),
 ) -> Result<(), NoMemory>
-    requires { IsSmall value }
-    ensures { OnOk result (meanings_of meanings.new ≡ with_constants (meanings_of meanings.old) ((name.now, value) ∷ [])) }
+    requires { IsSmall constant.1 }
+    ensures { OnOk result (meanings_of meanings.new ≡ with_constants (meanings_of meanings.old) (constant ∷ [])) }
 {
-    let e = literal(alloc, value)?;
-    meanings.keep(name, e)
+    let e = literal(alloc, constant.1)?;
+    meanings.keep(&constant.0, e)
 }
 
 /// Has new names stand for all names in the statements of a unit for which nothing stands yet, in the order in which they

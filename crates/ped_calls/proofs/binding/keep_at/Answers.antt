@@ -8,4 +8,5 @@ use Rattle.ped_calls.proofs.binding.keep_at.Goals as goal
 pub returns-then-place-formals : goal.returns-then-place-formals
 returns-then-place-formals c =
     let below : c.args.place < length c.args.formals.now = omega arith in
-    on_ok_weaker c.keep.result (λ kept. kept ∙ formal_kept (meanings_of c.args.meanings.now) c.args.formals.now c.args.place _ (expr_tree c.args.e) below) c.keep.ensures
+    let kept = formal_kept (meanings_of c.args.meanings.now) c.args.formals.now c.args.place c.index-formals-place.result (expr_tree c.args.e) below c.index-formals-place.is in
+    on_ok_weaker c.keep.result (λ is. is ∙ kept) c.keep.ensures

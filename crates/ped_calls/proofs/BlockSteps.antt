@@ -92,3 +92,10 @@ block_past cs es inner v c depth old mid formals assignments room given meant fe
     let e = inside inner v formals (given_of mid.given) in
     let made = block_made inner v c b formals (given_of mid.given) meant given in
     too_deep (subst (λ (x : Expanded Given). IsTooDeep depth x.statement) (sym made) (deep_block depth c b.assignments e.statements h))
+
+-- a CALL of a subroutine by its block
+pub call_is_block : (deeper : ℕ) (us : ProgramUnits) (cs : Values) (x : List ℕ) (es : List ExprTree) (g : Given) (v : ProgramUnit) → 0 < deeper → unit_of us x ≡ Some v
+    → bound_expanded (call_expanded (deeper - 1) us []) v (record { name = x; arguments = pack_exprs es }) (bound_arguments cs es g) ≡ call_expanded deeper us cs (record { name = x; arguments = pack_exprs es }) g
+call_is_block deeper us cs x es g v h k =
+    let c : Called = record { name = x; arguments = pack_exprs es } in
+    sym (found_call deeper us cs c g v h k ∙ ap (λ (as_listed : List ExprTree). bound_expanded (call_expanded (deeper - 1) us []) v c (bound_arguments cs as_listed g)) (listed_packed es))

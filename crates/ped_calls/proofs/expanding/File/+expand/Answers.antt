@@ -1,12 +1,16 @@
-use Rattle.std.proofs.Common.{◌≤◌, ◌+◌, ◌-◌, List, [], ◌∷◌, ◌++◌, map, length, drop, sym, ap, subst, ◌∙◌, arith}
+use Rattle.std.proofs.Common.{◌≡◌, IfOk, IfErr, OnOk, ◌≤◌, ◌+◌, ◌-◌, List, [], ◌∷◌, ◌++◌, map, length, drop, sym, ap, subst, ◌∙◌, arith}
 use Rattle.std.proofs.lemmas.List.{map_push, drop_all}
 use Rattle.ped_tree.specs.Tree.{StmtTree}
-use Rattle.ped_tree.specs.Views.{stmt_tree, stmt_trees}
+use Rattle.ped_tree.specs.Views.{expr_tree, stmt_tree, stmt_trees}
+use Rattle.ped_tree.specs.Numbering.{statement_count}
 use Rattle.ped_tree.specs.declared.statements.Stmt.{Stmt}
-use Rattle.ped_calls.specs.Expanding.{call_expanded}
+use Rattle.ped_calls.specs.Expanding.{Given, Expanded, call_expanded}
 use Rattle.ped_calls.specs.Meaning.{meanings_of}
-use Rattle.ped_calls.specs.Courses.{units_of, ExpandsOn}
+use Rattle.ped_calls.specs.Courses.{units_of, ExpandsOn, GoesOn, Passes, StopsAt, IsTooDeep}
+use Rattle.ped_calls.specs.Giving.{given_of}
+use Rattle.ped_calls.specs.Views.{program_unit_of}
 use Rattle.ped_calls.proofs.CourseSteps.{packed_behind, expands_first, expands_more, expands_all, goes_on}
+use Rattle.ped_calls.proofs.BlockSteps.{call_is_block}
 use Rattle.ped_calls.proofs.Measures.{stmts_left, item_weight}
 use Rattle.ped_calls.proofs.expanding.File.+expand.Goals as goal
 
@@ -52,3 +56,24 @@ statements-returns-clause-course t c =
     let ended : length c.args.statements.now ≤ c.loop-statement.statement-index = omega (arith, c.loop-statement-test.false, c.loop-statement.auto.statement-index-end) in
     let none = ap stmt_trees (drop_all c.loop-statement.statement-index c.args.statements.now ended) in
     goes_on m f (stmt_trees c.args.statements.now) c.args.course.now (stmt_trees (drop c.loop-statement.statement-index c.args.statements.now)) (map stmt_tree c.loop-statement.all.items) c.loop-statement.course c.loop-statement.invariant none
+
+pub call-returns-in-Some-clause-statement : goal.call-returns-in-Some-clause-statement
+call-returns-in-Some-clause-statement t c =
+    let us = units_of c.args.self.now.units.now in
+    let g = given_of c.args.course.now.given in
+    let same = call_is_block c.args.within.now.deeper us c.args.within.now.constants.now c.args.name.now (map expr_tree c.args.arguments.now) g (program_unit_of c.in-Some.called.unit.now) c.in-Some.ensures.deeper c.in-Some.ensures.unit in
+    subst (λ (e : Expanded Given). IfOk c.block.result (λ s. stmt_tree s ≡ e.statement)) same c.block.ensures.statement
+
+pub call-returns-in-Some-clause-course : goal.call-returns-in-Some-clause-course
+call-returns-in-Some-clause-course t c =
+    let us = units_of c.args.self.now.units.now in
+    let g = given_of c.args.course.now.given in
+    let same = call_is_block c.args.within.now.deeper us c.args.within.now.constants.now c.args.name.now (map expr_tree c.args.arguments.now) g (program_unit_of c.in-Some.called.unit.now) c.in-Some.ensures.deeper c.in-Some.ensures.unit in
+    subst (λ (e : Expanded Given). OnOk c.block.result (GoesOn c.args.course.now c.block.new.course 1 (statement_count e.statement) e.state)) same c.block.ensures.course
+
+pub call-returns-in-Some-clause-stopped : goal.call-returns-in-Some-clause-stopped
+call-returns-in-Some-clause-stopped t c =
+    let us = units_of c.args.self.now.units.now in
+    let g = given_of c.args.course.now.given in
+    let same = call_is_block c.args.within.now.deeper us c.args.within.now.constants.now c.args.name.now (map expr_tree c.args.arguments.now) g (program_unit_of c.in-Some.called.unit.now) c.in-Some.ensures.deeper c.in-Some.ensures.unit in
+    subst (λ (e : Expanded Given). IfErr c.block.result (λ why. StopsAt why (Passes c.args.course.now.room 1 (statement_count e.statement) (IsTooDeep c.args.within.now.depth e.statement)))) same c.block.ensures.stopped

@@ -1,12 +1,12 @@
 -- What is nested from short statements has few references, for each numbered statement; and as many numbered statements as these.
-use Rattle.std.proofs.Common.{◌≡◌, ℕ, ◌+◌, ◌≤◌, List, [], ◌∷◌, ◌++◌, map, length, refl, sym, ap, ◌∙◌, subst, arith}
+use Rattle.std.proofs.Common.{◌≡◌, ℕ, ◌+◌, ◌≤◌, List, [], ◌∷◌, ◌++◌, map, length, refl, subst, arith}
 use Rattle.std.specs.List.{AllByRecursion}
-use Rattle.ped_tree.specs.Tree.{CondTree, Head, StmtTree, StmtTrees, If, Do, Comment, no_stmts}
+use Rattle.ped_tree.specs.Tree.{StmtTree, StmtTrees, If, Do, Comment, no_stmts}
 use Rattle.ped_tree.specs.Views.{pack_stmts}
-use Rattle.ped_tree.specs.Numbering.{statement_count, statements_count}
+use Rattle.ped_tree.specs.Numbering.{statements_count}
 use Rattle.ped_tree.specs.Printing.{do_text, private_text, own_text}
 use Rattle.ped_tree.specs.Grammar.Statement.{Note, Statement}
-use Rattle.ped_tree.specs.Grammar.Items.{Item, declares, saves_all, does, continues, logical_if, block_if, else_if, else_line, end_if, begins_do, ends_do, keeps_private, ends_program, Reading, says, outside_profile, no_form, Entry}
+use Rattle.ped_tree.specs.Grammar.Items.{Item, does, logical_if, block_if, else_if, end_if, begins_do, keeps_private, Reading, says, Entry}
 use Rattle.ped_tree.specs.Grammar.Contexts.{numbered_in}
 use Rattle.ped_tree.specs.Grammar.ProgramRefusals.{listed_stmts}
 use Rattle.ped_tree.specs.Grammar.Occurrences.{rejected_names}

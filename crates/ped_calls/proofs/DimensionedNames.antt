@@ -1,5 +1,5 @@
 -- The names that declarations give dimensions, declarator by declarator.
-use Rattle.std.proofs.Common.{◌≡◌, ℕ, List, [], ◌∷◌, ◌++◌, map, filter, length, Bool, true, false, refl, sym, ap, ◌∙◌, if◌then◌else◌}
+use Rattle.std.proofs.Common.{◌≡◌, ℕ, List, [], ◌∷◌, ◌++◌, map, filter, Bool, true, false, refl, ap, ◌∙◌, if◌then◌else◌}
 use Rattle.std.specs.List.{flat_map}
 use Rattle.std.proofs.lemmas.List.{map-append}
 use Rattle.std.proofs.lemmas.List.Elements.{filter-append}
@@ -7,11 +7,10 @@ use Rattle.ped_base.specs.Lists.{has_some, is_among}
 use Rattle.ped_tree.specs.Tree.{ExprTree, ExprTrees, Int, Var, Element, Neg, Add, Sub, Mul, Div, Pow, Call, no_exprs, more_exprs, BoundTree, DeclaratorTree, DeclTree, Program, Implicit, Integer, Dimension, Parameter, Save, Remark}
 use Rattle.ped_tree.specs.Names.Collecting.{with_names}
 use Rattle.ped_tree.proofs.NameLaws.Collected.{among_collected}
-use Rattle.ped_valid.specs.ped_symbols.specs.declared.uses.Role.{Role}
-use Rattle.ped_valid.specs.ped_symbols.specs.declared.uses.Role.TheVariants.{Typed, Dimensioned, Named, Saved}
+use Rattle.ped_valid.specs.ped_symbols.specs.declared.uses.Role.TheVariants.{Typed, Named, Saved}
 use Rattle.ped_valid.specs.ped_symbols.specs.declared.uses.Use.{Use}
 use Rattle.ped_valid.specs.ped_symbols.specs.Uses.{used_as, expr_uses, exprs_uses, bounds_uses, dimension_uses, type_uses, decl_uses}
-use Rattle.ped_valid.specs.ped_symbols.specs.Declarations.{is_dimensioning, names_with, declared_in}
+use Rattle.ped_valid.specs.ped_symbols.specs.Declarations.{is_dimensioning, names_with}
 use Rattle.ped_calls.specs.Refusals.{dimensioned}
 
 -- the names that uses give dimensions

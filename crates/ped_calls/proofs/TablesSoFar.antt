@@ -1,6 +1,5 @@
 -- What the names of the units stand for that were looked at so far, or the first of their refusals.
 use Rattle.std.proofs.Common.{◌≡◌, ℕ, ◌<◌, List, [], ◌∷◌, ◌++◌, map, length, get_or, All, subst, arith, Option, Some, None, refl, sym, ap, ◌∙◌, append-nil, Bool, true, false, if◌then◌else◌}
-use Rattle.std.specs.List.{flat_map}
 use Rattle.std.proofs.lemmas.List.{map-append, get_or-map, length-map}
 use Rattle.std.proofs.lemmas.List.Concat.{flat_map-append}
 use Rattle.ped_tree.specs.Grammar.Refusal.{Finding, earlier, is_before, first_of}

@@ -30,15 +30,13 @@ conditioned : (k u : List (List ℕ)) (es : List ExprTree) → length (cond_read
 conditioned k u [] = refl
 conditioned k u (e ∷ es) = omega (arith, anded k u (is_zero e) es, length-append (expr_reads k u e) [])
 
+one_or_none : (k u : List (List ℕ)) (b : Bool) (e : ExprTree) (xs es : List ExprTree) → total k u xs ≤ total k u es → total k u (if b then xs else e ∷ xs) ≤ total k u (e ∷ es)
+one_or_none k u true e xs es h = omega (arith, h)
+one_or_none k u false e xs es h = omega (arith, h)
+
 plain_fewer : (arrays k u : List (List ℕ)) (es : List ExprTree) → total k u (plain_arguments arrays es) ≤ total k u es
 plain_fewer arrays k u [] = omega arith
-plain_fewer arrays k u (e ∷ es) = by (is_whole_array arrays e)
-  where
-    more = plain_fewer arrays k u es
-
-    by : (b : Bool) → total k u (if b then plain_arguments arrays es else e ∷ plain_arguments arrays es) ≤ total k u (e ∷ es)
-    by true = omega (arith, more)
-    by false = omega (arith, more)
+plain_fewer arrays k u (e ∷ es) = one_or_none k u (is_whole_array arrays e) e (plain_arguments arrays es) es (plain_fewer arrays k u es)
 
 listed_total : (k u : List (List ℕ)) (es : ExprTrees) → total k u (listed es) ≡ length (exprs_reads k u es)
 listed_total k u no_exprs = refl

@@ -118,16 +118,16 @@ abbrev pub count_of : List StmtTree → ℕ
 count_of ss = statements_count (pack_stmts ss)
 
 pub entries_both : (xs ys : List Entry) → numbered_all (xs ++ ys) ≡ numbered_all xs + numbered_all ys
-entries_both [] ys = refl
+entries_both [] ys = omega arith
 entries_both (x ∷ xs) ys = let more = entries_both xs ys in omega (arith, more)
 
 pub trees_both : (xs ys : List StmtTree) → count_of (xs ++ ys) ≡ count_of xs + count_of ys
-trees_both [] ys = refl
+trees_both [] ys = omega arith
 trees_both (x ∷ xs) ys = let more = trees_both xs ys in omega (arith, more)
 
 pub notes_uncounted : (ns : List Note) → count_of (map (λ n. Comment n.text) ns) ≡ 0
 notes_uncounted [] = refl
-notes_uncounted (n ∷ ns) = notes_uncounted ns
+notes_uncounted (n ∷ ns) = let more = notes_uncounted ns in omega (arith, more)
 
 -- comments before trees
 behind_remarks : (s : Statement) (ss : List StmtTree) → count_of (comments_of s ++ ss) ≡ count_of ss

@@ -8,9 +8,13 @@ use Rattle.ped_valid.specs.ped_symbols.specs.NameRefusals.{name_refusals}
 use Rattle.ped_calls.specs.Units.{ProgramUnit}
 use Rattle.ped_calls.specs.Refusals.{for_names, lines_for_names, units_name_refusals}
 use Rattle.ped_calls.specs.Seeing.{combined}
-use Rattle.ped_calls.specs.Naming.{HasFew, HaveTables}
+use Rattle.ped_calls.specs.Naming.{HasFew, HaveTables, IsFound, IsFirstNameRefusal}
 use Rattle.ped_calls.specs.Views.{program_unit_of}
 use Rattle.ped_calls.specs.declared.units.ProgramUnit as code
+use Rattle.ped_calls.specs.declared.refusals.UnitRefusal.{UnitRefusal}
+use Rattle.ped_calls.specs.declared.refusals.UnitRefusal.TheVariants.{At, NoMemory}
+use Rattle.ped_tree.specs.declared.grammar.refusals.Refusal.{Refusal}
+use Rattle.ped_tree.specs.Grammar.RefusalViews.{finding_of}
 use Rattle.ped_calls.proofs.Earliest.{both_first}
 
 -- the first refusal of these units, and their tables where there is none
@@ -64,3 +68,8 @@ pub few_here : (us : List code.ProgramUnit) (i : ℕ) (u : code.ProgramUnit) →
 few_here us i u lt is h =
     subst (λ (v : code.ProgramUnit). HasFew (program_unit_of v)) (sym is)
     (subst HasFew (get_or-map program_unit_of us i u (program_unit_of u) lt) (h i (program_unit_of u) (omega (arith, lt, length-map us program_unit_of))))
+
+-- the first of the refusals of names, as it is told
+pub found_first : (us : List ProgramUnit) (r : Refusal) (e : UnitRefusal) → first_of (units_name_refusals us) ≡ Some (finding_of r) → IsFound (finding_of r) e → IsFirstNameRefusal us e
+found_first us r NoMemory h f = tt
+found_first us r (At g) h f = (r, h, f)

@@ -1,12 +1,21 @@
-use Rattle.std.proofs.Common.{◌≡◌, ℕ, ◌≤◌, List, [], map, drop, length, sym, ap, ◌∙◌, arith}
+use Rattle.std.proofs.Common.{◌≡◌, ℕ, ◌+◌, ◌∷◌, ◌≤◌, List, [], map, drop, length, sym, ap, ◌∙◌, arith}
 use Rattle.std.proofs.lemmas.List.{drop_all}
+use Rattle.std.proofs.lemmas.Grind.{common_steps}
 use Rattle.ped_base.specs.Lists.{is_among}
 use Rattle.ped_tree.specs.Views.{decl_tree}
 use Rattle.ped_tree.specs.declared.declarations.Decl.{Decl}
 use Rattle.ped_tree.specs.Names.Collecting.{with_names}
 use Rattle.ped_calls.specs.Refusals.{dimensioned}
-use Rattle.ped_calls.proofs.DimensionedNames.{collected_same}
+use Rattle.ped_calls.proofs.DimensionedNames.{collected_same, decl_step}
 use Rattle.ped_calls.proofs.naming.dimensioned.Goals as goal
+
+pub loop-decl-preserved : goal.loop-decl-preserved
+loop-decl-preserved c =
+    let all = c.args.decls.now in
+    let i = c.loop-decl.decl-index in
+    let first : drop i all ≡ c.decl-item.result ∷ drop (i + 1) all = grind (arith, common_steps) in
+    let before = ap (λ (ds : List Decl). with_names c.loop-decl.arrays (dimensioned (map decl_tree ds))) (sym first) ∙ c.loop-decl.invariant in
+    decl_step c.loop-decl.arrays c.add_dimensioned.new.arrays (with_names [] (dimensioned (map decl_tree all))) (decl_tree c.decl-item.result) (map decl_tree (drop (i + 1) all)) c.in_ok-add_dimensioned.ensures before
 
 pub returns : goal.returns
 returns c x =

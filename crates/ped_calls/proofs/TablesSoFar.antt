@@ -39,11 +39,11 @@ right_more us u found tables table h none is =
     record {
       first = h.first ∙ ap first_of (sym same);
       right = λ e.
-      let t = h.right e in
-      record {
-        right = same ∙ t.right;
-        are = (λ i. t.are i ++ is i ∷ []) ∙ sym (map-append (λ v. table_of (for_names v)) us (u ∷ []));
-      };
+          let t = h.right e in
+          record {
+            right = same ∙ t.right;
+            are = (λ i. t.are i ++ is i ∷ []) ∙ sym (map-append (λ v. table_of (for_names v)) us (u ∷ []));
+          };
     }
 
 some_of_both : (f g : Finding) (b : Bool) → (if b then Some f else Some g) ≡ None → ⊥

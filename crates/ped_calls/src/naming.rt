@@ -21,7 +21,7 @@ use crate::units::ProgramUnit;
 use ped_base::{Listed, Name, Names, NoMemory};
 use ped_tree::grammar::Refusal;
 use ped_tree::names::NameSet;
-use ped_tree::{Cond, Decl, Declarator, Do, Expr, Program, Relation, Stmt, copy_decls};
+use ped_tree::{Cond, Decl, Declarator, Expr, Program, Relation, Stmt};
 use ped_valid::ped_symbols::{NameRefusal, Symbols, symbols_of};
 use std::alloc::Global;
 
@@ -90,11 +90,7 @@ fn for_names(alloc: Global, unit: &ProgramUnit) -> Result<Program, NoMemory>
 }
 
 /// The program with the declarations of a unit, of which its dummy arguments come first, and these statements.
-fn with_statements(
-    alloc: Global,
-    unit: &ProgramUnit,
-    body: Vec<Stmt>,
-) -> Result<Program, NoMemory>
+fn with_statements(alloc: Global, unit: &ProgramUnit, body: Vec<Stmt>) -> Result<Program, NoMemory>
     ensures tree { IfOk result (λ p. program_tree p ≡ record { decls = Spec.save_of_formals unit.now.formals ++ map decl_tree unit.now.program.decls.items; body = stmt_trees body.items }) }
     ensures lines { IfOk result (λ p. p.lines.items ≡ Spec.lines_for_names (program_unit_of unit.now)) }
 {
@@ -156,9 +152,8 @@ fn add_dimensioned(arrays: &mut NameSet, decl: &Decl) -> Result<(), NoMemory>
     match decl {
         Decl::Integer(declared) => add_typed_arrays(arrays, declared),
         Decl::Dimension(declared) => add_arrays(arrays, declared),
-        Decl::Program(_) | Decl::Implicit | Decl::Parameter(_) | Decl::Save(_) | Decl::Comment(_) => {
-            Ok(())
-        }
+        Decl::Program(_) | Decl::Implicit | Decl::Parameter(_) | Decl::Save(_) | Decl::Comment(_) =>
+            { Ok(()) }
     }
 }
 
@@ -261,11 +256,7 @@ fn using(alloc: Global, arrays: &NameSet, arguments: &[Expr]) -> Result<Stmt, No
     ensures { IfOk result (λ s. stmt_tree s ≡ Tree.If (Spec.condition_of (Spec.plain_arguments arrays.now (listed (pack_exprs (map expr_tree arguments.now))))) Tree.no_stmts Tree.no_stmts) }
 {
     let condition = condition(alloc, arrays, arguments)?;
-    Ok(Stmt::block_if(
-        condition,
-        Vec::new(alloc),
-        Vec::new(alloc),
-    ))
+    Ok(Stmt::block_if(condition, Vec::new(alloc), Vec::new(alloc)))
 }
 
 /// A condition in which exactly the arguments stand that are no arrays as a whole.

@@ -1,17 +1,17 @@
 -- What stands for a CALL whose printed text is short has few references.
-use Rattle.std.proofs.Common.{◌≡◌, ℕ, ◌+◌, ◌≤◌, List, [], ◌∷◌, ◌++◌, length, Bool, true, false, nat_lt, ltb-false, refl, sym, ap, ◌∙◌, length-append, arith, if◌then◌else◌}
-use Rattle.std.specs.Prelude.{codes, ◌||◌, Some}
+use Rattle.std.proofs.Common.{◌≡◌, ℕ, ◌+◌, ◌≤◌, List, [], ◌∷◌, ◌++◌, length, Bool, true, false, nat_lt, refl, ap, length-append, arith, if◌then◌else◌}
+use Rattle.std.specs.Prelude.{codes, Some}
 use Rattle.std.proofs.lemmas.Bool.{or_parts}
 use Rattle.ped_tree.specs.Tree.{ExprTree, ExprTrees, Int, no_exprs, more_exprs, CondTree, And, StmtTree, Assign}
 use Rattle.ped_tree.specs.Numbering.{statement_count}
-use Rattle.ped_tree.specs.Accesses.{listed, expr_reads, exprs_reads, cond_reads, own_accesses}
-use Rattle.ped_tree.specs.Nests.{Loop, indices_of}
+use Rattle.ped_tree.specs.Accesses.{listed, expr_reads, exprs_reads, cond_reads}
+use Rattle.ped_tree.specs.Nests.{indices_of}
 use Rattle.ped_tree.specs.Printing.{exprs_text}
 use Rattle.ped_tree.specs.Grammar.Literals.{have_large_literal}
 use Rattle.ped_tree.specs.Grammar.LimitNumbers.{most_characters}
 use Rattle.ped_valid.specs.ped_symbols.specs.ped_refs.specs.References.{numbered_accesses, statement_references}
 use Rattle.ped_calls.specs.Forms.{Called}
-use Rattle.ped_calls.specs.Units.{reference_of, call_statement, with_calls, arguments_text, called_text}
+use Rattle.ped_calls.specs.Units.{reference_of, call_statement, with_calls, arguments_text}
 use Rattle.ped_calls.specs.Refusals.{call_text, call_passes_limit, is_whole_array, plain_arguments, is_zero, and_zeros, condition_of, using_arguments}
 use Rattle.ped_calls.proofs.ReadCharacters.{all_read_few}
 use Rattle.ped_calls.proofs.BoundedStatements.{IsBounded, length-numbered}
@@ -30,15 +30,13 @@ conditioned : (k u : List (List ℕ)) (es : List ExprTree) → length (cond_read
 conditioned k u [] = refl
 conditioned k u (e ∷ es) = omega (arith, anded k u (is_zero e) es, length-append (expr_reads k u e) [])
 
+one_or_none : (k u : List (List ℕ)) (b : Bool) (e : ExprTree) (xs es : List ExprTree) → total k u xs ≤ total k u es → total k u (if b then xs else e ∷ xs) ≤ total k u (e ∷ es)
+one_or_none k u true e xs es h = omega (arith, h)
+one_or_none k u false e xs es h = omega (arith, h)
+
 plain_fewer : (arrays k u : List (List ℕ)) (es : List ExprTree) → total k u (plain_arguments arrays es) ≤ total k u es
 plain_fewer arrays k u [] = omega arith
-plain_fewer arrays k u (e ∷ es) = by (is_whole_array arrays e)
-  where
-    more = plain_fewer arrays k u es
-
-    by : (b : Bool) → total k u (if b then plain_arguments arrays es else e ∷ plain_arguments arrays es) ≤ total k u (e ∷ es)
-    by true = omega (arith, more)
-    by false = omega (arith, more)
+plain_fewer arrays k u (e ∷ es) = one_or_none k u (is_whole_array arrays e) e (plain_arguments arrays es) es (plain_fewer arrays k u es)
 
 listed_total : (k u : List (List ℕ)) (es : ExprTrees) → total k u (listed es) ≡ length (exprs_reads k u es)
 listed_total k u no_exprs = refl

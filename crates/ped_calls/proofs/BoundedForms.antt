@@ -1,12 +1,12 @@
 -- What is nested from short statements has few references, for each numbered statement; and as many numbered statements as these.
-use Rattle.std.proofs.Common.{◌≡◌, ℕ, ◌+◌, ◌≤◌, List, [], ◌∷◌, ◌++◌, map, length, refl, sym, ap, ◌∙◌, subst, arith}
+use Rattle.std.proofs.Common.{◌≡◌, ℕ, ◌+◌, ◌≤◌, List, [], ◌∷◌, ◌++◌, map, length, refl, subst, arith}
 use Rattle.std.specs.List.{AllByRecursion}
-use Rattle.ped_tree.specs.Tree.{CondTree, Head, StmtTree, StmtTrees, If, Do, Comment, no_stmts}
+use Rattle.ped_tree.specs.Tree.{StmtTree, StmtTrees, If, Do, Comment, no_stmts}
 use Rattle.ped_tree.specs.Views.{pack_stmts}
-use Rattle.ped_tree.specs.Numbering.{statement_count, statements_count}
+use Rattle.ped_tree.specs.Numbering.{statements_count}
 use Rattle.ped_tree.specs.Printing.{do_text, private_text, own_text}
 use Rattle.ped_tree.specs.Grammar.Statement.{Note, Statement}
-use Rattle.ped_tree.specs.Grammar.Items.{Item, declares, saves_all, does, continues, logical_if, block_if, else_if, else_line, end_if, begins_do, ends_do, keeps_private, ends_program, Reading, says, outside_profile, no_form, Entry}
+use Rattle.ped_tree.specs.Grammar.Items.{Item, does, logical_if, block_if, else_if, end_if, begins_do, keeps_private, Reading, says, Entry}
 use Rattle.ped_tree.specs.Grammar.Contexts.{numbered_in}
 use Rattle.ped_tree.specs.Grammar.ProgramRefusals.{listed_stmts}
 use Rattle.ped_tree.specs.Grammar.Occurrences.{rejected_names}
@@ -118,16 +118,16 @@ abbrev pub count_of : List StmtTree → ℕ
 count_of ss = statements_count (pack_stmts ss)
 
 pub entries_both : (xs ys : List Entry) → numbered_all (xs ++ ys) ≡ numbered_all xs + numbered_all ys
-entries_both [] ys = refl
+entries_both [] ys = omega arith
 entries_both (x ∷ xs) ys = let more = entries_both xs ys in omega (arith, more)
 
 pub trees_both : (xs ys : List StmtTree) → count_of (xs ++ ys) ≡ count_of xs + count_of ys
-trees_both [] ys = refl
+trees_both [] ys = omega arith
 trees_both (x ∷ xs) ys = let more = trees_both xs ys in omega (arith, more)
 
 pub notes_uncounted : (ns : List Note) → count_of (map (λ n. Comment n.text) ns) ≡ 0
 notes_uncounted [] = refl
-notes_uncounted (n ∷ ns) = notes_uncounted ns
+notes_uncounted (n ∷ ns) = let more = notes_uncounted ns in omega (arith, more)
 
 -- comments before trees
 behind_remarks : (s : Statement) (ss : List StmtTree) → count_of (comments_of s ++ ss) ≡ count_of ss

@@ -25,11 +25,11 @@ use Rattle.ped_valid.specs.ped_parse.specs.ped_blocks.proofs.BlocksFound.{none_s
 use Rattle.ped_valid.specs.ped_symbols.specs.ped_refs.specs.References.{statements_references}
 use Rattle.ped_calls.specs.Forms.{Called, UnitItem, plain, calls, calls_if, begins_unit, returns, IsUnitItem}
 use Rattle.ped_calls.specs.Units.{ProgramUnit, ProgramUnits, all_units, call_of, call_statement, instead_of, with_calls, all_with_calls}
-use Rattle.ped_calls.specs.Reading.{UnitEntry, AreUnitEntries, Segment, ends, begins, own_entries, further_segments, segments_of, is_end_next, return_reading, as_reading, as_entries, is_subroutine, stand_in, seen_entries, kept_entries, IsUnitOf, AreUnitsOf}
+use Rattle.ped_calls.specs.Reading.{UnitEntry, AreUnitEntries, Segment, ends, begins, own_entries, further_segments, segments_of, is_end_next, as_reading, as_entries, is_subroutine, stand_in, seen_entries, IsUnitOf, AreUnitsOf}
 use Rattle.ped_calls.specs.Refusals.{call_in, call_passes_limit, at_call, at_head, at_subroutine_entry, other_refusals, segment_refusals, before_another, segments_refusals, ReadsUnits, dimensioned, using_arguments, for_names}
 use Rattle.ped_calls.specs.Naming.{HasFew}
 use Rattle.ped_calls.proofs.ReadCharacters.{assignment_few, print_few, read_few}
-use Rattle.ped_calls.proofs.BoundedStatements.{IsBounded, AreBounded, joined, own_bounded, packed_bounded}
+use Rattle.ped_calls.proofs.BoundedStatements.{AreBounded, joined, own_bounded, packed_bounded}
 use Rattle.ped_calls.proofs.BoundedForms.{IsShort, IsShortReading, AreShort, front_short, back_short, notes_bounded, notes_uncounted, body_bounded, numbered_by, numbered_all, entries_both, count_of, trees_both, body_counted}
 use Rattle.ped_calls.proofs.BoundedCalls.{call_bounded}
 
@@ -125,15 +125,15 @@ abbrev IsPassed : List (List ℕ) → Context → List Entry → Reading → Typ
 IsPassed saved c rest r = where_it_says (passes_limit saved c rest) r ≡ false
 
 plain_kept : (f : Called → StmtTree) (saved : List (List ℕ)) (c : Context) (rest : List Entry) (text : List ℕ) (r : Reading) → IsUnitItem text (plain r) → IsPassed saved c rest r → c.statements ≤ 4000 → KeptShort f c.statements r r
-plain_kept f saved c rest text (says i) read h k =
+plain_kept f saved c rest text (says i) texts h k =
     let w = within_item saved c rest i h in
     record {
-      short = subst (IsShort f) read.2 (form_short f saved read.0 (ap (is_too_long saved) read.2 ∙ w.short));
+      short = subst (IsShort f) texts.2 (form_short f saved texts.0 (ap (is_too_long saved) texts.2 ∙ w.short));
       alike = refl;
       few = still_few c.statements i w.few k;
     }
-plain_kept f saved c rest text outside_profile read h k = record { short = tt; alike = refl; few = omega (arith, k) }
-plain_kept f saved c rest text no_form read h k = record { short = tt; alike = refl; few = omega (arith, k) }
+plain_kept f saved c rest text outside_profile texts h k = record { short = tt; alike = refl; few = omega (arith, k) }
+plain_kept f saved c rest text no_form texts h k = record { short = tt; alike = refl; few = omega (arith, k) }
 
 return_kept : (f : Called → StmtTree) (n : ℕ) (b : Bool) → n ≤ 4000 → KeptShort f n (if b then says continues else outside_profile) (if b then says continues else outside_profile)
 return_kept f n true k = record { short = tt; alike = refl; few = omega (arith, k) }
@@ -142,11 +142,11 @@ return_kept f n false k = record { short = tt; alike = refl; few = omega (arith,
 kept_short : (arrays saved : List (List ℕ)) (c : Context) (rest : List Entry) (text : List ℕ) (sub before : Bool) (i : UnitItem) → IsUnitItem text i → call_passes_limit (call_in i) ≡ false
     → IsPassed saved c rest (as_reading stand_in sub before i) → c.statements ≤ 4000
     → KeptShort (using_arguments arrays) c.statements (as_reading stand_in sub before i) (as_reading call_statement sub before i)
-kept_short arrays saved c rest text sub before (plain r) read small h k = plain_kept (using_arguments arrays) saved c rest text r read h k
-kept_short arrays saved c rest text sub before (calls d) read small h k =
+kept_short arrays saved c rest text sub before (plain r) texts small h k = plain_kept (using_arguments arrays) saved c rest text r texts h k
+kept_short arrays saved c rest text sub before (calls d) texts small h k =
     let w = within_item saved c rest (does (stand_in d)) h in
     record { short = call_bounded arrays d small; alike = refl; few = still_few c.statements (does (stand_in d)) w.few k }
-kept_short arrays saved c rest text sub before (calls_if e d) read small h k =
+kept_short arrays saved c rest text sub before (calls_if e d) texts small h k =
     let i = logical_if e (more_stmts (stand_in d) no_stmts) in
     let w = within_item saved c rest i h in
     record {
@@ -154,8 +154,8 @@ kept_short arrays saved c rest text sub before (calls_if e d) read small h k =
       alike = refl;
       few = still_few c.statements i w.few k;
     }
-kept_short arrays saved c rest text sub before (begins_unit x formals) read small h k = record { short = tt; alike = refl; few = omega (arith, k) }
-kept_short arrays saved c rest text sub before returns read small h k = return_kept (using_arguments arrays) c.statements (sub && before) k
+kept_short arrays saved c rest text sub before (begins_unit x formals) texts small h k = record { short = tt; alike = refl; few = omega (arith, k) }
+kept_short arrays saved c rest text sub before returns texts small h k = return_kept (using_arguments arrays) c.statements (sub && before) k
 
 statements_behind : (c : Context) (s : Statement) (r : Reading) → (behind c (record { statement = s; reading = r })).statements ≡ c.statements + numbered_by r
 statements_behind c s (says i) = refl
@@ -173,8 +173,8 @@ AreRead es = AllByRecursion (λ (e : UnitEntry). IsUnitItem e.statement.text e.i
 
 all_kept : (arrays saved : List (List ℕ)) (sub : Bool) (c : Context) (es : List UnitEntry) → AreRead es → c.statements ≤ 4000 → at_statements saved c (as_entries stand_in sub es) ≡ [] → flat_map at_call es ≡ []
     → AllKept (using_arguments arrays) c.statements (as_entries call_statement sub es)
-all_kept arrays saved sub c [] read k h small = record { short = tt; few = omega (arith, k) }
-all_kept arrays saved sub c (e ∷ es) read k h small =
+all_kept arrays saved sub c [] texts k h small = record { short = tt; few = omega (arith, k) }
+all_kept arrays saved sub c (e ∷ es) texts k h small =
     let f = using_arguments arrays in
     let before = is_end_next es in
     let rest = as_entries stand_in sub es in
@@ -184,9 +184,9 @@ all_kept arrays saved sub c (e ∷ es) read k h small =
     let next = right_empty (at_statement saved c one rest) (at_statements saved (behind c one) rest) h in
     let limit = none_stands (where_it_says (passes_limit saved c rest) seen) Limit e.statement.line (right_empty _ _ here) in
     let own = none_stands (call_passes_limit (call_in e.item)) Limit e.statement.line (left_empty (at_call e) (flat_map at_call es) small) in
-    let kept = kept_short arrays saved c rest e.statement.text sub before e.item read.0 own limit k in
+    let kept = kept_short arrays saved c rest e.statement.text sub before e.item texts.0 own limit k in
     let count = statements_behind c e.statement seen in
-    let more = all_kept arrays saved sub (behind c one) es read.1 (omega (arith, count, kept.few)) next (right_empty (at_call e) (flat_map at_call es) small) in
+    let more = all_kept arrays saved sub (behind c one) es texts.1 (omega (arith, count, kept.few)) next (right_empty (at_call e) (flat_map at_call es) small) in
     record { short = (kept.short, more.short); few = omega (arith, more.few, count, kept.alike) }
 
 -- what stands for CALLs counts as they do
@@ -221,7 +221,7 @@ front_bounded f (Stop ∷ ss) h = h
 
 front_counted : (ss : List StmtTree) → count_of (behind_front ss) ≡ count_of ss
 front_counted [] = refl
-front_counted (Comment text ∷ ss) = front_counted ss
+front_counted (Comment text ∷ ss) = let more = front_counted ss in omega (arith, more)
 front_counted (Assign l r ∷ ss) = refl
 front_counted (If c t e ∷ ss) = refl
 front_counted (Do d body ∷ ss) = refl
@@ -261,13 +261,13 @@ few_form arrays saved form constants kept =
 
 -- a unit at whose statements nothing is refused
 few_unit : (all : Statements) (s : Segment) (u : ProgramUnit) → AreRead s.entries → segment_refusals all s ≡ [] → IsUnitOf s u → HasFew u
-few_unit all s u read h is =
+few_unit all s u texts h is =
     let arrays = dimensioned u.tree.decls in
     let seen = seen_entries s in
     let saved = saved_names seen in
     let refused = right_empty (other_refusals s) (program_refusals all seen) h in
     let others = left_empty (other_refusals s) (program_refusals all seen) h in
-    let kept = all_kept arrays saved (is_subroutine s.head) at_start s.entries read (omega arith) (left_empty (at_statements saved at_start seen) (at_end (behind_all at_start seen) all) refused) (left_empty (flat_map at_call s.entries) (if is_subroutine s.head then at_head s.head ++ flat_map at_subroutine_entry s.entries else []) others) in
+    let kept = all_kept arrays saved (is_subroutine s.head) at_start s.entries texts (omega arith) (left_empty (at_statements saved at_start seen) (at_end (behind_all at_start seen) all) refused) (left_empty (flat_map at_call s.entries) (if is_subroutine s.head then at_head s.head ++ flat_map at_subroutine_entry s.entries else []) others) in
     let few = few_form arrays saved is.form (constant_names (for_names u).decls) (subst (AllKept (using_arguments arrays) 0) (sym is.written) kept) in
     record {
       statements = subst (λ (t : ProgramTree). statements_count (all_with_calls (using_arguments arrays) t.body) < 2 ^ 32) is.nested few.0;
@@ -302,18 +302,18 @@ are_read (s ∷ ss) [] h = absurd h
 are_read (s ∷ ss) (e ∷ es) h = (subst (λ (t : Statement). IsUnitItem t.text e.item) (sym h.0) h.1, are_read ss es h.2)
 
 few_in : (all : Statements) (ss : List Segment) (us : List ProgramUnit) → SegmentsRead ss → segments_refusals all ss ≡ [] → AreUnitsOf ss us → AllByRecursion HasFew us
-few_in all [] [] read h are = tt
-few_in all [] (u ∷ us) read h are = absurd are
-few_in all (s ∷ ss) [] read h are = absurd are
-few_in all (s ∷ []) (u ∷ us) read h are = (few_unit all s u read.0 h are.0, few_in all [] us tt refl are.1)
-few_in all (s ∷ t ∷ ss) (u ∷ us) read h are = (
-  few_unit (before_another all) s u read.0 (left_empty (segment_refusals (before_another all) s) (segments_refusals all (t ∷ ss)) h) are.0,
-  few_in all (t ∷ ss) us read.1 (right_empty (segment_refusals (before_another all) s) (segments_refusals all (t ∷ ss)) h) are.1,
+few_in all [] [] texts h are = tt
+few_in all [] (u ∷ us) texts h are = absurd are
+few_in all (s ∷ ss) [] texts h are = absurd are
+few_in all (s ∷ []) (u ∷ us) texts h are = (few_unit all s u texts.0 h are.0, few_in all [] us tt refl are.1)
+few_in all (s ∷ t ∷ ss) (u ∷ us) texts h are = (
+  few_unit (before_another all) s u texts.0 (left_empty (segment_refusals (before_another all) s) (segments_refusals all (t ∷ ss)) h) are.0,
+  few_in all (t ∷ ss) us texts.1 (right_empty (segment_refusals (before_another all) s) (segments_refusals all (t ∷ ss)) h) are.1,
 )
 
 -- the units that a text reads as
 pub few_units : (text : List ℕ) (us : ProgramUnits) → ReadsUnits text us → All HasFew (all_units us)
 few_units text us r =
-    let read = are_read (statements_of text).statements r.entries r.cut.items in
+    let texts = are_read (statements_of text).statements r.entries r.cut.items in
     All-from_recursion HasFew (all_units us)
-    (few_in (statements_of text) (segments_of r.entries) (all_units us) (own_read false r.entries read, further_read false r.entries read) (first_none (segments_refusals (statements_of text) (segments_of r.entries)) r.accepted) r.are)
+    (few_in (statements_of text) (segments_of r.entries) (all_units us) (own_read false r.entries texts, further_read false r.entries texts) (first_none (segments_refusals (statements_of text) (segments_of r.entries)) r.accepted) r.are)

@@ -14,7 +14,7 @@ stopped (suc tries) taken n h = ap (λ (b : Bool). if b then free_from tries tak
 
 -- all those before a number
 pub all_passed : (k : ℕ) (taken : List (List ℕ)) (tries : ℕ) → ((n : ℕ) → 1 ≤ n → n < k + 1 → is_among (numbered_name n) taken ≡ true) → k ≤ tries → free_from tries taken 1 ≡ free_from (tries - k) taken (k + 1)
-all_passed zero taken tries h few = refl
+all_passed zero taken tries h few = let same : tries ≡ tries - 0 = omega arith in ap (λ (m : ℕ). free_from m taken 1) same
 all_passed (suc k) taken tries h few =
     let before = all_passed k taken tries (λ n p q. h n p (omega (arith, q))) (omega (arith, few)) in
     let left : tries - k ≡ suc (tries - suc k) = omega (arith, few) in

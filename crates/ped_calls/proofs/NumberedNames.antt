@@ -1,10 +1,9 @@
 -- Names that are numbered: each is a name, two with different numbers differ, and so one of them isn't taken.
-use Rattle.std.proofs.Common.{◌≡◌, ℕ, zero, suc, ◌+◌, ◌-◌, ◌^◌, ◌<◌, ◌≤◌, Bool, true, false, ◌&&◌, ◌||◌, nat_eq, eqb-true, eqb-false, List, [], ◌∷◌, ◌++◌, length, drop, Some, None, refl, sym, ap, ◌∙◌, arith, le-leb, if◌then◌else◌}
-use Rattle.std.specs.Prelude.{codes}
+use Rattle.std.proofs.Common.{◌≡◌, ℕ, zero, suc, ◌+◌, ◌-◌, ◌^◌, ◌<◌, ◌≤◌, Bool, true, false, ◌&&◌, ◌||◌, nat_eq, eqb-true, List, [], ◌∷◌, length, drop, Some, None, refl, sym, ap, ◌∙◌, arith, le-leb, if◌then◌else◌}
 use Rattle.std.specs.List.{list_all}
 use Rattle.std.specs.Fmt.{decimal}
 use Rattle.std.specs.Str.Parse.{AllDigits}
-use Rattle.std.proofs.lemmas.Bool.{or_right, false_from_ne_true}
+use Rattle.std.proofs.lemmas.Bool.{or_right, false_from_ne_true, eqb-false}
 use Rattle.std.proofs.lemmas.Str.Parse.{digit_from_value}
 use Rattle.std.proofs.lemmas.Fmt.{decimal_is_IsNumeral, length-decimal-le, decimal_injective}
 use Rattle.ped_base.specs.Letters.{is_letter, is_digit, is_alphanumeric, name_of}
@@ -40,28 +39,27 @@ without : List ℕ → List (List ℕ) → List (List ℕ)
 without x [] = []
 without x (y ∷ ys) = if is_same_text x y then ys else y ∷ without x ys
 
+shorter_by : (x y : List ℕ) (ys : List (List ℕ)) (b : Bool) → is_same_text x y ≡ b → (is_same_text x y ≡ false → length ys ≡ suc (length (without x ys))) → length (y ∷ ys) ≡ suc (length (without x (y ∷ ys)))
+shorter_by x y ys true e more = ap (λ (b : Bool). suc (length (if b then ys else y ∷ without x ys))) (sym e)
+shorter_by x y ys false e more = ap suc (more e) ∙ ap (λ (b : Bool). suc (length (if b then ys else y ∷ without x ys))) (sym e)
+
 shorter : (x : List ℕ) (ys : List (List ℕ)) → is_among x ys ≡ true → length ys ≡ suc (length (without x ys))
 shorter x [] h = absurd cc
-shorter x (y ∷ ys) h = by (is_same_text x y) refl
-  where
-    by : (b : Bool) → is_same_text x y ≡ b → length (y ∷ ys) ≡ suc (length (without x (y ∷ ys)))
-    by true e = ap (λ (b : Bool). suc (length (if b then ys else y ∷ without x ys))) (sym e)
-    by false e =
-        let rest : is_among x ys ≡ true = ap (λ (b : Bool). b || is_among x ys) (sym e) ∙ h in
-        ap suc (shorter x ys rest) ∙ ap (λ (b : Bool). suc (length (if b then ys else y ∷ without x ys))) (sym e)
+shorter x (y ∷ ys) h = shorter_by x y ys (is_same_text x y) refl (λ e. shorter x ys (ap (λ (b : Bool). b || is_among x ys) (sym e) ∙ h))
 
 -- another name stays
+stays_by : (x z y : List ℕ) (ys : List (List ℕ)) (b c : Bool) → is_same_text x y ≡ b → is_same_text z y ≡ c → (is_same_text z x ≡ true → ⊥) → is_among z (y ∷ ys) ≡ true
+    → (is_among z ys ≡ true → is_among z (without x ys) ≡ true) → is_among z (without x (y ∷ ys)) ≡ true
+stays_by x z y ys true true e f n h more = absurd (n (ap (λ (w : List ℕ). is_same_text z w) (same_is x y e) ∙ f))
+stays_by x z y ys true false e f n h more = ap (λ (b : Bool). is_among z (if b then ys else y ∷ without x ys)) e ∙ ap (λ (c : Bool). c || is_among z ys) (sym f) ∙ h
+stays_by x z y ys false true e f n h more = ap (λ (b : Bool). is_among z (if b then ys else y ∷ without x ys)) e ∙ ap (λ (c : Bool). c || is_among z (without x ys)) f
+stays_by x z y ys false false e f n h more =
+    let rest : is_among z ys ≡ true = ap (λ (c : Bool). c || is_among z ys) (sym f) ∙ h in
+    ap (λ (b : Bool). is_among z (if b then ys else y ∷ without x ys)) e ∙ ap (λ (c : Bool). c || is_among z (without x ys)) f ∙ more rest
+
 stays : (x z : List ℕ) (ys : List (List ℕ)) → (is_same_text z x ≡ true → ⊥) → is_among z ys ≡ true → is_among z (without x ys) ≡ true
 stays x z [] n h = absurd cc
-stays x z (y ∷ ys) n h = by (is_same_text x y) refl (is_same_text z y) refl
-  where
-    by : (b : Bool) → is_same_text x y ≡ b → (c : Bool) → is_same_text z y ≡ c → is_among z (without x (y ∷ ys)) ≡ true
-    by true e true f = absurd (n (ap (λ (w : List ℕ). is_same_text z w) (same_is x y e) ∙ f))
-    by true e false f = ap (λ (b : Bool). is_among z (if b then ys else y ∷ without x ys)) e ∙ ap (λ (c : Bool). c || is_among z ys) (sym f) ∙ h
-    by false e true f = ap (λ (b : Bool). is_among z (if b then ys else y ∷ without x ys)) e ∙ ap (λ (c : Bool). c || is_among z (without x ys)) f
-    by false e false f =
-        let rest : is_among z ys ≡ true = ap (λ (c : Bool). c || is_among z ys) (sym f) ∙ h in
-        ap (λ (b : Bool). is_among z (if b then ys else y ∷ without x ys)) e ∙ ap (λ (c : Bool). c || is_among z (without x ys)) f ∙ stays x z ys n rest
+stays x z (y ∷ ys) n h = stays_by x z y ys (is_same_text x y) (is_same_text z y) refl refl n h (stays x z ys n)
 
 -- so many numbered names are taken that there are as many taken names
 many_taken : (count : ℕ) (taken : List (List ℕ)) → count < 2 ^ 64 → ((k : ℕ) → 1 ≤ k → k ≤ count → is_among (numbered_name k) taken ≡ true) → count ≤ length taken

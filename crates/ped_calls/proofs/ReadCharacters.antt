@@ -1,11 +1,11 @@
 -- What a statement by itself reads and writes is no more than the characters that are printed for it.
-use Rattle.std.proofs.Common.{◌≡◌, ℕ, ◌+◌, ◌≤◌, List, [], ◌∷◌, ◌++◌, map, length, Bool, true, false, refl, arith, ap, ◌∙◌, length-append, if◌then◌else◌}
+use Rattle.std.proofs.Common.{◌≡◌, ℕ, ◌+◌, ◌≤◌, List, [], ◌∷◌, ◌++◌, length, Bool, true, false, arith, ap, ◌∙◌, length-append, if◌then◌else◌}
 use Rattle.std.specs.Prelude.{codes}
-use Rattle.std.specs.List.{flat_map, join_by}
+use Rattle.std.specs.List.{flat_map}
 use Rattle.ped_base.specs.Lists.{is_among}
 use Rattle.ped_tree.specs.declared.conditions.Relation.{Relation}
 use Rattle.ped_tree.specs.declared.conditions.Relation.TheVariants.{Lt, Le, Eq, Ne, Gt, Ge}
-use Rattle.ped_tree.specs.Tree.{ExprTree, ExprTrees, Int, Var, Element, Neg, Add, Sub, Mul, Div, Pow, Call, no_exprs, more_exprs, CondTree, Rel, Not, And, Or, ItemTree, Value, Text, Head, StmtTree, StmtTrees, Assign, If, Do, Print, Read, Stop, Comment}
+use Rattle.ped_tree.specs.Tree.{ExprTree, ExprTrees, Int, Var, Element, Neg, Add, Sub, Mul, Div, Pow, Call, no_exprs, more_exprs, CondTree, Rel, Not, And, Or, ItemTree, Value, Text, Head, StmtTrees, Assign, If, Print, Read}
 use Rattle.ped_tree.specs.Accesses.{Access, read_of, write_of, listed, unless_constant, expr_reads, exprs_reads, cond_reads, left_accesses, item_reads, private_writes, own_accesses}
 use Rattle.ped_tree.specs.Printing.{Place, alone, as_term, as_factor, as_base, encloses_sum, encloses_product, encloses_power, enclosed, intrinsic_text, expr_text, exprs_text, further_text, value_text, relation_text, Standing, whole, in_or, in_and, in_not, encloses_or, encloses_and, encloses_not, cond_text, item_text, names_text, do_word, step_text, do_text, private_text, own_text}
 

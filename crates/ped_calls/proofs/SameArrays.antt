@@ -3,7 +3,6 @@ use Rattle.std.proofs.Common.{◌≡◌, ℕ, List, [], ◌∷◌, refl, if◌th
 use Rattle.ped_tree.specs.Tree.{ExprTree, Int, Var, Element, Neg, Add, Sub, Mul, Div, Pow, Call, StmtTrees, If, no_stmts}
 use Rattle.ped_tree.specs.Accesses.{listed}
 use Rattle.ped_tree.specs.Names.Collecting.{HaveSame}
-use Rattle.ped_calls.specs.Forms.{Called}
 use Rattle.ped_calls.specs.Units.{all_with_calls}
 use Rattle.ped_calls.specs.Refusals.{is_whole_array, plain_arguments, condition_of, using_arguments}
 

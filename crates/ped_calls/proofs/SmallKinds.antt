@@ -1,18 +1,17 @@
 -- Named constants and the bounds of arrays are numbers that literals give, whatever a program declares.
-use Rattle.std.proofs.Common.{◌≡◌, ℕ, ℤ, ◌≤◌, unsigned_abs, nat_le, leb-true, Bool, true, false, ◌&&◌, length, List, [], ◌∷◌, ◌++◌, Option, Some, None, is_some, IfSome, All, refl, sym, ap, subst, ◌∙◌, if◌then◌else◌}
+use Rattle.std.proofs.Common.{◌≡◌, ℕ, ℤ, unsigned_abs, nat_le, leb-true, Bool, true, false, ◌&&◌, length, List, [], ◌∷◌, ◌++◌, Option, Some, None, is_some, IfSome, All, refl, sym, subst, if◌then◌else◌}
 use Rattle.std.specs.List.{flat_map}
 use Rattle.std.proofs.lemmas.List.Elements.{All-nil, All-cons, All-append}
 use Rattle.std.proofs.lemmas.Map.Entries.{All-lookup}
 use Rattle.ped_base.specs.Dimensions.{Dimensions}
 use Rattle.ped_base.specs.Lists.{is_same_text, is_among, has_some}
-use Rattle.ped_tree.specs.Tree.{ExprTree, BoundTree, DeclaratorTree, DeclTree, ProgramTree}
+use Rattle.ped_tree.specs.Tree.{ExprTree, BoundTree, DeclaratorTree, ProgramTree}
 use Rattle.ped_tree.specs.Grammar.LimitNumbers.{greatest_literal, most_dimensions}
 use Rattle.ped_tree.specs.Constants.ConstantExpressions.{constant_value}
 use Rattle.ped_valid.specs.ped_symbols.specs.declared.symbols.Kind.{Kind}
-use Rattle.ped_valid.specs.ped_symbols.specs.declared.symbols.Kind.TheVariants.{Scalar, Array, Constant}
-use Rattle.ped_valid.specs.ped_symbols.specs.Entries.{entry_of, with_entry}
+use Rattle.ped_valid.specs.ped_symbols.specs.Entries.{entry_of}
 use Rattle.ped_valid.specs.ped_symbols.specs.Values.{Values, within, fixed_value, with_value, behind_items, items, declarators}
-use Rattle.ped_valid.specs.ped_symbols.specs.Arrays.{Arrays, with_dimension, bounds_values, with_bounds, by_bounds, arrays_of, arrays_in}
+use Rattle.ped_valid.specs.ped_symbols.specs.Arrays.{Arrays, with_dimension, bounds_values, with_bounds, arrays_of, arrays_in}
 use Rattle.ped_valid.specs.ped_symbols.specs.Sites.{Site, declaration, statement, private_names, program_sites}
 use Rattle.ped_valid.specs.ped_symbols.specs.NameRefusals.{Before, at_first, behind_site, behind_sites}
 use Rattle.ped_valid.specs.ped_symbols.specs.Kinds.{at_last, kind_by, kind_of, kind_in, names_of, table_of}

@@ -1,6 +1,5 @@
 -- What the names of the units stand for that were looked at so far, or the first of their refusals.
 use Rattle.std.proofs.Common.{◌≡◌, ℕ, ◌<◌, List, [], ◌∷◌, ◌++◌, map, length, get_or, All, subst, arith, Option, Some, None, refl, sym, ap, ◌∙◌, append-nil, Bool, true, false, if◌then◌else◌}
-use Rattle.std.specs.List.{flat_map}
 use Rattle.std.proofs.lemmas.List.{map-append, get_or-map, length-map}
 use Rattle.std.proofs.lemmas.List.Concat.{flat_map-append}
 use Rattle.ped_tree.specs.Grammar.Refusal.{Finding, earlier, is_before, first_of}
@@ -9,9 +8,13 @@ use Rattle.ped_valid.specs.ped_symbols.specs.NameRefusals.{name_refusals}
 use Rattle.ped_calls.specs.Units.{ProgramUnit}
 use Rattle.ped_calls.specs.Refusals.{for_names, lines_for_names, units_name_refusals}
 use Rattle.ped_calls.specs.Seeing.{combined}
-use Rattle.ped_calls.specs.Naming.{HasFew, HaveTables}
+use Rattle.ped_calls.specs.Naming.{HasFew, HaveTables, IsFound, IsFirstNameRefusal}
 use Rattle.ped_calls.specs.Views.{program_unit_of}
 use Rattle.ped_calls.specs.declared.units.ProgramUnit as code
+use Rattle.ped_calls.specs.declared.refusals.UnitRefusal.{UnitRefusal}
+use Rattle.ped_calls.specs.declared.refusals.UnitRefusal.TheVariants.{At, NoMemory}
+use Rattle.ped_tree.specs.declared.grammar.refusals.Refusal.{Refusal}
+use Rattle.ped_tree.specs.Grammar.RefusalViews.{finding_of}
 use Rattle.ped_calls.proofs.Earliest.{both_first}
 
 -- the first refusal of these units, and their tables where there is none
@@ -36,11 +39,11 @@ right_more us u found tables table h none is =
     record {
       first = h.first ∙ ap first_of (sym same);
       right = λ e.
-      let t = h.right e in
-      record {
-        right = same ∙ t.right;
-        are = (λ i. t.are i ++ is i ∷ []) ∙ sym (map-append (λ v. table_of (for_names v)) us (u ∷ []));
-      };
+          let t = h.right e in
+          record {
+            right = same ∙ t.right;
+            are = (λ i. t.are i ++ is i ∷ []) ∙ sym (map-append (λ v. table_of (for_names v)) us (u ∷ []));
+          };
     }
 
 some_of_both : (f g : Finding) (b : Bool) → (if b then Some f else Some g) ≡ None → ⊥
@@ -65,3 +68,8 @@ pub few_here : (us : List code.ProgramUnit) (i : ℕ) (u : code.ProgramUnit) →
 few_here us i u lt is h =
     subst (λ (v : code.ProgramUnit). HasFew (program_unit_of v)) (sym is)
     (subst HasFew (get_or-map program_unit_of us i u (program_unit_of u) lt) (h i (program_unit_of u) (omega (arith, lt, length-map us program_unit_of))))
+
+-- the first of the refusals of names, as it is told
+pub found_first : (us : List ProgramUnit) (r : Refusal) (e : UnitRefusal) → first_of (units_name_refusals us) ≡ Some (finding_of r) → IsFound (finding_of r) e → IsFirstNameRefusal us e
+found_first us r NoMemory h f = tt
+found_first us r (At g) h f = (r, h, f)

@@ -1,14 +1,17 @@
 -- What the names of units stand for, or which of their refusals is the first, as the code tells. Contracts of private functions alone speak of it.
-use Rattle.std.specs.Prelude.{◌≡◌, ◌<◌, ◌^◌, List, [], ◌∷◌, map, length, Option, Some, None, Result, Ok, Err}
+use Rattle.std.specs.Prelude.{◌≡◌, ◌<◌, ◌^◌, ℕ, List, [], ◌∷◌, map, length, Option, Some, None, Result, Ok, Err}
 use Rattle.std.specs.Global.{Vec}
-use Rattle.ped_tree.specs.Tree.{ExprTree, CondTree}
+use Rattle.std.specs.List.{flat_map}
+use Rattle.ped_tree.specs.Tree.{ExprTree, CondTree, DeclTree, Integer, Dimension}
 use Rattle.ped_tree.specs.Numbering.{statements_count}
 use Rattle.ped_tree.specs.Views.{cond_tree}
-use Rattle.ped_tree.specs.Grammar.Refusal.{first_of}
+use Rattle.ped_tree.specs.Grammar.Refusal.{Finding, first_of}
 use Rattle.ped_tree.specs.Grammar.RefusalViews.{finding_of}
 use Rattle.ped_tree.specs.declared.conditions.Cond.{Cond}
 use Rattle.ped_tree.specs.declared.grammar.refusals.Refusal.{Refusal}
 use Rattle.ped_valid.specs.ped_symbols.specs.ped_refs.specs.References.{references}
+use Rattle.ped_valid.specs.ped_symbols.specs.Uses.{type_uses, dimension_uses}
+use Rattle.ped_valid.specs.ped_symbols.specs.Declarations.{is_dimensioning, names_with}
 use Rattle.ped_valid.specs.ped_symbols.specs.Kinds.{Table, table_of}
 use Rattle.ped_valid.specs.ped_symbols.specs.NameRefusals.{name_refusals}
 use Rattle.ped_calls.specs.Units.{ProgramUnit}
@@ -17,6 +20,12 @@ use Rattle.ped_calls.specs.Verdicts.{found_in_text}
 use Rattle.ped_calls.specs.Views.{unit_finding_of}
 use Rattle.ped_calls.specs.declared.refusals.UnitRefusal.{UnitRefusal}
 use Rattle.ped_calls.specs.declared.refusals.UnitRefusal.TheVariants.{At, NoMemory}
+
+-- the names that a declaration gives dimensions (ANSI X3.9-1978, section 5.1)
+abbrev pub dimensioned_in : DeclTree → List (List ℕ)
+dimensioned_in (Integer ds) = names_with is_dimensioning (flat_map type_uses ds)
+dimensioned_in (Dimension ds) = names_with is_dimensioning (flat_map dimension_uses ds)
+dimensioned_in d = []
 
 -- a unit has few statements and few references, as each that is read
 pub record HasFew (u : ProgramUnit) : Type 0 where
@@ -42,10 +51,15 @@ abbrev pub JudgesAllNames : List ProgramUnit → Result (List Table) Refusal →
 JudgesAllNames us (Ok tables) = HaveTables us tables
 JudgesAllNames us (Err r) = first_of (units_name_refusals us) ≡ Some (finding_of r)
 
+-- the refusal is this one of texts
+abbrev pub IsFound : Finding → UnitRefusal → Type 0
+IsFound f NoMemory = ⊥
+IsFound f (At g) = unit_finding_of g ≡ found_in_text f
+
 -- the first of the refusals of the names of units, or want of memory
 abbrev pub IsFirstNameRefusal : List ProgramUnit → UnitRefusal → Type 0
 IsFirstNameRefusal us NoMemory = Unit {0}
-IsFirstNameRefusal us (At f) = (r : Refusal) × (first_of (units_name_refusals us) ≡ Some (finding_of r)) × (unit_finding_of f ≡ found_in_text (finding_of r))
+IsFirstNameRefusal us (At f) = (r : Refusal) × (first_of (units_name_refusals us) ≡ Some (finding_of r)) × IsFound (finding_of r) (At f)
 
 -- a condition, where there is one
 abbrev pub cond_view : Option Cond → Option CondTree

@@ -86,11 +86,7 @@ fn numbered(alloc: Global, n: u64) -> Result<Name, NoMemory>
 }
 
 /// The declaration of a name that is given to something of this kind: none but of an array.
-fn declaration(
-    alloc: Global,
-    name: &Name,
-    kind: &Option<Kind>,
-) -> Result<Option<Decl>, NoMemory>
+fn declaration(alloc: Global, name: &Name, kind: &Option<Kind>) -> Result<Option<Decl>, NoMemory>
     requires { HasSmallKind kind.now }
     ensures { IfOk result (λ d. decls_of d ≡ Spec.declared_as name.now kind.now) }
 {

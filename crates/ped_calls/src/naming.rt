@@ -4,6 +4,7 @@ ghost use Rattle.std.specs.Prelude.{◌≡◌, ◌++◌, [], ◌∷◌, List, �
 ghost use Rattle.std.specs.List.{flat_map};
 ghost use Rattle.ped_base.specs.Lists as Lists;
 ghost use Rattle.ped_tree.specs.Tree as Tree;
+ghost use Rattle.ped_tree.specs.Accesses.{listed};
 ghost use Rattle.ped_tree.specs.NamesIn as NamesIn;
 ghost use Rattle.ped_tree.specs.Names.Collecting.{with_names};
 ghost use Rattle.ped_tree.specs.Views.{declarator_tree, decl_tree, stmt_tree, stmt_trees, cond_tree, program_tree, expr_tree, pack_exprs};
@@ -11,7 +12,7 @@ ghost use Rattle.ped_valid.specs.ped_symbols.specs.Uses.{type_uses, dimension_us
 ghost use Rattle.ped_valid.specs.ped_symbols.specs.Declarations.{is_dimensioning, names_with};
 ghost use Rattle.ped_calls.specs.Units.{with_calls, all_with_calls};
 ghost use Rattle.ped_calls.specs.Refusals as Spec;
-ghost use Rattle.ped_calls.specs.Naming.{HasFew, HaveTables, IsFirstNameRefusal, JudgesNames, JudgesAllNames, tables_view, goes_on, cond_view};
+ghost use Rattle.ped_calls.specs.Naming.{HasFew, dimensioned_in, HaveTables, IsFirstNameRefusal, JudgesNames, JudgesAllNames, tables_view, goes_on, cond_view};
 ghost use Rattle.ped_calls.specs.Views.{program_unit_of};
 
 use crate::reading::{at, first_of_both};
@@ -20,7 +21,7 @@ use crate::units::ProgramUnit;
 use ped_base::{Listed, Name, Names, NoMemory};
 use ped_tree::grammar::Refusal;
 use ped_tree::names::NameSet;
-use ped_tree::{Cond, Decl, Declarator, Do, Expr, Program, Relation, Stmt, copy_decls};
+use ped_tree::{Cond, Decl, Declarator, Expr, Program, Relation, Stmt};
 use ped_valid::ped_symbols::{NameRefusal, Symbols, symbols_of};
 use std::alloc::Global;
 
@@ -34,7 +35,8 @@ pub fn tables(alloc: Global, units: &[ProgramUnit]) -> Result<Vec<Symbols>, Unit
     ensures tables { IfOk result (λ tables. HaveTables (map program_unit_of units.now) tables.items) }
     ensures refused { IfErr result (IsFirstNameRefusal (map program_unit_of units.now)) }
 {
-    match all_tables(alloc, units)? {
+    let judged = all_tables(alloc, units)?;
+    match judged {
         Ok(tables) => Ok(tables),
         Err(refusal) => Err(at(refusal)),
     }
@@ -51,7 +53,8 @@ fn all_tables(
     let mut tables = Vec::new(alloc);
     let mut found = None;
     for unit in units {
-        match table(alloc, unit)? {
+        let judged = table(alloc, unit)?;
+        match judged {
             Ok(symbols) => tables.push(symbols)?,
             Err(refusal) => found = first_of_both(found, Some(refusal)),
         }
@@ -83,14 +86,21 @@ fn for_names(alloc: Global, unit: &ProgramUnit) -> Result<Program, NoMemory>
 {
     let arrays = dimensioned(alloc, &unit.program.decls)?;
     let body = without_calls(alloc, &arrays, &unit.program.body)?;
-    let (decls, lines) = match declared(alloc, unit) {
-        Ok(found) => found,
+    with_statements(alloc, unit, body)
+}
+
+/// The program with the declarations of a unit, of which its dummy arguments come first, and these statements.
+fn with_statements(alloc: Global, unit: &ProgramUnit, body: Vec<Stmt>) -> Result<Program, NoMemory>
+    ensures tree { IfOk result (λ p. program_tree p ≡ record { decls = Spec.save_of_formals unit.now.formals ++ map decl_tree unit.now.program.decls.items; body = stmt_trees body.items }) }
+    ensures lines { IfOk result (λ p. p.lines.items ≡ Spec.lines_for_names (program_unit_of unit.now)) }
+{
+    match declared(alloc, unit) {
+        Ok((decls, lines)) => Ok(Program { decls, body, lines }),
         Err(error) => {
             drop(body);
-            return Err(error);
+            Err(error)
         }
-    };
-    Ok(Program { decls, body, lines })
+    }
 }
 
 /// The declarations of a unit behind a SAVE of its dummy arguments, where there are some, with their lines and those of
@@ -130,17 +140,21 @@ pub fn dimensioned(alloc: Global, decls: &[Decl]) -> Result<NameSet, NoMemory>
 {
     let mut arrays = NameSet::new(alloc);
     for decl in decls {
-        match decl {
-            Decl::Integer(declared) => add_typed_arrays(&mut arrays, declared)?,
-            Decl::Dimension(declared) => add_arrays(&mut arrays, declared)?,
-            Decl::Program(_)
-            | Decl::Implicit
-            | Decl::Parameter(_)
-            | Decl::Save(_)
-            | Decl::Comment(_) => {}
-        }
+        add_dimensioned(&mut arrays, decl)?;
     }
     Ok(arrays)
+}
+
+/// Adds the names that a declaration gives dimensions.
+fn add_dimensioned(arrays: &mut NameSet, decl: &Decl) -> Result<(), NoMemory>
+    ensures { OnOk result (arrays.new ≡ with_names arrays.old (dimensioned_in (decl_tree decl.now))) }
+{
+    match decl {
+        Decl::Integer(declared) => add_typed_arrays(arrays, declared),
+        Decl::Dimension(declared) => add_arrays(arrays, declared),
+        Decl::Program(_) | Decl::Implicit | Decl::Parameter(_) | Decl::Save(_) | Decl::Comment(_) =>
+            { Ok(()) }
+    }
 }
 
 /// Adds the names that INTEGER gives dimensions.
@@ -239,19 +253,15 @@ pub fn with_condition(
 
 /// A statement that uses the names of arguments, but for arrays as a whole.
 fn using(alloc: Global, arrays: &NameSet, arguments: &[Expr]) -> Result<Stmt, NoMemory>
-    ensures { IfOk result (λ s. stmt_tree s ≡ Tree.If (Spec.condition_of (Spec.plain_arguments arrays.now (map expr_tree arguments.now))) Tree.no_stmts Tree.no_stmts) }
+    ensures { IfOk result (λ s. stmt_tree s ≡ Tree.If (Spec.condition_of (Spec.plain_arguments arrays.now (listed (pack_exprs (map expr_tree arguments.now))))) Tree.no_stmts Tree.no_stmts) }
 {
     let condition = condition(alloc, arrays, arguments)?;
-    Ok(Stmt::block_if(
-        condition,
-        Vec::new(alloc),
-        Vec::new(alloc),
-    ))
+    Ok(Stmt::block_if(condition, Vec::new(alloc), Vec::new(alloc)))
 }
 
 /// A condition in which exactly the arguments stand that are no arrays as a whole.
 fn condition(alloc: Global, arrays: &NameSet, arguments: &[Expr]) -> Result<Cond, NoMemory>
-    ensures { IfOk result (λ c. cond_tree c ≡ Spec.condition_of (Spec.plain_arguments arrays.now (map expr_tree arguments.now))) }
+    ensures { IfOk result (λ c. cond_tree c ≡ Spec.condition_of (Spec.plain_arguments arrays.now (listed (pack_exprs (map expr_tree arguments.now))))) }
 {
     let mut whole = None;
     for argument in arguments {

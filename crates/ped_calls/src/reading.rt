@@ -13,6 +13,7 @@ ghost use Rattle.ped_calls.specs.Units.{ProgramUnit as PlainUnit, ProgramUnits, 
 ghost use Rattle.ped_calls.specs.Reading.{Segment as PlainSegment, segments_of, is_subroutine, IsHeaded};
 ghost use Rattle.ped_calls.specs.Refusals.{ReadsUnits, segments_refusals};
 ghost use Rattle.ped_calls.specs.Seeing.{AreItemsReadAs, HeadsUnit, IsReadUnit, AreReadUnits, AreReadEach, IsBuiltOf, AreBuiltOf, combined};
+ghost use Rattle.ped_calls.specs.Naming.{IsFound};
 ghost use Rattle.ped_calls.specs.UnitReading.{IsItemReadAs};
 ghost use Rattle.ped_calls.specs.Verdicts.{found_in_text, RefusesUnits};
 ghost use Rattle.ped_calls.specs.Views.{unit_entry_of, head_of, segment_of, program_unit_of, IsUnitRefusalOf};
@@ -89,7 +90,8 @@ fn nested(alloc: Global, cut: Statements) -> Result<Vec<ProgramUnit>, UnitRefusa
 
 /// A refusal of texts as one of files of program units.
 pub fn at(refusal: Refusal) -> UnitRefusal
-    ensures { (text : List ℕ) → RefusesUnits text (found_in_text (finding_of refusal)) → IsUnitRefusalOf text result }
+    ensures found { IsFound (finding_of refusal) result }
+    ensures refuses { (text : List ℕ) → RefusesUnits text (found_in_text (finding_of refusal)) → IsUnitRefusalOf text result }
 {
     UnitRefusal::At(UnitFinding {
         rule: UnitRule::Text(refusal.kind),

@@ -16,7 +16,7 @@ pub returns-in-Some-clause-refused : goal.returns-in-Some-clause-refused
 returns-in-Some-clause-refused c text l same =
     let es = map unit_entry_of c.in_ok-entries.entries.items in
     let all = statements_view c.args.cut in
-    c.at.ensures text (refused_units_here c.args.cut es c.first_of_all.result c.in-Some.refusal
+    c.at.ensures.refuses text (refused_units_here c.args.cut es c.first_of_all.result c.in-Some.refusal
     (subst (λ (ss : List lines.Statement). AreItemsReadAs (map statement_of ss) es) c.into_vec.ensures c.in_ok-entries.ensures)
     (c.first_of_all.ensures all (segments_of es) (subst (λ (us : List ReadUnit). AreReadUnits all (segments_of es) us) (sym c.deref.ensures.value) (c.in_ok-units.ensures all refl (ap (λ (ns : List NoteLine). map note_of ns) (sym c.as_slice.ensures)))))
     c.in-Some.is text l same)

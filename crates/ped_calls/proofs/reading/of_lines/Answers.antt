@@ -6,4 +6,4 @@ use Rattle.ped_calls.specs.Verdicts.{in_lines}
 use Rattle.ped_calls.proofs.reading.of_lines.Goals as goal
 
 pub returns-in-Refused : goal.returns-in-Refused
-returns-in-Refused c text h = c.at.ensures text (in_lines (finding_of c.in-Refused.refusal) refl (subst (λ (e : LinesError). IsErrorOf text e) c.in-Refused.is h))
+returns-in-Refused c text h = c.at.ensures.refuses text (in_lines (finding_of c.in-Refused.refusal) refl (subst (λ (e : LinesError). IsErrorOf text e) c.in-Refused.is h))

@@ -189,9 +189,12 @@ unit_more us ends marks found more i a below returns f h =
     both (inl k) = both_first (LeadingBelow us ends i) (LeadingAt us ends i) found more h k
     both (inr k) = subst (λ (o : Option UnitFinding). IsFirstOf (EitherStands (LeadingBelow us ends i) (LeadingAt us ends i)) (first_link_of found o)) (sym k.0) (skipped_unit us ends marks found i (LeadingBelow us ends i) a below returns k.1 h)
 
+same_some : (a b : ℕ) → Some a ≡ Some b → a ≡ b
+same_some a b e = cc
+
 -- the arrows of one CALL more
 pub callers_step : (us : ProgramUnits) (calls all : List PlacedCall) (c : PlacedCall) (unit : ℕ) (callee : Option ℕ) (old mid new : List (List ℕ)) → all ≡ calls ++ c ∷ [] → callee ≡ number_of_unit (all_units us) c.name
-    → ((k i : ℕ) → Leads mid k i ↔ (Leads old k i ⊎ ((i ≡ unit) × CallsIn (all_units us) calls k))) → ((k i : ℕ) → Leads new k i ↔ (Leads mid k i ⊎ ((i ≡ unit) × (callee ≡ Some k))))
+    → ((k i : ℕ) → Leads mid k i ↔ (Leads old k i ⊎ ((i ≡ unit) × CallsIn (all_units us) calls k))) → ((k i : ℕ) → Leads new k i ↔ (Leads mid k i ⊎ ((callee ≡ Some k) × (Some unit ≡ Some i))))
     → (k i : ℕ) → Leads new k i ↔ (Leads old k i ⊎ ((i ≡ unit) × CallsIn (all_units us) all k))
 callers_step us calls all c unit callee old mid new e named before now k i = (from, to)
   where
@@ -202,13 +205,13 @@ callers_step us calls all c unit callee old mid new e named before now k i = (fr
     from : Leads new k i → Leads old k i ⊎ ((i ≡ unit) × CallsIn (all_units us) all k)
     from l = elim ((now k i).0 l) [
       | inl m ↦ elim ((before k i).0 m) [ inl o ↦ inl o | inr x ↦ inr (x.0, more x.1) ]
-      | inr h ↦ inr (h.0, here h.1)
+      | inr h ↦ inr (sym (same_some unit i h.1), here h.0)
     ]
     to : Leads old k i ⊎ ((i ≡ unit) × CallsIn (all_units us) all k) → Leads new k i
     to (inl o) = (now k i).1 (inl ((before k i).1 (inl o)))
     to (inr x) = elim (in_either x.1.0 calls (c ∷ []) (subst (IsIn x.1.0) e x.1.1)) [
       | inl y ↦ (now k i).1 (inl ((before k i).1 (inr (x.0, (x.1.0, y, x.1.2)))))
-      | inr z ↦ (now k i).1 (inr (x.0, named ∙ ap (λ (d : PlacedCall). number_of_unit (all_units us) d.name) (sym (in_one x.1.0 c z)) ∙ x.1.2))
+      | inr z ↦ (now k i).1 (inr (named ∙ ap (λ (d : PlacedCall). number_of_unit (all_units us) d.name) (sym (in_one x.1.0 c z)) ∙ x.1.2, ap (λ (n : ℕ). Some n) (sym x.0)))
     ]
 
 -- the arrows of one unit more

@@ -37,3 +37,4 @@ mod PlacesMet
 mod ArgumentsMet
 mod Passings
 mod ArrowsAdded
+mod StatementTrees

@@ -20,10 +20,10 @@ abbrev pub AreNamed : ProgramUnits → Type 0
 AreNamed us = (u : ProgramUnit) → IsIn u us.others → u.name ≡ [] → ⊥
 
 -- these are the units of a file, each subroutine with a name, and what their names stand for
-pub record AreUnitsWith (us : ProgramUnits) (units : List code.ProgramUnit) (tables : List Table) : Type 0 where
-  pub units : map program_unit_of units ≡ all_units us
+pub record AreUnitsWith (us : ProgramUnits) (given : List code.ProgramUnit) (known : List Table) : Type 0 where
+  pub units : map program_unit_of given ≡ all_units us
   pub named : AreNamed us
-  pub tables : AreTables (all_units us) tables
+  pub tables : AreTables (all_units us) known
 
 -- the first of the refusals by CALLs, or want of memory
 abbrev pub IsLinkRefusal : ProgramUnits → UnitRefusal → Type 0

@@ -21,6 +21,7 @@ placed_there (y ∷ ys) n p x h = by (is_same_text x y) refl h
   where
     inner : (a b : ℕ) → Some a ≡ Some b → a ≡ b
     inner a b e = cc
+
     by : (b : Bool) → is_same_text x y ≡ b → (if b then Some n else place_among ys (n + 1) x) ≡ Some p → HasPlace (y ∷ ys) n p x
     by true e k =
         let is : n ≡ p = inner n p k in

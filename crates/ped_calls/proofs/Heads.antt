@@ -40,6 +40,7 @@ numbered_among (u ∷ us) n zero j x h l = absurd (above (u ∷ us) n j h)
       where
         inner : (a b : ℕ) → Some a ≡ Some b → a ≡ b
         inner a b q = cc
+
         by : (b : Bool) → (if b then Some k else number_among vs (k + 1) x) ≡ Some i → ⊥
         by true q = let is = inner k i q in absurd (omega (arith, is, below))
         by false q = above vs (k + 1) i q (omega (arith, below))

@@ -35,6 +35,7 @@ entry_kept es y n x = there (is_some (entry_of es y)) refl (is_same_text x y) re
     some_of : (o : Option ℕ) → is_some o ≡ true → either_of o (Some n) ≡ o
     some_of (Some m) h = refl
     some_of None h = absurd cc
+
     there : (b : Bool) → is_some (entry_of es y) ≡ b → (s : Bool) → is_same_text x y ≡ s → entry_of (if b then es else es ++ (y, n) ∷ []) x ≡ either_of (entry_of es x) (if s then Some n else None)
     there true h true s =
         let same : x ≡ y = same_is x y s in

@@ -17,6 +17,7 @@ numbered (u ∷ us) n x k d h = by (is_same_text x u.name) refl h
   where
     inner : (m j : ℕ) → Some m ≡ Some j → m ≡ j
     inner m j e = cc
+
     by : (b : Bool) → is_same_text x u.name ≡ b → (if b then Some n else number_among us (n + 1) x) ≡ Some k → IsNumbered (u ∷ us) n x k d
     by true e l =
         let is : n ≡ k = inner n k l in
@@ -64,6 +65,7 @@ number_of_unit_of us x v h = by (number_of_unit (all_units us) x) refl
   where
     inner : (a b : ProgramUnit) → Some a ≡ Some b → a ≡ b
     inner a b e = cc
+
     by : (o : Option ℕ) → number_of_unit (all_units us) x ≡ o → (k : ℕ) × (number_of_unit (all_units us) x ≡ Some k) × (unit_at us k ≡ v)
     by None e = absurd (none (no_number us x e))
       where

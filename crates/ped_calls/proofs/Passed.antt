@@ -64,7 +64,7 @@ calls_append loops lines (t ∷ ts) s =
     ap (λ (xs : List Placed). calls_in loops lines t ++ xs) (calls_append loops (drop (length (stmt_sites t)) lines) ts s)
     ∙ sym (append_assoc (calls_in loops lines t) (all_calls_in loops (drop (length (stmt_sites t)) lines) (pack_stmts ts)) (calls_in loops (drop (length (stmts_sites (pack_stmts ts))) (drop (length (stmt_sites t)) lines)) s))
     ∙ ap (λ (ls : List ℕ). (calls_in loops lines t ++ all_calls_in loops (drop (length (stmt_sites t)) lines) (pack_stmts ts)) ++ calls_in loops ls s)
-        (drop-drop (length (stmts_sites (pack_stmts ts))) (length (stmt_sites t)) lines ∙ ap (λ (k : ℕ). drop k lines) (sym (length-append (stmt_sites t) (stmts_sites (pack_stmts ts)))))
+    (drop-drop (length (stmts_sites (pack_stmts ts))) (length (stmt_sites t)) lines ∙ ap (λ (k : ℕ). drop k lines) (sym (length-append (stmt_sites t) (stmts_sites (pack_stmts ts)))))
 
 -- one statement more
 pub passes_more : (formals : List (List ℕ)) (loops : List Head) (ss all : List StmtTree) (s : StmtTree) (f g h : Found) (l m n : List ℕ) → all ≡ ss ++ s ∷ []
@@ -78,7 +78,7 @@ passes_more formals loops ss all s f g h l m n e a b =
     ∙ ap (map placed_call) (sym (calls_append loops l ss s)) in
     subst (λ (xs : List StmtTree). Passes formals (stmts_sites (pack_stmts xs)) (map placed_call (all_calls_in loops l (pack_stmts xs))) f l h n) (sym e)
     (passes_as formals (stmts_sites (pack_stmts ss) ++ stmt_sites s) (stmts_sites (pack_stmts (ss ++ s ∷ []))) _ _ f h l n (sym (sites_append ss s)) same
-        (passes_both formals (stmts_sites (pack_stmts ss)) (stmt_sites s) _ _ f g h l m n a b))
+    (passes_both formals (stmts_sites (pack_stmts ss)) (stmt_sites s) _ _ f g h l m n a b))
 
 or_false : (b : Bool) → b ≡ (b || false)
 or_false true = refl
@@ -96,14 +96,18 @@ within_loops loops h around within a w =
   where
     variables : (ls : List Head) → map (λ (k : Head). k.variable) ls ++ h.variable ∷ [] ≡ map (λ (k : Head). k.variable) (ls ++ h ∷ [])
     variables ls = sym (map_push (λ (k : Head). k.variable) ls h)
+
     private : (ls : List Head) → flat_map (λ (k : Head). k.private) ls ++ h.private ≡ flat_map (λ (k : Head). k.private) (ls ++ h ∷ [])
     private [] = sym (append-nil h.private)
     private (k ∷ ks) = append_assoc k.private (flat_map (λ (r : Head). r.private) ks) h.private ∙ ap (λ (xs : List (List ℕ)). k.private ++ xs) (private ks)
+
     parallel : (ls : List Head) → (list_any (λ (k : Head). k.parallel) ls || h.parallel) ≡ list_any (λ (k : Head). k.parallel) (ls ++ h ∷ [])
     parallel [] = or_false h.parallel
     parallel (k ∷ ks) = or_moved k.parallel (list_any (λ (r : Head). r.parallel) ks) h.parallel ∙ ap (λ (b : Bool). k.parallel || b) (parallel ks)
+
     said : List (List ℕ) → List (List ℕ) → Bool → Around
     said vs ps b = record { variables = vs; private = ps; parallel = b }
+
     together : {vs ws : List (List ℕ)} {ps qs : List (List ℕ)} {b c : Bool} → vs ≡ ws → ps ≡ qs → b ≡ c → said vs ps b ≡ said ws qs c
     together v p b = λ i. said (v i) (p i) (b i)
 
@@ -133,7 +137,7 @@ passes_if formals loops c t e f g h i l m n o over same a b =
     ∙ ap (λ (ls : List ℕ). map placed_call (all_calls_in loops (drop 1 l) t ++ all_calls_in loops ls e)) there in
     passes_as formals (stmt_sites (If c t e)) (stmt_sites (If c t e)) (map placed_call (all_calls_in loops m t) ++ map placed_call (all_calls_in loops n e)) _ f i l o refl calls
     (passes_both formals (statement (If c t e) ∷ []) (stmts_sites t ++ stmts_sites e) [] (map placed_call (all_calls_in loops m t) ++ map placed_call (all_calls_in loops n e)) f g i l m o (passes_only_line formals (If c t e) f g l m over same)
-        (passes_both formals (stmts_sites t) (stmts_sites e) (map placed_call (all_calls_in loops m t)) (map placed_call (all_calls_in loops n e)) g h i m n o a b))
+    (passes_both formals (stmts_sites t) (stmts_sites e) (map placed_call (all_calls_in loops m t)) (map placed_call (all_calls_in loops n e)) g h i m n o a b))
 
 -- a DO with its body
 pub passes_do : (formals : List (List ℕ)) (loops : List Head) (d : Head) (body : StmtTrees) (f g h i : Found) (l m n o : List ℕ) → m ≡ drop 1 l → g ≡ f
@@ -143,7 +147,7 @@ passes_do formals loops d body f g h i l m n o over same a b =
     let there : n ≡ drop (1 + length (private_site d.private)) l = a.over ∙ ap (drop (length (private_site d.private))) over ∙ drop-drop (length (private_site d.private)) 1 l in
     passes_as formals (stmt_sites (Do d body)) (stmt_sites (Do d body)) (map placed_call (all_calls_in (loops ++ d ∷ []) n body)) _ f i l o refl (ap (λ (ls : List ℕ). map placed_call (all_calls_in (loops ++ d ∷ []) ls body)) there)
     (passes_both formals (statement (Do d body) ∷ []) (private_site d.private ++ stmts_sites body) [] (map placed_call (all_calls_in (loops ++ d ∷ []) n body)) f g i l m o (passes_only_line formals (Do d body) f g l m over same)
-        (passes_both formals (private_site d.private) (stmts_sites body) [] (map placed_call (all_calls_in (loops ++ d ∷ []) n body)) g h i m n o a b))
+    (passes_both formals (private_site d.private) (stmts_sites body) [] (map placed_call (all_calls_in (loops ++ d ∷ []) n body)) g h i m n o a b))
 
 -- an assignment, which may be a CALL
 pub passes_assignment : (formals : List (List ℕ)) (loops : List Head) (around : Around) (left right : ExprTree) (f g h : Found) (l m n : List ℕ) (line : ℕ) → around ≡ around_of loops → line ≡ next_line l → m ≡ drop 1 l → g ≡ f → n ≡ m

@@ -72,6 +72,7 @@ search_goes_on ends seeds marks marks_now waiting rest waiting_now number there 
     in_front j (x ∷ xs) n (inl e) = inl e
     in_front j (x ∷ xs) n (inr h) = inr (in_front j xs n h)
     in_front j [] n h = absurd h
+
     at_end : (j : ℕ) (xs : List ℕ) → IsIn j (xs ++ j ∷ [])
     at_end j [] = inl refl
     at_end j (x ∷ xs) = inr (at_end j xs)

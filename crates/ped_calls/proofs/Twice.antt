@@ -52,6 +52,7 @@ twice_in_front (x ∷ xs) ys h = by (is_among x xs) refl h
         or_by : (b : Bool) → (b || is_among z vs) ≡ true → (b || is_among z (vs ++ ws)) ≡ true
         or_by true q = refl
         or_by false q = among_front z vs ws q
+
     by : (b : Bool) → is_among x xs ≡ b → (b || has_twice xs) ≡ true → (is_among x (xs ++ ys) || has_twice (xs ++ ys)) ≡ true
     by true e k = or_left (is_among x (xs ++ ys)) (has_twice (xs ++ ys)) (among_front x xs ys e)
     by false e k = or_right (is_among x (xs ++ ys)) (has_twice (xs ++ ys)) (twice_in_front xs ys k)

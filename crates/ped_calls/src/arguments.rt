@@ -52,7 +52,12 @@ fn misfits_in(
                 callee_table: &scene.tables[callee],
                 marks,
             };
-            found = standing(found, at.has_bad_arguments(), UnitRule::Arguments, call.line);
+            found = standing(
+                found,
+                at.has_bad_arguments(),
+                UnitRule::Arguments,
+                call.line,
+            );
             found = standing(found, at.is_aliased(), UnitRule::Aliased, call.line);
         }
     }
@@ -129,7 +134,7 @@ impl<'l> At<'l> {
         requires formals { place < length self.now.formals.now }
         ensures { (us : ProgramUnits) (i : ℕ) → Spec.IsAt us i self.now
             → IsTrue result ↔ Spec.IsAliasedFirst us (unit_at us i) (unit_at us self.now.callee) (get_or self.now.formals.now place []) (get_or self.now.call.now.arguments place None)
-                (drop (place + 1) self.now.formals.now) (drop (place + 1) self.now.call.now.arguments) }
+            (drop (place + 1) self.now.formals.now) (drop (place + 1) self.now.call.now.arguments) }
     {
         match &self.call.arguments.as_slice()[place] {
             Some(name) if !is_constant(self.caller_table, name) => {

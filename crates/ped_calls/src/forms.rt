@@ -18,7 +18,9 @@ use crate::items::{Called, UnitItem};
 use ped_base::{Names, NoMemory};
 use ped_tree::Expr;
 use ped_tree::grammar::StatementReading;
-use ped_valid::ped_parse::ped_statements::ped_expressions::{Failure, after, cond, expr, name_of, split_word};
+use ped_valid::ped_parse::ped_statements::ped_expressions::{
+    Failure, after, cond, expr, name_of, split_word,
+};
 use ped_valid::ped_parse::ped_statements::read_statement;
 use std::alloc::Global;
 

@@ -13,11 +13,10 @@ ghost use Rattle.ped_calls.specs.Placing.{placed_call};
 ghost use Rattle.ped_calls.specs.Scenes.{IsScene, AreWalked, AtHeads, AtPlaces};
 ghost use Rattle.ped_calls.specs.Views.{program_unit_of};
 
-pub use crate::numbering::unit_numbers;
-
 use crate::arguments::first_misfit;
 use crate::first_links::{first_of_two, standing};
 use crate::numbering::number_of;
+pub use crate::numbering::unit_numbers;
 use crate::placing::{Found, PlacedCall, placed_calls};
 use crate::recursion::first_recursion;
 use crate::refusals::{UnitFinding, UnitRefusal, UnitRule};

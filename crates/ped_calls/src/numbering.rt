@@ -12,10 +12,7 @@ use ped_base::{Name, NoMemory};
 use std::alloc::Global;
 
 /// The number of the first subroutine of each name. The main program comes first, and has none.
-pub fn unit_numbers(
-    alloc: Global,
-    units: &[ProgramUnit],
-) -> Result<IndexMap<Name, usize>, NoMemory>
+pub fn unit_numbers(alloc: Global, units: &[ProgramUnit]) -> Result<IndexMap<Name, usize>, NoMemory>
     ensures { IfOk result (λ numbers. Spec.AreNumbers (map program_unit_of units.now) numbers.entries) }
 {
     let mut numbers = IndexMap::new(alloc);

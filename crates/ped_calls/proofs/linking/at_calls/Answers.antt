@@ -32,7 +32,7 @@ loop-call-preserved c us scene =
     let none : test ≡ is_none c.callee.result = c.is_none-calls_none.ensures in
     subst (IsFirstOf (StandsAtPlaces (all_units us) (take (i + 1) all))) (sym (c.standing-found-2.ensures ∙ ap (λ (o : Option UnitFinding). standing_link o call.around.parallel rule.CallPlace call.line) c.standing-found.ensures))
     (first_two_more (take i all) (take (i + 1) all) call NoUnit CallPlace rule.NoUnit rule.CallPlace (CallsNone (all_units us)) IsParallel c.loop-call.found test call.around.parallel more refl refl (c.loop-call.invariant us scene)
-        (λ t. sym named ∙ none_is c.callee.result (sym none ∙ t)) (λ h. none ∙ is_none_of c.callee.result (named ∙ h)) (λ t. t) (λ h. h))
+    (λ t. sym named ∙ none_is c.callee.result (sym none ∙ t)) (λ h. none ∙ is_none_of c.callee.result (named ∙ h)) (λ t. t) (λ h. h))
 
 pub returns : goal.returns
 returns c us scene =

@@ -77,3 +77,9 @@ added_within r all now n from to e f t h ok err =
     let known = within_by r (ends_in all) (ends_in now) from to f t h ok err in
     let long : length now ≡ length all = sym (length-map now (λ (w : Vec ℕ). w.items)) ∙ known.1 ∙ length-map all (λ (w : Vec ℕ). w.items) in
     subst (λ (vs : List (Vec ℕ)). EndBelow (length (ends_in vs)) (ends_in vs)) (sym (written_back n now all e long)) known.0
+
+-- no arrow leads anywhere at first
+pub no_arrows : (n k i : ℕ) → Leads (replicate n []) k i → ⊥
+no_arrows zero k i h = h
+no_arrows (suc n) zero i h = h
+no_arrows (suc n) (suc k) i h = no_arrows n k i h

@@ -20,35 +20,36 @@ name_of u = u.name
 -- a name among the first of units has a number among theirs
 among_numbered : (us rest : List ProgramUnit) (n : ℕ) (x : List ℕ) → is_among x (map name_of us) ≡ true → (j : ℕ) × (number_among (us ++ rest) n x ≡ Some j) × (j < n + length us)
 among_numbered [] rest n x h = absurd cc
-among_numbered (u ∷ us) rest n x h = by (is_same_text x u.name) refl h
+among_numbered (u ∷ us) rest n x h = by (among_numbered us rest (n + 1) x) (is_same_text x u.name) refl h
   where
-    by : (b : Bool) → is_same_text x u.name ≡ b → (b || is_among x (map name_of us)) ≡ true → (j : ℕ) × (number_among ((u ∷ us) ++ rest) n x ≡ Some j) × (j < n + length (u ∷ us))
-    by true e k = (n, ap (λ (b : Bool). if b then Some n else number_among (us ++ rest) (n + 1) x) e, omega arith)
-    by false e k =
-        let there = among_numbered us rest (n + 1) x k in
+    by : (is_among x (map name_of us) ≡ true → (j : ℕ) × (number_among (us ++ rest) (n + 1) x ≡ Some j) × (j < n + 1 + length us)) → (b : Bool) → is_same_text x u.name ≡ b → (b || is_among x (map name_of us)) ≡ true → (j : ℕ) × (number_among ((u ∷ us) ++ rest) n x ≡ Some j) × (j < n + length (u ∷ us))
+    by later true e k = (n, ap (λ (b : Bool). if b then Some n else number_among (us ++ rest) (n + 1) x) e, omega arith)
+    by later false e k =
+        let there = later k in
         let below = there.2 in
         (there.0, ap (λ (b : Bool). if b then Some n else number_among (us ++ rest) (n + 1) x) e ∙ there.1, omega (arith, below))
+
+same_some : (a b : ℕ) → Some a ≡ Some b → a ≡ b
+same_some a b e = cc
+
+-- no number is below the first
+none_below : (us : List ProgramUnit) (n j : ℕ) (x : List ℕ) → number_among us n x ≡ Some j → j < n → ⊥
+none_below [] n j x h l = absurd cc
+none_below (u ∷ us) n j x h l = by (λ e. none_below us (n + 1) j x e (omega (arith, l))) (is_same_text x u.name) h
+  where
+    by : (number_among us (n + 1) x ≡ Some j → ⊥) → (b : Bool) → (if b then Some n else number_among us (n + 1) x) ≡ Some j → ⊥
+    by later true e = let is = same_some n j e in absurd (omega (arith, is, l))
+    by later false e = later e
 
 -- a name with a number among the first of units is among theirs
 numbered_among : (us : List ProgramUnit) (n m j : ℕ) (x : List ℕ) → number_among us n x ≡ Some j → j < n + m → is_among x (map name_of (take m us)) ≡ true
 numbered_among [] n m j x h l = absurd cc
-numbered_among (u ∷ us) n zero j x h l = absurd (above (u ∷ us) n j h)
+numbered_among (u ∷ us) n zero j x h l = absurd (none_below (u ∷ us) n j x h (omega (arith, l)))
+numbered_among (u ∷ us) n (suc m) j x h l = by (λ e. numbered_among us (n + 1) m j x e (omega (arith, l))) (is_same_text x u.name) h
   where
-    above : (vs : List ProgramUnit) (k i : ℕ) → number_among vs k x ≡ Some i → i < k + 0 → ⊥
-    above [] k i e below = absurd cc
-    above (v ∷ vs) k i e below = by (is_same_text x v.name) e
-      where
-        inner : (a b : ℕ) → Some a ≡ Some b → a ≡ b
-        inner a b q = cc
-
-        by : (b : Bool) → (if b then Some k else number_among vs (k + 1) x) ≡ Some i → ⊥
-        by true q = let is = inner k i q in absurd (omega (arith, is, below))
-        by false q = above vs (k + 1) i q (omega (arith, below))
-numbered_among (u ∷ us) n (suc m) j x h l = by (is_same_text x u.name) h
-  where
-    by : (b : Bool) → (if b then Some n else number_among us (n + 1) x) ≡ Some j → (b || is_among x (map name_of (take m us))) ≡ true
-    by true e = refl
-    by false e = numbered_among us (n + 1) m j x e (omega (arith, l))
+    by : (number_among us (n + 1) x ≡ Some j → is_among x (map name_of (take m us)) ≡ true) → (b : Bool) → (if b then Some n else number_among us (n + 1) x) ≡ Some j → (b || is_among x (map name_of (take m us))) ≡ true
+    by later true e = refl
+    by later false e = later e
 
 -- a subroutine has the name of one with a lesser number
 pub record RepeatsAt (us : ProgramUnits) (n : ℕ) (line : ℕ) : Type 0 where
@@ -82,7 +83,9 @@ at_front (b ∷ bs) behind u d = at_front bs behind u d
 split_at : (us : List ProgramUnit) (k : ℕ) (d : ProgramUnit) → k < length us → us ≡ take k us ++ get_or us k d ∷ drop (k + 1) us
 split_at [] k d h = absurd (omega (arith, h))
 split_at (u ∷ us) zero d h = refl
-split_at (u ∷ us) (suc k) d h = ap (λ (vs : List ProgramUnit). u ∷ vs) (split_at us k d (omega (arith, h))) ∙ ap (λ (n : ℕ). u ∷ (take k us ++ get_or us k d ∷ drop n (u ∷ us))) (omega arith)
+split_at (u ∷ us) (suc k) d h =
+    let same : suc (k + 1) ≡ suc k + 1 = omega arith in
+    ap (λ (vs : List ProgramUnit). u ∷ vs) (split_at us k d (omega (arith, h))) ∙ ap (λ (n : ℕ). u ∷ (take k us ++ get_or us k d ∷ drop n (u ∷ us))) same
 
 longer : (xs ys : List ProgramUnit) (y : ProgramUnit) → length xs < length (xs ++ y ∷ ys)
 longer [] ys y = omega arith

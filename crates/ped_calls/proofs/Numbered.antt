@@ -44,7 +44,7 @@ entry_kept es y n x = there (is_some (entry_of es y)) refl (is_same_text x y) re
     there false h s e = entry_behind es y n x ∙ ap (λ (b : Bool). either_of (entry_of es x) (if b then Some n else None)) e
 
 number_behind : (us : List ProgramUnit) (u : ProgramUnit) (n : ℕ) (x : List ℕ) (m : ℕ) → m ≡ n + length us → number_among (us ++ u ∷ []) n x ≡ either_of (number_among us n x) (if is_same_text x u.name then Some m else None)
-number_behind [] u n x m h = ap (λ (k : ℕ). if is_same_text x u.name then Some k else None) (omega (arith, h))
+number_behind [] u n x m h = let same : n ≡ m = omega (arith, h) in ap (λ (k : ℕ). if is_same_text x u.name then Some k else None) same
 number_behind (v ∷ us) u n x m h = by (is_same_text x v.name) (number_behind us u (n + 1) x m (omega (arith, h)))
   where
     by : (b : Bool) → number_among (us ++ u ∷ []) (n + 1) x ≡ either_of (number_among us (n + 1) x) (if is_same_text x u.name then Some m else None)
@@ -53,7 +53,7 @@ number_behind (v ∷ us) u n x m h = by (is_same_text x v.name) (number_behind u
     by false e = e
 
 place_behind : (ys : List (List ℕ)) (y : List ℕ) (n : ℕ) (x : List ℕ) (m : ℕ) → m ≡ n + length ys → place_among (ys ++ y ∷ []) n x ≡ either_of (place_among ys n x) (if is_same_text x y then Some m else None)
-place_behind [] y n x m h = ap (λ (k : ℕ). if is_same_text x y then Some k else None) (omega (arith, h))
+place_behind [] y n x m h = let same : n ≡ m = omega (arith, h) in ap (λ (k : ℕ). if is_same_text x y then Some k else None) same
 place_behind (z ∷ ys) y n x m h = by (is_same_text x z) (place_behind ys y (n + 1) x m (omega (arith, h)))
   where
     by : (b : Bool) → place_among (ys ++ y ∷ []) (n + 1) x ≡ either_of (place_among ys (n + 1) x) (if is_same_text x y then Some m else None)

@@ -4,8 +4,10 @@ use Rattle.ped_base.specs.Lists.{is_same_text, is_among}
 use Rattle.ped_valid.specs.ped_symbols.specs.NameRefusals.{has_twice}
 use Rattle.ped_calls.specs.Units.{ProgramUnit, ProgramUnits, all_units}
 use Rattle.ped_calls.specs.Linking.{LinkRefusal, NoUnit, Recursion, Arguments, Aliased, CallPlace}
+use Rattle.ped_calls.specs.Links.{AreNamed, IsBelow, HasEarlier}
 use Rattle.ped_calls.specs.Numbers.{number_among, number_of_unit}
 use Rattle.ped_calls.specs.Scenes.{unit_at, AtHeads}
+use Rattle.ped_calls.specs.Views.{name_or_none}
 use Rattle.ped_calls.specs.FirstLinks.{IsFirstOf, EitherStands, StandsIf, standing_link}
 use Rattle.ped_calls.specs.declared.refusals.UnitFinding.{UnitFinding}
 use Rattle.ped_calls.specs.declared.refusals.UnitRule.TheVariants as rule
@@ -191,3 +193,23 @@ heads_more us n found repeats twice h f g e =
     let one = standing_first (HeadsBelow us n) found repeats rule.NoUnit line NoUnit (RepeatsHere us n) refl h f g in
     let two = standing_first (EitherStands (HeadsBelow us n) (StandsIf NoUnit line (RepeatsHere us n))) (standing_link found repeats rule.NoUnit line) twice rule.Arguments line Arguments (has_twice (unit_at us n).formals ≡ true) refl one (λ t. sym e ∙ t) (λ t. e ∙ t) in
     first_as (HeadMore us n) (HeadsBelow us (n + 1)) (standing_link (standing_link found repeats rule.NoUnit line) twice rule.Arguments line) (head_together us n) (head_apart us n) two
+
+below_some : (o : Option ℕ) (n : ℕ) → IsBelow o n → (j : ℕ) × (o ≡ Some j) × (j < n)
+below_some None n h = absurd h
+below_some (Some j) n h = (j, refl, h)
+
+-- a unit that has the name of an earlier one
+pub repeats_by : (us : ProgramUnits) (n : ℕ) (name : Option (List ℕ)) → (unit_at us n).name ≡ name_or_none name → HasEarlier (all_units us) name n → RepeatsHere us n
+repeats_by us n None e h = absurd h
+repeats_by us n (Some x) e h =
+    let there = below_some (number_of_unit (all_units us) x) n h in
+    let less = there.2 in
+    (omega (arith, less), (there.0, ap (number_of_unit (all_units us)) e ∙ there.1, less))
+
+pub by_repeats : (us : ProgramUnits) (n : ℕ) (name : Option (List ℕ)) → AreNamed us → n < length (all_units us) → (unit_at us n).name ≡ name_or_none name → RepeatsHere us n → HasEarlier (all_units us) name n
+by_repeats us n None named below e h =
+    let above = h.0 in
+    let place : n ≡ suc (n - 1) = omega (arith, above) in
+    let unit : get_or us.others (n - 1) us.main ≡ unit_at us n = ap (λ (j : ℕ). get_or (all_units us) j us.main) (sym place) in
+    absurd (named (get_or us.others (n - 1) us.main) (in_place us.others (n - 1) us.main (omega (arith, above, below))) (ap (λ (v : ProgramUnit). v.name) unit ∙ e))
+by_repeats us n (Some x) named below e h = subst (λ (o : Option ℕ). IsBelow o n) (sym (ap (number_of_unit (all_units us)) (sym e) ∙ h.1.1)) h.1.2

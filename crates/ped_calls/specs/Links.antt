@@ -30,10 +30,15 @@ abbrev pub IsLinkRefusal : ProgramUnits → UnitRefusal → Type 0
 IsLinkRefusal us refusal.NoMemory = Unit {0}
 IsLinkRefusal us (refusal.At f) = (r : LinkRefusal) × (rule_of f.rule ≡ of_links r) × IsFirstLink us r f.line
 
+-- there is a number, and it is below this
+abbrev pub IsBelow : Option ℕ → ℕ → Type 0
+IsBelow None n = ⊥
+IsBelow (Some k) n = k < n
+
 -- the first unit of a name comes before this number
 abbrev pub HasEarlier : List ProgramUnit → Option (List ℕ) → ℕ → Type 0
 HasEarlier us None n = ⊥
-HasEarlier us (Some x) n = (k : ℕ) × (number_of_unit us x ≡ Some k) × (k < n)
+HasEarlier us (Some x) n = IsBelow (number_of_unit us x) n
 
 -- a rule of arguments stands at one of these lines
 abbrev pub StandsAtLines : List ℕ → LinkRefusal → ℕ → Type 0

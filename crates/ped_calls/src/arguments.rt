@@ -1,6 +1,6 @@
 //! Whether the arguments of CALLs fit dummy arguments (ANSI X3.9-1978, section 15.9.3).
 
-ghost use Rattle.std.specs.Prelude.{◌≡◌, ◌↔◌, ◌⊎◌, ◌<◌, ◌≤◌, ◌+◌, ℕ, [], Some, None, IfOk, IsTrue, length, drop, get_or};
+ghost use Rattle.std.specs.Prelude.{◌≡◌, ◌↔◌, ◌⊎◌, ◌<◌, ◌≤◌, ◌+◌, ℕ, [], Some, None, is_some, IfOk, IsTrue, length, drop, get_or};
 ghost use Rattle.ped_base.specs.Lists as Lists;
 ghost use Rattle.ped_valid.specs.ped_symbols.specs.Entries.{entry_of};
 ghost use Rattle.ped_calls.specs.Units.{ProgramUnits};
@@ -14,7 +14,7 @@ use crate::formals::{Marks, lesser};
 use crate::placing::PlacedCall;
 use crate::refusals::{UnitFinding, UnitRule};
 use crate::scenes::Scene;
-use ped_base::{Name, NoMemory, is_among};
+use ped_base::{Bounds, Name, NoMemory, is_among};
 use ped_valid::ped_symbols::{Kind, Symbols};
 use std::alloc::Global;
 
@@ -188,12 +188,48 @@ fn is_constant(table: &Symbols, name: &Name) -> bool
 fn is_other_kind(formal: Option<Kind>, argument: Option<Kind>, assigned: bool) -> bool
     ensures { IsTrue result ↔ Spec.IsOtherKind formal argument (IsTrue assigned) }
 {
-    match (formal, argument) {
-        (Some(Kind::Array(bounds)), Some(Kind::Array(other))) => bounds != other,
-        (Some(Kind::Array(_)), _) => true,
-        (_, Some(Kind::Array(_))) => true,
-        (_, Some(Kind::Scalar)) => false,
-        (_, _) => assigned,
+    match formal {
+        Some(Kind::Array(bounds)) => !has_bounds(argument, &bounds),
+        Some(Kind::Scalar) | Some(Kind::Constant(_)) | None => {
+            is_array(argument) || (assigned && !is_scalar(argument))
+        }
+    }
+}
+
+/// Whether this is an array with these bounds.
+fn has_bounds(kind: Option<Kind>, bounds: &Bounds) -> bool
+    ensures { IsTrue result ↔ (Rules.bounds_by kind ≡ Some bounds.now) }
+{
+    match kind {
+        Some(Kind::Array(other)) => are_same(&other, bounds),
+        Some(Kind::Scalar) | Some(Kind::Constant(_)) | None => false,
+    }
+}
+
+/// Whether bounds are the same, dimension by dimension.
+fn are_same(a: &Bounds, b: &Bounds) -> bool
+    ensures { IsTrue result ↔ (a.now ≡ b.now) }
+{
+    a.rank == b.rank && a.lower == b.lower && a.upper == b.upper
+}
+
+/// Whether this is an array.
+fn is_array(kind: Option<Kind>) -> bool
+    ensures { result ≡ is_some (Rules.bounds_by kind) }
+{
+    match kind {
+        Some(Kind::Array(_)) => true,
+        Some(Kind::Scalar) | Some(Kind::Constant(_)) | None => false,
+    }
+}
+
+/// Whether this is a scalar variable.
+fn is_scalar(kind: Option<Kind>) -> bool
+    ensures { result ≡ Rules.is_scalar kind }
+{
+    match kind {
+        Some(Kind::Scalar) => true,
+        Some(Kind::Array(_)) | Some(Kind::Constant(_)) | None => false,
     }
 }
 

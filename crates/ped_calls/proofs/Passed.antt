@@ -4,10 +4,10 @@ use Rattle.std.specs.List.{flat_map, list_any}
 use Rattle.std.specs.Prelude.{◌||◌}
 use Rattle.std.proofs.lemmas.List.{length-append, drop-drop, map-append, map_push}
 use Rattle.std.specs.Global.{Vec}
-use Rattle.ped_tree.specs.Tree.{ExprTree, CondTree, Head, StmtTree, StmtTrees, Assign, If, Do}
+use Rattle.ped_tree.specs.Tree.{ExprTree, CondTree, Head, StmtTree, StmtTrees, Assign, If, Do, DeclTree, Program, Implicit, Integer, Dimension, Parameter, Save, Remark}
 use Rattle.ped_tree.specs.Views.{pack_stmts}
 use Rattle.ped_valid.specs.ped_symbols.specs.NameRefusals.{next_line}
-use Rattle.ped_valid.specs.ped_symbols.specs.Sites.{Site, statement, stmt_sites, stmts_sites, private_site}
+use Rattle.ped_valid.specs.ped_symbols.specs.Sites.{Site, statement, stmt_sites, stmts_sites, decl_sites, private_site}
 use Rattle.ped_calls.specs.Forms.{Called}
 use Rattle.ped_calls.specs.Units.{call_of}
 use Rattle.ped_calls.specs.Linking.{Placed, placed, calls_in, all_calls_in}
@@ -156,3 +156,26 @@ passes_assignment formals loops around left right f g h l m n line a at over sam
     passes_as formals (stmt_sites (Assign left right)) (stmt_sites (Assign left right)) (call_here around line (call_of left right)) _ f h l n refl
     (ap (λ (k : ℕ). call_here around k (call_of left right)) at ∙ call_is_here loops around l (call_of left right) a)
     (passes_line formals (Assign left right) (call_here around line (call_of left right)) f g h l m n over same stays calls private)
+
+no_private_there : (formals : List (List ℕ)) (lines : List ℕ) (d : DeclTree) → private_lines formals lines (decl_sites d) ≡ []
+no_private_there formals lines (Program x) = refl
+no_private_there formals lines Implicit = refl
+no_private_there formals lines (Integer ds) = refl
+no_private_there formals lines (Dimension ds) = refl
+no_private_there formals lines (Parameter values) = refl
+no_private_there formals lines (Save names) = refl
+no_private_there formals lines (Remark text) = refl
+
+-- declarations have no PRIVATE statement
+no_private_declared : (formals : List (List ℕ)) (lines : List ℕ) (ds : List DeclTree) → private_lines formals lines (flat_map decl_sites ds) ≡ []
+no_private_declared formals lines [] = refl
+no_private_declared formals lines (d ∷ ds) =
+    private_append formals lines (decl_sites d) (flat_map decl_sites ds)
+    ∙ ap (λ (ns : List ℕ). ns ++ private_lines formals (drop (length (decl_sites d)) lines) (flat_map decl_sites ds)) (no_private_there formals lines d)
+    ∙ no_private_declared formals (drop (length (decl_sites d)) lines) ds
+
+-- the PRIVATE statements of a program are those of its statements
+pub private_behind : (formals : List (List ℕ)) (lines : List ℕ) (ds : List DeclTree) (sites : List Site) → private_lines formals lines (flat_map decl_sites ds ++ sites) ≡ private_lines formals (drop (length (flat_map decl_sites ds)) lines) sites
+private_behind formals lines ds sites =
+    private_append formals lines (flat_map decl_sites ds) sites
+    ∙ ap (λ (ns : List ℕ). ns ++ private_lines formals (drop (length (flat_map decl_sites ds)) lines) sites) (no_private_declared formals lines ds)

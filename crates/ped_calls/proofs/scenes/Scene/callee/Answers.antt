@@ -10,5 +10,5 @@ returns-clause-number c us scene =
     let number = c.number_of.ensures (all_units us) scene.numbers in
     let long = ap length scene.units in
     let as_long = length-map c.args.self.now.units.now program_unit_of in
-    let wide : c.len.result ≡ length (all_units us) = omega (arith, long, as_long, c.len.ensures) in
-    c.below.ensures.same (number_below us c.args.name.now c.number_of.result c.len.result number wide) ∙ number
+    let wide : length c.args.self.now.units.now ≡ length (all_units us) = omega (arith, long, as_long) in
+    c.below.ensures.same (number_below us c.args.name.now c.number_of.result (length c.args.self.now.units.now) number wide) ∙ number

@@ -101,7 +101,7 @@ impl<'l> At<'l> {
         let index = self.marks.is_index(self.callee, formal);
         let around = &self.call.around;
         let kind = kind_of_argument(self.caller_table, argument);
-        is_other_kind(self.callee_table.kind(formal), kind, assigned)
+        is_other_kind(&self.callee_table.kind(formal), &kind, assigned)
             || (assigned && is_one_of(argument, around.variables.as_slice()))
             || (index && is_one_of(argument, around.private.as_slice()))
     }
@@ -185,11 +185,11 @@ fn is_constant(table: &Symbols, name: &Name) -> bool
 
 /// Whether an argument that stands for this doesn't fit a dummy argument that stands for that: another array or none for an
 /// array, an array for a scalar, no scalar for one that is assigned.
-fn is_other_kind(formal: Option<Kind>, argument: Option<Kind>, assigned: bool) -> bool
-    ensures { IsTrue result ↔ Spec.IsOtherKind formal argument (IsTrue assigned) }
+fn is_other_kind(formal: &Option<Kind>, argument: &Option<Kind>, assigned: bool) -> bool
+    ensures { IsTrue result ↔ Spec.IsOtherKind formal.now argument.now (IsTrue assigned) }
 {
     match formal {
-        Some(Kind::Array(bounds)) => !has_bounds(argument, &bounds),
+        Some(Kind::Array(bounds)) => !has_bounds(argument, bounds),
         Some(Kind::Scalar) | Some(Kind::Constant(_)) | None => {
             is_array(argument) || (assigned && !is_scalar(argument))
         }
@@ -197,11 +197,11 @@ fn is_other_kind(formal: Option<Kind>, argument: Option<Kind>, assigned: bool) -
 }
 
 /// Whether this is an array with these bounds.
-fn has_bounds(kind: Option<Kind>, bounds: &Bounds) -> bool
-    ensures { IsTrue result ↔ (Rules.bounds_by kind ≡ Some bounds.now) }
+fn has_bounds(kind: &Option<Kind>, bounds: &Bounds) -> bool
+    ensures { IsTrue result ↔ (Rules.bounds_by kind.now ≡ Some bounds.now) }
 {
     match kind {
-        Some(Kind::Array(other)) => are_same(&other, bounds),
+        Some(Kind::Array(other)) => are_same(other, bounds),
         Some(Kind::Scalar) | Some(Kind::Constant(_)) | None => false,
     }
 }
@@ -214,8 +214,8 @@ fn are_same(a: &Bounds, b: &Bounds) -> bool
 }
 
 /// Whether this is an array.
-fn is_array(kind: Option<Kind>) -> bool
-    ensures { result ≡ is_some (Rules.bounds_by kind) }
+fn is_array(kind: &Option<Kind>) -> bool
+    ensures { result ≡ is_some (Rules.bounds_by kind.now) }
 {
     match kind {
         Some(Kind::Array(_)) => true,
@@ -224,8 +224,8 @@ fn is_array(kind: Option<Kind>) -> bool
 }
 
 /// Whether this is a scalar variable.
-fn is_scalar(kind: Option<Kind>) -> bool
-    ensures { result ≡ Rules.is_scalar kind }
+fn is_scalar(kind: &Option<Kind>) -> bool
+    ensures { result ≡ Rules.is_scalar kind.now }
 {
     match kind {
         Some(Kind::Scalar) => true,

@@ -30,7 +30,7 @@ loop-call-preserved c us scene =
     let named = c.callee.ensures.number us scene in
     let test = c.is_none-calls_none.result in
     let none : is_some c.callee.result ≡ not test = c.is_none-calls_none.ensures in
-    subst (IsFirstOf (StandsAtPlaces (all_units us) (take (i + 1) all))) (sym (c.standing-found-2.ensures ∙ ap (λ (o : Option UnitFinding). standing_link o call.around.parallel rule.CallPlace call.line) c.standing-found.ensures))
+    subst (IsFirstOf (StandsAtPlaces (all_units us) (take (i + 1) all))) (sym (c.standing-found-in-loop-call.ensures ∙ ap (λ (o : Option UnitFinding). standing_link o call.around.parallel rule.CallPlace call.line) c.standing-found.ensures))
     (first_two_more (take i all) (take (i + 1) all) call NoUnit CallPlace rule.NoUnit rule.CallPlace (CallsNone (all_units us)) IsParallel c.loop-call.found test call.around.parallel more refl refl (c.loop-call.invariant us scene)
     (λ t. sym named ∙ none_is c.callee.result (none ∙ ap not t)) (λ h. is_test test (sym none ∙ ap is_some (named ∙ h))) (λ t. t) (λ h. h))
 

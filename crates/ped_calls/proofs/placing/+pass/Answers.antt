@@ -1,12 +1,15 @@
-use Rattle.std.proofs.Common.{◌≡◌, ◌+◌, ◌≤◌, List, [], ◌∷◌, ◌++◌, length, map, take, ap, subst, ◌∙◌, arith, take_all}
+use Rattle.std.proofs.Common.{◌≡◌, ◌+◌, ◌≤◌, ℕ, List, [], ◌∷◌, ◌++◌, ◌||◌, length, map, take, sym, ap, subst, ◌∙◌, arith, take_all}
+use Rattle.std.proofs.lemmas.Result.{on_ok_weaker}
+use Rattle.ped_tree.specs.Tree.{StmtTree, If, Do}
 use Rattle.std.proofs.lemmas.Grind.{common_steps}
 use Rattle.std.proofs.lemmas.List.{map_push}
-use Rattle.ped_tree.specs.Views.{stmt_tree, stmt_trees}
+use Rattle.ped_tree.specs.Views.{cond_tree, head_of, stmt_tree, stmt_trees}
 use Rattle.ped_tree.specs.declared.statements.Stmt.{Stmt}
-use Rattle.ped_valid.specs.ped_symbols.specs.Sites.{stmts_sites}
-use Rattle.ped_calls.specs.Linking.{all_calls_in}
+use Rattle.ped_valid.specs.ped_symbols.specs.Sites.{stmt_sites, stmts_sites, private_site}
+use Rattle.ped_calls.specs.Linking.{calls_in, all_calls_in}
 use Rattle.ped_calls.specs.Placing.{placed_call, Passes}
-use Rattle.ped_calls.proofs.Passed.{passes_nothing, passes_more}
+use Rattle.ped_calls.proofs.Passed.{passes_nothing, passes_more, passes_if, passes_do, within_loops}
+use Rattle.ped_calls.proofs.StatementTrees.{tree-If, tree-Do}
 use Rattle.ped_calls.proofs.placing.+pass.Goals as goal
 
 pub pass_all-loop-statement-init : goal.pass_all-loop-statement-init
@@ -28,3 +31,38 @@ pass_all-returns t c loops around =
     let ended : length ss ≤ c.loop-statement.statement-index = omega (arith, c.loop-statement-test.false, c.loop-statement.auto.statement-index-end) in
     subst (λ (all : List Stmt). Passes c.args.formals.now (stmts_sites (stmt_trees all)) (map placed_call (all_calls_in loops c.args.walk.now.lines.now (stmt_trees all))) c.args.walk.now.found c.args.walk.now.lines.now c.loop-statement.walk.found c.loop-statement.walk.lines.now)
     (take_all c.loop-statement.statement-index ss ended) (c.loop-statement.invariant loops around)
+
+pub pass-returns-in_ok-pass_all-in-If : goal.pass-returns-in_ok-pass_all-in-If
+pass-returns-in_ok-pass_all-in-If t c =
+    let formals = c.args.formals.now in
+    let from = c.args.walk.now in
+    let lined = c.next_line.new.self in
+    let first = c.pass_all.new.walk in
+    let last = c.pass_all-2.new.walk in
+    let a = stmt_trees c.deref.result.now in
+    let b = stmt_trees c.deref-2.result.now in
+    let cond = cond_tree c.in-If.condition in
+    let is : stmt_tree c.args.statement.now ≡ If cond a b =
+    ap stmt_tree c.in-If.is ∙ tree-If c.in-If.condition c.in-If.then_part c.in-If.else_part
+    ∙ ap (λ (ss : List Stmt). If cond (stmt_trees ss) (stmt_trees c.in-If.else_part.items)) (sym c.deref.ensures.value)
+    ∙ ap (λ (ss : List Stmt). If cond a (stmt_trees ss)) (sym c.deref-2.ensures.value) in
+    on_ok_weaker c.pass_all-2.result (λ p loops around.
+        subst (λ (s : StmtTree). Passes formals (stmt_sites s) (map placed_call (calls_in loops from.lines.now s)) from.found from.lines.now last.found last.lines.now) (sym is)
+        (passes_if formals loops cond a b from.found lined.found first.found last.found from.lines.now lined.lines.now first.lines.now last.lines.now c.next_line.ensures.lines c.next_line.ensures.found (c.in_ok-pass_all.ensures loops around) (p loops around))) c.pass_all-2.ensures
+
+pub pass-returns-in_ok-within-in-Do : goal.pass-returns-in_ok-within-in-Do
+pass-returns-in_ok-within-in-Do t c =
+    let formals = c.args.formals.now in
+    let from = c.args.walk.now in
+    let lined = c.next_line-in-Do.new.self in
+    let first = c.pass_private.new.self in
+    let last = c.pass_all-in-Do.new.walk in
+    let d = head_of c.in-Do.d in
+    let body = stmt_trees c.deref-in-Do.result.now in
+    let is : stmt_tree c.args.statement.now ≡ Do d body =
+    ap stmt_tree c.in-Do.is ∙ tree-Do c.in-Do.d ∙ ap (λ (ss : List Stmt). Do d (stmt_trees ss)) (sym c.deref-in-Do.ensures.value) in
+    on_ok_weaker c.pass_all-in-Do.result (λ p loops around.
+        let private = subst (λ (xs : List (List ℕ)). Passes formals (private_site xs) [] lined.found lined.lines.now first.found first.lines.now) c.as_slice.ensures c.in_ok-pass_private.ensures in
+        let within = within_loops loops d c.args.around.now c.in_ok-within.within around (c.in_ok-within.ensures ∙ ap (λ (xs : List (List ℕ)). record { variables = c.args.around.now.variables ++ d.variable ∷ []; private = c.args.around.now.private ++ xs; parallel = c.args.around.now.parallel || d.parallel }) c.as_slice-2.ensures) in
+        subst (λ (s : StmtTree). Passes formals (stmt_sites s) (map placed_call (calls_in loops from.lines.now s)) from.found from.lines.now last.found last.lines.now) (sym is)
+        (passes_do formals loops d body from.found lined.found first.found last.found from.lines.now lined.lines.now first.lines.now last.lines.now c.next_line-in-Do.ensures.lines c.next_line-in-Do.ensures.found private (p (loops ++ d ∷ []) within))) c.pass_all-in-Do.ensures

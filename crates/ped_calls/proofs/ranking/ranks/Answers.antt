@@ -8,7 +8,7 @@ use Rattle.ped_calls.proofs.ranking.ranks.Goals as goal
 pub loop-rank-init : goal.loop-rank-init
 loop-rank-init c =
     let made = ap length c.in_ok-ranks.ensures in
-    let long = length-replicate c.count.result 0 in
+    let long = length-replicate {A = ℕ} c.count.result 0 in
     record {
       counts = c.in_ok-counts.ensures;
       ranks = omega (arith, made, long, c.count.ensures);

@@ -11,6 +11,8 @@ invariant_of-self c =
     let now = c.add_end.new.ends in
     let seen = c.deref_mut.ensures.value in
     let long : ends.len ≡ length ends.items = omega (arith, ends.ok.0) in
-    added_within c.add_end.result ends.items now ends.len c.args.from c.args.to long c.requires.begins c.requires.ends c.args.self.now.within
-    (subst (λ (vs : List (Vec ℕ)). OnOk c.add_end.result (ends_in now ≡ with_arrow (ends_in vs) c.args.from c.args.to)) seen c.add_end.ensures.ok)
-    (subst (λ (vs : List (Vec ℕ)). OnErr c.add_end.result (ends_in now ≡ ends_in vs)) seen c.add_end.ensures.err)
+    record {
+      within = added_within c.add_end.result ends.items now ends.len c.args.from c.args.to long c.requires.begins c.requires.ends c.args.self.now.within
+          (subst (λ (vs : List (Vec ℕ)). OnOk c.add_end.result (ends_in now ≡ with_arrow (ends_in vs) c.args.from c.args.to)) seen c.add_end.ensures.ok)
+          (subst (λ (vs : List (Vec ℕ)). OnErr c.add_end.result (ends_in now ≡ ends_in vs)) seen c.add_end.ensures.err);
+    }

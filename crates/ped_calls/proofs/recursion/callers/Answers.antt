@@ -10,7 +10,7 @@ use Rattle.ped_calls.proofs.recursion.callers.Goals as goal
 
 pub loop-unit-init : goal.loop-unit-init
 loop-unit-init c = record {
-  wide = let long = ap length c.in_ok-arrows.ensures in let wide = length-replicate (length c.args.scene.now.units.now) [] in omega (arith, long, wide);
+  wide = let long = ap length c.in_ok-arrows.ensures in let wide = length-replicate {A = List ℕ} (length c.args.scene.now.units.now) [] in omega (arith, long, wide);
   arrows = λ us scene k i. (λ l. absurd (no_arrows (length c.args.scene.now.units.now) k i (subst (λ (ends : List (List ℕ)). Leads ends k i) c.in_ok-arrows.ensures l)), λ h. absurd (omega (arith, h.0)));
 }
 

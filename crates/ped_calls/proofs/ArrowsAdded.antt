@@ -94,9 +94,10 @@ same_some a b e = cc
 
 -- an arrow more, where both its ends are there
 pub leads_added : (old new : List (List ℕ)) (from to : ℕ) (o p : Option ℕ) → o ≡ Some from → p ≡ Some to → from < length old → new ≡ with_arrow old from to → (i j : ℕ) → Leads new i j ↔ (Leads old i j ⊎ ((o ≡ Some i) × (p ≡ Some j)))
-leads_added old new from to o p is also below e i j =
-    (λ l. elim (was_leading old from to i j below (subst (λ (es : List (List ℕ)). Leads es i j) e l)) [ inl x ↦ inl x | inr y ↦ inr (is ∙ ap Some (sym y.0), also ∙ ap Some (sym y.1)) ],
-     λ h. subst (λ (es : List (List ℕ)). Leads es i j) (sym e) (now_leading old from to i j below (elim h [ inl x ↦ inl x | inr y ↦ inr (sym (same_some from i (sym is ∙ y.0)), sym (same_some to j (sym also ∙ y.1))) ])))
+leads_added old new from to o p is also below e i j = (
+  λ l. elim (was_leading old from to i j below (subst (λ (es : List (List ℕ)). Leads es i j) e l)) [ inl x ↦ inl x | inr y ↦ inr (is ∙ ap Some (sym y.0), also ∙ ap Some (sym y.1)) ],
+  λ h. subst (λ (es : List (List ℕ)). Leads es i j) (sym e) (now_leading old from to i j below (elim h [ inl x ↦ inl x | inr y ↦ inr (sym (same_some from i (sym is ∙ y.0)), sym (same_some to j (sym also ∙ y.1))) ])),
+)
 
 -- none more, where one end isn't there
 pub leads_same : (old : List (List ℕ)) (o p : Option ℕ) → (o ≡ None) ⊎ (p ≡ None) → (i j : ℕ) → Leads old i j ↔ (Leads old i j ⊎ ((o ≡ Some i) × (p ≡ Some j)))

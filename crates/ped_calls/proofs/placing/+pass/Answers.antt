@@ -38,17 +38,17 @@ pass-returns-in_ok-pass_all-in-If t c =
     let from = c.args.walk.now in
     let lined = c.next_line.new.self in
     let first = c.pass_all.new.walk in
-    let last = c.pass_all-2.new.walk in
+    let last = c.pass_all-in-If.new.walk in
     let a = stmt_trees c.deref.result.now in
-    let b = stmt_trees c.deref-2.result.now in
+    let b = stmt_trees c.deref-in-If.result.now in
     let cond = cond_tree c.in-If.condition in
     let is : stmt_tree c.args.statement.now ≡ If cond a b =
     ap stmt_tree c.in-If.is ∙ tree-If c.in-If.condition c.in-If.then_part c.in-If.else_part
     ∙ ap (λ (ss : List Stmt). If cond (stmt_trees ss) (stmt_trees c.in-If.else_part.items)) (sym c.deref.ensures.value)
-    ∙ ap (λ (ss : List Stmt). If cond a (stmt_trees ss)) (sym c.deref-2.ensures.value) in
-    on_ok_weaker c.pass_all-2.result (λ p loops around.
-        subst (λ (s : StmtTree). Passes formals (stmt_sites s) (map placed_call (calls_in loops from.lines.now s)) from.found from.lines.now last.found last.lines.now) (sym is)
-        (passes_if formals loops cond a b from.found lined.found first.found last.found from.lines.now lined.lines.now first.lines.now last.lines.now c.next_line.ensures.lines c.next_line.ensures.found (c.in_ok-pass_all.ensures loops around) (p loops around))) c.pass_all-2.ensures
+    ∙ ap (λ (ss : List Stmt). If cond a (stmt_trees ss)) (sym c.deref-in-If.ensures.value) in
+    on_ok_weaker c.pass_all-in-If.result (λ p loops around.
+    subst (λ (s : StmtTree). Passes formals (stmt_sites s) (map placed_call (calls_in loops from.lines.now s)) from.found from.lines.now last.found last.lines.now) (sym is)
+    (passes_if formals loops cond a b from.found lined.found first.found last.found from.lines.now lined.lines.now first.lines.now last.lines.now c.next_line.ensures.lines c.next_line.ensures.found (c.in_ok-pass_all-in-If.ensures loops around) (p loops around))) c.pass_all-in-If.ensures
 
 pub pass-returns-in_ok-within-in-Do : goal.pass-returns-in_ok-within-in-Do
 pass-returns-in_ok-within-in-Do t c =
@@ -62,7 +62,7 @@ pass-returns-in_ok-within-in-Do t c =
     let is : stmt_tree c.args.statement.now ≡ Do d body =
     ap stmt_tree c.in-Do.is ∙ tree-Do c.in-Do.d ∙ ap (λ (ss : List Stmt). Do d (stmt_trees ss)) (sym c.deref-in-Do.ensures.value) in
     on_ok_weaker c.pass_all-in-Do.result (λ p loops around.
-        let private = subst (λ (xs : List (List ℕ)). Passes formals (private_site xs) [] lined.found lined.lines.now first.found first.lines.now) c.as_slice.ensures c.in_ok-pass_private.ensures in
-        let within = within_loops loops d c.args.around.now c.in_ok-within.within around (c.in_ok-within.ensures ∙ ap (λ (xs : List (List ℕ)). record { variables = c.args.around.now.variables ++ d.variable ∷ []; private = c.args.around.now.private ++ xs; parallel = c.args.around.now.parallel || d.parallel }) c.as_slice-2.ensures) in
-        subst (λ (s : StmtTree). Passes formals (stmt_sites s) (map placed_call (calls_in loops from.lines.now s)) from.found from.lines.now last.found last.lines.now) (sym is)
-        (passes_do formals loops d body from.found lined.found first.found last.found from.lines.now lined.lines.now first.lines.now last.lines.now c.next_line-in-Do.ensures.lines c.next_line-in-Do.ensures.found private (p (loops ++ d ∷ []) within))) c.pass_all-in-Do.ensures
+    let private = subst (λ (xs : List (List ℕ)). Passes formals (private_site xs) [] lined.found lined.lines.now first.found first.lines.now) c.as_slice.ensures c.in_ok-pass_private-in-Do.ensures in
+    let within = within_loops loops d c.args.around.now c.in_ok-within-in-Do.within around (c.in_ok-within-in-Do.ensures ∙ ap (λ (xs : List (List ℕ)). record { variables = c.args.around.now.variables ++ d.variable ∷ []; private = c.args.around.now.private ++ xs; parallel = c.args.around.now.parallel || d.parallel }) c.as_slice-in-Do.ensures) in
+    subst (λ (s : StmtTree). Passes formals (stmt_sites s) (map placed_call (calls_in loops from.lines.now s)) from.found from.lines.now last.found last.lines.now) (sym is)
+    (passes_do formals loops d body from.found lined.found first.found last.found from.lines.now lined.lines.now first.lines.now last.lines.now c.next_line-in-Do.ensures.lines c.next_line-in-Do.ensures.found private (p (loops ++ d ∷ []) within))) c.pass_all-in-Do.ensures

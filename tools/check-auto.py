@@ -6,7 +6,8 @@
 Of each program, which is a file NAME.f or stands in a file NAME.cases: `auto` tells its steps, and the same steps in a script are
 all accepted and lead to the source that it shows; each DO that it leaves is refused `parallel` there for the cause that it tells, and
 no other DO of it isn't a PARALLEL DO; as many `undo` as steps lead back to the source at the opening, and no further, and as many
-`redo` to the source that it shows. A program that isn't valid is passed over.
+`redo` to the source that it shows. A program that isn't valid is passed over, and so is one that is very long, for the time that it
+takes.
 
 The program is the one that .ci/run or ./prove has proved and built from the present sources; nothing is proved or built here. The
 last line counts the programs and their steps. The status is 0 only where there are some and all agree.
@@ -20,10 +21,12 @@ import sys
 import tempfile
 
 TOP = pathlib.Path(__file__).resolve().parent.parent
-SECONDS = 30
+SECONDS = 120
 PROVED = '. "$1/tools/program.sh" && program_of "$(sources_sum)"'
-# The program is refused, or longer than a program may be.
-NO_PROGRAM = (5, 7)
+# The program is refused.
+NO_PROGRAM = 5
+# Longer programs are passed over.
+MOST_BYTES = 20000
 # A row of the source pane: the statement's number, and a DO that isn't a PARALLEL DO.
 SERIAL_DO = re.compile(r" *\d+ +(\d+) +DO [A-Z][A-Z0-9]* = ")
 
@@ -76,7 +79,7 @@ def told(text):
 def replay(program, folder):
     """How many steps `auto` takes on the program of a folder; none where that isn't valid."""
     text, status = answer(program, folder, ["auto"])
-    if status in NO_PROGRAM:
+    if status == NO_PROGRAM:
         return None
     want("the status of `auto`", 0, status)
     steps, left, source = told(text)
@@ -101,6 +104,16 @@ def replay(program, folder):
     return len(steps)
 
 
+def once(folders):
+    """The folders whose programs aren't long and haven't come before: cases may have one program with many scripts."""
+    seen = set()
+    for folder, place in folders:
+        text = (folder / "program.f").read_bytes()
+        if len(text) <= MOST_BYTES and text not in seen:
+            seen.add(text)
+            yield folder, place
+
+
 def folders_of(work, files):
     """The folders of all programs, each with where it stands."""
     cases = [str(file) for file in files if file.suffix == ".cases"]
@@ -113,11 +126,12 @@ def folders_of(work, files):
         laid = ["awk", "-v", f"work={work}", "-f", str(TOP / "tools/cases.awk"), "--", *cases]
         count = int(subprocess.run(laid, capture_output=True, check=True).stdout)
         for number in range(1, count + 1):
-            yield work / str(number), (work / str(number) / "name").read_text().strip()
+            yield work / str(number), (work / str(number) / "name").read_bytes().decode("utf-8", "replace").strip()
 
 
-def check(program, folder, place):
-    """The count of steps, and what differs."""
+def check(asked):
+    """The count of steps that a program tells in a folder, and what differs."""
+    program, folder, place = asked
     try:
         return replay(program, folder), None
     except (Differs, subprocess.TimeoutExpired) as found:
@@ -129,17 +143,17 @@ def main(words):
     if words[:1] == ["--program"]:
         program, words = words[1], words[2:]
     else:
-        asked = subprocess.run(["bash", "-c", PROVED, "bash", str(TOP)], capture_output=True, text=True, check=True)
-        program = asked.stdout.strip()
+        named = subprocess.run(["bash", "-c", PROVED, "bash", str(TOP)], capture_output=True, text=True, check=True)
+        program = named.stdout.strip()
     program = pathlib.Path(program).resolve()
     if not os.access(program, os.X_OK):
         print("auto: none was replayed: the proved program is not built; .ci/run or ./prove builds it")
         return 1
     files = [pathlib.Path(word).resolve() for word in words]
     files = files or sorted([*TOP.glob("examples/**/*.f"), *TOP.glob("cases/sessions/*.cases")])
-    with tempfile.TemporaryDirectory() as work, concurrent.futures.ThreadPoolExecutor(os.cpu_count()) as threads:
-        programs = list(folders_of(pathlib.Path(work), files))
-        results = list(threads.map(lambda found: check(program, *found), programs))
+    with tempfile.TemporaryDirectory() as work, concurrent.futures.ProcessPoolExecutor() as workers:
+        asked = [(program, *found) for found in once(folders_of(pathlib.Path(work), files))]
+        results = list(workers.map(check, asked, chunksize=20))
     counts = [steps for steps, _ in results if steps is not None]
     differ = [what for _, what in results if what is not None]
     for what in differ:

@@ -14,9 +14,9 @@ use Rattle.ped_answer.proofs.MadeScripts.{decimal_printable}
 use Rattle.ped_answer.proofs.Uncommented.{AreBare, IsUncommented, joined, uncommented}
 
 -- a line that is made
-record IsPlain (line : List ℕ) : Type 0 where
-  line : IsLine line
-  plain : IsUncommented line
+record IsPlain (l : List ℕ) : Type 0 where
+  whole : IsLine l
+  plain : IsUncommented l
 
 abbrev ArePlain : List (List ℕ) → Type 0
 ArePlain = AllByRecursion IsPlain
@@ -77,9 +77,18 @@ one_of true b x y z p q r = p
 one_of false true x y z p q r = q
 one_of false false x y z p q r = r
 
+abbrev along_both : List ℕ
+along_both = codes "A(I,J) = MOD(A(I-1,J)+A(I,J-1),1000)"
+
+abbrev falling : ℕ → List ℕ
+falling k = codes "A(I,J) = MOD(A(I-1,J+1)+" ++ decimal k ++ codes ",1000)"
+
+abbrev in_place : ℕ → List ℕ
+in_place k = codes "B(I,J) = A(I,J)+" ++ decimal k
+
 assigned : (k : ℕ) → IsAssignment (assignment k)
 assigned k =
-    one_of (k % 3 == 1) (k % 3 == 2) _ _ _
+    one_of (k % 3 == 1) (k % 3 == 2) along_both (falling k) (in_place k)
     (record { printable = refl; plain = to_a (codes "MOD(A(I-1,J)+A(I,J-1),1000)") })
     (record { printable = printable_both (decimal k) (codes ",1000)") (decimal_printable k) refl; plain = to_a (codes "MOD(A(I-1,J+1)+" ++ decimal k ++ codes ",1000)") })
     (record { printable = decimal_printable k; plain = to_b (codes "A(I,J)+" ++ decimal k) })
@@ -87,21 +96,19 @@ assigned k =
 -- the lines of a program that is made
 
 nest_lines : (bounds text : List ℕ) → list_all is_printable bounds ≡ true → IsAssignment text → ArePlain (nest bounds text)
-nest_lines bounds text p a = (
-  record { line = printable_line (codes "      DO I = " ++ bounds) p; plain = outer_do bounds },
-  record { line = printable_line (codes "        DO J = " ++ bounds) p; plain = inner_do bounds },
-  record { line = printable_line (codes "          " ++ text) a.printable; plain = a.plain },
-  record { line = printable_line (codes "        END DO") refl; plain = inner_end },
-  record { line = printable_line (codes "      END DO") refl; plain = outer_end },
-  tt,
-)
+nest_lines bounds text p a =
+    let outer : IsPlain (codes "      DO I = " ++ bounds) = record { whole = printable_line (codes "      DO I = " ++ bounds) p; plain = outer_do bounds } in
+    let inner : IsPlain (codes "        DO J = " ++ bounds) = record { whole = printable_line (codes "        DO J = " ++ bounds) p; plain = inner_do bounds } in
+    let body : IsPlain (codes "          " ++ text) = record { whole = printable_line (codes "          " ++ text) a.printable; plain = a.plain } in
+    let end_inner : IsPlain (codes "        END DO") = record { whole = printable_line (codes "        END DO") refl; plain = inner_end } in
+    let end_outer : IsPlain (codes "      END DO") = record { whole = printable_line (codes "      END DO") refl; plain = outer_end } in
+    (outer, (inner, (body, (end_inner, (end_outer, tt)))))
 
 front_lines : ArePlain front
-front_lines = (
-  record { line = printable_line (codes "      INTEGER A(10,10), B(10,10)") refl; plain = of_arrays },
-  record { line = printable_line (codes "      SAVE A, B") refl; plain = of_save },
-  nest_lines (codes "1, 10") (codes "A(I,J) = I+J") refl (record { printable = refl; plain = to_a (codes "I+J") }),
-)
+front_lines =
+    let arrays : IsPlain (codes "      INTEGER A(10,10), B(10,10)") = record { whole = printable_line (codes "      INTEGER A(10,10), B(10,10)") refl; plain = of_arrays } in
+    let saved : IsPlain (codes "      SAVE A, B") = record { whole = printable_line (codes "      SAVE A, B") refl; plain = of_save } in
+    (arrays, (saved, nest_lines (codes "1, 10") (codes "A(I,J) = I+J") refl (record { printable = refl; plain = to_a (codes "I+J") })))
 
 later_lines : (ks : List ℕ) → ArePlain (flat_map later_nest ks)
 later_lines [] = tt
@@ -112,12 +119,12 @@ made n = front ++ flat_map later_nest (range_with_len 1 n) ++ codes "      END" 
 
 made_lines : (n : ℕ) → ArePlain (made n)
 made_lines n =
-    joined IsPlain front _ front_lines
-    (joined IsPlain (flat_map later_nest (range_with_len 1 n)) (codes "      END" ∷ []) (later_lines (range_with_len 1 n)) (record { line = printable_line (codes "      END") refl; plain = program_end }, tt))
+    let nests = flat_map later_nest (range_with_len 1 n) in
+    joined IsPlain (front ++ nests) (codes "      END" ∷ []) (joined IsPlain front nests front_lines (later_lines (range_with_len 1 n))) (record { whole = printable_line (codes "      END") refl; plain = program_end }, tt)
 
 each_line : (ls : List (List ℕ)) → ArePlain ls → AllByRecursion IsLine ls
 each_line [] all = tt
-each_line (l ∷ ls) all = (all.0.line, each_line ls all.1)
+each_line (l ∷ ls) all = (all.0.whole, each_line ls all.1)
 
 each_plain : (ls : List (List ℕ)) → ArePlain ls → AllByRecursion IsUncommented ls
 each_plain [] all = tt

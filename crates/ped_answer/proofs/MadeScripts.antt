@@ -1,13 +1,13 @@
 -- No line of a script that is made is `auto`.
-use Rattle.std.proofs.Common.{◌≡◌, ◌∙◌, refl, sym, ap, subst, ◌⊎◌, inl, inr, ℕ, zero, suc, ◌+◌, ◌*◌, ◌%◌, ◌<◌, Bool, true, false, cond, List, [], ◌∷◌, ◌++◌, Option, Some, None, option_and_then, leb, codes, arith}
-use Rattle.std.specs.Prelude.{◌/◌, ◌&&◌, ◌==◌, if◌then◌else◌, nat_lt}
+use Rattle.std.proofs.Common.{◌≡◌, ◌∙◌, refl, sym, ap, subst, ◌⊎◌, inl, inr, ℕ, zero, suc, ◌+◌, ◌*◌, ◌%◌, ◌-◌, ◌<◌, Bool, true, false, cond, List, [], ◌∷◌, ◌++◌, Option, Some, None, option_and_then, leb, codes, arith}
+use Rattle.std.specs.Prelude.{◌/◌, ◌==◌, if◌then◌else◌, nat_lt}
 use Rattle.std.specs.List.{AllByRecursion, list_all, flat_map, range_with_len}
 use Rattle.std.specs.Option.{option_or}
 use Rattle.std.specs.Str.Lines.{lines}
 use Rattle.std.specs.Fmt.{decimal, digits, digits_onto, digit_glyph}
 use Rattle.std.proofs.Math.Nat.{mod-lt}
 use Rattle.std.proofs.lemmas.Bool.{lt-ltb, le-leb, and_from}
-use Rattle.ped_gen.specs.Generated.{text_of, commands, script}
+use Rattle.ped_gen.specs.Generated.{commands, script}
 use Rattle.ped_session.specs.ped_tree.specs.Grammar.Characters.{is_printable}
 use Rattle.ped_session.specs.ped_valid.specs.ped_parse.specs.ped_lines.proofs.PrintedLaws.Lines.{IsLine, printable_line, lines_written}
 use Rattle.ped_session.specs.ped_transformations.specs.ped_script.specs.Words.{Text, words_of, number_of}
@@ -31,11 +31,11 @@ onto_printable (suc k) n acc h =
     let some : 0 < 10 = omega arith in
     let d = digit_glyph false (n % 10) in
     let more = and_from (is_printable d) (list_all is_printable acc) (glyph_printable (n % 10) (mod-lt n some)) h in
-    either (n / 10 == 0) (d ∷ acc) (digits_onto k 10 false (n / 10) (d ∷ acc)) more (onto_printable k (n / 10) (d ∷ acc) more)
+    this_or_that (n / 10 == 0) (d ∷ acc) (digits_onto k 10 false (n / 10) (d ∷ acc)) more (onto_printable k (n / 10) (d ∷ acc) more)
   where
-    either : (b : Bool) (xs ys : List ℕ) → list_all is_printable xs ≡ true → list_all is_printable ys ≡ true → list_all is_printable (if b then xs else ys) ≡ true
-    either true xs ys p q = p
-    either false xs ys p q = q
+    this_or_that : (b : Bool) (xs ys : List ℕ) → list_all is_printable xs ≡ true → list_all is_printable ys ≡ true → list_all is_printable (if b then xs else ys) ≡ true
+    this_or_that true xs ys p q = p
+    this_or_that false xs ys p q = q
 
 pub decimal_printable : (n : ℕ) → list_all is_printable (decimal n) ≡ true
 unfolding digits
@@ -68,12 +68,12 @@ unfolding command_of
 parallel_row words = last (number (λ s. done (Parallel s)) words)
 
 -- a line that is made
-record IsMadeLine (line : Text) : Type 0 where
-  line : IsLine line
-  made : IsMade (words_of line)
+record IsMadeLine (l : Text) : Type 0 where
+  whole : IsLine l
+  made : IsMade (words_of l)
 
 interchange_line : (k : ℕ) → IsMadeLine (codes "interchange " ++ decimal k)
-interchange_line k = record { line = printable_line (codes "interchange " ++ decimal k) (decimal_printable k); made = by (one_number Interchange (words_of (decimal k))) }
+interchange_line k = record { whole = printable_line (codes "interchange " ++ decimal k) (decimal_printable k); made = by (one_number Interchange (words_of (decimal k))) }
   where
     row : command_of (words_of (codes "interchange " ++ decimal k)) ≡ number (λ s. done (Interchange s)) (words_of (decimal k))
     row = interchange_row (words_of (decimal k))
@@ -83,7 +83,7 @@ interchange_line k = record { line = printable_line (codes "interchange " ++ dec
     by (inr (j, e)) = inr (inl (j, row ∙ e))
 
 parallel_line : (k : ℕ) → IsMadeLine (codes "parallel " ++ decimal k)
-parallel_line k = record { line = printable_line (codes "parallel " ++ decimal k) (decimal_printable k); made = by (one_number Parallel (words_of (decimal k))) }
+parallel_line k = record { whole = printable_line (codes "parallel " ++ decimal k) (decimal_printable k); made = by (one_number Parallel (words_of (decimal k))) }
   where
     row : command_of (words_of (codes "parallel " ++ decimal k)) ≡ number (λ s. done (Parallel s)) (words_of (decimal k))
     row = parallel_row (words_of (decimal k))
@@ -96,11 +96,11 @@ parallel_line k = record { line = printable_line (codes "parallel " ++ decimal k
 
 made_lines : (numbers : List ℕ) → AllByRecursion IsMadeLine (flat_map commands numbers)
 made_lines [] = tt
-made_lines (k ∷ ks) = (interchange_line (3 * k + 1), parallel_line (3 * k + 2), made_lines ks)
+made_lines (k ∷ ks) = (interchange_line (3 * k + 1), (parallel_line (3 * k + 2), made_lines ks))
 
 each_line : (ls : List Text) → AllByRecursion IsMadeLine ls → AllByRecursion IsLine ls
 each_line [] all = tt
-each_line (l ∷ ls) all = (all.0.line, each_line ls all.1)
+each_line (l ∷ ls) all = (all.0.whole, each_line ls all.1)
 
 script_lines : (n : ℕ) → lines (script n) ≡ flat_map commands (range_with_len 1 n)
 unfolding script
@@ -108,22 +108,34 @@ script_lines n = lines_written (flat_map commands (range_with_len 1 n)) (each_li
 
 -- the items of lines that are made
 
+not_none : None ≡ Some Auto → ⊥
+not_none is = cc
+
+not_interchange : (k : ℕ) → Some (Interchange k) ≡ Some Auto → ⊥
+not_interchange k is = cc
+
+not_parallel : (k : ℕ) → Some (Parallel k) ≡ Some Auto → ⊥
+not_parallel k is = cc
+
 made_command : (words following : List Text) → IsMade words → whole_command (command_of words) following ≡ Some Auto → ⊥
-made_command words following (inl e) is = let no = ap (λ (o : Option Command). whole_command o following) (sym e) ∙ is in cc
-made_command words following (inr (inl (k, e))) is = let no = ap (λ (o : Option Command). whole_command o following) (sym e) ∙ is in cc
-made_command words following (inr (inr (k, e))) is = let no = ap (λ (o : Option Command). whole_command o following) (sym e) ∙ is in cc
+made_command words following (inl e) is = not_none (ap (λ (o : Option Command). whole_command o following) (sym e) ∙ is)
+made_command words following (inr (inl (k, e))) is = not_interchange k (ap (λ (o : Option Command). whole_command o following) (sym e) ∙ is)
+made_command words following (inr (inr (k, e))) is = not_parallel k (ap (λ (o : Option Command). whole_command o following) (sym e) ∙ is)
 
 with_item : (n : ℕ) (words following : List Text) (items : List Item) → IsMade words → AllByRecursion IsNoAuto items → AllByRecursion IsNoAuto (item_at n words following ++ items)
 with_item n [] following items made all = all
 with_item n (w ∷ ws) following items made all = (made_command (w ∷ ws) following made, all)
 
+either : (b : Bool) (xs ys : List Item) → AllByRecursion IsNoAuto xs → AllByRecursion IsNoAuto ys → AllByRecursion IsNoAuto (if b then xs else ys)
+either true xs ys p q = p
+either false xs ys p q = q
+
 made_items : (n taken : ℕ) (ls : List Text) → AllByRecursion IsMadeLine ls → AllByRecursion IsNoAuto (items_from n taken ls)
 made_items n taken [] all = tt
-made_items n taken (l ∷ ls) all = by (nat_lt 0 taken)
-  where
-    by : (b : Bool) → AllByRecursion IsNoAuto (cond b (items_from (n + 1) (taken - 1) ls) (item_at n (words_of l) ls ++ items_from (n + 1) (taken_lines (command_of (words_of l)) ls) ls))
-    by true = made_items (n + 1) (taken - 1) ls all.1
-    by false = with_item n (words_of l) ls (items_from (n + 1) (taken_lines (command_of (words_of l)) ls) ls) all.0.made (made_items (n + 1) (taken_lines (command_of (words_of l)) ls) ls all.1)
+made_items n taken (l ∷ ls) all =
+    let rest = items_from (n + 1) (taken_lines (command_of (words_of l)) ls) ls in
+    either (nat_lt 0 taken) (items_from (n + 1) (taken - 1) ls) (item_at n (words_of l) ls ++ rest) (made_items (n + 1) (taken - 1) ls all.1)
+    (with_item n (words_of l) ls rest all.0.made (made_items (n + 1) (taken_lines (command_of (words_of l)) ls) ls all.1))
 
 -- no item of a script that is made is `auto`
 pub no_auto : (n : ℕ) → AllByRecursion IsNoAuto (commands_of (script n))

@@ -1,5 +1,5 @@
 -- A text without a comment line reads as a program without comments.
-use Rattle.std.proofs.Common.{◌≡◌, ◌∙◌, refl, sym, ap, subst, ℕ, ◌+◌, Bool, true, false, List, [], ◌∷◌, ◌++◌, Option, Some, None, map}
+use Rattle.std.proofs.Common.{◌≡◌, ◌∙◌, refl, sym, ap, subst, ℕ, ◌+◌, Bool, true, false, List, [], ◌∷◌, ◌++◌, map}
 use Rattle.std.specs.Prelude.{⊤, if◌then◌else◌}
 use Rattle.std.specs.List.{AllByRecursion}
 use Rattle.std.specs.Str.Lines.{lines}
@@ -8,10 +8,11 @@ use Rattle.ped_session.specs.ped_tree.specs.Views.{pack_stmts}
 use Rattle.ped_session.specs.ped_tree.specs.Grammar.Columns.{is_comment, is_continuation}
 use Rattle.ped_session.specs.ped_tree.specs.Grammar.Statement.{Note, Statement}
 use Rattle.ped_session.specs.ped_tree.specs.Grammar.Grouping.{comment_at, directive_at, notes_within, statement_at, statements_from, statements_of}
-use Rattle.ped_session.specs.ped_tree.specs.Grammar.Items.{Item, does, logical_if, Reading, says, outside_profile, no_form, Entry}
+use Rattle.ped_session.specs.ped_tree.specs.Grammar.Items.{Item, does, logical_if, end_if, ends_program, Reading, says, outside_profile, no_form, Entry}
 use Rattle.ped_session.specs.ped_tree.specs.Grammar.StatementForms.{SimpleForm, assignment, print, read, stop, continue, StatementForm, program, implicit, integer, dimension, parameter, save, save_all, simple, if_simple, if_then, else_if_then, else_alone, end_of_if, do_loop, end_of_do, private, end, simple_item, behind_if, statement_item}
-use Rattle.ped_session.specs.ped_tree.specs.Grammar.BlockForms.{PlainForm, a_simple, a_continue, a_logical_if, PrivateForm, no_private, private_list, BodyForm, nothing, and_then, PartForm, a_plain, an_if, a_do, RestForm, ends_if, has_else, has_else_if, LoopForm, loop, EndingForm, at_plain, at_end_do, with_inner, entry, plain_item, private_entries, body_entries, part_entries, rest_entries, loop_entries, ending_entries, comments_of, plain_trees, comments_of_private, first_of_rest, body_trees, part_trees, rest_trees, loop_trees, ending_trees}
+use Rattle.ped_session.specs.ped_tree.specs.Grammar.BlockForms.{PlainForm, a_simple, a_continue, a_logical_if, PrivateForm, no_private, private_list, BodyForm, nothing, and_then, PartForm, a_plain, an_if, a_do, RestForm, ends_if, has_else, has_else_if, LoopForm, loop, EndingForm, at_plain, at_end_do, with_inner, entry, plain_item, private_entries, body_entries, part_entries, rest_entries, loop_entries, ending_entries, comments_of, plain_trees, names_of_private, comments_of_private, first_of_rest, whole_head, body_trees, part_trees, rest_trees, loop_trees, ending_trees}
 use Rattle.ped_session.specs.ped_tree.specs.Grammar.ProgramForms.{ProgramForm, decl_entry, program_entries, behind_front, all_trees}
+use Rattle.ped_session.specs.ped_tree.specs.Grammar.Occurrences.{rejected_names}
 use Rattle.ped_session.specs.ped_tree.specs.Grammar.Reading.{IsReading, AreEntries, Reads}
 
 -- no comment stands in the statement
@@ -67,7 +68,8 @@ chosen P false false x y z h p q = q
 none_within : (n : ℕ) (ls : List (List ℕ)) → AllByRecursion IsUncommented ls → notes_within comment_at [] n ls ≡ []
 none_within n [] all = refl
 none_within n (l ∷ ls) all =
-    chosen (λ (notes : List Note). notes ≡ []) (is_comment l) (is_continuation l) _ _ [] all.0 (none_within (n + 1) ls all.1) refl
+    chosen (λ (notes : List Note). notes ≡ []) (is_comment l) (is_continuation l) (notes_within comment_at ([] ++ comment_at n l) (n + 1) ls) ([] ++ notes_within comment_at [] (n + 1) ls) []
+    all.0 (none_within (n + 1) ls all.1) refl
 
 none_at : (directives : List Note) (n : ℕ) (l : List ℕ) (ls : List (List ℕ)) → AllByRecursion IsUncommented ls → HasNone (statement_at [] directives n l ls)
 unfolding statement_at
@@ -76,8 +78,9 @@ none_at directives n l ls all = none_within (n + 1) ls all
 none_from : (directives : List Note) (n : ℕ) (ls : List (List ℕ)) → AllByRecursion IsUncommented ls → AllByRecursion HasNone (statements_from [] directives n ls)
 none_from directives n [] all = tt
 none_from directives n (l ∷ ls) all =
-    chosen (AllByRecursion HasNone) (is_comment l) (is_continuation l) _ _ _ all.0 (none_from [] (n + 1) ls all.1)
-    (none_at directives n l ls all.1, none_from [] (n + 1) ls all.1)
+    chosen (AllByRecursion HasNone) (is_comment l) (is_continuation l) (statements_from ([] ++ comment_at n l) (directives ++ directive_at n l) (n + 1) ls)
+    (statements_from [] [] (n + 1) ls) (statement_at [] directives n l ls ∷ statements_from [] [] (n + 1) ls)
+    all.0 (none_from [] (n + 1) ls all.1) (none_at directives n l ls all.1, none_from [] (n + 1) ls all.1)
 
 -- what a statement says is no comment
 
@@ -173,26 +176,29 @@ mutual
   part_bare (an_if s c b r) all =
       let here = front IsBareEntry (body_entries b) (rest_entries r) all.1 in
       let rest = behind IsBareEntry (body_entries b) (rest_entries r) all.1 in
-      noted s _ all.0.none ((packed _ (joined IsBare (body_trees b) _ (body_bare b here) (alone (first_of_rest r) (rest_first r rest))), packed (rest_trees r) (rest_bare r rest)), tt)
+      let then_part = body_trees b ++ comments_of (first_of_rest r) in
+      noted s (If c (pack_stmts then_part) (pack_stmts (rest_trees r)) ∷ []) all.0.none
+      ((packed then_part (joined IsBare (body_trees b) (comments_of (first_of_rest r)) (body_bare b here) (alone (first_of_rest r) (rest_first r rest))), packed (rest_trees r) (rest_bare r rest)), tt)
   part_bare (a_do d) all = loop_bare d all
 
   rest_bare : (r : RestForm) → AllByRecursion IsBareEntry (rest_entries r) → AllBare (rest_trees r)
   rest_bare (ends_if s) all = tt
   rest_bare (has_else s b e) all =
-      joined IsBare (body_trees b) (comments_of e) (body_bare b (front IsBareEntry (body_entries b) _ all.1)) (alone e (behind IsBareEntry (body_entries b) _ all.1).0.none)
+      joined IsBare (body_trees b) (comments_of e) (body_bare b (front IsBareEntry (body_entries b) (entry e end_if ∷ []) all.1)) (alone e (behind IsBareEntry (body_entries b) (entry e end_if ∷ []) all.1).0.none)
   rest_bare (has_else_if s c b r) all =
       let here = front IsBareEntry (body_entries b) (rest_entries r) all.1 in
       let rest = behind IsBareEntry (body_entries b) (rest_entries r) all.1 in
-      ((packed _ (joined IsBare (body_trees b) _ (body_bare b here) (alone (first_of_rest r) (rest_first r rest))), packed (rest_trees r) (rest_bare r rest)), tt)
+      ((packed (body_trees b ++ comments_of (first_of_rest r)) (joined IsBare (body_trees b) (comments_of (first_of_rest r)) (body_bare b here) (alone (first_of_rest r) (rest_first r rest))), packed (rest_trees r) (rest_bare r rest)), tt)
 
   loop_bare : (d : LoopForm) → AllByRecursion IsBareEntry (loop_entries d) → AllBare (loop_trees d)
   loop_bare (loop s l h p b e) all =
-      let first = front IsBareEntry (private_entries p) (body_entries b ++ ending_entries e) all.1 in
-      let more = behind IsBareEntry (private_entries p) (body_entries b ++ ending_entries e) all.1 in
-      let here = front IsBareEntry (body_entries b) (ending_entries e) more in
-      let last = behind IsBareEntry (body_entries b) (ending_entries e) more in
-      noted s _ all.0.none
-      (packed _ (joined IsBare (comments_of_private p) _ (private_bare p first) (joined IsBare (body_trees b) (ending_trees e) (body_bare b here) (ending_bare e last))), tt)
+      let more = front IsBareEntry (private_entries p ++ body_entries b) (ending_entries e) all.1 in
+      let last = behind IsBareEntry (private_entries p ++ body_entries b) (ending_entries e) all.1 in
+      let first = front IsBareEntry (private_entries p) (body_entries b) more in
+      let here = behind IsBareEntry (private_entries p) (body_entries b) more in
+      let begin = comments_of_private p ++ body_trees b in
+      noted s (Do (whole_head h (names_of_private p) (rejected_names s.directives)) (pack_stmts (begin ++ ending_trees e)) ∷ []) all.0.none
+      (packed (begin ++ ending_trees e) (joined IsBare begin (ending_trees e) (joined IsBare (comments_of_private p) (body_trees b) (private_bare p first) (body_bare b here)) (ending_bare e last)), tt)
 
   ending_bare : (e : EndingForm) → AllByRecursion IsBareEntry (ending_entries e) → AllBare (ending_trees e)
   ending_bare (at_plain s p) all = noted s (plain_trees p) all.0.none (plain_bare p all.0.bare)
@@ -211,8 +217,10 @@ behind_front_bare (Stop ∷ rest) all = all
 
 form_all : (f : ProgramForm) → AllByRecursion IsBareEntry (program_entries f) → AllBare (all_trees f)
 form_all f all =
-    let more = behind IsBareEntry (map decl_entry f.declarations) (body_entries f.body ++ entry f.ending _ ∷ []) all in
-    joined IsBare (body_trees f.body) (comments_of f.ending) (body_bare f.body (front IsBareEntry (body_entries f.body) _ more)) (alone f.ending (behind IsBareEntry (body_entries f.body) _ more).0.none)
+    let last = entry f.ending ends_program ∷ [] in
+    let before = map decl_entry f.declarations ++ body_entries f.body in
+    let here = behind IsBareEntry (map decl_entry f.declarations) (body_entries f.body) (front IsBareEntry before last all) in
+    joined IsBare (body_trees f.body) (comments_of f.ending) (body_bare f.body here) (alone f.ending (behind IsBareEntry before last all).0.none)
 
 -- a text without a comment line reads as a program without comments
 pub uncommented : (text : List ℕ) (t : ProgramTree) → AllByRecursion IsUncommented (lines text) → Reads text t → AreBare t.body

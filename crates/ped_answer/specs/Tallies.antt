@@ -12,7 +12,7 @@ use Rattle.ped_session.specs.ped_transformations.specs.ped_script.specs.Items.{c
 use Rattle.ped_session.specs.ped_transformations.specs.ped_script.specs.declared.items.Command.TheVariants.{Auto}
 use Rattle.ped_session.specs.ped_transformations.specs.ped_script.specs.declared.items.Item.{Item}
 use Rattle.ped_session.specs.LoweredRuns.{IsLoweredRun}
-use Rattle.ped_session.specs.States.{State, opened}
+use Rattle.ped_session.specs.States.{State}
 use Rattle.ped_answer.specs.declared.answering.Status.{Status}
 use Rattle.ped_answer.specs.declared.answering.Status.TheVariants.{Done}
 use Rattle.ped_answer.specs.declared.tallies.Tally as code

@@ -37,7 +37,7 @@ alias_to us u v x (g ∷ gs) (c ∷ cs) [] first between second behind k h e d a
     let rest = rest_same (record { formal = g; argument = c }) first (associations gs cs) (between ++ second ∷ behind) h in
     let name : argument_name c ≡ Some x = ap argument_name (ap (λ (s : Association). s.argument) is ∙ e) in
     inl (subst (λ (o : Option (List ℕ)). IsAliasedFirst us u v g o gs (map argument_name cs)) (sym name)
-        (k, again_to us v g x gs cs between second behind rest d (subst (λ (s : Association). IsAssigned us v s.formal ⊎ IsAssigned us v second.formal) (sym is) a)))
+    (k, again_to us v g x gs cs between second behind rest d (subst (λ (s : Association). IsAssigned us v s.formal ⊎ IsAssigned us v second.formal) (sym is) a)))
 alias_to us u v x (g ∷ gs) (c ∷ cs) (b ∷ bs) first between second behind k h e d a =
     inr (alias_to us u v x gs cs bs first between second behind k (rest_same (record { formal = g; argument = c }) b (associations gs cs) (bs ++ first ∷ (between ++ second ∷ behind)) h) e d a)
 
@@ -60,7 +60,7 @@ again_from us v f x (g ∷ gs) (d ∷ ds) (inr h) =
       between = (record { formal = g; argument = d }) ∷ there.between;
       second = there.second;
       behind = there.behind;
-      stand = ap (λ (as : List Association). (record { formal = g; argument = d }) ∷ as) there.stand;
+      stand = ap (λ (all : List Association). (record { formal = g; argument = d }) ∷ all) there.stand;
       other = there.other;
       assigned = there.assigned;
     }
@@ -102,7 +102,7 @@ alias_from us u v (g ∷ gs) (c ∷ cs) (inr h) =
       first = there.first;
       one = there.one;
       rest = there.rest;
-      stand = ap (λ (as : List Association). (record { formal = g; argument = c }) ∷ as) there.stand;
+      stand = ap (λ (all : List Association). (record { formal = g; argument = c }) ∷ all) there.stand;
       again = there.again;
     }
 
@@ -122,7 +122,7 @@ named_aliased us u v c h =
       between = again.between;
       second = again.second;
       behind = again.behind;
-      stand = all.stand ∙ ap (λ (as : List Association). all.before ++ all.first ∷ as) again.stand;
+      stand = all.stand ∙ ap (λ (more : List Association). all.before ++ all.first ∷ more) again.stand;
       one = all.one;
       other = again.other;
       assigned = again.assigned;

@@ -36,6 +36,7 @@ arguments_more us found more i h k =
     together : (r : LinkRefusal) (line : ℕ) → EitherStands (ArgumentsBelow us i) (ArgumentsAt us i) r line → ArgumentsBelow us (i + 1) r line
     together r line (inl s) = (s.0, omega (arith, s.1), s.2)
     together r line (inr s) = (i, omega arith, s)
+
     apart : (r : LinkRefusal) (line : ℕ) → ArgumentsBelow us (i + 1) r line → EitherStands (ArgumentsBelow us i) (ArgumentsAt us i) r line
     apart r line s = elim (cases_lt s.0 i) [
       | inl low ↦ inl (s.0, low, s.2)
@@ -80,26 +81,32 @@ arguments_to us n wide Arguments line h =
     let place = place_in h.unit (all_units us) us.main h.is_unit in
     let v = h.stands.0 in
     let callee = number_of_unit_of us h.call.called.name v h.stands.1 in
-    let is = place.2 in
-    (place.0, omega (arith, wide, place.1), inl (record {
-      is_rule = refl;
-      call = placed_call h.call;
-      is_call = map_in placed_call h.call (calls_of (unit_at us place.0)) (subst (λ (u : ProgramUnit). IsIn h.call (calls_of u)) (sym is) h.is_call);
-      stands = (callee.0, callee.1, subst (λ (u : ProgramUnit). HasMisfit us u (unit_at us callee.0) (placed_call h.call)) (sym is) (subst (λ (w : ProgramUnit). HasMisfit us h.unit w (placed_call h.call)) (sym callee.2) (bad_named us h.unit v h.call h.stands.2)));
-      there = h.there;
-    }))
+    let is = place.2 in (
+      place.0,
+      omega (arith, wide, place.1),
+      inl (record {
+        is_rule = refl;
+        call = placed_call h.call;
+        is_call = map_in placed_call h.call (calls_of (unit_at us place.0)) (subst (λ (u : ProgramUnit). IsIn h.call (calls_of u)) (sym is) h.is_call);
+        stands = (callee.0, callee.1, subst (λ (u : ProgramUnit). HasMisfit us u (unit_at us callee.0) (placed_call h.call)) (sym is) (subst (λ (w : ProgramUnit). HasMisfit us h.unit w (placed_call h.call)) (sym callee.2) (bad_named us h.unit v h.call h.stands.2)));
+        there = h.there;
+      }),
+    )
 arguments_to us n wide Aliased line h =
     let place = place_in h.unit (all_units us) us.main h.is_unit in
     let v = h.stands.0 in
     let callee = number_of_unit_of us h.call.called.name v h.stands.1 in
-    let is = place.2 in
-    (place.0, omega (arith, wide, place.1), inr (record {
-      is_rule = refl;
-      call = placed_call h.call;
-      is_call = map_in placed_call h.call (calls_of (unit_at us place.0)) (subst (λ (u : ProgramUnit). IsIn h.call (calls_of u)) (sym is) h.is_call);
-      stands = (callee.0, callee.1, subst (λ (u : ProgramUnit). SomeAliased us u (unit_at us callee.0) (unit_at us callee.0).formals (placed_call h.call).arguments) (sym is) (subst (λ (w : ProgramUnit). SomeAliased us h.unit w w.formals (placed_call h.call).arguments) (sym callee.2) (aliased_named us h.unit v h.call.called h.stands.2)));
-      there = h.there;
-    }))
+    let is = place.2 in (
+      place.0,
+      omega (arith, wide, place.1),
+      inr (record {
+        is_rule = refl;
+        call = placed_call h.call;
+        is_call = map_in placed_call h.call (calls_of (unit_at us place.0)) (subst (λ (u : ProgramUnit). IsIn h.call (calls_of u)) (sym is) h.is_call);
+        stands = (callee.0, callee.1, subst (λ (u : ProgramUnit). SomeAliased us u (unit_at us callee.0) (unit_at us callee.0).formals (placed_call h.call).arguments) (sym is) (subst (λ (w : ProgramUnit). SomeAliased us h.unit w w.formals (placed_call h.call).arguments) (sym callee.2) (aliased_named us h.unit v h.call.called h.stands.2)));
+        there = h.there;
+      }),
+    )
 arguments_to us n wide NoUnit line h = absurd h
 arguments_to us n wide Recursion line h = absurd h
 arguments_to us n wide CallPlace line h = absurd h

@@ -1,5 +1,5 @@
 -- One arrow more.
-use Rattle.std.proofs.Common.{◌≡◌, ◌⊎◌, inl, inr, ℕ, ◌<◌, List, [], ◌∷◌, ◌++◌, Result, Ok, Err, length, get_or, take, drop, refl, sym, ap, subst, ◌∙◌, arith}
+use Rattle.std.proofs.Common.{◌≡◌, ◌⊎◌, inl, inr, ℕ, zero, suc, ◌<◌, ◌↔◌, List, [], ◌∷◌, ◌++◌, Option, Some, None, Result, Ok, Err, length, get_or, take, drop, replicate, sym, ap, subst, ◌∙◌, arith}
 use Rattle.std.proofs.Math.ListN.{set}
 use Rattle.std.proofs.lemmas.Bool.{cases_eq}
 use Rattle.std.proofs.lemmas.List.{length-set, length-map, get_or-set_same, get_or-set_other, get_or-map, map-set, set-get_or, take_at}
@@ -77,3 +77,31 @@ added_within r all now n from to e f t h ok err =
     let known = within_by r (ends_in all) (ends_in now) from to f t h ok err in
     let long : length now ≡ length all = sym (length-map now (λ (w : Vec ℕ). w.items)) ∙ known.1 ∙ length-map all (λ (w : Vec ℕ). w.items) in
     subst (λ (vs : List (Vec ℕ)). EndBelow (length (ends_in vs)) (ends_in vs)) (sym (written_back n now all e long)) known.0
+
+-- no arrow leads anywhere at first
+pub no_arrows : (n k i : ℕ) → Leads (replicate n []) k i → ⊥
+no_arrows zero k i h = h
+no_arrows (suc n) zero i h = h
+no_arrows (suc n) (suc k) i h = no_arrows n k i h
+
+-- as many numbers, whether an arrow was added or not
+pub as_long : {A E : Type 0} (r : Result A E) (old new : List (List ℕ)) (from to : ℕ) → OnOk r (new ≡ with_arrow old from to) → OnErr r (new ≡ old) → length new ≡ length old
+as_long (Ok x) old new from to ok err = ap length ok ∙ length-set old from (get_or old from [] ++ to ∷ [])
+as_long (Err x) old new from to ok err = ap length err
+
+same_some : (a b : ℕ) → Some a ≡ Some b → a ≡ b
+same_some a b e = cc
+
+-- an arrow more, where both its ends are there
+pub leads_added : (old new : List (List ℕ)) (from to : ℕ) (o p : Option ℕ) → o ≡ Some from → p ≡ Some to → from < length old → new ≡ with_arrow old from to → (i j : ℕ) → Leads new i j ↔ (Leads old i j ⊎ ((o ≡ Some i) × (p ≡ Some j)))
+leads_added old new from to o p is also below e i j = (
+  λ l. elim (was_leading old from to i j below (subst (λ (es : List (List ℕ)). Leads es i j) e l)) [ inl x ↦ inl x | inr y ↦ inr (is ∙ ap Some (sym y.0), also ∙ ap Some (sym y.1)) ],
+  λ h. subst (λ (es : List (List ℕ)). Leads es i j) (sym e) (now_leading old from to i j below (elim h [ inl x ↦ inl x | inr y ↦ inr (sym (same_some from i (sym is ∙ y.0)), sym (same_some to j (sym also ∙ y.1))) ])),
+)
+
+-- none more, where one end isn't there
+pub leads_same : (old : List (List ℕ)) (o p : Option ℕ) → (o ≡ None) ⊎ (p ≡ None) → (i j : ℕ) → Leads old i j ↔ (Leads old i j ⊎ ((o ≡ Some i) × (p ≡ Some j)))
+leads_same old o p none i j = (λ l. inl l, λ h. elim h [ inl x ↦ x | inr y ↦ absurd (elim none [ inl e ↦ no_some i (sym y.0 ∙ e) | inr e ↦ no_some j (sym y.1 ∙ e) ]) ])
+  where
+    no_some : (a : ℕ) → Some a ≡ None → ⊥
+    no_some a e = absurd cc

@@ -36,7 +36,7 @@ pub first_more : (calls all : List PlacedCall) (c : PlacedCall) (r : LinkRefusal
 first_more calls all c r code holds found test e is h f g =
     subst (λ (cs : List PlacedCall). IsFirstOf (StandsAtCalls cs r holds) (standing_link found test code c.line)) (sym e)
     (first_as (EitherStands (StandsAtCalls calls r holds) (StandsIf r c.line (holds c))) (StandsAtCalls (calls ++ c ∷ []) r holds) (standing_link found test code c.line) (from_more calls c r holds) (to_more calls c r holds)
-        (standing_first (StandsAtCalls calls r holds) found test code c.line r (holds c) is h f g))
+    (standing_first (StandsAtCalls calls r holds) found test code c.line r (holds c) is h f g))
 
 -- one CALL more, at which two rules may stand
 pub first_two_more : (calls all : List PlacedCall) (c : PlacedCall) (r q : LinkRefusal) (code other : UnitRule) (holds fits : PlacedCall → Type 0) (found : Option UnitFinding) (test tried : Bool) → all ≡ calls ++ c ∷ [] → rule_of code ≡ of_links r → rule_of other ≡ of_links q
@@ -47,13 +47,14 @@ first_two_more calls all c r q code other holds fits found test tried e is also 
     let two = standing_first (EitherStands (EitherStands (StandsAtCalls calls r holds) (StandsAtCalls calls q fits)) (StandsIf r c.line (holds c))) (standing_link found test code c.line) tried other c.line q (fits c) also one i j in
     subst (λ (cs : List PlacedCall). IsFirstOf (EitherStands (StandsAtCalls cs r holds) (StandsAtCalls cs q fits)) (standing_link (standing_link found test code c.line) tried other c.line)) (sym e)
     (first_as (EitherStands (EitherStands (EitherStands (StandsAtCalls calls r holds) (StandsAtCalls calls q fits)) (StandsIf r c.line (holds c))) (StandsIf q c.line (fits c)))
-        (EitherStands (StandsAtCalls (calls ++ c ∷ []) r holds) (StandsAtCalls (calls ++ c ∷ []) q fits)) (standing_link (standing_link found test code c.line) tried other c.line) together apart two)
+    (EitherStands (StandsAtCalls (calls ++ c ∷ []) r holds) (StandsAtCalls (calls ++ c ∷ []) q fits)) (standing_link (standing_link found test code c.line) tried other c.line) together apart two)
   where
     together : (p : LinkRefusal) (line : ℕ) → EitherStands (EitherStands (EitherStands (StandsAtCalls calls r holds) (StandsAtCalls calls q fits)) (StandsIf r c.line (holds c))) (StandsIf q c.line (fits c)) p line → EitherStands (StandsAtCalls (calls ++ c ∷ []) r holds) (StandsAtCalls (calls ++ c ∷ []) q fits) p line
     together p line (inl (inl (inl s))) = inl (from_more calls c r holds p line (inl s))
     together p line (inl (inl (inr s))) = inr (from_more calls c q fits p line (inl s))
     together p line (inl (inr s)) = inl (from_more calls c r holds p line (inr s))
     together p line (inr s) = inr (from_more calls c q fits p line (inr s))
+
     apart : (p : LinkRefusal) (line : ℕ) → EitherStands (StandsAtCalls (calls ++ c ∷ []) r holds) (StandsAtCalls (calls ++ c ∷ []) q fits) p line → EitherStands (EitherStands (EitherStands (StandsAtCalls calls r holds) (StandsAtCalls calls q fits)) (StandsIf r c.line (holds c))) (StandsIf q c.line (fits c)) p line
     apart p line (inl s) = elim (to_more calls c r holds p line s) [ inl x ↦ inl (inl (inl x)) | inr y ↦ inl (inr y) ]
     apart p line (inr s) = elim (to_more calls c q fits p line s) [ inl x ↦ inl (inl (inr x)) | inr y ↦ inr y ]
@@ -63,11 +64,12 @@ pub line_more : (lines all : List ℕ) (n : ℕ) (found : Option UnitFinding) �
 line_more lines all n found e h =
     subst (λ (ns : List ℕ). IsFirstOf (StandsAtLines ns) (standing_link found true rule.Arguments n)) (sym e)
     (first_as (EitherStands (StandsAtLines lines) (StandsIf Arguments n (Unit {0}))) (StandsAtLines (lines ++ n ∷ [])) (standing_link found true rule.Arguments n) from to
-        (standing_first (StandsAtLines lines) found true rule.Arguments n Arguments (Unit {0}) refl h (λ x. tt) (λ x. refl)))
+    (standing_first (StandsAtLines lines) found true rule.Arguments n Arguments (Unit {0}) refl h (λ x. tt) (λ x. refl)))
   where
     from : (r : LinkRefusal) (line : ℕ) → EitherStands (StandsAtLines lines) (StandsIf Arguments n (Unit {0})) r line → StandsAtLines (lines ++ n ∷ []) r line
     from r line (inl s) = (s.0, in_left line lines (n ∷ []) s.1)
     from r line (inr s) = (s.0, in_right line lines (n ∷ []) (inl s.1))
+
     to : (r : LinkRefusal) (line : ℕ) → StandsAtLines (lines ++ n ∷ []) r line → EitherStands (StandsAtLines lines) (StandsIf Arguments n (Unit {0})) r line
     to r line s = elim (in_either line lines (n ∷ []) s.1) [ inl x ↦ inl (s.0, x) | inr y ↦ inr (s.0, in_one line n y, tt) ]
 

@@ -17,12 +17,13 @@ pub record HasPlace (ys : List (List ℕ)) (n p : ℕ) (x : List ℕ) : Type 0 w
 
 pub placed_there : (ys : List (List ℕ)) (n p : ℕ) (x : List ℕ) → place_among ys n x ≡ Some p → HasPlace ys n p x
 placed_there [] n p x h = absurd cc
-placed_there (y ∷ ys) n p x h = by (is_same_text x y) refl h
+placed_there (y ∷ ys) n p x h = by (placed_there ys (n + 1) p x) (is_same_text x y) refl h
   where
     inner : (a b : ℕ) → Some a ≡ Some b → a ≡ b
     inner a b e = cc
-    by : (b : Bool) → is_same_text x y ≡ b → (if b then Some n else place_among ys (n + 1) x) ≡ Some p → HasPlace (y ∷ ys) n p x
-    by true e k =
+
+    by : (place_among ys (n + 1) x ≡ Some p → HasPlace ys (n + 1) p x) → (b : Bool) → is_same_text x y ≡ b → (if b then Some n else place_among ys (n + 1) x) ≡ Some p → HasPlace (y ∷ ys) n p x
+    by later true e k =
         let is : n ≡ p = inner n p k in
         let none : p - n ≡ 0 = omega (arith, is) in
         record {
@@ -31,8 +32,8 @@ placed_there (y ∷ ys) n p x h = by (is_same_text x y) refl h
           there = ap (λ (j : ℕ). get_or (y ∷ ys) j []) none ∙ sym (same_is x y e);
           among = ap (λ (b : Bool). b || is_among x ys) e;
         }
-    by false e k =
-        let rest = placed_there ys (n + 1) p x k in
+    by later false e k =
+        let rest = later k in
         let above = rest.above in
         let below = rest.below in
         let more : p - n ≡ suc (p - (n + 1)) = omega (arith, above) in
@@ -45,15 +46,15 @@ placed_there (y ∷ ys) n p x h = by (is_same_text x y) refl h
 
 pub has_a_place : (ys : List (List ℕ)) (n : ℕ) (x : List ℕ) → is_among x ys ≡ true → (p : ℕ) × (place_among ys n x ≡ Some p)
 has_a_place [] n x h = absurd cc
-has_a_place (y ∷ ys) n x h = by (is_same_text x y) refl h
+has_a_place (y ∷ ys) n x h = by (has_a_place ys (n + 1) x) (is_same_text x y) refl h
   where
-    by : (b : Bool) → is_same_text x y ≡ b → (b || is_among x ys) ≡ true → (p : ℕ) × (place_among (y ∷ ys) n x ≡ Some p)
-    by true e k = (n, ap (λ (b : Bool). if b then Some n else place_among ys (n + 1) x) e)
-    by false e k = let rest = has_a_place ys (n + 1) x k in (rest.0, ap (λ (b : Bool). if b then Some n else place_among ys (n + 1) x) e ∙ rest.1)
+    by : (is_among x ys ≡ true → (p : ℕ) × (place_among ys (n + 1) x ≡ Some p)) → (b : Bool) → is_same_text x y ≡ b → (b || is_among x ys) ≡ true → (p : ℕ) × (place_among (y ∷ ys) n x ≡ Some p)
+    by later true e k = (n, ap (λ (b : Bool). if b then Some n else place_among ys (n + 1) x) e)
+    by later false e k = let rest = later k in (rest.0, ap (λ (b : Bool). if b then Some n else place_among ys (n + 1) x) e ∙ rest.1)
 
 behind_both : (a b : ℕ) (o : Option ℕ) → number_behind (a + b) o ≡ number_behind a (number_behind b o)
 behind_both a b None = refl
-behind_both a b (Some p) = ap (λ (n : ℕ). Some n) (omega arith)
+behind_both a b (Some p) = let same : a + b + p ≡ a + (b + p) = omega arith in ap (λ (n : ℕ). Some n) same
 
 number_later : (u : ProgramUnit) (us : List ProgramUnit) (k : ℕ) (x : List ℕ) → formal_number (u ∷ us) (suc k) x ≡ number_behind (length u.formals) (formal_number us k x)
 number_later u us k x = ap (λ (n : ℕ). number_behind n (place_among (formals_at us k) 0 x)) (length-append u.formals (flat_map (λ (v : ProgramUnit). v.formals) (take k us))) ∙ behind_both (length u.formals) (formal_count (take k us)) (place_among (formals_at us k) 0 x)
@@ -98,7 +99,8 @@ first_below u us x n h =
     let place = placed_there u.formals 0 off.0 x off.1 in
     let below = place.below in
     let is = off.2 in
-    (omega (arith, below, is), ap (λ (j : ℕ). get_or u.formals j []) (omega (arith, is)) ∙ place.there)
+    let same : n ≡ off.0 - 0 = omega (arith, is) in
+    (omega (arith, below, is), ap (λ (j : ℕ). get_or u.formals j []) same ∙ place.there)
 
 -- a number has one dummy argument
 pub one_number : (us : List ProgramUnit) (k i : ℕ) (x y : List ℕ) (n : ℕ) → formal_number us k x ≡ Some n → formal_number us i y ≡ Some n → (k ≡ i) × (x ≡ y)

@@ -4,8 +4,10 @@ use Rattle.ped_base.specs.Lists.{is_same_text, is_among}
 use Rattle.ped_valid.specs.ped_symbols.specs.NameRefusals.{has_twice}
 use Rattle.ped_calls.specs.Units.{ProgramUnit, ProgramUnits, all_units}
 use Rattle.ped_calls.specs.Linking.{LinkRefusal, NoUnit, Recursion, Arguments, Aliased, CallPlace}
+use Rattle.ped_calls.specs.Links.{AreNamed, IsBelow, HasEarlier}
 use Rattle.ped_calls.specs.Numbers.{number_among, number_of_unit}
 use Rattle.ped_calls.specs.Scenes.{unit_at, AtHeads}
+use Rattle.ped_calls.specs.Views.{name_or_none}
 use Rattle.ped_calls.specs.FirstLinks.{IsFirstOf, EitherStands, StandsIf, standing_link}
 use Rattle.ped_calls.specs.declared.refusals.UnitFinding.{UnitFinding}
 use Rattle.ped_calls.specs.declared.refusals.UnitRule.TheVariants as rule
@@ -20,34 +22,36 @@ name_of u = u.name
 -- a name among the first of units has a number among theirs
 among_numbered : (us rest : List ProgramUnit) (n : ℕ) (x : List ℕ) → is_among x (map name_of us) ≡ true → (j : ℕ) × (number_among (us ++ rest) n x ≡ Some j) × (j < n + length us)
 among_numbered [] rest n x h = absurd cc
-among_numbered (u ∷ us) rest n x h = by (is_same_text x u.name) refl h
+among_numbered (u ∷ us) rest n x h = by (among_numbered us rest (n + 1) x) (is_same_text x u.name) refl h
   where
-    by : (b : Bool) → is_same_text x u.name ≡ b → (b || is_among x (map name_of us)) ≡ true → (j : ℕ) × (number_among ((u ∷ us) ++ rest) n x ≡ Some j) × (j < n + length (u ∷ us))
-    by true e k = (n, ap (λ (b : Bool). if b then Some n else number_among (us ++ rest) (n + 1) x) e, omega arith)
-    by false e k =
-        let there = among_numbered us rest (n + 1) x k in
+    by : (is_among x (map name_of us) ≡ true → (j : ℕ) × (number_among (us ++ rest) (n + 1) x ≡ Some j) × (j < n + 1 + length us)) → (b : Bool) → is_same_text x u.name ≡ b → (b || is_among x (map name_of us)) ≡ true → (j : ℕ) × (number_among ((u ∷ us) ++ rest) n x ≡ Some j) × (j < n + length (u ∷ us))
+    by later true e k = (n, ap (λ (b : Bool). if b then Some n else number_among (us ++ rest) (n + 1) x) e, omega arith)
+    by later false e k =
+        let there = later k in
         let below = there.2 in
         (there.0, ap (λ (b : Bool). if b then Some n else number_among (us ++ rest) (n + 1) x) e ∙ there.1, omega (arith, below))
+
+same_some : (a b : ℕ) → Some a ≡ Some b → a ≡ b
+same_some a b e = cc
+
+-- no number is below the first
+none_below : (us : List ProgramUnit) (n j : ℕ) (x : List ℕ) → number_among us n x ≡ Some j → j < n → ⊥
+none_below [] n j x h l = absurd cc
+none_below (u ∷ us) n j x h l = by (λ e. none_below us (n + 1) j x e (omega (arith, l))) (is_same_text x u.name) h
+  where
+    by : (number_among us (n + 1) x ≡ Some j → ⊥) → (b : Bool) → (if b then Some n else number_among us (n + 1) x) ≡ Some j → ⊥
+    by later true e = let is = same_some n j e in absurd (omega (arith, is, l))
+    by later false e = later e
 
 -- a name with a number among the first of units is among theirs
 numbered_among : (us : List ProgramUnit) (n m j : ℕ) (x : List ℕ) → number_among us n x ≡ Some j → j < n + m → is_among x (map name_of (take m us)) ≡ true
 numbered_among [] n m j x h l = absurd cc
-numbered_among (u ∷ us) n zero j x h l = absurd (above (u ∷ us) n j h)
+numbered_among (u ∷ us) n zero j x h l = absurd (none_below (u ∷ us) n j x h (omega (arith, l)))
+numbered_among (u ∷ us) n (suc m) j x h l = by (λ e. numbered_among us (n + 1) m j x e (omega (arith, l))) (is_same_text x u.name) h
   where
-    above : (vs : List ProgramUnit) (k i : ℕ) → number_among vs k x ≡ Some i → i < k + 0 → ⊥
-    above [] k i e below = absurd cc
-    above (v ∷ vs) k i e below = by (is_same_text x v.name) e
-      where
-        inner : (a b : ℕ) → Some a ≡ Some b → a ≡ b
-        inner a b q = cc
-        by : (b : Bool) → (if b then Some k else number_among vs (k + 1) x) ≡ Some i → ⊥
-        by true q = let is = inner k i q in absurd (omega (arith, is, below))
-        by false q = above vs (k + 1) i q (omega (arith, below))
-numbered_among (u ∷ us) n (suc m) j x h l = by (is_same_text x u.name) h
-  where
-    by : (b : Bool) → (if b then Some n else number_among us (n + 1) x) ≡ Some j → (b || is_among x (map name_of (take m us))) ≡ true
-    by true e = refl
-    by false e = numbered_among us (n + 1) m j x e (omega (arith, l))
+    by : (number_among us (n + 1) x ≡ Some j → is_among x (map name_of (take m us)) ≡ true) → (b : Bool) → (if b then Some n else number_among us (n + 1) x) ≡ Some j → (b || is_among x (map name_of (take m us))) ≡ true
+    by later true e = refl
+    by later false e = later e
 
 -- a subroutine has the name of one with a lesser number
 pub record RepeatsAt (us : ProgramUnits) (n : ℕ) (line : ℕ) : Type 0 where
@@ -81,7 +85,9 @@ at_front (b ∷ bs) behind u d = at_front bs behind u d
 split_at : (us : List ProgramUnit) (k : ℕ) (d : ProgramUnit) → k < length us → us ≡ take k us ++ get_or us k d ∷ drop (k + 1) us
 split_at [] k d h = absurd (omega (arith, h))
 split_at (u ∷ us) zero d h = refl
-split_at (u ∷ us) (suc k) d h = ap (λ (vs : List ProgramUnit). u ∷ vs) (split_at us k d (omega (arith, h))) ∙ ap (λ (n : ℕ). u ∷ (take k us ++ get_or us k d ∷ drop n (u ∷ us))) (omega arith)
+split_at (u ∷ us) (suc k) d h =
+    let same : suc (k + 1) ≡ suc k + 1 = omega arith in
+    ap (λ (vs : List ProgramUnit). u ∷ vs) (split_at us k d (omega (arith, h))) ∙ ap (λ (n : ℕ). u ∷ (take k us ++ get_or us k d ∷ drop n (u ∷ us))) same
 
 longer : (xs ys : List ProgramUnit) (y : ProgramUnit) → length xs < length (xs ++ y ∷ ys)
 longer [] ys y = omega arith
@@ -187,3 +193,23 @@ heads_more us n found repeats twice h f g e =
     let one = standing_first (HeadsBelow us n) found repeats rule.NoUnit line NoUnit (RepeatsHere us n) refl h f g in
     let two = standing_first (EitherStands (HeadsBelow us n) (StandsIf NoUnit line (RepeatsHere us n))) (standing_link found repeats rule.NoUnit line) twice rule.Arguments line Arguments (has_twice (unit_at us n).formals ≡ true) refl one (λ t. sym e ∙ t) (λ t. e ∙ t) in
     first_as (HeadMore us n) (HeadsBelow us (n + 1)) (standing_link (standing_link found repeats rule.NoUnit line) twice rule.Arguments line) (head_together us n) (head_apart us n) two
+
+below_some : (o : Option ℕ) (n : ℕ) → IsBelow o n → (j : ℕ) × (o ≡ Some j) × (j < n)
+below_some None n h = absurd h
+below_some (Some j) n h = (j, refl, h)
+
+-- a unit that has the name of an earlier one
+pub repeats_by : (us : ProgramUnits) (n : ℕ) (name : Option (List ℕ)) → (unit_at us n).name ≡ name_or_none name → HasEarlier (all_units us) name n → RepeatsHere us n
+repeats_by us n None e h = absurd h
+repeats_by us n (Some x) e h =
+    let there = below_some (number_of_unit (all_units us) x) n h in
+    let less = there.2 in
+    (omega (arith, less), (there.0, ap (number_of_unit (all_units us)) e ∙ there.1, less))
+
+pub by_repeats : (us : ProgramUnits) (n : ℕ) (name : Option (List ℕ)) → AreNamed us → n < length (all_units us) → (unit_at us n).name ≡ name_or_none name → RepeatsHere us n → HasEarlier (all_units us) name n
+by_repeats us n None named below e h =
+    let above = h.0 in
+    let place : n ≡ suc (n - 1) = omega (arith, above) in
+    let unit : get_or us.others (n - 1) us.main ≡ unit_at us n = ap (λ (j : ℕ). get_or (all_units us) j us.main) (sym place) in
+    absurd (named (get_or us.others (n - 1) us.main) (in_place us.others (n - 1) us.main (omega (arith, above, below))) (ap (λ (v : ProgramUnit). v.name) unit ∙ e))
+by_repeats us n (Some x) named below e h = subst (λ (o : Option ℕ). IsBelow o n) (sym (ap (number_of_unit (all_units us)) (sym e) ∙ h.1.1)) h.1.2

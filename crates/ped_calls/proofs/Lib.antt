@@ -62,3 +62,4 @@ mod PlacesMet
 mod ArgumentsMet
 mod Passings
 mod ArrowsAdded
+mod StatementTrees

@@ -66,7 +66,9 @@ first_refused us (Some g) f e h = of_first f (sub e h)
   where
     of_first : (x : UnitFinding) → IsFirstAmong (Stands us) x → IsLinkRefusal us (refusal.At x)
     of_first x k = (k.rule, k.is_rule, record { stands = k.stands_there; least = k.least })
+
     same : (x y : UnitFinding) → Some x ≡ Some y → x ≡ y
     same x y k = cc
+
     sub : Some g ≡ Some f → IsFirstAmong (Stands us) g → IsFirstAmong (Stands us) f
     sub k l = subst (IsFirstAmong (Stands us)) (same g f k) l

@@ -1,5 +1,6 @@
 -- The first subroutine of a name, and its number.
 use Rattle.std.proofs.Common.{◌≡◌, ◌⊎◌, inl, inr, ℕ, zero, suc, ◌+◌, ◌-◌, ◌<◌, ◌≤◌, List, [], ◌∷◌, Bool, true, false, Option, Some, None, length, drop, get_or, refl, sym, ap, subst, ◌∙◌, if◌then◌else◌, arith}
+use Rattle.std.specs.Prelude.{IfSome}
 use Rattle.ped_base.specs.Lists.{is_same_text}
 use Rattle.ped_calls.specs.Units.{ProgramUnit, ProgramUnits, all_units, unit_among, unit_of}
 use Rattle.ped_calls.specs.Numbers.{number_among, number_of_unit}
@@ -13,12 +14,13 @@ pub record IsNumbered (us : List ProgramUnit) (n : ℕ) (x : List ℕ) (k : ℕ)
 
 numbered : (us : List ProgramUnit) (n : ℕ) (x : List ℕ) (k : ℕ) (d : ProgramUnit) → number_among us n x ≡ Some k → IsNumbered us n x k d
 numbered [] n x k d h = absurd cc
-numbered (u ∷ us) n x k d h = by (is_same_text x u.name) refl h
+numbered (u ∷ us) n x k d h = by (numbered us (n + 1) x k d) (is_same_text x u.name) refl h
   where
     inner : (m j : ℕ) → Some m ≡ Some j → m ≡ j
     inner m j e = cc
-    by : (b : Bool) → is_same_text x u.name ≡ b → (if b then Some n else number_among us (n + 1) x) ≡ Some k → IsNumbered (u ∷ us) n x k d
-    by true e l =
+
+    by : (number_among us (n + 1) x ≡ Some k → IsNumbered us (n + 1) x k d) → (b : Bool) → is_same_text x u.name ≡ b → (if b then Some n else number_among us (n + 1) x) ≡ Some k → IsNumbered (u ∷ us) n x k d
+    by later true e l =
         let is : n ≡ k = inner n k l in
         let none : k - n ≡ 0 = omega (arith, is) in
         record {
@@ -26,8 +28,8 @@ numbered (u ∷ us) n x k d h = by (is_same_text x u.name) refl h
           below = omega (arith, is);
           found = ap (λ (b : Bool). if b then Some u else unit_among us x) e ∙ ap (λ (j : ℕ). Some (get_or (u ∷ us) j d)) (sym none);
         }
-    by false e l =
-        let rest = numbered us (n + 1) x k d l in
+    by later false e l =
+        let rest = later l in
         let above = rest.above in
         let below = rest.below in
         let more : k - n ≡ suc (k - (n + 1)) = omega (arith, above) in
@@ -39,11 +41,11 @@ numbered (u ∷ us) n x k d h = by (is_same_text x u.name) refl h
 
 unnumbered : (us : List ProgramUnit) (n : ℕ) (x : List ℕ) → number_among us n x ≡ None → unit_among us x ≡ None
 unnumbered [] n x h = refl
-unnumbered (u ∷ us) n x h = by (is_same_text x u.name) refl h
+unnumbered (u ∷ us) n x h = by (unnumbered us (n + 1) x) (is_same_text x u.name) refl h
   where
-    by : (b : Bool) → is_same_text x u.name ≡ b → (if b then Some n else number_among us (n + 1) x) ≡ None → unit_among (u ∷ us) x ≡ None
-    by true e l = absurd cc
-    by false e l = ap (λ (b : Bool). if b then Some u else unit_among us x) e ∙ unnumbered us (n + 1) x l
+    by : (number_among us (n + 1) x ≡ None → unit_among us x ≡ None) → (b : Bool) → is_same_text x u.name ≡ b → (if b then Some n else number_among us (n + 1) x) ≡ None → unit_among (u ∷ us) x ≡ None
+    by later true e l = absurd cc
+    by later false e l = ap (λ (b : Bool). if b then Some u else unit_among us x) e ∙ later l
 
 -- a number leads to the subroutine of the name
 pub unit_of_number : (us : ProgramUnits) (x : List ℕ) (k : ℕ) → number_of_unit (all_units us) x ≡ Some k → (unit_of us x ≡ Some (unit_at us k)) × (k < length (all_units us))
@@ -64,9 +66,15 @@ number_of_unit_of us x v h = by (number_of_unit (all_units us) x) refl
   where
     inner : (a b : ProgramUnit) → Some a ≡ Some b → a ≡ b
     inner a b e = cc
+
     by : (o : Option ℕ) → number_of_unit (all_units us) x ≡ o → (k : ℕ) × (number_of_unit (all_units us) x ≡ Some k) × (unit_at us k ≡ v)
     by None e = absurd (none (no_number us x e))
       where
         none : unit_of us x ≡ None → ⊥
         none f = absurd cc
     by (Some k) e = (k, e, inner (unit_at us k) v (sym (unit_of_number us x k e).0 ∙ h))
+
+-- the number of a subroutine is that of a unit
+pub number_below : (us : ProgramUnits) (x : List ℕ) (o : Option ℕ) (count : ℕ) → o ≡ number_of_unit (all_units us) x → count ≡ length (all_units us) → IfSome o (λ k. k < count)
+number_below us x None count e w = tt
+number_below us x (Some k) count e w = let below = (unit_of_number us x k (sym e)).1 in omega (arith, below, w)

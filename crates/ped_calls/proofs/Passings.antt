@@ -69,21 +69,31 @@ all_passed us n from to wide h =
     let call = in_map placed_call c.0 (calls_of (unit_at us i)) c.1 in
     let p = call.0 in
     let k = c.2.0 in
-    let passing = passing_from (all_units us) i k (unit_at us k).formals (listed p.called.arguments) from to (subst (λ (d : PlacedCall). PassesIn (all_units us) i k (unit_at us k).formals d.arguments from to) call.2 c.2.2) in
-    (i, k, omega (arith, h.1, wide), record {
-      call = p;
-      is_call = call.1;
-      is_unit = ap (λ (d : PlacedCall). number_of_unit (all_units us) d.name) (sym call.2) ∙ c.2.1;
-      association = passing.association;
-      associates = passing.associates;
-      formal = passing.formal;
-      passes = passing.passes;
-      begins = passing.begins;
-      ends = passing.ends;
-    })
+    let passing = passing_from (all_units us) i k (unit_at us k).formals (listed p.called.arguments) from to (subst (λ (d : PlacedCall). PassesIn (all_units us) i k (unit_at us k).formals d.arguments from to) call.2 c.2.2) in (
+      i,
+      k,
+      omega (arith, h.1, wide),
+      record {
+        call = p;
+        is_call = call.1;
+        is_unit = ap (λ (d : PlacedCall). number_of_unit (all_units us) d.name) (sym call.2) ∙ c.2.1;
+        association = passing.association;
+        associates = passing.associates;
+        formal = passing.formal;
+        passes = passing.passes;
+        begins = passing.begins;
+        ends = passing.ends;
+      },
+    )
 
 pub passed_all : (us : ProgramUnits) (n from to : ℕ) → n ≡ length (all_units us) → ArePassed us from to → PassedBelow us n from to
 passed_all us n from to wide a =
-    let p = a.3 in
-    (a.0, omega (arith, a.2, wide), (placed_call p.call, map_in placed_call p.call (calls_of (unit_at us a.0)) p.is_call,
-        (a.1, p.is_unit, passing_to (all_units us) a.0 a.1 (unit_at us a.1).formals (listed p.call.called.arguments) from to p.association p.formal p.associates p.passes p.begins p.ends)))
+    let p = a.3 in (
+      a.0,
+      omega (arith, a.2, wide),
+      (
+        placed_call p.call,
+        map_in placed_call p.call (calls_of (unit_at us a.0)) p.is_call,
+        (a.1, p.is_unit, passing_to (all_units us) a.0 a.1 (unit_at us a.1).formals (listed p.call.called.arguments) from to p.association p.formal p.associates p.passes p.begins p.ends),
+      ),
+    )

@@ -80,6 +80,7 @@ no_unit_number us x h = by (number_of_unit (all_units us) x) refl
   where
     none : (a : ProgramUnit) → Some a ≡ None → ⊥
     none a e = absurd cc
+
     by : (o : Option ℕ) → number_of_unit (all_units us) x ≡ o → number_of_unit (all_units us) x ≡ None
     by None e = e
     by (Some k) e = absurd (none _ (sym (unit_of_number us x k e).0 ∙ h))
@@ -160,6 +161,7 @@ places_more us fs all f found lines calls e h l k =
     together r line (inl (inl s)) = record { walk = s.walk; is_walk = in_left s.walk fs (f ∷ []) s.is_walk; stands = s.stands }
     together r line (inl (inr s)) = record { walk = f; is_walk = in_right f fs (f ∷ []) (inl refl); stands = inl s }
     together r line (inr s) = record { walk = f; is_walk = in_right f fs (f ∷ []) (inl refl); stands = inr s }
+
     apart : (r : LinkRefusal) (line : ℕ) → PlacesFound us (fs ++ f ∷ []) r line → EitherStands (EitherStands (PlacesFound us fs) (StandsAtLines f.private.items)) (StandsAtPlaces (all_units us) f.calls.items) r line
     apart r line s = elim (in_either s.walk fs (f ∷ []) s.is_walk) [
       | inl i ↦ inl (inl (record { walk = s.walk; is_walk = i; stands = s.stands }))
@@ -172,3 +174,17 @@ walk_there [] fs k d f w h e = absurd (omega (arith, h))
 walk_there (u ∷ us) [] k d f w h e = absurd w
 walk_there (u ∷ us) (g ∷ gs) zero d f w h e = subst (IsWalked u) (sym e) w.0
 walk_there (u ∷ us) (g ∷ gs) (suc k) d f w h e = walk_there us gs k d f w.1 (omega (arith, h)) e
+
+-- the walk of one unit more
+pub walked_more : (us : List ProgramUnit) (fs : List Found) (u : ProgramUnit) (f : Found) → AreWalked us fs → IsWalked u f → AreWalked (us ++ u ∷ []) (fs ++ f ∷ [])
+walked_more [] [] u f w h = (h, tt)
+walked_more [] (g ∷ gs) u f w h = absurd w
+walked_more (v ∷ vs) [] u f w h = absurd w
+walked_more (v ∷ vs) (g ∷ gs) u f w h = (w.0, walked_more vs gs u f w.1 h)
+
+-- as many walks as units
+pub walked_long : (us : List ProgramUnit) (fs : List Found) → AreWalked us fs → length fs ≡ length us
+walked_long [] [] w = refl
+walked_long [] (g ∷ gs) w = absurd w
+walked_long (v ∷ vs) [] w = absurd w
+walked_long (v ∷ vs) (g ∷ gs) w = ap suc (walked_long vs gs w.1)

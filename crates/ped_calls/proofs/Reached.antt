@@ -20,7 +20,7 @@ along_more ends i j k (m ∷ path) h l = (h.0, along_more ends m j k path h.1 l)
 pub reached_more : (ends : List (List ℕ)) (seeds : List ℕ) (i j : ℕ) → IsReached ends seeds i → Leads ends i j → IsReached ends seeds j
 reached_more ends seeds i j r l = record { seed = r.seed; is_seed = r.is_seed; path = r.path ++ j ∷ []; leads = along_more ends r.seed i j r.path r.leads l }
 
-seed_reached : (ends : List (List ℕ)) (seeds : List ℕ) (j : ℕ) → IsIn j seeds → IsReached ends seeds j
+pub seed_reached : (ends : List (List ℕ)) (seeds : List ℕ) (j : ℕ) → IsIn j seeds → IsReached ends seeds j
 seed_reached ends seeds j i = record { seed = j; is_seed = i; path = []; leads = refl }
 
 along_marked : (ends : List (List ℕ)) (marks : List Bool) (path : List ℕ) (i j : ℕ) → ((n m : ℕ) → IsMarked marks n → Leads ends n m → IsMarked marks m) → IsMarked marks i → LeadAlong ends i path j → IsMarked marks j
@@ -72,6 +72,7 @@ search_goes_on ends seeds marks marks_now waiting rest waiting_now number there 
     in_front j (x ∷ xs) n (inl e) = inl e
     in_front j (x ∷ xs) n (inr h) = inr (in_front j xs n h)
     in_front j [] n h = absurd h
+
     at_end : (j : ℕ) (xs : List ℕ) → IsIn j (xs ++ j ∷ [])
     at_end j [] = inl refl
     at_end j (x ∷ xs) = inr (at_end j xs)

@@ -180,35 +180,43 @@ unit_more us ends marks found more i a below returns f h =
     together : (r : LinkRefusal) (line : ℕ) → EitherStands (LeadingBelow us ends i) (LeadingAt us ends i) r line → LeadingBelow us ends (i + 1) r line
     together r line (inl s) = (s.0, omega (arith, s.1), s.2)
     together r line (inr s) = (i, omega arith, s)
+
     apart : (r : LinkRefusal) (line : ℕ) → LeadingBelow us ends (i + 1) r line → EitherStands (LeadingBelow us ends i) (LeadingAt us ends i) r line
     apart r line s = elim (cases_lt s.0 i) [
       | inl low ↦ inl (s.0, low, s.2)
       | inr high ↦ inr (subst (λ (n : ℕ). LeadingAt us ends n r line) (omega (arith, high, s.1)) s.2)
     ]
+
     both : IsFoundIn us ends marks found i more → IsFirstOf (EitherStands (LeadingBelow us ends i) (LeadingAt us ends i)) (first_link_of found more)
     both (inl k) = both_first (LeadingBelow us ends i) (LeadingAt us ends i) found more h k
     both (inr k) = subst (λ (o : Option UnitFinding). IsFirstOf (EitherStands (LeadingBelow us ends i) (LeadingAt us ends i)) (first_link_of found o)) (sym k.0) (skipped_unit us ends marks found i (LeadingBelow us ends i) a below returns k.1 h)
 
+same_some : (a b : ℕ) → Some a ≡ Some b → a ≡ b
+same_some a b e = cc
+
 -- the arrows of one CALL more
 pub callers_step : (us : ProgramUnits) (calls all : List PlacedCall) (c : PlacedCall) (unit : ℕ) (callee : Option ℕ) (old mid new : List (List ℕ)) → all ≡ calls ++ c ∷ [] → callee ≡ number_of_unit (all_units us) c.name
-    → ((k i : ℕ) → Leads mid k i ↔ (Leads old k i ⊎ ((i ≡ unit) × CallsIn (all_units us) calls k))) → ((k i : ℕ) → Leads new k i ↔ (Leads mid k i ⊎ ((i ≡ unit) × (callee ≡ Some k))))
+    → ((k i : ℕ) → Leads mid k i ↔ (Leads old k i ⊎ ((i ≡ unit) × CallsIn (all_units us) calls k))) → ((k i : ℕ) → Leads new k i ↔ (Leads mid k i ⊎ ((callee ≡ Some k) × (Some unit ≡ Some i))))
     → (k i : ℕ) → Leads new k i ↔ (Leads old k i ⊎ ((i ≡ unit) × CallsIn (all_units us) all k))
 callers_step us calls all c unit callee old mid new e named before now k i = (from, to)
   where
     more : CallsIn (all_units us) calls k → CallsIn (all_units us) all k
     more x = (x.0, subst (IsIn x.0) (sym e) (in_left x.0 calls (c ∷ []) x.1), x.2)
+
     here : callee ≡ Some k → CallsIn (all_units us) all k
     here h = (c, subst (IsIn c) (sym e) (in_right c calls (c ∷ []) (inl refl)), sym named ∙ h)
+
     from : Leads new k i → Leads old k i ⊎ ((i ≡ unit) × CallsIn (all_units us) all k)
     from l = elim ((now k i).0 l) [
       | inl m ↦ elim ((before k i).0 m) [ inl o ↦ inl o | inr x ↦ inr (x.0, more x.1) ]
-      | inr h ↦ inr (h.0, here h.1)
+      | inr h ↦ inr (sym (same_some unit i h.1), here h.0)
     ]
+
     to : Leads old k i ⊎ ((i ≡ unit) × CallsIn (all_units us) all k) → Leads new k i
     to (inl o) = (now k i).1 (inl ((before k i).1 (inl o)))
     to (inr x) = elim (in_either x.1.0 calls (c ∷ []) (subst (IsIn x.1.0) e x.1.1)) [
       | inl y ↦ (now k i).1 (inl ((before k i).1 (inr (x.0, (x.1.0, y, x.1.2)))))
-      | inr z ↦ (now k i).1 (inr (x.0, named ∙ ap (λ (d : PlacedCall). number_of_unit (all_units us) d.name) (sym (in_one x.1.0 c z)) ∙ x.1.2))
+      | inr z ↦ (now k i).1 (inr (named ∙ ap (λ (d : PlacedCall). number_of_unit (all_units us) d.name) (sym (in_one x.1.0 c z)) ∙ x.1.2, ap (λ (n : ℕ). Some n) (sym x.0)))
     ]
 
 -- the arrows of one unit more
@@ -225,6 +233,7 @@ callers_more us n calls old new e below before now k i = (from, to)
           let is = x.0 in
           (omega (arith, is), subst (λ (m : ℕ). CallsAt us m k) (sym is) (below, (call.0, call.1, ap (λ (d : PlacedCall). number_of_unit (all_units us) d.name) (sym call.2) ∙ x.1.2)))
     ]
+
     to : (i < n + 1) × CallsAt us i k → Leads new k i
     to h = elim (cases_lt i n) [
       | inl low ↦ (now k i).1 (inl ((before k i).1 (low, h.1)))

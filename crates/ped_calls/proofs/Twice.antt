@@ -40,18 +40,19 @@ twice_behind (x ∷ xs) y =
     shuffled false false true d = refl
     shuffled false false false d = refl
 
+among_front : (z : List ℕ) (zs ws : List (List ℕ)) → is_among z zs ≡ true → is_among z (zs ++ ws) ≡ true
+among_front z [] ws e = absurd cc
+among_front z (v ∷ vs) ws e = by (among_front z vs ws) (is_same_text z v) e
+  where
+    by : (is_among z vs ≡ true → is_among z (vs ++ ws) ≡ true) → (b : Bool) → (b || is_among z vs) ≡ true → (b || is_among z (vs ++ ws)) ≡ true
+    by later true q = refl
+    by later false q = later q
+
 -- what stands twice among the first stands twice among all
 pub twice_in_front : (xs ys : List (List ℕ)) → has_twice xs ≡ true → has_twice (xs ++ ys) ≡ true
 twice_in_front [] ys h = absurd cc
-twice_in_front (x ∷ xs) ys h = by (is_among x xs) refl h
+twice_in_front (x ∷ xs) ys h = by (twice_in_front xs ys) (is_among x xs) refl h
   where
-    among_front : (z : List ℕ) (zs ws : List (List ℕ)) → is_among z zs ≡ true → is_among z (zs ++ ws) ≡ true
-    among_front z [] ws e = absurd cc
-    among_front z (v ∷ vs) ws e = or_by (is_same_text z v) e
-      where
-        or_by : (b : Bool) → (b || is_among z vs) ≡ true → (b || is_among z (vs ++ ws)) ≡ true
-        or_by true q = refl
-        or_by false q = among_front z vs ws q
-    by : (b : Bool) → is_among x xs ≡ b → (b || has_twice xs) ≡ true → (is_among x (xs ++ ys) || has_twice (xs ++ ys)) ≡ true
-    by true e k = or_left (is_among x (xs ++ ys)) (has_twice (xs ++ ys)) (among_front x xs ys e)
-    by false e k = or_right (is_among x (xs ++ ys)) (has_twice (xs ++ ys)) (twice_in_front xs ys k)
+    by : (has_twice xs ≡ true → has_twice (xs ++ ys) ≡ true) → (b : Bool) → is_among x xs ≡ b → (b || has_twice xs) ≡ true → (is_among x (xs ++ ys) || has_twice (xs ++ ys)) ≡ true
+    by later true e k = or_left (is_among x (xs ++ ys)) (has_twice (xs ++ ys)) (among_front x xs ys e)
+    by later false e k = or_right (is_among x (xs ++ ys)) (has_twice (xs ++ ys)) (later k)

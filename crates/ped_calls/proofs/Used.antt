@@ -105,9 +105,12 @@ used_reached own us ends seeds (g ∷ path) f k a s below is h =
 -- what is marked from the seeds along the arrows are the dummy arguments that are used so
 pub marked_used : (own : ProgramUnit → List (List ℕ)) (us : ProgramUnits) (ends : List (List ℕ)) (seeds : List ℕ) (marks : List Bool) → ((from to : ℕ) → Leads ends from to ↔ ArePassed us from to) → ((m : ℕ) → IsIn m seeds ↔ IsSeed own us m)
     → ((j : ℕ) → IsMarked marks j ↔ IsReached ends seeds j) → AreUses own us marks
-marked_used own us ends seeds marks a s m = λ k x below among. (there k x below (formal_number (all_units us) k x) refl, λ used.
-    let at = used_reached own us ends seeds used.0 (record { unit = unit_at us k; formal = x }) k a s below refl used.1 in
-    subst (IsMarkedNumber marks) (sym at.1) ((m at.0).1 at.2))
+marked_used own us ends seeds marks a s m = λ k x below among. (
+  there k x below (formal_number (all_units us) k x) refl,
+  λ used.
+      let at = used_reached own us ends seeds used.0 (record { unit = unit_at us k; formal = x }) k a s below refl used.1 in
+      subst (IsMarkedNumber marks) (sym at.1) ((m at.0).1 at.2),
+)
   where
     there : (k : ℕ) (x : List ℕ) → k < length (all_units us) → (o : Option ℕ) → formal_number (all_units us) k x ≡ o → IsMarkedNumber marks (formal_number (all_units us) k x) → IsUsed own us (unit_at us k) x
     there k x below None e h = absurd (subst (IsMarkedNumber marks) e h)

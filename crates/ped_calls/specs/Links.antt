@@ -20,20 +20,25 @@ abbrev pub AreNamed : ProgramUnits → Type 0
 AreNamed us = (u : ProgramUnit) → IsIn u us.others → u.name ≡ [] → ⊥
 
 -- these are the units of a file, each subroutine with a name, and what their names stand for
-pub record AreUnitsWith (us : ProgramUnits) (units : List code.ProgramUnit) (tables : List Table) : Type 0 where
-  pub units : map program_unit_of units ≡ all_units us
+pub record AreUnitsWith (us : ProgramUnits) (given : List code.ProgramUnit) (known : List Table) : Type 0 where
+  pub units : map program_unit_of given ≡ all_units us
   pub named : AreNamed us
-  pub tables : AreTables (all_units us) tables
+  pub tables : AreTables (all_units us) known
 
 -- the first of the refusals by CALLs, or want of memory
 abbrev pub IsLinkRefusal : ProgramUnits → UnitRefusal → Type 0
 IsLinkRefusal us refusal.NoMemory = Unit {0}
 IsLinkRefusal us (refusal.At f) = (r : LinkRefusal) × (rule_of f.rule ≡ of_links r) × IsFirstLink us r f.line
 
+-- there is a number, and it is below this
+abbrev pub IsBelow : Option ℕ → ℕ → Type 0
+IsBelow None n = ⊥
+IsBelow (Some k) n = k < n
+
 -- the first unit of a name comes before this number
 abbrev pub HasEarlier : List ProgramUnit → Option (List ℕ) → ℕ → Type 0
 HasEarlier us None n = ⊥
-HasEarlier us (Some x) n = (k : ℕ) × (number_of_unit us x ≡ Some k) × (k < n)
+HasEarlier us (Some x) n = IsBelow (number_of_unit us x) n
 
 -- a rule of arguments stands at one of these lines
 abbrev pub StandsAtLines : List ℕ → LinkRefusal → ℕ → Type 0

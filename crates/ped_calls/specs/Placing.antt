@@ -46,7 +46,7 @@ private_lines formals lines [] = []
 private_lines formals lines (s ∷ rest) = private_line formals (next_line lines) s ++ private_lines formals (drop 1 lines) rest
 
 -- a walk goes over these sites, and finds these CALLs: from what was found and the lines to come before it to what is found and the lines to come behind it
-pub record Passes (formals : List (List ℕ)) (sites : List Site) (calls : List PlacedCall) (found : Found) (lines : List ℕ) (found_now : Found) (lines_now : List ℕ) : Type 0 where
+pub record Passes (formals : List (List ℕ)) (sites : List Site) (more : List PlacedCall) (found : Found) (lines : List ℕ) (found_now : Found) (lines_now : List ℕ) : Type 0 where
   pub over : lines_now ≡ drop (length sites) lines
-  pub calls : found_now.calls.items ≡ found.calls.items ++ calls
+  pub calls : found_now.calls.items ≡ found.calls.items ++ more
   pub private : found_now.private.items ≡ found.private.items ++ private_lines formals lines sites

@@ -1,6 +1,6 @@
 //! Whether the arguments of CALLs fit dummy arguments (ANSI X3.9-1978, section 15.9.3).
 
-ghost use Rattle.std.specs.Prelude.{◌≡◌, ◌↔◌, ◌⊎◌, ◌<◌, ◌≤◌, ◌+◌, ℕ, [], Some, None, IfOk, IsTrue, length, drop, get_or};
+ghost use Rattle.std.specs.Prelude.{◌≡◌, ◌↔◌, ◌⊎◌, ◌<◌, ◌≤◌, ◌+◌, ℕ, [], Some, None, is_some, IfOk, IsTrue, length, drop, get_or};
 ghost use Rattle.ped_base.specs.Lists as Lists;
 ghost use Rattle.ped_valid.specs.ped_symbols.specs.Entries.{entry_of};
 ghost use Rattle.ped_calls.specs.Units.{ProgramUnits};
@@ -14,7 +14,7 @@ use crate::formals::{Marks, lesser};
 use crate::placing::PlacedCall;
 use crate::refusals::{UnitFinding, UnitRule};
 use crate::scenes::Scene;
-use ped_base::{Name, NoMemory, is_among};
+use ped_base::{Bounds, Name, NoMemory, is_among};
 use ped_valid::ped_symbols::{Kind, Symbols};
 use std::alloc::Global;
 
@@ -52,7 +52,12 @@ fn misfits_in(
                 callee_table: &scene.tables[callee],
                 marks,
             };
-            found = standing(found, at.has_bad_arguments(), UnitRule::Arguments, call.line);
+            found = standing(
+                found,
+                at.has_bad_arguments(),
+                UnitRule::Arguments,
+                call.line,
+            );
             found = standing(found, at.is_aliased(), UnitRule::Aliased, call.line);
         }
     }
@@ -96,7 +101,7 @@ impl<'l> At<'l> {
         let index = self.marks.is_index(self.callee, formal);
         let around = &self.call.around;
         let kind = kind_of_argument(self.caller_table, argument);
-        is_other_kind(self.callee_table.kind(formal), kind, assigned)
+        is_other_kind(&self.callee_table.kind(formal), &kind, assigned)
             || (assigned && is_one_of(argument, around.variables.as_slice()))
             || (index && is_one_of(argument, around.private.as_slice()))
     }
@@ -129,7 +134,7 @@ impl<'l> At<'l> {
         requires formals { place < length self.now.formals.now }
         ensures { (us : ProgramUnits) (i : ℕ) → Spec.IsAt us i self.now
             → IsTrue result ↔ Spec.IsAliasedFirst us (unit_at us i) (unit_at us self.now.callee) (get_or self.now.formals.now place []) (get_or self.now.call.now.arguments place None)
-                (drop (place + 1) self.now.formals.now) (drop (place + 1) self.now.call.now.arguments) }
+            (drop (place + 1) self.now.formals.now) (drop (place + 1) self.now.call.now.arguments) }
     {
         match &self.call.arguments.as_slice()[place] {
             Some(name) if !is_constant(self.caller_table, name) => {
@@ -180,15 +185,51 @@ fn is_constant(table: &Symbols, name: &Name) -> bool
 
 /// Whether an argument that stands for this doesn't fit a dummy argument that stands for that: another array or none for an
 /// array, an array for a scalar, no scalar for one that is assigned.
-fn is_other_kind(formal: Option<Kind>, argument: Option<Kind>, assigned: bool) -> bool
-    ensures { IsTrue result ↔ Spec.IsOtherKind formal argument (IsTrue assigned) }
+fn is_other_kind(formal: &Option<Kind>, argument: &Option<Kind>, assigned: bool) -> bool
+    ensures { IsTrue result ↔ Spec.IsOtherKind formal.now argument.now (IsTrue assigned) }
 {
-    match (formal, argument) {
-        (Some(Kind::Array(bounds)), Some(Kind::Array(other))) => bounds != other,
-        (Some(Kind::Array(_)), _) => true,
-        (_, Some(Kind::Array(_))) => true,
-        (_, Some(Kind::Scalar)) => false,
-        (_, _) => assigned,
+    match formal {
+        Some(Kind::Array(bounds)) => !has_bounds(argument, bounds),
+        Some(Kind::Scalar) | Some(Kind::Constant(_)) | None => {
+            is_array(argument) || (assigned && !is_scalar(argument))
+        }
+    }
+}
+
+/// Whether this is an array with these bounds.
+fn has_bounds(kind: &Option<Kind>, bounds: &Bounds) -> bool
+    ensures { IsTrue result ↔ (Rules.bounds_by kind.now ≡ Some bounds.now) }
+{
+    match kind {
+        Some(Kind::Array(other)) => are_same(other, bounds),
+        Some(Kind::Scalar) | Some(Kind::Constant(_)) | None => false,
+    }
+}
+
+/// Whether bounds are the same, dimension by dimension.
+fn are_same(a: &Bounds, b: &Bounds) -> bool
+    ensures { IsTrue result ↔ (a.now ≡ b.now) }
+{
+    a.rank == b.rank && a.lower == b.lower && a.upper == b.upper
+}
+
+/// Whether this is an array.
+fn is_array(kind: &Option<Kind>) -> bool
+    ensures { result ≡ is_some (Rules.bounds_by kind.now) }
+{
+    match kind {
+        Some(Kind::Array(_)) => true,
+        Some(Kind::Scalar) | Some(Kind::Constant(_)) | None => false,
+    }
+}
+
+/// Whether this is a scalar variable.
+fn is_scalar(kind: &Option<Kind>) -> bool
+    ensures { result ≡ Rules.is_scalar kind.now }
+{
+    match kind {
+        Some(Kind::Scalar) => true,
+        Some(Kind::Array(_)) | Some(Kind::Constant(_)) | None => false,
     }
 }
 

@@ -21,10 +21,7 @@ pub fn standing(
 }
 
 /// The earlier one of two findings, where there are some.
-pub fn first_of_two(
-    found: Option<UnitFinding>,
-    other: Option<UnitFinding>,
-) -> Option<UnitFinding>
+pub fn first_of_two(found: Option<UnitFinding>, other: Option<UnitFinding>) -> Option<UnitFinding>
     ensures { result ≡ Spec.first_link_of found other }
 {
     match other {

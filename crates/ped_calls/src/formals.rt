@@ -239,7 +239,14 @@ fn add_passings(
     for call in calls {
         if let Some(callee) = scene.callee(&call.name) {
             let names = scene.units[callee].formals.as_slice();
-            add_passings_of(arrows, formals, unit, callee, names, call.arguments.as_slice())?;
+            add_passings_of(
+                arrows,
+                formals,
+                unit,
+                callee,
+                names,
+                call.arguments.as_slice(),
+            )?;
         }
     }
     Ok(())
@@ -277,11 +284,7 @@ pub fn lesser(a: usize, b: usize) -> usize
 }
 
 /// Adds an arrow, where both its ends are there.
-fn add_arrow(
-    arrows: &mut Arrows,
-    from: Option<usize>,
-    to: Option<usize>,
-) -> Result<(), NoMemory>
+fn add_arrow(arrows: &mut Arrows, from: Option<usize>, to: Option<usize>) -> Result<(), NoMemory>
     requires from { IfSome from (λ n. n < length (ends_of arrows.old)) }
     requires to { IfSome to (λ n. n < length (ends_of arrows.old)) }
     ensures wide { length (ends_of arrows.new) ≡ length (ends_of arrows.old) }

@@ -13,11 +13,10 @@ ghost use Rattle.ped_calls.specs.Placing.{placed_call};
 ghost use Rattle.ped_calls.specs.Scenes.{IsScene, AreWalked, AtHeads, AtPlaces};
 ghost use Rattle.ped_calls.specs.Views.{program_unit_of};
 
-pub use crate::numbering::unit_numbers;
-
 use crate::arguments::first_misfit;
 use crate::first_links::{first_of_two, standing};
 use crate::numbering::number_of;
+pub use crate::numbering::unit_numbers;
 use crate::placing::{Found, PlacedCall, placed_calls};
 use crate::recursion::first_recursion;
 use crate::refusals::{UnitFinding, UnitRefusal, UnitRule};
@@ -103,7 +102,7 @@ fn first_at_heads(alloc: Global, scene: &Scene) -> Result<Option<UnitFinding>, N
     let mut found = None;
     for number in 0..scene.units.len() {
         let unit = &scene.units[number];
-        let repeats = number > 0 && is_repeated(unit, number, scene.numbers);
+        let repeats = is_repeated(unit, number, scene.numbers);
         found = standing(found, repeats, UnitRule::NoUnit, unit.line);
         let twice = stands_twice(alloc, unit.formals.as_slice())?;
         found = standing(found, twice, UnitRule::Arguments, unit.line);
@@ -116,10 +115,17 @@ fn is_repeated(unit: &ProgramUnit, number: usize, numbers: &IndexMap<Name, usize
     ensures { (us : List PlainUnit) → AreNumbers us numbers.now.entries → IsTrue result ↔ Spec.HasEarlier us unit.now.name number }
 {
     match &unit.name {
-        Some(name) => match number_of(numbers, name) {
-            Some(first) => first < number,
-            None => false,
-        },
+        Some(name) => is_below(number_of(numbers, name), number),
+        None => false,
+    }
+}
+
+/// Whether there is a number, and it is below this.
+fn is_below(first: Option<usize>, number: usize) -> bool
+    ensures { IsTrue result ↔ Spec.IsBelow first number }
+{
+    match first {
+        Some(first) => first < number,
         None => false,
     }
 }

@@ -1,6 +1,6 @@
 //! Numbers by names: of the units of a file, and of dummy arguments in their list.
 
-ghost use Rattle.std.specs.Prelude.{◌≡◌, ◌↔◌, ℕ, List, map, IfOk, OnOk, IsTrue};
+ghost use Rattle.std.specs.Prelude.{◌≡◌, ◌↔◌, ◌<◌, ℕ, List, map, IfOk, IfSome, OnOk, IsTrue};
 ghost use Rattle.ped_valid.specs.ped_symbols.specs.Entries.{with_entry};
 ghost use Rattle.ped_calls.specs.Units.{ProgramUnit as PlainUnit};
 ghost use Rattle.ped_calls.specs.Numbers as Spec;
@@ -12,10 +12,7 @@ use ped_base::{Name, NoMemory};
 use std::alloc::Global;
 
 /// The number of the first subroutine of each name. The main program comes first, and has none.
-pub fn unit_numbers(
-    alloc: Global,
-    units: &[ProgramUnit],
-) -> Result<IndexMap<Name, usize>, NoMemory>
+pub fn unit_numbers(alloc: Global, units: &[ProgramUnit]) -> Result<IndexMap<Name, usize>, NoMemory>
     ensures { IfOk result (λ numbers. Spec.AreNumbers (map program_unit_of units.now) numbers.entries) }
 {
     let mut numbers = IndexMap::new(alloc);
@@ -83,5 +80,16 @@ pub fn is_marked(number: Option<usize>, marks: &[bool]) -> bool
     match number {
         Some(number) if number < marks.len() => marks[number],
         _ => false,
+    }
+}
+
+/// A number where it is below a bound, which such numbers are.
+pub fn below(number: Option<usize>, bound: usize) -> Option<usize>
+    ensures below { IfSome result (λ n. n < bound) }
+    ensures same { IfSome number (λ n. n < bound) → result ≡ number }
+{
+    match number {
+        Some(n) if n < bound => Some(n),
+        Some(_) | None => None,
     }
 }

@@ -8,7 +8,7 @@ ghost use Rattle.ped_tree.specs.Views.{expr_tree, decl_tree, stmt_tree, stmt_tre
 ghost use Rattle.ped_valid.specs.ped_symbols.specs.NameRefusals as Names;
 ghost use Rattle.ped_valid.specs.ped_symbols.specs.Sites.{stmt_sites, stmts_sites, decl_sites, private_site, program_sites};
 ghost use Rattle.ped_calls.specs.Forms.{Called};
-ghost use Rattle.ped_calls.specs.Units.{called_in};
+ghost use Rattle.ped_calls.specs.Units.{call_of, called_in};
 ghost use Rattle.ped_calls.specs.Linking.{calls_of, calls_in, all_calls_in};
 ghost use Rattle.ped_calls.specs.Placing.{around_of, argument_name, call_here, placed_call, private_lines, Passes};
 ghost use Rattle.ped_calls.specs.Views.{program_unit_of};
@@ -203,8 +203,27 @@ impl<'l> Walk<'l> {
         Ok(())
     }
 
-    /// Adds the CALL with this name and these arguments, where it is one.
+    /// Adds the CALL that an assignment with these sides is, where it is one.
     fn add_call(
+        &mut self,
+        alloc: Global,
+        around: &Around,
+        line: u64,
+        left: &Expr,
+        right: &Expr,
+    ) -> Result<(), NoMemory>
+        ensures calls { OnOk result (self.new.found.calls.items ≡ self.old.found.calls.items ++ call_here around.now line (call_of (expr_tree left.now) (expr_tree right.now))) }
+        ensures private { OnOk result (self.new.found.private ≡ self.old.found.private) }
+        ensures lines { OnOk result (self.new.lines.now ≡ self.old.lines.now) }
+    {
+        match left {
+            Expr::Int(_) => self.add_called(alloc, around, line, right),
+            _ => Ok(()),
+        }
+    }
+
+    /// Adds the CALL with this name and these arguments, where it is one.
+    fn add_called(
         &mut self,
         alloc: Global,
         around: &Around,
@@ -290,14 +309,11 @@ fn pass(
             let within = around.within(alloc, &d.variable, d.private.as_slice(), d.parallel)?;
             pass_all(alloc, formals, &within, walk, &d.body)
         }
-        Stmt::Assign {
-            left: Expr::Int(_),
-            right,
-        } => {
+        Stmt::Assign { left, right } => {
             let line = walk.next_line();
-            walk.add_call(alloc, around, line, right)
+            walk.add_call(alloc, around, line, left, right)
         }
-        Stmt::Assign { .. } | Stmt::Print(_) | Stmt::Read(_) | Stmt::Stop => {
+        Stmt::Print(_) | Stmt::Read(_) | Stmt::Stop => {
             walk.next_line();
             Ok(())
         }

@@ -101,11 +101,7 @@ fn falses(alloc: Global, count: usize) -> Result<Vec<bool>, NoMemory>
 }
 
 /// Marks numbers, and has those wait that were not marked.
-fn add_all(
-    marks: &mut [bool],
-    waiting: &mut Vec<usize>,
-    numbers: &[usize],
-) -> Result<(), NoMemory>
+fn add_all(marks: &mut [bool], waiting: &mut Vec<usize>, numbers: &[usize]) -> Result<(), NoMemory>
     requires { AreBelow (length marks.old) numbers.now }
     ensures { OnOk result (AreAdded numbers.now marks.old waiting.old.items marks.new waiting.new.items) }
 {

@@ -124,7 +124,7 @@ fn add_caller(arrows: &mut Arrows, unit: usize, callee: Option<usize>) -> Result
     requires callee { IfSome callee (λ k. k < length (ends_of arrows.old)) }
     requires unit { unit < length (ends_of arrows.old) }
     ensures wide { length (ends_of arrows.new) ≡ length (ends_of arrows.old) }
-    ensures added { OnOk result ((k i : ℕ) → Leads (ends_of arrows.new) k i ↔ (Leads (ends_of arrows.old) k i ⊎ ((i ≡ unit) × (callee ≡ Some k)))) }
+    ensures added { OnOk result ((k i : ℕ) → Leads (ends_of arrows.new) k i ↔ (Leads (ends_of arrows.old) k i ⊎ ((callee ≡ Some k) × (Some unit ≡ Some i)))) }
 {
     match callee {
         Some(callee) => arrows.add(callee, unit),

@@ -2,7 +2,7 @@
 
 ghost use Rattle.std.specs.Prelude.{◌≡◌, length};
 
-use crate::numbering::number_of;
+use crate::numbering::{below, number_of};
 use crate::placing::Found;
 use crate::units::ProgramUnit;
 use indexmap::IndexMap;
@@ -35,9 +35,6 @@ impl<'u> Scene<'u> {
         ensures below { IfSome result (λ k. k < length self.now.units.now) }
         ensures number { (us : ProgramUnits) → IsScene us self.now → result ≡ number_of_unit (all_units us) name.now }
     {
-        match number_of(self.numbers, name) {
-            Some(number) if number < self.units.len() => Some(number),
-            _ => None,
-        }
+        below(number_of(self.numbers, name), self.units.len())
     }
 }

@@ -9,6 +9,9 @@ use Rattle.ped_base.specs.Lists.{has_some, is_same_text, is_among}
 use Rattle.ped_base.proofs.NameEquality.{same_is}
 use Rattle.ped_session.specs.ped_tree.specs.Tree.{ExprTree, ExprTrees, Int, Var, Element, Neg, Add, Sub, Mul, Div, Pow, Call, no_exprs, more_exprs, CondTree, Rel, Not, And, Or, ItemTree, Value, Text, Head, StmtTree, StmtTrees, Assign, If, Do, Print, Read, Stop, Comment, no_stmts, more_stmts, BoundTree, DeclaratorTree, DeclTree, Program, Implicit, Integer, Dimension, Parameter, Save, Remark, ProgramTree}
 use Rattle.ped_session.specs.ped_tree.specs.Numbering.{statement_count, statements_count}
+use Rattle.ped_session.specs.ped_tree.specs.Printing.{decl_text}
+use Rattle.ped_session.specs.ped_tree.specs.Grammar.LimitNumbers.{most_characters}
+use Rattle.ped_session.specs.ped_tree.specs.Grammar.ProgramRefusals.{is_out_of_order}
 use Rattle.ped_session.specs.ped_tree.specs.Grammar.Words.{is_name}
 use Rattle.ped_session.specs.ped_tree.specs.Grammar.StatementForms.{are_names}
 use Rattle.ped_session.specs.ped_tree.specs.Grammar.Contexts.{decl_rank}
@@ -129,7 +132,7 @@ loop_named p h body f =
     let first = and_parts _ (expr_fits h.first) last.0 in
     let variable = and_parts _ (is_name h.variable) first.0 in
     let behind = expr_uses h.first ++ expr_uses h.last ++ expr_uses h.step in
-    let bounds = both_named (expr_uses h.first) (expr_uses h.last ++ expr_uses h.step) (expr_named h.first first.1) (both_named (expr_uses h.last) (expr_uses h.step) (expr_named h.last last.1) (expr_named h.step step.1)) in (
+    let bounds = both_named (expr_uses h.first ++ expr_uses h.last) (expr_uses h.step) (both_named (expr_uses h.first) (expr_uses h.last) (expr_named h.first first.1) (expr_named h.last last.1)) (expr_named h.step step.1) in (
       both_named (map (used_as Rejected) h.rejected) (used_as Index h.variable ∷ behind) (names_named Rejected h.rejected rejected.1) (first_named Index h.variable behind variable.1 bounds),
       private_named h.private _ _ alone.1,
     )
@@ -197,21 +200,27 @@ decl_named (Parameter values) h =
 decl_named (Save names) h = first_site (declaration (Save names)) [] (names_named Saved names (and_parts (has_some names) (list_all is_name names) h).1) refl
 decl_named (Remark text) h = refl
 
-front_named : (d : DeclTree) (ds : List DeclTree) (a b : Bool) → ((decl_fits d && a && b) && decls_fit (decl_rank d) ds) ≡ true
+-- a declaration that is no comment, and those behind it
+abbrev BeginFit : ℕ → DeclTree → List DeclTree → Type 0
+BeginFit phase d ds = (decl_fits d && leb (length (decl_text d)) most_characters && not (is_out_of_order phase (decl_rank d)) && decls_fit (decl_rank d) ds) ≡ true
+
+front_named : (phase : ℕ) (d : DeclTree) (ds : List DeclTree) → BeginFit phase d ds
     → (decls_fit (decl_rank d) ds ≡ true → AreNamedSites (flat_map decl_sites ds)) → AreNamedSites (decl_sites d ++ flat_map decl_sites ds)
-front_named d ds a b h more =
-    let k = and_parts (decl_fits d && a && b) (decls_fit (decl_rank d) ds) h in
-    both_sites (decl_sites d) (flat_map decl_sites ds) (decl_named d (and_parts (decl_fits d) a (and_parts (decl_fits d && a) b k.0).0).0) (more k.1)
+front_named phase d ds h more =
+    let short = leb (length (decl_text d)) most_characters in
+    let ordered = not (is_out_of_order phase (decl_rank d)) in
+    let k = and_parts (decl_fits d && short && ordered) (decls_fit (decl_rank d) ds) h in
+    both_sites (decl_sites d) (flat_map decl_sites ds) (decl_named d (and_parts (decl_fits d) short (and_parts (decl_fits d && short) ordered k.0).0).0) (more k.1)
 
 decls_named : (phase : ℕ) (ds : List DeclTree) → decls_fit phase ds ≡ true → AreNamedSites (flat_map decl_sites ds)
 decls_named phase [] h = refl
 decls_named phase (Remark text ∷ ds) h = decls_named phase ds (and_parts _ (decls_fit phase ds) h).1
-decls_named phase (Program x ∷ ds) h = front_named (Program x) ds _ _ h (decls_named (decl_rank (Program x)) ds)
-decls_named phase (Implicit ∷ ds) h = front_named Implicit ds _ _ h (decls_named (decl_rank Implicit) ds)
-decls_named phase (Integer es ∷ ds) h = front_named (Integer es) ds _ _ h (decls_named (decl_rank (Integer es)) ds)
-decls_named phase (Dimension es ∷ ds) h = front_named (Dimension es) ds _ _ h (decls_named (decl_rank (Dimension es)) ds)
-decls_named phase (Parameter values ∷ ds) h = front_named (Parameter values) ds _ _ h (decls_named (decl_rank (Parameter values)) ds)
-decls_named phase (Save names ∷ ds) h = front_named (Save names) ds _ _ h (decls_named (decl_rank (Save names)) ds)
+decls_named phase (Program x ∷ ds) h = front_named phase (Program x) ds h (decls_named (decl_rank (Program x)) ds)
+decls_named phase (Implicit ∷ ds) h = front_named phase Implicit ds h (decls_named (decl_rank Implicit) ds)
+decls_named phase (Integer es ∷ ds) h = front_named phase (Integer es) ds h (decls_named (decl_rank (Integer es)) ds)
+decls_named phase (Dimension es ∷ ds) h = front_named phase (Dimension es) ds h (decls_named (decl_rank (Dimension es)) ds)
+decls_named phase (Parameter values ∷ ds) h = front_named phase (Parameter values) ds h (decls_named (decl_rank (Parameter values)) ds)
+decls_named phase (Save names ∷ ds) h = front_named phase (Save names) ds h (decls_named (decl_rank (Save names)) ds)
 
 -- so all that occur in a program are
 program_named : (t : ProgramTree) → fits t ≡ true → list_all is_name (names_at (program_sites t)) ≡ true

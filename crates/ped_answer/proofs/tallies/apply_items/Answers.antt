@@ -1,4 +1,4 @@
-use Rattle.std.proofs.Common.{◌≡◌, ◌∙◌, ◌+◌, ◌≤◌, ℕ, List, refl, ap, sym, subst, arith, Option, take}
+use Rattle.std.proofs.Common.{◌≡◌, ◌∙◌, ◌+◌, ◌≤◌, refl, ap, sym, subst, arith, Option, take}
 use Rattle.ped_session.specs.ped_transformations.specs.ped_script.specs.declared.items.Command.{Command}
 use Rattle.ped_session.specs.States.{State}
 use Rattle.ped_answer.specs.declared.tallies.Tally as code
@@ -8,8 +8,8 @@ use Rattle.ped_answer.proofs.Tallying.{one_applies, item_within, items_more, ite
 use Rattle.ped_answer.proofs.tallies.apply_items.Goals.{in-Some+in_ok-apply_command-in-Some, in-None}
 use Rattle.ped_answer.proofs.tallies.apply_items.Goals as goal
 
-pub apply_command-in-Some-requires-clause-other : goal.apply_command-in-Some-requires-clause-other
-apply_command-in-Some-requires-clause-other g c =
+pub apply_command-requires-in-Some-clause-other : goal.apply_command-requires-in-Some-clause-other
+apply_command-requires-in-Some-clause-other g c =
     item_no_auto c.args.items.now c.loop-item.item-index c.item-item.result _ c.requires (let h = c.loop-item-test.true in omega (arith, h)) c.item-item.is c.in-Some.is
 
 pub returns-in_err-apply_command-in-Some-clause-most :

@@ -1,6 +1,5 @@
-use Rattle.std.proofs.Common.{◌≡◌, ◌+◌, ◌≤◌, ℕ, List, [], ◌∷◌, ◌++◌, Option, Some, None, true, length, take, refl, sym, ap, subst, ◌∙◌, arith, take_all}
+use Rattle.std.proofs.Common.{◌≡◌, ◌+◌, ◌≤◌, ℕ, List, [], ◌∷◌, ◌++◌, Option, Some, None, Bool, true, false, not, is_some, length, take, refl, sym, ap, subst, ◌∙◌, arith, take_all}
 use Rattle.std.proofs.lemmas.Grind.{common_steps}
-use Rattle.std.specs.Prelude.{is_none}
 use Rattle.ped_calls.specs.Units.{all_units}
 use Rattle.ped_calls.specs.Linking.{NoUnit, CallPlace}
 use Rattle.ped_calls.specs.FirstLinks.{IsFirstOf, standing_link}
@@ -11,12 +10,13 @@ use Rattle.ped_calls.specs.declared.refusals.UnitRule.TheVariants as rule
 use Rattle.ped_calls.proofs.CallSteps.{no_places_called, first_two_more}
 use Rattle.ped_calls.proofs.linking.at_calls.Goals as goal
 
-none_is : (o : Option ℕ) → is_none o ≡ true → o ≡ None
+none_is : (o : Option ℕ) → is_some o ≡ false → o ≡ None
 none_is None h = refl
 none_is (Some n) h = absurd cc
 
-is_none_of : (o : Option ℕ) → o ≡ None → is_none o ≡ true
-is_none_of o h = ap is_none h
+is_test : (b : Bool) → not b ≡ false → b ≡ true
+is_test true h = refl
+is_test false h = absurd cc
 
 pub loop-call-init : goal.loop-call-init
 loop-call-init c us scene = no_places_called (all_units us)
@@ -29,10 +29,10 @@ loop-call-preserved c us scene =
     let more : take (i + 1) all ≡ take i all ++ call ∷ [] = grind (arith, common_steps) in
     let named = c.callee.ensures.number us scene in
     let test = c.is_none-calls_none.result in
-    let none : test ≡ is_none c.callee.result = c.is_none-calls_none.ensures in
-    subst (IsFirstOf (StandsAtPlaces (all_units us) (take (i + 1) all))) (sym (c.standing-found-2.ensures ∙ ap (λ (o : Option UnitFinding). standing_link o call.around.parallel rule.CallPlace call.line) c.standing-found.ensures))
+    let none : is_some c.callee.result ≡ not test = c.is_none-calls_none.ensures in
+    subst (IsFirstOf (StandsAtPlaces (all_units us) (take (i + 1) all))) (sym (c.standing-found-in-loop-call.ensures ∙ ap (λ (o : Option UnitFinding). standing_link o call.around.parallel rule.CallPlace call.line) c.standing-found.ensures))
     (first_two_more (take i all) (take (i + 1) all) call NoUnit CallPlace rule.NoUnit rule.CallPlace (CallsNone (all_units us)) IsParallel c.loop-call.found test call.around.parallel more refl refl (c.loop-call.invariant us scene)
-        (λ t. sym named ∙ none_is c.callee.result (sym none ∙ t)) (λ h. none ∙ is_none_of c.callee.result (named ∙ h)) (λ t. t) (λ h. h))
+    (λ t. sym named ∙ none_is c.callee.result (none ∙ ap not t)) (λ h. is_test test (sym none ∙ ap is_some (named ∙ h))) (λ t. t) (λ h. h))
 
 pub returns : goal.returns
 returns c us scene =

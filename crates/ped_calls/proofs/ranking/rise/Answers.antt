@@ -18,8 +18,10 @@ returns-then-not-rise_from c =
     (λ h. absurd (no_truth h), λ rise. absurd (no_truth (sym c.if-not-rise_from.true ∙ c.rise_from.ensures.1 (rise_to_all c.args.ranks.now c.loop-from.from c.ends.result.now (λ j i. rise c.loop-from.from j (subst (λ (ns : List ℕ). IsIn j ns) c.ends.ensures.ends i))))))
 
 pub returns : goal.returns
-returns c =
-    (λ h i j l.
-        let within = leads_within (ends_of c.args.arrows.now) i j l in
-        let below : i < c.loop-from.from = omega (arith, within, c.count-from-end.ensures, c.loop-from-test.false) in
-        rise_to c.args.ranks.now i j (get_or (ends_of c.args.arrows.now) i []) (c.loop-from.invariant i below) l, λ r. refl)
+returns c = (
+  λ h i j l.
+      let within = leads_within (ends_of c.args.arrows.now) i j l in
+      let below : i < c.loop-from.from = omega (arith, within, c.count-from-end.ensures, c.loop-from-test.false) in
+      rise_to c.args.ranks.now i j (get_or (ends_of c.args.arrows.now) i []) (c.loop-from.invariant i below) l,
+  λ r. refl,
+)

@@ -23,7 +23,7 @@ loop-call-preserved c us scene =
     let named = c.callee.ensures.number us scene in
     subst (IsFirstOf (StandsAtCalls (take (i + 1) all) Recursion (CallsMarked (all_units us) leading))) (sym c.standing-found.ensures)
     (first_more (take i all) (take (i + 1) all) call Recursion rule.Recursion (CallsMarked (all_units us) leading) c.loop-call.found c.is_marked-leads.result more refl (c.loop-call.invariant us scene)
-        (λ t. subst (IsMarkedNumber leading) named (c.is_marked-leads.ensures.0 t)) (λ h. c.is_marked-leads.ensures.1 (subst (IsMarkedNumber leading) (sym named) h)))
+    (λ t. subst (IsMarkedNumber leading) named (c.is_marked-leads.ensures.0 t)) (λ h. c.is_marked-leads.ensures.1 (subst (IsMarkedNumber leading) (sym named) h)))
 
 pub returns : goal.returns
 returns c us scene =

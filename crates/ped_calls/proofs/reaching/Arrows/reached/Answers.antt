@@ -35,7 +35,7 @@ loop-number-init c =
     let len : old.len ≡ length old.items = omega (arith, old.ok.0) in
     subst (λ (ms : List Bool). IsSearch all c.args.seeds.now ms c.add_all.new.waiting.items) (sym (written_back old.len new old.items len (added.wide ∙ marks)))
     (search_begins all c.args.seeds.now c.deref_mut.result.now new c.new-waiting.result.items c.add_all.new.waiting.items wide
-        (λ j m. no_marks c.len.result j (subst (λ (ms : List Bool). IsMarked ms j) (same ∙ c.in_ok-marks.ensures) m)) c.new-waiting.ensures.items added)
+    (λ j m. no_marks c.len.result j (subst (λ (ms : List Bool). IsMarked ms j) (same ∙ c.in_ok-marks.ensures) m)) c.new-waiting.ensures.items added)
 
 pub ends-requires : goal.ends-requires
 ends-requires c =

@@ -6,3 +6,6 @@ mod AlikeRuns
 mod OpenedRuns
 mod InlinedShape
 mod InlineKeeps
+mod InlinedTidy
+mod OneToOne
+mod InlineLawful

@@ -1,5 +1,6 @@
 -- Runs that end alike and make the same accesses, whatever acts they do that touch nothing.
-use Rattle.std.proofs.Common.{◌≡◌, ℕ, zero, suc, ◌+◌, List, [], ◌∷◌, ◌++◌, Bool, true, false, Ok, Err, Result, if◌then◌else◌, refl, sym, ap, subst, ◌∙◌}
+use Rattle.std.proofs.Common.{◌≡◌, ℕ, zero, suc, ◌+◌, List, [], ◌∷◌, ◌++◌, Bool, true, false, Ok, Err, if◌then◌else◌, refl, sym, ap, subst, ◌∙◌}
+use Rattle.std.specs.Prelude.{Result}
 use Rattle.std.proofs.lemmas.Grind.{flat_map-append}
 use Rattle.ped_tree.specs.Tree.{CondTree, Head, StmtTrees}
 use Rattle.ped_tree.specs.NamesIn.{all_loop_variables}
@@ -14,11 +15,11 @@ use Rattle.ped_splits.specs.ped_reindex.specs.ped_loops.specs.ped_scalar.specs.p
 
 -- two runs end alike and make the same accesses
 pub record AreAlike (r w : Run) : Type 0 where
-  pub accesses : accesses r.acts ≡ accesses w.acts
+  pub made : accesses r.acts ≡ accesses w.acts
   pub ending : r.ending ≡ w.ending
 
 pub alike_itself : (r : Run) → AreAlike r r
-alike_itself r = record { accesses = refl; ending = refl }
+alike_itself r = record { made = refl; ending = refl }
 
 pub alike_same : (r w : Run) → r ≡ w → AreAlike r w
 alike_same r w e = subst (AreAlike r) e (alike_itself r)
@@ -29,11 +30,11 @@ then_alike r w next other a more = subst (λ (e : Ending). AreAlike (followed_by
   where
     by : (d : Ending) → AreAlike (followed_by r.acts d next) (followed_by w.acts d other)
     by (going s) = record {
-      accesses = flat_map-append accesses_of r.acts (next s).acts ∙ (λ i. a.accesses i ++ (more s).accesses i) ∙ sym (flat_map-append accesses_of w.acts (other s).acts);
+      made = flat_map-append accesses_of r.acts (next s).acts ∙ (λ i. a.made i ++ (more s).made i) ∙ sym (flat_map-append accesses_of w.acts (other s).acts);
       ending = (more s).ending;
     }
-    by (stopped s) = record { accesses = a.accesses; ending = refl }
-    by (failed fault n) = record { accesses = a.accesses; ending = refl }
+    by (stopped s) = record { made = a.made; ending = refl }
+    by (failed fault n) = record { made = a.made; ending = refl }
 
 pub does_alike : (step : Step) (at : Place) (touches : List Touch) (next other : Store → Run) → ((s : Store) → AreAlike (next s) (other s)) → (s : Store) → AreAlike (does step at touches next s) (does step at touches other s)
 does_alike step at touches next other more s =

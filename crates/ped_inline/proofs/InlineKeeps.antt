@@ -133,7 +133,7 @@ module _ (t : ProgramTree) (s : ℕ) (body : StmtTrees) (b : IsBlock t s body) w
           ∙ ap (outcome_of u) alike.ending ∙ shown_alike t u saved (λ y among. inlined_kinds y) (run_of t data_bytes).ending
 
       new_free : HasNoRace (accesses (run_of u data_bytes).acts)
-      new_free = no_race_back (opened_at s) (closed_up s) told (run_of u data_bytes).acts (run_all q u.body 1 [] start).acts moved.acts (subst HasNoRace (sym alike.accesses) free.1)
+      new_free = no_race_back (opened_at s) (closed_up s) told (run_of u data_bytes).acts (run_all q u.body 1 [] start).acts moved.acts (subst HasNoRace (sym alike.made) free.1)
 
   pub inlined_keeps : Keeps t (inlined t s)
   inlined_keeps =

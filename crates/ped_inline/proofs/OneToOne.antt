@@ -1,6 +1,6 @@
 -- The statements that `inline` keeps stand one to one.
-use Rattle.std.proofs.Common.{◌≡◌, ℕ, suc, ◌+◌, ◌-◌, ◌<◌, length, map, get_or, List, refl, sym, ap, ◌∙◌, arith}
-use Rattle.std.specs.Prelude.{nat_lt, Bool, true, false, if◌then◌else◌}
+use Rattle.std.proofs.Common.{◌≡◌, ℕ, suc, ◌+◌, ◌-◌, ◌<◌, length, map, get_or, Bool, true, false, List, refl, sym, ap, ◌∙◌, arith}
+use Rattle.std.specs.Prelude.{nat_lt, if◌then◌else◌}
 use Rattle.std.specs.List.{range_with_len}
 use Rattle.std.proofs.lemmas.Bool.{lt-ltb, ltb-true}
 use Rattle.std.proofs.lemmas.List.FromFn.{get_or-map-range_with_len, length-map-range_with_len}
@@ -14,10 +14,10 @@ opened_grows : (l m n : ℕ) → m < n → opened_at l m < opened_at l n
 opened_grows l m n less = by (nat_lt m l) (nat_lt n l) refl refl
   where
     by : (a b : Bool) → nat_lt m l ≡ a → nat_lt n l ≡ b → (if nat_lt m l then m else suc m) < (if nat_lt n l then n else suc n)
-    by true true e f = omega (arith, (ap (λ (b : Bool). if b then m else suc m) e), (ap (λ (b : Bool). if b then n else suc n) f), less)
-    by true false e f = omega (arith, (ap (λ (b : Bool). if b then m else suc m) e), (ap (λ (b : Bool). if b then n else suc n) f), less)
+    by true true e f = let p = ap (λ (b : Bool). if b then m else suc m) e in let q = ap (λ (b : Bool). if b then n else suc n) f in omega (arith, p, q, less)
+    by true false e f = let p = ap (λ (b : Bool). if b then m else suc m) e in let q = ap (λ (b : Bool). if b then n else suc n) f in omega (arith, p, q, less)
     by false true e f = let low = ltb-true n l f in let wrong : true ≡ false = sym (lt-ltb m l (omega (arith, low, less))) ∙ e in absurd cc
-    by false false e f = omega (arith, (ap (λ (b : Bool). if b then m else suc m) e), (ap (λ (b : Bool). if b then n else suc n) f), less)
+    by false false e f = let p = ap (λ (b : Bool). if b then m else suc m) e in let q = ap (λ (b : Bool). if b then n else suc n) f in omega (arith, p, q, less)
 
 module _ (l : ℕ) where
   abbrev pair : ℕ → ℕ × ℕ

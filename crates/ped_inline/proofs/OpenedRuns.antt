@@ -78,9 +78,6 @@ module _ (p : Setting) (l : ℕ) (text : List ℕ) (ts : StmtTrees) where
   above : (ss : StmtTrees) (n m : ℕ) (scope : Scope) → l ≤ n → m ≡ n + 1 → run_all q ss n scope ≡ run_all p ss m scope
   above ss n m scope h e = all_same q p refl refl ss n m scope (λ k less. ap p.number (opened_above l (n + k) (omega (arith, h)) ∙ omega (arith, e)))
 
-  block_count : statement_count block ≡ statements_count ts + 1
-  block_count = omega arith
-
   more_count : (gap : Gap) → statements_count (filled gap (alone block)) ≡ statements_count (filled gap ts) + 1
   more_count gap = let e = count_filled (alone block) ts gap in omega (arith, e)
 
@@ -94,7 +91,7 @@ module _ (p : Setting) (l : ℕ) (text : List ℕ) (ts : StmtTrees) where
   opened_block : (scope : Scope) (s : Store) → AreAlike (run_all q ts l scope s) (run p block l scope s)
   opened_block scope s =
       let same = above ts l (l + 1 + 0) scope (omega arith) (omega arith) in
-      record { accesses = ap (λ (f : Store → Run). accesses (f s).acts) same; ending = ap (λ (f : Store → Run). (f s).ending) same }
+      record { made = ap (λ (f : Store → Run). accesses (f s).acts) same; ending = ap (λ (f : Store → Run). (f s).ending) same }
 
   -- a DO before the block counts as before
   same_do : (n : ℕ) (scope : Scope) (h : Head) (ss : StmtTrees) (body : Frame → Store → Run) → n < l → run_do q n scope h ss body ≡ run_do p n scope h ss body

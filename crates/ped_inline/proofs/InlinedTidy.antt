@@ -47,6 +47,18 @@ or_true : (a : Bool) → ((a || true) && true) ≡ true
 or_true true = refl
 or_true false = refl
 
+-- numbers that are told apart alike
+holds : (x y : ℕ) → x ≡ y → (x == y) ≡ true
+holds x y e = ap (λ (z : ℕ). x == z) (sym e) ∙ grind (arith, eqb-true)
+
+same_test : (a b c d : ℕ) → (a ≡ b → c ≡ d) → (c ≡ d → a ≡ b) → (a == b) ≡ (c == d)
+same_test a b c d f g = by (a == b) (c == d) refl refl
+  where
+    by : (p q : Bool) → (a == b) ≡ p → (c == d) ≡ q → (a == b) ≡ (c == d)
+    by true q e h = e ∙ sym (holds c d (f (eqb-true a b e)))
+    by false true e h = holds a b (g (eqb-true c d h)) ∙ sym h
+    by false false e h = e ∙ sym h
+
 -- comments at the front are on no path
 front_behind : (cs : List (List ℕ)) (w : List ℕ) (m : ℕ) (ss : StmtTrees) (n : ℕ) → sum_behind_all cs w m (behind_comments ss) n ≡ sum_behind_all cs w m ss n
 front_behind cs w m no_stmts n = refl
@@ -85,21 +97,24 @@ module _ (cs : List (List ℕ)) (text : List ℕ) (ts : StmtTrees) (w : List ℕ
       where
         by : ((m < s) × (k ≡ m)) ⊎ ((s ≤ m) × (k ≡ suc m)) → (m == i) ≡ (k == i)
         by (inl p) = ap (λ (z : ℕ). z == i) (sym p.1)
-        by (inr p) = let a = p.0 in let e = p.1 in grind (arith, eqb-true, a, e, low)
+        by (inr p) = let a = p.0 in let e = p.1 in same_test m i k i (λ x. omega (arith, a, e, low, x)) (λ x. omega (arith, a, e, low, x))
+
+    old_count : statements_count old ≡ statements_count ts + 1
+    old_count = omega arith
 
     behind : (i : ℕ) → (m == s + statements_count ts + i) ≡ (k == s + statements_count old + i)
-    behind i = by numbered
+    behind i = by numbered ∙ ap (λ (z : ℕ). k == s + z + i) (sym old_count)
       where
-        by : ((m < s) × (k ≡ m)) ⊎ ((s ≤ m) × (k ≡ suc m)) → (m == s + statements_count ts + i) ≡ (k == s + statements_count old + i)
-        by (inl p) = let a = p.0 in let e = p.1 in grind (arith, eqb-true, a, e)
-        by (inr p) = let a = p.0 in let e = p.1 in grind (arith, eqb-true, a, e)
+        by : ((m < s) × (k ≡ m)) ⊎ ((s ≤ m) × (k ≡ suc m)) → (m == s + statements_count ts + i) ≡ (k == s + (statements_count ts + 1) + i)
+        by (inl p) = let a = p.0 in let e = p.1 in same_test m (s + statements_count ts + i) k (s + (statements_count ts + 1) + i) (λ x. omega (arith, a, e, x)) (λ x. omega (arith, a, e, x))
+        by (inr p) = let a = p.0 in let e = p.1 in same_test m (s + statements_count ts + i) k (s + (statements_count ts + 1) + i) (λ x. omega (arith, a, e, x)) (λ x. omega (arith, a, e, x))
 
     inside : IsPlaced m s k (s + 1 + 0) (statements_count ts)
     inside i low = by numbered
       where
         by : ((m < s) × (k ≡ m)) ⊎ ((s ≤ m) × (k ≡ suc m)) → (m == s + i) ≡ (k == s + 1 + 0 + i)
-        by (inl p) = let a = p.0 in let e = p.1 in grind (arith, eqb-true, a, e)
-        by (inr p) = let a = p.0 in let e = p.1 in grind (arith, eqb-true, a, e)
+        by (inl p) = let a = p.0 in let e = p.1 in same_test m (s + i) k (s + 1 + 0 + i) (λ x. omega (arith, a, e, x)) (λ x. omega (arith, a, e, x))
+        by (inr p) = let a = p.0 in let e = p.1 in same_test m (s + i) k (s + 1 + 0 + i) (λ x. omega (arith, a, e, x)) (λ x. omega (arith, a, e, x))
 
     here : IsNoMore (sum_behind_all cs w m ts s) (sum_behind_all cs w k old s)
     here =

@@ -1,5 +1,6 @@
 mod Settled
 mod SettledPrograms
+mod BlockAnswers
 mod InlineRules
 mod InlineAnswers
 mod AlikeRuns

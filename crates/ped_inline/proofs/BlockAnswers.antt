@@ -1,0 +1,16 @@
+-- A marked block, as the code looks at its parts.
+use Rattle.std.proofs.Common.{◌≡◌, List, [], ◌∷◌, length, None, refl, if◌then◌else◌, arith}
+use Rattle.ped_tree.specs.Tree.{CondTree, StmtTrees, If}
+use Rattle.ped_tree.specs.Views.{stmt_trees}
+use Rattle.ped_tree.specs.declared.statements.Stmt.{Stmt}
+use Rattle.ped_inline.specs.Blocks.{is_always, behind_call, block_body}
+
+-- with an ELSE
+pub with_else : (c : CondTree) (a : StmtTrees) (es : List Stmt) → (length es ≡ 0 → ⊥) → block_body (If c a (stmt_trees es)) ≡ None
+with_else c a [] h = absurd (h refl)
+with_else c a (e ∷ es) h = refl
+
+-- without one
+pub without_else : (c : CondTree) (a : StmtTrees) (es : List Stmt) → length es ≡ 0 → block_body (If c a (stmt_trees es)) ≡ (if is_always c then behind_call a else None)
+without_else c a [] h = refl
+without_else c a (e ∷ es) h = absurd (omega (arith, h))

@@ -71,7 +71,8 @@ module _ (body other : Frame → Store → Run) (alike : (f : Frame) (s : Store)
   parallel_alike (suc n) k e s = then_alike (body (frame e k) s) (other (frame e k) s) (parallel_turns n (k + 1) e body) (parallel_turns n (k + 1) e other) (alike (frame e k) s) (parallel_alike n (k + 1) e)
 
   entered_alike : (parallel : Bool) (n : ℕ) (e : Entered) (scope : Scope) (at : Place) (s : Store) → AreAlike (run_entered parallel n e scope at body s) (run_entered parallel n e scope at other s)
-  entered_alike parallel zero e scope at s = alike_itself (nothing_done s)
+  entered_alike false zero e scope at s = alike_itself (nothing_done s)
+  entered_alike true zero e scope at s = alike_itself (nothing_done s)
   entered_alike false (suc n) e scope at s = turns_alike (suc n) 1 e scope at s
   entered_alike true (suc n) e scope at s =
       let leaves : Store → Run = does closed at (exit_touches e scope) nothing_done in
@@ -86,14 +87,12 @@ module _ (body other : Frame → Store → Run) (alike : (f : Frame) (s : Store)
     entered_same seen l = ap (λ (names : List (List ℕ)). record (entered_with p n h ss seen l) { inner = names }) (inner_same h.parallel)
 
     pub do_alike : (s : Store) → AreAlike (run_do p n scope h ss body s) (run_do p n scope h us other s)
-    do_alike s = on_alike (place_of p n scope) (limits (names_in p scope) h s) (λ seen l. from ss body seen l) (λ seen l. from us other seen l) each
-      where
-        from : StmtTrees → (Frame → Store → Run) → List Seen → Limits → Run
-        from statements run seen l = run_from_entry seen (entered_with p n h statements seen l) scope (place_of p n scope) run s
-
-        each : (seen : List Seen) (l : Limits) → AreAlike (from ss body seen l) (from us other seen l)
-        each seen l =
-            let e = entered_with p n h ss seen l in
-            subst (λ (x : Entered). AreAlike (run_from_entry seen e scope (place_of p n scope) body s) (run_from_entry seen x scope (place_of p n scope) other s)) (entered_same seen l)
-            (does_alike (entered e.count) (place_of p n scope) (entry_touches seen e scope) (run_entered e.head.parallel e.count e scope (place_of p n scope) body) (run_entered e.head.parallel e.count e scope (place_of p n scope) other)
-            (entered_alike e.head.parallel e.count e scope (place_of p n scope)) s)
+    do_alike s =
+        let at = place_of p n scope in
+        on_alike at (limits (names_in p scope) h s)
+        (λ seen l. run_from_entry seen (entered_with p n h ss seen l) scope at body s) (λ seen l. run_from_entry seen (entered_with p n h us seen l) scope at other s)
+        (λ seen l.
+        let e = entered_with p n h ss seen l in
+        subst (λ (x : Entered). AreAlike (run_from_entry seen e scope at body s) (run_from_entry seen x scope at other s)) (entered_same seen l)
+        (does_alike (entered e.count) at (entry_touches seen e scope) (run_entered e.head.parallel e.count e scope at body) (run_entered e.head.parallel e.count e scope at other)
+        (entered_alike e.head.parallel e.count e scope at) s))

@@ -46,7 +46,7 @@ block_is Stop body h = absurd cc
 block_is (Comment text) body h = absurd cc
 
 module _ (t : ProgramTree) (s : ℕ) (body : StmtTrees) (b : IsBlock t s body) where
-  pub text : List ℕ
+  abbrev pub text : List ℕ
   text = (block_is b.statement body b.opens).0
 
   -- the program before comments go to its declarations

@@ -153,7 +153,8 @@ each_alone t tidy = all_move (Stands t) (Alone t) 0 1 (1 + statements_count t.bo
     each k j h b low high e stands w parallel among =
         let loop : LoopOf t k = record { head = h; body = b; is = stands } in
         let left = tidy k loop parallel w (record { loop = loop; among = among }) in
-        (sym (written_is t k loop w) ∙ left.unwritten, λ shown. left.unshown (subst (λ (n : ℕ). IsShownBehind t n w) (omega (arith, e)) shown))
+        let back : j ≡ k = omega (arith, e) in
+        (sym (written_is t k loop w) ∙ left.unwritten, λ shown. left.unshown (subst (λ (n : ℕ). IsShownBehind t n w) back shown))
 
 -- and where each does, the program is tidy
 all_alone : (u : ProgramTree) → EachDos (Alone u) u.body 1 → IsTidy u
@@ -199,7 +200,7 @@ module _ (t : ProgramTree) (s : ℕ) (body : StmtTrees) (b : IsBlock t s body) w
   moves k j h c above e = goes k j h c (inr (omega (arith, above, e), omega (arith, e)))
 
   writes_no_more : (w : List ℕ) → all_write cs w block ≡ false → all_write cs w body ≡ false
-  writes_no_more w none = sym (or_false ((all_write cs w body || false)) ∙ or_false (all_write cs w body)) ∙ (sym (or_false ((all_write cs w body || false))) ∙ none)
+  writes_no_more w none = sym (or_false (all_write cs w body || false) ∙ or_false (all_write cs w body)) ∙ none
 
   round : (n : ℕ) (h : Head) (g : Gap) → n < s → IsIn (record { number = n; head = h }) (all_loops_round s (filled hole block) 1) → Alone t n h (filled g block) → Alone u n h (filled g body)
   round n h g below there alone_before w parallel among =
@@ -229,7 +230,7 @@ module _ (t : ProgramTree) (s : ℕ) (body : StmtTrees) (b : IsBlock t s body) w
       (sym (followed_rejection (leading r.body) u.body) ∙ ap some_rejection (leading_followed r.body ∙ (gap t s body b).new_is) ∙ all)).1
     where
       inner : some_rejection block ≡ false → some_rejection body ≡ false
-      inner h = sym (or_false (some_rejection body || false) ∙ or_false (some_rejection body)) ∙ (sym (or_false ((some_rejection body || false))) ∙ h)
+      inner h = sym (or_false (some_rejection body || false) ∙ or_false (some_rejection body)) ∙ h
 
   pub stays_trusted_inlined : IsTrusted t → IsTrusted (inlined t s)
   stays_trusted_inlined trusted =

@@ -14,10 +14,10 @@ opened_grows : (l m n : ℕ) → m < n → opened_at l m < opened_at l n
 opened_grows l m n less = by (nat_lt m l) (nat_lt n l) refl refl
   where
     by : (a b : Bool) → nat_lt m l ≡ a → nat_lt n l ≡ b → (if nat_lt m l then m else suc m) < (if nat_lt n l then n else suc n)
-    by true true e f = let p = ap (λ (b : Bool). if b then m else suc m) e in let q = ap (λ (b : Bool). if b then n else suc n) f in omega (arith, p, q, less)
-    by true false e f = let p = ap (λ (b : Bool). if b then m else suc m) e in let q = ap (λ (b : Bool). if b then n else suc n) f in omega (arith, p, q, less)
+    by true true e f = let p : (if nat_lt m l then m else suc m) ≡ m = ap (λ (b : Bool). if b then m else suc m) e in let q : (if nat_lt n l then n else suc n) ≡ n = ap (λ (b : Bool). if b then n else suc n) f in omega (arith, p, q, less)
+    by true false e f = let p : (if nat_lt m l then m else suc m) ≡ m = ap (λ (b : Bool). if b then m else suc m) e in let q : (if nat_lt n l then n else suc n) ≡ suc n = ap (λ (b : Bool). if b then n else suc n) f in omega (arith, p, q, less)
     by false true e f = let low = ltb-true n l f in let wrong : true ≡ false = sym (lt-ltb m l (omega (arith, low, less))) ∙ e in absurd cc
-    by false false e f = let p = ap (λ (b : Bool). if b then m else suc m) e in let q = ap (λ (b : Bool). if b then n else suc n) f in omega (arith, p, q, less)
+    by false false e f = let p : (if nat_lt m l then m else suc m) ≡ suc m = ap (λ (b : Bool). if b then m else suc m) e in let q : (if nat_lt n l then n else suc n) ≡ suc n = ap (λ (b : Bool). if b then n else suc n) f in omega (arith, p, q, less)
 
 module _ (l : ℕ) where
   abbrev pair : ℕ → ℕ × ℕ

@@ -76,7 +76,7 @@ module _ (p : Setting) (l : ℕ) (text : List ℕ) (ts : StmtTrees) where
   below ss n scope h = all_same q p refl refl ss n n scope (λ k less. ap p.number (opened_below l (n + k) (omega (arith, h, less))))
 
   above : (ss : StmtTrees) (n m : ℕ) (scope : Scope) → l ≤ n → m ≡ n + 1 → run_all q ss n scope ≡ run_all p ss m scope
-  above ss n m scope h e = all_same q p refl refl ss n m scope (λ k less. ap p.number (opened_above l (n + k) (omega (arith, h)) ∙ omega (arith, e)))
+  above ss n m scope h e = all_same q p refl refl ss n m scope (λ k less. (let next : suc (n + k) ≡ m + k = omega (arith, e) in ap p.number (opened_above l (n + k) (omega (arith, h)) ∙ next)))
 
   more_count : (gap : Gap) → statements_count (filled gap (alone block)) ≡ statements_count (filled gap ts) + 1
   more_count gap = let e = count_filled (alone block) ts gap in omega (arith, e)
@@ -101,7 +101,8 @@ module _ (p : Setting) (l : ℕ) (text : List ℕ) (ts : StmtTrees) where
   same_if : (n : ℕ) (scope : Scope) → n < l → (c : CondTree) (a b d e : Store → Run) → ((s : Store) → AreAlike (a s) (d s)) → ((s : Store) → AreAlike (b s) (e s)) → (s : Store)
       → AreAlike (run_if (names_in q scope) (place_of q n scope) c a b s) (run_if (names_in p scope) (place_of p n scope) c d e s)
   same_if n scope less c a b d e first second s =
-      subst (λ (r : Run). AreAlike r (run_if (names_in p scope) (place_of p n scope) c d e s)) (λ i. run_if (names_in p scope) (sym (at_place n scope less) i) c a b s)
+      let same : run_if (names_in p scope) (place_of p n scope) c a b s ≡ run_if (names_in q scope) (place_of q n scope) c a b s = λ i. run_if (names_in p scope) (sym (at_place n scope less) i) c a b s in
+      subst (λ (r : Run). AreAlike r (run_if (names_in p scope) (place_of p n scope) c d e s)) same
       (if_alike (names_in p scope) (place_of p n scope) c a b d e first second s)
 
   -- what stands behind a part with the gap

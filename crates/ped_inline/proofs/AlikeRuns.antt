@@ -42,7 +42,7 @@ does_alike step at touches next other more s =
     then_alike first first next other (alike_itself first) more
 
 pub on_alike : {A : Type 0} (at : Place) (e : Evaluated A) (next other : List Seen → A → Run) → ((seen : List Seen) (x : A) → AreAlike (next seen x) (other seen x)) → AreAlike (on at e next) (on at e other)
-on_alike {A} at e next other more = by e.result
+on_alike {A = A} at e next other more = by e.result
   where
     by : (r : Result A ℕ) → AreAlike (on_value at e.seen r next) (on_value at e.seen r other)
     by (Ok x) = more e.seen x

@@ -14,11 +14,11 @@ returns-then-not-is_empty c =
 
 pub returns-in-If : goal.returns-in-If
 returns-in-If c =
-    let empty : length c.in-If.else_part.items ≡ 0 = (let said = c.is_empty.ensures in let none = c.if-not-is_empty.false in grind (arith, said, none, eqb-true)) in
+    let empty : length c.in-If.else_part.items ≡ 0 = eqb-true (length c.in-If.else_part.items) 0 (sym c.is_empty.ensures ∙ c.if-not-is_empty.false) in
     let body = stmt_trees c.in-If.then_part.items in
     let same : Spec.block_body (stmt_tree c.args.statement.now) ≡ Spec.behind_call (stmt_trees c.deref.result.now) =
-        ap (λ (s : Stmt). Spec.block_body (stmt_tree s)) c.in-If.is
-        ∙ without_else (cond_tree c.in-If.condition) body c.in-If.else_part.items empty
-        ∙ ap (λ (b : Bool). if b then Spec.behind_call body else None) (sym c.is_always.ensures ∙ c.if-not-is_always.false)
-        ∙ ap (λ (xs : List Stmt). Spec.behind_call (stmt_trees xs)) (sym c.deref.ensures.value) in
+    ap (λ (s : Stmt). Spec.block_body (stmt_tree s)) c.in-If.is
+    ∙ without_else (cond_tree c.in-If.condition) body c.in-If.else_part.items empty
+    ∙ ap (λ (b : Bool). if b then Spec.behind_call body else None) (sym c.is_always.ensures ∙ c.if-not-is_always.false)
+    ∙ ap (λ (xs : List Stmt). Spec.behind_call (stmt_trees xs)) (sym c.deref.ensures.value) in
     subst (λ (found : Option StmtTrees). MatchOption c.behind_call.result (found ≡ None) (λ rest. found ≡ Some (stmt_trees rest.now))) (sym same) c.behind_call.ensures

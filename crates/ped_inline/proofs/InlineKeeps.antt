@@ -38,7 +38,7 @@ closed_opened l n = by (nat_lt n l) refl
   where
     back : (k : ℕ) → (b : Bool) → nat_lt (suc k) l ≡ b → nat_lt k l ≡ false → (if b then suc k else (suc k - 1)) ≡ k
     back k true e f = let less = ltb-true (suc k) l e in let wrong : true ≡ false = sym (lt-ltb k l (omega (arith, less))) ∙ f in absurd cc
-    back k false e f = refl
+    back k false e f = let same : suc k - 1 ≡ k = omega arith in same
 
     by : (b : Bool) → nat_lt n l ≡ b → closed_up l (opened_at l n) ≡ n
     by true e = ap (λ (b : Bool). closed_up l (if b then n else suc n)) e ∙ ap (λ (b : Bool). if b then n else (n - 1)) e

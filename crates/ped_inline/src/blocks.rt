@@ -1,6 +1,7 @@
 //! Marked blocks: a block IF that a CALL was expanded to, with the CALL in a comment.
 
 ghost use Rattle.std.specs.Prelude.{◌≡◌, Some, None, MatchOption};
+ghost use Rattle.ped_tree.specs.Tree as Tree;
 ghost use Rattle.ped_tree.specs.Tree.{StmtTrees};
 ghost use Rattle.ped_tree.specs.Views.{expr_tree, cond_tree, stmt_tree, stmt_trees, program_tree};
 ghost use Rattle.ped_inline.specs.Blocks as Spec;
@@ -33,13 +34,7 @@ fn block_body<'a>(statement: &'a Stmt) -> Option<&'a [Stmt]>
             then_part,
             else_part,
         } => {
-            if !else_part.is_empty() {
-                return None;
-            }
-            if !is_always(condition) {
-                return None;
-            }
-            return behind_call(then_part);
+            return body_between(condition, then_part, else_part);
         }
         Stmt::Do(_) => {
             return None;
@@ -52,6 +47,24 @@ fn block_body<'a>(statement: &'a Stmt) -> Option<&'a [Stmt]>
             return None;
         }
     }
+}
+
+/// The same of a block IF with this condition and these parts.
+fn body_between<'a>(
+    condition: &Cond,
+    then_part: &'a [Stmt],
+    else_part: &[Stmt],
+) -> Option<&'a [Stmt]>
+    ensures { MatchOption result (Spec.block_body (Tree.If (cond_tree condition.now) (stmt_trees then_part.now) (stmt_trees else_part.now)) ≡ None)
+        (λ body. Spec.block_body (Tree.If (cond_tree condition.now) (stmt_trees then_part.now) (stmt_trees else_part.now)) ≡ Some (stmt_trees body.now)) }
+{
+    if !else_part.is_empty() {
+        return None;
+    }
+    if !is_always(condition) {
+        return None;
+    }
+    behind_call(then_part)
 }
 
 /// The statements behind a comment that names a CALL, where such a comment comes first.

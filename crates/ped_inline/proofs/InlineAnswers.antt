@@ -13,8 +13,7 @@ use Rattle.ped_splits.specs.ped_reindex.specs.ped_loops.specs.ped_scalar.specs.p
 use Rattle.ped_splits.specs.ped_reindex.specs.ped_loops.specs.ped_scalar.specs.ped_rules.specs.ped_loop_runs.specs.ped_bodies.specs.ped_steps.specs.Replacing.{program_with}
 use Rattle.ped_splits.specs.ped_reindex.specs.ped_loops.specs.ped_scalar.specs.ped_rules.specs.ped_loop_runs.specs.ped_bodies.specs.ped_steps.specs.ped_symbols.specs.NameRefusals.{IsValid}
 use Rattle.ped_splits.specs.ped_reindex.specs.ped_loops.specs.ped_scalar.specs.ped_rules.specs.ped_loop_runs.specs.ped_bodies.specs.ped_steps.proofs.OnePlace.{one_program}
-use Rattle.ped_splits.specs.ped_reindex.specs.Settling.{settled}
-use Rattle.ped_inline.specs.Blocks.{block_body, IsBlock}
+use Rattle.ped_inline.specs.Blocks.{IsBlock}
 use Rattle.ped_inline.specs.Inlining.{given_or, opened, inlined, inline_kept, MakesInlined, StandsAgainstInlining, inlining}
 use Rattle.ped_inline.proofs.InlineRules.{same_statement}
 

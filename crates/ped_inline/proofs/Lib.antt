@@ -1,0 +1,12 @@
+mod Settled
+mod SettledPrograms
+mod BlockAnswers
+mod InlineRules
+mod InlineAnswers
+mod AlikeRuns
+mod OpenedRuns
+mod InlinedShape
+mod InlineKeeps
+mod InlinedTidy
+mod OneToOne
+mod InlineLawful

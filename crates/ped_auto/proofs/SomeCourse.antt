@@ -239,13 +239,15 @@ module _ {S : Type 0} (e : Editing S) (Good : S → Type 0) (laws : IsEditing e)
       let t = decided.program p.now good in
       let r = remains t.0 round.0 1 p q t.1 (omega arith) round.1 none in
       let all : count_of t.0 + 1 ≡ 1 + round.0 = r.all in
-      let size : round.0 ≡ count_of t.0 = omega (arith, all) in
-      (r.left, subst (λ (s : S). AreLeft e s r.left) (sym r.same) (record {
-        program = t.0;
-        reads = t.1;
-        loops = r.loops ∙ ap (λ n. filter (is_serial_loop t.0) (range_with_len 1 n)) size;
-        causes = r.causes;
-      }))
+      let size : round.0 ≡ count_of t.0 = omega (arith, all) in (
+        r.left,
+        subst (λ (s : S). AreLeft e s r.left) (sym r.same) (record {
+          program = t.0;
+          reads = t.1;
+          loops = r.loops ∙ ap (λ n. filter (is_serial_loop t.0) (range_with_len 1 n)) size;
+          causes = r.causes;
+        }),
+      )
 
   -- further rounds have an end
   record Ended (p : Stage S) : Type 0 where
@@ -300,6 +302,10 @@ module _ {S : Type 0} (e : Editing S) (Good : S → Type 0) (laws : IsEditing e)
   some_auto s good =
       let first = some_round (Visits e) visits (starting s) good in
       let t = decided.program first.0.now first.2 in
-      let o = further (suc (length (serial_loops t.0))) first.0 t.0 first.2 t.1 (omega arith) in
-      (record { accepted = o.stage.accepted; left = o.left }, o.stage.now, o.stage.tests,
-      record { between = first.0; first = first.1; rounds = o.rounds; further = o.further; left = o.are_left }, o.good)
+      let o = further (suc (length (serial_loops t.0))) first.0 t.0 first.2 t.1 (omega arith) in (
+        record { accepted = o.stage.accepted; left = o.left },
+        o.stage.now,
+        o.stage.tests,
+        record { between = first.0; first = first.1; rounds = o.rounds; further = o.further; left = o.are_left },
+        o.good,
+      )

@@ -191,13 +191,7 @@ impl<L: Ledger> Graph<L> {
         ensures short { IfOk result (λ edges. All HasAtMostSixLoops edges.items) }
     {
         let extent = self.extent(statement);
-        let mut edges = edges_within(
-            alloc,
-            self.frame.pairs(),
-            &self.verdicts,
-            statement,
-            extent,
-        )?;
+        let mut edges = edges_within(alloc, self.frame.pairs(), &self.verdicts, statement, extent)?;
         keep_carried_in(&mut edges, statement, extent, level);
         Ok(edges)
     }

@@ -1,6 +1,6 @@
 //! Texts read as expressions by themselves.
 
-ghost use Rattle.std.specs.Prelude.{IfOk, IfErr, IsFalse};
+ghost use Rattle.std.specs.Prelude.{◌≡◌, IfOk, IfErr, IsFalse};
 ghost use Rattle.ped_tree.specs.Views.{expr_tree};
 ghost use Rattle.ped_tree.specs.Grammar.ExpressionForms.{ReadsExpr};
 ghost use Rattle.ped_tree.specs.Grammar.Literals as Literals;

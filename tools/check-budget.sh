@@ -14,7 +14,8 @@ most_edits=45
 most_crates_with_edits=12
 most_test_lines=250
 most_crates_with_tests=2
-most_ways=5000
+# ped_auto, a link between ped_reduce and ped_transformations, has brought 199 ways.
+most_ways=5150
 most_lemma_files=310
 most_lemma_imports=2624
 most_needless_doors=122

@@ -1,7 +1,7 @@
 -- What is shown of the present program is what comes of reading the present source afresh.
 use Rattle.std.proofs.Common.{◌≡◌, inl, inr, ℕ, List, Option, Some, None, refl, sym, ap, ◌∙◌, subst}
 use Rattle.std.specs.Prelude.{codes, MatchOption}
-use Rattle.ped_io.specs.Outside.{Contents, content}
+use Rattle.ped_io.specs.Outside.{Contents}
 use Rattle.ped_words.specs.Requests.{Request, show, session, generate}
 use Rattle.ped_session.specs.ped_tree.specs.Tree.{StmtTree, ProgramTree}
 use Rattle.ped_session.specs.ped_tree.specs.Printing.{program_text}
@@ -29,7 +29,7 @@ use Rattle.ped_answer.specs.Headline.{Afresh, IsOfStatement, ShowsAfresh, ShowsF
 use Rattle.ped_answer.proofs.OneAnswer.{one_tree}
 use Rattle.ped_answer.proofs.ExistenceLaws.Replying.{reads_as}
 use Rattle.ped_answer.proofs.WholeAnswers.{of_file}
-use Rattle.ped_answer.proofs.EachItems.{Comes, SoOfValid, session_each}
+use Rattle.ped_answer.proofs.EachItems.{SoOfValid, session_each}
 
 -- what is so of the program that a printed text reads as
 afresh : (IsSo : ProgramTree → List ℕ → Type 0) (text bytes : List ℕ) (t : ProgramTree) → IsPrinted text → ReadsValid text t → IsSo t bytes → Afresh IsSo text bytes

@@ -1,5 +1,5 @@
 -- Each command moves along the sources of a session as the history has them.
-use Rattle.std.proofs.Common.{◌≡◌, ℕ, suc, Bool, true, false, ◌+◌, ◌<◌, inl, inr, List, [], ◌∷◌, ◌++◌, map, take, length, slice_get, Option, Some, None, refl, sym, ap, ◌∙◌, subst, arith, append_assoc}
+use Rattle.std.proofs.Common.{◌≡◌, ℕ, suc, Bool, true, false, ◌+◌, inl, inr, List, [], ◌∷◌, ◌++◌, map, take, length, slice_get, Option, Some, None, refl, sym, ap, ◌∙◌, subst, arith, append_assoc}
 use Rattle.std.specs.Prelude.{MatchBool, reverse, codes}
 use Rattle.std.specs.Fmt.{decimal}
 use Rattle.std.specs.List.{flat_map}
@@ -29,7 +29,7 @@ use Rattle.ped_session.proofs.AutoSteps.{auto_steps}
 use Rattle.ped_answer.specs.declared.answering.Status.{Status}
 use Rattle.ped_answer.specs.Answer.{IsWhole, Answers}
 use Rattle.ped_answer.specs.Headline.{Sources, text_of, sources_of, StandsAtPlace, GoesOneBack, nothing_before, one_before, GoesOneForward, nothing_behind, one_behind, PutsBehind, PutsAllBehind, MovesByAuto, IsShowing, Moves, by_undo, by_redo, by_showing, by_change, by_refusal, KeepsHistory, HistoryRequest}
-use Rattle.ped_answer.proofs.EachItems.{Comes, SoOfValid, session_each}
+use Rattle.ped_answer.proofs.EachItems.{SoOfValid, session_each}
 
 at_length : (xs ys : List (List ℕ)) (x : List ℕ) → slice_get (xs ++ x ∷ ys) (length xs) ≡ Some x
 at_length [] ys x = refl

@@ -1,15 +1,17 @@
 -- What the items of a script come to, one behind another.
-use Rattle.std.proofs.Common.{◌≡◌, inl, inr, ◌∙◌, ℕ, ◌+◌, ◌<◌, ◌≤◌, ap, sym, refl, List, [], ◌∷◌, ◌++◌, length, take, drop, get_or, Option, Some, None, arith, subst}
+use Rattle.std.proofs.Common.{◌≡◌, ◌≢◌, inl, ◌∙◌, ℕ, ◌+◌, ◌<◌, ◌≤◌, ap, sym, refl, List, [], ◌∷◌, ◌++◌, length, take, drop, get_or, Option, Some, None, arith, subst}
+use Rattle.std.specs.List.{AllByRecursion}
+use Rattle.std.proofs.lemmas.List.Elements.{All-from_recursion}
 use Rattle.std.proofs.lemmas.List.{take_more, drop_more, take_all, take-append-drop}
 use Rattle.ped_session.specs.ped_transformations.specs.ped_script.specs.declared.items.Command.{Command}
+use Rattle.ped_session.specs.ped_transformations.specs.ped_script.specs.declared.items.Command.TheVariants.{Auto}
 use Rattle.ped_session.specs.ped_transformations.specs.ped_script.specs.declared.items.Item.{Item}
 use Rattle.ped_session.specs.States.{State}
 use Rattle.ped_session.specs.Scripts.{Said, nothing_said, bad_command_said, said_by, said_both, AnswersCommand, AnswersItems}
 use Rattle.ped_session.proofs.OneStep.{one}
-use Rattle.ped_session.proofs.OneAnswer.{not_auto}
 use Rattle.ped_answer.specs.declared.tallies.Tally as code
 use Rattle.ped_answer.specs.Generated.{Tally, no_tally, tally_both, tally_of, bad_command_tally, AppliesCommand, Applies}
-use Rattle.ped_answer.specs.Tallies.{counted}
+use Rattle.ped_answer.specs.Tallies.{IsNoAuto, counted}
 
 abbrev tally_by : ℕ → ℕ → ℕ → Tally
 tally_by accepted refused tests = record { accepted = accepted; refused = refused; tests = tests }
@@ -50,12 +52,9 @@ counted_bad a = same_code (omega arith) (omega arith) (omega arith)
 -- a line comes to one thing, and leads to one state
 one_applied : (command : Option Command) (s m n : State) (a b : Tally) → AppliesCommand command s a m → AppliesCommand command s b n → (a ≡ b) × (m ≡ n)
 one_applied None s m n a b p q = (p.0 ∙ sym q.0, p.1 ∙ sym q.1)
-one_applied (Some c) s m n a b (inl p) (inl q) =
+one_applied (Some c) s m n a b p q =
     let step = one c [] s m n p.0 q.0 p.1 q.1 in
     (p.2 ∙ (λ i. tally_of (step.0 i) (step.1 i)) ∙ sym q.2, step.1)
-one_applied (Some c) s m n a b (inl p) (inr (is, q)) = absurd (not_auto c [] s m p.0 is p.1)
-one_applied (Some c) s m n a b (inr (is, p)) (inl q) = absurd (not_auto c [] s n q.0 is q.1)
-one_applied (Some c) s m n a b (inr (is, p)) (inr (same, q)) = (p.0 ∙ sym q.0, p.1 ∙ sym q.1)
 
 -- and so do items
 pub one_applies : (items : List Item) (s m n : State) (a b : Tally) → Applies items s a m → Applies items s b n → (a ≡ b) × (m ≡ n)
@@ -66,25 +65,16 @@ one_applies (item ∷ items) s m n a b p q =
     (p.5 ∙ (λ i. tally_both (first.0 i) (rest.0 i)) ∙ sym q.5, rest.1)
 
 -- what the script says on the way
-abbrev Says : State → State → Type 0
-Says s last = (items : List Item) × (said : Said) × AnswersItems items [] s said last
+says_command : (line : ℕ) (command : Option Command) (s next : State) (tally : Tally) → AppliesCommand command s tally next → (said : Said) × AnswersCommand line command [] s said next
+says_command line None s next tally h = (bad_command_said line, (refl, h.1))
+says_command line (Some c) s next tally h = (said_by line h.0 next, inl (h.0, h.1, refl))
 
-says_first : (item : Item) (s next last : State) (tally : Tally) → AppliesCommand item.command s tally next → Says next last → Says s last
-says_first item s next last tally h rest = by item.command h refl
-  where
-    by : (command : Option Command) → AppliesCommand command s tally next → command ≡ item.command → Says s last
-    by None h is = subst (λ (x : State). Says x last) h.1 rest
-    by (Some c) (inl h) is = (
-      item ∷ rest.0,
-      said_both (said_by item.line h.0 next) rest.1,
-      (said_by item.line h.0 next, next, subst (λ (o : Option Command). AnswersCommand item.line o [] s (said_by item.line h.0 next) next) is (inl (h.0, h.1, refl)), rest.1, rest.2, refl),
-    )
-    by (Some c) (inr (auto, h)) is = subst (λ (x : State). Says x last) h.1 rest
-
--- items that lead there as well: those that do nothing are left out
-pub says_items : (items : List Item) (s last : State) (tally : Tally) → Applies items s tally last → Says s last
-says_items [] s last tally h = ([], nothing_said, (refl, h.1))
-says_items (item ∷ items) s last tally h = says_first item s h.1 last h.0 h.2 (says_items items h.1 last h.3 h.4)
+pub says_items : (items : List Item) (s last : State) (tally : Tally) → Applies items s tally last → (said : Said) × AnswersItems items [] s said last
+says_items [] s last tally h = (nothing_said, (refl, h.1))
+says_items (item ∷ items) s last tally h =
+    let first = says_command item.line item.command s h.1 h.0 h.2 in
+    let rest = says_items items h.1 last h.3 h.4 in
+    (said_both first.0 rest.0, (first.0, h.1, first.1, rest.0, rest.1, refl))
 
 -- items, and then one more
 items_then : (items : List Item) (item : Item) (s m n : State) (a b : Tally)
@@ -166,6 +156,10 @@ pub items_more : (items : List Item) (i : ℕ) (item : Item) (s m n : State) (a 
 items_more items i item s m n a b h at before here =
     let more : take (i + 1) items ≡ take i items ++ item ∷ [] = take_more items i item h ∙ ap (λ (x : Item). take i items ++ x ∷ []) (sym at) in
     subst (λ (is : List Item). Applies is s (tally_both a b) n) (sym more) (items_then (take i items) item s m n a b before here)
+
+-- the command of an item isn't `auto`, where no item is
+pub item_no_auto : (items : List Item) (i : ℕ) (item : Item) (command : Command) → AllByRecursion IsNoAuto items → i < length items → item ≡ get_or items i item → item.command ≡ Some command → command ≢ Auto
+item_no_auto items i item command others h at some is = subst IsNoAuto (sym at) (All-from_recursion IsNoAuto items others i item h) (some ∙ ap Some is)
 
 -- all items
 pub items_all : (items : List Item) (i : ℕ) (s n : State) (a : Tally) → length items ≤ i → Applies (take i items) s a n → Applies items s a n

@@ -1,26 +1,24 @@
 -- What `auto` tells in an answer.
-use Rattle.std.proofs.Common.{◌≡◌, inl, inr, ℕ, List, [], ◌∷◌, map, Option, Some, None, refl, sym, ap, ◌∙◌, subst}
+use Rattle.std.proofs.Common.{inl, inr, ℕ, List, [], ◌∷◌, Option, Some, None, subst}
 use Rattle.std.specs.List.{AllByRecursion}
 use Rattle.ped_io.specs.Outside.{Contents}
 use Rattle.ped_words.specs.Requests.{Request, show, session, generate}
 use Rattle.ped_session.specs.ped_tree.specs.Tree.{ProgramTree}
 use Rattle.ped_session.specs.ped_valid.specs.Validity.{ReadsValid}
-use Rattle.ped_session.specs.ped_transformations.specs.ped_auto.specs.Strategy as strategy
 use Rattle.ped_session.specs.ped_transformations.specs.ped_reindex.specs.ped_loops.specs.Paralleling.{paralleling}
 use Rattle.ped_session.specs.ped_transformations.specs.ped_reindex.specs.ped_loops.specs.ped_scalar.specs.ped_rules.specs.ped_loop_runs.specs.ped_bodies.specs.ped_steps.specs.Causes.{Cause}
-use Rattle.ped_session.specs.ped_transformations.specs.ped_script.specs.declared.items.Command.{Command}
 use Rattle.ped_session.specs.ped_transformations.specs.ped_script.specs.declared.items.Command.TheVariants.{Source, Deps, Show, Print, Advise, Replace, Insert, Delete, Interchange, Reverse, Skew, Strip, Peel, Distribute, Fuse, Expand, Privatise, Reduce, Parallel, Serial, Reject, Auto, Undo, Redo, Run, Races, Tested}
 use Rattle.ped_session.specs.declared.replies.Refusal.TheVariants.{Step}
 use Rattle.ped_session.specs.declared.replies.Reply.TheVariants.{Refused}
 use Rattle.ped_session.specs.States.{State}
-use Rattle.ped_session.specs.AutoEditing.{TakesStep, session_editing}
+use Rattle.ped_session.specs.AutoEditing.{TakesStep}
 use Rattle.ped_session.specs.AutoEditingLaws.{one_program, refused_for}
 use Rattle.ped_session.specs.Scripts.{Said, SaysAuto, AnswersCommand}
 use Rattle.ped_session.proofs.AutoSteps.{auto_steps, accepts_all, auto_comes}
 use Rattle.ped_answer.specs.declared.answering.Status.{Status}
 use Rattle.ped_answer.specs.Answer.{IsWhole, Answers}
 use Rattle.ped_answer.specs.StepCauses.{Forbids}
-use Rattle.ped_answer.specs.Headline.{AreLeft, Parallelises, ParallelisesBy, AutoRequest}
+use Rattle.ped_answer.specs.Headline.{Parallelises, ParallelisesBy, AutoRequest}
 use Rattle.ped_answer.proofs.EachItems.{SoOfValid, session_each}
 use Rattle.ped_answer.proofs.ToldCauses.{are_causes}
 

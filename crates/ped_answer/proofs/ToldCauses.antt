@@ -1,5 +1,5 @@
 -- What is told of a step is the first cause that forbids it, or that nothing does.
-use Rattle.std.proofs.Common.{◌≡◌, ℕ, List, ◌∷◌, false, Option, Some, None, All, arith, refl, sym, ap, ◌∙◌, subst, inl, inr}
+use Rattle.std.proofs.Common.{◌≡◌, ℕ, List, ◌∷◌, false, Option, Some, None, arith, refl, sym, ap, ◌∙◌, subst, inl, inr}
 use Rattle.std.specs.Prelude.{Contains, ⊤}
 use Rattle.std.proofs.lemmas.List.Elements.{All-contains, Contains-append_right}
 use Rattle.ped_io.specs.Outside.{Contents}

@@ -1,5 +1,5 @@
 -- What `generate` answers: what the script that is made does to the program that is made, and how both programs run (this project).
-use Rattle.std.specs.Prelude.{◌≡◌, ◌⊎◌, ℕ, ◌+◌, List, [], ◌∷◌, ◌++◌, length, codes, Option, Some, None}
+use Rattle.std.specs.Prelude.{◌≡◌, ℕ, ◌+◌, List, [], ◌∷◌, ◌++◌, length, codes, Option, Some, None}
 use Rattle.std.specs.Fmt.{decimal}
 use Rattle.ped_gen.specs.Generated.{program, script}
 use Rattle.ped_session.specs.ped_tree.specs.Tree.{ProgramTree}
@@ -12,7 +12,6 @@ use Rattle.ped_session.specs.ped_valid.specs.Validity.{ReadsValid, RefusesText}
 use Rattle.ped_session.specs.ped_order.specs.ped_eval.specs.Outcomes.{LiveRow, Outcome, Ended}
 use Rattle.ped_session.specs.ped_transformations.specs.ped_script.specs.Items.{commands_of}
 use Rattle.ped_session.specs.ped_transformations.specs.ped_script.specs.declared.items.Command.{Command}
-use Rattle.ped_session.specs.ped_transformations.specs.ped_script.specs.declared.items.Command.TheVariants.{Auto}
 use Rattle.ped_session.specs.ped_transformations.specs.ped_script.specs.declared.items.Item.{Item}
 use Rattle.ped_session.specs.declared.replies.Reply.{Reply}
 use Rattle.ped_session.specs.declared.replies.Reply.TheVariants.{Changed, Shown, Refused}
@@ -58,14 +57,10 @@ tally_of reply next = record { accepted = accepted_by reply; refused = refused_b
 abbrev pub bad_command_tally : Tally
 bad_command_tally = record { accepted = 0; refused = 1; tests = 0 }
 
--- nothing is done, and the line is counted as refused
-abbrev pub AppliesNone : State → Tally → State → Type 0
-AppliesNone s tally next = (tally ≡ bad_command_tally) × (next ≡ s)
-
--- what a line of a script that is made comes to, and the state behind it; programs have no data. None of its lines is `auto`, which would be counted as refused
+-- what a line of a script comes to, and the state behind it; programs have no data
 abbrev pub AppliesCommand : Option Command → State → Tally → State → Type 0
-AppliesCommand None s tally next = AppliesNone s tally next
-AppliesCommand (Some command) s tally next = ((reply : Reply) × IsStep command [] s reply next × (tally ≡ tally_of reply next)) ⊎ ((command ≡ Auto) × AppliesNone s tally next)
+AppliesCommand None s tally next = (tally ≡ bad_command_tally) × (next ≡ s)
+AppliesCommand (Some command) s tally next = (reply : Reply) × IsStep command [] s reply next × (tally ≡ tally_of reply next)
 
 -- what the items of a script come to one behind another, each in the state that the one before has left
 abbrev pub Applies : List Item → State → Tally → State → Type 0

@@ -12,7 +12,8 @@ use Rattle.ped_reduce.specs.ped_splits.specs.ped_reindex.specs.ped_loops.specs.p
 use Rattle.ped_auto.specs.SerialLoops.{is_serial_loop, count_of}
 use Rattle.ped_auto.specs.Editing.{Editing, IsEditing}
 use Rattle.ped_auto.specs.Strategy.{AreLeft}
-use Rattle.ped_auto.specs.CodeStages.{causes_of, TellsCause}
+use Rattle.ped_auto.specs.CodeReports.{causes_of}
+use Rattle.ped_auto.specs.CodeStages.{TellsCause}
 use Rattle.ped_auto.specs.CodeReports.{AreShort}
 
 -- the DOs that aren't PARALLEL DOs before the statement with this number

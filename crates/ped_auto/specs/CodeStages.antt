@@ -1,5 +1,5 @@
 -- How far the code of the strategy has come. Contracts of private functions alone speak of it (this project).
-use Rattle.std.specs.Prelude.{◌≡◌, ◌⊎◌, ℕ, ◌+◌, ◌-◌, ◌≤◌, ◌<◌, List, [], ◌∷◌, ◌++◌, map, length, Bool, true, false, Option, Some, None}
+use Rattle.std.specs.Prelude.{◌≡◌, ◌⊎◌, ℕ, ◌+◌, ◌-◌, ◌≤◌, ◌<◌, List, [], ◌∷◌, ◌++◌, length, Bool, true, false, Option, Some, None}
 use Rattle.ped_script.specs.declared.items.Command.{Command}
 use Rattle.ped_script.specs.declared.items.Command.TheVariants.{Parallel}
 use Rattle.ped_reduce.specs.ped_splits.specs.ped_reindex.specs.ped_loops.specs.ped_scalar.specs.ped_rules.specs.ped_loop_runs.specs.ped_bodies.specs.ped_steps.specs.ped_flow.specs.ped_tree.specs.Tree.{ProgramTree}
@@ -74,10 +74,6 @@ IsScalarChoice t names (Some found) = (are_scalars t names ≡ true) × (found �
 abbrev pub AreScalarNames : {S : Type 0} → Editing S → S → ℕ → Option (List (List ℕ)) → Type 0
 AreScalarNames e s number found =
     (t : ProgramTree) × e.Reads s t × (names : List (List ℕ)) × AreCarried t number names × IsScalarChoice t names found
-
--- the causes as the definitions have them
-abbrev pub causes_of : List (ℕ × Refused) → List (ℕ × Cause)
-causes_of left = map (λ l. (l.0, cause_of l.1)) left
 
 -- what a further round does at a DO to the causes told so far: nothing where `parallel` is accepted; else its cause comes behind them, and nothing changes
 abbrev pub TellsCause : {S : Type 0} → Editing S → ℕ → S → List Command → List (ℕ × Refused) → S → List Command → List (ℕ × Refused) → Type 0

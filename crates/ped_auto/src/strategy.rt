@@ -7,8 +7,8 @@ ghost use Rattle.ped_auto.specs.SerialLoops.{serial_loops};
 ghost use Rattle.ped_auto.specs.Editing.{IsOfStrategy, CanTry};
 ghost use Rattle.ped_auto.specs.Strategy.{Report, Tries, TriesEach, Privatises, Reduces, Attempts, Visits, VisitsAgain, Round, FurtherRounds, AreLeft, IsAuto};
 ghost use Rattle.ped_auto.specs.CutOff.{IsCutOff};
-ghost use Rattle.ped_auto.specs.CodeReports.{report_of, AreShort};
-ghost use Rattle.ped_auto.specs.CodeStages.{Goes, CutsOff, AnyOutcome, Tried, HasStatement, Refusal, IsScalarName, AreScalarNames, causes_of, TellsCause};
+ghost use Rattle.ped_auto.specs.CodeReports.{causes_of, report_of, AreShort};
+ghost use Rattle.ped_auto.specs.CodeStages.{Goes, CutsOff, AnyOutcome, Tried, HasStatement, Refusal, IsScalarName, AreScalarNames, TellsCause};
 
 use crate::editor::Editor;
 use crate::report::AutoReport;

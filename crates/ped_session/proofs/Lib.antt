@@ -1,7 +1,10 @@
 mod Accepted
 mod Answering
+mod AutoRows
+mod AutoScripts
 pub mod AutoSteps
 pub mod AutoTries
+mod AutoUndone
 mod CarriedTexts
 mod Doing
 mod Examples
@@ -19,6 +22,7 @@ mod PresentProgram
 mod PrintedSources
 mod RefusedSteps
 mod RunsInOrder
+mod ShortNames
 mod Shown
 mod States
 mod StepCommands

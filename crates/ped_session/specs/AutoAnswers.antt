@@ -13,9 +13,13 @@ use Rattle.ped_session.specs.Replies.{answer_row}
 use Rattle.ped_session.specs.Steps.{IsStep}
 use Rattle.ped_session.specs.AutoEditing.{session_editing}
 
+-- a command as a script has it: on a line of its own
+abbrev pub script_row : Command → List ℕ
+script_row command = command_text command ++ 10 ∷ []
+
 -- an accepted step, as a script has it, behind a plus sign
 abbrev pub accepted_row : Command → List ℕ
-accepted_row command = codes "+ " ++ command_text command ++ 10 ∷ []
+accepted_row command = codes "+ " ++ script_row command
 
 -- a DO that is left, with the first cause against `parallel`
 abbrev pub left_row : ℕ × Cause → List ℕ

@@ -123,9 +123,11 @@ grows_by : (step : MaybeStep) → MatchStep step ⊤ (λ at. (t new : ProgramTre
     → (s next : State) (t : ProgramTree) → MatchStep step ⊥ (TransformsTo s Changed next) → ReadsValid s.present t → (u : ProgramTree) × ReadsValid next.present u × (count_of t ≤ count_of u)
 grows_by no_step grow s next t h reads = absurd h
 grows_by (some_step at) grow s next t h reads =
-    let a = taken at s next h.1 in
-    (a.new, reads_new at s next a,
-    subst (λ (v : ProgramTree). count_of v ≤ count_of a.new) (one_program s.present a.tree t a.reads reads) (grow a.tree a.new a.keep a.there a.free a.makes))
+    let a = taken at s next h.1 in (
+      a.new,
+      reads_new at s next a,
+      subst (λ (v : ProgramTree). count_of v ≤ count_of a.new) (one_program s.present a.tree t a.reads reads) (grow a.tree a.new a.keep a.there a.free a.makes),
+    )
 
 -- behind `parallel` it has fewer DOs that aren't PARALLEL DOs
 falls : (number : ℕ) (s next : State) (t u : ProgramTree) → TakesStep (Parallel number) s Changed next → ReadsValid s.present t → ReadsValid next.present u → length (serial_loops u) < length (serial_loops t)

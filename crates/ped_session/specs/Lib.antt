@@ -9,6 +9,7 @@ pub mod Adding
 pub mod AutoAnswers
 pub mod AutoEditing
 pub mod AutoEditingLaws
+pub mod AutoScripts
 pub mod Blocks
 pub mod Changing
 pub mod CodeStepReplies

@@ -1,5 +1,5 @@
 -- `auto` has something to tell in each state whose sources are printed texts of valid programs.
-use Rattle.std.proofs.Common.{◌≡◌, ◌⊎◌, inl, inr, ℕ, List, All, Option, Some, None, is_some, true, refl, sym, subst}
+use Rattle.std.proofs.Common.{◌≡◌, ◌⊎◌, inl, inr, ℕ, List, is_some, true, refl, sym, subst}
 use Rattle.std.specs.Prelude.{⊤}
 use Rattle.std.proofs.lemmas.List.Elements.{All-nil, All-cons}
 use Rattle.ped_answer.specs.ped_session.specs.ped_tree.specs.Tree.{ProgramTree}
@@ -10,10 +10,9 @@ use Rattle.ped_answer.specs.ped_session.specs.ped_graph.specs.Update.Fresh.{test
 use Rattle.ped_answer.specs.ped_session.specs.ped_valid.specs.Validity.{ReadsValid}
 use Rattle.ped_answer.specs.ped_session.specs.ped_valid.proofs.OneVerdict.{valid_prints}
 use Rattle.ped_answer.specs.ped_session.specs.ped_transformations.specs.ped_reindex.specs.ped_loops.specs.ped_scalar.specs.ped_rules.specs.ped_loop_runs.specs.ped_bodies.specs.ped_steps.specs.Causes.{Cause}
-use Rattle.ped_answer.specs.ped_session.specs.ped_transformations.specs.ped_reindex.specs.ped_loops.specs.ped_scalar.specs.ped_rules.specs.Steps.{transformation, StepAt, MaybeStep, no_step, some_step, MatchStep}
+use Rattle.ped_answer.specs.ped_session.specs.ped_transformations.specs.ped_reindex.specs.ped_loops.specs.ped_scalar.specs.ped_rules.specs.Steps.{transformation, MaybeStep, no_step, some_step, MatchStep}
 use Rattle.ped_answer.specs.ped_session.specs.ped_transformations.specs.ped_auto.specs.SerialLoops.{IsNumber}
-use Rattle.ped_answer.specs.ped_session.specs.ped_transformations.specs.ped_auto.specs.CarriedNames.{AreCarried, carried_names}
-use Rattle.ped_answer.specs.ped_session.specs.ped_transformations.specs.ped_auto.specs.Editing.{IsOfStrategy, place_of, IsAt}
+use Rattle.ped_answer.specs.ped_session.specs.ped_transformations.specs.ped_auto.specs.CarriedNames.{carried_names}
 use Rattle.ped_answer.specs.ped_session.specs.ped_transformations.specs.ped_auto.proofs.SomeCourse as course
 use Rattle.ped_answer.specs.ped_session.specs.ped_transformations.specs.Table.{step_of}
 use Rattle.ped_answer.specs.ped_session.proofs.AutoTries.{there, of_try}
@@ -93,11 +92,16 @@ settled_by (some_step at) s t all reads is goes = by (goes t reads.valid)
     by (inl (c, cause)) = inr (c, (is.0, forbidden t reads here c cause (refl, refl)))
     by (inr (none, new, keep, makes, valid)) =
         let next : State = changed_to (program_text new) (change_by at.kind) (tested_pairs t new keep) s in
-        inl (next, next.tested, ((is.0, transformed t new keep reads here none makes valid refl refl), refl), record {
-          past = All-cons IsPrintedOther (s.present, change_by at.kind) s.past all.present all.past;
-          present = (new, valid, refl);
-          future = All-nil IsPrintedOther;
-        })
+        inl (
+          next,
+          next.tested,
+          ((is.0, transformed t new keep reads here none makes valid refl refl), refl),
+          record {
+            past = All-cons IsPrintedOther (s.present, change_by at.kind) s.past all.present all.past;
+            present = (new, valid, refl);
+            future = All-nil IsPrintedOther;
+          },
+        )
 
 -- so each command that the strategy tries is accepted or refused
 session_decided : course.IsDecided session_editing ArePrinted

@@ -1,7 +1,8 @@
 use Rattle.std.proofs.Common.{◌-◌, arith}
 use Rattle.std.proofs.Math.Nat.{le_trans}
 use Rattle.ped_auto.specs.CutOff.{IsCutOff}
-use Rattle.ped_auto.specs.CodeStages.{stage, causes_of}
+use Rattle.ped_auto.specs.CodeReports.{causes_of}
+use Rattle.ped_auto.specs.CodeStages.{stage}
 use Rattle.ped_auto.specs.CodeReports.{report_of}
 use Rattle.ped_auto.proofs.Whole.{AllRounds, auto_done, cut_in_first, cut_in_further, cut_off, few_tests, just_tests, cut_from_begin}
 use Rattle.ped_auto.proofs.Outcomes.{when_err}

@@ -1,6 +1,6 @@
 use Rattle.std.proofs.Common.{◌≡◌, ◌++◌, drop}
 use Rattle.std.specs.List.{flat_map}
-use Rattle.ped_transformations.specs.ped_auto.specs.CodeStages.{causes_of}
+use Rattle.ped_transformations.specs.ped_auto.specs.CodeReports.{causes_of}
 use Rattle.ped_session.specs.AutoAnswers.{left_row}
 use Rattle.ped_session.proofs.auto_texts.push_left.Given as goal
 

@@ -18,9 +18,9 @@ returns g c =
       those.all,
       those.are,
       h ∙ ap files_last (
-        ap (map name_text) c.deref-2.ensures.value
-        ∙ c.in_ok-names.ensures
-        ∙ ap (λ (es : List CodeEdge). with_names [] (map (λ e. (edge_of e).name) es)) c.deref.ensures.value
-        ∙ ap (with_names []) (names_of_edges c.in_ok-edges.edges.items ∙ ap (map (λ (e : Edge). e.name)) those.those)
-      ),
+          ap (map name_text) c.deref-2.ensures.value
+          ∙ c.in_ok-names.ensures
+          ∙ ap (λ (es : List CodeEdge). with_names [] (map (λ e. (edge_of e).name) es)) c.deref.ensures.value
+          ∙ ap (with_names []) (names_of_edges c.in_ok-edges.edges.items ∙ ap (map (λ (e : Edge). e.name)) those.those)
+          ),
     )) c.files_last.ensures

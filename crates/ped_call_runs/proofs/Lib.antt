@@ -1,0 +1,3 @@
+pub mod FollowingValues
+pub mod FollowingStores
+pub mod FollowingEndings

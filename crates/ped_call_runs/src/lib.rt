@@ -4,3 +4,5 @@
 
 pub use ped_calls;
 pub use ped_steps;
+
+pub mod laws;

@@ -78,6 +78,16 @@ stored_as f w = record { cell = f w.cell; number = w.number }
 abbrev fine : Stored → Result Stored ℕ
 fine r = Ok r
 
+abbrev good_cell : Cell → Result Cell ℕ
+good_cell c = Ok c
+
+pub cell_one : (c d : Cell) → good_cell c ≡ good_cell d → c ≡ d
+cell_one c d e = ok_one c d e
+
+-- a renamed cell that is found
+pub fine_cell : (f : Cell → Cell) (c d : Cell) → good_cell c ≡ good_cell d → good_cell (f c) ≡ good_cell (f d)
+fine_cell f c d e = ap (λ (z : Cell). good_cell (f z)) (ok_one c d e)
+
 module _ (g other : Names) (s w : Store) (m k : Meanings) where
   abbrev Reads : List (List ℕ) → Type 0
   Reads xs = Each (ReadsAlike g other s w m k) xs

@@ -1,3 +1,4 @@
 pub mod FollowingValues
 pub mod FollowingStores
 pub mod FollowingEndings
+pub mod FollowingNames

@@ -136,7 +136,7 @@ abbrev mutual
   unit_run call size i (Assign left right) n scope s = run_or call i (Assign left right) n scope s (call_of left right)
   unit_run call size i (If condition then_part else_part) n scope s =
       run_if (names_in i.setting scope) (place_of i.setting n scope) (cond_replaced i.stands condition)
-        (unit_run_all call size i then_part (n + 1) scope) (unit_run_all call size i else_part (n + 1 + all_sized size then_part) scope) s
+      (unit_run_all call size i then_part (n + 1) scope) (unit_run_all call size i else_part (n + 1 + all_sized size then_part) scope) s
   unit_run call size i (Do h body) n scope s =
       run_do i.setting n scope (head_replaced i.stands h) (stmts_replaced i.stands body) (λ f. unit_run_all call size i body (n + 1) (f ∷ scope)) s
   unit_run call size i (Print items) n scope s = run i.setting (stmt_replaced i.stands (Print items)) n scope s
@@ -154,7 +154,7 @@ abbrev pub run_called : CallRun → (Called → ℕ) → Instance → Called →
 run_called call size i c n scope s None = nothing_done s
 run_called call size i c n scope s (Some v) =
     then_run (run_arguments i n v.formals (listed c.arguments) (n + 1) scope (without_own n s))
-      (unit_run_all call size (called_instance i n v c) v.tree.body (number_inside c n) scope)
+    (unit_run_all call size (called_instance i n v c) v.tree.body (number_inside c n) scope)
 
 -- the run of a CALL, where CALLs stand so deep in one another at most (ANSI X3.9-1978, section 15.6.3; this project)
 abbrev pub call_run : ℕ → ProgramUnits → CallRun

@@ -2,3 +2,4 @@ pub mod FollowingValues
 pub mod FollowingStores
 pub mod FollowingEndings
 pub mod FollowingNames
+pub mod FollowingExits

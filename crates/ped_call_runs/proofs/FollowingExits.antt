@@ -30,29 +30,29 @@ module _ (P : List ℕ → Bool) where
   -- a name of the list of which the test holds
   any_one : (xs : List (List ℕ)) → list_any P xs ≡ true → (z : List ℕ) × (is_among z xs ≡ true) × (P z ≡ true)
   any_one [] h = absurd cc
-  any_one (x ∷ xs) h = go (P x) refl
+  any_one (x ∷ xs) h = go (P x) refl (any_one xs)
     where
-      go : (t : Bool) → P x ≡ t → (z : List ℕ) × (is_among z (x ∷ xs) ≡ true) × (P z ≡ true)
-      go true e = (x, ap (λ (t : Bool). t || is_among x xs) (same_itself x), e)
-      go false e =
-          let r = any_one xs (sym (ap (λ (t : Bool). t || list_any P xs) e) ∙ h) in
+      later : (t u : Bool) → u ≡ true → (t || u) ≡ true
+      later true u k = refl
+      later false u k = k
+
+      go : (t : Bool) → P x ≡ t → (list_any P xs ≡ true → (z : List ℕ) × (is_among z xs ≡ true) × (P z ≡ true)) → (z : List ℕ) × (is_among z (x ∷ xs) ≡ true) × (P z ≡ true)
+      go true e more = (x, ap (λ (t : Bool). t || is_among x xs) (same_itself x), e)
+      go false e more =
+          let r = more (sym (ap (λ (t : Bool). t || list_any P xs) e) ∙ h) in
           (r.0, later (is_same_text r.0 x) (is_among r.0 xs) r.1, r.2)
-        where
-          later : (t u : Bool) → u ≡ true → t || u ≡ true
-          later true u k = refl
-          later false u k = k
 
   one_any : (z : List ℕ) (ys : List (List ℕ)) → is_among z ys ≡ true → P z ≡ true → list_any P ys ≡ true
   one_any z [] h k = absurd cc
-  one_any z (y ∷ ys) h k = go (is_same_text z y) refl
+  one_any z (y ∷ ys) h k = go (is_same_text z y) refl (one_any z ys)
     where
-      later : (t u : Bool) → u ≡ true → t || u ≡ true
+      later : (t u : Bool) → u ≡ true → (t || u) ≡ true
       later true u l = refl
       later false u l = l
 
-      go : (t : Bool) → is_same_text z y ≡ t → P y || list_any P ys ≡ true
-      go true e = ap (λ (t : Bool). t || list_any P ys) (subst (λ (x : List ℕ). P x ≡ true) (same_is z y e) k)
-      go false e = later (P y) (list_any P ys) (one_any z ys (sym (ap (λ (t : Bool). t || is_among z ys) e) ∙ h) k)
+      go : (t : Bool) → is_same_text z y ≡ t → (is_among z ys ≡ true → P z ≡ true → list_any P ys ≡ true) → (P y || list_any P ys) ≡ true
+      go true e more = ap (λ (t : Bool). t || list_any P ys) (subst (λ (x : List ℕ). P x ≡ true) (same_is z y e) k)
+      go false e more = later (P y) (list_any P ys) (more (sym (ap (λ (t : Bool). t || is_among z ys) e) ∙ h) k)
 
   -- some name passes the test in both lists or in none
   pub any_same : (xs ys : List (List ℕ)) → HaveSameMembers xs ys → list_any P xs ≡ list_any P ys

@@ -57,11 +57,11 @@ unheld_bound free h = absurd cc
 -- the cell that a scalar stands for may be read and written where its name may
 pub cell_bound : (b : List ℕ → Bond) (scope : Scope) (y : List ℕ) → is_bound (b y) ≡ true → is_bound (bond_of b (cell_of scope y)) ≡ true
 cell_bound b [] y h = h
-cell_bound b (f ∷ fs) y h = go (is_among y f.private)
+cell_bound b (f ∷ fs) y h = go (is_among y f.private) (cell_bound b fs y h)
   where
-    go : (t : Bool) → is_bound (bond_of b (if t then Private y (iterations_of (turns_of (f ∷ fs))) else cell_of fs y)) ≡ true
-    go true = unheld_bound (b y) h
-    go false = cell_bound b fs y h
+    go : (t : Bool) → is_bound (bond_of b (cell_of fs y)) ≡ true → is_bound (bond_of b (if t then Private y (iterations_of (turns_of (f ∷ fs))) else cell_of fs y)) ≡ true
+    go true outer = unheld_bound (b y) h
+    go false outer = outer
 
 -- two places in the same iterations, where each name stands for what the renamed one stands for
 pub record AreNamed (f : List ℕ → List ℕ) (scope other : Scope) : Type 0 where

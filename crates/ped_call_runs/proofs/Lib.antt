@@ -3,3 +3,4 @@ pub mod FollowingStores
 pub mod FollowingEndings
 pub mod FollowingNames
 pub mod FollowingExits
+pub mod FollowingReads

@@ -97,9 +97,9 @@ module _ (b : List ℕ → Bond) (f : List ℕ → List ℕ) (twice : (x : List 
       ∙ sym (among_named (f z) (sorted_once xs))
       ∙ ap (λ (y : List ℕ). is_among y (map f (sorted_once xs))) (twice z)
 
-  pub inner_named : (parallel : Bool) (body other : StmtTrees) → all_loop_variables other ≡ map f (all_loop_variables body) → HaveSameMembers (inner_variables parallel other) (map f (inner_variables parallel body))
+  pub inner_named : (parallel : Bool) (body other : StmtTrees) → (parallel ≡ true → all_loop_variables other ≡ map f (all_loop_variables body)) → HaveSameMembers (inner_variables parallel other) (map f (inner_variables parallel body))
   inner_named false body other e z = refl
-  inner_named true body other e z = ap (λ (xs : List (List ℕ)). is_among z (sorted_once xs)) e ∙ sorted_named (all_loop_variables body) z
+  inner_named true body other e z = ap (λ (xs : List (List ℕ)). is_among z (sorted_once xs)) (e refl) ∙ sorted_named (all_loop_variables body) z
 
   -- a name that is private on one side
   pub private_named : (x : List ℕ) (xs ys : List (List ℕ)) → HaveSameMembers ys (map f xs) → is_among (f x) ys ≡ is_among x xs

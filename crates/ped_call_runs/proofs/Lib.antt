@@ -4,3 +4,5 @@ pub mod FollowingEndings
 pub mod FollowingNames
 pub mod FollowingExits
 pub mod FollowingReads
+pub mod FollowingLoops
+pub mod FollowingStatements

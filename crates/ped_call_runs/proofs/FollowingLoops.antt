@@ -14,7 +14,7 @@ use Rattle.ped_steps.specs.ped_eval.specs.Evaluation.{Seen}
 use Rattle.ped_steps.specs.ped_eval.specs.Loops.{Limits, increment, iteration_count, sorted_once, inner_variables, Entered, entered_with, copied_names, frame, left_in_variable, exit_touches}
 use Rattle.ped_steps.specs.ped_laws.proofs.RunLaws.Turning.{once_among}
 use Rattle.ped_call_runs.proofs.FollowingValues.{Each}
-use Rattle.ped_call_runs.proofs.FollowingStores.{Bond, held, IsBelow, is_bound}
+use Rattle.ped_call_runs.proofs.FollowingStores.{Bond, IsBelow, is_bound}
 use Rattle.ped_call_runs.proofs.FollowingNames.{named_cell, bond_of, AreNamed, named_inside, same_names, IsUnheld, MeansAlike, NamedAlike}
 use Rattle.ped_call_runs.proofs.FollowingExits.{HaveSameMembers, inner_named, private_named, exit_below}
 
@@ -72,25 +72,23 @@ pub record HeadsAlike (b : List ℕ → Bond) (f : List ℕ → List ℕ) (p q :
   pub inner_bound : h.parallel ≡ true → Each (λ y. is_bound (b y) ≡ true) variables
 
 module _ (b : List ℕ → Bond) (f : List ℕ → List ℕ) (twice : (x : List ℕ) → f (f x) ≡ x) where
-  -- a name of which a number is known is none that may be written
-  held_apart : (y x : List ℕ) (n : ℤ) → b y ≡ held n → is_bound (b x) ≡ true → is_same_text y x ≡ false
-  held_apart y x n h k = go (is_same_text y x) refl
+  -- a name that may not be written is none that may
+  unbound_apart : (y x : List ℕ) → is_bound (b y) ≡ false → is_bound (b x) ≡ true → is_same_text y x ≡ false
+  unbound_apart y x h k = go (is_same_text y x) refl
     where
       go : (t : Bool) → is_same_text y x ≡ t → t ≡ false
       go false e = refl
-      go true e =
-          let z : is_bound (held n) ≡ true = ap is_bound (sym h) ∙ ap (λ (a : List ℕ). is_bound (b a)) (same_is y x e) ∙ k in
-          absurd cc
+      go true e = absurd (both_ways (is_bound (b y)) h (ap (λ (a : List ℕ). is_bound (b a)) (same_is y x e) ∙ k))
 
-  held_outside : (y : List ℕ) (n : ℤ) (xs : List (List ℕ)) → b y ≡ held n → Each (λ x. is_bound (b x) ≡ true) xs → is_among y xs ≡ false
-  held_outside y n [] h k = refl
-  held_outside y n (x ∷ xs) h k = (λ i. held_apart y x n h k.0 i || held_outside y n xs h k.1 i)
+  unbound_outside : (y : List ℕ) (xs : List (List ℕ)) → is_bound (b y) ≡ false → Each (λ x. is_bound (b x) ≡ true) xs → is_among y xs ≡ false
+  unbound_outside y [] h k = refl
+  unbound_outside y (x ∷ xs) h k = λ i. unbound_apart y x h k.0 i || unbound_outside y xs h k.1 i
 
-  -- further inside, names of which numbers are known are as they were
+  -- further inside, names that may not be written are as they were
   pub unheld_inside : (r : Frame) (scope : Scope) → is_bound (b r.variable) ≡ true → Each (λ x. is_bound (b x) ≡ true) r.private → IsUnheld b scope → IsUnheld b (r ∷ scope)
   unheld_inside r scope variable private outer = record {
-    index = λ y n h. ap (λ (t : Bool). if t then Some r.turn.value else index_value scope y) (held_apart y r.variable n h variable) ∙ outer.index y n h;
-    cell = λ y n h. ap (λ (t : Bool). if t then Private y (iterations_of (turns_of (r ∷ scope))) else cell_of scope y) (held_outside y n r.private h private) ∙ outer.cell y n h;
+    index = λ y h. ap (λ (t : Bool). if t then Some r.turn.value else index_value scope y) (unbound_apart y r.variable h variable) ∙ outer.index y h;
+    cell = λ y h. ap (λ (t : Bool). if t then Private y (iterations_of (turns_of (r ∷ scope))) else cell_of scope y) (unbound_outside y r.private h private) ∙ outer.cell y h;
   }
 
   module _ (p q : Setting) (m k : Meanings) where

@@ -69,10 +69,10 @@ pub record AreNamed (f : List ℕ → List ℕ) (scope other : Scope) : Type 0 w
   pub index : (x : List ℕ) → index_value other (f x) ≡ index_value scope x
   pub cell : (x : List ℕ) → cell_of other (f x) ≡ named_cell f (cell_of scope x)
 
--- a name of which a number is known is no DO variable round the place, and private to no iteration
+-- a name that may not be written is no DO variable round the place, and private to no iteration
 pub record IsUnheld (b : List ℕ → Bond) (scope : Scope) : Type 0 where
-  pub index : (y : List ℕ) (n : ℤ) → b y ≡ held n → index_value scope y ≡ None
-  pub cell : (y : List ℕ) (n : ℤ) → b y ≡ held n → cell_of scope y ≡ Scalar y
+  pub index : (y : List ℕ) → is_bound (b y) ≡ false → index_value scope y ≡ None
+  pub cell : (y : List ℕ) → is_bound (b y) ≡ false → cell_of scope y ≡ Scalar y
 
 module _ (f : List ℕ → List ℕ) (twice : (x : List ℕ) → f (f x) ≡ x) where
   pub cell_twice : (c : Cell) → named_cell f (named_cell f c) ≡ c
@@ -96,7 +96,7 @@ module _ (f : List ℕ → List ℕ) (twice : (x : List ℕ) → f (f x) ≡ x) 
           back false h = refl
           back true h =
               let same : x ≡ y = sym (twice x) ∙ ap f (same_is (f x) (f y) h) ∙ twice y in
-              both_ways (is_same_text x y) e (ap (is_same_text x) (sym same) ∙ same_itself x)
+              absurd (both_ways (is_same_text x y) e (ap (is_same_text x) (sym same) ∙ same_itself x))
 
   -- further inside, in an iteration of renamed loops
   pub named_inside : (r z : Frame) (scope other : Scope) → z.turn ≡ r.turn → z.variable ≡ f r.variable → ((x : List ℕ) → is_among (f x) z.private ≡ is_among x r.private)
@@ -210,8 +210,8 @@ module _ (b : List ℕ → Bond) (f : List ℕ → List ℕ) (twice : (x : List 
       let holds : s (Scalar y) ≡ Number n = subst (λ (z : Bond). Agrees z (s (Scalar y)) (w (Scalar (f y)))) h (below (Scalar y)) in
       subst (λ (z : Evaluated ℤ). Follows itself (value (names_in p scope) (Var y) s) z) (sym (literal_comes (names_in q other) w n r))
       (subst (λ (o : Option ℤ). Follows itself (name_value o (names_in p scope) y s) (given (Ok n))) (sym c)
-      (subst (λ (o : Option ℤ). Follows itself (variable_value o s (cell_of scope y)) (given (Ok n))) (sym (unheld.index y n h))
-      (subst (λ (a : Cell). Follows itself (read_cell s a) (given (Ok n))) (sym (unheld.cell y n h)) (λ v e. sym (ap number_read holds) ∙ e))))
+      (subst (λ (o : Option ℤ). Follows itself (variable_value o s (cell_of scope y)) (given (Ok n))) (sym (unheld.index y (ap is_bound h)))
+      (subst (λ (a : Cell). Follows itself (read_cell s a) (given (Ok n))) (sym (unheld.cell y (ap is_bound h))) (λ v e. sym (ap number_read holds) ∙ e))))
 
   -- a name of the subroutine that is read
   pub reads_alike : (m k : Meanings) (x : List ℕ) → MeansAlike b f p q m k x → ReadsAlike (names_in p scope) (names_in q other) s w m k x

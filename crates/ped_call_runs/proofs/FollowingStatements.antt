@@ -130,7 +130,7 @@ module _ (b : List ℕ → Bond) (f : List ℕ → List ℕ) (twice : (x : List 
   mutual
     pub statement_follows : CallsFollow → (t : StmtTree) (n j : ℕ) (g : Given) → Stand t n j g → (scope other : Scope) → AreNamed f scope other → IsUnheld b scope
         → RunsAlike Below (unit_run call size i t n scope) (run q (expanded_in inner (stmt_replaced k t) g).statement j other)
-    statement_follows calls (Assign left right) n j g h scope other same unheld = assign_follows scope other same unheld calls left right n j g (call_of left right) refl h
+    statement_follows calls (Assign left right) n j g h scope other same unheld s w below = assign_follows scope other same unheld calls left right n j g (call_of left right) refl h s w below
     statement_follows calls (If c x y) n j g h scope other same unheld s w below =
         run_if_alike Below (names_in p scope) (names_in q other) (place_of p n scope) (place_of q j other) (cond_replaced m c) (cond_replaced k c)
         (unit_run_all call size i x (n + 1) scope) (unit_run_all call size i y (n + 1 + all_sized size x) scope)

@@ -2,7 +2,4 @@
 //! does anything; its contract is the law.
 #![tactic(auto)]
 
-pub use ped_calls;
-pub use ped_steps;
-
-pub mod laws;
+mod laws;

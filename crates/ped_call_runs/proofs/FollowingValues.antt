@@ -78,6 +78,12 @@ stored_as f w = record { cell = f w.cell; number = w.number }
 abbrev fine : Stored → Result Stored ℕ
 fine r = Ok r
 
+abbrev good_number : ℤ → Result ℤ ℕ
+good_number n = Ok n
+
+pub number_one : (m n : ℤ) → good_number m ≡ good_number n → m ≡ n
+number_one m n e = ok_one m n e
+
 abbrev good_cell : Cell → Result Cell ℕ
 good_cell c = Ok c
 
@@ -87,6 +93,29 @@ cell_one c d e = ok_one c d e
 -- a renamed cell that is found
 pub fine_cell : (f : Cell → Cell) (c d : Cell) → good_cell c ≡ good_cell d → good_cell (f c) ≡ good_cell (f d)
 fine_cell f c d e = ap (λ (z : Cell). good_cell (f z)) (ok_one c d e)
+
+-- what an assignment stores, where its value and its cell follow
+pub stored_follows : (f : Cell → Cell) (g other : Names) (left right other_left other_right : ExprTree) (s w : Store) → Follows itself (value g right s) (value other other_right w) → Follows f (target g left s) (target other other_left w)
+    → Follows (stored_as f) (assigned g left right s) (assigned other other_left other_right w)
+stored_follows f g other left right other_left other_right s w values targets =
+    then_follows itself (stored_as f) (value g right s) (value other other_right w)
+    (λ v. target g left s >>> λ c. given (storable v) >>> λ n. given (Ok (record { cell = c; number = n })))
+    (λ v. target other other_left w >>> λ c. given (storable v) >>> λ n. given (Ok (record { cell = c; number = n })))
+    values
+    (λ v. then_follows f (stored_as f) (target g left s) (target other other_left w)
+    (λ c. given (storable v) >>> λ n. given (Ok (record { cell = c; number = n })))
+    (λ c. given (storable v) >>> λ n. given (Ok (record { cell = c; number = n })))
+    targets
+    (λ c. then_follows itself (stored_as f) (given (storable v)) (given (storable v))
+    (λ n. given (Ok (record { cell = c; number = n }))) (λ n. given (Ok (record { cell = f c; number = n })))
+    (λ n e. e) (λ n r e. ap (λ (z : Stored). fine (stored_as f z)) (ok_one (record { cell = c; number = n }) r e))))
+
+pub stored_may : (may : Cell → Bool) (g : Names) (left right : ExprTree) (s : Store) → ComesTo (λ c. may c ≡ true) (target g left s) → ComesTo (λ r. may r.cell ≡ true) (assigned g left right s)
+stored_may may g left right s target_may r e =
+    let one = came (value g right s).seen (value g right s).result (λ v. target g left s >>> λ c. given (storable v) >>> λ n. given (Ok (record { cell = c; number = n }))) r e in
+    let two = came (target g left s).seen (target g left s).result (λ c. given (storable one.0) >>> λ n. given (Ok (record { cell = c; number = n }))) r one.2 in
+    let three = came (given (storable one.0)).seen (storable one.0) (λ n. given (Ok (record { cell = two.0; number = n }))) r two.2 in
+    subst (λ (z : Stored). may z.cell ≡ true) (ok_one (record { cell = two.0; number = three.0 }) r three.2) (target_may two.0 two.1)
 
 module _ (g other : Names) (s w : Store) (m k : Meanings) where
   abbrev Reads : List (List ℕ) → Type 0
@@ -202,23 +231,8 @@ module _ (g other : Names) (s w : Store) (m k : Meanings) where
     target_may (Call i es) t = λ v e. absurd cc
 
     pub assigned_may : (left right : ExprTree) → Stores (assigned_left left) → ComesTo (λ r. may r.cell ≡ true) (assigned g (replaced m left) (replaced m right) s)
-    assigned_may left right t r e =
-        let one = came (value g (replaced m right) s).seen (value g (replaced m right) s).result (λ v. target g (replaced m left) s >>> λ c. given (storable v) >>> λ n. given (Ok (record { cell = c; number = n }))) r e in
-        let two = came (target g (replaced m left) s).seen (target g (replaced m left) s).result (λ c. given (storable one.0) >>> λ n. given (Ok (record { cell = c; number = n }))) r one.2 in
-        let three = came (given (storable one.0)).seen (storable one.0) (λ n. given (Ok (record { cell = two.0; number = n }))) r two.2 in
-        subst (λ (z : Stored). may z.cell ≡ true) (ok_one (record { cell = two.0; number = three.0 }) r three.2) (target_may left t two.0 two.1)
+    assigned_may left right t = stored_may may g (replaced m left) (replaced m right) s (target_may left t)
 
     pub assigned_follows : (left right : ExprTree) → Reads (expr_names left) → Reads (expr_names right) → Stores (assigned_left left)
         → Follows (stored_as f) (assigned g (replaced m left) (replaced m right) s) (assigned other (replaced k left) (replaced k right) w)
-    assigned_follows left right a b t =
-        then_follows itself (stored_as f) (value g (replaced m right) s) (value other (replaced k right) w)
-        (λ v. target g (replaced m left) s >>> λ c. given (storable v) >>> λ n. given (Ok (record { cell = c; number = n })))
-        (λ v. target other (replaced k left) w >>> λ c. given (storable v) >>> λ n. given (Ok (record { cell = c; number = n })))
-        (value_follows right b)
-        (λ v. then_follows f (stored_as f) (target g (replaced m left) s) (target other (replaced k left) w)
-        (λ c. given (storable v) >>> λ n. given (Ok (record { cell = c; number = n })))
-        (λ c. given (storable v) >>> λ n. given (Ok (record { cell = c; number = n })))
-        (target_follows left a t)
-        (λ c. then_follows itself (stored_as f) (given (storable v)) (given (storable v))
-        (λ n. given (Ok (record { cell = c; number = n }))) (λ n. given (Ok (record { cell = f c; number = n })))
-        (λ n e. e) (λ n r e. ap (λ (z : Stored). fine (stored_as f z)) (ok_one (record { cell = c; number = n }) r e))))
+    assigned_follows left right a b t = stored_follows f g other (replaced m left) (replaced m right) (replaced k left) (replaced k right) s w (value_follows right b) (target_follows left a t)

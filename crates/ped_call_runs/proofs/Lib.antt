@@ -6,3 +6,5 @@ pub mod FollowingExits
 pub mod FollowingReads
 pub mod FollowingLoops
 pub mod FollowingStatements
+pub mod FollowingCalls
+pub mod FollowingDepths

@@ -8,3 +8,5 @@ pub mod FollowingLoops
 pub mod FollowingStatements
 pub mod FollowingCalls
 pub mod FollowingDepths
+pub mod NothingReplaced
+pub mod FollowingUnits

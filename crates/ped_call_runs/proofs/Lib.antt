@@ -10,3 +10,5 @@ pub mod FollowingCalls
 pub mod FollowingDepths
 pub mod NothingReplaced
 pub mod FollowingUnits
+pub mod RisingNumbers
+pub mod SwappedNames

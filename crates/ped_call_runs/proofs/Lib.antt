@@ -12,3 +12,4 @@ pub mod NothingReplaced
 pub mod FollowingUnits
 pub mod RisingNumbers
 pub mod SwappedNames
+pub mod GivenKept

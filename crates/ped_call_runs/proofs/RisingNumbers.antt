@@ -53,7 +53,7 @@ module _ (f : ℕ → ℕ) (rises : (j k : ℕ) → j < k → f j < f k) (keeps 
 
 -- numbers past places are told back
 pub past_told_back : (gs : List ℕ) → (back : ℕ → ℕ) × IsToldBack (number_past gs) back
-past_told_back gs = (_, told_back (number_past gs) rises keeps least)
+past_told_back gs = (λ n. below (number_past gs) rises keeps least n n, told_back (number_past gs) rises keeps least)
   where
     rises : (j k : ℕ) → j < k → number_past gs j < number_past gs k
     rises j k h = let r = passed_rises gs j k (omega (arith, h)) in omega (arith, r, h)

@@ -13,7 +13,7 @@ use Rattle.ped_calls.specs.ped_valid.specs.ped_symbols.specs.Values.{Values, fix
 use Rattle.ped_calls.specs.Forms.{Called}
 use Rattle.ped_calls.specs.Units.{ProgramUnit, ProgramUnits, unit_of, call_of}
 use Rattle.ped_calls.specs.Refusals.{save_of_formals, for_names}
-use Rattle.ped_calls.specs.Expanding.{Given, free_name, with_new, declared_as, with_local, stmts_replaced, is_variable_name, Bound, standing, bound_by, bound_arguments, constants_of, Renamed, with_renamed, renamed, meanings_in, Expanded, expanded_or, expanded_in, all_expanded_in, unit_expanded, call_expanded, nothing_given, main_expanded, expansion}
+use Rattle.ped_calls.specs.Expanding.{Given, free_name, with_new, declared_as, with_local, stmts_replaced, is_variable_name, Bound, standing, bound_by, bound_arguments, body_names, constants_of, with_formals, with_constants, Renamed, with_renamed, renamed, meanings_in, Expanded, expanded_or, expanded_in, all_expanded_in, unit_expanded, call_expanded, nothing_given, main_expanded, expansion}
 use Rattle.ped_steps.specs.ped_eval.specs.Loops.{sorted_once}
 use Rattle.ped_steps.specs.ped_eval.specs.Outcomes.{live_names}
 
@@ -65,7 +65,7 @@ module _ (P : Given → Type 0) (new : (g : Given) → P g → P (with_new g)) (
       go (Some v) inner =
           let b : Bound = bound_arguments constants (listed c.arguments) g in
           all_state_kept P (call_expanded depth us []) inner (stmts_replaced (meanings_in v b).meanings v.tree.body) (meanings_in v b).given
-          (renamed_kept v _ _ (bound_kept constants (listed c.arguments) g h))
+          (renamed_kept v (body_names v) (record { meanings = with_constants (with_formals [] v.formals b.meant) (constants_of v); given = b.given }) (bound_kept constants (listed c.arguments) g h))
 
   -- and behind the main program
   pub main_kept : (us : ProgramUnits) (ts : StmtTrees) → P (nothing_given us) → P (main_expanded us ts).state

@@ -13,3 +13,4 @@ pub mod FollowingUnits
 pub mod RisingNumbers
 pub mod SwappedNames
 pub mod GivenKept
+pub mod ExpandedConstants

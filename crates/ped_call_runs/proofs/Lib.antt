@@ -14,3 +14,4 @@ pub mod RisingNumbers
 pub mod SwappedNames
 pub mod GivenKept
 pub mod ExpandedConstants
+pub mod Traces

@@ -15,3 +15,4 @@ pub mod SwappedNames
 pub mod GivenKept
 pub mod ExpandedConstants
 pub mod Traces
+pub mod TraceNumbers

@@ -16,3 +16,4 @@ pub mod GivenKept
 pub mod ExpandedConstants
 pub mod Traces
 pub mod TraceNumbers
+pub mod TraceCalls

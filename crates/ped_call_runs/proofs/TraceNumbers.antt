@@ -25,12 +25,27 @@ pub lie_joined : (lo hi : ℕ) (xs ys : List ℕ) → Lie lo hi xs → Lie lo hi
 lie_joined lo hi [] ys h k = k
 lie_joined lo hi (x ∷ xs) ys h k = (h.0, h.1, lie_joined lo hi xs ys h.2 k)
 
+zero_more : (n : ℕ) → n ≡ 0 + n
+zero_more n = omega (arith)
+
+one_longer : (a b c : ℕ) → a ≡ b + c → suc a ≡ suc b + c
+one_longer a b c h = omega (arith, h)
+
+one_behind : (a b c : ℕ) → a ≡ b + c → suc a ≡ b + suc c
+one_behind a b c h = omega (arith, h)
+
+at_most : (j n : ℕ) → j ≤ j + n
+at_most j n = omega (arith)
+
+sums : (a b c d x y z : ℕ) → a ≡ c + x → b ≡ d + y → z ≡ x + y → a + b ≡ c + d + z
+sums a b c d x y z h k l = omega (arith, h, k, l)
+
 pub length_joined : (xs ys : List ℕ) → length (xs ++ ys) ≡ length xs + length ys
-length_joined [] ys = omega (arith)
-length_joined (x ∷ xs) ys = let r = length_joined xs ys in omega (arith, r)
+length_joined [] ys = zero_more (length ys)
+length_joined (x ∷ xs) ys = one_longer (length (xs ++ ys)) (length xs) (length ys) (length_joined xs ys)
 
 pub passed_joined : (xs ys : List ℕ) (j : ℕ) → passed (xs ++ ys) j ≡ passed xs j + passed ys j
-passed_joined [] ys j = omega (arith)
+passed_joined [] ys j = zero_more (passed ys j)
 passed_joined (x ∷ xs) ys j = go (if nat_lt j x then 0 else 1) (passed_joined xs ys j)
   where
     go : (a : ℕ) → passed (xs ++ ys) j ≡ passed xs j + passed ys j → a + passed (xs ++ ys) j ≡ a + passed xs j + passed ys j
@@ -43,14 +58,14 @@ passed_all lo hi j (g ∷ gs) h k = go (nat_lt j g) refl (passed_all lo hi j gs 
   where
     go : (t : Bool) → nat_lt j g ≡ t → passed gs j ≡ length gs → (if t then 0 else 1) + passed gs j ≡ suc (length gs)
     go true e r = let a = ltb-true j g e in let b = h.1 in absurd (omega (arith, a, b, k))
-    go false e r = omega (arith, r)
+    go false e r = let s : 1 + passed gs j ≡ suc (length gs) = omega (arith, r) in s
 
 pub passed_none : (lo hi j : ℕ) (gs : List ℕ) → Lie lo hi gs → j ≤ lo → passed gs j ≡ 0
 passed_none lo hi j [] h k = refl
 passed_none lo hi j (g ∷ gs) h k = go (nat_lt j g) refl (passed_none lo hi j gs h.2 k)
   where
     go : (t : Bool) → nat_lt j g ≡ t → passed gs j ≡ 0 → (if t then 0 else 1) + passed gs j ≡ 0
-    go true e r = omega (arith, r)
+    go true e r = let s : 0 + passed gs j ≡ 0 = omega (arith, r) in s
     go false e r = let a = ltb-false j g e in let b = h.0 in absurd (omega (arith, a, b, k))
 
 -- a piece of a unit counts as its expansion and its gaps, and these lie in the expansion, which begins at this number
@@ -60,20 +75,26 @@ pub record IsCounted (j size count : ℕ) (t : Trace) : Type 0 where
 
 pub joined_counted : (j a b c d : ℕ) (s t : Trace) → IsCounted j a c s → IsCounted (j + c) b d t → IsCounted j (a + b) (c + d) (traced_before s t)
 joined_counted j a b c d s t h k = record {
-  sizes = let x = h.sizes in let y = k.sizes in let z = length_joined s.gaps t.gaps in omega (arith, x, y, z);
+  sizes = sums a b c d (length s.gaps) (length t.gaps) (length (s.gaps ++ t.gaps)) h.sizes k.sizes (length_joined s.gaps t.gaps);
   range = lie_joined j (j + (c + d)) s.gaps t.gaps (lie_wider j (j + c) j (j + (c + d)) s.gaps (omega (arith)) (omega (arith)) h.range) (lie_wider (j + c) (j + c + d) j (j + (c + d)) t.gaps (omega (arith)) (omega (arith)) k.range);
 }
+
+one_before : (a c x : ℕ) → a ≡ c + x → 1 + a ≡ c + 1 + x
+one_before a c x h = omega (arith, h)
+
+two_before : (a b c d x : ℕ) → a + b ≡ c + d + x → 1 + a + b ≡ c + d + 1 + x
+two_before a b c d x h = omega (arith, h)
 
 -- with one statement before it
 one_more : (j a c : ℕ) (t : Trace) → IsCounted (j + 1) a c t → IsCounted j (1 + a) (c + 1) t
 one_more j a c t h = record {
-  sizes = let x = h.sizes in omega (arith, x);
+  sizes = one_before a c (length t.gaps) h.sizes;
   range = lie_wider (j + 1) (j + 1 + c) j (j + (c + 1)) t.gaps (omega (arith)) (omega (arith)) h.range;
 }
 
 one_more_of_two : (j a b c d : ℕ) (s t : Trace) → IsCounted (j + 1) (a + b) (c + d) (traced_before s t) → IsCounted j (1 + a + b) (c + d + 1) (traced_before s t)
 one_more_of_two j a b c d s t h = record {
-  sizes = let x = h.sizes in omega (arith, x);
+  sizes = two_before a b c d (length (s.gaps ++ t.gaps)) h.sizes;
   range = lie_wider (j + 1) (j + 1 + (c + d)) j (j + (c + d + 1)) (s.gaps ++ t.gaps) (omega (arith)) (omega (arith)) h.range;
 }
 
@@ -137,6 +158,12 @@ module _ (k : Meanings) (size : Called → ℕ) (inner : Called → Given → Ex
         (traced k size inner call t n j g) (all_traced k size inner call rest (n + sized size t) (j + statement_count made.statement) made.state)
         (counted calls t n j g h.0) (all_counted calls rest (n + sized size t) (j + statement_count made.statement) made.state h.1)
 
+none_first : (n : ℕ) → suc n ≡ 0 → ⊥
+none_first n h = omega (arith, h)
+
+one_less : (a b : ℕ) → suc a ≡ suc b → a ≡ b
+one_less a b h = omega (arith, h)
+
 -- the arguments of a CALL, as many as its subroutine has dummy arguments: each is an assignment or a gap, behind the number i and before the statements that follow
 pub record AreCounted (i j many : ℕ) (b : Bound) (t : Trace) : Type 0 where
   pub sizes : many ≡ length b.assignments + length t.gaps
@@ -145,19 +172,25 @@ pub record AreCounted (i j many : ℕ) (b : Bound) (t : Trace) : Type 0 where
 pub arguments_counted : (constants : Values) (n i : ℕ) (xs : List (List ℕ)) (es : List ExprTree) → length es ≡ length xs → (j : ℕ) → i < j → (g : Given)
     → AreCounted i j (length es) (bound_arguments constants es g) (arguments_traced constants n xs es j g)
 arguments_counted constants n i [] [] same j less g = record { sizes = refl; range = tt }
-arguments_counted constants n i [] (e ∷ es) same j less g = absurd (omega (arith, same))
-arguments_counted constants n i (x ∷ xs) [] same j less g = absurd (omega (arith, same))
-arguments_counted constants n i (x ∷ xs) (e ∷ es) same j less g = go (is_variable_name constants e) (fixed_value constants e) (arguments_counted constants n i xs es (omega (arith, same)))
+arguments_counted constants n i [] (e ∷ es) same j less g = absurd (none_first (length es) same)
+arguments_counted constants n i (x ∷ xs) [] same j less g = absurd (none_first (length xs) (sym same))
+arguments_counted constants n i (x ∷ xs) (e ∷ es) same j less g = go (is_variable_name constants e) (fixed_value constants e) (arguments_counted constants n i xs es (one_less (length es) (length xs) same))
   where
     go : (u : Bool) (o : Option ℤ) → ((j : ℕ) → i < j → (g : Given) → AreCounted i j (length es) (bound_arguments constants es g) (arguments_traced constants n xs es j g))
         → AreCounted i j (suc (length es)) (if u then standing e (bound_arguments constants es g) else bound_by o e g (bound_arguments constants es))
         (if u then record (arguments_traced constants n xs es j g) { gaps = j ∷ (arguments_traced constants n xs es j g).gaps } else value_traced o n x j g (arguments_traced constants n xs es))
-    go true o more = record { sizes = let a = (more j less g).sizes in omega (arith, a); range = (less, omega (arith), (more j less g).range) }
-    go false (Some v) more = record { sizes = let a = (more j less g).sizes in omega (arith, a); range = (less, omega (arith), (more j less g).range) }
+    go true o more = record {
+      sizes = one_behind (length es) (length (bound_arguments constants es g).assignments) (length (arguments_traced constants n xs es j g).gaps) (more j less g).sizes;
+      range = (less, at_most j (length (bound_arguments constants es g).assignments), (more j less g).range);
+    }
+    go false (Some v) more = record {
+      sizes = one_behind (length es) (length (bound_arguments constants es g).assignments) (length (arguments_traced constants n xs es j g).gaps) (more j less g).sizes;
+      range = (less, at_most j (length (bound_arguments constants es g).assignments), (more j less g).range);
+    }
     go false None more =
         let r = more (j + 1) (omega (arith, less)) (with_new g) in
         let made : ℕ = length (bound_arguments constants es (with_new g)).assignments in
         record {
-          sizes = let a = r.sizes in omega (arith, a);
+          sizes = one_longer (length es) made (length (arguments_traced constants n xs es (j + 1) (with_new g)).gaps) r.sizes;
           range = lie_wider i (j + 1 + made) i (j + suc made) (arguments_traced constants n xs es (j + 1) (with_new g)).gaps (omega (arith)) (omega (arith)) r.range;
         }

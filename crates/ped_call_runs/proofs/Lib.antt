@@ -17,3 +17,4 @@ pub mod ExpandedConstants
 pub mod Traces
 pub mod TraceNumbers
 pub mod TraceCalls
+pub mod PlacedNumbers

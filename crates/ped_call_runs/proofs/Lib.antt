@@ -18,3 +18,4 @@ pub mod Traces
 pub mod TraceNumbers
 pub mod TraceCalls
 pub mod PlacedNumbers
+pub mod MeaningEntries

@@ -19,3 +19,4 @@ pub mod TraceNumbers
 pub mod TraceCalls
 pub mod PlacedNumbers
 pub mod MeaningEntries
+pub mod RenamedEntries

@@ -20,3 +20,4 @@ pub mod TraceCalls
 pub mod PlacedNumbers
 pub mod MeaningEntries
 pub mod RenamedEntries
+pub mod TraceNames

@@ -59,7 +59,7 @@ renamed_stays u (x ∷ xs) r y e h = renamed_stays u xs (if is_some (entry_of r.
 pub record IsRenamed (n : ℕ) (u : ProgramUnit) (y : List ℕ) (pairs : List (List ℕ × List ℕ)) (r : Renamed) : Type 0 where
   pub new : List ℕ
   pub stands : entry_of r.meanings y ≡ Some (Var new)
-  pub paired : HasPair (own n y) new pairs
+  pub pair : HasPair (own n y) new pairs
 
 pub renamed_new : (n : ℕ) (u : ProgramUnit) (xs : List (List ℕ)) (r : Renamed) (y : List ℕ) → entry_of r.meanings y ≡ None → is_among y xs ≡ true → IsRenamed n u y (locals_traced n u xs r) (renamed u xs r)
 renamed_new n u [] r y h k = absurd cc
@@ -74,7 +74,7 @@ renamed_new n u (x ∷ xs) r y h k = by_name (is_same_text y x) refl (λ s l. re
           new = free_name r.given.taken;
           stands = renamed_stays u xs (with_renamed x (kind_in (for_names u) x) r) y (Var (free_name r.given.taken))
               (subst (λ (z : List ℕ). entry_of (with_entry r.meanings z (Var (free_name r.given.taken))) y ≡ Some (Var (free_name r.given.taken))) (sym same) (new_entry r.meanings y (Var (free_name r.given.taken)) h));
-          paired = inl (ap (own n) (sym same), refl);
+          pair = inl (ap (own n) (sym same), refl);
         })
     by_name false e more = by_entry (is_some (entry_of r.meanings x))
       where
@@ -85,4 +85,4 @@ renamed_new n u (x ∷ xs) r y h k = by_name (is_same_text y x) refl (λ s l. re
         by_entry true = more r h here
         by_entry false =
             let found = more (with_renamed x (kind_in (for_names u) x) r) (other_entry r.meanings x (Var (free_name r.given.taken)) y e h) here in
-            record { new = found.new; stands = found.stands; paired = inr found.paired }
+            record { new = found.new; stands = found.stands; pair = inr found.pair }

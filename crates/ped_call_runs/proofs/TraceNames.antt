@@ -14,8 +14,8 @@ use Rattle.ped_calls.specs.Expanding.{Given, free_name, with_new, Meanings, repl
 use Rattle.ped_call_runs.specs.UnitRuns.{own, number_inside, sized, all_sized, call_size}
 use Rattle.ped_call_runs.proofs.FollowingStatements.{calls_itself}
 use Rattle.ped_call_runs.proofs.Traces.{Trace, nothing_traced, traced_before, value_traced, arguments_traced, locals_traced, CallTraced, traced_or, traced, all_traced, unit_traced, call_traced}
-use Rattle.ped_call_runs.proofs.TraceNumbers.{KeepsCall, KeepsCalls, AllKeepCalls}
-use Rattle.ped_call_runs.proofs.TraceCalls.{UnitFits, FitsAt}
+use Rattle.ped_call_runs.proofs.TraceNumbers.{KeepsCall, KeepsCalls, AllKeepCalls, none_first, one_less}
+use Rattle.ped_call_runs.proofs.TraceCalls.{as_many, UnitFits, FitsAt}
 
 -- the second names of pairs
 abbrev pub seconds : List (List ℕ × List ℕ) → List (List ℕ)
@@ -57,9 +57,9 @@ module _ (free : (taken : List (List ℕ)) → is_among (free_name taken) taken 
   pub arguments_given : (constants : Values) (n : ℕ) (xs : List (List ℕ)) (es : List ExprTree) → length es ≡ length xs → (j : ℕ) (g : Given)
       → AreGiven g.taken (bound_arguments constants es g).given.taken (arguments_traced constants n xs es j g).pairs
   arguments_given constants n [] [] same j g = none_given g.taken
-  arguments_given constants n [] (e ∷ es) same j g = absurd cc
-  arguments_given constants n (x ∷ xs) [] same j g = absurd cc
-  arguments_given constants n (x ∷ xs) (e ∷ es) same j g = go (is_variable_name constants e) (fixed_value constants e) (arguments_given constants n xs es cc)
+  arguments_given constants n [] (e ∷ es) same j g = absurd (none_first (length es) same)
+  arguments_given constants n (x ∷ xs) [] same j g = absurd (none_first (length xs) (sym same))
+  arguments_given constants n (x ∷ xs) (e ∷ es) same j g = go (is_variable_name constants e) (fixed_value constants e) (arguments_given constants n xs es (one_less (length es) (length xs) same))
     where
       go : (u : Bool) (o : Option ℤ) → ((j : ℕ) (g : Given) → AreGiven g.taken (bound_arguments constants es g).given.taken (arguments_traced constants n xs es j g).pairs)
           → AreGiven g.taken (if u then standing e (bound_arguments constants es g) else bound_by o e g (bound_arguments constants es)).given.taken
@@ -113,3 +113,29 @@ module _ (free : (taken : List (List ℕ)) → is_among (free_name taken) taken 
           given_joined g.taken made.state.taken (all_expanded_in inner (stmts_replaced k rest) made.state).state.taken (traced k size inner call t n j g).pairs
           (all_traced k size inner call rest (n + sized size t) (j + statement_count made.statement) made.state).pairs
           (gives calls t n j g h.0) (all_give calls rest (n + sized size t) (j + statement_count made.statement) made.state h.1)
+
+  module _ (us : ProgramUnits) where
+    unit_gives : (depth : ℕ) → ((k : Meanings) (c : Called) → FitsAt us depth [] k c → (n j : ℕ) (g : Given) → AreGiven g.taken (call_expanded depth us [] (called_replaced k c) g).state.taken (call_traced depth us [] k c n j g).pairs)
+        → (constants : Values) (k : Meanings) (c : Called) (n j : ℕ) (g : Given) (o : Option ProgramUnit) → UnitFits us (FitsAt us depth []) depth constants k c g o
+        → AreGiven g.taken (unit_expanded (call_expanded depth us []) constants (called_replaced k c) g o).state.taken (unit_traced depth us (call_traced depth us []) k constants c n j g o).pairs
+    unit_gives depth deeper constants k c n j g None h = none_given g.taken
+    unit_gives depth deeper constants k c n j g (Some v) h =
+        let es : List ExprTree = listed (called_replaced k c).arguments in
+        let b : Bound = bound_arguments constants es g in
+        let start : Renamed = record { meanings = with_constants (with_formals [] v.formals b.meant) (constants_of v); given = b.given } in
+        let r : Renamed = meanings_in v b in
+        let first : ℕ = j + 1 + statement_count (call_comment (called_replaced k c)) in
+        let made : ℕ = length b.assignments in
+        let body : AllExpanded Given = all_expanded_in (call_expanded depth us []) (stmts_replaced r.meanings v.tree.body) r.given in
+        let inside : Trace = all_traced r.meanings (call_size depth us) (call_expanded depth us []) (call_traced depth us [] r.meanings) v.tree.body (number_inside c n) (first + made) r.given in
+        given_joined g.taken b.given.taken body.state.taken (arguments_traced constants n v.formals es first g).pairs (locals_traced n v (body_names v) start ++ inside.pairs)
+        (arguments_given constants n v.formals es (as_many k c.arguments ∙ h.0) first g)
+        (given_joined b.given.taken r.given.taken body.state.taken (locals_traced n v (body_names v) start) inside.pairs
+        (locals_given n v (body_names v) start)
+        (all_give r.meanings (call_size depth us) (call_expanded depth us []) (call_traced depth us [] r.meanings) (FitsAt us depth [] r.meanings) (deeper r.meanings) v.tree.body (number_inside c n) (first + made) r.given h.1))
+
+    -- CALLs of any depth
+    pub calls_give : (depth : ℕ) (constants : Values) (k : Meanings) (c : Called) → FitsAt us depth constants k c → (n j : ℕ) (g : Given)
+        → AreGiven g.taken (call_expanded depth us constants (called_replaced k c) g).state.taken (call_traced depth us constants k c n j g).pairs
+    calls_give zero constants k c h n j g = none_given g.taken
+    calls_give (suc depth) constants k c h n j g = unit_gives depth (calls_give depth []) constants k c n j g (unit_of us c.name) (h g)

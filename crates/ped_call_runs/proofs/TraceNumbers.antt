@@ -158,10 +158,10 @@ module _ (k : Meanings) (size : Called → ℕ) (inner : Called → Given → Ex
         (traced k size inner call t n j g) (all_traced k size inner call rest (n + sized size t) (j + statement_count made.statement) made.state)
         (counted calls t n j g h.0) (all_counted calls rest (n + sized size t) (j + statement_count made.statement) made.state h.1)
 
-none_first : (n : ℕ) → suc n ≡ 0 → ⊥
+pub none_first : (n : ℕ) → suc n ≡ 0 → ⊥
 none_first n h = omega (arith, h)
 
-one_less : (a b : ℕ) → suc a ≡ suc b → a ≡ b
+pub one_less : (a b : ℕ) → suc a ≡ suc b → a ≡ b
 one_less a b h = omega (arith, h)
 
 -- the arguments of a CALL, as many as its subroutine has dummy arguments: each is an assignment or a gap, behind the number i and before the statements that follow

@@ -21,3 +21,4 @@ pub mod PlacedNumbers
 pub mod MeaningEntries
 pub mod RenamedEntries
 pub mod TraceNames
+pub mod OwnNames

@@ -22,3 +22,4 @@ pub mod MeaningEntries
 pub mod RenamedEntries
 pub mod TraceNames
 pub mod OwnNames
+pub mod ApartPairs

@@ -1,6 +1,6 @@
 -- New names along the trace of an expansion: each is given once, and the trace has all that are given.
 use Rattle.std.proofs.Common.{◌≡◌, ℕ, zero, suc, ◌+◌, ℤ, List, [], ◌∷◌, ◌++◌, length, Bool, true, false, Option, Some, None, is_some, refl, sym, ap, ◌∙◌, subst, append_assoc, append-nil, if◌then◌else◌}
-use Rattle.ped_base.specs.Lists.{is_among}
+use Rattle.ped_base.specs.Lists.{is_same_text, is_among}
 use Rattle.ped_tree.specs.Accesses.{listed}
 use Rattle.ped_tree.specs.Numbering.{statement_count, statements_count}
 use Rattle.ped_tree.specs.Tree.{ExprTree, StmtTree, StmtTrees, Assign, If, Do, Print, Read, Stop, Comment, no_stmts, more_stmts}
@@ -10,7 +10,7 @@ use Rattle.ped_calls.specs.ped_valid.specs.ped_symbols.specs.Values.{Values, fix
 use Rattle.ped_calls.specs.Forms.{Called}
 use Rattle.ped_calls.specs.Units.{ProgramUnit, ProgramUnits, unit_of, call_of, call_statement, instead_of}
 use Rattle.ped_calls.specs.Refusals.{for_names}
-use Rattle.ped_calls.specs.Expanding.{Given, free_name, with_new, Meanings, replaced, called_replaced, stmt_replaced, stmts_replaced, is_variable_name, Bound, standing, bound_by, bound_arguments, body_names, constants_of, with_formals, with_constants, Renamed, with_renamed, renamed, meanings_in, call_comment, Expanded, AllExpanded, expanded_or, expanded_in, all_expanded_in, unit_expanded, call_expanded}
+use Rattle.ped_calls.specs.Expanding.{Given, numbered_name, free_from, free_name, with_new, Meanings, replaced, called_replaced, stmt_replaced, stmts_replaced, is_variable_name, Bound, standing, bound_by, bound_arguments, body_names, constants_of, with_formals, with_constants, Renamed, with_renamed, renamed, meanings_in, call_comment, Expanded, AllExpanded, expanded_or, expanded_in, all_expanded_in, unit_expanded, call_expanded}
 use Rattle.ped_call_runs.specs.UnitRuns.{own, number_inside, sized, all_sized, call_size}
 use Rattle.ped_call_runs.proofs.FollowingStatements.{calls_itself}
 use Rattle.ped_call_runs.proofs.Traces.{Trace, nothing_traced, traced_before, value_traced, arguments_traced, locals_traced, CallTraced, traced_or, traced, all_traced, unit_traced, call_traced}
@@ -22,10 +22,14 @@ abbrev pub seconds : List (List ℕ × List ℕ) → List (List ℕ)
 seconds [] = []
 seconds (p ∷ ps) = p.1 ∷ seconds ps
 
+-- a name that is none of a CALL's own
+abbrev pub IsNoOwn : List ℕ → Type 0
+IsNoOwn y = (m : ℕ) (x : List ℕ) → is_same_text (own m x) y ≡ false
+
 -- the second names are new: none is among these names, and none stands twice
 abbrev pub AreNew : List (List ℕ) → List (List ℕ × List ℕ) → Type 0
 AreNew taken [] = Unit {0}
-AreNew taken (p ∷ ps) = (is_among p.1 taken ≡ false) × AreNew (taken ++ p.1 ∷ []) ps
+AreNew taken (p ∷ ps) = (is_among p.1 taken ≡ false) × IsNoOwn p.1 × AreNew (taken ++ p.1 ∷ []) ps
 
 -- from what is given to what is given then, the pairs have the new names
 pub record AreGiven (taken behind : List (List ℕ)) (pairs : List (List ℕ × List ℕ)) : Type 0 where
@@ -38,7 +42,7 @@ seconds_joined (p ∷ ps) qs = ap (λ (xs : List (List ℕ)). p.1 ∷ xs) (secon
 
 new_joined : (taken : List (List ℕ)) (ps qs : List (List ℕ × List ℕ)) → AreNew taken ps → AreNew (taken ++ seconds ps) qs → AreNew taken (ps ++ qs)
 new_joined taken [] qs h k = subst (λ (xs : List (List ℕ)). AreNew xs qs) (append-nil taken) k
-new_joined taken (p ∷ ps) qs h k = (h.0, new_joined (taken ++ p.1 ∷ []) ps qs h.1 (subst (λ (xs : List (List ℕ)). AreNew xs qs) (sym (append_assoc taken (p.1 ∷ []) (seconds ps))) k))
+new_joined taken (p ∷ ps) qs h k = (h.0, h.1, new_joined (taken ++ p.1 ∷ []) ps qs h.2 (subst (λ (xs : List (List ℕ)). AreNew xs qs) (sym (append_assoc taken (p.1 ∷ []) (seconds ps))) k))
 
 pub given_joined : (a b c : List (List ℕ)) (ps qs : List (List ℕ × List ℕ)) → AreGiven a b ps → AreGiven b c qs → AreGiven a c (ps ++ qs)
 given_joined a b c ps qs h k = record {
@@ -46,12 +50,21 @@ given_joined a b c ps qs h k = record {
   new = new_joined a ps qs h.new (subst (λ (xs : List (List ℕ)). AreNew xs qs) h.all k.new);
 }
 
+-- a new name is none of a CALL's own
+no_own_free : (tries : ℕ) (taken : List (List ℕ)) (n : ℕ) → IsNoOwn (free_from tries taken n)
+no_own_free zero taken n m x = refl
+no_own_free (suc tries) taken n = go (is_among (numbered_name n) taken) (no_own_free tries taken (n + 1))
+  where
+    go : (t : Bool) → IsNoOwn (free_from tries taken (n + 1)) → IsNoOwn (if t then free_from tries taken (n + 1) else numbered_name n)
+    go true more = more
+    go false more m x = refl
+
 pub none_given : (a : List (List ℕ)) → AreGiven a a []
 none_given a = record { all = sym (append-nil a); new = tt }
 
 module _ (free : (taken : List (List ℕ)) → is_among (free_name taken) taken ≡ false) where
   one_given : (x : List ℕ) (a : List (List ℕ)) → AreGiven a (a ++ free_name a ∷ []) ((x, free_name a) ∷ [])
-  one_given x a = record { all = refl; new = (free a, tt) }
+  one_given x a = record { all = refl; new = (free a, no_own_free (length a) a 1, tt) }
 
   -- arguments
   pub arguments_given : (constants : Values) (n : ℕ) (xs : List (List ℕ)) (es : List ExprTree) → length es ≡ length xs → (j : ℕ) (g : Given)

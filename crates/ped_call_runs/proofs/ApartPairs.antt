@@ -1,9 +1,8 @@
 -- The pairs of a trace are apart, so that names change places one for one; names of the main program stay.
-use Rattle.std.proofs.Common.{◌≡◌, ℕ, List, [], ◌∷◌, ◌++◌, Bool, true, false, ◌||◌, refl, sym, ap, ◌∙◌, subst}
+use Rattle.std.proofs.Common.{◌≡◌, ℕ, List, [], ◌∷◌, ◌++◌, Bool, true, false, ◌||◌, refl, sym, ap, ◌∙◌}
 use Rattle.std.proofs.lemmas.Bool.{both_ways}
 use Rattle.ped_base.specs.Lists.{is_same_text, is_among}
 use Rattle.ped_base.proofs.NameEquality.{same_is, same_itself, same_flip}
-use Rattle.ped_call_runs.specs.UnitRuns.{own}
 use Rattle.ped_call_runs.proofs.SwappedNames.{swapped, paired, AreApart, unpaired_stays}
 use Rattle.ped_call_runs.proofs.TraceNames.{seconds, IsNoOwn, AreNew}
 use Rattle.ped_call_runs.proofs.OwnNames.{firsts, IsOwnIn, OwnIn, NoneTwice}

@@ -6,7 +6,7 @@ use Rattle.ped_calls.specs.ped_valid.specs.ped_symbols.specs.declared.symbols.Ki
 use Rattle.ped_calls.specs.ped_valid.specs.ped_symbols.specs.declared.symbols.Kind.TheVariants.{Scalar, Array, Constant}
 use Rattle.ped_calls.specs.ped_valid.specs.ped_symbols.specs.Kinds.{at_last}
 use Rattle.ped_calls.specs.ped_valid.specs.ped_symbols.specs.NameRefusals.{Before, at_first, behind_site, behind_sites}
-use Rattle.ped_calls.specs.ped_valid.specs.ped_symbols.specs.Sites.{Site, declaration, statement, private_names, private_site, stmt_sites, stmts_sites, decl_sites}
+use Rattle.ped_calls.specs.ped_valid.specs.ped_symbols.specs.Sites.{Site, statement, private_site, stmt_sites, stmts_sites, decl_sites}
 use Rattle.ped_calls.specs.Units.{ProgramUnits}
 use Rattle.ped_calls.specs.Refusals.{save_of_formals, for_names}
 use Rattle.ped_calls.specs.Expanding.{Given, free_name, declared_as, with_local, constants_of, main_expanded, expansion}

@@ -1,17 +1,14 @@
 -- A CALL and its block: where the CALL's subroutine ends, the block ends alike, however deep CALLs stand in one another.
-use Rattle.std.proofs.Common.{◌≡◌, ℕ, zero, suc, ◌+◌, ℤ, List, [], ◌∷◌, ◌++◌, length, Bool, true, false, Option, Some, None, Result, Ok, Err, refl, sym, ap, ◌∙◌, subst, ◌⊎◌, inl, inr, add-zero, arith, if◌then◌else◌}
+use Rattle.std.proofs.Common.{◌≡◌, ℕ, ◌+◌, ℤ, List, [], ◌∷◌, ◌++◌, Bool, true, false, Some, Result, Ok, Err, refl, sym, ap, ◌∙◌, subst, ◌⊎◌, if◌then◌else◌}
 use Rattle.ped_base.specs.Lists.{is_same_text}
 use Rattle.ped_base.proofs.NameEquality.{same_is}
 use Rattle.ped_tree.specs.declared.conditions.Relation.TheVariants.{Eq}
-use Rattle.ped_tree.specs.Accesses.{listed}
 use Rattle.ped_tree.specs.Constants.ConstantExpressions.{constant_value}
 use Rattle.ped_tree.specs.NamesIn.{expr_names}
 use Rattle.ped_tree.specs.Numbering.{statement_count, statements_count}
-use Rattle.ped_tree.specs.Tree.{ExprTree, Int, Var, CondTree, Rel, StmtTree, StmtTrees, Assign, Comment, no_stmts, more_stmts}
-use Rattle.ped_calls.specs.ped_valid.specs.ped_symbols.specs.Values.{Values}
+use Rattle.ped_tree.specs.Tree.{ExprTree, Int, Var, Rel, StmtTree, StmtTrees, Assign, no_stmts, more_stmts}
 use Rattle.ped_calls.specs.Forms.{Called}
-use Rattle.ped_calls.specs.Units.{ProgramUnit, ProgramUnits, unit_of}
-use Rattle.ped_calls.specs.Expanding.{Meanings, replaced, called_replaced, is_variable_name, Given, Bound, Expanded, Renamed, bound_arguments, meanings_in, behind_stmts, call_comment, block_of, all_expanded_in, unit_expanded, call_expanded}
+use Rattle.ped_calls.specs.Expanding.{Meanings, replaced, is_variable_name, behind_stmts, call_comment, block_of}
 use Rattle.ped_steps.specs.ped_eval.specs.ped_store.specs.Cells.{Cell, Scalar, Element, Private, In, Out}
 use Rattle.ped_steps.specs.ped_eval.specs.ped_store.specs.Stores.{Number, Store, put, is_storable, storable, out_of_range}
 use Rattle.ped_steps.specs.ped_eval.specs.ped_store.specs.Acts.{Act, Place}
@@ -19,17 +16,16 @@ use Rattle.ped_steps.specs.ped_eval.specs.Scopes.{Setting, Scope, cell_of, Names
 use Rattle.ped_steps.specs.ped_eval.specs.Evaluation.{◌>>>◌, given}
 use Rattle.ped_steps.specs.ped_eval.specs.Values.{value, target}
 use Rattle.ped_steps.specs.ped_eval.specs.Statements.{Stored, assigned}
-use Rattle.ped_steps.specs.ped_eval.specs.Runs.{Ending, going, stopped, failed, Run, nothing_done, followed_by, then_run, run_assignment, run, run_all}
+use Rattle.ped_steps.specs.ped_eval.specs.Runs.{Ending, going, stopped, failed, Run, followed_by, then_run, run_assignment, run, run_all}
 use Rattle.ped_steps.specs.ped_eval.specs.Turns.{after}
 use Rattle.ped_steps.specs.ped_eval.proofs.Endings.{ending_then, assignment_goes, assignment_fails, if_goes}
 use Rattle.ped_steps.specs.ped_laws.proofs.CoveringLaws.Comings.{came, ok_one, constant_comes}
-use Rattle.ped_call_runs.specs.UnitRuns.{own, is_own, is_own_cell, without_own, Instance, called_instance, number_inside, run_arguments, call_size, run_called, call_run, unit_run_all}
+use Rattle.ped_call_runs.specs.UnitRuns.{own, Instance}
 use Rattle.ped_call_runs.proofs.FollowingValues.{itself, Follows, Each, ReadsAlike, value_follows, stored_follows, stored_may, fine_cell, cell_one, number_one}
-use Rattle.ped_call_runs.proofs.FollowingStores.{Bond, tight, loose, held, free, Agrees, IsBelow, is_bound, is_slack, without_below}
-use Rattle.ped_call_runs.proofs.FollowingEndings.{EndsAlike, same_ends, goes_alike, fault_alike, then_alike, assignment_alike}
+use Rattle.ped_call_runs.proofs.FollowingStores.{Bond, held, free, Agrees, IsBelow, is_bound}
+use Rattle.ped_call_runs.proofs.FollowingEndings.{EndsAlike, same_ends, fault_alike, assignment_alike}
 use Rattle.ped_call_runs.proofs.FollowingNames.{named_cell, unheld, bond_of, cell_bound, same_cells, AreNamed, IsUnheld, MeansAlike, reads_alike}
 use Rattle.ped_call_runs.proofs.FollowingLoops.{each_map}
-use Rattle.ped_call_runs.proofs.FollowingStatements.{AllStand, CallsFollow, statements_follow}
 
 -- a number becomes known of a scalar
 abbrev pub knowing : List ℕ → ℤ → (List ℕ → Bond) → List ℕ → Bond

@@ -1,12 +1,12 @@
 -- CALLs that stand in one another: where each CALL and its block stand alike, they end alike.
-use Rattle.std.proofs.Common.{◌≡◌, ℕ, zero, suc, ◌+◌, ℤ, List, [], ◌∷◌, length, Bool, true, false, Option, Some, None, refl, sym, ap, ◌∙◌, subst, ◌⊎◌, inl, inr, arith, if◌then◌else◌}
+use Rattle.std.proofs.Common.{◌≡◌, ℕ, zero, suc, ◌+◌, List, [], ◌∷◌, length, Bool, true, Option, Some, None, refl, sym, ap, subst, inl, inr, arith, if◌then◌else◌}
 use Rattle.ped_tree.specs.Accesses.{listed}
 use Rattle.ped_tree.specs.Numbering.{statement_count}
-use Rattle.ped_tree.specs.Tree.{ExprTree, Var, StmtTree, StmtTrees, Assign, no_stmts, more_stmts}
+use Rattle.ped_tree.specs.Tree.{ExprTree, Var, StmtTree, StmtTrees, no_stmts}
 use Rattle.ped_calls.specs.ped_valid.specs.ped_symbols.specs.Values.{Values}
 use Rattle.ped_calls.specs.Forms.{Called}
 use Rattle.ped_calls.specs.Units.{ProgramUnit, ProgramUnits, unit_of}
-use Rattle.ped_calls.specs.Expanding.{Meanings, replaced, called_replaced, stmts_replaced, is_variable_name, Given, Bound, Expanded, Renamed, bound_arguments, meanings_in, behind_stmts, call_comment, all_expanded_in, unit_expanded, call_expanded}
+use Rattle.ped_calls.specs.Expanding.{Meanings, replaced, called_replaced, stmts_replaced, Given, Bound, bound_arguments, meanings_in, behind_stmts, call_comment, all_expanded_in, unit_expanded, call_expanded}
 use Rattle.ped_steps.specs.ped_eval.specs.ped_store.specs.Cells.{Cell, Scalar, Element, Private, In, Out}
 use Rattle.ped_steps.specs.ped_eval.specs.ped_store.specs.Stores.{Number, Store, put}
 use Rattle.ped_steps.specs.ped_eval.specs.Scopes.{Setting, Scope, names_in, place_of}
@@ -16,7 +16,7 @@ use Rattle.ped_call_runs.proofs.FollowingStores.{Bond, tight, loose, held, free,
 use Rattle.ped_call_runs.proofs.FollowingEndings.{EndsAlike, same_ends}
 use Rattle.ped_call_runs.proofs.FollowingNames.{named_cell, unheld, bond_of, same_cells, AreNamed, IsUnheld}
 use Rattle.ped_call_runs.proofs.FollowingStatements.{AllStand, CallsFollow, statements_follow}
-use Rattle.ped_call_runs.proofs.FollowingCalls.{knowing, weaker_ends, then_then, forgetting_below, knowing_unheld, IsKnown, IsAssigned, ArgumentsAlike, block_ends, assignment_goes_on, then_no_stop, known_alike, argument_assigned}
+use Rattle.ped_call_runs.proofs.FollowingCalls.{knowing, weaker_ends, then_then, forgetting_below, knowing_unheld, ArgumentsAlike, block_ends, assignment_goes_on, then_no_stop, known_alike, argument_assigned}
 
 slack_unheld : (b : Bond) → is_slack b ≡ true → is_slack (unheld b) ≡ true
 slack_unheld tight h = h

@@ -1,11 +1,10 @@
 -- Statements by themselves that end as others do.
-use Rattle.std.proofs.Common.{◌≡◌, ℕ, zero, suc, ◌+◌, ℤ, List, [], ◌∷◌, ◌++◌, Bool, true, false, Result, Ok, Err, refl, sym, ap, ◌∙◌, subst, if◌then◌else◌}
+use Rattle.std.proofs.Common.{◌≡◌, ℕ, zero, suc, ◌+◌, List, [], ◌∷◌, ◌++◌, Bool, true, false, Result, Ok, Err, refl, sym, ap, ◌∙◌, subst, if◌then◌else◌}
 use Rattle.ped_tree.specs.Tree.{ExprTree, ItemTree, CondTree, Head, StmtTrees}
 use Rattle.ped_steps.specs.ped_eval.specs.ped_store.specs.Cells.{Cell, Out, same_cell}
 use Rattle.ped_steps.specs.ped_eval.specs.ped_store.specs.Stores.{Number, Lines, Store, put, lines_in, with_line}
 use Rattle.ped_steps.specs.ped_eval.specs.ped_store.specs.Acts.{Place, store_behind}
-use Rattle.ped_steps.specs.ped_eval.specs.Scopes.{Setting, Frame, Scope, Names, names_in, place_of}
-use Rattle.ped_steps.specs.ped_eval.specs.Evaluation.{Evaluated}
+use Rattle.ped_steps.specs.ped_eval.specs.Scopes.{Setting, Frame, Scope, Names, names_in}
 use Rattle.ped_steps.specs.ped_eval.specs.Values.{truth}
 use Rattle.ped_steps.specs.ped_eval.specs.Statements.{Stored, assigned, printed_line}
 use Rattle.ped_steps.specs.ped_eval.specs.Loops.{Limits, limits, Entered, entered_with, frame, exit_touches}

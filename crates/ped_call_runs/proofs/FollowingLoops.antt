@@ -1,12 +1,12 @@
 -- A DO on both sides: its iterations, and the names of which they have copies.
-use Rattle.std.proofs.Common.{◌≡◌, ℕ, ◌-◌, ℤ, pos, ◌+ℤ◌, ◌*ℤ◌, List, [], ◌∷◌, ◌++◌, map, Bool, true, false, ◌||◌, Option, Some, None, refl, sym, ap, ◌∙◌, subst, if◌then◌else◌}
+use Rattle.std.proofs.Common.{◌≡◌, ℕ, ◌-◌, ℤ, pos, ◌+ℤ◌, ◌*ℤ◌, List, [], ◌∷◌, ◌++◌, map, Bool, true, false, ◌||◌, Some, refl, sym, ap, ◌∙◌, subst, if◌then◌else◌}
 use Rattle.std.proofs.lemmas.Bool.{both_ways}
 use Rattle.ped_base.specs.Lists.{is_same_text, is_among}
 use Rattle.ped_base.proofs.NameEquality.{same_is, same_itself}
 use Rattle.ped_tree.specs.NamesIn.{expr_names, all_loop_variables}
-use Rattle.ped_tree.specs.Tree.{Var, Head, StmtTrees}
+use Rattle.ped_tree.specs.Tree.{Head, StmtTrees}
 use Rattle.ped_calls.specs.Expanding.{Meanings, name_or, name_meant, head_replaced}
-use Rattle.ped_steps.specs.ped_eval.specs.ped_store.specs.Cells.{Cell, Scalar, Private}
+use Rattle.ped_steps.specs.ped_eval.specs.ped_store.specs.Cells.{Private}
 use Rattle.ped_steps.specs.ped_eval.specs.ped_store.specs.Stores.{Undefined, Number, Store}
 use Rattle.ped_steps.specs.ped_eval.specs.ped_store.specs.Acts.{store_behind, iterations_of}
 use Rattle.ped_steps.specs.ped_eval.specs.Scopes.{Setting, Frame, Scope, turns_of, cell_of, index_value}

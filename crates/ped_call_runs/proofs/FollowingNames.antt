@@ -1,5 +1,5 @@
 -- What names stand for in a subroutine that runs, and in the statements that its CALL expands to.
-use Rattle.std.proofs.Common.{◌≡◌, ℕ, zero, suc, ℤ, pos, negsuc, List, [], ◌∷◌, ◌++◌, length, Bool, true, false, ◌&&◌, Option, Some, None, Result, Ok, Err, refl, sym, ap, ◌∙◌, subst, arith, if◌then◌else◌}
+use Rattle.std.proofs.Common.{◌≡◌, ℕ, ℤ, pos, negsuc, List, [], ◌∷◌, ◌++◌, length, Bool, true, false, ◌&&◌, Option, Some, None, Ok, Err, refl, sym, ap, ◌∙◌, subst, arith, if◌then◌else◌}
 use Rattle.std.specs.Prelude.{int_lt}
 use Rattle.std.specs.Int.{is_negative}
 use Rattle.std.proofs.lemmas.Bool.{both_ways}
@@ -17,7 +17,7 @@ use Rattle.ped_steps.specs.ped_eval.specs.ped_store.specs.Cells.{Cell, Scalar, E
 use Rattle.ped_steps.specs.ped_eval.specs.ped_store.specs.Stores.{Number, Store, number_read, outside_bounds}
 use Rattle.ped_steps.specs.ped_eval.specs.ped_store.specs.Storage.{is_within}
 use Rattle.ped_steps.specs.ped_eval.specs.ped_store.specs.Variables.{no_dimensions}
-use Rattle.ped_steps.specs.ped_eval.specs.ped_store.specs.Acts.{Turn, iterations_of}
+use Rattle.ped_steps.specs.ped_eval.specs.ped_store.specs.Acts.{iterations_of}
 use Rattle.ped_steps.specs.ped_eval.specs.Scopes.{Setting, Frame, Scope, turns_of, cell_of, index_value, Names, names_in}
 use Rattle.ped_steps.specs.ped_eval.specs.Evaluation.{Evaluated, ◌>>>◌, given, by_number, read_cell}
 use Rattle.ped_steps.specs.ped_eval.specs.Values.{variable_value, name_value, is_rank, element_cell, value, target}

@@ -1,22 +1,22 @@
 -- Statements of a unit and what they expand to: where the unit's statements end, the expanded ones end alike, given that its CALLs do.
-use Rattle.std.proofs.Common.{◌≡◌, ℕ, ◌+◌, ℤ, List, [], ◌∷◌, map, Bool, true, Option, Some, None, refl, sym, ap, ◌∙◌, subst, if◌then◌else◌}
+use Rattle.std.proofs.Common.{◌≡◌, ℕ, ◌+◌, ℤ, List, ◌∷◌, map, Bool, Option, Some, None, refl, sym, ap, subst, if◌then◌else◌}
 use Rattle.std.specs.List.{flat_map}
 use Rattle.ped_tree.specs.NamesIn.{expr_names, cond_names, item_names, all_loop_variables}
 use Rattle.ped_tree.specs.Numbering.{statement_count, statements_count}
-use Rattle.ped_tree.specs.Tree.{ExprTree, ExprTrees, Int, no_exprs, more_exprs, ItemTree, CondTree, Head, StmtTree, StmtTrees, Assign, If, Do, Print, Read, Stop, Comment, no_stmts, more_stmts}
+use Rattle.ped_tree.specs.Tree.{ExprTree, ExprTrees, Int, no_exprs, more_exprs, StmtTree, StmtTrees, Assign, If, Do, Print, Read, Stop, Comment, no_stmts, more_stmts}
 use Rattle.ped_calls.specs.Forms.{Called}
 use Rattle.ped_calls.specs.Units.{call_of, reference_of, call_statement, instead_of}
 use Rattle.ped_calls.specs.Expanding.{Meanings, replaced, cond_replaced, item_replaced, head_replaced, called_replaced, stmt_replaced, stmts_replaced, Given, Expanded, AllExpanded, expanded_or, expanded_in, all_expanded_in}
 use Rattle.ped_calls.specs.Linking.{assigned_left}
 use Rattle.ped_steps.specs.ped_eval.specs.ped_store.specs.Cells.{Cell}
 use Rattle.ped_steps.specs.ped_eval.specs.ped_store.specs.Stores.{Store}
-use Rattle.ped_steps.specs.ped_eval.specs.Scopes.{Setting, Frame, Scope, names_in, place_of}
-use Rattle.ped_steps.specs.ped_eval.specs.Loops.{Limits, limits, iteration_count}
-use Rattle.ped_steps.specs.ped_eval.specs.Runs.{Run, run, run_all}
+use Rattle.ped_steps.specs.ped_eval.specs.Scopes.{Setting, Scope, names_in, place_of}
+use Rattle.ped_steps.specs.ped_eval.specs.Loops.{limits, iteration_count}
+use Rattle.ped_steps.specs.ped_eval.specs.Runs.{run, run_all}
 use Rattle.ped_call_runs.specs.UnitRuns.{Instance, CallRun, sized, all_sized, run_or, unit_run, unit_run_all}
 use Rattle.ped_call_runs.proofs.FollowingValues.{Each, ReadsAlike, StoresAlike, truth_follows, line_follows, limits_follow, assigned_may, assigned_follows}
 use Rattle.ped_call_runs.proofs.FollowingStores.{Bond, IsBelow, is_bound}
-use Rattle.ped_call_runs.proofs.FollowingEndings.{EndsAlike, RunsAlike, then_alike, run_if_alike, run_do_alike, assignment_alike, print_alike}
+use Rattle.ped_call_runs.proofs.FollowingEndings.{RunsAlike, then_alike, run_if_alike, run_do_alike, assignment_alike, print_alike}
 use Rattle.ped_call_runs.proofs.FollowingNames.{named_cell, bond_of, same_cells, AreNamed, IsUnheld, MeansAlike, NamedAlike, reads_alike, stores_alike}
 use Rattle.ped_call_runs.proofs.FollowingReads.{read_alike}
 use Rattle.ped_call_runs.proofs.FollowingLoops.{each_map, HeadsAlike, frame_named, frame_unheld, loop_exit}

@@ -1,5 +1,5 @@
 -- A store that holds at least what another holds, in renamed cells.
-use Rattle.std.proofs.Common.{◌≡◌, ℕ, ℤ, Bool, true, false, Result, Ok, refl, sym, ap, ◌∙◌, subst, ◌⊎◌, inl, inr, if◌then◌else◌}
+use Rattle.std.proofs.Common.{◌≡◌, ℕ, ℤ, Bool, true, false, Ok, refl, sym, ap, ◌∙◌, subst, ◌⊎◌, inl, inr, if◌then◌else◌}
 use Rattle.ped_steps.specs.ped_eval.specs.ped_store.specs.Cells.{Cell, same_cell}
 use Rattle.ped_steps.specs.ped_eval.specs.ped_store.specs.Stores.{Content, Undefined, Number, Store, put, number_read}
 use Rattle.ped_steps.specs.ped_eval.specs.Evaluation.{read_cell}

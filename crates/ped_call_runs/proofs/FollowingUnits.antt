@@ -1,28 +1,28 @@
 -- Program units and their expansion: where all that stands in the units stands alike in the expansion, the outcomes are the same.
-use Rattle.std.proofs.Common.{◌≡◌, ℕ, ℤ, List, [], ◌∷◌, map, length, Bool, Option, Some, None, refl, sym, ap, ◌∙◌, subst, inl, inr, if◌then◌else◌}
+use Rattle.std.proofs.Common.{◌≡◌, ℕ, ℤ, List, [], ◌∷◌, map, length, refl, sym, ap, ◌∙◌, subst, inr, if◌then◌else◌}
 use Rattle.std.specs.Str.Lines.{lines}
 use Rattle.ped_base.specs.Dimensions.{Dimensions}
 use Rattle.ped_base.specs.Lists.{has_some}
-use Rattle.ped_tree.specs.Tree.{StmtTrees, ProgramTree}
+use Rattle.ped_tree.specs.Tree.{ProgramTree}
 use Rattle.ped_calls.specs.ped_valid.specs.ped_symbols.specs.Kinds.{kind_in}
 use Rattle.ped_calls.specs.Forms.{Called}
 use Rattle.ped_calls.specs.Units.{ProgramUnits}
 use Rattle.ped_calls.specs.Refusals.{for_names}
-use Rattle.ped_calls.specs.Expanding.{Given, Expanded, AllExpanded, stmts_replaced, all_expanded_in, call_expanded, constants_of, nothing_given, expansion}
-use Rattle.ped_steps.specs.ped_eval.specs.ped_store.specs.Cells.{Cell, Scalar, Element, Private, In, Out}
+use Rattle.ped_calls.specs.Expanding.{Given, Expanded, AllExpanded, call_expanded, constants_of, nothing_given, expansion}
+use Rattle.ped_steps.specs.ped_eval.specs.ped_store.specs.Cells.{Scalar, Element, Private, In, Out}
 use Rattle.ped_steps.specs.ped_eval.specs.ped_store.specs.Stores.{Store, store_at_start, number_in, lines_in}
 use Rattle.ped_steps.specs.ped_eval.specs.ped_store.specs.Storage.{elements_of}
 use Rattle.ped_steps.specs.ped_eval.specs.ped_store.specs.Variables.{values_of}
 use Rattle.ped_steps.specs.ped_eval.specs.Scopes.{Setting}
 use Rattle.ped_steps.specs.ped_eval.specs.Runs.{Ending, going, stopped, failed, run_all}
-use Rattle.ped_steps.specs.ped_eval.specs.Outcomes.{bounds_of, setting_of, run_of, LiveRow, live_names, live_rows, Outcome, Ended, Ends, outcome, outcome_of}
-use Rattle.ped_steps.specs.Runs.Renumbering.{EndsAs, IsRenumbered, IsToldBack, renumbered}
+use Rattle.ped_steps.specs.ped_eval.specs.Outcomes.{bounds_of, setting_of, run_of, live_names, live_rows, Ended, Ends, outcome, outcome_of}
+use Rattle.ped_steps.specs.Runs.Renumbering.{EndsAs, IsToldBack, renumbered}
 use Rattle.ped_steps.proofs.RunLaws.RenumberedPrograms.{program_renumbered, ends_back, outcome_renumbered}
-use Rattle.ped_call_runs.specs.UnitRuns.{main_instance, call_size, call_run, unit_run_all, run_units, outcome_of_units}
+use Rattle.ped_call_runs.specs.UnitRuns.{main_instance, call_size, call_run, run_units, outcome_of_units}
 use Rattle.ped_call_runs.proofs.FollowingValues.{Each}
 use Rattle.ped_call_runs.proofs.FollowingStores.{Bond, tight, loose, held, free, Agrees, IsBelow}
 use Rattle.ped_call_runs.proofs.FollowingEndings.{EndsAlike}
-use Rattle.ped_call_runs.proofs.FollowingNames.{named_cell, unheld, bond_of, AreNamed, IsUnheld}
+use Rattle.ped_call_runs.proofs.FollowingNames.{named_cell, unheld, bond_of}
 use Rattle.ped_call_runs.proofs.FollowingStatements.{AllStand, statements_follow}
 use Rattle.ped_call_runs.proofs.FollowingDepths.{Holds, calls_follow}
 use Rattle.ped_call_runs.proofs.NothingReplaced.{all_same_made}

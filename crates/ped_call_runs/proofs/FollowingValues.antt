@@ -1,5 +1,5 @@
 -- Evaluations that come to each value that others come to: those of expressions in which other names stand.
-use Rattle.std.proofs.Common.{◌≡◌, ℕ, ℤ, List, [], ◌∷◌, ◌++◌, map, Bool, true, ◌&&◌, ◌||◌, not, Result, Ok, Err, sym, ap, subst}
+use Rattle.std.proofs.Common.{◌≡◌, ℕ, ℤ, List, [], ◌∷◌, ◌++◌, map, Bool, true, ◌&&◌, ◌||◌, not, Result, Ok, sym, ap, subst}
 use Rattle.std.specs.List.{flat_map, join_with_byte}
 use Rattle.std.specs.Fmt.{signed_decimal}
 use Rattle.ped_base.specs.Arithmetic.Arithmetic.{sum_of, difference_of, negation_of, product_of, quotient_of, power_of}
@@ -14,7 +14,7 @@ use Rattle.ped_steps.specs.ped_eval.specs.Scopes.{Names}
 use Rattle.ped_steps.specs.ped_eval.specs.Evaluation.{Evaluated, onward, ◌>>>◌, given, by_number, read_cell}
 use Rattle.ped_steps.specs.ped_eval.specs.Values.{of_intrinsic, element_cell, value, values, relation_holds, truth, target}
 use Rattle.ped_steps.specs.ped_eval.specs.Statements.{Stored, assigned, item_text, item_texts, printed_line}
-use Rattle.ped_steps.specs.ped_eval.specs.Loops.{Limits, in_bounds, limits}
+use Rattle.ped_steps.specs.ped_eval.specs.Loops.{in_bounds, limits}
 use Rattle.ped_steps.specs.ped_laws.proofs.CoveringLaws.Comings.{came, ok_one}
 
 -- the same (plain words)

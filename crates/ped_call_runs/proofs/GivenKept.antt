@@ -1,7 +1,6 @@
 -- What holds of all that is given names stays so through an expansion; the live-out variables of an expansion are those of the main program.
-use Rattle.std.proofs.Common.{◌≡◌, ℕ, zero, suc, ℤ, List, [], ◌∷◌, ◌++◌, length, Bool, true, false, Option, Some, None, is_some, refl, sym, ap, ◌∙◌, subst, if◌then◌else◌, append-nil, append_assoc}
+use Rattle.std.proofs.Common.{◌≡◌, ℕ, zero, suc, ℤ, List, [], ◌∷◌, ◌++◌, length, Bool, true, false, Option, Some, None, is_some, refl, sym, ap, ◌∙◌, if◌then◌else◌, append-nil, append_assoc}
 use Rattle.std.specs.List.{flat_map}
-use Rattle.ped_base.specs.Dimensions.{Dimensions}
 use Rattle.ped_tree.specs.NamesIn.{saved_in}
 use Rattle.ped_tree.specs.Tree.{ExprTree, StmtTree, StmtTrees, Assign, If, Do, Print, Read, Stop, Comment, no_stmts, more_stmts, DeclTree}
 use Rattle.ped_tree.specs.Accesses.{listed}

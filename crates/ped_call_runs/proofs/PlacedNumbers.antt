@@ -1,5 +1,5 @@
 -- Where a piece stands in the whole trace: its number in the expansion leads to its number in the unit.
-use Rattle.std.proofs.Common.{◌≡◌, ℕ, ◌+◌, ◌≤◌, List, [], ◌∷◌, ◌++◌, length, refl, sym, ap, ◌∙◌, subst, arith, append_assoc, append-nil}
+use Rattle.std.proofs.Common.{◌≡◌, ℕ, ◌+◌, ◌≤◌, List, [], ◌++◌, length, refl, sym, ap, ◌∙◌, arith, append_assoc, append-nil}
 use Rattle.ped_call_runs.proofs.RisingNumbers.{passed, number_past}
 use Rattle.ped_call_runs.proofs.Traces.{Trace}
 use Rattle.ped_call_runs.proofs.TraceNumbers.{Lie, lie_wider, lie_joined, length_joined, passed_joined, passed_all, passed_none, IsCounted}

@@ -2,14 +2,14 @@
 use Rattle.std.proofs.Common.{◌≡◌, ℕ, zero, suc, ◌+◌, ◌≤◌, ◌<◌, ℤ, List, [], ◌∷◌, ◌++◌, length, Bool, true, false, Option, Some, None, refl, sym, ap, ◌∙◌, subst, arith, if◌then◌else◌}
 use Rattle.ped_tree.specs.Accesses.{listed}
 use Rattle.ped_tree.specs.Numbering.{statement_count, statements_count}
-use Rattle.ped_tree.specs.Tree.{ExprTree, ExprTrees, no_exprs, more_exprs, StmtTree, StmtTrees, no_stmts}
+use Rattle.ped_tree.specs.Tree.{ExprTree, ExprTrees, no_exprs, more_exprs, StmtTree, StmtTrees}
 use Rattle.ped_calls.specs.ped_valid.specs.ped_symbols.specs.Values.{Values, fixed_value}
 use Rattle.ped_calls.specs.Forms.{Called}
 use Rattle.ped_calls.specs.Units.{ProgramUnit, ProgramUnits, unit_of}
-use Rattle.ped_calls.specs.Expanding.{Given, with_new, Meanings, all_replaced, called_replaced, stmts_replaced, is_variable_name, Bound, standing, bound_by, bound_arguments, body_names, constants_of, with_formals, with_constants, meanings_in, behind_stmts, call_comment, block_of, all_expanded_in, unit_expanded, call_expanded}
+use Rattle.ped_calls.specs.Expanding.{Given, with_new, Meanings, all_replaced, called_replaced, stmts_replaced, is_variable_name, Bound, standing, bound_by, bound_arguments, meanings_in, behind_stmts, call_comment, block_of, all_expanded_in, unit_expanded, call_expanded}
 use Rattle.ped_call_runs.specs.UnitRuns.{number_inside, all_sized, size_in, call_size}
-use Rattle.ped_call_runs.proofs.Traces.{Trace, traced_before, arguments_traced, locals_traced, all_traced, unit_traced, call_traced}
-use Rattle.ped_call_runs.proofs.TraceNumbers.{Lie, lie_wider, lie_joined, length_joined, IsCounted, AllKeepCalls, all_counted, AreCounted, arguments_counted}
+use Rattle.ped_call_runs.proofs.Traces.{Trace, arguments_traced, all_traced, unit_traced, call_traced}
+use Rattle.ped_call_runs.proofs.TraceNumbers.{lie_wider, lie_joined, length_joined, IsCounted, AllKeepCalls, all_counted, AreCounted, arguments_counted}
 
 -- replaced arguments are as many
 pub as_many : (k : Meanings) (es : ExprTrees) → length (listed (all_replaced k es)) ≡ length (listed es)

@@ -13,7 +13,7 @@ use Rattle.ped_calls.specs.Refusals.{for_names}
 use Rattle.ped_calls.specs.Expanding.{Given, numbered_name, free_from, free_name, with_new, Meanings, replaced, called_replaced, stmt_replaced, stmts_replaced, is_variable_name, Bound, standing, bound_by, bound_arguments, body_names, constants_of, with_formals, with_constants, Renamed, with_renamed, renamed, meanings_in, call_comment, Expanded, AllExpanded, expanded_or, expanded_in, all_expanded_in, unit_expanded, call_expanded}
 use Rattle.ped_call_runs.specs.UnitRuns.{own, number_inside, sized, all_sized, call_size}
 use Rattle.ped_call_runs.proofs.FollowingStatements.{calls_itself}
-use Rattle.ped_call_runs.proofs.Traces.{Trace, nothing_traced, traced_before, value_traced, arguments_traced, locals_traced, CallTraced, traced_or, traced, all_traced, unit_traced, call_traced}
+use Rattle.ped_call_runs.proofs.Traces.{Trace, value_traced, arguments_traced, locals_traced, CallTraced, traced_or, traced, all_traced, unit_traced, call_traced}
 use Rattle.ped_call_runs.proofs.TraceNumbers.{KeepsCall, KeepsCalls, AllKeepCalls, none_first, one_less}
 use Rattle.ped_call_runs.proofs.TraceCalls.{as_many, UnitFits, FitsAt}
 

@@ -1,5 +1,5 @@
 -- The trace of an expansion: which new name stands for which name of a CALL's own, and where an argument is no statement of the block.
-use Rattle.std.proofs.Common.{◌≡◌, ℕ, zero, suc, ◌+◌, ℤ, List, [], ◌∷◌, ◌++◌, map, length, Bool, ◌==◌, Option, Some, None, is_some, if◌then◌else◌}
+use Rattle.std.proofs.Common.{ℕ, zero, suc, ◌+◌, ℤ, List, [], ◌∷◌, ◌++◌, map, length, ◌==◌, Option, Some, None, is_some, if◌then◌else◌}
 use Rattle.ped_base.specs.Lists.{is_among}
 use Rattle.ped_tree.specs.Accesses.{listed}
 use Rattle.ped_tree.specs.Numbering.{statement_count, statements_count}
@@ -10,7 +10,7 @@ use Rattle.ped_calls.specs.ped_valid.specs.ped_symbols.specs.Values.{Values, fix
 use Rattle.ped_calls.specs.Forms.{Called}
 use Rattle.ped_calls.specs.Units.{ProgramUnit, ProgramUnits, unit_of, call_of}
 use Rattle.ped_calls.specs.Refusals.{for_names}
-use Rattle.ped_calls.specs.Expanding.{Given, free_name, with_new, Meanings, called_replaced, stmt_replaced, stmts_replaced, is_variable_name, Bound, bound_arguments, body_names, constants_of, with_formals, with_constants, Renamed, with_renamed, meanings_in, call_comment, Expanded, expanded_in, all_expanded_in, call_expanded, nothing_given}
+use Rattle.ped_calls.specs.Expanding.{Given, free_name, with_new, Meanings, called_replaced, stmt_replaced, stmts_replaced, is_variable_name, bound_arguments, body_names, constants_of, with_formals, with_constants, Renamed, with_renamed, meanings_in, call_comment, Expanded, expanded_in, all_expanded_in, call_expanded, nothing_given}
 use Rattle.ped_call_runs.specs.UnitRuns.{own, number_inside, sized, all_sized, call_size}
 use Rattle.ped_call_runs.proofs.FollowingStores.{Bond, tight, loose, free}
 

@@ -1,5 +1,5 @@
 -- Runs of program units: a CALL evaluates its arguments from left to right and runs the statements of its subroutine, whose variables are its own and undefined at each CALL, and whose dummy arguments stand for the arguments (ANSI X3.9-1978, sections 15.6, 15.9, 17.3; this project).
-use Rattle.std.specs.Prelude.{ℕ, zero, suc, ◌+◌, ℤ, List, [], ◌∷◌, ◌++◌, map, length, Bool, false, not, ◌&&◌, ◌==◌, Option, Some, None, if◌then◌else◌}
+use Rattle.std.specs.Prelude.{ℕ, zero, suc, ◌+◌, List, [], ◌∷◌, ◌++◌, map, length, Bool, false, ◌&&◌, ◌==◌, Option, Some, None, if◌then◌else◌}
 use Rattle.std.specs.Str.Lines.{lines}
 use Rattle.ped_base.specs.Dimensions.{Dimensions}
 use Rattle.ped_tree.specs.Tree.{ExprTree, Var, StmtTree, StmtTrees, Assign, If, Do, Print, Read, Stop, Comment, no_stmts, more_stmts}
@@ -14,7 +14,7 @@ use Rattle.ped_steps.specs.ped_eval.specs.Outcomes.{bounds_of, setting_of, Outco
 use Rattle.ped_calls.specs.Forms.{Called}
 use Rattle.ped_calls.specs.Units.{ProgramUnit, ProgramUnits, unit_of, call_of}
 use Rattle.ped_calls.specs.Refusals.{for_names}
-use Rattle.ped_calls.specs.Expanding.{Meanings, replaced, cond_replaced, head_replaced, stmt_replaced, stmts_replaced, meaning, is_variable_name, body_names, constants_of, with_formals}
+use Rattle.ped_calls.specs.Expanding.{Meanings, replaced, cond_replaced, head_replaced, stmt_replaced, stmts_replaced, is_variable_name, body_names, constants_of, with_formals}
 use Rattle.ped_calls.specs.ped_valid.specs.ped_symbols.specs.Entries.{with_entry}
 
 -- the name of a variable of its own that the CALL with this number has: no text has such a name (this project)

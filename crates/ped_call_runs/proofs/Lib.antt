@@ -23,3 +23,4 @@ pub mod RenamedEntries
 pub mod TraceNames
 pub mod OwnNames
 pub mod ApartPairs
+pub mod TraceOwn

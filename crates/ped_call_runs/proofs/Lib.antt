@@ -24,3 +24,4 @@ pub mod TraceNames
 pub mod OwnNames
 pub mod ApartPairs
 pub mod TraceOwn
+pub mod FirstBonds

@@ -101,4 +101,5 @@ units_traced us =
 -- what is known of a name at first: one of a CALL's own may be undefined in the units alone where a new name stands for it, and nothing is known of it elsewhere
 abbrev pub first_bond : List (List ℕ × List ℕ) → List ℕ → Bond
 first_bond pairs [] = tight
-first_bond pairs (c ∷ y) = if c == 0 then (if is_among (c ∷ y) (map (λ p. p.0) pairs) then loose else free) else tight
+first_bond pairs (c ∷ []) = tight
+first_bond pairs (c ∷ m ∷ y) = if c == 0 then (if is_among (c ∷ m ∷ y) (map (λ p. p.0) pairs) then loose else free) else tight

@@ -123,16 +123,16 @@ module _ (us : ProgramUnits) (f : List ℕ → List ℕ) (q : Setting) where
   Holds (suc depth) b k i constants c n j g = UnitHolds (Holds depth) depth b k i constants c n j g (unit_of us c.name)
 
   module _ (twice : (x : List ℕ) → f (f x) ≡ x) where
-    abbrev Below : (List ℕ → Bond) → Store → Store → Type 0
-    Below b s w = IsBelow (bond_of b) (named_cell f) s w
+    abbrev BelowIn : (List ℕ → Bond) → Store → Store → Type 0
+    BelowIn b s w = IsBelowIn (bond_of b) (named_cell f) s w
 
     abbrev Follow : ℕ → (List ℕ → Bond) → Meanings → Instance → Values → Type 0
     Follow depth b k i constants = CallsFollow b f twice q k (call_size depth us) (call_expanded depth us constants) (Holds depth b k i constants) (call_run depth us) i
 
     unit_follows : (depth : ℕ) → ((b : List ℕ → Bond) (k : Meanings) (i : Instance) (constants : Values) → Follow depth b k i constants)
         → (b : List ℕ → Bond) (k : Meanings) (i : Instance) (constants : Values) (c : Called) (n j : ℕ) (g : Given) (o : Option ProgramUnit) → UnitHolds (Holds depth) depth b k i constants c n j g o
-        → (scope other : Scope) → AreNamed f scope other → IsUnheld b scope → (s w : Store) → Below b s w
-        → EndsAlike (Below b) (run_called (call_run depth us) (call_size depth us) i c n scope s o).ending (run q (unit_expanded (call_expanded depth us []) constants (called_replaced k c) g o).statement j other w).ending
+        → (scope other : Scope) → AreNamed f scope other → IsUnheld b scope → (s w : Store) → BelowIn b s w
+        → EndsAlike (BelowIn b) (run_called (call_run depth us) (call_size depth us) i c n scope s o).ending (run q (unit_expanded (call_expanded depth us []) constants (called_replaced k c) g o).statement j other w).ending
     unit_follows depth deeper b k i constants c n j g None h scope other same u s w below = (w, block_ends q (called_replaced k c) [] no_stmts j other w, below)
     unit_follows depth deeper b k i constants c n j g (Some v) h scope other same u s w below =
         let made : List StmtTree = (bound_in k constants c g).assignments in
@@ -144,11 +144,11 @@ module _ (us : ProgramUnits) (f : List ℕ → List ℕ) (q : Setting) where
         let arguments : Run = run_arguments i n v.formals (listed c.arguments) (n + 1) scope (without_own n s) in
         let rest : (Store → Run) = unit_run_all (call_run depth us) (call_size depth us) inside v.tree.body (number_inside c n) scope in
         let inside_unheld : IsUnheld h.after scope = arguments_unheld f q k i n scope v.formals (listed c.arguments) made b h.after h.arguments u in
-        same_ends (Below b) (then_run arguments rest).ending (then_run arguments rest).ending
+        same_ends (BelowIn b) (then_run arguments rest).ending (then_run arguments rest).ending
         (run q (unit_expanded (call_expanded depth us []) constants (called_replaced k c) g (Some v)).statement j other w).ending (run_all q (behind_stmts made body) first other w).ending
         refl (block_ends q (called_replaced k c) made body j other w)
-        (arguments_follow f q k i n twice scope other same (Below b) rest body (first + length made) h.after
-        (λ x y r. weaker_ends (Below h.after) (Below b) (rest x).ending (run_all q body (first + length made) other y).ending
+        (arguments_follow f q k i n twice scope other same (BelowIn b) rest body (first + length made) h.after
+        (λ x y r. weaker_ends (BelowIn h.after) (BelowIn b) (rest x).ending (run_all q body (first + length made) other y).ending
         (arguments_forget f q k i n v.formals (listed c.arguments) made b h.after h.arguments)
         (statements_follow h.after f twice q meant (call_size depth us) (call_expanded depth us []) (Holds depth h.after meant inside []) (call_run depth us) inside (deeper h.after meant inside [])
         v.tree.body (number_inside c n) (first + length made) behind h.body scope other same inside_unheld x y r))

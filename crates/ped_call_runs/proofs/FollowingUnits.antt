@@ -15,7 +15,7 @@ use Rattle.ped_steps.specs.ped_eval.specs.ped_store.specs.Storage.{elements_of}
 use Rattle.ped_steps.specs.ped_eval.specs.ped_store.specs.Variables.{values_of}
 use Rattle.ped_steps.specs.ped_eval.specs.Scopes.{Setting}
 use Rattle.ped_steps.specs.ped_eval.specs.Runs.{Ending, going, stopped, failed, run_all}
-use Rattle.ped_steps.specs.ped_eval.specs.Outcomes.{bounds_of, setting_of, run_of, live_names, live_rows, Ended, Ends, outcome, outcome_of}
+use Rattle.ped_steps.specs.ped_eval.specs.Outcomes.{bounds_of, setting_of, run_of, LiveRow, live_names, live_rows, Ended, Ends, outcome, outcome_of}
 use Rattle.ped_steps.specs.Runs.Renumbering.{EndsAs, IsToldBack, renumbered}
 use Rattle.ped_steps.proofs.RunLaws.RenumberedPrograms.{program_renumbered, ends_back, outcome_renumbered}
 use Rattle.ped_call_runs.specs.UnitRuns.{main_instance, call_size, call_run, run_units, outcome_of_units}
@@ -90,8 +90,12 @@ module _ (b : List ℕ → Bond) (f : List ℕ → List ℕ) where
       values_at : (d : Dimensions) → values_of d x w ≡ values_of d x s
       values_at d = λ i. if has_some d.lower then map (λ js. number_in (element js i)) (elements_of d) else number_in (scalar i) ∷ []
 
+  -- the row of a live-out variable
+  abbrev row : ProgramTree → Store → List ℕ → LiveRow
+  row t s x = record { name = x; values = values_of (bounds_of (kind_in t x)) x s }
+
   rows_alike : (t u : ProgramTree) (xs : List (List ℕ)) → Each (IsLiveAlike b f t u) xs → (s w : Store) → Below s w
-      → map (λ x. record { name = x; values = values_of (bounds_of (kind_in u x)) x w }) xs ≡ map (λ x. record { name = x; values = values_of (bounds_of (kind_in t x)) x s }) xs
+      → map (row u w) xs ≡ map (row t s) xs
   rows_alike t u [] h s w below = refl
   rows_alike t u (x ∷ xs) h s w below = λ i. record { name = x; values = row_alike t u x h.0 s w below i } ∷ rows_alike t u xs h.1 s w below i
 
@@ -99,7 +103,7 @@ module _ (b : List ℕ → Bond) (f : List ℕ → List ℕ) where
   module _ (t u : ProgramTree) (live : live_names u ≡ live_names t) (rows : Each (IsLiveAlike b f t u) (live_names t)) where
     shown_alike : (s w : Store) → Below s w → Ended (lines_in (w Out)) (live_rows u w) ≡ Ended (lines_in (s Out)) (live_rows t s)
     shown_alike s w below =
-        (λ i. Ended (lines_in (below Out i)) (map (λ x. record { name = x; values = values_of (bounds_of (kind_in u x)) x w }) (live i)))
+        (λ i. Ended (lines_in (below Out i)) (map (row u w) (live i)))
         ∙ ap (Ended (lines_in (s Out))) (rows_alike t u (live_names t) rows s w below)
 
     outcome_alike : (e other : Ending) → EndsAlike Below e other → Ends e → outcome_of u other ≡ outcome_of t e

@@ -24,7 +24,7 @@ passed_rises (g ∷ gs) j k h = go (nat_lt j g) (nat_lt k g) refl refl (passed_r
 
 module _ (f : ℕ → ℕ) (rises : (j k : ℕ) → j < k → f j < f k) (keeps : (j k : ℕ) → j ≤ k → f j ≤ f k) (least : (j : ℕ) → j ≤ f j) where
   -- how many of the first numbers are led below a number
-  below : ℕ → ℕ → ℕ
+  abbrev pub below : ℕ → ℕ → ℕ
   below n zero = 0
   below n (suc b) = below n b + (if nat_lt (f b) n then 1 else 0)
 
@@ -38,15 +38,15 @@ module _ (f : ℕ → ℕ) (rises : (j k : ℕ) → j < k → f j < f k) (keeps 
 
   below_past : (m b : ℕ) → m ≤ b → below (f m) b ≡ m
   below_past m zero h = omega (arith, h)
-  below_past m (suc b) h = go (nat_lt b m) refl
+  below_past m (suc b) h = go (nat_lt b m) refl (below_past m b)
     where
       last : (t : Bool) → nat_lt (f b) (f m) ≡ t → m ≤ b → below (f m) b ≡ m → below (f m) b + (if t then 1 else 0) ≡ m
       last true e l r = let a = ltb-true (f b) (f m) e in let c = keeps m b l in absurd (omega (arith, a, c))
       last false e l r = let s : below (f m) b + 0 ≡ m = omega (arith, r) in s
 
-      go : (t : Bool) → nat_lt b m ≡ t → below (f m) (suc b) ≡ m
-      go true e = let a = ltb-true b m e in let r = below_at m (suc b) (omega (arith, a)) in let s : suc b ≡ m = omega (arith, a, h) in r ∙ s
-      go false e = let a = ltb-false b m e in last (nat_lt (f b) (f m)) refl a (below_past m b a)
+      go : (t : Bool) → nat_lt b m ≡ t → (m ≤ b → below (f m) b ≡ m) → below (f m) (suc b) ≡ m
+      go true e more = let a = ltb-true b m e in let r = below_at m (suc b) (omega (arith, a)) in let s : suc b ≡ m = omega (arith, a, h) in r ∙ s
+      go false e more = let a = ltb-false b m e in last (nat_lt (f b) (f m)) refl a (more a)
 
   pub told_back : IsToldBack f (λ n. below n n)
   told_back = record { back = λ m. below_past m (f m) (least m) }

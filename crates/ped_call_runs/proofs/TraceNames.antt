@@ -52,12 +52,12 @@ given_joined a b c ps qs h k = record {
 
 -- a new name is none of a CALL's own
 no_own_free : (tries : ℕ) (taken : List (List ℕ)) (n : ℕ) → IsNoOwn (free_from tries taken n)
-no_own_free zero taken n m x = refl
+no_own_free zero taken n = λ m x. refl
 no_own_free (suc tries) taken n = go (is_among (numbered_name n) taken) (no_own_free tries taken (n + 1))
   where
     go : (t : Bool) → IsNoOwn (free_from tries taken (n + 1)) → IsNoOwn (if t then free_from tries taken (n + 1) else numbered_name n)
     go true more = more
-    go false more m x = refl
+    go false more = λ m x. refl
 
 pub none_given : (a : List (List ℕ)) → AreGiven a a []
 none_given a = record { all = sym (append-nil a); new = tt }

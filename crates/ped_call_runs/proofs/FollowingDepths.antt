@@ -124,7 +124,7 @@ module _ (us : ProgramUnits) (f : List ℕ → List ℕ) (q : Setting) where
 
   module _ (twice : (x : List ℕ) → f (f x) ≡ x) where
     abbrev BelowIn : (List ℕ → Bond) → Store → Store → Type 0
-    BelowIn b s w = IsBelowIn (bond_of b) (named_cell f) s w
+    BelowIn b s w = IsBelow (bond_of b) (named_cell f) s w
 
     abbrev Follow : ℕ → (List ℕ → Bond) → Meanings → Instance → Values → Type 0
     Follow depth b k i constants = CallsFollow b f twice q k (call_size depth us) (call_expanded depth us constants) (Holds depth b k i constants) (call_run depth us) i

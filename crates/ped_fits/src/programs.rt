@@ -1,7 +1,8 @@
 //! Whole programs.
 
-ghost use Rattle.std.specs.Prelude.{◌≡◌};
-ghost use Rattle.ped_tree.specs.Views.{program_tree, stmt_trees};
+ghost use Rattle.std.specs.Prelude.{◌≡◌, [], false, map};
+ghost use Rattle.ped_tree.specs.Views.{program_tree, stmt_trees, decl_tree};
+ghost use Rattle.ped_tree.specs.Accesses.{constants_in, constant_names};
 ghost use Rattle.ped_tree.specs.Grammar.Fits as Spec;
 ghost use Rattle.ped_fits.specs.Surroundings.{at_first};
 
@@ -26,12 +27,41 @@ fn body_fits(decls: &[Decl], body: &[Stmt]) -> bool
     ensures { result ≡ Spec.stmts_fit (at_first decls.now) (stmt_trees body.now) }
 {
     let around = Surroundings {
-        decls,
+        decls: until_constants(decls),
         variables: &[],
         private: &[],
         depth: 0,
     };
     statements_fit(&around, 0, body).is_some()
+}
+
+/// These declarations up to the last that gives constants: each name of a statement is sought among them, and behind them there
+/// may be many arrays.
+fn until_constants(decls: &[Decl]) -> &[Decl]
+    ensures { constant_names (map decl_tree result.now) ≡ constant_names (map decl_tree decls.now) }
+{
+    for behind in 0..decls.len() {
+        let place = decls.len() - 1 - behind;
+        if gives_constants(&decls[place]) {
+            return &decls[..place + 1];
+        }
+    }
+    &decls[..0]
+}
+
+/// Whether a declaration may give constants.
+fn gives_constants(decl: &Decl) -> bool
+    ensures { result ≡ false → constants_in (decl_tree decl.now) ≡ [] }
+{
+    match decl {
+        Decl::Parameter(_) => true,
+        Decl::Program(_)
+        | Decl::Implicit
+        | Decl::Integer(_)
+        | Decl::Dimension(_)
+        | Decl::Save(_)
+        | Decl::Comment(_) => false,
+    }
 }
 
 /// Whether no comment stands before the first executable statement.

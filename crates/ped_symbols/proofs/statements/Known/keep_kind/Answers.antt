@@ -4,7 +4,7 @@ use Rattle.ped_symbols.specs.Passes.{kind_with}
 use Rattle.ped_symbols.proofs.statements.Known.keep_kind.Goals as goal
 
 pub returns-then-has : goal.returns-then-has
-returns-then-has g c =
+returns-then-has c =
     let name = c.args.name.now in
     let es = c.args.kinds.now.entries.entries in
     let there : is_some (entry_of es name) ≡ true = sym c.has.ensures ∙ c.if-has.true in

@@ -96,7 +96,7 @@ _COMMANDS: Dict[str, Callable[[argparse.Namespace, View, Ped], str]] = {
     "loops": lambda options, view, ped: loops(view, ped, options.loops, options.trials),
     "tune": lambda options, view, ped: tune(view, ped, options.loops),
     "why": _why,
-    "omp": lambda options, view, ped: omp(view, options.live),
+    "omp": lambda options, view, ped: omp(view, ped, options.live),
     "graph": lambda options, view, ped: graph(view, options.loop, options.svg),
     "json": lambda options, view, ped: export(view),
 }

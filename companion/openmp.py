@@ -4,6 +4,8 @@ What changes of the printed program:
 
 - A PARALLEL DO becomes a DO behind a directive `C$OMP PARALLEL DO`, whose PRIVATE clause names the scalars of its
   PRIVATE list, and the variables of the loops in it, which are private in ped without being named.
+- So does a DO whose list of sums is live, with a clause REDUCTION(+:..) of the names in the list. Its variable has no
+  value behind it then; ped sees to it that nothing wants one, where it accepts the list.
 - PRIVATE is left out. The scalars that a DO in a PARALLEL DO names are private to the PARALLEL DO, too, where nothing
   else in it uses them. A DO that stands in no PARALLEL DO needs no copies, since its iterations come one by one.
 - Comments that OpenMP would read, `C$` and something behind it, get a blank behind the C; a directive C$PED stays.
@@ -15,7 +17,7 @@ What changes of the printed program:
 from __future__ import annotations
 
 import re
-from typing import Dict, Iterator, List, Sequence
+from typing import Dict, Iterator, List, Mapping, Sequence
 
 from .lines import FIRST_COLUMN, LAST_COLUMN, WrittenStatement, is_comment, read_statements
 from .program import Loop, Program
@@ -29,18 +31,22 @@ _HEADING = [
     "C     WRITTEN BY PEDX OMP. TO COMPILE: gfortran -fopenmp -o NAME NAME.f",
 ]
 
+#: For each loop whose list of sums is live the names in it.
+Sums = Mapping[int, Sequence[str]]
 
-def openmp_lines(lines: Sequence[str], program: Program, live: bool) -> List[str]:
+
+def openmp_lines(lines: Sequence[str], program: Program, sums: Sums, live: bool) -> List[str]:
     """A printed program as FORTRAN with OpenMP directives; with `live` it prints the variables in SAVE at its end."""
-    return [*_HEADING, *_Translation(lines, program, live).lines()]
+    return [*_HEADING, *_Translation(lines, program, sums, live).lines()]
 
 
 class _Translation:
     """The lines of a printed program, statement by statement."""
 
-    def __init__(self, lines: Sequence[str], program: Program, live: bool) -> None:
+    def __init__(self, lines: Sequence[str], program: Program, sums: Sums, live: bool) -> None:
         self._lines = lines
         self._program = program
+        self._sums = sums
         self._live = live
         self._numbers = {statement.line: statement.number for statement in program.statements}
         self._statements = {statement.first_line: statement for statement in read_statements(lines)}
@@ -64,8 +70,9 @@ class _Translation:
         text = self._renamed_in(self._text(statement))
         if self._live and form in (Word("STOP"), Word("END")):
             yield from self._live_lines()
-        if loop is not None and loop.form.parallel:
-            yield from _directive(self._private_names(loop))
+        sums = self._sums.get(loop.number, ()) if loop is not None else ()
+        if loop is not None and (loop.form.parallel or sums):
+            yield from _directive(self._private_names(loop), [self._new_names.get(name, name) for name in sums])
             text = text.replace("PARALLEL DO", "DO", 1)
         if isinstance(form, Private) or isinstance(form, ProgramName) and form.name in self._program.constants:
             return
@@ -132,17 +139,21 @@ def _comment(line: str) -> str:
     return f"C {line[1:]}" if line[1:2] == "$" and line[1:5] != "$PED" else line
 
 
-def _directive(private: Sequence[str]) -> Iterator[str]:
+def _directive(private: Sequence[str], sums: Sequence[str]) -> Iterator[str]:
     """The directive before a parallel loop, cut between names."""
     row = "C$OMP PARALLEL DO"
-    pieces = [f"{name}," for name in private[:-1]] + [f"{name})" for name in private[-1:]]
-    for index, piece in enumerate(pieces):
-        piece = " PRIVATE(" + piece if index == 0 else piece
+    for piece in [*_clause("PRIVATE(", private), *_clause("REDUCTION(+:", sums)]:
         if len(row) + len(piece) > LAST_COLUMN:
             yield row
             row = "C$OMP&"
         row += piece
     yield row
+
+
+def _clause(front: str, names: Sequence[str]) -> List[str]:
+    """The pieces of a clause, one for each name; none where there are no names."""
+    pieces = [f"{name}," for name in names[:-1]] + [f"{name})" for name in names[-1:]]
+    return [f" {front}{piece}" if index == 0 else piece for index, piece in enumerate(pieces)]
 
 
 def _cut(front: str, text: str) -> Iterator[str]:

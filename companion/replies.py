@@ -1,7 +1,8 @@
 """What a session answers, taken apart: the rows that each command of a script has printed.
 
 docs/COMMANDS.md says what each command prints. A change and a refusal are answered in one row that begins with the
-line of the command; what is shown has no such number, and is told by its first words.
+line of the command, and the first row of an `auto` begins so; what is shown has no such number, and is told by its
+first words.
 """
 
 from __future__ import annotations
@@ -14,7 +15,11 @@ from .panes import dependence_pane, source_pane
 from .scripts import Command
 from .statuses import CompanionError, Status
 
-_ANSWER = re.compile(r"(\d+): (ok|refused .*)")
+_ANSWER = re.compile(r"(\d+): (ok|refused .*|auto \d+)")
+_AUTO = "auto "
+_REFUSED = "refused "
+_TAKEN = "+ "
+_LEFT = re.compile(r"left (\d+) (.+)")
 _FAULT = re.compile(r"fault (\d+) at (\d+)")
 _RACE = re.compile(r"race (\S+) at (\d+) and (\d+)")
 _ADVISED = ("interchange", "reverse", "distribute", "fuse", "parallel", "serial", "peel first", "peel last")
@@ -64,6 +69,14 @@ class Advised:
 
 
 @dataclass(frozen=True)
+class Left:
+    """A loop that `auto` leaves: its statement in the program behind, and why `parallel` is refused there."""
+
+    number: int
+    refusal: str
+
+
+@dataclass(frozen=True)
 class Reply:
     """The rows that a command has printed."""
 
@@ -79,7 +92,22 @@ class Reply:
     def refusal(self) -> Optional[str]:
         """The cause of a refusal, without the word `refused`."""
         answer = self._answer
-        return answer[len("refused "):] if answer is not None and answer != "ok" else None
+        return answer[len(_REFUSED):] if answer is not None and answer.startswith(_REFUSED) else None
+
+    @property
+    def taken(self) -> Tuple[str, ...]:
+        """The steps that an `auto` has taken, as commands in order."""
+        return tuple(row[len(_TAKEN):] for row in self._report if row.startswith(_TAKEN))
+
+    @property
+    def left(self) -> Tuple[Left, ...]:
+        """The loops that an `auto` leaves."""
+        matches = [_LEFT.fullmatch(row) for row in self._report]
+        return tuple(Left(int(match.group(1)), match.group(2)) for match in matches if match is not None)
+
+    @property
+    def _report(self) -> Tuple[str, ...]:
+        return self.rows if (self._answer or "").startswith(_AUTO) else ()
 
     @property
     def fault(self) -> Optional[Fault]:
@@ -125,9 +153,21 @@ def _count(command: Command, rows: Sequence[str]) -> int:
     """How many of the rows are the reply to a command; 0 where none is."""
     match = _ANSWER.fullmatch(rows[0]) if rows else None
     if match is not None:
-        return 1 if int(match.group(1)) == command.line else 0
+        if int(match.group(1)) != command.line:
+            return 0
+        return _automatic(rows, match.group(2)) if match.group(2).startswith(_AUTO) else 1
     counter = _SHOWN.get(command.word)
     return counter(rows) if counter is not None and rows else 0
+
+
+def _automatic(rows: Sequence[str], answer: str) -> int:
+    """How many rows an `auto` has printed: its answer, the steps that it has taken, the loops left, the source."""
+    taken = int(answer[len(_AUTO):])
+    if _while(rows[1:], lambda row: row.startswith(_TAKEN)) != taken:
+        return 0
+    count = 1 + taken + _while(rows[1 + taken:], _LEFT.fullmatch)
+    source = _printed(rows[count:])
+    return count + source if source else 0
 
 
 def _printed(rows: Sequence[str]) -> int:
@@ -158,7 +198,7 @@ def _advised(step: str, row: str, loop: str) -> Advised:
     """A row of `advise`; the number of the loop stands behind the first word of the step."""
     word, *rest = step.split()
     answer = row[len(step) + 1:]
-    return Advised(" ".join([word, loop, *rest]), None if answer == "ok" else answer[len("refused "):])
+    return Advised(" ".join([word, loop, *rest]), None if answer == "ok" else answer[len(_REFUSED):])
 
 
 def _while(rows: Sequence[str], belongs: Callable[[str], object]) -> int:

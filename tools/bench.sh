@@ -6,7 +6,8 @@
 # assignment in loops, over an array and over a scalar, from 10^4 to 10^7 of them, and how much memory a store of 2^20
 # elements takes; how long `races` takes for an access, and how much memory, at 10^5 and 10^6 of them; how long `races` and
 # `run` take for an operand of an expression, with up to 600 of them; and how long the flow of scalars takes to be made, and
-# how much memory, and the questions about it, by the program of crate ped_show_flow; and how `generate` grows with its size. It is no part of the gate, and needs GNU time and awk. docs/PERFORMANCE.md says how to read the figures.
+# how much memory, and the questions about it, by the program of crate ped_show_flow; how `generate` grows with its size; and how long `auto`
+# takes, with the steps that it tries and takes, and the pairs that these test. It is no part of the gate, and needs GNU time and awk. docs/PERFORMANCE.md says how to read the figures.
 #
 # usage: tools/bench.sh [RUNS]      of so many runs (5 where it isn't said) the least counts
 set -eu
@@ -447,3 +448,52 @@ edits 1001 1 '      INTEGER K' >"$work/edits"
 awk -v one="$(least_session '%U %S' "$work/large.f" "$work/one")" -v edits="$(least_session '%U %S' "$work/large.f" "$work/edits")" \
     -v one_peak="$(least_session %M "$work/large.f" "$work/one")" -v peak="$(least_session %M "$work/large.f" "$work/edits")" \
     'BEGIN { printf "an edit of 4,000 statements: %.2f ms, and %.0f KiB kept for a change\n", edits - one, (peak - one_peak) / 1000 }'
+
+# So many loops of 18 statements, of five kinds in turn: one that is parallel as it is, which is one try; one with a private
+# scalar, three; one with a sum, three, since `privatise` is refused before `reduce`; one whose statements depend on each other
+# in a ring, two; and one that `distribute` takes into two parallel loops, four. A further round tries `parallel` at the sums
+# and the rings again. So five loops are 15 tries, and 7 of them are accepted.
+for_auto() {
+    awk -v n="$1" '
+        function put(first, last, k) {
+            for (k = first; k <= last; k++) printf "      A%d(I) = A%d(I)+B%d(I)\n", k, k, k
+        }
+        BEGIN {
+            for (k = 1; k <= 18; k++) printf "      INTEGER A%d(99), B%d(99)\n", k, k
+            for (k = 0; k < n; k++) {
+                print "      DO I = 2, 99"
+                if (k % 5 == 0) put(1, 18)
+                if (k % 5 == 1) { printf "      K%d = B1(I)\n      A1(I) = K%d\n", k, k; put(3, 18) }
+                if (k % 5 == 2) { put(1, 17); printf "      L%d = L%d+A1(I)\n", k, k }
+                if (k % 5 == 3) for (j = 1; j <= 18; j++) printf "      A%d(I) = A%d(I%s)+1\n", j, j == 1 ? 18 : j - 1, j == 1 ? "-1" : ""
+                if (k % 5 == 4) {
+                    print "      IF (B1(I).GT.0) THEN"; put(1, 8); print "      END IF"
+                    print "      IF (B2(I).GT.A1(I-1)) THEN"; put(9, 16); print "      END IF"
+                }
+                print "      END DO"
+            }
+            print "      END"
+        }'
+}
+printf '\n%10s %10s %10s %10s %10s %10s %10s %10s %10s\n' loops statements pairs tries accepted left tested seconds MiB
+printf 'auto\n' >"$work/auto"
+# Beyond 192 loops the sums that a list is lowered to take the program past 4,000 statements, and other steps are taken.
+for loops in 10 50 190; do
+    for_auto "$loops" >"$work/auto.f"
+    "$ped" session "$work/auto.f" "$work/auto" >"$work/report"
+    printf 'source\n' >"$work/source"
+    statements=$("$ped" session "$work/auto.f" "$work/source" | awk 'NR > 1 && substr($0, 6, 5) ~ /[0-9]/ { n++ } END { print n }')
+    { echo tested; awk '/^\+ / { print substr($0, 3); print "tested" }' "$work/report"; } >"$work/steps"
+    "$ped" session "$work/auto.f" "$work/steps" >"$work/told"
+    awk -v loops="$loops" -v statements="$statements" -v told="$work/told" \
+        -v seconds="$(least_session '%U %S' "$work/auto.f" "$work/auto")" \
+        -v nothing="$(least_session '%U %S' "$work/auto.f" "$work/nothing")" \
+        -v peak="$(least_session %M "$work/auto.f" "$work/auto")" '
+        BEGIN { while ((getline row < told) > 0) if (split(row, words) == 2 && words[1] == "tested") { if (pairs == "") pairs = words[2]; else tested += words[2] } }
+        /^\+ / { accepted++ }
+        /^left / { left++ }
+        END {
+            if (accepted != loops / 5 * 7 || left != loops / 5 * 2) print "bench: auto has taken other steps than it should" >"/dev/stderr"
+            printf "%10d %10d %10d %10d %10d %10d %10d %10.2f %10.1f\n", loops, statements, pairs, loops * 3, accepted, left, tested, seconds - nothing, peak / 1024
+        }' "$work/report"
+done

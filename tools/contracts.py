@@ -30,7 +30,7 @@ PART = re.compile(r"^    (?:(pub) ([a-z_0-9]+):|([A-Z][A-Za-z0-9]*)(?:,|\(.*| = 
 METHOD = re.compile(r"^    (pub )?fn ([A-Za-z_0-9]+)")
 INHERENT = re.compile(r"^impl(?:<.*?>)? ([A-Za-z_0-9]+)(?:<.*>)? \{")
 MEETS = re.compile(r"^impl(?:<.*?>)? ([A-Za-z_0-9]+)(?:<.*>)? for ([A-Za-z_0-9]+)")
-LAW = re.compile(r"^pub fn [a-z_0-9]+\(\)$")
+LAW = re.compile(r"^pub fn [a-z_0-9]+(?:<.*>)?\(\)$")
 CLAUSE = re.compile(r"^\s*(requires|ensures)(?: ([a-z_0-9]+))? \{")
 MODULE = re.compile(r"^pub mod ([a-z_0-9]+);")
 USE = re.compile(r"^(pub )?use ([^;]+);", re.M | re.S)

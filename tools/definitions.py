@@ -19,7 +19,7 @@ has that of its file. A source is one of these, or several with `; ` between:
 
 A file whose first line says `Contracts of private functions alone speak of ..` stands at the end of its layer's page by that line
 alone, and needs no sources. No definition outside such files names it, and no definition of another crate; private functions of another
-crate may speak of it. What public contracts speak of in spite of that line is listed below (`CITED`), and has its row.
+crate may speak of it.
 
 In docs/definitions.head.md, behind the line `<!-- names -->`, each name in backquotes must be a definition, a constructor or a
 field of crates/*/specs, a function or a type of crates/*/src, or a name that a definition takes from the standard library. Where
@@ -34,8 +34,6 @@ from pages import CRATES, TOP, Complaints, crate_head, read_layers, to_cell, wri
 
 HEAD_PAGE = TOP / "docs" / "definitions.head.md"
 PRIVATE_WORDS = "Contracts of private functions alone speak of"
-# Definitions that a public contract speaks of, of files that say that contracts of private functions alone do.
-CITED = {"ped_reduce/specs/CodeLowered.antt": ["lowered_view"]}
 NAMES_MARK = "<!-- names -->"
 
 SOURCE = re.compile(r"^(.*) \(((?:ANSI X3\.9-1978|Allen and Kennedy|ParaScope|this project|plain words|sections? [0-9])[^()]*)\)(.*)$")
@@ -128,11 +126,7 @@ class DefinitionFile:
         self.says, source = split_comment(self.head)
         self.source = shorten(source, self.shown)
         self.is_private = PRIVATE_WORDS in self.head
-        self.cited = CITED.get(self.shown, [])
         self.read(lines)
-        for name in self.cited:
-            if not any(name in row.names for row in self.rows):
-                complaints.add(f"{self.shown}: no {name}, which CITED has")
 
     def read(self, lines):
         comment = []
@@ -170,7 +164,7 @@ class DefinitionFile:
     def add(self, name, comment):
         """Adds a definition. One that is held together with others and has no comment stands in the row of the one before."""
         self.define(name)
-        if self.is_private and name not in self.cited:
+        if self.is_private:
             return
         if not comment and self.depth > 0 and self.rows:
             self.rows[-1].names.append(name)
@@ -185,16 +179,13 @@ class DefinitionFile:
 
     def lines(self):
         """The file in its layer's page."""
-        says = self.private_says() + f" {PRIVATE_WORDS} its other definitions." if self.is_private else self.says
-        text = says if says.endswith(".") else says + "."
+        text = self.says if self.says.endswith(".") else self.says + "."
         return ["", f"### `{self.shown}`", "", text] + (
             ["", "| Definition | Says | Source |", "|---|---|---|"] + [str(row) for row in self.rows] if self.rows else [])
 
-    def private_says(self):
-        return self.head.split(" " + PRIVATE_WORDS)[0]
-
     def private_line(self):
-        return f"- `{self.shown}`: {self.private_says()}"
+        says = self.head.split(" " + PRIVATE_WORDS)[0]
+        return f"- `{self.shown}`: {says}"
 
 
 def definition_files(crate):
@@ -210,12 +201,12 @@ def layer_page(layer, files):
              f"{layer.says[:1].upper()}{layer.says[1:]}. The crates stand from the lowest up, in the order of crates.txt. "
              "[DEFINITIONS.md](../DEFINITIONS.md) says how to read definitions, and what the sources are."]
     for crate in layer.crates:
-        shown = [file for file in files[crate] if file.rows or not file.is_private]
+        shown = [file for file in files[crate] if not file.is_private]
         if any(file.rows for file in shown):
             lines += ["", f"## {crate}", "", crate_head(crate)]
             for file in shown:
                 lines += file.lines()
-    private = [file.private_line() for crate in layer.crates for file in files[crate] if file.is_private and not file.rows]
+    private = [file.private_line() for crate in layer.crates for file in files[crate] if file.is_private]
     if private:
         lines += ["", "## What contracts of private functions alone cite", "",
                   "No contract of a function that another crate can call speaks of these files.", ""] + private

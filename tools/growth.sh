@@ -77,8 +77,30 @@ write_session() {
         reversal) reversal ;;
         twelve) twelve ;;
         sums) sums ;;
+        auto) automatic ;;
         *) stop "there is no session $1" ;;
     esac
+}
+
+automatic() {
+    cat >program.f <<'END_OF_PROGRAM'
+      INTEGER A(5), B(5), C(5), T
+      SAVE C, K
+      DO 10 I=1,5
+      T=I*I
+   10 A(I)=T
+      B(1)=0
+      DO 20 I=2,5
+      B(I)=A(I)
+   20 C(I)=B(I-1)
+      K=0
+      DO 30 I=2,5
+   30 K=K+B(I)
+      DO 40 I=2,5
+   40 A(I)=A(I-1)+C(I)
+      END
+END_OF_PROGRAM
+    printf '%s\n' auto undo redo auto run >script
 }
 
 wavefront() {

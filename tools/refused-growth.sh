@@ -6,8 +6,8 @@
 #
 #   tools/refused-growth.sh [--program PROGRAM] [--every STEP] [--onward] [SESSION ..]
 #
-# The sessions are `wavefront`, `reversal`, whose step is undone and done again, `twelve`, which does each step but `reduce`, and `sums`,
-# which does that one; all where none is given. With --every only each such growth is refused, from the first one on; with --onward
+# The sessions are `wavefront`, `reversal`, whose step is undone and done again, `twelve`, which does each step but `reduce`, `sums`,
+# which does that one, and `auto`; all where none is given. With --every only each such growth is refused, from the first one on; with --onward
 # all behind it are refused with it. The program is the one that .ci/run or ./prove has proved and built from the present sources;
 # nothing is proved or built here. There is a line for each session, and the status is 0 only where all is as wanted. docs/HOSTILE.md
 # has the figures.
@@ -42,7 +42,7 @@ fi
 if ! [ -f "$program" ] || ! [ -x "$program" ]; then
     stop 'the proved program is not built; .ci/run or ./prove builds it'
 fi
-[ $# -gt 0 ] || set -- wavefront reversal twelve sums
+[ $# -gt 0 ] || set -- wavefront reversal twelve sums auto
 
 work=$(mktemp -d)
 trap 'rm -rf -- "$work"' EXIT

@@ -5,6 +5,7 @@ from __future__ import annotations
 from typing import Iterator, List, Sequence, Tuple
 
 from ..advice import Adviser
+from ..automatic import Rest, rests
 from ..messages import counted, listed
 from ..panes import KINDS, MARKS, Dependence
 from ..ped import Ped
@@ -20,13 +21,14 @@ def loops(view: View, ped: Ped, numbers: Sequence[int], tries: bool) -> str:
     if not chosen:
         return "no loops\n"
     adviser = Adviser(view, ped, chosen, tries)
+    left = rests(ped, view) if tries and not all(loop.form.parallel for loop in chosen) else {}
     headers = [header(loop) for loop in chosen]
     width = max(map(len, headers + ["loop"]))
     rows = [f"{'S':>4} {'line':>5}  {'loop':{width}}  verdict"]
     for loop, text in zip(chosen, headers):
         line = view.program.statement(loop.number).line
         rows.append(f"{loop.number:4} {line:5}  {text:{width}}  {_verdict(view, loop)}")
-        rows.extend(" " * 14 + remark for remark in _remarks(view, adviser, loop))
+        rows.extend(" " * 14 + remark for remark in _remarks(view, adviser, loop, left.get(loop.number, [])))
     return "".join(row.rstrip() + "\n" for row in rows)
 
 
@@ -59,14 +61,14 @@ def _verdict(view: View, loop: Loop) -> str:
     return f"{verdict}: carries nothing" + (f" but what is rejected of {listed(rejected)}" if rejected else "")
 
 
-def _remarks(view: View, adviser: Adviser, loop: Loop) -> Iterator[str]:
+def _remarks(view: View, adviser: Adviser, loop: Loop, left: Sequence[Rest]) -> Iterator[str]:
     rows = view.carried_by(loop)
     for name in carried_names(rows):
         mine = [row for row in rows if row.name == name]
         yield f"{name}: {summary(mine)}"
         for advice in adviser.about_name(loop, name, mine):
             yield f"- {advice}"
-    for advice in adviser.about_loop(loop):
+    for advice in [*adviser.about_loop(loop), *(rest.words for rest in left)]:
         yield f"- {advice}"
 
 

@@ -64,10 +64,16 @@ def _common(one: Sequence[str], other: Sequence[str]) -> int:
 
 
 def carried_out(replies: Sequence[Reply]) -> Tuple[List[Change], List[Change]]:
-    """What a session has changed: the changes that stand, and those that `redo` would bring back, the next one last."""
+    """What a session has changed: the changes that stand, and those that `redo` would bring back, the next one last.
+
+    In the place of an `auto` stand the steps that it has taken, each of which `undo` takes back by itself.
+    """
     done: List[Change] = []
     undone: List[Change] = []
     for reply in replies:
+        if reply.taken:
+            done.extend(Change(lines_of((step,))) for step in reply.taken)
+            undone = []
         if not reply.accepted:
             continue
         if reply.command.word == "undo":

@@ -7,7 +7,8 @@ from typing import Callable, Dict, Iterator, List, Optional, Sequence
 
 from ..commands.why import explained
 from ..faults import FAULTS
-from ..messages import counted
+from ..lists import live_sums
+from ..messages import counted, listed
 from ..openmp import openmp_lines
 from ..ped import read_file, shown
 from ..refusals import refused
@@ -85,7 +86,7 @@ class Editor:
             keys.KIND: lambda: self._filter(desk.filters.with_next_kind()),
             keys.MARK: lambda: self._filter(desk.filters.with_next_mark()),
             keys.NAME: self._filter_name, keys.NO_FILTERS: lambda: self._filter(Filters()),
-            keys.EDIT: self._edit, keys.UNDO: self._undo, keys.REDO: self._redo,
+            keys.AUTO: self._automatic, keys.EDIT: self._edit, keys.UNDO: self._undo, keys.REDO: self._redo,
             keys.RUN: self._run, keys.RACES: self._races, keys.DATA: self._choose_data,
             keys.SAVE: self._save_script, keys.WRITE: self._write_program, keys.OPENMP: self._openmp,
             keys.HELP: lambda: self._page("The keys of pedx edit", list(keys.help_lines())),
@@ -231,6 +232,14 @@ class Editor:
         hint = "; p makes it parallel" if self._desk.is_free else ""
         return f"; loop {loop.number} {self._desk.verdict}{hint}"
 
+    def _automatic(self) -> None:
+        with self._busy("auto"):
+            reply = self._session.automatic()
+        self._desk.put(self._session.present)
+        left = [str(loop.number) for loop in reply.left]
+        loops = f"loop{'s' if len(left) > 1 else ''} {listed(left)}" if left else "no loop"
+        self._desk.say(f"auto: {counted(len(reply.taken), 'step')}; {loops} left")
+
     def _edit(self) -> None:
         lines, line = list(self._session.present.lines), self._desk.line
         while True:
@@ -352,7 +361,8 @@ class Editor:
         if not live:
             self._desk.say("nothing was done")
             return
-        lines = openmp_lines(present.panes.lines, present.view.printed, live == "y")
+        sums = live_sums(self._session.ped, present.panes.lines, present.view.printed)
+        lines = openmp_lines(present.panes.lines, present.view.printed, sums, live == "y")
         name = self._write("write the OpenMP program to", self._names.openmp, "".join(one + "\n" for one in lines))
         if name is None:
             return

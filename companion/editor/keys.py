@@ -46,7 +46,7 @@ STEPS: Dict[str, Step] = {
 }
 
 NEXT_LOOP, PREVIOUS_LOOP, OUTER_LOOP = "n", "b", "o"
-ADVICE, EDIT, UNDO, REDO = "a", "e", "u", "y"
+ADVICE, AUTO, EDIT, UNDO, REDO = "a", "A", "e", "u", "y"
 LEVEL, KIND, MARK, NAME, NO_FILTERS = "L", "K", "M", "N", "0"
 RUN, RACES, DATA = "R", "C", "D"
 SAVE, WRITE, OPENMP = "w", "W", "O"
@@ -65,6 +65,7 @@ _OTHERS: Tuple[Tuple[str, str], ...] = (
     (f"{LEVEL} {KIND} {MARK} {NAME}", "filter the dependences by level, kind, mark, name"),
     (NO_FILTERS, "take the filters away"),
     ("Changing", ""),
+    (AUTO, "auto: make all loops parallel that can be, each step a change"),
     (EDIT, "edit the program in $EDITOR"),
     (f"{UNDO} {REDO}", "undo the last change, redo what was undone last"),
     ("Running", ""),

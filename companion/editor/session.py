@@ -90,6 +90,15 @@ class Session:
         """Has ped carry out a step; answers the cause where it is refused."""
         return self._change((command,))
 
+    def automatic(self) -> Reply:
+        """Has ped make parallel what can be; each step that it takes is a change of its own."""
+        reply, shown = self._ped.session(self.present.text, "auto\nshow\n")
+        if reply.taken:
+            self.changes.extend(Change(lines_of((step,))) for step in reply.taken)
+            self._undone = []
+            self.present = Present(read_panes(shown.rows))
+        return reply
+
     def edit(self, lines: Sequence[str]) -> Optional[str]:
         """Has ped replace the program by these lines; answers the cause where that is refused."""
         change = edit_between(self.present.lines, lines)

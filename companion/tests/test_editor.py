@@ -146,6 +146,21 @@ class Steps(Played):
         player.wait("undone: reduce 1 K L")
         self.quit(player)
 
+    def test_automatic_steps(self) -> None:
+        """Each step is a change of its own."""
+        player = self.play(fortran(
+            "INTEGER A(8)", "DO I = 1, 8", "K = I*I", "A(I) = K", "END DO", "DO I = 2, 8", "A(I) = A(I-1)", "END DO",
+            "END",
+        ))
+        player.press("A")
+        rows = player.wait("auto: 2 steps; loop 4 left")
+        self.assertIn("PRIVATE K", "\n".join(rows))
+        player.press("u")
+        player.wait("undone: parallel 1")
+        player.press("u")
+        player.wait("undone: privatise 1 K")
+        self.quit(player)
+
     def test_refused_fuse(self) -> None:
         """The one loop would read an element before it is written; this row isn't in the pane yet."""
         player = self.play(fortran(

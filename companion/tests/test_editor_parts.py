@@ -126,6 +126,19 @@ class Sessions(unittest.TestCase):
         self.assertEqual(session.present.lines, lines)
         self.assertTrue(session.is_saved)
 
+    def test_automatic_steps(self) -> None:
+        """In the place of an `auto` the script has the steps that it has taken; each is undone by itself."""
+        session = Session(ped(), NEST)
+        self.assertEqual(session.load("auto\n"), [])
+        lines = session.present.lines
+        self.assertGreater(len(session.changes), 1)
+        self.assertNotIn("auto", session.script)
+        self.assertTrue(session.replays())
+        session.undo()
+        self.assertNotEqual(session.present.lines, lines)
+        session.redo()
+        self.assertEqual(session.present.lines, lines)
+
     def test_change_drops_what_was_undone(self) -> None:
         session = Session(ped(), NEST)
         session.step("parallel 3")

@@ -4,6 +4,7 @@ import re
 import unittest
 from typing import Dict, List, Optional
 
+from ..automatic import marked, rests
 from ..commands.loops import find_loop, loops
 from ..lines import split_lines
 from ..ped import Ped
@@ -23,10 +24,21 @@ def verdicts(view: View) -> Dict[int, str]:
 
 
 def advice(view: View, loop: int, program: Optional[Ped] = None) -> List[str]:
-    """What is to be tried at a loop; what else ped accepts, only where it is a fake program that does."""
+    """What is to be tried at a loop; what else ped accepts, and why `auto` leaves it, only of a fake program."""
     rows = loops(view, program or ped(), [loop], tries=True).splitlines()
     told = [row.strip()[2:] for row in rows if row.strip().startswith("- ")]
-    return [row for row in told if program is not None or not row.startswith("ped accepts ")]
+    return [row for row in told if program is not None or not row.startswith(("ped accepts ", "`auto` leaves "))]
+
+
+def left(view: View) -> List[str]:
+    """What `auto` leaves, each row behind the number of its loop."""
+    told = []
+    number = 0
+    for row in loops(view, ped(), [], tries=True).splitlines()[1:]:
+        number = int(row[:4]) if row[:4].strip() else number
+        if "`auto` leaves " in row:
+            told.append(f"{number}: {row.strip()[2:]}")
+    return told
 
 
 def untried(view: View, loop: int) -> List[str]:
@@ -50,7 +62,10 @@ class FakePed(Ped):
     @staticmethod
     def _rows(command: Command, lines: List[str]) -> List[str]:
         shown = [f"source {len(lines)}", *(f"{number:5}      {text}" for number, text in enumerate(lines, 1))]
-        others = {"advise": ADVICE, "show": [*shown, "dependences 0"]}
+        others = {
+            "advise": ADVICE, "show": [*shown, "dependences 0"], "source": shown,
+            "auto": [f"{command.line}: auto 0", *lines],
+        }
         return others.get(command.word, [f"{command.line}: ok"])
 
 
@@ -195,7 +210,7 @@ class Advice(unittest.TestCase):
         self.assertEqual(advice(nest, 1, fake), [
             "try `parallel 1`: ped accepts it", "ped accepts `interchange 1` and `peel 1 first`",
         ])
-        self.assertEqual(fake.scripts, ["advise 1\n"])
+        self.assertEqual(fake.scripts, ["advise 1\n", "auto\nsource\n"])
 
     def test_tries_what_may_be_better(self) -> None:
         """The rows depend on each other: whether the columns do where they come outside is tried."""
@@ -205,7 +220,7 @@ class Advice(unittest.TestCase):
             "try `interchange 1`: ped accepts it, and puts DO J outside, which then carries nothing",
             "ped accepts `parallel 1` and `peel 1 first`",
         ])
-        self.assertEqual(fake.scripts, ["advise 1\n", "interchange 1\nshow\nundo\n"])
+        self.assertEqual(fake.scripts, ["advise 1\n", "interchange 1\nshow\nundo\n", "auto\nsource\n"])
 
     def test_parallel_refused(self) -> None:
         """The variable is wanted behind the loop, where it would have no value."""
@@ -245,6 +260,69 @@ class Advice(unittest.TestCase):
         self.assertEqual(advice(view_of(fortran(*head, "10 A(I,J) = A(I-1,J)", "END")), 1), [
             "try `interchange 1`: ped accepts it, and puts DO J outside, which then carries nothing",
         ])
+
+
+class LeftLoops(unittest.TestCase):
+    """What `pedx loops` says of the loops that `auto` leaves."""
+
+    def test_recurrence(self) -> None:
+        self.assertEqual(left(example_view("recurrence")), [
+            "1: `auto` leaves it: refused edge 2.2 2.1 A flow 1 (<) (1) proven: this dependence forbids it",
+        ])
+
+    def test_nothing_left(self) -> None:
+        self.assertEqual(left(example_view("independent")), [])
+
+    def test_sums(self) -> None:
+        view = view_of(fortran("DO 10 I = 1, 9", "K = K+I", "10 L = L-I", "PRINT *, K, L", "END"))
+        self.assertEqual(left(view), [
+            "1: `auto` leaves it behind `reduce 1 K L`: refused edge 2.1 2.2 K anti 1 (<) (*) proven: this dependence "
+            "forbids it",
+        ])
+
+    def test_rule(self) -> None:
+        view = view_of(fortran("INTEGER A(9)", "DO 10 I = 1, 9", "10 A(I) = I", "PRINT *, I", "END"))
+        self.assertEqual(left(view), [
+            "1: `auto` leaves it: refused rule 5 IndexEscapes at 3: statement 3 reads the variable of a loop where the "
+            "step would leave it without a value",
+        ])
+
+    def test_numbers_anew(self) -> None:
+        """The first loop is taken apart, so the others have other numbers; of the second one a part is left."""
+        view = view_of(fortran(
+            "INTEGER A(9), B(9), C(9)", "DO 10 I = 2, 9", "A(I) = I", "10 B(I) = A(I-1)",
+            "DO 20 I = 2, 9", "A(I) = A(I-1)", "20 C(I) = A(I)", "C$PED REJECT B", "DO 30 I = 2, 9", "30 B(I) = B(I-1)",
+            "END",
+        ).replace("      C$PED", "C$PED"))
+        self.assertEqual(left(view), [
+            "4: `auto` leaves loop 5 of it: refused edge 6.2 6.1 A flow 1 (<) (1) proven: this dependence forbids it",
+            "7: `auto` leaves it as loop 9: refused edge 10.2 10.1 B flow 1 (<) (1) proven: this dependence forbids it",
+        ])
+
+    def test_inner_loops(self) -> None:
+        """Two loops with one header stand in a loop that is taken apart, in the other order."""
+        view = view_of(fortran(
+            "INTEGER A(9,9), B(9,9)", "DO 10 I = 2, 9", "DO 20 J = 2, 9", "20 A(I,J) = A(I,J-1)+B(I-1,J)",
+            "DO 10 J = 2, 9", "10 B(I,J) = B(I-1,J)+B(I,J-1)", "END",
+        ))
+        self.assertEqual([row.split(": refused")[0] for row in left(view)], [
+            "1: `auto` leaves loop 1 of it", "2: `auto` leaves it as loop 5", "4: `auto` leaves it as loop 2",
+        ])
+
+    def test_marks(self) -> None:
+        """The comments before the loops change nothing of what `auto` does, and all that are left are found again."""
+        for name in ("chains", "knapsack", "private", "relief", "seidel"):
+            view = example_view(name)
+            with self.subTest(name):
+                texts = ["".join(line + "\n" for line in lines) for lines in (view.panes.lines, marked(view))]
+                plain, other = [ped().session(text, "auto\n")[0] for text in texts]
+                self.assertEqual((plain.taken, plain.left), (other.taken, other.left))
+                found = [rest for of_loop in rests(ped(), view).values() for rest in of_loop]
+                self.assertEqual(sorted(rest.number for rest in found), [one.number for one in plain.left])
+
+    def test_comment_like_a_mark(self) -> None:
+        text = "CLOOP0 1\n" + fortran("DO 10 I = 2, 9", "10 K = I-K", "PRINT *, K", "END")
+        self.assertEqual(len(left(view_of(text))), 1)
 
 
 if __name__ == "__main__":

@@ -7,20 +7,28 @@ import tempfile
 import unittest
 from concurrent.futures import ThreadPoolExecutor
 from pathlib import Path
-from typing import Dict, Iterator, List, NamedTuple, Tuple
+from typing import Dict, Iterator, List, NamedTuple, Optional, Tuple
 
 from ..lines import split_lines
-from ..openmp import openmp_lines
+from ..lists import live_sums
+from ..openmp import Sums, openmp_lines
 from ..ped import ENCODING, read_file
 from ..program import read_program
 from ..views import Question, View, open_view
 from .support import EXAMPLES, examples, example_view, fortran, ped, view_of
 
 
-def translated(text: str, live: bool = False) -> List[str]:
+def translated(text: str, live: bool = False, sums: Optional[Sums] = None) -> List[str]:
     """A printed program, translated, without the heading."""
     lines = split_lines(text)
-    return openmp_lines(lines, read_program(lines), live)[1:]
+    return openmp_lines(lines, read_program(lines), sums or {}, live)[1:]
+
+
+def live_lists(*statements: str) -> Sums:
+    """The lists of sums of a program that are live; comments begin with `C$`."""
+    text = "".join(f"{one}\n" if one.startswith("C$") else fortran(one) for one in statements)
+    lines = ped().show(text).lines
+    return live_sums(ped(), lines, read_program(lines))
 
 
 class Text(unittest.TestCase):
@@ -73,6 +81,25 @@ class Text(unittest.TestCase):
         text = comments + fortran("DO 10 I = 1, 2", "10 A(L(I)) = 1", "END")
         self.assertEqual(translated(text)[:4], ["C $    X = Y +", "C $OMP NONSENSE", "C$PED REJECT A", "C PLAIN"])
 
+    def test_sums(self) -> None:
+        """The clause names the list, and PRIVATE what it would of a PARALLEL DO."""
+        text = fortran(
+            "DO I = 1, 9", "PRIVATE T", "T = I", "DO J = 1, 9", "K = K+T", "L = J+L", "END DO", "END DO", "END",
+        )
+        self.assertEqual(translated(text, sums={1: ["K", "L"]}), split_lines(
+            "C$OMP PARALLEL DO PRIVATE(T,J) REDUCTION(+:K,L)\n" + fortran(
+                "DO I = 1, 9", "T = I", "DO J = 1, 9", "K = K+T", "L = J+L", "END DO", "END DO", "END",
+            )
+        ))
+
+    def test_renamed_sum(self) -> None:
+        text = fortran("DO I = 1, 9", "MAX = MAX+I", "END DO", "PRINT *, MAX(2,3)", "END")
+        self.assertEqual(translated(text, sums={1: ["MAX"]}), split_lines(
+            "C$OMP PARALLEL DO REDUCTION(+:K0)\n" + fortran(
+                "DO I = 1, 9", "K0 = K0+I", "END DO", "PRINT *, MAX(2,3)", "END",
+            )
+        ))
+
     def test_names_that_clash(self) -> None:
         text = fortran("PROGRAM N", "PARAMETER (N=10)", "MAX = N", "K = MAX(MAX,3)", "PRINT *, 'MAX', MAX", "END")
         self.assertEqual(translated(text), split_lines(fortran(
@@ -92,6 +119,42 @@ class Text(unittest.TestCase):
             "SAVE B, A", "IF (K.EQ.1) THEN", "PRINT *, 'live A', A", "PRINT *, 'live B', B", "STOP", "END IF",
             "PRINT *, 'live A', A", "PRINT *, 'live B', B", "END",
         )))
+
+
+class Lists(unittest.TestCase):
+    """Which lists of sums are live."""
+
+    def test_live(self) -> None:
+        self.assertEqual(live_lists(
+            "DO I = 1, 9", "C$REDUCE K", "C$ reduce L", "K = K+I", "L = L-I", "END DO", "PRINT *, K, L", "END",
+        ), {1: ("K", "L")})
+
+    def test_behind_private_names(self) -> None:
+        self.assertEqual(live_lists(
+            "DO I = 1, 9", "PRIVATE M", "C$REDUCE K", "M = I", "K = K+M", "END DO", "PRINT *, K", "END",
+        ), {1: ("K",)})
+
+    def test_comments_alone(self) -> None:
+        """A product; a sum that is wanted on the way; a name too many; a list that comes too late; and others."""
+        for body in (
+            ["C$REDUCE K", "K = K*I"], ["C$REDUCE K", "K = K+I", "L = K"],
+            ["C$REDUCE K", "C$REDUCE M", "M = I", "K = K+I"],
+            ["C$ OTHER", "C$REDUCE K", "K = K+I"], ["M = 1", "C$REDUCE K", "K = K+I"],
+        ):
+            with self.subTest(body):
+                self.assertEqual(live_lists("DO I = 1, 9", *body, "END DO", "PRINT *, K", "END"), {})
+        for first, last in (("1, N", "PRINT *, K"), ("1, 9", "PRINT *, K, I")):
+            # The bounds are open; the variable is wanted behind the loop.
+            with self.subTest(first):
+                self.assertEqual(
+                    live_lists("READ *, N", f"DO I = {first}", "C$REDUCE K", "K = K+I", "END DO", last, "END"), {}
+                )
+
+    def test_inner_list(self) -> None:
+        """The list of the inner loop is live where that of the outer one isn't."""
+        inner = ["DO J = 1, 9", "C$REDUCE K", "K = K+J", "END DO", "END DO", "PRINT *, K", "END"]
+        self.assertEqual(live_lists("DO I = 1, 9", "C$REDUCE K", *inner), {1: ("K",)})
+        self.assertEqual(live_lists("DO I = 1, 9", "C$REDUCE L", *inner), {2: ("K",)})
 
 
 class Sample(NamedTuple):
@@ -142,6 +205,11 @@ OTHERS: Dict[str, str] = {
         "FUNCTIONF(ITERATION) = TEMPORARYOFEACHITERATIONALONE12*ITERATION", "END DO", "DO WHILE = 1, 2",
         "DOUBLEPRECISION = WHILE", "END DO", "PRINT *, DOUBLEPRECISION", "END",
     ),
+    "sums": fortran(
+        "INTEGER A(99)", "SAVE K, L, J", "K = 2147483000", "L = 0", "J = 0", "DO 10 I = 1, 99", "10 A(I) = I*I-50*I",
+        "DO 20 I = 99, 1, -2", "C$REDUCE K", "C$REDUCE L", "C$REDUCE J", "IF (A(I).GT.0) K = K-A(I)", "DO 30 M = 1, 3",
+        "30 L = L+M*A(I)", "20 J = I+J", "PRINT *, J", "END",
+    ).replace("      C$", "C$"),
 }
 
 
@@ -174,7 +242,8 @@ class Compiled(unittest.TestCase):
 def compared(sample: Sample) -> Tuple[Sample, str]:
     """What differs between the runs of a sample; of one that meets a fault, whether it is compiled."""
     lines = sample.view.panes.lines
-    text = "".join(f"{line}\n" for line in openmp_lines(lines, sample.view.printed, live=True))
+    sums = live_sums(ped(), lines, sample.view.printed)
+    text = "".join(f"{line}\n" for line in openmp_lines(lines, sample.view.printed, sums, live=True))
     run, = ped().session("".join(f"{line}\n" for line in lines), "run\n", sample.data)
     with tempfile.TemporaryDirectory(prefix="pedx-test-") as folder:
         Path(folder, "p.f").write_bytes(text.encode(ENCODING))

@@ -4,7 +4,7 @@ import unittest
 
 from ..lines import split_lines
 from ..ped import read_file
-from ..replies import Advised, Fault, NoReply, Race, read_replies
+from ..replies import Advised, Fault, Left, NoReply, Race, read_replies
 from ..scripts import read_script, weave
 from .support import ADVICE, EXAMPLES, cases
 
@@ -73,6 +73,35 @@ class Replies(unittest.TestCase):
         for rows in (ADVICE[:7], [*ADVICE[1:], ADVICE[0]]):
             with self.assertRaises(NoReply, msg=str(rows)):
                 read_replies(read_script("advise 1\n"), rows)
+
+    def test_automatic_steps(self) -> None:
+        commands = read_script("auto\nauto\nundo\n")
+        source = ["C left 1 rule 1 NoLoop at 1", "      END"]
+        steps = ["+ distribute 1", "+ reduce 3 K L"]
+        left = ["left 1 edge 2.2 2.1 A flow 1 (<) (1) proven", "left 3 rule 5 IndexEscapes at 9"]
+        replies = read_replies(commands, ["1: auto 2", *steps, *left, *source, "2: auto 0", *source, "3: ok"])
+        self.assertEqual([len(reply.rows) for reply in replies], [7, 3, 1])
+        self.assertEqual([reply.taken for reply in replies], [("distribute 1", "reduce 3 K L"), (), ()])
+        self.assertEqual(replies[0].left, (
+            Left(1, "edge 2.2 2.1 A flow 1 (<) (1) proven"), Left(3, "rule 5 IndexEscapes at 9"),
+        ))
+        self.assertEqual([reply.left for reply in replies[1:]], [(), ()])
+        self.assertIsNone(replies[0].refusal)
+        self.assertFalse(replies[0].accepted)
+        for rows in (["1: auto 1", *source], ["1: auto 1", *steps, *source], ["2: auto 0", *source], ["1: auto 0"]):
+            with self.assertRaises(NoReply, msg=str(rows)):
+                read_replies(read_script("auto\n"), rows)
+
+    def test_steps_as_a_script(self) -> None:
+        """The example gives the steps of its `auto` one by one, and has the same program then."""
+        path = EXAMPLES / "relief.script"
+        commands = read_script(read_file(str(path)))
+        replies = read_replies(commands, split_lines(read_file(str(path.with_suffix(".out")))))
+        automatic = next(reply for reply in replies if reply.taken)
+        printed = next(reply for reply in replies if reply.command.word == "print")
+        steps = [" ".join(command.words) for command in commands if command.line < printed.command.line]
+        self.assertEqual(tuple(steps[-len(automatic.taken):]), automatic.taken)
+        self.assertEqual(automatic.rows[-len(printed.rows):], printed.rows)
 
     def test_other_answers(self) -> None:
         for rows in ([], ["2: ok"], ["1: ok", "2: ok"], ["ped: cannot read x"]):

@@ -1,5 +1,5 @@
 -- A first cause is among the causes, and where there is none, there are none.
-use Rattle.std.proofs.Common.{◌≡◌, List, ◌∷◌, Bool, true, false, Some, None, All, arith, refl, sym, subst}
+use Rattle.std.proofs.Common.{◌≡◌, List, ◌∷◌, Bool, true, false, Some, None, arith, refl, sym, subst}
 use Rattle.std.specs.Prelude.{Contains}
 use Rattle.std.proofs.lemmas.List.Elements.{All-contains, Contains-append_right}
 use Rattle.ped_session.specs.ped_tree.specs.Tree.{ProgramTree}

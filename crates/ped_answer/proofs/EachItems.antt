@@ -1,6 +1,5 @@
 -- What is so of each item that a script comes to is so of each item of a session's answer.
-use Rattle.std.proofs.Common.{◌≡◌, ℕ, List, [], ◌∷◌, ◌++◌, Option, Some, refl, sym, ap, ◌∙◌, subst}
-use Rattle.std.proofs.lemmas.List.{append_assoc}
+use Rattle.std.proofs.Common.{ℕ, List, [], ◌∷◌, ◌++◌, Option, Some, refl, subst}
 use Rattle.ped_io.specs.Outside.{Contents}
 use Rattle.ped_words.specs.Requests.{session}
 use Rattle.ped_session.specs.ped_tree.specs.Tree.{ProgramTree}

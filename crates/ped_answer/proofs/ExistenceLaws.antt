@@ -1,6 +1,7 @@
 -- Lemmas of the room that this folder is named after.
 mod Advices
 mod Alike
+mod Autos
 mod ChainCauses
 mod DistributeCauses
 mod FuseCauses

@@ -1,7 +1,7 @@
 -- What is shown of the present program is what comes of reading the present source afresh.
-use Rattle.std.proofs.Common.{◌≡◌, ℕ, List, Option, Some, None, refl, sym, ap, ◌∙◌, subst}
+use Rattle.std.proofs.Common.{◌≡◌, inl, inr, ℕ, List, Option, Some, None, refl, sym, ap, ◌∙◌, subst}
 use Rattle.std.specs.Prelude.{codes, MatchOption}
-use Rattle.ped_io.specs.Outside.{Contents, content}
+use Rattle.ped_io.specs.Outside.{Contents}
 use Rattle.ped_words.specs.Requests.{Request, show, session, generate}
 use Rattle.ped_session.specs.ped_tree.specs.Tree.{StmtTree, ProgramTree}
 use Rattle.ped_session.specs.ped_tree.specs.Printing.{program_text}
@@ -12,7 +12,7 @@ use Rattle.ped_session.specs.ped_graph.specs.DependencePane.{IsDependencePane, I
 use Rattle.ped_session.specs.ped_transformations.specs.Advice.{IsAdvice}
 use Rattle.ped_session.specs.ped_transformations.specs.ped_script.specs.declared.items.Item.{Item}
 use Rattle.ped_session.specs.ped_transformations.specs.ped_script.specs.declared.items.Command.{Command}
-use Rattle.ped_session.specs.ped_transformations.specs.ped_script.specs.declared.items.Command.TheVariants.{Source, Deps, Show, Print, Advise, Replace, Insert, Delete, Interchange, Reverse, Skew, Strip, Peel, Distribute, Fuse, Expand, Privatise, Reduce, Parallel, Serial, Reject, Undo, Redo, Run, Races, Tested}
+use Rattle.ped_session.specs.ped_transformations.specs.ped_script.specs.declared.items.Command.TheVariants.{Source, Deps, Show, Print, Advise, Replace, Insert, Delete, Interchange, Reverse, Skew, Strip, Peel, Distribute, Fuse, Expand, Privatise, Reduce, Parallel, Serial, Reject, Auto, Undo, Redo, Run, Races, Tested}
 use Rattle.ped_session.specs.declared.replies.Reply.{Reply}
 use Rattle.ped_session.specs.declared.replies.Reply.TheVariants.{Shown, Refused}
 use Rattle.ped_session.specs.declared.replies.Refusal.TheVariants.{NoSuchStatement}
@@ -21,7 +21,7 @@ use Rattle.ped_session.specs.Panes.{IsSourcePane, ArePanes}
 use Rattle.ped_session.specs.Replies.{answer_row, reply_text}
 use Rattle.ped_session.specs.Histories.{IsPrinted, ArePrinted}
 use Rattle.ped_session.specs.Steps.{Shows, ShowsOf, ShowsStatement}
-use Rattle.ped_session.specs.Scripts.{Said, said_by, AnswersCommand, AnswersItems}
+use Rattle.ped_session.specs.Scripts.{Said, said_by, AnswersReply, AnswersCommand, AnswersItems}
 use Rattle.ped_answer.specs.declared.answering.Status.{Status}
 use Rattle.ped_answer.specs.declared.answering.Status.TheVariants.{Done, SomeRefused, BadWords, ReadFault, WriteFault, ProgramRefused, NoMemory, TooLong}
 use Rattle.ped_answer.specs.Answer.{IsWhole, source_input, IsShown, Answers}
@@ -29,7 +29,7 @@ use Rattle.ped_answer.specs.Headline.{Afresh, IsOfStatement, ShowsAfresh, ShowsF
 use Rattle.ped_answer.proofs.OneAnswer.{one_tree}
 use Rattle.ped_answer.proofs.ExistenceLaws.Replying.{reads_as}
 use Rattle.ped_answer.proofs.WholeAnswers.{of_file}
-use Rattle.ped_answer.proofs.EachItems.{Comes, SoOfValid, session_each}
+use Rattle.ped_answer.proofs.EachItems.{SoOfValid, session_each}
 
 -- what is so of the program that a printed text reads as
 afresh : (IsSo : ProgramTree → List ℕ → Type 0) (text bytes : List ℕ) (t : ProgramTree) → IsPrinted text → ReadsValid text t → IsSo t bytes → Afresh IsSo text bytes
@@ -60,35 +60,40 @@ shows_of : (IsSo : ProgramTree → List ℕ → Type 0) (line number : ℕ) (s n
 shows_of IsSo line number s next reply said printed h says =
     afresh (IsOfStatement IsSo line number) s.present said.bytes h.tree printed h.reads (rows_by IsSo line (statement_with number h.tree) s next reply said h.tree h.reads h.shows says)
 
+reply_shows : (line : ℕ) (command : Command) (d : List ℕ) (s next : State) (said : Said) → IsPrinted s.present → AnswersReply line command d s said next → ShowsAfresh line (Some command) d s said next
+reply_shows line Source d s next said printed h = shows IsSourcePane line s next h.0 said printed h.1 h.2
+reply_shows line (Deps None) d s next said printed h = shows IsDependencePane line s next h.0 said printed h.1 h.2
+reply_shows line (Deps (Some number)) d s next said printed h = shows_of (λ t. IsDependencePaneOf t (Some number)) line number s next h.0 said printed h.1 h.2
+reply_shows line Show d s next said printed h = shows ArePanes line s next h.0 said printed h.1 h.2
+reply_shows line Print d s next said printed h = bytes_of line h.0 (Shown s.present) next said h.2 h.1.0
+reply_shows line (Advise number) d s next said printed h = shows_of (λ t. IsAdvice t number) line number s next h.0 said printed h.1 h.2
+reply_shows line (Replace first last lines) d s next said printed h = tt
+reply_shows line (Insert after lines) d s next said printed h = tt
+reply_shows line (Delete first last) d s next said printed h = tt
+reply_shows line (Interchange number) d s next said printed h = tt
+reply_shows line (Reverse number) d s next said printed h = tt
+reply_shows line (Skew number factor) d s next said printed h = tt
+reply_shows line (Strip number size) d s next said printed h = tt
+reply_shows line (Peel number last) d s next said printed h = tt
+reply_shows line (Distribute number) d s next said printed h = tt
+reply_shows line (Fuse number) d s next said printed h = tt
+reply_shows line (Expand number name) d s next said printed h = tt
+reply_shows line (Privatise number name) d s next said printed h = tt
+reply_shows line (Reduce number names) d s next said printed h = tt
+reply_shows line (Parallel number) d s next said printed h = tt
+reply_shows line (Serial number) d s next said printed h = tt
+reply_shows line (Reject number name) d s next said printed h = tt
+reply_shows line Auto d s next said printed h = tt
+reply_shows line Undo d s next said printed h = tt
+reply_shows line Redo d s next said printed h = tt
+reply_shows line (Run choices) d s next said printed h = tt
+reply_shows line Races d s next said printed h = tt
+reply_shows line Tested d s next said printed h = tt
+
 line_shows : (line : ℕ) (command : Option Command) (d : List ℕ) (s next : State) (said : Said) → IsPrinted s.present → AnswersCommand line command d s said next → ShowsAfresh line command d s said next
 line_shows line None d s next said printed h = tt
-line_shows line (Some Source) d s next said printed h = shows IsSourcePane line s next h.0 said printed h.1 h.2
-line_shows line (Some (Deps None)) d s next said printed h = shows IsDependencePane line s next h.0 said printed h.1 h.2
-line_shows line (Some (Deps (Some number))) d s next said printed h = shows_of (λ t. IsDependencePaneOf t (Some number)) line number s next h.0 said printed h.1 h.2
-line_shows line (Some Show) d s next said printed h = shows ArePanes line s next h.0 said printed h.1 h.2
-line_shows line (Some Print) d s next said printed h = bytes_of line h.0 (Shown s.present) next said h.2 h.1.0
-line_shows line (Some (Advise number)) d s next said printed h = shows_of (λ t. IsAdvice t number) line number s next h.0 said printed h.1 h.2
-line_shows line (Some (Replace first last lines)) d s next said printed h = tt
-line_shows line (Some (Insert after lines)) d s next said printed h = tt
-line_shows line (Some (Delete first last)) d s next said printed h = tt
-line_shows line (Some (Interchange number)) d s next said printed h = tt
-line_shows line (Some (Reverse number)) d s next said printed h = tt
-line_shows line (Some (Skew number factor)) d s next said printed h = tt
-line_shows line (Some (Strip number size)) d s next said printed h = tt
-line_shows line (Some (Peel number last)) d s next said printed h = tt
-line_shows line (Some (Distribute number)) d s next said printed h = tt
-line_shows line (Some (Fuse number)) d s next said printed h = tt
-line_shows line (Some (Expand number name)) d s next said printed h = tt
-line_shows line (Some (Privatise number name)) d s next said printed h = tt
-line_shows line (Some (Reduce number names)) d s next said printed h = tt
-line_shows line (Some (Parallel number)) d s next said printed h = tt
-line_shows line (Some (Serial number)) d s next said printed h = tt
-line_shows line (Some (Reject number name)) d s next said printed h = tt
-line_shows line (Some Undo) d s next said printed h = tt
-line_shows line (Some Redo) d s next said printed h = tt
-line_shows line (Some (Run choices)) d s next said printed h = tt
-line_shows line (Some Races) d s next said printed h = tt
-line_shows line (Some Tested) d s next said printed h = tt
+line_shows line (Some c) d s next said printed (inl h) = reply_shows line c d s next said printed h
+line_shows line (Some c) d s next said printed (inr (is, h)) = subst (λ (x : Command). ShowsAfresh line (Some x) d s said next) (sym is) tt
 
 -- whatever a script does on a valid program, all sources are printed texts
 abbrev pub AllPrinted : Type 0

@@ -4,6 +4,9 @@ mod EachItems
 mod ExistenceLaws
 mod FreshPanes
 mod Inputs
+mod MadePrograms
+mod MadeScripts
+mod NoLists
 mod OneAnswer
 mod OneReport
 mod Outcomes
@@ -12,5 +15,7 @@ mod SameEnds
 mod ScriptRuns
 mod SourceMoves
 mod Tallying
+mod ToldAuto
 mod ToldCauses
+mod Uncommented
 mod WholeAnswers

@@ -4,7 +4,6 @@ use Rattle.ped_gen.specs.Generated.{script}
 use Rattle.ped_session.specs.ped_tree.specs.Tree.{ProgramTree}
 use Rattle.ped_session.specs.ped_tree.specs.Numbering.{statements_count}
 use Rattle.ped_session.specs.ped_refs.specs.References.{references, pair_count}
-use Rattle.ped_session.specs.ped_graph.specs.ped_edges.specs.Edges.{Edge}
 use Rattle.ped_session.specs.ped_graph.specs.Dependences.{AreEdges}
 use Rattle.ped_session.specs.ped_graph.proofs.OnePane.{one_edges}
 use Rattle.ped_session.specs.ped_valid.specs.Validity.{ReadsValid}
@@ -14,7 +13,7 @@ use Rattle.ped_session.specs.LoweredRuns.{IsLoweredRun}
 use Rattle.ped_session.specs.States.{State, opened}
 use Rattle.ped_session.proofs.OneRun.{one_lowered_run}
 use Rattle.ped_session.proofs.OneStep.{one_tree}
-use Rattle.ped_answer.specs.Generated.{Tally, Figures, IsWordOn, alike, unlike, report, Reports}
+use Rattle.ped_answer.specs.Generated.{Tally, IsWordOn, alike, unlike, report, Reports}
 use Rattle.ped_answer.proofs.Tallying.{one_applies}
 
 -- two runs have one word

@@ -1,26 +1,35 @@
 -- Each command moves along the sources of a session as the history has them.
-use Rattle.std.proofs.Common.{◌≡◌, ℕ, suc, Bool, true, false, ◌+◌, ◌<◌, inl, inr, List, [], ◌∷◌, ◌++◌, map, take, length, slice_get, Option, Some, None, refl, sym, ap, ◌∙◌, subst, arith}
-use Rattle.std.specs.Prelude.{MatchBool, reverse}
+use Rattle.std.proofs.Common.{◌≡◌, ℕ, suc, Bool, true, false, ◌+◌, inl, inr, List, [], ◌∷◌, ◌++◌, map, take, length, slice_get, Option, Some, None, refl, sym, ap, ◌∙◌, subst, arith, append_assoc}
+use Rattle.std.specs.Prelude.{MatchBool, reverse, codes}
+use Rattle.std.specs.Fmt.{decimal}
+use Rattle.std.specs.List.{flat_map}
 use Rattle.std.proofs.lemmas.List.{append_assoc, length-append, length-reverse, length-map, reverse-append}
 use Rattle.ped_io.specs.Outside.{Contents}
 use Rattle.ped_words.specs.Requests.{Request, show, session, generate}
 use Rattle.ped_session.specs.ped_tree.specs.Tree.{StmtTree, ProgramTree}
 use Rattle.ped_session.specs.ped_tree.specs.Numbering.{statement_with}
 use Rattle.ped_session.specs.ped_transformations.specs.ped_script.specs.declared.items.Command.{Command}
-use Rattle.ped_session.specs.ped_transformations.specs.ped_script.specs.declared.items.Command.TheVariants.{Source, Deps, Show, Print, Advise, Replace, Insert, Delete, Interchange, Reverse, Skew, Strip, Peel, Distribute, Fuse, Expand, Privatise, Reduce, Parallel, Serial, Reject, Undo, Redo, Run, Races, Tested}
-use Rattle.ped_session.specs.ped_transformations.specs.ped_reindex.specs.ped_loops.specs.ped_scalar.specs.ped_rules.specs.Steps.{StepAt}
+use Rattle.ped_session.specs.ped_transformations.specs.ped_script.specs.declared.items.Command.TheVariants.{Source, Deps, Show, Print, Advise, Replace, Insert, Delete, Interchange, Reverse, Skew, Strip, Peel, Distribute, Fuse, Expand, Privatise, Reduce, Parallel, Serial, Reject, Auto, Undo, Redo, Run, Races, Tested}
+use Rattle.ped_session.specs.ped_transformations.specs.ped_reindex.specs.ped_loops.specs.ped_scalar.specs.ped_rules.specs.Steps.{StepAt, MaybeStep, no_step, some_step, MatchStep}
 use Rattle.ped_session.specs.declared.replies.Refusal.{Refusal}
 use Rattle.ped_session.specs.declared.replies.Refusal.TheVariants.{NoSuchLine}
 use Rattle.ped_session.specs.declared.replies.Reply.{Reply}
-use Rattle.ped_session.specs.declared.replies.Reply.TheVariants.{Refused}
+use Rattle.ped_session.specs.declared.replies.Reply.TheVariants.{Changed, Refused}
 use Rattle.ped_session.specs.States.{Other, State, gone_back_to, gone_forward_to}
 use Rattle.ped_session.specs.Splices.{are_lines, is_place}
 use Rattle.ped_session.specs.Steps.{Refuses, Prints, Shows, ShowsOf, ShowsStatement, Edits, accepted, refused, Transforms, missing, forbidden, transformed, GoesBack, GoesForward, IsStep, IsMove}
-use Rattle.ped_session.specs.Scripts.{Said, AnswersCommand}
+use Rattle.ped_session.specs.ped_transformations.specs.ped_auto.specs.Replay.{Replays}
+use Rattle.ped_session.specs.ped_transformations.specs.Table.{step_of}
+use Rattle.ped_session.specs.Replies.{answer_row}
+use Rattle.ped_session.specs.AutoAnswers.{accepted_row, left_row}
+use Rattle.ped_session.specs.AutoEditing.{TransformsTo, session_editing}
+use Rattle.ped_session.specs.AutoEditingLaws.{taken}
+use Rattle.ped_session.specs.Scripts.{Said, SaysAuto, AnswersCommand}
+use Rattle.ped_session.proofs.AutoSteps.{auto_steps}
 use Rattle.ped_answer.specs.declared.answering.Status.{Status}
 use Rattle.ped_answer.specs.Answer.{IsWhole, Answers}
-use Rattle.ped_answer.specs.Headline.{Sources, text_of, sources_of, StandsAtPlace, GoesOneBack, nothing_before, one_before, GoesOneForward, nothing_behind, one_behind, PutsBehind, IsShowing, Moves, by_undo, by_redo, by_showing, by_change, by_refusal, KeepsHistory, HistoryRequest}
-use Rattle.ped_answer.proofs.EachItems.{Comes, SoOfValid, session_each}
+use Rattle.ped_answer.specs.Headline.{Sources, text_of, sources_of, StandsAtPlace, GoesOneBack, nothing_before, one_before, GoesOneForward, nothing_behind, one_behind, PutsBehind, PutsAllBehind, MovesByAuto, IsShowing, Moves, by_undo, by_redo, by_showing, by_change, by_refusal, KeepsHistory, HistoryRequest}
+use Rattle.ped_answer.proofs.EachItems.{SoOfValid, session_each}
 
 at_length : (xs ys : List (List ℕ)) (x : List ℕ) → slice_get (xs ++ x ∷ ys) (length xs) ≡ Some x
 at_length [] ys x = refl
@@ -146,6 +155,7 @@ still_by c undo redo (inr is) = redo is
 pub moves : (c : Command) (d : List ℕ) (s next : State) (reply : Reply) → IsStep c d s reply next → Moves c reply (sources_of s) (sources_of next)
 moves Undo d s next reply h = by_undo refl (moves_back s.past s next reply refl h)
 moves Redo d s next reply h = by_redo refl (moves_forward s.future s next reply refl h)
+moves Auto d s next reply h = absurd h
 moves Source d s next reply h = shown_moves Source _ s next reply tt h
 moves (Deps None) d s next reply h = shown_moves (Deps None) _ s next reply tt h
 moves (Deps (Some number)) d s next reply h = of_statement_moves (Deps (Some number)) _ number s next reply (still_by (Deps (Some number)) (λ e. cc) (λ e. cc)) tt h
@@ -172,9 +182,33 @@ moves (Reject number name) d s next reply h = step_moves (Reject number name) _ 
 moves (Fuse number) d s next reply h = step_moves (Fuse number) _ s next reply (still_by (Fuse number) (λ e. cc) (λ e. cc)) (λ is. is) h
 moves (Advise number) d s next reply h = of_statement_moves (Advise number) _ number s next reply (still_by (Advise number) (λ e. cc) (λ e. cc)) tt h
 
+-- so is each step of `auto`
+taken_leaves : (step : MaybeStep) (s next : State) → MatchStep step ⊥ (TransformsTo s Changed next) → Leaves s next
+taken_leaves no_step s next h = absurd h
+taken_leaves (some_step at) s next h =
+    let a = taken at s next h.1 in
+    record { other = _; past_is = ap (λ (n : State). n.past) a.next_is; text_is = refl; future_is = ap (λ (n : State). n.future) a.next_is }
+
+puts_all : (cs : List Command) (s last : State) (tests : ℕ) → Replays session_editing s cs last tests → PutsAllBehind (length cs) (sources_of s) (sources_of last)
+puts_all [] s last tests h = ap sources_of h.0
+puts_all (c ∷ cs) s last tests h = (sources_of h.0, puts s h.0 (taken_leaves (step_of c) s h.0 h.3.0), puts_all cs h.0 last h.2 h.4)
+
+auto_moves : (line : ℕ) (s next : State) (said : Said) → SaysAuto line s said next → MovesByAuto line (sources_of s) said.bytes (sources_of next)
+auto_moves line s next said h =
+    let first = answer_row line (codes "auto " ++ decimal (length h.0.report.accepted)) in
+    let accepted = flat_map accepted_row h.0.report.accepted in
+    let left = flat_map left_row h.0.report.left in
+    record {
+      count = length h.0.report.accepted;
+      puts = puts_all h.0.report.accepted s next said.tests (auto_steps s next h.0.report said.tests h.0.does);
+      rest = accepted ++ (left ++ next.present);
+      says = h.0.says ∙ append_assoc (first ++ accepted) left next.present ∙ append_assoc first accepted (left ++ next.present);
+    }
+
 line_moves : (line : ℕ) (command : Option Command) (d : List ℕ) (s next : State) (said : Said) → AnswersCommand line command d s said next → KeepsHistory line command d s said next
 line_moves line None d s next said h = record { here = stands s; there = stands next; moves = (ap (λ (x : Said). x.bytes) h.0, ap sources_of h.1) }
-line_moves line (Some c) d s next said h = record { here = stands s; there = stands next; moves = (h.0, ap (λ (x : Said). x.bytes) h.2, moves c d s next h.0 h.1) }
+line_moves line (Some c) d s next said (inl h) = record { here = stands s; there = stands next; moves = inl (h.0, ap (λ (x : Said). x.bytes) h.2, moves c d s next h.0 h.1) }
+line_moves line (Some c) d s next said (inr (is, h)) = record { here = stands s; there = stands next; moves = inr (is, auto_moves line s next said h) }
 
 each_moves : SoOfValid KeepsHistory
 each_moves d t valid line command s next said came h = line_moves line command d s next said h

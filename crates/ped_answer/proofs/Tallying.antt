@@ -1,14 +1,17 @@
 -- What the items of a script come to, one behind another.
-use Rattle.std.proofs.Common.{◌≡◌, ◌∙◌, ℕ, ◌+◌, ◌<◌, ◌≤◌, ap, sym, refl, List, [], ◌∷◌, ◌++◌, length, take, drop, get_or, Option, Some, None, arith, subst}
+use Rattle.std.proofs.Common.{◌≡◌, ◌≢◌, inl, ◌∙◌, ℕ, ◌+◌, ◌<◌, ◌≤◌, ap, sym, refl, List, [], ◌∷◌, ◌++◌, length, take, drop, get_or, Option, Some, None, arith, subst}
+use Rattle.std.specs.List.{AllByRecursion}
+use Rattle.std.proofs.lemmas.List.Elements.{All-from_recursion}
 use Rattle.std.proofs.lemmas.List.{take_more, drop_more, take_all, take-append-drop}
 use Rattle.ped_session.specs.ped_transformations.specs.ped_script.specs.declared.items.Command.{Command}
+use Rattle.ped_session.specs.ped_transformations.specs.ped_script.specs.declared.items.Command.TheVariants.{Auto}
 use Rattle.ped_session.specs.ped_transformations.specs.ped_script.specs.declared.items.Item.{Item}
 use Rattle.ped_session.specs.States.{State}
 use Rattle.ped_session.specs.Scripts.{Said, nothing_said, bad_command_said, said_by, said_both, AnswersCommand, AnswersItems}
 use Rattle.ped_session.proofs.OneStep.{one}
 use Rattle.ped_answer.specs.declared.tallies.Tally as code
 use Rattle.ped_answer.specs.Generated.{Tally, no_tally, tally_both, tally_of, bad_command_tally, AppliesCommand, Applies}
-use Rattle.ped_answer.specs.Tallies.{counted}
+use Rattle.ped_answer.specs.Tallies.{IsNoAuto, counted}
 
 abbrev tally_by : ℕ → ℕ → ℕ → Tally
 tally_by accepted refused tests = record { accepted = accepted; refused = refused; tests = tests }
@@ -64,7 +67,7 @@ one_applies (item ∷ items) s m n a b p q =
 -- what the script says on the way
 says_command : (line : ℕ) (command : Option Command) (s next : State) (tally : Tally) → AppliesCommand command s tally next → (said : Said) × AnswersCommand line command [] s said next
 says_command line None s next tally h = (bad_command_said line, (refl, h.1))
-says_command line (Some c) s next tally h = (said_by line h.0 next, (h.0, h.1, refl))
+says_command line (Some c) s next tally h = (said_by line h.0 next, inl (h.0, h.1, refl))
 
 pub says_items : (items : List Item) (s last : State) (tally : Tally) → Applies items s tally last → (said : Said) × AnswersItems items [] s said last
 says_items [] s last tally h = (nothing_said, (refl, h.1))
@@ -153,6 +156,10 @@ pub items_more : (items : List Item) (i : ℕ) (item : Item) (s m n : State) (a 
 items_more items i item s m n a b h at before here =
     let more : take (i + 1) items ≡ take i items ++ item ∷ [] = take_more items i item h ∙ ap (λ (x : Item). take i items ++ x ∷ []) (sym at) in
     subst (λ (is : List Item). Applies is s (tally_both a b) n) (sym more) (items_then (take i items) item s m n a b before here)
+
+-- the command of an item isn't `auto`, where no item is
+pub item_no_auto : (items : List Item) (i : ℕ) (item : Item) (command : Command) → AllByRecursion IsNoAuto items → i < length items → item ≡ get_or items i item → item.command ≡ Some command → command ≢ Auto
+item_no_auto items i item command others h at some is = subst IsNoAuto (sym at) (All-from_recursion IsNoAuto items others i item h) (some ∙ ap Some is)
 
 -- all items
 pub items_all : (items : List Item) (i : ℕ) (s n : State) (a : Tally) → length items ≤ i → Applies (take i items) s a n → Applies items s a n

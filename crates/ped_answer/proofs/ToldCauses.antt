@@ -1,5 +1,5 @@
 -- What is told of a step is the first cause that forbids it, or that nothing does.
-use Rattle.std.proofs.Common.{◌≡◌, ℕ, List, ◌∷◌, false, Option, Some, None, All, arith, refl, sym, ap, ◌∙◌, subst}
+use Rattle.std.proofs.Common.{◌≡◌, ℕ, List, ◌∷◌, false, Option, Some, None, arith, refl, sym, ap, ◌∙◌, subst, inl, inr}
 use Rattle.std.specs.Prelude.{Contains, ⊤}
 use Rattle.std.proofs.lemmas.List.Elements.{All-contains, Contains-append_right}
 use Rattle.ped_io.specs.Outside.{Contents}
@@ -8,7 +8,7 @@ use Rattle.ped_session.specs.ped_tree.specs.Tree.{ProgramTree}
 use Rattle.ped_session.specs.ped_valid.specs.Validity.{ReadsValid}
 use Rattle.ped_session.specs.ped_graph.specs.ped_edges.specs.Edges.{Edge}
 use Rattle.ped_session.specs.ped_transformations.specs.ped_script.specs.declared.items.Command.{Command}
-use Rattle.ped_session.specs.ped_transformations.specs.ped_script.specs.declared.items.Command.TheVariants.{Source, Deps, Show, Print, Advise, Replace, Insert, Delete, Interchange, Reverse, Skew, Strip, Peel, Distribute, Fuse, Expand, Privatise, Reduce, Parallel, Serial, Reject, Undo, Redo, Run, Races, Tested}
+use Rattle.ped_session.specs.ped_transformations.specs.ped_script.specs.declared.items.Command.TheVariants.{Source, Deps, Show, Print, Advise, Replace, Insert, Delete, Interchange, Reverse, Skew, Strip, Peel, Distribute, Fuse, Expand, Privatise, Reduce, Parallel, Serial, Reject, Auto, Undo, Redo, Run, Races, Tested}
 use Rattle.ped_session.specs.ped_transformations.specs.Table.{step_of}
 use Rattle.ped_session.specs.ped_transformations.specs.ped_reindex.specs.ped_loops.specs.Interchanging.{StandsAgainstInterchange}
 use Rattle.ped_session.specs.ped_transformations.specs.ped_reindex.specs.ped_loops.specs.Reversing.{StandsAgainstReversal}
@@ -42,9 +42,9 @@ use Rattle.ped_answer.proofs.AmongCauses.{first_among, true_isnt_false, none_amo
 use Rattle.ped_answer.proofs.EachItems.{SoOfValid, session_each}
 
 -- what forbids a step of a command is what its first causes are among, and where it has no first cause, nothing forbids it
-record AreCauses (command : Command) (at : StepAt) : Type 0 where
-  first : (t : ProgramTree) (c : Cause) → at.IsCause t (Some c) → Forbids command t c
-  none : (t : ProgramTree) → at.IsCause t None → (c : Cause) → Forbids command t c → ⊥
+pub record AreCauses (command : Command) (at : StepAt) : Type 0 where
+  pub first : (t : ProgramTree) (c : Cause) → at.IsCause t (Some c) → Forbids command t c
+  pub none : (t : ProgramTree) → at.IsCause t None → (c : Cause) → Forbids command t c → ⊥
 
 first_fused : (s : ℕ) (t : ProgramTree) (c : Cause) → IsFusionCause s t (Some c) → IsAmongFused s t c
 first_fused s t (rule r n) h = h.0
@@ -57,7 +57,7 @@ none_fused s t h (rule r n) is = h.0 r n is
 none_fused s t h (dependence e) is = true_isnt_false (forbids_fusion is.0.neighbour is.3) is.5 (All-contains (λ (f : Edge). forbids_fusion is.0.neighbour f ≡ false) is.1 is.3 (h.1 is.0 is.1 is.2) is.4)
 
 -- each step of the table
-are_causes : (command : Command) → MatchStep (step_of command) ⊤ (AreCauses command)
+pub are_causes : (command : Command) → MatchStep (step_of command) ⊤ (AreCauses command)
 are_causes (Interchange s) = record { first = λ t. first_among t (StandsAgainstInterchange s t) (crossing t s); none = λ t. none_among t (StandsAgainstInterchange s t) (crossing t s) }
 are_causes (Reverse s) = record { first = λ t. first_among t (StandsAgainstReversal s t) (carried t s); none = λ t. none_among t (StandsAgainstReversal s t) (carried t s) }
 are_causes (Parallel s) = record { first = λ t. first_among t (StandsAgainstParallel s t) (carried t s); none = λ t. none_among t (StandsAgainstParallel s t) (carried t s) }
@@ -79,6 +79,7 @@ are_causes (Advise s) = tt
 are_causes (Replace first last lines) = tt
 are_causes (Insert after lines) = tt
 are_causes (Delete first last) = tt
+are_causes Auto = tt
 are_causes Undo = tt
 are_causes Redo = tt
 are_causes (Run choices) = tt
@@ -106,7 +107,8 @@ tells_by command (some_step at) are d line s next reply said h says = tells_of c
 
 line_tells : (line : ℕ) (command : Option Command) (d : List ℕ) (s next : State) (said : Said) → AnswersCommand line command d s said next → TellsCause line command d s said next
 line_tells line None d s next said h = tt
-line_tells line (Some c) d s next said h = tells_by c (step_of c) (are_causes c) d line s next h.0 said h.1 h.2
+line_tells line (Some c) d s next said (inl h) = tells_by c (step_of c) (are_causes c) d line s next h.0 said h.1 h.2
+line_tells line (Some c) d s next said (inr (is, h)) = subst (λ (x : Command). TellsCause line (Some x) d s said next) (sym is) tt
 
 each_tells : SoOfValid TellsCause
 each_tells d t valid line command s next said came h = line_tells line command d s next said h

@@ -2,7 +2,7 @@
 use Rattle.std.proofs.Common.{◌≡◌, ℕ, Bool, true, false, List, [], Option, Some, None, refl, subst, length}
 use Rattle.std.specs.Prelude.{MatchOption, MatchBool, nat_lt}
 use Rattle.ped_io.specs.Outside.{Contents, content}
-use Rattle.ped_words.specs.Requests.{Request, show, session, generate}
+use Rattle.ped_words.specs.Requests.{Request, session}
 use Rattle.ped_answer.specs.declared.answering.Status.{Status}
 use Rattle.ped_answer.specs.declared.answering.Status.TheVariants.{Done, SomeRefused, BadWords, ReadFault, WriteFault, ProgramRefused, NoMemory, TooLong}
 use Rattle.ped_answer.specs.Answer.{IsWhole, AreData, Input, source_input, data_input, cannot_read_line, too_long_line, IsJust, AnswersScript, IsSession, AnswersInput, AnswersData, Answers, MayAnswer, IsOutcome}

@@ -1,5 +1,7 @@
 -- The headline, clause by clause: what is so of the answer to each item of a script, and of both panes of a file (ParaScope; this project).
-use Rattle.std.specs.Prelude.{◌≡◌, ℕ, suc, ◌+◌, ◌<◌, List, [], ◌∷◌, ◌++◌, map, reverse, take, length, slice_get, codes, is_some, true, false, Option, Some, None, MatchOption, ⊤}
+use Rattle.std.specs.Prelude.{◌≡◌, ◌⊎◌, ℕ, zero, suc, ◌+◌, ◌<◌, List, [], ◌∷◌, ◌++◌, map, reverse, take, length, slice_get, codes, is_some, true, false, Option, Some, None, MatchOption, ⊤}
+use Rattle.std.specs.Fmt.{decimal}
+use Rattle.std.specs.List.{AllByRecursion}
 use Rattle.ped_io.specs.Outside.{Contents, content}
 use Rattle.ped_words.specs.Requests.{Request, show, session, generate}
 use Rattle.ped_session.specs.ped_tree.specs.Tree.{ProgramTree}
@@ -10,9 +12,11 @@ use Rattle.ped_session.specs.ped_graph.specs.DependencePane.{IsDependencePane, I
 use Rattle.ped_session.specs.ped_transformations.specs.ped_script.specs.Items.{commands_of}
 use Rattle.ped_session.specs.ped_transformations.specs.ped_script.specs.declared.items.Item.{Item}
 use Rattle.ped_session.specs.ped_transformations.specs.ped_script.specs.declared.items.Command.{Command}
-use Rattle.ped_session.specs.ped_transformations.specs.ped_script.specs.declared.items.Command.TheVariants.{Source, Deps, Show, Print, Advise, Undo, Redo, Run, Races, Tested}
+use Rattle.ped_session.specs.ped_transformations.specs.ped_script.specs.declared.items.Command.TheVariants.{Source, Deps, Show, Print, Advise, Parallel, Auto, Undo, Redo, Run, Races, Tested}
 use Rattle.ped_session.specs.ped_transformations.specs.Table.{step_of}
 use Rattle.ped_session.specs.ped_transformations.specs.Advice.{IsAdvice}
+use Rattle.ped_session.specs.ped_transformations.specs.ped_auto.specs.SerialLoops.{serial_loops}
+use Rattle.ped_session.specs.ped_transformations.specs.ped_reindex.specs.ped_loops.specs.Paralleling.{paralleling}
 use Rattle.ped_session.specs.ped_transformations.specs.ped_reindex.specs.ped_loops.specs.ped_scalar.specs.ped_rules.specs.Steps.{StepAt, MatchStep}
 use Rattle.ped_session.specs.ped_transformations.specs.ped_reindex.specs.ped_loops.specs.ped_scalar.specs.ped_rules.specs.ped_loop_runs.specs.ped_bodies.specs.ped_steps.specs.Causes.{Cause}
 use Rattle.ped_session.specs.ped_transformations.specs.ped_reindex.specs.ped_loops.specs.ped_scalar.specs.ped_rules.specs.ped_loop_runs.specs.ped_bodies.specs.ped_steps.specs.CauseWords.{cause_words}
@@ -24,8 +28,10 @@ use Rattle.ped_session.specs.States.{Other, State, opened}
 use Rattle.ped_session.specs.Panes.{IsSourcePane, ArePanes}
 use Rattle.ped_session.specs.Replies.{answer_row, bad_command_row, reply_text}
 use Rattle.ped_session.specs.Steps.{IsMove}
+use Rattle.ped_session.specs.AutoAnswers.{auto_text, AcceptsAll}
+use Rattle.ped_session.specs.AutoScripts.{script_of, items_on}
 use Rattle.ped_session.specs.Scripts.{Said, nothing_said, said_both, AnswersItem}
-use Rattle.ped_session.specs.Meanings.{IsMeaningKept}
+use Rattle.ped_session.specs.Meanings.{IsMeaningKept, ComesFrom}
 use Rattle.ped_session.specs.RunsAsBefore.{RunsAsBefore}
 use Rattle.ped_answer.specs.Answer.{AreData}
 use Rattle.ped_answer.specs.StepCauses.{Forbids}
@@ -148,10 +154,24 @@ pub data Moves (command : Command) (reply : Reply) (before behind : Sources) : T
   by_change : ¬ (IsMove command) → ¬ (IsShowing command) → reply ≡ Changed → PutsBehind before behind → Moves command reply before behind
   by_refusal : ¬ (IsMove command) → (why : Refusal) → reply ≡ Refused why → behind ≡ before → Moves command reply before behind
 
--- the item says the reply to its command, and the sources move as this command with this reply moves them; a line that is no command is refused and leaves them (ParaScope; this project)
+-- so many sources come behind the present one, each in its turn
+abbrev pub PutsAllBehind : ℕ → Sources → Sources → Type 0
+PutsAllBehind zero before behind = behind ≡ before
+PutsAllBehind (suc n) before behind = (mid : Sources) × PutsBehind before mid × PutsAllBehind n mid behind
+
+-- `auto` says first how many steps were accepted, and each of them was a change and put a source behind the present one (ParaScope; this project)
+pub record MovesByAuto (line : ℕ) (before : Sources) (bytes : List ℕ) (behind : Sources) : Type 0 where
+  pub count : ℕ
+  pub puts : PutsAllBehind count before behind
+  pub rest : List ℕ
+  pub says : bytes ≡ answer_row line (codes "auto " ++ decimal count) ++ rest
+
+-- the item says the reply to its command, and the sources move as this command with this reply moves them; those of `auto` move for each step that it says was accepted; a line that is no command is refused and leaves them (ParaScope; this project)
 abbrev pub MovesBy : ℕ → Option Command → Sources → List ℕ → Sources → Type 0
 MovesBy line None before bytes behind = (bytes ≡ bad_command_row line) × (behind ≡ before)
-MovesBy line (Some command) before bytes behind = (reply : Reply) × (bytes ≡ reply_text line reply) × Moves command reply before behind
+MovesBy line (Some command) before bytes behind =
+    ((reply : Reply) × (bytes ≡ reply_text line reply) × Moves command reply before behind)
+    ⊎ ((command ≡ Auto) × MovesByAuto line before bytes behind)
 
 -- the sources before an item and behind it (ParaScope)
 pub record KeepsHistory (line : ℕ) (command : Option Command) (data_bytes : List ℕ) (s : State) (said : Said) (next : State) : Type 0 where
@@ -200,3 +220,34 @@ CausesRequest None files bytes = ⊤
 CausesRequest (Some (show program)) files bytes = ⊤
 CausesRequest (Some (session program script data_file)) files bytes = EachItem TellsCause program script data_file files bytes
 CausesRequest (Some (generate number)) files bytes = ⊤
+
+-- Parallelised programs.
+
+-- these are the DOs of the program that aren't PARALLEL DOs, in text order, each with the first of all that forbids `parallel` there (ParaScope; this project)
+pub record AreLeft (t : ProgramTree) (left : List (ℕ × Cause)) : Type 0 where
+  pub loops : map (λ l. l.0) left ≡ serial_loops t
+  pub causes : AllByRecursion (λ l. Forbids (Parallel l.0) t l.1 × (paralleling l.0).IsCause t (Some l.1)) left
+
+-- `auto` tells accepted steps, which lead one behind another from the state before it to the one behind it, and which a script of the told lines is read as; then the DOs that aren't PARALLEL DOs in its program, each with its first cause; and the source, which has come from the former one by transformations alone (ParaScope; this project)
+pub record Parallelises (line : ℕ) (s : State) (bytes : List ℕ) (next : State) : Type 0 where
+  pub accepted : List Command
+  pub accepts : AcceptsAll accepted s next
+  pub script : commands_of (script_of accepted) ≡ items_on 1 accepted
+  pub comes : ComesFrom next.present next.past s.present
+  pub tree : ProgramTree
+  pub reads : ReadsValid next.present tree
+  pub left : List (ℕ × Cause)
+  pub are_left : AreLeft tree left
+  pub says : bytes ≡ auto_text line (record { accepted = accepted; left = left }) next.present
+
+-- so it is of each `auto` (ParaScope; this project)
+abbrev pub ParallelisesBy : ℕ → Option Command → List ℕ → State → Said → State → Type 0
+ParallelisesBy line (Some Auto) data_bytes s said next = Parallelises line s said.bytes next
+ParallelisesBy line command data_bytes s said next = ⊤
+
+-- what `auto` tells in a session's answer
+abbrev pub AutoRequest : Option Request → Contents → List ℕ → Type 0
+AutoRequest None files bytes = ⊤
+AutoRequest (Some (show program)) files bytes = ⊤
+AutoRequest (Some (session program script data_file)) files bytes = EachItem ParallelisesBy program script data_file files bytes
+AutoRequest (Some (generate number)) files bytes = ⊤

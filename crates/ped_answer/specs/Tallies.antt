@@ -1,5 +1,5 @@
 -- Counts of the code, and what lines of a script add to them. Contracts of private functions alone speak of it (this project).
-use Rattle.std.specs.Prelude.{◌≡◌, ℕ, ◌+◌, List, [], length}
+use Rattle.std.specs.Prelude.{◌≡◌, ◌≢◌, ℕ, ◌+◌, List, [], length, Some}
 use Rattle.ped_gen.specs.Generated.{program, script}
 use Rattle.ped_session.specs.ped_tree.specs.Tree.{ProgramTree}
 use Rattle.ped_session.specs.ped_tree.specs.Numbering.{statements_count}
@@ -9,12 +9,18 @@ use Rattle.ped_session.specs.ped_graph.specs.Dependences.{AreEdges}
 use Rattle.ped_session.specs.ped_valid.specs.Validity.{ReadsValid}
 use Rattle.ped_session.specs.ped_order.specs.ped_eval.specs.Outcomes.{Outcome}
 use Rattle.ped_session.specs.ped_transformations.specs.ped_script.specs.Items.{commands_of}
+use Rattle.ped_session.specs.ped_transformations.specs.ped_script.specs.declared.items.Command.TheVariants.{Auto}
+use Rattle.ped_session.specs.ped_transformations.specs.ped_script.specs.declared.items.Item.{Item}
 use Rattle.ped_session.specs.LoweredRuns.{IsLoweredRun}
-use Rattle.ped_session.specs.States.{State, opened}
+use Rattle.ped_session.specs.States.{State}
 use Rattle.ped_answer.specs.declared.answering.Status.{Status}
 use Rattle.ped_answer.specs.declared.answering.Status.TheVariants.{Done}
 use Rattle.ped_answer.specs.declared.tallies.Tally as code
 use Rattle.ped_answer.specs.Generated.{Tally, Applies, IsWordOn, report, Reports}
+
+-- the item isn't `auto`, which is several steps
+abbrev pub IsNoAuto : Item → Type 0
+IsNoAuto item = item.command ≢ Some Auto
 
 -- before the first line so many pairs were tested
 abbrev pub first_count : ℕ → code.Tally

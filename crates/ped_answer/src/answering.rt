@@ -7,14 +7,14 @@ ghost use Rattle.ped_words.specs.Requests as plain;
 ghost use Rattle.ped_words.specs.Requests.{request_of};
 ghost use Rattle.ped_words.specs.Views.{request_view, IsSized};
 ghost use Rattle.ped_answer.specs.Answer.{inputs_of, IsOneOf, HoldsTooMany, IsWhole, Answers, MayAnswer, Sends};
-ghost use Rattle.ped_answer.specs.Headline.{PanesRequest, HistoryRequest, RunsRequest, CausesRequest};
+ghost use Rattle.ped_answer.specs.Headline.{PanesRequest, HistoryRequest, RunsRequest, CausesRequest, AutoRequest};
 ghost use Rattle.ped_answer.specs.TestCounts.{Tests, Ticks, IsUntested};
 ghost use Rattle.ped_answer.specs.Serving.{ServedRequest};
 
 use crate::finishing::finish;
 use crate::generating::answer_size;
 use crate::headline::{
-    history_is_kept, panes_are_afresh, refusals_have_causes, runs_are_as_before,
+    auto_is_told, history_is_kept, panes_are_afresh, refusals_have_causes, runs_are_as_before,
 };
 use crate::sessions::answer_files;
 use crate::showing::show_file;
@@ -106,7 +106,7 @@ pub fn ped_main<F: Shelf, K: Sink, L: Ledger>(
 
     // In a session the sources stand one behind another: `undo` and `redo` go along them, byte for byte, and are accepted
     // exactly where there is one to go to; an accepted change puts its source behind the present one, in the place of all
-    // that stood there; and nothing else moves.
+    // that stood there, and so does each step that `auto` says was accepted; and nothing else moves.
     ensures history { (files : Contents) → F.told shelf.old ≡ Some files →
         (before : List ℕ) → K.taken out.old ≡ Some before → IsWhole result →
         (bytes : List ℕ) × (K.taken out.new ≡ Some (before ++ bytes))
@@ -131,6 +131,14 @@ pub fn ped_main<F: Shelf, K: Sink, L: Ledger>(
         (bytes : List ℕ) × (K.taken out.new ≡ Some (before ++ bytes))
         × CausesRequest (request_of (map string_bytes words.now)) files bytes }
 
+    // `auto` tells accepted steps, which lead one behind another from the state before it to the one behind it, as they do
+    // in a script; each DO of its program that isn't a PARALLEL DO, with the first of all that forbids `parallel` there; and
+    // its source, which has come from the former one by transformations alone.
+    ensures parallelised { (files : Contents) → F.told shelf.old ≡ Some files →
+        (before : List ℕ) → K.taken out.old ≡ Some before → IsWhole result →
+        (bytes : List ℕ) × (K.taken out.new ≡ Some (before ++ bytes))
+        × AutoRequest (request_of (map string_bytes words.now)) files bytes }
+
     // What stays.
     ensures same { F.told shelf.new ≡ F.told shelf.old }
     ensures counts { (name : List ℕ) → F.count shelf.old name ≤ F.count shelf.new name }
@@ -151,6 +159,7 @@ pub fn ped_main<F: Shelf, K: Sink, L: Ledger>(
     history_is_kept();
     runs_are_as_before();
     refusals_have_causes();
+    auto_is_told::<L>();
     match request(alloc, words) {
         Ok(asked) => serve(alloc, asked, shelf, out, steps),
         Err(WordsError::Bad) => finish(out, USAGE, Status::BadWords),

@@ -1,11 +1,14 @@
 //! Programs that are made: a session is opened on one, its script is applied, and the report is written.
 
-ghost use Rattle.std.specs.Prelude.{◌≡◌, ◌⊎◌, ◌≤◌, ℕ, List, Some, None};
+ghost use Rattle.std.specs.Prelude.{◌≡◌, ◌⊎◌, ◌↔◌, ◌≤◌, ℕ, List, Some, None};
 ghost use Rattle.ped_io.specs.Outside.{Rose};
 ghost use Rattle.ped_gen.specs.Generated as made;
 ghost use Rattle.ped_session.specs.ped_tree.specs.Tree.{ProgramTree};
+ghost use Rattle.ped_session.specs.ped_order.specs.ped_eval.specs.Outcomes.{Outcome};
+ghost use Rattle.ped_session.specs.ped_order.specs.ped_interleavings.specs.Interleavings.{IsInterleaved};
 ghost use Rattle.ped_session.specs.ped_valid.specs.Validity.{ReadsValid};
 ghost use Rattle.ped_session.specs.ped_transformations.specs.ped_script.specs.Items.{commands_of};
+ghost use Rattle.ped_session.specs.LoweredRuns.{HasNoList, IsLoweredRun};
 ghost use Rattle.ped_session.specs.States.{State, opened};
 ghost use Rattle.ped_answer.specs.Answer.{Sends};
 ghost use Rattle.ped_answer.specs.Generated as Spec;
@@ -18,10 +21,10 @@ use crate::finishing::finish;
 use crate::refusals::is_refused;
 use crate::reporting::report;
 use ped_io::Sink;
-use ped_session::Session;
 use ped_session::ped_base::NoMemory;
 use ped_session::ped_valid::OpenRefusal;
 use ped_session::ped_verdict::Steps;
+use ped_session::{Session, without_lists};
 use std::alloc::Global;
 use std::sync::ledger::Ledger;
 
@@ -79,4 +82,13 @@ fn answer_session<K: Sink, L: Ledger>(
         Ok(bytes) => finish(out, bytes.as_slice(), Status::Done),
         Err(NoMemory) => Status::NoMemory,
     }
+}
+
+/// No comment stands in a program that is made, so no DO of it has a list of sums, and it runs as it is.
+pub fn made_programs_have_no_list()
+    ensures none { (n : ℕ) (t : ProgramTree) → ReadsValid (made.program n) t → HasNoList t }
+    ensures runs { (n : ℕ) (t : ProgramTree) (choices data_bytes : List ℕ) (o : Outcome) → ReadsValid (made.program n) t →
+        IsLoweredRun choices data_bytes t o ↔ IsInterleaved t data_bytes choices o }
+{
+    without_lists();
 }

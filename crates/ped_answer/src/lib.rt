@@ -23,5 +23,8 @@ pub use existence::{
     exclusions_are_decided, lowerings_exist, replies_exist, script_answers_exist, some_answer,
     vectors_exist,
 };
-pub use headline::{history_is_kept, panes_are_afresh, refusals_have_causes, runs_are_as_before};
+pub use generating::made_programs_have_no_list;
+pub use headline::{
+    auto_is_told, history_is_kept, panes_are_afresh, refusals_have_causes, runs_are_as_before,
+};
 pub use ped_session::ped_verdict;

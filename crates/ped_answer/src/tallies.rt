@@ -1,11 +1,13 @@
 //! What the items of a script come to in a session: how many changes are accepted, how many lines are refused, and how
 //! many pairs of references are tested.
 
-ghost use Rattle.std.specs.Prelude.{◌≡◌, ◌+◌, ◌*◌, ◌^◌, ◌<◌, ◌≤◌, Some, IfOk, OnOk};
+ghost use Rattle.std.specs.Prelude.{◌≡◌, ◌≢◌, ◌+◌, ◌*◌, ◌^◌, ◌<◌, ◌≤◌, Some, IfOk, OnOk};
+ghost use Rattle.std.specs.List.{AllByRecursion};
+ghost use Rattle.ped_session.specs.ped_transformations.specs.ped_script.specs.declared.items.Command.TheVariants as commands;
 ghost use Rattle.ped_session.specs.States.{State};
 ghost use Rattle.ped_answer.specs.Generated as Spec;
 ghost use Rattle.ped_answer.specs.Generated.{AppliesCommand, Applies, tally_of, accepted_by, refused_by};
-ghost use Rattle.ped_answer.specs.Tallies.{counted, first_count, Counts};
+ghost use Rattle.ped_answer.specs.Tallies.{IsNoAuto, counted, first_count, Counts};
 
 use ped_session::ped_base::NoMemory;
 use ped_session::ped_script::{Command, Item};
@@ -25,7 +27,7 @@ pub struct Tally {
     pub tested: u128,
 }
 
-/// Applies the items of a script one behind another, where programs have no data. The pairs that were tested last
+/// Applies the items of a script one behind another, where programs have no data and no item is `auto`. The pairs that were tested last
 /// before are counted, too. After want of memory no more pairs were tested than the items test.
 pub fn apply_items<L: Ledger>(
     alloc: Global,
@@ -33,6 +35,7 @@ pub fn apply_items<L: Ledger>(
     items: &[Item],
     steps: &mut Steps<L>,
 ) -> Result<Tally, NoMemory>
+    requires { AllByRecursion IsNoAuto items.now }
     ensures applies { IfOk result (λ tally. Counts (Applies items.now) session.old session.new (first_count session.old.tested) tally steps.old steps.new) }
     ensures least { steps.old ≤ steps.new }
     ensures most { (tally : Spec.Tally) (last : State) → Applies items.now session.old tally last → steps.new ≤ steps.old + tally.tests }
@@ -51,7 +54,7 @@ pub fn apply_items<L: Ledger>(
     Ok(tally)
 }
 
-/// Applies a command.
+/// Applies a command that isn't `auto`.
 fn apply_command<L: Ledger>(
     alloc: Global,
     session: &mut Session<L>,
@@ -59,6 +62,7 @@ fn apply_command<L: Ledger>(
     tally: &mut Tally,
     steps: &mut Steps<L>,
 ) -> Result<(), NoMemory>
+    requires other { command.now ≢ commands.Auto }
     requires accepted { tally.old.accepted + 1 < 2 ^ 64 }
     requires refused { tally.old.refused + 1 < 2 ^ 64 }
     requires tested { tally.old.tested + 2 ^ 64 ≤ 2 ^ 128 }

@@ -1,6 +1,7 @@
 mod Exchanging
 mod FormLengths
 mod HeldEdges
+mod EdgesWithin
 mod InOrder
 mod Known
 mod Matched

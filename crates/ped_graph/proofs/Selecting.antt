@@ -4,6 +4,7 @@ use Rattle.std.proofs.lemmas.Bool.Decides.{nat_tests}
 use Rattle.std.proofs.lemmas.List.Elements.{All-filter}
 use Rattle.ped_tree.specs.Tree.{StmtTree, ProgramTree}
 use Rattle.ped_tree.specs.Numbering.{all_numbered, at_place, statement_count}
+use Rattle.ped_edges.specs.Edges.{Edge}
 use Rattle.ped_edges.specs.CodeEdges.{edge_of}
 use Rattle.ped_edges.specs.declared.edges.Edge.{Edge as CodeEdge}
 use Rattle.ped_graph.specs.DependencePane.{extent_by, extent_of, edges_of, edges_at}
@@ -51,6 +52,13 @@ pub carried_in : (t : ProgramTree) (number extent level : ℕ) (all kept : List 
     → kept ≡ filter (λ e. is_carried_in number extent level (edge_of e)) all → map edge_of kept ≡ edges_at t number level (map edge_of all)
 carried_in t number extent level all kept size is =
     ap (λ (es : List CodeEdge). map edge_of es) is ∙ filter_mapped edge_of (is_carried_in number extent level) all ∙ ap (λ (k : ℕ). filter (is_carried_in number k level) (map edge_of all)) size
+
+-- the same, where others than these have the same of the level in the DO
+pub same_carried_in : (t : ProgramTree) (number extent level : ℕ) (found : List CodeEdge) (all : List Edge) (kept : List CodeEdge) → extent ≡ extent_of t number
+    → kept ≡ filter (λ e. is_carried_in number extent level (edge_of e)) found
+    → filter (λ e. is_carried_in number extent level e) (map edge_of found) ≡ filter (λ e. is_carried_in number extent level e) all → map edge_of kept ≡ edges_at t number level all
+same_carried_in t number extent level found all kept size is same =
+    ap (λ (es : List CodeEdge). map edge_of es) is ∙ filter_mapped edge_of (is_carried_in number extent level) found ∙ same ∙ ap (λ (k : ℕ). filter (is_carried_in number k level) all) size
 
 -- what all have, those that are kept have
 pub all_kept : {X : Type 0} (P : X → Type 0) (p : X → Bool) (all kept : List X) → kept ≡ filter p all → All P all → All P kept

@@ -1,11 +1,12 @@
 -- Contracts of private functions alone speak of the dependences of the pairs that a graph holds (this project).
-use Rattle.std.specs.Prelude.{◌≡◌, ℕ, ◌≤◌, List, [], ◌∷◌, ◌++◌, length, Some}
+use Rattle.std.specs.Prelude.{◌≡◌, ℕ, ◌≤◌, List, [], ◌∷◌, ◌++◌, length, filter, Some}
 use Rattle.std.specs.List.{flat_map, range_with_len}
 use Rattle.ped_views.specs.declared.directions.Direction.{Direction}
 use Rattle.ped_views.specs.Vectors.{AreVectors}
 use Rattle.ped_edges.specs.Edges.{Edge}
 use Rattle.ped_graph.specs.Dependences.{vectors_of}
 use Rattle.ped_graph.specs.Held.{Pair, held_edge, held_edges}
+use Rattle.ped_graph.specs.HeldSelections.{is_carried_in}
 
 -- the dependences of a pair with these vectors that so many loops carry (Allen and Kennedy, section 2.2.5)
 abbrev pub held_carried : Pair → List (List Direction) → ℕ → List Edge
@@ -22,3 +23,15 @@ pub record HeldPairEdges (p : Pair) (edges : List Edge) : Type 0 where
 abbrev pub AreHeldEdges : List Pair → List Edge → Type 0
 AreHeldEdges [] edges = edges ≡ []
 AreHeldEdges (p ∷ ps) edges = (first : List Edge) × (rest : List Edge) × (edges ≡ first ++ rest) × HeldPairEdges p first × AreHeldEdges ps rest
+
+-- the same dependences of each level in the body of the DO with this number, which has so many statements (this project)
+abbrev pub HaveSameWithin : (number extent : ℕ) → List Edge → List Edge → Type 0
+HaveSameWithin number extent found all = (level : ℕ) → filter (λ e. is_carried_in number extent level e) found ≡ filter (λ e. is_carried_in number extent level e) all
+
+-- in the body of the DO, these are the dependences of a pair (this project)
+abbrev pub IsHeldWithin : (number extent : ℕ) → Pair → List Edge → Type 0
+IsHeldWithin number extent p found = (all : List Edge) × HeldPairEdges p all × HaveSameWithin number extent found all
+
+-- in the body of the DO, these are the dependences of pairs (this project)
+abbrev pub AreHeldWithin : (number extent : ℕ) → List Pair → List Edge → Type 0
+AreHeldWithin number extent ps found = (all : List Edge) × AreHeldEdges ps all × HaveSameWithin number extent found all

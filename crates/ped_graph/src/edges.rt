@@ -1,6 +1,6 @@
 //! The dependences of pairs by their views.
 
-ghost use Rattle.std.specs.Prelude.{◌≡◌, ◌++◌, ◌≤◌, ◌<◌, List, Some, map, take, length, slice_get, All, IfOk, OnOk};
+ghost use Rattle.std.specs.Prelude.{◌≡◌, ◌++◌, ◌&&◌, ◌≤◌, ◌<◌, List, Some, map, take, length, slice_get, All, IfOk, OnOk};
 ghost use Rattle.std.specs.List.{list_all};
 ghost use Rattle.ped_edges.specs.CodeEdges.{edge_of, mark_of, HasAtMostSixLoops};
 ghost use Rattle.ped_edges.specs.Edges as plain;
@@ -8,12 +8,14 @@ ghost use Rattle.ped_graph.specs.Owners as Owners;
 ghost use Rattle.ped_graph.specs.Marks.{mark_by};
 ghost use Rattle.ped_graph.specs.Dependences as Spec;
 ghost use Rattle.ped_graph.specs.Held as Held;
-ghost use Rattle.ped_graph.specs.HeldPairs.{HeldPairEdges, AreHeldEdges, held_carried};
+ghost use Rattle.ped_graph.specs.HeldPairs.{HeldPairEdges, AreHeldEdges, IsHeldWithin, AreHeldWithin, held_carried};
 ghost use Rattle.ped_graph.specs.Held.{pair_by, pairs_by};
+ghost use Rattle.ped_graph.specs.DependencePane.{is_in_body};
 ghost use Rattle.ped_graph.specs.CodeFacts.{framed_of, pair_seen, views_in};
 
 use crate::facts::Facts;
 use crate::parts::Slot;
+use crate::selections::is_in_body;
 use crate::telling::is_telling;
 use ped_base::NoMemory;
 use ped_edges::{Edge, Mark};
@@ -47,6 +49,55 @@ pub fn all_edges<L: Ledger>(
         push_tested(alloc, &mut edges, facts, verdict_at(verdicts, place))?;
     }
     Ok(edges)
+}
+
+/// The dependences of pairs, pair by pair, of those pairs alone of which both references stand in the body of the DO with this
+/// number, which has so many statements.
+pub fn edges_within<L: Ledger>(
+    alloc: Global,
+    pairs: &[Facts],
+    verdicts: &[Slot<L>],
+    number: u32,
+    extent: u32,
+) -> Result<Vec<Edge>, NoMemory>
+    requires there { verdicts.now ≡ map Some (views_in verdicts.now) }
+    requires paired { length verdicts.now ≡ length pairs.now }
+    ensures edges { IfOk result (λ edges. AreHeldWithin number extent (pairs_by (map framed_of pairs.now) (views_in verdicts.now)) (map edge_of edges.items)) }
+    ensures short { IfOk result (λ edges. All HasAtMostSixLoops edges.items) }
+{
+    let mut edges = Vec::new(alloc);
+    for (place, facts) in pairs.iter().enumerate() {
+        let verdict = verdict_at(verdicts, place);
+        push_within(alloc, &mut edges, facts, verdict, number, extent)?;
+    }
+    Ok(edges)
+}
+
+/// Adds the dependences of a pair that was tested, where both references stand in the body of the DO with this number.
+fn push_within<L: Ledger>(
+    alloc: Global,
+    edges: &mut Vec<Edge>,
+    facts: &Facts,
+    verdict: &Verdict<L>,
+    number: u32,
+    extent: u32,
+) -> Result<(), NoMemory>
+    ensures edges { OnOk result ((added : List plain.Edge) × (map edge_of edges.new.items ≡ map edge_of edges.old.items ++ added)
+        × IsHeldWithin number extent (pair_by (framed_of facts.now) verdict.now) added) }
+    ensures short { OnOk result (All HasAtMostSixLoops edges.old.items → All HasAtMostSixLoops edges.new.items) }
+{
+    if stand_in(facts, number, extent) {
+        return push_tested(alloc, edges, facts, verdict);
+    }
+    verdict.has_list();
+    Ok(())
+}
+
+/// Whether both references of a pair stand in the body of the DO with this number, which has so many statements.
+fn stand_in(facts: &Facts, number: u32, extent: u32) -> bool
+    ensures { result ≡ (is_in_body number extent facts.now.source.0 && is_in_body number extent facts.now.sink.0) }
+{
+    is_in_body(number, extent, facts.source.0) && is_in_body(number, extent, facts.sink.0)
 }
 
 /// Adds the dependences of a pair that was tested.

@@ -14,7 +14,7 @@ ghost use Rattle.ped_graph.specs.DependencePane as Pane;
 ghost use Rattle.ped_graph.specs.Held.{Held, held_of};
 ghost use Rattle.ped_graph.specs.Parts.{Fit, turned};
 
-use crate::edges::{all_edges, edges_of_pair};
+use crate::edges::{all_edges, edges_of_pair, edges_within};
 use crate::extents::extents;
 use crate::frames::Frame;
 use crate::parts::{Parts, Slot, exchange_kept, turn};
@@ -190,8 +190,9 @@ impl<L: Ledger> Graph<L> {
             → (all : List plain.Edge) × AreEdges t all × (map edge_of edges.items ≡ Pane.edges_at t statement level all)) }
         ensures short { IfOk result (λ edges. All HasAtMostSixLoops edges.items) }
     {
-        let mut edges = self.edges(alloc)?;
-        keep_carried_in(&mut edges, statement, self.extent(statement), level);
+        let extent = self.extent(statement);
+        let mut edges = edges_within(alloc, self.frame.pairs(), &self.verdicts, statement, extent)?;
+        keep_carried_in(&mut edges, statement, extent, level);
         Ok(edges)
     }
 

@@ -66,7 +66,7 @@ fn is_in(number: u32, extent: u32, other: u32) -> bool
 }
 
 /// Whether a statement stands in the body of a DO, which has so many statements.
-fn is_in_body(number: u32, extent: u32, other: u32) -> bool
+pub fn is_in_body(number: u32, extent: u32, other: u32) -> bool
     ensures { result ≡ Pane.is_in_body number extent other }
 {
     number < other && u64::from(other) < u64::from(number) + u64::from(extent)

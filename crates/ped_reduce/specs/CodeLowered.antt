@@ -1,4 +1,4 @@
--- What comes of a program when lists are lowered, as the code has it. Contracts of private functions alone speak of it (this project).
+-- What comes of a program when lists are lowered, as the code has it (this project).
 use Rattle.std.specs.Prelude.{◌≡◌, ◌≤◌, ℕ, ◌+◌, ◌*◌, List, [], ◌∷◌, ◌++◌, map, length, true, Option, Some, None}
 use Rattle.ped_tree.specs.Tree.{Head, StmtTrees, Do, ProgramTree}
 use Rattle.ped_tree.specs.Views.{program_tree}

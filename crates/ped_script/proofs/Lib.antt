@@ -5,3 +5,4 @@ mod OneCommand
 mod Passing
 mod Split
 mod Table
+mod Written

@@ -11,7 +11,7 @@ use Rattle.ped_base.specs.Letters.{is_digit}
 use Rattle.ped_base.specs.Lists.{has_some}
 use Rattle.ped_script.specs.Words.{Text, is_number, number_of}
 
-numerals : IsNumeralModel (λ ds. list_all is_digit ds ≡ true) (digits_value 10)
+pub numerals : IsNumeralModel (λ ds. list_all is_digit ds ≡ true) (digits_value 10)
 numerals = numerals_by_value (λ ds. list_all is_digit ds ≡ true) (search rules)
 
 middle : (a b c : Bool) → (a && b && c) ≡ true → b ≡ true
@@ -46,7 +46,7 @@ parsed_number {E} word text r e h same p =
     ap result_ok (parse_gives numerals 64 word r q (all_digits word e) (some_digit word (first _ _ _ e)) (omega (arith, s)))
 
 -- a word that is a number of at most so many digits writes it
-number_is : (word : Text) (most : ℕ) → is_number word ≡ true → length word ≤ most → number_of most word ≡ Some (digits_value 10 word)
+pub number_is : (word : Text) (most : ℕ) → is_number word ≡ true → length word ≤ most → number_of most word ≡ Some (digits_value 10 word)
 number_is word most e h = let l : leb (length word) most ≡ true = grind arith in rw (e, l) refl
 
 -- what is parsed is what is written

@@ -100,6 +100,7 @@ found_all =
     ⨾ own _ _ (λ rest. refl)
     ⨾ own _ _ (λ rest. refl)
     ⨾ own _ _ (λ rest. refl)
+    ⨾ own _ _ (λ rest. refl)
     ⨾ tt
 
 -- what is found of all rows is found of the one that fits

@@ -1,3 +1,4 @@
+pub mod CommandTexts
 pub mod Items
 pub mod Lines
 pub mod Rows

@@ -4,7 +4,7 @@ use Rattle.std.specs.Option.{option_or}
 use Rattle.ped_base.specs.Lists.{has_some, is_same_text}
 use Rattle.ped_script.specs.Words.{Text, number_of, numbers_of, factor_of, name_of, names_of}
 use Rattle.ped_script.specs.declared.items.Command.{Command}
-use Rattle.ped_script.specs.declared.items.Command.TheVariants.{Source, Deps, Show, Print, Advise, Replace, Insert, Delete, Interchange, Reverse, Skew, Strip, Peel, Distribute, Fuse, Expand, Privatise, Reduce, Parallel, Serial, Reject, Undo, Redo, Run, Races, Tested}
+use Rattle.ped_script.specs.declared.items.Command.TheVariants.{Source, Deps, Show, Print, Advise, Replace, Insert, Delete, Interchange, Reverse, Skew, Strip, Peel, Distribute, Fuse, Expand, Privatise, Reduce, Parallel, Serial, Reject, Auto, Undo, Redo, Run, Races, Tested}
 
 -- the command that words are, where they fit the row
 abbrev pub Row : Type 0
@@ -73,6 +73,7 @@ rows =
     ∷ word (codes "parallel") (number (λ s. done (Parallel s)))
     ∷ word (codes "serial") (number (λ s. done (Serial s)))
     ∷ word (codes "reject") (number (λ s. name (λ v. done (Reject s v))))
+    ∷ word (codes "auto") (done Auto)
     ∷ word (codes "undo") (done Undo)
     ∷ word (codes "redo") (done Redo)
     ∷ word (codes "run") (choices (λ cs. Run cs))

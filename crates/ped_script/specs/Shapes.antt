@@ -3,7 +3,7 @@ use Rattle.std.specs.Prelude.{ℕ, pos, [], true, false, codes, Option, Some, No
 use Rattle.ped_base.specs.Lists.{is_same_text}
 use Rattle.ped_script.specs.Words.{Text, number_of, factor_of, name_of}
 use Rattle.ped_script.specs.declared.items.Command.{Command}
-use Rattle.ped_script.specs.declared.items.Command.TheVariants.{Source, Deps, Show, Print, Advise, Replace, Insert, Delete, Interchange, Reverse, Skew, Strip, Peel, Distribute, Fuse, Expand, Privatise, Parallel, Serial, Reject, Undo, Redo, Races, Tested}
+use Rattle.ped_script.specs.declared.items.Command.TheVariants.{Source, Deps, Show, Print, Advise, Replace, Insert, Delete, Interchange, Reverse, Skew, Strip, Peel, Distribute, Fuse, Expand, Privatise, Parallel, Serial, Reject, Auto, Undo, Redo, Races, Tested}
 
 -- the command that is one word
 unfoldable pub alone : Text → Option Command
@@ -12,6 +12,7 @@ alone w =
     else if is_same_text w (codes "deps") then Some (Deps None)
     else if is_same_text w (codes "show") then Some Show
     else if is_same_text w (codes "print") then Some Print
+    else if is_same_text w (codes "auto") then Some Auto
     else if is_same_text w (codes "undo") then Some Undo
     else if is_same_text w (codes "redo") then Some Redo
     else if is_same_text w (codes "races") then Some Races

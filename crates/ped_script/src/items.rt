@@ -70,6 +70,8 @@ pub enum Command {
     Serial(u32),
     /// Rejects the pending dependences of a variable in this loop.
     Reject(u32, Name),
+    /// Makes loops parallel by steps that are accepted, and says why each other loop stays serial.
+    Auto,
     /// Goes back by one change.
     Undo,
     /// Goes forward by one change.

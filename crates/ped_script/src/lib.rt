@@ -7,9 +7,11 @@ mod laws;
 mod lines;
 mod reading;
 mod rows;
+mod texts;
 mod words;
 
 pub use items::{Command, Item, Script};
-pub use laws::one_command;
+pub use laws::{one_command, rows_are_commands};
 pub use lines::TextLines;
 pub use reading::commands;
+pub use texts::command_text;

@@ -119,6 +119,9 @@ fn alone(word: &[u8]) -> Option<Command>
     if is_word(word, b"print") {
         return Some(Command::Print);
     }
+    if is_word(word, b"auto") {
+        return Some(Command::Auto);
+    }
     if is_word(word, b"undo") {
         return Some(Command::Undo);
     }

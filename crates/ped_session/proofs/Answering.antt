@@ -4,6 +4,7 @@ use Rattle.std.proofs.lemmas.List.{take_more, drop_more, take_all, take-append-d
 use Rattle.ped_session.specs.ped_transformations.specs.ped_script.specs.declared.items.Item.{Item}
 use Rattle.ped_session.specs.declared.answers.Answered.{Answered}
 use Rattle.ped_session.specs.States.{State}
+use Rattle.ped_session.specs.Adding.{Adds}
 use Rattle.ped_session.specs.Scripts.{Said, said_both, nothing_said, AnswersItem, AnswersItems}
 use Rattle.ped_session.proofs.OneAnswer.{one_all}
 
@@ -125,3 +126,7 @@ items_more items i item data_bytes s m n a b h at before here =
 pub items_all : (items : List Item) (i : ℕ) (data_bytes : List ℕ) (s n : State) (a : Said) → length items ≤ i
     → AnswersItems (take i items) data_bytes s a n → AnswersItems items data_bytes s a n
 items_all items i data_bytes s n a h done = subst (λ (is : List Item). AnswersItems is data_bytes s a n) (take_all i items h) done
+
+-- an answer of one kind is one of another
+pub adds_further : (P Q : Said → Type 0) (before after : Answered) (m n : ℕ) → ((said : Said) → P said → Q said) → Adds P before after m n → Adds Q before after m n
+adds_further P Q before after m n f h = record { said = h.said; is = f h.said h.is; adds = h.adds; ticks = h.ticks }

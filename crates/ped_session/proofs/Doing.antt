@@ -5,7 +5,7 @@ use Rattle.ped_session.specs.ped_tree.specs.Tree.{StmtTree, ProgramTree}
 use Rattle.ped_session.specs.ped_tree.specs.Numbering.{statement_with}
 use Rattle.ped_session.specs.ped_graph.specs.DependencePane.{IsDependencePaneOf}
 use Rattle.ped_session.specs.ped_transformations.specs.ped_script.specs.declared.items.Command.{Command}
-use Rattle.ped_session.specs.ped_transformations.specs.ped_script.specs.declared.items.Command.TheVariants.{Source, Deps, Show, Print, Advise, Replace, Insert, Delete, Interchange, Reverse, Skew, Strip, Peel, Distribute, Fuse, Expand, Privatise, Reduce, Parallel, Serial, Reject, Undo, Redo, Run, Races, Tested}
+use Rattle.ped_session.specs.ped_transformations.specs.ped_script.specs.declared.items.Command.TheVariants.{Source, Deps, Show, Print, Advise, Replace, Insert, Delete, Interchange, Reverse, Skew, Strip, Peel, Distribute, Fuse, Expand, Privatise, Reduce, Parallel, Serial, Reject, Auto, Undo, Redo, Run, Races, Tested}
 use Rattle.ped_session.specs.declared.replies.Refusal.{Refusal}
 use Rattle.ped_session.specs.declared.replies.Refusal.TheVariants.{NoSuchLine}
 use Rattle.ped_session.specs.declared.replies.Reply.{Reply}
@@ -77,6 +77,7 @@ does_other (Reduce number names) d s next reply h = absurd h
 does_other (Parallel number) d s next reply h = absurd h
 does_other (Serial number) d s next reply h = absurd h
 does_other (Reject number name) d s next reply h = absurd h
+does_other Auto d s next reply h = absurd h
 does_other Tested d s next reply h = prints Tested _ s next reply h
 
 does_by : (c : Command) (step : MaybeStep) (d : List ℕ) (s next : State) (reply : Reply) → (AllLawful → MatchStep step ⊤ IsLawful)

@@ -25,15 +25,19 @@ use Rattle.ped_session.specs.declared.versions.Entry.{Entry}
 use Rattle.ped_session.specs.Holding.{other_of, IsConsistent}
 use Rattle.ped_session.specs.declared.changes.Change.{Change}
 use Rattle.ped_session.specs.declared.replies.Reply.{Reply}
+use Rattle.ped_session.specs.declared.replies.Reply.TheVariants.{Changed}
 use Rattle.ped_session.specs.States.{Other, State, opened}
 use Rattle.ped_session.specs.Blocks.{block, IsRunBlock}
 use Rattle.ped_session.specs.LoweredRuns.{told_by, IsLoweredRun}
 use Rattle.ped_transformations.specs.ped_reindex.specs.ped_loops.specs.ped_scalar.specs.ped_rules.specs.Steps.{StepKind, transformation, rejection, StepAt}
 use Rattle.ped_session.specs.Steps.{Edits, accepted, refused, change_by, Transforms, missing, forbidden, transformed, GoesBack, GoesForward, Shows, IsStep}
-use Rattle.ped_session.specs.Scripts.{Said, said_by, AnswersCommand, AnswersItems}
+use Rattle.ped_session.specs.Scripts.{Said, said_by, AnswersReply, AnswersCommand, AnswersItems}
 use Rattle.ped_session.specs.Meanings.{MeansTheSame, IsKept, IsPastKept, IsFutureKept, IsMeaningKept, ComesFrom, IsAsBefore, ShowsAsBefore}
 use Rattle.ped_session.specs.RunsAsBefore.{RunsAsBefore, AnswersAsBefore}
 use Rattle.ped_transformations.proofs.LawfulTable.{AllLawful}
+use Rattle.ped_transformations.specs.ped_auto.specs.Strategy.{Report, IsAuto}
+use Rattle.ped_session.specs.AutoEditing.{session_editing}
+use Rattle.ped_session.proofs.AutoSteps.{auto_steps, all_keep, is_step}
 use Rattle.ped_session.proofs.OneStep.{one_tree}
 use Rattle.ped_session.proofs.Doing.{Does, by_nothing, by_edit, by_step, by_undo, by_redo, does}
 
@@ -135,15 +139,21 @@ keeps_by all c s next reply k (by_redo is h) = forward_keeps s.future s next rep
 pub command_keeps : AllLawful → (c : Command) (d : List ℕ) (s next : State) (reply : Reply) → IsMeaningKept s → IsStep c d s reply next → IsMeaningKept next
 command_keeps all c d s next reply k h = keeps_by all c s next reply k (does c d s next reply h)
 
+-- so does `auto`
+pub auto_keeps : AllLawful → (s next : State) (report : Report) (tests : ℕ) → IsMeaningKept s → IsAuto session_editing s report next tests → IsMeaningKept next
+auto_keeps all s next report tests k h =
+    all_keep IsMeaningKept (λ c m n kept t. command_keeps all c [] m n Changed kept (is_step c [] m n Changed t)) report.accepted s next tests k (auto_steps s next report tests h)
+
 line_keeps : AllLawful → (line : ℕ) (command : Option Command) (d : List ℕ) (s next : State) (said : Said) → IsMeaningKept s → AnswersCommand line command d s said next → IsMeaningKept next
 line_keeps all line None d s next said k h = same s next k h.1
-line_keeps all line (Some c) d s next said k h = command_keeps all c d s next h.0 k h.1
+line_keeps all line (Some c) d s next said k (inl h) = command_keeps all c d s next h.0 k h.1
+line_keeps all line (Some c) d s next said k (inr (is, h)) = auto_keeps all s next h.0.report said.tests k h.0.does
 
 -- a session is opened without a history
 pub opened_keeps : (t : ProgramTree) → IsMeaningKept (opened t)
 opened_keeps t = record { past = tt; future = tt }
 
-run_shows : Agree → LoweringKeeps → (line : ℕ) (choices d : List ℕ) (s next : State) (said : Said) → IsMeaningKept s → AnswersCommand line (Some (Run choices)) d s said next → ShowsAsBefore s d said.bytes
+run_shows : Agree → LoweringKeeps → (line : ℕ) (choices d : List ℕ) (s next : State) (said : Said) → IsMeaningKept s → AnswersReply line (Run choices) d s said next → ShowsAsBefore s d said.bytes
 run_shows agree lower line choices d s next said k h = λ earlier t comes from trusted free.
     let shows : Shows (IsRunBlock choices d) s h.0 next = h.1 in
     ap (λ (x : Said). x.bytes) (h.2 ∙ ap (λ (r : Reply). said_by line r next) shows.prints.0) ∙ shows.so.2
@@ -151,7 +161,11 @@ run_shows agree lower line choices d s next said k h = λ earlier t comes from t
 
 -- a `run` shows what the earlier programs show
 line_shows : Agree → LoweringKeeps → (line : ℕ) (command : Option Command) (d : List ℕ) (s next : State) (said : Said) → IsMeaningKept s → AnswersCommand line command d s said next → RunsAsBefore command d s said
-line_shows agree lower line command d s next said k h = λ choices is. run_shows agree lower line choices d s next said k (subst (λ (c : Option Command). AnswersCommand line c d s said next) is h)
+line_shows agree lower line command d s next said k h = λ choices is. by_reply choices (subst (λ (c : Option Command). AnswersCommand line c d s said next) is h)
+  where
+    by_reply : (choices : List ℕ) → AnswersCommand line (Some (Run choices)) d s said next → ShowsAsBefore s d said.bytes
+    by_reply choices (inl h) = run_shows agree lower line choices d s next said k h
+    by_reply choices (inr (is, h)) = absurd cc
 
 -- the items of a script
 pub items_as_before : Agree → LoweringKeeps → AllLawful → (items : List Item) (d : List ℕ) (s last : State) (said : Said) → IsMeaningKept s → AnswersItems items d s said last → AnswersAsBefore items d s said last

@@ -1,5 +1,11 @@
 mod Accepted
 mod Answering
+mod AutoRows
+mod AutoScripts
+pub mod AutoSteps
+pub mod AutoTries
+mod AutoUndone
+mod CarriedTexts
 mod Doing
 mod Examples
 mod HistoryMoves
@@ -16,6 +22,7 @@ mod PresentProgram
 mod PrintedSources
 mod RefusedSteps
 mod RunsInOrder
+mod ShortNames
 mod Shown
 mod States
 mod StepCommands

@@ -46,12 +46,12 @@ goes_forward (o ∷ future) s next e h =
     record { other = o; taken_is = e ∙ ap (λ (n : State). o ∷ n.future) (sym h.1); present_is = ap (λ (n : State). n.present) h.1; given_is = ap (λ (n : State). n.past) h.1 }
 
 -- one more command behind several
-one_more : (n : ℕ) (c : Command) (d : List ℕ) (s mid last : State) → Times n c d s mid → IsStep c d mid Changed last → Times (suc n) c d s last
+pub one_more : (n : ℕ) (c : Command) (d : List ℕ) (s mid last : State) → Times n c d s mid → IsStep c d mid Changed last → Times (suc n) c d s last
 one_more zero c d s mid last is step = (last, subst (λ (x : State). IsStep c d x Changed last) is step, refl)
 one_more (suc n) c d s mid last h step = (h.0, h.1, one_more n c d h.0 mid last h.2 step)
 
 -- there is a step back where there is a past
-back_from : (d : List ℕ) (s : State) (o : Other) (past : List Other) → s.past ≡ o ∷ past → IsStep Undo d s Changed (gone_back_to o past s)
+pub back_from : (d : List ℕ) (s : State) (o : Other) (past : List Other) → s.past ≡ o ∷ past → IsStep Undo d s Changed (gone_back_to o past s)
 back_from d s o past e = subst (λ (os : List Other). GoesBack os s Changed (gone_back_to o past s)) (sym e) (refl, refl)
 
 -- there is a step forward where there is a future
@@ -102,15 +102,15 @@ undone (suc n) d s forth a =
     (again, one_more n Undo d forth rest.0 again rest.1 step, undone_once d s a.0 rest.0 again a.1 rest.2 step)
 
 -- a change leaves the former source as the newest of the past
-record Leaves (s next : State) : Type 0 where
-  change : Change
-  past_is : next.past ≡ (s.present, change) ∷ s.past
+pub record Leaves (s next : State) : Type 0 where
+  pub change : Change
+  pub past_is : next.past ≡ (s.present, change) ∷ s.past
 
 edit_leaves : (kept gone : ℕ) (edited : List ℕ) (s next : State) → Edits kept gone edited s Changed next → Leaves s next
 edit_leaves kept gone edited s next (accepted old new from to reply after) = record { change = Edit; past_is = ap (λ (n : State). n.past) after }
 edit_leaves kept gone edited s next (refused why first same) = absurd (no_refusal _ same.0)
 
-step_leaves : (at : StepAt) (s next : State) → Transforms at s Changed next → Leaves s next
+pub step_leaves : (at : StepAt) (s next : State) → Transforms at s Changed next → Leaves s next
 step_leaves at s next (missing t reads none same) = absurd (no_refusal _ same.0)
 step_leaves at s next (forbidden t reads some c is same) = absurd (no_refusal _ same.0)
 step_leaves at s next (transformed t new keep reads some none makes valid reply after) = record { change = change_by at.kind; past_is = ap (λ (n : State). n.past) after }

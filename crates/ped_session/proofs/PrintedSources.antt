@@ -1,16 +1,20 @@
 -- All sources of a session stay printed texts of valid programs.
-use Rattle.std.proofs.Common.{◌≡◌, ℕ, List, [], ◌∷◌, Option, Some, None, All, refl, sym, subst}
+use Rattle.std.proofs.Common.{◌≡◌, inl, inr, ℕ, List, [], ◌∷◌, Option, Some, None, All, refl, sym, subst}
 use Rattle.std.proofs.lemmas.List.Elements.{All-nil, All-cons, All-head, All-tail}
 use Rattle.ped_session.specs.ped_tree.specs.Tree.{ProgramTree}
 use Rattle.ped_valid.specs.ped_symbols.specs.NameRefusals.{IsValid}
 use Rattle.ped_session.specs.ped_transformations.specs.ped_script.specs.declared.items.Command.{Command}
 use Rattle.ped_session.specs.ped_transformations.specs.ped_script.specs.declared.items.Item.{Item}
 use Rattle.ped_session.specs.declared.replies.Reply.{Reply}
+use Rattle.ped_session.specs.declared.replies.Reply.TheVariants.{Changed}
 use Rattle.ped_session.specs.States.{Other, State, opened}
 use Rattle.ped_transformations.specs.ped_reindex.specs.ped_loops.specs.ped_scalar.specs.ped_rules.specs.Steps.{StepAt}
 use Rattle.ped_session.specs.Steps.{Edits, accepted, refused, Transforms, missing, forbidden, transformed, GoesBack, GoesForward, IsStep}
 use Rattle.ped_session.specs.Scripts.{Said, AnswersCommand, AnswersItems}
 use Rattle.ped_session.specs.Histories.{IsPrinted, ArePrinted}
+use Rattle.ped_transformations.specs.ped_auto.specs.Strategy.{Report, IsAuto}
+use Rattle.ped_session.specs.AutoEditing.{session_editing}
+use Rattle.ped_session.proofs.AutoSteps.{auto_steps, all_keep, is_step}
 use Rattle.ped_session.proofs.Doing.{Does, by_nothing, by_edit, by_step, by_undo, by_redo, does}
 
 -- a source of another list
@@ -51,9 +55,15 @@ prints_by c s next reply a (by_redo is h) = forward_prints s.future s next reply
 pub command_prints_all : (c : Command) (data_bytes : List ℕ) (s next : State) (reply : Reply) → ArePrinted s → IsStep c data_bytes s reply next → ArePrinted next
 command_prints_all c d s next reply a h = prints_by c s next reply a (does c d s next reply h)
 
+-- so does `auto`
+auto_prints : (s next : State) (report : Report) (tests : ℕ) → ArePrinted s → IsAuto session_editing s report next tests → ArePrinted next
+auto_prints s next report tests a h =
+    all_keep ArePrinted (λ c m n k t. command_prints_all c [] m n Changed k (is_step c [] m n Changed t)) report.accepted s next tests a (auto_steps s next report tests h)
+
 command_prints : (line : ℕ) (command : Option Command) (data_bytes : List ℕ) (s next : State) (said : Said) → ArePrinted s → AnswersCommand line command data_bytes s said next → ArePrinted next
 command_prints line None data_bytes s next said a h = same s next a h.1
-command_prints line (Some c) data_bytes s next said a h = command_prints_all c data_bytes s next h.0 a h.1
+command_prints line (Some c) data_bytes s next said a (inl h) = command_prints_all c data_bytes s next h.0 a h.1
+command_prints line (Some c) data_bytes s next said a (inr (is, h)) = auto_prints s next h.0.report said.tests a h.0.does
 
 items_print : (items : List Item) (data_bytes : List ℕ) (s last : State) (said : Said) → ArePrinted s → AnswersItems items data_bytes s said last → ArePrinted last
 items_print [] data_bytes s last said a h = same s last a h.1

@@ -1,7 +1,7 @@
 -- Which commands take a step.
 use Rattle.std.proofs.Common.{◌≡◌, ℕ, List, Option, None, refl}
 use Rattle.ped_session.specs.ped_transformations.specs.ped_script.specs.declared.items.Command.{Command}
-use Rattle.ped_session.specs.ped_transformations.specs.ped_script.specs.declared.items.Command.TheVariants.{Source, Deps, Show, Print, Advise, Replace, Insert, Delete, Interchange, Reverse, Skew, Strip, Peel, Distribute, Fuse, Expand, Privatise, Reduce, Parallel, Serial, Reject, Undo, Redo, Run, Races, Tested}
+use Rattle.ped_session.specs.ped_transformations.specs.ped_script.specs.declared.items.Command.TheVariants.{Source, Deps, Show, Print, Advise, Replace, Insert, Delete, Interchange, Reverse, Skew, Strip, Peel, Distribute, Fuse, Expand, Privatise, Reduce, Parallel, Serial, Reject, Auto, Undo, Redo, Run, Races, Tested}
 use Rattle.ped_transformations.specs.Table.{step_of}
 use Rattle.ped_transformations.specs.CodeKinds.{IsPlace}
 
@@ -15,6 +15,7 @@ pub record IsNoOther (command : Command) : Type 0 where
   pub not_replace : (first last : ℕ) (lines : List (List ℕ)) → command ≡ Replace first last lines → ⊥
   pub not_insert : (after : ℕ) (lines : List (List ℕ)) → command ≡ Insert after lines → ⊥
   pub not_delete : (first last : ℕ) → command ≡ Delete first last → ⊥
+  pub not_auto : command ≡ Auto → ⊥
   pub not_undo : command ≡ Undo → ⊥
   pub not_redo : command ≡ Redo → ⊥
   pub not_run : (choices : List ℕ) → command ≡ Run choices → ⊥
@@ -44,6 +45,7 @@ takes_step (Reduce number names) is none = none
 takes_step (Parallel number) is none = none
 takes_step (Serial number) is none = none
 takes_step (Reject number name) is none = none
+takes_step Auto is none = is.not_auto refl
 takes_step Undo is none = is.not_undo refl
 takes_step Redo is none = is.not_redo refl
 takes_step (Run choices) is none = is.not_run choices refl

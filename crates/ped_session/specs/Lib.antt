@@ -6,8 +6,13 @@ pub use Rattle.ped_valid.specs.ped_symbols
 pub use Rattle.ped_valid
 pub use Rattle.ped_order
 pub mod Adding
+pub mod AutoAnswers
+pub mod AutoEditing
+pub mod AutoEditingLaws
+pub mod AutoScripts
 pub mod Blocks
 pub mod Changing
+pub mod CodeStepReplies
 pub mod Histories
 pub mod Holding
 pub mod Listing

@@ -1,12 +1,14 @@
 -- What a script prints: the answers to its items in their order (this project).
-use Rattle.std.specs.Prelude.{◌≡◌, ℕ, ◌+◌, List, [], ◌∷◌, ◌++◌, Bool, true, false, ◌||◌, Option, Some, None}
+use Rattle.std.specs.Prelude.{◌≡◌, ◌⊎◌, ℕ, ◌+◌, List, [], ◌∷◌, ◌++◌, Bool, true, false, ◌||◌, Option, Some, None}
 use Rattle.ped_session.specs.ped_transformations.specs.ped_script.specs.declared.items.Command.{Command}
+use Rattle.ped_session.specs.ped_transformations.specs.ped_script.specs.declared.items.Command.TheVariants.{Auto}
 use Rattle.ped_session.specs.ped_transformations.specs.ped_script.specs.declared.items.Item.{Item}
 use Rattle.ped_session.specs.declared.replies.Reply.{Reply}
 use Rattle.ped_session.specs.declared.replies.Reply.TheVariants.{Changed, Shown, Refused}
 use Rattle.ped_session.specs.States.{State}
 use Rattle.ped_session.specs.Replies.{bad_command_row, reply_text, is_refused}
 use Rattle.ped_session.specs.Steps.{IsStep}
+use Rattle.ped_session.specs.AutoAnswers.{AnswersAuto}
 
 -- what items answer: the bytes, whether a line was refused, and how many pairs of references were tested
 pub record Said : Type 0 where
@@ -36,10 +38,18 @@ nothing_said = record { bytes = []; refused = false; tests = 0 }
 abbrev pub said_both : Said → Said → Said
 said_both first rest = record { bytes = first.bytes ++ rest.bytes; refused = first.refused || rest.refused; tests = first.tests + rest.tests }
 
--- what the command on this line answers: a line that is no command is refused, and the session is as it was
+-- what the reply to the command on this line says, and the state behind it
+abbrev pub AnswersReply : ℕ → Command → List ℕ → State → Said → State → Type 0
+AnswersReply line command data_bytes s said next = (reply : Reply) × IsStep command data_bytes s reply next × (said ≡ said_by line reply next)
+
+-- what `auto` on this line says, which is never refused, and the state behind it
+abbrev pub SaysAuto : ℕ → State → Said → State → Type 0
+SaysAuto line s said next = AnswersAuto line s said.bytes said.tests next × (said.refused ≡ false)
+
+-- what the command on this line answers: `auto` takes steps by its strategy, and each other command has its reply; a line that is no command is refused, and the session is as it was
 abbrev pub AnswersCommand : ℕ → Option Command → List ℕ → State → Said → State → Type 0
 AnswersCommand line None data_bytes s said next = (said ≡ bad_command_said line) × (next ≡ s)
-AnswersCommand line (Some command) data_bytes s said next = (reply : Reply) × IsStep command data_bytes s reply next × (said ≡ said_by line reply next)
+AnswersCommand line (Some command) data_bytes s said next = AnswersReply line command data_bytes s said next ⊎ ((command ≡ Auto) × SaysAuto line s said next)
 
 -- what an item of a script answers
 abbrev pub AnswersItem : Item → List ℕ → State → Said → State → Type 0

@@ -110,7 +110,7 @@ IsOther Races data_bytes s reply next = Shows (IsRaceRow data_bytes) s reply nex
 IsOther Tested data_bytes s reply next = Prints (tested_row s.tested) s reply next
 IsOther command data_bytes s reply next = ⊥
 
--- what a command does to a session whose programs are run on these data: it takes its step, where it has one in the table of the steps
+-- what a command does to a session whose programs are run on these data: it takes its step, where it has one in the table of the steps. `auto`, which takes several, is no step
 abbrev pub IsStep : Command → List ℕ → State → Reply → State → Type 0
 IsStep command data_bytes s reply next = MatchStep (step_of command) (IsOther command data_bytes s reply next) (λ at. Transforms at s reply next)
 

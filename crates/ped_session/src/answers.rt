@@ -1,13 +1,15 @@
 //! The items of a script, answered one behind another.
 
-ghost use Rattle.std.specs.Prelude.{◌≡◌, ◌+◌, ◌≤◌, Some, IfOk, OnOk};
+ghost use Rattle.std.specs.Prelude.{◌≡◌, ◌≢◌, ◌+◌, ◌≤◌, Some, IfOk, OnOk};
 ghost use Rattle.ped_session.specs.States.{State};
 ghost use Rattle.ped_session.specs.Scripts as Spec;
 ghost use Rattle.ped_session.specs.Scripts.{AnswersItem, AnswersItems};
 ghost use Rattle.ped_session.specs.RunsAsBefore.{AnswersAsBefore};
 ghost use Rattle.ped_session.specs.Replies as Replies;
 ghost use Rattle.ped_session.specs.Adding.{added, Adds};
+ghost use Rattle.ped_session.specs.ped_transformations.specs.ped_script.specs.declared.items.Command.TheVariants as commands;
 
+use crate::auto_texts::auto_text;
 use crate::ped_base::{Bytes, NoMemory};
 use crate::ped_graph::ped_verdict::Steps;
 use crate::ped_script::{Command, Item};
@@ -16,6 +18,7 @@ use crate::scripts::{bad_command_row, reply_text};
 use crate::session::Session;
 use ped_order::interleavings_agree;
 use ped_transformations::every_step_is_lawful;
+use ped_transformations::ped_auto::auto;
 use ped_transformations::ped_reduce::lowering_keeps_the_meaning;
 use std::alloc::Global;
 use std::sync::ledger::Ledger;
@@ -96,6 +99,45 @@ fn answer_command<L: Ledger>(
     ensures answers { OnOk result (Adds (λ said. Spec.AnswersCommand line (Some command.now) input.now session.old said session.new) answered.old answered.new steps.old steps.new) }
     ensures least { steps.old ≤ steps.new }
     ensures most { (said : Spec.Said) (next : State) → Spec.AnswersCommand line (Some command.now) input.now session.old said next → steps.new ≤ steps.old + said.tests }
+{
+    match command {
+        Command::Auto => return answer_auto(alloc, session, line, answered, steps),
+        _ => return answer_reply(alloc, session, line, command, input, answered, steps),
+    }
+}
+
+/// Answers `auto` on this line: parallelises the present program, and says by which steps, what is left and why.
+fn answer_auto<L: Ledger>(
+    alloc: Global,
+    session: &mut Session<L>,
+    line: u64,
+    answered: &mut Answered,
+    steps: &mut Steps<L>,
+) -> Result<(), NoMemory>
+    ensures answers { OnOk result (Adds (λ said. Spec.SaysAuto line session.old said session.new) answered.old answered.new steps.old steps.new) }
+    ensures least { steps.old ≤ steps.new }
+    ensures most { (said : Spec.Said) (next : State) → Spec.SaysAuto line session.old said next → steps.new ≤ steps.old + said.tests }
+{
+    let report = auto(alloc, session, steps)?;
+    let text = auto_text(alloc, line, &report, session.source())?;
+    answered.bytes.extend_from_slice(text.as_slice())?;
+    Ok(())
+}
+
+/// Answers another command on this line by its reply.
+fn answer_reply<L: Ledger>(
+    alloc: Global,
+    session: &mut Session<L>,
+    line: u64,
+    command: &Command,
+    input: &[u8],
+    answered: &mut Answered,
+    steps: &mut Steps<L>,
+) -> Result<(), NoMemory>
+    requires { command.now ≢ commands.Auto }
+    ensures answers { OnOk result (Adds (λ said. Spec.AnswersReply line command.now input.now session.old said session.new) answered.old answered.new steps.old steps.new) }
+    ensures least { steps.old ≤ steps.new }
+    ensures most { (said : Spec.Said) (next : State) → Spec.AnswersReply line command.now input.now session.old said next → steps.new ≤ steps.old + said.tests }
 {
     let reply = session.apply(alloc, command, input, steps)?;
     let text = reply_text(alloc, line, &reply)?;

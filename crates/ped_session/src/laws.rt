@@ -1,6 +1,6 @@
 //! What holds of every session. Each function here does nothing; its contract is the law.
 
-ghost use Rattle.std.specs.Prelude.{◌≡◌, ◌↔◌, ℕ, List, []};
+ghost use Rattle.std.specs.Prelude.{◌≡◌, ◌↔◌, ℕ, List, [], length};
 ghost use Rattle.ped_session.specs.ped_tree.specs.Tree.{ProgramTree};
 ghost use Rattle.ped_valid.specs.ped_symbols.specs.NameRefusals.{IsValid};
 ghost use Rattle.ped_valid.specs.Validity.{ReadsValid};
@@ -24,10 +24,19 @@ ghost use Rattle.ped_session.specs.Scripts.{Said, AnswersItems};
 ghost use Rattle.ped_session.specs.Meanings.{IsMeaningKept, ComesFrom};
 ghost use Rattle.ped_session.specs.RunsAsBefore.{AnswersAsBefore};
 ghost use Rattle.ped_session.specs.Histories.{ArePrinted, HaveSameSources, Times};
+ghost use Rattle.ped_transformations.specs.ped_auto.specs.Strategy.{Report, IsAuto};
+ghost use Rattle.ped_session.specs.AutoEditing.{session_editing};
+ghost use Rattle.ped_session.specs.ped_transformations.specs.ped_script.specs.Items.{commands_of};
+ghost use Rattle.ped_session.specs.AutoAnswers.{AcceptsAll};
+ghost use Rattle.ped_session.specs.AutoScripts.{script_of, items_on, all_accepted};
 
+use crate::ped_script::rows_are_commands;
+use crate::session::Session;
 use ped_order::{interleavings_agree, without_choices};
 use ped_transformations::every_step_is_lawful;
+use ped_transformations::ped_auto::accepted_are_commands;
 use ped_transformations::ped_reduce::{lowering_keeps_the_meaning, one_lowering};
+use std::sync::ledger::Ledger;
 
 /// A command has one reply at most in a state, and leads to one state.
 pub fn one_step()
@@ -117,6 +126,41 @@ pub fn without_lists()
         IsLoweredRun choices data_bytes t o ↔ IsInterleaved t data_bytes choices o }
 {
     one_lowering();
+}
+
+/// The steps that `auto` takes are accepted one behind another, and lead from the state before it to the one behind it: so
+/// its script, replayed, gives the source that it shows.
+pub fn auto_replays()
+    ensures { (s last : State) (report : Report) (tests : ℕ) → IsAuto session_editing s report last tests → AcceptsAll report.accepted s last }
+{}
+
+/// The steps that `auto` takes, each on a line of its own as it is printed behind a plus sign, are a script that is read as
+/// these commands. From the state before `auto` it leads to the one behind it, whatever the data are: each line is answered
+/// by an accepted change, and as many pairs are tested.
+pub fn auto_is_a_script<L: Ledger>()
+    ensures read { (s last : State) (report : Report) (tests : ℕ) → IsAuto session_editing s report last tests →
+        commands_of (script_of report.accepted) ≡ items_on 1 report.accepted }
+    ensures answers { (s last : State) (report : Report) (tests : ℕ) (data_bytes : List ℕ) → IsAuto session_editing s report last tests →
+        AnswersItems (commands_of (script_of report.accepted)) data_bytes s (all_accepted (items_on 1 report.accepted) tests) last }
+{
+    accepted_are_commands::<L, Session<L>>();
+    rows_are_commands();
+}
+
+/// Each step that `auto` takes is a change of its own in the history: behind it as many `undo` are accepted as there were
+/// steps, and give the source before `auto`, byte for byte, and its past.
+pub fn auto_is_undone()
+    ensures { (s last : State) (report : Report) (tests : ℕ) (data_bytes : List ℕ) → IsAuto session_editing s report last tests →
+        (back : State) × Times (length report.accepted) Undo data_bytes last back × (back.present ≡ s.present) × (back.past ≡ s.past) }
+{}
+
+/// `auto` keeps that each transformation in the history keeps the meaning, and its source has come from the former one by
+/// transformations alone: so all that holds of such sources holds of these two.
+pub fn auto_keeps_the_meaning()
+    ensures kept { (s last : State) (report : Report) (tests : ℕ) → IsMeaningKept s → IsAuto session_editing s report last tests → IsMeaningKept last }
+    ensures comes { (s last : State) (report : Report) (tests : ℕ) → IsAuto session_editing s report last tests → ComesFrom last.present last.past s.present }
+{
+    every_step_is_lawful();
 }
 
 /// `run` without choices shows the outcome of the run in order of what the present program is lowered to, whatever that races

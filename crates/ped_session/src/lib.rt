@@ -5,7 +5,10 @@
 #![tactic(auto)]
 
 mod answers;
+mod auto_texts;
+mod automatic;
 mod blocks;
+mod carrying;
 mod changes;
 mod changing;
 mod editing;
@@ -26,6 +29,7 @@ mod versions;
 pub use answers::{Answered, answer_items};
 pub use changes::Change;
 pub use laws::{
+    auto_is_a_script, auto_is_undone, auto_keeps_the_meaning, auto_replays,
     interleavings_keep_the_meaning, moves_restore_each_other, one_answer, one_step,
     refused_changes_nothing, runs_are_as_before, runs_in_order, sources_are_printed,
     sources_keep_the_meaning, transformations_keep_the_meaning, undo_restores, without_lists,

@@ -41,6 +41,14 @@ impl FirstCause {
     {
         &self.refused
     }
+
+    /// The cause itself.
+    pub(crate) fn take(self) -> Refused
+        ensures cause { cause_of result ≡ self }
+        ensures short { IsShort result }
+    {
+        self.refused
+    }
 }
 
 /// Why a command is refused.

@@ -21,6 +21,7 @@ ghost use Rattle.ped_session.specs.Meanings.{IsAsBefore};
 ghost use Rattle.ped_session.specs.States.{State, opened};
 ghost use Rattle.ped_session.specs.Steps.{IsStep, IsOther, IsMove};
 ghost use Rattle.ped_session.specs.Scripts.{tests_of};
+ghost use Rattle.ped_session.specs.ped_transformations.specs.ped_script.specs.declared.items.Command.TheVariants as commands;
 
 use crate::ped_base::{Bytes, NoMemory};
 use crate::ped_graph::Graph;
@@ -165,6 +166,8 @@ impl<L: Ledger> Session<L> {
     /// want of memory, which never comes at `undo` and `redo`. An accepted edit or step tests pairs of the new
     /// program, and no other command tests any. The reply and the state behind it are those of the command, by the
     /// one definition of each command. After want of memory no more pairs were tested than the command tests.
+    ///
+    /// `auto` is several steps, and none itself: it is for `ped_auto::auto`, over this session as its editor.
     pub fn apply(
         &mut self,
         alloc: Global,
@@ -172,6 +175,7 @@ impl<L: Ledger> Session<L> {
         input: &[u8],
         steps: &mut Steps<L>,
     ) -> Result<Reply, NoMemory>
+        requires { command.now ≢ commands.Auto }
         ensures answers { IfOk result (λ reply. IsStep command.now input.now self.old reply self.new) }
         ensures kept { OnErr result (self.new ≡ self.old) }
         ensures ticks { IfOk result (λ reply. steps.new ≡ steps.old + tests_of reply self.new) }
@@ -193,7 +197,8 @@ impl<L: Ledger> Session<L> {
         input: &[u8],
         steps: &mut Steps<L>,
     ) -> Result<Reply, NoMemory>
-        requires { IsPlace (step_of command.now) None }
+        requires place { IsPlace (step_of command.now) None }
+        requires other { command.now ≢ commands.Auto }
         ensures answers { IfOk result (λ reply. IsOther command.now input.now self.old reply self.new) }
         ensures kept { OnErr result (self.new ≡ self.old) }
         ensures ticks { IfOk result (λ reply. steps.new ≡ steps.old + tests_of reply self.new) }

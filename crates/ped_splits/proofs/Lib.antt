@@ -132,3 +132,4 @@ mod FuseAnswers
 mod PlainBounds
 mod BackAmong
 mod EventNumbers
+pub mod DistributedCounts

@@ -3,3 +3,5 @@ pub mod ByPlace
 mod DeterminedReduction
 pub mod LawfulTable
 pub mod OneAdvice
+mod SerialCounts
+pub mod Growing

@@ -2,23 +2,23 @@
 
 ghost use Rattle.std.specs.Prelude.{◌≡◌, IfOk};
 ghost use Rattle.ped_tree.specs.Views.{program_tree};
-ghost use Rattle.ped_reduce.specs.ped_splits.specs.ped_reindex.specs.ped_loops.specs.ped_scalar.specs.ped_rules.specs.ped_loop_runs.specs.ped_bodies.specs.ped_steps.specs.Scenes.{IsSceneOf};
+ghost use Rattle.ped_auto.specs.ped_reduce.specs.ped_splits.specs.ped_reindex.specs.ped_loops.specs.ped_scalar.specs.ped_rules.specs.ped_loop_runs.specs.ped_bodies.specs.ped_steps.specs.Scenes.{IsSceneOf};
 ghost use Rattle.ped_transformations.specs.declared.table.Kind.TheVariants as Kind;
 ghost use Rattle.ped_transformations.specs.Table.{step_of};
 ghost use Rattle.ped_transformations.specs.CodeKinds.{IsPlace, AnswersStep};
 
-use ped_base::NoMemory;
-use ped_reduce::ped_splits::ped_reindex::ped_loops::ped_scalar::ped_rules::ped_loop_runs::ped_bodies::ped_steps::{
+use ped_auto::ped_reduce::ped_splits::ped_reindex::ped_loops::ped_scalar::ped_rules::ped_loop_runs::ped_bodies::ped_steps::{
     Change, Refused, Scene,
 };
-use ped_reduce::ped_splits::ped_reindex::ped_loops::ped_scalar::{expand, privatise};
-use ped_reduce::ped_splits::ped_reindex::ped_loops::{
+use ped_auto::ped_reduce::ped_splits::ped_reindex::ped_loops::ped_scalar::{expand, privatise};
+use ped_auto::ped_reduce::ped_splits::ped_reindex::ped_loops::{
     interchange, make_parallel, make_serial, reject, reverse,
 };
-use ped_reduce::ped_splits::ped_reindex::{peel, skew, strip};
-use ped_reduce::ped_splits::{distribute, fuse};
-use ped_reduce::reduce;
-use ped_script::Command;
+use ped_auto::ped_reduce::ped_splits::ped_reindex::{peel, skew, strip};
+use ped_auto::ped_reduce::ped_splits::{distribute, fuse};
+use ped_auto::ped_reduce::reduce;
+use ped_auto::ped_script::Command;
+use ped_base::NoMemory;
 use std::alloc::Global;
 use std::sync::ledger::Ledger;
 

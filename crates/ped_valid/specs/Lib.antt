@@ -1,3 +1,4 @@
+pub use Rattle.ped_parse
 pub use Rattle.ped_symbols
 pub mod Refusals
 pub mod Validity

@@ -1,13 +1,13 @@
 -- Rows of the places of possible vectors.
 use Rattle.std.proofs.Common.{◌≡◌, ◌⊎◌, ◌↔◌, ℕ, zero, suc, ◌+◌, ◌^◌, ◌<◌, ◌≤◌, List, [], ◌∷◌, ◌++◌, length, replicate, get_or, slice_set, slice_index_or, Bool, true, false, IsTrue, refl, sym, ap, subst, ◌∙◌, inl, inr, arith}
-use Rattle.std.proofs.lemmas.Bool.{cases_eq, cases_lt}
+use Rattle.std.proofs.lemmas.Bool.{cases_eq, cases_lt, false≢true}
 use Rattle.std.proofs.lemmas.List.{append-nil, append_assoc, length-append, length-set, length-replicate, get_or-set_same, get_or-set_other, get_or_past}
 use Rattle.ped_views.specs.declared.directions.Direction.{Direction}
 use Rattle.ped_views.specs.declared.directions.Direction.TheVariants.{Before, Same, After}
 use Rattle.ped_views.specs.Views.{View}
 use Rattle.ped_views.specs.Vectors.{IsPossible, AreVectors, all_vectors}
 use Rattle.ped_bits.specs.Places.{Has}
-use Rattle.ped_verdict.specs.Dependence.{MayDepend}
+use Rattle.ped_verdict.specs.Dependence.{MayDepend, HasList}
 use Rattle.ped_verdict.specs.Marked.{place_of, BeginsWith, AreMarked, AreAdded}
 use Rattle.ped_verdict.proofs.Ordered.{at_place, place_below, place-same, length-all_vectors, all_vectors_at}
 use Rattle.ped_verdict.proofs.Chosen.{AreAhead, one_found, passed_over, all_found}
@@ -166,3 +166,29 @@ all_there v row m place found past ahead =
     let w = m.wide in
     let l = length-all_vectors (length v.loops) in
     all_found (IsPossible v) (all_vectors (length v.loops)) place found (omega arith) ahead
+
+-- the possible vectors before each place can be found
+found_before : (v : View) (row : List Bool) → AreMarked v row → (place : ℕ) → place ≤ length row
+    → (found : List (List Direction)) × AreAhead (IsPossible v) (all_vectors (length v.loops)) place found
+found_before v row m zero below = ([], λ rest h. h)
+found_before v row m (suc place) below = by (slice_index_or row place false) refl (found_before v row m place (omega (arith, below)))
+  where
+    there : place < length row
+    there = omega (arith, below)
+
+    next : place + 1 ≡ suc place
+    next = omega arith
+
+    by : (b : Bool) → slice_index_or row place false ≡ b → (found : List (List Direction)) × AreAhead (IsPossible v) (all_vectors (length v.loops)) place found → (found : List (List Direction)) × AreAhead (IsPossible v) (all_vectors (length v.loops)) (suc place) found
+    by true is (found, ahead) =
+        let w = m.wide in
+        let at = at_place (length v.loops) place (omega (arith, w, there)) in
+        (found ++ at.vector ∷ [], subst (λ (k : ℕ). AreAhead (IsPossible v) (all_vectors (length v.loops)) k (found ++ at.vector ∷ [])) next (one_more v row m place found there at.vector at.long at.is is ahead))
+    by false is (found, ahead) =
+        (found, subst (λ (k : ℕ). AreAhead (IsPossible v) (all_vectors (length v.loops)) k found) next (none_there v row m place found there (λ h. false≢true (sym is ∙ h)) ahead))
+
+-- a view has its vectors
+pub some_list : (v : View) (row : List Bool) → AreMarked v row → HasList v
+some_list v row m =
+    let s = found_before v row m (length row) (omega arith) in
+    (s.0, all_there v row m (length row) s.0 (omega arith) s.1)

@@ -1,7 +1,8 @@
 //! The possible vectors of a view as a list.
 
-ghost use Rattle.std.specs.Prelude.{IfOk};
+ghost use Rattle.std.specs.Prelude.{◌≤◌, length, IfOk};
 ghost use Rattle.ped_views.specs.Vectors.{AreVectors};
+ghost use Rattle.ped_verdict.specs.Dependence.{HasList};
 ghost use Rattle.ped_verdict.specs.Marked.{AreMarked};
 
 use crate::places::vector_at;
@@ -38,3 +39,10 @@ pub(crate) fn listed(
     }
     Ok(vectors)
 }
+
+/// There is a list of the possible vectors of a view, of which a row has the places. It does nothing.
+pub(crate) fn has_list(view: &PairView, possible: &Row)
+    requires { AreMarked view.now possible.now }
+    ensures few { length view.now.loops ≤ 6 }
+    ensures list { HasList view.now }
+{}

@@ -2,10 +2,10 @@
 
 ghost use Rattle.std.specs.Prelude.{◌≡◌, ◌+◌, ◌-◌, ◌≤◌, ◌↔◌, length, IfOk, IsTrue};
 ghost use Rattle.ped_views.specs.Vectors as Spec;
-ghost use Rattle.ped_verdict.specs.Dependence.{MayDepend};
+ghost use Rattle.ped_verdict.specs.Dependence.{MayDepend, HasList};
 ghost use Rattle.ped_verdict.specs.Exactness as exactness;
 
-use crate::listing::listed;
+use crate::listing::{has_list, listed};
 use crate::places::place_of;
 use crate::refining::possible_vectors;
 use crate::steps::Steps;
@@ -86,6 +86,14 @@ impl<L: Ledger> Verdict<L> {
         ensures { IfOk result (λ vectors. Spec.AreVectors self.now vectors.items) }
     {
         listed(alloc, &self.view, &self.possible)
+    }
+
+    /// There is a list of all vectors that no position and no group excludes. It does nothing.
+    pub fn has_list(&self)
+        ensures few { length self.now.loops ≤ 6 }
+        ensures list { HasList self.now }
+    {
+        has_list(&self.view, &self.possible)
     }
 
     /// The distance in iterations of the common loop at this level, where the outermost is 1: by the first position

@@ -16,7 +16,7 @@ use Rattle.ped_answer.specs.ped_session.specs.ped_order.specs.ped_eval.specs.Out
 use Rattle.ped_answer.specs.ped_session.specs.ped_order.specs.ped_interleavings.specs.Interleavings.{Standing, at_start, IsInterleavedFrom}
 use Rattle.ped_answer.specs.ped_session.specs.ped_order.proofs.OneReport.{one_at_least}
 use Rattle.ped_answer.specs.ped_session.specs.ped_transformations.specs.ped_script.specs.declared.items.Command.{Command}
-use Rattle.ped_answer.specs.ped_session.specs.ped_transformations.specs.ped_script.specs.declared.items.Command.TheVariants.{Source, Deps, Show, Print, Advise, Replace, Insert, Delete, Interchange, Reverse, Skew, Strip, Peel, Distribute, Fuse, Expand, Privatise, Reduce, Parallel, Serial, Reject, Undo, Redo, Run, Races, Tested}
+use Rattle.ped_answer.specs.ped_session.specs.ped_transformations.specs.ped_script.specs.declared.items.Command.TheVariants.{Source, Deps, Show, Print, Advise, Replace, Insert, Delete, Interchange, Reverse, Skew, Strip, Peel, Distribute, Fuse, Expand, Privatise, Reduce, Parallel, Serial, Reject, Auto, Undo, Redo, Run, Races, Tested}
 use Rattle.ped_answer.specs.ped_session.specs.ped_transformations.specs.ped_script.specs.declared.items.Item.{Item}
 use Rattle.ped_answer.specs.ped_session.specs.declared.changes.Change.TheVariants.{Edit}
 use Rattle.ped_answer.specs.ped_session.specs.declared.replies.Refusal.{Refusal}
@@ -35,7 +35,9 @@ use Rattle.ped_answer.specs.ped_session.specs.ped_transformations.specs.Advice.{
 use Rattle.ped_answer.specs.ped_session.specs.Steps.{Refuses, Shows, ShowsOf, ShowsStatement, Edits, accepted, refused, change_by, Transforms, missing, forbidden, transformed, GoesBack, GoesForward, IsOther, IsStep}
 use Rattle.ped_answer.specs.ped_session.specs.Histories.{IsPrinted, ArePrinted}
 use Rattle.ped_answer.specs.ped_session.specs.Scripts.{Said, said_by, bad_command_said, nothing_said, said_both, AnswersCommand, AnswersItems}
+use Rattle.ped_answer.specs.ped_session.specs.AutoAnswers.{auto_text}
 use Rattle.ped_answer.proofs.ExistenceLaws.Advices.{advice_of}
+use Rattle.ped_answer.proofs.ExistenceLaws.Autos.{auto_or_other, some_auto}
 use Rattle.ped_answer.proofs.ExistenceLaws.Edges.{pane_of_program, pane_of_statement}
 use Rattle.ped_answer.proofs.ExistenceLaws.FirstCauses.{Goes, each_goes}
 use Rattle.ped_answer.proofs.ExistenceLaws.Lowerings.{some_lowered}
@@ -164,45 +166,46 @@ module _ (comes : SomeOutcome) (s : State) (all : ArePrinted s) where
   run_block choices data_bytes t = let o = lowered_outcome comes choices data_bytes t in (block o.0, (o.0, o.1, refl))
 
   -- a command that takes no step
-  others : (c : Command) (data_bytes : List ℕ) → MatchStep (table.step_of c) (Answered (λ reply. λ next. IsOther c data_bytes s reply next)) (λ at. ⊤)
-  others Source d = shows IsSourcePane (λ t. (source_pane t, refl))
-  others (Deps None) d = shows IsDependencePane pane_of_program
-  others (Deps (Some number)) d = shows_statement (λ t. IsDependencePaneOf t (Some number)) (λ t. pane_of_statement t (Some number)) number
-  others Show d = shows ArePanes panes
-  others Print d = record { reply = Shown s.present; next = s; is = (refl, refl); printed = all }
-  others (Replace first last lines) d = edits_where (are_lines s.present first last) (first - 1) (last + 1 - first) (spliced s.present (first - 1) (last + 1 - first) lines)
-  others (Insert after lines) d = edits_where (is_place s.present after) after 0 (spliced s.present after 0 lines)
-  others (Delete first last) d = edits_where (are_lines s.present first last) (first - 1) (last + 1 - first) (spliced s.present (first - 1) (last + 1 - first) [])
-  others Undo d = goes_back s.past all.past
-  others Redo d = goes_forward s.future all.future
-  others (Run choices) d = shows (IsRunBlock choices d) (run_block choices d)
-  others Races d = shows (IsRaceRow d) (race_rows d)
-  others (Advise number) d = shows_statement (λ t. IsAdvice t number) (λ t. advice_of t number) number
-  others (Interchange number) d = tt
-  others (Reverse number) d = tt
-  others (Skew number factor) d = tt
-  others (Strip number size) d = tt
-  others (Peel number last) d = tt
-  others (Distribute number) d = tt
-  others (Fuse number) d = tt
-  others (Expand number name) d = tt
-  others (Privatise number name) d = tt
-  others (Reduce number names) d = tt
-  others (Parallel number) d = tt
-  others (Serial number) d = tt
-  others (Reject number name) d = tt
-  others Tested d = record { reply = Shown (tested_row s.tested); next = s; is = (refl, refl); printed = all }
+  others : (c : Command) → (c ≡ Auto → ⊥) → (data_bytes : List ℕ) → MatchStep (table.step_of c) (Answered (λ reply. λ next. IsOther c data_bytes s reply next)) (λ at. ⊤)
+  others Source other d = shows IsSourcePane (λ t. (source_pane t, refl))
+  others (Deps None) other d = shows IsDependencePane pane_of_program
+  others (Deps (Some number)) other d = shows_statement (λ t. IsDependencePaneOf t (Some number)) (λ t. pane_of_statement t (Some number)) number
+  others Show other d = shows ArePanes panes
+  others Print other d = record { reply = Shown s.present; next = s; is = (refl, refl); printed = all }
+  others (Replace first last lines) other d = edits_where (are_lines s.present first last) (first - 1) (last + 1 - first) (spliced s.present (first - 1) (last + 1 - first) lines)
+  others (Insert after lines) other d = edits_where (is_place s.present after) after 0 (spliced s.present after 0 lines)
+  others (Delete first last) other d = edits_where (are_lines s.present first last) (first - 1) (last + 1 - first) (spliced s.present (first - 1) (last + 1 - first) [])
+  others Undo other d = goes_back s.past all.past
+  others Redo other d = goes_forward s.future all.future
+  others (Run choices) other d = shows (IsRunBlock choices d) (run_block choices d)
+  others Races other d = shows (IsRaceRow d) (race_rows d)
+  others (Advise number) other d = shows_statement (λ t. IsAdvice t number) (λ t. advice_of t number) number
+  others (Interchange number) other d = tt
+  others (Reverse number) other d = tt
+  others (Skew number factor) other d = tt
+  others (Strip number size) other d = tt
+  others (Peel number last) other d = tt
+  others (Distribute number) other d = tt
+  others (Fuse number) other d = tt
+  others (Expand number name) other d = tt
+  others (Privatise number name) other d = tt
+  others (Reduce number names) other d = tt
+  others (Parallel number) other d = tt
+  others (Serial number) other d = tt
+  others (Reject number name) other d = tt
+  others Auto other d = absurd (other refl)
+  others Tested other d = record { reply = Shown (tested_row s.tested); next = s; is = (refl, refl); printed = all }
 
-  pub replies : (c : Command) (data_bytes : List ℕ) → Answered (λ reply. λ next. IsStep c data_bytes s reply next)
-  replies c d = by (table.step_of c) (others c d) (each_goes c)
+  pub replies : (c : Command) → (c ≡ Auto → ⊥) → (data_bytes : List ℕ) → Answered (λ reply. λ next. IsStep c data_bytes s reply next)
+  replies c not_auto d = by (table.step_of c) (others c not_auto d) (each_goes c)
     where
       by : (step : MaybeStep) → MatchStep step (Answered (λ reply. λ next. IsOther c d s reply next)) (λ at. ⊤) → MatchStep step ⊤ (λ at. (t : ProgramTree) → IsValid t → Goes at t)
           → Answered (λ reply. λ next. MatchStep step (IsOther c d s reply next) (λ at. Transforms at s reply next))
       by no_step other goes = other
       by (some_step at) other goes = transforms at goes
 
-  pub step_of : (c : Command) (data_bytes : List ℕ) → (reply : Reply) × (next : State) × IsStep c data_bytes s reply next
-  step_of c d = let a = replies c d in (a.reply, a.next, a.is)
+  pub step_of : (c : Command) → (c ≡ Auto → ⊥) → (data_bytes : List ℕ) → (reply : Reply) × (next : State) × IsStep c data_bytes s reply next
+  step_of c other d = let a = replies c other d in (a.reply, a.next, a.is)
 
 -- what a line answers, and the state behind it
 record Told (A : Said → State → Type 0) : Type 0 where
@@ -213,7 +216,18 @@ record Told (A : Said → State → Type 0) : Type 0 where
 
 tells_command : SomeOutcome → (line : ℕ) (command : Option Command) (data_bytes : List ℕ) (s : State) → ArePrinted s → Told (λ said. λ next. AnswersCommand line command data_bytes s said next)
 tells_command comes line None d s all = record { said = bad_command_said line; next = s; is = (refl, refl); printed = all }
-tells_command comes line (Some c) d s all = let a = replies comes s all c d in record { said = said_by line a.reply a.next; next = a.next; is = (a.reply, a.is, refl); printed = a.printed }
+tells_command comes line (Some c) d s all = by (auto_or_other c)
+  where
+    by : (c ≡ Auto) ⊎ (c ≡ Auto → ⊥) → Told (λ said. λ next. AnswersCommand line (Some c) d s said next)
+    by (inl is) =
+        let a = some_auto s all in
+        record {
+          said = record { bytes = auto_text line a.report a.next.present; refused = false; tests = a.tests };
+          next = a.next;
+          is = inr (is, (record { report = a.report; does = a.does; says = refl }, refl));
+          printed = a.printed;
+        }
+    by (inr other) = let a = replies comes s all c other d in record { said = said_by line a.reply a.next; next = a.next; is = inl (a.reply, a.is, refl); printed = a.printed }
 
 pub answers_of : SomeOutcome → (items : List Item) (data_bytes : List ℕ) (s : State) → ArePrinted s → (said : Said) × (last : State) × AnswersItems items data_bytes s said last
 answers_of comes [] d s all = (nothing_said, s, (refl, refl))

@@ -1,12 +1,13 @@
 //! Replies to commands, and answers to scripts. Each function here does nothing; its contract is the law.
 
-ghost use Rattle.std.specs.Prelude.{ℕ, List, Option};
+ghost use Rattle.std.specs.Prelude.{◌≢◌, ℕ, List, Option};
 ghost use Rattle.ped_answer.specs.ped_io.specs.Outside.{Contents};
 ghost use Rattle.ped_answer.specs.ped_session.specs.ped_tree.specs.Tree.{ProgramTree};
 ghost use Rattle.ped_answer.specs.ped_session.specs.ped_symbols.specs.NameRefusals.{IsValid};
 ghost use Rattle.ped_answer.specs.ped_session.specs.ped_transformations.specs.ped_reduce.specs.Lowering.{Lowered};
 ghost use Rattle.ped_answer.specs.ped_session.specs.ped_transformations.specs.ped_reduce.specs.Reducing.{IsLowered};
 ghost use Rattle.ped_answer.specs.ped_session.specs.ped_transformations.specs.ped_script.specs.declared.items.Command.{Command};
+ghost use Rattle.ped_answer.specs.ped_session.specs.ped_transformations.specs.ped_script.specs.declared.items.Command.TheVariants as commands;
 ghost use Rattle.ped_answer.specs.ped_session.specs.ped_transformations.specs.ped_script.specs.declared.items.Item.{Item};
 ghost use Rattle.ped_answer.specs.ped_session.specs.declared.replies.Reply.{Reply};
 ghost use Rattle.ped_answer.specs.ped_session.specs.States.{State, opened};
@@ -25,10 +26,10 @@ pub fn lowerings_exist()
     ensures { (t : ProgramTree) → (q : Lowered) × IsLowered t q }
 {}
 
-/// Each command has a reply in each state whose sources are printed texts of valid programs, and leads to a state. That it
+/// Each command but `auto`, which is several steps, has a reply in each state whose sources are printed texts of valid programs, and leads to a state. That it
 /// has no second reply says `one_step` of ped_session, and that no script leads to other sources `sources_are_printed`.
 pub fn replies_exist()
-    ensures { (c : Command) (data_bytes : List ℕ) (s : State) → ArePrinted s →
+    ensures { (c : Command) → c ≢ commands.Auto → (data_bytes : List ℕ) (s : State) → ArePrinted s →
         (reply : Reply) × (next : State) × IsStep c data_bytes s reply next }
 {
     an_interleaving();

@@ -79,6 +79,11 @@ returns-in-Ok-clause-causes g c = λ files told before taken whole.
     let o = written g c files told before taken whole in
     (o.0, o.1, c.refusals_have_causes.ensures _ files c.serve.result o.0 whole o.2)
 
+pub returns-in-Ok-clause-parallelised : goal.returns-in-Ok-clause-parallelised
+returns-in-Ok-clause-parallelised g c = λ files told before taken whole.
+    let o = written g c files told before taken whole in
+    (o.0, o.1, c.auto_is_told.ensures _ files c.serve.result o.0 whole o.2)
+
 pub returns-in-Ok-clause-counts : goal.returns-in-Ok-clause-counts
 returns-in-Ok-clause-counts g c = (served g c).rises
 

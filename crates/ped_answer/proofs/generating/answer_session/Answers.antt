@@ -1,4 +1,4 @@
-use Rattle.std.proofs.Common.{ℕ, sym, subst}
+use Rattle.std.proofs.Common.{sym, subst}
 use Rattle.ped_answer.specs.declared.answering.Status.TheVariants.{Done}
 use Rattle.ped_answer.specs.Answer.{IsJust}
 use Rattle.ped_answer.specs.Generated.{Reports}

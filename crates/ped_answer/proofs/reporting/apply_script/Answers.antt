@@ -1,10 +1,16 @@
 use Rattle.std.proofs.Common.{List, ◌∙◌, ap, sym, subst, IfOk}
+use Rattle.std.specs.List.{AllByRecursion}
 use Rattle.ped_session.specs.ped_transformations.specs.ped_script.specs.Items.{commands_of}
 use Rattle.ped_session.specs.ped_transformations.specs.ped_script.specs.declared.items.Item.{Item}
 use Rattle.ped_answer.specs.declared.tallies.Tally as code
 use Rattle.ped_answer.specs.Generated.{Applies}
-use Rattle.ped_answer.specs.Tallies.{first_count, Counts}
+use Rattle.ped_answer.specs.Tallies.{IsNoAuto, first_count, Counts}
+use Rattle.ped_answer.proofs.MadeScripts.{no_auto}
 use Rattle.ped_answer.proofs.reporting.apply_script.Goals as goal
+
+pub apply_items-requires : goal.apply_items-requires
+apply_items-requires g c =
+    subst (AllByRecursion IsNoAuto) (sym (c.as_slice-2.ensures ∙ c.in_ok-items.ensures ∙ ap commands_of (c.as_slice.ensures ∙ c.in_ok-script.ensures))) (no_auto c.args.size)
 
 pub returns-clause-applies : goal.returns-clause-applies
 returns-clause-applies g c =

@@ -1,12 +1,16 @@
-use Rattle.std.proofs.Common.{◌≡◌, ◌∙◌, ◌+◌, ◌≤◌, ℕ, List, refl, ap, sym, subst, arith, Option, take}
+use Rattle.std.proofs.Common.{◌≡◌, ◌∙◌, ◌+◌, ◌≤◌, refl, ap, sym, subst, arith, Option, take}
 use Rattle.ped_session.specs.ped_transformations.specs.ped_script.specs.declared.items.Command.{Command}
 use Rattle.ped_session.specs.States.{State}
 use Rattle.ped_answer.specs.declared.tallies.Tally as code
 use Rattle.ped_answer.specs.Generated.{Tally, tally_both, bad_command_tally, AppliesCommand, Applies}
 use Rattle.ped_answer.specs.Tallies.{first_count, counted}
-use Rattle.ped_answer.proofs.Tallying.{one_applies, item_within, items_more, items_all, counted_both, counted_bad}
+use Rattle.ped_answer.proofs.Tallying.{one_applies, item_within, items_more, item_no_auto, items_all, counted_both, counted_bad}
 use Rattle.ped_answer.proofs.tallies.apply_items.Goals.{in-Some+in_ok-apply_command-in-Some, in-None}
 use Rattle.ped_answer.proofs.tallies.apply_items.Goals as goal
+
+pub apply_command-requires-clause-other : goal.apply_command-requires-clause-other
+apply_command-requires-clause-other g c =
+    item_no_auto c.args.items.now c.loop-item.item-index c.item-item.result _ c.requires (let h = c.loop-item-test.true in omega (arith, h)) c.item-item.is c.in-Some.is
 
 pub returns-in_err-apply_command-in-Some-clause-most :
     goal.returns-in_err-apply_command-in-Some-clause-most

@@ -1,14 +1,24 @@
-use Rattle.std.proofs.Common.{◌∙◌, ap, refl, List, ◌++◌, ℕ, Bool, ◌||◌}
-use Rattle.ped_session.specs.Scripts.{said_by}
-use Rattle.ped_session.proofs.Answering.{same_answered}
+use Rattle.std.proofs.Common.{◌≡◌, ◌⊎◌, inl, inr, ℕ, ◌+◌, ◌≤◌, List, Option, Some, refl, sym, subst, arith}
+use Rattle.std.proofs.lemmas.Result.{on_ok_weaker}
+use Rattle.ped_session.specs.ped_transformations.specs.ped_script.specs.declared.items.Command.{Command}
+use Rattle.ped_session.specs.States.{State}
+use Rattle.ped_session.specs.Scripts.{Said, AnswersReply, SaysAuto, AnswersCommand}
+use Rattle.ped_session.proofs.Answering.{adds_further}
+use Rattle.ped_session.proofs.OneAnswer.{not_auto}
 use Rattle.ped_session.proofs.answers.answer_command.Goals as goal
 
-pub returns-clause-answers : goal.returns-clause-answers
-returns-clause-answers g c = record {
-  said = said_by c.args.line c.in_ok-reply.reply _;
-  is = (c.in_ok-reply.reply, c.in_ok-reply.ensures.answers, refl);
-  adds = same_answered
-      (c.in_ok-extend_from_slice.ensures.ok ∙ ap (λ (t : List ℕ). c.args.answered.now.bytes ++ t) (c.as_slice.ensures ∙ c.in_ok-text.ensures))
-      (ap (λ (r : Bool). c.args.answered.now.refused || r) c.is_refused.ensures);
-  ticks = c.in_ok-reply.ensures.ticks;
-}
+pub returns-in-Auto-clause-answers : goal.returns-in-Auto-clause-answers
+returns-in-Auto-clause-answers g c =
+    on_ok_weaker c.answer_auto.result (λ h. adds_further _ _ _ _ _ _ (λ said is. inr (c.in-Auto.is, is)) h) c.answer_auto.ensures.answers
+
+pub returns-in-Auto-clause-most : goal.returns-in-Auto-clause-most
+returns-in-Auto-clause-most g c said next (inl h) = absurd (not_auto c.args.command.now c.args.input.now c.args.session.now next h.0 c.in-Auto.is h.1)
+returns-in-Auto-clause-most g c said next (inr (is, h)) = c.answer_auto.ensures.most said next h
+
+pub returns-in_default-clause-answers : goal.returns-in_default-clause-answers
+returns-in_default-clause-answers g c =
+    on_ok_weaker c.answer_reply.result (λ h. adds_further _ _ _ _ _ _ (λ said is. inl is) h) c.answer_reply.ensures.answers
+
+pub returns-in_default-clause-most : goal.returns-in_default-clause-most
+returns-in_default-clause-most g c said next (inl h) = c.answer_reply.ensures.most said next h
+returns-in_default-clause-most g c said next (inr (is, h)) = absurd (c.in_default.not-Auto is)

@@ -25,9 +25,10 @@ unreachable-requires g c =
       not_replace = c.in_default.not-Replace;
       not_insert = c.in_default.not-Insert;
       not_delete = c.in_default.not-Delete;
+      not_auto = c.requires.other;
       not_undo = c.in_default.not-Undo;
       not_redo = c.in_default.not-Redo;
       not_run = c.in_default.not-Run;
       not_races = c.in_default.not-Races;
       not_tested = c.in_default.not-Tested;
-    }) c.requires
+    }) c.requires.place

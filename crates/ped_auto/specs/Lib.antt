@@ -1,0 +1,10 @@
+pub use Rattle.ped_script
+pub use Rattle.ped_reduce
+pub mod CarriedNames
+pub mod CodeReports
+pub mod CodeStages
+pub mod CutOff
+pub mod Editing
+pub mod Replay
+pub mod SerialLoops
+pub mod Strategy

@@ -1,0 +1,16 @@
+//! `auto`: one command that parallelises the present program by accepted steps, and says why each DO that is left
+//! stays serial. It works over any editor (`Editor`), of which it knows no more than how its state reads as a program
+//! and what it makes of commands; the strategy is one definition over that (`IsAuto`).
+#![tactic(auto)]
+
+mod editor;
+mod laws;
+mod report;
+mod strategy;
+
+pub use editor::Editor;
+pub use laws::{accepted_are_commands, auto_replays, one_auto};
+pub use ped_reduce;
+pub use ped_script;
+pub use report::AutoReport;
+pub use strategy::auto;

@@ -1,0 +1,14 @@
+//! What `auto` reports.
+
+use ped_base::Listed;
+use ped_reduce::ped_splits::ped_reindex::ped_loops::ped_scalar::ped_rules::ped_loop_runs::ped_bodies::ped_steps::Refused;
+use ped_script::Command;
+
+/// What `auto` has done, and what is left.
+#[derive(Drop)]
+pub struct AutoReport {
+    /// The accepted commands in their order, as a script that does the same.
+    pub accepted: Listed<Command>,
+    /// The number of each DO that isn't a PARALLEL DO in the end, in text order, with the first cause against `parallel`.
+    pub left: Listed<(u32, Refused)>,
+}

@@ -1,0 +1,28 @@
+-- A session as the editor of `auto`: its present program, the commands that it accepts, and those that it refuses (ParaScope; this project).
+use Rattle.std.specs.Prelude.{◌≡◌}
+use Rattle.ped_valid.specs.Validity.{ReadsValid}
+use Rattle.ped_transformations.specs.ped_reindex.specs.ped_loops.specs.ped_scalar.specs.ped_rules.specs.Steps.{transformation, StepAt, MatchStep}
+use Rattle.ped_transformations.specs.ped_auto.specs.Editing.{Editing}
+use Rattle.ped_transformations.specs.Table.{step_of}
+use Rattle.ped_session.specs.ped_transformations.specs.ped_script.specs.declared.items.Command.{Command}
+use Rattle.ped_session.specs.declared.replies.Refusal.TheVariants.{Step}
+use Rattle.ped_session.specs.declared.replies.Reply.{Reply}
+use Rattle.ped_session.specs.declared.replies.Reply.TheVariants.{Changed, Refused}
+use Rattle.ped_session.specs.States.{State}
+use Rattle.ped_session.specs.Steps.{Transforms}
+
+-- the step is a transformation, and leads with this reply to this state (ParaScope)
+abbrev pub TransformsTo : State → Reply → State → StepAt → Type 0
+TransformsTo s reply next at = (at.kind ≡ transformation) × Transforms at s reply next
+
+-- the command is a transformation, and leads with this reply to this state (ParaScope)
+abbrev pub TakesStep : Command → State → Reply → State → Type 0
+TakesStep command s reply next = MatchStep (step_of command) ⊥ (TransformsTo s reply next)
+
+-- a session as an editor: what its present source reads as; a transformation that is accepted, with the pairs that it tests; and one that is refused, with its first cause (ParaScope; this project)
+abbrev pub session_editing : Editing State
+session_editing = record {
+  Reads = λ s t. ReadsValid s.present t;
+  Accepts = λ s command next tests. TakesStep command s Changed next × (tests ≡ next.tested);
+  Refuses = λ s command why. TakesStep command s (Refused (Step why)) s;
+}

@@ -1,0 +1,114 @@
+//! A session as the editor of `auto`: what it tells of its present program, and steps that it takes by itself.
+
+ghost use Rattle.std.specs.Prelude.{◌≡◌};
+ghost use Rattle.ped_session.specs.ped_tree.specs.Tree.{ProgramTree};
+ghost use Rattle.ped_session.specs.ped_tree.specs.Views.{program_tree};
+ghost use Rattle.ped_valid.specs.ped_symbols.specs.Kinds.{table_of};
+ghost use Rattle.ped_valid.specs.ped_symbols.specs.RightUses.RightUses as uses;
+ghost use Rattle.ped_transformations.specs.ped_reindex.specs.ped_loops.specs.ped_scalar.specs.Scalars as Scalars;
+ghost use Rattle.ped_transformations.specs.ped_auto.specs.SerialLoops as Loops;
+ghost use Rattle.ped_session.specs.CodeStepReplies.{IsOfStep, Says};
+
+use crate::carrying::carried_names;
+use crate::ped_base::{Name, NoMemory};
+use crate::ped_graph::ped_refs::RefName;
+use crate::ped_graph::ped_symbols::{Kind, Symbols};
+use crate::ped_graph::ped_verdict::Steps;
+use crate::ped_script::Command;
+use crate::ped_tree::Program;
+use crate::replies::{Refusal, Reply};
+use crate::session::Session;
+use ped_transformations::ped_auto::Editor;
+use ped_transformations::ped_reindex::ped_loops::ped_scalar::ped_rules::ped_loop_runs::ped_bodies::ped_steps::{
+    Refused, loop_at,
+};
+use ped_transformations::place_of;
+use std::alloc::Global;
+use std::sync::ledger::Ledger;
+
+impl<L: Ledger> Editor<L> for Session<L> {
+    ghost use Rattle.ped_session.specs.AutoEditing.{session_editing};
+    ghost use Rattle.ped_session.specs.AutoEditingLaws.{session_laws};
+
+    ghost editing = { session_editing };
+
+    ghost laws = { session_laws };
+
+    fn count(&self) -> u32 {
+        self.present.program.count()
+    }
+
+    fn is_serial_loop(&self, number: u32) -> bool {
+        is_serial_at(&self.present.program, number)
+    }
+
+    fn carried(&self, alloc: Global, number: u32) -> Result<Vec<RefName>, NoMemory> {
+        carried_names(alloc, &self.present.program, &self.graph, number)
+    }
+
+    fn is_scalar(&self, name: &Name) -> bool {
+        is_scalar_of(&self.present.symbols, name)
+    }
+
+    fn step(
+        &mut self,
+        alloc: Global,
+        command: &Command,
+        steps: &mut Steps<L>,
+    ) -> Result<Option<Refused>, NoMemory> {
+        match place_of(command) {
+            Some(place) => {
+                let reply = self.transform(alloc, command, place, steps)?;
+                return Ok(refused_by(reply));
+            }
+            None => unreachable!(),
+        }
+    }
+}
+
+/// Whether the statement with this number is a DO and no PARALLEL DO.
+fn is_serial_at(program: &Program, number: u32) -> bool
+    ensures { result ≡ Loops.is_serial_loop (program_tree program.now) number }
+{
+    match loop_at(program, number) {
+        Some(d) => {
+            return !d.parallel;
+        }
+        None => {
+            return false;
+        }
+    }
+}
+
+/// Whether the name is that of a scalar variable of the program with these names.
+fn is_scalar_of(symbols: &Symbols, name: &Name) -> bool
+    ensures { (t : ProgramTree) → symbols.now ≡ table_of t → result ≡ Scalars.is_scalar t name.now }
+{
+    is_scalar_kind(symbols.kind(name))
+}
+
+fn is_scalar_kind(kind: Option<Kind>) -> bool
+    ensures { result ≡ uses.is_scalar_kind kind }
+{
+    match kind {
+        Some(Kind::Scalar) => true,
+        Some(Kind::Array(_)) => false,
+        Some(Kind::Constant(_)) => false,
+        None => false,
+    }
+}
+
+/// The cause for which a step is refused, none where it is accepted.
+fn refused_by(reply: Reply) -> Option<Refused>
+    requires { IsOfStep reply }
+    ensures { Says reply result }
+{
+    match reply {
+        Reply::Changed => return None,
+        Reply::Refused(Refusal::Step(cause)) => {
+            let why = cause.take();
+            return Some(why);
+        }
+        _ => unreachable!(),
+    }
+}

@@ -1,5 +1,5 @@
 -- What `auto` tells in an answer.
-use Rattle.std.proofs.Common.{inl, inr, ℕ, List, [], ◌∷◌, Option, Some, None, subst}
+use Rattle.std.proofs.Common.{◌≡◌, inl, inr, ℕ, List, [], ◌∷◌, Option, Some, None, subst}
 use Rattle.std.specs.List.{AllByRecursion}
 use Rattle.ped_io.specs.Outside.{Contents}
 use Rattle.ped_words.specs.Requests.{Request, show, session, generate}
@@ -7,12 +7,15 @@ use Rattle.ped_session.specs.ped_tree.specs.Tree.{ProgramTree}
 use Rattle.ped_session.specs.ped_valid.specs.Validity.{ReadsValid}
 use Rattle.ped_session.specs.ped_transformations.specs.ped_reindex.specs.ped_loops.specs.Paralleling.{paralleling}
 use Rattle.ped_session.specs.ped_transformations.specs.ped_reindex.specs.ped_loops.specs.ped_scalar.specs.ped_rules.specs.ped_loop_runs.specs.ped_bodies.specs.ped_steps.specs.Causes.{Cause}
+use Rattle.ped_session.specs.ped_transformations.specs.ped_auto.specs.Strategy.{Report, IsAuto}
+use Rattle.ped_session.specs.ped_transformations.specs.ped_script.specs.Items.{commands_of}
 use Rattle.ped_session.specs.ped_transformations.specs.ped_script.specs.declared.items.Command.TheVariants.{Source, Deps, Show, Print, Advise, Replace, Insert, Delete, Interchange, Reverse, Skew, Strip, Peel, Distribute, Fuse, Expand, Privatise, Reduce, Parallel, Serial, Reject, Auto, Undo, Redo, Run, Races, Tested}
 use Rattle.ped_session.specs.declared.replies.Refusal.TheVariants.{Step}
 use Rattle.ped_session.specs.declared.replies.Reply.TheVariants.{Refused}
 use Rattle.ped_session.specs.States.{State}
-use Rattle.ped_session.specs.AutoEditing.{TakesStep}
+use Rattle.ped_session.specs.AutoEditing.{TakesStep, session_editing}
 use Rattle.ped_session.specs.AutoEditingLaws.{one_program, refused_for}
+use Rattle.ped_session.specs.AutoScripts.{script_of, items_on}
 use Rattle.ped_session.specs.Scripts.{Said, SaysAuto, AnswersCommand}
 use Rattle.ped_session.proofs.AutoSteps.{auto_steps, accepts_all, auto_comes}
 use Rattle.ped_answer.specs.declared.answering.Status.{Status}
@@ -34,13 +37,18 @@ all_left_for : (s : State) (t : ProgramTree) → ReadsValid s.present t → (lef
 all_left_for s t reads [] h = tt
 all_left_for s t reads (l ∷ left) h = (left_for s t reads l.0 l.1 h.0, all_left_for s t reads left h.1)
 
-auto_told : (line : ℕ) (s next : State) (said : Said) → SaysAuto line s said next → Parallelises line s said.bytes next
-auto_told line s next said h =
+-- the steps of `auto` are read from the script of them
+abbrev pub ReadsBack : Type 0
+ReadsBack = (s last : State) (report : Report) (tests : ℕ) → IsAuto session_editing s report last tests → commands_of (script_of report.accepted) ≡ items_on 1 report.accepted
+
+auto_told : ReadsBack → (line : ℕ) (s next : State) (said : Said) → SaysAuto line s said next → Parallelises line s said.bytes next
+auto_told back line s next said h =
     let r = h.0.report in
     let does = h.0.does in
     record {
       accepted = r.accepted;
       accepts = accepts_all r.accepted s next said.tests (auto_steps s next r said.tests does);
+      script = back s next r said.tests does;
       comes = auto_comes s next r said.tests does;
       tree = does.left.program;
       reads = does.left.reads;
@@ -49,43 +57,43 @@ auto_told line s next said h =
       says = h.0.says;
     }
 
-by_auto : (line : ℕ) (d : List ℕ) (s next : State) (said : Said) → AnswersCommand line (Some Auto) d s said next → ParallelisesBy line (Some Auto) d s said next
-by_auto line d s next said (inl h) = absurd h.1
-by_auto line d s next said (inr (is, h)) = auto_told line s next said h
+by_auto : ReadsBack → (line : ℕ) (d : List ℕ) (s next : State) (said : Said) → AnswersCommand line (Some Auto) d s said next → ParallelisesBy line (Some Auto) d s said next
+by_auto back line d s next said (inl h) = absurd h.1
+by_auto back line d s next said (inr (is, h)) = auto_told back line s next said h
 
-each_told : SoOfValid ParallelisesBy
-each_told d t valid line None s next said came h = tt
-each_told d t valid line (Some Auto) s next said came h = by_auto line d s next said h
-each_told d t valid line (Some Source) s next said came h = tt
-each_told d t valid line (Some (Deps of)) s next said came h = tt
-each_told d t valid line (Some Show) s next said came h = tt
-each_told d t valid line (Some Print) s next said came h = tt
-each_told d t valid line (Some (Advise number)) s next said came h = tt
-each_told d t valid line (Some (Replace first last lines)) s next said came h = tt
-each_told d t valid line (Some (Insert after lines)) s next said came h = tt
-each_told d t valid line (Some (Delete first last)) s next said came h = tt
-each_told d t valid line (Some (Interchange number)) s next said came h = tt
-each_told d t valid line (Some (Reverse number)) s next said came h = tt
-each_told d t valid line (Some (Skew number factor)) s next said came h = tt
-each_told d t valid line (Some (Strip number size)) s next said came h = tt
-each_told d t valid line (Some (Peel number last)) s next said came h = tt
-each_told d t valid line (Some (Distribute number)) s next said came h = tt
-each_told d t valid line (Some (Fuse number)) s next said came h = tt
-each_told d t valid line (Some (Expand number name)) s next said came h = tt
-each_told d t valid line (Some (Privatise number name)) s next said came h = tt
-each_told d t valid line (Some (Reduce number names)) s next said came h = tt
-each_told d t valid line (Some (Parallel number)) s next said came h = tt
-each_told d t valid line (Some (Serial number)) s next said came h = tt
-each_told d t valid line (Some (Reject number name)) s next said came h = tt
-each_told d t valid line (Some Undo) s next said came h = tt
-each_told d t valid line (Some Redo) s next said came h = tt
-each_told d t valid line (Some (Run choices)) s next said came h = tt
-each_told d t valid line (Some Races) s next said came h = tt
-each_told d t valid line (Some Tested) s next said came h = tt
+each_told : ReadsBack → SoOfValid ParallelisesBy
+each_told back d t valid line None s next said came h = tt
+each_told back d t valid line (Some Auto) s next said came h = by_auto back line d s next said h
+each_told back d t valid line (Some Source) s next said came h = tt
+each_told back d t valid line (Some (Deps of)) s next said came h = tt
+each_told back d t valid line (Some Show) s next said came h = tt
+each_told back d t valid line (Some Print) s next said came h = tt
+each_told back d t valid line (Some (Advise number)) s next said came h = tt
+each_told back d t valid line (Some (Replace first last lines)) s next said came h = tt
+each_told back d t valid line (Some (Insert after lines)) s next said came h = tt
+each_told back d t valid line (Some (Delete first last)) s next said came h = tt
+each_told back d t valid line (Some (Interchange number)) s next said came h = tt
+each_told back d t valid line (Some (Reverse number)) s next said came h = tt
+each_told back d t valid line (Some (Skew number factor)) s next said came h = tt
+each_told back d t valid line (Some (Strip number size)) s next said came h = tt
+each_told back d t valid line (Some (Peel number last)) s next said came h = tt
+each_told back d t valid line (Some (Distribute number)) s next said came h = tt
+each_told back d t valid line (Some (Fuse number)) s next said came h = tt
+each_told back d t valid line (Some (Expand number name)) s next said came h = tt
+each_told back d t valid line (Some (Privatise number name)) s next said came h = tt
+each_told back d t valid line (Some (Reduce number names)) s next said came h = tt
+each_told back d t valid line (Some (Parallel number)) s next said came h = tt
+each_told back d t valid line (Some (Serial number)) s next said came h = tt
+each_told back d t valid line (Some (Reject number name)) s next said came h = tt
+each_told back d t valid line (Some Undo) s next said came h = tt
+each_told back d t valid line (Some Redo) s next said came h = tt
+each_told back d t valid line (Some (Run choices)) s next said came h = tt
+each_told back d t valid line (Some Races) s next said came h = tt
+each_told back d t valid line (Some Tested) s next said came h = tt
 
 -- what `auto` tells in an answer
-pub request_auto : (request : Option Request) (files : Contents) (s : Status) (b : List ℕ) → IsWhole s → Answers request files s b → AutoRequest request files b
-request_auto None files s b whole h = tt
-request_auto (Some (show program)) files s b whole h = tt
-request_auto (Some (session program script data_file)) files s b whole h = session_each ParallelisesBy each_told program script data_file files s b whole h
-request_auto (Some (generate number)) files s b whole h = tt
+pub request_auto : ReadsBack → (request : Option Request) (files : Contents) (s : Status) (b : List ℕ) → IsWhole s → Answers request files s b → AutoRequest request files b
+request_auto back None files s b whole h = tt
+request_auto back (Some (show program)) files s b whole h = tt
+request_auto back (Some (session program script data_file)) files s b whole h = session_each ParallelisesBy (each_told back) program script data_file files s b whole h
+request_auto back (Some (generate number)) files s b whole h = tt

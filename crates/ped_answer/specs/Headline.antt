@@ -29,6 +29,7 @@ use Rattle.ped_session.specs.Panes.{IsSourcePane, ArePanes}
 use Rattle.ped_session.specs.Replies.{answer_row, bad_command_row, reply_text}
 use Rattle.ped_session.specs.Steps.{IsMove}
 use Rattle.ped_session.specs.AutoAnswers.{auto_text, AcceptsAll}
+use Rattle.ped_session.specs.AutoScripts.{script_of, items_on}
 use Rattle.ped_session.specs.Scripts.{Said, nothing_said, said_both, AnswersItem}
 use Rattle.ped_session.specs.Meanings.{IsMeaningKept, ComesFrom}
 use Rattle.ped_session.specs.RunsAsBefore.{RunsAsBefore}
@@ -227,10 +228,11 @@ pub record AreLeft (t : ProgramTree) (left : List (ℕ × Cause)) : Type 0 where
   pub loops : map (λ l. l.0) left ≡ serial_loops t
   pub causes : AllByRecursion (λ l. Forbids (Parallel l.0) t l.1 × (paralleling l.0).IsCause t (Some l.1)) left
 
--- `auto` tells accepted steps, which lead one behind another from the state before it to the one behind it, as they do in a script; then the DOs that aren't PARALLEL DOs in its program, each with its first cause; and the source, which has come from the former one by transformations alone (ParaScope; this project)
+-- `auto` tells accepted steps, which lead one behind another from the state before it to the one behind it, and which a script of the told lines is read as; then the DOs that aren't PARALLEL DOs in its program, each with its first cause; and the source, which has come from the former one by transformations alone (ParaScope; this project)
 pub record Parallelises (line : ℕ) (s : State) (bytes : List ℕ) (next : State) : Type 0 where
   pub accepted : List Command
   pub accepts : AcceptsAll accepted s next
+  pub script : commands_of (script_of accepted) ≡ items_on 1 accepted
   pub comes : ComesFrom next.present next.past s.present
   pub tree : ProgramTree
   pub reads : ReadsValid next.present tree

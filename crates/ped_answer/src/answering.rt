@@ -159,7 +159,7 @@ pub fn ped_main<F: Shelf, K: Sink, L: Ledger>(
     history_is_kept();
     runs_are_as_before();
     refusals_have_causes();
-    auto_is_told();
+    auto_is_told::<L>();
     match request(alloc, words) {
         Ok(asked) => serve(alloc, asked, shelf, out, steps),
         Err(WordsError::Bad) => finish(out, USAGE, Status::BadWords),

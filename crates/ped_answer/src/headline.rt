@@ -8,6 +8,8 @@ ghost use Rattle.ped_answer.specs.declared.answering.Status.{Status};
 ghost use Rattle.ped_answer.specs.Answer.{IsWhole, Answers};
 ghost use Rattle.ped_answer.specs.Headline.{PanesRequest, HistoryRequest, RunsRequest, CausesRequest, AutoRequest};
 
+use std::sync::ledger::Ledger;
+
 /// In each answer to `show`, and in each to a session at each `source`, `deps`, `deps S` and `show`, the panes are those
 /// that come of reading the printed text of the present program afresh, whatever was done before.
 pub fn panes_are_afresh()
@@ -42,8 +44,11 @@ pub fn runs_are_as_before()
 }
 
 /// In each answer to a session each `auto` tells steps that lead, one behind another, to its source, which has come from the
-/// former one by transformations alone, and the first cause against `parallel` at each DO that is left.
-pub fn auto_is_told()
+/// former one by transformations alone; its lines are a script that is read as these steps; and it tells the first cause
+/// against `parallel` at each DO that is left.
+pub fn auto_is_told<L: Ledger>()
     ensures { (request : Option plain.Request) (files : Contents) (s : Status) (bytes : List ℕ) → IsWhole s →
         Answers request files s bytes → AutoRequest request files bytes }
-{}
+{
+    ped_session::auto_is_a_script::<L>();
+}

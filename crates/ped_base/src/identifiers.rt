@@ -6,11 +6,12 @@ ghost use Rattle.ped_base.specs.Letters as Spec;
 ghost use Rattle.ped_base.specs.Lists as Lists;
 
 use crate::listing::Listed;
+use std::hash::{Hash, Hasher};
 use std::marker::Model;
 
 /// A name of 1 to 31 capital letters and digits, a letter first (ANSI X3.9-1978, section 2.2, allows
 /// six characters; the room for more is for the profile's longer names). Contracts see its bytes.
-#[derive(Clone, Copy, PartialEq, Eq, Hash)]
+#[derive(Clone, Copy, PartialEq, Eq)]
 pub struct Name {
     len: u8,
     text: [u8; 31],
@@ -30,6 +31,19 @@ impl Model for Name {
     ghost inverse = { inside };
 
     ghost inverse_ok = { inside_back };
+}
+
+/// The bytes go to a hasher at once: a write for each of them would take most of the time that a table of names takes.
+impl Hash for Name {
+    ghost use Rattle.ped_base.specs.NameHashes.{name_writes, names_hash_alike};
+
+    ghost hash_input = { name_writes };
+
+    ghost respects_eq = { names_hash_alike };
+
+    fn hash<H: Hasher>(&self, state: &mut H) {
+        state.write(self.as_bytes());
+    }
 }
 
 /// Names in an order.

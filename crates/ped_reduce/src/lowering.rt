@@ -9,8 +9,6 @@ ghost use Rattle.ped_splits.specs.ped_reindex.specs.ped_loops.specs.ped_scalar.s
 ghost use Rattle.ped_splits.specs.ped_reindex.specs.ped_loops.specs.ped_scalar.specs.ped_rules.specs.ped_loop_runs.specs.ped_bodies.specs.ped_steps.specs.ped_symbols.specs.NameRefusals.{IsValid};
 ghost use Rattle.ped_splits.specs.ped_reindex.specs.ped_loops.specs.ped_scalar.specs.ped_rules.specs.ped_loop_runs.specs.ped_bodies.specs.ped_steps.specs.ped_flow.specs.Questions.{IsLoop};
 ghost use Rattle.ped_splits.specs.ped_reindex.specs.ped_loops.specs.ped_scalar.specs.ped_rules.specs.CodeSpans.{span_in, IsNear};
-ghost use Rattle.ped_splits.specs.ped_reindex.specs.ped_loops.specs.ped_scalar.specs.ped_rules.specs.ped_loop_runs.specs.ped_bodies.specs.ped_steps.specs.ped_refs.specs.Occurrences.{references_of};
-ghost use Rattle.ped_splits.specs.ped_reindex.specs.ped_loops.specs.ped_scalar.specs.ped_rules.specs.ped_loop_runs.specs.ped_bodies.specs.ped_steps.specs.ped_refs.specs.References.{references};
 ghost use Rattle.ped_reduce.specs.Lowering as Lowering;
 ghost use Rattle.ped_reduce.specs.Reducing as Spec;
 ghost use Rattle.ped_reduce.specs.CodeLowering.{partials_view};
@@ -23,9 +21,6 @@ use crate::partials::{Partials, declare, partials_of};
 use crate::rules::{early, late};
 use crate::summing::lowered_loop;
 use ped_base::{Name, NoMemory};
-use ped_splits::ped_reindex::ped_loops::ped_scalar::ped_rules::ped_loop_runs::ped_bodies::ped_steps::ped_weaves::ped_laws::ped_graph::ped_refs::{
-    Occurrence, occurrences,
-};
 use ped_splits::ped_reindex::ped_loops::ped_scalar::ped_rules::ped_loop_runs::ped_bodies::ped_steps::ped_weaves::ped_laws::ped_graph::ped_symbols::Symbols;
 use ped_splits::ped_reindex::ped_loops::ped_scalar::ped_rules::ped_loop_runs::ped_bodies::ped_steps::{
     Scene, body_with, copy_decls, loop_at, loops_round, valid_symbols,
@@ -74,10 +69,9 @@ pub(crate) fn lower_front<L: Ledger>(
     ensures lowers { IfOk result (λ l. Spec.Lowers (program_tree scene.now.tree.now) (range_with_len 1 last) (Lowering.not_lowered (program_tree scene.now.tree.now)) (lowered_view l)) }
     ensures kept { IfOk result (IsKept last) }
 {
-    let found = occurrences(alloc, scene.tree)?;
     let mut lowered = not_lowered(alloc, scene)?;
     for before in 0..last {
-        lower_at(alloc, scene, &found, before + 1, &mut lowered)?;
+        lower_at(alloc, scene, before + 1, &mut lowered)?;
     }
     Ok(lowered)
 }
@@ -127,18 +121,16 @@ fn copy_of(alloc: Global, program: &Program) -> Result<Program, NoMemory>
 fn lower_at<L: Ledger>(
     alloc: Global,
     scene: &Scene<L>,
-    found: &[Occurrence],
     number: u32,
     lowered: &mut Lowered,
 ) -> Result<(), NoMemory>
     requires scene { IsSceneOf (program_tree scene.now.tree.now) scene.now }
     requires kept { IsKept (number - 1) lowered.old }
     requires inside { number ≤ statements_count (program_tree scene.now.tree.now).body }
-    requires all { references_of found.now ≡ references (program_tree scene.now.tree.now) }
     ensures lowers { OnOk result (Spec.LowersOne (program_tree scene.now.tree.now) number (lowered_view lowered.old) (lowered_view lowered.new)) }
     ensures kept { OnOk result (IsKept number lowered.new) }
 {
-    match lowered_at(alloc, scene, found, number, lowered) {
+    match lowered_at(alloc, scene, number, lowered) {
         Ok(Some(new)) => {
             *lowered = new;
             return Ok(());
@@ -156,19 +148,17 @@ fn lower_at<L: Ledger>(
 fn lowered_at<L: Ledger>(
     alloc: Global,
     scene: &Scene<L>,
-    found: &[Occurrence],
     number: u32,
     lowered: &Lowered,
 ) -> Result<Option<Lowered>, NoMemory>
     requires scene { IsSceneOf (program_tree scene.now.tree.now) scene.now }
     requires kept { IsKept (number - 1) lowered.now }
     requires inside { number ≤ statements_count (program_tree scene.now.tree.now).body }
-    requires all { references_of found.now ≡ references (program_tree scene.now.tree.now) }
     ensures { IfOk result (IsLiveAt (program_tree scene.now.tree.now) number lowered.now) }
 {
     match loop_at(scene.tree, number) {
         Some(d) => {
-            return lowered_in(alloc, scene, found, number, d, lowered);
+            return lowered_in(alloc, scene, number, d, lowered);
         }
         None => {
             return Ok(None);
@@ -180,7 +170,6 @@ fn lowered_at<L: Ledger>(
 fn lowered_in<L: Ledger>(
     alloc: Global,
     scene: &Scene<L>,
-    found: &[Occurrence],
     number: u32,
     d: &Do,
     lowered: &Lowered,
@@ -189,7 +178,6 @@ fn lowered_in<L: Ledger>(
     requires kept { IsKept (number - 1) lowered.now }
     requires inside { number ≤ statements_count (program_tree scene.now.tree.now).body }
     requires is { IsLoop (program_tree scene.now.tree.now) number (head_of d.now) (stmt_trees d.now.body.items) }
-    requires all { references_of found.now ≡ references (program_tree scene.now.tree.now) }
     ensures { IfOk result (IsLiveAt (program_tree scene.now.tree.now) number lowered.now) }
 {
     let names = list_of(alloc, &d.body)?;
@@ -202,7 +190,7 @@ fn lowered_in<L: Ledger>(
     if is_in_live(alloc, scene.tree, lowered, number)? {
         return Ok(None);
     }
-    if !is_free(alloc, scene, found, number, d, &names)? {
+    if !is_free(alloc, scene, number, d, &names)? {
         return Ok(None);
     }
     lowered_with(alloc, lowered, number, &names)
@@ -231,20 +219,18 @@ pub(crate) fn is_in_live(
 fn is_free<L: Ledger>(
     alloc: Global,
     scene: &Scene<L>,
-    found: &[Occurrence],
     number: u32,
     d: &Do,
     names: &[Name],
 ) -> Result<bool, NoMemory>
     requires scene { IsSceneOf (program_tree scene.now.tree.now) scene.now }
     requires is { IsLoop (program_tree scene.now.tree.now) number (head_of d.now) (stmt_trees d.now.body.items) }
-    requires all { references_of found.now ≡ references (program_tree scene.now.tree.now) }
     ensures { IfOk result (λ free. IsTrue free ↔ IsFree (program_tree scene.now.tree.now) number names.now) }
 {
-    if early(alloc, scene, found, number, d, names)?.is_some() {
+    if early(alloc, scene, number, d, names)?.is_some() {
         return Ok(false);
     }
-    if late(alloc, scene, found, number, d, names)?.is_some() {
+    if late(alloc, scene, number, d, names)?.is_some() {
         return Ok(false);
     }
     let edge = first_carried_beside(alloc, scene, number, names)?;

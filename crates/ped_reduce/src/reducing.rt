@@ -11,8 +11,6 @@ ghost use Rattle.ped_splits.specs.ped_reindex.specs.ped_loops.specs.ped_scalar.s
 ghost use Rattle.ped_splits.specs.ped_reindex.specs.ped_loops.specs.ped_scalar.specs.ped_rules.specs.ped_loop_runs.specs.ped_bodies.specs.ped_steps.specs.Replacing as Replacing;
 ghost use Rattle.ped_splits.specs.ped_reindex.specs.ped_loops.specs.ped_scalar.specs.ped_rules.specs.ped_loop_runs.specs.ped_bodies.specs.ped_steps.specs.ped_symbols.specs.NameRefusals.{IsValid};
 ghost use Rattle.ped_splits.specs.ped_reindex.specs.ped_loops.specs.ped_scalar.specs.ped_rules.specs.ped_loop_runs.specs.ped_bodies.specs.ped_steps.specs.ped_flow.specs.Questions.{IsLoop};
-ghost use Rattle.ped_splits.specs.ped_reindex.specs.ped_loops.specs.ped_scalar.specs.ped_rules.specs.ped_loop_runs.specs.ped_bodies.specs.ped_steps.specs.ped_refs.specs.Occurrences.{references_of};
-ghost use Rattle.ped_splits.specs.ped_reindex.specs.ped_loops.specs.ped_scalar.specs.ped_rules.specs.ped_loop_runs.specs.ped_bodies.specs.ped_steps.specs.ped_refs.specs.References.{references};
 ghost use Rattle.ped_reduce.specs.Lists as Lists;
 ghost use Rattle.ped_reduce.specs.Reducing as Spec;
 ghost use Rattle.ped_reduce.specs.CodeReducing.{IsFirstRefusal};
@@ -23,9 +21,6 @@ use crate::lowering::{is_in_live, is_lowerable, lower_front};
 use crate::rules::{early, late};
 use ped_base::{Name, NoMemory};
 use ped_splits::ped_reindex::ped_loops::ped_scalar::ped_rules::against;
-use ped_splits::ped_reindex::ped_loops::ped_scalar::ped_rules::ped_loop_runs::ped_bodies::ped_steps::ped_weaves::ped_laws::ped_graph::ped_refs::{
-    Occurrence, occurrences,
-};
 use ped_splits::ped_reindex::ped_loops::ped_scalar::ped_rules::ped_loop_runs::ped_bodies::ped_steps::{
     Change, Refused, Rule, Scene, all_kept, change_to, loop_at, program_with, with_body,
 };
@@ -72,13 +67,12 @@ fn reduce_in<L: Ledger>(
     requires is { IsLoop (program_tree scene.now.tree.now) number (head_of d.now) (stmt_trees d.now.body.items) }
     ensures { IfOk result (Answers (Spec.reducing number names.now) (program_tree scene.now.tree.now)) }
 {
-    let found = occurrences(alloc, scene.tree)?;
-    if let Some(first) = early(alloc, scene, &found, number, d, names)? {
+    if let Some(first) = early(alloc, scene, number, d, names)? {
         return Ok(Err(against(first.rule, first.statement)));
     }
     match reduced(alloc, scene, number, d, names)? {
         Some(change) => {
-            return unless_unlowerable(alloc, scene, &found, number, d, names, change);
+            return unless_unlowerable(alloc, scene, number, d, names, change);
         }
         None => {
             return Ok(Err(against(Rule::Limit, number)));
@@ -91,7 +85,6 @@ fn reduce_in<L: Ledger>(
 fn unless_unlowerable<L: Ledger>(
     alloc: Global,
     scene: &Scene<L>,
-    found: &[Occurrence],
     number: u32,
     d: &Do,
     names: &[Name],
@@ -101,10 +94,9 @@ fn unless_unlowerable<L: Ledger>(
     requires is { IsLoop (program_tree scene.now.tree.now) number (head_of d.now) (stmt_trees d.now.body.items) }
     requires clear { NoRule (Spec.also_against_sums number names.now (program_tree scene.now.tree.now) no_rules) }
     requires made { IsChange (Spec.with_reduction (program_tree scene.now.tree.now) number names.now) (Replacing.all_kept (program_tree scene.now.tree.now)) change }
-    requires all { references_of found.now ≡ references (program_tree scene.now.tree.now) }
     ensures { IfOk result (Answers (Spec.reducing number names.now) (program_tree scene.now.tree.now)) }
 {
-    match behind_limit(alloc, scene, found, number, d, names) {
+    match behind_limit(alloc, scene, number, d, names) {
         Ok(Some(refused)) => {
             return Ok(Err(refused));
         }
@@ -121,7 +113,6 @@ fn unless_unlowerable<L: Ledger>(
 fn behind_limit<L: Ledger>(
     alloc: Global,
     scene: &Scene<L>,
-    found: &[Occurrence],
     number: u32,
     d: &Do,
     names: &[Name],
@@ -130,7 +121,6 @@ fn behind_limit<L: Ledger>(
     requires is { IsLoop (program_tree scene.now.tree.now) number (head_of d.now) (stmt_trees d.now.body.items) }
     requires clear { NoRule (Spec.also_against_sums number names.now (program_tree scene.now.tree.now) no_rules) }
     requires valid { IsValid (Spec.with_reduction (program_tree scene.now.tree.now) number names.now) }
-    requires all { references_of found.now ≡ references (program_tree scene.now.tree.now) }
     ensures { IfOk result (IsFirstRefusal number names.now (program_tree scene.now.tree.now)) }
 {
     if has_list(alloc, d)? {
@@ -139,7 +129,7 @@ fn behind_limit<L: Ledger>(
     if is_unlowerable(alloc, scene, number, d, names)? {
         return Ok(Some(against(Rule::Limit, number)));
     }
-    if let Some(first) = late(alloc, scene, found, number, d, names)? {
+    if let Some(first) = late(alloc, scene, number, d, names)? {
         return Ok(Some(against(first.rule, first.statement)));
     }
     match first_carried_beside(alloc, scene, number, names)? {

@@ -23,7 +23,9 @@ ghost use Rattle.ped_reduce.specs.CodeRules.{also_from_range, behind_limit, IsFi
 use crate::privacy::{has_twice, is_in_parallel, is_index_of, is_some_private};
 use crate::referring::{Extent, first_beside_sums, is_referred};
 use ped_base::{Name, NoMemory};
-use ped_splits::ped_reindex::ped_loops::ped_scalar::ped_rules::ped_loop_runs::ped_bodies::ped_steps::ped_weaves::ped_laws::ped_graph::ped_refs::Occurrence;
+use ped_splits::ped_reindex::ped_loops::ped_scalar::ped_rules::ped_loop_runs::ped_bodies::ped_steps::ped_weaves::ped_laws::ped_graph::ped_refs::{
+    Occurrence, occurrences,
+};
 use ped_splits::ped_reindex::ped_loops::ped_scalar::ped_rules::ped_loop_runs::ped_bodies::ped_steps::ped_weaves::ped_laws::ped_graph::ped_symbols::{
     Kind, Symbols,
 };
@@ -48,14 +50,12 @@ pub(crate) struct Standing {
 pub(crate) fn early<L: Ledger>(
     alloc: Global,
     scene: &Scene<L>,
-    found: &[Occurrence],
     number: u32,
     d: &Do,
     names: &[Name],
 ) -> Result<Option<Standing>, NoMemory>
     requires scene { IsSceneOf (program_tree scene.now.tree.now) scene.now }
     requires is { IsLoop (program_tree scene.now.tree.now) number (head_of d.now) (stmt_trees d.now.body.items) }
-    requires all { references_of found.now ≡ references (program_tree scene.now.tree.now) }
     ensures { IfOk result (IsFirstOf (Spec.also_against_sums number names.now (program_tree scene.now.tree.now) no_rules)) }
 {
     let round = loops_round(alloc, scene.tree, number)?;
@@ -74,7 +74,6 @@ pub(crate) fn early<L: Ledger>(
     early_by_course(
         alloc,
         scene,
-        found,
         number,
         d,
         names,
@@ -86,7 +85,6 @@ pub(crate) fn early<L: Ledger>(
 fn early_by_course<L: Ledger>(
     alloc: Global,
     scene: &Scene<L>,
-    found: &[Occurrence],
     number: u32,
     d: &Do,
     names: &[Name],
@@ -95,7 +93,6 @@ fn early_by_course<L: Ledger>(
     requires scene { IsSceneOf (program_tree scene.now.tree.now) scene.now }
     requires is { IsLoop (program_tree scene.now.tree.now) number (head_of d.now) (stmt_trees d.now.body.items) }
     requires course { IsCourse (span_of (table_of (program_tree scene.now.tree.now)).constants (head_of d.now)) course }
-    requires all { references_of found.now ≡ references (program_tree scene.now.tree.now) }
     ensures { IfOk result (IsFirstOf (also_from_range number names.now (program_tree scene.now.tree.now) no_rules)) }
 {
     match course {
@@ -106,10 +103,10 @@ fn early_by_course<L: Ledger>(
             }));
         }
         Course::Near(_span) => {
-            return early_by_names(alloc, scene, found, number, d, names, true);
+            return early_by_names(alloc, scene, number, d, names, true);
         }
         Course::Unknown => {
-            return early_by_names(alloc, scene, found, number, d, names, false);
+            return early_by_names(alloc, scene, number, d, names, false);
         }
     }
 }
@@ -118,7 +115,6 @@ fn early_by_course<L: Ledger>(
 fn early_by_names<L: Ledger>(
     alloc: Global,
     scene: &Scene<L>,
-    found: &[Occurrence],
     number: u32,
     d: &Do,
     names: &[Name],
@@ -128,10 +124,9 @@ fn early_by_names<L: Ledger>(
     requires is { IsLoop (program_tree scene.now.tree.now) number (head_of d.now) (stmt_trees d.now.body.items) }
     requires near { has_far_value (table_of (program_tree scene.now.tree.now)).constants (head_of d.now) (stmt_trees d.now.body.items) ≡ false }
     requires known { isnt_constant (table_of (program_tree scene.now.tree.now)).constants (head_of d.now) (stmt_trees d.now.body.items) ≡ not known }
-    requires all { references_of found.now ≡ references (program_tree scene.now.tree.now) }
     ensures { IfOk result (IsFirstOf (also_from_range number names.now (program_tree scene.now.tree.now) no_rules)) }
 {
-    if has_unsummable(scene, found, number, d, names) {
+    if has_unsummable(alloc, scene, number, d, names)? {
         return Ok(Some(Standing {
             rule: Rule::NotScalar,
             statement: number,
@@ -146,20 +141,20 @@ fn early_by_names<L: Ledger>(
     }))
 }
 
-/// Whether the DO with this number can't add to one of these names, where these are all references of the program.
+/// Whether the DO with this number can't add to one of these names.
 fn has_unsummable<L: Ledger>(
+    alloc: Global,
     scene: &Scene<L>,
-    found: &[Occurrence],
     number: u32,
     d: &Do,
     names: &[Name],
-) -> bool
+) -> Result<bool, NoMemory>
     requires scene { IsSceneOf (program_tree scene.now.tree.now) scene.now }
     requires is { IsLoop (program_tree scene.now.tree.now) number (head_of d.now) (stmt_trees d.now.body.items) }
-    requires all { references_of found.now ≡ references (program_tree scene.now.tree.now) }
-    ensures { result ≡ Spec.has_unsummable (program_tree scene.now.tree.now) number names.now (head_of d.now) (stmt_trees d.now.body.items) }
+    ensures { IfOk result (λ r. r ≡ Spec.has_unsummable (program_tree scene.now.tree.now) number names.now (head_of d.now) (stmt_trees d.now.body.items)) }
 {
-    is_some_unsummable(scene, found, number, d, names)
+    let found = occurrences(alloc, scene.tree)?;
+    Ok(is_some_unsummable(scene, &found, number, d, names))
 }
 
 /// The same, where these are all references of the program.
@@ -254,33 +249,31 @@ pub(crate) fn has_private_or_twice<L: Ledger>(
 
 /// The first statement in the body of the DO with this number that refers to one of these names and is no sum of it.
 pub(crate) fn first_no_sum<L: Ledger>(
+    alloc: Global,
     scene: &Scene<L>,
-    found: &[Occurrence],
     number: u32,
     d: &Do,
     names: &[Name],
-) -> Option<u32>
+) -> Result<Option<u32>, NoMemory>
     requires scene { IsSceneOf (program_tree scene.now.tree.now) scene.now }
     requires is { IsLoop (program_tree scene.now.tree.now) number (head_of d.now) (stmt_trees d.now.body.items) }
-    requires all { references_of found.now ≡ references (program_tree scene.now.tree.now) }
-    ensures { result ≡ Spec.first_beside_sums (program_tree scene.now.tree.now) number (statements_count (stmt_trees d.now.body.items) + 1) names.now }
+    ensures { IfOk result (λ n. n ≡ Spec.first_beside_sums (program_tree scene.now.tree.now) number (statements_count (stmt_trees d.now.body.items) + 1) names.now) }
 {
+    let found = occurrences(alloc, scene.tree)?;
     let extent = extent_of(number, d);
-    first_beside_sums(scene.tree, found, extent, names)
+    Ok(first_beside_sums(scene.tree, &found, extent, names))
 }
 
 /// The first rule behind Limit that stands against sums of these names in any order in the DO with this number.
 pub(crate) fn late<L: Ledger>(
     alloc: Global,
     scene: &Scene<L>,
-    found: &[Occurrence],
     number: u32,
     d: &Do,
     names: &[Name],
 ) -> Result<Option<Standing>, NoMemory>
     requires scene { IsSceneOf (program_tree scene.now.tree.now) scene.now }
     requires is { IsLoop (program_tree scene.now.tree.now) number (head_of d.now) (stmt_trees d.now.body.items) }
-    requires all { references_of found.now ≡ references (program_tree scene.now.tree.now) }
     ensures { IfOk result (IsFirstOf (behind_limit number names.now (program_tree scene.now.tree.now))) }
 {
     if has_private_or_twice(alloc, scene, number, d, names)? {
@@ -289,7 +282,7 @@ pub(crate) fn late<L: Ledger>(
             statement: number,
         }));
     }
-    match first_no_sum(scene, found, number, d, names) {
+    match first_no_sum(alloc, scene, number, d, names)? {
         Some(statement) => {
             return Ok(Some(Standing {
                 rule: Rule::NotSum,

@@ -3,6 +3,7 @@
 ghost use Rattle.std.specs.Prelude.{◌≡◌, [], ◌∷◌, map, IfOk, OnOk};
 ghost use Rattle.ped_tree.specs.Views.{stmt_tree, stmt_trees};
 ghost use Rattle.ped_symbols.specs.Sites.{stmt_sites, stmts_sites, private_site, statement as statement_site};
+ghost use Rattle.ped_symbols.specs.Entries.{with_entry};
 ghost use Rattle.ped_symbols.specs.Passes.{At, Goes, kind_with, with_kinds};
 
 use crate::declared::Declared;
@@ -35,9 +36,19 @@ impl Known<'_> {
         ensures { OnOk result (kinds.new.entries.entries ≡ with_kinds (kind_with self.now) kinds.old.entries.entries (map (λ u. u.name) uses.now)) }
     {
         for u in uses {
-            kinds.keep(&u.name, self.kind(&u.name))?;
+            self.keep_kind(kinds, &u.name)?;
         }
         Ok(())
+    }
+
+    /// Adds a name with what it stands for, where it isn't there. Most names are, and aren't asked for what they stand for.
+    fn keep_kind(&self, kinds: &mut NameTable<Kind>, name: &Name) -> Result<(), NoMemory>
+        ensures { OnOk result (kinds.new.entries.entries ≡ with_entry kinds.old.entries.entries name.now (kind_with self.now name.now)) }
+    {
+        if kinds.has(name) {
+            return Ok(());
+        }
+        kinds.keep(name, self.kind(name))
     }
 
     /// What the name stands for.

@@ -1,6 +1,6 @@
 //! What is known of names, found by hash.
 
-ghost use Rattle.std.specs.Prelude.{◌≡◌, [], OnOk, OnErr};
+ghost use Rattle.std.specs.Prelude.{◌≡◌, [], is_some, OnOk, OnErr};
 ghost use Rattle.ped_symbols.specs.Entries.{entry_of, with_entry};
 
 use indexmap::IndexMap;
@@ -29,6 +29,13 @@ impl<V: Copy + Drop> NameTable<V> {
         ensures { result ≡ entry_of self.now.entries.entries name.now }
     {
         self.entries.get(name).copied()
+    }
+
+    /// Whether the name is there.
+    pub fn has(&self, name: &Name) -> bool
+        ensures { result ≡ is_some (entry_of self.now.entries.entries name.now) }
+    {
+        self.entries.contains_key(name)
     }
 
     /// Adds a name with what is known of it, where it isn't there. After want of memory the table is as it

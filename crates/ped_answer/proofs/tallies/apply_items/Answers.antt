@@ -8,8 +8,8 @@ use Rattle.ped_answer.proofs.Tallying.{one_applies, item_within, items_more, ite
 use Rattle.ped_answer.proofs.tallies.apply_items.Goals.{in-Some+in_ok-apply_command-in-Some, in-None}
 use Rattle.ped_answer.proofs.tallies.apply_items.Goals as goal
 
-pub apply_command-requires-in-Some-clause-other : goal.apply_command-requires-in-Some-clause-other
-apply_command-requires-in-Some-clause-other g c =
+pub apply_command-requires-clause-other : goal.apply_command-requires-clause-other
+apply_command-requires-clause-other g c =
     item_no_auto c.args.items.now c.loop-item.item-index c.item-item.result _ c.requires (let h = c.loop-item-test.true in omega (arith, h)) c.item-item.is c.in-Some.is
 
 pub returns-in_err-apply_command-in-Some-clause-most :

@@ -1,23 +1,11 @@
-use Rattle.std.proofs.Common.{subst, ap, ◌∙◌, arith}
+use Rattle.std.proofs.Common.{subst}
 use Rattle.ped_tree.specs.Views.{program_tree, stmt_trees, head_of}
 use Rattle.ped_splits.specs.ped_reindex.specs.ped_loops.specs.ped_scalar.specs.ped_rules.specs.Chains.{no_rules}
 use Rattle.ped_splits.specs.ped_reindex.specs.ped_loops.specs.ped_scalar.specs.ped_rules.specs.ped_loop_runs.specs.ped_bodies.specs.ped_steps.specs.Replacing.{all_kept}
 use Rattle.ped_reduce.specs.CodeRules.{IsFirstOf}
 use Rattle.ped_reduce.specs.Reducing.{also_against_sums, with_reduction}
 use Rattle.ped_reduce.proofs.ReducingAnswers as answers
-use Rattle.ped_splits.specs.ped_reindex.specs.ped_loops.specs.ped_scalar.specs.ped_rules.specs.ped_loop_runs.specs.ped_bodies.specs.ped_steps.specs.ped_symbols.proofs.FewReferences.{few_references}
-use Rattle.ped_splits.specs.ped_reindex.specs.ped_loops.specs.ped_scalar.specs.ped_rules.specs.ped_loop_runs.specs.ped_bodies.specs.ped_steps.proofs.Answering.{few_numbers}
-use Rattle.ped_splits.specs.ped_reindex.specs.ped_loops.specs.ped_scalar.specs.ped_rules.specs.ped_loop_runs.specs.ped_bodies.specs.ped_steps.specs.ped_refs.specs.Occurrences.{references_of}
 use Rattle.ped_reduce.proofs.reducing.reduce_in.Goals as goal
-
-pub occurrences-requires-clause-statements : goal.occurrences-requires-clause-statements
-occurrences-requires-clause-statements g c = let few = few_numbers (program_tree c.args.scene.now.tree.now) c.requires.scene.valid in omega (arith, few)
-
-pub occurrences-requires-clause-references : goal.occurrences-requires-clause-references
-occurrences-requires-clause-references g c = few_references (program_tree c.args.scene.now.tree.now) c.requires.scene.valid.fits
-
-pub early-requires-clause-all : goal.early-requires-clause-all
-early-requires-clause-all g c = ap references_of c.deref.ensures.value ∙ c.in_ok-found.ensures
 
 pub returns-in-Some : goal.returns-in-Some
 returns-in-Some g c =
@@ -36,7 +24,6 @@ unless_unlowerable-requires g c =
       scene = c.requires.scene;
       is = c.requires.is;
       clear = subst (IsFirstOf (also_against_sums s names t no_rules)) c.in_default.is c.in_ok-first.ensures;
-      all = ap references_of c.deref-2.ensures.value ∙ c.in_ok-found.ensures;
       made = answers.some_made (with_reduction t s names) (all_kept t) c.in_ok-change.field-0 c.in-Some-2.change c.in-Some-2.is c.in_ok-change.ensures;
     }
 

@@ -48,7 +48,6 @@ early_by_course-requires g c =
     let consts = c.consts.ensures ∙ ap (λ (table : Table). table.constants) c.requires.scene.symbols in
     record {
       scene = c.requires.scene;
-      all = c.requires.all;
       is = c.requires.is;
       course = subst (λ (cs : List (List ℕ × ℤ)). IsCourse (span_of cs h) c.course_of.result) consts c.course_of.ensures;
     }

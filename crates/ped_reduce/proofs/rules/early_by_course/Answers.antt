@@ -21,7 +21,6 @@ early_by_names-requires g c =
     let course = subst (IsCourse found) c.in-Near.is c.requires.course in
     record {
       scene = c.requires.scene;
-      all = c.requires.all;
       is = c.requires.is;
       near = known_near found (Some c.in-Near._span) course;
       known = ap is_none course.0;
@@ -33,7 +32,6 @@ early_by_names-requires-in-Unknown g c =
     let course = subst (IsCourse found) c.in-Unknown.is c.requires.course in
     record {
       scene = c.requires.scene;
-      all = c.requires.all;
       is = c.requires.is;
       near = ap (of_span spans_far) course;
       known = ap is_none course;

@@ -12,7 +12,7 @@ returns-in-Some g c =
     let h = head_of c.args.d.now in
     let body = stmt_trees c.args.d.now.body.items in
     rules.no_sum_first c.args.number c.args.names.now (program_tree c.args.scene.now.tree.now) h body c.requires.is (sym c.in_ok-has_private_or_twice.ensures ∙ c.if-branch.false)
-    c.in-Some.statement (record { head = h; body = body; is = c.requires.is }, sym c.first_no_sum.ensures ∙ c.in-Some.is)
+    c.in-Some.statement (record { head = h; body = body; is = c.requires.is }, sym c.in_ok-statement.ensures ∙ c.in-Some.is)
 
 pub returns-in-None : goal.returns-in-None
 returns-in-None g c =
@@ -22,4 +22,4 @@ returns-in-None g c =
     let h = head_of c.args.d.now in
     let body = stmt_trees c.args.d.now.body.items in
     rules.none_behind s names t h body c.requires.is (sym c.in_ok-has_private_or_twice.ensures ∙ c.if-branch.false)
-    (rules.no_sum_nowhere s names t h body c.requires.is (sym c.first_no_sum.ensures ∙ c.in-None.is))
+    (rules.no_sum_nowhere s names t h body c.requires.is (sym c.in_ok-statement.ensures ∙ c.in-None.is))

@@ -61,5 +61,8 @@ mod Aliases
 mod PlacesMet
 mod ArgumentsMet
 mod Passings
+mod FormalTables
+mod Seeds
+mod ArgumentSteps
 mod ArrowsAdded
 mod StatementTrees

@@ -1,5 +1,5 @@
 -- Dummy arguments that are passed on, by associations and by the arguments' names.
-use Rattle.std.proofs.Common.{◌≡◌, ◌⊎◌, inl, inr, ℕ, ◌+◌, ◌<◌, List, [], ◌∷◌, Option, Some, None, length, map, refl, sym, ap, subst, ◌∙◌, arith}
+use Rattle.std.proofs.Common.{◌≡◌, ◌⊎◌, inl, inr, ℕ, zero, suc, ◌+◌, ◌<◌, ◌↔◌, List, [], ◌∷◌, ◌++◌, Option, Some, None, length, map, take, refl, sym, ap, subst, ◌∙◌, arith}
 use Rattle.std.proofs.lemmas.Bool.{cases_lt}
 use Rattle.ped_tree.specs.Tree.{ExprTree}
 use Rattle.ped_tree.specs.Accesses.{listed}
@@ -8,9 +8,10 @@ use Rattle.ped_calls.specs.Linking.{IsIn, calls_of, Association, associations}
 use Rattle.ped_calls.specs.Numbers.{number_of_unit}
 use Rattle.ped_calls.specs.Arguments.{formal_number, passed_number, PassesIn, CallsPass, ArePassed}
 use Rattle.ped_calls.specs.Placing.{argument_name, placed_call}
+use Rattle.ped_calls.specs.Reaching.{Leads}
 use Rattle.ped_calls.specs.Scenes.{unit_at}
 use Rattle.ped_calls.specs.declared.placing.PlacedCall.{PlacedCall}
-use Rattle.ped_calls.proofs.Members.{in_map, map_in}
+use Rattle.ped_calls.proofs.Members.{in_map, map_in, in_left, in_right, in_either, in_one}
 
 -- an association by which a dummy argument is passed
 pub record IsPassing (us : List ProgramUnit) (i k : ℕ) (all : List Association) (from to : ℕ) : Type 0 where
@@ -97,3 +98,114 @@ passed_all us n from to wide a =
         (a.1, p.is_unit, passing_to (all_units us) a.0 a.1 (unit_at us a.1).formals (listed p.call.called.arguments) from to p.association p.formal p.associates p.passes p.begins p.ends),
       ),
     )
+
+-- one dummy argument is passed for another
+abbrev pub PassesHere : List ProgramUnit → ℕ → ℕ → List ℕ → Option (List ℕ) → ℕ → ℕ → Type 0
+PassesHere us i k f a from to = (formal_number us k f ≡ Some from) × (passed_number us i a ≡ Some to)
+
+passes_or : (us : List ProgramUnit) (i k : ℕ) (fs : List (List ℕ)) (ns : List (Option (List ℕ))) (f : List ℕ) (a : Option (List ℕ)) (from to : ℕ) → length fs ≡ length ns
+    → PassesIn us i k (fs ++ f ∷ []) (ns ++ a ∷ []) from to → PassesIn us i k fs ns from to ⊎ PassesHere us i k f a from to
+passes_or us i k [] [] f a from to e (inl h) = inr h
+passes_or us i k [] [] f a from to e (inr h) = absurd h
+passes_or us i k [] (n ∷ ns) f a from to e h = absurd (omega (arith, e))
+passes_or us i k (g ∷ gs) [] f a from to e h = absurd (omega (arith, e))
+passes_or us i k (g ∷ gs) (n ∷ ns) f a from to e (inl h) = inl (inl h)
+passes_or us i k (g ∷ gs) (n ∷ ns) f a from to e (inr h) = elim (passes_or us i k gs ns f a from to (omega (arith, e)) h) [ inl x ↦ inl (inr x) | inr y ↦ inr y ]
+
+or_passes : (us : List ProgramUnit) (i k : ℕ) (fs : List (List ℕ)) (ns : List (Option (List ℕ))) (f : List ℕ) (a : Option (List ℕ)) (from to : ℕ) → length fs ≡ length ns
+    → PassesIn us i k fs ns from to ⊎ PassesHere us i k f a from to → PassesIn us i k (fs ++ f ∷ []) (ns ++ a ∷ []) from to
+or_passes us i k [] [] f a from to e (inl h) = absurd h
+or_passes us i k [] [] f a from to e (inr h) = inl h
+or_passes us i k [] (n ∷ ns) f a from to e h = absurd (omega (arith, e))
+or_passes us i k (g ∷ gs) [] f a from to e h = absurd (omega (arith, e))
+or_passes us i k (g ∷ gs) (n ∷ ns) f a from to e (inl (inl h)) = inl h
+or_passes us i k (g ∷ gs) (n ∷ ns) f a from to e (inl (inr h)) = inr (or_passes us i k gs ns f a from to (omega (arith, e)) (inl h))
+or_passes us i k (g ∷ gs) (n ∷ ns) f a from to e (inr h) = inr (or_passes us i k gs ns f a from to (omega (arith, e)) (inr h))
+
+-- the arrows of one argument more
+pub passings_step : (us : List ProgramUnit) (i k : ℕ) (fs all : List (List ℕ)) (ns every : List (Option (List ℕ))) (f : List ℕ) (a : Option (List ℕ)) (begins ends : Option ℕ) (old mid new : List (List ℕ)) → all ≡ fs ++ f ∷ [] → every ≡ ns ++ a ∷ [] → length fs ≡ length ns
+    → begins ≡ formal_number us k f → ends ≡ passed_number us i a
+    → ((from to : ℕ) → Leads mid from to ↔ (Leads old from to ⊎ PassesIn us i k fs ns from to)) → ((from to : ℕ) → Leads new from to ↔ (Leads mid from to ⊎ ((begins ≡ Some from) × (ends ≡ Some to))))
+    → (from to : ℕ) → Leads new from to ↔ (Leads old from to ⊎ PassesIn us i k all every from to)
+passings_step us i k fs all ns every f a begins ends old mid new e d long is also before now from to = (forth, back)
+  where
+    whole : PassesIn us i k (fs ++ f ∷ []) (ns ++ a ∷ []) from to → PassesIn us i k all every from to
+    whole h = subst (λ (gs : List (List ℕ)). PassesIn us i k gs every from to) (sym e) (subst (λ (ms : List (Option (List ℕ))). PassesIn us i k (fs ++ f ∷ []) ms from to) (sym d) h)
+
+    parts : PassesIn us i k all every from to → PassesIn us i k (fs ++ f ∷ []) (ns ++ a ∷ []) from to
+    parts h = subst (λ (ms : List (Option (List ℕ))). PassesIn us i k (fs ++ f ∷ []) ms from to) d (subst (λ (gs : List (List ℕ)). PassesIn us i k gs every from to) e h)
+
+    forth : Leads new from to → Leads old from to ⊎ PassesIn us i k all every from to
+    forth l = elim ((now from to).0 l) [
+      | inl m ↦ elim ((before from to).0 m) [ inl o ↦ inl o | inr x ↦ inr (whole (or_passes us i k fs ns f a from to long (inl x))) ]
+      | inr h ↦ inr (whole (or_passes us i k fs ns f a from to long (inr (sym is ∙ h.0, sym also ∙ h.1))))
+    ]
+
+    back : Leads old from to ⊎ PassesIn us i k all every from to → Leads new from to
+    back (inl o) = (now from to).1 (inl ((before from to).1 (inl o)))
+    back (inr h) = elim (passes_or us i k fs ns f a from to long (parts h)) [
+      | inl x ↦ (now from to).1 (inl ((before from to).1 (inr x)))
+      | inr y ↦ (now from to).1 (inr (is ∙ y.0, also ∙ y.1))
+    ]
+
+-- as far as there are both
+pub passes_front : (us : List ProgramUnit) (i k n : ℕ) (fs : List (List ℕ)) (ns : List (Option (List ℕ))) (from to : ℕ) → PassesIn us i k (take n fs) (take n ns) from to → PassesIn us i k fs ns from to
+passes_front us i k zero fs ns from to h = absurd h
+passes_front us i k (suc n) [] ns from to h = absurd h
+passes_front us i k (suc n) (f ∷ fs) [] from to h = absurd h
+passes_front us i k (suc n) (f ∷ fs) (a ∷ ns) from to (inl h) = inl h
+passes_front us i k (suc n) (f ∷ fs) (a ∷ ns) from to (inr h) = inr (passes_front us i k n fs ns from to h)
+
+pub passes_whole : (us : List ProgramUnit) (i k n : ℕ) (fs : List (List ℕ)) (ns : List (Option (List ℕ))) (from to : ℕ) → (n ≡ length fs) ⊎ (n ≡ length ns) → PassesIn us i k fs ns from to → PassesIn us i k (take n fs) (take n ns) from to
+passes_whole us i k n [] ns from to e h = absurd h
+passes_whole us i k n (f ∷ fs) [] from to e h = absurd h
+passes_whole us i k zero (f ∷ fs) (a ∷ ns) from to e h = absurd (elim e [ inl x ↦ absurd (omega (arith, x)) | inr y ↦ absurd (omega (arith, y)) ])
+passes_whole us i k (suc n) (f ∷ fs) (a ∷ ns) from to e (inl h) = inl h
+passes_whole us i k (suc n) (f ∷ fs) (a ∷ ns) from to e (inr h) = inr (passes_whole us i k n fs ns from to (elim e [ inl x ↦ inl (omega (arith, x)) | inr y ↦ inr (omega (arith, y)) ]) h)
+
+-- what one CALL passes
+pub call_passes : (us : ProgramUnits) (i k : ℕ) (c : PlacedCall) (from to : ℕ) → number_of_unit (all_units us) c.name ≡ Some k → PassesIn (all_units us) i k (unit_at us k).formals c.arguments from to → CallsPass us i (c ∷ []) from to
+call_passes us i k c from to named h = (c, inl refl, (k, named, h))
+
+same_some : (a b : ℕ) → Some a ≡ Some b → a ≡ b
+same_some a b e = cc
+
+pub passes_by_call : (us : ProgramUnits) (i k : ℕ) (c : PlacedCall) (from to : ℕ) → number_of_unit (all_units us) c.name ≡ Some k → CallsPass us i (c ∷ []) from to → PassesIn (all_units us) i k (unit_at us k).formals c.arguments from to
+passes_by_call us i k c from to named h =
+    let is = in_one h.0 c h.1 in
+    let same : h.2.0 ≡ k = same_some h.2.0 k (sym h.2.1 ∙ ap (λ (d : PlacedCall). number_of_unit (all_units us) d.name) is ∙ named) in
+    subst (λ (n : ℕ). PassesIn (all_units us) i n (unit_at us n).formals c.arguments from to) same (subst (λ (d : PlacedCall). PassesIn (all_units us) i h.2.0 (unit_at us h.2.0).formals d.arguments from to) is h.2.2)
+
+pub none_by_call : (us : ProgramUnits) (i : ℕ) (c : PlacedCall) (from to : ℕ) → number_of_unit (all_units us) c.name ≡ None → CallsPass us i (c ∷ []) from to → ⊥
+none_by_call us i c from to none h = no h.2.0 (sym h.2.1 ∙ ap (λ (d : PlacedCall). number_of_unit (all_units us) d.name) (in_one h.0 c h.1) ∙ none)
+  where
+    no : (n : ℕ) → Some n ≡ None → ⊥
+    no n e = absurd cc
+
+-- the arrows of one CALL more
+pub calls_step : (us : ProgramUnits) (i : ℕ) (calls all : List PlacedCall) (c : PlacedCall) (old mid new : List (List ℕ)) → all ≡ calls ++ c ∷ []
+    → ((from to : ℕ) → Leads mid from to ↔ (Leads old from to ⊎ CallsPass us i calls from to)) → ((from to : ℕ) → Leads new from to ↔ (Leads mid from to ⊎ CallsPass us i (c ∷ []) from to))
+    → (from to : ℕ) → Leads new from to ↔ (Leads old from to ⊎ CallsPass us i all from to)
+calls_step us i calls all c old mid new e before now from to = (forth, back)
+  where
+    forth : Leads new from to → Leads old from to ⊎ CallsPass us i all from to
+    forth l = elim ((now from to).0 l) [
+      | inl m ↦ elim ((before from to).0 m) [ inl o ↦ inl o | inr x ↦ inr (x.0, subst (IsIn x.0) (sym e) (in_left x.0 calls (c ∷ []) x.1), x.2) ]
+      | inr h ↦ inr (h.0, subst (IsIn h.0) (sym e) (in_right h.0 calls (c ∷ []) h.1), h.2)
+    ]
+
+    back : Leads old from to ⊎ CallsPass us i all from to → Leads new from to
+    back (inl o) = (now from to).1 (inl ((before from to).1 (inl o)))
+    back (inr h) = elim (in_either h.0 calls (c ∷ []) (subst (IsIn h.0) e h.1)) [
+      | inl x ↦ (now from to).1 (inl ((before from to).1 (inr (h.0, x, h.2))))
+      | inr y ↦ (now from to).1 (inr (h.0, y, h.2))
+    ]
+
+-- the arrows of one unit more
+pub units_step : (us : ProgramUnits) (n : ℕ) (calls : List PlacedCall) (old new : List (List ℕ)) → calls ≡ map placed_call (calls_of (unit_at us n))
+    → ((from to : ℕ) → Leads old from to ↔ PassedBelow us n from to) → ((from to : ℕ) → Leads new from to ↔ (Leads old from to ⊎ CallsPass us n calls from to))
+    → (from to : ℕ) → Leads new from to ↔ PassedBelow us (n + 1) from to
+units_step us n calls old new e before now from to = (
+  λ l. more_passed us n from to (elim ((now from to).0 l) [ inl o ↦ inl ((before from to).0 o) | inr h ↦ inr (subst (λ (cs : List PlacedCall). CallsPass us n cs from to) e h) ]),
+  λ h. elim (passed_more us n from to h) [ inl x ↦ (now from to).1 (inl ((before from to).1 x)) | inr y ↦ (now from to).1 (inr (subst (λ (cs : List PlacedCall). CallsPass us n cs from to) (sym e) y)) ],
+)

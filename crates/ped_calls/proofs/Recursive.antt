@@ -160,7 +160,7 @@ skipped_unit us ends marks found i one a below returns none h = skipped one (Lea
     let named : number_of_unit (all_units us) there.0.called.name ≡ Some k = subst (λ (c : PlacedCall). number_of_unit (all_units us) c.name ≡ Some k) there.2 s.stands.1 in
     let leads : Leads ends k i = (a k i).1 (below, (there.0, there.1, named)) in
     let marked : CallsMarked (all_units us) marks s.call = subst (IsMarkedNumber marks) (sym s.stands.1) (returns k i leads s.stands.2) in
-    (s.is_rule, later (comes_first (record { rule = rule.Recursion; line = line }) found) (λ e. none (s.call, s.is_call, marked, subst (λ (l : ℕ). comes_first (record { rule = rule.Recursion; line = l }) found ≡ true) (sym s.there) e))))
+    (s.is_rule, later (comes_first (record { rule = rule.Recursion; line = line }) found) (λ e. none (s.call, s.is_call, (marked, subst (λ (l : ℕ). comes_first (record { rule = rule.Recursion; line = l }) found ≡ true) (sym s.there) e)))))
   where
     later : (b : Bool) → (b ≡ true → ⊥) → b ≡ false
     later true f = absurd (f refl)

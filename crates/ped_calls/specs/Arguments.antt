@@ -13,7 +13,7 @@ use Rattle.ped_calls.specs.Units.{ProgramUnit, ProgramUnits, all_units}
 use Rattle.ped_calls.specs.Linking.{IsIn, Placed, calls_of, associated, Association, IsUsed, IsAssigned, IsIndex, assigns, indexes, kind_there, bounds_by, is_scalar, is_constant, LinkRefusal, Arguments, Aliased}
 use Rattle.ped_calls.specs.Numbers.{number_of_unit, place_among, ArePlaces, IsMarkedNumber}
 use Rattle.ped_calls.specs.Refusals.{for_names}
-use Rattle.ped_calls.specs.FirstLinks.{EitherStands}
+use Rattle.ped_calls.specs.FirstLinks.{EitherStands, StandsIf}
 use Rattle.ped_calls.specs.Scenes.{unit_at, StandsAtCalls}
 use Rattle.ped_calls.specs.Placing.{argument_name}
 use Rattle.ped_calls.specs.declared.placing.Around.{Around}
@@ -95,11 +95,15 @@ abbrev pub passed_number : List ProgramUnit → ℕ → Option (List ℕ) → Op
 passed_number us i None = None
 passed_number us i (Some x) = formal_number us i x
 
+-- something holds for one of these dummy arguments with the argument at its place, and with those behind both
+abbrev pub ForSome : (List ℕ → Option (List ℕ) → List (List ℕ) → List (Option (List ℕ)) → Type 0) → List (List ℕ) → List (Option (List ℕ)) → Type 0
+ForSome holds (f ∷ fs) (a ∷ rest) = holds f a fs rest ⊎ ForSome holds fs rest
+ForSome holds [] arguments = ⊥
+ForSome holds (f ∷ fs) [] = ⊥
+
 -- one of these arguments in the unit with the first number is passed for one of these dummy arguments of the unit with the second
 abbrev pub PassesIn : List ProgramUnit → ℕ → ℕ → List (List ℕ) → List (Option (List ℕ)) → ℕ → ℕ → Type 0
-PassesIn us i k (f ∷ fs) (a ∷ rest) from to = ((formal_number us k f ≡ Some from) × (passed_number us i a ≡ Some to)) ⊎ PassesIn us i k fs rest from to
-PassesIn us i k [] arguments from to = ⊥
-PassesIn us i k (f ∷ fs) [] from to = ⊥
+PassesIn us i k formals arguments from to = ForSome (λ f a fs rest. (formal_number us k f ≡ Some from) × (passed_number us i a ≡ Some to)) formals arguments
 
 -- one of these CALLs of the unit with this number passes a dummy argument for another
 abbrev pub CallsPass : ProgramUnits → ℕ → List PlacedCall → ℕ → ℕ → Type 0
@@ -136,9 +140,7 @@ IsMisfit us u v around formal argument =
 
 -- one of these arguments doesn't fit its dummy argument
 abbrev pub SomeMisfit : ProgramUnits → ProgramUnit → ProgramUnit → Around → List (List ℕ) → List (Option (List ℕ)) → Type 0
-SomeMisfit us u v around (f ∷ fs) (a ∷ rest) = IsMisfit us u v around f a ⊎ SomeMisfit us u v around fs rest
-SomeMisfit us u v around [] arguments = ⊥
-SomeMisfit us u v around (f ∷ fs) [] = ⊥
+SomeMisfit us u v around formals arguments = ForSome (λ f a fs rest. IsMisfit us u v around f a) formals arguments
 
 -- a CALL has another number of arguments than dummy arguments, or one that doesn't fit
 abbrev pub HasMisfit : ProgramUnits → ProgramUnit → ProgramUnit → PlacedCall → Type 0
@@ -148,9 +150,7 @@ HasMisfit us u v c =
 
 -- a variable's name is an argument of a dummy argument, and that or this one is assigned
 abbrev pub IsAgain : ProgramUnits → ProgramUnit → List ℕ → List ℕ → List (List ℕ) → List (Option (List ℕ)) → Type 0
-IsAgain us v formal name (f ∷ fs) (a ∷ rest) = ((a ≡ Some name) × (IsAssigned us v formal ⊎ IsAssigned us v f)) ⊎ IsAgain us v formal name fs rest
-IsAgain us v formal name [] arguments = ⊥
-IsAgain us v formal name (f ∷ fs) [] = ⊥
+IsAgain us v formal name formals arguments = ForSome (λ f a fs rest. (a ≡ Some name) × (IsAssigned us v formal ⊎ IsAssigned us v f)) formals arguments
 
 -- an argument is a variable's name that stands again behind it, and one of both dummy arguments is assigned
 abbrev pub IsAliasedFirst : ProgramUnits → ProgramUnit → ProgramUnit → List ℕ → Option (List ℕ) → List (List ℕ) → List (Option (List ℕ)) → Type 0
@@ -159,9 +159,7 @@ IsAliasedFirst us u v formal (Some x) fs rest = (is_constant (kind_there u x) �
 
 -- one of these arguments is such
 abbrev pub SomeAliased : ProgramUnits → ProgramUnit → ProgramUnit → List (List ℕ) → List (Option (List ℕ)) → Type 0
-SomeAliased us u v (f ∷ fs) (a ∷ rest) = IsAliasedFirst us u v f a fs rest ⊎ SomeAliased us u v fs rest
-SomeAliased us u v [] arguments = ⊥
-SomeAliased us u v (f ∷ fs) [] = ⊥
+SomeAliased us u v formals arguments = ForSome (λ f a fs rest. IsAliasedFirst us u v f a fs rest) formals arguments
 
 -- the CALL of the unit with this number is looked at so
 pub record IsAt (us : ProgramUnits) (i : ℕ) (at : At) : Type 0 where
@@ -170,6 +168,12 @@ pub record IsAt (us : ProgramUnits) (i : ℕ) (at : At) : Type 0 where
   pub caller : at.caller_table.now ≡ table_of (for_names (unit_at us i))
   pub callee : at.callee_table.now ≡ table_of (for_names (unit_at us at.callee))
   pub marks : AreMarks us at.marks.now
+
+-- what stands at a CALL that is looked at so
+abbrev pub StandsHere : ProgramUnits → ℕ → At → LinkRefusal → ℕ → Type 0
+StandsHere us i at =
+    EitherStands (StandsIf Arguments at.call.now.line (HasMisfit us (unit_at us i) (unit_at us at.callee) at.call.now))
+    (StandsIf Aliased at.call.now.line (SomeAliased us (unit_at us i) (unit_at us at.callee) at.formals.now at.call.now.arguments))
 
 -- a CALL of the unit with this number calls one that its arguments don't fit
 abbrev pub MisfitsAt : ProgramUnits → ℕ → PlacedCall → Type 0

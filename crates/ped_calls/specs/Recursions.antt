@@ -19,9 +19,13 @@ CallsIn us calls k = (c : PlacedCall) × IsIn c calls × (number_of_unit us c.na
 abbrev pub IsLeading : List ProgramUnit → List (List ℕ) → ℕ → PlacedCall → Type 0
 IsLeading us ends i c = (k : ℕ) × (number_of_unit us c.name ≡ Some k) × IsReached ends (i ∷ []) k
 
--- one of these CALLs calls a unit that is marked, and comes before what was found
+-- a CALL calls a unit that is marked, and comes before what was found
+abbrev pub CallMayComeFirst : List ProgramUnit → List Bool → Option UnitFinding → PlacedCall → Type 0
+CallMayComeFirst us marks found c = CallsMarked us marks c × (comes_first (record { rule = rule.Recursion; line = c.line }) found ≡ true)
+
+-- one of these CALLs is such
 abbrev pub MayComeFirst : List ProgramUnit → List Bool → Option UnitFinding → List PlacedCall → Type 0
-MayComeFirst us marks found calls = (c : PlacedCall) × IsIn c calls × CallsMarked us marks c × (comes_first (record { rule = rule.Recursion; line = c.line }) found ≡ true)
+MayComeFirst us marks found calls = (c : PlacedCall) × IsIn c calls × CallMayComeFirst us marks found c
 
 -- the first CALL of a unit that calls a unit from which arrows lead from this one; or none of its CALLs calls a unit that is marked and comes before what was found, and none is told
 abbrev pub IsFoundIn : ProgramUnits → List (List ℕ) → List Bool → Option UnitFinding → ℕ → Option UnitFinding → Type 0

@@ -1,6 +1,6 @@
 //! Whether the arguments of CALLs fit dummy arguments (ANSI X3.9-1978, section 15.9.3).
 
-ghost use Rattle.std.specs.Prelude.{◌≡◌, ◌↔◌, ◌⊎◌, ◌<◌, ◌≤◌, ◌+◌, ℕ, [], Some, None, is_some, IfOk, IsTrue, length, drop, get_or};
+ghost use Rattle.std.specs.Prelude.{◌≡◌, ◌↔◌, ◌⊎◌, ◌<◌, ◌≤◌, ◌+◌, ◌||◌, ◌&&◌, ◌∷◌, ℕ, [], Some, None, is_some, not, IfOk, IsTrue, length, drop, get_or};
 ghost use Rattle.ped_base.specs.Lists as Lists;
 ghost use Rattle.ped_valid.specs.ped_symbols.specs.Entries.{entry_of};
 ghost use Rattle.ped_calls.specs.Units.{ProgramUnits};
@@ -43,25 +43,26 @@ fn misfits_in(
 {
     let mut found = None;
     for call in calls {
-        if let Some(callee) = scene.callee(&call.name) {
-            let at = At {
-                call,
-                callee,
-                formals: scene.units[callee].formals.as_slice(),
-                caller_table: &scene.tables[unit],
-                callee_table: &scene.tables[callee],
-                marks,
-            };
-            found = standing(
-                found,
-                at.has_bad_arguments(),
-                UnitRule::Arguments,
-                call.line,
-            );
-            found = standing(found, at.is_aliased(), UnitRule::Aliased, call.line);
-        }
+        found = first_of_two(found, misfit_at(scene, marks, unit, call));
     }
     found
+}
+
+/// The first of what is refused at one CALL of a unit for its arguments.
+fn misfit_at(scene: &Scene, marks: &Marks, unit: usize, call: &PlacedCall) -> Option<UnitFinding>
+    requires { unit < length scene.now.units.now }
+    ensures { (us : ProgramUnits) → IsScene us scene.now → Spec.AreMarks us marks.now → IsFirstOf (Spec.StandsForArguments us unit (call.now ∷ [])) result }
+{
+    let callee = scene.callee(&call.name)?;
+    let at = At {
+        call,
+        callee,
+        formals: scene.units[callee].formals.as_slice(),
+        caller_table: &scene.tables[unit],
+        callee_table: &scene.tables[callee],
+        marks,
+    };
+    at.refusal()
 }
 
 /// A CALL with what its arguments are looked at by.
@@ -76,6 +77,17 @@ struct At<'l> {
 }
 
 impl<'l> At<'l> {
+    /// The first of what is refused here.
+    fn refusal(&self) -> Option<UnitFinding>
+        ensures { (us : ProgramUnits) (i : ℕ) → Spec.IsAt us i self.now → IsFirstOf (Spec.StandsHere us i self.now) result }
+    {
+        let line = self.call.line;
+        let bad = self.has_bad_arguments();
+        let found = standing(None, bad, UnitRule::Arguments, line);
+        let aliased = self.is_aliased();
+        standing(found, aliased, UnitRule::Aliased, line)
+    }
+
     /// Whether the number of arguments differs, or one doesn't fit.
     fn has_bad_arguments(&self) -> bool
         ensures { (us : ProgramUnits) (i : ℕ) → Spec.IsAt us i self.now → IsTrue result ↔ Spec.HasMisfit us (unit_at us i) (unit_at us self.now.callee) self.now.call.now }
@@ -101,9 +113,10 @@ impl<'l> At<'l> {
         let index = self.marks.is_index(self.callee, formal);
         let around = &self.call.around;
         let kind = kind_of_argument(self.caller_table, argument);
-        is_other_kind(&self.callee_table.kind(formal), &kind, assigned)
-            || (assigned && is_one_of(argument, around.variables.as_slice()))
-            || (index && is_one_of(argument, around.private.as_slice()))
+        let other = is_other_kind(&self.callee_table.kind(formal), &kind, assigned);
+        let at_variable = is_one_of(argument, around.variables.as_slice());
+        let at_private = is_one_of(argument, around.private.as_slice());
+        other || (assigned && at_variable) || (index && at_private)
     }
 
     /// Whether one variable's name stands for two dummy arguments of which one is assigned.
@@ -155,7 +168,8 @@ impl<'l> At<'l> {
         let first = self.marks.is_assigned(self.callee, &self.formals[place]);
         for other in place + 1..self.count() {
             let second = self.marks.is_assigned(self.callee, &self.formals[other]);
-            if (first || second) && is_name(&arguments[other], name) {
+            let again = is_name(&arguments[other], name);
+            if again && (first || second) {
                 return true;
             }
         }
@@ -190,10 +204,17 @@ fn is_other_kind(formal: &Option<Kind>, argument: &Option<Kind>, assigned: bool)
 {
     match formal {
         Some(Kind::Array(bounds)) => !has_bounds(argument, bounds),
-        Some(Kind::Scalar) | Some(Kind::Constant(_)) | None => {
-            is_array(argument) || (assigned && !is_scalar(argument))
-        }
+        Some(Kind::Scalar) | Some(Kind::Constant(_)) | None => isnt_scalar(argument, assigned),
     }
+}
+
+/// Whether an argument that stands for this is an array, or no scalar where that is assigned for which it stands.
+fn isnt_scalar(argument: &Option<Kind>, assigned: bool) -> bool
+    ensures { result ≡ (is_some (Rules.bounds_by argument.now) || (assigned && not (Rules.is_scalar argument.now))) }
+{
+    let array = is_array(argument);
+    let scalar = is_scalar(argument);
+    array || (assigned && !scalar)
 }
 
 /// Whether this is an array with these bounds.

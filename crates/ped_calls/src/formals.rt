@@ -193,20 +193,37 @@ fn add_seeds(
         → (n : ℕ) → Rules.IsIn n seeds.new.items ↔ (Rules.IsIn n seeds.old.items ⊎ Spec.IsSeedAmong us unit own.now names.now n)) }
 {
     for name in own {
-        if names.contains(name) {
-            add_number(seeds, formals.number(unit, name))?;
-        }
+        add_seed(seeds, formals, unit, name, names)?;
     }
     Ok(())
+}
+
+/// Adds the number of a dummy argument of a unit where it is among these names.
+fn add_seed(
+    seeds: &mut Vec<usize>,
+    formals: &Formals,
+    unit: usize,
+    name: &Name,
+    names: &NameSet,
+) -> Result<(), NoMemory>
+    ensures below { OnOk result (AreBelow formals.now.count seeds.old.items → AreBelow formals.now.count seeds.new.items) }
+    ensures seeds { OnOk result ((us : List PlainUnit) → AreFormals us formals.now → unit < length us
+        → (n : ℕ) → Rules.IsIn n seeds.new.items ↔ (Rules.IsIn n seeds.old.items ⊎ Spec.IsSeedAmong us unit (name.now ∷ []) names.now n)) }
+{
+    if !names.contains(name) {
+        return Ok(());
+    }
+    add_number(seeds, formals.number(unit, name))
 }
 
 /// Adds a number, where there is one.
 fn add_number(numbers: &mut Vec<usize>, number: Option<usize>) -> Result<(), NoMemory>
     ensures { OnOk result (numbers.new.items ≡ Spec.with_some numbers.old.items number) }
 {
-    if let Some(number) = number {
-        numbers.push(number)?;
-    }
+    let Some(number) = number else {
+        return Ok(());
+    };
+    numbers.push(number)?;
     Ok(())
 }
 
@@ -237,19 +254,36 @@ fn add_passings(
         → (from to : ℕ) → Leads (ends_of arrows.new) from to ↔ (Leads (ends_of arrows.old) from to ⊎ Spec.CallsPass us unit calls.now from to)) }
 {
     for call in calls {
-        if let Some(callee) = scene.callee(&call.name) {
-            let names = scene.units[callee].formals.as_slice();
-            add_passings_of(
-                arrows,
-                formals,
-                unit,
-                callee,
-                names,
-                call.arguments.as_slice(),
-            )?;
-        }
+        add_passings_at(arrows, scene, formals, unit, call)?;
     }
     Ok(())
+}
+
+/// Adds the arrows to dummy arguments of a unit that one CALL of it makes.
+fn add_passings_at(
+    arrows: &mut Arrows,
+    scene: &Scene,
+    formals: &Formals,
+    unit: usize,
+    call: &PlacedCall,
+) -> Result<(), NoMemory>
+    requires { length (ends_of arrows.old) ≡ formals.now.count }
+    ensures wide { length (ends_of arrows.new) ≡ length (ends_of arrows.old) }
+    ensures added { OnOk result ((us : ProgramUnits) → IsScene us scene.now → AreFormals (all_units us) formals.now → unit < length (all_units us)
+        → (from to : ℕ) → Leads (ends_of arrows.new) from to ↔ (Leads (ends_of arrows.old) from to ⊎ Spec.CallsPass us unit (call.now ∷ []) from to)) }
+{
+    let Some(callee) = scene.callee(&call.name) else {
+        return Ok(());
+    };
+    let names = scene.units[callee].formals.as_slice();
+    add_passings_of(
+        arrows,
+        formals,
+        unit,
+        callee,
+        names,
+        call.arguments.as_slice(),
+    )
 }
 
 /// Adds the arrows that a CALL makes, from dummy arguments with these names to the arguments.
@@ -290,10 +324,11 @@ fn add_arrow(arrows: &mut Arrows, from: Option<usize>, to: Option<usize>) -> Res
     ensures wide { length (ends_of arrows.new) ≡ length (ends_of arrows.old) }
     ensures added { OnOk result ((i j : ℕ) → Leads (ends_of arrows.new) i j ↔ (Leads (ends_of arrows.old) i j ⊎ ((from ≡ Some i) × (to ≡ Some j)))) }
 {
-    if let Some(from) = from {
-        if let Some(to) = to {
-            arrows.add(from, to)?;
-        }
-    }
-    Ok(())
+    let Some(from) = from else {
+        return Ok(());
+    };
+    let Some(to) = to else {
+        return Ok(());
+    };
+    arrows.add(from, to)
 }

@@ -8,7 +8,7 @@ ghost use Rattle.ped_calls.specs.FirstLinks.{IsFirstOf};
 ghost use Rattle.ped_calls.specs.ArrowViews.{ends_of};
 ghost use Rattle.ped_calls.specs.Reaching.{Leads};
 ghost use Rattle.ped_calls.specs.Scenes.{IsScene, CallsAt, CallsMarked, StandsAtCalls, AtRecursions};
-ghost use Rattle.ped_calls.specs.Recursions.{CallsIn, IsLeading, MayComeFirst, IsFoundIn};
+ghost use Rattle.ped_calls.specs.Recursions.{CallsIn, CallMayComeFirst, MayComeFirst, IsFoundIn};
 
 use crate::first_links::{comes_first, first_of_two, standing};
 use crate::numbering::is_marked;
@@ -66,15 +66,28 @@ fn may_come_first(
     ensures { (us : ProgramUnits) → IsScene us scene.now → IsTrue result ↔ MayComeFirst (all_units us) marks.now found calls.now }
 {
     for call in calls {
-        let finding = UnitFinding {
-            rule: UnitRule::Recursion,
-            line: call.line,
-        };
-        if is_marked(scene.callee(&call.name), marks) && comes_first(finding, found) {
+        if call_may_come_first(scene, marks, found, call) {
             return true;
         }
     }
     false
+}
+
+/// Whether a CALL comes before what was found and calls a unit that is marked.
+fn call_may_come_first(
+    scene: &Scene,
+    marks: &[bool],
+    found: Option<UnitFinding>,
+    call: &PlacedCall,
+) -> bool
+    ensures { (us : ProgramUnits) → IsScene us scene.now → IsTrue result ↔ CallMayComeFirst (all_units us) marks.now found call.now }
+{
+    let finding = UnitFinding {
+        rule: UnitRule::Recursion,
+        line: call.line,
+    };
+    let comes_before = comes_first(finding, found);
+    comes_before && is_marked(scene.callee(&call.name), marks)
 }
 
 /// The first of these CALLs that calls a unit that is marked.

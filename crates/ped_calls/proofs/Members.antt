@@ -42,3 +42,9 @@ pub in_place : {X : Type 0} (xs : List X) (k : ℕ) (d : X) → k < length xs �
 in_place [] k d h = absurd (omega (arith, h))
 in_place (x ∷ xs) zero d h = inl refl
 in_place (x ∷ xs) (suc k) d h = inr (in_place xs k d (omega (arith, h)))
+
+-- what is read at a place is in the list
+pub in_item : {X : Type 0} (xs : List X) (k : ℕ) (x : X) → k < length xs → x ≡ get_or xs k x → IsIn x xs
+in_item [] k x h e = absurd (omega (arith, h))
+in_item (z ∷ zs) zero x h e = inl e
+in_item (z ∷ zs) (suc k) x h e = inr (in_item zs k x (omega (arith, h)) e)

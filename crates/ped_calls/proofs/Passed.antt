@@ -179,3 +179,9 @@ pub private_behind : (formals : List (List ℕ)) (lines : List ℕ) (ds : List D
 private_behind formals lines ds sites =
     private_append formals lines (flat_map decl_sites ds) sites
     ∙ ap (λ (ns : List ℕ). ns ++ private_lines formals (drop (length (flat_map decl_sites ds)) lines) sites) (no_private_declared formals lines ds)
+
+-- what is found in the statements of a unit
+pub private_of_unit : (formals : List (List ℕ)) (lines here : List ℕ) (ds : List DeclTree) (sites : List Site) (before found : List ℕ) → here ≡ drop (length (flat_map decl_sites ds)) lines → before ≡ [] → found ≡ before ++ private_lines formals here sites
+    → found ≡ private_lines formals lines (flat_map decl_sites ds ++ sites)
+private_of_unit formals lines here ds sites before found at none f =
+    f ∙ ap (λ (ns : List ℕ). ns ++ private_lines formals here sites) none ∙ ap (λ (ls : List ℕ). private_lines formals ls sites) at ∙ sym (private_behind formals lines ds sites)

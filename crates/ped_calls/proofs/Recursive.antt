@@ -246,3 +246,22 @@ callers_more us n calls old new e below before now k i = (from, to)
 -- the arrows of all units
 pub all_callers : (us : ProgramUnits) (n : ℕ) (ends : List (List ℕ)) → n ≡ length (all_units us) → ((k i : ℕ) → Leads ends k i ↔ ((i < n) × CallsAt us i k)) → AreCallers us ends
 all_callers us n ends wide f k i = (λ l. ((f k i).0 l).1, λ h. (f k i).1 (omega (arith, wide, h.0), h))
+
+-- what is marked from a unit along arrows
+marked_leading : (us : List ProgramUnit) (ends : List (List ℕ)) (marks : List Bool) (i : ℕ) (c : PlacedCall) → ((j : ℕ) → IsMarked marks j ↔ IsReached ends (i ∷ []) j) → CallsMarked us marks c → IsLeading us ends i c
+marked_leading us ends marks i c m h = by (number_of_unit us c.name) refl h
+  where
+    by : (o : Option ℕ) → number_of_unit us c.name ≡ o → IsMarkedNumber marks o → IsLeading us ends i c
+    by None e k = absurd k
+    by (Some n) e k = (n, e, (m n).0 k)
+
+leading_marked : (us : List ProgramUnit) (ends : List (List ℕ)) (marks : List Bool) (i : ℕ) (c : PlacedCall) → ((j : ℕ) → IsMarked marks j ↔ IsReached ends (i ∷ []) j) → IsLeading us ends i c → CallsMarked us marks c
+leading_marked us ends marks i c m h = subst (IsMarkedNumber marks) (sym h.1) ((m h.0).1 h.2)
+
+-- the first CALL of a unit that is marked is the first that leads back
+pub found_leading : (us : List ProgramUnit) (ends : List (List ℕ)) (marks : List Bool) (i : ℕ) (calls : List PlacedCall) (found : Option UnitFinding) → ((j : ℕ) → IsMarked marks j ↔ IsReached ends (i ∷ []) j)
+    → IsFirstOf (StandsAtCalls calls Recursion (CallsMarked us marks)) found → IsFirstOf (StandsAtCalls calls Recursion (IsLeading us ends i)) found
+found_leading us ends marks i calls found m h =
+    first_as (StandsAtCalls calls Recursion (CallsMarked us marks)) (StandsAtCalls calls Recursion (IsLeading us ends i)) found
+    (λ r line s. record { is_rule = s.is_rule; call = s.call; is_call = s.is_call; stands = marked_leading us ends marks i s.call m s.stands; there = s.there })
+    (λ r line s. record { is_rule = s.is_rule; call = s.call; is_call = s.is_call; stands = leading_marked us ends marks i s.call m s.stands; there = s.there }) h

@@ -1,15 +1,21 @@
 -- The arguments of a CALL, looked at one after the other.
-use Rattle.std.proofs.Common.{◌≡◌, ◌⊎◌, inl, inr, ℕ, zero, suc, ◌+◌, ◌<◌, ◌≤◌, List, [], ◌∷◌, Bool, true, false, not, ◌||◌, ◌&&◌, Option, Some, None, is_some, length, drop, get_or, refl, sym, ap, subst, ◌∙◌, arith, Decides}
+use Rattle.std.proofs.Common.{◌≡◌, ◌⊎◌, inl, inr, ℕ, zero, suc, ◌+◌, ◌-◌, ◌<◌, ◌≤◌, List, [], ◌∷◌, Bool, true, false, not, ◌||◌, ◌&&◌, Option, Some, None, is_some, length, map, drop, get_or, refl, sym, ap, subst, ◌∙◌, arith, Decides}
 use Rattle.std.specs.Prelude.{IsTrue}
 use Rattle.std.proofs.lemmas.Bool.{or_left, or_right, or_cases, and_parts, and_from, not-true, not_from_false, false_from_ne_true}
 use Rattle.std.proofs.lemmas.Bool.Decides.{Decides-like, Decides-and, Decides-or, not_from_Decides}
-use Rattle.std.proofs.lemmas.List.{drop_more, drop_all}
+use Rattle.std.proofs.lemmas.List.{drop_more, drop_all, drop-drop, get_or_default, get_or-map}
 use Rattle.ped_base.specs.Dimensions.{Dimensions}
 use Rattle.ped_valid.specs.ped_symbols.specs.declared.symbols.Kind.{Kind}
 use Rattle.ped_valid.specs.ped_symbols.specs.declared.symbols.Kind.TheVariants.{Array}
-use Rattle.ped_calls.specs.Units.{ProgramUnit, ProgramUnits}
+use Rattle.ped_valid.specs.ped_symbols.specs.Entries.{entry_of}
+use Rattle.ped_valid.specs.ped_symbols.specs.Kinds.{Table, table_of}
+use Rattle.ped_valid.specs.ped_symbols.proofs.RightUseLaws.Found.{found_in_program}
+use Rattle.ped_calls.specs.Units.{ProgramUnit, ProgramUnits, all_units}
 use Rattle.ped_calls.specs.Linking.{IsAssigned, IsIndex, kind_there, bounds_by, is_scalar}
-use Rattle.ped_calls.specs.Arguments.{ForSome, IsOtherKind, IsMisfit, kind_of_name, is_one_of}
+use Rattle.ped_calls.specs.Arguments.{ForSome, IsOtherKind, IsMisfit, kind_of_argument, kind_of_name, is_one_of}
+use Rattle.ped_calls.specs.Naming.{AreTables}
+use Rattle.ped_calls.specs.Refusals.{for_names}
+use Rattle.ped_calls.specs.Scenes.{unit_at}
 use Rattle.ped_calls.specs.declared.placing.Around.{Around}
 
 -- at a place, or behind it
@@ -100,3 +106,30 @@ misfit_told us u v around f a other assigned index at_variable at_private o s i 
 pub again_told : (us : ProgramUnits) (v : ProgramUnit) (f g name : List ℕ) (a : Option (List ℕ)) (again first second : Bool) → Decides again (a ≡ Some name) → Decides first (IsAssigned us v f) → Decides second (IsAssigned us v g)
     → Decides (again && (first || second)) ((a ≡ Some name) × (IsAssigned us v f ⊎ IsAssigned us v g))
 again_told us v f g name a again first second o s t = Decides-and again (first || second) o (Decides-or first second s t)
+
+-- what holds behind a place holds behind one before it
+pub some_later : (P : List ℕ → Option (List ℕ) → List (List ℕ) → List (Option (List ℕ)) → Type 0) (k j : ℕ) (fs : List (List ℕ)) (ns : List (Option (List ℕ))) → k ≤ j → ForSome P (drop j fs) (drop j ns) → ForSome P (drop k fs) (drop k ns)
+some_later P k j fs ns low h =
+    let m = j - k in
+    let same : j ≡ k + m = omega (arith, low) in
+    some_behind P m (drop k fs) (drop k ns)
+    (subst (λ (gs : List (List ℕ)). ForSome P gs (drop m (drop k ns))) (ap (λ (i : ℕ). drop i fs) same ∙ sym (drop-drop m k fs))
+    (subst (λ (ms : List (Option (List ℕ))). ForSome P (drop j fs) ms) (ap (λ (i : ℕ). drop i ns) same ∙ sym (drop-drop m k ns)) h))
+
+-- what is read at a place
+pub read_at : {X : Type 0} (xs ys : List X) (k : ℕ) (r d : X) → xs ≡ ys → k < length ys → get_or xs k r ≡ get_or ys k d
+read_at xs ys k r d e low = ap (λ zs. get_or zs k r) e ∙ get_or_default ys k r d low
+
+-- what a table says of a name
+pub kind_by_table : (u : ProgramUnit) (table : Table) (x : List ℕ) → table ≡ table_of (for_names u) → entry_of table.kinds x ≡ kind_there u x
+kind_by_table u table x e = ap (λ (t : Table). entry_of t.kinds x) e ∙ found_in_program (for_names u) x
+
+pub argument_kind : (u : ProgramUnit) (table : Table) (a : Option (List ℕ)) → table ≡ table_of (for_names u) → kind_of_argument table a ≡ kind_of_name u a
+argument_kind u table None e = refl
+argument_kind u table (Some x) e = kind_by_table u table x e
+
+-- the table that is read at a place
+pub table_read : (us : ProgramUnits) (tables : List Table) (n : ℕ) (r : Table) → AreTables (all_units us) tables → n < length (all_units us) → get_or tables n r ≡ table_of (for_names (unit_at us n))
+table_read us tables n r h low =
+    ap (λ (ts : List Table). get_or ts n r) h
+    ∙ get_or-map (λ (u : ProgramUnit). table_of (for_names u)) (all_units us) n us.main r low

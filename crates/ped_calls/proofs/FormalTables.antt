@@ -91,12 +91,18 @@ places_there (u ∷ us) (s ∷ ss) zero t a h e = subst (λ (r : PlaceTable). Ar
 places_there (u ∷ us) (s ∷ ss) (suc k) t a h e = places_there us ss k t a.1 (omega (arith, h)) e
 
 -- a number by its base and its place
-pub number_by : (us : List ProgramUnit) (k base p : ℕ) (x : List ℕ) (o : Option ℕ) → o ≡ place_among (formals_at us k) 0 x → o ≡ Some p → base ≡ formal_count (take k us) → Some (base + p) ≡ formal_number us k x
+number_by : (us : List ProgramUnit) (k base p : ℕ) (x : List ℕ) (o : Option ℕ) → o ≡ place_among (formals_at us k) 0 x → o ≡ Some p → base ≡ formal_count (take k us) → Some (base + p) ≡ formal_number us k x
 number_by us k base p x o e is b = ap (λ (n : ℕ). number_behind n (Some p)) b ∙ ap (number_behind (formal_count (take k us))) (sym is ∙ e)
 
 pub no_number_by : (us : List ProgramUnit) (k : ℕ) (x : List ℕ) (o : Option ℕ) → o ≡ place_among (formals_at us k) 0 x → o ≡ None → None ≡ formal_number us k x
 no_number_by us k x o e is = ap (number_behind (formal_count (take k us))) (sym is ∙ e)
 
 -- numbers are below the count
-pub number_low : (us : List ProgramUnit) (k n : ℕ) (x : List ℕ) (f : Formals) → AreFormals us f → Some n ≡ formal_number us k x → n < f.count
+number_low : (us : List ProgramUnit) (k n : ℕ) (x : List ℕ) (f : Formals) → AreFormals us f → Some n ≡ formal_number us k x → n < f.count
 number_low us k n x f h e = let there = (numbered_there us k x n (sym e)).below in omega (arith, there, h.count)
+
+-- the number of a dummy argument, and that it is low
+pub number_there : (us : List ProgramUnit) (k base p : ℕ) (x : List ℕ) (f : Formals) (o : Option ℕ) → AreFormals us f → o ≡ place_among (formals_at us k) 0 x → o ≡ Some p → base ≡ formal_count (take k us) → (base + p < f.count) × (Some (base + p) ≡ formal_number us k x)
+number_there us k base p x f o h e is b =
+    let number = number_by us k base p x o e is b in
+    (number_low us k (base + p) x f h number, number)

@@ -1,10 +1,13 @@
 -- The first subroutine of a name, and its number.
-use Rattle.std.proofs.Common.{◌≡◌, ◌⊎◌, inl, inr, ℕ, zero, suc, ◌+◌, ◌-◌, ◌<◌, ◌≤◌, List, [], ◌∷◌, Bool, true, false, Option, Some, None, length, drop, get_or, refl, sym, ap, subst, ◌∙◌, if◌then◌else◌, arith}
+use Rattle.std.proofs.Common.{◌≡◌, ◌⊎◌, inl, inr, ℕ, zero, suc, ◌+◌, ◌-◌, ◌<◌, ◌≤◌, List, [], ◌∷◌, Bool, true, false, Option, Some, None, length, map, drop, get_or, refl, sym, ap, subst, ◌∙◌, if◌then◌else◌, arith}
 use Rattle.std.specs.Prelude.{IfSome}
+use Rattle.std.proofs.lemmas.List.{length-map, get_or-map}
 use Rattle.ped_base.specs.Lists.{is_same_text}
 use Rattle.ped_calls.specs.Units.{ProgramUnit, ProgramUnits, all_units, unit_among, unit_of}
 use Rattle.ped_calls.specs.Numbers.{number_among, number_of_unit}
 use Rattle.ped_calls.specs.Scenes.{unit_at}
+use Rattle.ped_calls.specs.Views.{program_unit_of}
+use Rattle.ped_calls.specs.declared.units.ProgramUnit as code
 
 -- a unit is found by its number
 pub record IsNumbered (us : List ProgramUnit) (n : ℕ) (x : List ℕ) (k : ℕ) (d : ProgramUnit) : Type 0 where
@@ -78,3 +81,11 @@ number_of_unit_of us x v h = by (number_of_unit (all_units us) x) refl
 pub number_below : (us : ProgramUnits) (x : List ℕ) (o : Option ℕ) (count : ℕ) → o ≡ number_of_unit (all_units us) x → count ≡ length (all_units us) → IfSome o (λ k. k < count)
 number_below us x None count e w = tt
 number_below us x (Some k) count e w = let below = (unit_of_number us x k (sym e)).1 in omega (arith, below, w)
+
+-- the unit that is read at a place
+pub unit_read : (us : ProgramUnits) (units : List code.ProgramUnit) (n : ℕ) (r : code.ProgramUnit) → map program_unit_of units ≡ all_units us → n < length units → unit_at us n ≡ program_unit_of (get_or units n r)
+unit_read us units n r e low = ap (λ (vs : List ProgramUnit). get_or vs n us.main) (sym e) ∙ get_or-map program_unit_of units n r us.main low
+
+-- as many units
+pub units_long : (us : ProgramUnits) (units : List code.ProgramUnit) → map program_unit_of units ≡ all_units us → length units ≡ length (all_units us)
+units_long us units e = sym (length-map units program_unit_of) ∙ ap length e

@@ -164,19 +164,19 @@ passes_whole us i k (suc n) (f ∷ fs) (a ∷ ns) from to e (inl h) = inl h
 passes_whole us i k (suc n) (f ∷ fs) (a ∷ ns) from to e (inr h) = inr (passes_whole us i k n fs ns from to (elim e [ inl x ↦ inl (omega (arith, x)) | inr y ↦ inr (omega (arith, y)) ]) h)
 
 -- what one CALL passes
-pub call_passes : (us : ProgramUnits) (i k : ℕ) (c : PlacedCall) (from to : ℕ) → number_of_unit (all_units us) c.name ≡ Some k → PassesIn (all_units us) i k (unit_at us k).formals c.arguments from to → CallsPass us i (c ∷ []) from to
+call_passes : (us : ProgramUnits) (i k : ℕ) (c : PlacedCall) (from to : ℕ) → number_of_unit (all_units us) c.name ≡ Some k → PassesIn (all_units us) i k (unit_at us k).formals c.arguments from to → CallsPass us i (c ∷ []) from to
 call_passes us i k c from to named h = (c, inl refl, (k, named, h))
 
 same_some : (a b : ℕ) → Some a ≡ Some b → a ≡ b
 same_some a b e = cc
 
-pub passes_by_call : (us : ProgramUnits) (i k : ℕ) (c : PlacedCall) (from to : ℕ) → number_of_unit (all_units us) c.name ≡ Some k → CallsPass us i (c ∷ []) from to → PassesIn (all_units us) i k (unit_at us k).formals c.arguments from to
+passes_by_call : (us : ProgramUnits) (i k : ℕ) (c : PlacedCall) (from to : ℕ) → number_of_unit (all_units us) c.name ≡ Some k → CallsPass us i (c ∷ []) from to → PassesIn (all_units us) i k (unit_at us k).formals c.arguments from to
 passes_by_call us i k c from to named h =
     let is = in_one h.0 c h.1 in
     let same : h.2.0 ≡ k = same_some h.2.0 k (sym h.2.1 ∙ ap (λ (d : PlacedCall). number_of_unit (all_units us) d.name) is ∙ named) in
     subst (λ (n : ℕ). PassesIn (all_units us) i n (unit_at us n).formals c.arguments from to) same (subst (λ (d : PlacedCall). PassesIn (all_units us) i h.2.0 (unit_at us h.2.0).formals d.arguments from to) is h.2.2)
 
-pub none_by_call : (us : ProgramUnits) (i : ℕ) (c : PlacedCall) (from to : ℕ) → number_of_unit (all_units us) c.name ≡ None → CallsPass us i (c ∷ []) from to → ⊥
+none_by_call : (us : ProgramUnits) (i : ℕ) (c : PlacedCall) (from to : ℕ) → number_of_unit (all_units us) c.name ≡ None → CallsPass us i (c ∷ []) from to → ⊥
 none_by_call us i c from to none h = no h.2.0 (sym h.2.1 ∙ ap (λ (d : PlacedCall). number_of_unit (all_units us) d.name) (in_one h.0 c h.1) ∙ none)
   where
     no : (n : ℕ) → Some n ≡ None → ⊥
@@ -209,3 +209,18 @@ units_step us n calls old new e before now from to = (
   λ l. more_passed us n from to (elim ((now from to).0 l) [ inl o ↦ inl ((before from to).0 o) | inr h ↦ inr (subst (λ (cs : List PlacedCall). CallsPass us n cs from to) e h) ]),
   λ h. elim (passed_more us n from to h) [ inl x ↦ (now from to).1 (inl ((before from to).1 x)) | inr y ↦ (now from to).1 (inr (subst (λ (cs : List PlacedCall). CallsPass us n cs from to) (sym e) y)) ],
 )
+
+-- the arrows of one CALL
+pub call_step : (us : ProgramUnits) (i k : ℕ) (c : PlacedCall) (names : List (List ℕ)) (arguments : List (Option (List ℕ))) (old new : List (List ℕ)) → number_of_unit (all_units us) c.name ≡ Some k → names ≡ (unit_at us k).formals → arguments ≡ c.arguments
+    → ((from to : ℕ) → Leads new from to ↔ (Leads old from to ⊎ PassesIn (all_units us) i k names arguments from to)) → (from to : ℕ) → Leads new from to ↔ (Leads old from to ⊎ CallsPass us i (c ∷ []) from to)
+call_step us i k c names arguments old new named formals given now from to =
+    let known : Leads new from to ↔ (Leads old from to ⊎ PassesIn (all_units us) i k (unit_at us k).formals c.arguments from to) =
+    subst (λ (fs : List (List ℕ)). Leads new from to ↔ (Leads old from to ⊎ PassesIn (all_units us) i k fs c.arguments from to)) formals
+    (subst (λ (ns : List (Option (List ℕ))). Leads new from to ↔ (Leads old from to ⊎ PassesIn (all_units us) i k names ns from to)) given (now from to)) in (
+      λ l. elim (known.0 l) [ inl o ↦ inl o | inr h ↦ inr (call_passes us i k c from to named h) ],
+      λ h. known.1 (elim h [ inl o ↦ inl o | inr x ↦ inr (passes_by_call us i k c from to named x) ]),
+    )
+
+-- none of a CALL of no unit
+pub no_call_step : (us : ProgramUnits) (i : ℕ) (c : PlacedCall) (old : List (List ℕ)) → number_of_unit (all_units us) c.name ≡ None → (from to : ℕ) → Leads old from to ↔ (Leads old from to ⊎ CallsPass us i (c ∷ []) from to)
+no_call_step us i c old none from to = (λ l. inl l, λ h. elim h [ inl o ↦ o | inr x ↦ absurd (none_by_call us i c from to none x) ])

@@ -1,5 +1,5 @@
 -- What stands at CALLs and PRIVATE statements, by units and by what walks over them find.
-use Rattle.std.proofs.Common.{◌≡◌, ◌⊎◌, inl, inr, ℕ, zero, suc, ◌<◌, List, [], ◌∷◌, ◌++◌, Bool, true, false, Option, Some, None, length, drop, get_or, refl, sym, ap, subst, ◌∙◌, arith}
+use Rattle.std.proofs.Common.{◌≡◌, ◌⊎◌, inl, inr, ℕ, zero, suc, ◌<◌, List, [], ◌∷◌, ◌++◌, Bool, true, false, Option, Some, None, length, map, drop, get_or, refl, sym, ap, subst, ◌∙◌, arith}
 use Rattle.std.specs.List.{list_any}
 use Rattle.std.specs.Prelude.{IsTrue, if◌then◌else◌}
 use Rattle.std.proofs.lemmas.Bool.{or_left, or_right, or_cases}
@@ -13,7 +13,7 @@ use Rattle.ped_calls.specs.FirstLinks.{IsFirstOf, EitherStands, first_link_of}
 use Rattle.ped_calls.specs.Links.{StandsAtLines, StandsAtPlaces, PlacesFound}
 use Rattle.ped_calls.specs.Numbers.{number_of_unit}
 use Rattle.ped_calls.specs.Placing.{placed_call, private_line, private_lines}
-use Rattle.ped_calls.specs.Scenes.{IsWalked, AreWalked, AtPlaces}
+use Rattle.ped_calls.specs.Scenes.{unit_at, IsWalked, AreWalked, AtPlaces}
 use Rattle.ped_calls.specs.declared.placing.Found.{Found}
 use Rattle.ped_calls.specs.declared.placing.PlacedCall.{PlacedCall}
 use Rattle.ped_calls.specs.declared.refusals.UnitFinding.{UnitFinding}
@@ -188,3 +188,7 @@ walked_long [] [] w = refl
 walked_long [] (g ∷ gs) w = absurd w
 walked_long (v ∷ vs) [] w = absurd w
 walked_long (v ∷ vs) (g ∷ gs) w = ap suc (walked_long vs gs w.1)
+
+-- the CALLs that are read at the place of a walk
+pub calls_read : (us : ProgramUnits) (walks : List Found) (n : ℕ) (r : Found) → AreWalked (all_units us) walks → n < length (all_units us) → r ≡ get_or walks n r → (get_or walks n r).calls.items ≡ map placed_call (calls_of (unit_at us n))
+calls_read us walks n r w low e = ap (λ (f : Found). f.calls.items) (sym e) ∙ (walk_there (all_units us) walks n us.main r w low e).calls

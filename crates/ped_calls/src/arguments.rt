@@ -116,7 +116,7 @@ impl<'l> At<'l> {
         let other = is_other_kind(&self.callee_table.kind(formal), &kind, assigned);
         let at_variable = is_one_of(argument, around.variables.as_slice());
         let at_private = is_one_of(argument, around.private.as_slice());
-        other || (assigned && at_variable) || (index && at_private)
+        other | (assigned & at_variable) | (index & at_private)
     }
 
     /// Whether one variable's name stands for two dummy arguments of which one is assigned.
@@ -150,11 +150,23 @@ impl<'l> At<'l> {
             (drop (place + 1) self.now.formals.now) (drop (place + 1) self.now.call.now.arguments) }
     {
         match &self.call.arguments.as_slice()[place] {
-            Some(name) if !is_constant(self.caller_table, name) => {
-                self.is_aliased_behind(place, name)
-            }
-            _ => false,
+            Some(name) => self.is_name_aliased(place, name),
+            None => false,
         }
+    }
+
+    /// Whether a name that stands at a place is a variable's, stands again behind it, and one of the two is assigned.
+    fn is_name_aliased(&self, place: usize, name: &Name) -> bool
+        requires arguments { place < length self.now.call.now.arguments }
+        requires formals { place < length self.now.formals.now }
+        ensures { (us : ProgramUnits) (i : ℕ) → Spec.IsAt us i self.now
+            → IsTrue result ↔ Spec.IsAliasedFirst us (unit_at us i) (unit_at us self.now.callee) (get_or self.now.formals.now place []) (Some name.now)
+            (drop (place + 1) self.now.formals.now) (drop (place + 1) self.now.call.now.arguments) }
+    {
+        if is_constant(self.caller_table, name) {
+            return false;
+        }
+        self.is_aliased_behind(place, name)
     }
 
     /// Whether a variable's name stands behind a place, where it stands too, and one of the two is assigned.
@@ -164,16 +176,25 @@ impl<'l> At<'l> {
         ensures { (us : ProgramUnits) (i : ℕ) → Spec.IsAt us i self.now
             → IsTrue result ↔ Spec.IsAgain us (unit_at us self.now.callee) (get_or self.now.formals.now place []) name.now (drop (place + 1) self.now.formals.now) (drop (place + 1) self.now.call.now.arguments) }
     {
-        let arguments = self.call.arguments.as_slice();
-        let first = self.marks.is_assigned(self.callee, &self.formals[place]);
+        let assigned = self.marks.is_assigned(self.callee, &self.formals[place]);
         for other in place + 1..self.count() {
-            let second = self.marks.is_assigned(self.callee, &self.formals[other]);
-            let again = is_name(&arguments[other], name);
-            if again && (first || second) {
+            if self.is_again_at(other, name, assigned) {
                 return true;
             }
         }
         false
+    }
+
+    /// Whether a name stands at a place, where its dummy argument is assigned, or another is.
+    fn is_again_at(&self, place: usize, name: &Name, other_assigned: bool) -> bool
+        requires arguments { place < length self.now.call.now.arguments }
+        requires formals { place < length self.now.formals.now }
+        ensures { (us : ProgramUnits) (i : ℕ) → Spec.IsAt us i self.now
+            → IsTrue result ↔ ((get_or self.now.call.now.arguments place None ≡ Some name.now) × (IsTrue other_assigned ⊎ Rules.IsAssigned us (unit_at us self.now.callee) (get_or self.now.formals.now place []))) }
+    {
+        let again = is_name(&self.call.arguments.as_slice()[place], name);
+        let assigned = self.marks.is_assigned(self.callee, &self.formals[place]);
+        again & (other_assigned | assigned)
     }
 }
 
@@ -231,7 +252,10 @@ fn has_bounds(kind: &Option<Kind>, bounds: &Bounds) -> bool
 fn are_same(a: &Bounds, b: &Bounds) -> bool
     ensures { IsTrue result ↔ (a.now ≡ b.now) }
 {
-    a.rank == b.rank && a.lower == b.lower && a.upper == b.upper
+    let ranks = a.rank == b.rank;
+    let lowers = a.lower == b.lower;
+    let uppers = a.upper == b.upper;
+    ranks & lowers & uppers
 }
 
 /// Whether this is an array.

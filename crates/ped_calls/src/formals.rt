@@ -1,6 +1,6 @@
 //! Dummy arguments by numbers, and those that are assigned or DO variables, in their units or where they are passed on.
 
-ghost use Rattle.std.specs.Prelude.{◌≡◌, ◌↔◌, ◌⊎◌, ◌<◌, ◌≤◌, ◌++◌, ◌∷◌, [], ℕ, List, Some, map, IfOk, IfSome, OnOk, IsTrue, length};
+ghost use Rattle.std.specs.Prelude.{◌≡◌, ◌↔◌, ◌⊎◌, ◌<◌, ◌≤◌, ◌+◌, ◌++◌, ◌∷◌, [], ℕ, List, Some, map, IfOk, IfSome, OnOk, IsTrue, length};
 ghost use Rattle.ped_base.specs.Lists as Lists;
 ghost use Rattle.ped_calls.specs.Units.{ProgramUnit as PlainUnit, ProgramUnits, all_units};
 ghost use Rattle.ped_calls.specs.Linking as Rules;
@@ -68,15 +68,15 @@ impl Formals {
         ensures below { IfSome result (λ n. n < self.now.count) }
         ensures number { (us : List PlainUnit) → AreFormals us self.now → unit < length us → result ≡ Spec.formal_number us unit name.now }
     {
-        if unit >= self.bases.len() || unit >= self.places.len() {
+        if unit >= self.bases.len() {
             return None;
         }
-        let place = place_of(&self.places[unit], name)?;
-        let number = self.bases[unit].checked_add(place)?;
-        if number < self.count {
-            Some(number)
-        } else {
-            None
+        if unit >= self.places.len() {
+            return None;
+        }
+        match place_of(&self.places[unit], name) {
+            Some(place) => sum_below(self.bases[unit], place, self.count),
+            None => None,
         }
     }
 
@@ -306,6 +306,15 @@ fn add_passings_of(
         add_arrow(arrows, from, to)?;
     }
     Ok(())
+}
+
+/// The sum of two numbers, where it is below a bound.
+fn sum_below(a: usize, b: usize, bound: usize) -> Option<usize>
+    ensures below { IfSome result (λ n. n < bound) }
+    ensures sum { a + b < bound → result ≡ Some (a + b) }
+{
+    let sum = a.checked_add(b)?;
+    if sum < bound { Some(sum) } else { None }
 }
 
 /// The lesser one of two numbers.

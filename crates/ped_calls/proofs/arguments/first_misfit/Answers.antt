@@ -7,7 +7,7 @@ use Rattle.ped_calls.specs.FirstLinks.{IsFirstOf}
 use Rattle.ped_calls.specs.Placing.{placed_call}
 use Rattle.ped_calls.specs.Scenes.{unit_at, AtArguments}
 use Rattle.ped_calls.specs.declared.placing.PlacedCall.{PlacedCall}
-use Rattle.ped_calls.proofs.PlacesMet.{walk_there}
+use Rattle.ped_calls.proofs.PlacesMet.{calls_read}
 use Rattle.ped_calls.specs.Views.{program_unit_of}
 use Rattle.ped_calls.proofs.FirstFound.{first_as}
 use Rattle.ped_calls.proofs.ArgumentsMet.{ArgumentsBelow, no_arguments, arguments_more, arguments_from, arguments_to}
@@ -24,8 +24,7 @@ loop-unit-preserved c us scene =
     let long = ap length scene.units in
     let as_long = length-map c.args.scene.now.units.now program_unit_of in
     let below : i < length (all_units us) = omega (arith, long, as_long) in
-    let walked = walk_there (all_units us) walks i us.main walk scene.walked below c.index-scene-unit.is in
-    let calls : c.deref.result.now ≡ map placed_call (calls_of (unit_at us i)) = c.deref.ensures.value ∙ walked.calls in
+    let calls : c.deref.result.now ≡ map placed_call (calls_of (unit_at us i)) = c.deref.ensures.value ∙ calls_read us walks i walk scene.walked below c.index-scene-unit.is in
     let marks = c.in_ok-marks.ensures us scene in
     subst (IsFirstOf (ArgumentsBelow us (i + 1))) (sym c.first_of_two-found.ensures)
     (arguments_more us c.loop-unit.found c.misfits_in-more.result i (c.loop-unit.invariant us scene) (subst (λ (cs : List PlacedCall). IsFirstOf (StandsForArguments us i cs) c.misfits_in-more.result) calls (c.misfits_in-more.ensures us scene marks)))

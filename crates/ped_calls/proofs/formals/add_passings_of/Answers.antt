@@ -28,4 +28,13 @@ loop-place-preserved c =
     }
 
 pub returns-clause-added : goal.returns-clause-added
-returns-clause-added c us f u k from to = ?
+returns-clause-added c us f u k from to =
+    let names = c.args.names.now in
+    let arguments = c.args.arguments.now in
+    let p = c.loop-place.place in
+    let known = c.loop-place.invariant.added us f u k from to in
+    let ended : p ≡ c.lesser-place-end.result = omega (arith, c.loop-place-test.false, c.loop-place.auto.place-end) in
+    let whole : (p ≡ length names) ⊎ (p ≡ length arguments) = elim c.lesser-place-end.ensures.one [ inl e ↦ inl (ended ∙ e) | inr e ↦ inr (ended ∙ e) ] in (
+      λ l. elim (known.0 l) [ inl o ↦ inl o | inr h ↦ inr (passes_front us c.args.unit c.args.callee p names arguments from to h) ],
+      λ h. known.1 (elim h [ inl o ↦ inl o | inr x ↦ inr (passes_whole us c.args.unit c.args.callee p names arguments from to whole x) ]),
+    )

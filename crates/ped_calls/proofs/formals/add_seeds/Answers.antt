@@ -1,6 +1,7 @@
-use Rattle.std.proofs.Common.{◌≡◌, ◌+◌, ◌≤◌, [], ◌∷◌, ◌++◌, ℕ, List, length, take, inl, inr, subst, arith, take_all}
+use Rattle.std.proofs.Common.{◌≡◌, ◌⊎◌, ◌↔◌, ◌+◌, ◌≤◌, [], ◌∷◌, ◌++◌, ℕ, List, length, take, inl, inr, subst, arith, take_all}
 use Rattle.std.proofs.lemmas.Grind.{common_steps}
 use Rattle.ped_calls.specs.Arguments.{IsSeedAmong}
+use Rattle.ped_calls.specs.Linking.{IsIn}
 use Rattle.ped_calls.proofs.Seeds.{seeds_step}
 use Rattle.ped_calls.proofs.formals.add_seeds.Goals as goal
 
@@ -19,4 +20,6 @@ loop-name-preserved c =
     }
 
 pub returns-clause-seeds : goal.returns-clause-seeds
-returns-clause-seeds c us f u n = ?
+returns-clause-seeds c us f u n =
+    let ended : length c.args.own.now ≤ c.loop-name.name-index = omega arith in
+    subst (λ (own : List (List ℕ)). IsIn n c.loop-name.seeds.items ↔ (IsIn n c.args.seeds.now.items ⊎ IsSeedAmong us c.args.unit own c.args.names.now n)) (take_all c.loop-name.name-index c.args.own.now ended) (c.loop-name.invariant.seeds us f u n)

@@ -21,7 +21,7 @@ loop-walk-preserved c us scene =
     let walk = c.walk-item.result in
     let more : take (i + 1) walks ≡ take i walks ++ walk ∷ [] = grind (arith, common_steps) in
     let lines = subst (λ (ls : List ℕ). IsFirstOf (StandsAtLines ls) c.at_private.result) c.deref.ensures.value c.at_private.ensures in
-    let calls = subst (λ (cs : List PlacedCall). IsFirstOf (StandsAtPlaces (all_units us) cs) c.at_calls.result) c.deref-2.ensures.value (c.at_calls.ensures us scene) in
+    let calls = subst (λ (cs : List PlacedCall). IsFirstOf (StandsAtPlaces (all_units us) cs) c.at_calls.result) c.deref-in-loop-walk.ensures.value (c.at_calls.ensures us scene) in
     subst (IsFirstOf (PlacesFound us (take (i + 1) walks))) (sym (c.first_of_two-found-in-loop-walk.ensures ∙ ap (λ (o : Option UnitFinding). first_link_of o c.at_calls.result) c.first_of_two-found.ensures))
     (places_more us (take i walks) (take (i + 1) walks) walk c.loop-walk.found c.at_private.result c.at_calls.result more (c.loop-walk.invariant us scene) lines calls)
 

@@ -1,6 +1,10 @@
-use Rattle.std.proofs.Common.{◌≡◌, ◌+◌, [], ◌∷◌, ◌++◌, take, inl, inr, refl, arith}
+use Rattle.std.proofs.Common.{◌≡◌, ◌⊎◌, ◌↔◌, ◌+◌, ◌≤◌, [], ◌∷◌, ◌++◌, List, length, take, inl, inr, refl, subst, arith, take_all}
 use Rattle.std.proofs.lemmas.Grind.{common_steps}
 use Rattle.ped_calls.specs.ArrowViews.{ends_of}
+use Rattle.ped_calls.specs.Reaching.{Leads}
+use Rattle.ped_calls.specs.Recursions.{CallsIn}
+use Rattle.ped_calls.specs.Units.{all_units}
+use Rattle.ped_calls.specs.declared.placing.PlacedCall.{PlacedCall}
 use Rattle.ped_calls.proofs.Recursive.{callers_step}
 use Rattle.ped_calls.proofs.recursion.add_callers.Goals as goal
 
@@ -18,3 +22,8 @@ loop-call-preserved c =
       wide = omega (arith, wide, c.loop-call.invariant.wide);
       added = λ us scene. callers_step us (take i all) (take (i + 1) all) call c.args.unit c.callee.result (ends_of c.args.arrows.now) (ends_of c.loop-call.arrows) (ends_of c.add_caller.new.arrows) more (c.callee.ensures.number us scene) (c.loop-call.invariant.added us scene) c.in_ok-add_caller.ensures.added;
     }
+
+pub returns-clause-added : goal.returns-clause-added
+returns-clause-added c us scene k i =
+    let ended : length c.args.calls.now ≤ c.loop-call.call-index = omega arith in
+    subst (λ (calls : List PlacedCall). Leads (ends_of c.loop-call.arrows) k i ↔ (Leads (ends_of c.args.arrows.now) k i ⊎ ((i ≡ c.args.unit) × CallsIn (all_units us) calls k))) (take_all c.loop-call.call-index c.args.calls.now ended) (c.loop-call.invariant.added us scene k i)

@@ -1,18 +1,17 @@
-use Rattle.std.proofs.Common.{◌≡◌, ◌<◌, ◌≤◌, ◌+◌, ℕ, List, [], Option, None, inl, inr, refl, length, drop, get_or, sym, ap, subst, ◌∙◌, arith}
-use Rattle.std.proofs.lemmas.Bool.{iff_false, false≢true}
-use Rattle.std.proofs.lemmas.List.{get_or_read}
+use Rattle.std.proofs.Common.{◌≡◌, ◌<◌, List, [], Option, None, ℕ, inl, inr, refl, length, get_or, sym, ap, subst, ◌∙◌, arith}
+use Rattle.std.proofs.lemmas.Bool.{iff_false}
 use Rattle.std.specs.Prelude.{IsTrue}
 use Rattle.ped_base.specs.Lists.{is_among}
-use Rattle.ped_calls.specs.Units.{ProgramUnits}
-use Rattle.ped_calls.specs.Arguments.{IsAt, IsMisfit, SomeMisfit}
+use Rattle.ped_calls.specs.Arguments.{IsMisfit, SomeMisfit}
 use Rattle.ped_calls.specs.Scenes.{unit_at}
-use Rattle.ped_calls.proofs.ArgumentSteps.{some_from, some_to, some_behind, some_nowhere}
-use Rattle.ped_calls.proofs.Members.{in_item}
+use Rattle.ped_calls.proofs.ArgumentSteps.{some_from, some_to, some_behind, read_at}
+use Rattle.ped_calls.proofs.Members.{in_place}
 use Rattle.ped_calls.proofs.Seeds.{in_among}
 use Rattle.ped_calls.proofs.arguments.At.has_bad_arguments.Goals as goal
 
-pub loop-place-init : goal.loop-place-init
-loop-place-init c us i at h = h
+-- a dummy argument of a list is among those of its unit
+among_formals : (fs gs : List (List ℕ)) (k : ℕ) (r : List ℕ) → fs ≡ gs → k < length fs → IsTrue (is_among (get_or fs k r) gs)
+among_formals fs gs k r e low = subst (λ (hs : List (List ℕ)). IsTrue (is_among (get_or fs k r) hs)) e (in_among (get_or fs k r) fs (in_place fs k r low))
 
 pub loop-place-preserved : goal.loop-place-preserved
 loop-place-preserved c us i at h =
@@ -22,12 +21,36 @@ loop-place-preserved c us i at h =
     let u = unit_at us i in
     let v = unit_at us c.args.self.now.callee in
     let p = c.loop-place.place in
-    let low : p < length fs = ? in
-    let also : p < length ns = ? in
-    let formal = c.index-self-place.result in
-    let argument = c.index-arguments-place.result in
-    let among : IsTrue (is_among formal v.formals) = subst (λ (gs : List (List ℕ)). IsTrue (is_among formal gs)) at.formals (in_among formal fs (in_item fs p formal low c.index-self-place.is)) in
+    let given = c.as_slice-arguments.ensures in
+    let long = ap length given in
+    let low : p < length fs = omega (arith, c.loop-place-test.true, c.if-arguments-self.false) in
+    let also : p < length ns = omega (arith, c.loop-place-test.true, long) in
+    let among = among_formals fs v.formals p c.index-self-place.result at.formals low in
     elim (some_from (λ f a gs rest. IsMisfit us u v around f a) fs ns p low also (c.loop-place.invariant us i at h)) [
-      | inl x ↦ absurd (iff_false (c.misfits.ensures us i at among) c.if-misfits.false ?)
+      | inl x ↦
+          let first = subst (λ (f : List ℕ). IsMisfit us u v around f (get_or ns p None)) (sym (read_at fs fs p c.index-self-place.result [] refl low)) x in
+          let both = subst (IsMisfit us u v around (get_or fs p c.index-self-place.result)) (sym (read_at c.as_slice-arguments.result.now ns p c.index-arguments-place.result None given also)) first in
+          absurd (iff_false (c.misfits.ensures us i at among) c.if-misfits.false both)
       | inr y ↦ y
     ]
+
+pub returns-then-misfits : goal.returns-then-misfits
+returns-then-misfits c us i at =
+    let fs = c.args.self.now.formals.now in
+    let ns = c.args.self.now.call.now.arguments in
+    let around = c.args.self.now.call.now.around in
+    let u = unit_at us i in
+    let v = unit_at us c.args.self.now.callee in
+    let p = c.loop-place.place in
+    let given = c.as_slice-arguments.ensures in
+    let long = ap length given in
+    let low : p < length fs = omega (arith, c.loop-place-test.true, c.if-arguments-self.false) in
+    let also : p < length ns = omega (arith, c.loop-place-test.true, long) in
+    let among = among_formals fs v.formals p c.index-self-place.result at.formals low in
+    let both = (c.misfits.ensures us i at among).0 c.if-misfits.true in
+    let first = subst (IsMisfit us u v around (get_or fs p c.index-self-place.result)) (read_at c.as_slice-arguments.result.now ns p c.index-arguments-place.result None given also) both in
+    let here = subst (λ (f : List ℕ). IsMisfit us u v around f (get_or ns p None)) (read_at fs fs p c.index-self-place.result [] refl low) first in
+    let some = some_behind (λ f a gs rest. IsMisfit us u v around f a) p fs ns (some_to (λ f a gs rest. IsMisfit us u v around f a) fs ns p low also (inl here)) in
+    let formals = ap length at.formals in
+    let as_many : length ns ≡ length v.formals = omega (arith, long, formals, c.if-arguments-self.false) in
+    (λ t. inr (as_many, subst (λ (gs : List (List ℕ)). SomeMisfit us u v around gs ns) at.formals some), λ h. refl)

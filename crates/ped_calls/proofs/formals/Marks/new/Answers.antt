@@ -1,3 +1,6 @@
+use Rattle.std.proofs.Common.{List, subst}
+use Rattle.ped_calls.specs.Arguments.{AreFormals}
+use Rattle.ped_calls.specs.Units as plain
 use Rattle.ped_calls.proofs.formals.Marks.new.Goals as goal
 
 pub returns : goal.returns

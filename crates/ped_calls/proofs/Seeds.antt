@@ -1,16 +1,16 @@
 -- Dummy arguments that their units use themselves, one after the other.
-use Rattle.std.proofs.Common.{◌≡◌, ◌⊎◌, inl, inr, ℕ, ◌+◌, ◌<◌, ◌↔◌, List, [], ◌∷◌, ◌++◌, Bool, true, false, Option, Some, None, refl, sym, ap, subst, ◌∙◌, arith}
+use Rattle.std.proofs.Common.{◌≡◌, ◌⊎◌, inl, inr, ℕ, ◌+◌, ◌<◌, ◌↔◌, List, [], ◌∷◌, ◌++◌, Bool, true, false, Option, Some, None, length, get_or, refl, sym, ap, subst, ◌∙◌, arith}
 use Rattle.std.proofs.lemmas.Bool.{or_left, or_right, or_cases, cases_lt}
 use Rattle.std.specs.Prelude.{IsTrue, IfSome}
 use Rattle.ped_base.specs.Lists.{is_same_text, is_among}
 use Rattle.ped_base.proofs.NameEquality.{same_itself, same_is}
 use Rattle.ped_calls.specs.Units.{ProgramUnit, ProgramUnits, all_units}
 use Rattle.ped_calls.specs.Linking.{IsIn}
-use Rattle.ped_calls.specs.Arguments.{formal_number, IsSeedAmong, with_some}
+use Rattle.ped_calls.specs.Arguments.{formals_at, formal_number, IsSeedAmong, with_some}
 use Rattle.ped_calls.specs.Reaching.{AreBelow}
 use Rattle.ped_calls.specs.Scenes.{unit_at}
-use Rattle.ped_calls.proofs.Members.{in_left, in_right, in_either, in_one}
-use Rattle.ped_calls.proofs.Used.{SeedBelow}
+use Rattle.ped_calls.proofs.Members.{in_left, in_right, in_either, in_one, in_place}
+use Rattle.ped_calls.proofs.Used.{SeedBelow, formals_there}
 
 pub in_among : (x : List ℕ) (ys : List (List ℕ)) → IsIn x ys → IsTrue (is_among x ys)
 in_among x [] h = absurd h
@@ -98,3 +98,10 @@ units_seeds own us m formals names old new f same before now n = (forth, back)
           let number : formal_number (all_units us) m s.1 ≡ Some n = subst (λ (j : ℕ). formal_number (all_units us) j s.1 ≡ Some n) is s.5 in
           (now n).1 (inr (s.1, among_in s.1 formals (ap (is_among s.1) f ∙ formal), same s.1 ∙ uses, number))
     ]
+
+-- a dummy argument of a list is among those of its unit
+pub among_formals : (fs gs : List (List ℕ)) (k : ℕ) (r : List ℕ) → fs ≡ gs → k < length fs → IsTrue (is_among (get_or fs k r) gs)
+among_formals fs gs k r e low = subst (λ (hs : List (List ℕ)). IsTrue (is_among (get_or fs k r) hs)) e (in_among (get_or fs k r) fs (in_place fs k r low))
+
+pub among_there : (us : ProgramUnits) (fs : List (List ℕ)) (k n : ℕ) (r : List ℕ) → fs ≡ (unit_at us n).formals → n < length (all_units us) → k < length fs → IsTrue (is_among (get_or fs k r) (formals_at (all_units us) n))
+among_there us fs k n r e below low = among_formals fs (formals_at (all_units us) n) k r (e ∙ sym (formals_there (all_units us) n us.main below)) low

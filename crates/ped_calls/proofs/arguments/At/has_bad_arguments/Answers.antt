@@ -1,17 +1,11 @@
 use Rattle.std.proofs.Common.{◌≡◌, ◌<◌, List, [], Option, None, ℕ, inl, inr, refl, length, get_or, sym, ap, subst, ◌∙◌, arith}
 use Rattle.std.proofs.lemmas.Bool.{iff_false}
 use Rattle.std.specs.Prelude.{IsTrue}
-use Rattle.ped_base.specs.Lists.{is_among}
 use Rattle.ped_calls.specs.Arguments.{IsMisfit, SomeMisfit}
 use Rattle.ped_calls.specs.Scenes.{unit_at}
 use Rattle.ped_calls.proofs.ArgumentSteps.{some_from, some_to, some_behind, read_at}
-use Rattle.ped_calls.proofs.Members.{in_place}
-use Rattle.ped_calls.proofs.Seeds.{in_among}
+use Rattle.ped_calls.proofs.Seeds.{among_formals}
 use Rattle.ped_calls.proofs.arguments.At.has_bad_arguments.Goals as goal
-
--- a dummy argument of a list is among those of its unit
-among_formals : (fs gs : List (List ℕ)) (k : ℕ) (r : List ℕ) → fs ≡ gs → k < length fs → IsTrue (is_among (get_or fs k r) gs)
-among_formals fs gs k r e low = subst (λ (hs : List (List ℕ)). IsTrue (is_among (get_or fs k r) hs)) e (in_among (get_or fs k r) fs (in_place fs k r low))
 
 pub loop-place-preserved : goal.loop-place-preserved
 loop-place-preserved c us i at h =

@@ -1,19 +1,11 @@
 use Rattle.std.proofs.Common.{◌≡◌, ◌↔◌, ◌<◌, ℕ, List, [], Option, Some, None, Decides, refl, length, get_or, sym, subst, ◌∙◌}
 use Rattle.std.specs.Prelude.{IsTrue, ◌||◌}
 use Rattle.std.proofs.lemmas.Bool.Decides.{Decides-and, Decides-or}
-use Rattle.ped_base.specs.Lists.{is_among}
-use Rattle.ped_calls.specs.Units.{ProgramUnits, all_units}
 use Rattle.ped_calls.specs.Linking.{IsAssigned}
-use Rattle.ped_calls.specs.Arguments.{formals_at}
 use Rattle.ped_calls.specs.Scenes.{unit_at}
 use Rattle.ped_calls.proofs.ArgumentSteps.{read_at}
-use Rattle.ped_calls.proofs.Members.{in_place}
-use Rattle.ped_calls.proofs.Seeds.{in_among}
-use Rattle.ped_calls.proofs.Used.{formals_there}
+use Rattle.ped_calls.proofs.Seeds.{among_there}
 use Rattle.ped_calls.proofs.arguments.At.is_again_at.Goals as goal
-
-among_there : (us : ProgramUnits) (fs : List (List ℕ)) (k n : ℕ) (r : List ℕ) → fs ≡ (unit_at us n).formals → n < length (all_units us) → k < length fs → IsTrue (is_among (get_or fs k r) (formals_at (all_units us) n))
-among_there us fs k n r e below low = subst (λ (hs : List (List ℕ)). IsTrue (is_among (get_or fs k r) hs)) (e ∙ sym (formals_there (all_units us) n us.main below)) (in_among (get_or fs k r) fs (in_place fs k r low))
 
 pub returns : goal.returns
 returns c us i at =

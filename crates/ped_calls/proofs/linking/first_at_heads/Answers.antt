@@ -30,7 +30,8 @@ loop-number-preserved c us scene named =
     let tested = c.is_repeated-repeats.ensures (all_units us) scene.numbers in
     let twice = c.in_ok-twice.ensures ∙ ap has_twice (c.as_slice.ensures ∙ sym (ap (λ (u : code.ProgramUnit). u.formals) c.index-scene-number.is) ∙ sym (ap (λ (u : ProgramUnit). u.formals) known)) in
     subst (IsFirstOf (HeadsBelow us (n + 1)))
-    (sym (c.standing-found-in-loop-number.ensures ∙ ap (λ (o : Option UnitFinding). standing_link o c.in_ok-twice.twice rule.Arguments unit.line) c.standing-found.ensures ∙ ap (λ (l : ℕ). standing_link (standing_link c.loop-number.found c.is_repeated-repeats.result rule.NoUnit l) c.in_ok-twice.twice rule.Arguments unit.line) (ap (λ (u : code.ProgramUnit). u.line) (sym c.index-scene-number.is)) ∙ ap (λ (l : ℕ). standing_link (standing_link c.loop-number.found c.is_repeated-repeats.result rule.NoUnit l) c.in_ok-twice.twice rule.Arguments l) (sym line)))
+    (sym (c.standing-found-in-loop-number.ensures ∙ ap (λ (o : Option UnitFinding). standing_link o c.in_ok-twice.twice rule.Arguments (get_or units n unit).line) c.standing-found.ensures
+    ∙ ap (λ (l : ℕ). standing_link (standing_link c.loop-number.found c.is_repeated-repeats.result rule.NoUnit l) c.in_ok-twice.twice rule.Arguments l) (ap (λ (u : code.ProgramUnit). u.line) (sym c.index-scene-number.is) ∙ sym line)))
     (heads_more us n c.loop-number.found c.is_repeated-repeats.result c.in_ok-twice.twice (c.loop-number.invariant us scene named)
     (λ t. repeats_by us n unit.name name (tested.0 t)) (λ h. tested.1 (by_repeats us n unit.name named below name h)) twice)
 

@@ -1,6 +1,5 @@
-use Rattle.std.proofs.Common.{◌≡◌, ◌<◌, List, [], Option, None, ℕ, inl, inr, refl, length, get_or, sym, ap, subst, ◌∙◌, arith}
+use Rattle.std.proofs.Common.{◌≡◌, ◌<◌, List, [], None, ℕ, inl, inr, refl, length, get_or, sym, ap, subst, ◌∙◌, arith}
 use Rattle.std.proofs.lemmas.Bool.{iff_false}
-use Rattle.std.specs.Prelude.{IsTrue}
 use Rattle.ped_calls.specs.Arguments.{IsMisfit, SomeMisfit}
 use Rattle.ped_calls.specs.Scenes.{unit_at}
 use Rattle.ped_calls.proofs.ArgumentSteps.{some_from, some_to, some_behind, read_at}
@@ -23,7 +22,7 @@ loop-place-preserved c us i at h =
     elim (some_from (λ f a gs rest. IsMisfit us u v around f a) fs ns p low also (c.loop-place.invariant us i at h)) [
       | inl x ↦
           let first = subst (λ (f : List ℕ). IsMisfit us u v around f (get_or ns p None)) (sym (read_at fs fs p c.index-self-place.result [] refl low)) x in
-          let both = subst (IsMisfit us u v around (get_or fs p c.index-self-place.result)) (sym (read_at c.as_slice-arguments.result.now ns p c.index-arguments-place.result None given also)) first in
+          let both = subst (IsMisfit us u v around (get_or fs p c.index-self-place.result)) (sym (c.index-arguments-place.is ∙ read_at c.as_slice-arguments.result.now ns p c.index-arguments-place.result None given also)) first in
           absurd (iff_false (c.misfits.ensures us i at among) c.if-misfits.false both)
       | inr y ↦ y
     ]
@@ -42,7 +41,7 @@ returns-then-misfits c us i at =
     let also : p < length ns = omega (arith, c.loop-place-test.true, long) in
     let among = among_formals fs v.formals p c.index-self-place.result at.formals low in
     let both = (c.misfits.ensures us i at among).0 c.if-misfits.true in
-    let first = subst (IsMisfit us u v around (get_or fs p c.index-self-place.result)) (read_at c.as_slice-arguments.result.now ns p c.index-arguments-place.result None given also) both in
+    let first = subst (IsMisfit us u v around (get_or fs p c.index-self-place.result)) (c.index-arguments-place.is ∙ read_at c.as_slice-arguments.result.now ns p c.index-arguments-place.result None given also) both in
     let here = subst (λ (f : List ℕ). IsMisfit us u v around f (get_or ns p None)) (read_at fs fs p c.index-self-place.result [] refl low) first in
     let some = some_behind (λ f a gs rest. IsMisfit us u v around f a) p fs ns (some_to (λ f a gs rest. IsMisfit us u v around f a) fs ns p low also (inl here)) in
     let formals = ap length at.formals in

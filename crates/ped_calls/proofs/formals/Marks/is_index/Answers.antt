@@ -2,6 +2,7 @@ use Rattle.std.proofs.Common.{◌≡◌, Bool, List, Option, get_or, sym, ap, su
 use Rattle.std.specs.Prelude.{IsTrue}
 use Rattle.ped_base.specs.Lists.{is_among}
 use Rattle.ped_calls.specs.Units.{all_units}
+use Rattle.ped_calls.specs.Arguments.{formal_number}
 use Rattle.ped_calls.specs.Numbers.{IsMarkedNumber}
 use Rattle.ped_calls.proofs.Used.{formals_there}
 use Rattle.ped_calls.proofs.formals.Marks.is_index.Goals as goal
@@ -14,6 +15,6 @@ returns c us marks below among =
     let there : IsTrue (is_among formal (get_or (all_units us) unit us.main).formals) = ap (is_among formal) (sym (formals_there (all_units us) unit us.main below)) ∙ among in
     let uses = marks.indexes unit formal below there in
     let same = c.deref.ensures.value in (
-      λ t. uses.0 (subst (λ (ms : List Bool). IsMarkedNumber ms _) same (subst (IsMarkedNumber c.deref.result.now) number (c.is_marked.ensures.0 t))),
-      λ h. c.is_marked.ensures.1 (subst (IsMarkedNumber c.deref.result.now) (sym number) (subst (λ (ms : List Bool). IsMarkedNumber ms _) (sym same) (uses.1 h))),
+      λ t. uses.0 (subst (λ (ms : List Bool). IsMarkedNumber ms (formal_number (all_units us) unit formal)) same (subst (IsMarkedNumber c.deref.result.now) number (c.is_marked.ensures.0 t))),
+      λ h. c.is_marked.ensures.1 (subst (IsMarkedNumber c.deref.result.now) (sym number) (subst (λ (ms : List Bool). IsMarkedNumber ms (formal_number (all_units us) unit formal)) (sym same) (uses.1 h))),
     )

@@ -1,12 +1,12 @@
 -- CALLs that are looked at one after the other.
-use Rattle.std.proofs.Common.{◌≡◌, ◌⊎◌, inl, inr, ℕ, Bool, true, List, [], ◌∷◌, ◌++◌, Option, Some, None, refl, sym, ap, subst, ◌∙◌}
+use Rattle.std.proofs.Common.{◌≡◌, inl, inr, ℕ, Bool, true, List, [], ◌∷◌, ◌++◌, Option, None, refl, sym, ap, subst, ◌∙◌}
 use Rattle.std.specs.Prelude.{IsTrue}
 use Rattle.ped_calls.specs.Units.{ProgramUnit}
-use Rattle.ped_calls.specs.Linking.{IsIn, LinkRefusal, NoUnit, Arguments, CallPlace}
+use Rattle.ped_calls.specs.Linking.{LinkRefusal, Arguments}
 use Rattle.ped_calls.specs.Verdicts.{of_links}
 use Rattle.ped_calls.specs.Views.{rule_of}
-use Rattle.ped_calls.specs.FirstLinks.{standing_link, IsFirstOf, EitherStands, StandsIf, NoneStands}
-use Rattle.ped_calls.specs.Links.{StandsAtLines, StandsAtPlaces, CallsNone, IsParallel}
+use Rattle.ped_calls.specs.FirstLinks.{standing_link, IsFirstOf, EitherStands, StandsIf}
+use Rattle.ped_calls.specs.Links.{StandsAtLines, StandsAtPlaces}
 use Rattle.ped_calls.specs.Scenes.{StandsAtCalls}
 use Rattle.ped_calls.specs.declared.placing.PlacedCall.{PlacedCall}
 use Rattle.ped_calls.specs.declared.refusals.UnitRule.{UnitRule}

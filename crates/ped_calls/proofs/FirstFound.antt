@@ -1,10 +1,10 @@
 -- The first of the refusals by CALLs, of some and of more.
-use Rattle.std.proofs.Common.{◌≡◌, ◌⊎◌, inl, inr, ℕ, Bool, true, false, cond, Option, Some, None, refl, sym, ap, ◌∙◌, eqb, eqb-true, ltb, ◌||◌, ◌&&◌, arith}
+use Rattle.std.proofs.Common.{◌≡◌, inl, inr, ℕ, Bool, true, false, cond, Option, Some, None, refl, sym, ap, ◌∙◌, eqb, eqb-true, ltb, ◌||◌, ◌&&◌, arith}
 use Rattle.std.specs.Prelude.{IsTrue}
-use Rattle.ped_calls.specs.Linking.{LinkRefusal, number_of_link, is_before}
+use Rattle.ped_calls.specs.Linking.{LinkRefusal, number_of_link}
 use Rattle.ped_calls.specs.Verdicts.{number_of_rule, of_links}
 use Rattle.ped_calls.specs.Views.{rule_of}
-use Rattle.ped_calls.specs.FirstLinks.{is_before_finding, comes_first, earlier_link, standing_link, first_link_of, IsFirstAmong, IsFirstOf, NoneStands, EitherStands, StandsIf}
+use Rattle.ped_calls.specs.FirstLinks.{is_before_finding, standing_link, first_link_of, IsFirstAmong, IsFirstOf, NoneStands, EitherStands, StandsIf}
 use Rattle.ped_calls.specs.declared.refusals.UnitRule.{UnitRule}
 use Rattle.ped_calls.specs.declared.refusals.UnitFinding.{UnitFinding}
 

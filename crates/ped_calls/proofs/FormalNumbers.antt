@@ -1,9 +1,9 @@
 -- Numbers of dummy arguments tell them apart.
-use Rattle.std.proofs.Common.{◌≡◌, ℕ, zero, suc, ◌+◌, ◌-◌, ◌<◌, ◌≤◌, List, [], ◌∷◌, ◌++◌, Bool, true, false, Option, Some, None, length, take, get_or, refl, sym, ap, subst, ◌∙◌, ◌||◌, if◌then◌else◌, arith}
+use Rattle.std.proofs.Common.{◌≡◌, ℕ, zero, suc, ◌+◌, ◌-◌, ◌<◌, ◌≤◌, List, [], ◌∷◌, Bool, true, false, Option, Some, None, length, take, get_or, refl, sym, ap, ◌∙◌, ◌||◌, if◌then◌else◌, arith}
 use Rattle.std.specs.List.{flat_map}
 use Rattle.std.proofs.lemmas.List.{length-append}
 use Rattle.ped_base.specs.Lists.{is_same_text, is_among}
-use Rattle.ped_base.proofs.NameEquality.{same_itself, same_is}
+use Rattle.ped_base.proofs.NameEquality.{same_is}
 use Rattle.ped_calls.specs.Units.{ProgramUnit}
 use Rattle.ped_calls.specs.Numbers.{place_among}
 use Rattle.ped_calls.specs.Arguments.{formal_count, formals_at, number_behind, formal_number}

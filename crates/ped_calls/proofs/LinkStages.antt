@@ -1,5 +1,5 @@
 -- What is refused at CALLs, stage by stage.
-use Rattle.std.proofs.Common.{◌≡◌, ◌⊎◌, inl, inr, ℕ, Option, Some, None, subst}
+use Rattle.std.proofs.Common.{◌≡◌, inl, inr, ℕ, Option, Some, None, subst}
 use Rattle.ped_calls.specs.Units.{ProgramUnits}
 use Rattle.ped_calls.specs.Linking.{LinkRefusal, NoUnit, Recursion, Arguments, Aliased, CallPlace, Stands, IsLinked}
 use Rattle.ped_calls.specs.FirstLinks.{IsFirstAmong, IsFirstOf, EitherStands, first_link_of}

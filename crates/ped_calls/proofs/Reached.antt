@@ -1,5 +1,5 @@
 -- What is marked and what is reached.
-use Rattle.std.proofs.Common.{◌≡◌, ◌⊎◌, inl, inr, ℕ, zero, suc, ◌<◌, Bool, true, false, List, [], ◌∷◌, ◌++◌, length, get_or, refl, sym, ap, subst, ◌∙◌, arith}
+use Rattle.std.proofs.Common.{◌≡◌, ◌⊎◌, inl, inr, ℕ, zero, suc, ◌<◌, Bool, List, [], ◌∷◌, ◌++◌, length, get_or, refl, sym, subst, ◌∙◌, arith}
 use Rattle.ped_calls.specs.Linking.{IsIn}
 use Rattle.ped_calls.specs.Reaching.{Leads, LeadAlong, IsReached, IsMarked, AreAdded}
 use Rattle.ped_calls.proofs.Members.{in_either, in_one}

@@ -1,5 +1,5 @@
 -- CALLs that lead back, by units and by their numbers.
-use Rattle.std.proofs.Common.{◌≡◌, ◌⊎◌, inl, inr, ℕ, ◌+◌, ◌<◌, ◌↔◌, List, [], ◌∷◌, ◌++◌, Bool, true, false, Option, Some, None, length, map, get_or, refl, sym, ap, subst, ◌∙◌, eqb, ltb, ◌||◌, ◌&&◌, arith}
+use Rattle.std.proofs.Common.{◌≡◌, ◌⊎◌, inl, inr, ℕ, ◌+◌, ◌<◌, ◌↔◌, List, [], ◌∷◌, ◌++◌, Bool, true, false, Option, Some, None, length, map, refl, sym, ap, subst, ◌∙◌, eqb, ltb, ◌||◌, ◌&&◌, arith}
 use Rattle.std.proofs.lemmas.Bool.{cases_lt}
 use Rattle.ped_calls.specs.Units.{ProgramUnit, ProgramUnits, all_units}
 use Rattle.ped_calls.specs.Linking.{IsIn, Placed, calls_of, CallsUnit, LeadsAlong, Reaches, LinkRefusal, NoUnit, Recursion, Arguments, Aliased, CallPlace, IsAtCall, OfCalled, IsRecursive, is_before}

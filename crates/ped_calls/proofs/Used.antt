@@ -1,12 +1,12 @@
 -- Dummy arguments that are used so, by units and by their numbers.
-use Rattle.std.proofs.Common.{◌≡◌, ◌⊎◌, inl, inr, ℕ, zero, suc, ◌<◌, ◌↔◌, List, [], ◌∷◌, ◌++◌, Bool, true, false, Option, Some, None, length, get_or, refl, sym, ap, subst, ◌∙◌, arith}
+use Rattle.std.proofs.Common.{◌≡◌, ℕ, zero, suc, ◌<◌, ◌↔◌, List, [], ◌∷◌, Bool, true, Option, Some, None, length, get_or, refl, sym, ap, subst, ◌∙◌, arith}
 use Rattle.std.specs.Prelude.{IsTrue}
 use Rattle.ped_base.specs.Lists.{is_among}
 use Rattle.ped_tree.specs.Tree.{ExprTree, Int, Var, Element, Neg, Add, Sub, Mul, Div, Pow, Call}
 use Rattle.ped_calls.specs.Units.{ProgramUnit, ProgramUnits, all_units}
-use Rattle.ped_calls.specs.Linking.{IsIn, Placed, calls_of, associated, Association, CallsUnit, FormalOf, PassesFor, UsesItself, IsUsed, IsUsedAlong}
+use Rattle.ped_calls.specs.Linking.{IsIn, calls_of, associated, FormalOf, PassesFor, IsUsed, IsUsedAlong}
 use Rattle.ped_calls.specs.Arguments.{formals_at, formal_number, AreUses, IsPassed, ArePassed, IsSeed}
-use Rattle.ped_calls.specs.Numbers.{number_of_unit, IsMarkedNumber}
+use Rattle.ped_calls.specs.Numbers.{IsMarkedNumber}
 use Rattle.ped_calls.specs.Placing.{argument_name}
 use Rattle.ped_calls.specs.Reaching.{Leads, LeadAlong, IsReached, IsMarked}
 use Rattle.ped_calls.specs.Scenes.{unit_at}

@@ -1,4 +1,4 @@
-use Rattle.std.proofs.Common.{◌≡◌, ◌↔◌, ◌<◌, ℕ, List, length, sym, ap, subst, ◌∙◌, arith}
+use Rattle.std.proofs.Common.{◌≡◌, ◌↔◌, ◌<◌, ℕ, length, sym, ap, subst, ◌∙◌, arith}
 use Rattle.ped_base.specs.Lists.{is_among}
 use Rattle.ped_calls.specs.Units as plain
 use Rattle.ped_calls.specs.Units.{all_units}

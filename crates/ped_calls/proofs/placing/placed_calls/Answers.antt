@@ -1,4 +1,4 @@
-use Rattle.std.proofs.Common.{◌≡◌, ℕ, List, [], ◌++◌, map, drop, length, ap, ◌∙◌}
+use Rattle.std.proofs.Common.{ℕ, List, [], ◌++◌, map, drop, length, ap, ◌∙◌}
 use Rattle.std.specs.List.{flat_map}
 use Rattle.ped_tree.specs.Views.{decl_tree, stmt_trees}
 use Rattle.ped_tree.specs.declared.declarations.Decl.{Decl}

@@ -1,4 +1,4 @@
-use Rattle.std.proofs.Common.{◌≡◌, ◌<◌, ◌≤◌, ℕ, true, false, length, get_or, take, refl, sym, subst, ◌∙◌, arith, take_all}
+use Rattle.std.proofs.Common.{◌≡◌, ◌≤◌, true, false, length, get_or, take, refl, sym, subst, ◌∙◌, arith, take_all}
 use Rattle.std.proofs.lemmas.List.{take_more}
 use Rattle.ped_calls.specs.Ranking.{RiseFrom}
 use Rattle.ped_calls.proofs.Added.{in_at}

@@ -1,6 +1,5 @@
-use Rattle.std.proofs.Common.{◌≡◌, ◌<◌, ◌≤◌, ℕ, List, ◌++◌, [], ◌∷◌, take, length, get_or, sym, subst, arith, take_all}
+use Rattle.std.proofs.Common.{◌<◌, ◌≤◌, ℕ, List, [], ◌∷◌, take, length, get_or, sym, subst, arith, take_all}
 use Rattle.std.proofs.lemmas.List.{take_more}
-use Rattle.ped_calls.specs.Linking.{IsIn}
 use Rattle.ped_calls.specs.Reaching.{AreAdded}
 use Rattle.ped_calls.proofs.Added.{nothing_added, added_both, in_at}
 use Rattle.ped_calls.proofs.reaching.add_all.Goals as goal

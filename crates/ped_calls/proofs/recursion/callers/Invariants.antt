@@ -1,7 +1,7 @@
 use Rattle.std.proofs.Common.{◌≡◌, ◌<◌, ◌↔◌, ℕ, length}
 use Rattle.ped_calls.specs.ArrowViews.{ends_of}
 use Rattle.ped_calls.specs.Reaching.{Leads}
-use Rattle.ped_calls.specs.Units.{ProgramUnits, all_units}
+use Rattle.ped_calls.specs.Units.{ProgramUnits}
 use Rattle.ped_calls.specs.Scenes.{IsScene, CallsAt}
 use Rattle.ped_calls.proofs.recursion.callers.Given as goal
 

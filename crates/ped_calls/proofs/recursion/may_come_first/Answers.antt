@@ -1,7 +1,6 @@
 use Rattle.std.proofs.Common.{◌≡◌, ◌+◌, ◌≤◌, ◌<◌, [], ◌∷◌, ◌++◌, true, false, inl, inr, List, length, take, refl, sym, subst, arith, take_all}
 use Rattle.std.proofs.lemmas.Bool.{iff_false, false≢true}
 use Rattle.std.proofs.lemmas.Grind.{common_steps}
-use Rattle.std.proofs.lemmas.List.{take-append-drop}
 use Rattle.ped_calls.specs.Units.{all_units}
 use Rattle.ped_calls.specs.Linking.{IsIn}
 use Rattle.ped_calls.specs.Recursions.{CallMayComeFirst, MayComeFirst}

@@ -1,4 +1,4 @@
-use Rattle.std.proofs.Common.{◌≡◌, ◌↔◌, ◌<◌, ℕ, List, [], Option, Some, None, Decides, refl, length, get_or, sym, subst, ◌∙◌}
+use Rattle.std.proofs.Common.{◌≡◌, ◌↔◌, ℕ, List, [], Option, Some, None, Decides, refl, get_or, subst, ◌∙◌}
 use Rattle.std.specs.Prelude.{IsTrue, ◌||◌}
 use Rattle.std.proofs.lemmas.Bool.Decides.{Decides-and, Decides-or}
 use Rattle.ped_calls.specs.Linking.{IsAssigned}

@@ -1,4 +1,4 @@
-use Rattle.std.proofs.Common.{◌≡◌, ◌↔◌, ◌+◌, List, ℕ, [], Option, None, drop, get_or, sym, subst, ◌∙◌}
+use Rattle.std.proofs.Common.{◌↔◌, ◌+◌, List, ℕ, [], Option, None, drop, get_or, sym, subst, ◌∙◌}
 use Rattle.std.proofs.lemmas.Bool.{false≢true}
 use Rattle.std.specs.Prelude.{IsTrue}
 use Rattle.ped_calls.specs.Arguments.{IsAliasedFirst}

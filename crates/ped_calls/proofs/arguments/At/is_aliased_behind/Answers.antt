@@ -1,6 +1,5 @@
-use Rattle.std.proofs.Common.{◌≡◌, ◌⊎◌, ◌↔◌, ◌+◌, ◌<◌, ◌≤◌, ℕ, List, [], Option, Some, None, inl, inr, refl, length, get_or, sym, ap, subst, ◌∙◌, arith}
+use Rattle.std.proofs.Common.{◌≡◌, ◌⊎◌, ◌+◌, ◌<◌, ◌≤◌, [], Some, inl, inr, refl, length, get_or, sym, subst, arith}
 use Rattle.std.proofs.lemmas.Bool.{iff_false, false≢true}
-use Rattle.std.specs.Prelude.{IsTrue}
 use Rattle.ped_calls.specs.Linking.{IsAssigned}
 use Rattle.ped_calls.specs.Scenes.{unit_at}
 use Rattle.ped_calls.proofs.ArgumentSteps.{some_from, some_to, some_later, some_nowhere, read_at}

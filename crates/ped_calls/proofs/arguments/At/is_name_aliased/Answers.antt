@@ -1,6 +1,5 @@
-use Rattle.std.proofs.Common.{◌≡◌, Bool, Option, false, sym, ap, ◌∙◌}
+use Rattle.std.proofs.Common.{◌≡◌, false, sym, ap, ◌∙◌}
 use Rattle.std.proofs.lemmas.Bool.{false≢true}
-use Rattle.ped_valid.specs.ped_symbols.specs.declared.symbols.Kind.{Kind}
 use Rattle.ped_calls.specs.Linking.{is_constant, kind_there}
 use Rattle.ped_calls.specs.Scenes.{unit_at}
 use Rattle.ped_calls.proofs.ArgumentSteps.{kind_by_table}

@@ -1,4 +1,4 @@
-use Rattle.std.proofs.Common.{◌≡◌, ◌↔◌, Option, Decides, sym, ap, subst, ◌∙◌}
+use Rattle.std.proofs.Common.{◌↔◌, Option, Decides, ap, subst, ◌∙◌}
 use Rattle.std.specs.Prelude.{IsTrue}
 use Rattle.ped_base.specs.Lists.{is_among}
 use Rattle.ped_valid.specs.ped_symbols.specs.declared.symbols.Kind.{Kind}

@@ -1,4 +1,4 @@
-use Rattle.std.proofs.Common.{◌≡◌, ◌+◌, ℕ, List, length, sym, ap, subst, ◌∙◌}
+use Rattle.std.proofs.Common.{◌+◌, ℕ, List, length, sym, ap, subst, ◌∙◌}
 use Rattle.ped_calls.specs.Numbers.{ArePlaces}
 use Rattle.ped_calls.proofs.FormalTables.{formals_more}
 use Rattle.ped_calls.proofs.formals.Formals.add.Goals as goal

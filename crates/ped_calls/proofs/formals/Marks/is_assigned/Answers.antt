@@ -1,4 +1,4 @@
-use Rattle.std.proofs.Common.{◌≡◌, Bool, List, Option, get_or, sym, ap, subst, ◌∙◌}
+use Rattle.std.proofs.Common.{Bool, List, get_or, sym, ap, subst, ◌∙◌}
 use Rattle.std.specs.Prelude.{IsTrue}
 use Rattle.ped_base.specs.Lists.{is_among}
 use Rattle.ped_calls.specs.Units.{all_units}

@@ -3,6 +3,7 @@ use Rattle.std.proofs.Common.{◌≡◌, ◌⊎◌, inl, inr, ℕ, zero, suc, �
 use Rattle.std.specs.Prelude.{IsTrue}
 use Rattle.std.proofs.lemmas.Bool.{or_left, or_right, or_cases, and_parts, and_from, not-true, not_from_false, false_from_ne_true}
 use Rattle.std.proofs.lemmas.Bool.Decides.{Decides-like, Decides-and, Decides-or, not_from_Decides}
+use Rattle.std.proofs.lemmas.Option.{none-some}
 use Rattle.std.proofs.lemmas.List.{drop_more, drop_all, drop-drop, get_or_default, get_or-map}
 use Rattle.ped_base.specs.Dimensions.{Dimensions}
 use Rattle.ped_valid.specs.ped_symbols.specs.declared.symbols.Kind.{Kind}
@@ -44,9 +45,6 @@ pub some_nowhere : (P : List ℕ → Option (List ℕ) → List (List ℕ) → L
 some_nowhere P k fs ns (inl e) h = subst (λ (gs : List (List ℕ)). ForSome P gs (drop k ns)) (drop_all k fs e) h
 some_nowhere P k fs ns (inr e) h = no_argument P (drop k fs) (subst (λ (ms : List (Option (List ℕ))). ForSome P (drop k fs) ms) (drop_all k ns e) h)
 
-some_none : (d : Dimensions) → Some d ≡ None → ⊥
-some_none d e = absurd cc
-
 some_there : (o : Option Dimensions) → is_some o ≡ true → (d : Dimensions) × (o ≡ Some d)
 some_there None e = absurd cc
 some_there (Some d) e = (d, refl)
@@ -57,8 +55,8 @@ array_kind b a assigned has h = (λ e. inl (b, refl, not_from_Decides has h (not
   where
     back : IsOtherKind (Some (Array b)) a assigned → not has ≡ true
     back (inl k) = not_from_false has (false_from_ne_true has (λ t. k.2 (h.0 t ∙ k.1)))
-    back (inr (inl k)) = absurd (some_none b k.1)
-    back (inr (inr k)) = absurd (some_none b k.0)
+    back (inr (inl k)) = absurd (none-some b (sym k.1))
+    back (inr (inr k)) = absurd (none-some b (sym k.0))
 
 -- a scalar does
 pub scalar_kind : (f a : Option Kind) (assigned result : Bool) → bounds_by f ≡ None → result ≡ (is_some (bounds_by a) || (assigned && not (is_scalar a))) → Decides result (IsOtherKind f a (IsTrue assigned))
@@ -71,7 +69,7 @@ scalar_kind f a assigned result none e = (forth, back)
     ]
 
     back : IsOtherKind f a (IsTrue assigned) → result ≡ true
-    back (inl k) = absurd (some_none k.0 (sym k.1 ∙ none))
+    back (inl k) = absurd (none-some k.0 (sym none ∙ k.1))
     back (inr (inl k)) = e ∙ or_left (is_some (bounds_by a)) (assigned && not (is_scalar a)) (ap is_some k.2)
     back (inr (inr k)) = e ∙ or_right (is_some (bounds_by a)) (assigned && not (is_scalar a)) (and_from assigned (not (is_scalar a)) k.1 (not_from_false (is_scalar a) k.2))
 

@@ -1,6 +1,7 @@
 -- What stands at CALLs for their arguments, by units and by their numbers.
 use Rattle.std.proofs.Common.{◌≡◌, ◌⊎◌, inl, inr, ℕ, ◌+◌, ◌<◌, List, [], ◌∷◌, ◌++◌, Bool, Option, Some, None, length, map, refl, sym, ap, subst, ◌∙◌, arith}
 use Rattle.std.proofs.lemmas.Bool.{cases_lt}
+use Rattle.std.proofs.lemmas.Option.{none-some, same_Some}
 use Rattle.std.specs.Prelude.{IsTrue}
 use Rattle.ped_calls.specs.Units.{ProgramUnit, ProgramUnits, all_units}
 use Rattle.ped_calls.specs.Linking.{IsIn, calls_of, LinkRefusal, NoUnit, Recursion, Arguments, Aliased, CallPlace}
@@ -122,9 +123,6 @@ no_calls_misfit us i r line (inr s) = s.is_call
 abbrev StandsAtOne : ProgramUnits → ℕ → ℕ → PlacedCall → LinkRefusal → ℕ → Type 0
 StandsAtOne us i k c = EitherStands (StandsIf Arguments c.line (HasMisfit us (unit_at us i) (unit_at us k) c)) (StandsIf Aliased c.line (SomeAliased us (unit_at us i) (unit_at us k) (unit_at us k).formals c.arguments))
 
-same_number : (a b : ℕ) → Some a ≡ Some b → a ≡ b
-same_number a b e = cc
-
 pub one_call : (us : ProgramUnits) (i k : ℕ) (c : PlacedCall) (found : Option UnitFinding) → number_of_unit (all_units us) c.name ≡ Some k → IsFirstOf (StandsAtOne us i k c) found → IsFirstOf (StandsForArguments us i (c ∷ [])) found
 one_call us i k c found named h = first_as (StandsAtOne us i k c) (StandsForArguments us i (c ∷ [])) found together apart h
   where
@@ -133,7 +131,7 @@ one_call us i k c found named h = first_as (StandsAtOne us i k c) (StandsForArgu
     together r line (inr s) = inr (record { is_rule = s.0; call = c; is_call = inl refl; stands = (k, named, s.2); there = sym s.1 })
 
     called : (d : PlacedCall) (j : ℕ) → d ≡ c → number_of_unit (all_units us) d.name ≡ Some j → j ≡ k
-    called d j is n = same_number j k (sym n ∙ ap (λ (x : PlacedCall). number_of_unit (all_units us) x.name) is ∙ named)
+    called d j is n = same_Some j k (sym n ∙ ap (λ (x : PlacedCall). number_of_unit (all_units us) x.name) is ∙ named)
 
     apart : (r : LinkRefusal) (line : ℕ) → StandsForArguments us i (c ∷ []) r line → StandsAtOne us i k c r line
     apart r line (inl s) =
@@ -154,10 +152,7 @@ pub none_called : (us : ProgramUnits) (i : ℕ) (c : PlacedCall) → number_of_u
 none_called us i c none = by
   where
     no : (d : PlacedCall) (j : ℕ) → d ≡ c → number_of_unit (all_units us) d.name ≡ Some j → ⊥
-    no d j is n = not_some j (sym n ∙ ap (λ (x : PlacedCall). number_of_unit (all_units us) x.name) is ∙ none)
-      where
-        not_some : (m : ℕ) → Some m ≡ None → ⊥
-        not_some m e = absurd cc
+    no d j is n = none-some j (sym none ∙ ap (λ (x : PlacedCall). number_of_unit (all_units us) x.name) (sym is) ∙ n)
 
     by : (r : LinkRefusal) (line : ℕ) → StandsForArguments us i (c ∷ []) r line → ⊥
     by r line (inl s) = no s.call s.stands.0 (in_one s.call c s.is_call) s.stands.1

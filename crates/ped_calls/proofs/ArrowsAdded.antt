@@ -2,6 +2,7 @@
 use Rattle.std.proofs.Common.{◌≡◌, ◌⊎◌, inl, inr, ℕ, zero, suc, ◌<◌, ◌↔◌, List, [], ◌∷◌, ◌++◌, Option, Some, None, Result, Ok, Err, length, get_or, take, drop, replicate, sym, ap, subst, ◌∙◌, arith}
 use Rattle.std.proofs.Math.ListN.{set}
 use Rattle.std.proofs.lemmas.Bool.{cases_eq}
+use Rattle.std.proofs.lemmas.Option.{same_Some, none-some}
 use Rattle.std.proofs.lemmas.List.{length-set, length-map, get_or-set_same, get_or-set_other, get_or-map, map-set, set-get_or, take_at}
 use Rattle.ped_calls.specs.Linking.{IsIn}
 use Rattle.std.specs.Global.{Vec}
@@ -89,19 +90,13 @@ pub as_long : {A E : Type 0} (r : Result A E) (old new : List (List ℕ)) (from 
 as_long (Ok x) old new from to ok err = ap length ok ∙ length-set old from (get_or old from [] ++ to ∷ [])
 as_long (Err x) old new from to ok err = ap length err
 
-same_some : (a b : ℕ) → Some a ≡ Some b → a ≡ b
-same_some a b e = cc
-
 -- an arrow more, where both its ends are there
 pub leads_added : (old new : List (List ℕ)) (from to : ℕ) (o p : Option ℕ) → o ≡ Some from → p ≡ Some to → from < length old → new ≡ with_arrow old from to → (i j : ℕ) → Leads new i j ↔ (Leads old i j ⊎ ((o ≡ Some i) × (p ≡ Some j)))
 leads_added old new from to o p is also below e i j = (
   λ l. elim (was_leading old from to i j below (subst (λ (es : List (List ℕ)). Leads es i j) e l)) [ inl x ↦ inl x | inr y ↦ inr (is ∙ ap Some (sym y.0), also ∙ ap Some (sym y.1)) ],
-  λ h. subst (λ (es : List (List ℕ)). Leads es i j) (sym e) (now_leading old from to i j below (elim h [ inl x ↦ inl x | inr y ↦ inr (sym (same_some from i (sym is ∙ y.0)), sym (same_some to j (sym also ∙ y.1))) ])),
+  λ h. subst (λ (es : List (List ℕ)). Leads es i j) (sym e) (now_leading old from to i j below (elim h [ inl x ↦ inl x | inr y ↦ inr (sym (same_Some from i (sym is ∙ y.0)), sym (same_Some to j (sym also ∙ y.1))) ])),
 )
 
 -- none more, where one end isn't there
 pub leads_same : (old : List (List ℕ)) (o p : Option ℕ) → (o ≡ None) ⊎ (p ≡ None) → (i j : ℕ) → Leads old i j ↔ (Leads old i j ⊎ ((o ≡ Some i) × (p ≡ Some j)))
-leads_same old o p none i j = (λ l. inl l, λ h. elim h [ inl x ↦ x | inr y ↦ absurd (elim none [ inl e ↦ no_some i (sym y.0 ∙ e) | inr e ↦ no_some j (sym y.1 ∙ e) ]) ])
-  where
-    no_some : (a : ℕ) → Some a ≡ None → ⊥
-    no_some a e = absurd cc
+leads_same old o p none i j = (λ l. inl l, λ h. elim h [ inl x ↦ x | inr y ↦ absurd (elim none [ inl e ↦ none-some i (sym e ∙ y.0) | inr e ↦ none-some j (sym e ∙ y.1) ]) ])

@@ -12,6 +12,7 @@ use Rattle.ped_calls.specs.FirstLinks.{IsFirstOf, EitherStands, StandsIf, standi
 use Rattle.ped_calls.specs.declared.refusals.UnitFinding.{UnitFinding}
 use Rattle.ped_calls.specs.declared.refusals.UnitRule.TheVariants as rule
 use Rattle.std.proofs.lemmas.Bool.{cases_lt}
+use Rattle.std.proofs.lemmas.Option.{same_Some}
 use Rattle.ped_calls.proofs.FirstFound.{first_as, standing_first}
 use Rattle.ped_calls.proofs.Members.{place_in, in_place}
 
@@ -31,16 +32,13 @@ among_numbered (u ∷ us) rest n x h = by (among_numbered us rest (n + 1) x) (is
         let below = there.2 in
         (there.0, ap (λ (b : Bool). if b then Some n else number_among (us ++ rest) (n + 1) x) e ∙ there.1, omega (arith, below))
 
-same_some : (a b : ℕ) → Some a ≡ Some b → a ≡ b
-same_some a b e = cc
-
 -- no number is below the first
 none_below : (us : List ProgramUnit) (n j : ℕ) (x : List ℕ) → number_among us n x ≡ Some j → j < n → ⊥
 none_below [] n j x h l = absurd cc
 none_below (u ∷ us) n j x h l = by (λ e. none_below us (n + 1) j x e (omega (arith, l))) (is_same_text x u.name) h
   where
     by : (number_among us (n + 1) x ≡ Some j → ⊥) → (b : Bool) → (if b then Some n else number_among us (n + 1) x) ≡ Some j → ⊥
-    by later true e = let is = same_some n j e in absurd (omega (arith, is, l))
+    by later true e = let is = same_Some n j e in absurd (omega (arith, is, l))
     by later false e = later e
 
 -- a name with a number among the first of units is among theirs

@@ -1,6 +1,7 @@
 -- Dummy arguments that are passed on, by associations and by the arguments' names.
 use Rattle.std.proofs.Common.{◌≡◌, ◌⊎◌, inl, inr, ℕ, zero, suc, ◌+◌, ◌<◌, ◌↔◌, List, [], ◌∷◌, ◌++◌, Option, Some, None, length, map, take, refl, sym, ap, subst, ◌∙◌, arith}
 use Rattle.std.proofs.lemmas.Bool.{cases_lt}
+use Rattle.std.proofs.lemmas.Option.{same_Some, none-some}
 use Rattle.ped_tree.specs.Tree.{ExprTree}
 use Rattle.ped_tree.specs.Accesses.{listed}
 use Rattle.ped_calls.specs.Units.{ProgramUnit, ProgramUnits, all_units}
@@ -167,20 +168,14 @@ passes_whole us i k (suc n) (f ∷ fs) (a ∷ ns) from to e (inr h) = inr (passe
 call_passes : (us : ProgramUnits) (i k : ℕ) (c : PlacedCall) (from to : ℕ) → number_of_unit (all_units us) c.name ≡ Some k → PassesIn (all_units us) i k (unit_at us k).formals c.arguments from to → CallsPass us i (c ∷ []) from to
 call_passes us i k c from to named h = (c, inl refl, (k, named, h))
 
-same_some : (a b : ℕ) → Some a ≡ Some b → a ≡ b
-same_some a b e = cc
-
 passes_by_call : (us : ProgramUnits) (i k : ℕ) (c : PlacedCall) (from to : ℕ) → number_of_unit (all_units us) c.name ≡ Some k → CallsPass us i (c ∷ []) from to → PassesIn (all_units us) i k (unit_at us k).formals c.arguments from to
 passes_by_call us i k c from to named h =
     let is = in_one h.0 c h.1 in
-    let same : h.2.0 ≡ k = same_some h.2.0 k (sym h.2.1 ∙ ap (λ (d : PlacedCall). number_of_unit (all_units us) d.name) is ∙ named) in
+    let same : h.2.0 ≡ k = same_Some h.2.0 k (sym h.2.1 ∙ ap (λ (d : PlacedCall). number_of_unit (all_units us) d.name) is ∙ named) in
     subst (λ (n : ℕ). PassesIn (all_units us) i n (unit_at us n).formals c.arguments from to) same (subst (λ (d : PlacedCall). PassesIn (all_units us) i h.2.0 (unit_at us h.2.0).formals d.arguments from to) is h.2.2)
 
 none_by_call : (us : ProgramUnits) (i : ℕ) (c : PlacedCall) (from to : ℕ) → number_of_unit (all_units us) c.name ≡ None → CallsPass us i (c ∷ []) from to → ⊥
-none_by_call us i c from to none h = no h.2.0 (sym h.2.1 ∙ ap (λ (d : PlacedCall). number_of_unit (all_units us) d.name) (in_one h.0 c h.1) ∙ none)
-  where
-    no : (n : ℕ) → Some n ≡ None → ⊥
-    no n e = absurd cc
+none_by_call us i c from to none h = none-some h.2.0 (sym none ∙ ap (λ (d : PlacedCall). number_of_unit (all_units us) d.name) (sym (in_one h.0 c h.1)) ∙ h.2.1)
 
 -- the arrows of one CALL more
 pub calls_step : (us : ProgramUnits) (i : ℕ) (calls all : List PlacedCall) (c : PlacedCall) (old mid new : List (List ℕ)) → all ≡ calls ++ c ∷ []

@@ -1,6 +1,7 @@
 -- CALLs that lead back, by units and by their numbers.
 use Rattle.std.proofs.Common.{◌≡◌, ◌⊎◌, inl, inr, ℕ, ◌+◌, ◌<◌, ◌↔◌, List, [], ◌∷◌, ◌++◌, Bool, true, false, Option, Some, None, length, map, refl, sym, ap, subst, ◌∙◌, eqb, ltb, ◌||◌, ◌&&◌, arith}
 use Rattle.std.proofs.lemmas.Bool.{cases_lt}
+use Rattle.std.proofs.lemmas.Option.{same_Some}
 use Rattle.ped_calls.specs.Units.{ProgramUnit, ProgramUnits, all_units}
 use Rattle.ped_calls.specs.Linking.{IsIn, Placed, calls_of, CallsUnit, LeadsAlong, Reaches, LinkRefusal, NoUnit, Recursion, Arguments, Aliased, CallPlace, IsAtCall, OfCalled, IsRecursive, is_before}
 use Rattle.ped_calls.specs.Verdicts.{number_of_rule}
@@ -191,9 +192,6 @@ unit_more us ends marks found more i a below returns f h =
     both (inl k) = both_first (LeadingBelow us ends i) (LeadingAt us ends i) found more h k
     both (inr k) = subst (λ (o : Option UnitFinding). IsFirstOf (EitherStands (LeadingBelow us ends i) (LeadingAt us ends i)) (first_link_of found o)) (sym k.0) (skipped_unit us ends marks found i (LeadingBelow us ends i) a below returns k.1 h)
 
-same_some : (a b : ℕ) → Some a ≡ Some b → a ≡ b
-same_some a b e = cc
-
 -- the arrows of one CALL more
 pub callers_step : (us : ProgramUnits) (calls all : List PlacedCall) (c : PlacedCall) (unit : ℕ) (callee : Option ℕ) (old mid new : List (List ℕ)) → all ≡ calls ++ c ∷ [] → callee ≡ number_of_unit (all_units us) c.name
     → ((k i : ℕ) → Leads mid k i ↔ (Leads old k i ⊎ ((i ≡ unit) × CallsIn (all_units us) calls k))) → ((k i : ℕ) → Leads new k i ↔ (Leads mid k i ⊎ ((callee ≡ Some k) × (Some unit ≡ Some i))))
@@ -209,7 +207,7 @@ callers_step us calls all c unit callee old mid new e named before now k i = (fr
     from : Leads new k i → Leads old k i ⊎ ((i ≡ unit) × CallsIn (all_units us) all k)
     from l = elim ((now k i).0 l) [
       | inl m ↦ elim ((before k i).0 m) [ inl o ↦ inl o | inr x ↦ inr (x.0, more x.1) ]
-      | inr h ↦ inr (sym (same_some unit i h.1), here h.0)
+      | inr h ↦ inr (sym (same_Some unit i h.1), here h.0)
     ]
 
     to : Leads old k i ⊎ ((i ≡ unit) × CallsIn (all_units us) all k) → Leads new k i

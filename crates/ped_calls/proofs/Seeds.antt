@@ -1,6 +1,7 @@
 -- Dummy arguments that their units use themselves, one after the other.
-use Rattle.std.proofs.Common.{◌≡◌, ◌⊎◌, inl, inr, ℕ, ◌+◌, ◌<◌, ◌↔◌, List, [], ◌∷◌, ◌++◌, Bool, true, false, Option, Some, None, length, get_or, refl, sym, ap, subst, ◌∙◌, arith}
-use Rattle.std.proofs.lemmas.Bool.{or_left, or_right, or_cases, cases_lt}
+use Rattle.std.proofs.Common.{◌≡◌, ◌⊎◌, inl, inr, ℕ, ◌+◌, ◌<◌, ◌↔◌, List, [], ◌∷◌, ◌++◌, false, Option, Some, None, length, get_or, refl, sym, ap, subst, ◌∙◌, arith}
+use Rattle.std.proofs.lemmas.Bool.{both_ways, or_left, or_right, or_cases, cases_lt}
+use Rattle.std.proofs.lemmas.Option.{none-some, same_Some}
 use Rattle.std.specs.Prelude.{IsTrue, IfSome}
 use Rattle.ped_base.specs.Lists.{is_same_text, is_among}
 use Rattle.ped_base.proofs.NameEquality.{same_itself, same_is}
@@ -26,24 +27,14 @@ pub below_with : (count : ℕ) (ns : List ℕ) (o : Option ℕ) → IfSome o (λ
 below_with count ns None h b = b
 below_with count ns (Some m) h b = λ n i. elim (in_either n ns (m ∷ []) i) [ inl x ↦ b n x | inr y ↦ subst (λ (k : ℕ). k < count) (sym (in_one n m y)) h ]
 
-no_some : (n : ℕ) → None ≡ Some n → ⊥
-no_some n e = absurd cc
-
-same_some : (a b : ℕ) → Some a ≡ Some b → a ≡ b
-same_some a b e = cc
-
-no_truth : (b : Bool) → b ≡ false → IsTrue b → ⊥
-no_truth true e h = absurd cc
-no_truth false e h = absurd cc
-
 -- the number of one dummy argument that is used
 with_seed : (us : List ProgramUnit) (k : ℕ) (x : List ℕ) (names : List (List ℕ)) (o : Option ℕ) (old : List ℕ) → IsTrue (is_among x names) → o ≡ formal_number us k x → (n : ℕ) → IsIn n (with_some old o) ↔ (IsIn n old ⊎ IsSeedAmong us k (x ∷ []) names n)
-with_seed us k x names None old h e n = (λ i. inl i, λ s. elim s [ inl i ↦ i | inr a ↦ absurd (no_some n (e ∙ ap (formal_number us k) (sym (in_one a.0 x a.1)) ∙ a.3)) ])
+with_seed us k x names None old h e n = (λ i. inl i, λ s. elim s [ inl i ↦ i | inr a ↦ absurd (none-some n (e ∙ ap (formal_number us k) (sym (in_one a.0 x a.1)) ∙ a.3)) ])
 with_seed us k x names (Some m) old h e n = (
   λ i. elim (in_either n old (m ∷ []) i) [ inl y ↦ inl y | inr z ↦ inr (x, inl refl, h, sym e ∙ ap (λ (j : ℕ). Some j) (sym (in_one n m z))) ],
   λ s. elim s [
     | inl i ↦ in_left n old (m ∷ []) i
-    | inr a ↦ in_right n old (m ∷ []) (inl (sym (same_some m n (e ∙ ap (formal_number us k) (sym (in_one a.0 x a.1)) ∙ a.3))))
+    | inr a ↦ in_right n old (m ∷ []) (inl (sym (same_Some m n (e ∙ ap (formal_number us k) (sym (in_one a.0 x a.1)) ∙ a.3))))
   ],
 )
 
@@ -52,7 +43,7 @@ seed_added us k x names o old new h e is n = subst (λ (ns : List ℕ). IsIn n n
 
 -- one that isn't used has none
 pub no_seed_added : (us : List ProgramUnit) (k : ℕ) (x : List ℕ) (names : List (List ℕ)) (old : List ℕ) → is_among x names ≡ false → (n : ℕ) → IsIn n old ↔ (IsIn n old ⊎ IsSeedAmong us k (x ∷ []) names n)
-no_seed_added us k x names old h n = (λ i. inl i, λ s. elim s [ inl i ↦ i | inr a ↦ absurd (no_truth (is_among x names) h (subst (λ (y : List ℕ). IsTrue (is_among y names)) (in_one a.0 x a.1) a.2)) ])
+no_seed_added us k x names old h n = (λ i. inl i, λ s. elim s [ inl i ↦ i | inr a ↦ absurd (both_ways (is_among x names) h (subst (λ (y : List ℕ). IsTrue (is_among y names)) (in_one a.0 x a.1) a.2)) ])
 
 -- one dummy argument more
 pub seeds_step : (us : List ProgramUnit) (k : ℕ) (fs all names : List (List ℕ)) (x : List ℕ) (old mid new : List ℕ) → all ≡ fs ++ x ∷ []

@@ -5,12 +5,13 @@ ghost use Rattle.ped_base.specs.Lists as Lists;
 ghost use Rattle.ped_calls.specs.Units.{ProgramUnit as PlainUnit, ProgramUnits, all_units};
 ghost use Rattle.ped_calls.specs.Linking as Rules;
 ghost use Rattle.ped_calls.specs.Arguments as Spec;
-ghost use Rattle.ped_calls.specs.Arguments.{AreFormals, AreUses, IsPassed};
+ghost use Rattle.ped_calls.specs.Arguments.{AreFormals, AreUses};
 ghost use Rattle.ped_calls.specs.ArrowViews.{ends_of};
 ghost use Rattle.ped_calls.specs.Reaching.{Leads, AreBelow};
 ghost use Rattle.ped_calls.specs.Scenes.{IsScene, unit_at};
 ghost use Rattle.ped_calls.specs.Views.{program_unit_of};
 
+use crate::arrows::add_arrow;
 use crate::assigning::{assigned, indexes};
 use crate::numbering::{is_marked, place_of, places};
 use crate::placing::PlacedCall;
@@ -324,20 +325,4 @@ pub fn lesser(a: usize, b: usize) -> usize
     ensures one { (result ≡ a) ⊎ (result ≡ b) }
 {
     if a < b { a } else { b }
-}
-
-/// Adds an arrow, where both its ends are there.
-fn add_arrow(arrows: &mut Arrows, from: Option<usize>, to: Option<usize>) -> Result<(), NoMemory>
-    requires from { IfSome from (λ n. n < length (ends_of arrows.old)) }
-    requires to { IfSome to (λ n. n < length (ends_of arrows.old)) }
-    ensures wide { length (ends_of arrows.new) ≡ length (ends_of arrows.old) }
-    ensures added { OnOk result ((i j : ℕ) → Leads (ends_of arrows.new) i j ↔ (Leads (ends_of arrows.old) i j ⊎ ((from ≡ Some i) × (to ≡ Some j)))) }
-{
-    let Some(from) = from else {
-        return Ok(());
-    };
-    let Some(to) = to else {
-        return Ok(());
-    };
-    arrows.add(from, to)
 }

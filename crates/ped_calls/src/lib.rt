@@ -3,6 +3,7 @@
 #![tactic(auto)]
 
 mod arguments;
+mod arrows;
 mod assigning;
 mod binding;
 mod blocks;

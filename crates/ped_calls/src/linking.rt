@@ -1,15 +1,12 @@
 //! The CALLs of a file looked at together: the rules 20 to 24 (ANSI X3.9-1978, sections 15.6 and 15.9).
 
-ghost use Rattle.std.specs.Prelude.{◌≡◌, ◌↔◌, ◌<◌, ℕ, List, map, IfOk, IfErr, OnOk, IsTrue, length};
-ghost use Rattle.ped_base.specs.Lists as Lists;
+ghost use Rattle.std.specs.Prelude.{◌≡◌, ◌↔◌, ◌<◌, List, map, IfOk, IfErr, OnOk, IsTrue, length};
 ghost use Rattle.ped_valid.specs.ped_symbols.specs.NameRefusals.{has_twice};
 ghost use Rattle.ped_calls.specs.Units.{ProgramUnit as PlainUnit, ProgramUnits, all_units};
 ghost use Rattle.ped_calls.specs.Linking as Rules;
 ghost use Rattle.ped_calls.specs.Links as Spec;
 ghost use Rattle.ped_calls.specs.FirstLinks.{IsFirstOf};
-ghost use Rattle.ped_calls.specs.Naming.{AreTables};
 ghost use Rattle.ped_calls.specs.Numbers.{AreNumbers};
-ghost use Rattle.ped_calls.specs.Placing.{placed_call};
 ghost use Rattle.ped_calls.specs.Scenes.{IsScene, AreWalked, AtHeads, AtPlaces};
 ghost use Rattle.ped_calls.specs.Views.{program_unit_of};
 

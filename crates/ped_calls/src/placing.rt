@@ -7,7 +7,6 @@ ghost use Rattle.ped_tree.specs.Grammar.ProgramRefusals as Rules;
 ghost use Rattle.ped_tree.specs.Views.{expr_tree, decl_tree, stmt_tree, stmt_trees, pack_exprs};
 ghost use Rattle.ped_valid.specs.ped_symbols.specs.NameRefusals as Names;
 ghost use Rattle.ped_valid.specs.ped_symbols.specs.Sites.{stmt_sites, stmts_sites, decl_sites, private_site, program_sites};
-ghost use Rattle.ped_calls.specs.Forms.{Called};
 ghost use Rattle.ped_calls.specs.Units.{call_of, called_in};
 ghost use Rattle.ped_calls.specs.Linking.{calls_of, calls_in, all_calls_in};
 ghost use Rattle.ped_calls.specs.Placing.{around_of, argument_name, call_here, placed_call, private_lines, Passes};

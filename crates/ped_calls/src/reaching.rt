@@ -15,7 +15,7 @@ pub struct Arrows {
 
 impl Arrows {
     ghost use Rattle.ped_calls.specs.ArrowViews.{ends_of};
-    ghost use Rattle.ped_calls.specs.Reaching.{Leads, IsReached, IsMarked};
+    ghost use Rattle.ped_calls.specs.Reaching.{IsReached, IsMarked};
 
     /// No arrows, between numbers below `count`.
     pub fn new(alloc: Global, count: usize) -> Result<Arrows, NoMemory>

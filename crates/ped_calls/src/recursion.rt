@@ -1,15 +1,15 @@
 //! CALLs that lead back to the units in which they stand (ANSI X3.9-1978, section 15.6.3).
 
-ghost use Rattle.std.specs.Prelude.{◌≡◌, ◌↔◌, ◌⊎◌, ◌<◌, ℕ, Some, IfOk, IfSome, OnOk, IsTrue, length};
+ghost use Rattle.std.specs.Prelude.{◌≡◌, ◌↔◌, ◌⊎◌, ◌<◌, ℕ, Some, IfOk, OnOk, IsTrue, length};
 ghost use Rattle.ped_calls.specs.Units.{ProgramUnits, all_units};
 ghost use Rattle.ped_calls.specs.Linking as Rules;
-ghost use Rattle.ped_calls.specs.FirstLinks as First;
 ghost use Rattle.ped_calls.specs.FirstLinks.{IsFirstOf};
 ghost use Rattle.ped_calls.specs.ArrowViews.{ends_of};
 ghost use Rattle.ped_calls.specs.Reaching.{Leads};
 ghost use Rattle.ped_calls.specs.Scenes.{IsScene, CallsAt, CallsMarked, StandsAtCalls, AtRecursions};
 ghost use Rattle.ped_calls.specs.Recursions.{CallsIn, CallMayComeFirst, MayComeFirst, IsFoundIn};
 
+use crate::arrows::add_arrow;
 use crate::first_links::{comes_first, first_of_two, standing};
 use crate::numbering::is_marked;
 use crate::placing::PlacedCall;
@@ -127,20 +127,7 @@ fn add_callers(
     ensures added { OnOk result ((us : ProgramUnits) → IsScene us scene.now → (k i : ℕ) → Leads (ends_of arrows.new) k i ↔ (Leads (ends_of arrows.old) k i ⊎ ((i ≡ unit) × CallsIn (all_units us) calls.now k))) }
 {
     for call in calls {
-        add_caller(arrows, unit, scene.callee(&call.name))?;
+        add_arrow(arrows, scene.callee(&call.name), Some(unit))?;
     }
     Ok(())
-}
-
-/// Adds the arrow to a unit from one that it calls, where there is one.
-fn add_caller(arrows: &mut Arrows, unit: usize, callee: Option<usize>) -> Result<(), NoMemory>
-    requires callee { IfSome callee (λ k. k < length (ends_of arrows.old)) }
-    requires unit { unit < length (ends_of arrows.old) }
-    ensures wide { length (ends_of arrows.new) ≡ length (ends_of arrows.old) }
-    ensures added { OnOk result ((k i : ℕ) → Leads (ends_of arrows.new) k i ↔ (Leads (ends_of arrows.old) k i ⊎ ((callee ≡ Some k) × (Some unit ≡ Some i)))) }
-{
-    match callee {
-        Some(callee) => arrows.add(callee, unit),
-        None => Ok(()),
-    }
 }

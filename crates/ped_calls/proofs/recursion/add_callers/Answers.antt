@@ -17,10 +17,10 @@ loop-call-preserved c =
     let i = c.loop-call.call-index in
     let call = c.call-item.result in
     let more : take (i + 1) all ≡ take i all ++ call ∷ [] = grind (arith, common_steps) in
-    let wide = c.add_caller.ensures.wide in
+    let wide = c.add_arrow.ensures.wide in
     record {
       wide = omega (arith, wide, c.loop-call.invariant.wide);
-      added = λ us scene. callers_step us (take i all) (take (i + 1) all) call c.args.unit c.callee.result (ends_of c.args.arrows.now) (ends_of c.loop-call.arrows) (ends_of c.add_caller.new.arrows) more (c.callee.ensures.number us scene) (c.loop-call.invariant.added us scene) c.in_ok-add_caller.ensures.added;
+      added = λ us scene. callers_step us (take i all) (take (i + 1) all) call c.args.unit c.callee.result (ends_of c.args.arrows.now) (ends_of c.loop-call.arrows) (ends_of c.add_arrow.new.arrows) more (c.callee.ensures.number us scene) (c.loop-call.invariant.added us scene) c.in_ok-add_arrow.ensures.added;
     }
 
 pub returns-clause-added : goal.returns-clause-added

@@ -3,7 +3,7 @@ use Rattle.std.proofs.lemmas.Result.{on_ok_weaker}
 use Rattle.std.specs.Prelude.{IfSome}
 use Rattle.ped_calls.specs.ArrowViews.{ends_of}
 use Rattle.ped_calls.proofs.ArrowsAdded.{leads_added}
-use Rattle.ped_calls.proofs.formals.add_arrow.Goals as goal
+use Rattle.ped_calls.proofs.arrows.add_arrow.Goals as goal
 
 pub returns-clause-added : goal.returns-clause-added
 returns-clause-added c =

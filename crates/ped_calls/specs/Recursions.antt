@@ -1,5 +1,5 @@
 -- CALLs that lead back, by the numbers of units. Contracts of private functions alone speak of it.
-use Rattle.std.specs.Prelude.{◌≡◌, ◌⊎◌, ℕ, List, [], ◌∷◌, map, Bool, true, false, Option, Some, None}
+use Rattle.std.specs.Prelude.{◌≡◌, ◌⊎◌, ℕ, List, [], ◌∷◌, map, Bool, true, Option, Some, None}
 use Rattle.ped_calls.specs.Units.{ProgramUnit, ProgramUnits, all_units}
 use Rattle.ped_calls.specs.Linking.{IsIn, calls_of, Recursion}
 use Rattle.ped_calls.specs.FirstLinks.{comes_first, IsFirstOf}

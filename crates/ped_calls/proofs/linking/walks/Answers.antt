@@ -16,8 +16,8 @@ loop-unit-preserved c =
     let unit = c.unit-item.result in
     let walk = c.in_ok-placed_calls.field-0 in
     let more : take (i + 1) all ≡ take i all ++ unit ∷ [] = grind (arith, common_steps) in
-    subst (λ (us : List plain.ProgramUnit). AreWalked us c.push.new.self.items) (sym {A = List plain.ProgramUnit} (ap (map program_unit_of) more ∙ map_push program_unit_of (take i all) unit))
-    (subst (λ (fs : List Found). AreWalked (map program_unit_of (take i all) ++ program_unit_of unit ∷ []) fs) (sym c.in_ok-push.ensures.items)
+    subst (λ (us : List plain.ProgramUnit). AreWalked us c.push.new.self.items) (sym (ap (map program_unit_of) more ∙ map_push program_unit_of (take i all) unit))
+    (subst (λ (fs : List Found). AreWalked (map program_unit_of (take i all) ++ program_unit_of unit ∷ []) fs) (sym {A = List Found} c.in_ok-push.ensures.items)
     (walked_more (map program_unit_of (take i all)) c.loop-unit.walks.items (program_unit_of unit) walk c.loop-unit.invariant (record { calls = c.in_ok-placed_calls.ensures.calls; private = c.in_ok-placed_calls.ensures.private })))
 
 pub returns-clause-wide : goal.returns-clause-wide

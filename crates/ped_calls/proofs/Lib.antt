@@ -40,6 +40,7 @@ pub mod BoundedStatements
 pub mod BoundedForms
 pub mod BoundedCalls
 pub mod FewUnits
+pub mod NamedUnits
 pub mod LiteralBounds
 mod Members
 mod Added

@@ -18,4 +18,5 @@ all_passed zero taken tries h few = let same : tries ≡ tries - 0 = omega arith
 all_passed (suc k) taken tries h few =
     let before = all_passed k taken tries (λ n p q. h n p (omega (arith, q))) (omega (arith, few)) in
     let left : tries - k ≡ suc (tries - suc k) = omega (arith, few) in
-    before ∙ ap (λ (m : ℕ). free_from m taken (k + 1)) left ∙ passed (tries - suc k) taken (k + 1) (h (k + 1) (omega arith) (omega arith))
+    let same : k + 1 + 1 ≡ suc k + 1 = omega arith in
+    before ∙ ap (λ (m : ℕ). free_from m taken (k + 1)) left ∙ passed (tries - suc k) taken (k + 1) (h (k + 1) (omega arith) (omega arith)) ∙ ap (free_from (tries - suc k) taken) same

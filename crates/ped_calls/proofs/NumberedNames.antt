@@ -35,7 +35,7 @@ numbered_same : (m n : ℕ) → m < 2 ^ 64 → n < 2 ^ 64 → is_same_text (numb
 numbered_same m n p q h = decimal_injective m n p q (ap (λ (x : List ℕ). drop 2 x) (same_is (numbered_name m) (numbered_name n) h))
 
 -- names without the first that is this one
-without : List ℕ → List (List ℕ) → List (List ℕ)
+abbrev without : List ℕ → List (List ℕ) → List (List ℕ)
 without x [] = []
 without x (y ∷ ys) = if is_same_text x y then ys else y ∷ without x ys
 

@@ -168,7 +168,7 @@ record AllKept (f : Called → StmtTree) (n : ℕ) (kept : List Entry) : Type 0 
   few : n + numbered_all kept ≤ 4000
 
 -- statements with what their texts are
-abbrev pub AreRead : List UnitEntry → Type 0
+abbrev AreRead : List UnitEntry → Type 0
 AreRead es = AllByRecursion (λ (e : UnitEntry). IsUnitItem e.statement.text e.item) es
 
 all_kept : (arrays saved : List (List ℕ)) (sub : Bool) (c : Context) (es : List UnitEntry) → AreRead es → c.statements ≤ 4000 → at_statements saved c (as_entries stand_in sub es) ≡ [] → flat_map at_call es ≡ []
@@ -295,7 +295,7 @@ further_read ended (e ∷ es) h = by (ended && begins e.item) (further_read fals
     by true k l = (own_read false es h.1, k)
     by false k l = l
 
-pub are_read : (ss : List Statement) (es : List UnitEntry) → AreUnitEntries ss es → AreRead es
+are_read : (ss : List Statement) (es : List UnitEntry) → AreUnitEntries ss es → AreRead es
 are_read [] [] h = tt
 are_read [] (e ∷ es) h = absurd h
 are_read (s ∷ ss) [] h = absurd h

@@ -40,7 +40,6 @@ pub mod BoundedStatements
 pub mod BoundedForms
 pub mod BoundedCalls
 pub mod FewUnits
-pub mod NamedUnits
 pub mod LiteralBounds
 mod Members
 mod Added

@@ -4,7 +4,6 @@ use Rattle.ped_tree.specs.Tree.{StmtTrees, ProgramTree}
 use Rattle.ped_tree.specs.Views.{decl_tree, stmt_trees, program_tree}
 use Rattle.ped_tree.specs.Names.Collecting.{HaveSame}
 use Rattle.ped_tree.specs.declared.declarations.Decl.{Decl}
-use Rattle.ped_tree.specs.declared.declarations.Program.{Program}
 use Rattle.ped_tree.specs.declared.statements.Stmt.{Stmt}
 use Rattle.ped_calls.specs.Units.{all_with_calls}
 use Rattle.ped_calls.specs.Refusals.{save_of_formals, dimensioned, using_arguments, for_names}

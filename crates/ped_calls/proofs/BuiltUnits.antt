@@ -1,5 +1,5 @@
 -- Units that are built one behind the other of what was read.
-use Rattle.std.proofs.Common.{◌≡◌, List, [], ◌∷◌, ◌++◌, refl, sym, subst, ◌∙◌, append_assoc, append-nil}
+use Rattle.std.proofs.Common.{◌≡◌, List, [], ◌∷◌, ◌++◌, sym, subst, ◌∙◌, append_assoc, append-nil}
 use Rattle.ped_tree.specs.Grammar.Statement.{Statements}
 use Rattle.ped_calls.specs.Reading.{Segment}
 use Rattle.ped_calls.specs.Refusals.{before_another}

@@ -1,5 +1,5 @@
 -- A CALL is too long, or has a literal that is too large, where the assignment as which it stands in trees nearly is.
-use Rattle.std.proofs.Common.{◌≡◌, ℕ, suc, ◌+◌, List, [], ◌∷◌, ◌++◌, Bool, true, false, leb, length, append_assoc, refl, sym, ap, ◌∙◌, length-append, arith}
+use Rattle.std.proofs.Common.{◌≡◌, ℕ, suc, ◌+◌, List, [], ◌++◌, Bool, true, false, leb, length, append_assoc, refl, sym, ap, ◌∙◌, length-append, arith}
 use Rattle.core.specs.Fmt.{digits}
 use Rattle.std.specs.Prelude.{◌||◌, nat_lt, codes, Some}
 use Rattle.ped_tree.specs.Tree.{ExprTrees, Int, StmtTree, Assign, no_exprs, more_exprs}

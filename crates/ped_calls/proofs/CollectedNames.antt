@@ -1,10 +1,10 @@
 -- The names in statements, as they are collected one behind the other.
 use Rattle.std.proofs.Common.{◌≡◌, ℕ, List, [], ◌∷◌, ◌++◌, map, Bool, true, false, refl, ap, ◌∙◌, sym, append_assoc, append-nil, if◌then◌else◌}
 use Rattle.std.specs.Prelude.{◌||◌}
-use Rattle.std.specs.List.{flat_map, fold}
+use Rattle.std.specs.List.{fold}
 use Rattle.ped_base.specs.Lists.{is_same_text, is_among}
-use Rattle.ped_tree.specs.Tree.{ExprTree, ExprTrees, no_exprs, more_exprs, Value, Print}
-use Rattle.ped_tree.specs.NamesIn.{expr_names, exprs_names, item_names, stmt_names, first_occurrences}
+use Rattle.ped_tree.specs.Tree.{ExprTrees, no_exprs, more_exprs, Value, Print}
+use Rattle.ped_tree.specs.NamesIn.{expr_names, exprs_names, stmt_names, first_occurrences}
 use Rattle.ped_tree.specs.Accesses.{listed}
 use Rattle.ped_tree.specs.Names.Collecting.{with_name, with_names}
 use Rattle.ped_limits.proofs.SameNames.{HaveSame, among_append}

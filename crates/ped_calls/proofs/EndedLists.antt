@@ -1,5 +1,5 @@
 -- Statements divided into units one by one.
-use Rattle.std.proofs.Common.{◌≡◌, ℕ, List, [], ◌∷◌, ◌++◌, map, Bool, true, false, cond, Option, Some, None, refl, sym, ap, ◌∙◌, append_assoc, append-nil}
+use Rattle.std.proofs.Common.{◌≡◌, List, [], ◌∷◌, ◌++◌, Bool, true, false, cond, Some, None, refl, sym, ap, ◌∙◌, append_assoc, append-nil}
 use Rattle.std.specs.Prelude.{◌&&◌, ◌||◌}
 use Rattle.ped_calls.specs.Reading.{UnitEntry, Segment, ends, begins, own_entries, further_segments, segments_of}
 use Rattle.ped_calls.specs.Seeing.{segments_onto}

@@ -124,6 +124,10 @@ record KeptShort (f : Called → StmtTree) (n : ℕ) (seen kept : Reading) : Typ
 abbrev IsPassed : List (List ℕ) → Context → List Entry → Reading → Type 0
 IsPassed saved c rest r = where_it_says (passes_limit saved c rest) r ≡ false
 
+-- no limit is passed at a statement at which nothing is refused
+within_limit : (saved : List (List ℕ)) (c : Context) (e : Entry) (rest : List Entry) → at_statement saved c e rest ≡ [] → IsPassed saved c rest e.reading
+within_limit saved c e rest h = none_stands (where_it_says (passes_limit saved c rest) e.reading) Limit e.statement.line (right_empty _ _ h)
+
 plain_kept : (f : Called → StmtTree) (saved : List (List ℕ)) (c : Context) (rest : List Entry) (text : List ℕ) (r : Reading) → IsUnitItem text (plain r) → IsPassed saved c rest r → c.statements ≤ 4000 → KeptShort f c.statements r r
 plain_kept f saved c rest text (says i) texts h k =
     let w = within_item saved c rest i h in
@@ -182,7 +186,7 @@ all_kept arrays saved sub c (e ∷ es) texts k h small =
     let one : Entry = record { statement = e.statement; reading = seen } in
     let here = left_empty (at_statement saved c one rest) (at_statements saved (behind c one) rest) h in
     let next = right_empty (at_statement saved c one rest) (at_statements saved (behind c one) rest) h in
-    let limit = none_stands (where_it_says (passes_limit saved c rest) seen) Limit e.statement.line (right_empty _ _ here) in
+    let limit = within_limit saved c one rest here in
     let own = none_stands (call_passes_limit (call_in e.item)) Limit e.statement.line (left_empty (at_call e) (flat_map at_call es) small) in
     let kept = kept_short arrays saved c rest e.statement.text sub before e.item texts.0 own limit k in
     let count = statements_behind c e.statement seen in

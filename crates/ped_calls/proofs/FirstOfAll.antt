@@ -1,5 +1,5 @@
 -- The first refusal of units that were read, one after the other.
-use Rattle.std.proofs.Common.{◌≡◌, List, [], ◌∷◌, ◌++◌, Option, Some, None, refl, sym, ap, ◌∙◌}
+use Rattle.std.proofs.Common.{◌≡◌, List, [], ◌∷◌, Option, sym, ap, ◌∙◌}
 use Rattle.ped_tree.specs.Grammar.Refusal.{Finding, earliest, first_of}
 use Rattle.ped_tree.specs.Grammar.RefusalViews.{found_of}
 use Rattle.ped_tree.specs.Grammar.Statement.{Statements}

@@ -1,5 +1,5 @@
 -- The CALLs are put back, one by one.
-use Rattle.std.proofs.Common.{◌≡◌, ℕ, zero, suc, ◌+◌, ◌<◌, List, [], ◌∷◌, ◌++◌, map, length, drop, Bool, Option, Some, None, refl, sym, ap, ◌∙◌, append_assoc, append-nil, Result, Ok, Err, arith}
+use Rattle.std.proofs.Common.{◌≡◌, ℕ, zero, suc, ◌+◌, ◌<◌, List, [], ◌∷◌, ◌++◌, map, length, drop, Bool, Option, refl, sym, ap, ◌∙◌, append_assoc, append-nil, Result, Ok, Err, arith}
 use Rattle.std.specs.Prelude.{IfOk, get_or}
 use Rattle.ped_tree.specs.Grammar.Items.{Entry}
 use Rattle.ped_tree.specs.Grammar.ItemViews.{entry_of}

@@ -1,21 +1,21 @@
 -- The statements of a unit nest with its CALLs where they nest with something plain in the place of each.
-use Rattle.std.proofs.Common.{◌≡◌, ℕ, List, [], ◌∷◌, ◌++◌, Bool, true, false, cond, Option, Some, None, refl, sym, ap, subst, ◌∙◌}
+use Rattle.std.proofs.Common.{◌≡◌, ℕ, List, [], ◌∷◌, ◌++◌, Bool, true, false, cond, None, refl, sym, ap, subst, ◌∙◌}
 use Rattle.std.specs.Prelude.{IsTrue, ◌&&◌}
-use Rattle.ped_tree.specs.Tree.{StmtTree, ProgramTree}
+use Rattle.ped_tree.specs.Tree.{StmtTree}
 use Rattle.ped_tree.specs.Grammar.Refusal.{first_of}
-use Rattle.ped_tree.specs.Grammar.Statement.{Statement, Statements}
-use Rattle.ped_tree.specs.Grammar.Items.{Reading, says, outside_profile, no_form, does, continues, logical_if, Entry}
+use Rattle.ped_tree.specs.Grammar.Statement.{Statements}
+use Rattle.ped_tree.specs.Grammar.Items.{says, outside_profile, no_form, does, continues, Entry}
 use Rattle.ped_tree.specs.Grammar.Occurrences.{saved_names}
 use Rattle.ped_tree.specs.Grammar.BlockForms.{body_keeps_labels}
-use Rattle.ped_tree.specs.Grammar.ProgramForms.{ProgramForm, lines_of_reading, first_lines}
+use Rattle.ped_tree.specs.Grammar.ProgramForms.{lines_of_reading, first_lines}
 use Rattle.ped_tree.specs.Grammar.ProgramRefusals.{program_refusals}
 use Rattle.ped_valid.specs.ped_parse.specs.ped_blocks.specs.Machine.{nothing_built, take_entries, built_program}
 use Rattle.ped_valid.specs.ped_parse.specs.ped_blocks.proofs.BlocksFound.{form_found}
 use Rattle.ped_valid.specs.ped_parse.specs.ped_blocks.proofs.BlocksNest.{form_built}
 use Rattle.ped_calls.specs.Forms.{Called, UnitItem, plain, calls, calls_if, begins_unit, returns}
 use Rattle.ped_calls.specs.Units.{ProgramUnit, call_statement}
-use Rattle.ped_calls.specs.Reading.{UnitEntry, Segment, is_end_next, return_reading, as_reading, as_entries, is_subroutine, stand_in, seen_entries, kept_entries, IsHeaded, IsUnitOf}
-use Rattle.ped_calls.proofs.Exchanged.{SaysAlike, same, both_do, both_if, ReadsAlike, AreAlike, form_exchanged}
+use Rattle.ped_calls.specs.Reading.{UnitEntry, Segment, is_end_next, as_reading, as_entries, is_subroutine, stand_in, seen_entries, kept_entries, IsHeaded, IsUnitOf}
+use Rattle.ped_calls.proofs.Exchanged.{same, both_do, both_if, ReadsAlike, AreAlike, form_exchanged}
 
 return_alike : (b : Bool) → ReadsAlike (cond b (says continues) outside_profile) (cond b (says continues) outside_profile)
 return_alike true = (continues, refl, same refl)

@@ -1,5 +1,5 @@
 -- Lists of trees, packed for a tree, with what stands for each name, or with what stands for each CALL.
-use Rattle.std.proofs.Common.{◌≡◌, ℕ, List, [], ◌∷◌, map, refl, ap}
+use Rattle.std.proofs.Common.{◌≡◌, List, [], ◌∷◌, map, refl, ap}
 use Rattle.ped_tree.specs.Tree.{ExprTree, more_exprs, StmtTree, more_stmts}
 use Rattle.ped_tree.specs.Accesses.{listed}
 use Rattle.ped_tree.specs.Views.{pack_exprs, pack_stmts}

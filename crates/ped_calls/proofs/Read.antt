@@ -1,11 +1,10 @@
 -- What is read of the statements of a file, where literals are saturated, is refused as they are, and is what they say where nothing is refused.
-use Rattle.std.proofs.Common.{◌≡◌, ℕ, List, [], ◌∷◌, ◌++◌, map, Bool, true, false, Option, Some, None, refl, sym, ap, ap₂, subst, ◌∙◌}
-use Rattle.std.specs.Prelude.{◌||◌}
+use Rattle.std.proofs.Common.{◌≡◌, ℕ, List, [], ◌∷◌, ◌++◌, map, Bool, false, Option, Some, None, refl, sym, ap, subst, ◌∙◌}
 use Rattle.std.specs.List.{flat_map, list_any}
-use Rattle.ped_tree.specs.Tree.{ProgramTree, more_stmts, no_stmts}
-use Rattle.ped_tree.specs.Grammar.Refusal.{Finding, refused_if, first_of}
-use Rattle.ped_tree.specs.Grammar.Statement.{Statement, Statements}
-use Rattle.ped_tree.specs.Grammar.Items.{Item, Reading, says, outside_profile, no_form, logical_if, Entry}
+use Rattle.ped_tree.specs.Tree.{more_stmts, no_stmts}
+use Rattle.ped_tree.specs.Grammar.Refusal.{Finding, first_of}
+use Rattle.ped_tree.specs.Grammar.Statement.{Statements}
+use Rattle.ped_tree.specs.Grammar.Items.{Item, says, outside_profile, no_form, logical_if, Entry}
 use Rattle.ped_tree.specs.Grammar.Contexts.{Context, at_start, behind, behind_all}
 use Rattle.ped_tree.specs.Grammar.Literals.{stmt_has_large_literal}
 use Rattle.ped_tree.specs.Grammar.Grouping.{statements_of}
@@ -25,7 +24,7 @@ use Rattle.ped_tree.specs.declared.grammar.statements.Statements as lines
 use Rattle.ped_calls.specs.Forms.{UnitItem, plain, calls, calls_if, begins_unit, returns}
 use Rattle.ped_calls.specs.Units as units
 use Rattle.ped_calls.specs.Units.{ProgramUnits, all_units, call_statement}
-use Rattle.ped_calls.specs.Reading.{UnitEntry, AreUnitEntries, IsCutIntoUnits, Segment, segments_of, further_segments, own_entries, is_end_next, as_reading, as_entries, is_subroutine, stand_in, seen_entries, kept_entries, name_in, formals_in, IsHeaded, IsUnitOf, AreUnitsOf}
+use Rattle.ped_calls.specs.Reading.{UnitEntry, AreUnitEntries, IsCutIntoUnits, Segment, segments_of, is_end_next, as_reading, as_entries, is_subroutine, stand_in, seen_entries, kept_entries, name_in, formals_in, IsHeaded, IsUnitOf, AreUnitsOf}
 use Rattle.ped_calls.specs.Refusals.{call_in, call_passes_limit, at_call, other_refusals, segment_refusals, before_another, segments_refusals, first_segments_refusal, ReadsUnits}
 use Rattle.ped_calls.specs.UnitReading.{item_with_literals}
 use Rattle.ped_calls.specs.Views.{program_unit_of}
@@ -33,7 +32,7 @@ use Rattle.ped_calls.specs.Seeing.{entry_with_literals, AreItemsReadAs, IsBuiltO
 use Rattle.ped_calls.specs.Verdicts.{RefusesUnits, in_statements, found_in_text}
 use Rattle.ped_calls.specs.declared.units.ProgramUnit.{ProgramUnit}
 use Rattle.ped_calls.proofs.Nested.{unit_built}
-use Rattle.ped_calls.proofs.Saturating.{small_called, head_with, segment_with, segments_with, subroutine_with, seen_segment_with, segments_refusals_with}
+use Rattle.ped_calls.proofs.Saturating.{small_called, head_with, segment_with, segments_with, subroutine_with, segments_refusals_with}
 
 -- where no limit is passed, nothing is saturated
 

@@ -1,5 +1,5 @@
 -- Units that are read one behind the other.
-use Rattle.std.proofs.Common.{◌≡◌, List, [], ◌∷◌, ◌++◌}
+use Rattle.std.proofs.Common.{List, [], ◌∷◌, ◌++◌}
 use Rattle.ped_tree.specs.Grammar.Statement.{Statements}
 use Rattle.ped_calls.specs.Reading.{Segment}
 use Rattle.ped_calls.specs.Refusals.{before_another}

@@ -1,28 +1,27 @@
 -- What is refused at units doesn't depend on how large a literal is that is too large, and where nothing is refused none is.
-use Rattle.std.proofs.Common.{◌≡◌, ℕ, List, [], ◌∷◌, ◌++◌, map, length, Bool, true, false, cond, Option, Some, None, refl, sym, ap, subst, ◌∙◌}
-use Rattle.std.specs.Prelude.{◌||◌, ◌&&◌, nat_lt, codes}
-use Rattle.std.specs.List.{flat_map}
+use Rattle.std.proofs.Common.{◌≡◌, ℕ, List, [], ◌∷◌, ◌++◌, map, length, Bool, true, false, cond, Option, Some, None, refl, sym, ap, ◌∙◌}
+use Rattle.std.specs.Prelude.{◌||◌, ◌&&◌, nat_lt}
 use Rattle.ped_tree.specs.declared.conditions.Relation.TheVariants.{Eq}
 use Rattle.ped_tree.specs.declared.expressions.Intrinsic.TheVariants.{Max}
-use Rattle.ped_tree.specs.Tree.{ExprTree, ExprTrees, Int, Var, Sub, Call, no_exprs, more_exprs, Rel, StmtTree, Assign, no_stmts, more_stmts, DeclTree, Program, Implicit, Integer, Dimension, Parameter, Save, Remark}
+use Rattle.ped_tree.specs.Tree.{ExprTree, ExprTrees, Int, Var, Sub, Call, no_exprs, Rel, StmtTree, Assign, no_stmts, more_stmts, DeclTree, Program, Implicit, Integer, Dimension, Parameter, Save, Remark}
 use Rattle.ped_tree.specs.NamesIn.{exprs_names}
 use Rattle.ped_tree.specs.Grammar.LimitNumbers.{most_characters}
 use Rattle.ped_tree.specs.Grammar.Literals.{have_large_literal}
-use Rattle.ped_tree.specs.Grammar.Refusal.{Finding, refused_if, Syntax, StopPlace, Limit, first_of}
-use Rattle.ped_tree.specs.Grammar.Statement.{Statement, Statements}
-use Rattle.ped_tree.specs.Grammar.Items.{Item, declares, saves_all, does, continues, logical_if, block_if, else_if, else_line, end_if, begins_do, ends_do, keeps_private, ends_program, Reading, says, outside_profile, no_form, Entry}
+use Rattle.ped_tree.specs.Grammar.Refusal.{refused_if, Syntax, StopPlace, Limit}
+use Rattle.ped_tree.specs.Grammar.Statement.{Statements}
+use Rattle.ped_tree.specs.Grammar.Items.{Item, declares, saves_all, does, continues, logical_if, block_if, else_if, else_line, end_if, begins_do, ends_do, keeps_private, ends_program, Reading, says, outside_profile, no_form}
 use Rattle.ped_tree.specs.Grammar.Occurrences.{is_end_entry}
-use Rattle.ped_tree.specs.Grammar.ProgramRefusals.{where_it_says, stops, program_refusals}
+use Rattle.ped_tree.specs.Grammar.ProgramRefusals.{stops, program_refusals}
 use Rattle.ped_valid.specs.ped_parse.specs.ped_statements.specs.ped_expressions.specs.ExpressionReading.{saturated, with_literals, all_with_literals}
 use Rattle.ped_valid.specs.ped_parse.specs.ped_statements.specs.ped_expressions.specs.ConditionReading.{cond_with_literals}
-use Rattle.ped_valid.specs.ped_parse.specs.ped_statements.specs.ped_expressions.proofs.Large.{neither, cond_large_saturated, cond_small_saturated}
+use Rattle.ped_valid.specs.ped_parse.specs.ped_statements.specs.ped_expressions.proofs.Large.{cond_large_saturated}
 use Rattle.ped_valid.specs.ped_parse.specs.ped_statements.specs.Saturated as plain_entries
 use Rattle.ped_valid.specs.ped_parse.specs.ped_statements.specs.Saturated.{reading_with_literals}
 use Rattle.ped_valid.specs.ped_parse.proofs.OtherLiterals.{names_with, is_end_with, stops_with, flat_with}
 use Rattle.ped_valid.specs.ped_parse.proofs.LargeItems.{small_same}
 use Rattle.ped_valid.specs.ped_parse.proofs.OtherRefusals.{refusals_with}
 use Rattle.ped_calls.specs.Forms.{Called, UnitItem, plain, calls, calls_if, begins_unit, returns}
-use Rattle.ped_calls.specs.Reading.{UnitEntry, Segment, ends, begins, own_entries, further_segments, segments_of, is_end_next, return_reading, as_reading, as_entries, is_subroutine, minus_names, difference_of, stand_in, seen_entries}
+use Rattle.ped_calls.specs.Reading.{UnitEntry, Segment, ends, begins, own_entries, further_segments, segments_of, is_end_next, as_reading, as_entries, is_subroutine, minus_names, difference_of, stand_in, seen_entries}
 use Rattle.ped_calls.specs.Refusals.{call_in, call_passes_limit, is_main_declaration, is_of_main, where_plain, at_all_directives, at_subroutine_entry, at_call, at_head, other_refusals, segment_refusals, before_another, segments_refusals, call_text}
 use Rattle.ped_calls.specs.UnitReading.{called_with_literals, item_with_literals}
 use Rattle.ped_calls.specs.Seeing.{entry_with_literals}

@@ -1,5 +1,5 @@
 -- Statements that are turned one by one.
-use Rattle.std.proofs.Common.{◌≡◌, ℕ, ◌+◌, ◌<◌, List, [], ◌∷◌, ◌++◌, map, length, drop, Bool, true, false, Option, refl, sym, ap, ◌∙◌, suc, zero, append_assoc, append-nil, arith}
+use Rattle.std.proofs.Common.{◌≡◌, ℕ, ◌+◌, ◌<◌, List, [], ◌∷◌, ◌++◌, length, drop, Bool, false, Option, sym, ap, ◌∙◌, suc, zero, append_assoc, append-nil, arith}
 use Rattle.std.specs.Prelude.{get_or}
 use Rattle.ped_tree.specs.Grammar.Items.{Entry}
 use Rattle.ped_calls.specs.Forms.{Called}

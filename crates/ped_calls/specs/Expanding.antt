@@ -6,7 +6,6 @@ use Rattle.ped_base.specs.Dimensions.{Dimensions}
 use Rattle.ped_base.specs.Lists.{is_among}
 use Rattle.ped_tree.specs.declared.conditions.Relation.TheVariants.{Eq}
 use Rattle.ped_tree.specs.Tree.{ExprTree, ExprTrees, Int, Var, Element, Neg, Add, Sub, Mul, Div, Pow, Call, no_exprs, more_exprs, CondTree, Rel, Not, And, Or, ItemTree, Value, Text, Head, StmtTree, StmtTrees, Assign, If, Do, Print, Read, Stop, Comment, no_stmts, more_stmts, BoundTree, DeclTree, Integer, ProgramTree}
-use Rattle.ped_tree.specs.Views.{pack_exprs, pack_stmts}
 use Rattle.ped_tree.specs.NamesIn.{stmts_names, first_occurrences}
 use Rattle.ped_tree.specs.Accesses.{listed}
 use Rattle.ped_tree.specs.Constants.NamedConstants.{value_named}

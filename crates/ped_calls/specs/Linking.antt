@@ -3,7 +3,7 @@ use Rattle.std.specs.Prelude.{◌≡◌, ◌≢◌, ℕ, ◌+◌, List, [], ◌�
 use Rattle.std.specs.List.{flat_map}
 use Rattle.ped_base.specs.Dimensions.{Dimensions}
 use Rattle.ped_base.specs.Lists.{is_among}
-use Rattle.ped_tree.specs.Tree.{ExprTree, ExprTrees, Int, Var, Element, Neg, Add, Sub, Mul, Div, Pow, Call, Head, StmtTree, StmtTrees, Assign, If, Do, Print, Read, Stop, Comment, no_stmts, more_stmts}
+use Rattle.ped_tree.specs.Tree.{ExprTree, Var, Element, Head, StmtTree, StmtTrees, Assign, If, Do, Print, Read, Stop, Comment, no_stmts, more_stmts}
 use Rattle.ped_tree.specs.Accesses.{listed}
 use Rattle.ped_tree.specs.NamesIn.{all_loop_variables}
 use Rattle.ped_tree.specs.Grammar.ProgramRefusals.{meets}
@@ -11,7 +11,7 @@ use Rattle.ped_valid.specs.ped_symbols.specs.declared.symbols.Kind.{Kind}
 use Rattle.ped_valid.specs.ped_symbols.specs.declared.symbols.Kind.TheVariants.{Scalar, Array, Constant}
 use Rattle.ped_valid.specs.ped_symbols.specs.Kinds.{kind_in}
 use Rattle.ped_valid.specs.ped_symbols.specs.NameRefusals.{next_line, has_twice}
-use Rattle.ped_valid.specs.ped_symbols.specs.Sites.{Site, declaration, statement, private_names, private_site, stmt_sites, stmts_sites, decl_sites, program_sites}
+use Rattle.ped_valid.specs.ped_symbols.specs.Sites.{Site, private_names, private_site, stmt_sites, stmts_sites, decl_sites, program_sites}
 use Rattle.ped_calls.specs.Forms.{Called}
 use Rattle.ped_calls.specs.Units.{ProgramUnit, ProgramUnits, all_units, unit_of, call_of}
 use Rattle.ped_calls.specs.Refusals.{for_names}

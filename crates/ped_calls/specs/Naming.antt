@@ -1,5 +1,5 @@
 -- What the names of units stand for, or which of their refusals is the first, as the code tells. Contracts of private functions alone speak of it.
-use Rattle.std.specs.Prelude.{◌≡◌, ◌<◌, ◌^◌, ℕ, List, [], ◌∷◌, map, length, Option, Some, None, Result, Ok, Err}
+use Rattle.std.specs.Prelude.{◌≡◌, ◌<◌, ◌^◌, ℕ, List, [], map, length, Option, Some, None, Result, Ok, Err}
 use Rattle.std.specs.Global.{Vec}
 use Rattle.std.specs.List.{flat_map}
 use Rattle.ped_tree.specs.Tree.{ExprTree, CondTree, DeclTree, Integer, Dimension}
@@ -15,7 +15,7 @@ use Rattle.ped_valid.specs.ped_symbols.specs.Declarations.{is_dimensioning, name
 use Rattle.ped_valid.specs.ped_symbols.specs.Kinds.{Table, table_of}
 use Rattle.ped_valid.specs.ped_symbols.specs.NameRefusals.{name_refusals}
 use Rattle.ped_calls.specs.Units.{ProgramUnit}
-use Rattle.ped_calls.specs.Refusals.{for_names, lines_for_names, units_name_refusals, is_zero, and_zeros, condition_of}
+use Rattle.ped_calls.specs.Refusals.{for_names, lines_for_names, units_name_refusals, and_zeros, condition_of}
 use Rattle.ped_calls.specs.Verdicts.{found_in_text}
 use Rattle.ped_calls.specs.Views.{unit_finding_of}
 use Rattle.ped_calls.specs.declared.refusals.UnitRefusal.{UnitRefusal}

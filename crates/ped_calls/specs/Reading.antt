@@ -1,5 +1,5 @@
 -- What a file of program units reads as: its main program and its subroutines, each nested from its own statements (ANSI X3.9-1978, sections 2.4, 3.5, 15.6 to 15.8; this project).
-use Rattle.std.specs.Prelude.{◌≡◌, ℕ, List, [], ◌∷◌, ◌++◌, Option, Some, None, Bool, true, false, ◌&&◌, ◌||◌, IsTrue, if◌then◌else◌}
+use Rattle.std.specs.Prelude.{◌≡◌, ℕ, List, [], ◌∷◌, Option, Some, None, Bool, true, false, ◌&&◌, ◌||◌, IsTrue, if◌then◌else◌}
 use Rattle.ped_tree.specs.Tree.{ExprTree, Int, Var, Sub, StmtTree, Assign, no_stmts, more_stmts}
 use Rattle.ped_tree.specs.NamesIn.{exprs_names}
 use Rattle.ped_tree.specs.Grammar.Statement.{Statement}
@@ -10,7 +10,7 @@ use Rattle.ped_tree.specs.Grammar.Occurrences.{is_end_entry, saved_names}
 use Rattle.ped_tree.specs.Grammar.BlockForms.{body_keeps_labels}
 use Rattle.ped_tree.specs.Grammar.ProgramForms.{ProgramForm, program_entries, program_form_tree, first_lines}
 use Rattle.ped_calls.specs.Forms.{Called, UnitItem, plain, calls, calls_if, begins_unit, returns, IsUnitItem}
-use Rattle.ped_calls.specs.Units.{ProgramUnit, ProgramUnits, all_units, call_statement}
+use Rattle.ped_calls.specs.Units.{ProgramUnit, call_statement}
 
 -- a statement of a file with what it is
 pub record UnitEntry : Type 0 where

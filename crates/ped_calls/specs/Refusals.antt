@@ -1,17 +1,16 @@
 -- Which of the refusals 7 to 19 a file of program units meets, unit by unit. Each unit is looked at, whatever is refused in another (ANSI X3.9-1978, sections 3.5, 8, 15.6 to 15.8; this project).
-use Rattle.std.specs.Prelude.{◌≡◌, ℕ, List, [], ◌∷◌, ◌++◌, length, codes, Option, Some, None, Bool, true, false, not, ◌&&◌, ◌||◌, nat_lt, if◌then◌else◌}
+use Rattle.std.specs.Prelude.{◌≡◌, ℕ, List, [], ◌∷◌, ◌++◌, length, codes, Option, Some, None, Bool, true, false, ◌||◌, nat_lt, if◌then◌else◌}
 use Rattle.std.specs.List.{flat_map}
 use Rattle.ped_base.specs.Lists.{has_some, is_among}
 use Rattle.ped_tree.specs.declared.conditions.Relation.TheVariants.{Eq}
-use Rattle.ped_tree.specs.Tree.{ExprTree, ExprTrees, Int, Var, Element, Neg, Add, Sub, Mul, Div, Pow, Call, CondTree, Rel, And, StmtTree, If, no_stmts, DeclTree, Program, Implicit, Integer, Dimension, Parameter, Save, Remark, ProgramTree}
+use Rattle.ped_tree.specs.Tree.{ExprTree, Int, Var, CondTree, Rel, And, StmtTree, If, no_stmts, DeclTree, Program, Save, ProgramTree}
 use Rattle.ped_tree.specs.NamesIn.{first_occurrences}
 use Rattle.ped_tree.specs.Accesses.{listed}
 use Rattle.ped_tree.specs.Grammar.LimitNumbers.{most_characters}
 use Rattle.ped_tree.specs.Grammar.Literals.{have_large_literal}
 use Rattle.ped_tree.specs.Grammar.Refusal.{Finding, Syntax, StopPlace, Limit, refused_if, first_of}
-use Rattle.ped_tree.specs.Grammar.Statement.{Note, Statement, Statements}
+use Rattle.ped_tree.specs.Grammar.Statement.{Statement, Statements}
 use Rattle.ped_tree.specs.Grammar.Grouping.{statements_of}
-use Rattle.ped_tree.specs.Grammar.LineRefusals.{first_line_refusal}
 use Rattle.ped_tree.specs.Grammar.Items.{Item, declares, saves_all}
 use Rattle.ped_tree.specs.Grammar.ProgramRefusals.{where_it_says, stops, program_refusals}
 use Rattle.ped_valid.specs.ped_symbols.specs.Declarations.{declared_in, is_dimensioning, names_with}

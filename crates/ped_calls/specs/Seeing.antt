@@ -1,6 +1,6 @@
 -- What is read of the statements of a file, and units as their statements are read. Contracts of private functions alone speak of it.
 use Rattle.std.specs.Prelude.{◌≡◌, ℕ, List, [], ◌∷◌, ◌++◌, map, Option, Some, None, Bool}
-use Rattle.ped_tree.specs.Grammar.Statement.{Note, Statement, Statements}
+use Rattle.ped_tree.specs.Grammar.Statement.{Statement, Statements}
 use Rattle.ped_tree.specs.Grammar.Items.{Entry}
 use Rattle.ped_tree.specs.Grammar.ItemViews.{entry_of}
 use Rattle.ped_tree.specs.Grammar.Occurrences.{saved_names}

@@ -1,17 +1,14 @@
 -- Reading the text of a CALL, of a SUBROUTINE statement and of RETURN from left to right. Contracts of private functions alone speak of it.
-use Rattle.std.specs.Prelude.{◌≡◌, ℕ, List, [], ◌∷◌, codes, Option, Some, None, if◌then◌else◌}
-use Rattle.ped_base.specs.Letters.{is_alphanumeric}
+use Rattle.std.specs.Prelude.{◌≡◌, ℕ, List, [], codes, Option, Some, None, if◌then◌else◌}
 use Rattle.ped_base.specs.Lists.{is_same_text}
 use Rattle.ped_tree.specs.Tree.{ExprTree}
 use Rattle.ped_tree.specs.Views.{pack_exprs}
-use Rattle.ped_tree.specs.Grammar.Words.{is_name}
 use Rattle.ped_tree.specs.Grammar.Items.{Reading, says, outside_profile, no_form}
-use Rattle.ped_valid.specs.ped_parse.specs.ped_statements.specs.ped_expressions.specs.Scanning.{◌>>=◌, go_on, front, behind, after}
+use Rattle.ped_valid.specs.ped_parse.specs.ped_statements.specs.ped_expressions.specs.Scanning.{◌>>=◌, go_on, after}
 use Rattle.ped_valid.specs.ped_parse.specs.ped_statements.specs.ped_expressions.specs.ExpressionReading.{expr_of, all_with_literals}
 use Rattle.ped_valid.specs.ped_parse.specs.ped_statements.specs.ped_expressions.specs.ConditionReading.{cond_of, cond_with_literals}
-use Rattle.ped_valid.specs.ped_parse.specs.ped_statements.specs.Listing.{is_end, whole, several}
+use Rattle.ped_valid.specs.ped_parse.specs.ped_statements.specs.Listing.{is_end, several}
 use Rattle.ped_valid.specs.ped_parse.specs.ped_statements.specs.StatementReading.{name_at}
-use Rattle.ped_valid.specs.ped_parse.specs.ped_statements.specs.ProfileReading as profile
 use Rattle.ped_valid.specs.ped_parse.specs.ped_statements.specs.Saturated.{reading_with_literals}
 use Rattle.ped_calls.specs.Forms.{Called, UnitItem, plain, calls, calls_if, begins_unit, returns, IsUnitItem}
 

@@ -1,5 +1,5 @@
 -- What a file of program units is opened as: the program that it expands to, or its first refusal (this project).
-use Rattle.std.specs.Prelude.{◌≡◌, ◌≤◌, ℕ, ◌+◌, ◌-◌, ◌==◌, List, [], ◌∷◌, ◌++◌, length, slice_get, Option, Some, None, Bool, true, false, not, ◌||◌, nat_lt, if◌then◌else◌}
+use Rattle.std.specs.Prelude.{◌≡◌, ◌≤◌, ℕ, ◌+◌, ◌-◌, ◌==◌, List, [], ◌∷◌, ◌++◌, slice_get, Option, Some, None, Bool, true, false, not, ◌||◌, nat_lt, if◌then◌else◌}
 use Rattle.ped_tree.specs.Tree.{StmtTree, StmtTrees, Assign, If, Do, Print, Read, Stop, Comment, no_stmts, more_stmts, DeclTree, Remark, ProgramTree}
 use Rattle.ped_tree.specs.Numbering.{statements_count}
 use Rattle.ped_tree.specs.Grammar.LimitNumbers.{most_statements}
@@ -8,7 +8,7 @@ use Rattle.ped_tree.specs.Grammar.LineRefusals.{first_line_refusal}
 use Rattle.ped_tree.specs.Grammar.Refusal.{Refusal, Limit, StorageLimit, Finding, number_of, name_of_refusal, first_of}
 use Rattle.ped_valid.specs.ped_symbols.specs.NameRefusals.{name_refusals, IsValid}
 use Rattle.ped_calls.specs.Forms.{Called}
-use Rattle.ped_calls.specs.Units.{ProgramUnit, ProgramUnits, all_units, call_of}
+use Rattle.ped_calls.specs.Units.{ProgramUnits, all_units, call_of}
 use Rattle.ped_calls.specs.Reading.{UnitEntry, IsCutIntoUnits}
 use Rattle.ped_calls.specs.Refusals.{first_segments_refusal, ReadsUnits, units_name_refusals}
 use Rattle.ped_calls.specs.Linking.{Placed, calls_of, LinkRefusal, number_of_link, name_of_link, IsFirstLink, IsLinked}

@@ -1,10 +1,9 @@
-use Rattle.std.proofs.Common.{ℕ, List, [], ap, ◌∙◌}
+use Rattle.std.proofs.Common.{ℕ, List, ap, ◌∙◌}
 use Rattle.ped_base.specs.Lists.{is_among}
 use Rattle.ped_tree.specs.NamesIn.{all_loop_variables}
 use Rattle.ped_tree.specs.Names.Collecting.{with_names}
 use Rattle.ped_tree.specs.Views.{stmt_trees}
 use Rattle.ped_calls.proofs.DimensionedNames.{collected_same}
-use Rattle.ped_calls.proofs.FewUnits.{few_units}
 use Rattle.ped_calls.proofs.assigning.indexes.Goals as goal
 
 pub returns : goal.returns

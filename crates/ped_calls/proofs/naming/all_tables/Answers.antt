@@ -10,7 +10,7 @@ use Rattle.ped_calls.specs.Units.{ProgramUnit}
 use Rattle.ped_calls.specs.Naming.{JudgesNames}
 use Rattle.ped_calls.specs.Views.{program_unit_of}
 use Rattle.ped_calls.proofs.TablesSoFar.{SoFar, none_yet, few_here, right_more, wrong_more}
-use Rattle.ped_calls.proofs.naming.all_tables.Goals.{in-Ok+in_ok-push, in-Err}
+use Rattle.ped_calls.proofs.naming.all_tables.Goals.{in-Ok+in_ok-push-in-Ok, in-Err}
 use Rattle.ped_calls.proofs.naming.all_tables.Goals as goal
 
 pub loop-unit-init : goal.loop-unit-init
@@ -30,10 +30,10 @@ loop-unit-preserved c =
     let more = ap (map program_unit_of) front ∙ map_push program_unit_of (take i units) c.unit-item.result in
     subst (λ (vs : List ProgramUnit). SoFar vs (found_of next.found) next.tables.items) (sym more)
     (elim next.branch [
-      | in-Ok+in_ok-push w ↦
+      | in-Ok+in_ok-push-in-Ok w ↦
           let j = subst (λ (r : Result Table Refusal). JudgesNames u r) w.in-Ok.is c.in_ok-judged.ensures in
           subst (λ (f : Option Refusal). SoFar (us ++ u ∷ []) (found_of f) next.tables.items) (sym w.found-is)
-          (subst (λ (ts : List Table). SoFar (us ++ u ∷ []) (found_of c.loop-unit.found) ts) (sym (ap (λ (v : Vec Table). v.items) w.tables-is ∙ w.in_ok-push.ensures.items))
+          (subst (λ (ts : List Table). SoFar (us ++ u ∷ []) (found_of c.loop-unit.found) ts) (sym (ap (λ (v : Vec Table). v.items) w.tables-is ∙ w.in_ok-push-in-Ok.ensures.items))
           (right_more us u (found_of c.loop-unit.found) c.loop-unit.tables.items w.in-Ok.symbols c.loop-unit.invariant j.0 j.1))
       | in-Err w ↦
           let j = subst (λ (r : Result Table Refusal). JudgesNames u r) w.in-Err.is c.in_ok-judged.ensures in

@@ -1,4 +1,4 @@
-use Rattle.std.proofs.Common.{◌≡◌, ◌<◌, ◌^◌, length, sym, subst}
+use Rattle.std.proofs.Common.{◌<◌, ◌^◌, length, sym, subst}
 use Rattle.ped_tree.specs.Tree.{ProgramTree}
 use Rattle.ped_tree.specs.Numbering.{statements_count}
 use Rattle.ped_valid.specs.ped_symbols.specs.ped_refs.specs.References.{references}

@@ -1,4 +1,4 @@
-use Rattle.std.proofs.Common.{map, Result, List, subst}
+use Rattle.std.proofs.Common.{map, Result, subst}
 use Rattle.ped_tree.specs.declared.grammar.refusals.Refusal.{Refusal}
 use Rattle.std.specs.Global.{Vec}
 use Rattle.ped_valid.specs.ped_symbols.specs.Kinds.{Table}

@@ -4,7 +4,7 @@ use Rattle.std.specs.Vec.Iter.{into_iter_items}
 use Rattle.ped_calls.specs.Seeing.{AreReadUnits, AreBuiltOf}
 use Rattle.ped_calls.specs.declared.reading.ReadUnit.{ReadUnit}
 use Rattle.ped_calls.specs.declared.units.ProgramUnit.{ProgramUnit}
-use Rattle.ped_calls.proofs.BuiltUnits.{BuiltSoFar, built_more, all_built}
+use Rattle.ped_calls.proofs.BuiltUnits.{built_more, all_built}
 use Rattle.ped_calls.proofs.reading.built.Goals as goal
 
 pub loop-unit-init : goal.loop-unit-init

@@ -1,11 +1,8 @@
-use Rattle.std.proofs.Common.{◌≡◌, List, map, refl, sym, ap, subst, ◌∙◌}
-use Rattle.ped_tree.specs.Grammar.Refusal.{first_of}
-use Rattle.ped_tree.specs.Grammar.RefusalViews.{finding_of, found_of}
+use Rattle.std.proofs.Common.{List, map, refl, sym, ap, subst}
 use Rattle.ped_tree.specs.Grammar.StatementViews.{note_of, statement_of, statements_view}
 use Rattle.ped_tree.specs.declared.grammar.statements.Statement as lines
 use Rattle.ped_tree.specs.declared.grammar.statements.NoteLine.{NoteLine}
-use Rattle.ped_calls.specs.Reading.{UnitEntry, segments_of}
-use Rattle.ped_calls.specs.Refusals.{segments_refusals}
+use Rattle.ped_calls.specs.Reading.{segments_of}
 use Rattle.ped_calls.specs.Seeing.{AreItemsReadAs, AreReadUnits}
 use Rattle.ped_calls.specs.Views.{unit_entry_of}
 use Rattle.ped_calls.specs.declared.reading.ReadUnit.{ReadUnit}

@@ -1,4 +1,4 @@
-use Rattle.std.proofs.Common.{refl, sym, subst}
+use Rattle.std.proofs.Common.{refl, subst}
 use Rattle.ped_tree.specs.Grammar.RefusalViews.{finding_of}
 use Rattle.ped_valid.specs.ped_parse.specs.ped_lines.specs.Errors.{IsErrorOf}
 use Rattle.ped_valid.specs.ped_parse.specs.ped_lines.specs.declared.errors.LinesError.{LinesError}

@@ -1,4 +1,4 @@
-use Rattle.std.proofs.Common.{◌≡◌, List, Bool, map, sym, ap, subst, ◌∙◌}
+use Rattle.std.proofs.Common.{List, Bool, map, ap, subst, ◌∙◌}
 use Rattle.ped_tree.specs.Grammar.Items.{Entry}
 use Rattle.ped_tree.specs.Grammar.ItemViews.{entry_of}
 use Rattle.ped_tree.specs.Grammar.Occurrences.{saved_names}

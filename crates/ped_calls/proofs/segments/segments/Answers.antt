@@ -2,7 +2,7 @@ use Rattle.std.proofs.Common.{rules, ◌≡◌, List, [], ◌∷◌, ◌++◌, m
 use Rattle.std.proofs.lemmas.List.{map_push, nil_from_length}
 use Rattle.std.specs.Prelude.{◌&&◌, ◌||◌}
 use Rattle.std.specs.Vec.Iter.{into_iter_items}
-use Rattle.ped_calls.specs.Reading.{UnitEntry, Segment, begins, ends, segments_of}
+use Rattle.ped_calls.specs.Reading.{UnitEntry, Segment, begins, segments_of}
 use Rattle.ped_calls.specs.Seeing.{segments_onto}
 use Rattle.ped_calls.specs.Views.{unit_entry_of, head_of, segment_of}
 use Rattle.ped_calls.specs.declared.items.UnitEntry as items

@@ -1,4 +1,4 @@
-use Rattle.std.proofs.Common.{◌≡◌, ℕ, List, [], ◌∷◌, Bool, false, map, length, sym, ap, ◌∙◌, eqb}
+use Rattle.std.proofs.Common.{◌≡◌, ℕ, List, [], ◌∷◌, false, map, length, sym, ap, ◌∙◌, eqb}
 use Rattle.std.specs.Global.{Vec}
 use Rattle.ped_tree.specs.Tree.{ExprTree, Element}
 use Rattle.ped_tree.specs.Views.{expr_tree, expr_level, pack_exprs}

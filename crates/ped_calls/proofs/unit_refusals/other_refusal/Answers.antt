@@ -1,4 +1,4 @@
-use Rattle.std.proofs.Common.{◌≡◌, ◌++◌, [], List, Option, map, sym, ap, ◌∙◌}
+use Rattle.std.proofs.Common.{◌++◌, [], List, Option, map, sym, ap, ◌∙◌}
 use Rattle.std.specs.Prelude.{if◌then◌else◌}
 use Rattle.std.specs.List.{flat_map}
 use Rattle.ped_tree.specs.Grammar.Refusal.{earliest, first_of}

@@ -1,4 +1,3 @@
-use Rattle.std.proofs.Common.{◌≡◌}
 use Rattle.ped_tree.specs.Views.{stmt_tree}
 use Rattle.ped_calls.specs.Views.{called_of}
 use Rattle.ped_calls.proofs.unit_refusals.passes_limit.Goals.{then-stmt_has_large_literal, else-stmt_has_large_literal}

@@ -2,7 +2,6 @@ use Rattle.std.proofs.Common.{sym, subst}
 use Rattle.ped_calls.specs.Giving.{HasNext}
 use Rattle.ped_calls.specs.declared.giving.Given.{Given}
 use Rattle.ped_calls.proofs.giving.Given.new_local.Goals.{in-Some+in_ok-push, in_default}
-use Rattle.ped_calls.proofs.SmallKinds.{small_in_table}
 use Rattle.ped_calls.proofs.giving.Given.new_local.Goals as goal
 
 pub returns-clause-next : goal.returns-clause-next

@@ -1,4 +1,4 @@
-use Rattle.std.proofs.Common.{◌≡◌, ◌≤◌, ◌<◌, ◌+◌, ℕ, true, length, map}
+use Rattle.std.proofs.Common.{◌≡◌, ◌≤◌, ◌<◌, ◌+◌, ℕ, true, length}
 use Rattle.ped_base.specs.Lists.{is_among}
 use Rattle.ped_calls.specs.Expanding.{numbered_name, free_from, free_name}
 use Rattle.ped_calls.proofs.giving.Given.new_name.Given as goal

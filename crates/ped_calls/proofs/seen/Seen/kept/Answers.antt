@@ -8,7 +8,7 @@ use Rattle.ped_calls.specs.Units.{call_statement}
 use Rattle.ped_calls.specs.Reading.{as_entries}
 use Rattle.ped_calls.specs.Seeing.{call_view}
 use Rattle.ped_calls.specs.declared.items.Called.{Called}
-use Rattle.ped_calls.proofs.KeptCalls.{KeptSoFar, kept_more, all_kept, behind_first}
+use Rattle.ped_calls.proofs.KeptCalls.{kept_more, all_kept, behind_first}
 use Rattle.ped_calls.proofs.seen.Seen.kept.Goals as goal
 
 pub loop-entry-init : goal.loop-entry-init

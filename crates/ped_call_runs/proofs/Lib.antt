@@ -8,12 +8,12 @@ pub mod FollowingLoops
 pub mod FollowingStatements
 pub mod FollowingCalls
 pub mod FollowingDepths
-pub mod NothingReplaced
 pub mod FollowingUnits
 pub mod RisingNumbers
 pub mod SwappedNames
 pub mod GivenKept
 pub mod ExpandedConstants
+pub mod EachCalls
 pub mod Traces
 pub mod TraceNumbers
 pub mod TraceCalls
@@ -24,4 +24,6 @@ pub mod TraceNames
 pub mod OwnNames
 pub mod ApartPairs
 pub mod TraceOwn
+pub mod TraceRanges
 pub mod FirstBonds
+pub mod WrittenNames

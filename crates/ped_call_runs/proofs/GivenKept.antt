@@ -36,7 +36,7 @@ module _ {S : Type 0} (P : S → Type 0) (f : Called → S → Expanded S) (keep
     all_state_kept (more_stmts t rest) s h = all_state_kept rest (expanded_in m f t s).state (state_kept t s h)
 
 module _ (P : Given → Type 0) (new : (g : Given) → P g → P (with_new g)) (local : (g : Given) (kind : Option Kind) → P g → P (with_local g kind)) where
-  bound_kept : (constants : Values) (es : List ExprTree) (g : Given) → P g → P (bound_arguments constants es g).given
+  pub bound_kept : (constants : Values) (es : List ExprTree) (g : Given) → P g → P (bound_arguments constants es g).given
   bound_kept constants [] g h = h
   bound_kept constants (e ∷ rest) g h = go (is_variable_name constants e) (fixed_value constants e) (bound_kept constants rest)
     where
@@ -46,7 +46,7 @@ module _ (P : Given → Type 0) (new : (g : Given) → P g → P (with_new g)) (
       go false (Some n) more = more g h
       go false None more = more (with_new g) (new g h)
 
-  renamed_kept : (u : ProgramUnit) (xs : List (List ℕ)) (r : Renamed) → P r.given → P (renamed u xs r).given
+  pub renamed_kept : (u : ProgramUnit) (xs : List (List ℕ)) (r : Renamed) → P r.given → P (renamed u xs r).given
   renamed_kept u [] r h = h
   renamed_kept u (x ∷ xs) r h = renamed_kept u xs (if is_some (entry_of r.meanings x) then r else with_renamed x (kind_in (for_names u) x) r) (go (is_some (entry_of r.meanings x)))
     where

@@ -12,7 +12,8 @@ pub mod FollowingUnits
 pub mod RisingNumbers
 pub mod SwappedNames
 pub mod GivenKept
-pub mod ExpandedConstants
+pub mod GivenMore
+pub mod ExpandedKinds
 pub mod EachCalls
 pub mod Traces
 pub mod TraceNumbers
@@ -27,3 +28,4 @@ pub mod TraceOwn
 pub mod TraceRanges
 pub mod FirstBonds
 pub mod WrittenNames
+pub mod ConstantValues

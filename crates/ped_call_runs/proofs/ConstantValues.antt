@@ -39,6 +39,10 @@ module _ (cs ds : Values) (m k : Meanings) where
   abbrev KeepsName : List ℕ → Type 0
   KeepsName x = Keeps (constant_value cs (meaning m x)) (constant_value ds (meaning k x))
 
+  two_kept : (f : ℤ → ℤ → Result ℤ Fault) (a b : ExprTree) → Keeps (constant_value cs (replaced m a)) (constant_value ds (replaced k a)) → Keeps (constant_value cs (replaced m b)) (constant_value ds (replaced k b))
+      → Keeps (binary_value f (constant_value cs (replaced m a)) (constant_value cs (replaced m b))) (binary_value f (constant_value ds (replaced k a)) (constant_value ds (replaced k b)))
+  two_kept f a b h l = binary_kept f (constant_value cs (replaced m a)) (constant_value ds (replaced k a)) (constant_value cs (replaced m b)) (constant_value ds (replaced k b)) h l
+
   mutual
     pub constant_kept : (e : ExprTree) → Each KeepsName (expr_names e) → Keeps (constant_value cs (replaced m e)) (constant_value ds (replaced k e))
     constant_kept (Int n) h v e = e
@@ -57,10 +61,6 @@ module _ (cs ds : Values) (m k : Meanings) where
     constants_kept (more_exprs a rest) h v e =
         onto_kept (constant_value cs (replaced m a)) (constant_value ds (replaced k a)) (constant_values cs (all_replaced m rest)) (constant_values ds (all_replaced k rest))
         (constant_kept a (each_front KeepsName (expr_names a) (exprs_names rest) h)) (constants_kept rest (each_behind KeepsName (expr_names a) (exprs_names rest) h)) v e
-
-    two_kept : (f : ℤ → ℤ → Result ℤ Fault) (a b : ExprTree) → Keeps (constant_value cs (replaced m a)) (constant_value ds (replaced k a)) → Keeps (constant_value cs (replaced m b)) (constant_value ds (replaced k b))
-        → Keeps (binary_value f (constant_value cs (replaced m a)) (constant_value cs (replaced m b))) (binary_value f (constant_value ds (replaced k a)) (constant_value ds (replaced k b)))
-    two_kept f a b h l = binary_kept f (constant_value cs (replaced m a)) (constant_value ds (replaced k a)) (constant_value cs (replaced m b)) (constant_value ds (replaced k b)) h l
 
 -- there is a value
 abbrev pub HasSome : {A : Type 0} → Option A → Type 0

@@ -29,3 +29,6 @@ pub mod TraceRanges
 pub mod FirstBonds
 pub mod WrittenNames
 pub mod ConstantValues
+pub mod UnitNames
+pub mod NamesThere
+pub mod SuitedUnits

@@ -87,7 +87,7 @@ module _ (us : ProgramUnits) where
       let many : length es ≡ length (listed c.arguments) = as_many k c.arguments in
       let a : AreCounted j first (length es) b arguments = arguments_counted constants n j v.formals es (many ∙ h.0) first (behind_first j) g in
       let r : IsCounted (first + made) (all_sized (call_size depth us) v.tree.body) (statements_count body) inside =
-      all_counted m (call_size depth us) (call_expanded depth us []) (call_traced depth us [] m) (FitsAt us depth) (deeper m) v.tree.body (number_inside c n) (first + made) behind h.1.1 in
+      all_counted m (call_size depth us) (call_expanded depth us []) (call_traced depth us [] m) (FitsAt us depth) (deeper m) v.tree.body (number_inside c n) (first + made) behind h.2 in
       let whole : statement_count (block_of (called_replaced k c) b.assignments body) ≡ made + statements_count body + 1 = block_count (called_replaced k c) b.assignments body ∙ ap (λ (z : ℕ). z + 1) (front_counts constants es g body) in
       let gaps : length (arguments.gaps ++ inside.gaps) ≡ length arguments.gaps + length inside.gaps = length_joined arguments.gaps inside.gaps in
       subst (λ (z : ℕ). IsCounted j (size_in (call_size depth us) c (Some v)) z (unit_traced depth us (call_traced depth us []) k constants c n j g (Some v))) (sym whole)

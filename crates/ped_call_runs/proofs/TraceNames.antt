@@ -158,7 +158,7 @@ module _ (us : ProgramUnits) where
       (arguments_given constants n v.formals es (as_many k c.arguments ∙ h.0) first g)
       (given_joined b.given.taken r.given.taken body.state.taken (locals_traced n v (body_names v) start) inside.pairs
       (locals_given n v (body_names v) start)
-      (all_give r.meanings (call_size depth us) (call_expanded depth us []) (call_traced depth us [] r.meanings) (FitsAt us depth) (deeper r.meanings) v.tree.body (number_inside c n) (first + made) r.given h.1.1))
+      (all_give r.meanings (call_size depth us) (call_expanded depth us []) (call_traced depth us [] r.meanings) (FitsAt us depth) (deeper r.meanings) v.tree.body (number_inside c n) (first + made) r.given h.2))
 
   -- CALLs of any depth
   pub calls_give : (depth : ℕ) (constants : Values) (k : Meanings) (c : Called) → FitsAt us depth c → (n j : ℕ) (g : Given)

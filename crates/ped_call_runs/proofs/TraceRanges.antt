@@ -158,13 +158,13 @@ module _ (us : ProgramUnits) where
       let many : ℕ = length (listed c.arguments) in
       let within : ℕ = all_sized (call_size depth us) v.tree.body in
       let long : length b.meant ≡ length v.formals = meant_length constants es g ∙ as_many k c.arguments ∙ h.0 in
-      let body : AreOwnPairs (number_inside c n) (number_inside c n + within) inside.pairs = all_owned r.meanings (call_size depth us) (call_expanded depth us []) (call_traced depth us [] r.meanings) (FitsAt us depth) (deeper r.meanings) v.tree.body (number_inside c n) (first + made) r.given h.1.1 in
+      let body : AreOwnPairs (number_inside c n) (number_inside c n + within) inside.pairs = all_owned r.meanings (call_size depth us) (call_expanded depth us []) (call_traced depth us [] r.meanings) (FitsAt us depth) (deeper r.meanings) v.tree.body (number_inside c n) (first + made) r.given h.2 in
       let later : AreOwnPairs (n + 1) (n + (0 + 1 + many + within)) inside.pairs = pairs_wider (n + 1 + many) (n + 1 + many + within) (n + 1) (n + (0 + 1 + many + within)) inside.pairs (omega (arith)) (omega (arith)) body in
       let behind : AreOwnPairs n (n + (0 + 1 + many + within)) (locals ++ inside.pairs) =
       pairs_joined n (n + 1) (n + (0 + 1 + many + within)) locals inside.pairs (omega (arith)) (omega (arith)) (record { own = locals_own n v (body_names v) start; once = locals_none_twice n v (body_names v) start }) later in
       record {
         own = own_in_joined n (n + (0 + 1 + many + within)) arguments.pairs (locals ++ inside.pairs) (own_in_wider n (n + 1) n (n + (0 + 1 + many + within)) arguments.pairs (omega (arith)) (omega (arith)) (arguments_own constants n v.formals es first g)) behind.own;
-        once = arguments_apart constants n (locals ++ inside.pairs) behind.once v.formals es first g h.1.0 (λ y l.
+        once = arguments_apart constants n (locals ++ inside.pairs) behind.once v.formals es first g h.1 (λ y l.
             let e = formals_entered v.formals b.meant [] long y l in
             among_joined (own n y) locals inside.pairs
             (locals_outside n v (body_names v) start y e.0 (constants_kept (constants_of v) (with_formals [] v.formals b.meant) y e.0 e.1))

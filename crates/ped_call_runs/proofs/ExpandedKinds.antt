@@ -23,7 +23,6 @@ use Rattle.ped_calls.specs.ped_valid.specs.ped_symbols.specs.NameRefusals.{Befor
 use Rattle.ped_calls.specs.ped_valid.specs.ped_symbols.specs.Sites.{Site, declaration, statement, private_names, decl_sites, stmts_sites, program_sites}
 use Rattle.ped_calls.specs.ped_valid.specs.ped_symbols.specs.Values.{Values, fixed_value, declarators}
 use Rattle.ped_calls.specs.ped_valid.specs.ped_symbols.proofs.RightUseLaws.Occurring.{once_first, occurs_first}
-use Rattle.ped_calls.specs.ped_valid.specs.ped_symbols.proofs.RightUseLaws.Quiet.{behind_append, said, said_stays, stmts_declare_nothing}
 use Rattle.ped_calls.specs.ped_valid.specs.ped_symbols.proofs.RightUseLaws.Whole.{names_occur, others_unvalued}
 use Rattle.ped_calls.specs.Giving.{IsSmall}
 use Rattle.ped_calls.specs.Units.{ProgramUnit, ProgramUnits}
@@ -34,17 +33,8 @@ use Rattle.ped_steps.specs.ped_eval.specs.ped_store.specs.Variables.{no_dimensio
 use Rattle.ped_steps.specs.ped_eval.specs.Outcomes.{bounds_of}
 use Rattle.ped_steps.proofs.RunLaws.ExpandedNamesArrays.{entry_behind, no_constant, unsaid, literal_fixed}
 use Rattle.ped_steps.proofs.RunLaws.NamesKept.{occurs, occurs_append}
-use Rattle.ped_call_runs.proofs.GivenMore.{behind_decls, behind_both, GivesMore, statements_give}
-
--- what a program says is what its declarations say
-last_said : (t : ProgramTree) → said (at_last t) ≡ said (behind_decls at_first t.decls)
-last_said t = ap said (behind_append at_first (flat_map decl_sites t.decls) (stmts_sites t.body)) ∙ said_stays (behind_decls at_first t.decls) (stmts_sites t.body) (stmts_declare_nothing t.body)
-
-pub last_values : (t : ProgramTree) → (at_last t).values ≡ (behind_decls at_first t.decls).values
-last_values t = ap (λ (s : Values × Arrays). s.0) (last_said t)
-
-pub last_arrays : (t : ProgramTree) → (at_last t).arrays ≡ (behind_decls at_first t.decls).arrays
-last_arrays t = ap (λ (s : Values × Arrays). s.1) (last_said t)
+use Rattle.ped_call_runs.proofs.DeclaredAtLast.{behind_decls, behind_both, last_values, last_arrays}
+use Rattle.ped_call_runs.proofs.GivenMore.{GivesMore, statements_give}
 
 -- a name that doesn't occur in a program occurs in none of its declarations
 pub undeclared : (t : ProgramTree) (x : List ℕ) → is_among x (names_of t) ≡ false → occurs x (flat_map decl_sites t.decls) ≡ false

@@ -14,12 +14,13 @@ use Rattle.ped_steps.specs.ped_eval.specs.Scopes.{Setting, Scope, names_in, plac
 use Rattle.ped_steps.specs.ped_eval.specs.Loops.{limits, iteration_count}
 use Rattle.ped_steps.specs.ped_eval.specs.Runs.{run, run_all}
 use Rattle.ped_call_runs.specs.UnitRuns.{Instance, CallRun, call_stays, stmts_replaced, sized, all_sized, run_or, unit_run, unit_run_all}
-use Rattle.ped_call_runs.proofs.FollowingValues.{Each, ReadsAlike, StoresAlike, truth_follows, line_follows, limits_follow, assigned_may, assigned_follows}
+use Rattle.ped_call_runs.proofs.EachNames.{Each, each_map}
+use Rattle.ped_call_runs.proofs.FollowingValues.{ReadsAlike, StoresAlike, truth_follows, line_follows, limits_follow, assigned_may, assigned_follows}
 use Rattle.ped_call_runs.proofs.FollowingStores.{Bond, IsBelow, is_bound}
 use Rattle.ped_call_runs.proofs.FollowingEndings.{RunsAlike, then_alike, run_if_alike, run_do_alike, assignment_alike, print_alike}
 use Rattle.ped_call_runs.proofs.FollowingNames.{named_cell, bond_of, same_cells, AreNamed, IsUnheld, MeansAlike, NamedAlike, reads_alike, stores_alike}
 use Rattle.ped_call_runs.proofs.FollowingReads.{read_alike}
-use Rattle.ped_call_runs.proofs.FollowingLoops.{each_map, HeadsAlike, frame_named, frame_unheld, loop_exit}
+use Rattle.ped_call_runs.proofs.FollowingLoops.{HeadsAlike, frame_named, frame_unheld, loop_exit}
 
 module _ (b : List ℕ → Bond) (f : List ℕ → List ℕ) (q : Setting) (k : Meanings) (size : Called → ℕ) (inner : Called → Given → Expanded Given) (holds : Called → ℕ → ℕ → Given → Type 0) (i : Instance) where
   -- names that are read, and names that are assigned

@@ -19,7 +19,7 @@ use Rattle.ped_steps.specs.ped_eval.specs.Outcomes.{bounds_of, setting_of, run_o
 use Rattle.ped_steps.specs.Runs.Renumbering.{EndsAs, IsToldBack, renumbered}
 use Rattle.ped_steps.proofs.RunLaws.RenumberedPrograms.{program_renumbered, ends_back, outcome_renumbered}
 use Rattle.ped_call_runs.specs.UnitRuns.{main_instance, call_size, call_run, run_units, outcome_of_units}
-use Rattle.ped_call_runs.proofs.FollowingValues.{Each}
+use Rattle.ped_call_runs.proofs.EachNames.{Each}
 use Rattle.ped_call_runs.proofs.FollowingStores.{Bond, tight, loose, held, free, Agrees, IsBelow}
 use Rattle.ped_call_runs.proofs.FollowingEndings.{EndsAlike}
 use Rattle.ped_call_runs.proofs.FollowingNames.{named_cell, unheld, bond_of}

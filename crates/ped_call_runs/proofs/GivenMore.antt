@@ -2,7 +2,6 @@
 use Rattle.std.proofs.Common.{◌≡◌, ℕ, ℤ, List, [], ◌∷◌, ◌++◌, length, nat_le, Bool, true, false, ◌&&◌, Option, Some, None, refl, sym, ap, ◌∙◌, append_assoc, append-nil, if◌then◌else◌}
 use Rattle.std.specs.List.{flat_map}
 use Rattle.std.proofs.lemmas.Bool.{or_parts}
-use Rattle.std.proofs.lemmas.Grind.{flat_map-append}
 use Rattle.ped_base.specs.Dimensions.{Dimensions}
 use Rattle.ped_base.specs.Lists.{has_some, is_same_text, is_among}
 use Rattle.ped_base.proofs.NameEquality.{same_itself}
@@ -16,19 +15,12 @@ use Rattle.ped_calls.specs.ped_valid.specs.ped_symbols.specs.Entries.{entry_of}
 use Rattle.ped_calls.specs.ped_valid.specs.ped_symbols.specs.NameRefusals.{Before, behind_sites}
 use Rattle.ped_calls.specs.ped_valid.specs.ped_symbols.specs.Sites.{Site, decl_sites}
 use Rattle.ped_calls.specs.ped_valid.specs.ped_symbols.specs.Values.{Values}
-use Rattle.ped_calls.specs.ped_valid.specs.ped_symbols.proofs.RightUseLaws.Quiet.{behind_append}
 use Rattle.ped_calls.specs.Forms.{Called}
 use Rattle.ped_calls.specs.Units.{ProgramUnit, ProgramUnits}
 use Rattle.ped_calls.specs.Expanding.{Given, free_name, with_new, literal_bounds, declared_as, with_local, Meanings, bound_arguments, Renamed, renamed, expanded_in, all_expanded_in, call_expanded}
 use Rattle.ped_steps.proofs.RunLaws.ExpandedNamesArrays.{entry_before}
+use Rattle.ped_call_runs.proofs.DeclaredAtLast.{behind_decls, behind_both}
 use Rattle.ped_call_runs.proofs.GivenKept.{state_kept, all_state_kept, bound_kept, renamed_kept, call_kept}
-
--- what declarations have said behind others
-abbrev pub behind_decls : Before → List DeclTree → Before
-behind_decls b ds = behind_sites b (flat_map decl_sites ds)
-
-pub behind_both : (b : Before) (ds es : List DeclTree) → behind_decls b (ds ++ es) ≡ behind_decls (behind_decls b ds) es
-behind_both b ds es = ap (behind_sites b) (flat_map-append decl_sites ds es) ∙ behind_append b (flat_map decl_sites ds) (flat_map decl_sites es)
 
 -- of an array's name: its bounds are as they were behind the declarations
 abbrev pub SaysNothingOf : List ℕ → List DeclTree → Type 0

@@ -1,3 +1,4 @@
+pub mod EachNames
 pub mod FollowingValues
 pub mod FollowingStores
 pub mod FollowingEndings
@@ -12,6 +13,7 @@ pub mod FollowingUnits
 pub mod RisingNumbers
 pub mod SwappedNames
 pub mod GivenKept
+pub mod DeclaredAtLast
 pub mod GivenMore
 pub mod ExpandedKinds
 pub mod EachCalls
@@ -21,8 +23,8 @@ pub mod TraceCalls
 pub mod PlacedNumbers
 pub mod MeaningEntries
 pub mod RenamedEntries
-pub mod TraceNames
 pub mod OwnNames
+pub mod TraceNames
 pub mod ApartPairs
 pub mod TraceOwn
 pub mod TraceRanges
@@ -32,3 +34,5 @@ pub mod ConstantValues
 pub mod UnitNames
 pub mod NamesThere
 pub mod SuitedUnits
+pub mod Contexts
+pub mod ArgumentsStand

@@ -21,8 +21,7 @@ use Rattle.ped_calls.specs.Refusals.{dimensioned, is_whole_array, plain_argument
 use Rattle.ped_calls.specs.Expanding.{naming_arguments, body_names}
 use Rattle.ped_steps.proofs.RunLaws.ExpandedNamesSites.{stmts_at}
 use Rattle.ped_steps.proofs.RunLaws.NamesKept.{occurs, occurs_append}
-use Rattle.ped_call_runs.proofs.FollowingValues.{Each, each_front, each_behind}
-use Rattle.ped_call_runs.proofs.FollowingLoops.{each_of, of_each, each_joined}
+use Rattle.ped_call_runs.proofs.EachNames.{Each, each_front, each_behind, each_of, of_each, each_joined}
 
 module _ (P : List ℕ → Type 0) (arrays : List (List ℕ)) (of_array : (x : List ℕ) → is_among x arrays ≡ true → P x) where
   whole : (a : ExprTree) → is_whole_array arrays a ≡ true → Each P (expr_names a)

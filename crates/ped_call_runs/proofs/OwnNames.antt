@@ -25,6 +25,10 @@ abbrev pub NoneTwice : List (List ℕ × List ℕ) → Type 0
 NoneTwice [] = Unit {0}
 NoneTwice (p ∷ ps) = (is_among p.0 (firsts ps) ≡ false) × NoneTwice ps
 
+-- a name that is none of a CALL's own
+abbrev pub IsNoOwn : List ℕ → Type 0
+IsNoOwn y = (m : ℕ) (x : List ℕ) → is_same_text (own m x) y ≡ false
+
 pub own_apart : (m l : ℕ) (x y : List ℕ) → m < l → is_same_text (own m x) (own l y) ≡ false
 own_apart m l x y less = go (eqb m l) refl
   where

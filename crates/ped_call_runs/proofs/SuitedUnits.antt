@@ -19,16 +19,10 @@ use Rattle.ped_calls.specs.Units.{ProgramUnit, ProgramUnits, all_units, call_of,
 use Rattle.ped_calls.specs.Refusals.{dimensioned, using_arguments}
 use Rattle.ped_calls.specs.Linking.{IsIn, Placed, placed, calls_in, all_calls_in, calls_of, assigned_left, assigned_in, all_assigned_in, assigns, IsAssigned, Arguments, CallPlace, Stands, Sited, sited, sites_of, IsLinked}
 use Rattle.ped_calls.specs.Expanding.{naming_arguments, body_names, constants_of}
-use Rattle.ped_call_runs.proofs.FollowingValues.{Each, each_front, each_behind}
-use Rattle.ped_call_runs.proofs.FollowingLoops.{each_of, of_each, each_map, each_joined}
+use Rattle.ped_call_runs.proofs.EachNames.{Each, each_front, each_behind, each_of, of_each, each_joined, each_two}
 use Rattle.ped_call_runs.proofs.EachCalls.{AllCalls, EachCall, OfCall}
 use Rattle.ped_call_runs.proofs.ConstantValues.{HasSome}
 use Rattle.ped_call_runs.proofs.UnitNames.{IsPlain, HasPlainNames}
-
--- what holds for each name of a list in two ways
-pub each_two : (P Q R : List ℕ → Type 0) (xs : List (List ℕ)) → ((x : List ℕ) → P x → Q x → R x) → Each P xs → Each Q xs → Each R xs
-each_two P Q R [] f h k = tt
-each_two P Q R (x ∷ xs) f h k = (f x h.0 k.0, each_two P Q R xs f h.1 k.1)
 
 -- the name of a left side, and those of items of a READ
 pub each_left : (P : List ℕ → Type 0) (e : ExprTree) → Each P (expr_names e) → Each P (assigned_left e)
@@ -345,8 +339,7 @@ module _ (us : ProgramUnits) (u : ProgramUnit) where
           let front = each_front Reads (cond_names c ++ stmts_names xs) (stmts_names ys) k.names in
           let both = fine_both (stmts_sites (all_with_calls f x)) (stmts_sites (all_with_calls f y)) (or_parts false (list_any (site_fails (constants_of u)) (stmts_sites (all_with_calls f x) ++ stmts_sites (all_with_calls f y))) k.fine).1 in
           let first = all_calls_in loops (drop 1 lines) x in
-          let second = all_calls_in loops (drop (1 + length (stmts_sites x)) lines) y in
-          (
+          let second = all_calls_in loops (drop (1 + length (stmts_sites x)) lines) y in (
             each_front Reads (cond_names c) (stmts_names xs) front,
             all_suited loops (drop 1 lines) x (record {
               names = each_behind Reads (cond_names c) (stmts_names xs) front;
@@ -385,8 +378,7 @@ module _ (us : ProgramUnits) (u : ProgramUnit) where
           let others = stmts_names (all_with_calls naming_arguments rest) in
           let both = fine_both (stmt_sites (with_calls f s)) (stmts_sites (all_with_calls f rest)) k.fine in
           let front = calls_in loops lines s in
-          let behind = all_calls_in loops (drop (length (stmt_sites s)) lines) rest in
-          (
+          let behind = all_calls_in loops (drop (length (stmt_sites s)) lines) rest in (
             suited loops lines s (record {
               names = each_front Reads first others k.names;
               assigned = each_front MayBeWritten (assigned_in s) (all_assigned_in rest) k.assigned;

@@ -17,15 +17,12 @@ use Rattle.ped_call_runs.proofs.EachCalls.{OfCall, EachCall, AllCalls, UnitFits,
 use Rattle.ped_call_runs.proofs.Traces.{Trace, value_traced, arguments_traced, locals_traced, CallTraced, traced_or, traced, all_traced, unit_traced, call_traced}
 use Rattle.ped_call_runs.proofs.TraceNumbers.{none_first, one_less}
 use Rattle.ped_call_runs.proofs.TraceCalls.{as_many}
+use Rattle.ped_call_runs.proofs.OwnNames.{IsNoOwn}
 
 -- the second names of pairs
 abbrev pub seconds : List (List ℕ × List ℕ) → List (List ℕ)
 seconds [] = []
 seconds (p ∷ ps) = p.1 ∷ seconds ps
-
--- a name that is none of a CALL's own
-abbrev pub IsNoOwn : List ℕ → Type 0
-IsNoOwn y = (m : ℕ) (x : List ℕ) → is_same_text (own m x) y ≡ false
 
 -- the second names are new: none is among these names, and none stands twice
 abbrev pub AreNew : List (List ℕ) → List (List ℕ × List ℕ) → Type 0

@@ -27,9 +27,8 @@ use Rattle.ped_calls.specs.Units.{ProgramUnit, with_calls, all_with_calls}
 use Rattle.ped_calls.specs.Refusals.{dimensioned, using_arguments, save_of_formals, for_names, lines_for_names, units_name_refusals}
 use Rattle.ped_calls.specs.Linking.{IsIn, assigned_left, assigned_in, all_assigned_in, assigns}
 use Rattle.ped_calls.specs.Expanding.{constants_of}
-use Rattle.ped_call_runs.proofs.FollowingValues.{Each}
-use Rattle.ped_call_runs.proofs.FollowingLoops.{each_of, each_map, each_joined}
-use Rattle.ped_call_runs.proofs.ExpandedKinds.{last_values}
+use Rattle.ped_call_runs.proofs.EachNames.{Each, each_of, each_map, each_joined}
+use Rattle.ped_call_runs.proofs.DeclaredAtLast.{last_values}
 
 -- the name is no named constant of the unit
 abbrev pub IsPlain : ProgramUnit → List ℕ → Type 0

@@ -99,7 +99,7 @@ keeps_then : (b c d : List ℕ → Bond) → KeepsBonds b c → KeepsBonds c d �
 keeps_then b c d h k y some = k y (λ e. some (sym (h y some) ∙ e)) ∙ h y some
 
 -- the value of an expression that has a fixed one
-within_is : (o : Option ℤ) (n : ℤ) → within o ≡ Some n → o ≡ Some n
+pub within_is : (o : Option ℤ) (n : ℤ) → within o ≡ Some n → o ≡ Some n
 within_is None n h = h
 within_is (Some m) n h = choice (nat_le (unsigned_abs m) greatest_literal) h
   where
@@ -107,14 +107,14 @@ within_is (Some m) n h = choice (nat_le (unsigned_abs m) greatest_literal) h
     choice true e = e
     choice false e = absurd cc
 
-fixed_constant : (values : Values) (e : ExprTree) (n : ℤ) → fixed_value values e ≡ Some n → constant_value values e ≡ Some n
+pub fixed_constant : (values : Values) (e : ExprTree) (n : ℤ) → fixed_value values e ≡ Some n → constant_value values e ≡ Some n
 fixed_constant values e n = within_is (constant_value values e) n
 
 number_or : ℤ → Option ℤ → ℤ
 number_or m None = m
 number_or m (Some n) = n
 
-same_number : (m n : ℤ) → Some m ≡ Some n → m ≡ n
+pub same_number : (m n : ℤ) → Some m ≡ Some n → m ≡ n
 same_number m n h = ap (number_or m) h
 
 -- the name of a variable

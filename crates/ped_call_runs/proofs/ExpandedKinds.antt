@@ -75,7 +75,7 @@ bounds_said t x = go (is_among x (names_of t)) refl
 pub record AreGivenAgain (d : Dimensions) : Type 0 where
   pub again : (values : Values) (x : List ℕ) → by_bounds values x (literal_bounds d.lower d.upper) ≡ (x, d) ∷ []
 
-small_literal : (values : Values) (n : ℤ) → IsSmall n → fixed_value values (literal n) ≡ Some n
+pub small_literal : (values : Values) (n : ℤ) → IsSmall n → fixed_value values (literal n) ≡ Some n
 small_literal values n h = literal_fixed values n (go (nat_lt 2147483647 (unsigned_abs n)) refl)
   where
     go : (b : Bool) → nat_lt 2147483647 (unsigned_abs n) ≡ b → b ≡ false

@@ -36,3 +36,4 @@ pub mod NamesThere
 pub mod SuitedUnits
 pub mod Contexts
 pub mod ArgumentsStand
+pub mod CalledContexts

@@ -110,7 +110,7 @@ within_is (Some m) n h = choice (nat_le (unsigned_abs m) greatest_literal) h
 pub fixed_constant : (values : Values) (e : ExprTree) (n : ℤ) → fixed_value values e ≡ Some n → constant_value values e ≡ Some n
 fixed_constant values e n = within_is (constant_value values e) n
 
-number_or : ℤ → Option ℤ → ℤ
+abbrev number_or : ℤ → Option ℤ → ℤ
 number_or m None = m
 number_or m (Some n) = n
 
@@ -165,14 +165,14 @@ module _ (us : ProgramUnits) (pairs : List (List ℕ × List ℕ)) (gaps : List 
     pub others : (y : List ℕ) → ((x : List ℕ) → is_among x xs ≡ true → is_same_text y (own n x) ≡ false) → after y ≡ b y
 
   -- what is asked of the arguments that are left
-  record Conditions (xs : List (List ℕ)) (b : List ℕ → Bond) (t : Trace) (bound : Bound) (g : Given) : Type 0 where
-    keeps : KeepsBonds first b
-    unknown : (x : List ℕ) → is_among x xs ≡ true → b (own n x) ≡ first_bond pairs (own n x)
-    inside : (x y : List ℕ) → HasPair x y t.pairs → HasPair x y pairs
-    only : (x : List ℕ) → is_among x xs ≡ true → is_among (own n x) (firsts pairs) ≡ true → is_among (own n x) (firsts t.pairs) ≡ true
-    names : Each IsNoOwn (stmts_names (behind_stmts bound.assignments body))
-    before : GivesMore (nothing_given us) g
-    later : GivesMore bound.given top
+  pub record Conditions (xs : List (List ℕ)) (b : List ℕ → Bond) (t : Trace) (bound : Bound) (g : Given) : Type 0 where
+    pub keeps : KeepsBonds first b
+    pub unknown : (x : List ℕ) → is_among x xs ≡ true → b (own n x) ≡ first_bond pairs (own n x)
+    pub inside : (x y : List ℕ) → HasPair x y t.pairs → HasPair x y pairs
+    pub only : (x : List ℕ) → is_among x xs ≡ true → is_among (own n x) (firsts pairs) ≡ true → is_among (own n x) (firsts t.pairs) ≡ true
+    pub names : Each IsNoOwn (stmts_names (behind_stmts bound.assignments body))
+    pub before : GivesMore (nothing_given us) g
+    pub later : GivesMore bound.given top
 
   abbrev bounds : ExprTrees → Given → Bound
   bounds es g = bound_arguments constants (listed (all_replaced k es)) g
@@ -356,14 +356,14 @@ module _ (us : ProgramUnits) (pairs : List (List ℕ × List ℕ)) (gaps : List 
     one_stands b j g true false o h l fixed conditions =
         let named = variable_named (constants_of u) a (ap (λ (cs : Values). is_variable_name cs a) (sym context.constants) ∙ h) in
         let meant : e ≡ meaning k named.0 = ap (replaced k) named.1 in
-        by_telling o fixed conditions meant (telling.name named.0 (subst (λ (z : ExprTree). Each (Reads us u) (expr_names z)) named.1 reads).0 named.2)
+        by_telling o fixed conditions named.0 meant (telling.name named.0 (subst (λ (z : ExprTree). Each (Reads us u) (expr_names z)) named.1 reads).0 named.2)
       where
-        by_telling : (o : Option ℤ) → fixed_value constants e ≡ o → Conditions (x ∷ xs) b (traced_so false o j g) (bound_so false o g) g → {z : List ℕ} → e ≡ meaning k z
+        by_telling : (o : Option ℤ) → fixed_value constants e ≡ o → Conditions (x ∷ xs) b (traced_so false o j g) (bound_so false o g) g → (z : List ℕ) → e ≡ meaning k z
             → (is_variable_name constants (meaning k z) ≡ true) ⊎ ((m : ℤ) × (is_variable_name constants (meaning k z) ≡ false) × (fixed_value constants (meaning k z) ≡ Some m) × (meaning k z ≡ literal m))
             → ArgumentsStand b (x ∷ xs) (a ∷ listed rest) (bound_so false o g).assignments (bound_so false o g).meant
-        by_telling o fixed conditions meant (inl named) = absurd (both_ways (is_variable_name constants e) l (ap (is_variable_name constants) meant ∙ named))
-        by_telling None fixed conditions meant (inr t) = let z = sym fixed ∙ ap (fixed_value constants) meant ∙ t.2 in absurd cc
-        by_telling (Some m) fixed conditions meant (inr t) =
+        by_telling o fixed conditions z meant (inl named) = absurd (both_ways (is_variable_name constants e) l (ap (is_variable_name constants) meant ∙ named))
+        by_telling None fixed conditions z meant (inr t) = let absent = sym fixed ∙ ap (fixed_value constants) meant ∙ t.2 in absurd cc
+        by_telling (Some m) fixed conditions z meant (inr t) =
             let same : m ≡ t.0 = same_number m t.0 (sym fixed ∙ ap (fixed_value constants) meant ∙ t.2) in
             by_variable b j g (literal m) h (ap literal same ∙ sym t.3 ∙ sym meant) (same_conditions (literal m) b j g conditions)
     one_stands b j g false true o h l fixed conditions = absurd (both_ways (is_variable_name constants e) (telling.no_name a reads (no_variable h)) l)

@@ -355,17 +355,17 @@ module _ (us : ProgramUnits) (pairs : List (List ℕ × List ℕ)) (gaps : List 
       by_formal is a l r left right in_call (variable z e rz pz lz kz) =
           let w = written_there x z (right ∙ kz) written in
           moved x z (left ∙ lz) (right ∙ kz) (context.old z rz w) (context.reads z rz w)
-      by_formal is a l r left right in_call (known w no lx rx small h) =
-          by_held (own n x) w (left ∙ lx) (right ∙ rx) (small_in_range w small) (own_bounds v n p.bounds x ∙ no_bounds_by (kind_in (for_names v) x) (no_array x a in_call no)) (own_value x None (plain.formals x is)) h
-      by_formal is a l r left right in_call (made y no lx rx to h valued bounds) =
+      by_formal is a l r left right in_call (known w unnamed lx rx small h) =
+          by_held (own n x) w (left ∙ lx) (right ∙ rx) (small_in_range w small) (own_bounds v n p.bounds x ∙ no_bounds_by (kind_in (for_names v) x) (no_array x a in_call unnamed)) (own_value x None (plain.formals x is)) h
+      by_formal is a l r left right in_call (made y unnamed lx rx to h valued bounds) =
           by_name (own n x) (left ∙ lx) (right ∙ rx ∙ ap Var (sym to)) (ap (value_named q.constants) to ∙ valued ∙ sym (own_value x None (plain.formals x is)))
-          (ap q.bounds to ∙ bounds ∙ sym (own_bounds v n p.bounds x ∙ no_bounds_by (kind_in (for_names v) x) (no_array x a in_call no))) h
+          (ap q.bounds to ∙ bounds ∙ sym (own_bounds v n p.bounds x ∙ no_bounds_by (kind_in (for_names v) x) (no_array x a in_call unnamed))) h
 
       go : NameOf x → MeansAlike after f there.setting q there.stands meant x
       go (formal is a l r left right s) = by_formal is a l r left right s.associated s.alike
       go (constant w value left right) = by_constant (own n x) w left right (small_in_range w (constant_small x w value)) (own_bounds v n p.bounds x ∙ valued_bounds (for_names v) x w value) (own_value x (Some w) value)
-      go (local y no left right to h valued bounds) =
-          by_name (own n x) left (right ∙ ap Var (sym to)) (ap (value_named q.constants) to ∙ valued ∙ sym (own_value x None no)) (ap q.bounds to ∙ bounds ∙ sym (own_bounds v n p.bounds x)) h
+      go (local y unvalued left right to h valued bounds) =
+          by_name (own n x) left (right ∙ ap Var (sym to)) (ap (value_named q.constants) to ∙ valued ∙ sym (own_value x None unvalued)) (ap q.bounds to ∙ bounds ∙ sym (own_bounds v n p.bounds x)) h
 
   -- names of this CALL's own are old for CALLs with greater numbers
   own_old : (x : List ℕ) → IsOld (number_inside c n) (own n x)
@@ -390,14 +390,14 @@ module _ (us : ProgramUnits) (pairs : List (List ℕ × List ℕ)) (gaps : List 
       of_own left = subst (IsOld (number_inside c n)) (same_var x (own n x) y (meaning there.stands x) left e) (own_old x)
 
       by_formal : (a l r : ExprTree) → meaning there.stands x ≡ l → meaning meant x ≡ r → FormalAlike us pairs gaps top f q facts u lo first k i context constants telling v c n body after x a l r → IsOld (number_inside c n) y
-      by_formal a l r left right (variable z is rz pz lz kz) m w from = context.old z rz (written_there x z (right ∙ kz) written) y (sym (left ∙ lz) ∙ e) m w (from_lo m from)
-      by_formal a l r left right (known w no lx rx small h) = of_own (left ∙ lx)
-      by_formal a l r left right (made z no lx rx to h valued bounds) = of_own (left ∙ lx)
+      by_formal a l r left right (variable z is rz pz lz kz) = λ m w from. context.old z rz (written_there x z (right ∙ kz) written) y (sym (left ∙ lz) ∙ e) m w (from_lo m from)
+      by_formal a l r left right (known w unnamed lx rx small h) = of_own (left ∙ lx)
+      by_formal a l r left right (made z unnamed lx rx to h valued bounds) = of_own (left ∙ lx)
 
       go : NameOf x → IsOld (number_inside c n) y
       go (formal is a l r left right s) = by_formal a l r left right s.alike
       go (constant w value left right) = of_own left
-      go (local z no left right to h valued bounds) = of_own left
+      go (local z unvalued left right to h valued bounds) = of_own left
 
   -- a dummy argument that is assigned is passed for one
   passed : (x z : List ℕ) → is_among x v.formals ≡ true → IsIn (record { formal = x; argument = Var z }) (associated v c) → is_among z u.formals ≡ true → IsAssigned us v x → IsAssigned us u z
@@ -434,13 +434,13 @@ module _ (us : ProgramUnits) (pairs : List (List ℕ × List ℕ)) (gaps : List 
             bounds = named.bounds ∙ sym (there_bounds named.name (context.old z rz w named.name named.left));
             bound = bound_kept first after keeps named.name named.bound;
           }
-      by_formal is a l r left right in_call (known w no lx rx small h) = absurd (not_assigned x a in_call no (writes.may.assigned is))
-      by_formal is a l r left right in_call (made y no lx rx to h valued bounds) = absurd (not_assigned x a in_call no (writes.may.assigned is))
+      by_formal is a l r left right in_call (known w unnamed lx rx small h) = absurd (not_assigned x a in_call unnamed (writes.may.assigned is))
+      by_formal is a l r left right in_call (made y unnamed lx rx to h valued bounds) = absurd (not_assigned x a in_call unnamed (writes.may.assigned is))
 
       go : NameOf x → NamedAlike after f there.setting q there.stands meant x
       go (formal is a l r left right s) = by_formal is a l r left right s.associated s.alike
       go (constant w value left right) = let z : None ≡ Some w = sym writes.may.plain ∙ value in absurd cc
-      go (local y no left right to h valued bounds) = record { name = own n x; left = left; right = right ∙ ap Var (sym to); bounds = ap q.bounds to ∙ bounds ∙ sym (own_bounds v n p.bounds x); bound = h }
+      go (local y unvalued left right to h valued bounds) = record { name = own n x; left = left; right = right ∙ ap Var (sym to); bounds = ap q.bounds to ∙ bounds ∙ sym (own_bounds v n p.bounds x); bound = h }
 
   fixed_there : (x : List ℕ) → Reads us v x → (m : ℤ) → value_named (constants_of v) x ≡ Some m → (constant_value q.constants (meaning meant x) ≡ Some m) × (constant_value there.setting.constants (meaning there.stands x) ≡ Some m)
   fixed_there x reads m e = go (name_of x reads)
@@ -452,20 +452,20 @@ module _ (us : ProgramUnits) (pairs : List (List ℕ × List ℕ)) (gaps : List 
             ap (constant_value q.constants) right ∙ fixed_constant q.constants (literal w) w (small_literal q.constants w (constant_small x w value)) ∙ same,
             ap (constant_value there.setting.constants) left ∙ own_value x (Some w) value ∙ same,
           )
-      go (local y no left right to h valued bounds) = let z : None ≡ Some m = sym no ∙ e in absurd cc
+      go (local y unvalued left right to h valued bounds) = let z : None ≡ Some m = sym unvalued ∙ e in absurd cc
 
   shape_there : (x : List ℕ) → Reads us v x → IsPlain v x → IsNameOrLiteral (meaning meant x)
-  shape_there x reads no = go (name_of x reads)
+  shape_there x reads plainly = go (name_of x reads)
     where
       by_formal : (a l r : ExprTree) → meaning meant x ≡ r → FormalAlike us pairs gaps top f q facts u lo first k i context constants telling v c n body after x a l r → IsNameOrLiteral (meaning meant x)
       by_formal a l r right (variable z e rz pz lz kz) = subst IsNameOrLiteral (sym (right ∙ kz)) (context.shape z rz pz)
-      by_formal a l r right (known w none lx rx small h) = inr (w, small, right ∙ rx)
-      by_formal a l r right (made y none lx rx to h valued bounds) = inl (y, right ∙ rx)
+      by_formal a l r right (known w unnamed lx rx small h) = inr (w, small, right ∙ rx)
+      by_formal a l r right (made y unnamed lx rx to h valued bounds) = inl (y, right ∙ rx)
 
       go : NameOf x → IsNameOrLiteral (meaning meant x)
       go (formal is a l r left right s) = by_formal a l r right s.alike
-      go (constant w value left right) = let z : None ≡ Some w = sym no ∙ value in absurd cc
-      go (local y none left right to h valued bounds) = inl (y, right)
+      go (constant w value left right) = let z : None ≡ Some w = sym plainly ∙ value in absurd cc
+      go (local y unvalued left right to h valued bounds) = inl (y, right)
 
   pub called_context : Context us pairs gaps top f q v (number_inside c n) after meant there
   called_context = record {
@@ -486,7 +486,7 @@ module _ (us : ProgramUnits) (pairs : List (List ℕ × List ℕ)) (gaps : List 
   pub called_telling : Telling us pairs gaps top f q v meant []
   called_telling = record {
     no_name = no_name_there;
-    name = λ x reads no. named x (shape_there x reads no);
+    name = λ x reads plainly. named x (shape_there x reads plainly);
     more = λ e w h.
         sym (ap (constant_value q.constants) (unreplaced e)) ∙ constant_kept [] q.constants [] [] e (all_none (expr_names e)) w (ap (constant_value []) (unreplaced e) ∙ h);
     unowned = λ y w h. absurd cc;
@@ -508,7 +508,7 @@ module _ (us : ProgramUnits) (pairs : List (List ℕ × List ℕ)) (gaps : List 
           go name None e l = absurd cc
           go (formal is a l r left right s) (Some m) e h = let z : None ≡ Some m = sym (plain.formals x is) ∙ e in absurd cc
           go (constant w value left right) (Some m) e h = ap (is_variable_name []) right ∙ literal_no_name [] w
-          go (local y none left right to b valued bounds) (Some m) e h = let z : None ≡ Some m = sym none ∙ e in absurd cc
+          go (local y unvalued left right to b valued bounds) (Some m) e h = let z : None ≡ Some m = sym unvalued ∙ e in absurd cc
       no_name_there (Element x es) reads h = refl
       no_name_there (Neg a) reads h = refl
       no_name_there (Add a d) reads h = refl

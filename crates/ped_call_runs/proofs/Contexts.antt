@@ -40,7 +40,7 @@ IsNameOrLiteral e = ((y : List ℕ) × (e ≡ Var y)) ⊎ ((n : ℤ) × IsSmall 
 
 -- names of expressions that are written
 module _ (k : Meanings) where
-  abbrev WrittenName : List ℕ → Type 0
+  abbrev pub WrittenName : List ℕ → Type 0
   WrittenName x = IsWritten (meaning k x)
 
   -- the name that stands for a name
@@ -128,10 +128,10 @@ module _ (pairs : List (List ℕ × List ℕ)) where
 -- what is known of an expansion as a whole: its pairs and gaps, what is given at last, its setting
 module _ (us : ProgramUnits) (pairs : List (List ℕ × List ℕ)) (gaps : List ℕ) (top : Given) (f : List ℕ → List ℕ) (q : Setting) where
   -- a piece of a unit stands in the whole: by its numbers in the unit and in the expansion, what it counts as in both, its trace, the names that it has in the expansion, and what is given before it and behind it
-  pub record IsPiece (n j size count : ℕ) (t : Trace) (names : List (List ℕ)) (g h : Given) : Type 0 where
+  pub record IsPiece (n j size count : ℕ) (t : Trace) (there : List (List ℕ)) (g h : Given) : Type 0 where
     pub placed : IsPlaced gaps n j count t.gaps
     pub within : IsWithin pairs n (n + size) t.pairs
-    pub names : Each IsNoOwn names
+    pub names : Each IsNoOwn there
     pub before : GivesMore (nothing_given us) g
     pub later : GivesMore h top
 

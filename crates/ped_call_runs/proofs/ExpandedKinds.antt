@@ -1,5 +1,5 @@
 -- What names stand for in an expansion: those of the main program what they stood for, and new names what they were given to.
-use Rattle.std.proofs.Common.{◌≡◌, ℕ, ◌+◌, ◌≤◌, ℤ, unsigned_abs, nat_le, nat_lt, length, map, List, [], ◌∷◌, ◌++◌, Bool, true, false, ◌&&◌, ◌||◌, Option, Some, None, IfSome, All, refl, sym, ap, ◌∙◌, subst, arith, append_assoc, append-nil, if◌then◌else◌}
+use Rattle.std.proofs.Common.{◌≡◌, ℕ, suc, ◌≤◌, ℤ, unsigned_abs, nat_le, nat_lt, length, map, List, [], ◌∷◌, ◌++◌, Bool, true, false, ◌&&◌, ◌||◌, Option, Some, None, IfSome, All, refl, sym, ap, ◌∙◌, subst, arith, append_assoc, append-nil, if◌then◌else◌}
 use Rattle.std.specs.List.{flat_map}
 use Rattle.std.proofs.lemmas.Bool.{or_parts, or_from, both_ways}
 use Rattle.std.proofs.lemmas.List.Elements.{All-nil, All-cons, All-append}
@@ -90,7 +90,7 @@ record IsGivenBy (values : Values) (bs : List BoundTree) (d : Dimensions) : Type
   some : has_some (literal_bounds d.lower d.upper) ≡ has_some bs
   same : (others : Values) → bounds_values others (literal_bounds d.lower d.upper) ≡ Some d
 
-or_that : Dimensions → Option Dimensions → Dimensions
+abbrev or_that : Dimensions → Option Dimensions → Dimensions
 or_that a None = a
 or_that a (Some d) = d
 
@@ -99,23 +99,20 @@ one a d e = ap (or_that a) e
 
 given_by : (values : Values) (bs : List BoundTree) (d : Dimensions) → bounds_values values bs ≡ Some d → IsGivenBy values bs d
 given_by values [] d h = subst (IsGivenBy values []) (one (record { lower = []; upper = [] }) d h) (record { long = refl; some = refl; same = λ others. refl })
-given_by values (b ∷ bs) d h = go (fixed_value values b.lower) (fixed_value values b.upper) (bounds_values values bs) refl refl refl h
+given_by values (b ∷ bs) d h = go (given_by values bs) (fixed_value values b.lower) (fixed_value values b.upper) (bounds_values values bs) refl refl refl h
   where
-    go : (l u : Option ℤ) (o : Option Dimensions) → fixed_value values b.lower ≡ l → fixed_value values b.upper ≡ u → bounds_values values bs ≡ o → with_dimension l u o ≡ Some d → IsGivenBy values (b ∷ bs) d
-    go None u o p q r e = absurd cc
-    go (Some l) None o p q r e = absurd cc
-    go (Some l) (Some u) None p q r e = absurd cc
-    go (Some l) (Some u) (Some rest) p q r e =
-        let more = given_by values bs rest r in
+    go : ((rest : Dimensions) → bounds_values values bs ≡ Some rest → IsGivenBy values bs rest) → (l u : Option ℤ) (o : Option Dimensions) → fixed_value values b.lower ≡ l → fixed_value values b.upper ≡ u → bounds_values values bs ≡ o → with_dimension l u o ≡ Some d → IsGivenBy values (b ∷ bs) d
+    go others None u o p q r e = absurd cc
+    go others (Some l) None o p q r e = absurd cc
+    go others (Some l) (Some u) None p q r e = absurd cc
+    go others (Some l) (Some u) (Some rest) p q r e =
+        let more = others rest r in
         subst (IsGivenBy values (b ∷ bs)) (one (record { lower = l ∷ rest.lower; upper = u ∷ rest.upper }) d e)
         (record {
-          long = ap suc_of more.long;
+          long = ap suc more.long;
           some = refl;
-          same = λ others i. with_dimension (small_literal others l (is_small values b.lower l p) i) (small_literal others u (is_small values b.upper u q) i) (more.same others i);
+          same = λ vs i. with_dimension (small_literal vs l (is_small values b.lower l p) i) (small_literal vs u (is_small values b.upper u q) i) (more.same vs i);
         })
-      where
-        suc_of : ℕ → ℕ
-        suc_of n = length (b ∷ []) + n
 
 -- arrays all of whose bounds literals give again
 abbrev AllAgain : Arrays → Type 0
@@ -164,14 +161,14 @@ kind_again t x d h = go (is_among x (names_of t)) (entry_of (at_last t).values x
 -- lists of names none of which stands twice
 pub twice_apart : (xs ys : List (List ℕ)) (y : List ℕ) → has_twice (xs ++ ys) ≡ false → is_among y xs ≡ true → is_among y ys ≡ false
 twice_apart [] ys y h k = absurd cc
-twice_apart (x ∷ xs) ys y h k = go (is_same_text y x) refl
+twice_apart (x ∷ xs) ys y h k = go (twice_apart xs ys y parts.1) (is_same_text y x) refl
   where
     parts : (is_among x (xs ++ ys) ≡ false) × (has_twice (xs ++ ys) ≡ false)
     parts = or_parts (is_among x (xs ++ ys)) (has_twice (xs ++ ys)) h
 
-    go : (t : Bool) → is_same_text y x ≡ t → is_among y ys ≡ false
-    go true e = ap (λ (z : List ℕ). is_among z ys) (same_is y x e) ∙ (or_parts (is_among x xs) (is_among x ys) (sym (among_append x xs ys) ∙ parts.0)).1
-    go false e = twice_apart xs ys y parts.1 (sym (ap (λ (t : Bool). t || is_among y xs) e) ∙ k)
+    go : (is_among y xs ≡ true → is_among y ys ≡ false) → (t : Bool) → is_same_text y x ≡ t → is_among y ys ≡ false
+    go more true e = ap (λ (z : List ℕ). is_among z ys) (same_is y x e) ∙ (or_parts (is_among x xs) (is_among x ys) (sym (among_append x xs ys) ∙ parts.0)).1
+    go more false e = more (sym (ap (λ (t : Bool). t || is_among y xs) e) ∙ k)
 
 pub apart_twice : (xs ys : List (List ℕ)) (y : List ℕ) → has_twice (xs ++ ys) ≡ false → is_among y ys ≡ true → is_among y xs ≡ false
 apart_twice xs ys y h k = go (is_among y xs) refl

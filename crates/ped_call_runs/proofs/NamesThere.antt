@@ -39,13 +39,13 @@ module _ (P : List ℕ → Type 0) (arrays : List (List ℕ)) (of_array : (x : L
   -- arguments
   of_plain : (es : List ExprTree) → Each P (flat_map expr_names (plain_arguments arrays es)) → Each P (flat_map item_names (map Value es))
   of_plain [] h = tt
-  of_plain (a ∷ rest) h = go (is_whole_array arrays a) refl h
+  of_plain (a ∷ rest) h = go (of_plain rest) (is_whole_array arrays a) refl h
     where
-      go : (t : Bool) → is_whole_array arrays a ≡ t → Each P (flat_map expr_names (if t then plain_arguments arrays rest else a ∷ plain_arguments arrays rest)) → Each P (expr_names a ++ flat_map item_names (map Value rest))
-      go true e k = each_joined P (expr_names a) (flat_map item_names (map Value rest)) (whole a e) (of_plain rest k)
-      go false e k =
+      go : (Each P (flat_map expr_names (plain_arguments arrays rest)) → Each P (flat_map item_names (map Value rest))) → (t : Bool) → is_whole_array arrays a ≡ t → Each P (flat_map expr_names (if t then plain_arguments arrays rest else a ∷ plain_arguments arrays rest)) → Each P (expr_names a ++ flat_map item_names (map Value rest))
+      go more true e k = each_joined P (expr_names a) (flat_map item_names (map Value rest)) (whole a e) (more k)
+      go more false e k =
           each_joined P (expr_names a) (flat_map item_names (map Value rest)) (each_front P (expr_names a) (flat_map expr_names (plain_arguments arrays rest)) k)
-          (of_plain rest (each_behind P (expr_names a) (flat_map expr_names (plain_arguments arrays rest)) k))
+          (more (each_behind P (expr_names a) (flat_map expr_names (plain_arguments arrays rest)) k))
 
   of_zeros : (c : CondTree) (es : List ExprTree) → Each P (cond_names (and_zeros c es)) → Each P (cond_names c) × Each P (flat_map expr_names es)
   of_zeros c [] h = (h, tt)
@@ -108,22 +108,22 @@ decls_uses (Remark text ∷ ds) = decls_uses ds
 -- names that are used in a role are used
 role_used : (test : Role → Bool) (uses : List Use) (x : List ℕ) → is_among x (names_with test uses) ≡ true → is_among x (map (λ u. u.name) uses) ≡ true
 role_used test [] x h = absurd cc
-role_used test (u ∷ us) x h = go (test u.role) h
+role_used test (u ∷ us) x h = go (role_used test us x) (test u.role) h
   where
     either : (t : Bool) → t || true ≡ true
     either true = refl
     either false = refl
 
-    later : is_among x (names_with test us) ≡ true → is_same_text x u.name || is_among x (map (λ v. v.name) us) ≡ true
-    later k = ap (λ (t : Bool). is_same_text x u.name || t) (role_used test us x k) ∙ either (is_same_text x u.name)
+    later : (is_among x (names_with test us) ≡ true → is_among x (map (λ v. v.name) us) ≡ true) → is_among x (names_with test us) ≡ true → is_same_text x u.name || is_among x (map (λ v. v.name) us) ≡ true
+    later more k = ap (λ (t : Bool). is_same_text x u.name || t) (more k) ∙ either (is_same_text x u.name)
 
-    by_name : (t : Bool) → is_same_text x u.name ≡ t → t || is_among x (names_with test us) ≡ true → is_same_text x u.name || is_among x (map (λ v. v.name) us) ≡ true
-    by_name true e k = ap (λ (t : Bool). t || is_among x (map (λ v. v.name) us)) e
-    by_name false e k = later k
+    by_name : (is_among x (names_with test us) ≡ true → is_among x (map (λ v. v.name) us) ≡ true) → (t : Bool) → is_same_text x u.name ≡ t → t || is_among x (names_with test us) ≡ true → is_same_text x u.name || is_among x (map (λ v. v.name) us) ≡ true
+    by_name more true e k = ap (λ (t : Bool). t || is_among x (map (λ v. v.name) us)) e
+    by_name more false e k = later more k
 
-    go : (t : Bool) → is_among x (map (λ v. v.name) (if t then u ∷ filter (λ v. test v.role) us else filter (λ v. test v.role) us)) ≡ true → is_same_text x u.name || is_among x (map (λ v. v.name) us) ≡ true
-    go true k = by_name (is_same_text x u.name) refl k
-    go false k = later k
+    go : (is_among x (names_with test us) ≡ true → is_among x (map (λ v. v.name) us) ≡ true) → (t : Bool) → is_among x (map (λ v. v.name) (if t then u ∷ filter (λ v. test v.role) us else filter (λ v. test v.role) us)) ≡ true → is_same_text x u.name || is_among x (map (λ v. v.name) us) ≡ true
+    go more true k = by_name more (is_same_text x u.name) refl k
+    go more false k = later more k
 
 -- the names of a main program's statements occur in the program that its names are looked at in
 pub body_named : (u : ProgramUnit) → u.formals ≡ [] → (x : List ℕ) → is_among x (body_names u) ≡ true → is_among x (names_of (for_names u)) ≡ true

@@ -183,6 +183,10 @@ module _ (us : ProgramUnits) (u : ProgramUnit) where
   listed_names no_exprs = refl
   listed_names (more_exprs e rest) = ap (λ (xs : List (List ℕ)). expr_names e ++ xs) (listed_names rest)
 
+  either_round : (h : Head) (p : Placed) (xs ys : List Placed) → IsIn p xs ⊎ IsIn p ys → (IsIn p xs → IsIn h p.loops) → (IsIn p ys → IsIn h p.loops) → IsIn h p.loops
+  either_round h p xs ys (inl a) f g = f a
+  either_round h p xs ys (inr b) f g = g b
+
   -- a loop round statements is round their CALLs
   mutual
     loop_round : (h : Head) (loops : List Head) (lines : List ℕ) (s : StmtTree) → IsIn h loops → (p : Placed) → IsIn p (calls_in loops lines s) → IsIn h p.loops
@@ -192,27 +196,21 @@ module _ (us : ProgramUnits) (u : ProgramUnit) where
         go None is = absurd is
         go (Some c) (inl e) = subst (λ (q : Placed). IsIn h q.loops) (sym e) k
         go (Some c) (inr is) = absurd is
-    loop_round h loops lines (If c x y) k p is = split_round h loops (drop 1 lines) (drop (1 + length (stmts_sites x)) lines) x y k p is
+    loop_round h loops lines (If c x y) k p is =
+        let front = all_calls_in loops (drop 1 lines) x in
+        let behind = all_calls_in loops (drop (1 + length (stmts_sites x)) lines) y in
+        either_round h p front behind (split p front behind is) (loops_round h loops (drop 1 lines) x k p) (loops_round h loops (drop (1 + length (stmts_sites x)) lines) y k p)
     loop_round h loops lines (Do head body) k p is = loops_round h (loops ++ head ∷ []) (drop (1 + length (private_site head.private)) lines) body (in_front h loops (head ∷ []) k) p is
     loop_round h loops lines (Print items) k p is = absurd is
     loop_round h loops lines (Read items) k p is = absurd is
     loop_round h loops lines Stop k p is = absurd is
     loop_round h loops lines (Comment text) k p is = absurd is
 
-    split_round : (h : Head) (loops : List Head) (lines others : List ℕ) (x y : StmtTrees) → IsIn h loops → (p : Placed) → IsIn p (all_calls_in loops lines x ++ all_calls_in loops others y) → IsIn h p.loops
-    split_round h loops lines others x y k p is = go (split p (all_calls_in loops lines x) (all_calls_in loops others y) is)
-      where
-        go : IsIn p (all_calls_in loops lines x) ⊎ IsIn p (all_calls_in loops others y) → IsIn h p.loops
-        go (inl a) = loops_round h loops lines x k p a
-        go (inr b) = loops_round h loops others y k p b
-
     loops_round : (h : Head) (loops : List Head) (lines : List ℕ) (ss : StmtTrees) → IsIn h loops → (p : Placed) → IsIn p (all_calls_in loops lines ss) → IsIn h p.loops
     loops_round h loops lines no_stmts k p is = absurd is
-    loops_round h loops lines (more_stmts s rest) k p is = go (split p (calls_in loops lines s) (all_calls_in loops (drop (length (stmt_sites s)) lines) rest) is)
-      where
-        go : IsIn p (calls_in loops lines s) ⊎ IsIn p (all_calls_in loops (drop (length (stmt_sites s)) lines) rest) → IsIn h p.loops
-        go (inl a) = loop_round h loops lines s k p a
-        go (inr b) = loops_round h loops (drop (length (stmt_sites s)) lines) rest k p b
+    loops_round h loops lines (more_stmts s rest) k p is =
+        let others = drop (length (stmt_sites s)) lines in
+        either_round h p (calls_in loops lines s) (all_calls_in loops others rest) (split p (calls_in loops lines s) (all_calls_in loops others rest) is) (loop_round h loops lines s k p) (loops_round h loops others rest k p)
 
   -- where no CALL is found, none stands
   mutual
@@ -284,12 +282,12 @@ module _ (us : ProgramUnits) (u : ProgramUnit) where
     writes xs h k = each_two Reads MayBeWritten Writes xs (λ x a b. record { reads = a; may = b }) h k
 
     -- what is known of a statement
-    record KnownOf (names : List (List ℕ)) (assigned private : List (List ℕ)) (sites : List Site) (calls : List Placed) : Type 0 where
-      names : Each Reads names
-      assigned : Each MayBeWritten assigned
-      private : Each MayBeWritten private
+    record KnownOf (all written copied : List (List ℕ)) (sites : List Site) (found : List Placed) : Type 0 where
+      names : Each Reads all
+      assigned : Each MayBeWritten written
+      private : Each MayBeWritten copied
       fine : Fine sites
-      calls : (p : Placed) → IsIn p calls → IsIn p (calls_of u)
+      calls : (p : Placed) → IsIn p found → IsIn p (calls_of u)
 
     abbrev Known : List Head → List ℕ → StmtTree → Type 0
     Known loops lines s = KnownOf (stmt_names (with_calls naming_arguments s)) (assigned_in s) (private_names_in s) (stmt_sites (with_calls f s)) (calls_in loops lines s)

@@ -83,9 +83,9 @@ module _ (d : Declared) where
   all_saved (x ∷ xs) h = let p = or_parts (is_constant d x) (list_any (uses_constant d) (map (used_as Saved) xs)) h in (p.0, all_saved xs p.1)
 
   -- names that are assigned, and private names
-  pub record ArePlain (assigned private : List (List ℕ)) : Type 0 where
-    pub assigned : Each NoConstant assigned
-    pub private : Each NoConstant private
+  pub record ArePlain (written copied : List (List ℕ)) : Type 0 where
+    pub assigned : Each NoConstant written
+    pub private : Each NoConstant copied
 
   both_plain : (a b x y : List (List ℕ)) → ArePlain a x → ArePlain b y → ArePlain (a ++ b) (x ++ y)
   both_plain a b x y p q = record { assigned = each_joined NoConstant a b p.assigned q.assigned; private = each_joined NoConstant x y p.private q.private }

@@ -1,5 +1,5 @@
 -- Names that stand in a program that fits are none of a CALL's own.
-use Rattle.std.proofs.Common.{◌≡◌, ℕ, zero, suc, ◌+◌, List, [], ◌∷◌, ◌++◌, map, Bool, true, false, refl, ap, sym, ◌∙◌}
+use Rattle.std.proofs.Common.{◌≡◌, ℕ, ◌+◌, List, [], ◌∷◌, ◌++◌, map, Bool, true, false, ◌&&◌, ◌==◌, eqb-true, refl, ap, sym, ◌∙◌}
 use Rattle.std.specs.List.{flat_map, list_all}
 use Rattle.std.proofs.lemmas.Bool.{and_parts}
 use Rattle.ped_base.specs.Lists.{has_some, is_same_text, is_among}
@@ -18,8 +18,11 @@ use Rattle.ped_call_runs.proofs.OwnNames.{IsNoOwn}
 -- a name that is written begins with a letter
 pub written_name : (x : List ℕ) → is_name x ≡ true → IsNoOwn x
 written_name [] h = absurd cc
-written_name (zero ∷ cs) h = absurd cc
-written_name (suc c ∷ cs) h = λ m y. refl
+written_name (c ∷ cs) h = λ m y. ap (λ (t : Bool). t && is_same_text (m ∷ y) cs) (go (0 == c) refl)
+  where
+    go : (t : Bool) → (0 == c) ≡ t → (0 == c) ≡ false
+    go false e = e
+    go true e = let z : is_name (0 ∷ cs) ≡ true = ap (λ (a : ℕ). is_name (a ∷ cs)) (eqb-true 0 c e) ∙ h in absurd cc
 
 -- names none of which is one of a CALL's own
 abbrev pub NoneOwn : List (List ℕ) → Type 0

@@ -40,6 +40,7 @@ without x [] = []
 without x (y ∷ ys) = if is_same_text x y then ys else y ∷ without x ys
 
 shorter_by : (x y : List ℕ) (ys : List (List ℕ)) (b : Bool) → is_same_text x y ≡ b → (is_same_text x y ≡ false → length ys ≡ suc (length (without x ys))) → length (y ∷ ys) ≡ suc (length (without x (y ∷ ys)))
+unfolding without
 shorter_by x y ys true e more = ap (λ (b : Bool). suc (length (if b then ys else y ∷ without x ys))) (sym e)
 shorter_by x y ys false e more = ap suc (more e) ∙ ap (λ (b : Bool). suc (length (if b then ys else y ∷ without x ys))) (sym e)
 
@@ -50,6 +51,7 @@ shorter x (y ∷ ys) h = shorter_by x y ys (is_same_text x y) refl (λ e. shorte
 -- another name stays
 stays_by : (x z y : List ℕ) (ys : List (List ℕ)) (b c : Bool) → is_same_text x y ≡ b → is_same_text z y ≡ c → (is_same_text z x ≡ true → ⊥) → is_among z (y ∷ ys) ≡ true
     → (is_among z ys ≡ true → is_among z (without x ys) ≡ true) → is_among z (without x (y ∷ ys)) ≡ true
+unfolding without
 stays_by x z y ys true true e f n h more = absurd (n (ap (λ (w : List ℕ). is_same_text z w) (same_is x y e) ∙ f))
 stays_by x z y ys true false e f n h more = ap (λ (b : Bool). is_among z (if b then ys else y ∷ without x ys)) e ∙ ap (λ (c : Bool). c || is_among z ys) (sym f) ∙ h
 stays_by x z y ys false true e f n h more = ap (λ (b : Bool). is_among z (if b then ys else y ∷ without x ys)) e ∙ ap (λ (c : Bool). c || is_among z (without x ys)) f

@@ -42,6 +42,7 @@ use Rattle.ped_call_runs.proofs.Contexts.{IsWritten, WrittenName, written_in, Co
 -- what is known of the whole expansion
 pub record Facts (us : ProgramUnits) (pairs : List (List ℕ × List ℕ)) (gaps : List ℕ) (top : Given) (f : List ℕ → List ℕ) (q : Setting) : Type 0 where
   pub linked : IsLinked us
+  pub twice : (x : List ℕ) → f (f x) ≡ x
   pub paired : (x y : List ℕ) → HasPair x y pairs → f x ≡ y
   pub number : (n j size count : ℕ) (t : Trace) → IsPlaced gaps n j count t.gaps → IsCounted j size count t → q.number j ≡ n
   pub valued : (g h : Given) → GivesMore (nothing_given us) g → GivesMore h top → h.taken ≡ g.taken ++ free_name g.taken ∷ [] → value_named q.constants (free_name g.taken) ≡ None

@@ -77,7 +77,7 @@ pub record IsWithin (pairs : List (List ℕ × List ℕ)) (lo hi : ℕ) (ps : Li
   pub inside : (x y : List ℕ) → HasPair x y ps → HasPair x y pairs
   pub only : (m : ℕ) (x : List ℕ) → lo ≤ m → m < hi → is_among (own m x) (firsts pairs) ≡ true → is_among (own m x) (firsts ps) ≡ true
 
-firsts_joined : (y : List ℕ) (ps qs : List (List ℕ × List ℕ)) → is_among y (firsts (ps ++ qs)) ≡ is_among y (firsts ps) || is_among y (firsts qs)
+pub firsts_joined : (y : List ℕ) (ps qs : List (List ℕ × List ℕ)) → is_among y (firsts (ps ++ qs)) ≡ is_among y (firsts ps) || is_among y (firsts qs)
 firsts_joined y [] qs = refl
 firsts_joined y (p ∷ ps) qs = ap (λ (t : Bool). is_same_text y p.0 || t) (firsts_joined y ps qs) ∙ turned (is_same_text y p.0) (is_among y (firsts ps)) (is_among y (firsts qs))
   where
@@ -96,7 +96,7 @@ later_outside lo mid m x (p ∷ ps) h a = λ i. apart i || later_outside lo mid 
         ∙ same_flip (own m x) (own a.0.number a.0.name)
         ∙ own_apart a.0.number m a.0.name x (let to = a.0.to in omega (arith, to, h))
 
-only_first : (a b : Bool) → a || b ≡ true → b ≡ false → a ≡ true
+pub only_first : (a b : Bool) → a || b ≡ true → b ≡ false → a ≡ true
 only_first true b h k = refl
 only_first false b h k = absurd (both_ways b k h)
 
@@ -113,12 +113,12 @@ module _ (pairs : List (List ℕ × List ℕ)) where
         (outside_in lo mid hi (own m x) qs (record { number = m; name = x; is = refl; from = from; to = to }) a);
   }
 
-  pub within_second : (lo mid hi : ℕ) (ps qs : List (List ℕ × List ℕ)) → lo ≤ mid → IsWithin pairs lo hi (ps ++ qs) → OwnIn lo mid ps → IsWithin pairs mid hi qs
-  within_second lo mid hi ps qs less w a = record {
+  pub within_second : (low lo mid hi : ℕ) (ps qs : List (List ℕ × List ℕ)) → lo ≤ mid → IsWithin pairs lo hi (ps ++ qs) → OwnIn low mid ps → IsWithin pairs mid hi qs
+  within_second low lo mid hi ps qs less w a = record {
     inside = λ x y h. w.inside x y (pair_behind x y ps qs h);
     only = λ m x from to h.
         only_second (is_among (own m x) (firsts ps)) (is_among (own m x) (firsts qs)) (sym (firsts_joined (own m x) ps qs) ∙ w.only m x (omega (arith, from, less)) to h)
-        (later_outside lo mid m x ps from a);
+        (later_outside low mid m x ps from a);
   }
 
   -- of fewer CALLs

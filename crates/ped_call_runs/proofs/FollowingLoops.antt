@@ -69,11 +69,11 @@ module _ (b : List ℕ → Bond) (f : List ℕ → List ℕ) (twice : (x : List 
     pub meant_bound : (x : List ℕ) → NamedAlike b f p q m k x → is_bound (b (name_meant m x)) ≡ true
     meant_bound x a = subst (λ (z : List ℕ). is_bound (b z) ≡ true) (sym (ap (name_or x) a.left)) a.bound
 
-    all_named : (xs : List (List ℕ)) → Each (NamedAlike b f p q m k) xs → map (name_meant k) xs ≡ map f (map (name_meant m) xs)
+    pub all_named : (xs : List (List ℕ)) → Each (NamedAlike b f p q m k) xs → map (name_meant k) xs ≡ map f (map (name_meant m) xs)
     all_named [] h = refl
     all_named (x ∷ xs) h = λ i. meant_named x h.0 i ∷ all_named xs h.1 i
 
-    all_bound : (xs : List (List ℕ)) → Each (NamedAlike b f p q m k) xs → Each (λ y. is_bound (b y) ≡ true) (map (name_meant m) xs)
+    pub all_bound : (xs : List (List ℕ)) → Each (NamedAlike b f p q m k) xs → Each (λ y. is_bound (b y) ≡ true) (map (name_meant m) xs)
     all_bound xs h = each_mapped (λ y. is_bound (b y) ≡ true) (name_meant m) xs (each_map (NamedAlike b f p q m k) (λ x. is_bound (b (name_meant m x)) ≡ true) xs meant_bound h)
 
     module _ (n j : ℕ) (h : Head) (ss ts : StmtTrees) (heads : HeadsAlike b f p q m k h (all_loop_variables ss) (all_loop_variables ts)) (number : q.number j ≡ p.number n) (seen others : List Seen) (l : Limits) where

@@ -37,3 +37,4 @@ pub mod SuitedUnits
 pub mod Contexts
 pub mod ArgumentsStand
 pub mod CalledContexts
+pub mod Walks

@@ -37,7 +37,7 @@ front_counts constants (e ∷ es) g body = go (is_variable_name constants e) (fi
     go false None more = one_made (statements_count (behind_stmts (bound_arguments constants es (with_new g)).assignments body)) (length (bound_arguments constants es (with_new g)).assignments) (statements_count body) (more (with_new g))
 
 -- the block of a CALL counts one more than its statements
-block_count : (c : Called) (made : List StmtTree) (body : StmtTrees) → statement_count (block_of c made body) ≡ statements_count (behind_stmts made body) + 1
+pub block_count : (c : Called) (made : List StmtTree) (body : StmtTrees) → statement_count (block_of c made body) ≡ statements_count (behind_stmts made body) + 1
 block_count c made body = go (statements_count (behind_stmts made body))
   where
     go : (n : ℕ) → 0 + n + 0 + 1 ≡ n + 1

@@ -38,3 +38,4 @@ pub mod Contexts
 pub mod ArgumentsStand
 pub mod CalledContexts
 pub mod Walks
+pub mod UnitsStand

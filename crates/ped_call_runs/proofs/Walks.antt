@@ -146,17 +146,18 @@ behind_first j = omega (arith)
 own_before : (n : ℕ) (x : List ℕ) (hi : ℕ) → n < hi → IsOwnIn n hi (own n x)
 own_before n x hi h = record { number = n; name = x; is = refl; from = same_le n; to = h }
 
+-- a unit, or another where there is none
+abbrev unit_or : ProgramUnit → Option ProgramUnit → ProgramUnit
+unit_or u None = u
+unit_or u (Some w) = w
+
 -- the unit of a name is one of the units
-unit_found : (vs : List ProgramUnit) (x : List ℕ) (v : ProgramUnit) → unit_among vs x ≡ Some v → IsIn v vs
+pub unit_found : (vs : List ProgramUnit) (x : List ℕ) (v : ProgramUnit) → unit_among vs x ≡ Some v → IsIn v vs
 unit_found [] x v h = absurd cc
 unit_found (u ∷ us) x v h = go (is_same_text x u.name) h (unit_found us x v)
   where
-    unit_or : Option ProgramUnit → ProgramUnit
-    unit_or None = u
-    unit_or (Some w) = w
-
     go : (t : Bool) → (if t then Some u else unit_among us x) ≡ Some v → (unit_among us x ≡ Some v → IsIn v us) → IsIn v (u ∷ us)
-    go true e more = inl (sym (ap unit_or e))
+    go true e more = inl (sym (ap (unit_or u) e))
     go false e more = inr (more e)
 
 -- a name of the CALL's own

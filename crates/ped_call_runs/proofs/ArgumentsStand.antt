@@ -32,9 +32,10 @@ use Rattle.ped_call_runs.proofs.GivenMore.{GivesMore, gives_then, gives_new, arg
 use Rattle.ped_call_runs.proofs.Traces.{Trace, gap_before, value_traced, arguments_traced, first_bond}
 use Rattle.ped_call_runs.proofs.TraceNumbers.{IsCounted, none_first, one_less}
 use Rattle.ped_call_runs.proofs.PlacedNumbers.{IsPlaced}
-use Rattle.ped_call_runs.proofs.OwnNames.{firsts, IsNoOwn}
+use Rattle.ped_call_runs.proofs.OwnNames.{firsts}
 use Rattle.ped_call_runs.proofs.TraceOwn.{own_same, arguments_outside}
 use Rattle.ped_call_runs.proofs.RenamedEntries.{HasPair, pair_first}
+use Rattle.ped_call_runs.proofs.WrittenNames.{IsName}
 use Rattle.ped_call_runs.proofs.UnitNames.{IsPlain}
 use Rattle.ped_call_runs.proofs.SuitedUnits.{Reads}
 use Rattle.ped_call_runs.proofs.Contexts.{IsWritten, WrittenName, written_in, Context, Telling}
@@ -45,9 +46,9 @@ pub record Facts (us : ProgramUnits) (pairs : List (List ℕ × List ℕ)) (gaps
   pub twice : (x : List ℕ) → f (f x) ≡ x
   pub paired : (x y : List ℕ) → HasPair x y pairs → f x ≡ y
   pub number : (n j size count : ℕ) (t : Trace) → IsPlaced gaps n j count t.gaps → IsCounted j size count t → q.number j ≡ n
-  pub valued : (g h : Given) → GivesMore (nothing_given us) g → GivesMore h top → h.taken ≡ g.taken ++ free_name g.taken ∷ [] → value_named q.constants (free_name g.taken) ≡ None
-  pub scalar : (g h : Given) → GivesMore (nothing_given us) g → GivesMore h top → h.taken ≡ g.taken ++ free_name g.taken ∷ [] → h.arrays ≡ g.arrays → q.bounds (free_name g.taken) ≡ no_dimensions
-  pub local : (g h : Given) → GivesMore (nothing_given us) g → GivesMore h top → h.taken ≡ g.taken ++ free_name g.taken ∷ [] → (t : ProgramTree) (x : List ℕ) → h.arrays ≡ g.arrays ++ declared_as (free_name g.taken) (kind_in t x)
+  pub valued : (g h : Given) → GivesMore (nothing_given us) g → GivesMore h top → h.taken ≡ g.taken ++ free_name g.taken ∷ [] → IsName (free_name g.taken) → value_named q.constants (free_name g.taken) ≡ None
+  pub scalar : (g h : Given) → GivesMore (nothing_given us) g → GivesMore h top → h.taken ≡ g.taken ++ free_name g.taken ∷ [] → IsName (free_name g.taken) → h.arrays ≡ g.arrays → q.bounds (free_name g.taken) ≡ no_dimensions
+  pub local : (g h : Given) → GivesMore (nothing_given us) g → GivesMore h top → h.taken ≡ g.taken ++ free_name g.taken ∷ [] → IsName (free_name g.taken) → (t : ProgramTree) (x : List ℕ) → h.arrays ≡ g.arrays ++ declared_as (free_name g.taken) (kind_in t x)
       → q.bounds (free_name g.taken) ≡ bounds_of (kind_in t x)
 
 -- what is known of a name of a CALL's own at first
@@ -169,9 +170,9 @@ module _ (us : ProgramUnits) (pairs : List (List ℕ × List ℕ)) (gaps : List 
   pub record Conditions (xs : List (List ℕ)) (b : List ℕ → Bond) (t : Trace) (bound : Bound) (g : Given) : Type 0 where
     pub keeps : KeepsBonds first b
     pub unknown : (x : List ℕ) → is_among x xs ≡ true → b (own n x) ≡ first_bond pairs (own n x)
-    pub inside : (x y : List ℕ) → HasPair x y t.pairs → HasPair x y pairs
+    pub inside : (x y : List ℕ) → IsName y → HasPair x y t.pairs → HasPair x y pairs
     pub only : (x : List ℕ) → is_among x xs ≡ true → is_among (own n x) (firsts pairs) ≡ true → is_among (own n x) (firsts t.pairs) ≡ true
-    pub names : Each IsNoOwn (stmts_names (behind_stmts bound.assignments body))
+    pub names : Each IsName (stmts_names (behind_stmts bound.assignments body))
     pub before : GivesMore (nothing_given us) g
     pub later : GivesMore bound.given top
 
@@ -305,16 +306,17 @@ module _ (us : ProgramUnits) (pairs : List (List ℕ × List ℕ)) (gaps : List 
     by_assignment b j g h conditions =
         let new : List ℕ = free_name g.taken in
         let h2 : Given = with_new g in
-        let pair : HasPair (own n x) new pairs = conditions.inside (own n x) new (inl (refl, refl)) in
+        let named : IsName new = conditions.names.0 in
+        let pair : HasPair (own n x) new pairs = conditions.inside (own n x) new named (inl (refl, refl)) in
         let to : f (own n x) ≡ new = facts.paired (own n x) new pair in
-        let left = each_front IsNoOwn (new ∷ expr_names e) (stmts_names (behind_stmts (bounds rest h2).assignments body)) conditions.names in
+        let left = each_front IsName (new ∷ expr_names e) (stmts_names (behind_stmts (bounds rest h2).assignments body)) conditions.names in
         let bond : b (own n x) ≡ loose = conditions.unknown x (first_among x xs) ∙ own_loose pairs n x new pair in
         let s = more b (j + 1) h2 (record {
           keeps = conditions.keeps;
           unknown = λ z l. conditions.unknown z (later_among x z xs l);
-          inside = λ y z l. conditions.inside y z (inr l);
+          inside = λ y z is l. conditions.inside y z is (inr l);
           only = λ z l m. sym (ap (λ (t : Bool). t || is_among (own n z) (firsts (traces xs rest (j + 1) h2).pairs)) (own_same n z x ∙ apart_from x z xs outside l)) ∙ conditions.only z (later_among x z xs l) m;
-          names = each_behind IsNoOwn (new ∷ expr_names e) (stmts_names (behind_stmts (bounds rest h2).assignments body)) conditions.names;
+          names = each_behind IsName (new ∷ expr_names e) (stmts_names (behind_stmts (bounds rest h2).assignments body)) conditions.names;
           before = gives_then (nothing_given us) g h2 conditions.before (gives_new g);
           later = conditions.later;
         }) in
@@ -335,7 +337,7 @@ module _ (us : ProgramUnits) (pairs : List (List ℕ × List ℕ)) (gaps : List 
           formals = subst (λ (t : Bool). EachFormal (FormalStands s.after) (x ∷ xs) (a ∷ listed rest) ((if t then replaced i.stands a else Var (own n x)) ∷ formals_stand i n xs (listed rest)) (Var new ∷ (bounds rest h2).meant)) (sym h) (
             record {
               associated = associates;
-              alike = made new (no_variable h) refl refl to (ap is_bound after_bond) (facts.valued g h2 conditions.before later refl) (facts.scalar g h2 conditions.before later refl refl);
+              alike = made new (no_variable h) refl refl to (ap is_bound after_bond) (facts.valued g h2 conditions.before later refl named) (facts.scalar g h2 conditions.before later refl named refl);
             },
             s.formals,
           );
@@ -385,9 +387,9 @@ module _ (us : ProgramUnits) (pairs : List (List ℕ × List ℕ)) (gaps : List 
   -- the conditions for all arguments of a CALL
   pub arguments_of : (es : ExprTrees) → length (listed es) ≡ length v.formals → has_twice v.formals ≡ false → Each (Reads us u) (exprs_names es) → ((a : Association) → IsIn a (associations v.formals (listed es)) → IsIn a (associated v c)) → (j : ℕ) (g : Given)
       → ((x : List ℕ) → is_among x v.formals ≡ true → first (own n x) ≡ first_bond pairs (own n x))
-      → ((x y : List ℕ) → HasPair x y (traces v.formals es j g).pairs → HasPair x y pairs)
+      → ((x y : List ℕ) → IsName y → HasPair x y (traces v.formals es j g).pairs → HasPair x y pairs)
       → ((x : List ℕ) → is_among x v.formals ≡ true → is_among (own n x) (firsts pairs) ≡ true → is_among (own n x) (firsts (traces v.formals es j g).pairs) ≡ true)
-      → Each IsNoOwn (stmts_names (behind_stmts (bounds es g).assignments body)) → GivesMore (nothing_given us) g → GivesMore (bounds es g).given top
+      → Each IsName (stmts_names (behind_stmts (bounds es g).assignments body)) → GivesMore (nothing_given us) g → GivesMore (bounds es g).given top
       → ArgumentsStand first v.formals (listed es) (bounds es g).assignments (bounds es g).meant
   arguments_of es same once reads associates j g unknown inside only names before later =
       arguments_stand v.formals es same once reads associates first j g (record { keeps = λ y h. refl; unknown = unknown; inside = inside; only = only; names = names; before = before; later = later })

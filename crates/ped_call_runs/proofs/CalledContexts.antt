@@ -39,9 +39,10 @@ use Rattle.ped_call_runs.proofs.GivenMore.{GivesMore, gives_then}
 use Rattle.ped_call_runs.proofs.ExpandedKinds.{bounds_by_entries, bounds_said, small_literal}
 use Rattle.ped_call_runs.proofs.MeaningEntries.{kept_entry, new_entry, other_entry, own_kept, own_entry, constants_kept, of_constant, constants_entry, formals_kept, no_formal}
 use Rattle.ped_call_runs.proofs.Traces.{locals_traced, first_bond}
-use Rattle.ped_call_runs.proofs.OwnNames.{own_apart, IsNoOwn}
+use Rattle.ped_call_runs.proofs.OwnNames.{own_apart}
 use Rattle.ped_call_runs.proofs.TraceOwn.{own_same}
 use Rattle.ped_call_runs.proofs.RenamedEntries.{HasPair, renamed_stays, IsRenamed, renamed_new}
+use Rattle.ped_call_runs.proofs.WrittenNames.{IsName}
 use Rattle.ped_call_runs.proofs.UnitNames.{IsPlain, HasPlainNames}
 use Rattle.ped_call_runs.proofs.SuitedUnits.{Reads, MayBeWritten, Writes}
 use Rattle.ped_call_runs.proofs.Contexts.{IsOld, IsWritten, IsNameOrLiteral, Context, Telling}
@@ -219,7 +220,7 @@ module _ (us : ProgramUnits) (pairs : List (List ℕ × List ℕ)) (gaps : List 
     (others : (y : List ℕ) → ((x : List ℕ) → is_among x v.formals ≡ true → is_same_text y (own n x) ≡ false) → after y ≡ first y)
     (formals : EachFormal (FormalStands us pairs gaps top f q facts u lo first k i context constants telling v c n body after) v.formals (listed c.arguments) (formals_stand i n v.formals (listed c.arguments)) b.meant)
     (before : GivesMore (nothing_given us) b.given) (later : GivesMore (meanings_in v b).given top)
-    (inside : (x y : List ℕ) → HasPair x y (locals_traced n v (body_names v) (record { meanings = with_constants (with_formals [] v.formals b.meant) (constants_of v); given = b.given })) → HasPair x y pairs) where
+    (inside : (x y : List ℕ) → IsName y → HasPair x y (locals_traced n v (body_names v) (record { meanings = with_constants (with_formals [] v.formals b.meant) (constants_of v); given = b.given })) → HasPair x y pairs) where
   abbrev Stands : List ℕ → ExprTree → ExprTree → ExprTree → Type 0
   Stands = FormalStands us pairs gaps top f q facts u lo first k i context constants telling v c n body after
 
@@ -235,11 +236,18 @@ module _ (us : ProgramUnits) (pairs : List (List ℕ × List ℕ)) (gaps : List 
   abbrev meant : Meanings
   meant = (meanings_in v b).meanings
 
+  -- a variable of the CALL's own, and its new name
+  record IsLocal (x y : List ℕ) : Type 0 where
+    to : f (own n x) ≡ y
+    bound : is_bound (after (own n x)) ≡ true
+    valued : value_named q.constants y ≡ None
+    bounds : q.bounds y ≡ bounds_of (kind_in (for_names v) x)
+
   -- what a name of the subroutine is on both sides
   data NameOf (x : List ℕ) : Type 0 where
     formal : is_among x v.formals ≡ true → (a l r : ExprTree) → meaning there.stands x ≡ l → meaning meant x ≡ r → Stands x a l r → NameOf x
     constant : (w : ℤ) → value_named (constants_of v) x ≡ Some w → meaning there.stands x ≡ Var (own n x) → meaning meant x ≡ literal w → NameOf x
-    local : (y : List ℕ) → IsPlain v x → meaning there.stands x ≡ Var (own n x) → meaning meant x ≡ Var y → f (own n x) ≡ y → is_bound (after (own n x)) ≡ true → value_named q.constants y ≡ None → q.bounds y ≡ bounds_of (kind_in (for_names v) x) → NameOf x
+    local : (y : List ℕ) → IsPlain v x → meaning there.stands x ≡ Var (own n x) → meaning meant x ≡ Var y → (IsName y → IsLocal x y) → NameOf x
 
   name_of : (x : List ℕ) → Reads us v x → NameOf x
   name_of x reads = go (is_among x v.formals) refl
@@ -256,16 +264,20 @@ module _ (us : ProgramUnits) (pairs : List (List ℕ × List ℕ)) (gaps : List 
           let absent : entry_of start.meanings x ≡ None = constants_entry (constants_of v) (with_formals [] v.formals b.meant) x none ∙ ap of_constant e in
           let new : IsRenamed n v start.given x (locals_traced n v (body_names v) start) (meanings_in v b) = renamed_new n v (body_names v) start x absent reads in
           let name : List ℕ = free_name new.at.taken in
-          let pair : HasPair (own n x) name pairs = inside (own n x) name new.pair in
           let so_far : GivesMore (nothing_given us) new.at = gives_then (nothing_given us) b.given new.at before new.before in
           let to_come : GivesMore (with_local new.at (kind_in (for_names v) x)) top = gives_then (with_local new.at (kind_in (for_names v) x)) (meanings_in v b).given top new.later later in
           let unmet : (z : List ℕ) → is_among z v.formals ≡ true → is_same_text (own n x) (own n z) ≡ false = λ z m. own_same n x z ∙ apart z m in
           local name e
           (meant_by there.stands x (Var (own n x)) (own_entry n (body_names v) (with_formals [] v.formals (formals_stand i n v.formals (listed c.arguments))) x (no_formal v.formals (formals_stand i n v.formals (listed c.arguments)) [] x outside refl) reads))
-          (meant_by meant x (Var name) new.stands) (facts.paired (own n x) name pair)
-          (ap is_bound (others (own n x) unmet ∙ context.unknown n x less ∙ own_loose pairs n x name pair))
-          (facts.valued new.at (with_local new.at (kind_in (for_names v) x)) so_far to_come refl)
-          (facts.local new.at (with_local new.at (kind_in (for_names v) x)) so_far to_come refl (for_names v) x refl)
+          (meant_by meant x (Var name) new.stands)
+          (λ is.
+          let pair : HasPair (own n x) name pairs = inside (own n x) name is new.pair in
+          record {
+            to = facts.paired (own n x) name pair;
+            bound = ap is_bound (others (own n x) unmet ∙ context.unknown n x less ∙ own_loose pairs n x name pair);
+            valued = facts.valued new.at (with_local new.at (kind_in (for_names v) x)) so_far to_come refl is;
+            bounds = facts.local new.at (with_local new.at (kind_in (for_names v) x)) so_far to_come refl is (for_names v) x refl;
+          })
         where
           apart : (z : List ℕ) → is_among z v.formals ≡ true → is_same_text x z ≡ false
           apart z m = by (is_same_text x z) refl
@@ -364,8 +376,9 @@ module _ (us : ProgramUnits) (pairs : List (List ℕ × List ℕ)) (gaps : List 
       go : NameOf x → MeansAlike after f there.setting q there.stands meant x
       go (formal is a l r left right s) = by_formal is a l r left right s.associated s.alike
       go (constant w value left right) = by_constant (own n x) w left right (small_in_range w (constant_small x w value)) (own_bounds v n p.bounds x ∙ valued_bounds (for_names v) x w value) (own_value x (Some w) value)
-      go (local y unvalued left right to h valued bounds) =
-          by_name (own n x) left (right ∙ ap Var (sym to)) (ap (value_named q.constants) to ∙ valued ∙ sym (own_value x None unvalued)) (ap q.bounds to ∙ bounds ∙ sym (own_bounds v n p.bounds x)) h
+      go (local y unvalued left right named) =
+          let is = named (written y right) in
+          by_name (own n x) left (right ∙ ap Var (sym is.to)) (ap (value_named q.constants) is.to ∙ is.valued ∙ sym (own_value x None unvalued)) (ap q.bounds is.to ∙ is.bounds ∙ sym (own_bounds v n p.bounds x)) is.bound
 
   -- names of this CALL's own are old for CALLs with greater numbers
   own_old : (x : List ℕ) → IsOld (number_inside c n) (own n x)
@@ -397,7 +410,7 @@ module _ (us : ProgramUnits) (pairs : List (List ℕ × List ℕ)) (gaps : List 
       go : NameOf x → IsOld (number_inside c n) y
       go (formal is a l r left right s) = by_formal a l r left right s.alike
       go (constant w value left right) = of_own left
-      go (local z unvalued left right to h valued bounds) = of_own left
+      go (local z unvalued left right named) = of_own left
 
   -- a dummy argument that is assigned is passed for one
   passed : (x z : List ℕ) → is_among x v.formals ≡ true → IsIn (record { formal = x; argument = Var z }) (associated v c) → is_among z u.formals ≡ true → IsAssigned us v x → IsAssigned us u z
@@ -440,7 +453,9 @@ module _ (us : ProgramUnits) (pairs : List (List ℕ × List ℕ)) (gaps : List 
       go : NameOf x → NamedAlike after f there.setting q there.stands meant x
       go (formal is a l r left right s) = by_formal is a l r left right s.associated s.alike
       go (constant w value left right) = let z : None ≡ Some w = sym writes.may.plain ∙ value in absurd cc
-      go (local y unvalued left right to h valued bounds) = record { name = own n x; left = left; right = right ∙ ap Var (sym to); bounds = ap q.bounds to ∙ bounds ∙ sym (own_bounds v n p.bounds x); bound = h }
+      go (local y unvalued left right named) =
+          let is = named (written y right) in
+          record { name = own n x; left = left; right = right ∙ ap Var (sym is.to); bounds = ap q.bounds is.to ∙ is.bounds ∙ sym (own_bounds v n p.bounds x); bound = is.bound }
 
   fixed_there : (x : List ℕ) → Reads us v x → (m : ℤ) → value_named (constants_of v) x ≡ Some m → (constant_value q.constants (meaning meant x) ≡ Some m) × (constant_value there.setting.constants (meaning there.stands x) ≡ Some m)
   fixed_there x reads m e = go (name_of x reads)
@@ -452,7 +467,7 @@ module _ (us : ProgramUnits) (pairs : List (List ℕ × List ℕ)) (gaps : List 
             ap (constant_value q.constants) right ∙ fixed_constant q.constants (literal w) w (small_literal q.constants w (constant_small x w value)) ∙ same,
             ap (constant_value there.setting.constants) left ∙ own_value x (Some w) value ∙ same,
           )
-      go (local y unvalued left right to h valued bounds) = let z : None ≡ Some m = sym unvalued ∙ e in absurd cc
+      go (local y unvalued left right named) = let z : None ≡ Some m = sym unvalued ∙ e in absurd cc
 
   shape_there : (x : List ℕ) → Reads us v x → IsPlain v x → IsNameOrLiteral (meaning meant x)
   shape_there x reads plainly = go (name_of x reads)
@@ -465,7 +480,7 @@ module _ (us : ProgramUnits) (pairs : List (List ℕ × List ℕ)) (gaps : List 
       go : NameOf x → IsNameOrLiteral (meaning meant x)
       go (formal is a l r left right s) = by_formal a l r right s.alike
       go (constant w value left right) = let z : None ≡ Some w = sym plainly ∙ value in absurd cc
-      go (local y unvalued left right to h valued bounds) = inl (y, right)
+      go (local y unvalued left right named) = inl (y, right)
 
   pub called_context : Context us pairs gaps top f q v (number_inside c n) after meant there
   called_context = record {
@@ -508,7 +523,7 @@ module _ (us : ProgramUnits) (pairs : List (List ℕ × List ℕ)) (gaps : List 
           go name None e l = absurd cc
           go (formal is a l r left right s) (Some m) e h = let z : None ≡ Some m = sym (plain.formals x is) ∙ e in absurd cc
           go (constant w value left right) (Some m) e h = ap (is_variable_name []) right ∙ literal_no_name [] w
-          go (local y unvalued left right to b valued bounds) (Some m) e h = let z : None ≡ Some m = sym unvalued ∙ e in absurd cc
+          go (local y unvalued left right named) (Some m) e h = let z : None ≡ Some m = sym unvalued ∙ e in absurd cc
       no_name_there (Element x es) reads h = refl
       no_name_there (Neg a) reads h = refl
       no_name_there (Add a d) reads h = refl

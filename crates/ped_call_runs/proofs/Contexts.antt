@@ -21,8 +21,9 @@ use Rattle.ped_call_runs.proofs.FollowingNames.{MeansAlike, NamedAlike}
 use Rattle.ped_call_runs.proofs.GivenMore.{GivesMore}
 use Rattle.ped_call_runs.proofs.Traces.{Trace, first_bond}
 use Rattle.ped_call_runs.proofs.PlacedNumbers.{IsPlaced}
-use Rattle.ped_call_runs.proofs.OwnNames.{IsNoOwn, firsts, IsOwnIn, OwnIn, outside_in, own_apart}
+use Rattle.ped_call_runs.proofs.OwnNames.{firsts, IsOwnIn, OwnIn, outside_in, own_apart}
 use Rattle.ped_call_runs.proofs.RenamedEntries.{HasPair, pair_front, pair_behind}
+use Rattle.ped_call_runs.proofs.WrittenNames.{IsName}
 use Rattle.ped_call_runs.proofs.UnitNames.{IsPlain}
 use Rattle.ped_call_runs.proofs.SuitedUnits.{Reads, Writes}
 
@@ -30,51 +31,51 @@ use Rattle.ped_call_runs.proofs.SuitedUnits.{Reads, Writes}
 abbrev pub IsOld : ℕ → List ℕ → Type 0
 IsOld lo y = (m : ℕ) (x : List ℕ) → lo ≤ m → is_same_text (own m x) y ≡ false
 
--- an expression that is no name of a CALL's own
+-- an expression that is a name as it is written, where it is a variable
 abbrev pub IsWritten : ExprTree → Type 0
-IsWritten e = (y : List ℕ) → e ≡ Var y → IsNoOwn y
+IsWritten e = (y : List ℕ) → e ≡ Var y → IsName y
 
 -- a variable, or a literal that isn't too large
 abbrev pub IsNameOrLiteral : ExprTree → Type 0
 IsNameOrLiteral e = ((y : List ℕ) × (e ≡ Var y)) ⊎ ((n : ℤ) × IsSmall n × (e ≡ literal n))
 
--- names of expressions that are written
+-- names in expressions that are written
 module _ (k : Meanings) where
   abbrev pub WrittenName : List ℕ → Type 0
   WrittenName x = IsWritten (meaning k x)
 
   -- the name that stands for a name
-  pub meant_written : (x : List ℕ) → IsNoOwn (name_meant k x) → IsWritten (meaning k x)
-  meant_written x h y e = subst IsNoOwn (ap (name_or x) e) h
+  pub meant_written : (x : List ℕ) → IsName (name_meant k x) → IsWritten (meaning k x)
+  meant_written x h y e = subst IsName (ap (name_or x) e) h
 
-  var_written : (e : ExprTree) → Each IsNoOwn (expr_names e) → IsWritten e
-  var_written e h y is = (subst (λ (z : ExprTree). Each IsNoOwn (expr_names z)) is h).0
+  var_written : (e : ExprTree) → Each IsName (expr_names e) → IsWritten e
+  var_written e h y is = (subst (λ (z : ExprTree). Each IsName (expr_names z)) is h).0
 
   both_written : (a b : ExprTree) → Each WrittenName (expr_names a) → Each WrittenName (expr_names b) → Each WrittenName (expr_names a ++ expr_names b)
   both_written a b h l = each_joined WrittenName (expr_names a) (expr_names b) h l
 
   mutual
-    pub written_in : (e : ExprTree) → Each IsNoOwn (expr_names (replaced k e)) → Each WrittenName (expr_names e)
+    pub written_in : (e : ExprTree) → Each IsName (expr_names (replaced k e)) → Each WrittenName (expr_names e)
     written_in (Int n) h = tt
     written_in (Var x) h = (var_written (meaning k x) h, tt)
     written_in (Element x es) h = (meant_written x h.0, all_written_in es h.1)
     written_in (Neg a) h = written_in a h
-    written_in (Add a b) h = both_written a b (written_in a (each_front IsNoOwn (expr_names (replaced k a)) (expr_names (replaced k b)) h)) (written_in b (each_behind IsNoOwn (expr_names (replaced k a)) (expr_names (replaced k b)) h))
-    written_in (Sub a b) h = both_written a b (written_in a (each_front IsNoOwn (expr_names (replaced k a)) (expr_names (replaced k b)) h)) (written_in b (each_behind IsNoOwn (expr_names (replaced k a)) (expr_names (replaced k b)) h))
-    written_in (Mul a b) h = both_written a b (written_in a (each_front IsNoOwn (expr_names (replaced k a)) (expr_names (replaced k b)) h)) (written_in b (each_behind IsNoOwn (expr_names (replaced k a)) (expr_names (replaced k b)) h))
-    written_in (Div a b) h = both_written a b (written_in a (each_front IsNoOwn (expr_names (replaced k a)) (expr_names (replaced k b)) h)) (written_in b (each_behind IsNoOwn (expr_names (replaced k a)) (expr_names (replaced k b)) h))
-    written_in (Pow a b) h = both_written a b (written_in a (each_front IsNoOwn (expr_names (replaced k a)) (expr_names (replaced k b)) h)) (written_in b (each_behind IsNoOwn (expr_names (replaced k a)) (expr_names (replaced k b)) h))
+    written_in (Add a b) h = both_written a b (written_in a (each_front IsName (expr_names (replaced k a)) (expr_names (replaced k b)) h)) (written_in b (each_behind IsName (expr_names (replaced k a)) (expr_names (replaced k b)) h))
+    written_in (Sub a b) h = both_written a b (written_in a (each_front IsName (expr_names (replaced k a)) (expr_names (replaced k b)) h)) (written_in b (each_behind IsName (expr_names (replaced k a)) (expr_names (replaced k b)) h))
+    written_in (Mul a b) h = both_written a b (written_in a (each_front IsName (expr_names (replaced k a)) (expr_names (replaced k b)) h)) (written_in b (each_behind IsName (expr_names (replaced k a)) (expr_names (replaced k b)) h))
+    written_in (Div a b) h = both_written a b (written_in a (each_front IsName (expr_names (replaced k a)) (expr_names (replaced k b)) h)) (written_in b (each_behind IsName (expr_names (replaced k a)) (expr_names (replaced k b)) h))
+    written_in (Pow a b) h = both_written a b (written_in a (each_front IsName (expr_names (replaced k a)) (expr_names (replaced k b)) h)) (written_in b (each_behind IsName (expr_names (replaced k a)) (expr_names (replaced k b)) h))
     written_in (Call f es) h = all_written_in es h
 
-    pub all_written_in : (es : ExprTrees) → Each IsNoOwn (exprs_names (all_replaced k es)) → Each WrittenName (exprs_names es)
+    pub all_written_in : (es : ExprTrees) → Each IsName (exprs_names (all_replaced k es)) → Each WrittenName (exprs_names es)
     all_written_in no_exprs h = tt
     all_written_in (more_exprs e rest) h =
-        each_joined WrittenName (expr_names e) (exprs_names rest) (written_in e (each_front IsNoOwn (expr_names (replaced k e)) (exprs_names (all_replaced k rest)) h))
-        (all_written_in rest (each_behind IsNoOwn (expr_names (replaced k e)) (exprs_names (all_replaced k rest)) h))
+        each_joined WrittenName (expr_names e) (exprs_names rest) (written_in e (each_front IsName (expr_names (replaced k e)) (exprs_names (all_replaced k rest)) h))
+        (all_written_in rest (each_behind IsName (expr_names (replaced k e)) (exprs_names (all_replaced k rest)) h))
 
--- the pairs of a piece, whose CALLs have numbers from the first to below the second, among all pairs
+-- the pairs of a piece, whose CALLs have numbers from the first to below the second, among all pairs, where their new names are names
 pub record IsWithin (pairs : List (List ℕ × List ℕ)) (lo hi : ℕ) (ps : List (List ℕ × List ℕ)) : Type 0 where
-  pub inside : (x y : List ℕ) → HasPair x y ps → HasPair x y pairs
+  pub inside : (x y : List ℕ) → IsName y → HasPair x y ps → HasPair x y pairs
   pub only : (m : ℕ) (x : List ℕ) → lo ≤ m → m < hi → is_among (own m x) (firsts pairs) ≡ true → is_among (own m x) (firsts ps) ≡ true
 
 pub firsts_joined : (y : List ℕ) (ps qs : List (List ℕ × List ℕ)) → is_among y (firsts (ps ++ qs)) ≡ is_among y (firsts ps) || is_among y (firsts qs)
@@ -107,7 +108,7 @@ only_second false b h k = h
 module _ (pairs : List (List ℕ × List ℕ)) where
   pub within_first : (lo mid hi : ℕ) (ps qs : List (List ℕ × List ℕ)) → mid ≤ hi → IsWithin pairs lo hi (ps ++ qs) → OwnIn mid hi qs → IsWithin pairs lo mid ps
   within_first lo mid hi ps qs less w a = record {
-    inside = λ x y h. w.inside x y (pair_front x y ps qs h);
+    inside = λ x y is h. w.inside x y is (pair_front x y ps qs h);
     only = λ m x from to h.
         only_first (is_among (own m x) (firsts ps)) (is_among (own m x) (firsts qs)) (sym (firsts_joined (own m x) ps qs) ∙ w.only m x from (omega (arith, to, less)) h)
         (outside_in lo mid hi (own m x) qs (record { number = m; name = x; is = refl; from = from; to = to }) a);
@@ -115,7 +116,7 @@ module _ (pairs : List (List ℕ × List ℕ)) where
 
   pub within_second : (low lo mid hi : ℕ) (ps qs : List (List ℕ × List ℕ)) → lo ≤ mid → IsWithin pairs lo hi (ps ++ qs) → OwnIn low mid ps → IsWithin pairs mid hi qs
   within_second low lo mid hi ps qs less w a = record {
-    inside = λ x y h. w.inside x y (pair_behind x y ps qs h);
+    inside = λ x y is h. w.inside x y is (pair_behind x y ps qs h);
     only = λ m x from to h.
         only_second (is_among (own m x) (firsts ps)) (is_among (own m x) (firsts qs)) (sym (firsts_joined (own m x) ps qs) ∙ w.only m x (omega (arith, from, less)) to h)
         (later_outside low mid m x ps from a);
@@ -131,7 +132,7 @@ module _ (us : ProgramUnits) (pairs : List (List ℕ × List ℕ)) (gaps : List 
   pub record IsPiece (n j size count : ℕ) (t : Trace) (there : List (List ℕ)) (g h : Given) : Type 0 where
     pub placed : IsPlaced gaps n j count t.gaps
     pub within : IsWithin pairs n (n + size) t.pairs
-    pub names : Each IsNoOwn there
+    pub names : Each IsName there
     pub before : GivesMore (nothing_given us) g
     pub later : GivesMore h top
 
@@ -153,4 +154,4 @@ module _ (us : ProgramUnits) (pairs : List (List ℕ × List ℕ)) (gaps : List 
     pub no_name : (a : ExprTree) → Each (Reads us u) (expr_names a) → is_variable_name (constants_of u) a ≡ false → is_variable_name constants (replaced k a) ≡ false
     pub name : (x : List ℕ) → Reads us u x → IsPlain u x → (is_variable_name constants (meaning k x) ≡ true) ⊎ ((n : ℤ) × (is_variable_name constants (meaning k x) ≡ false) × (fixed_value constants (meaning k x) ≡ Some n) × (meaning k x ≡ literal n))
     pub more : (e : ExprTree) (v : ℤ) → constant_value constants e ≡ Some v → constant_value q.constants e ≡ Some v
-    pub unowned : (y : List ℕ) (v : ℤ) → value_named constants y ≡ Some v → IsNoOwn y
+    pub unowned : (y : List ℕ) (v : ℤ) → value_named constants y ≡ Some v → IsName y

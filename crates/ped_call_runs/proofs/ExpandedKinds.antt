@@ -1,16 +1,18 @@
 -- What names stand for in an expansion: those of the main program what they stood for, and new names what they were given to.
 use Rattle.std.proofs.Common.{◌≡◌, ℕ, suc, ◌≤◌, ℤ, unsigned_abs, nat_le, nat_lt, length, map, List, [], ◌∷◌, ◌++◌, Bool, true, false, ◌&&◌, ◌||◌, Option, Some, None, IfSome, All, refl, sym, ap, ◌∙◌, subst, arith, append_assoc, append-nil, if◌then◌else◌}
 use Rattle.std.specs.List.{flat_map}
-use Rattle.std.proofs.lemmas.Bool.{or_parts, or_from, both_ways}
+use Rattle.std.proofs.lemmas.Bool.{or_parts}
+use Rattle.std.proofs.lemmas.Grind.{flat_map-append}
 use Rattle.std.proofs.lemmas.List.Elements.{All-nil, All-cons, All-append}
 use Rattle.std.proofs.lemmas.Map.Entries.{All-lookup}
 use Rattle.ped_base.specs.Dimensions.{Dimensions}
 use Rattle.ped_base.specs.Lists.{has_some, is_same_text, is_among}
-use Rattle.ped_base.proofs.NameEquality.{same_is, same_itself}
+use Rattle.ped_base.proofs.NameEquality.{same_itself}
 use Rattle.ped_tree.proofs.NameLaws.Collected.{among_append}
 use Rattle.ped_tree.specs.Accesses.{constant_names}
 use Rattle.ped_tree.specs.Constants.NamedConstants.{value_named}
 use Rattle.ped_tree.specs.Grammar.LimitNumbers.{most_dimensions}
+use Rattle.ped_tree.specs.Grammar.Words.{is_name}
 use Rattle.ped_tree.specs.Tree.{ExprTree, StmtTree, StmtTrees, BoundTree, DeclaratorTree, DeclTree, ProgramTree}
 use Rattle.ped_steps.specs.ped_sums.specs.Sums.{literal}
 use Rattle.ped_calls.specs.ped_valid.specs.ped_symbols.specs.Arrays.{Arrays, with_dimension, bounds_values, with_bounds, by_bounds, arrays_of, arrays_in}
@@ -19,10 +21,10 @@ use Rattle.ped_calls.specs.ped_valid.specs.ped_symbols.specs.declared.symbols.Ki
 use Rattle.ped_calls.specs.ped_valid.specs.ped_symbols.specs.Declarations.{program_name}
 use Rattle.ped_calls.specs.ped_valid.specs.ped_symbols.specs.Entries.{entry_of}
 use Rattle.ped_calls.specs.ped_valid.specs.ped_symbols.specs.Kinds.{at_last, kind_by, kind_of, kind_in, names_of}
-use Rattle.ped_calls.specs.ped_valid.specs.ped_symbols.specs.NameRefusals.{Before, at_first, behind_site, behind_sites, has_twice}
+use Rattle.ped_calls.specs.ped_valid.specs.ped_symbols.specs.NameRefusals.{Before, at_first, behind_site, behind_sites}
 use Rattle.ped_calls.specs.ped_valid.specs.ped_symbols.specs.Sites.{Site, declaration, statement, private_names, decl_sites, stmts_sites, program_sites}
 use Rattle.ped_calls.specs.ped_valid.specs.ped_symbols.specs.Values.{Values, fixed_value, declarators}
-use Rattle.ped_calls.specs.ped_valid.specs.ped_symbols.proofs.RightUseLaws.Occurring.{once_first, occurs_first}
+use Rattle.ped_calls.specs.ped_valid.specs.ped_symbols.proofs.RightUseLaws.Occurring.{occurs_first}
 use Rattle.ped_calls.specs.ped_valid.specs.ped_symbols.proofs.RightUseLaws.Whole.{names_occur, others_unvalued}
 use Rattle.ped_calls.specs.Giving.{IsSmall}
 use Rattle.ped_calls.specs.Units.{ProgramUnit, ProgramUnits}
@@ -33,6 +35,9 @@ use Rattle.ped_steps.specs.ped_eval.specs.ped_store.specs.Variables.{no_dimensio
 use Rattle.ped_steps.specs.ped_eval.specs.Outcomes.{bounds_of}
 use Rattle.ped_steps.proofs.RunLaws.ExpandedNamesArrays.{entry_behind, no_constant, unsaid, literal_fixed}
 use Rattle.ped_steps.proofs.RunLaws.NamesKept.{occurs, occurs_append}
+use Rattle.ped_call_runs.proofs.EachNames.{each_behind}
+use Rattle.ped_call_runs.proofs.FreeWritten.{free_named}
+use Rattle.ped_call_runs.proofs.WrittenNames.{IsName, AreNames, declared_names, all_declared}
 use Rattle.ped_call_runs.proofs.DeclaredAtLast.{behind_decls, behind_both, last_values, last_arrays}
 use Rattle.ped_call_runs.proofs.GivenMore.{GivesMore, statements_give}
 
@@ -158,31 +163,6 @@ kind_again t x d h = go (is_among x (names_of t)) (entry_of (at_last t).values x
     go true None None e k = let z = ap bounds_in e in absurd cc
     go true None (Some c) e k = let z : Some c ≡ Some d = ap bounds_in e in subst (λ (o : Option Dimensions). IfSome o AreGivenAgain) z k
 
--- lists of names none of which stands twice
-pub twice_apart : (xs ys : List (List ℕ)) (y : List ℕ) → has_twice (xs ++ ys) ≡ false → is_among y xs ≡ true → is_among y ys ≡ false
-twice_apart [] ys y h k = absurd cc
-twice_apart (x ∷ xs) ys y h k = go (twice_apart xs ys y parts.1) (is_same_text y x) refl
-  where
-    parts : (is_among x (xs ++ ys) ≡ false) × (has_twice (xs ++ ys) ≡ false)
-    parts = or_parts (is_among x (xs ++ ys)) (has_twice (xs ++ ys)) h
-
-    go : (is_among y xs ≡ true → is_among y ys ≡ false) → (t : Bool) → is_same_text y x ≡ t → is_among y ys ≡ false
-    go more true e = ap (λ (z : List ℕ). is_among z ys) (same_is y x e) ∙ (or_parts (is_among x xs) (is_among x ys) (sym (among_append x xs ys) ∙ parts.0)).1
-    go more false e = more (sym (ap (λ (t : Bool). t || is_among y xs) e) ∙ k)
-
-pub apart_twice : (xs ys : List (List ℕ)) (y : List ℕ) → has_twice (xs ++ ys) ≡ false → is_among y ys ≡ true → is_among y xs ≡ false
-apart_twice xs ys y h k = go (is_among y xs) refl
-  where
-    go : (t : Bool) → is_among y xs ≡ t → t ≡ false
-    go false e = refl
-    go true e = absurd (both_ways (is_among y ys) (twice_apart xs ys y h e) k)
-
-once_front : (xs ys : List (List ℕ)) → has_twice (xs ++ ys) ≡ false → has_twice xs ≡ false
-once_front [] ys h = refl
-once_front (x ∷ xs) ys h =
-    let parts = or_parts (is_among x (xs ++ ys)) (has_twice (xs ++ ys)) h in
-    or_from _ _ (or_parts (is_among x xs) (is_among x ys) (sym (among_append x xs ys) ∙ parts.0)).0 (once_front xs ys parts.1)
-
 module _ (us : ProgramUnits) (none : us.main.formals ≡ []) where
   -- what is given at last
   abbrev pub all_given : Given
@@ -214,12 +194,13 @@ module _ (us : ProgramUnits) (none : us.main.formals ≡ []) where
   expanded_arrays : (at_last (expansion us)).arrays ≡ arrays_behind all_given
   expanded_arrays = last_arrays (expansion us) ∙ ap (λ (z : Before). z.arrays) (behind_both at_first us.main.tree.decls all_given.arrays)
 
-  -- what is given later says nothing of names that are taken
-  stays : (g h : Given) → GivesMore g h → (y : List ℕ) → is_among y g.taken ≡ true → has_twice h.taken ≡ false → entry_of (arrays_behind h) y ≡ entry_of (arrays_behind g) y
-  stays g h more y taken once =
+  -- what is given later says nothing of names that are taken, where what is declared at last are names
+  stays : AreNames (all_declared all_given.arrays) → (g : Given) → GivesMore g all_given → (y : List ℕ) → is_among y g.taken ≡ true → entry_of (arrays_behind all_given) y ≡ entry_of (arrays_behind g) y
+  stays names g more y taken =
+      let both : AreNames (all_declared g.arrays ++ all_declared more.decls) = subst AreNames (ap all_declared more.arrays ∙ flat_map-append declared_names g.arrays more.decls) names in
       ap (λ (ds : List DeclTree). entry_of (behind_decls (behind_decls at_first us.main.tree.decls) ds).arrays y) more.arrays
       ∙ ap (λ (z : Before). entry_of z.arrays y) (behind_both (behind_decls at_first us.main.tree.decls) g.arrays more.decls)
-      ∙ more.says y (twice_apart g.taken more.more y (sym (ap has_twice more.taken) ∙ once) taken) (behind_decls (behind_decls at_first us.main.tree.decls) g.arrays)
+      ∙ more.spares (each_behind IsName (all_declared g.arrays) (all_declared more.decls) both) y taken (behind_decls (behind_decls at_first us.main.tree.decls) g.arrays)
 
   -- a name that isn't taken at first is none of the main program
   pub untaken : (y : List ℕ) → is_among y (nothing_given us).taken ≡ false → is_among y (names_of main) ≡ false
@@ -236,17 +217,17 @@ module _ (us : ProgramUnits) (none : us.main.formals ≡ []) where
       ∙ ap (λ (ds : List DeclTree). entry_of (behind_decls at_first ds).arrays y) (sym main_decls)
       ∙ no_array main y (untaken y parts.0)
 
-  module _ (once : has_twice all_given.taken ≡ false) where
+  module _ (names : AreNames (all_declared all_given.arrays)) where
     -- names of the main program have the bounds that they had
     pub main_bounds : (y : List ℕ) → is_among y (nothing_given us).taken ≡ true → bounds_of (kind_in (expansion us) y) ≡ bounds_of (kind_in main y)
     main_bounds y taken =
         bounds_said (expansion us) y
         ∙ (λ i. bounds_by_entries (entry_of (constants_alike i) y) (entry_of (expanded_arrays i) y))
-        ∙ ap (bounds_by_entries (entry_of (constants_of us.main) y)) (stays (nothing_given us) all_given given_more y taken once ∙ ap (λ (ds : List DeclTree). entry_of (behind_decls at_first ds).arrays y) (sym main_decls) ∙ ap (λ (es : Arrays). entry_of es y) (sym (last_arrays main)))
+        ∙ ap (bounds_by_entries (entry_of (constants_of us.main) y)) (stays names (nothing_given us) given_more y taken ∙ ap (λ (ds : List DeclTree). entry_of (behind_decls at_first ds).arrays y) (sym main_decls) ∙ ap (λ (es : Arrays). entry_of es y) (sym (last_arrays main)))
         ∙ sym (bounds_said main y)
 
     -- the next new name is no constant
-    module _ (g h : Given) (before : GivesMore (nothing_given us) g) (later : GivesMore h all_given) (new : h.taken ≡ g.taken ++ free_name g.taken ∷ []) where
+    module _ (g h : Given) (before : GivesMore (nothing_given us) g) (later : GivesMore h all_given) (new : h.taken ≡ g.taken ++ free_name g.taken ∷ []) (is : is_name (free_name g.taken) ≡ true) where
       abbrev name : List ℕ
       name = free_name g.taken
 
@@ -261,10 +242,7 @@ module _ (us : ProgramUnits) (none : us.main.formals ≡ []) where
           either false = refl
 
       free : is_among name g.taken ≡ false
-      free = apart_twice g.taken (name ∷ []) name (front h.taken later.more (sym (ap has_twice later.taken) ∙ once) new) named
-        where
-          front : (xs ys : List (List ℕ)) → has_twice (xs ++ ys) ≡ false → xs ≡ g.taken ++ name ∷ [] → has_twice (g.taken ++ name ∷ []) ≡ false
-          front xs ys e same = ap has_twice (sym same) ∙ once_front xs ys e
+      free = free_named g.taken is
 
       pub new_valued : value_named (at_last (expansion us)).values name ≡ None
       new_valued =
@@ -275,7 +253,7 @@ module _ (us : ProgramUnits) (none : us.main.formals ≡ []) where
       bounds_now o e =
           bounds_said (expansion us) name
           ∙ (λ i. bounds_by_entries (new_valued i) (entry_of (expanded_arrays i) name))
-          ∙ ap (bounds_by_entries None) (stays h all_given later name taken_then once ∙ e)
+          ∙ ap (bounds_by_entries None) (stays names h later name taken_then ∙ e)
 
       -- one that is given to a scalar has no bounds
       pub scalar_bounds : h.arrays ≡ g.arrays → bounds_of (kind_in (expansion us) name) ≡ no_dimensions

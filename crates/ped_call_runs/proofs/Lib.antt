@@ -13,6 +13,7 @@ pub mod FollowingUnits
 pub mod RisingNumbers
 pub mod SwappedNames
 pub mod GivenKept
+pub mod FreeWritten
 pub mod DeclaredAtLast
 pub mod GivenMore
 pub mod ExpandedKinds
@@ -26,6 +27,7 @@ pub mod RenamedEntries
 pub mod OwnNames
 pub mod TraceNames
 pub mod ApartPairs
+pub mod NamedPairs
 pub mod TraceOwn
 pub mod TraceRanges
 pub mod FirstBonds

@@ -1,5 +1,5 @@
 -- New names along the trace of an expansion: each is given once, and the trace has all that are given.
-use Rattle.std.proofs.Common.{◌≡◌, ℕ, zero, suc, ◌+◌, ℤ, List, [], ◌∷◌, ◌++◌, ◌<◌, ◌^◌, length, length-append, arith, Bool, true, false, Option, Some, None, is_some, refl, sym, ap, ◌∙◌, subst, append_assoc, append-nil, if◌then◌else◌}
+use Rattle.std.proofs.Common.{◌≡◌, ℕ, zero, suc, ◌+◌, ℤ, List, [], ◌∷◌, ◌++◌, length, Bool, true, false, Option, Some, None, is_some, refl, sym, ap, ◌∙◌, subst, append_assoc, append-nil, if◌then◌else◌}
 use Rattle.ped_base.specs.Lists.{is_same_text, is_among}
 use Rattle.ped_tree.specs.Accesses.{listed}
 use Rattle.ped_tree.specs.Numbering.{statement_count, statements_count}
@@ -11,7 +11,6 @@ use Rattle.ped_calls.specs.Forms.{Called}
 use Rattle.ped_calls.specs.Units.{ProgramUnit, ProgramUnits, unit_of, call_of}
 use Rattle.ped_calls.specs.Refusals.{for_names}
 use Rattle.ped_calls.specs.Expanding.{Given, numbered_name, free_from, free_name, with_new, Meanings, replaced, called_replaced, is_variable_name, Bound, standing, bound_by, bound_arguments, body_names, constants_of, with_formals, with_constants, Renamed, with_renamed, renamed, meanings_in, call_comment, Expanded, AllExpanded, expanded_or, expanded_in, all_expanded_in, unit_expanded, call_expanded}
-use Rattle.ped_calls.proofs.NumberedNames.{free_is_free}
 use Rattle.ped_call_runs.specs.UnitRuns.{own, number_inside, sized, all_sized, call_size}
 use Rattle.ped_call_runs.proofs.EachCalls.{OfCall, EachCall, AllCalls, UnitFits, FitsAt}
 use Rattle.ped_call_runs.proofs.Traces.{Trace, value_traced, arguments_traced, locals_traced, CallTraced, traced_or, traced, all_traced, unit_traced, call_traced}
@@ -54,7 +53,7 @@ given_joined a b c ps qs h k = record {
 }
 
 -- a new name is none of a CALL's own
-no_own_free : (tries : ℕ) (taken : List (List ℕ)) (n : ℕ) → IsNoOwn (free_from tries taken n)
+pub no_own_free : (tries : ℕ) (taken : List (List ℕ)) (n : ℕ) → IsNoOwn (free_from tries taken n)
 no_own_free zero taken n = λ m x. refl
 no_own_free (suc tries) taken n = go (is_among (numbered_name n) taken) (no_own_free tries taken (n + 1))
   where
@@ -64,17 +63,6 @@ no_own_free (suc tries) taken n = go (is_among (numbered_name n) taken) (no_own_
 
 pub none_given : (a : List (List ℕ)) → AreGiven a a []
 none_given a = record { all = sym (append-nil a); next = tt }
-
--- where few names are taken at last, the next new names are new
-pub few_new : (taken : List (List ℕ)) (ps : List (List ℕ × List ℕ)) → length (taken ++ seconds ps) + 1 < 2 ^ 64 → AreNext taken ps → AreNew taken ps
-few_new taken [] few h = tt
-few_new taken (p ∷ ps) few h =
-    let long = length-append taken (p.1 ∷ seconds ps) in
-    let same = ap length (append_assoc taken (p.1 ∷ []) (seconds ps)) in (
-      ap (λ (x : List ℕ). is_among x taken) h.0 ∙ free_is_free taken (omega (arith, few, long)),
-      subst IsNoOwn (sym h.0) (no_own_free (length taken) taken 1),
-      few_new (taken ++ p.1 ∷ []) ps (omega (arith, few, same)) h.1,
-    )
 
 one_given : (x : List ℕ) (a : List (List ℕ)) → AreGiven a (a ++ free_name a ∷ []) ((x, free_name a) ∷ [])
 one_given x a = record { all = refl; next = (refl, tt) }

@@ -1,9 +1,9 @@
 -- Program units that were read and are right stand alike with their expansion, where that is valid.
 use Rattle.std.proofs.Common.{◌≡◌, ℕ, zero, suc, ◌+◌, ◌≤◌, ◌<◌, ◌^◌, ℤ, List, [], ◌∷◌, ◌++◌, map, length, not, is_some, Bool, true, false, ◌||◌, eqb, eqb-true, Option, Some, None, refl, sym, ap, ◌∙◌, subst, inl, inr, arith, append_assoc, append-nil, if◌then◌else◌}
 use Rattle.std.specs.List.{flat_map}
-use Rattle.std.proofs.lemmas.Bool.{or_parts, or_from, and_parts, both_ways}
+use Rattle.std.proofs.lemmas.Bool.{and_parts, both_ways}
+use Rattle.std.proofs.lemmas.Grind.{flat_map-append}
 use Rattle.ped_base.specs.Lists.{is_same_text, is_among}
-use Rattle.ped_base.proofs.NameEquality.{same_flip}
 use Rattle.ped_tree.proofs.NameLaws.Collected.{among_append}
 use Rattle.ped_tree.specs.Accesses.{listed, constant_names}
 use Rattle.ped_tree.specs.Constants.ConstantExpressions.{constant_value}
@@ -16,7 +16,7 @@ use Rattle.ped_calls.specs.ped_valid.specs.ped_symbols.specs.Declarations.{progr
 use Rattle.ped_calls.specs.ped_valid.specs.ped_symbols.specs.Kinds.{names_of}
 use Rattle.ped_calls.specs.ped_valid.specs.ped_symbols.specs.NameRefusals.{has_twice, IsValid}
 use Rattle.ped_calls.specs.ped_valid.specs.ped_symbols.specs.Values.{Values}
-use Rattle.ped_calls.specs.ped_valid.specs.ped_symbols.proofs.RightUseLaws.Occurring.{occurs_first, once_first}
+use Rattle.ped_calls.specs.ped_valid.specs.ped_symbols.proofs.RightUseLaws.Occurring.{occurs_first}
 use Rattle.ped_calls.specs.ped_valid.specs.ped_symbols.proofs.RightUseLaws.Whole.{others_unvalued}
 use Rattle.ped_calls.specs.Forms.{Called}
 use Rattle.ped_calls.specs.Units.{ProgramUnit, ProgramUnits, all_units, unit_of, call_of}
@@ -30,7 +30,7 @@ use Rattle.ped_steps.specs.Runs.Renumbering.{renumbered}
 use Rattle.ped_steps.specs.ped_laws.proofs.RunLaws.Turning.{once_among}
 use Rattle.ped_steps.proofs.RunLaws.ExpandedNamesArrays.{no_saved}
 use Rattle.ped_call_runs.specs.UnitRuns.{own, main_instance, all_sized, call_size}
-use Rattle.ped_call_runs.proofs.EachNames.{Each, each_of, of_each}
+use Rattle.ped_call_runs.proofs.EachNames.{each_behind, each_of, of_each}
 use Rattle.ped_call_runs.proofs.FollowingStores.{is_bound}
 use Rattle.ped_call_runs.proofs.FollowingNames.{by_name}
 use Rattle.ped_call_runs.proofs.FollowingUnits.{IsLiveAlike, StandAlike}
@@ -43,12 +43,13 @@ use Rattle.ped_call_runs.proofs.EachCalls.{OfCall, EachCall, AllCalls, UnitFits,
 use Rattle.ped_call_runs.proofs.Traces.{Trace, call_traced, units_traced, first_bond}
 use Rattle.ped_call_runs.proofs.PlacedNumbers.{placed_number, placed_all}
 use Rattle.ped_call_runs.proofs.OwnNames.{IsNoOwn}
-use Rattle.ped_call_runs.proofs.TraceNames.{seconds, AreNew, AreGiven, few_new, all_give, calls_give}
+use Rattle.ped_call_runs.proofs.TraceNames.{AreNew, AreGiven, all_give, calls_give}
 use Rattle.ped_call_runs.proofs.TraceRanges.{AreOwnPairs, all_owned, calls_owned}
 use Rattle.ped_call_runs.proofs.ApartPairs.{pairs_apart, taken_stays}
 use Rattle.ped_call_runs.proofs.RenamedEntries.{pair_swapped}
 use Rattle.ped_call_runs.proofs.FirstBonds.{first_unknown, first_tight}
-use Rattle.ped_call_runs.proofs.WrittenNames.{NoneOwn, in_stmts, DeclareNoOwn, in_decls}
+use Rattle.ped_call_runs.proofs.WrittenNames.{written_name, IsName, AreNames, in_stmts, DeclareNames, in_decls, declared_names, all_declared, in_declared}
+use Rattle.ped_call_runs.proofs.NamedPairs.{named_pairs, in_named, named_first, named_own, named_once, named_new}
 use Rattle.ped_call_runs.proofs.ConstantValues.{unreplaced}
 use Rattle.ped_call_runs.proofs.UnitNames.{HasPlainNames, all_plain}
 use Rattle.ped_call_runs.proofs.NamesThere.{body_named}
@@ -123,25 +124,13 @@ module _ (us : ProgramUnits) (linked : IsLinked us) (plain : (u : ProgramUnit) �
   unit_fits (suc depth) u is =
       all_weaker (CallSuits us u) (FitsAt us (suc depth)) (λ c h. call_fits depth (unit_fits depth) u is c h (unit_of us c.name) refl) u.tree.body (all_calls us u u.tree.body (unit_suits us linked u is (plain u is)))
 
--- names to which new ones are added stand once
-one_more_once : (xs : List (List ℕ)) (y : List ℕ) → has_twice xs ≡ false → is_among y xs ≡ false → has_twice (xs ++ y ∷ []) ≡ false
-one_more_once [] y h k = refl
-one_more_once (x ∷ xs) y h k =
-    let parts = or_parts (is_among x xs) (has_twice xs) h in
-    let apart = or_parts (is_same_text y x) (is_among y xs) k in
-    or_from _ _ (among_append x xs (y ∷ []) ∙ or_from _ _ parts.0 (or_from _ _ (same_flip x y ∙ apart.0) refl)) (one_more_once xs y parts.1 apart.1)
-
-new_once : (taken : List (List ℕ)) (ps : List (List ℕ × List ℕ)) → has_twice taken ≡ false → AreNew taken ps → has_twice (taken ++ seconds ps) ≡ false
-new_once taken [] h k = ap has_twice (append-nil taken) ∙ h
-new_once taken (p ∷ ps) h k = ap has_twice (sym (append_assoc taken (p.1 ∷ []) (seconds ps))) ∙ new_once (taken ++ p.1 ∷ []) ps (one_more_once taken p.1 h k.0) k.2
-
 -- a name of a CALL's own is none of these
-own_outside : (m : ℕ) (x : List ℕ) (ys : List (List ℕ)) → NoneOwn ys → is_among (own m x) ys ≡ false
+own_outside : (m : ℕ) (x : List ℕ) (ys : List (List ℕ)) → AreNames ys → is_among (own m x) ys ≡ false
 own_outside m x [] h = refl
-own_outside m x (y ∷ ys) h = λ i. h.0 m x i || own_outside m x ys h.1 i
+own_outside m x (y ∷ ys) h = λ i. written_name y h.0 m x i || own_outside m x ys h.1 i
 
 module _ (text : List ℕ) (us : ProgramUnits) (reads : ReadsLinkedUnits text us) (valid : IsValid (expansion us)) where
-  none : us.main.formals ≡ []
+  pub none : us.main.formals ≡ []
   none = reads.right.reads.are.0.headed.1
 
   plain : (u : ProgramUnit) → IsIn u (all_units us) → HasPlainNames u
@@ -179,10 +168,10 @@ module _ (text : List ℕ) (us : ProgramUnits) (reads : ReadsLinkedUnits text us
   owned =
       all_owned [] (call_size depth us) (call_expanded depth us (constants_of us.main)) (call_traced depth us (constants_of us.main) []) (FitsAt us depth) (λ c h n j g. calls_owned us depth (constants_of us.main) [] c h n j g) body 1 1 before fit
 
-  written : NoneOwn (stmts_names (expansion us).body)
+  written : AreNames (stmts_names (expansion us).body)
   written = in_stmts (at_body (expansion us)) (expansion us).body (and_parts (decls_fit 0 (expansion us).decls) _ (and_parts _ (begins_with_statement (expansion us).body) valid.fits).0).1
 
-  declared : DeclareNoOwn us.main.tree.decls
+  declared : DeclareNames us.main.tree.decls
   declared = in_decls 0 us.main.tree.decls top.arrays (and_parts (decls_fit 0 (expansion us).decls) _ (and_parts _ (begins_with_statement (expansion us).body) valid.fits).0).0
 
   main_decls : main.decls ≡ us.main.tree.decls
@@ -194,112 +183,119 @@ module _ (text : List ℕ) (us : ProgramUnits) (reads : ReadsLinkedUnits text us
       let program : List (List ℕ) = flat_map program_name us.main.tree.decls in
       occurs_first (names_of main ++ program) x ∙ among_append x (names_of main) program ∙ ap (λ (t : Bool). t || is_among x program) h
 
-  -- a named constant of the main program is none of a CALL's own
-  constants_unowned : (y : List ℕ) (v : ℤ) → value_named (constants_of us.main) y ≡ Some v → IsNoOwn y
-  constants_unowned y v h = go (is_among y (constant_names main.decls)) refl
+  -- a named constant of the main program is a name as it is written
+  constants_named : (y : List ℕ) (v : ℤ) → value_named (constants_of us.main) y ≡ Some v → IsName y
+  constants_named y v h = go (is_among y (constant_names main.decls)) refl
     where
-      go : (t : Bool) → is_among y (constant_names main.decls) ≡ t → IsNoOwn y
-      go true e = each_of IsNoOwn (constant_names main.decls) (subst (λ (ds : List DeclTree). NoneOwn (constant_names ds)) (sym main_decls) declared.constants) y e
+      go : (t : Bool) → is_among y (constant_names main.decls) ≡ t → IsName y
+      go true e = each_of IsName (constant_names main.decls) (subst (λ (ds : List DeclTree). AreNames (constant_names ds)) (sym main_decls) declared.constants) y e
       go false e = let z : None ≡ Some v = sym (others_unvalued main y e) ∙ h in absurd cc
 
-  module _ (few : length top.taken + 1 < 2 ^ 64) where
-    new : AreNew before.taken trace.pairs
-    new = few_new before.taken trace.pairs (subst (λ (xs : List (List ℕ)). length xs + 1 < 2 ^ 64) given.all few) given.next
+  names : AreNames (all_declared top.arrays)
+  names =
+      each_behind IsName (all_declared us.main.tree.decls) (all_declared top.arrays)
+      (subst AreNames (flat_map-append declared_names us.main.tree.decls top.arrays) (in_declared 0 (expansion us).decls (and_parts (decls_fit 0 (expansion us).decls) _ (and_parts _ (begins_with_statement (expansion us).body) valid.fits).0).0))
 
-    apart : AreApart trace.pairs
-    apart = pairs_apart 1 (1 + size) before.taken trace.pairs owned.once owned.own new
+  abbrev pairs : List (List ℕ × List ℕ)
+  pairs = named_pairs trace.pairs
 
-    abbrev f : List ℕ → List ℕ
-    f = swapped trace.pairs
+  owned_named : AreOwnPairs 1 (1 + size) pairs
+  owned_named = record { own = named_own 1 (1 + size) trace.pairs owned.own; once = named_once trace.pairs owned.once }
 
-    abbrev q : Setting
-    q = renumbered (number_past trace.gaps) (setting_of (expansion us))
+  new : AreNew before.taken pairs
+  new = named_new before.taken before.taken trace.pairs (λ y m. m) given.next
 
-    given_once : has_twice top.taken ≡ false
-    given_once = ap has_twice given.all ∙ new_once before.taken trace.pairs (once_first [] (names_of main ++ flat_map program_name us.main.tree.decls)) new
+  apart : AreApart pairs
+  apart = pairs_apart 1 (1 + size) before.taken pairs owned_named.once owned_named.own new
 
-    facts : Facts us trace.pairs trace.gaps top f q
-    facts = record {
-      linked = reads.linked;
-      twice = swapped_twice trace.pairs apart;
-      paired = λ x y h. pair_swapped x y trace.pairs apart h;
-      number = λ n j s c t p k. placed_number trace.gaps n j s c t p k;
-      valued = λ g h b l n. new_valued us none given_once g h b l n;
-      scalar = λ g h b l n same. scalar_bounds us none given_once g h b l n same;
-      local = λ g h b l n t x same. local_bounds us none given_once g h b l n t x same;
-    }
+  abbrev f : List ℕ → List ℕ
+  f = swapped pairs
 
-    stays : (x : List ℕ) → is_among x before.taken ≡ true → IsNoOwn x → f x ≡ x
-    stays x m h = taken_stays 1 (1 + size) before.taken trace.pairs owned.own new x m h
+  abbrev q : Setting
+  q = renumbered (number_past trace.gaps) (setting_of (expansion us))
 
-    read_taken : (x : List ℕ) → Reads us us.main x → is_among x before.taken ≡ true
-    read_taken x r = named_taken x (body_named us.main none x r)
+  facts : Facts us pairs trace.gaps top f q
+  facts = record {
+    linked = reads.linked;
+    twice = swapped_twice pairs apart;
+    paired = λ x y h. pair_swapped x y pairs apart h;
+    number = λ n j s c t p k. placed_number trace.gaps n j s c t p k;
+    valued = λ g h b l n is. new_valued us none names g h b l n is;
+    scalar = λ g h b l n is same. scalar_bounds us none names g h b l n is same;
+    local = λ g h b l n is t x same. local_bounds us none names g h b l n is t x same;
+  }
 
-    same_value : (x : List ℕ) → value_named q.constants x ≡ value_named (constants_of us.main) x
-    same_value x = ap (λ (cs : Values). value_named cs x) (constants_alike us none)
+  stays : (x : List ℕ) → is_among x before.taken ≡ true → IsNoOwn x → f x ≡ x
+  stays x m h = taken_stays 1 (1 + size) before.taken pairs owned_named.own new x m h
 
-    context : Context us trace.pairs trace.gaps top f q us.main 1 (first_bond trace.pairs) [] (main_instance us)
-    context = record {
-      is_unit = inl refl;
-      constants = refl;
-      reads = λ x r w.
-          let same : f x ≡ x = stays x (read_taken x r) (w x refl) in
-          by_name x refl (ap Var (sym same)) (ap (value_named q.constants) same ∙ same_value x) (ap q.bounds same ∙ main_bounds us none given_once x (read_taken x r)) (ap is_bound (first_tight trace.pairs x (w x refl)));
-      old = λ x r w y e m z from. w y e m z;
-      writes = λ x r w.
-          let same : f x ≡ x = stays x (read_taken x r.reads) (w x refl) in
-          record { name = x; left = refl; right = ap Var (sym same); bounds = ap q.bounds same ∙ main_bounds us none given_once x (read_taken x r.reads); bound = ap is_bound (first_tight trace.pairs x (w x refl)) };
-      fixed = λ x r n e. (same_value x ∙ e, e);
-      shape = λ x r n. inl (x, refl);
-      fresh = λ m x from. others_unvalued main (own m x) (own_outside m x (constant_names main.decls) (subst (λ (ds : List DeclTree). NoneOwn (constant_names ds)) (sym main_decls) declared.constants));
-      unknown = λ m x from. refl;
-      number = λ n. refl;
-    }
+  read_taken : (x : List ℕ) → Reads us us.main x → is_among x before.taken ≡ true
+  read_taken x r = named_taken x (body_named us.main none x r)
 
-    telling : Telling us trace.pairs trace.gaps top f q us.main [] (constants_of us.main)
-    telling = record {
-      no_name = λ a r h. ap (is_variable_name (constants_of us.main)) (unreplaced a) ∙ h;
-      name = λ x r n. inl (ap (λ (o : Option ℤ). not (is_some o)) n);
-      more = λ e v h. ap (λ (cs : Values). constant_value cs e) (constants_alike us none) ∙ h;
-      unowned = constants_unowned;
-    }
+  same_value : (x : List ℕ) → value_named q.constants x ≡ value_named (constants_of us.main) x
+  same_value x = ap (λ (cs : Values). value_named cs x) (constants_alike us none)
 
-    live_alike : (x : List ℕ) → is_among x (live_names main) ≡ true → IsLiveAlike (first_bond trace.pairs) f main (expansion us) x
-    live_alike x m = record {
-      name = stays x (named_taken x (there (is_among x (names_of main)) refl)) unowned;
-      bond = first_tight trace.pairs x unowned;
-      bounds = main_bounds us none given_once x (named_taken x (there (is_among x (names_of main)) refl));
-    }
-      where
-        saved : is_among x (flat_map saved_in main.decls) ≡ true
-        saved = sym (once_among x (flat_map saved_in main.decls)) ∙ m
+  context : Context us pairs trace.gaps top f q us.main 1 (first_bond pairs) [] (main_instance us)
+  context = record {
+    is_unit = inl refl;
+    constants = refl;
+    reads = λ x r w.
+        let same : f x ≡ x = stays x (read_taken x r) (w x refl) in
+        by_name x refl (ap Var (sym same)) (ap (value_named q.constants) same ∙ same_value x) (ap q.bounds same ∙ main_bounds us none names x (read_taken x r)) (ap is_bound (first_tight pairs x (written_name x (w x refl))));
+    old = λ x r w y e m z from. written_name y (w y e) m z;
+    writes = λ x r w.
+        let same : f x ≡ x = stays x (read_taken x r.reads) (w x refl) in
+        record { name = x; left = refl; right = ap Var (sym same); bounds = ap q.bounds same ∙ main_bounds us none names x (read_taken x r.reads); bound = ap is_bound (first_tight pairs x (written_name x (w x refl))) };
+    fixed = λ x r n e. (same_value x ∙ e, e);
+    shape = λ x r n. inl (x, refl);
+    fresh = λ m x from. others_unvalued main (own m x) (own_outside m x (constant_names main.decls) (subst (λ (ds : List DeclTree). AreNames (constant_names ds)) (sym main_decls) declared.constants));
+    unknown = λ m x from. refl;
+    number = λ n. refl;
+  }
 
-        unowned : IsNoOwn x
-        unowned = each_of IsNoOwn (flat_map saved_in main.decls) (subst (λ (ds : List DeclTree). NoneOwn (flat_map saved_in ds)) (sym main_decls) declared.saved) x saved
+  telling : Telling us pairs trace.gaps top f q us.main [] (constants_of us.main)
+  telling = record {
+    no_name = λ a r h. ap (is_variable_name (constants_of us.main)) (unreplaced a) ∙ h;
+    name = λ x r n. inl (ap (λ (o : Option ℤ). not (is_some o)) n);
+    more = λ e v h. ap (λ (cs : Values). constant_value cs e) (constants_alike us none) ∙ h;
+    unowned = constants_named;
+  }
 
-        there : (t : Bool) → is_among x (names_of main) ≡ t → is_among x (names_of main) ≡ true
-        there true e = e
-        there false e = absurd (both_ways (is_among x (flat_map saved_in main.decls)) (no_saved main.decls x (undeclared main x e)) saved)
+  live_alike : (x : List ℕ) → is_among x (live_names main) ≡ true → IsLiveAlike (first_bond pairs) f main (expansion us) x
+  live_alike x m = record {
+    name = stays x (named_taken x (there (is_among x (names_of main)) refl)) unowned;
+    bond = first_tight pairs x unowned;
+    bounds = main_bounds us none names x (named_taken x (there (is_among x (names_of main)) refl));
+  }
+    where
+      saved : is_among x (flat_map saved_in main.decls) ≡ true
+      saved = sym (once_among x (flat_map saved_in main.decls)) ∙ m
 
-    -- the units and their expansion stand alike
-    pub units_stand : StandAlike us
-    units_stand = record {
-      name = f;
-      twice = swapped_twice trace.pairs apart;
-      bond = first_bond trace.pairs;
-      unknown = first_unknown trace.pairs;
-      number = number_past trace.gaps;
-      back = (past_told_back trace.gaps).0;
-      told = (past_told_back trace.gaps).1;
-      statements = all_stand us trace.pairs trace.gaps top f q facts plain depth us.main 1 (first_bond trace.pairs) [] (main_instance us) context (constants_of us.main)
-          (calls_stand us trace.pairs trace.gaps top f q facts plain depth us.main 1 (first_bond trace.pairs) [] (main_instance us) context (constants_of us.main) telling)
-          body 1 1 before (omega (arith)) (unit_suits us reads.linked us.main (inl refl) (plain us.main (inl refl))) fit (record {
-            placed = placed_all (statements_count (expansion us).body) trace;
-            within = record { inside = λ x y h. h; only = λ m x from to h. h };
-            names = written;
-            before = gives_same before;
-            later = gives_same top;
-          });
-      live = live_names_alike us none;
-      rows = of_each (IsLiveAlike (first_bond trace.pairs) f main (expansion us)) (live_names main) live_alike;
-    }
+      unowned : IsNoOwn x
+      unowned = written_name x (each_of IsName (flat_map saved_in main.decls) (subst (λ (ds : List DeclTree). AreNames (flat_map saved_in ds)) (sym main_decls) declared.saved) x saved)
+
+      there : (t : Bool) → is_among x (names_of main) ≡ t → is_among x (names_of main) ≡ true
+      there true e = e
+      there false e = absurd (both_ways (is_among x (flat_map saved_in main.decls)) (no_saved main.decls x (undeclared main x e)) saved)
+
+  -- the units and their expansion stand alike
+  pub units_stand : StandAlike us
+  units_stand = record {
+    name = f;
+    twice = swapped_twice pairs apart;
+    bond = first_bond pairs;
+    unknown = first_unknown pairs;
+    number = number_past trace.gaps;
+    back = (past_told_back trace.gaps).0;
+    told = (past_told_back trace.gaps).1;
+    statements = all_stand us pairs trace.gaps top f q facts plain depth us.main 1 (first_bond pairs) [] (main_instance us) context (constants_of us.main)
+        (calls_stand us pairs trace.gaps top f q facts plain depth us.main 1 (first_bond pairs) [] (main_instance us) context (constants_of us.main) telling)
+        body 1 1 before (omega (arith)) (unit_suits us reads.linked us.main (inl refl) (plain us.main (inl refl))) fit (record {
+          placed = placed_all (statements_count (expansion us).body) trace;
+          within = record { inside = λ x y is h. in_named x y trace.pairs is h; only = λ m x from to h. named_first (own m x) trace.pairs h };
+          names = written;
+          before = gives_same before;
+          later = gives_same top;
+        });
+    live = live_names_alike us none;
+    rows = of_each (IsLiveAlike (first_bond pairs) f main (expansion us)) (live_names main) live_alike;
+  }

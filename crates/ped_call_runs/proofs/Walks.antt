@@ -31,13 +31,14 @@ use Rattle.ped_call_runs.proofs.Traces.{Trace, arguments_traced, locals_traced, 
 use Rattle.ped_call_runs.proofs.TraceNumbers.{IsCounted, CallsCount, counted, all_counted, AreCounted, arguments_counted}
 use Rattle.ped_call_runs.proofs.TraceCalls.{as_many, front_counts, block_count, calls_count}
 use Rattle.ped_call_runs.proofs.PlacedNumbers.{IsPlaced, placed_first, placed_second, placed_inside, placed_body}
-use Rattle.ped_call_runs.proofs.OwnNames.{firsts, IsNoOwn, IsOwnIn, among_joined, outside_in}
+use Rattle.ped_call_runs.proofs.OwnNames.{firsts, IsOwnIn, among_joined, outside_in}
 use Rattle.ped_call_runs.proofs.TraceOwn.{arguments_own, locals_own, locals_outside}
 use Rattle.ped_call_runs.proofs.TraceRanges.{AreOwnPairs, CallsOwn, owned, all_owned, calls_owned, formals_entered, meant_length}
 use Rattle.ped_call_runs.proofs.RenamedEntries.{HasPair, pair_front, pair_behind}
 use Rattle.ped_call_runs.proofs.FirstBonds.{first_slack}
 use Rattle.ped_call_runs.proofs.MeaningEntries.{constants_kept}
 use Rattle.ped_call_runs.proofs.ConstantValues.{constant_kept, unreplaced}
+use Rattle.ped_call_runs.proofs.WrittenNames.{IsName}
 use Rattle.ped_call_runs.proofs.UnitNames.{HasPlainNames}
 use Rattle.ped_call_runs.proofs.SuitedUnits.{each_left, each_item, Reads, Writes, CallSuits, AssignSuits, OrCallSuits, HeadSuits, Suits, AllSuit, unit_suits, head_variable, head_bounds, loops_named}
 use Rattle.ped_call_runs.proofs.Contexts.{WrittenName, meant_written, written_in, IsWithin, firsts_joined, only_first, within_first, within_second, within_fewer, IsPiece, Context, Telling}
@@ -46,34 +47,34 @@ use Rattle.ped_call_runs.proofs.CalledContexts.{called_context, called_telling}
 
 -- names in conditions and items that are written
 module _ (k : Meanings) where
-  written_cond : (c : CondTree) → Each IsNoOwn (cond_names (cond_replaced k c)) → Each (WrittenName k) (cond_names c)
+  written_cond : (c : CondTree) → Each IsName (cond_names (cond_replaced k c)) → Each (WrittenName k) (cond_names c)
   written_cond (Rel r a b) h =
-      each_joined (WrittenName k) (expr_names a) (expr_names b) (written_in k a (each_front IsNoOwn (expr_names (replaced k a)) (expr_names (replaced k b)) h)) (written_in k b (each_behind IsNoOwn (expr_names (replaced k a)) (expr_names (replaced k b)) h))
+      each_joined (WrittenName k) (expr_names a) (expr_names b) (written_in k a (each_front IsName (expr_names (replaced k a)) (expr_names (replaced k b)) h)) (written_in k b (each_behind IsName (expr_names (replaced k a)) (expr_names (replaced k b)) h))
   written_cond (Not a) h = written_cond a h
   written_cond (And a b) h =
-      each_joined (WrittenName k) (cond_names a) (cond_names b) (written_cond a (each_front IsNoOwn (cond_names (cond_replaced k a)) (cond_names (cond_replaced k b)) h)) (written_cond b (each_behind IsNoOwn (cond_names (cond_replaced k a)) (cond_names (cond_replaced k b)) h))
+      each_joined (WrittenName k) (cond_names a) (cond_names b) (written_cond a (each_front IsName (cond_names (cond_replaced k a)) (cond_names (cond_replaced k b)) h)) (written_cond b (each_behind IsName (cond_names (cond_replaced k a)) (cond_names (cond_replaced k b)) h))
   written_cond (Or a b) h =
-      each_joined (WrittenName k) (cond_names a) (cond_names b) (written_cond a (each_front IsNoOwn (cond_names (cond_replaced k a)) (cond_names (cond_replaced k b)) h)) (written_cond b (each_behind IsNoOwn (cond_names (cond_replaced k a)) (cond_names (cond_replaced k b)) h))
+      each_joined (WrittenName k) (cond_names a) (cond_names b) (written_cond a (each_front IsName (cond_names (cond_replaced k a)) (cond_names (cond_replaced k b)) h)) (written_cond b (each_behind IsName (cond_names (cond_replaced k a)) (cond_names (cond_replaced k b)) h))
 
-  written_item : (item : ItemTree) → Each IsNoOwn (item_names (item_replaced k item)) → Each (WrittenName k) (item_names item)
+  written_item : (item : ItemTree) → Each IsName (item_names (item_replaced k item)) → Each (WrittenName k) (item_names item)
   written_item (Value e) h = written_in k e h
   written_item (Text text) h = tt
 
-  written_items : (items : List ItemTree) → Each IsNoOwn (flat_map item_names (map (item_replaced k) items)) → Each (WrittenName k) (flat_map item_names items)
+  written_items : (items : List ItemTree) → Each IsName (flat_map item_names (map (item_replaced k) items)) → Each (WrittenName k) (flat_map item_names items)
   written_items [] h = tt
   written_items (item ∷ rest) h =
       each_joined (WrittenName k) (item_names item) (flat_map item_names rest)
-      (written_item item (each_front IsNoOwn (item_names (item_replaced k item)) (flat_map item_names (map (item_replaced k) rest)) h))
-      (written_items rest (each_behind IsNoOwn (item_names (item_replaced k item)) (flat_map item_names (map (item_replaced k) rest)) h))
+      (written_item item (each_front IsName (item_names (item_replaced k item)) (flat_map item_names (map (item_replaced k) rest)) h))
+      (written_items rest (each_behind IsName (item_names (item_replaced k item)) (flat_map item_names (map (item_replaced k) rest)) h))
 
-  written_targets : (items : List ExprTree) → Each IsNoOwn (flat_map expr_names (map (replaced k) items)) → Each (WrittenName k) (flat_map expr_names items)
+  written_targets : (items : List ExprTree) → Each IsName (flat_map expr_names (map (replaced k) items)) → Each (WrittenName k) (flat_map expr_names items)
   written_targets [] h = tt
   written_targets (e ∷ rest) h =
       each_joined (WrittenName k) (expr_names e) (flat_map expr_names rest)
-      (written_in k e (each_front IsNoOwn (expr_names (replaced k e)) (flat_map expr_names (map (replaced k) rest)) h))
-      (written_targets rest (each_behind IsNoOwn (expr_names (replaced k e)) (flat_map expr_names (map (replaced k) rest)) h))
+      (written_in k e (each_front IsName (expr_names (replaced k e)) (flat_map expr_names (map (replaced k) rest)) h))
+      (written_targets rest (each_behind IsName (expr_names (replaced k e)) (flat_map expr_names (map (replaced k) rest)) h))
 
-  written_list : (xs : List (List ℕ)) → Each IsNoOwn (map (name_meant k) xs) → Each (WrittenName k) xs
+  written_list : (xs : List (List ℕ)) → Each IsName (map (name_meant k) xs) → Each (WrittenName k) xs
   written_list [] h = tt
   written_list (x ∷ xs) h = (meant_written k x h.0, written_list xs h.1)
 
@@ -171,9 +172,9 @@ own_form n (c ∷ m ∷ z) h =
     (z, λ i. zero_first i ∷ same i ∷ z)
 
 -- behind the assignments of a block
-behind_assignments : (ss : List StmtTree) (body : StmtTrees) → Each IsNoOwn (stmts_names (behind_stmts ss body)) → Each IsNoOwn (stmts_names body)
+behind_assignments : (ss : List StmtTree) (body : StmtTrees) → Each IsName (stmts_names (behind_stmts ss body)) → Each IsName (stmts_names body)
 behind_assignments [] body h = h
-behind_assignments (s ∷ ss) body h = behind_assignments ss body (each_behind IsNoOwn (stmt_names s) (stmts_names (behind_stmts ss body)) h)
+behind_assignments (s ∷ ss) body h = behind_assignments ss body (each_behind IsName (stmt_names s) (stmts_names (behind_stmts ss body)) h)
 
 module _ (us : ProgramUnits) (pairs : List (List ℕ × List ℕ)) (gaps : List ℕ) (top : Given) (f : List ℕ → List ℕ) (q : Setting) (facts : Facts us pairs gaps top f q) (plain : (u : ProgramUnit) → IsIn u (all_units us) → HasPlainNames u) where
   abbrev Piece : ℕ → ℕ → ℕ → ℕ → Trace → List (List ℕ) → Given → Given → Type 0
@@ -217,8 +218,8 @@ module _ (us : ProgramUnits) (pairs : List (List ℕ × List ℕ)) (gaps : List 
         → Piece n j (count_or size o) (statement_count (expanded_or k inner (Assign (replaced k l) (replaced k r)) g o).statement) (traced_or call n j g o) (stmt_names (expanded_or k inner (Assign (replaced k l) (replaced k r)) g o).statement) g (expanded_or k inner (Assign (replaced k l) (replaced k r)) g o).state
         → AssignStands b f q k size inner holds i l r n j g o
     or_stands calls l r n j g less None suits fit piece =
-        let left = written_in k l (each_front IsNoOwn (expr_names (replaced k l)) (expr_names (replaced k r)) piece.names) in
-        let right = written_in k r (each_behind IsNoOwn (expr_names (replaced k l)) (expr_names (replaced k r)) piece.names) in
+        let left = written_in k l (each_front IsName (expr_names (replaced k l)) (expr_names (replaced k r)) piece.names) in
+        let right = written_in k r (each_behind IsName (expr_names (replaced k l)) (expr_names (replaced k r)) piece.names) in
         record { in_left = means (expr_names l) suits.in_left left; in_right = means (expr_names r) suits.in_right right; assigned = named (assigned_left l) suits.assigned (each_left (WrittenName k) l left) }
     or_stands calls l r n j g less (Some c) suits fit piece = calls c suits fit n j g less piece
 
@@ -232,22 +233,22 @@ module _ (us : ProgramUnits) (pairs : List (List ℕ × List ℕ)) (gaps : List 
         constant_kept (constants_of u) i.setting.constants [] i.stands h.step (each_map (Reads us u) (λ x. (v : ℤ) → constant_value (constants_of u) (meaning [] x) ≡ Some v → constant_value i.setting.constants (meaning i.stands x) ≡ Some v) (expr_names h.step) (λ x r v e. (context.fixed x r v e).1) suits.step) suits.value.0 here in
         ap (λ (o : Option ℤ). unwrap_or o (pos 1)) (right ∙ sym left)
 
-    head_alike : (h : Head) (body : StmtTrees) (g : Given) → HeadSuits us u h body → Each IsNoOwn (head_names (head_replaced k h) ++ stmts_names (all_expanded_in k inner body g).statements)
+    head_alike : (h : Head) (body : StmtTrees) (g : Given) → HeadSuits us u h body → Each IsName (head_names (head_replaced k h) ++ stmts_names (all_expanded_in k inner body g).statements)
         → HeadsAlike b f i.setting q i.stands k h (all_loop_variables (stmts_replaced i.stands body)) (all_loop_variables (all_expanded_in k inner body g).statements)
     head_alike h body g suits names =
         let made : StmtTrees = (all_expanded_in k inner body g).statements in
         let new : Head = head_replaced k h in
-        let head = each_front IsNoOwn (head_names new) (stmts_names made) names in
-        let inside = each_behind IsNoOwn (head_names new) (stmts_names made) names in
-        let bounds = head_bounds IsNoOwn new head in
-        let three = each_front IsNoOwn (expr_names new.first ++ expr_names new.last ++ expr_names new.step) new.private bounds in
-        let two = each_front IsNoOwn (expr_names new.first ++ expr_names new.last) (expr_names new.step) three in
-        let private = each_behind IsNoOwn (expr_names new.first ++ expr_names new.last ++ expr_names new.step) new.private bounds in
+        let head = each_front IsName (head_names new) (stmts_names made) names in
+        let inside = each_behind IsName (head_names new) (stmts_names made) names in
+        let bounds = head_bounds IsName new head in
+        let three = each_front IsName (expr_names new.first ++ expr_names new.last ++ expr_names new.step) new.private bounds in
+        let two = each_front IsName (expr_names new.first ++ expr_names new.last) (expr_names new.step) three in
+        let private = each_behind IsName (expr_names new.first ++ expr_names new.last ++ expr_names new.step) new.private bounds in
         record {
-          first = means (expr_names h.first) suits.first (written_in k h.first (each_front IsNoOwn (expr_names new.first) (expr_names new.last) two));
-          last = means (expr_names h.last) suits.last (written_in k h.last (each_behind IsNoOwn (expr_names new.first) (expr_names new.last) two));
+          first = means (expr_names h.first) suits.first (written_in k h.first (each_front IsName (expr_names new.first) (expr_names new.last) two));
+          last = means (expr_names h.last) suits.last (written_in k h.last (each_behind IsName (expr_names new.first) (expr_names new.last) two));
           step = step_alike h body suits;
-          variable = context.writes h.variable suits.variable (meant_written k h.variable (head_variable IsNoOwn new head));
+          variable = context.writes h.variable suits.variable (meant_written k h.variable (head_variable IsName new head));
           private = named h.private suits.private (written_list k h.private private);
           inner = λ parallel.
               loops_made k inner body g (suits.no_call parallel)
@@ -257,10 +258,10 @@ module _ (us : ProgramUnits) (pairs : List (List ℕ × List ℕ)) (gaps : List 
               subst (Each (λ y. is_bound (b y) ≡ true)) (sym (loops_made i.stands call_stays body tt (suits.no_call parallel))) (all_bound b f facts.twice i.setting q i.stands k (all_loop_variables body) (inner_named parallel inside));
         }
       where
-        inner_named : h.parallel ≡ true → Each IsNoOwn (stmts_names (all_expanded_in k inner body g).statements) → Each (NamedAlike b f i.setting q i.stands k) (all_loop_variables body)
+        inner_named : h.parallel ≡ true → Each IsName (stmts_names (all_expanded_in k inner body g).statements) → Each (NamedAlike b f i.setting q i.stands k) (all_loop_variables body)
         inner_named parallel inside =
             named (all_loop_variables body) suits.inner
-            (written_list k (all_loop_variables body) (subst (Each IsNoOwn) (loops_made k inner body g (suits.no_call parallel)) (loops_named IsNoOwn (all_expanded_in k inner body g).statements inside)))
+            (written_list k (all_loop_variables body) (subst (Each IsName) (loops_made k inner body g (suits.no_call parallel)) (loops_named IsName (all_expanded_in k inner body g).statements inside)))
 
     mutual
       stands : CallsStand → (t : StmtTree) (n j : ℕ) (g : Given) → lo ≤ n → Suits us u t → EachCall fits t
@@ -277,21 +278,21 @@ module _ (us : ProgramUnits) (pairs : List (List ℕ × List ℕ)) (gaps : List 
           let front : Trace = all_traced k size inner call x (n + 1) (j + 1) g in
           let behind : Trace = all_traced k size inner call y (n + 1 + nx) (j + 1 + cx) first.state in
           let condition = cond_names (cond_replaced k c) in
-          let names = each_front IsNoOwn (condition ++ stmts_names first.statements) (stmts_names second.statements) piece.names in
+          let names = each_front IsName (condition ++ stmts_names first.statements) (stmts_names second.statements) piece.names in
           let placed : IsPlaced gaps (n + 1) (j + 1) (cx + cy) (front.gaps ++ behind.gaps) = placed_inside gaps n j (cx + cy) (front.gaps ++ behind.gaps) piece.placed in
           let within : IsWithin pairs (n + 1) (n + 1 + nx + ny) (front.pairs ++ behind.pairs) = within_fewer pairs n (n + (1 + nx + ny)) (n + 1) (n + 1 + nx + ny) (front.pairs ++ behind.pairs) (next_le n) (inner_two_le n nx ny) piece.within in (
-            means (cond_names c) suits.0 (written_cond k c (each_front IsNoOwn condition (stmts_names first.statements) names)),
+            means (cond_names c) suits.0 (written_cond k c (each_front IsName condition (stmts_names first.statements) names)),
             all_stand calls x (n + 1) (j + 1) g (lower_le lo n less) suits.1 fit.0 (record {
               placed = placed_first gaps (n + 1) (j + 1) ny cx cy front behind placed (all_counted k size inner call fits counts y (n + 1 + nx) (j + 1 + cx) first.state fit.1);
               within = within_first pairs (n + 1) (n + 1 + nx) (n + 1 + nx + ny) front.pairs behind.pairs (part_le (n + 1) nx ny) within (all_owned k size inner call fits owns y (n + 1 + nx) (j + 1 + cx) first.state fit.1).own;
-              names = each_behind IsNoOwn condition (stmts_names first.statements) names;
+              names = each_behind IsName condition (stmts_names first.statements) names;
               before = piece.before;
               later = gives_then first.state second.state top (statements_give depth us constants k y first.state) piece.later;
             }),
             all_stand calls y (n + 1 + nx) (j + 1 + cx) first.state (further_le lo (n + 1) nx (lower_le lo n less)) suits.2 fit.1 (record {
               placed = placed_second gaps (n + 1) (j + 1) nx cx cy front behind placed (all_counted k size inner call fits counts x (n + 1) (j + 1) g fit.0);
               within = within_second pairs (n + 1) (n + 1) (n + 1 + nx) (n + 1 + nx + ny) front.pairs behind.pairs (one_le n nx) within (all_owned k size inner call fits owns x (n + 1) (j + 1) g fit.0).own;
-              names = each_behind IsNoOwn (condition ++ stmts_names first.statements) (stmts_names second.statements) piece.names;
+              names = each_behind IsName (condition ++ stmts_names first.statements) (stmts_names second.statements) piece.names;
               before = gives_then (nothing_given us) g first.state piece.before (statements_give depth us constants k x g);
               later = piece.later;
             }),
@@ -304,7 +305,7 @@ module _ (us : ProgramUnits) (pairs : List (List ℕ × List ℕ)) (gaps : List 
             all_stand calls body (n + 1) (j + 1) g (lower_le lo n less) suits.1 fit (record {
               placed = placed_inside gaps n j (statements_count made.statements) inside.gaps piece.placed;
               within = within_fewer pairs n (n + (1 + all_sized size body)) (n + 1) (n + 1 + all_sized size body) inside.pairs (next_le n) (inner_le n (all_sized size body)) piece.within;
-              names = each_behind IsNoOwn (head_names (head_replaced k h)) (stmts_names made.statements) piece.names;
+              names = each_behind IsName (head_names (head_replaced k h)) (stmts_names made.statements) piece.names;
               before = piece.before;
               later = piece.later;
             }),
@@ -334,14 +335,14 @@ module _ (us : ProgramUnits) (pairs : List (List ℕ × List ℕ)) (gaps : List 
             stands calls t n j g less suits.0 fit.0 (record {
               placed = placed_first gaps n j ny cx cy front behind piece.placed (all_counted k size inner call fits counts rest (n + nx) (j + cx) made.state fit.1);
               within = within_first pairs n (n + nx) (n + nx + ny) front.pairs behind.pairs (part_le n nx ny) within (all_owned k size inner call fits owns rest (n + nx) (j + cx) made.state fit.1).own;
-              names = each_front IsNoOwn (stmt_names made.statement) (stmts_names others.statements) piece.names;
+              names = each_front IsName (stmt_names made.statement) (stmts_names others.statements) piece.names;
               before = piece.before;
               later = gives_then made.state others.state top (statements_give depth us constants k rest made.state) piece.later;
             }),
             all_stand calls rest (n + nx) (j + cx) made.state (further_le lo n nx less) suits.1 fit.1 (record {
               placed = placed_second gaps n j nx cx cy front behind piece.placed (counted k size inner call fits counts t n j g fit.0);
               within = within_second pairs n n (n + nx) (n + nx + ny) front.pairs behind.pairs (further_le n n nx (same_le n)) within (owned k size inner call fits owns t n j g fit.0).own;
-              names = each_behind IsNoOwn (stmt_names made.statement) (stmts_names others.statements) piece.names;
+              names = each_behind IsName (stmt_names made.statement) (stmts_names others.statements) piece.names;
               before = gives_then (nothing_given us) g made.state piece.before (statement_gives depth us constants k t g);
               later = piece.later;
             }),
@@ -378,14 +379,14 @@ module _ (us : ProgramUnits) (pairs : List (List ℕ × List ℕ)) (gaps : List 
       let counted_arguments : AreCounted j first (length es) bound arguments = arguments_counted constants n j v.formals es (many_same ∙ fit.0) first (behind_first j) g in
       let owned_inside : AreOwnPairs (number_inside c n) (number_inside c n + within) inside.pairs =
       all_owned r.meanings (call_size depth us) (call_expanded depth us []) (call_traced depth us [] r.meanings) (FitsAt us depth) (λ d h. calls_owned us depth [] r.meanings d h) v.tree.body (number_inside c n) (first + made) r.given fit.2 in
-      let names : Each IsNoOwn (stmts_names (behind_stmts bound.assignments body.statements)) = each_front IsNoOwn (stmts_names (behind_stmts bound.assignments body.statements)) [] piece.names in
+      let names : Each IsName (stmts_names (behind_stmts bound.assignments body.statements)) = each_front IsName (stmts_names (behind_stmts bound.assignments body.statements)) [] piece.names in
       let to_come : GivesMore r.given top = gives_then r.given body.state top (statements_give depth us [] r.meanings v.tree.body r.given) piece.later in
       let so_far : GivesMore (nothing_given us) bound.given = gives_then (nothing_given us) g bound.given piece.before (arguments_give constants es g) in
-      let of_locals : (x y : List ℕ) → HasPair x y locals → HasPair x y pairs = λ x y h. piece.within.inside x y (pair_behind x y arguments.pairs (locals ++ inside.pairs) (pair_front x y locals inside.pairs h)) in
+      let of_locals : (x y : List ℕ) → IsName y → HasPair x y locals → HasPair x y pairs = λ x y is h. piece.within.inside x y is (pair_behind x y arguments.pairs (locals ++ inside.pairs) (pair_front x y locals inside.pairs h)) in
       let args =
       arguments_of us pairs gaps top f q facts u lo b k i context constants telling v c n body.statements c.arguments fit.0 fit.1 suits.arguments (λ a m. m) first g
       (λ x m. context.unknown n x less)
-      (λ x y h. piece.within.inside x y (pair_front x y arguments.pairs (locals ++ inside.pairs) h))
+      (λ x y is h. piece.within.inside x y is (pair_front x y arguments.pairs (locals ++ inside.pairs) h))
       (λ x m h.
       let entry = formals_entered v.formals bound.meant [] long x m in
       only_first (is_among (own n x) (firsts arguments.pairs)) (is_among (own n x) (firsts (locals ++ inside.pairs)))

@@ -2,10 +2,10 @@
 use Rattle.std.proofs.Common.{◌≡◌, ℕ, zero, suc, ◌+◌, ◌-◌, ◌^◌, ◌<◌, ◌≤◌, Bool, true, false, ◌&&◌, ◌||◌, nat_eq, eqb-true, List, [], ◌∷◌, length, drop, Some, None, refl, sym, ap, ◌∙◌, arith, le-leb, if◌then◌else◌}
 use Rattle.std.specs.List.{list_all}
 use Rattle.std.specs.Fmt.{decimal}
-use Rattle.std.specs.Str.Parse.{AllDigits}
+use Rattle.std.specs.Str.Parse.{AllDigits, digits_value}
 use Rattle.std.proofs.lemmas.Bool.{or_right, false_from_ne_true, eqb-false}
 use Rattle.std.proofs.lemmas.Str.Parse.{digit_from_value}
-use Rattle.std.proofs.lemmas.Fmt.{decimal_is_IsNumeral, length-decimal-le, decimal_injective}
+use Rattle.std.proofs.lemmas.Fmt.{decimal_is_IsNumeral, decimal_is_IsNumeral_wide, length-decimal-le}
 use Rattle.ped_base.specs.Letters.{is_letter, is_digit, is_alphanumeric, name_of}
 use Rattle.ped_base.specs.Lists.{is_same_text, is_among}
 use Rattle.ped_base.proofs.NameEquality.{same_is}
@@ -31,8 +31,9 @@ numbered_is_name n h = λ i. if digits i && le-leb (length (numbered_name n)) 31
     short = length-decimal-le 20 n (omega arith) (omega (arith, h)) (omega (arith, h))
 
 -- names with the same number
-numbered_same : (m n : ℕ) → m < 2 ^ 64 → n < 2 ^ 64 → is_same_text (numbered_name m) (numbered_name n) ≡ true → m ≡ n
-numbered_same m n p q h = decimal_injective m n p q (ap (λ (x : List ℕ). drop 2 x) (same_is (numbered_name m) (numbered_name n) h))
+numbered_same : (m n : ℕ) → m < 10 ^ 64 → n < 10 ^ 64 → is_same_text (numbered_name m) (numbered_name n) ≡ true → m ≡ n
+numbered_same m n p q h =
+    sym (decimal_is_IsNumeral_wide m p).1 ∙ ap (λ (x : List ℕ). digits_value 10 (drop 2 x)) (same_is (numbered_name m) (numbered_name n) h) ∙ (decimal_is_IsNumeral_wide n q).1
 
 -- names without the first that is this one
 without : List ℕ → List (List ℕ) → List (List ℕ)
@@ -64,7 +65,7 @@ stays x z [] n h = absurd cc
 stays x z (y ∷ ys) n h = stays_by x z y ys (is_same_text x y) (is_same_text z y) refl refl n h (stays x z ys n)
 
 -- so many numbered names are taken that there are as many taken names
-many_taken : (count : ℕ) (taken : List (List ℕ)) → count < 2 ^ 64 → ((k : ℕ) → 1 ≤ k → k ≤ count → is_among (numbered_name k) taken ≡ true) → count ≤ length taken
+many_taken : (count : ℕ) (taken : List (List ℕ)) → count < 10 ^ 64 → ((k : ℕ) → 1 ≤ k → k ≤ count → is_among (numbered_name k) taken ≡ true) → count ≤ length taken
 many_taken zero taken small all = omega arith
 many_taken (suc count) taken small all =
     let x = numbered_name (suc count) in
@@ -88,7 +89,7 @@ pick_free tries taken n true h next = ap (λ (x : List ℕ). is_among x taken) (
 pick_free tries taken n false h next = ap (λ (x : List ℕ). is_among x taken) (stopped (suc tries) taken n h) ∙ h
 
 -- where all names before are taken, one of so many more isn't
-pub found_free : (tries : ℕ) (taken : List (List ℕ)) (n : ℕ) → length taken + 1 < 2 ^ 64 → n + tries ≡ length taken + 1 → 1 ≤ n
+pub found_free : (tries : ℕ) (taken : List (List ℕ)) (n : ℕ) → length taken + 1 < 10 ^ 64 → n + tries ≡ length taken + 1 → 1 ≤ n
     → ((k : ℕ) → 1 ≤ k → k < n → is_among (numbered_name k) taken ≡ true) → is_among (free_from tries taken n) taken ≡ false
 found_free zero taken n small e p all = false_from_ne_true (is_among (numbered_name n) taken) (λ h.
     let many = many_taken n taken (omega (arith, small, e)) (λ k a b. upto taken k n a b h all) in
@@ -97,6 +98,10 @@ found_free (suc tries) taken n small e p all =
     pick_free tries taken n (is_among (numbered_name n) taken) refl
     (λ h. found_free tries taken (n + 1) small (omega (arith, e)) (omega arith) (λ k a b. upto taken k n a (omega (arith, b)) h all))
 
+-- the next new name isn't taken, where so few are
+pub free_is_free_wide : (taken : List (List ℕ)) → length taken + 1 < 10 ^ 64 → is_among (free_name taken) taken ≡ false
+free_is_free_wide taken small = found_free (length taken) taken 1 small (omega arith) (omega arith) (λ k a b. absurd (omega (arith, a, b)))
+
 -- the next new name isn't taken
 pub free_is_free : (taken : List (List ℕ)) → length taken + 1 < 2 ^ 64 → is_among (free_name taken) taken ≡ false
-free_is_free taken small = found_free (length taken) taken 1 small (omega arith) (omega arith) (λ k a b. absurd (omega (arith, a, b)))
+free_is_free taken small = free_is_free_wide taken (omega (arith, small))

@@ -239,11 +239,11 @@ module _ (text : List ℕ) (us : ProgramUnits) (reads : ReadsLinkedUnits text us
     is_unit = inl refl;
     constants = refl;
     reads = λ x r w.
-        let same : f x ≡ x = stays x (read_taken x r) (w x refl) in
+        let same : f x ≡ x = stays x (read_taken x r) (written_name x (w x refl)) in
         by_name x refl (ap Var (sym same)) (ap (value_named q.constants) same ∙ same_value x) (ap q.bounds same ∙ main_bounds us none names x (read_taken x r)) (ap is_bound (first_tight pairs x (written_name x (w x refl))));
     old = λ x r w y e m z from. written_name y (w y e) m z;
     writes = λ x r w.
-        let same : f x ≡ x = stays x (read_taken x r.reads) (w x refl) in
+        let same : f x ≡ x = stays x (read_taken x r.reads) (written_name x (w x refl)) in
         record { name = x; left = refl; right = ap Var (sym same); bounds = ap q.bounds same ∙ main_bounds us none names x (read_taken x r.reads); bound = ap is_bound (first_tight pairs x (written_name x (w x refl))) };
     fixed = λ x r n e. (same_value x ∙ e, e);
     shape = λ x r n. inl (x, refl);

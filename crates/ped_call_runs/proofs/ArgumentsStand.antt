@@ -1,5 +1,5 @@
 -- The arguments of a CALL and the assignments in its block stand alike; what stands for each dummy argument on both sides.
-use Rattle.std.proofs.Common.{◌≡◌, ℕ, suc, ◌+◌, ◌≤◌, ℤ, List, [], ◌∷◌, ◌++◌, map, length, nat_le, unsigned_abs, not, is_some, Bool, true, false, ◌||◌, Option, Some, None, IfSome, refl, sym, ap, ◌∙◌, subst, ◌⊎◌, inl, inr, arith, if◌then◌else◌}
+use Rattle.std.proofs.Common.{◌≡◌, ℕ, ◌+◌, ℤ, List, [], ◌∷◌, ◌++◌, map, length, nat_le, unsigned_abs, not, is_some, Bool, true, false, ◌||◌, Option, Some, None, IfSome, refl, sym, ap, ◌∙◌, subst, ◌⊎◌, inl, inr, if◌then◌else◌}
 use Rattle.std.proofs.lemmas.Bool.{or_parts, both_ways}
 use Rattle.ped_base.specs.Lists.{is_same_text, is_among}
 use Rattle.ped_base.proofs.NameEquality.{same_is, same_itself, same_flip}
@@ -7,7 +7,7 @@ use Rattle.ped_tree.specs.Accesses.{listed}
 use Rattle.ped_tree.specs.Constants.ConstantExpressions.{constant_value}
 use Rattle.ped_tree.specs.Constants.NamedConstants.{value_named}
 use Rattle.ped_tree.specs.Grammar.LimitNumbers.{greatest_literal}
-use Rattle.ped_tree.specs.NamesIn.{expr_names, exprs_names, stmt_names, stmts_names}
+use Rattle.ped_tree.specs.NamesIn.{expr_names, exprs_names, stmts_names}
 use Rattle.ped_tree.specs.Tree.{ExprTree, ExprTrees, Int, Var, Element, Neg, Add, Sub, Mul, Div, Pow, Call, no_exprs, more_exprs, StmtTree, StmtTrees, Assign, ProgramTree}
 use Rattle.ped_steps.specs.ped_sums.specs.Sums.{literal}
 use Rattle.ped_calls.specs.ped_valid.specs.ped_symbols.specs.Kinds.{kind_in}
@@ -26,7 +26,7 @@ use Rattle.ped_call_runs.specs.UnitRuns.{own, Instance, formals_stand}
 use Rattle.ped_call_runs.proofs.EachNames.{Each, each_front, each_behind, each_two}
 use Rattle.ped_call_runs.proofs.FollowingStores.{Bond, tight, loose, held, free, is_bound}
 use Rattle.ped_call_runs.proofs.FollowingNames.{MeansAlike, by_name, by_constant, by_held}
-use Rattle.ped_call_runs.proofs.FollowingCalls.{knowing, IsKnown, IsAssigned, ArgumentsAlike}
+use Rattle.ped_call_runs.proofs.FollowingCalls.{knowing, ArgumentsAlike}
 use Rattle.ped_call_runs.proofs.ConstantValues.{HasSome, each_valued}
 use Rattle.ped_call_runs.proofs.GivenMore.{GivesMore, gives_then, gives_new, arguments_give}
 use Rattle.ped_call_runs.proofs.Traces.{Trace, gap_before, value_traced, arguments_traced, first_bond}
@@ -38,7 +38,7 @@ use Rattle.ped_call_runs.proofs.RenamedEntries.{HasPair, pair_first}
 use Rattle.ped_call_runs.proofs.WrittenNames.{IsName}
 use Rattle.ped_call_runs.proofs.UnitNames.{IsPlain}
 use Rattle.ped_call_runs.proofs.SuitedUnits.{Reads}
-use Rattle.ped_call_runs.proofs.Contexts.{IsWritten, WrittenName, written_in, Context, Telling}
+use Rattle.ped_call_runs.proofs.Contexts.{WrittenName, written_in, Context, Telling}
 
 -- what is known of the whole expansion
 pub record Facts (us : ProgramUnits) (pairs : List (List ℕ × List ℕ)) (gaps : List ℕ) (top : Given) (f : List ℕ → List ℕ) (q : Setting) : Type 0 where
@@ -227,9 +227,6 @@ module _ (us : ProgramUnits) (pairs : List (List ℕ × List ℕ)) (gaps : List 
 
     abbrev traced_so : Bool → Option ℤ → ℕ → Given → Trace
     traced_so t o j g = if t then gap_before j (traces xs rest j g) else value_traced o n x j g (traces xs rest)
-
-    abbrev stands_so : Bool → ExprTree
-    stands_so t = if t then replaced i.stands a else Var (own n x)
 
     no_variable : is_variable_name i.constants a ≡ false → is_variable_name (constants_of u) a ≡ false
     no_variable h = ap (λ (cs : Values). is_variable_name cs a) (sym context.constants) ∙ h

@@ -1,5 +1,5 @@
 -- The names of a subroutine that is called: what they are on both sides, by what the arguments are there.
-use Rattle.std.proofs.Common.{◌≡◌, ◌≢◌, ℕ, suc, ◌+◌, ◌≤◌, ◌<◌, ◌^◌, ℤ, pos, negsuc, neg_ℤ, int_le, int_lt, unsigned_abs, List, [], ◌∷◌, ◌++◌, map, length, not, is_some, Bool, true, false, ◌&&◌, ◌||◌, ◌==◌, eqb, eqb-true, Option, Some, None, IfSome, refl, sym, ap, ◌∙◌, subst, ◌⊎◌, inl, inr, arith, if◌then◌else◌}
+use Rattle.std.proofs.Common.{◌≡◌, ℕ, suc, ◌+◌, ◌≤◌, ◌<◌, ◌^◌, ℤ, pos, negsuc, neg_ℤ, int_le, int_lt, unsigned_abs, List, [], ◌∷◌, ◌++◌, length, not, is_some, Bool, true, false, ◌&&◌, ◌||◌, ◌==◌, eqb, eqb-true, Option, Some, None, IfSome, refl, sym, ap, ◌∙◌, subst, ◌⊎◌, inl, inr, arith, if◌then◌else◌}
 use Rattle.std.specs.Int.{is_negative}
 use Rattle.std.proofs.lemmas.Bool.{or_parts, and_parts, both_ways}
 use Rattle.std.proofs.lemmas.Int.{ints}
@@ -24,29 +24,29 @@ use Rattle.ped_calls.specs.Giving.{IsSmall}
 use Rattle.ped_calls.specs.Forms.{Called}
 use Rattle.ped_calls.specs.Units.{ProgramUnit, ProgramUnits, all_units, unit_of}
 use Rattle.ped_calls.specs.Refusals.{for_names}
-use Rattle.ped_calls.specs.Linking.{IsIn, Placed, calls_of, Association, associated, CallsUnit, FormalOf, PassesFor, IsAssigned, bounds_by, array_bounds, argument_bounds, is_scalar, is_scalar_name, Arguments, Misfits, other_bounds, no_scalar, HasAllArguments}
-use Rattle.ped_calls.specs.Expanding.{Given, free_name, with_local, declared_as, Meanings, meaning, or_itself, name_or, replaced, is_variable_name, Bound, bound_arguments, body_names, constants_of, with_formals, with_constants, Renamed, renamed, meanings_in, nothing_given}
+use Rattle.ped_calls.specs.Linking.{IsIn, Placed, calls_of, associated, IsAssigned, bounds_by, array_bounds, argument_bounds, is_scalar, is_scalar_name, Arguments, Misfits, other_bounds, no_scalar, HasAllArguments}
+use Rattle.ped_calls.specs.Expanding.{Given, free_name, with_local, Meanings, meaning, or_itself, name_or, replaced, is_variable_name, Bound, body_names, constants_of, with_formals, with_constants, Renamed, meanings_in, nothing_given}
 use Rattle.ped_calls.proofs.SmallKinds.{small_constants}
 use Rattle.ped_steps.specs.ped_eval.specs.ped_store.specs.Variables.{no_dimensions}
 use Rattle.ped_steps.specs.ped_eval.specs.Outcomes.{bounds_of}
 use Rattle.ped_steps.specs.ped_eval.specs.Scopes.{Setting}
-use Rattle.ped_call_runs.specs.UnitRuns.{own, Instance, number_inside, formals_stand, with_own, bounds_with_own, own_constants, called_instance}
+use Rattle.ped_call_runs.specs.UnitRuns.{own, Instance, number_inside, formals_stand, bounds_with_own, own_constants, called_instance}
 use Rattle.ped_call_runs.proofs.EachNames.{Each}
-use Rattle.ped_call_runs.proofs.FollowingStores.{Bond, loose, held, is_bound}
+use Rattle.ped_call_runs.proofs.FollowingStores.{Bond, is_bound}
 use Rattle.ped_call_runs.proofs.FollowingNames.{MeansAlike, by_name, by_constant, by_held, NamedAlike}
 use Rattle.ped_call_runs.proofs.ConstantValues.{constant_kept, unreplaced}
 use Rattle.ped_call_runs.proofs.GivenMore.{GivesMore, gives_then}
 use Rattle.ped_call_runs.proofs.ExpandedKinds.{bounds_by_entries, bounds_said, small_literal}
-use Rattle.ped_call_runs.proofs.MeaningEntries.{kept_entry, new_entry, other_entry, own_kept, own_entry, constants_kept, of_constant, constants_entry, formals_kept, no_formal}
-use Rattle.ped_call_runs.proofs.Traces.{locals_traced, first_bond}
+use Rattle.ped_call_runs.proofs.MeaningEntries.{new_entry, other_entry, own_kept, own_entry, constants_kept, of_constant, constants_entry, formals_kept, no_formal}
+use Rattle.ped_call_runs.proofs.Traces.{locals_traced}
 use Rattle.ped_call_runs.proofs.OwnNames.{own_apart}
 use Rattle.ped_call_runs.proofs.TraceOwn.{own_same}
 use Rattle.ped_call_runs.proofs.RenamedEntries.{HasPair, renamed_stays, IsRenamed, renamed_new}
 use Rattle.ped_call_runs.proofs.WrittenNames.{IsName}
 use Rattle.ped_call_runs.proofs.UnitNames.{IsPlain, HasPlainNames}
-use Rattle.ped_call_runs.proofs.SuitedUnits.{Reads, MayBeWritten, Writes}
+use Rattle.ped_call_runs.proofs.SuitedUnits.{Reads, Writes}
 use Rattle.ped_call_runs.proofs.Contexts.{IsOld, IsWritten, IsNameOrLiteral, Context, Telling}
-use Rattle.ped_call_runs.proofs.ArgumentsStand.{Facts, own_loose, KeepsBonds, bound_kept, held_kept, within_is, fixed_constant, same_number, variable_named, EachFormal, FormalAlike, variable, known, made, FormalStands}
+use Rattle.ped_call_runs.proofs.ArgumentsStand.{Facts, own_loose, KeepsBonds, bound_kept, held_kept, fixed_constant, EachFormal, FormalAlike, variable, known, made, FormalStands}
 
 -- the entry of a name is what stands for it
 meant_by : (m : Meanings) (x : List ℕ) (e : ExprTree) → entry_of m x ≡ Some e → meaning m x ≡ e

@@ -1,5 +1,5 @@
 -- Where statements of a unit stand in the expansion: what their names are on both sides, and where their trace lies in the whole trace.
-use Rattle.std.proofs.Common.{◌≡◌, ℕ, ◌+◌, ◌≤◌, ◌<◌, ℤ, List, [], ◌∷◌, ◌++◌, Bool, true, false, ◌||◌, Option, Some, None, refl, sym, ap, ◌∙◌, subst, ◌⊎◌, arith, if◌then◌else◌}
+use Rattle.std.proofs.Common.{◌≡◌, ℕ, ◌+◌, ◌≤◌, ◌<◌, ℤ, List, [], ◌∷◌, ◌++◌, Bool, true, false, ◌||◌, Some, None, refl, sym, ap, ◌∙◌, subst, ◌⊎◌, arith}
 use Rattle.std.proofs.lemmas.Bool.{both_ways}
 use Rattle.ped_base.specs.Lists.{is_same_text, is_among}
 use Rattle.ped_base.proofs.NameEquality.{same_flip}
@@ -21,7 +21,7 @@ use Rattle.ped_call_runs.proofs.FollowingNames.{MeansAlike, NamedAlike}
 use Rattle.ped_call_runs.proofs.GivenMore.{GivesMore}
 use Rattle.ped_call_runs.proofs.Traces.{Trace, first_bond}
 use Rattle.ped_call_runs.proofs.PlacedNumbers.{IsPlaced}
-use Rattle.ped_call_runs.proofs.OwnNames.{firsts, IsOwnIn, OwnIn, outside_in, own_apart}
+use Rattle.ped_call_runs.proofs.OwnNames.{firsts, OwnIn, outside_in, own_apart}
 use Rattle.ped_call_runs.proofs.RenamedEntries.{HasPair, pair_front, pair_behind}
 use Rattle.ped_call_runs.proofs.WrittenNames.{IsName}
 use Rattle.ped_call_runs.proofs.UnitNames.{IsPlain}

@@ -1,5 +1,5 @@
 -- What holds for each CALL in statements; CALLs that fit their subroutines, of any depth.
-use Rattle.std.proofs.Common.{◌≡◌, ℕ, zero, suc, length, Bool, false, Option, Some, None}
+use Rattle.std.proofs.Common.{◌≡◌, ℕ, zero, suc, length, false, Option, Some, None}
 use Rattle.ped_tree.specs.Accesses.{listed}
 use Rattle.ped_tree.specs.Tree.{StmtTree, StmtTrees, Assign, If, Do, Print, Read, Stop, Comment, no_stmts, more_stmts}
 use Rattle.ped_calls.specs.ped_valid.specs.ped_symbols.specs.NameRefusals.{has_twice}

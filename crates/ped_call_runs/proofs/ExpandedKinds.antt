@@ -1,5 +1,5 @@
 -- What names stand for in an expansion: those of the main program what they stood for, and new names what they were given to.
-use Rattle.std.proofs.Common.{◌≡◌, ℕ, suc, ◌≤◌, ℤ, unsigned_abs, nat_le, nat_lt, length, map, List, [], ◌∷◌, ◌++◌, Bool, true, false, ◌&&◌, ◌||◌, Option, Some, None, IfSome, All, refl, sym, ap, ◌∙◌, subst, arith, append_assoc, append-nil, if◌then◌else◌}
+use Rattle.std.proofs.Common.{◌≡◌, ℕ, suc, ℤ, unsigned_abs, nat_le, nat_lt, length, List, [], ◌∷◌, ◌++◌, Bool, true, false, ◌&&◌, ◌||◌, Option, Some, None, IfSome, All, refl, sym, ap, ◌∙◌, subst, arith, append-nil, if◌then◌else◌}
 use Rattle.std.specs.List.{flat_map}
 use Rattle.std.proofs.lemmas.Bool.{or_parts}
 use Rattle.std.proofs.lemmas.Grind.{flat_map-append}
@@ -9,11 +9,10 @@ use Rattle.ped_base.specs.Dimensions.{Dimensions}
 use Rattle.ped_base.specs.Lists.{has_some, is_same_text, is_among}
 use Rattle.ped_base.proofs.NameEquality.{same_itself}
 use Rattle.ped_tree.proofs.NameLaws.Collected.{among_append}
-use Rattle.ped_tree.specs.Accesses.{constant_names}
 use Rattle.ped_tree.specs.Constants.NamedConstants.{value_named}
 use Rattle.ped_tree.specs.Grammar.LimitNumbers.{most_dimensions}
 use Rattle.ped_tree.specs.Grammar.Words.{is_name}
-use Rattle.ped_tree.specs.Tree.{ExprTree, StmtTree, StmtTrees, BoundTree, DeclaratorTree, DeclTree, ProgramTree}
+use Rattle.ped_tree.specs.Tree.{ExprTree, BoundTree, DeclaratorTree, DeclTree, ProgramTree}
 use Rattle.ped_steps.specs.ped_sums.specs.Sums.{literal}
 use Rattle.ped_calls.specs.ped_valid.specs.ped_symbols.specs.Arrays.{Arrays, with_dimension, bounds_values, with_bounds, by_bounds, arrays_of, arrays_in}
 use Rattle.ped_calls.specs.ped_valid.specs.ped_symbols.specs.declared.symbols.Kind.{Kind}
@@ -27,9 +26,9 @@ use Rattle.ped_calls.specs.ped_valid.specs.ped_symbols.specs.Values.{Values, fix
 use Rattle.ped_calls.specs.ped_valid.specs.ped_symbols.proofs.RightUseLaws.Occurring.{occurs_first}
 use Rattle.ped_calls.specs.ped_valid.specs.ped_symbols.proofs.RightUseLaws.Whole.{names_occur, others_unvalued}
 use Rattle.ped_calls.specs.Giving.{IsSmall}
-use Rattle.ped_calls.specs.Units.{ProgramUnit, ProgramUnits}
+use Rattle.ped_calls.specs.Units.{ProgramUnits}
 use Rattle.ped_calls.specs.Refusals.{save_of_formals, for_names}
-use Rattle.ped_calls.specs.Expanding.{Given, free_name, literal_bounds, declared_as, with_local, constants_of, nothing_given, main_expanded, expansion}
+use Rattle.ped_calls.specs.Expanding.{Given, free_name, literal_bounds, declared_as, constants_of, nothing_given, main_expanded, expansion}
 use Rattle.ped_calls.proofs.SmallKinds.{small_fixed}
 use Rattle.ped_steps.specs.ped_eval.specs.ped_store.specs.Variables.{no_dimensions}
 use Rattle.ped_steps.specs.ped_eval.specs.Outcomes.{bounds_of}

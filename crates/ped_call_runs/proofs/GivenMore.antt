@@ -1,6 +1,5 @@
 -- What is given names grows: more names are taken, and declarations follow that say nothing of other names.
-use Rattle.std.proofs.Common.{◌≡◌, ℕ, ℤ, List, [], ◌∷◌, ◌++◌, length, nat_le, Bool, true, false, ◌&&◌, Option, Some, None, refl, sym, ap, ◌∙◌, subst, append_assoc, append-nil, if◌then◌else◌}
-use Rattle.std.specs.List.{flat_map}
+use Rattle.std.proofs.Common.{◌≡◌, ℕ, List, [], ◌∷◌, ◌++◌, length, nat_le, Bool, true, false, ◌&&◌, Option, Some, None, refl, sym, ap, ◌∙◌, subst, append_assoc, append-nil, if◌then◌else◌}
 use Rattle.std.proofs.lemmas.Bool.{or_parts, both_ways}
 use Rattle.std.proofs.lemmas.Grind.{flat_map-append}
 use Rattle.ped_base.specs.Dimensions.{Dimensions}
@@ -13,8 +12,7 @@ use Rattle.ped_calls.specs.ped_valid.specs.ped_symbols.specs.Arrays.{bounds_valu
 use Rattle.ped_calls.specs.ped_valid.specs.ped_symbols.specs.declared.symbols.Kind.{Kind}
 use Rattle.ped_calls.specs.ped_valid.specs.ped_symbols.specs.declared.symbols.Kind.TheVariants.{Scalar, Array, Constant}
 use Rattle.ped_calls.specs.ped_valid.specs.ped_symbols.specs.Entries.{entry_of}
-use Rattle.ped_calls.specs.ped_valid.specs.ped_symbols.specs.NameRefusals.{Before, behind_sites}
-use Rattle.ped_calls.specs.ped_valid.specs.ped_symbols.specs.Sites.{Site, decl_sites}
+use Rattle.ped_calls.specs.ped_valid.specs.ped_symbols.specs.NameRefusals.{Before}
 use Rattle.ped_calls.specs.ped_valid.specs.ped_symbols.specs.Values.{Values}
 use Rattle.ped_calls.specs.Forms.{Called}
 use Rattle.ped_calls.specs.Units.{ProgramUnit, ProgramUnits}

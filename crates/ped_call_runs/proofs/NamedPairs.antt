@@ -1,10 +1,9 @@
 -- The pairs of a trace whose new names are names: none of these is taken at its time, nor one of a CALL's own.
-use Rattle.std.proofs.Common.{◌≡◌, ℕ, List, [], ◌∷◌, ◌++◌, length, Bool, true, false, ◌||◌, refl, sym, ap, ◌∙◌, subst, ◌⊎◌, inl, inr, if◌then◌else◌}
-use Rattle.std.proofs.lemmas.Bool.{or_parts, both_ways}
+use Rattle.std.proofs.Common.{◌≡◌, ℕ, List, [], ◌∷◌, ◌++◌, length, Bool, true, false, ◌||◌, refl, sym, ap, ◌∙◌, subst, inl, inr, if◌then◌else◌}
+use Rattle.std.proofs.lemmas.Bool.{both_ways}
 use Rattle.ped_base.specs.Lists.{is_same_text, is_among}
 use Rattle.ped_tree.proofs.NameLaws.Collected.{among_append}
 use Rattle.ped_tree.specs.Grammar.Words.{is_name}
-use Rattle.ped_calls.specs.Expanding.{free_name}
 use Rattle.ped_call_runs.proofs.FreeWritten.{free_named}
 use Rattle.ped_call_runs.proofs.OwnNames.{firsts, IsNoOwn, OwnIn, NoneTwice}
 use Rattle.ped_call_runs.proofs.RenamedEntries.{HasPair}

@@ -1,16 +1,14 @@
 -- Names in the statements of a unit, those in arguments of CALLs among them, are among those that are looked at.
-use Rattle.std.proofs.Common.{◌≡◌, ℕ, List, [], ◌∷◌, ◌++◌, map, filter, Bool, true, false, ◌||◌, Option, Some, None, refl, sym, ap, ◌∙◌, subst, if◌then◌else◌}
+use Rattle.std.proofs.Common.{◌≡◌, ℕ, List, [], ◌∷◌, ◌++◌, map, filter, Bool, true, false, ◌||◌, Option, Some, None, refl, ap, ◌∙◌, if◌then◌else◌}
 use Rattle.std.specs.List.{flat_map}
 use Rattle.ped_base.specs.Lists.{is_same_text, is_among}
-use Rattle.ped_base.proofs.NameEquality.{same_itself}
-use Rattle.ped_tree.proofs.NameLaws.Collected.{among_append}
 use Rattle.ped_tree.specs.Accesses.{listed}
 use Rattle.ped_tree.specs.NamesIn.{expr_names, cond_names, item_names, head_names, stmt_names, stmts_names}
 use Rattle.ped_tree.specs.Tree.{ExprTree, Int, Var, Element, Neg, Add, Sub, Mul, Div, Pow, Call, CondTree, And, Value, StmtTree, StmtTrees, Assign, If, Do, Print, Read, Stop, Comment, no_stmts, more_stmts, DeclTree, Program, Implicit, Integer, Dimension, Parameter, Save, Remark, ProgramTree}
 use Rattle.ped_calls.specs.ped_valid.specs.ped_symbols.specs.declared.uses.Role.{Role}
 use Rattle.ped_calls.specs.ped_valid.specs.ped_symbols.specs.declared.uses.Use.{Use}
 use Rattle.ped_calls.specs.ped_valid.specs.ped_symbols.specs.Declarations.{is_dimensioning, names_with}
-use Rattle.ped_calls.specs.ped_valid.specs.ped_symbols.specs.Kinds.{names_at, names_of}
+use Rattle.ped_calls.specs.ped_valid.specs.ped_symbols.specs.Kinds.{names_of}
 use Rattle.ped_calls.specs.ped_valid.specs.ped_symbols.specs.Sites.{decl_sites, stmts_sites, site_uses}
 use Rattle.ped_calls.specs.ped_valid.specs.ped_symbols.specs.Uses.{decl_uses}
 use Rattle.ped_calls.specs.ped_valid.specs.ped_symbols.proofs.RightUseLaws.Occurring.{first_among}

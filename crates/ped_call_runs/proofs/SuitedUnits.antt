@@ -1,23 +1,22 @@
 -- What is known of the statements of a unit that was read and whose CALLs are right: which names they read and write, their increments, and where their CALLs stand.
-use Rattle.std.proofs.Common.{◌≡◌, ℕ, ◌+◌, ℤ, List, [], ◌∷◌, ◌++◌, map, length, drop, Bool, true, false, ◌||◌, Option, Some, None, refl, sym, ap, ◌∙◌, subst, ◌⊎◌, inl, inr, if◌then◌else◌}
+use Rattle.std.proofs.Common.{◌≡◌, ℕ, ◌+◌, ℤ, List, [], ◌∷◌, ◌++◌, map, length, drop, Bool, true, false, Option, Some, None, refl, sym, ap, ◌∙◌, subst, ◌⊎◌, inl, inr}
 use Rattle.std.specs.List.{flat_map, list_any}
 use Rattle.std.proofs.lemmas.Bool.{or_parts, both_ways}
 use Rattle.std.proofs.lemmas.List.Folds.{list_any-append}
-use Rattle.ped_base.specs.Lists.{is_same_text, is_among, has_some}
+use Rattle.ped_base.specs.Lists.{is_among}
 use Rattle.ped_tree.specs.Accesses.{listed}
 use Rattle.ped_tree.specs.Constants.ConstantExpressions.{constant_value}
-use Rattle.ped_tree.specs.Constants.NamedConstants.{value_named}
 use Rattle.ped_tree.specs.Grammar.ProgramRefusals.{meets}
 use Rattle.ped_tree.specs.NamesIn.{expr_names, exprs_names, cond_names, item_names, head_names, stmt_names, stmts_names, loop_variables, all_loop_variables, private_names_in, all_private_names_in}
-use Rattle.ped_tree.specs.Tree.{ExprTree, ExprTrees, Int, Var, Element, Neg, Add, Sub, Mul, Div, Pow, Call, no_exprs, more_exprs, Value, Head, StmtTree, StmtTrees, Assign, If, Do, Print, Read, Stop, Comment, no_stmts, more_stmts, ProgramTree}
+use Rattle.ped_tree.specs.Tree.{ExprTree, ExprTrees, Int, Var, Element, Neg, Add, Sub, Mul, Div, Pow, Call, no_exprs, more_exprs, Value, Head, StmtTree, StmtTrees, Assign, If, Do, Print, Read, Stop, Comment, no_stmts, more_stmts}
 use Rattle.ped_calls.specs.ped_valid.specs.ped_symbols.specs.NameRefusals.{next_line}
 use Rattle.ped_calls.specs.ped_valid.specs.ped_symbols.specs.Sites.{Site, private_names, private_site, stmt_sites, stmts_sites, decl_sites, program_sites}
-use Rattle.ped_calls.specs.ped_valid.specs.ped_symbols.specs.Values.{Values, within, fixed_value, is_bad_step, site_fails}
+use Rattle.ped_calls.specs.ped_valid.specs.ped_symbols.specs.Values.{within, fixed_value, is_bad_step, site_fails}
 use Rattle.ped_calls.specs.ped_valid.specs.ped_symbols.proofs.RightUseLaws.Occurring.{among_first}
 use Rattle.ped_calls.specs.Forms.{Called}
 use Rattle.ped_calls.specs.Units.{ProgramUnit, ProgramUnits, all_units, call_of, instead_of, with_calls, all_with_calls}
 use Rattle.ped_calls.specs.Refusals.{dimensioned, using_arguments}
-use Rattle.ped_calls.specs.Linking.{IsIn, Placed, placed, calls_in, all_calls_in, calls_of, assigned_left, assigned_in, all_assigned_in, assigns, IsAssigned, Arguments, CallPlace, Stands, Sited, sited, sites_of, IsLinked}
+use Rattle.ped_calls.specs.Linking.{IsIn, Placed, placed, calls_in, all_calls_in, calls_of, assigned_left, assigned_in, all_assigned_in, assigns, IsAssigned, Arguments, CallPlace, Sited, sited, IsLinked}
 use Rattle.ped_calls.specs.Expanding.{naming_arguments, body_names, constants_of}
 use Rattle.ped_call_runs.proofs.EachNames.{Each, each_front, each_behind, each_of, of_each, each_joined, each_two}
 use Rattle.ped_call_runs.proofs.EachCalls.{AllCalls, EachCall, OfCall}

@@ -1,5 +1,5 @@
 -- Names of CALLs' own along the trace: those of a piece belong to CALLs with the numbers of the piece, and none stands twice.
-use Rattle.std.proofs.Common.{◌≡◌, ℕ, zero, suc, ◌+◌, ◌≤◌, ℤ, List, [], ◌∷◌, ◌++◌, length, Bool, true, false, ◌||◌, Option, Some, None, refl, sym, ap, ◌∙◌, subst, arith, if◌then◌else◌}
+use Rattle.std.proofs.Common.{◌≡◌, ℕ, zero, suc, ◌+◌, ◌≤◌, ℤ, List, [], ◌∷◌, ◌++◌, length, Bool, true, false, ◌||◌, Option, Some, None, refl, sym, ap, ◌∙◌, arith, if◌then◌else◌}
 use Rattle.ped_base.specs.Lists.{is_same_text, is_among}
 use Rattle.ped_base.proofs.NameEquality.{same_is, same_itself}
 use Rattle.ped_tree.specs.Accesses.{listed}
@@ -17,7 +17,7 @@ use Rattle.ped_call_runs.proofs.Traces.{Trace, value_traced, arguments_traced, l
 use Rattle.ped_call_runs.proofs.TraceNumbers.{none_first, one_less}
 use Rattle.ped_call_runs.proofs.TraceCalls.{as_many}
 use Rattle.ped_call_runs.proofs.MeaningEntries.{kept_entry, new_entry, constants_kept, formals_kept}
-use Rattle.ped_call_runs.proofs.OwnNames.{firsts, IsOwnIn, OwnIn, NoneTwice, outside_in, among_joined, none_twice_joined, own_in_wider, own_in_joined}
+use Rattle.ped_call_runs.proofs.OwnNames.{firsts, OwnIn, NoneTwice, outside_in, among_joined, none_twice_joined, own_in_wider, own_in_joined}
 use Rattle.ped_call_runs.proofs.TraceOwn.{own_here, arguments_outside, arguments_own, locals_own, locals_outside, locals_none_twice}
 
 -- the first names of the pairs are of CALLs whose numbers are not below the first and below the second, and none stands twice

@@ -1,24 +1,22 @@
 -- Names of a unit whose names are right: dummy arguments and names that are assigned or private are no named constants, and increments have values.
-use Rattle.std.proofs.Common.{◌≡◌, ℕ, ℤ, List, [], ◌∷◌, ◌++◌, map, Bool, true, false, ◌||◌, Option, Some, None, refl, sym, ap, ◌∙◌, inl, inr, if◌then◌else◌}
+use Rattle.std.proofs.Common.{◌≡◌, ℕ, List, [], ◌∷◌, ◌++◌, map, true, false, None, refl, sym, ap, ◌∙◌, inl, inr}
 use Rattle.std.specs.List.{flat_map, list_any}
 use Rattle.std.proofs.lemmas.Bool.{or_parts}
 use Rattle.std.proofs.lemmas.Grind.{flat_map-append}
 use Rattle.std.proofs.lemmas.List.Folds.{list_any-append}
-use Rattle.ped_base.specs.Lists.{has_some, is_same_text, is_among}
-use Rattle.ped_tree.specs.Constants.ConstantExpressions.{constant_value}
+use Rattle.ped_base.specs.Lists.{is_among}
 use Rattle.ped_tree.specs.Constants.NamedConstants.{value_named}
 use Rattle.ped_tree.specs.Grammar.Refusal.{Finding}
 use Rattle.ped_tree.specs.NamesIn.{first_occurrences, private_names_in, all_private_names_in}
 use Rattle.ped_tree.specs.Tree.{ExprTree, Int, Var, Element, Neg, Add, Sub, Mul, Div, Pow, Call, StmtTree, StmtTrees, Assign, If, Do, Print, Read, Stop, Comment, no_stmts, more_stmts, DeclTree, ProgramTree}
 use Rattle.ped_calls.specs.ped_valid.specs.ped_symbols.specs.ped_refs.specs.References.{references}
-use Rattle.ped_calls.specs.ped_valid.specs.ped_symbols.specs.declared.uses.Role.TheVariants.{Saved, Rejected, Private, Index}
+use Rattle.ped_calls.specs.ped_valid.specs.ped_symbols.specs.declared.uses.Role.TheVariants.{Saved, Rejected, Private}
 use Rattle.ped_calls.specs.ped_valid.specs.ped_symbols.specs.declared.uses.Use.{Use}
 use Rattle.ped_calls.specs.ped_valid.specs.ped_symbols.specs.Declarations.{Declared, declared_in, is_constant}
 use Rattle.ped_calls.specs.ped_valid.specs.ped_symbols.specs.NameRefusals.{uses_constant, at_first, behind_sites, name_refusals}
-use Rattle.ped_calls.specs.ped_valid.specs.ped_symbols.specs.Sites.{Site, statement, private_site, stmt_sites, stmts_sites, decl_sites, program_sites, site_uses}
+use Rattle.ped_calls.specs.ped_valid.specs.ped_symbols.specs.Sites.{Site, private_site, stmt_sites, stmts_sites, decl_sites, program_sites, site_uses}
 use Rattle.ped_calls.specs.ped_valid.specs.ped_symbols.specs.Uses.{used_as, expr_uses, target_uses, own_uses}
 use Rattle.ped_calls.specs.ped_valid.specs.ped_symbols.specs.Values.{Values, site_fails}
-use Rattle.ped_calls.specs.ped_valid.specs.ped_symbols.specs.Arrays.{Arrays}
 use Rattle.ped_calls.specs.ped_valid.specs.ped_symbols.proofs.RightUseLaws.Constants.{none_named}
 use Rattle.ped_calls.specs.ped_valid.specs.ped_symbols.proofs.RightUseLaws.Occurring.{among_first}
 use Rattle.ped_calls.specs.ped_valid.specs.ped_symbols.proofs.RightUseLaws.Quiet.{AreQuiet, all_quiet, quiet_back, no_constant_used, none_fails, stmts_declare_nothing}

@@ -1,15 +1,15 @@
 -- Program units that were read and are right stand alike with their expansion, where that is valid.
-use Rattle.std.proofs.Common.{◌≡◌, ℕ, zero, suc, ◌+◌, ◌≤◌, ◌<◌, ◌^◌, ℤ, List, [], ◌∷◌, ◌++◌, map, length, not, is_some, Bool, true, false, ◌||◌, eqb, eqb-true, Option, Some, None, refl, sym, ap, ◌∙◌, subst, inl, inr, arith, append_assoc, append-nil, if◌then◌else◌}
+use Rattle.std.proofs.Common.{◌≡◌, ℕ, zero, suc, ◌+◌, ℤ, List, [], ◌∷◌, ◌++◌, length, not, is_some, Bool, true, false, ◌||◌, eqb, eqb-true, Option, Some, None, refl, sym, ap, ◌∙◌, subst, inl, inr, arith}
 use Rattle.std.specs.List.{flat_map}
 use Rattle.std.proofs.lemmas.Bool.{and_parts, both_ways}
 use Rattle.std.proofs.lemmas.Grind.{flat_map-append}
-use Rattle.ped_base.specs.Lists.{is_same_text, is_among}
+use Rattle.ped_base.specs.Lists.{is_among}
 use Rattle.ped_tree.proofs.NameLaws.Collected.{among_append}
 use Rattle.ped_tree.specs.Accesses.{listed, constant_names}
 use Rattle.ped_tree.specs.Constants.ConstantExpressions.{constant_value}
 use Rattle.ped_tree.specs.Constants.NamedConstants.{value_named}
-use Rattle.ped_tree.specs.Grammar.Fits.{decls_fit, stmts_fit, begins_with_statement, at_body}
-use Rattle.ped_tree.specs.NamesIn.{first_occurrences, stmts_names, saved_in}
+use Rattle.ped_tree.specs.Grammar.Fits.{decls_fit, begins_with_statement, at_body}
+use Rattle.ped_tree.specs.NamesIn.{stmts_names, saved_in}
 use Rattle.ped_tree.specs.Numbering.{statements_count}
 use Rattle.ped_tree.specs.Tree.{ExprTree, Var, StmtTree, StmtTrees, Assign, If, Do, Print, Read, Stop, Comment, no_stmts, more_stmts, DeclTree, ProgramTree}
 use Rattle.ped_calls.specs.ped_valid.specs.ped_symbols.specs.Declarations.{program_name}
@@ -23,8 +23,8 @@ use Rattle.ped_calls.specs.Units.{ProgramUnit, ProgramUnits, all_units, unit_of,
 use Rattle.ped_calls.specs.Refusals.{save_of_formals, for_names}
 use Rattle.ped_calls.specs.Linking.{IsIn, Arguments, IsLinked}
 use Rattle.ped_calls.specs.Verdicts.{ReadsLinkedUnits}
-use Rattle.ped_calls.specs.Expanding.{Given, Meanings, meaning, is_variable_name, constants_of, call_expanded, nothing_given, expansion}
-use Rattle.ped_steps.specs.ped_eval.specs.Outcomes.{bounds_of, setting_of, live_names}
+use Rattle.ped_calls.specs.Expanding.{Given, is_variable_name, constants_of, call_expanded, nothing_given, expansion}
+use Rattle.ped_steps.specs.ped_eval.specs.Outcomes.{setting_of, live_names}
 use Rattle.ped_steps.specs.ped_eval.specs.Scopes.{Setting}
 use Rattle.ped_steps.specs.Runs.Renumbering.{renumbered}
 use Rattle.ped_steps.specs.ped_laws.proofs.RunLaws.Turning.{once_among}

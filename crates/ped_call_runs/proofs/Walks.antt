@@ -1,21 +1,20 @@
 -- Statements of a unit and their expansion stand alike, and so do CALLs and their blocks, however deep CALLs stand in one another.
-use Rattle.std.proofs.Common.{◌≡◌, ℕ, zero, suc, ◌+◌, ◌≤◌, ◌<◌, ℤ, pos, List, [], ◌∷◌, ◌++◌, map, length, Bool, true, false, ◌&&◌, ◌||◌, ◌==◌, eqb-true, Option, Some, None, refl, sym, ap, ◌∙◌, subst, ◌⊎◌, inl, inr, arith, if◌then◌else◌}
+use Rattle.std.proofs.Common.{◌≡◌, ℕ, zero, suc, ◌+◌, ◌≤◌, ◌<◌, ℤ, pos, List, [], ◌∷◌, ◌++◌, map, length, Bool, true, false, ◌==◌, eqb-true, Option, Some, None, refl, sym, ap, ◌∙◌, subst, inl, inr, arith, if◌then◌else◌}
 use Rattle.std.specs.List.{flat_map}
 use Rattle.std.specs.Option.{unwrap_or}
-use Rattle.std.proofs.lemmas.Bool.{or_from, and_parts}
+use Rattle.std.proofs.lemmas.Bool.{and_parts}
 use Rattle.std.proofs.lemmas.List.{map-append}
 use Rattle.ped_base.specs.Lists.{is_same_text, is_among}
 use Rattle.ped_tree.specs.Accesses.{listed}
 use Rattle.ped_tree.specs.Constants.ConstantExpressions.{constant_value}
-use Rattle.ped_tree.specs.NamesIn.{expr_names, exprs_names, cond_names, item_names, head_names, stmt_names, stmts_names, loop_variables, all_loop_variables}
+use Rattle.ped_tree.specs.NamesIn.{expr_names, cond_names, item_names, head_names, stmt_names, stmts_names, loop_variables, all_loop_variables}
 use Rattle.ped_tree.specs.Numbering.{statement_count, statements_count}
-use Rattle.ped_tree.specs.Tree.{ExprTree, ExprTrees, CondTree, Rel, Not, And, Or, ItemTree, Value, Text, Head, StmtTree, StmtTrees, Assign, If, Do, Print, Read, Stop, Comment, no_stmts, more_stmts}
-use Rattle.ped_calls.specs.ped_valid.specs.ped_symbols.specs.NameRefusals.{has_twice}
+use Rattle.ped_tree.specs.Tree.{ExprTree, CondTree, Rel, Not, And, Or, ItemTree, Value, Text, Head, StmtTree, StmtTrees, Assign, If, Do, Print, Read, Stop, Comment, no_stmts, more_stmts}
 use Rattle.ped_calls.specs.ped_valid.specs.ped_symbols.specs.Values.{Values}
 use Rattle.ped_calls.specs.Forms.{Called}
 use Rattle.ped_calls.specs.Units.{ProgramUnit, ProgramUnits, all_units, unit_among, unit_of, call_of}
-use Rattle.ped_calls.specs.Linking.{IsIn, assigned_left, associations}
-use Rattle.ped_calls.specs.Expanding.{Given, Meanings, meaning, name_meant, replaced, cond_replaced, item_replaced, head_replaced, called_replaced, Bound, bound_arguments, body_names, constants_of, with_formals, with_constants, Renamed, meanings_in, behind_stmts, call_comment, block_of, Expanded, AllExpanded, expanded_or, expanded_in, all_expanded_in, unit_expanded, call_expanded, nothing_given}
+use Rattle.ped_calls.specs.Linking.{IsIn, assigned_left}
+use Rattle.ped_calls.specs.Expanding.{Given, Meanings, meaning, name_meant, replaced, cond_replaced, item_replaced, head_replaced, called_replaced, Bound, bound_arguments, body_names, constants_of, with_formals, with_constants, Renamed, meanings_in, behind_stmts, call_comment, Expanded, AllExpanded, expanded_or, expanded_in, all_expanded_in, unit_expanded, call_expanded, nothing_given}
 use Rattle.ped_steps.specs.ped_eval.specs.Loops.{increment}
 use Rattle.ped_steps.specs.ped_eval.specs.Scopes.{Setting}
 use Rattle.ped_call_runs.specs.UnitRuns.{own, is_own, Instance, number_inside, called_instance, stmts_replaced, call_stays, count_or, sized, all_sized, size_in, call_size}
@@ -24,11 +23,11 @@ use Rattle.ped_call_runs.proofs.FollowingStores.{Bond, is_bound, is_slack}
 use Rattle.ped_call_runs.proofs.FollowingNames.{MeansAlike, NamedAlike}
 use Rattle.ped_call_runs.proofs.FollowingLoops.{all_named, all_bound, HeadsAlike}
 use Rattle.ped_call_runs.proofs.FollowingStatements.{AssignStands, Stands, AllStand}
-use Rattle.ped_call_runs.proofs.FollowingDepths.{IsCalled, UnitHolds, Holds}
+use Rattle.ped_call_runs.proofs.FollowingDepths.{UnitHolds, Holds}
 use Rattle.ped_call_runs.proofs.EachCalls.{OfCall, EachCall, AllCalls, UnitFits, FitsAt}
 use Rattle.ped_call_runs.proofs.GivenMore.{GivesMore, gives_then, arguments_give, renamed_give, statement_gives, statements_give}
-use Rattle.ped_call_runs.proofs.Traces.{Trace, arguments_traced, locals_traced, CallTraced, traced_or, traced, all_traced, unit_traced, call_traced, first_bond}
-use Rattle.ped_call_runs.proofs.TraceNumbers.{IsCounted, CallsCount, counted, all_counted, AreCounted, arguments_counted}
+use Rattle.ped_call_runs.proofs.Traces.{Trace, arguments_traced, locals_traced, CallTraced, traced_or, traced, all_traced, unit_traced, call_traced}
+use Rattle.ped_call_runs.proofs.TraceNumbers.{CallsCount, counted, all_counted, AreCounted, arguments_counted}
 use Rattle.ped_call_runs.proofs.TraceCalls.{as_many, front_counts, block_count, calls_count}
 use Rattle.ped_call_runs.proofs.PlacedNumbers.{IsPlaced, placed_first, placed_second, placed_inside, placed_body}
 use Rattle.ped_call_runs.proofs.OwnNames.{firsts, IsOwnIn, among_joined, outside_in}
@@ -40,7 +39,7 @@ use Rattle.ped_call_runs.proofs.MeaningEntries.{constants_kept}
 use Rattle.ped_call_runs.proofs.ConstantValues.{constant_kept, unreplaced}
 use Rattle.ped_call_runs.proofs.WrittenNames.{IsName}
 use Rattle.ped_call_runs.proofs.UnitNames.{HasPlainNames}
-use Rattle.ped_call_runs.proofs.SuitedUnits.{each_left, each_item, Reads, Writes, CallSuits, AssignSuits, OrCallSuits, HeadSuits, Suits, AllSuit, unit_suits, head_variable, head_bounds, loops_named}
+use Rattle.ped_call_runs.proofs.SuitedUnits.{each_left, each_item, Reads, Writes, CallSuits, OrCallSuits, HeadSuits, Suits, AllSuit, unit_suits, head_variable, head_bounds, loops_named}
 use Rattle.ped_call_runs.proofs.Contexts.{WrittenName, meant_written, written_in, IsWithin, firsts_joined, only_first, within_first, within_second, within_fewer, IsPiece, Context, Telling}
 use Rattle.ped_call_runs.proofs.ArgumentsStand.{Facts, arguments_of}
 use Rattle.ped_call_runs.proofs.CalledContexts.{called_context, called_telling}
@@ -130,9 +129,6 @@ further_le lo n a h = omega (arith, h)
 
 call_less : (n many within : ℕ) → n < n + (0 + 1 + many + within)
 call_less n many within = omega (arith)
-
-call_le : (n many within : ℕ) → n + 1 ≤ n + (0 + 1 + many + within)
-call_le n many within = omega (arith)
 
 body_le : (n many within : ℕ) → n + 1 + many + within ≤ n + (0 + 1 + many + within)
 body_le n many within = omega (arith)

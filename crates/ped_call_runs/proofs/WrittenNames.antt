@@ -1,11 +1,10 @@
 -- Names that stand in a program that fits are names, and so none of a CALL's own.
-use Rattle.std.proofs.Common.{◌≡◌, ℕ, ◌+◌, List, [], ◌∷◌, ◌++◌, map, Bool, true, false, ◌&&◌, ◌==◌, eqb-true, refl, ap, sym, ◌∙◌}
+use Rattle.std.proofs.Common.{◌≡◌, ℕ, ◌+◌, List, [], ◌∷◌, ◌++◌, map, Bool, true, false, ◌&&◌, ◌==◌, eqb-true, refl, ap, ◌∙◌}
 use Rattle.std.specs.List.{flat_map, list_all}
 use Rattle.std.proofs.lemmas.Bool.{and_parts}
-use Rattle.ped_base.specs.Lists.{has_some, is_same_text, is_among}
+use Rattle.ped_base.specs.Lists.{has_some, is_same_text}
 use Rattle.ped_tree.specs.Accesses.{constant_names}
 use Rattle.ped_tree.specs.Grammar.Fits.{takes_arguments, has_expr, expr_fits, exprs_fit, target_fits, cond_fits, item_fits, comment_fits, bound_fits, declarator_fits, array_fits, constant_fits, Surroundings, in_if, in_loop, moved, private_fits, stmt_fits, stmts_fit, decls_fit}
-use Rattle.ped_tree.specs.Grammar.StatementForms.{are_names}
 use Rattle.ped_tree.specs.Grammar.Contexts.{decl_rank}
 use Rattle.ped_tree.specs.Grammar.Words.{is_name}
 use Rattle.ped_tree.specs.NamesIn.{expr_names, exprs_names, cond_names, item_names, head_names, stmt_names, stmts_names, saved_in}

@@ -94,11 +94,11 @@ run_arguments i n (f ∷ fs) [] k scope s = nothing_done s
 abbrev pub CallRun : Type 0
 CallRun = Instance → Called → ℕ → Scope → Store → Run
 
--- a CALL that stays in its place, with what stands for the names in its arguments
+-- a CALL stays where it stands
 abbrev pub call_stays : Called → Unit {0} → Expanded (Unit {0})
 call_stays c state = record { statement = call_statement c; state = state }
 
--- a statement with what stands for each name, where CALLs stay
+-- a statement with what stands for each name, in arguments of CALLs too, where CALLs stay (this project)
 abbrev pub stmt_replaced : Meanings → StmtTree → StmtTree
 stmt_replaced m t = (expanded_in m call_stays t tt).statement
 

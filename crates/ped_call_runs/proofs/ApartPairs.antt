@@ -4,8 +4,8 @@ use Rattle.std.proofs.lemmas.Bool.{both_ways}
 use Rattle.ped_base.specs.Lists.{is_same_text, is_among}
 use Rattle.ped_base.proofs.NameEquality.{same_is, same_itself, same_flip}
 use Rattle.ped_call_runs.proofs.SwappedNames.{swapped, paired, AreApart, unpaired_stays}
-use Rattle.ped_call_runs.proofs.TraceNames.{seconds, IsNoOwn, AreNew}
-use Rattle.ped_call_runs.proofs.OwnNames.{firsts, IsOwnIn, OwnIn, NoneTwice}
+use Rattle.ped_call_runs.proofs.TraceNames.{seconds, AreNew}
+use Rattle.ped_call_runs.proofs.OwnNames.{IsNoOwn, firsts, IsOwnIn, OwnIn, NoneTwice}
 
 neither_paired : (y : List ℕ) (ps : List (List ℕ × List ℕ)) → is_among y (firsts ps) ≡ false → is_among y (seconds ps) ≡ false → is_among y (paired ps) ≡ false
 neither_paired y [] h k = refl

@@ -5,8 +5,8 @@ use Rattle.ped_base.specs.Lists.{is_same_text, is_among}
 use Rattle.ped_base.proofs.NameEquality.{same_itself}
 use Rattle.ped_call_runs.specs.UnitRuns.{own, is_own}
 use Rattle.ped_call_runs.proofs.FollowingStores.{tight, loose, held, free, is_slack}
-use Rattle.ped_call_runs.proofs.TraceNames.{IsNoOwn}
 use Rattle.ped_call_runs.proofs.Traces.{first_bond}
+use Rattle.ped_call_runs.proofs.OwnNames.{IsNoOwn}
 
 -- names of a CALL's own may be undefined in the units alone
 pub first_slack : (pairs : List (List ℕ × List ℕ)) (n : ℕ) (x : List ℕ) → is_own n x ≡ true → is_slack (first_bond pairs x) ≡ true

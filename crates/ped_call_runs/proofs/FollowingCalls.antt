@@ -21,11 +21,11 @@ use Rattle.ped_steps.specs.ped_eval.specs.Turns.{after}
 use Rattle.ped_steps.specs.ped_eval.proofs.Endings.{ending_then, assignment_goes, assignment_fails, if_goes}
 use Rattle.ped_steps.specs.ped_laws.proofs.CoveringLaws.Comings.{came, ok_one, constant_comes}
 use Rattle.ped_call_runs.specs.UnitRuns.{own, Instance}
-use Rattle.ped_call_runs.proofs.FollowingValues.{itself, Follows, Each, ReadsAlike, value_follows, stored_follows, stored_may, fine_cell, cell_one, number_one}
+use Rattle.ped_call_runs.proofs.EachNames.{Each, each_map}
+use Rattle.ped_call_runs.proofs.FollowingValues.{itself, Follows, ReadsAlike, value_follows, stored_follows, stored_may, fine_cell, cell_one, number_one}
 use Rattle.ped_call_runs.proofs.FollowingStores.{Bond, held, free, Agrees, IsBelow, is_bound}
 use Rattle.ped_call_runs.proofs.FollowingEndings.{EndsAlike, same_ends, fault_alike, assignment_alike}
 use Rattle.ped_call_runs.proofs.FollowingNames.{named_cell, unheld, bond_of, cell_bound, same_cells, AreNamed, IsUnheld, MeansAlike, reads_alike}
-use Rattle.ped_call_runs.proofs.FollowingLoops.{each_map}
 
 -- a number becomes known of a scalar
 abbrev pub knowing : List ℕ → ℤ → (List ℕ → Bond) → List ℕ → Bond

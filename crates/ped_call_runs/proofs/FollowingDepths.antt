@@ -6,7 +6,7 @@ use Rattle.ped_tree.specs.Tree.{ExprTree, Var, StmtTree, StmtTrees, no_stmts}
 use Rattle.ped_calls.specs.ped_valid.specs.ped_symbols.specs.Values.{Values}
 use Rattle.ped_calls.specs.Forms.{Called}
 use Rattle.ped_calls.specs.Units.{ProgramUnit, ProgramUnits, unit_of}
-use Rattle.ped_calls.specs.Expanding.{Meanings, replaced, called_replaced, stmts_replaced, Given, Bound, bound_arguments, meanings_in, behind_stmts, call_comment, all_expanded_in, unit_expanded, call_expanded}
+use Rattle.ped_calls.specs.Expanding.{Meanings, replaced, called_replaced, Given, Bound, bound_arguments, meanings_in, behind_stmts, call_comment, all_expanded_in, unit_expanded, call_expanded}
 use Rattle.ped_steps.specs.ped_eval.specs.ped_store.specs.Cells.{Cell, Scalar, Element, Private, In, Out}
 use Rattle.ped_steps.specs.ped_eval.specs.ped_store.specs.Stores.{Number, Store, put}
 use Rattle.ped_steps.specs.ped_eval.specs.Scopes.{Setting, Scope, names_in, place_of}
@@ -139,7 +139,7 @@ module _ (us : ProgramUnits) (f : List ℕ → List ℕ) (q : Setting) where
         let meant : Meanings = (meanings_in v (bound_in k constants c g)).meanings in
         let behind : Given = (meanings_in v (bound_in k constants c g)).given in
         let inside : Instance = called_instance i n v c in
-        let body : StmtTrees = (all_expanded_in (call_expanded depth us []) (stmts_replaced meant v.tree.body) behind).statements in
+        let body : StmtTrees = (all_expanded_in meant (call_expanded depth us []) v.tree.body behind).statements in
         let first : ℕ = j + 1 + statement_count (call_comment (called_replaced k c)) in
         let arguments : Run = run_arguments i n v.formals (listed c.arguments) (n + 1) scope (without_own n s) in
         let rest : (Store → Run) = unit_run_all (call_run depth us) (call_size depth us) inside v.tree.body (number_inside c n) scope in

@@ -13,7 +13,7 @@ use Rattle.ped_steps.specs.ped_eval.specs.Loops.{sorted_once, inner_variables, E
 use Rattle.ped_steps.specs.ped_eval.specs.Turns.{undefined_cells}
 use Rattle.ped_steps.specs.ped_eval.proofs.Endings.{exit_is}
 use Rattle.ped_steps.specs.ped_laws.proofs.RunLaws.Turning.{once_among}
-use Rattle.ped_call_runs.proofs.FollowingValues.{Each}
+use Rattle.ped_call_runs.proofs.EachNames.{Each}
 use Rattle.ped_call_runs.proofs.FollowingStores.{Bond, IsBelow, is_bound, put_below}
 use Rattle.ped_call_runs.proofs.FollowingNames.{named_cell, bond_of, cell_bound, AreNamed, same_cells, same_names}
 

@@ -2,7 +2,7 @@
 use Rattle.std.proofs.Common.{◌≡◌, ℕ, ◌-◌, ℤ, pos, ◌+ℤ◌, ◌*ℤ◌, List, [], ◌∷◌, ◌++◌, map, Bool, true, false, ◌||◌, Some, refl, sym, ap, ◌∙◌, subst, if◌then◌else◌}
 use Rattle.std.proofs.lemmas.Bool.{both_ways}
 use Rattle.ped_base.specs.Lists.{is_same_text, is_among}
-use Rattle.ped_base.proofs.NameEquality.{same_is, same_itself}
+use Rattle.ped_base.proofs.NameEquality.{same_is}
 use Rattle.ped_tree.specs.NamesIn.{expr_names, all_loop_variables}
 use Rattle.ped_tree.specs.Tree.{Head, StmtTrees}
 use Rattle.ped_calls.specs.Expanding.{Meanings, name_or, name_meant, head_replaced}
@@ -13,40 +13,10 @@ use Rattle.ped_steps.specs.ped_eval.specs.Scopes.{Setting, Frame, Scope, turns_o
 use Rattle.ped_steps.specs.ped_eval.specs.Evaluation.{Seen}
 use Rattle.ped_steps.specs.ped_eval.specs.Loops.{Limits, increment, iteration_count, sorted_once, inner_variables, Entered, entered_with, copied_names, frame, left_in_variable, exit_touches}
 use Rattle.ped_steps.specs.ped_laws.proofs.RunLaws.Turning.{once_among}
-use Rattle.ped_call_runs.proofs.FollowingValues.{Each}
+use Rattle.ped_call_runs.proofs.EachNames.{Each, each_of, of_each, each_map, each_mapped, each_joined}
 use Rattle.ped_call_runs.proofs.FollowingStores.{Bond, IsBelow, is_bound}
 use Rattle.ped_call_runs.proofs.FollowingNames.{named_cell, bond_of, AreNamed, named_inside, same_names, IsUnheld, MeansAlike, NamedAlike}
 use Rattle.ped_call_runs.proofs.FollowingExits.{HaveSameMembers, inner_named, private_named, exit_below}
-
--- what holds for each name of a list, holds for each of its members
-pub each_of : (P : List ℕ → Type 0) (xs : List (List ℕ)) → Each P xs → (z : List ℕ) → is_among z xs ≡ true → P z
-each_of P [] h z e = absurd cc
-each_of P (x ∷ xs) h z e = go (is_same_text z x) refl (each_of P xs h.1 z)
-  where
-    go : (t : Bool) → is_same_text z x ≡ t → (is_among z xs ≡ true → P z) → P z
-    go true k more = subst P (sym (same_is z x k)) h.0
-    go false k more = more (sym (ap (λ (t : Bool). t || is_among z xs) k) ∙ e)
-
-pub of_each : (P : List ℕ → Type 0) (xs : List (List ℕ)) → ((z : List ℕ) → is_among z xs ≡ true → P z) → Each P xs
-of_each P [] h = tt
-of_each P (x ∷ xs) h =
-    (h x (ap (λ (t : Bool). t || is_among x xs) (same_itself x)), of_each P xs (λ z e. h z (ap (λ (t : Bool). is_same_text z x || t) e ∙ either (is_same_text z x))))
-  where
-    either : (t : Bool) → (t || true) ≡ true
-    either true = refl
-    either false = refl
-
-pub each_map : (P Q : List ℕ → Type 0) (xs : List (List ℕ)) → ((x : List ℕ) → P x → Q x) → Each P xs → Each Q xs
-each_map P Q [] g h = tt
-each_map P Q (x ∷ xs) g h = (g x h.0, each_map P Q xs g h.1)
-
-pub each_mapped : (P : List ℕ → Type 0) (g : List ℕ → List ℕ) (xs : List (List ℕ)) → Each (λ x. P (g x)) xs → Each P (map g xs)
-each_mapped P g [] h = tt
-each_mapped P g (x ∷ xs) h = (h.0, each_mapped P g xs h.1)
-
-pub each_joined : (P : List ℕ → Type 0) (xs ys : List (List ℕ)) → Each P xs → Each P ys → Each P (xs ++ ys)
-each_joined P [] ys h k = k
-each_joined P (x ∷ xs) ys h k = (h.0, each_joined P xs ys h.1 k)
 
 -- names in byte order
 pub each_inner : (P : List ℕ → Type 0) (parallel : Bool) (body : StmtTrees) → (parallel ≡ true → Each P (all_loop_variables body)) → Each P (inner_variables parallel body)
@@ -99,11 +69,11 @@ module _ (b : List ℕ → Bond) (f : List ℕ → List ℕ) (twice : (x : List 
     pub meant_bound : (x : List ℕ) → NamedAlike b f p q m k x → is_bound (b (name_meant m x)) ≡ true
     meant_bound x a = subst (λ (z : List ℕ). is_bound (b z) ≡ true) (sym (ap (name_or x) a.left)) a.bound
 
-    all_named : (xs : List (List ℕ)) → Each (NamedAlike b f p q m k) xs → map (name_meant k) xs ≡ map f (map (name_meant m) xs)
+    pub all_named : (xs : List (List ℕ)) → Each (NamedAlike b f p q m k) xs → map (name_meant k) xs ≡ map f (map (name_meant m) xs)
     all_named [] h = refl
     all_named (x ∷ xs) h = λ i. meant_named x h.0 i ∷ all_named xs h.1 i
 
-    all_bound : (xs : List (List ℕ)) → Each (NamedAlike b f p q m k) xs → Each (λ y. is_bound (b y) ≡ true) (map (name_meant m) xs)
+    pub all_bound : (xs : List (List ℕ)) → Each (NamedAlike b f p q m k) xs → Each (λ y. is_bound (b y) ≡ true) (map (name_meant m) xs)
     all_bound xs h = each_mapped (λ y. is_bound (b y) ≡ true) (name_meant m) xs (each_map (NamedAlike b f p q m k) (λ x. is_bound (b (name_meant m x)) ≡ true) xs meant_bound h)
 
     module _ (n j : ℕ) (h : Head) (ss ts : StmtTrees) (heads : HeadsAlike b f p q m k h (all_loop_variables ss) (all_loop_variables ts)) (number : q.number j ≡ p.number n) (seen others : List Seen) (l : Limits) where

@@ -16,7 +16,8 @@ use Rattle.ped_steps.specs.ped_eval.specs.Statements.{write_touch, Taking, into_
 use Rattle.ped_steps.specs.ped_eval.specs.Runs.{run_taking, run_read}
 use Rattle.ped_steps.specs.ped_eval.proofs.Endings.{reads_leave, read_fails, read_goes}
 use Rattle.ped_steps.specs.ped_laws.proofs.ActLaws.Stores.{behind_append}
-use Rattle.ped_call_runs.proofs.FollowingValues.{Each, each_front, each_behind, ReadsAlike, StoresAlike, target_follows, target_may}
+use Rattle.ped_call_runs.proofs.EachNames.{Each, each_front, each_behind}
+use Rattle.ped_call_runs.proofs.FollowingValues.{ReadsAlike, StoresAlike, target_follows, target_may}
 use Rattle.ped_call_runs.proofs.FollowingStores.{Bond, tight, Agrees, IsBelow, is_bound, put_below}
 use Rattle.ped_call_runs.proofs.FollowingEndings.{EndsAlike, goes_alike, fault_alike}
 

@@ -3,31 +3,24 @@ use Rattle.std.proofs.Common.{◌≡◌, ℕ, ◌+◌, ℤ, List, ◌∷◌, map
 use Rattle.std.specs.List.{flat_map}
 use Rattle.ped_tree.specs.NamesIn.{expr_names, cond_names, item_names, all_loop_variables}
 use Rattle.ped_tree.specs.Numbering.{statement_count, statements_count}
-use Rattle.ped_tree.specs.Tree.{ExprTree, ExprTrees, Int, no_exprs, more_exprs, StmtTree, StmtTrees, Assign, If, Do, Print, Read, Stop, Comment, no_stmts, more_stmts}
+use Rattle.ped_tree.specs.Tree.{ExprTree, StmtTree, StmtTrees, Assign, If, Do, Print, Read, Stop, Comment, no_stmts, more_stmts}
 use Rattle.ped_calls.specs.Forms.{Called}
-use Rattle.ped_calls.specs.Units.{call_of, reference_of, call_statement, instead_of}
-use Rattle.ped_calls.specs.Expanding.{Meanings, replaced, cond_replaced, item_replaced, head_replaced, called_replaced, stmt_replaced, stmts_replaced, Given, Expanded, AllExpanded, expanded_or, expanded_in, all_expanded_in}
+use Rattle.ped_calls.specs.Units.{call_of}
+use Rattle.ped_calls.specs.Expanding.{Meanings, replaced, cond_replaced, item_replaced, head_replaced, called_replaced, Given, Expanded, AllExpanded, expanded_or, expanded_in, all_expanded_in}
 use Rattle.ped_calls.specs.Linking.{assigned_left}
 use Rattle.ped_steps.specs.ped_eval.specs.ped_store.specs.Cells.{Cell}
 use Rattle.ped_steps.specs.ped_eval.specs.ped_store.specs.Stores.{Store}
 use Rattle.ped_steps.specs.ped_eval.specs.Scopes.{Setting, Scope, names_in, place_of}
 use Rattle.ped_steps.specs.ped_eval.specs.Loops.{limits, iteration_count}
 use Rattle.ped_steps.specs.ped_eval.specs.Runs.{run, run_all}
-use Rattle.ped_call_runs.specs.UnitRuns.{Instance, CallRun, sized, all_sized, run_or, unit_run, unit_run_all}
-use Rattle.ped_call_runs.proofs.FollowingValues.{Each, ReadsAlike, StoresAlike, truth_follows, line_follows, limits_follow, assigned_may, assigned_follows}
+use Rattle.ped_call_runs.specs.UnitRuns.{Instance, CallRun, call_stays, stmts_replaced, sized, all_sized, run_or, unit_run, unit_run_all}
+use Rattle.ped_call_runs.proofs.EachNames.{Each, each_map}
+use Rattle.ped_call_runs.proofs.FollowingValues.{ReadsAlike, StoresAlike, truth_follows, line_follows, limits_follow, assigned_may, assigned_follows}
 use Rattle.ped_call_runs.proofs.FollowingStores.{Bond, IsBelow, is_bound}
 use Rattle.ped_call_runs.proofs.FollowingEndings.{RunsAlike, then_alike, run_if_alike, run_do_alike, assignment_alike, print_alike}
 use Rattle.ped_call_runs.proofs.FollowingNames.{named_cell, bond_of, same_cells, AreNamed, IsUnheld, MeansAlike, NamedAlike, reads_alike, stores_alike}
 use Rattle.ped_call_runs.proofs.FollowingReads.{read_alike}
-use Rattle.ped_call_runs.proofs.FollowingLoops.{each_map, HeadsAlike, frame_named, frame_unheld, loop_exit}
-
--- a CALL is told from its statement
-pub calls_itself : (c : Called) → call_of (Int 0) (reference_of c.name c.arguments) ≡ Some c
-calls_itself c = go c.arguments
-  where
-    go : (es : ExprTrees) → call_of (Int 0) (reference_of c.name es) ≡ Some (record { name = c.name; arguments = es })
-    go no_exprs = refl
-    go (more_exprs e rest) = refl
+use Rattle.ped_call_runs.proofs.FollowingLoops.{HeadsAlike, frame_named, frame_unheld, loop_exit}
 
 module _ (b : List ℕ → Bond) (f : List ℕ → List ℕ) (q : Setting) (k : Meanings) (size : Called → ℕ) (inner : Called → Given → Expanded Given) (holds : Called → ℕ → ℕ → Given → Type 0) (i : Instance) where
   -- names that are read, and names that are assigned
@@ -37,12 +30,11 @@ module _ (b : List ℕ → Bond) (f : List ℕ → List ℕ) (q : Setting) (k : 
   abbrev pub Named : List (List ℕ) → Type 0
   Named xs = Each (NamedAlike b f i.setting q i.stands k) xs
 
-  -- an assignment stands alike on both sides, and is a CALL on both or on none
+  -- an assignment that is no CALL stands alike on both sides
   pub record AssignsAlike (left right : ExprTree) : Type 0 where
     pub in_left : Means (expr_names left)
     pub in_right : Means (expr_names right)
     pub assigned : Named (assigned_left left)
-    pub no_call : call_of (replaced k left) (replaced k right) ≡ None
 
   abbrev pub AssignStands : ExprTree → ExprTree → ℕ → ℕ → Given → Option Called → Type 0
   AssignStands left right n j g None = AssignsAlike left right
@@ -50,10 +42,10 @@ module _ (b : List ℕ → Bond) (f : List ℕ → List ℕ) (q : Setting) (k : 
 
   -- expanded statements, and what is given behind them
   abbrev pub Made : StmtTree → Given → Expanded Given
-  Made t g = expanded_in inner (stmt_replaced k t) g
+  Made t g = expanded_in k inner t g
 
   abbrev pub AllMade : StmtTrees → Given → AllExpanded Given
-  AllMade ts g = all_expanded_in inner (stmts_replaced k ts) g
+  AllMade ts g = all_expanded_in k inner ts g
 
   abbrev mutual
     -- a statement with number n in the unit and number j in the expanded program stands alike on both sides
@@ -117,32 +109,29 @@ module _ (b : List ℕ → Bond) (f : List ℕ → List ℕ) (twice : (x : List 
     -- an assignment, or the CALL that it is
     assign_follows : CallsFollow → (left right : ExprTree) (n j : ℕ) (g : Given) (o : Option Called) → call_of left right ≡ o → AssignStands b f q k size inner holds i left right n j g o
         → RunsAlike Below (λ s. run_or call i (Assign left right) n scope s o)
-        (run q (expanded_in inner (instead_of (λ c. call_statement (called_replaced k c)) (Assign (replaced k left) (replaced k right)) o) g).statement j other)
+        (run q (expanded_or k inner (Assign (replaced k left) (replaced k right)) g o).statement j other)
     assign_follows calls left right n j g None e h =
-        subst (λ (o : Option Called). RunsAlike Below (run p (instead_of (λ c. call_statement (called_replaced m c)) (Assign (replaced m left) (replaced m right)) o) n scope)
-        (run q (expanded_or inner (Assign (replaced k left) (replaced k right)) g (call_of (replaced k left) (replaced k right))).statement j other)) (sym e)
-        (subst (λ (o : Option Called). RunsAlike Below (run p (Assign (replaced m left) (replaced m right)) n scope) (run q (expanded_or inner (Assign (replaced k left) (replaced k right)) g o).statement j other)) (sym h.no_call)
-        (plain_follows left right n j h))
+        subst (λ (o : Option Called). RunsAlike Below (run p (expanded_or m call_stays (Assign (replaced m left) (replaced m right)) tt o).statement n scope) (run q (Assign (replaced k left) (replaced k right)) j other)) (sym e)
+        (plain_follows left right n j h)
     assign_follows calls left right n j g (Some c) e h =
-        subst (λ (o : Option Called). RunsAlike Below (call i c n scope) (run q (expanded_or inner (call_statement (called_replaced k c)) g o).statement j other)) (sym (calls_itself (called_replaced k c)))
-        (calls c n j g h scope other same unheld)
+        calls c n j g h scope other same unheld
 
   mutual
     pub statement_follows : CallsFollow → (t : StmtTree) (n j : ℕ) (g : Given) → Stand t n j g → (scope other : Scope) → AreNamed f scope other → IsUnheld b scope
-        → RunsAlike Below (unit_run call size i t n scope) (run q (expanded_in inner (stmt_replaced k t) g).statement j other)
+        → RunsAlike Below (unit_run call size i t n scope) (run q (expanded_in k inner t g).statement j other)
     statement_follows calls (Assign left right) n j g h scope other same unheld s w below = assign_follows scope other same unheld calls left right n j g (call_of left right) refl h s w below
     statement_follows calls (If c x y) n j g h scope other same unheld s w below =
         run_if_alike Below (names_in p scope) (names_in q other) (place_of p n scope) (place_of q j other) (cond_replaced m c) (cond_replaced k c)
         (unit_run_all call size i x (n + 1) scope) (unit_run_all call size i y (n + 1 + all_sized size x) scope)
-        (run_all q (all_expanded_in inner (stmts_replaced k x) g).statements (j + 1) other)
-        (run_all q (all_expanded_in inner (stmts_replaced k y) (all_expanded_in inner (stmts_replaced k x) g).state).statements (j + 1 + statements_count (all_expanded_in inner (stmts_replaced k x) g).statements) other)
+        (run_all q (all_expanded_in k inner x g).statements (j + 1) other)
+        (run_all q (all_expanded_in k inner y (all_expanded_in k inner x g).state).statements (j + 1 + statements_count (all_expanded_in k inner x g).statements) other)
         s w below
         (truth_follows (names_in p scope) (names_in q other) s w m k c (reads scope other same unheld (cond_names c) h.0 s w below))
         (statements_follow calls x (n + 1) (j + 1) g h.1 scope other same unheld)
-        (statements_follow calls y (n + 1 + all_sized size x) (j + 1 + statements_count (all_expanded_in inner (stmts_replaced k x) g).statements) (all_expanded_in inner (stmts_replaced k x) g).state h.2 scope other same unheld)
+        (statements_follow calls y (n + 1 + all_sized size x) (j + 1 + statements_count (all_expanded_in k inner x g).statements) (all_expanded_in k inner x g).state h.2 scope other same unheld)
     statement_follows calls (Do head body) n j g h scope other same unheld s w below =
         let ss : StmtTrees = stmts_replaced m body in
-        let ts : StmtTrees = (all_expanded_in inner (stmts_replaced k body) g).statements in
+        let ts : StmtTrees = (all_expanded_in k inner body g).statements in
         let seen = (limits (names_in p scope) (head_replaced m head) s).seen in
         let others = (limits (names_in q other) (head_replaced k head) w).seen in
         run_do_alike Below p q n j scope other (head_replaced m head) (head_replaced k head) ss ts
@@ -163,11 +152,11 @@ module _ (b : List ℕ → Bond) (f : List ℕ → List ℕ) (twice : (x : List 
     statement_follows calls (Comment text) n j g h scope other same unheld s w below = (w, refl, below)
 
     pub statements_follow : CallsFollow → (ts : StmtTrees) (n j : ℕ) (g : Given) → StandAll ts n j g → (scope other : Scope) → AreNamed f scope other → IsUnheld b scope
-        → RunsAlike Below (unit_run_all call size i ts n scope) (run_all q (all_expanded_in inner (stmts_replaced k ts) g).statements j other)
+        → RunsAlike Below (unit_run_all call size i ts n scope) (run_all q (all_expanded_in k inner ts g).statements j other)
     statements_follow calls no_stmts n j g h scope other same unheld s w below = (w, refl, below)
     statements_follow calls (more_stmts t rest) n j g h scope other same unheld s w below =
-        let made : Expanded Given = expanded_in inner (stmt_replaced k t) g in
+        let made : Expanded Given = expanded_in k inner t g in
         then_alike Below (unit_run call size i t n scope s) (run q made.statement j other w) (unit_run_all call size i rest (n + sized size t) scope)
-        (run_all q (all_expanded_in inner (stmts_replaced k rest) made.state).statements (j + statement_count made.statement) other)
+        (run_all q (all_expanded_in k inner rest made.state).statements (j + statement_count made.statement) other)
         (statement_follows calls t n j g h.0 scope other same unheld s w below)
         (statements_follow calls rest (n + sized size t) (j + statement_count made.statement) made.state h.1 scope other same unheld)

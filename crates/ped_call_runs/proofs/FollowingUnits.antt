@@ -8,7 +8,7 @@ use Rattle.ped_calls.specs.ped_valid.specs.ped_symbols.specs.Kinds.{kind_in}
 use Rattle.ped_calls.specs.Forms.{Called}
 use Rattle.ped_calls.specs.Units.{ProgramUnits}
 use Rattle.ped_calls.specs.Refusals.{for_names}
-use Rattle.ped_calls.specs.Expanding.{Given, Expanded, AllExpanded, call_expanded, constants_of, nothing_given, expansion}
+use Rattle.ped_calls.specs.Expanding.{Given, Expanded, call_expanded, constants_of, nothing_given, expansion}
 use Rattle.ped_steps.specs.ped_eval.specs.ped_store.specs.Cells.{Scalar, Element, Private, In, Out}
 use Rattle.ped_steps.specs.ped_eval.specs.ped_store.specs.Stores.{Store, store_at_start, number_in, lines_in}
 use Rattle.ped_steps.specs.ped_eval.specs.ped_store.specs.Storage.{elements_of}
@@ -19,13 +19,12 @@ use Rattle.ped_steps.specs.ped_eval.specs.Outcomes.{bounds_of, setting_of, run_o
 use Rattle.ped_steps.specs.Runs.Renumbering.{EndsAs, IsToldBack, renumbered}
 use Rattle.ped_steps.proofs.RunLaws.RenumberedPrograms.{program_renumbered, ends_back, outcome_renumbered}
 use Rattle.ped_call_runs.specs.UnitRuns.{main_instance, call_size, call_run, run_units, outcome_of_units}
-use Rattle.ped_call_runs.proofs.FollowingValues.{Each}
+use Rattle.ped_call_runs.proofs.EachNames.{Each}
 use Rattle.ped_call_runs.proofs.FollowingStores.{Bond, tight, loose, held, free, Agrees, IsBelow}
 use Rattle.ped_call_runs.proofs.FollowingEndings.{EndsAlike}
 use Rattle.ped_call_runs.proofs.FollowingNames.{named_cell, unheld, bond_of}
 use Rattle.ped_call_runs.proofs.FollowingStatements.{AllStand, statements_follow}
 use Rattle.ped_call_runs.proofs.FollowingDepths.{Holds, calls_follow}
-use Rattle.ped_call_runs.proofs.NothingReplaced.{all_same_made}
 
 -- a live-out variable stands alike on both sides: it keeps its name and its bounds, and holds the same
 pub record IsLiveAlike (b : List ℕ → Bond) (f : List ℕ → List ℕ) (t u : ProgramTree) (x : List ℕ) : Type 0 where
@@ -129,13 +128,11 @@ module _ (us : ProgramUnits) (a : StandAlike us) where
   -- the units and their expansion, under the numbers of the units, end alike
   units_follow : (data_bytes : List ℕ) → EndsAlike (IsBelow (bond_of a.bond) (named_cell a.name)) (run_units us data_bytes).ending (run_all q (expansion us).body 1 [] (store_at_start (lines data_bytes))).ending
   units_follow data_bytes =
-      subst (λ (z : AllExpanded Given). EndsAlike (IsBelow (bond_of a.bond) (named_cell a.name)) (run_units us data_bytes).ending (run_all q z.statements 1 [] (store_at_start (lines data_bytes))).ending)
-      (all_same_made inner us.main.tree.body (nothing_given us))
-      (statements_follow a.bond a.name a.twice q [] (call_size depth us) inner (Holds us a.name q depth a.bond [] (main_instance us) (constants_of us.main)) (call_run depth us) (main_instance us)
+      statements_follow a.bond a.name a.twice q [] (call_size depth us) inner (Holds us a.name q depth a.bond [] (main_instance us) (constants_of us.main)) (call_run depth us) (main_instance us)
       (calls_follow us a.name q a.twice depth a.bond [] (main_instance us) (constants_of us.main))
       us.main.tree.body 1 1 (nothing_given us) a.statements [] []
       (record { turns = refl; index = λ x. refl; cell = λ x. refl }) (record { index = λ y h. refl; cell = λ y h. refl })
-      (store_at_start (lines data_bytes)) (store_at_start (lines data_bytes)) (start_below a.bond a.name a.unknown (lines data_bytes)))
+      (store_at_start (lines data_bytes)) (store_at_start (lines data_bytes)) (start_below a.bond a.name a.unknown (lines data_bytes))
 
   -- where the run of the units ends, the expansion has the same outcome
   pub outcomes_alike : (data_bytes : List ℕ) → Ends (run_units us data_bytes).ending → outcome (expansion us) data_bytes ≡ outcome_of_units us data_bytes

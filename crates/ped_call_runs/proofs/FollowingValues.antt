@@ -16,6 +16,7 @@ use Rattle.ped_steps.specs.ped_eval.specs.Values.{of_intrinsic, element_cell, va
 use Rattle.ped_steps.specs.ped_eval.specs.Statements.{Stored, assigned, item_text, item_texts, printed_line}
 use Rattle.ped_steps.specs.ped_eval.specs.Loops.{in_bounds, limits}
 use Rattle.ped_steps.specs.ped_laws.proofs.CoveringLaws.Comings.{came, ok_one}
+use Rattle.ped_call_runs.proofs.EachNames.{Each, each_front, each_behind}
 
 -- the same (plain words)
 abbrev pub itself : {A : Type 0} → A → A
@@ -24,19 +25,6 @@ itself x = x
 -- where the first evaluation comes to a value, the second comes to what a function makes of it
 abbrev pub Follows : {A X : Type 0} → (A → X) → Evaluated A → Evaluated X → Type 0
 Follows {A} {X} f a b = (v : A) → a.result ≡ Ok v → b.result ≡ Ok (f v)
-
--- something holds for each name
-abbrev pub Each : (List ℕ → Type 0) → List (List ℕ) → Type 0
-Each P [] = Unit {0}
-Each P (x ∷ xs) = P x × Each P xs
-
-pub each_front : (P : List ℕ → Type 0) (xs ys : List (List ℕ)) → Each P (xs ++ ys) → Each P xs
-each_front P [] ys h = tt
-each_front P (x ∷ xs) ys h = (h.0, each_front P xs ys h.1)
-
-pub each_behind : (P : List ℕ → Type 0) (xs ys : List (List ℕ)) → Each P (xs ++ ys) → Each P ys
-each_behind P [] ys h = h
-each_behind P (x ∷ xs) ys h = each_behind P xs ys h.1
 
 pub then_follows : {A B X Y : Type 0} (f : A → X) (h : B → Y) (a : Evaluated A) (b : Evaluated X) (next : A → Evaluated B) (other : X → Evaluated Y)
     → Follows f a b → ((u : A) → Follows h (next u) (other (f u))) → Follows h (a >>> next) (b >>> other)

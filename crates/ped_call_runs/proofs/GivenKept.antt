@@ -12,31 +12,31 @@ use Rattle.ped_calls.specs.ped_valid.specs.ped_symbols.specs.Values.{Values, fix
 use Rattle.ped_calls.specs.Forms.{Called}
 use Rattle.ped_calls.specs.Units.{ProgramUnit, ProgramUnits, unit_of, call_of}
 use Rattle.ped_calls.specs.Refusals.{save_of_formals, for_names}
-use Rattle.ped_calls.specs.Expanding.{Given, free_name, with_new, declared_as, with_local, stmts_replaced, is_variable_name, Bound, standing, bound_by, bound_arguments, body_names, constants_of, with_formals, with_constants, Renamed, with_renamed, renamed, meanings_in, Expanded, expanded_or, expanded_in, all_expanded_in, unit_expanded, call_expanded, nothing_given, main_expanded, expansion}
+use Rattle.ped_calls.specs.Expanding.{Given, free_name, with_new, declared_as, with_local, Meanings, replaced, called_replaced, is_variable_name, Bound, standing, bound_by, bound_arguments, body_names, constants_of, with_formals, with_constants, Renamed, with_renamed, renamed, meanings_in, Expanded, expanded_or, expanded_in, all_expanded_in, unit_expanded, call_expanded, nothing_given, main_expanded, expansion}
 use Rattle.ped_steps.specs.ped_eval.specs.Loops.{sorted_once}
 use Rattle.ped_steps.specs.ped_eval.specs.Outcomes.{live_names}
 
-module _ {S : Type 0} (P : S → Type 0) (f : Called → S → Expanded S) (keeps : (c : Called) (s : S) → P s → P (f c s).state) where
-  or_kept : (t : StmtTree) (s : S) (o : Option Called) → P s → P (expanded_or f t s o).state
+module _ {S : Type 0} (P : S → Type 0) (f : Called → S → Expanded S) (keeps : (c : Called) (s : S) → P s → P (f c s).state) (m : Meanings) where
+  or_kept : (t : StmtTree) (s : S) (o : Option Called) → P s → P (expanded_or m f t s o).state
   or_kept t s None h = h
-  or_kept t s (Some c) h = keeps c s h
+  or_kept t s (Some c) h = keeps (called_replaced m c) s h
 
   mutual
-    pub state_kept : (t : StmtTree) (s : S) → P s → P (expanded_in f t s).state
-    state_kept (Assign left right) s h = or_kept (Assign left right) s (call_of left right) h
-    state_kept (If c x y) s h = all_state_kept y (all_expanded_in f x s).state (all_state_kept x s h)
+    pub state_kept : (t : StmtTree) (s : S) → P s → P (expanded_in m f t s).state
+    state_kept (Assign left right) s h = or_kept (Assign (replaced m left) (replaced m right)) s (call_of left right) h
+    state_kept (If c x y) s h = all_state_kept y (all_expanded_in m f x s).state (all_state_kept x s h)
     state_kept (Do head body) s h = all_state_kept body s h
     state_kept (Print items) s h = h
     state_kept (Read items) s h = h
     state_kept Stop s h = h
     state_kept (Comment text) s h = h
 
-    pub all_state_kept : (ts : StmtTrees) (s : S) → P s → P (all_expanded_in f ts s).state
+    pub all_state_kept : (ts : StmtTrees) (s : S) → P s → P (all_expanded_in m f ts s).state
     all_state_kept no_stmts s h = h
-    all_state_kept (more_stmts t rest) s h = all_state_kept rest (expanded_in f t s).state (state_kept t s h)
+    all_state_kept (more_stmts t rest) s h = all_state_kept rest (expanded_in m f t s).state (state_kept t s h)
 
 module _ (P : Given → Type 0) (new : (g : Given) → P g → P (with_new g)) (local : (g : Given) (kind : Option Kind) → P g → P (with_local g kind)) where
-  bound_kept : (constants : Values) (es : List ExprTree) (g : Given) → P g → P (bound_arguments constants es g).given
+  pub bound_kept : (constants : Values) (es : List ExprTree) (g : Given) → P g → P (bound_arguments constants es g).given
   bound_kept constants [] g h = h
   bound_kept constants (e ∷ rest) g h = go (is_variable_name constants e) (fixed_value constants e) (bound_kept constants rest)
     where
@@ -46,7 +46,7 @@ module _ (P : Given → Type 0) (new : (g : Given) → P g → P (with_new g)) (
       go false (Some n) more = more g h
       go false None more = more (with_new g) (new g h)
 
-  renamed_kept : (u : ProgramUnit) (xs : List (List ℕ)) (r : Renamed) → P r.given → P (renamed u xs r).given
+  pub renamed_kept : (u : ProgramUnit) (xs : List (List ℕ)) (r : Renamed) → P r.given → P (renamed u xs r).given
   renamed_kept u [] r h = h
   renamed_kept u (x ∷ xs) r h = renamed_kept u xs (if is_some (entry_of r.meanings x) then r else with_renamed x (kind_in (for_names u) x) r) (go (is_some (entry_of r.meanings x)))
     where
@@ -63,12 +63,12 @@ module _ (P : Given → Type 0) (new : (g : Given) → P g → P (with_new g)) (
       go None inner = h
       go (Some v) inner =
           let b : Bound = bound_arguments constants (listed c.arguments) g in
-          all_state_kept P (call_expanded depth us []) inner (stmts_replaced (meanings_in v b).meanings v.tree.body) (meanings_in v b).given
+          all_state_kept P (call_expanded depth us []) inner (meanings_in v b).meanings v.tree.body (meanings_in v b).given
           (renamed_kept v (body_names v) (record { meanings = with_constants (with_formals [] v.formals b.meant) (constants_of v); given = b.given }) (bound_kept constants (listed c.arguments) g h))
 
   -- and behind the main program
   pub main_kept : (us : ProgramUnits) (ts : StmtTrees) → P (nothing_given us) → P (main_expanded us ts).state
-  main_kept us ts h = all_state_kept P (call_expanded (length us.others) us (constants_of us.main)) (call_kept (length us.others) us (constants_of us.main)) ts (nothing_given us) h
+  main_kept us ts h = all_state_kept P (call_expanded (length us.others) us (constants_of us.main)) (call_kept (length us.others) us (constants_of us.main)) [] ts (nothing_given us) h
 
 -- declarations that save nothing
 abbrev pub SaveNothing : List DeclTree → Type 0

@@ -28,9 +28,6 @@ entry_follows (p ∷ es) fs x h = go (is_same_text x p.0) refl (entry_follows es
     go true k more = let z : Some p.1 ≡ None = sym (ap (λ (t : Bool). if t then Some p.1 else entry_of es x) k) ∙ h in absurd cc
     go false k more = ap (λ (t : Bool). if t then Some p.1 else entry_of (es ++ fs) x) k ∙ more (sym (ap (λ (t : Bool). if t then Some p.1 else entry_of es x) k) ∙ h)
 
-alone_entry : (y x : List ℕ) (e : ExprTree) → entry_of ((x, e) ∷ []) y ≡ (if is_same_text y x then Some e else None)
-alone_entry y x e = refl
-
 -- with one more
 pub kept_entry : (m : Meanings) (x : List ℕ) (v : ExprTree) (y : List ℕ) (e : ExprTree) → entry_of m y ≡ Some e → entry_of (with_entry m x v) y ≡ Some e
 kept_entry m x v y e h = go (is_some (entry_of m x))

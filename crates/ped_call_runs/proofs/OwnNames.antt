@@ -25,6 +25,10 @@ abbrev pub NoneTwice : List (List ℕ × List ℕ) → Type 0
 NoneTwice [] = Unit {0}
 NoneTwice (p ∷ ps) = (is_among p.0 (firsts ps) ≡ false) × NoneTwice ps
 
+-- a name that is none of a CALL's own
+abbrev pub IsNoOwn : List ℕ → Type 0
+IsNoOwn y = (m : ℕ) (x : List ℕ) → is_same_text (own m x) y ≡ false
+
 pub own_apart : (m l : ℕ) (x y : List ℕ) → m < l → is_same_text (own m x) (own l y) ≡ false
 own_apart m l x y less = go (eqb m l) refl
   where
@@ -38,11 +42,11 @@ apart_in lo mid hi y z a b =
     let to = a.to in
     (λ i. is_same_text (a.is i) (b.is i)) ∙ own_apart a.number b.number a.name b.name (omega (arith, from, to))
 
-outside_in : (lo mid hi : ℕ) (y : List ℕ) (qs : List (List ℕ × List ℕ)) → IsOwnIn lo mid y → OwnIn mid hi qs → is_among y (firsts qs) ≡ false
+pub outside_in : (lo mid hi : ℕ) (y : List ℕ) (qs : List (List ℕ × List ℕ)) → IsOwnIn lo mid y → OwnIn mid hi qs → is_among y (firsts qs) ≡ false
 outside_in lo mid hi y [] a h = refl
 outside_in lo mid hi y (q ∷ qs) a h = λ i. apart_in lo mid hi y q.0 a h.0 i || outside_in lo mid hi y qs a h.1 i
 
-among_joined : (y : List ℕ) (ps qs : List (List ℕ × List ℕ)) → is_among y (firsts ps) ≡ false → is_among y (firsts qs) ≡ false → is_among y (firsts (ps ++ qs)) ≡ false
+pub among_joined : (y : List ℕ) (ps qs : List (List ℕ × List ℕ)) → is_among y (firsts ps) ≡ false → is_among y (firsts qs) ≡ false → is_among y (firsts (ps ++ qs)) ≡ false
 among_joined y [] qs h k = k
 among_joined y (p ∷ ps) qs h k =
     let parts = neither (is_same_text y p.0) (is_among y (firsts ps)) h in

@@ -75,6 +75,22 @@ placed_inside all n j count gaps p = record {
   later = lie_wider (j + (count + 1)) p.last (j + 1 + count) p.last p.behind (omega (arith)) (omega (arith)) p.later;
 }
 
+behind_arguments : (n j many made front gaps all : ℕ) → n ≡ j + front → many ≡ made + gaps → all ≡ front + gaps → n + 1 + many ≡ j + 1 + 0 + made + all
+behind_arguments n j many made front gaps all h k l = omega (arith, h, k, l)
+
+-- the statements of the subroutine in the block of a CALL, behind the assignments
+pub placed_body : (all : List ℕ) (n j many made body : ℕ) (arguments inside : List ℕ) → IsPlaced all n j (made + body + 1) (arguments ++ inside) → many ≡ made + length arguments → Lie j (j + 1 + 0 + made) arguments
+    → IsPlaced all (n + 1 + many) (j + 1 + 0 + made) body inside
+placed_body all n j many made body arguments inside p sizes range = record {
+  front = p.front ++ arguments;
+  behind = p.behind;
+  last = p.last;
+  whole = p.whole ∙ ap (λ (gs : List ℕ). p.front ++ gs) (append_assoc arguments inside p.behind) ∙ sym (append_assoc p.front arguments (inside ++ p.behind));
+  number = behind_arguments n j many made (length p.front) (length arguments) (length (p.front ++ arguments)) p.number sizes (length_joined p.front arguments);
+  before = lie_joined 0 (j + 1 + 0 + made) p.front arguments (lie_wider 0 j 0 (j + 1 + 0 + made) p.front (omega (arith)) (omega (arith)) p.before) (lie_wider j (j + 1 + 0 + made) 0 (j + 1 + 0 + made) arguments (omega (arith)) (omega (arith)) range);
+  later = lie_wider (j + (made + body + 1)) p.last (j + 1 + 0 + made + body) p.last p.behind (omega (arith)) (omega (arith)) p.later;
+}
+
 -- the whole trace
 pub placed_all : (count : ℕ) (t : Trace) → IsPlaced t.gaps 1 1 count t.gaps
 placed_all count t = record { front = []; behind = []; last = 0; whole = sym (append-nil t.gaps); number = refl; before = tt; later = tt }

@@ -6,10 +6,11 @@ use Rattle.ped_tree.specs.Tree.{ExprTree, ExprTrees, no_exprs, more_exprs, StmtT
 use Rattle.ped_calls.specs.ped_valid.specs.ped_symbols.specs.Values.{Values, fixed_value}
 use Rattle.ped_calls.specs.Forms.{Called}
 use Rattle.ped_calls.specs.Units.{ProgramUnit, ProgramUnits, unit_of}
-use Rattle.ped_calls.specs.Expanding.{Given, with_new, Meanings, all_replaced, called_replaced, stmts_replaced, is_variable_name, Bound, standing, bound_by, bound_arguments, meanings_in, behind_stmts, call_comment, block_of, all_expanded_in, unit_expanded, call_expanded}
+use Rattle.ped_calls.specs.Expanding.{Given, with_new, Meanings, all_replaced, called_replaced, is_variable_name, Bound, standing, bound_by, bound_arguments, meanings_in, behind_stmts, call_comment, block_of, all_expanded_in, unit_expanded, call_expanded}
 use Rattle.ped_call_runs.specs.UnitRuns.{number_inside, all_sized, size_in, call_size}
+use Rattle.ped_call_runs.proofs.EachCalls.{UnitFits, FitsAt}
 use Rattle.ped_call_runs.proofs.Traces.{Trace, arguments_traced, all_traced, unit_traced, call_traced}
-use Rattle.ped_call_runs.proofs.TraceNumbers.{lie_wider, lie_joined, length_joined, IsCounted, AllKeepCalls, all_counted, AreCounted, arguments_counted}
+use Rattle.ped_call_runs.proofs.TraceNumbers.{lie_wider, lie_joined, length_joined, IsCounted, all_counted, AreCounted, arguments_counted}
 
 -- replaced arguments are as many
 pub as_many : (k : Meanings) (es : ExprTrees) → length (listed (all_replaced k es)) ≡ length (listed es)
@@ -36,7 +37,7 @@ front_counts constants (e ∷ es) g body = go (is_variable_name constants e) (fi
     go false None more = one_made (statements_count (behind_stmts (bound_arguments constants es (with_new g)).assignments body)) (length (bound_arguments constants es (with_new g)).assignments) (statements_count body) (more (with_new g))
 
 -- the block of a CALL counts one more than its statements
-block_count : (c : Called) (made : List StmtTree) (body : StmtTrees) → statement_count (block_of c made body) ≡ statements_count (behind_stmts made body) + 1
+pub block_count : (c : Called) (made : List StmtTree) (body : StmtTrees) → statement_count (block_of c made body) ≡ statements_count (behind_stmts made body) + 1
 block_count c made body = go (statements_count (behind_stmts made body))
   where
     go : (n : ℕ) → 0 + n + 0 + 1 ≡ n + 1
@@ -69,20 +70,8 @@ module _ (us : ProgramUnits) where
   abbrev meant_in : Values → Meanings → Called → Given → ProgramUnit → Meanings
   meant_in constants k c g v = (meanings_in v (bound_in constants k c g)).meanings
 
-  -- a CALL of this subroutine has as many arguments as there are dummy arguments, and its subroutine keeps its CALLs
-  abbrev pub UnitFits : (Meanings → Called → Type 0) → ℕ → Values → Meanings → Called → Given → Option ProgramUnit → Type 0
-  UnitFits fits depth constants k c g None = Unit {0}
-  UnitFits fits depth constants k c g (Some v) =
-      (length (listed c.arguments) ≡ length v.formals)
-      × AllKeepCalls (meant_in constants k c g v) (call_size depth us) (call_expanded depth us []) (call_traced depth us [] (meant_in constants k c g v)) (fits (meant_in constants k c g v)) v.tree.body
-
-  -- a CALL fits, and the CALLs that it leads to do, so deep at most
-  abbrev pub FitsAt : ℕ → Values → Meanings → Called → Type 0
-  FitsAt zero constants k c = Unit {0}
-  FitsAt (suc depth) constants k c = (g : Given) → UnitFits (FitsAt depth []) depth constants k c g (unit_of us c.name)
-
-  unit_counts : (depth : ℕ) → ((k : Meanings) (c : Called) → FitsAt depth [] k c → (n j : ℕ) (g : Given) → IsCounted j (call_size depth us c) (statement_count (call_expanded depth us [] (called_replaced k c) g).statement) (call_traced depth us [] k c n j g))
-      → (constants : Values) (k : Meanings) (c : Called) (n j : ℕ) (g : Given) (o : Option ProgramUnit) → UnitFits (FitsAt depth []) depth constants k c g o
+  unit_counts : (depth : ℕ) → ((k : Meanings) (c : Called) → FitsAt us depth c → (n j : ℕ) (g : Given) → IsCounted j (call_size depth us c) (statement_count (call_expanded depth us [] (called_replaced k c) g).statement) (call_traced depth us [] k c n j g))
+      → (constants : Values) (k : Meanings) (c : Called) (n j : ℕ) (g : Given) (o : Option ProgramUnit) → UnitFits (FitsAt us depth) c o
       → IsCounted j (size_in (call_size depth us) c o) (statement_count (unit_expanded (call_expanded depth us []) constants (called_replaced k c) g o).statement) (unit_traced depth us (call_traced depth us []) k constants c n j g o)
   unit_counts depth deeper constants k c n j g None h = record { sizes = refl; range = tt }
   unit_counts depth deeper constants k c n j g (Some v) h =
@@ -91,14 +80,14 @@ module _ (us : ProgramUnits) where
       let m : Meanings = meant_in constants k c g v in
       let behind : Given = (meanings_in v b).given in
       let made : ℕ = length b.assignments in
-      let body : StmtTrees = (all_expanded_in (call_expanded depth us []) (stmts_replaced m v.tree.body) behind).statements in
+      let body : StmtTrees = (all_expanded_in m (call_expanded depth us []) v.tree.body behind).statements in
       let first : ℕ = j + 1 + statement_count (call_comment (called_replaced k c)) in
       let arguments : Trace = arguments_traced constants n v.formals es first g in
       let inside : Trace = all_traced m (call_size depth us) (call_expanded depth us []) (call_traced depth us [] m) v.tree.body (number_inside c n) (first + made) behind in
       let many : length es ≡ length (listed c.arguments) = as_many k c.arguments in
       let a : AreCounted j first (length es) b arguments = arguments_counted constants n j v.formals es (many ∙ h.0) first (behind_first j) g in
       let r : IsCounted (first + made) (all_sized (call_size depth us) v.tree.body) (statements_count body) inside =
-      all_counted m (call_size depth us) (call_expanded depth us []) (call_traced depth us [] m) (FitsAt depth [] m) (deeper m) v.tree.body (number_inside c n) (first + made) behind h.1 in
+      all_counted m (call_size depth us) (call_expanded depth us []) (call_traced depth us [] m) (FitsAt us depth) (deeper m) v.tree.body (number_inside c n) (first + made) behind h.2 in
       let whole : statement_count (block_of (called_replaced k c) b.assignments body) ≡ made + statements_count body + 1 = block_count (called_replaced k c) b.assignments body ∙ ap (λ (z : ℕ). z + 1) (front_counts constants es g body) in
       let gaps : length (arguments.gaps ++ inside.gaps) ≡ length arguments.gaps + length inside.gaps = length_joined arguments.gaps inside.gaps in
       subst (λ (z : ℕ). IsCounted j (size_in (call_size depth us) c (Some v)) z (unit_traced depth us (call_traced depth us []) k constants c n j g (Some v))) (sym whole)
@@ -110,7 +99,7 @@ module _ (us : ProgramUnits) where
       })
 
   -- CALLs of any depth
-  pub calls_count : (depth : ℕ) (constants : Values) (k : Meanings) (c : Called) → FitsAt depth constants k c → (n j : ℕ) (g : Given)
+  pub calls_count : (depth : ℕ) (constants : Values) (k : Meanings) (c : Called) → FitsAt us depth c → (n j : ℕ) (g : Given)
       → IsCounted j (call_size depth us c) (statement_count (call_expanded depth us constants (called_replaced k c) g).statement) (call_traced depth us constants k c n j g)
   calls_count zero constants k c h n j g = record { sizes = refl; range = tt }
-  calls_count (suc depth) constants k c h n j g = unit_counts depth (calls_count depth []) constants k c n j g (unit_of us c.name) (h g)
+  calls_count (suc depth) constants k c h n j g = unit_counts depth (calls_count depth []) constants k c n j g (unit_of us c.name) h

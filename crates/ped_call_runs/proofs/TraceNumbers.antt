@@ -5,10 +5,10 @@ use Rattle.ped_tree.specs.Numbering.{statement_count, statements_count}
 use Rattle.ped_tree.specs.Tree.{ExprTree, StmtTree, StmtTrees, Assign, If, Do, Print, Read, Stop, Comment, no_stmts, more_stmts}
 use Rattle.ped_calls.specs.ped_valid.specs.ped_symbols.specs.Values.{Values, fixed_value}
 use Rattle.ped_calls.specs.Forms.{Called}
-use Rattle.ped_calls.specs.Units.{call_of, call_statement, instead_of}
-use Rattle.ped_calls.specs.Expanding.{Given, with_new, Meanings, replaced, called_replaced, stmt_replaced, stmts_replaced, is_variable_name, Bound, standing, bound_by, bound_arguments, Expanded, AllExpanded, expanded_or, expanded_in, all_expanded_in}
+use Rattle.ped_calls.specs.Units.{call_of}
+use Rattle.ped_calls.specs.Expanding.{Given, with_new, Meanings, replaced, called_replaced, is_variable_name, Bound, standing, bound_by, bound_arguments, Expanded, AllExpanded, expanded_or, expanded_in, all_expanded_in}
 use Rattle.ped_call_runs.specs.UnitRuns.{count_or, sized, all_sized}
-use Rattle.ped_call_runs.proofs.FollowingStatements.{calls_itself}
+use Rattle.ped_call_runs.proofs.EachCalls.{OfCall, EachCall, AllCalls}
 use Rattle.ped_call_runs.proofs.RisingNumbers.{passed}
 use Rattle.ped_call_runs.proofs.Traces.{Trace, nothing_traced, traced_before, value_traced, arguments_traced, CallTraced, traced_or, traced, all_traced}
 
@@ -99,25 +99,6 @@ one_more_of_two j a b c d s t h = record {
 }
 
 module _ (k : Meanings) (size : Called → ℕ) (inner : Called → Given → Expanded Given) (call : CallTraced) (fits : Called → Type 0) where
-  -- a CALL that fits; or an assignment that is none after the replacement either
-  abbrev pub KeepsCall : ExprTree → ExprTree → Option Called → Type 0
-  KeepsCall left right None = call_of (replaced k left) (replaced k right) ≡ None
-  KeepsCall left right (Some c) = fits c
-
-  abbrev mutual
-    pub KeepsCalls : StmtTree → Type 0
-    KeepsCalls (Assign left right) = KeepsCall left right (call_of left right)
-    KeepsCalls (If condition then_part else_part) = AllKeepCalls then_part × AllKeepCalls else_part
-    KeepsCalls (Do h body) = AllKeepCalls body
-    KeepsCalls (Print items) = Unit {0}
-    KeepsCalls (Read items) = Unit {0}
-    KeepsCalls Stop = Unit {0}
-    KeepsCalls (Comment text) = Unit {0}
-
-    pub AllKeepCalls : StmtTrees → Type 0
-    AllKeepCalls no_stmts = Unit {0}
-    AllKeepCalls (more_stmts t rest) = KeepsCalls t × AllKeepCalls rest
-
   -- CALLs count as their blocks and their gaps
   abbrev pub CallsCount : Type 0
   CallsCount = (c : Called) → fits c → (n j : ℕ) (g : Given) → IsCounted j (size c) (statement_count (inner (called_replaced k c) g).statement) (call c n j g)
@@ -125,36 +106,34 @@ module _ (k : Meanings) (size : Called → ℕ) (inner : Called → Given → Ex
   plain : (j : ℕ) → IsCounted j 1 1 nothing_traced
   plain j = record { sizes = refl; range = tt }
 
-  assign_counted : CallsCount → (left right : ExprTree) (n j : ℕ) (g : Given) (o : Option Called) → KeepsCall left right o
-      → IsCounted j (count_or size o) (statement_count (expanded_in inner (instead_of (λ c. call_statement (called_replaced k c)) (Assign (replaced k left) (replaced k right)) o) g).statement) (traced_or call n j g o)
-  assign_counted calls left right n j g None h =
-      subst (λ (o : Option Called). IsCounted j 1 (statement_count (expanded_or inner (Assign (replaced k left) (replaced k right)) g o).statement) nothing_traced) (sym h) (plain j)
-  assign_counted calls left right n j g (Some c) h =
-      subst (λ (o : Option Called). IsCounted j (size c) (statement_count (expanded_or inner (call_statement (called_replaced k c)) g o).statement) (call c n j g)) (sym (calls_itself (called_replaced k c))) (calls c h n j g)
+  assign_counted : CallsCount → (t : StmtTree) (n j : ℕ) (g : Given) (o : Option Called) → OfCall fits o → statement_count t ≡ 1
+      → IsCounted j (count_or size o) (statement_count (expanded_or k inner t g o).statement) (traced_or call n j g o)
+  assign_counted calls t n j g None h one = subst (λ (m : ℕ). IsCounted j 1 m nothing_traced) (sym one) (plain j)
+  assign_counted calls t n j g (Some c) h one = calls c h n j g
 
   mutual
-    pub counted : CallsCount → (t : StmtTree) (n j : ℕ) (g : Given) → KeepsCalls t → IsCounted j (sized size t) (statement_count (expanded_in inner (stmt_replaced k t) g).statement) (traced k size inner call t n j g)
-    counted calls (Assign left right) n j g h = assign_counted calls left right n j g (call_of left right) h
+    pub counted : CallsCount → (t : StmtTree) (n j : ℕ) (g : Given) → EachCall fits t → IsCounted j (sized size t) (statement_count (expanded_in k inner t g).statement) (traced k size inner call t n j g)
+    counted calls (Assign left right) n j g h = assign_counted calls (Assign (replaced k left) (replaced k right)) n j g (call_of left right) h refl
     counted calls (If c x y) n j g h =
-        let made : AllExpanded Given = all_expanded_in inner (stmts_replaced k x) g in
-        let other : AllExpanded Given = all_expanded_in inner (stmts_replaced k y) made.state in
+        let made : AllExpanded Given = all_expanded_in k inner x g in
+        let other : AllExpanded Given = all_expanded_in k inner y made.state in
         one_more_of_two j (all_sized size x) (all_sized size y) (statements_count made.statements) (statements_count other.statements)
         (all_traced k size inner call x (n + 1) (j + 1) g) (all_traced k size inner call y (n + 1 + all_sized size x) (j + 1 + statements_count made.statements) made.state)
         (joined_counted (j + 1) (all_sized size x) (all_sized size y) (statements_count made.statements) (statements_count other.statements)
         (all_traced k size inner call x (n + 1) (j + 1) g) (all_traced k size inner call y (n + 1 + all_sized size x) (j + 1 + statements_count made.statements) made.state)
         (all_counted calls x (n + 1) (j + 1) g h.0) (all_counted calls y (n + 1 + all_sized size x) (j + 1 + statements_count made.statements) made.state h.1))
     counted calls (Do head body) n j g h =
-        one_more j (all_sized size body) (statements_count (all_expanded_in inner (stmts_replaced k body) g).statements) (all_traced k size inner call body (n + 1) (j + 1) g) (all_counted calls body (n + 1) (j + 1) g h)
+        one_more j (all_sized size body) (statements_count (all_expanded_in k inner body g).statements) (all_traced k size inner call body (n + 1) (j + 1) g) (all_counted calls body (n + 1) (j + 1) g h)
     counted calls (Print items) n j g h = plain j
     counted calls (Read items) n j g h = plain j
     counted calls Stop n j g h = plain j
     counted calls (Comment text) n j g h = record { sizes = refl; range = tt }
 
-    pub all_counted : CallsCount → (ts : StmtTrees) (n j : ℕ) (g : Given) → AllKeepCalls ts → IsCounted j (all_sized size ts) (statements_count (all_expanded_in inner (stmts_replaced k ts) g).statements) (all_traced k size inner call ts n j g)
+    pub all_counted : CallsCount → (ts : StmtTrees) (n j : ℕ) (g : Given) → AllCalls fits ts → IsCounted j (all_sized size ts) (statements_count (all_expanded_in k inner ts g).statements) (all_traced k size inner call ts n j g)
     all_counted calls no_stmts n j g h = record { sizes = refl; range = tt }
     all_counted calls (more_stmts t rest) n j g h =
-        let made : Expanded Given = expanded_in inner (stmt_replaced k t) g in
-        joined_counted j (sized size t) (all_sized size rest) (statement_count made.statement) (statements_count (all_expanded_in inner (stmts_replaced k rest) made.state).statements)
+        let made : Expanded Given = expanded_in k inner t g in
+        joined_counted j (sized size t) (all_sized size rest) (statement_count made.statement) (statements_count (all_expanded_in k inner rest made.state).statements)
         (traced k size inner call t n j g) (all_traced k size inner call rest (n + sized size t) (j + statement_count made.statement) made.state)
         (counted calls t n j g h.0) (all_counted calls rest (n + sized size t) (j + statement_count made.statement) made.state h.1)
 

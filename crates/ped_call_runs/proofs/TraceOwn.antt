@@ -51,7 +51,7 @@ arguments_none_twice constants n (y ∷ ys) (e ∷ es) j g h = go (is_variable_n
     go false None more = (arguments_outside constants n y ys es (j + 1) (with_new g) (or_none (is_among y ys) (has_twice ys) h).0, more (j + 1) (with_new g))
 
 -- a name of this CALL's own
-own_here : (n : ℕ) (x : List ℕ) → IsOwnIn n (n + 1) (own n x)
+pub own_here : (n : ℕ) (x : List ℕ) → IsOwnIn n (n + 1) (own n x)
 own_here n x = record { number = n; name = x; is = refl; from = omega (arith); to = omega (arith) }
 
 pub arguments_own : (constants : Values) (n : ℕ) (xs : List (List ℕ)) (es : List ExprTree) (j : ℕ) (g : Given) → OwnIn n (n + 1) (arguments_traced constants n xs es j g).pairs

@@ -10,7 +10,7 @@ use Rattle.ped_calls.specs.ped_valid.specs.ped_symbols.specs.Values.{Values, fix
 use Rattle.ped_calls.specs.Forms.{Called}
 use Rattle.ped_calls.specs.Units.{ProgramUnit, ProgramUnits, unit_of, call_of}
 use Rattle.ped_calls.specs.Refusals.{for_names}
-use Rattle.ped_calls.specs.Expanding.{Given, free_name, with_new, Meanings, called_replaced, stmt_replaced, stmts_replaced, is_variable_name, bound_arguments, body_names, constants_of, with_formals, with_constants, Renamed, with_renamed, meanings_in, call_comment, Expanded, expanded_in, all_expanded_in, call_expanded, nothing_given}
+use Rattle.ped_calls.specs.Expanding.{Given, free_name, with_new, Meanings, called_replaced, is_variable_name, bound_arguments, body_names, constants_of, with_formals, with_constants, Renamed, with_renamed, meanings_in, call_comment, Expanded, expanded_in, all_expanded_in, call_expanded, nothing_given}
 use Rattle.ped_call_runs.specs.UnitRuns.{own, number_inside, sized, all_sized, call_size}
 use Rattle.ped_call_runs.proofs.FollowingStores.{Bond, tight, loose, free}
 
@@ -66,7 +66,7 @@ module _ (k : Meanings) (size : Called → ℕ) (inner : Called → Given → Ex
     traced (Assign left right) n j g = traced_or call n j g (call_of left right)
     traced (If condition then_part else_part) n j g =
         traced_before (all_traced then_part (n + 1) (j + 1) g)
-        (all_traced else_part (n + 1 + all_sized size then_part) (j + 1 + statements_count (all_expanded_in inner (stmts_replaced k then_part) g).statements) (all_expanded_in inner (stmts_replaced k then_part) g).state)
+        (all_traced else_part (n + 1 + all_sized size then_part) (j + 1 + statements_count (all_expanded_in k inner then_part g).statements) (all_expanded_in k inner then_part g).state)
     traced (Do h body) n j g = all_traced body (n + 1) (j + 1) g
     traced (Print items) n j g = nothing_traced
     traced (Read items) n j g = nothing_traced
@@ -76,7 +76,7 @@ module _ (k : Meanings) (size : Called → ℕ) (inner : Called → Given → Ex
     pub all_traced : StmtTrees → ℕ → ℕ → Given → Trace
     all_traced no_stmts n j g = nothing_traced
     all_traced (more_stmts t rest) n j g =
-        traced_before (traced t n j g) (all_traced rest (n + sized size t) (j + statement_count (expanded_in inner (stmt_replaced k t) g).statement) (expanded_in inner (stmt_replaced k t) g).state)
+        traced_before (traced t n j g) (all_traced rest (n + sized size t) (j + statement_count (expanded_in k inner t g).statement) (expanded_in k inner t g).state)
 
 -- a CALL of this subroutine, whose own CALLs a function traces: its arguments, its variables, its CALLs
 abbrev pub unit_traced : ℕ → ProgramUnits → (Meanings → CallTraced) → Meanings → Values → Called → ℕ → ℕ → Given → Option ProgramUnit → Trace

@@ -12,9 +12,9 @@ use Rattle.ped_steps.specs.ped_eval.specs.Scopes.{Setting, Scope, names_in, plac
 use Rattle.ped_steps.specs.ped_eval.specs.Runs.{Run, nothing_done, then_run, run_assignment, run_if, run_do, run}
 use Rattle.ped_steps.specs.ped_eval.specs.Outcomes.{bounds_of, setting_of, Outcome, outcome_of}
 use Rattle.ped_calls.specs.Forms.{Called}
-use Rattle.ped_calls.specs.Units.{ProgramUnit, ProgramUnits, unit_of, call_of}
+use Rattle.ped_calls.specs.Units.{ProgramUnit, ProgramUnits, unit_of, call_of, call_statement}
 use Rattle.ped_calls.specs.Refusals.{for_names}
-use Rattle.ped_calls.specs.Expanding.{Meanings, replaced, cond_replaced, head_replaced, stmt_replaced, stmts_replaced, is_variable_name, body_names, constants_of, with_formals}
+use Rattle.ped_calls.specs.Expanding.{Meanings, replaced, cond_replaced, head_replaced, is_variable_name, body_names, constants_of, with_formals, Expanded, expanded_in, all_expanded_in}
 use Rattle.ped_calls.specs.ped_valid.specs.ped_symbols.specs.Entries.{with_entry}
 
 -- the name of a variable of its own that the CALL with this number has: no text has such a name (this project)
@@ -93,6 +93,18 @@ run_arguments i n (f ∷ fs) [] k scope s = nothing_done s
 -- how a CALL runs: where its unit's statements run, with its number, in these iterations (this project)
 abbrev pub CallRun : Type 0
 CallRun = Instance → Called → ℕ → Scope → Store → Run
+
+-- a CALL stays where it stands
+abbrev pub call_stays : Called → Unit {0} → Expanded (Unit {0})
+call_stays c state = record { statement = call_statement c; state = state }
+
+-- a statement with what stands for each name, in arguments of CALLs too, where CALLs stay (this project)
+abbrev pub stmt_replaced : Meanings → StmtTree → StmtTree
+stmt_replaced m t = (expanded_in m call_stays t tt).statement
+
+-- the same of statements
+abbrev pub stmts_replaced : Meanings → StmtTrees → StmtTrees
+stmts_replaced m ts = (all_expanded_in m call_stays ts tt).statements
 
 -- a statement, or the CALL that it is, counted with all that the CALL runs (this project)
 abbrev pub count_or : (Called → ℕ) → Option Called → ℕ

@@ -21,7 +21,7 @@ use Rattle.ped_calls.proofs.Settled.{count_behind, settled_unfit}
 below : (a b : ℕ) → a < b → nat_lt a b ≡ true
 below a b h = grind (arith, nat_tests)
 
-not_below : (a b : ℕ) → b ≤ a → nat_lt a b ≡ false
+pub not_below : (a b : ℕ) → b ≤ a → nat_lt a b ≡ false
 not_below a b h = grind (arith, nat_tests)
 
 either_first : (a b : Bool) → a ≡ true → (a || b) ≡ true
@@ -33,7 +33,7 @@ either_unfit true f h = refl
 either_unfit false true h = absurd cc
 either_unfit false false h = refl
 
-neither : (a f : Bool) → a ≡ false → f ≡ true → (a || not f) ≡ false
+pub neither : (a f : Bool) → a ≡ false → f ≡ true → (a || not f) ≡ false
 neither true f h k = absurd cc
 neither false true h k = refl
 neither false false h k = absurd cc

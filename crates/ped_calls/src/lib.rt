@@ -14,6 +14,7 @@ mod formals;
 mod forms;
 mod giving;
 mod items;
+mod laws;
 mod linking;
 mod naming;
 mod numbering;
@@ -35,5 +36,6 @@ mod standing;
 mod unit_refusals;
 mod units;
 
+pub use laws::{one_expansion_or_one_refusal, plain_files};
 pub use opening::{expand_units, expansion};
 pub use refusals::{UnitFinding, UnitRefusal, UnitRule};

@@ -33,6 +33,13 @@ pub mod PlainUnits
 pub mod PlainFiles
 pub mod PlainTexts
 pub mod OneUnits
+mod Known
+mod KnownArrows
+mod KnownUses
+mod KnownMisfits
+mod LinksKnown
+mod PastKnown
+mod OneVerdict
 pub mod MainSteps
 pub mod MainStarts
 pub mod NumberedNames

@@ -144,17 +144,21 @@ fn judged_within(
     let mut course = start(alloc, file, room)?;
     match file.main(alloc, &mut course, statements) {
         Ok(body) => {
-            let program = settled(
-                alloc,
-                &file.units[0].program.decls,
-                course.given.arrays,
-                body,
-            )?;
+            let arrays = arrays_given(course);
+            let program = settled(alloc, &file.units[0].program.decls, arrays, body)?;
             judged_program(alloc, program)
         }
         Err(Stopped::Past) => Ok(Judgement::PastStatements),
         Err(Stopped::OutOfMemory) => Err(NoMemory),
     }
+}
+
+/// The arrays that were given names.
+fn arrays_given(course: Course) -> Vec<Decl>
+    ensures { result.items ≡ course.given.arrays.items }
+{
+    let given = course.given;
+    given.arrays
 }
 
 /// How many statements may still come to these; none where there are too many already.

@@ -14,7 +14,8 @@ use Rattle.ped_calls.specs.Linking.{Placed, calls_of}
 use Rattle.ped_calls.specs.Expanding.{constants_of, main_call_expanded, nothing_given, main_expanded, with_statements, expansion}
 use Rattle.ped_calls.specs.Placing.{placed_call}
 use Rattle.ped_calls.specs.Verdicts.{calls_count, first_calls, settled, partial, IsPast, IsWithin, IsFirstPast}
-use Rattle.ped_calls.specs.Opening.{expanded_program, has_many, StartsWell}
+use Rattle.ped_calls.specs.Opening.{expanded_program, has_many, Judges, StartsWell}
+use Rattle.ped_calls.specs.declared.opening.Judgement.{Judgement}
 use Rattle.ped_calls.specs.declared.placing.PlacedCall.{PlacedCall}
 use Rattle.ped_calls.proofs.FirstCalls.{all_whole, all_placed}
 use Rattle.ped_calls.proofs.Judged.{not_below, neither}
@@ -102,3 +103,9 @@ many_invalid us starts many v =
 -- where names are refused, the program isn't valid
 pub names_invalid : (us : ProgramUnits) → StartsWell us → (name_refusals [] (expanded_program us us.main.tree.body) ≡ [] → ⊥) → IsValid (expansion us) → ⊥
 names_invalid us starts refused v = refused (subst (λ (x : ProgramTree). name_refusals [] x ≡ []) (sym (all_expanded us starts)) v.names)
+
+-- what expanding all CALLs comes to
+pub whole_judged : (us : ProgramUnits) (ss : StmtTrees) (j : Judgement) → ss ≡ us.main.tree.body → ((later : ℕ) → statements_count ss + later ≡ statements_count us.main.tree.body → Judges us ss later j) → Judges us us.main.tree.body 0 j
+whole_judged us ss j is h =
+    let none : statements_count ss + 0 ≡ statements_count ss = omega arith in
+    subst (λ (ts : StmtTrees). Judges us ts 0 j) is (h 0 (none ∙ ap statements_count is))

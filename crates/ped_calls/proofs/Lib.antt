@@ -40,6 +40,7 @@ mod KnownMisfits
 mod LinksKnown
 mod PastKnown
 mod OneVerdict
+mod OpenedUnits
 pub mod MainSteps
 pub mod MainStarts
 pub mod NumberedNames

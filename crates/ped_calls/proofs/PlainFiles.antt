@@ -19,7 +19,7 @@ use Rattle.ped_calls.specs.Reading.{UnitEntry, AreUnitEntries}
 use Rattle.ped_calls.specs.Refusals.{ReadsUnits, units_name_refusals}
 use Rattle.ped_calls.specs.Verdicts.{IsExpansion}
 use Rattle.ped_calls.proofs.FirstPast.{without_calls}
-use Rattle.ped_calls.proofs.PlainUnits.{ArePlain, IsAlone, read_alone, alone, reads_alone, plain_names, plain_linked}
+use Rattle.ped_calls.proofs.PlainUnits.{ArePlain, alone, read_none, reads_alone, plain_names, plain_linked}
 
 -- each statement says something, where nothing is refused
 
@@ -90,11 +90,11 @@ valid_expands text t v =
     let us = alone t lines in
     let entries = map unit_entry es in
     let reads : ReadsUnits text us = reads_alone text t lines entries r (record { entries = es; cut = r.cut; counted = refl }) (plain_entries all.statements es said r.cut.readings) (all_plain es) in
-    let is_alone : IsAlone text us = read_alone text us reads (all_plain es) in
-    let names : units_name_refusals (all_units us) ≡ [] = plain_names us refl refl is_alone.none ∙ none_on_any [] lines t v.valid.names in
+    let no_call = read_none text t r in
+    let names : units_name_refusals (all_units us) ≡ [] = plain_names us refl refl no_call ∙ none_on_any [] lines t v.valid.names in
     record {
       units = us;
-      linked = record { right = record { reads = reads; names = names }; linked = plain_linked us refl refl is_alone.none };
-      expands = without_calls us is_alone.none;
+      linked = record { right = record { reads = reads; names = names }; linked = plain_linked us refl refl no_call };
+      expands = without_calls us no_call;
       valid = v.valid;
     }

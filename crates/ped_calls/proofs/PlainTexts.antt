@@ -24,7 +24,7 @@ use Rattle.ped_calls.specs.Verdicts.{UnitFinding, found_in_text, RefusesUnits, i
 use Rattle.ped_calls.specs.Laws.{is_plain, IsPlain, HasNoUnits, RefusesAsText}
 use Rattle.ped_calls.proofs.FirstPast.{without_calls}
 use Rattle.ped_calls.proofs.PlainFiles.{valid_expands}
-use Rattle.ped_calls.proofs.PlainUnits.{plain_entry, ArePlain, are_plain, IsAlone, plain_refusals, plain_reads, plain_cut, read_alone, alone, reads_alone, plain_names, plain_linked, calls_nowhere}
+use Rattle.ped_calls.proofs.PlainUnits.{plain_entry, ArePlain, are_plain, IsAlone, read_none, plain_refusals, plain_reads, plain_cut, read_alone, alone, reads_alone, plain_names, plain_linked, calls_nowhere}
 use Rattle.ped_calls.proofs.UnitForms.{unit_item_there}
 
 -- what the text's statements are in a file of program units
@@ -97,8 +97,7 @@ module _ (text : List ℕ) (plain : HasNoUnits text) where
       let there = entries_there ss r.reads.entries r.reads.cut.readings in
       let us = alone r.tree r.lines in
       let reads : ReadsUnits text us = reads_alone text r.tree r.lines there.0 r.reads r.begin there.1 (are_plain ss there.0 plain there.1) in
-      let m = main_alone us reads in
-      in_names g is us reads (ap first_of (plain_names us refl refl m.none) ∙ r.least)
+      in_names g is us reads (ap first_of (plain_names us refl refl (read_none text r.tree r.reads)) ∙ r.least)
 
   refused_as_file : (f : UnitFinding) → RefusesAsText text f → RefusesUnits text f
   refused_as_file f r = by r.finding r.same r.refuses

@@ -9,7 +9,7 @@ use Rattle.ped_tree.specs.Grammar.Refusal.{Refusal, Limit, Finding, refused_if, 
 use Rattle.ped_tree.specs.Grammar.Statement.{Statement, Statements}
 use Rattle.ped_tree.specs.Grammar.Grouping.{statements_of}
 use Rattle.ped_tree.specs.Grammar.OutsideProfile.{IsOutside, by_word}
-use Rattle.ped_tree.specs.Grammar.ExpressionForms.{ReferenceForm, scalar, element, reference_form_tree}
+use Rattle.ped_tree.specs.Grammar.ExpressionForms.{ReferenceForm, scalar, element, expr_form_tree, reference_form_tree}
 use Rattle.ped_tree.specs.Grammar.StatementForms.{SimpleForm, assignment, print, read, stop, continue, StatementForm, program, implicit, integer, dimension, parameter, save, save_all, simple, if_simple, if_then, else_if_then, else_alone, end_of_if, do_loop, end_of_do, private, end, simple_item, behind_if, statement_item, ReadsItem}
 use Rattle.ped_tree.specs.Grammar.Items.{Item, Reading, says, outside_profile, no_form, Entry}
 use Rattle.ped_tree.specs.Grammar.Occurrences.{saved_names}
@@ -43,7 +43,7 @@ simple_none stop = refl
 simple_none continue = refl
 
 behind_none : (s : SimpleForm) → calls_count (behind_if s) ≡ 0
-behind_none (assignment r e) = let none = target_none r _ in omega (arith, none)
+behind_none (assignment r e) = let none = target_none r (expr_form_tree e) in omega (arith, none)
 behind_none (print items) = refl
 behind_none (read items) = refl
 behind_none stop = refl
@@ -231,6 +231,14 @@ pub record IsAlone (text : List ℕ) (us : ProgramUnits) : Type 0 where
   pub reads : Reads text us.main.tree
   pub begin : HasFirstLines text us.main.lines
 
+-- no CALL stands in what a text reads as
+pub read_none : (text : List ℕ) (t : ProgramTree) → Reads text t → calls_count t.body ≡ 0
+read_none text t r =
+    ap (λ (u : ProgramTree). calls_count u.body) (sym r.nested)
+    ∙ form_calls (saved_names r.entries) r.form
+    ∙ ap entries_calls r.written
+    ∙ entries_none (statements_of text).statements r.entries r.cut.readings
+
 no_more : (us : List ProgramUnit) → AreUnitsOf [] us → us ≡ []
 no_more [] h = refl
 no_more (u ∷ us) h = absurd h
@@ -244,23 +252,20 @@ read_alone text us r p =
     let seen : seen_entries (whole r.entries) ≡ es = plain_as stand_in r.entries p in
     let kept : kept_entries (whole r.entries) ≡ es = plain_as call_statement r.entries p in
     let cut : IsCutInto text es = plain_cut text r.entries p r.cut in
+    let reads : Reads text us.main.tree = record {
+      entries = es;
+      cut = cut;
+      accepted = sym (ap first_of (plain_refusals all r.entries p)) ∙ r.accepted;
+      form = main.form;
+      written = main.written ∙ kept;
+      labelled = main.labelled;
+      nested = ap (λ (xs : List Entry). program_form_tree (saved_names xs) main.form) (sym seen) ∙ main.nested;
+    } in
     record {
       others = no_more us.others are.1;
       formals = main.headed.1;
-      none =
-          ap (λ (t : ProgramTree). calls_count t.body) (sym main.nested)
-          ∙ form_calls (saved_names (seen_entries (whole r.entries))) main.form
-          ∙ ap entries_calls (main.written ∙ kept)
-          ∙ entries_none all.statements es cut.readings;
-      reads = record {
-        entries = es;
-        cut = cut;
-        accepted = sym (ap first_of (plain_refusals all r.entries p)) ∙ r.accepted;
-        form = main.form;
-        written = main.written ∙ kept;
-        labelled = main.labelled;
-        nested = ap (λ (xs : List Entry). program_form_tree (saved_names xs) main.form) (sym seen) ∙ main.nested;
-      };
+      none = read_none text us.main.tree reads;
+      reads = reads;
       begin = record { entries = es; cut = cut; counted = ap (λ (xs : List Entry). first_lines (saved_names xs) xs) (sym seen) ∙ main.counted };
     }
 

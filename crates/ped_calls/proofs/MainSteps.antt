@@ -23,7 +23,9 @@ use Rattle.ped_calls.specs.Expanding.{Given, Meanings, all_expanded_in, call_exp
 use Rattle.ped_calls.specs.Giving.{given_of}
 use Rattle.ped_calls.specs.Naming.{AreTables}
 use Rattle.ped_calls.specs.Views.{program_unit_of}
-use Rattle.ped_calls.specs.Courses.{units_of, Passes, AreTooDeep}
+use Rattle.ped_calls.specs.Courses.{units_of, Passes, AreTooDeep, StopsAt}
+use Rattle.ped_calls.specs.declared.expanding.Stopped.{Stopped}
+use Rattle.ped_calls.specs.declared.expanding.Stopped.TheVariants.{Past, OutOfMemory}
 use Rattle.ped_calls.specs.declared.expanding.Course.{Course}
 use Rattle.ped_calls.specs.declared.units.ProgramUnit.{ProgramUnit}
 
@@ -142,6 +144,11 @@ with_both a (x ∷ xs) ys = with_both (with_name a x) xs ys
 pub main_body : (us : List ProgramUnit) (u : ProgramUnit) → 0 < length us → u ≡ get_or us 0 u → stmt_trees u.program.body.items ≡ (units_of us).main.tree.body
 main_body us u some h = ap (λ (v : units.ProgramUnit). v.tree.body) (main_unit us u some h)
 
+-- the main program by its place
+pub main_there : (us : List ProgramUnit) (d : ProgramUnit) → 0 < length us → program_unit_of (get_or us 0 d) ≡ (units_of us).main
+main_there [] d some = absurd (omega (arith, some))
+main_there (v ∷ us) d some = refl
+
 -- its declarations
 pub main_decls : (us : List ProgramUnit) (u : ProgramUnit) → 0 < length us → u ≡ get_or us 0 u → map decl_tree u.program.decls.items ≡ (units_of us).main.tree.decls
 main_decls us u some h = ap (λ (v : units.ProgramUnit). v.tree.decls) (main_unit us u some h)
@@ -167,10 +174,11 @@ went_on us ss later room start new first has whole counted goes =
     omega (arith, same, has, whole, counted, goes)
 
 -- there was none
-pub stopped_from : (us : ProgramUnits) (ss : StmtTrees) (room : ℕ) (start : Course) → given_of start.given ≡ nothing_given us → start.room ≡ room
-    → Passes start.room (statements_count ss) (statements_count (all_expanded_in [] (main_call_expanded us) ss (given_of start.given)).statements) (AreTooDeep 0 (all_expanded_in [] (main_call_expanded us) ss (given_of start.given)).statements)
+pub stopped_from : (us : ProgramUnits) (ss : StmtTrees) (room : ℕ) (start : Course) (e : Stopped) → e ≡ Past → given_of start.given ≡ nothing_given us → start.room ≡ room
+    → StopsAt e (Passes start.room (statements_count ss) (statements_count (all_expanded_in [] (main_call_expanded us) ss (given_of start.given)).statements) (AreTooDeep 0 (all_expanded_in [] (main_call_expanded us) ss (given_of start.given)).statements))
     → Passes room (statements_count ss) (statements_count (main_expanded us ss).statements) (AreTooDeep 0 (main_expanded us ss).statements)
-stopped_from us ss room start first has h =
+stopped_from us ss room start OutOfMemory past first has h = absurd cc
+stopped_from us ss room start Past past first has h =
     let all = all_expanded_in [] (main_call_expanded us) ss in
     let by_given = subst (λ (g : Given). Passes start.room (statements_count ss) (statements_count (all g).statements) (AreTooDeep 0 (all g).statements)) first h in
     subst (λ (n : ℕ). Passes n (statements_count ss) (statements_count (main_expanded us ss).statements) (AreTooDeep 0 (main_expanded us ss).statements)) has by_given

@@ -1,5 +1,5 @@
 -- What expanding the first CALLs of a main program comes to.
-use Rattle.std.proofs.Common.{◌≡◌, ◌≤◌, ◌<◌, ◌+◌, ◌-◌, ◌⊎◌, ℕ, List, [], ◌∷◌, Bool, true, false, Some, None, refl, sym, ap, subst, ◌∙◌, arith, inl, inr}
+use Rattle.std.proofs.Common.{◌≡◌, ◌≤◌, ◌<◌, ◌+◌, ◌-◌, ◌⊎◌, ℕ, List, [], ◌∷◌, Bool, true, false, None, refl, sym, ap, subst, ◌∙◌, arith, inl, inr}
 use Rattle.std.specs.Prelude.{◌||◌, not, nat_lt}
 use Rattle.std.proofs.lemmas.Bool.Decides.{nat_tests}
 use Rattle.ped_tree.specs.Tree.{StmtTrees, ProgramTree}
@@ -7,7 +7,6 @@ use Rattle.ped_tree.specs.Numbering.{statements_count}
 use Rattle.ped_tree.specs.Grammar.LimitNumbers.{most_statements}
 use Rattle.ped_tree.specs.Grammar.Fits.{Surroundings, stmts_fit, fits}
 use Rattle.ped_tree.specs.Grammar.Refusal.{Refusal, Tab, BadLabel, TooManyContinuations, ContinuationFirst, BadCharacter, OpenConstant, Syntax, NotInProfile, OpenBlock, BadTerminal, IndexAssigned, StopPlace, RealName, DeclaredTwice, NotConstant, RankDiffers, BoundsEmpty, Limit, StorageLimit}
-use Rattle.ped_tree.specs.declared.grammar.refusals.RefusalKind.TheVariants as kind
 use Rattle.ped_valid.specs.declared.opening.Opened.{Opened}
 use Rattle.ped_valid.specs.ped_symbols.specs.NameRefusals.{name_refusals, IsValid}
 use Rattle.ped_calls.specs.Units.{ProgramUnits}
@@ -109,11 +108,5 @@ judged_at us m ss j is h =
     subst (λ (ts : StmtTrees). Judges us ts (calls_count us.main.tree.body - m) j) is
     (h (calls_count us.main.tree.body - m) (ap (λ (ts : StmtTrees). statements_count ts + (calls_count us.main.tree.body - m)) is ∙ all_kept m us.main.tree.body))
 
-pub valid_finds : (us : ProgramUnits) (m : ℕ) (j : Judgement) (o : Opened) → JudgesAt us m j → j ≡ Valid o → FindsPast us m None
-valid_finds us m j o h e = let k = subst (JudgesAt us m) e h in (none_past us m k.0 k.1, k.1)
-
-pub statements_find : (us : ProgramUnits) (m : ℕ) (j : Judgement) → JudgesAt us m j → j ≡ PastStatements → FindsPast us m (Some kind.Limit)
-statements_find us m j h e = subst (JudgesAt us m) e h
-
-pub storage_finds : (us : ProgramUnits) (m : ℕ) (j : Judgement) → JudgesAt us m j → j ≡ PastStorage → FindsPast us m (Some kind.StorageLimit)
-storage_finds us m j h e = subst (JudgesAt us m) e h
+pub valid_finds : (us : ProgramUnits) (m : ℕ) (o : Opened) → JudgesAt us m (Valid o) → FindsPast us m None
+valid_finds us m o h = (none_past us m h.0 h.1, h.1)

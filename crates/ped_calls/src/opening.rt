@@ -256,10 +256,11 @@ fn first_past(alloc: Global, file: &File) -> Result<UnitRefusal, NoMemory>
     ensures { IfOk result (IsPastAt (units_of file.now.units.now)) }
 {
     let found = placed_calls(alloc, &file.units[0])?;
+    let calls = found.calls.as_slice();
     let mut place = 0;
-    while place < found.calls.len() {
+    while place < calls.len() {
         match past_at(alloc, file, place + 1)? {
-            Some(kind) => return Ok(past(kind, found.calls[place].line)),
+            Some(kind) => return Ok(past(kind, calls[place].line)),
             None => place += 1,
         }
     }

@@ -174,7 +174,7 @@ inside-statements-requires t c =
     let at : c.deref-2.result.now ≡ unit.program.body.items = cc (c.deref-2.ensures.value) in
     let same : stmts_weight (stmt_trees c.deref-2.result.now) ≡ stmts_weight (stmt_trees unit.program.body.items) = ap (λ (ss : List Stmt). stmts_weight (stmt_trees ss)) at in
     let less = inside_smaller us c.args.within.now.deeper (stmts_weight (stmt_trees c.deref-2.result.now)) found.deeper (omega (arith, weight, same)) in
-    (less, (c.requires.file, record { few = omega (arith, c.in_ok-take_room.ensures.room, c.requires.course.few); next = c.in_ok-add_names.ensures.next }))
+    (omega (arith, less), (c.requires.file, record { few = omega (arith, c.in_ok-take_room.ensures.room, c.requires.course.few); next = c.in_ok-add_names.ensures.next }))
 
 pub block-returns-in_err-statements-clause-stopped : goal.block-returns-in_err-statements-clause-stopped
 block-returns-in_err-statements-clause-stopped t c =

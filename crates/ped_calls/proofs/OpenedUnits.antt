@@ -30,6 +30,20 @@ pub record Kept (text : List ℕ) (given : List code.ProgramUnit) : Type 0 where
   pub reads : ReadsUnits text units
   pub are : map program_unit_of given ≡ all_units units
 
+-- the same units, as they are handed on
+pub kept_as : (text : List ℕ) (given units : List code.ProgramUnit) → (us : ProgramUnits) × ReadsUnits text us × (map program_unit_of units ≡ all_units us) → given ≡ units → Kept text given
+kept_as text given units found is = record { units = found.0; reads = found.1; are = ap (map program_unit_of) is ∙ found.2 }
+
+-- the same tables
+pub tables_as : (given units : List code.ProgramUnit) (known tables : List Table) → HaveTables (map program_unit_of units) tables → given ≡ units → known ≡ tables → HaveTables (map program_unit_of given) known
+tables_as given units known tables have is same =
+    subst (λ (gs : List code.ProgramUnit). HaveTables (map program_unit_of gs) known) (sym is) (subst (λ (ts : List Table). HaveTables (map program_unit_of units) ts) (sym same) have)
+
+-- the same of both
+pub with_same : (us : ProgramUnits) (given units : List code.ProgramUnit) (known tables : List Table) → given ≡ units → known ≡ tables → AreUnitsWith us units tables → AreUnitsWith us given known
+with_same us given units known tables is same a =
+    subst (λ (gs : List code.ProgramUnit). AreUnitsWith us gs known) (sym is) (subst (λ (ts : List Table). AreUnitsWith us units ts) (sym same) a)
+
 pub few_kept : (text : List ℕ) (given : List code.ProgramUnit) → Kept text given → All HasFew (map program_unit_of given)
 few_kept text given k = subst (λ (us : List ProgramUnit). All HasFew us) (sym k.are) (few_units text k.units k.reads)
 

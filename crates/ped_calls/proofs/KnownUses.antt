@@ -34,10 +34,11 @@ module _ (us : ProgramUnits) where
   calls_below k i h = ((unit_of_number us h.1.0.called.name k h.1.2).1, h.0)
 
   -- for each unit those that call it
-  abbrev pub callers_listed : List (List ℕ)
+  pub callers_listed : List (List ℕ)
   callers_listed = listed_arrows (λ k i. CallsAt us i k) known_calls count calls_below
 
   pub callers_are : (k i : ℕ) → Leads callers_listed k i ↔ CallsAt us i k
+  unfolding callers_listed
   callers_are = listed_are (λ k i. CallsAt us i k) known_calls count calls_below
 
   -- dummy arguments that are passed for others
@@ -103,11 +104,11 @@ module _ (us : ProgramUnits) where
 
   among_in : (x : List ℕ) (xs : List (List ℕ)) → is_among x xs ≡ true → IsIn x xs
   among_in x [] h = absurd cc
-  among_in x (y ∷ ys) h = by (is_same_text x y) refl h
+  among_in x (y ∷ ys) h = by (λ k. among_in x ys k) (is_same_text x y) refl h
     where
-      by : (b : Bool) → is_same_text x y ≡ b → (b || is_among x ys) ≡ true → IsIn x (y ∷ ys)
-      by true e k = inl (same_text x y (sym e))
-      by false e k = inr (among_in x ys k)
+      by : (is_among x ys ≡ true → IsIn x ys) → (b : Bool) → is_same_text x y ≡ b → (b || is_among x ys) ≡ true → IsIn x (y ∷ ys)
+      by others true e k = inl (same_text x y (sym e))
+      by others false e k = inr (others k)
 
   -- a dummy argument of a unit is used by it, and has this number
   abbrev UsesHere : (ProgramUnit → List (List ℕ)) → ℕ → ℕ → List ℕ → Type 0

@@ -1,6 +1,6 @@
 -- The main program of a file: no comment stands before its first statement, and without CALLs it is valid where its names are right.
 use Rattle.std.proofs.Common.{◌≡◌, ◌+◌, ℕ, List, [], ◌∷◌, ◌++◌, map, Bool, true, false, Option, Some, None, refl, sym, ap, subst, ◌∙◌, arith, append_assoc, append-nil}
-use Rattle.std.specs.Prelude.{IsTrue, ◌&&◌, ◌||◌}
+use Rattle.std.specs.Prelude.{IsTrue, ◌&&◌, ◌||◌, if◌then◌else◌}
 use Rattle.std.specs.List.{AllByRecursion, flat_map}
 use Rattle.std.proofs.lemmas.Bool.{and_from}
 use Rattle.ped_tree.specs.Tree.{ExprTrees, no_exprs, more_exprs, StmtTree, StmtTrees, no_stmts, more_stmts, ProgramTree}

@@ -1,6 +1,6 @@
 -- A text reads as one list of program units at most, and as one where nothing is refused at its lines and statements.
 use Rattle.std.proofs.Common.{◌≡◌, ◌⊎◌, inl, inr, ℕ, List, [], ◌∷◌, Option, Some, None, refl, sym, ap, subst, ◌∙◌}
-use Rattle.ped_tree.specs.Tree.{ExprTrees, ProgramTree}
+use Rattle.ped_tree.specs.Tree.{ExprTrees, no_exprs, more_exprs, ProgramTree}
 use Rattle.ped_tree.specs.Grammar.Refusal.{Finding, first_of}
 use Rattle.ped_tree.specs.Grammar.Statement.{Statement, Statements}
 use Rattle.ped_tree.specs.Grammar.Grouping.{statements_of}
@@ -16,8 +16,9 @@ use Rattle.ped_valid.specs.ped_parse.specs.ped_blocks.proofs.BlocksFound.{left_e
 use Rattle.ped_valid.specs.ped_parse.specs.ped_blocks.proofs.BlocksNest.{one_tree_of}
 use Rattle.ped_valid.specs.ped_parse.specs.ped_statements.proofs.OneStatement.{one_item}
 use Rattle.ped_valid.specs.ped_parse.specs.ped_statements.specs.ped_expressions.proofs.Basics.{some_is}
-use Rattle.ped_valid.specs.ped_parse.specs.ped_statements.specs.ped_expressions.proofs.Whole.{all_with_same}
+use Rattle.ped_valid.specs.ped_parse.specs.ped_statements.specs.ped_expressions.proofs.Whole.{with_same}
 use Rattle.ped_valid.specs.ped_parse.specs.ped_statements.specs.ped_expressions.proofs.CondWhole.{cond_with_same}
+use Rattle.ped_valid.specs.ped_parse.specs.ped_statements.specs.ped_expressions.specs.ExpressionReading.{all_with_literals}
 use Rattle.ped_calls.specs.Forms.{Called, UnitItem, plain, calls, calls_if, begins_unit, returns, UnitForm, call, if_call, subroutine, a_return, call_form_called, unit_form_text, unit_form_item, ReadsUnitItem, HasNoUnitForm, IsUnitItem, OneUnitItem}
 use Rattle.ped_calls.specs.Units.{ProgramUnit, ProgramUnits, all_units}
 use Rattle.ped_calls.specs.Reading.{UnitEntry, AreUnitEntries, IsCutIntoUnits, Segment, segments_of, own_entries, further_segments, seen_entries, kept_entries, name_in, formals_in, IsHeaded, IsUnitOf, AreUnitsOf}
@@ -27,6 +28,10 @@ use Rattle.ped_calls.proofs.Nested.{unit_built}
 use Rattle.ped_calls.proofs.UnitForms.{unit_again}
 
 -- a text is one thing
+
+all_with_same : (es : ExprTrees) → all_with_literals (λ n. n) es ≡ es
+all_with_same no_exprs = refl
+all_with_same (more_exprs e es) = λ i. more_exprs (with_same e i) (all_with_same es i)
 
 called_same : (c : Called) → called_with_literals (λ n. n) c ≡ c
 called_same c = ap (λ (es : ExprTrees). record { name = c.name; arguments = es }) (all_with_same c.arguments)

@@ -123,7 +123,7 @@ pub record PastThere (us : ProgramUnits) : Type 0 where
 past_found : (us : ProgramUnits) → StartsWell us → (IsValid (expansion us) → ⊥) → PastBelow us (calls_count us.main.tree.body) ⊎ WithinSoFar us (calls_count us.main.tree.body) → PastThere us
 past_found us starts invalid (inl p) =
     let low = p.below in
-    let counted = all_placed [] _ us.main.tree.body in
+    let counted : length (calls_of us.main) ≡ calls_count us.main.tree.body = all_placed [] _ us.main.tree.body in
     let there = call_at (calls_of us.main) p.place (omega (arith, low, counted)) in
     record {
       limit = p.limit;

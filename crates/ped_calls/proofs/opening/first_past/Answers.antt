@@ -5,6 +5,7 @@ use Rattle.ped_calls.specs.Linking.{calls_of}
 use Rattle.ped_calls.specs.Courses.{units_of}
 use Rattle.ped_calls.specs.Opening.{FindsPast}
 use Rattle.ped_calls.specs.Placing.{placed_call}
+use Rattle.ped_calls.specs.Verdicts.{IsFirstPast}
 use Rattle.ped_calls.specs.Views.{program_unit_of}
 use Rattle.ped_calls.specs.declared.placing.PlacedCall.{PlacedCall}
 use Rattle.ped_calls.specs.declared.units.ProgramUnit.{ProgramUnit}
@@ -34,7 +35,7 @@ returns-in-Some c =
     let calls = c.as_slice-calls.result.now in
     let are = calls_kept c.args.file.now.units.now c.index-file-0.result c.in_ok-found.found.calls.items calls c.requires.file.some c.in_ok-found.ensures.calls (cc (c.as_slice-calls.ensures.value)) in
     let past = subst (FindsPast us (place + 1)) c.in-Some.is c.in_ok-kind.ensures in
-    c.past.ensures us (first_at us (kind_of c.in-Some.kind) calls place c.index-calls-place.result c.requires.invalid c.loop-place.invariant.within past are c.loop-place-test.true c.index-calls-place.is)
+    c.past.ensures us (subst (λ (d : PlacedCall). IsFirstPast us (kind_of c.in-Some.kind) d.line) c.index-calls-place.is (first_at us (kind_of c.in-Some.kind) calls place c.index-calls-place.result c.requires.invalid c.loop-place.invariant.within past are c.loop-place-test.true c.index-calls-place.is))
 
 pub unreachable-requires : goal.unreachable-requires
 unreachable-requires c =

@@ -1,4 +1,4 @@
-use Rattle.std.proofs.Common.{◌≡◌, ◌-◌, IfErr, ℕ, [], sym, ap, subst, ◌∙◌}
+use Rattle.std.proofs.Common.{◌≡◌, ◌-◌, IfErr, length, [], sym, ap, subst, ◌∙◌}
 use Rattle.ped_tree.specs.Numbering.{statements_count}
 use Rattle.ped_tree.specs.Views.{stmt_trees}
 use Rattle.ped_valid.specs.ped_symbols.specs.Kinds.{Table}
@@ -14,6 +14,6 @@ returns-clause-stopped c =
     let us = c.args.self.now.units.now in
     let table = main_table us c.args.self.now.tables.now c.index-self-0.result c.requires.file.some c.requires.file.tables c.index-self-0.is in
     let constants : c.consts.result.now ≡ constants_of (units_of us).main = c.consts.ensures ∙ ap (λ (t : Table). t.constants) (sym c.index-self-0.is ∙ table) in
-    let same = main_same (units_of us) (meanings_of c.nothing-meanings.result) (c.len.result - 1) c.consts.result.now (stmt_trees c.args.statements.now) (given_of c.args.course.now.given)
-    c.nothing-meanings.ensures (ap (λ (n : ℕ). n - 1) c.len.ensures ∙ others_count us) constants in
+    let same = main_same (units_of us) (meanings_of c.nothing-meanings.result) (length us - 1) c.consts.result.now (stmt_trees c.args.statements.now) (given_of c.args.course.now.given)
+    c.nothing-meanings.ensures (others_count us) constants in
     subst (λ (e : AllExpanded Given). IfErr c.statements.result (λ why. StopsAt why (Passes c.args.course.now.room (statements_count (stmt_trees c.args.statements.now)) (statements_count e.statements) (AreTooDeep 0 e.statements)))) same c.statements.ensures.stopped

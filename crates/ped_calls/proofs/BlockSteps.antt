@@ -1,20 +1,23 @@
 -- The block of a CALL: what its CALL is expanded to, and how room and names go along in it.
 use Rattle.std.proofs.Common.{◌≡◌, ◌≤◌, ◌<◌, ◌+◌, ◌-◌, ◌⊎◌, ℕ, zero, suc, List, [], ◌∷◌, ◌++◌, map, length, Option, Some, None, refl, sym, ap, subst, ◌∙◌, arith, inl, inr}
-use Rattle.ped_tree.specs.Tree.{ExprTree, StmtTree, StmtTrees, no_stmts, no_exprs, more_exprs}
-use Rattle.ped_tree.specs.Views.{pack_exprs}
+use Rattle.std.proofs.lemmas.List.{length-map}
+use Rattle.ped_tree.specs.declared.conditions.Relation.TheVariants.{Eq}
+use Rattle.ped_tree.specs.declared.statements.Stmt.{Stmt}
+use Rattle.ped_tree.specs.Tree.{ExprTree, Int, Rel, StmtTree, StmtTrees, If, no_stmts, more_stmts, no_exprs, more_exprs}
+use Rattle.ped_tree.specs.Views.{pack_exprs, pack_stmts, stmt_tree}
 use Rattle.ped_tree.specs.Accesses.{listed}
 use Rattle.ped_tree.specs.Numbering.{statement_count, statements_count}
 use Rattle.ped_tree.specs.Grammar.LimitNumbers.{most_blocks_nested}
 use Rattle.ped_valid.specs.ped_symbols.specs.Values.{Values}
 use Rattle.ped_calls.specs.Forms.{Called}
 use Rattle.ped_calls.specs.Units.{ProgramUnit, ProgramUnits, unit_of}
-use Rattle.ped_calls.specs.Expanding.{Given, Meanings, Bound, Expanded, AllExpanded, all_expanded_in, block_of, block_with, bound_arguments, bound_expanded, unit_expanded, call_expanded, call_comment, with_formals, meanings_in}
+use Rattle.ped_calls.specs.Expanding.{Given, Meanings, Bound, Expanded, AllExpanded, all_expanded_in, block_of, block_with, behind_stmts, bound_arguments, bound_expanded, unit_expanded, call_expanded, call_comment, with_formals, meanings_in}
 use Rattle.ped_calls.specs.Binding.{local_meanings}
 use Rattle.ped_calls.specs.Giving.{given_of}
 use Rattle.ped_calls.specs.Courses.{IsUnderWay, GoesOn, Passes, too_many, too_deep, IsTooDeep, AreTooDeep}
 use Rattle.ped_calls.specs.declared.expanding.Course.{Course}
 use Rattle.ped_calls.proofs.BoundArguments.{bound_count}
-use Rattle.ped_calls.proofs.Expansions.{deep_block}
+use Rattle.ped_calls.proofs.Expansions.{Counts, all_grow, deep_block}
 
 -- the expressions of a list that was packed
 pub listed_packed : (es : List ExprTree) → listed (pack_exprs es) ≡ es
@@ -92,6 +95,43 @@ block_past cs es inner v c depth old mid formals assignments room given meant fe
     let e = inside inner v formals (given_of mid.given) in
     let made = block_made inner v c b formals (given_of mid.given) meant given in
     too_deep (subst (λ (x : Expanded Given). IsTooDeep depth x.statement) (sym made) (deep_block depth c b.assignments e.statements h))
+
+packed_both : (xs ys : List StmtTree) → pack_stmts (xs ++ ys) ≡ behind_stmts xs (pack_stmts ys)
+packed_both [] ys = refl
+packed_both (x ∷ xs) ys = ap (more_stmts x) (packed_both xs ys)
+
+-- the block of a CALL of what was put together
+pub block_is : (cs : Values) (es : List ExprTree) (inner : Called → Given → Expanded Given) (v : ProgramUnit) (c : Called) (g mid : Given) (formals : Meanings) (t : StmtTree) (body front rest : List StmtTree)
+    → t ≡ If (Rel Eq (Int 0) (Int 0)) (pack_stmts body) no_stmts
+    → body ≡ front ++ rest
+    → front ≡ (call_comment c ∷ []) ++ (bound_arguments cs es g).assignments
+    → pack_stmts rest ≡ (inside inner v formals mid).statements
+    → formals ≡ with_formals [] v.formals (bound_arguments cs es g).meant
+    → mid ≡ (bound_arguments cs es g).given
+    → t ≡ (bound_expanded inner v c (bound_arguments cs es g)).statement
+block_is cs es inner v c g mid formals t body front rest is both first others meant given =
+    let b = bound_arguments cs es g in
+    let packed : pack_stmts body ≡ more_stmts (call_comment c) (behind_stmts b.assignments (inside inner v formals mid).statements) =
+    ap pack_stmts (both ∙ ap (λ (xs : List StmtTree). xs ++ rest) first)
+    ∙ packed_both (call_comment c ∷ b.assignments) rest
+    ∙ ap (behind_stmts (call_comment c ∷ b.assignments)) others in
+    is ∙ ap (λ (ss : StmtTrees). If (Rel Eq (Int 0) (Int 0)) ss no_stmts) packed ∙ ap (λ (x : Expanded Given). x.statement) (sym (block_made inner v c b formals mid meant given))
+
+-- so many assignments stand behind the comment
+pub front_count : (done : List Stmt) (first : StmtTree) (more : List StmtTree) → map stmt_tree done ≡ (first ∷ []) ++ more → length done ≡ length more + 1
+front_count done first more h =
+    let counted : length (map stmt_tree done) ≡ length (first ∷ more) = ap length h in
+    omega (arith, counted, length-map done stmt_tree)
+
+-- where there is no room for the statements of a subroutine, there is none for what they are expanded to
+pub room_passes : (inner : Called → Given → Expanded Given) → Counts inner → (v : ProgramUnit) (formals : Meanings) (g : Given) (depth room assignments : ℕ) (body : StmtTrees) → body ≡ v.tree.body
+    → (most_blocks_nested ≤ depth) ⊎ (room < assignments + statements_count body)
+    → Passes room 0 (assignments + statements_count (inside inner v formals g).statements) ((most_blocks_nested ≤ depth) ⊎ AreTooDeep (depth + 1) (inside inner v formals g).statements)
+room_passes inner counts v formals g depth room assignments body is (inl deep) = too_deep (inl deep)
+room_passes inner counts v formals g depth room assignments body is (inr few) =
+    let grown = all_grow (local_meanings v formals g).meanings inner counts v.tree.body (local_meanings v formals g).given in
+    let same : statements_count body ≡ statements_count v.tree.body = ap statements_count is in
+    too_many (omega (arith, few, grown, same))
 
 -- a CALL of a subroutine by its block
 pub call_is_block : (deeper : ℕ) (us : ProgramUnits) (cs : Values) (x : List ℕ) (es : List ExprTree) (g : Given) (v : ProgramUnit) → 0 < deeper → unit_of us x ≡ Some v

@@ -1,5 +1,6 @@
 -- How room and names go along while statements are expanded one behind the other.
 use Rattle.std.proofs.Common.{◌≡◌, ◌≤◌, ◌<◌, ◌+◌, ◌⊎◌, ℕ, List, [], ◌∷◌, ◌++◌, map, refl, sym, ap, subst, ◌∙◌, arith, inl, inr}
+use Rattle.std.specs.Prelude.{Result, Ok, Err, IfErr, IsErrAnd}
 use Rattle.ped_tree.specs.Tree.{CondTree, Head, StmtTree, StmtTrees, If, Do, no_stmts, more_stmts}
 use Rattle.std.proofs.lemmas.List.{map_push}
 use Rattle.ped_tree.specs.Views.{stmt_tree, pack_stmts}
@@ -23,6 +24,15 @@ stops_by OutOfMemory f h = tt
 pub stops_here : (P : Type 0) (e : Stopped) → e ≡ OutOfMemory → StopsAt e P
 stops_here P Past h = absurd cc
 stops_here P OutOfMemory h = tt
+
+-- what is handed on of an error
+pub err_passes : {T E : Type 0} (r : Result T E) (e : E) (P : E → Type 0) → IsErrAnd r (λ y. y ≡ e) → P e → IfErr r P
+err_passes (Ok x) e P h p = absurd h
+err_passes (Err y) e P h p = subst P (sym h) p
+
+-- the same of why it stopped
+pub stopped_passes : {T : Type 0} (r : Result T Stopped) (e : Stopped) (P : Type 0) → IsErrAnd r (λ y. y ≡ e) → StopsAt e P → IfErr r (λ y. StopsAt y P)
+stopped_passes r e P h p = err_passes r e (λ y. StopsAt y P) h p
 
 behind_last : (done : List StmtTree) (s : StmtTree) (rest : StmtTrees) → behind_stmts (done ++ s ∷ []) rest ≡ behind_stmts done (more_stmts s rest)
 behind_last [] s rest = refl
@@ -191,6 +201,35 @@ module _ (m : Meanings) (f : Called → Given → Expanded Given) (counts : Coun
       → Passes old.room (statement_count (Do h b)) (statement_count (expanded_in m f (Do h b) (given_of old.given)).statement) (IsTooDeep depth (expanded_in m f (Do h b) (given_of old.given)).statement)
   do_past depth h b (too_many k) = too_many (omega (arith, k))
   do_past depth h b (too_deep k) = too_deep (deep_loop depth (head_replaced m h) (all_expanded_in m f b (given_of old.given)).statements k)
+
+  -- a limit is passed in the THEN part of a statement
+  pub then_stops : (depth : ℕ) (c : CondTree) (a b : StmtTrees) (s : StmtTree) (x : StmtTrees) → s ≡ If c a b → x ≡ a
+      → Passes old.room (statements_count x) (statements_count (all_expanded_in m f x (given_of old.given)).statements) (AreTooDeep depth (all_expanded_in m f x (given_of old.given)).statements)
+      → Passes old.room (statement_count s) (statement_count (expanded_in m f s (given_of old.given)).statement) (IsTooDeep depth (expanded_in m f s (given_of old.given)).statement)
+  then_stops depth c a b s x is at h =
+      subst (λ (t : StmtTree). Passes old.room (statement_count t) (statement_count (expanded_in m f t (given_of old.given)).statement) (IsTooDeep depth (expanded_in m f t (given_of old.given)).statement)) (sym is)
+      (then_past depth c a b
+      (subst (λ (t : StmtTrees). Passes old.room (statements_count t) (statements_count (all_expanded_in m f t (given_of old.given)).statements) (AreTooDeep depth (all_expanded_in m f t (given_of old.given)).statements)) at h))
+
+  -- in its ELSE part
+  pub else_stops : (depth : ℕ) (c : CondTree) (a b : StmtTrees) (mid : Course) (s : StmtTree) (x y : StmtTrees) → s ≡ If c a b → x ≡ a → y ≡ b
+      → GoesOn old mid (statements_count x) (statements_count (all_expanded_in m f x (given_of old.given)).statements) (all_expanded_in m f x (given_of old.given)).state
+      → Passes mid.room (statements_count y) (statements_count (all_expanded_in m f y (given_of mid.given)).statements) (AreTooDeep depth (all_expanded_in m f y (given_of mid.given)).statements)
+      → Passes old.room (statement_count s) (statement_count (expanded_in m f s (given_of old.given)).statement) (IsTooDeep depth (expanded_in m f s (given_of old.given)).statement)
+  else_stops depth c a b mid s x y is at also first h =
+      subst (λ (t : StmtTree). Passes old.room (statement_count t) (statement_count (expanded_in m f t (given_of old.given)).statement) (IsTooDeep depth (expanded_in m f t (given_of old.given)).statement)) (sym is)
+      (else_past depth c a b mid
+      (subst (λ (t : StmtTrees). GoesOn old mid (statements_count t) (statements_count (all_expanded_in m f t (given_of old.given)).statements) (all_expanded_in m f t (given_of old.given)).state) at first)
+      (subst (λ (t : StmtTrees). Passes mid.room (statements_count t) (statements_count (all_expanded_in m f t (given_of mid.given)).statements) (AreTooDeep depth (all_expanded_in m f t (given_of mid.given)).statements)) also h))
+
+  -- in the body of a loop
+  pub do_stops : (depth : ℕ) (h : Head) (b : StmtTrees) (s : StmtTree) (x : StmtTrees) → s ≡ Do h b → x ≡ b
+      → Passes old.room (statements_count x) (statements_count (all_expanded_in m f x (given_of old.given)).statements) (AreTooDeep depth (all_expanded_in m f x (given_of old.given)).statements)
+      → Passes old.room (statement_count s) (statement_count (expanded_in m f s (given_of old.given)).statement) (IsTooDeep depth (expanded_in m f s (given_of old.given)).statement)
+  do_stops depth h b s x is at p =
+      subst (λ (t : StmtTree). Passes old.room (statement_count t) (statement_count (expanded_in m f t (given_of old.given)).statement) (IsTooDeep depth (expanded_in m f t (given_of old.given)).statement)) (sym is)
+      (do_past depth h b
+      (subst (λ (t : StmtTrees). Passes old.room (statements_count t) (statements_count (all_expanded_in m f t (given_of old.given)).statements) (AreTooDeep depth (all_expanded_in m f t (given_of old.given)).statements)) at p))
 
 -- a statement without CALLs takes no room
 pub stays : (old : Course) (n : ℕ) (g : Given) → IsUnderWay old → given_of old.given ≡ g → GoesOn old old n n g

@@ -1,13 +1,18 @@
 -- Statements with the first of their CALLs.
-use Rattle.std.proofs.Common.{◌≡◌, ◌≤◌, ◌+◌, ◌-◌, ℕ, zero, suc, List, [], ◌∷◌, ◌++◌, length, drop, Option, Some, None, refl, sym, ap, ap₂, ◌∙◌, arith}
+use Rattle.std.proofs.Common.{◌≡◌, ◌≤◌, ◌+◌, ◌-◌, ◌==◌, if◌then◌else◌, ℕ, zero, suc, List, [], ◌∷◌, ◌++◌, map, length, drop, Bool, true, false, Option, Some, None, refl, sym, ap, ap₂, ◌∙◌, arith}
+use Rattle.std.proofs.lemmas.Bool.Decides.{nat_tests}
 use Rattle.std.proofs.lemmas.List.{length-append}
 use Rattle.ped_tree.specs.Tree.{ExprTree, Head, StmtTree, StmtTrees, Assign, If, Do, Print, Read, Stop, Comment, no_stmts, more_stmts}
+use Rattle.ped_tree.specs.Views.{stmt_tree}
+use Rattle.ped_tree.specs.declared.statements.Stmt.{Stmt}
 use Rattle.ped_tree.specs.Numbering.{statement_count, statements_count}
 use Rattle.ped_valid.specs.ped_symbols.specs.Sites.{private_site, stmt_sites, stmts_sites}
 use Rattle.ped_calls.specs.Forms.{Called}
 use Rattle.ped_calls.specs.Units.{call_of}
 use Rattle.ped_calls.specs.Linking.{placed, calls_in, all_calls_in}
-use Rattle.ped_calls.specs.Verdicts.{one_for, call_count, calls_count, while_calls, with_first_calls, first_calls}
+use Rattle.ped_calls.specs.Expanding.{behind_stmts}
+use Rattle.ped_calls.specs.Verdicts.{one_for, call_here, call_count, calls_count, while_calls, with_first_calls, first_calls}
+use Rattle.ped_calls.proofs.CourseSteps.{behind_pushed}
 
 -- how many CALLs stand in the parts of a statement
 abbrev parts_count : StmtTree → ℕ
@@ -19,13 +24,24 @@ parts_count (Read items) = 0
 parts_count Stop = 0
 parts_count (Comment text) = 0
 
+some_left : (n : ℕ) → (suc n == 0) ≡ false
+some_left n = grind (arith, nat_tests)
+
+-- a CALL before others, where some may come
+taken : (n : ℕ) (c : Called) (s : StmtTree) (rest : StmtTrees) → while_calls (suc n) (Some c) s rest ≡ more_stmts s rest
+taken n c s rest = ap (λ (b : Bool). if b then rest else more_stmts s rest) (some_left n)
+
 -- an assignment or a CALL before others
 kept_assignment : (o : Option Called) (m : ℕ) (left right : ExprTree) (rest : StmtTrees)
     → ((k : ℕ) → statements_count (first_calls k rest) + (calls_count rest - k) ≡ statements_count rest)
     → statements_count (while_calls m o (Assign left right) (first_calls (m - one_for o) rest)) + (one_for o + calls_count rest - m) ≡ 1 + statements_count rest
 kept_assignment None m left right rest h = let k = h (m - 0) in omega (arith, k)
 kept_assignment (Some c) zero left right rest h = let k = h (0 - 1) in omega (arith, k)
-kept_assignment (Some c) (suc n) left right rest h = let k = h (suc n - 1) in omega (arith, k)
+kept_assignment (Some c) (suc n) left right rest h =
+    let k = h (suc n - 1) in
+    let others = first_calls (suc n - 1) rest in
+    let counted : statements_count (while_calls (suc n) (Some c) (Assign left right) others) ≡ 1 + statements_count others = ap statements_count (taken n c (Assign left right) others) in
+    omega (arith, k, counted)
 
 mutual
   then_kept : (m : ℕ) (s : StmtTree) → statement_count (with_first_calls m s) + (parts_count s - m) ≡ statement_count s
@@ -64,7 +80,8 @@ whole_assignment : (o : Option Called) (m : ℕ) (left right : ExprTree) (rest :
     → while_calls m o (Assign left right) (first_calls (m - one_for o) rest) ≡ more_stmts (Assign left right) rest
 whole_assignment None m left right rest h le = ap (more_stmts (Assign left right)) (h (m - 0) (omega (arith, le)))
 whole_assignment (Some c) zero left right rest h le = absurd (omega (arith, le))
-whole_assignment (Some c) (suc n) left right rest h le = ap (more_stmts (Assign left right)) (h (suc n - 1) (omega (arith, le)))
+whole_assignment (Some c) (suc n) left right rest h le =
+    taken n c (Assign left right) (first_calls (suc n - 1) rest) ∙ ap (more_stmts (Assign left right)) (h (suc n - 1) (omega (arith, le)))
 
 mutual
   one_whole : (m : ℕ) (s : StmtTree) → parts_count s ≤ m → with_first_calls m s ≡ s
@@ -111,3 +128,20 @@ mutual
   all_placed loops lines (more_stmts s rest) =
       length-append (calls_in loops lines s) (all_calls_in loops (drop (length (stmt_sites s)) lines) rest)
       ∙ ap₂ ◌+◌ (placed_here loops lines s) (all_placed loops (drop (length (stmt_sites s)) lines) rest)
+
+-- a copy that is added with its CALLs
+
+pub kept_here : (done : List Stmt) (copy : Stmt) (m : ℕ) (s t : StmtTree) (rest : StmtTrees) → s ≡ t → stmt_tree copy ≡ with_first_calls m t → while_calls m (call_here t) (with_first_calls m t) rest ≡ more_stmts (with_first_calls m t) rest
+    → behind_stmts (map stmt_tree (done ++ copy ∷ [])) rest ≡ behind_stmts (map stmt_tree done) (while_calls m (call_here s) (with_first_calls m s) rest)
+kept_here done copy m s t rest same is whole =
+    behind_pushed done copy (with_first_calls m t) rest is
+    ∙ ap (behind_stmts (map stmt_tree done)) (sym whole)
+    ∙ ap (λ (u : StmtTree). behind_stmts (map stmt_tree done) (while_calls m (call_here u) (with_first_calls m u) rest)) (sym same)
+
+-- a copy of a statement that stays as it is
+pub copied_here : (done : List StmtTree) (m : ℕ) (s t : StmtTree) (rest : StmtTrees) → s ≡ t → while_calls m (call_here t) (with_first_calls m t) rest ≡ more_stmts t rest
+    → behind_stmts done (more_stmts s rest) ≡ behind_stmts done (while_calls m (call_here s) (with_first_calls m s) rest)
+copied_here done m s t rest same whole =
+    ap (λ (u : StmtTree). behind_stmts done (more_stmts u rest)) same
+    ∙ ap (behind_stmts done) (sym whole)
+    ∙ ap (λ (u : StmtTree). behind_stmts done (while_calls m (call_here u) (with_first_calls m u) rest)) (sym same)

@@ -81,7 +81,7 @@ both_first one other None (Some g) h k = record {
 both_first one other (Some f) (Some g) h k = both_by one other f g (is_before_finding g f) refl h k
 
 -- one rule at one line
-one_first : (rule : UnitRule) (line : ℕ) (r : LinkRefusal) (holds : Type 0) → rule_of rule ≡ of_links r → holds → IsFirstOf (StandsIf r line holds) (Some (record { rule = rule; line = line }))
+pub one_first : (rule : UnitRule) (line : ℕ) (r : LinkRefusal) (holds : Type 0) → rule_of rule ≡ of_links r → holds → IsFirstOf (StandsIf r line holds) (Some (record { rule = rule; line = line }))
 one_first rule line r holds e h = record {
   rule = r;
   is_rule = e;

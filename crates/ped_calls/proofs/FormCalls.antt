@@ -128,12 +128,12 @@ front_calls (Do h body ∷ ts) = refl
 front_calls (Print items ∷ ts) = refl
 front_calls (Read items ∷ ts) = refl
 front_calls (Stop ∷ ts) = refl
-front_calls (Comment text ∷ ts) = front_calls ts
+front_calls (Comment text ∷ ts) = let more = front_calls ts in omega (arith, more)
 
 decls_none : (ds : List DeclForm) → entries_calls (map decl_entry ds) ≡ 0
 decls_none [] = refl
-decls_none (a_declaration s d ∷ ds) = decls_none ds
-decls_none (a_save_of_all s ∷ ds) = decls_none ds
+decls_none (a_declaration s d ∷ ds) = let more = decls_none ds in omega (arith, more)
+decls_none (a_save_of_all s ∷ ds) = let more = decls_none ds in omega (arith, more)
 
 -- a program has as many CALLs as its statements
 pub form_calls : (saved : List (List ℕ)) (f : ProgramForm) → calls_count (program_form_tree saved f).body ≡ entries_calls (program_entries f)

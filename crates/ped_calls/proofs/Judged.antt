@@ -1,5 +1,5 @@
 -- What expanding the first CALLs of a main program comes to.
-use Rattle.std.proofs.Common.{◌≡◌, ◌≤◌, ◌<◌, ◌+◌, ◌-◌, ◌⊎◌, ℕ, List, [], ◌∷◌, Bool, true, false, refl, sym, ap, subst, ◌∙◌, arith, inl, inr}
+use Rattle.std.proofs.Common.{◌≡◌, ◌≤◌, ◌<◌, ◌+◌, ◌-◌, ◌⊎◌, ℕ, List, [], ◌∷◌, Bool, true, false, None, refl, sym, ap, subst, ◌∙◌, arith, inl, inr}
 use Rattle.std.specs.Prelude.{◌||◌, not, nat_lt}
 use Rattle.std.proofs.lemmas.Bool.Decides.{nat_tests}
 use Rattle.ped_tree.specs.Tree.{StmtTrees, ProgramTree}
@@ -7,21 +7,23 @@ use Rattle.ped_tree.specs.Numbering.{statements_count}
 use Rattle.ped_tree.specs.Grammar.LimitNumbers.{most_statements}
 use Rattle.ped_tree.specs.Grammar.Fits.{Surroundings, stmts_fit, fits}
 use Rattle.ped_tree.specs.Grammar.Refusal.{Refusal, Tab, BadLabel, TooManyContinuations, ContinuationFirst, BadCharacter, OpenConstant, Syntax, NotInProfile, OpenBlock, BadTerminal, IndexAssigned, StopPlace, RealName, DeclaredTwice, NotConstant, RankDiffers, BoundsEmpty, Limit, StorageLimit}
+use Rattle.ped_valid.specs.declared.opening.Opened.{Opened}
 use Rattle.ped_valid.specs.ped_symbols.specs.NameRefusals.{name_refusals, IsValid}
 use Rattle.ped_calls.specs.Units.{ProgramUnits}
 use Rattle.ped_calls.specs.Expanding.{main_expanded, with_statements, main_call_expanded, nothing_given, all_expanded_in, constants_of}
 use Rattle.ped_calls.specs.Verdicts.{calls_count, first_calls, partial, IsPast}
 use Rattle.ped_calls.specs.Courses.{Passes, too_many, too_deep, AreTooDeep}
-use Rattle.ped_calls.specs.Opening.{expanded_program, has_many, Judges, JudgesProgram}
+use Rattle.ped_calls.specs.Opening.{expanded_program, has_many, Judges, JudgesProgram, FindsPast}
 use Rattle.ped_calls.specs.declared.opening.Judgement.{Judgement}
 use Rattle.ped_calls.specs.declared.opening.Judgement.TheVariants.{Valid, PastStatements, PastStorage}
 use Rattle.ped_calls.proofs.Expansions.{all_grow, call_counts}
+use Rattle.ped_calls.proofs.FirstCalls.{all_kept}
 use Rattle.ped_calls.proofs.Settled.{count_behind, settled_unfit}
 
 below : (a b : ℕ) → a < b → nat_lt a b ≡ true
 below a b h = grind (arith, nat_tests)
 
-not_below : (a b : ℕ) → b ≤ a → nat_lt a b ≡ false
+pub not_below : (a b : ℕ) → b ≤ a → nat_lt a b ≡ false
 not_below a b h = grind (arith, nat_tests)
 
 either_first : (a b : Bool) → a ≡ true → (a || b) ≡ true
@@ -33,7 +35,7 @@ either_unfit true f h = refl
 either_unfit false true h = absurd cc
 either_unfit false false h = refl
 
-neither : (a f : Bool) → a ≡ false → f ≡ true → (a || not f) ≡ false
+pub neither : (a f : Bool) → a ≡ false → f ≡ true → (a || not f) ≡ false
 neither true f h k = absurd cc
 neither false true h k = refl
 neither false false h k = absurd cc
@@ -93,3 +95,18 @@ none_past us m h v DeclaredTwice k = k
 none_past us m h v NotConstant k = k
 none_past us m h v RankDiffers k = k
 none_past us m h v BoundsEmpty k = k
+
+-- what is past by what the program is judged
+
+-- what expanding so many CALLs comes to
+abbrev pub JudgesAt : ProgramUnits → ℕ → Judgement → Type 0
+JudgesAt us m j = Judges us (first_calls m us.main.tree.body) (calls_count us.main.tree.body - m) j
+
+pub judged_at : (us : ProgramUnits) (m : ℕ) (ss : StmtTrees) (j : Judgement) → ss ≡ first_calls m us.main.tree.body
+    → ((later : ℕ) → statements_count ss + later ≡ statements_count us.main.tree.body → Judges us ss later j) → JudgesAt us m j
+judged_at us m ss j is h =
+    subst (λ (ts : StmtTrees). Judges us ts (calls_count us.main.tree.body - m) j) is
+    (h (calls_count us.main.tree.body - m) (ap (λ (ts : StmtTrees). statements_count ts + (calls_count us.main.tree.body - m)) is ∙ all_kept m us.main.tree.body))
+
+pub valid_finds : (us : ProgramUnits) (m : ℕ) (o : Opened) → JudgesAt us m (Valid o) → FindsPast us m None
+valid_finds us m o h = (none_past us m h.0 h.1, h.1)

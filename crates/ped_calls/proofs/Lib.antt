@@ -25,9 +25,22 @@ pub mod PlainExpanding
 pub mod FirstCalls
 pub mod Settled
 pub mod Judged
+pub mod FirstPast
+pub mod NamedUnits
 pub mod FormCalls
 pub mod CallsTold
+pub mod PlainUnits
 pub mod PlainFiles
+pub mod PlainTexts
+pub mod OneUnits
+mod Known
+mod KnownArrows
+mod KnownUses
+mod KnownMisfits
+mod LinksKnown
+mod PastKnown
+mod OneVerdict
+mod OpenedUnits
 pub mod MainSteps
 pub mod MainStarts
 pub mod NumberedNames

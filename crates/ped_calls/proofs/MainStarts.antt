@@ -1,6 +1,6 @@
 -- The main program of a file: no comment stands before its first statement, and without CALLs it is valid where its names are right.
 use Rattle.std.proofs.Common.{◌≡◌, ◌+◌, ℕ, List, [], ◌∷◌, ◌++◌, map, Bool, true, false, Option, Some, None, refl, sym, ap, subst, ◌∙◌, arith, append_assoc, append-nil}
-use Rattle.std.specs.Prelude.{IsTrue, ◌&&◌, ◌||◌}
+use Rattle.std.specs.Prelude.{IsTrue, ◌&&◌, ◌||◌, if◌then◌else◌}
 use Rattle.std.specs.List.{AllByRecursion, flat_map}
 use Rattle.std.proofs.lemmas.Bool.{and_from}
 use Rattle.ped_tree.specs.Tree.{ExprTrees, no_exprs, more_exprs, StmtTree, StmtTrees, no_stmts, more_stmts, ProgramTree}
@@ -28,11 +28,12 @@ use Rattle.ped_valid.proofs.WithoutLines.{none_on_any}
 use Rattle.ped_calls.specs.Forms.{Called, UnitItem, plain, calls, calls_if, begins_unit, returns, IsUnitItem}
 use Rattle.ped_calls.specs.Units.{ProgramUnit, ProgramUnits, all_units, call_statement}
 use Rattle.ped_calls.specs.Reading.{UnitEntry, AreUnitEntries, ends, begins, own_entries, further_segments, Segment, segments_of, is_end_next, as_reading, as_entries, stand_in, seen_entries, kept_entries, IsUnitOf, AreUnitsOf}
-use Rattle.ped_calls.specs.Refusals.{for_names, lines_for_names, dimensioned, using_arguments, other_refusals, segment_refusals, before_another, segments_refusals, ReadsUnits, units_name_refusals}
+use Rattle.ped_calls.specs.Refusals.{for_names, lines_for_names, other_refusals, segment_refusals, before_another, segments_refusals, ReadsUnits, units_name_refusals}
 use Rattle.ped_calls.specs.Verdicts.{call_count, calls_count, ReadsRightUnits}
 use Rattle.ped_calls.specs.Opening.{StartsWell}
 use Rattle.ped_calls.proofs.FormCalls.{reading_calls, entries_calls, form_calls}
-use Rattle.ped_calls.proofs.PlainFiles.{Says, AllSay, all_say, all_without}
+use Rattle.ped_calls.proofs.PlainFiles.{Says, AllSay, all_say}
+use Rattle.ped_calls.proofs.PlainUnits.{names_alone}
 
 -- the tree of a form, where nothing is refused at its statements
 form_tree_fits : (saved : List (List ℕ)) (f : ProgramForm) → Named saved → IsTrue (body_keeps_labels [] f.body) → Accepted saved at_start (program_entries f) → Sourced (program_entries f) → fits (program_form_tree saved f) ≡ true
@@ -150,11 +151,6 @@ first_refusals all s (t ∷ ss) h =
 -- the names of the main program
 main_names : (us : ProgramUnits) → units_name_refusals (all_units us) ≡ [] → name_refusals (lines_for_names us.main) (for_names us.main) ≡ []
 main_names us h = left_empty (name_refusals (lines_for_names us.main) (for_names us.main)) (units_name_refusals us.others) h
-
-names_alone : (u : ProgramUnit) → u.formals ≡ [] → calls_count u.tree.body ≡ 0 → for_names u ≡ u.tree
-names_alone u formals none =
-    ap (λ (fs : List (List ℕ)). for_names (record u { formals = fs })) formals
-    ∙ (λ i. record { decls = u.tree.decls; body = all_without (using_arguments (dimensioned u.tree.decls)) u.tree.body none i })
 
 -- the main program of a file that is read
 pub starts_well : (text : List ℕ) (us : ProgramUnits) → ReadsRightUnits text us → StartsWell us

@@ -1,13 +1,15 @@
 -- The units of a file by their numbers, and the statements of its main program.
-use Rattle.std.proofs.Common.{◌≡◌, ◌<◌, ◌+◌, ◌-◌, ℕ, suc, List, [], ◌∷◌, map, length, drop, get_or, ◌++◌, Bool, true, false, Some, None, refl, sym, ap, ◌∙◌, option_map, arith, if◌then◌else◌}
+use Rattle.std.proofs.Common.{◌≡◌, ◌<◌, ◌≤◌, ◌+◌, ◌-◌, ℕ, suc, List, [], ◌∷◌, map, length, drop, get_or, ◌++◌, Bool, true, false, Some, None, refl, sym, ap, subst, ◌∙◌, option_map, arith, if◌then◌else◌}
 use Rattle.std.specs.Prelude.{slice_get}
 use Rattle.std.proofs.lemmas.List.{length-map, length-drop}
 use Rattle.std.proofs.lemmas.Option.{slice_get-map, same_Some}
 use Rattle.std.specs.List.{flat_map}
-use Rattle.ped_tree.specs.Tree.{StmtTrees}
+use Rattle.ped_tree.specs.Tree.{StmtTrees, DeclTree}
+use Rattle.ped_tree.specs.Numbering.{statements_count}
+use Rattle.ped_tree.specs.Grammar.LimitNumbers.{most_statements}
 use Rattle.ped_tree.specs.NamesIn.{first_occurrences}
 use Rattle.ped_tree.specs.Names.Collecting.{with_name, with_names}
-use Rattle.ped_tree.specs.Views.{decl_tree}
+use Rattle.ped_tree.specs.Views.{decl_tree, stmt_trees}
 use Rattle.ped_valid.specs.ped_symbols.specs.declared.symbols.Kind.{Kind}
 use Rattle.ped_valid.specs.ped_symbols.specs.Declarations.{program_name}
 use Rattle.ped_base.specs.Lists.{is_same_text}
@@ -17,10 +19,14 @@ use Rattle.ped_calls.specs.Units.{ProgramUnits, unit_of, unit_among}
 use Rattle.ped_calls.specs.Units as units
 use Rattle.ped_calls.specs.Numbers.{number_among, number_of_unit}
 use Rattle.ped_calls.specs.Refusals.{for_names}
-use Rattle.ped_calls.specs.Expanding.{Given, Meanings, all_expanded_in, call_expanded, main_call_expanded, constants_of, nothing_given}
+use Rattle.ped_calls.specs.Expanding.{Given, Meanings, all_expanded_in, call_expanded, main_call_expanded, main_expanded, with_statements, constants_of, nothing_given}
+use Rattle.ped_calls.specs.Giving.{given_of}
 use Rattle.ped_calls.specs.Naming.{AreTables}
 use Rattle.ped_calls.specs.Views.{program_unit_of}
-use Rattle.ped_calls.specs.Courses.{units_of}
+use Rattle.ped_calls.specs.Courses.{units_of, Passes, AreTooDeep, StopsAt}
+use Rattle.ped_calls.specs.declared.expanding.Stopped.{Stopped}
+use Rattle.ped_calls.specs.declared.expanding.Stopped.TheVariants.{Past, OutOfMemory}
+use Rattle.ped_calls.specs.declared.expanding.Course.{Course}
 use Rattle.ped_calls.specs.declared.units.ProgramUnit.{ProgramUnit}
 
 -- where nothing stands for names, CALLs are expanded as those of the main program
@@ -133,3 +139,46 @@ nothing_yet us tables t u taken some are ht hu h =
 pub with_both : (a xs ys : List (List ℕ)) → with_names (with_names a xs) ys ≡ with_names a (xs ++ ys)
 with_both a [] ys = refl
 with_both a (x ∷ xs) ys = with_both (with_name a x) xs ys
+
+-- the statements of the main program
+pub main_body : (us : List ProgramUnit) (u : ProgramUnit) → 0 < length us → u ≡ get_or us 0 u → stmt_trees u.program.body.items ≡ (units_of us).main.tree.body
+main_body us u some h = ap (λ (v : units.ProgramUnit). v.tree.body) (main_unit us u some h)
+
+-- the main program by its place
+pub main_there : (us : List ProgramUnit) (d : ProgramUnit) → 0 < length us → program_unit_of (get_or us 0 d) ≡ (units_of us).main
+main_there [] d some = absurd (omega (arith, some))
+main_there (v ∷ us) d some = refl
+
+-- its declarations
+pub main_decls : (us : List ProgramUnit) (u : ProgramUnit) → 0 < length us → u ≡ get_or us 0 u → map decl_tree u.program.decls.items ≡ (units_of us).main.tree.decls
+main_decls us u some h = ap (λ (v : units.ProgramUnit). v.tree.decls) (main_unit us u some h)
+
+-- the main program with statements that were expanded from the start
+pub expanded_from : (us : ProgramUnits) (ss : StmtTrees) (start given : Given) (decls arrays : List DeclTree) (body : StmtTrees) → start ≡ nothing_given us → decls ≡ us.main.tree.decls → arrays ≡ given.arrays
+    → body ≡ (all_expanded_in [] (main_call_expanded us) ss start).statements → given ≡ (all_expanded_in [] (main_call_expanded us) ss start).state
+    → record { decls = decls ++ arrays; body = body } ≡ with_statements us (main_expanded us ss)
+expanded_from us ss start given decls arrays body first d a b g =
+    let all = all_expanded_in [] (main_call_expanded us) ss in
+    let made : arrays ≡ (all (nothing_given us)).state.arrays = a ∙ ap (λ (x : Given). x.arrays) g ∙ ap (λ (x : Given). (all x).state.arrays) first in
+    let stated : body ≡ (all (nothing_given us)).statements = b ∙ ap (λ (x : Given). (all x).statements) first in
+    λ i. record { decls = d i ++ made i; body = stated i }
+
+-- there was room for them
+pub went_on : (us : ProgramUnits) (ss : StmtTrees) (later room : ℕ) (start new : Course) → given_of start.given ≡ nothing_given us → start.room ≡ room → room + statements_count us.main.tree.body ≡ most_statements
+    → statements_count ss + later ≡ statements_count us.main.tree.body
+    → new.room + statements_count (all_expanded_in [] (main_call_expanded us) ss (given_of start.given)).statements ≡ start.room + statements_count ss
+    → statements_count (main_expanded us ss).statements + later ≤ most_statements
+went_on us ss later room start new first has whole counted goes =
+    let same : statements_count (all_expanded_in [] (main_call_expanded us) ss (given_of start.given)).statements ≡ statements_count (main_expanded us ss).statements =
+    ap (λ (g : Given). statements_count (all_expanded_in [] (main_call_expanded us) ss g).statements) first in
+    omega (arith, same, has, whole, counted, goes)
+
+-- there was none
+pub stopped_from : (us : ProgramUnits) (ss : StmtTrees) (room : ℕ) (start : Course) (e : Stopped) → e ≡ Past → given_of start.given ≡ nothing_given us → start.room ≡ room
+    → StopsAt e (Passes start.room (statements_count ss) (statements_count (all_expanded_in [] (main_call_expanded us) ss (given_of start.given)).statements) (AreTooDeep 0 (all_expanded_in [] (main_call_expanded us) ss (given_of start.given)).statements))
+    → Passes room (statements_count ss) (statements_count (main_expanded us ss).statements) (AreTooDeep 0 (main_expanded us ss).statements)
+stopped_from us ss room start OutOfMemory past first has h = absurd cc
+stopped_from us ss room start Past past first has h =
+    let all = all_expanded_in [] (main_call_expanded us) ss in
+    let by_given = subst (λ (g : Given). Passes start.room (statements_count ss) (statements_count (all g).statements) (AreTooDeep 0 (all g).statements)) first h in
+    subst (λ (n : ℕ). Passes n (statements_count ss) (statements_count (main_expanded us ss).statements) (AreTooDeep 0 (main_expanded us ss).statements)) has by_given

@@ -72,18 +72,18 @@ mutual
   pub one_same : {S : Type 0} (f : Called → S → Expanded S) (s : StmtTree) (state : S) → call_count s ≡ 0 → expanded_in [] f s state ≡ as_it_is s state
   one_same {S} f (Assign left right) state h =
       ap (expanded_or [] f (Assign (replaced [] left) (replaced [] right)) state) (no_call (call_of left right) h)
-      ∙ ap (λ (s : StmtTree). as_it_is {S} s state) (λ i. Assign (same_expr left i) (same_expr right i))
+      ∙ ap (λ (s : StmtTree). as_it_is {S = S} s state) (λ i. Assign (same_expr left i) (same_expr right i))
   one_same {S} f (If condition then_part else_part) state h =
       let t : all_expanded_in [] f then_part state ≡ all_as_they_are then_part state = all_same f then_part state (omega (arith, h)) in
       let e : all_expanded_in [] f else_part state ≡ all_as_they_are else_part state = all_same f else_part state (omega (arith, h)) in
       ap (λ (c : CondTree). if_expanded c (all_expanded_in [] f then_part state) (all_expanded_in [] f else_part)) (same_cond condition)
       ∙ ap (λ (x : AllExpanded S). if_expanded condition x (all_expanded_in [] f else_part)) t
-      ∙ ap (λ (x : AllExpanded S). as_it_is {S} (If condition then_part x.statements) x.state) e
+      ∙ ap (λ (x : AllExpanded S). as_it_is {S = S} (If condition then_part x.statements) x.state) e
   one_same {S} f (Do head body) state h =
       ap (λ (k : Head). do_expanded k (all_expanded_in [] f body state)) (same_head head)
       ∙ ap (do_expanded head) (all_same f body state h)
-  one_same {S} f (Print items) state h = ap (λ (x : List ItemTree). as_it_is {S} (Print x) state) (same_items items)
-  one_same {S} f (Read items) state h = ap (λ (x : List ExprTree). as_it_is {S} (Read x) state) (same_lefts items)
+  one_same {S} f (Print items) state h = ap (λ (x : List ItemTree). as_it_is {S = S} (Print x) state) (same_items items)
+  one_same {S} f (Read items) state h = ap (λ (x : List ExprTree). as_it_is {S = S} (Read x) state) (same_lefts items)
   one_same {S} f Stop state h = refl
   one_same {S} f (Comment text) state h = refl
 
@@ -92,4 +92,4 @@ mutual
   all_same {S} f no_stmts state h = refl
   all_same {S} f (more_stmts s rest) state h =
       ap (λ (x : Expanded S). then_expanded x (all_expanded_in [] f rest)) (one_same f s state (omega (arith, h)))
-      ∙ ap (λ (x : AllExpanded S). all_as_they_are {S} (more_stmts s x.statements) x.state) (all_same f rest state (omega (arith, h)))
+      ∙ ap (λ (x : AllExpanded S). all_as_they_are {S = S} (more_stmts s x.statements) x.state) (all_same f rest state (omega (arith, h)))

@@ -1,16 +1,23 @@
 -- Programs with the comments before their first statement among the declarations.
-use Rattle.std.proofs.Common.{◌≡◌, ◌+◌, ◌⊎◌, inl, inr, ℕ, zero, suc, List, [], ◌∷◌, ◌++◌, Bool, true, false, Option, Some, None, refl, sym, ap, ◌∙◌, append-nil, arith}
-use Rattle.std.specs.Prelude.{◌&&◌, nat_le, not}
+use Rattle.std.proofs.Common.{◌≡◌, ◌+◌, ◌⊎◌, inl, inr, ℕ, zero, suc, List, [], ◌∷◌, ◌++◌, map, length, Bool, true, false, Option, Some, None, refl, sym, ap, ◌∙◌, append-nil, arith}
+use Rattle.std.specs.Prelude.{◌&&◌, ◌==◌, nat_le, not}
+use Rattle.std.proofs.lemmas.Bool.Decides.{nat_tests}
 use Rattle.ped_tree.specs.Tree.{ExprTree, StmtTree, StmtTrees, Assign, If, Do, Print, Read, Stop, Comment, no_stmts, more_stmts, DeclTree, Program, Implicit, Integer, Dimension, Parameter, Save, Remark, ProgramTree}
+use Rattle.ped_tree.specs.Views.{stmt_tree, pack_stmts}
+use Rattle.ped_tree.specs.declared.statements.Stmt.{Stmt}
 use Rattle.ped_tree.specs.Printing.{decl_text}
 use Rattle.ped_tree.specs.Numbering.{statements_count}
 use Rattle.ped_tree.specs.Grammar.Contexts.{decl_rank}
+use Rattle.ped_tree.specs.Grammar.LimitNumbers.{most_characters}
+use Rattle.ped_tree.specs.Grammar.ProgramRefusals.{is_out_of_order}
 use Rattle.ped_tree.specs.Grammar.Fits.{Surroundings, at_body, moved, comment_fits, decl_fits, decls_fit, stmts_fit, begins_with_statement, fits}
 use Rattle.ped_valid.specs.ped_symbols.specs.Values.{Values}
 use Rattle.ped_calls.specs.Forms.{Called}
 use Rattle.ped_calls.specs.Units.{ProgramUnit, ProgramUnits, unit_of, call_of}
 use Rattle.ped_calls.specs.Expanding.{Given, Meanings, Expanded, AllExpanded, replaced, expanded_or, expanded_in, all_expanded_in, call_expanded, unit_expanded, main_call_expanded}
+use Rattle.ped_calls.specs.Opening.{placed}
 use Rattle.ped_calls.specs.Verdicts.{front_comments, behind_comments, settled}
+use Rattle.ped_calls.proofs.CourseSteps.{behind_pushed, packed_behind}
 
 -- comments aren't counted
 pub count_behind : (ss : StmtTrees) → statements_count (behind_comments ss) ≡ statements_count ss
@@ -21,7 +28,7 @@ count_behind (more_stmts (Do h body) rest) = refl
 count_behind (more_stmts (Print items) rest) = refl
 count_behind (more_stmts (Read items) rest) = refl
 count_behind (more_stmts Stop rest) = refl
-count_behind (more_stmts (Comment text) rest) = count_behind rest
+count_behind (more_stmts (Comment text) rest) = let more = count_behind rest in omega (arith, more)
 
 no_front : (ss : StmtTrees) → begins_with_statement ss ≡ true → (front_comments ss ≡ []) × (behind_comments ss ≡ ss)
 no_front no_stmts h = (refl, refl)
@@ -79,16 +86,20 @@ decl_last_false true true false d h = refl
 decl_last_false true false c d h = refl
 decl_last_false false b c d h = refl
 
+-- a declaration before others that don't fit
+decl_before : (d : DeclTree) (phase : ℕ) (others : Bool) → others ≡ false → (decl_fits d && nat_le (length (decl_text d)) most_characters && not (is_out_of_order phase (decl_rank d)) && others) ≡ false
+decl_before d phase others h = decl_last_false (decl_fits d) (nat_le (length (decl_text d)) most_characters) (not (is_out_of_order phase (decl_rank d))) others h
+
 -- what begins with declarations that fit nowhere behind others
 decls_after : (ds front : List DeclTree) → ((phase : ℕ) → decls_fit phase front ≡ false) → (phase : ℕ) → decls_fit phase (ds ++ front) ≡ false
 decls_after [] front h phase = h phase
 decls_after (Remark text ∷ ds) front h phase = last_false (comment_fits text) _ (decls_after ds front h phase)
-decls_after (Program x ∷ ds) front h phase = decl_last_false _ _ _ _ (decls_after ds front h (decl_rank (Program x)))
-decls_after (Implicit ∷ ds) front h phase = decl_last_false _ _ _ _ (decls_after ds front h (decl_rank Implicit))
-decls_after (Integer names ∷ ds) front h phase = decl_last_false _ _ _ _ (decls_after ds front h (decl_rank (Integer names)))
-decls_after (Dimension names ∷ ds) front h phase = decl_last_false _ _ _ _ (decls_after ds front h (decl_rank (Dimension names)))
-decls_after (Parameter values ∷ ds) front h phase = decl_last_false _ _ _ _ (decls_after ds front h (decl_rank (Parameter values)))
-decls_after (Save names ∷ ds) front h phase = decl_last_false _ _ _ _ (decls_after ds front h (decl_rank (Save names)))
+decls_after (Program x ∷ ds) front h phase = decl_before (Program x) phase (decls_fit (decl_rank (Program x)) (ds ++ front)) (decls_after ds front h (decl_rank (Program x)))
+decls_after (Implicit ∷ ds) front h phase = decl_before Implicit phase (decls_fit (decl_rank Implicit) (ds ++ front)) (decls_after ds front h (decl_rank Implicit))
+decls_after (Integer names ∷ ds) front h phase = decl_before (Integer names) phase (decls_fit (decl_rank (Integer names)) (ds ++ front)) (decls_after ds front h (decl_rank (Integer names)))
+decls_after (Dimension names ∷ ds) front h phase = decl_before (Dimension names) phase (decls_fit (decl_rank (Dimension names)) (ds ++ front)) (decls_after ds front h (decl_rank (Dimension names)))
+decls_after (Parameter values ∷ ds) front h phase = decl_before (Parameter values) phase (decls_fit (decl_rank (Parameter values)) (ds ++ front)) (decls_after ds front h (decl_rank (Parameter values)))
+decls_after (Save names ∷ ds) front h phase = decl_before (Save names) phase (decls_fit (decl_rank (Save names)) (ds ++ front)) (decls_after ds front h (decl_rank (Save names)))
 
 -- a comment before statements that fit nowhere, or that doesn't fit itself
 comment_further : (text : List ℕ) (rest : StmtTrees) → ((phase : ℕ) → decls_fit phase (front_comments rest) ≡ false) ⊎ ((p : Surroundings) → stmts_fit p (behind_comments rest) ≡ false)
@@ -130,3 +141,21 @@ parts_false t (inr h) = inr (h (at_body (settled t)))
 -- where the statements fit nowhere, the program doesn't
 pub settled_unfit : (t : ProgramTree) → ((p : Surroundings) → stmts_fit p t.body ≡ false) → fits (settled t) ≡ false
 settled_unfit t h = fits_false (decls_fit 0 (settled t).decls) (stmts_fit (at_body (settled t)) (settled t).body) _ (parts_false t (front_or_behind t.body h))
+
+-- statements that are placed one by one
+
+zero_not : (n : ℕ) → (n == 0) ≡ false → n ≡ 0 → ⊥
+zero_not n h e = let no : ◌≡◌ {A = Bool} true false = sym (ap (λ (m : ℕ). m == 0) e) ∙ h in cc
+
+pub is_zero : (n : ℕ) → (n == 0) ≡ true → n ≡ 0
+is_zero n h = grind (arith, nat_tests)
+
+-- a statement behind others
+pub placed_pushed : (ds : List DeclTree) (done : List Stmt) (s : Stmt) (left : StmtTrees) (n : ℕ) → length done ≡ n → (n == 0) ≡ false → placed ds (map stmt_tree (done ++ s ∷ [])) left ≡ placed ds (map stmt_tree done) (more_stmts (stmt_tree s) left)
+placed_pushed ds [] s left n counted some = absurd (zero_not n some (sym counted))
+placed_pushed ds (d ∷ done) s left n counted some = λ i. record { decls = ds; body = behind_pushed (d ∷ done) s (stmt_tree s) left refl i }
+
+-- all statements
+pub placed_end : (ds : List DeclTree) (ss : List StmtTree) → placed ds ss no_stmts ≡ record { decls = ds; body = pack_stmts ss }
+placed_end ds [] = λ i. record { decls = append-nil ds i; body = no_stmts }
+placed_end ds (s ∷ ss) = λ i. record { decls = ds; body = sym (packed_behind (s ∷ ss)) i }

@@ -346,3 +346,7 @@ by_reading v text no_form r = formless_is_read v text (unit_item_in v text) r re
 -- what the text is in the profile, or else CALL, SUBROUTINE or RETURN
 pub item_is_read : (v : ℕ → ℕ) (text : List ℕ) (r : Reading) → IsReadAs v text r → IsItemReadAs v text (or_unit_item v text r)
 item_is_read v text r h = subst (λ (p : Reading). IsItemReadAs v text (or_unit_item v text p)) (sym h.2) (by_reading v text h.0 h.1)
+
+-- each text that is read in the profile, or has no form there, is something in a file of program units
+pub unit_item_there : (text : List ℕ) (r : Reading) → IsReading text r → (i : UnitItem) × IsUnitItem text i
+unit_item_there text r h = let there = by_reading (λ n. n) text r h in (there.0, there.1)

@@ -67,14 +67,16 @@ used_along : (own : ProgramUnit → List (List ℕ)) (us : ProgramUnits) (ends :
 used_along own us ends [] i j a u e = subst (AreUsedAt own us) e u
 used_along own us ends (k ∷ path) i j a u h = used_along own us ends path k j a (passed_used own us i k u ((a i k).0 h.0)) h.1
 
-reached_used : (own : ProgramUnit → List (List ℕ)) (us : ProgramUnits) (ends : List (List ℕ)) (seeds : List ℕ) (n : ℕ) → ((from to : ℕ) → Leads ends from to ↔ ArePassed us from to) → ((m : ℕ) → IsIn m seeds ↔ IsSeed own us m) → IsReached ends seeds n → AreUsedAt own us n
+-- what is reached is used so
+pub reached_used : (own : ProgramUnit → List (List ℕ)) (us : ProgramUnits) (ends : List (List ℕ)) (seeds : List ℕ) (n : ℕ) → ((from to : ℕ) → Leads ends from to ↔ ArePassed us from to) → ((m : ℕ) → IsIn m seeds ↔ IsSeed own us m) → IsReached ends seeds n → AreUsedAt own us n
 reached_used own us ends seeds n a s r = used_along own us ends r.path r.seed n a (seed_used own us r.seed ((s r.seed).0 r.is_seed)) r.leads
 
 -- a dummy argument has a number that is reached
 abbrev IsReachedAt : ProgramUnits → List (List ℕ) → List ℕ → ℕ → List ℕ → Type 0
 IsReachedAt us ends seeds k x = (n : ℕ) × (formal_number (all_units us) k x ≡ Some n) × IsReached ends seeds n
 
-used_reached : (own : ProgramUnit → List (List ℕ)) (us : ProgramUnits) (ends : List (List ℕ)) (seeds : List ℕ) (path : List FormalOf) (f : FormalOf) (k : ℕ) → ((from to : ℕ) → Leads ends from to ↔ ArePassed us from to) → ((m : ℕ) → IsIn m seeds ↔ IsSeed own us m)
+-- what is used so is reached
+pub used_reached : (own : ProgramUnit → List (List ℕ)) (us : ProgramUnits) (ends : List (List ℕ)) (seeds : List ℕ) (path : List FormalOf) (f : FormalOf) (k : ℕ) → ((from to : ℕ) → Leads ends from to ↔ ArePassed us from to) → ((m : ℕ) → IsIn m seeds ↔ IsSeed own us m)
     → k < length (all_units us) → unit_at us k ≡ f.unit → IsUsedAlong own us f path → IsReachedAt us ends seeds k f.formal
 used_reached own us ends seeds [] f k a s below is h =
     let among : is_among f.formal (unit_at us k).formals ≡ true = ap (λ (u : ProgramUnit). is_among f.formal u.formals) is ∙ h.is_formal in

@@ -7,6 +7,7 @@ pub mod Refusals
 pub mod Linking
 pub mod Expanding
 pub mod Verdicts
+pub mod Laws
 pub mod UnitReading
 pub mod Places
 pub mod Views

@@ -61,11 +61,19 @@ fn add_first_calls(
             copies.push(Stmt::of_loop(d.with_body(body, alloc)?))?;
             Ok(())
         }
-        Stmt::Print(_) | Stmt::Read(_) | Stmt::Stop | Stmt::Comment(_) => {
-            copies.push(statement.copy(alloc)?)?;
-            Ok(())
-        }
+        Stmt::Print(_) => add_copy(alloc, statement, copies),
+        Stmt::Read(_) => add_copy(alloc, statement, copies),
+        Stmt::Stop => add_copy(alloc, statement, copies),
+        Stmt::Comment(_) => add_copy(alloc, statement, copies),
     }
+}
+
+/// Adds a copy of a statement.
+fn add_copy(alloc: Global, statement: &Stmt, copies: &mut Vec<Stmt>) -> Result<(), NoMemory>
+    ensures { OnOk result ((rest : StmtTrees) → behind_stmts (map stmt_tree copies.new.items) rest ≡ behind_stmts (map stmt_tree copies.old.items) (more_stmts (stmt_tree statement.now) rest)) }
+{
+    copies.push(statement.copy(alloc)?)?;
+    Ok(())
 }
 
 /// Adds a copy of an assignment; of a CALL where some are left, and takes one of them.

@@ -15,6 +15,7 @@ mod formals;
 mod forms;
 mod giving;
 mod items;
+mod laws;
 mod linking;
 mod naming;
 mod numbering;
@@ -36,5 +37,6 @@ mod standing;
 mod unit_refusals;
 mod units;
 
+pub use laws::{one_expansion_or_one_refusal, plain_files};
 pub use opening::{expand_units, expansion};
 pub use refusals::{UnitFinding, UnitRefusal, UnitRule};

@@ -102,7 +102,8 @@ fn expanded(alloc: Global, file: &File) -> Result<Opened, UnitRefusal>
 {
     match judged(alloc, file, &file.units[0].program.body)? {
         Judgement::Valid(opened) => Ok(opened),
-        Judgement::PastStatements | Judgement::PastStorage => Err(first_past(alloc, file)?),
+        Judgement::PastStatements => Err(first_past(alloc, file)?),
+        Judgement::PastStorage => Err(first_past(alloc, file)?),
     }
 }
 
@@ -123,10 +124,10 @@ fn judged(alloc: Global, file: &File, statements: &[Stmt]) -> Result<Judgement, 
     ensures { IfOk result (λ j. (later : ℕ) → statements_count (stmt_trees statements.now) + later ≡ statements_count (units_of file.now.units.now).main.tree.body
         → Judges (units_of file.now.units.now) (stmt_trees statements.now) later j) }
 {
-    let Some(room) = room(&file.units[0].program.body) else {
-        return Ok(Judgement::PastStatements);
-    };
-    judged_within(alloc, file, room, statements)
+    match room(&file.units[0].program.body) {
+        Some(room) => judged_within(alloc, file, room, statements),
+        None => Ok(Judgement::PastStatements),
+    }
 }
 
 /// The same, where there is room for so many more statements.
@@ -144,17 +145,21 @@ fn judged_within(
     let mut course = start(alloc, file, room)?;
     match file.main(alloc, &mut course, statements) {
         Ok(body) => {
-            let program = settled(
-                alloc,
-                &file.units[0].program.decls,
-                course.given.arrays,
-                body,
-            )?;
+            let arrays = arrays_given(course);
+            let program = settled(alloc, &file.units[0].program.decls, arrays, body)?;
             judged_program(alloc, program)
         }
         Err(Stopped::Past) => Ok(Judgement::PastStatements),
         Err(Stopped::OutOfMemory) => Err(NoMemory),
     }
+}
+
+/// The arrays that were given names.
+fn arrays_given(course: Course) -> Vec<Decl>
+    ensures { result.items ≡ course.given.arrays.items }
+{
+    let given = course.given;
+    given.arrays
 }
 
 /// How many statements may still come to these; none where there are too many already.
@@ -251,12 +256,13 @@ fn first_past(alloc: Global, file: &File) -> Result<UnitRefusal, NoMemory>
     ensures { IfOk result (IsPastAt (units_of file.now.units.now)) }
 {
     let found = placed_calls(alloc, &file.units[0])?;
+    let calls = found.calls.as_slice();
     let mut place = 0;
-    while place < found.calls.len() {
-        if let Some(kind) = past_at(alloc, file, place + 1)? {
-            return Ok(past(kind, found.calls[place].line));
+    while place < calls.len() {
+        match past_at(alloc, file, place + 1)? {
+            Some(kind) => return Ok(past(kind, calls[place].line)),
+            None => place += 1,
         }
-        place += 1;
     }
     unreachable!()
 }

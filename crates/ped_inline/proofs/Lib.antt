@@ -10,3 +10,7 @@ mod InlineKeeps
 mod InlinedTidy
 mod OneToOne
 mod InlineLawful
+mod EqualRows
+mod InsertedRows
+mod OneRows
+mod PushedLines

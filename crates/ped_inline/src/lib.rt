@@ -2,11 +2,16 @@
 //! `specs/`.
 #![tactic(auto)]
 
+mod block_places;
 mod blocks;
+mod called;
+mod calls_pane;
 mod inlining;
 mod laws;
+mod rows;
 mod settling;
 
+pub use calls_pane::calls_pane;
 pub use inlining::inline;
 pub use laws::inline_is_lawful;
 pub use ped_splits;

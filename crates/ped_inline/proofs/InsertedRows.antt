@@ -49,23 +49,23 @@ in_new k (x ∷ xs) = go (row_cmp k x) refl (in_new k xs)
 
 in_kept : (r k : Row) (ks : List Row) → IsIn r ks → IsIn r (insert_key row_cmp ks k)
 in_kept r k [] i = absurd i
-in_kept r k (x ∷ xs) i = go (row_cmp k x) i
+in_kept r k (x ∷ xs) i = go (row_cmp k x) i (in_kept r k xs)
   where
-    go : (o : Ordering) → IsIn r (x ∷ xs) → IsIn r (match_ordering o (k ∷ x ∷ xs) (x ∷ xs) (x ∷ insert_key row_cmp xs k))
-    go Less j = inr j
-    go Equal j = j
-    go Greater (inl e) = inl e
-    go Greater (inr j) = inr (in_kept r k xs j)
+    go : (o : Ordering) → IsIn r (x ∷ xs) → (IsIn r xs → IsIn r (insert_key row_cmp xs k)) → IsIn r (match_ordering o (k ∷ x ∷ xs) (x ∷ xs) (x ∷ insert_key row_cmp xs k))
+    go Less j more = inr j
+    go Equal j more = j
+    go Greater (inl e) more = inl e
+    go Greater (inr j) more = inr (more j)
 
 in_both : (r k : Row) (ks : List Row) → IsIn r (insert_key row_cmp ks k) → (r ≡ k) ⊎ IsIn r ks
 in_both r k [] i = i
-in_both r k (x ∷ xs) i = go (row_cmp k x) i
+in_both r k (x ∷ xs) i = go (row_cmp k x) i (in_both r k xs)
   where
-    go : (o : Ordering) → IsIn r (match_ordering o (k ∷ x ∷ xs) (x ∷ xs) (x ∷ insert_key row_cmp xs k)) → (r ≡ k) ⊎ IsIn r (x ∷ xs)
-    go Less j = j
-    go Equal j = inr j
-    go Greater (inl e) = inr (inl e)
-    go Greater (inr j) = elim (in_both r k xs j) [ inl e ↦ inl e | inr l ↦ inr (inr l) ]
+    go : (o : Ordering) → IsIn r (match_ordering o (k ∷ x ∷ xs) (x ∷ xs) (x ∷ insert_key row_cmp xs k)) → (IsIn r (insert_key row_cmp xs k) → (r ≡ k) ⊎ IsIn r xs) → (r ≡ k) ⊎ IsIn r (x ∷ xs)
+    go Less j more = j
+    go Equal j more = inr j
+    go Greater (inl e) more = inr (inl e)
+    go Greater (inr j) more = elim (more j) [ inl e ↦ inl e | inr l ↦ inr (inr l) ]
 
 module _ (bs : List (Option Block)) (e : Edge) (done : List Edge) where
   first_ones : (x : Edge) → IsIn x done → IsIn x (done ++ e ∷ [])

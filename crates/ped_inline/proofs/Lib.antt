@@ -14,3 +14,4 @@ mod EqualRows
 mod InsertedRows
 mod OneRows
 mod PushedLines
+mod PlacedBlocks

@@ -1,6 +1,6 @@
 -- The order of rows is one: each two rows stand in it in one way, and those that it can't tell apart are the same (plain words).
-use Rattle.std.specs.Prelude.{◌≡◌, ℕ, Option, Some, None, refl, sym, ap, ◌∙◌}
-use Rattle.std.specs.Ordering.{nat_cmp}
+use Rattle.std.specs.Prelude.{◌≡◌, ℕ, Option, Some, None, refl}
+use Rattle.std.specs.Ordering.{nat_cmp, ordering_reverse}
 use Rattle.std.specs.declared.cmp.Ordering.{Ordering}
 use Rattle.std.specs.declared.cmp.Ordering.TheVariants.{Less, Equal, Greater}
 use Rattle.std.specs.Cmp.{IsTotalOrder, nat_cmp_total, on_total, then_total}
@@ -16,7 +16,7 @@ level_total = record {
   congr = congr;
 }
   where
-    antisymm : (x y : Option ℕ) → level_cmp x y ≡ Rattle.std.specs.Ordering.ordering_reverse (level_cmp y x)
+    antisymm : (x y : Option ℕ) → level_cmp x y ≡ ordering_reverse (level_cmp y x)
     antisymm (Some a) (Some b) = nat_cmp_total.antisymm a b
     antisymm (Some a) None = refl
     antisymm None (Some b) = refl
@@ -25,7 +25,8 @@ level_total = record {
     trans : (x y z : Option ℕ) → level_cmp x y ≡ Less → level_cmp y z ≡ Less → level_cmp x z ≡ Less
     trans (Some a) (Some b) (Some c) h k = nat_cmp_total.trans a b c h k
     trans (Some a) (Some b) None h k = refl
-    trans (Some a) None z h k = absurd cc
+    trans (Some a) None (Some c) h k = absurd cc
+    trans (Some a) None None h k = absurd cc
     trans None (Some b) z h k = absurd cc
     trans None None z h k = absurd cc
 

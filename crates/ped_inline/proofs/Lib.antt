@@ -15,3 +15,7 @@ mod InsertedRows
 mod OneRows
 mod PushedLines
 mod PlacedBlocks
+mod EdgeLevels
+mod BlockRounds
+mod FoldedCovering
+mod OnePane

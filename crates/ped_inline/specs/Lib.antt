@@ -6,3 +6,4 @@ pub mod Folding
 pub mod CallsPane
 pub mod CodeFolding
 pub mod RowOrders
+pub mod CoveredCalls

@@ -1,5 +1,5 @@
-//! `inline`: the statements of a block that a CALL was expanded to come in the place of the block. The definitions stand in
-//! `specs/`.
+//! Blocks that CALLs were expanded to. `inline` puts the statements of such a block in its place; the pane of calls shows the
+//! dependences of the program with each block as one statement. The definitions stand in `specs/`.
 #![tactic(auto)]
 
 mod block_places;
@@ -8,10 +8,12 @@ mod called;
 mod calls_pane;
 mod inlining;
 mod laws;
+mod pane_laws;
 mod rows;
 mod settling;
 
 pub use calls_pane::calls_pane;
 pub use inlining::inline;
 pub use laws::inline_is_lawful;
+pub use pane_laws::{calls_are_covered, one_calls_pane};
 pub use ped_splits;

@@ -13,10 +13,8 @@ use Rattle.ped_splits.specs.ped_reindex.specs.ped_loops.specs.ped_scalar.specs.p
 use Rattle.ped_splits.specs.ped_reindex.specs.ped_loops.specs.ped_scalar.specs.ped_rules.specs.ped_loop_runs.specs.ped_bodies.specs.ped_steps.specs.ped_laws.specs.ped_graph.specs.ped_edges.specs.Edges.{Edge}
 use Rattle.ped_splits.specs.ped_reindex.specs.ped_loops.specs.ped_scalar.specs.ped_rules.specs.ped_loop_runs.specs.ped_bodies.specs.ped_steps.specs.ped_laws.specs.ped_graph.specs.Dependences.{Carriage, carried, independent, carriage_from, is_of, setting_in, AreEdges}
 use Rattle.ped_splits.specs.ped_reindex.specs.ped_loops.specs.ped_scalar.specs.ped_rules.specs.ped_loop_runs.specs.ped_bodies.specs.ped_steps.specs.ped_laws.specs.ped_store.specs.Stores.{Store}
-use Rattle.ped_splits.specs.ped_reindex.specs.ped_loops.specs.ped_scalar.specs.ped_rules.specs.ped_loop_runs.specs.ped_bodies.specs.ped_steps.specs.ped_laws.specs.ped_store.specs.Cells.{Iteration}
 use Rattle.ped_splits.specs.ped_reindex.specs.ped_loops.specs.ped_scalar.specs.ped_rules.specs.ped_loop_runs.specs.ped_bodies.specs.ped_steps.specs.ped_laws.specs.ped_store.specs.Acts.{Turn, iterations_of}
 use Rattle.ped_splits.specs.ped_reindex.specs.ped_loops.specs.ped_scalar.specs.ped_rules.specs.ped_loop_runs.specs.ped_bodies.specs.ped_steps.specs.ped_laws.specs.ped_store.specs.Races.{Access, conflict}
-use Rattle.ped_splits.specs.ped_reindex.specs.ped_loops.specs.ped_scalar.specs.ped_rules.specs.ped_loop_runs.specs.ped_bodies.specs.ped_steps.specs.ped_laws.specs.Acts.Orders.{IsIn}
 use Rattle.ped_splits.specs.ped_reindex.specs.ped_loops.specs.ped_scalar.specs.ped_rules.specs.ped_loop_runs.specs.ped_bodies.specs.ped_steps.specs.ped_laws.specs.Conflicts.Directions.{step_at, StandInDirections, share_a_loop}
 use Rattle.ped_splits.specs.ped_reindex.specs.ped_loops.specs.ped_scalar.specs.ped_rules.specs.ped_loop_runs.specs.ped_bodies.specs.ped_steps.specs.ped_laws.specs.Conflicts.Sequence.{ComesBefore}
 use Rattle.ped_splits.specs.ped_reindex.specs.ped_loops.specs.ped_scalar.specs.ped_rules.specs.ped_loop_runs.specs.ped_bodies.specs.ped_steps.specs.ped_laws.specs.Conflicts.Covered.{ComeInRun, IsCovered}
@@ -161,7 +159,8 @@ module _ (made : MakingLaw) (sequence : SequenceLaw) (t : ProgramTree) (data_byt
       let block : y ≡ x = λ i. record { number = sym same i; loops = (also ∙ sym deep) i } in
       let source_nest : AreOf t (ls ++ first.0.0) a.place.turns = subst (λ (ns : List Loop). AreOf t ns a.place.turns) first.0.1 (nest_of a by.source by.first m.at_source m.before m.made) in
       let sink_nest : AreOf t (ls ++ second.0.0) b.place.turns = subst (λ (ns : List Loop). AreOf t ns b.place.turns) (second.0.1 ∙ ap (λ (n : ℕ). nest_round t n ++ second.0.0) (sym same)) (nest_of b by.sink by.first m.at_sink m.behind m.makes) in
-      let further : is_beyond (0 + length ls) (apart_from 1 a.place.turns b.place.turns) ≡ true = (λ i. is_beyond (sym deep i) (sym its_level i)) ∙ beyond x covered.edge.level inside in
+      let all_round : x.loops ≡ 0 + length ls = omega (arith, deep) in
+      let further : is_beyond (0 + length ls) (apart_from 1 a.place.turns b.place.turns) ≡ true = (λ i. is_beyond (sym all_round i) (sym its_level i)) ∙ beyond x covered.edge.level inside in
       record {
         block = x;
         of_first = p;

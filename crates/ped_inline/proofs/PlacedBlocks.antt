@@ -1,7 +1,7 @@
 -- The blocks of statements, and the CALLs of blocks, as the walks of the code add them.
-use Rattle.std.proofs.Common.{◌≡◌, ℕ, ◌+◌, List, [], ◌∷◌, ◌++◌, length, map, drop, get_or, ◌<◌, Option, None, refl, sym, ap, ◌∙◌, arith, append_assoc}
+use Rattle.std.proofs.Common.{◌≡◌, ℕ, ◌+◌, List, [], ◌∷◌, ◌++◌, length, drop, get_or, ◌<◌, Option, None, sym, ap, ◌∙◌, arith, append_assoc}
 use Rattle.std.proofs.lemmas.List.{map-append, length-append}
-use Rattle.ped_tree.specs.Tree.{Head, StmtTree, StmtTrees, If, Do, more_stmts}
+use Rattle.ped_tree.specs.Tree.{Head, StmtTree, StmtTrees, Do, more_stmts}
 use Rattle.ped_tree.specs.Views.{stmt_tree, stmt_trees}
 use Rattle.ped_tree.specs.Numbering.{numbered, all_numbered, statement_count}
 use Rattle.ped_tree.specs.declared.statements.Stmt.{Stmt}

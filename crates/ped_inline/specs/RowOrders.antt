@@ -1,8 +1,7 @@
 -- The order of rows is one: each two rows stand in it in one way, and those that it can't tell apart are the same (plain words).
 use Rattle.std.specs.Prelude.{◌≡◌, ℕ, Option, Some, None, refl}
-use Rattle.std.specs.Ordering.{nat_cmp, ordering_reverse}
-use Rattle.std.specs.declared.cmp.Ordering.{Ordering}
-use Rattle.std.specs.declared.cmp.Ordering.TheVariants.{Less, Equal, Greater}
+use Rattle.std.specs.Ordering.{ordering_reverse}
+use Rattle.std.specs.declared.cmp.Ordering.TheVariants.{Less, Equal}
 use Rattle.std.specs.Cmp.{IsTotalOrder, nat_cmp_total, on_total, then_total}
 use Rattle.std.specs.Cmp.Lexicographic.{nat_list_cmp_total}
 use Rattle.ped_inline.specs.Folding.{Row, kind_rank, level_cmp, row_cmp}

@@ -1,6 +1,6 @@
 //! The CALLs that marked blocks were made from.
 
-ghost use Rattle.std.specs.Prelude.{◌≡◌, ◌+◌, ◌<◌, ◌^◌, ◌++◌, [], ◌∷◌, map, drop, IfOk, OnOk};
+ghost use Rattle.std.specs.Prelude.{◌≡◌, ◌+◌, ◌<◌, ◌^◌, ◌++◌, map, drop, IfOk, OnOk};
 ghost use Rattle.ped_tree.specs.Numbering.{numbered, all_numbered, statement_count, statements_count};
 ghost use Rattle.ped_tree.specs.Views.{stmt_tree, stmt_trees};
 ghost use Rattle.ped_inline.specs.CallsPane as Spec;

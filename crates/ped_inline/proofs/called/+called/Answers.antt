@@ -1,8 +1,8 @@
-use Rattle.std.proofs.Common.{◌≡◌, ℕ, ◌+◌, ◌++◌, List, length, map, drop, sym, ap, ◌∙◌, arith}
+use Rattle.std.proofs.Common.{◌≡◌, ◌+◌, ◌++◌, List, length, map, sym, ap, ◌∙◌, arith}
 use Rattle.std.proofs.lemmas.Result.{on_ok_weaker}
 use Rattle.ped_tree.specs.Tree.{StmtTree, StmtTrees, If}
 use Rattle.ped_tree.specs.Views.{cond_tree, stmt_tree, stmt_trees}
-use Rattle.ped_tree.specs.Numbering.{numbered, all_numbered, statement_count, statements_count}
+use Rattle.ped_tree.specs.Numbering.{numbered, all_numbered, statements_count}
 use Rattle.ped_tree.specs.declared.statements.Stmt.{Stmt}
 use Rattle.ped_tree.proofs.Levels.{stmt_tree-If}
 use Rattle.ped_tree.proofs.Numbers.{length-all_numbered, stmt_trees-drop}

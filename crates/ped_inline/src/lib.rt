@@ -5,15 +5,15 @@
 mod block_places;
 mod blocks;
 mod called;
-mod calls_pane;
 mod inlining;
 mod laws;
+mod pane;
 mod pane_laws;
 mod rows;
 mod settling;
 
-pub use calls_pane::calls_pane;
 pub use inlining::inline;
 pub use laws::inline_is_lawful;
+pub use pane::calls_pane;
 pub use pane_laws::{calls_are_covered, one_calls_pane};
 pub use ped_splits;

@@ -1,7 +1,7 @@
 mod Settled
 mod SettledPrograms
 mod BlockAnswers
-mod InlineRules
+pub mod InlineRules
 mod InlineAnswers
 mod AlikeRuns
 mod OpenedRuns
@@ -9,7 +9,7 @@ mod InlinedShape
 mod InlineKeeps
 mod InlinedTidy
 mod OneToOne
-mod InlineLawful
+pub mod InlineLawful
 mod EqualRows
 mod InsertedRows
 mod OneRows
@@ -18,4 +18,5 @@ mod PlacedBlocks
 mod EdgeLevels
 mod BlockRounds
 mod FoldedCovering
-mod OnePane
+pub mod OnePane
+pub mod SomeRows

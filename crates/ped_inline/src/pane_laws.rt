@@ -28,7 +28,8 @@ pub fn calls_are_covered()
     conflicts_are_covered();
 }
 
-/// A program has one pane of calls.
+/// A program has one pane of calls, whatever its dependences are.
 pub fn one_calls_pane()
-    ensures { (t : ProgramTree) (p q : List ℕ) → IsCallsPane t p → IsCallsPane t q → p ≡ q }
+    ensures some { (t : ProgramTree) (edges : List Edge) → AreEdges t edges → (pane : List ℕ) × IsCallsPane t pane }
+    ensures one { (t : ProgramTree) (p q : List ℕ) → IsCallsPane t p → IsCallsPane t q → p ≡ q }
 {}

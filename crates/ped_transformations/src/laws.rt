@@ -6,6 +6,7 @@ ghost use Rattle.ped_auto.specs.ped_reduce.specs.ped_splits.specs.ped_reindex.sp
 ghost use Rattle.ped_auto.specs.ped_reduce.specs.ped_splits.specs.ped_reindex.specs.ped_loops.specs.ped_scalar.specs.ped_rules.specs.Lawful.{IsLawful};
 ghost use Rattle.ped_transformations.specs.Table.{step_of};
 
+use ped_auto::ped_inline::inline_is_lawful;
 use ped_auto::ped_reduce::ped_splits::ped_reindex::ped_loops::{
     interchange_is_lawful, parallel_is_lawful, rejection_is_lawful, reversal_is_lawful,
     serial_is_lawful,
@@ -33,4 +34,5 @@ pub fn every_step_is_lawful()
     distribution_is_lawful();
     fusion_is_lawful();
     reduction_is_lawful();
+    inline_is_lawful();
 }

@@ -2,7 +2,7 @@
 use Rattle.std.specs.Prelude.{◌≡◌, ℕ, List, [], ◌∷◌, ◌++◌, codes, Option, Some, None, true, false}
 use Rattle.ped_tree.specs.Tree.{ProgramTree}
 use Rattle.ped_auto.specs.ped_script.specs.declared.items.Command.{Command}
-use Rattle.ped_auto.specs.ped_script.specs.declared.items.Command.TheVariants.{Interchange, Reverse, Distribute, Fuse, Inline, Parallel, Serial, Peel}
+use Rattle.ped_auto.specs.ped_script.specs.declared.items.Command.TheVariants.{Interchange, Reverse, Distribute, Fuse, Parallel, Serial, Peel}
 use Rattle.ped_auto.specs.ped_reduce.specs.ped_splits.specs.ped_reindex.specs.ped_loops.specs.ped_scalar.specs.ped_rules.specs.ped_loop_runs.specs.ped_bodies.specs.ped_steps.specs.Causes.{Cause}
 use Rattle.ped_auto.specs.ped_reduce.specs.ped_splits.specs.ped_reindex.specs.ped_loops.specs.ped_scalar.specs.ped_rules.specs.ped_loop_runs.specs.ped_bodies.specs.ped_steps.specs.CauseWords.{cause_words}
 use Rattle.ped_auto.specs.ped_reduce.specs.ped_splits.specs.ped_reindex.specs.ped_loops.specs.ped_scalar.specs.ped_rules.specs.Steps.{MatchStep}

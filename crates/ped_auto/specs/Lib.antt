@@ -1,6 +1,5 @@
 pub use Rattle.ped_script
-pub use Rattle.ped_inline
-pub use Rattle.ped_inline.specs.ped_reduce
+pub use Rattle.ped_reduce
 pub mod CarriedNames
 pub mod CodeReports
 pub mod CodeStages

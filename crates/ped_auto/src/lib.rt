@@ -10,8 +10,7 @@ mod strategy;
 
 pub use editor::Editor;
 pub use laws::{accepted_are_commands, auto_replays, one_auto};
-pub use ped_inline;
-pub use ped_inline::ped_reduce;
+pub use ped_reduce;
 pub use ped_script;
 pub use report::AutoReport;
 pub use strategy::auto;

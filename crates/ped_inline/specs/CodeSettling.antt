@@ -1,8 +1,8 @@
 -- Comments before the first executable statement, as statements are taken one by one. Contracts of private functions alone speak of it (this project).
 use Rattle.std.specs.Prelude.{List, ◌++◌}
 use Rattle.ped_tree.specs.Tree.{StmtTrees, no_stmts, more_stmts, DeclTree}
-use Rattle.ped_reduce.specs.ped_splits.specs.ped_reindex.specs.ped_loops.specs.ped_scalar.specs.ped_rules.specs.ped_loop_runs.specs.ped_bodies.specs.ped_steps.specs.Replacing.{followed}
-use Rattle.ped_reduce.specs.ped_splits.specs.ped_reindex.specs.Settling.{front_comments, behind_comments}
+use Rattle.ped_splits.specs.ped_reindex.specs.ped_loops.specs.ped_scalar.specs.ped_rules.specs.ped_loop_runs.specs.ped_bodies.specs.ped_steps.specs.Replacing.{followed}
+use Rattle.ped_splits.specs.ped_reindex.specs.Settling.{front_comments, behind_comments}
 
 -- the declarations, where these statements are the body so far and those are to come
 abbrev pub decls_of : List DeclTree → StmtTrees → StmtTrees → List DeclTree

@@ -1,4 +1,4 @@
-pub use Rattle.ped_reduce
+pub use Rattle.ped_splits
 pub mod Blocks
 pub mod Inlining
 pub mod CodeSettling

@@ -16,4 +16,4 @@ pub use inlining::inline;
 pub use laws::inline_is_lawful;
 pub use pane::calls_pane;
 pub use pane_laws::{calls_are_covered, one_calls_pane};
-pub use ped_reduce;
+pub use ped_splits;

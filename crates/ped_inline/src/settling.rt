@@ -3,7 +3,7 @@
 ghost use Rattle.std.specs.Prelude.{◌≡◌, ◌++◌, [], ◌∷◌, map, IfOk, OnOk, IfErr};
 ghost use Rattle.ped_tree.specs.Tree.{StmtTrees, more_stmts};
 ghost use Rattle.ped_tree.specs.Views.{decl_tree, stmt_tree, stmt_trees};
-ghost use Rattle.ped_reduce.specs.ped_splits.specs.ped_reindex.specs.Settling as Spec;
+ghost use Rattle.ped_splits.specs.ped_reindex.specs.Settling as Spec;
 ghost use Rattle.ped_inline.specs.CodeSettling.{decls_of, body_of};
 
 use ped_base::NoMemory;

@@ -20,8 +20,8 @@ use Rattle.ped_auto.specs.ped_reduce.specs.Reducing.{reducing}
 use Rattle.ped_auto.specs.ped_reduce.specs.ped_splits.specs.ped_reindex.specs.ped_loops.proofs.Determined.{determined_parallel, determined_serial, determined_reversal, determined_interchange, determined_rejection}
 use Rattle.ped_auto.specs.ped_reduce.specs.ped_splits.specs.ped_reindex.proofs.Determined.{determined_skew, determined_strip, determined_peel}
 use Rattle.ped_auto.specs.ped_reduce.specs.ped_splits.proofs.Determined.{determined_distribution, determined_fusion}
-use Rattle.ped_auto.specs.ped_inline.specs.Inlining as step
-use Rattle.ped_auto.specs.ped_inline.proofs.InlineLawful.{lawful_inline}
+use Rattle.ped_inline.specs.Inlining as step
+use Rattle.ped_inline.proofs.InlineLawful.{lawful_inline}
 use Rattle.ped_transformations.proofs.DeterminedReduction.{determined_reduction}
 use Rattle.ped_transformations.specs.Table.{step_of}
 

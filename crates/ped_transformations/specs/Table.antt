@@ -15,7 +15,7 @@ use Rattle.ped_auto.specs.ped_reduce.specs.ped_splits.specs.ped_reindex.specs.Pe
 use Rattle.ped_auto.specs.ped_reduce.specs.ped_splits.specs.Distributing.{distributing}
 use Rattle.ped_auto.specs.ped_reduce.specs.ped_splits.specs.Fusing.{fusing}
 use Rattle.ped_auto.specs.ped_reduce.specs.Reducing.{reducing}
-use Rattle.ped_auto.specs.ped_inline.specs.Inlining.{inlining}
+use Rattle.ped_inline.specs.Inlining.{inlining}
 
 -- the step that a command takes, where it takes one
 abbrev pub step_of : Command → MaybeStep

@@ -7,7 +7,6 @@ ghost use Rattle.ped_transformations.specs.declared.table.Kind.TheVariants as Ki
 ghost use Rattle.ped_transformations.specs.Table.{step_of};
 ghost use Rattle.ped_transformations.specs.CodeKinds.{IsPlace, AnswersStep};
 
-use ped_auto::ped_inline::inline;
 use ped_auto::ped_reduce::ped_splits::ped_reindex::ped_loops::ped_scalar::ped_rules::ped_loop_runs::ped_bodies::ped_steps::{
     Change, Refused, Scene,
 };
@@ -20,6 +19,7 @@ use ped_auto::ped_reduce::ped_splits::{distribute, fuse};
 use ped_auto::ped_reduce::reduce;
 use ped_auto::ped_script::Command;
 use ped_base::NoMemory;
+use ped_inline::inline;
 use std::alloc::Global;
 use std::sync::ledger::Ledger;
 

@@ -1,7 +1,7 @@
 use Rattle.std.proofs.Common.{◌≡◌, ◌++◌, map}
 use Rattle.std.specs.Vec.Iter.{into_iter_items}
 use Rattle.ped_tree.specs.Views.{decl_tree, stmt_trees}
-use Rattle.ped_reduce.specs.ped_splits.specs.ped_reindex.specs.Settling as Spec
+use Rattle.ped_splits.specs.ped_reindex.specs.Settling as Spec
 use Rattle.ped_inline.specs.CodeSettling.{decls_of, body_of}
 use Rattle.ped_inline.proofs.settling.behind_comments.Given as goal
 

@@ -9,10 +9,11 @@ use Rattle.ped_session.specs.ped_tree.specs.Numbering.{statement_with}
 use Rattle.ped_session.specs.ped_symbols.specs.NameRefusals.{IsValid}
 use Rattle.ped_session.specs.ped_valid.specs.Validity.{ReadsValid}
 use Rattle.ped_session.specs.ped_graph.specs.DependencePane.{IsDependencePane, IsDependencePaneOf}
+use Rattle.ped_session.specs.ped_transformations.specs.ped_inline.specs.CallsPane.{IsCallsPane}
 use Rattle.ped_session.specs.ped_transformations.specs.Advice.{IsAdvice}
 use Rattle.ped_session.specs.ped_transformations.specs.ped_script.specs.declared.items.Item.{Item}
 use Rattle.ped_session.specs.ped_transformations.specs.ped_script.specs.declared.items.Command.{Command}
-use Rattle.ped_session.specs.ped_transformations.specs.ped_script.specs.declared.items.Command.TheVariants.{Source, Deps, Show, Print, Advise, Replace, Insert, Delete, Interchange, Reverse, Skew, Strip, Peel, Distribute, Fuse, Expand, Privatise, Reduce, Parallel, Serial, Reject, Auto, Undo, Redo, Run, Races, Tested}
+use Rattle.ped_session.specs.ped_transformations.specs.ped_script.specs.declared.items.Command.TheVariants.{Source, Deps, Show, Calls, Print, Advise, Replace, Insert, Delete, Interchange, Reverse, Skew, Strip, Peel, Distribute, Fuse, Inline, Expand, Privatise, Reduce, Parallel, Serial, Reject, Auto, Undo, Redo, Run, Races, Tested}
 use Rattle.ped_session.specs.declared.replies.Reply.{Reply}
 use Rattle.ped_session.specs.declared.replies.Reply.TheVariants.{Shown, Refused}
 use Rattle.ped_session.specs.declared.replies.Refusal.TheVariants.{NoSuchStatement}
@@ -65,6 +66,7 @@ reply_shows line Source d s next said printed h = shows IsSourcePane line s next
 reply_shows line (Deps None) d s next said printed h = shows IsDependencePane line s next h.0 said printed h.1 h.2
 reply_shows line (Deps (Some number)) d s next said printed h = shows_of (λ t. IsDependencePaneOf t (Some number)) line number s next h.0 said printed h.1 h.2
 reply_shows line Show d s next said printed h = shows ArePanes line s next h.0 said printed h.1 h.2
+reply_shows line Calls d s next said printed h = shows IsCallsPane line s next h.0 said printed h.1 h.2
 reply_shows line Print d s next said printed h = bytes_of line h.0 (Shown s.present) next said h.2 h.1.0
 reply_shows line (Advise number) d s next said printed h = shows_of (λ t. IsAdvice t number) line number s next h.0 said printed h.1 h.2
 reply_shows line (Replace first last lines) d s next said printed h = tt
@@ -77,6 +79,7 @@ reply_shows line (Strip number size) d s next said printed h = tt
 reply_shows line (Peel number last) d s next said printed h = tt
 reply_shows line (Distribute number) d s next said printed h = tt
 reply_shows line (Fuse number) d s next said printed h = tt
+reply_shows line (Inline number) d s next said printed h = tt
 reply_shows line (Expand number name) d s next said printed h = tt
 reply_shows line (Privatise number name) d s next said printed h = tt
 reply_shows line (Reduce number names) d s next said printed h = tt

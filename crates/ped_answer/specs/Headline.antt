@@ -9,10 +9,11 @@ use Rattle.ped_session.specs.ped_tree.specs.Printing.{program_text}
 use Rattle.ped_session.specs.ped_tree.specs.Numbering.{statement_with}
 use Rattle.ped_session.specs.ped_valid.specs.Validity.{ReadsValid}
 use Rattle.ped_session.specs.ped_graph.specs.DependencePane.{IsDependencePane, IsDependencePaneOf}
+use Rattle.ped_session.specs.ped_transformations.specs.ped_inline.specs.CallsPane.{IsCallsPane}
 use Rattle.ped_session.specs.ped_transformations.specs.ped_script.specs.Items.{commands_of}
 use Rattle.ped_session.specs.ped_transformations.specs.ped_script.specs.declared.items.Item.{Item}
 use Rattle.ped_session.specs.ped_transformations.specs.ped_script.specs.declared.items.Command.{Command}
-use Rattle.ped_session.specs.ped_transformations.specs.ped_script.specs.declared.items.Command.TheVariants.{Source, Deps, Show, Print, Advise, Parallel, Auto, Undo, Redo, Run, Races, Tested}
+use Rattle.ped_session.specs.ped_transformations.specs.ped_script.specs.declared.items.Command.TheVariants.{Source, Deps, Show, Calls, Print, Advise, Parallel, Auto, Undo, Redo, Run, Races, Tested}
 use Rattle.ped_session.specs.ped_transformations.specs.Table.{step_of}
 use Rattle.ped_session.specs.ped_transformations.specs.Advice.{IsAdvice}
 use Rattle.ped_session.specs.ped_transformations.specs.ped_auto.specs.SerialLoops.{serial_loops}
@@ -82,6 +83,7 @@ ShowsAfresh line (Some Source) data_bytes s said next = Afresh IsSourcePane s.pr
 ShowsAfresh line (Some (Deps None)) data_bytes s said next = Afresh IsDependencePane s.present said.bytes
 ShowsAfresh line (Some (Deps (Some number))) data_bytes s said next = Afresh (IsOfStatement (λ t. IsDependencePaneOf t (Some number)) line number) s.present said.bytes
 ShowsAfresh line (Some Show) data_bytes s said next = Afresh ArePanes s.present said.bytes
+ShowsAfresh line (Some Calls) data_bytes s said next = Afresh IsCallsPane s.present said.bytes
 ShowsAfresh line (Some Print) data_bytes s said next = said.bytes ≡ s.present
 ShowsAfresh line (Some (Advise number)) data_bytes s said next = Afresh (IsOfStatement (λ t. IsAdvice t number) line number) s.present said.bytes
 ShowsAfresh line command data_bytes s said next = ⊤
@@ -139,6 +141,7 @@ abbrev pub IsShowing : Command → Type 0
 IsShowing Source = ⊤
 IsShowing (Deps of) = ⊤
 IsShowing Show = ⊤
+IsShowing Calls = ⊤
 IsShowing Print = ⊤
 IsShowing (Advise number) = ⊤
 IsShowing (Run choices) = ⊤

@@ -19,9 +19,9 @@ mod tallies;
 
 pub use answering::{Status, answer_surely, one_answer, ped_main};
 pub use existence::{
-    answers_exist, dependence_pane_exists, dependence_pane_of_exists, dependences_exist,
-    exclusions_are_decided, lowerings_exist, replies_exist, script_answers_exist, some_answer,
-    vectors_exist,
+    answers_exist, calls_pane_exists, dependence_pane_exists, dependence_pane_of_exists,
+    dependences_exist, exclusions_are_decided, lowerings_exist, replies_exist,
+    script_answers_exist, some_answer, vectors_exist,
 };
 pub use generating::made_programs_have_no_list;
 pub use headline::{

@@ -22,13 +22,13 @@ module _ (s : ℕ) where
   one_made t new other keep more p q = (p.0 ∙ sym q.0, p.1 ∙ sym q.1)
 
   module _ (t : ProgramTree) where
-    abbrev call : Rules
+    abbrev pub call : Rules
     call = also NoCall (WhereNoCall t s) no_rules
 
     abbrev stands : Rules
     stands = StandsAgainstInlining s t
 
-    call_chain : IsChain 15 call
+    pub call_chain : IsChain 15 call
     call_chain = chain_link NoCall (WhereNoCall t s) no_rules 15 (omega arith) (λ m n a b. a.1 ∙ sym b.1) (chain_end 20)
 
     pub chain : IsChain 0 stands
@@ -46,7 +46,7 @@ module _ (s : ℕ) where
       nothing_stands valid = none_later Limit (WhereBlockLimit t s) call (λ n p. p.1 valid) (none_later NoCall (WhereNoCall t s) no_rules (λ n p. p.0 body is) none_at_end)
 
     -- a statement is a marked block, or it isn't
-    block_decided : ((body : StmtTrees) × IsBlock t s body) ⊎ ((body : StmtTrees) → IsBlock t s body → ⊥)
+    pub block_decided : ((body : StmtTrees) × IsBlock t s body) ⊎ ((body : StmtTrees) → IsBlock t s body → ⊥)
     block_decided = by (statement_with s t) refl
       where
         of_it : (g : StmtTree) → statement_with s t ≡ Some g → (o : Option StmtTrees) → block_body g ≡ o → ((body : StmtTrees) × IsBlock t s body) ⊎ ((body : StmtTrees) → IsBlock t s body → ⊥)

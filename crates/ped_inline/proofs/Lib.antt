@@ -1,7 +1,7 @@
 mod Settled
 mod SettledPrograms
 mod BlockAnswers
-mod InlineRules
+pub mod InlineRules
 mod InlineAnswers
 mod AlikeRuns
 mod OpenedRuns
@@ -9,4 +9,14 @@ mod InlinedShape
 mod InlineKeeps
 mod InlinedTidy
 mod OneToOne
-mod InlineLawful
+pub mod InlineLawful
+mod EqualRows
+mod InsertedRows
+mod OneRows
+mod PushedLines
+mod PlacedBlocks
+mod EdgeLevels
+mod BlockRounds
+mod FoldedCovering
+pub mod OnePane
+pub mod SomeRows

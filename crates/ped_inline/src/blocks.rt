@@ -6,6 +6,7 @@ ghost use Rattle.ped_tree.specs.Tree.{StmtTrees};
 ghost use Rattle.ped_tree.specs.Views.{expr_tree, cond_tree, stmt_tree, stmt_trees, program_tree};
 ghost use Rattle.ped_inline.specs.Blocks as Spec;
 ghost use Rattle.ped_inline.specs.Blocks.{IsBlock};
+ghost use Rattle.ped_inline.specs.Folding as Folding;
 
 use ped_tree::{Cond, Expr, Program, Relation, Stmt};
 
@@ -21,6 +22,13 @@ pub(crate) fn block_at<'a>(program: &'a Program, number: u32) -> Option<&'a [Stm
             return None;
         }
     }
+}
+
+/// Whether the statement is a marked block.
+pub(crate) fn is_block(statement: &Stmt) -> bool
+    ensures { result ≡ Folding.is_block (stmt_tree statement.now) }
+{
+    block_body(statement).is_some()
 }
 
 /// The body of a marked block without the comment: of an IF with the condition 0.EQ.0, without ELSE, whose first statement is

@@ -11,7 +11,7 @@ use Rattle.std.proofs.lemmas.List.Elements.{All-from_recursion}
 use Rattle.ped_base.specs.Letters.{is_letter, is_digit, is_alphanumeric, begins_with_letter, is_name}
 use Rattle.ped_transformations.specs.ped_auto.specs.Editing.{IsOfStrategy}
 use Rattle.ped_session.specs.ped_transformations.specs.ped_script.specs.declared.items.Command.{Command}
-use Rattle.ped_session.specs.ped_transformations.specs.ped_script.specs.declared.items.Command.TheVariants.{Source, Deps, Show, Print, Advise, Replace, Insert, Delete, Interchange, Reverse, Skew, Strip, Peel, Distribute, Fuse, Expand, Privatise, Reduce, Parallel, Serial, Reject, Auto, Undo, Redo, Run, Races, Tested}
+use Rattle.ped_session.specs.ped_transformations.specs.ped_script.specs.declared.items.Command.TheVariants.{Source, Deps, Show, Calls, Print, Advise, Replace, Insert, Delete, Interchange, Reverse, Skew, Strip, Peel, Distribute, Fuse, Inline, Expand, Privatise, Reduce, Parallel, Serial, Reject, Auto, Undo, Redo, Run, Races, Tested}
 use Rattle.ped_session.specs.ped_transformations.specs.ped_script.specs.declared.items.Item.{Item}
 use Rattle.ped_session.specs.ped_transformations.specs.ped_script.specs.Words.{words_of}
 use Rattle.ped_session.specs.ped_transformations.specs.ped_script.specs.Rows.{command_of}
@@ -83,6 +83,7 @@ command_plain (Reduce n names) is h = line_plain (codes "reduce") (decimal n ∷
 command_plain Source is h = absurd is
 command_plain (Deps of) is h = absurd is
 command_plain Show is h = absurd is
+command_plain Calls is h = absurd is
 command_plain Print is h = absurd is
 command_plain (Advise n) is h = absurd is
 command_plain (Replace first last given) is h = absurd is
@@ -94,6 +95,7 @@ command_plain (Skew n factor) is h = absurd is
 command_plain (Strip n size) is h = absurd is
 command_plain (Peel n last) is h = absurd is
 command_plain (Fuse n) is h = absurd is
+command_plain (Inline n) is h = absurd is
 command_plain (Expand n x) is h = absurd is
 command_plain (Serial n) is h = absurd is
 command_plain (Reject n x) is h = absurd is
@@ -139,6 +141,7 @@ alone (Reduce n names) is following = (refl, refl)
 alone Source is following = absurd is
 alone (Deps of) is following = absurd is
 alone Show is following = absurd is
+alone Calls is following = absurd is
 alone Print is following = absurd is
 alone (Advise n) is following = absurd is
 alone (Replace first last given) is following = absurd is
@@ -150,6 +153,7 @@ alone (Skew n factor) is following = absurd is
 alone (Strip n size) is following = absurd is
 alone (Peel n last) is following = absurd is
 alone (Fuse n) is following = absurd is
+alone (Inline n) is following = absurd is
 alone (Expand n x) is following = absurd is
 alone (Serial n) is following = absurd is
 alone (Reject n x) is following = absurd is

@@ -13,7 +13,7 @@ use Rattle.ped_transformations.specs.ped_auto.specs.SerialLoops.{IsNumber, count
 use Rattle.ped_transformations.specs.ped_auto.specs.Editing.{place_of, IsAt, CanTry, Answers}
 use Rattle.ped_transformations.specs.Table.{step_of}
 use Rattle.ped_session.specs.ped_transformations.specs.ped_script.specs.declared.items.Command.{Command}
-use Rattle.ped_session.specs.ped_transformations.specs.ped_script.specs.declared.items.Command.TheVariants.{Source, Deps, Show, Print, Advise, Replace, Insert, Delete, Interchange, Reverse, Skew, Strip, Peel, Distribute, Fuse, Expand, Privatise, Reduce, Parallel, Serial, Reject, Auto, Undo, Redo, Run, Races, Tested}
+use Rattle.ped_session.specs.ped_transformations.specs.ped_script.specs.declared.items.Command.TheVariants.{Source, Deps, Show, Calls, Print, Advise, Replace, Insert, Delete, Interchange, Reverse, Skew, Strip, Peel, Distribute, Fuse, Inline, Expand, Privatise, Reduce, Parallel, Serial, Reject, Auto, Undo, Redo, Run, Races, Tested}
 use Rattle.ped_session.specs.declared.replies.Refusal.TheVariants.{Step}
 use Rattle.ped_session.specs.declared.replies.Reply.{Reply}
 use Rattle.ped_session.specs.declared.replies.Reply.TheVariants.{Changed, Refused}
@@ -45,6 +45,7 @@ of_try (Strip number size) t is = (refl, is)
 of_try (Peel number last) t is = (refl, is)
 of_try (Distribute number) t is = (refl, is)
 of_try (Fuse number) t is = (refl, is)
+of_try (Inline number) t is = (refl, is)
 of_try (Expand number name) t is = (refl, is)
 of_try (Privatise number name) t is = (refl, is)
 of_try (Reduce number names) t is = (refl, is)
@@ -54,6 +55,7 @@ of_try (Reject number name) t is = absurd is
 of_try Source t is = absurd is
 of_try (Deps of) t is = absurd is
 of_try Show t is = absurd is
+of_try Calls t is = absurd is
 of_try Print t is = absurd is
 of_try (Advise number) t is = absurd is
 of_try (Replace first last lines) t is = absurd is

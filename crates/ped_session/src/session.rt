@@ -210,6 +210,7 @@ impl<L: Ledger> Session<L> {
             Command::Source => return self.show_source(alloc),
             Command::Deps(of) => return self.show_dependences(alloc, *of),
             Command::Show => return self.show_both(alloc),
+            Command::Calls => return self.show_calls(alloc),
             Command::Print => return self.show_text(alloc),
             Command::Advise(number) => return self.show_advice(alloc, *number),
             Command::Replace { first, last, lines } => {

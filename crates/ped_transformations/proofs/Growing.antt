@@ -19,7 +19,7 @@ use Rattle.ped_auto.specs.ped_reduce.specs.ped_splits.proofs.DistributedCounts.{
 use Rattle.ped_auto.specs.ped_reduce.specs.Reducing.{with_listed}
 use Rattle.ped_auto.specs.ped_reduce.proofs.ListedComments.{listed_count}
 use Rattle.ped_auto.specs.ped_script.specs.declared.items.Command.{Command}
-use Rattle.ped_auto.specs.ped_script.specs.declared.items.Command.TheVariants.{Source, Deps, Show, Print, Advise, Replace, Insert, Delete, Interchange, Reverse, Skew, Strip, Peel, Distribute, Fuse, Expand, Privatise, Reduce, Parallel, Serial, Reject, Auto, Undo, Redo, Run, Races, Tested}
+use Rattle.ped_auto.specs.ped_script.specs.declared.items.Command.TheVariants.{Source, Deps, Show, Calls, Print, Advise, Replace, Insert, Delete, Interchange, Reverse, Skew, Strip, Peel, Distribute, Fuse, Inline, Expand, Privatise, Reduce, Parallel, Serial, Reject, Auto, Undo, Redo, Run, Races, Tested}
 use Rattle.ped_auto.specs.SerialLoops.{count_of, serial_loops}
 use Rattle.ped_auto.specs.Editing.{IsOfStrategy}
 use Rattle.ped_transformations.specs.Table.{step_of}
@@ -76,6 +76,7 @@ step_grows (Distribute s) is = λ t new keep there free made.
 step_grows Source is = absurd is
 step_grows (Deps of) is = absurd is
 step_grows Show is = absurd is
+step_grows Calls is = absurd is
 step_grows Print is = absurd is
 step_grows (Advise number) is = absurd is
 step_grows (Replace first last lines) is = absurd is
@@ -87,6 +88,7 @@ step_grows (Skew number factor) is = absurd is
 step_grows (Strip number size) is = absurd is
 step_grows (Peel number last) is = absurd is
 step_grows (Fuse number) is = absurd is
+step_grows (Inline number) is = absurd is
 step_grows (Expand number name) is = absurd is
 step_grows (Serial number) is = absurd is
 step_grows (Reject number name) is = absurd is

@@ -101,8 +101,8 @@ REFUSALS: Dict[int, Refusal] = {
     ),
     22: Refusal(
         "Arguments", "the arguments of a CALL don't fit the subroutine's dummy arguments",
-        "see docs/SUBROUTINES.md, `Refusals`: as many, arrays with equal bounds, and the name of a scalar variable that no "
-        "loop round the CALL counts for each dummy argument that is assigned",
+        "see docs/SUBROUTINES.md, `Refusals`: as many, arrays with equal bounds, and for each dummy argument that is "
+        "assigned the name of a scalar variable that no loop round the CALL counts",
     ),
     23: Refusal(
         "Aliased", "one variable stands for two dummy arguments, and one of them is assigned",

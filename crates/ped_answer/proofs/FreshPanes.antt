@@ -8,6 +8,7 @@ use Rattle.ped_session.specs.ped_tree.specs.Printing.{program_text}
 use Rattle.ped_session.specs.ped_tree.specs.Numbering.{statement_with}
 use Rattle.ped_session.specs.ped_symbols.specs.NameRefusals.{IsValid}
 use Rattle.ped_session.specs.ped_valid.specs.Validity.{ReadsValid}
+use Rattle.ped_call_runs.specs.ped_calls.specs.Verdicts.{IsExpansion}
 use Rattle.ped_session.specs.ped_graph.specs.DependencePane.{IsDependencePane, IsDependencePaneOf}
 use Rattle.ped_session.specs.ped_transformations.specs.ped_inline.specs.CallsPane.{IsCallsPane}
 use Rattle.ped_session.specs.ped_transformations.specs.Advice.{IsAdvice}
@@ -39,7 +40,7 @@ afresh IsSo text bytes t printed reads so =
     record { tree = t; reads = reads; no_other = λ u other. one_tree text u t other reads; printed = printed.2 ∙ ap program_text (sym same); so = so }
 
 -- the bytes of a reply
-bytes_of : (line : ℕ) (reply other : Reply) (next : State) (said : Said) → said ≡ said_by line reply next → reply ≡ other → said.bytes ≡ reply_text line other
+pub bytes_of : (line : ℕ) (reply other : Reply) (next : State) (said : Said) → said ≡ said_by line reply next → reply ≡ other → said.bytes ≡ reply_text line other
 bytes_of line reply other next said says is = ap (λ (x : Said). x.bytes) says ∙ ap (reply_text line) is
 
 shows : (IsSo : ProgramTree → List ℕ → Type 0) (line : ℕ) (s next : State) (reply : Reply) (said : Said) → IsPrinted s.present → Shows IsSo s reply next → said ≡ said_by line reply next → Afresh IsSo s.present said.bytes
@@ -106,7 +107,7 @@ each_shows : AllPrinted → SoOfValid ShowsAfresh
 each_shows all d t valid line command s next said came h = line_shows line command d s next said (all t valid came.0 d came.1 s came.2).present h
 
 -- both panes of a file
-file_shows : (text : List ℕ) (s : Status) (b : List ℕ) → IsWhole s → IsShown text s b → (t : ProgramTree) × ReadsValid text t × ArePanes t b
+file_shows : (text : List ℕ) (s : Status) (b : List ℕ) → IsWhole s → IsShown text s b → (t : ProgramTree) × IsExpansion text t × ArePanes t b
 file_shows text Done b whole h = h
 file_shows text SomeRefused b whole h = absurd h
 file_shows text BadWords b whole h = absurd whole
@@ -125,7 +126,7 @@ shows_file program files s b whole h =
       text = p.bytes;
       program_is = p.held;
       tree = of.0;
-      reads = of.1;
+      expands = of.1;
       afresh = afresh ArePanes (program_text of.0) b of.0 (of.0, valid, refl) (reads_as (program_text of.0) of.0 valid refl) of.2;
     }
 

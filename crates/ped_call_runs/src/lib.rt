@@ -3,3 +3,6 @@
 #![tactic(auto)]
 
 mod laws;
+
+pub use laws::expansions_run_alike;
+pub use ped_calls;

@@ -87,8 +87,9 @@ impl<L: Ledger> Session<L> {
         }
     }
 
-    /// A session on a valid program.
-    fn begin(alloc: Global, new: Opened, steps: &mut Steps<L>) -> Result<Session<L>, NoMemory>
+    /// A session on a valid program that is opened already. Its present source is the program's printed text, and each pair of
+    /// references is tested once. After want of memory no more pairs were tested.
+    pub fn begin(alloc: Global, new: Opened, steps: &mut Steps<L>) -> Result<Session<L>, NoMemory>
         requires valid { IsValid (program_tree new.program) }
         requires symbols { new.symbols ≡ table_of (program_tree new.program) }
         ensures opened { IfOk result (λ s. s ≡ opened (program_tree new.program)) }

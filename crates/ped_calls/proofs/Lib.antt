@@ -39,7 +39,7 @@ mod KnownUses
 mod KnownMisfits
 mod LinksKnown
 mod PastKnown
-mod OneVerdict
+pub mod OneVerdict
 mod OpenedUnits
 pub mod MainSteps
 pub mod MainStarts

@@ -1,43 +1,43 @@
-pub mod EachNames
-pub mod FollowingValues
-pub mod FollowingStores
-pub mod FollowingEndings
-pub mod FollowingNames
-pub mod FollowingExits
-pub mod FollowingReads
-pub mod FollowingLoops
-pub mod FollowingStatements
-pub mod FollowingCalls
-pub mod FollowingDepths
-pub mod FollowingUnits
-pub mod RisingNumbers
-pub mod SwappedNames
-pub mod GivenKept
-pub mod FreeWritten
-pub mod DeclaredAtLast
-pub mod GivenMore
-pub mod ExpandedKinds
-pub mod EachCalls
-pub mod Traces
-pub mod TraceNumbers
-pub mod TraceCalls
-pub mod PlacedNumbers
-pub mod MeaningEntries
-pub mod RenamedEntries
-pub mod OwnNames
-pub mod TraceNames
-pub mod ApartPairs
-pub mod NamedPairs
-pub mod TraceOwn
-pub mod TraceRanges
-pub mod FirstBonds
-pub mod WrittenNames
-pub mod ConstantValues
-pub mod UnitNames
-pub mod NamesThere
-pub mod SuitedUnits
-pub mod Contexts
-pub mod ArgumentsStand
-pub mod CalledContexts
-pub mod Walks
-pub mod UnitsStand
+mod EachNames
+mod FollowingValues
+mod FollowingStores
+mod FollowingEndings
+mod FollowingNames
+mod FollowingExits
+mod FollowingReads
+mod FollowingLoops
+mod FollowingStatements
+mod FollowingCalls
+mod FollowingDepths
+mod FollowingUnits
+mod RisingNumbers
+mod SwappedNames
+mod GivenKept
+mod FreeWritten
+mod DeclaredAtLast
+mod GivenMore
+mod ExpandedKinds
+mod EachCalls
+mod Traces
+mod TraceNumbers
+mod TraceCalls
+mod PlacedNumbers
+mod MeaningEntries
+mod RenamedEntries
+mod OwnNames
+mod TraceNames
+mod ApartPairs
+mod NamedPairs
+mod TraceOwn
+mod TraceRanges
+mod FirstBonds
+mod WrittenNames
+mod ConstantValues
+mod UnitNames
+mod NamesThere
+mod SuitedUnits
+mod Contexts
+mod ArgumentsStand
+mod CalledContexts
+mod Walks
+mod UnitsStand

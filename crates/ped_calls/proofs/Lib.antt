@@ -1,38 +1,38 @@
-pub mod Exchanged
-pub mod Nested
-pub mod UnitForms
-pub mod Saturating
-pub mod Earliest
-pub mod Read
-pub mod SeenBefore
-pub mod KeptCalls
-pub mod Packed
-pub mod CallLimits
-pub mod Meant
-pub mod EndedLists
-pub mod Entries
-pub mod FirstOfAll
-pub mod ReadUnits
-pub mod BuiltUnits
-pub mod FreeNames
-pub mod CollectedNames
-pub mod BoundArguments
-pub mod Expansions
-pub mod CourseSteps
-pub mod Measures
-pub mod BlockSteps
-pub mod PlainExpanding
-pub mod FirstCalls
-pub mod Settled
-pub mod Judged
-pub mod FirstPast
-pub mod NamedUnits
-pub mod FormCalls
-pub mod CallsTold
-pub mod PlainUnits
-pub mod PlainFiles
-pub mod PlainTexts
-pub mod OneUnits
+mod Exchanged
+mod Nested
+mod UnitForms
+mod Saturating
+mod Earliest
+mod Read
+mod SeenBefore
+mod KeptCalls
+mod Packed
+mod CallLimits
+mod Meant
+mod EndedLists
+mod Entries
+mod FirstOfAll
+mod ReadUnits
+mod BuiltUnits
+mod FreeNames
+mod CollectedNames
+mod BoundArguments
+mod Expansions
+mod CourseSteps
+mod Measures
+mod BlockSteps
+mod PlainExpanding
+mod FirstCalls
+mod Settled
+mod Judged
+mod FirstPast
+mod NamedUnits
+mod FormCalls
+mod CallsTold
+mod PlainUnits
+mod PlainFiles
+mod PlainTexts
+mod OneUnits
 mod Known
 mod KnownArrows
 mod KnownUses
@@ -41,19 +41,19 @@ mod LinksKnown
 mod PastKnown
 pub mod OneVerdict
 mod OpenedUnits
-pub mod MainSteps
-pub mod MainStarts
+mod MainSteps
+mod MainStarts
 pub mod NumberedNames
 pub mod SmallKinds
-pub mod DimensionedNames
-pub mod TablesSoFar
-pub mod SameArrays
-pub mod ReadCharacters
-pub mod BoundedStatements
-pub mod BoundedForms
-pub mod BoundedCalls
-pub mod FewUnits
-pub mod LiteralBounds
+mod DimensionedNames
+mod TablesSoFar
+mod SameArrays
+mod ReadCharacters
+mod BoundedStatements
+mod BoundedForms
+mod BoundedCalls
+mod FewUnits
+mod LiteralBounds
 mod Members
 mod Added
 mod Reached

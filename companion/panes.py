@@ -1,4 +1,4 @@
-"""The two panes as ped prints them; docs/PANES.md says what their rows are."""
+"""The panes as ped prints them; docs/PANES.md says what their rows are."""
 
 from __future__ import annotations
 
@@ -10,6 +10,7 @@ from .statuses import CompanionError, Status
 
 _SOURCE = re.compile(r"source (\d+)")
 _DEPENDENCES = re.compile(r"dependences (\d+)")
+_CALLS = re.compile(r"calls (\d+) edges (\d+)")
 _SOURCE_ROW = re.compile(r" *(\d+) ([ \d]{4}) (.*)", re.DOTALL)
 
 KINDS = ("flow", "anti", "output")
@@ -84,6 +85,11 @@ def dependence_pane(rows: Sequence[str]) -> Sequence[str]:
     return _pane(rows, _DEPENDENCES)
 
 
+def calls_pane(rows: Sequence[str]) -> Sequence[str]:
+    """The rows of the pane of calls at the front of some rows, its first one included."""
+    return _pane(rows, _CALLS)
+
+
 def read_source(rows: Sequence[str]) -> Tuple[SourceRow, ...]:
     """A source pane; nothing else may stand there."""
     if len(source_pane(rows)) != len(rows):
@@ -107,9 +113,10 @@ def read_dependences(rows: Sequence[str]) -> Tuple[Dependence, ...]:
 
 def _pane(rows: Sequence[str], first: re.Pattern[str]) -> Sequence[str]:
     match = first.fullmatch(rows[0]) if rows else None
-    if match is None or len(rows) <= int(match.group(1)):
+    count = sum(map(int, match.groups())) if match is not None else len(rows)
+    if len(rows) <= count:
         raise NoPane(rows[0] if rows else "")
-    return rows[:int(match.group(1)) + 1]
+    return rows[:count + 1]
 
 
 def read_dependence(row: str) -> Dependence:

@@ -49,8 +49,8 @@ REFUSALS: Dict[int, Refusal] = {
     ),
     8: Refusal(
         "NotInProfile", "the statement is FORTRAN that is left out of the language",
-        "INTEGER is the only type; write IF and DO for GO TO, READ *, and PRINT *, for other input and output, and one "
-        "main program without CALL",
+        "INTEGER is the only type; write IF and DO for GO TO, READ *, and PRINT *, for other input and output, and "
+        "subroutines for functions; an edit may hold no CALL and no SUBROUTINE; see docs/SUBROUTINES.md",
     ),
     9: Refusal(
         "OpenBlock", "a DO or an IF isn't ended, or END is missing",
@@ -92,6 +92,26 @@ REFUSALS: Dict[int, Refusal] = {
         "an array may have 1,048,576 elements, all together 8,388,608; put statements that don't belong together into "
         "loops of their own, so that there are no more than 200,000 pairs",
     ),
+    20: Refusal(
+        "NoUnit", "a CALL names no subroutine of the file, or two subroutines have one name",
+        "put the subroutine behind the main program's END; each has a name of its own",
+    ),
+    21: Refusal(
+        "Recursion", "CALLs lead from a subroutine back to it", "write a loop in the place of the CALL that leads back",
+    ),
+    22: Refusal(
+        "Arguments", "the arguments of a CALL don't fit the subroutine's dummy arguments",
+        "see docs/SUBROUTINES.md, `Refusals`: as many, arrays with equal bounds, and for each dummy argument that is "
+        "assigned the name of a scalar variable that no loop round the CALL counts",
+    ),
+    23: Refusal(
+        "Aliased", "one variable stands for two dummy arguments, and one of them is assigned",
+        "copy the variable to another one, or pass K+0, which has its value",
+    ),
+    24: Refusal(
+        "CallPlace", "a CALL stands in a PARALLEL DO",
+        "write DO, and make the loop parallel in a session, where the CALL is a block: see docs/SUBROUTINES.md",
+    ),
 }
 
 #: The rules of steps; `{S}` stands for the statement that is named.
@@ -115,6 +135,7 @@ RULES: Dict[int, str] = {
     17: "the name is private already (`reduce`: or given twice, or the loop has a list of sums)",
     18: "there is nothing pending of this name that the loop carries",
     19: "statement {S} has the scalar otherwise than to add to it",
+    20: "statement {S} is no block of a CALL: an IF (0.EQ.0) THEN whose first line is a C$CALL comment, and without ELSE",
 }
 
 OTHERS: Dict[str, str] = {

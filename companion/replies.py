@@ -11,7 +11,7 @@ import re
 from dataclasses import dataclass
 from typing import Callable, Dict, List, Optional, Sequence, Tuple
 
-from .panes import dependence_pane, source_pane
+from .panes import calls_pane, dependence_pane, source_pane
 from .scripts import Command
 from .statuses import CompanionError, Status
 
@@ -209,6 +209,7 @@ def _while(rows: Sequence[str], belongs: Callable[[str], object]) -> int:
 _SHOWN: Dict[str, Callable[[Sequence[str]], int]] = {
     "source": lambda rows: len(source_pane(rows)),
     "deps": lambda rows: len(dependence_pane(rows)),
+    "calls": lambda rows: len(calls_pane(rows)),
     "show": _both,
     "print": _printed,
     "run": _run,

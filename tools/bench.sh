@@ -6,8 +6,9 @@
 # assignment in loops, over an array and over a scalar, from 10^4 to 10^7 of them, and how much memory a store of 2^20
 # elements takes; how long `races` takes for an access, and how much memory, at 10^5 and 10^6 of them; how long `races` and
 # `run` take for an operand of an expression, with up to 600 of them; and how long the flow of scalars takes to be made, and
-# how much memory, and the questions about it, by the program of crate ped_show_flow; how `generate` grows with its size; and how long `auto`
-# takes, with the steps that it tries and takes, and the pairs that these test. It is no part of the gate, and needs GNU time and awk. docs/PERFORMANCE.md says how to read the figures.
+# how much memory, and the questions about it, by the program of crate ped_show_flow; how `generate` grows with its size; how long `auto`
+# takes, with the steps that it tries and takes, and the pairs that these test; and, by tools/bench-units.sh, how long `ped show` takes on
+# files of program units. It is no part of the gate, and needs GNU time and awk. docs/PERFORMANCE.md says how to read the figures.
 #
 # usage: tools/bench.sh [RUNS]      of so many runs (5 where it isn't said) the least counts
 set -eu
@@ -497,3 +498,7 @@ for loops in 10 50 190; do
             printf "%10d %10d %10d %10d %10d %10d %10d %10.2f %10.1f\n", loops, statements, pairs, loops * 3, accepted, left, tested, seconds - nothing, peak / 1024
         }' "$work/report"
 done
+
+# Files of program units.
+printf '\n'
+tools/bench-units.sh --program "$ped" --runs "$runs"

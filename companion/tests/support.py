@@ -61,6 +61,11 @@ def _is_read(name: str) -> bool:
     return True
 
 
+def has_subroutines(name: str) -> bool:
+    """Whether an example has subroutines: it's then shown in the lines of its printed source, with a block for each CALL."""
+    return any(line[6:].startswith("SUBROUTINE ") for line in split_lines(read_file(str(EXAMPLES / f"{name}.f"))))
+
+
 def fortran(*statements: str) -> str:
     """A text with a statement on each line, from column 7 on; digits at the front of one are its label."""
     lines = []

@@ -42,6 +42,13 @@ class Programs(Check):
         self.assertEqual(rows[1:3], ["    2 |    10 I = I+1", "      |       ^"])
         self.assertEqual(rows[3], f"p.f:2:7: note: {REFUSALS[11].instead}")
 
+    def test_subroutines(self) -> None:
+        rows, status = self.check(fortran("CALL S(5)", "END", "SUBROUTINE S(I)", "I = I+1", "END"))
+        self.assertIs(status, Status.PROGRAM_REFUSED)
+        self.assertEqual(rows[0], f"p.f:1:7: error: 22 Arguments: {REFUSALS[22].rule}")
+        rows, status = self.check(fortran("CALL S(K)", "END", "SUBROUTINE S(I)", "I = 1", "END"))
+        self.assertEqual((rows, status), ([], Status.DONE))
+
     def test_no_lines(self) -> None:
         rows, status = self.check("")
         self.assertIs(status, Status.PROGRAM_REFUSED)

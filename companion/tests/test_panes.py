@@ -1,8 +1,8 @@
-"""The two panes, read row by row."""
+"""The panes, read row by row."""
 
 import unittest
 
-from ..panes import NoPane, read_dependence, read_panes
+from ..panes import NoPane, calls_pane, read_dependence, read_panes
 
 PANES = """\
 source 3
@@ -27,6 +27,14 @@ class Panes(unittest.TestCase):
         self.assertEqual((first.level, first.vectors, first.distances), (1, (("<", ">"),), (1, -1)))
         self.assertEqual((second.level, second.vectors), (None, (("=", "="), ("<=", "*"))))
         self.assertEqual((second.distances, second.mark), ((None, None), "pending"))
+
+    def test_calls(self) -> None:
+        rows = ["calls 1 edges 2", "2 SWEEP(A,B)", "2 2 A flow 1", "2 3 A flow -"]
+        self.assertEqual(calls_pane([*rows, "ended"]), rows)
+        self.assertEqual(calls_pane(["calls 0 edges 0", "ended"]), ["calls 0 edges 0"])
+        for other in (rows[:-1], ["calls 1"], []):
+            with self.assertRaises(NoPane):
+                calls_pane(other)
 
     def test_other_rows(self) -> None:
         for rows in ([], ["source 1"], PANES.splitlines()[:-1], PANES.splitlines() + ["more"], ["dependences 0"]):

@@ -4,6 +4,7 @@ use Rattle.ped_session.specs.ped_tree.specs.Tree.{ProgramTree}
 use Rattle.ped_session.specs.ped_refs.specs.References.{references, pair_count}
 use Rattle.ped_session.specs.ped_valid.specs.Validity.{ReadsValid, RefusesText}
 use Rattle.ped_session.specs.ped_tree.specs.Grammar.Refusal.{Finding}
+use Rattle.ped_call_runs.specs.ped_calls.specs.Verdicts.{IsExpansion}
 use Rattle.ped_session.specs.ped_transformations.specs.ped_script.specs.Items.{commands_of}
 use Rattle.ped_session.specs.States.{State, opened}
 use Rattle.ped_session.specs.Scripts.{Said, AnswersItems}
@@ -14,7 +15,7 @@ use Rattle.ped_gen.specs.Generated as made
 use Rattle.ped_answer.specs.Generated.{Tally, Applies}
 use Rattle.ped_answer.specs.TestCounts.{TestsText, of_tree, of_refusal, TestsSession, of_script, of_refused_program, TestsGenerated, of_report, of_refused_text, Ticks, IsUntested}
 use Rattle.ped_answer.specs.Serving.{session_status}
-use Rattle.ped_answer.proofs.OneAnswer.{one_tree, not_both}
+use Rattle.ped_answer.proofs.OneAnswer.{one_tree, not_both, one_expansion, never_both}
 use Rattle.ped_answer.proofs.Tallying.{one_applies}
 
 -- a call without tests, which didn't answer on a program whole
@@ -66,10 +67,10 @@ is_session_tested s (inr (inl e)) u = subst IsUntested e u
 is_session_tested s (inr (inr (inl e))) u = subst IsUntested e u
 is_session_tested s (inr (inr (inr e))) u = subst IsUntested e u
 
--- the tests of a text's valid tree are those of the text
-pub text_ticks : (text : List ℕ) (t : ProgramTree) → ReadsValid text t → (s : Status) (before after : ℕ) → Ticks s before after (pair_count (references t)) → (n : ℕ) → TestsText text n → Ticks s before after n
-text_ticks text t reads s before after h n (of_tree u other e) = subst (λ (m : ℕ). Ticks s before after m) (ap (λ (x : ProgramTree). pair_count (references x)) (one_tree text t u reads other) ∙ sym e) h
-text_ticks text t reads s before after h n (of_refusal f refused e) = absurd (not_both text t f reads refused)
+-- the tests of the program that a text expands to are those of the text
+pub text_ticks : (text : List ℕ) (t : ProgramTree) → IsExpansion text t → (s : Status) (before after : ℕ) → Ticks s before after (pair_count (references t)) → (n : ℕ) → TestsText text n → Ticks s before after n
+text_ticks text t expands s before after h n (of_tree u other e) = subst (λ (m : ℕ). Ticks s before after m) (ap (λ (x : ProgramTree). pair_count (references x)) (one_expansion text t u expands other) ∙ sym e) h
+text_ticks text t expands s before after h n (of_refusal f refused e) = absurd (never_both text t f expands refused)
 
 -- tests that were made before are made besides
 later : (s : Status) (before mid after m n : ℕ) → ¬ (IsUntested s) → mid ≡ before + m → Ticks s mid after n → Ticks s before after (m + n)
@@ -82,27 +83,24 @@ later TooLong before mid after m n h e t = absurd (h tt)
 later WriteFault before mid after m n h e t = omega arith
 later NoMemory before mid after m n h e t = omega arith
 
--- the tests of a session: those of opening its program, and behind them those of its script
-pub opened_ticks : (text script data_bytes : List ℕ) (s : State) (status : Status) (before mid after : ℕ)
-    → (t : ProgramTree) × ReadsValid text t × (s ≡ opened t)
-    → ((t : ProgramTree) → ReadsValid text t → mid ≡ before + pair_count (references t))
-    → ((said : Said) (last : State) → AnswersItems (commands_of script) data_bytes s said last → Ticks status mid after said.tests)
-    → ¬ (IsUntested status) → (n : ℕ) → TestsSession text script data_bytes n → Ticks status before after n
-opened_ticks text script data_bytes s status before mid after o first rest tested n (of_script t reads said last answers e) =
-    let same = o.2 ∙ ap opened (one_tree text o.0 t o.1 reads) in
-    let there = subst (λ (x : State). AnswersItems (commands_of script) data_bytes x said last) (sym same) answers in
-    subst (λ (m : ℕ). Ticks status before after m) (sym e) (later status before mid after (pair_count (references t)) said.tests tested (first t reads) (rest said last there))
-opened_ticks text script data_bytes s status before mid after o first rest tested n (of_refused_program f refused e) = absurd (not_both text o.0 f o.1 refused)
+-- the tests of a session on the program that a text expands to are those of the text, of its script and of the data
+pub session_text_ticks : (text script data_bytes : List ℕ) (t : ProgramTree) → IsExpansion text t → (status : Status) (before after : ℕ)
+    → ((said : Said) (last : State) → AnswersItems (commands_of script) data_bytes (opened t) said last → Ticks status before after (pair_count (references t) + said.tests))
+    → (n : ℕ) → TestsSession text script data_bytes n → Ticks status before after n
+session_text_ticks text script data_bytes t expands status before after ticks n (of_script u other said last answers e) =
+    let same = one_expansion text u t other expands in
+    let there = subst (λ (x : ProgramTree). AnswersItems (commands_of script) data_bytes (opened x) said last) same answers in
+    subst (λ (m : ℕ). Ticks status before after m) (ap (λ (x : ProgramTree). pair_count (references x) + said.tests) (sym same) ∙ sym e) (ticks said last there)
+session_text_ticks text script data_bytes t expands status before after ticks n (of_refused_program f refused e) = absurd (never_both text t f expands refused)
 
--- where memory ran out while a session was opened, at most the tests of its program were made
-pub unopened_ticks : (text script data_bytes : List ℕ) (before after : ℕ)
-    → ((t : ProgramTree) → ReadsValid text t → after ≤ before + pair_count (references t))
-    → ((f : Finding) → RefusesText text f → after ≡ before)
-    → (n : ℕ) → TestsSession text script data_bytes n → after ≤ before + n
-unopened_ticks text script data_bytes before after most none n (of_script t reads said last answers e) =
-    let few = most t reads in omega arith
-unopened_ticks text script data_bytes before after most none n (of_refused_program f refused e) =
-    let same = none f refused in omega arith
+-- the tests of a session: those of opening its program, and behind them those of its script
+pub opened_ticks : (script data_bytes : List ℕ) (t : ProgramTree) (s : State) (status : Status) (before mid after : ℕ)
+    → s ≡ opened t → mid ≡ before + pair_count (references t)
+    → ((said : Said) (last : State) → AnswersItems (commands_of script) data_bytes s said last → Ticks status mid after said.tests)
+    → ¬ (IsUntested status)
+    → (said : Said) (last : State) → AnswersItems (commands_of script) data_bytes (opened t) said last → Ticks status before after (pair_count (references t) + said.tests)
+opened_ticks script data_bytes t s status before mid after is first rest tested said last answers =
+    later status before mid after (pair_count (references t)) said.tests tested first (rest said last (subst (λ (x : State). AnswersItems (commands_of script) data_bytes x said last) (sym is) answers))
 
 -- the tests of what a script says are those of whatever it says
 pub said_ticks : (script data_bytes : List ℕ) (s : State) (status : Status) (before after : ℕ)

@@ -11,7 +11,8 @@ use Rattle.ped_session.specs.States.{State, opened}
 use Rattle.ped_session.specs.Scripts.{Said, nothing_said, said_both, AnswersCommand, AnswersItem, AnswersItems}
 use Rattle.ped_answer.specs.declared.answering.Status.{Status}
 use Rattle.ped_answer.specs.Answer.{IsWhole, Answers}
-use Rattle.ped_answer.specs.Headline.{ItemFact, AnswersEach, EachItem}
+use Rattle.ped_call_runs.specs.ped_calls.specs.Verdicts.{IsExpansion}
+use Rattle.ped_answer.specs.Headline.{ItemFact, AnswersEach, EachItemOn, EachItem}
 use Rattle.ped_answer.proofs.WholeAnswers.{session_whole}
 
 -- items behind others
@@ -54,9 +55,14 @@ SoOfValid IsSo = (d : List ℕ) (t : ProgramTree) → IsValid t → SoWhereCome 
 abbrev pub SoOfItems : ItemFact → Type 0
 SoOfItems IsSo = (d : List ℕ) (t : ProgramTree) → IsValid t → (items : List Item) (said : Said) (last : State) → AnswersItems items d (opened t) said last → AnswersEach IsSo items d (opened t) said last
 
+-- what is so of each item of a script by the text of a file, and the program that it expands to
+abbrev pub SoOfFiles : (List ℕ → ProgramTree → ItemFact) → Type 0
+SoOfFiles IsSo = (text d : List ℕ) (t : ProgramTree) → IsExpansion text t → (items : List Item) (said : Said) (last : State) → AnswersItems items d (opened t) said last → AnswersEach (IsSo text t) items d (opened t) said last
+
 -- so it is in a session's answer that is written whole
-pub session_items : (IsSo : ItemFact) → SoOfItems IsSo → (program script : List ℕ) (data_file : Option (List ℕ)) (files : Contents) (s : Status) (b : List ℕ) → IsWhole s → Answers (Some (session program script data_file)) files s b → EachItem IsSo program script data_file files b
-session_items IsSo so program script data_file files s b whole h =
+pub session_files : (IsSo : List ℕ → ProgramTree → ItemFact) → SoOfFiles IsSo → (program script : List ℕ) (data_file : Option (List ℕ)) (files : Contents) (s : Status) (b : List ℕ) → IsWhole s → Answers (Some (session program script data_file)) files s b
+    → EachItemOn IsSo program script data_file files b
+session_files IsSo so program script data_file files s b whole h =
     let p = session_whole program script data_file files s b whole h in
     let a = p.answers in
     record {
@@ -67,12 +73,15 @@ session_items IsSo so program script data_file files s b whole h =
       data_bytes = p.data_bytes;
       data_are = p.data_are;
       tree = a.tree;
-      reads = a.reads;
+      expands = a.expands;
       said = a.said;
       last = a.last;
-      answers = so p.data_bytes a.tree a.reads.valid (commands_of p.commands) a.said a.last a.answers;
+      answers = so p.text p.data_bytes a.tree a.expands (commands_of p.commands) a.said a.last a.answers;
       says = a.says;
     }
+
+pub session_items : (IsSo : ItemFact) → SoOfItems IsSo → (program script : List ℕ) (data_file : Option (List ℕ)) (files : Contents) (s : Status) (b : List ℕ) → IsWhole s → Answers (Some (session program script data_file)) files s b → EachItem IsSo program script data_file files b
+session_items IsSo so = session_files (λ text t. IsSo) (λ text d t expands. so d t expands.valid)
 
 pub session_each : (IsSo : ItemFact) → SoOfValid IsSo → (program script : List ℕ) (data_file : Option (List ℕ)) (files : Contents) (s : Status) (b : List ℕ) → IsWhole s → Answers (Some (session program script data_file)) files s b → EachItem IsSo program script data_file files b
 session_each IsSo so = session_items IsSo (λ d t valid. each_item IsSo d t (so d t valid))

@@ -2,6 +2,7 @@
 mod Advices
 mod Alike
 mod Autos
+mod BlockCauses
 mod ChainCauses
 mod DistributeCauses
 mod FuseCauses

@@ -8,11 +8,13 @@ use Rattle.ped_session.specs.ped_tree.specs.Printing.{program_text}
 use Rattle.ped_session.specs.ped_tree.specs.Numbering.{statement_with}
 use Rattle.ped_session.specs.ped_symbols.specs.NameRefusals.{IsValid}
 use Rattle.ped_session.specs.ped_valid.specs.Validity.{ReadsValid}
+use Rattle.ped_call_runs.specs.ped_calls.specs.Verdicts.{IsExpansion}
 use Rattle.ped_session.specs.ped_graph.specs.DependencePane.{IsDependencePane, IsDependencePaneOf}
+use Rattle.ped_session.specs.ped_transformations.specs.ped_inline.specs.CallsPane.{IsCallsPane}
 use Rattle.ped_session.specs.ped_transformations.specs.Advice.{IsAdvice}
 use Rattle.ped_session.specs.ped_transformations.specs.ped_script.specs.declared.items.Item.{Item}
 use Rattle.ped_session.specs.ped_transformations.specs.ped_script.specs.declared.items.Command.{Command}
-use Rattle.ped_session.specs.ped_transformations.specs.ped_script.specs.declared.items.Command.TheVariants.{Source, Deps, Show, Print, Advise, Replace, Insert, Delete, Interchange, Reverse, Skew, Strip, Peel, Distribute, Fuse, Expand, Privatise, Reduce, Parallel, Serial, Reject, Auto, Undo, Redo, Run, Races, Tested}
+use Rattle.ped_session.specs.ped_transformations.specs.ped_script.specs.declared.items.Command.TheVariants.{Source, Deps, Show, Calls, Print, Advise, Replace, Insert, Delete, Interchange, Reverse, Skew, Strip, Peel, Distribute, Fuse, Inline, Expand, Privatise, Reduce, Parallel, Serial, Reject, Auto, Undo, Redo, Run, Races, Tested}
 use Rattle.ped_session.specs.declared.replies.Reply.{Reply}
 use Rattle.ped_session.specs.declared.replies.Reply.TheVariants.{Shown, Refused}
 use Rattle.ped_session.specs.declared.replies.Refusal.TheVariants.{NoSuchStatement}
@@ -38,7 +40,7 @@ afresh IsSo text bytes t printed reads so =
     record { tree = t; reads = reads; no_other = λ u other. one_tree text u t other reads; printed = printed.2 ∙ ap program_text (sym same); so = so }
 
 -- the bytes of a reply
-bytes_of : (line : ℕ) (reply other : Reply) (next : State) (said : Said) → said ≡ said_by line reply next → reply ≡ other → said.bytes ≡ reply_text line other
+pub bytes_of : (line : ℕ) (reply other : Reply) (next : State) (said : Said) → said ≡ said_by line reply next → reply ≡ other → said.bytes ≡ reply_text line other
 bytes_of line reply other next said says is = ap (λ (x : Said). x.bytes) says ∙ ap (reply_text line) is
 
 shows : (IsSo : ProgramTree → List ℕ → Type 0) (line : ℕ) (s next : State) (reply : Reply) (said : Said) → IsPrinted s.present → Shows IsSo s reply next → said ≡ said_by line reply next → Afresh IsSo s.present said.bytes
@@ -65,6 +67,7 @@ reply_shows line Source d s next said printed h = shows IsSourcePane line s next
 reply_shows line (Deps None) d s next said printed h = shows IsDependencePane line s next h.0 said printed h.1 h.2
 reply_shows line (Deps (Some number)) d s next said printed h = shows_of (λ t. IsDependencePaneOf t (Some number)) line number s next h.0 said printed h.1 h.2
 reply_shows line Show d s next said printed h = shows ArePanes line s next h.0 said printed h.1 h.2
+reply_shows line Calls d s next said printed h = shows IsCallsPane line s next h.0 said printed h.1 h.2
 reply_shows line Print d s next said printed h = bytes_of line h.0 (Shown s.present) next said h.2 h.1.0
 reply_shows line (Advise number) d s next said printed h = shows_of (λ t. IsAdvice t number) line number s next h.0 said printed h.1 h.2
 reply_shows line (Replace first last lines) d s next said printed h = tt
@@ -77,6 +80,7 @@ reply_shows line (Strip number size) d s next said printed h = tt
 reply_shows line (Peel number last) d s next said printed h = tt
 reply_shows line (Distribute number) d s next said printed h = tt
 reply_shows line (Fuse number) d s next said printed h = tt
+reply_shows line (Inline number) d s next said printed h = tt
 reply_shows line (Expand number name) d s next said printed h = tt
 reply_shows line (Privatise number name) d s next said printed h = tt
 reply_shows line (Reduce number names) d s next said printed h = tt
@@ -103,7 +107,7 @@ each_shows : AllPrinted → SoOfValid ShowsAfresh
 each_shows all d t valid line command s next said came h = line_shows line command d s next said (all t valid came.0 d came.1 s came.2).present h
 
 -- both panes of a file
-file_shows : (text : List ℕ) (s : Status) (b : List ℕ) → IsWhole s → IsShown text s b → (t : ProgramTree) × ReadsValid text t × ArePanes t b
+file_shows : (text : List ℕ) (s : Status) (b : List ℕ) → IsWhole s → IsShown text s b → (t : ProgramTree) × IsExpansion text t × ArePanes t b
 file_shows text Done b whole h = h
 file_shows text SomeRefused b whole h = absurd h
 file_shows text BadWords b whole h = absurd whole
@@ -122,7 +126,7 @@ shows_file program files s b whole h =
       text = p.bytes;
       program_is = p.held;
       tree = of.0;
-      reads = of.1;
+      expands = of.1;
       afresh = afresh ArePanes (program_text of.0) b of.0 (of.0, valid, refl) (reads_as (program_text of.0) of.0 valid refl) of.2;
     }
 

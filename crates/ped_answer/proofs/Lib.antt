@@ -18,4 +18,5 @@ mod Tallying
 mod ToldAuto
 mod ToldCauses
 mod Uncommented
+mod UnitsShown
 mod WholeAnswers

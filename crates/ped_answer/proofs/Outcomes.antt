@@ -10,6 +10,7 @@ use Rattle.ped_answer.specs.declared.answering.Status.TheVariants.{Done, SomeRef
 use Rattle.ped_session.specs.ped_tree.specs.Tree.{ProgramTree}
 use Rattle.ped_session.specs.ped_tree.specs.Grammar.Refusal.{Finding}
 use Rattle.ped_session.specs.ped_valid.specs.Validity.{ReadsValid, RefusesText}
+use Rattle.ped_call_runs.specs.ped_calls.specs.Verdicts.{UnitFinding, found_in_text, RefusesUnits, IsExpansion}
 use Rattle.ped_session.specs.ped_transformations.specs.ped_script.specs.Items.{commands_of}
 use Rattle.ped_session.specs.States.{State, opened}
 use Rattle.ped_session.specs.Scripts.{Said, AnswersItems}
@@ -51,20 +52,20 @@ pub usage_may_answer : (request : Option Request) (files : Contents) (failed : L
 usage_may_answer request files failed e s b h =
     subst (λ (r : Option Request). MayAnswer r files failed s b) (sym e) (subst (λ (x : Status). MayAnswer None files failed x b) (sym h.0) (refl, h.1))
 
--- both panes of the valid tree that a text reads as are what is shown of it
-pub tree_shown : (text : List ℕ) (t : ProgramTree) → ReadsValid text t → (s : Status) (b : List ℕ) → ShowsTree t s b → IsShown text s b
-tree_shown text t reads s b h = subst (λ (x : Status). IsShown text x b) (sym h.0) (t, reads, h.1)
+-- both panes of the program that a file's text expands to are what is shown of it
+pub tree_shown : (text : List ℕ) (t : ProgramTree) → IsExpansion text t → (s : Status) (b : List ℕ) → ShowsTree t s b → IsShown text s b
+tree_shown text t expands s b h = subst (λ (x : Status). IsShown text x b) (sym h.0) (t, expands, h.1)
 
 -- its first refusal is what is shown of a text that is refused
-pub refusal_shown : (text : List ℕ) (f : Finding) → RefusesText text f → (s : Status) (b : List ℕ) → IsJust ProgramRefused (refused_line f) s b → IsShown text s b
+pub refusal_shown : (text : List ℕ) (f : UnitFinding) → RefusesUnits text f → (s : Status) (b : List ℕ) → IsJust ProgramRefused (refused_line f) s b → IsShown text s b
 refusal_shown text f refused s b h = subst (λ (x : Status). IsShown text x b) (sym h.0) (f, refused, h.1)
 
 -- and what a session on it answers
-pub refusal_answered : (text script data_bytes : List ℕ) (f : Finding) → RefusesText text f → (s : Status) (b : List ℕ) → IsJust ProgramRefused (refused_line f) s b → IsSession text script data_bytes s b
+pub refusal_answered : (text script data_bytes : List ℕ) (f : UnitFinding) → RefusesUnits text f → (s : Status) (b : List ℕ) → IsJust ProgramRefused (refused_line f) s b → IsSession text script data_bytes s b
 refusal_answered text script data_bytes f refused s b h = subst (λ (x : Status). IsSession text script data_bytes x b) (sym h.0) (f, refused, h.1)
 
 -- its first refusal is what is answered on a program that is made and refused
-pub refusal_generated : (n : ℕ) (f : Finding) → RefusesText (made.program n) f → (s : Status) (b : List ℕ) → IsJust ProgramRefused (refused_line f) s b → IsGenerated n s b
+pub refusal_generated : (n : ℕ) (f : Finding) → RefusesText (made.program n) f → (s : Status) (b : List ℕ) → IsJust ProgramRefused (refused_line (found_in_text f)) s b → IsGenerated n s b
 refusal_generated n f refused s b h = subst (λ (x : Status). IsGenerated n x b) (sym h.0) (f, refused, h.1)
 
 -- a report is what is answered on a program that is made
@@ -85,13 +86,12 @@ by_refused : (refused : Bool) (text script data_bytes b : List ℕ) → AnswersS
 by_refused false text script data_bytes b h = h
 by_refused true text script data_bytes b h = h
 
--- what a script answers in a session that is opened on the program of a text is what the session answers
-pub script_answered : (text script data_bytes : List ℕ) (state : State) → (t : ProgramTree) × ReadsValid text t × (state ≡ opened t)
-    → (s : Status) (b : List ℕ) → AnswersFrom state script data_bytes s b → IsSession text script data_bytes s b
-script_answered text script data_bytes state o s b h =
-    let answers = subst (λ (x : State). AnswersItems (commands_of script) data_bytes x h.0 h.1) o.2 h.2 in
+-- what a script answers in a session that is opened on the program that a text expands to is what the session answers
+pub script_answered : (text script data_bytes : List ℕ) (t : ProgramTree) → IsExpansion text t
+    → (s : Status) (b : List ℕ) → AnswersFrom (opened t) script data_bytes s b → IsSession text script data_bytes s b
+script_answered text script data_bytes t expands s b h =
     subst (λ (x : Status). IsSession text script data_bytes x b) (sym h.3)
-    (by_refused h.0.refused text script data_bytes b (record { tree = o.0; reads = o.1; said = h.0; last = h.1; answers = answers; says = h.4; some = refl }))
+    (by_refused h.0.refused text script data_bytes b (record { tree = t; expands = expands; said = h.0; last = h.1; answers = h.2; says = h.4; some = refl }))
 
 -- a line that says that a file can't be read is about a file of the request, whose count rose
 pub one_failed : (inputs : List Input) (files : Contents) (failed : List ℕ → Type 0) (line : List ℕ) → CannotRead inputs files failed line → (name : List ℕ) × IsOneOf inputs name × failed name

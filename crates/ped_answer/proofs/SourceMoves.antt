@@ -9,7 +9,7 @@ use Rattle.ped_words.specs.Requests.{Request, show, session, generate}
 use Rattle.ped_session.specs.ped_tree.specs.Tree.{StmtTree, ProgramTree}
 use Rattle.ped_session.specs.ped_tree.specs.Numbering.{statement_with}
 use Rattle.ped_session.specs.ped_transformations.specs.ped_script.specs.declared.items.Command.{Command}
-use Rattle.ped_session.specs.ped_transformations.specs.ped_script.specs.declared.items.Command.TheVariants.{Source, Deps, Show, Print, Advise, Replace, Insert, Delete, Interchange, Reverse, Skew, Strip, Peel, Distribute, Fuse, Expand, Privatise, Reduce, Parallel, Serial, Reject, Auto, Undo, Redo, Run, Races, Tested}
+use Rattle.ped_session.specs.ped_transformations.specs.ped_script.specs.declared.items.Command.TheVariants.{Source, Deps, Show, Calls, Print, Advise, Replace, Insert, Delete, Interchange, Reverse, Skew, Strip, Peel, Distribute, Fuse, Inline, Expand, Privatise, Reduce, Parallel, Serial, Reject, Auto, Undo, Redo, Run, Races, Tested}
 use Rattle.ped_session.specs.ped_transformations.specs.ped_reindex.specs.ped_loops.specs.ped_scalar.specs.ped_rules.specs.Steps.{StepAt, MaybeStep, no_step, some_step, MatchStep}
 use Rattle.ped_session.specs.declared.replies.Refusal.{Refusal}
 use Rattle.ped_session.specs.declared.replies.Refusal.TheVariants.{NoSuchLine}
@@ -160,6 +160,7 @@ moves Source d s next reply h = shown_moves Source _ s next reply tt h
 moves (Deps None) d s next reply h = shown_moves (Deps None) _ s next reply tt h
 moves (Deps (Some number)) d s next reply h = of_statement_moves (Deps (Some number)) _ number s next reply (still_by (Deps (Some number)) (λ e. cc) (λ e. cc)) tt h
 moves Show d s next reply h = shown_moves Show _ s next reply tt h
+moves Calls d s next reply h = shown_moves Calls _ s next reply tt h
 moves Print d s next reply h = printed_moves Print _ s next reply tt h
 moves Tested d s next reply h = printed_moves Tested _ s next reply tt h
 moves (Run choices) d s next reply h = shown_moves (Run choices) _ s next reply tt h
@@ -180,6 +181,7 @@ moves (Parallel number) d s next reply h = step_moves (Parallel number) _ s next
 moves (Serial number) d s next reply h = step_moves (Serial number) _ s next reply (still_by (Serial number) (λ e. cc) (λ e. cc)) (λ is. is) h
 moves (Reject number name) d s next reply h = step_moves (Reject number name) _ s next reply (still_by (Reject number name) (λ e. cc) (λ e. cc)) (λ is. is) h
 moves (Fuse number) d s next reply h = step_moves (Fuse number) _ s next reply (still_by (Fuse number) (λ e. cc) (λ e. cc)) (λ is. is) h
+moves (Inline number) d s next reply h = step_moves (Inline number) _ s next reply (still_by (Inline number) (λ e. cc) (λ e. cc)) (λ is. is) h
 moves (Advise number) d s next reply h = of_statement_moves (Advise number) _ number s next reply (still_by (Advise number) (λ e. cc) (λ e. cc)) tt h
 
 -- so is each step of `auto`

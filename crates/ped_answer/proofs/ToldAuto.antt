@@ -9,7 +9,7 @@ use Rattle.ped_session.specs.ped_transformations.specs.ped_reindex.specs.ped_loo
 use Rattle.ped_session.specs.ped_transformations.specs.ped_reindex.specs.ped_loops.specs.ped_scalar.specs.ped_rules.specs.ped_loop_runs.specs.ped_bodies.specs.ped_steps.specs.Causes.{Cause}
 use Rattle.ped_session.specs.ped_transformations.specs.ped_auto.specs.Strategy.{Report, IsAuto}
 use Rattle.ped_session.specs.ped_transformations.specs.ped_script.specs.Items.{commands_of}
-use Rattle.ped_session.specs.ped_transformations.specs.ped_script.specs.declared.items.Command.TheVariants.{Source, Deps, Show, Print, Advise, Replace, Insert, Delete, Interchange, Reverse, Skew, Strip, Peel, Distribute, Fuse, Expand, Privatise, Reduce, Parallel, Serial, Reject, Auto, Undo, Redo, Run, Races, Tested}
+use Rattle.ped_session.specs.ped_transformations.specs.ped_script.specs.declared.items.Command.TheVariants.{Source, Deps, Show, Calls, Print, Advise, Replace, Insert, Delete, Interchange, Reverse, Skew, Strip, Peel, Distribute, Fuse, Inline, Expand, Privatise, Reduce, Parallel, Serial, Reject, Auto, Undo, Redo, Run, Races, Tested}
 use Rattle.ped_session.specs.declared.replies.Refusal.TheVariants.{Step}
 use Rattle.ped_session.specs.declared.replies.Reply.TheVariants.{Refused}
 use Rattle.ped_session.specs.States.{State}
@@ -67,6 +67,7 @@ each_told back d t valid line (Some Auto) s next said came h = by_auto back line
 each_told back d t valid line (Some Source) s next said came h = tt
 each_told back d t valid line (Some (Deps of)) s next said came h = tt
 each_told back d t valid line (Some Show) s next said came h = tt
+each_told back d t valid line (Some Calls) s next said came h = tt
 each_told back d t valid line (Some Print) s next said came h = tt
 each_told back d t valid line (Some (Advise number)) s next said came h = tt
 each_told back d t valid line (Some (Replace first last lines)) s next said came h = tt
@@ -79,6 +80,7 @@ each_told back d t valid line (Some (Strip number size)) s next said came h = tt
 each_told back d t valid line (Some (Peel number last)) s next said came h = tt
 each_told back d t valid line (Some (Distribute number)) s next said came h = tt
 each_told back d t valid line (Some (Fuse number)) s next said came h = tt
+each_told back d t valid line (Some (Inline number)) s next said came h = tt
 each_told back d t valid line (Some (Expand number name)) s next said came h = tt
 each_told back d t valid line (Some (Privatise number name)) s next said came h = tt
 each_told back d t valid line (Some (Reduce number names)) s next said came h = tt

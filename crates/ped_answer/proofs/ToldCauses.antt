@@ -8,7 +8,7 @@ use Rattle.ped_session.specs.ped_tree.specs.Tree.{ProgramTree}
 use Rattle.ped_session.specs.ped_valid.specs.Validity.{ReadsValid}
 use Rattle.ped_session.specs.ped_graph.specs.ped_edges.specs.Edges.{Edge}
 use Rattle.ped_session.specs.ped_transformations.specs.ped_script.specs.declared.items.Command.{Command}
-use Rattle.ped_session.specs.ped_transformations.specs.ped_script.specs.declared.items.Command.TheVariants.{Source, Deps, Show, Print, Advise, Replace, Insert, Delete, Interchange, Reverse, Skew, Strip, Peel, Distribute, Fuse, Expand, Privatise, Reduce, Parallel, Serial, Reject, Auto, Undo, Redo, Run, Races, Tested}
+use Rattle.ped_session.specs.ped_transformations.specs.ped_script.specs.declared.items.Command.TheVariants.{Source, Deps, Show, Calls, Print, Advise, Replace, Insert, Delete, Interchange, Reverse, Skew, Strip, Peel, Distribute, Fuse, Inline, Expand, Privatise, Reduce, Parallel, Serial, Reject, Auto, Undo, Redo, Run, Races, Tested}
 use Rattle.ped_session.specs.ped_transformations.specs.Table.{step_of}
 use Rattle.ped_session.specs.ped_transformations.specs.ped_reindex.specs.ped_loops.specs.Interchanging.{StandsAgainstInterchange}
 use Rattle.ped_session.specs.ped_transformations.specs.ped_reindex.specs.ped_loops.specs.Reversing.{StandsAgainstReversal}
@@ -19,6 +19,7 @@ use Rattle.ped_session.specs.ped_transformations.specs.ped_reindex.specs.Skewing
 use Rattle.ped_session.specs.ped_transformations.specs.ped_reindex.specs.Stripping.{StandsAgainstStripping}
 use Rattle.ped_session.specs.ped_transformations.specs.ped_reindex.specs.Peeling.{StandsAgainstPeeling}
 use Rattle.ped_session.specs.ped_transformations.specs.ped_reduce.specs.Reducing.{StandsAgainstReducing, carried_beside}
+use Rattle.ped_session.specs.ped_transformations.specs.ped_inline.specs.Inlining.{StandsAgainstInlining}
 use Rattle.ped_session.specs.ped_transformations.specs.ped_reduce.specs.ped_splits.specs.Distributing.{StandsAgainstDistribution}
 use Rattle.ped_session.specs.ped_transformations.specs.ped_reduce.specs.ped_splits.specs.Fusing.{forbids_fusion, IsFusionCause}
 use Rattle.ped_session.specs.ped_transformations.specs.ped_reindex.specs.ped_loops.specs.ped_scalar.specs.Privatising.{StandsAgainstPrivatising}
@@ -70,10 +71,12 @@ are_causes (Expand s x) = record { first = λ t. first_among t (StandsAgainstExp
 are_causes (Privatise s x) = record { first = λ t. first_among t (StandsAgainstPrivatising s x t) none_forbids; none = λ t. none_among t (StandsAgainstPrivatising s x t) none_forbids }
 are_causes (Reduce s names) = record { first = λ t. first_among t (StandsAgainstReducing s names t) (carried_beside t s names); none = λ t. none_among t (StandsAgainstReducing s names t) (carried_beside t s names) }
 are_causes (Reject s x) = record { first = λ t. first_among t (StandsAgainstRejection s x t) none_forbids; none = λ t. none_among t (StandsAgainstRejection s x t) none_forbids }
+are_causes (Inline s) = record { first = λ t. first_among t (StandsAgainstInlining s t) none_forbids; none = λ t. none_among t (StandsAgainstInlining s t) none_forbids }
 are_causes (Fuse s) = record { first = first_fused s; none = none_fused s }
 are_causes Source = tt
 are_causes (Deps of) = tt
 are_causes Show = tt
+are_causes Calls = tt
 are_causes Print = tt
 are_causes (Advise s) = tt
 are_causes (Replace first last lines) = tt

@@ -4,8 +4,7 @@ use Rattle.std.specs.Fmt.{decimal}
 use Rattle.ped_io.specs.Outside.{Contents, content}
 use Rattle.ped_words.specs.Requests.{Request, show, session, generate}
 use Rattle.ped_session.specs.ped_tree.specs.Tree.{ProgramTree}
-use Rattle.ped_session.specs.ped_tree.specs.Grammar.Refusal.{Finding}
-use Rattle.ped_session.specs.ped_valid.specs.Validity.{ReadsValid, RefusesText}
+use Rattle.ped_call_runs.specs.ped_calls.specs.Verdicts.{UnitFinding, RefusesUnits, IsExpansion}
 use Rattle.ped_session.specs.ped_transformations.specs.ped_script.specs.Items.{commands_of}
 use Rattle.ped_session.specs.States.{State, opened}
 use Rattle.ped_session.specs.Panes.{ArePanes}
@@ -61,10 +60,10 @@ too_long_line i = codes "ped: " ++ i.name ++ codes " is longer than " ++ decimal
 abbrev pub IsJust : Status → List ℕ → Status → List ℕ → Type 0
 IsJust only text status bytes = (status ≡ only) × (bytes ≡ text)
 
--- what is shown of a program's text: both panes of its valid tree, or its first refusal
+-- what is shown of a file's text: both panes of the program that its program units expand to, which are a main program and subroutines, or its first refusal
 abbrev pub IsShown : List ℕ → Status → List ℕ → Type 0
-IsShown text Done bytes = (t : ProgramTree) × ReadsValid text t × ArePanes t bytes
-IsShown text ProgramRefused bytes = (f : Finding) × RefusesText text f × (bytes ≡ refused_line f)
+IsShown text Done bytes = (t : ProgramTree) × IsExpansion text t × ArePanes t bytes
+IsShown text ProgramRefused bytes = (f : UnitFinding) × RefusesUnits text f × (bytes ≡ refused_line f)
 IsShown text SomeRefused bytes = ⊥
 IsShown text BadWords bytes = ⊥
 IsShown text ReadFault bytes = ⊥
@@ -72,21 +71,21 @@ IsShown text WriteFault bytes = ⊥
 IsShown text NoMemory bytes = ⊥
 IsShown text TooLong bytes = ⊥
 
--- these bytes are what a script answers on a program whose text this is, and this tells whether a line was refused
+-- these bytes are what a script answers on the program that a file's program units expand to, and this tells whether a line was refused
 pub record AnswersScript (text script data_bytes : List ℕ) (refused : Bool) (bytes : List ℕ) : Type 0 where
   pub tree : ProgramTree
-  pub reads : ReadsValid text tree
+  pub expands : IsExpansion text tree
   pub said : Said
   pub last : State
   pub answers : AnswersItems (commands_of script) data_bytes (opened tree) said last
   pub says : bytes ≡ said.bytes
   pub some : refused ≡ said.refused
 
--- what a session answers: what its script does on the program's printed text, where a refused line is told by the status; or the first refusal of the program's text
+-- what a session answers: what its script does on the printed text of the program that the file's program units expand to, where a refused line is told by the status; or the first refusal of the file's text
 abbrev pub IsSession : List ℕ → List ℕ → List ℕ → Status → List ℕ → Type 0
 IsSession text script data_bytes Done bytes = AnswersScript text script data_bytes false bytes
 IsSession text script data_bytes SomeRefused bytes = AnswersScript text script data_bytes true bytes
-IsSession text script data_bytes ProgramRefused bytes = (f : Finding) × RefusesText text f × (bytes ≡ refused_line f)
+IsSession text script data_bytes ProgramRefused bytes = (f : UnitFinding) × RefusesUnits text f × (bytes ≡ refused_line f)
 IsSession text script data_bytes BadWords bytes = ⊥
 IsSession text script data_bytes ReadFault bytes = ⊥
 IsSession text script data_bytes WriteFault bytes = ⊥

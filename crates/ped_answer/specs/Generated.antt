@@ -21,6 +21,7 @@ use Rattle.ped_session.specs.Steps.{IsStep}
 use Rattle.ped_session.specs.Scripts.{tests_of}
 use Rattle.ped_answer.specs.declared.answering.Status.{Status}
 use Rattle.ped_answer.specs.declared.answering.Status.TheVariants.{Done, SomeRefused, BadWords, ReadFault, WriteFault, ProgramRefused, NoMemory, TooLong}
+use Rattle.ped_call_runs.specs.ped_calls.specs.Verdicts.{found_in_text}
 use Rattle.ped_answer.specs.Refusals.{refused_line}
 
 -- how many changes were accepted, how many lines were refused, and how many pairs of references the changes tested
@@ -137,7 +138,7 @@ pub record Reports (n : ℕ) (first : ProgramTree) (bytes : List ℕ) : Type 0 w
 -- what is answered to a size: the report of the program of this size, or the first refusal of its text
 abbrev pub IsGenerated : ℕ → Status → List ℕ → Type 0
 IsGenerated n Done bytes = (t : ProgramTree) × ReadsValid (program n) t × Reports n t bytes
-IsGenerated n ProgramRefused bytes = (f : Finding) × RefusesText (program n) f × (bytes ≡ refused_line f)
+IsGenerated n ProgramRefused bytes = (f : Finding) × RefusesText (program n) f × (bytes ≡ refused_line (found_in_text f))
 IsGenerated n SomeRefused bytes = ⊥
 IsGenerated n BadWords bytes = ⊥
 IsGenerated n ReadFault bytes = ⊥

@@ -8,16 +8,22 @@ use Rattle.ped_session.specs.ped_tree.specs.Tree.{ProgramTree}
 use Rattle.ped_session.specs.ped_tree.specs.Printing.{program_text}
 use Rattle.ped_session.specs.ped_tree.specs.Numbering.{statement_with}
 use Rattle.ped_session.specs.ped_valid.specs.Validity.{ReadsValid}
+use Rattle.ped_session.specs.ped_order.specs.ped_eval.specs.Outcomes.{Ends, outcome, IsRaceFree}
+use Rattle.ped_call_runs.specs.ped_calls.specs.Units.{ProgramUnits}
+use Rattle.ped_call_runs.specs.ped_calls.specs.Verdicts.{IsExpansion}
+use Rattle.ped_call_runs.specs.UnitRuns.{run_units, outcome_of_units}
 use Rattle.ped_session.specs.ped_graph.specs.DependencePane.{IsDependencePane, IsDependencePaneOf}
+use Rattle.ped_session.specs.ped_transformations.specs.ped_inline.specs.CallsPane.{IsCallsPane}
 use Rattle.ped_session.specs.ped_transformations.specs.ped_script.specs.Items.{commands_of}
 use Rattle.ped_session.specs.ped_transformations.specs.ped_script.specs.declared.items.Item.{Item}
 use Rattle.ped_session.specs.ped_transformations.specs.ped_script.specs.declared.items.Command.{Command}
-use Rattle.ped_session.specs.ped_transformations.specs.ped_script.specs.declared.items.Command.TheVariants.{Source, Deps, Show, Print, Advise, Parallel, Auto, Undo, Redo, Run, Races, Tested}
+use Rattle.ped_session.specs.ped_transformations.specs.ped_script.specs.declared.items.Command.TheVariants.{Source, Deps, Show, Calls, Print, Advise, Parallel, Auto, Undo, Redo, Run, Races, Tested}
 use Rattle.ped_session.specs.ped_transformations.specs.Table.{step_of}
 use Rattle.ped_session.specs.ped_transformations.specs.Advice.{IsAdvice}
 use Rattle.ped_session.specs.ped_transformations.specs.ped_auto.specs.SerialLoops.{serial_loops}
 use Rattle.ped_session.specs.ped_transformations.specs.ped_reindex.specs.ped_loops.specs.Paralleling.{paralleling}
 use Rattle.ped_session.specs.ped_transformations.specs.ped_reindex.specs.ped_loops.specs.ped_scalar.specs.ped_rules.specs.Steps.{StepAt, MatchStep}
+use Rattle.ped_session.specs.ped_transformations.specs.ped_reindex.specs.ped_loops.specs.ped_scalar.specs.ped_rules.specs.ped_loop_runs.specs.Unrejected.{IsTrusted}
 use Rattle.ped_session.specs.ped_transformations.specs.ped_reindex.specs.ped_loops.specs.ped_scalar.specs.ped_rules.specs.ped_loop_runs.specs.ped_bodies.specs.ped_steps.specs.Causes.{Cause}
 use Rattle.ped_session.specs.ped_transformations.specs.ped_reindex.specs.ped_loops.specs.ped_scalar.specs.ped_rules.specs.ped_loop_runs.specs.ped_bodies.specs.ped_steps.specs.CauseWords.{cause_words}
 use Rattle.ped_session.specs.declared.replies.Reply.{Reply}
@@ -31,6 +37,8 @@ use Rattle.ped_session.specs.Steps.{IsMove}
 use Rattle.ped_session.specs.AutoAnswers.{auto_text, AcceptsAll}
 use Rattle.ped_session.specs.AutoScripts.{script_of, items_on}
 use Rattle.ped_session.specs.Scripts.{Said, nothing_said, said_both, AnswersItem}
+use Rattle.ped_session.specs.Blocks.{block}
+use Rattle.ped_session.specs.LoweredRuns.{HasNoList}
 use Rattle.ped_session.specs.Meanings.{IsMeaningKept, ComesFrom}
 use Rattle.ped_session.specs.RunsAsBefore.{RunsAsBefore}
 use Rattle.ped_answer.specs.Answer.{AreData}
@@ -47,8 +55,8 @@ AnswersEach IsSo (item ∷ items) data_bytes s said last =
     (first : Said) × (next : State) × AnswersItem item data_bytes s first next × IsSo item.line item.command data_bytes s first next
     × (rest : Said) × AnswersEach IsSo items data_bytes next rest last × (said ≡ said_both first rest)
 
--- these bytes are what the script answers on the program, on whose printed text the session opens, and this is so of each item (this project)
-pub record EachItem (IsSo : ItemFact) (program script : List ℕ) (data_file : Option (List ℕ)) (files : Contents) (bytes : List ℕ) : Type 0 where
+-- these bytes are what the script answers on the program that the file's program units expand to, on whose printed text the session opens, and by the file's text and this program this is so of each item (this project)
+pub record EachItemOn (IsSo : List ℕ → ProgramTree → ItemFact) (program script : List ℕ) (data_file : Option (List ℕ)) (files : Contents) (bytes : List ℕ) : Type 0 where
   pub text : List ℕ
   pub program_is : content files program ≡ Some text
   pub commands : List ℕ
@@ -56,11 +64,15 @@ pub record EachItem (IsSo : ItemFact) (program script : List ℕ) (data_file : O
   pub data_bytes : List ℕ
   pub data_are : AreData data_file files data_bytes
   pub tree : ProgramTree
-  pub reads : ReadsValid text tree
+  pub expands : IsExpansion text tree
   pub said : Said
   pub last : State
-  pub answers : AnswersEach IsSo (commands_of commands) data_bytes (opened tree) said last
+  pub answers : AnswersEach (IsSo text tree) (commands_of commands) data_bytes (opened tree) said last
   pub says : bytes ≡ said.bytes
+
+-- the same, where what is so of an item speaks of neither (this project)
+abbrev pub EachItem : ItemFact → (program script : List ℕ) (data_file : Option (List ℕ)) (files : Contents) (bytes : List ℕ) → Type 0
+EachItem IsSo program script data_file files bytes = EachItemOn (λ text tree. IsSo) program script data_file files bytes
 
 -- Panes.
 
@@ -82,16 +94,17 @@ ShowsAfresh line (Some Source) data_bytes s said next = Afresh IsSourcePane s.pr
 ShowsAfresh line (Some (Deps None)) data_bytes s said next = Afresh IsDependencePane s.present said.bytes
 ShowsAfresh line (Some (Deps (Some number))) data_bytes s said next = Afresh (IsOfStatement (λ t. IsDependencePaneOf t (Some number)) line number) s.present said.bytes
 ShowsAfresh line (Some Show) data_bytes s said next = Afresh ArePanes s.present said.bytes
+ShowsAfresh line (Some Calls) data_bytes s said next = Afresh IsCallsPane s.present said.bytes
 ShowsAfresh line (Some Print) data_bytes s said next = said.bytes ≡ s.present
 ShowsAfresh line (Some (Advise number)) data_bytes s said next = Afresh (IsOfStatement (λ t. IsAdvice t number) line number) s.present said.bytes
 ShowsAfresh line command data_bytes s said next = ⊤
 
--- in mode `show` both panes are those that come of reading afresh the printed text of the program in the file (ParaScope)
+-- in mode `show` both panes are those that come of reading afresh the printed text of the program that the file's program units expand to (ParaScope)
 pub record ShowsFile (program : List ℕ) (files : Contents) (bytes : List ℕ) : Type 0 where
   pub text : List ℕ
   pub program_is : content files program ≡ Some text
   pub tree : ProgramTree
-  pub reads : ReadsValid text tree
+  pub expands : IsExpansion text tree
   pub afresh : Afresh ArePanes (program_text tree) bytes
 
 -- the panes of an answer
@@ -139,6 +152,7 @@ abbrev pub IsShowing : Command → Type 0
 IsShowing Source = ⊤
 IsShowing (Deps of) = ⊤
 IsShowing Show = ⊤
+IsShowing Calls = ⊤
 IsShowing Print = ⊤
 IsShowing (Advise number) = ⊤
 IsShowing (Run choices) = ⊤
@@ -200,6 +214,26 @@ RunsRequest None files bytes = ⊤
 RunsRequest (Some (show program)) files bytes = ⊤
 RunsRequest (Some (session program script data_file)) files bytes = EachItem KeepsMeaning program script data_file files bytes
 RunsRequest (Some (generate number)) files bytes = ⊤
+
+-- Program units.
+
+-- where program units run on the data without a fault, the program that they expand to has their outcome; and so a `run` with these choices shows it: without choices where the present source is the one on which the session opened, and no DO of it has a list of sums; and with any where the present source has come from that one by transformations alone, if that one is tidy and without C$PED REJECT and runs without a race (ANSI X3.9-1978, section 15.6; ParaScope; this project)
+pub record ShowsUnits (units : ProgramUnits) (first : ProgramTree) (choices data_bytes : List ℕ) (s : State) (shown : List ℕ) : Type 0 where
+  pub alike : outcome first data_bytes ≡ outcome_of_units units data_bytes
+  pub in_order : choices ≡ [] → s.present ≡ program_text first → HasNoList first → shown ≡ block (outcome_of_units units data_bytes)
+  pub behind : ComesFrom s.present s.past (program_text first) → IsTrusted first → IsRaceFree first data_bytes → shown ≡ block (outcome_of_units units data_bytes)
+
+-- so it is of each `run`, by the program units of the file (this project)
+abbrev pub RunsUnits : List ℕ → ProgramTree → ItemFact
+RunsUnits text first line command data_bytes s said next =
+    (choices : List ℕ) → command ≡ Some (Run choices) → (e : IsExpansion text first) → Ends (run_units e.units data_bytes).ending → ShowsUnits e.units first choices data_bytes s said.bytes
+
+-- the runs in a session's answer, by the program units of its file
+abbrev pub UnitsRequest : Option Request → Contents → List ℕ → Type 0
+UnitsRequest None files bytes = ⊤
+UnitsRequest (Some (show program)) files bytes = ⊤
+UnitsRequest (Some (session program script data_file)) files bytes = EachItemOn RunsUnits program script data_file files bytes
+UnitsRequest (Some (generate number)) files bytes = ⊤
 
 -- Causes.
 

@@ -1,3 +1,4 @@
+pub use Rattle.ped_call_runs
 pub use Rattle.ped_gen
 pub use Rattle.ped_io
 pub use Rattle.ped_session

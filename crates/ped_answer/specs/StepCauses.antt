@@ -4,8 +4,9 @@ use Rattle.ped_session.specs.ped_tree.specs.Tree.{ProgramTree}
 use Rattle.ped_session.specs.ped_graph.specs.ped_edges.specs.Edges.{Edge}
 use Rattle.ped_session.specs.ped_graph.specs.Dependences.{AreEdges}
 use Rattle.ped_session.specs.ped_transformations.specs.ped_script.specs.declared.items.Command.{Command}
-use Rattle.ped_session.specs.ped_transformations.specs.ped_script.specs.declared.items.Command.TheVariants.{Interchange, Reverse, Skew, Strip, Peel, Distribute, Fuse, Expand, Privatise, Reduce, Parallel, Serial, Reject}
+use Rattle.ped_session.specs.ped_transformations.specs.ped_script.specs.declared.items.Command.TheVariants.{Interchange, Reverse, Skew, Strip, Peel, Distribute, Fuse, Inline, Expand, Privatise, Reduce, Parallel, Serial, Reject}
 use Rattle.ped_session.specs.ped_transformations.specs.ped_reduce.specs.Reducing.{StandsAgainstReducing, carried_beside}
+use Rattle.ped_session.specs.ped_transformations.specs.ped_inline.specs.Inlining.{StandsAgainstInlining}
 use Rattle.ped_session.specs.ped_transformations.specs.ped_reduce.specs.ped_splits.specs.Distributing.{StandsAgainstDistribution}
 use Rattle.ped_session.specs.ped_transformations.specs.ped_reduce.specs.ped_splits.specs.Fusing.{Match, StandsAgainstFusion, AreBack, forbids_fusion, with_present_numbers}
 use Rattle.ped_session.specs.ped_transformations.specs.ped_reduce.specs.ped_splits.specs.Neighbours.{next_number}
@@ -45,6 +46,7 @@ Forbids (Strip s size) t c = IsAmong t (StandsAgainstStripping s size t) none_fo
 Forbids (Peel s last) t c = IsAmong t (StandsAgainstPeeling s last t) none_forbids c
 Forbids (Distribute s) t c = IsAmong t (StandsAgainstDistribution s t) none_forbids c
 Forbids (Fuse s) t c = IsAmongFused s t c
+Forbids (Inline s) t c = IsAmong t (StandsAgainstInlining s t) none_forbids c
 Forbids (Expand s x) t c = IsAmong t (StandsAgainstExpanding s x t) none_forbids c
 Forbids (Privatise s x) t c = IsAmong t (StandsAgainstPrivatising s x t) none_forbids c
 Forbids (Reject s x) t c = IsAmong t (StandsAgainstRejection s x t) none_forbids c

@@ -5,6 +5,7 @@ use Rattle.ped_session.specs.ped_tree.specs.Tree.{ProgramTree}
 use Rattle.ped_session.specs.ped_tree.specs.Grammar.Refusal.{Finding}
 use Rattle.ped_session.specs.ped_refs.specs.References.{references, pair_count}
 use Rattle.ped_session.specs.ped_valid.specs.Validity.{ReadsValid, RefusesText}
+use Rattle.ped_call_runs.specs.ped_calls.specs.Verdicts.{UnitFinding, RefusesUnits, IsExpansion}
 use Rattle.ped_answer.specs.declared.answering.Status.{Status}
 use Rattle.ped_answer.specs.declared.answering.Status.TheVariants.{Done, SomeRefused, BadWords, ReadFault, WriteFault, ProgramRefused, NoMemory, TooLong}
 use Rattle.ped_session.specs.ped_transformations.specs.ped_script.specs.Items.{commands_of}
@@ -15,16 +16,16 @@ use Rattle.ped_gen.specs.Generated as made
 use Rattle.ped_answer.specs.Answer.{Input, source_input, data_input}
 use Rattle.ped_answer.specs.Generated.{Tally, Applies}
 
--- how many tests a text takes: one for each ordered pair of references of its valid tree, and none where it is refused (Allen and Kennedy, section 3.2; this project)
+-- how many tests a file's text takes: one for each ordered pair of references of the program that its program units expand to, and none where it is refused (Allen and Kennedy, section 3.2; this project)
 pub data TestsText (text : List ℕ) (n : ℕ) : Type 0 where
-  of_tree : (t : ProgramTree) → ReadsValid text t → n ≡ pair_count (references t) → TestsText text n
-  of_refusal : (f : Finding) → RefusesText text f → n ≡ 0 → TestsText text n
+  of_tree : (t : ProgramTree) → IsExpansion text t → n ≡ pair_count (references t) → TestsText text n
+  of_refusal : (f : UnitFinding) → RefusesUnits text f → n ≡ 0 → TestsText text n
 
--- how many tests a session takes: one for each ordered pair of references of its program, and those that its script takes; and none where the program's text is refused (Allen and Kennedy, section 3.2; this project)
+-- how many tests a session takes: one for each ordered pair of references of the program on which it opens, and those that its script takes; and none where the file's text is refused (Allen and Kennedy, section 3.2; this project)
 pub data TestsSession (text script data_bytes : List ℕ) (n : ℕ) : Type 0 where
-  of_script : (t : ProgramTree) → ReadsValid text t → (said : Said) (last : State) → AnswersItems (commands_of script) data_bytes (opened t) said last
+  of_script : (t : ProgramTree) → IsExpansion text t → (said : Said) (last : State) → AnswersItems (commands_of script) data_bytes (opened t) said last
       → n ≡ pair_count (references t) + said.tests → TestsSession text script data_bytes n
-  of_refused_program : (f : Finding) → RefusesText text f → n ≡ 0 → TestsSession text script data_bytes n
+  of_refused_program : (f : UnitFinding) → RefusesUnits text f → n ≡ 0 → TestsSession text script data_bytes n
 
 -- how many tests a program that is made takes: one for each ordered pair of references, and those that its script takes; and none where its text is refused (Allen and Kennedy, section 3.2; this project)
 pub data TestsGenerated (size n : ℕ) : Type 0 where

@@ -7,7 +7,7 @@ ghost use Rattle.ped_words.specs.Requests as plain;
 ghost use Rattle.ped_words.specs.Requests.{request_of};
 ghost use Rattle.ped_words.specs.Views.{request_view, IsSized};
 ghost use Rattle.ped_answer.specs.Answer.{inputs_of, IsOneOf, HoldsTooMany, IsWhole, Answers, MayAnswer, Sends};
-ghost use Rattle.ped_answer.specs.Headline.{PanesRequest, HistoryRequest, RunsRequest, CausesRequest, AutoRequest};
+ghost use Rattle.ped_answer.specs.Headline.{PanesRequest, HistoryRequest, RunsRequest, UnitsRequest, CausesRequest, AutoRequest};
 ghost use Rattle.ped_answer.specs.TestCounts.{Tests, Ticks, IsUntested};
 ghost use Rattle.ped_answer.specs.Serving.{ServedRequest};
 
@@ -15,6 +15,7 @@ use crate::finishing::finish;
 use crate::generating::answer_size;
 use crate::headline::{
     auto_is_told, history_is_kept, panes_are_afresh, refusals_have_causes, runs_are_as_before,
+    units_run_as_expanded,
 };
 use crate::sessions::answer_files;
 use crate::showing::show_file;
@@ -58,8 +59,9 @@ impl Status {
 
 /// Answers the words, which are those after the program's name: reads the files that they name from
 /// the shelf in order, and writes the answer to `out`. It is written whole, with its status, unless memory runs
-/// out, the shelf fails at a file of the words, or the sink fails. `steps` counts the dependence tests: one for
-/// each ordered pair of references of a program that is shown or opened, and those that the script takes.
+/// out, the shelf fails at a file of the words, or the sink fails. A file of program units is shown and opened as the
+/// program that they expand to. `steps` counts the dependence tests: one for each ordered pair of references of a
+/// program that is shown or opened, and those that the script takes.
 pub fn ped_main<F: Shelf, K: Sink, L: Ledger>(
     alloc: Global,
     words: &[String],
@@ -123,6 +125,15 @@ pub fn ped_main<F: Shelf, K: Sink, L: Ledger>(
         (bytes : List ℕ) × (K.taken out.new ≡ Some (before ++ bytes))
         × RunsRequest (request_of (map string_bytes words.now)) files bytes }
 
+    // Where the program units of a session's file run on its data without a fault, the program that they expand to, on which
+    // the session opens, has the same outcome. So each `run` shows it: without choices where the present source is that
+    // program's and no DO of it has a list of sums, and with whatever choices where the present source has come from that one
+    // by transformations alone, if it is tidy and without C$PED REJECT and runs without a race.
+    ensures units { (files : Contents) → F.told shelf.old ≡ Some files →
+        (before : List ℕ) → K.taken out.old ≡ Some before → IsWhole result →
+        (bytes : List ℕ) × (K.taken out.new ≡ Some (before ++ bytes))
+        × UnitsRequest (request_of (map string_bytes words.now)) files bytes }
+
     // A transformation or `reject` at a statement that the present program has is refused exactly where a rule stands against
     // it or a dependence forbids it, and the first of these is told: the rule with the least number, and else the first row
     // of the pane. Where the program has no such statement, that is told.
@@ -158,6 +169,7 @@ pub fn ped_main<F: Shelf, K: Sink, L: Ledger>(
     panes_are_afresh();
     history_is_kept();
     runs_are_as_before();
+    units_run_as_expanded();
     refusals_have_causes();
     auto_is_told::<L>();
     match request(alloc, words) {

@@ -8,7 +8,9 @@ mod panes;
 mod replies;
 
 pub use exclusions::{exclusions_are_decided, vectors_exist};
-pub use panes::{dependence_pane_exists, dependence_pane_of_exists, dependences_exist};
+pub use panes::{
+    calls_pane_exists, dependence_pane_exists, dependence_pane_of_exists, dependences_exist,
+};
 pub use replies::{
     answers_exist, lowerings_exist, replies_exist, script_answers_exist, some_answer,
 };

@@ -18,7 +18,7 @@ ghost use Rattle.ped_answer.specs.TestCounts.{TestsGenerated, Ticks, IsUntested}
 
 use crate::answering::Status;
 use crate::finishing::finish;
-use crate::refusals::is_refused;
+use crate::refusals::is_refused_text;
 use crate::reporting::report;
 use ped_io::Sink;
 use ped_session::ped_base::NoMemory;
@@ -51,7 +51,7 @@ pub fn answer_size<K: Sink, L: Ledger>(
     match ped_gen::program(alloc, size) {
         Ok(text) => match Session::open(alloc, text.as_slice(), steps) {
             Ok(mut session) => answer_session(alloc, size, &mut session, out, steps),
-            Err(OpenRefusal::At(refusal)) => is_refused(alloc, refusal, out),
+            Err(OpenRefusal::At(refusal)) => is_refused_text(alloc, refusal, out),
             Err(OpenRefusal::NoMemory) => Status::NoMemory,
         },
         Err(NoMemory) => Status::NoMemory,

@@ -6,7 +6,7 @@ ghost use Rattle.ped_io.specs.Outside.{Contents};
 ghost use Rattle.ped_words.specs.Requests as plain;
 ghost use Rattle.ped_answer.specs.declared.answering.Status.{Status};
 ghost use Rattle.ped_answer.specs.Answer.{IsWhole, Answers};
-ghost use Rattle.ped_answer.specs.Headline.{PanesRequest, HistoryRequest, RunsRequest, CausesRequest, AutoRequest};
+ghost use Rattle.ped_answer.specs.Headline.{PanesRequest, HistoryRequest, RunsRequest, UnitsRequest, CausesRequest, AutoRequest};
 
 use std::sync::ledger::Ledger;
 
@@ -41,6 +41,19 @@ pub fn runs_are_as_before()
         Answers request files s bytes → RunsRequest request files bytes }
 {
     ped_session::runs_are_as_before();
+}
+
+/// In each answer to a session on whose data the program units of its file run without a fault, the program on which it opens
+/// has the units' outcome, and each `run` of its script shows it: without choices before the first change, where no DO has a
+/// list of sums; and with whatever choices behind transformations alone, where the opened program is tidy and without
+/// C$PED REJECT and runs without a race.
+pub fn units_run_as_expanded()
+    ensures { (request : Option plain.Request) (files : Contents) (s : Status) (bytes : List ℕ) → IsWhole s →
+        Answers request files s bytes → UnitsRequest request files bytes }
+{
+    ped_call_runs::expansions_run_alike();
+    ped_session::runs_are_as_before();
+    ped_session::runs_in_order();
 }
 
 /// In each answer to a session each `auto` tells steps that lead, one behind another, to its source, which has come from the

@@ -19,12 +19,13 @@ mod tallies;
 
 pub use answering::{Status, answer_surely, one_answer, ped_main};
 pub use existence::{
-    answers_exist, dependence_pane_exists, dependence_pane_of_exists, dependences_exist,
-    exclusions_are_decided, lowerings_exist, replies_exist, script_answers_exist, some_answer,
-    vectors_exist,
+    answers_exist, calls_pane_exists, dependence_pane_exists, dependence_pane_of_exists,
+    dependences_exist, exclusions_are_decided, lowerings_exist, replies_exist,
+    script_answers_exist, some_answer, vectors_exist,
 };
 pub use generating::made_programs_have_no_list;
 pub use headline::{
     auto_is_told, history_is_kept, panes_are_afresh, refusals_have_causes, runs_are_as_before,
+    units_run_as_expanded,
 };
 pub use ped_session::ped_verdict;

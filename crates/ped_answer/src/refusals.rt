@@ -4,20 +4,40 @@ ghost use Rattle.std.specs.Prelude.{◌≡◌, ◌⊎◌, ◌++◌, ◌≤◌, �
 ghost use Rattle.std.specs.Fmt.{decimal};
 ghost use Rattle.ped_io.specs.Outside.{Rose};
 ghost use Rattle.ped_session.specs.ped_tree.specs.Grammar.RefusalViews.{finding_of};
+ghost use Rattle.ped_call_runs.specs.ped_calls.specs.Verdicts.{found_in_text};
+ghost use Rattle.ped_call_runs.specs.ped_calls.specs.Views.{unit_finding_of};
 ghost use Rattle.ped_answer.specs.Answer.{Sends, IsJust};
 ghost use Rattle.ped_answer.specs.Refusals as Spec;
 
 use crate::answering::Status;
 use crate::finishing::finish;
+use ped_call_runs::ped_calls::{UnitFinding, UnitRule};
 use ped_io::Sink;
 use ped_session::ped_base::{Bytes, NoMemory, push_number};
 use ped_session::ped_tree::grammar::Refusal;
 use std::alloc::Global;
 
-/// Says that a text is refused.
-pub fn is_refused<K: Sink>(alloc: Global, refusal: Refusal, out: &mut K) -> Status
+/// Says that the text of a program that was made is refused.
+pub fn is_refused_text<K: Sink>(alloc: Global, refusal: Refusal, out: &mut K) -> Status
     ensures answer { (before : List ℕ) → K.taken out.old ≡ Some before →
-        Sends (IsJust Status.ProgramRefused (Spec.refused_line (finding_of refusal)))
+        Sends (IsJust Status.ProgramRefused (Spec.refused_line (found_in_text (finding_of refusal))))
+        (Rose (K.faults out.old) (K.faults out.new)) before (K.taken out.new) result }
+    ensures ends { (result ≡ Status.ProgramRefused) ⊎ (result ≡ Status.WriteFault) ⊎ (result ≡ Status.NoMemory) }
+    ensures write_fault { result ≡ Status.WriteFault → Rose (K.faults out.old) (K.faults out.new) }
+    ensures faults { K.faults out.old ≤ K.faults out.new }
+    ensures untold { K.taken out.old ≡ None → K.taken out.new ≡ None }
+{
+    let finding = UnitFinding {
+        rule: UnitRule::Text(refusal.kind),
+        line: refusal.line,
+    };
+    is_refused(alloc, finding, out)
+}
+
+/// Says that a file's text is refused.
+pub fn is_refused<K: Sink>(alloc: Global, refusal: UnitFinding, out: &mut K) -> Status
+    ensures answer { (before : List ℕ) → K.taken out.old ≡ Some before →
+        Sends (IsJust Status.ProgramRefused (Spec.refused_line (unit_finding_of refusal)))
         (Rose (K.faults out.old) (K.faults out.new)) before (K.taken out.new) result }
     ensures ends { (result ≡ Status.ProgramRefused) ⊎ (result ≡ Status.WriteFault) ⊎ (result ≡ Status.NoMemory) }
     ensures write_fault { result ≡ Status.WriteFault → Rose (K.faults out.old) (K.faults out.new) }
@@ -30,15 +50,15 @@ pub fn is_refused<K: Sink>(alloc: Global, refusal: Refusal, out: &mut K) -> Stat
     }
 }
 
-/// The refusal by its number and its name, and its line.
-fn refused_line(alloc: Global, refusal: Refusal) -> Result<Bytes, NoMemory>
-    ensures { IfOk result (λ line. line ≡ Spec.refused_line (finding_of refusal)) }
+/// The rule that is broken by its number and its name, and its line.
+fn refused_line(alloc: Global, refusal: UnitFinding) -> Result<Bytes, NoMemory>
+    ensures { IfOk result (λ line. line ≡ Spec.refused_line (unit_finding_of refusal)) }
 {
     let mut line = Bytes::new(alloc);
     line.extend_from_slice(b"ped: refused ")?;
-    push_number(&mut line, u64::from(refusal.kind.number()))?;
+    push_number(&mut line, u64::from(refusal.rule.number()))?;
     line.push(b' ')?;
-    line.extend_from_slice(refusal.kind.name())?;
+    line.extend_from_slice(refusal.rule.name())?;
     line.extend_from_slice(b" at ")?;
     push_number(&mut line, refusal.line)?;
     line.push(b'\n')?;

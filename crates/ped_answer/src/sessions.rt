@@ -1,9 +1,13 @@
-//! Sessions: the files are read in order, and then the script is answered on the program of its text.
+//! Sessions: the files are read in order, and then the script is answered on the program that the first one's text expands to.
 
 ghost use Rattle.std.specs.Prelude.{◌≡◌, ◌⊎◌, ◌∷◌, [], ◌+◌, ◌≤◌, ℕ, List, Some, None, IfOk, option_map};
 ghost use Rattle.ped_io.specs.Outside.{Rose};
+ghost use Rattle.ped_session.specs.ped_tree.specs.Views.{program_tree};
+ghost use Rattle.ped_session.specs.ped_symbols.specs.NameRefusals.{IsValid};
+ghost use Rattle.ped_session.specs.ped_symbols.specs.Kinds.{table_of};
+ghost use Rattle.ped_session.specs.ped_refs.specs.References.{references, pair_count};
 ghost use Rattle.ped_session.specs.ped_transformations.specs.ped_script.specs.Items.{commands_of};
-ghost use Rattle.ped_session.specs.States.{State};
+ghost use Rattle.ped_session.specs.States.{State, opened};
 ghost use Rattle.ped_session.specs.Scripts.{Said, AnswersItems};
 ghost use Rattle.ped_words.specs.Requests.{session};
 ghost use Rattle.ped_answer.specs.Answer.{source_input, data_input, data_inputs, AnswersInput, AnswersData, IsSession, Sends};
@@ -14,10 +18,11 @@ use crate::answering::Status;
 use crate::finishing::finish;
 use crate::loading::{DATA_LIMIT, SOURCE_LIMIT, say_unread};
 use crate::refusals::is_refused;
+use ped_call_runs::ped_calls::{UnitRefusal, expansion};
 use ped_io::{Shelf, Sink, load};
 use ped_session::ped_base::NoMemory;
 use ped_session::ped_script::commands;
-use ped_session::ped_valid::OpenRefusal;
+use ped_session::ped_valid::Opened;
 use ped_session::ped_verdict::Steps;
 use ped_session::{Answered, Session, answer_items};
 use std::alloc::Global;
@@ -61,7 +66,7 @@ pub fn answer_files<F: Shelf, K: Sink, L: Ledger>(
     }
 }
 
-/// Answers the script in a file on the program of a text.
+/// Answers the script in a file on the program that a text expands to.
 fn answer_script_file<F: Shelf, K: Sink, L: Ledger>(
     alloc: Global,
     text: &[u8],
@@ -94,7 +99,7 @@ fn answer_script_file<F: Shelf, K: Sink, L: Ledger>(
     }
 }
 
-/// Answers a script on the program of a text, where programs are run on the data in a file, or on empty data.
+/// Answers a script on the program that a text expands to, where programs are run on the data in a file, or on empty data.
 fn answer_data<F: Shelf, K: Sink, L: Ledger>(
     alloc: Global,
     text: &[u8],
@@ -127,7 +132,7 @@ fn answer_data<F: Shelf, K: Sink, L: Ledger>(
     }
 }
 
-/// Answers a script on the program of a text, where programs are run on the data in a file.
+/// Answers a script on the program that a text expands to, where programs are run on the data in a file.
 fn answer_data_file<F: Shelf, K: Sink, L: Ledger>(
     alloc: Global,
     text: &[u8],
@@ -160,7 +165,7 @@ fn answer_data_file<F: Shelf, K: Sink, L: Ledger>(
     }
 }
 
-/// Answers a script on the program of a text, where programs are run on these data.
+/// Answers a script on the program that a text expands to, where programs are run on these data.
 fn answer_texts<K: Sink, L: Ledger>(
     alloc: Global,
     text: &[u8],
@@ -181,10 +186,38 @@ fn answer_texts<K: Sink, L: Ledger>(
     ensures untested { IsUntested result → steps.new ≡ steps.old }
     ensures steps { steps.old ≤ steps.new }
 {
-    match Session::open(alloc, text, steps) {
+    match expansion(alloc, text) {
+        Ok(program) => answer_program(alloc, program, script, input, out, steps),
+        Err(UnitRefusal::At(refusal)) => is_refused(alloc, refusal, out),
+        Err(UnitRefusal::NoMemory) => Status::NoMemory,
+    }
+}
+
+/// Answers a script in a session that is opened on a valid program, where programs are run on these data.
+fn answer_program<K: Sink, L: Ledger>(
+    alloc: Global,
+    program: Opened,
+    script: &[u8],
+    input: &[u8],
+    out: &mut K,
+    steps: &mut Steps<L>,
+) -> Status
+    requires valid { IsValid (program_tree program.program) }
+    requires symbols { program.symbols ≡ table_of (program_tree program.program) }
+    ensures answer { (before : List ℕ) → K.taken out.old ≡ Some before →
+        Sends (AnswersFrom (opened (program_tree program.program)) script.now input.now)
+        (Rose (K.faults out.old) (K.faults out.new)) before (K.taken out.new) result }
+    ensures ends { (result ≡ Status.Done) ⊎ (result ≡ Status.SomeRefused) ⊎ (result ≡ Status.WriteFault) ⊎ (result ≡ Status.NoMemory) }
+    ensures write_fault { result ≡ Status.WriteFault → Rose (K.faults out.old) (K.faults out.new) }
+    ensures faults { K.faults out.old ≤ K.faults out.new }
+    ensures untold { K.taken out.old ≡ None → K.taken out.new ≡ None }
+    ensures tests { (said : Said) (last : State) → AnswersItems (commands_of script.now) input.now (opened (program_tree program.program)) said last
+        → Ticks result steps.old steps.new (pair_count (references (program_tree program.program)) + said.tests) }
+    ensures steps { steps.old ≤ steps.new }
+{
+    match Session::begin(alloc, program, steps) {
         Ok(mut session) => answer_script(alloc, &mut session, script, input, out, steps),
-        Err(OpenRefusal::At(refusal)) => is_refused(alloc, refusal, out),
-        Err(OpenRefusal::NoMemory) => Status::NoMemory,
+        Err(NoMemory) => Status::NoMemory,
     }
 }
 

@@ -1,4 +1,4 @@
-//! Programs that are shown: both panes, or why the program's text is refused.
+//! Programs that are shown: both panes, or why the file's text is refused.
 
 ghost use Rattle.std.specs.Prelude.{◌≡◌, ◌⊎◌, ◌≤◌, ℕ, List, Some, None};
 ghost use Rattle.ped_io.specs.Outside.{Rose};
@@ -16,16 +16,16 @@ use crate::finishing::finish;
 use crate::loading::{SOURCE_LIMIT, say_unread};
 use crate::panes::panes;
 use crate::refusals::is_refused;
+use ped_call_runs::ped_calls::{UnitRefusal, expansion};
 use ped_io::{Shelf, Sink, load};
 use ped_session::ped_base::NoMemory;
 use ped_session::ped_tree::Program;
 use ped_session::ped_tree::constants::Consts;
-use ped_session::ped_valid::{OpenRefusal, open_program};
 use ped_session::ped_verdict::Steps;
 use std::alloc::Global;
 use std::sync::ledger::Ledger;
 
-/// Shows the program in a file.
+/// Shows the program that the program units in a file expand to.
 pub fn show_file<F: Shelf, K: Sink, L: Ledger>(
     alloc: Global,
     program: &str,
@@ -53,7 +53,7 @@ pub fn show_file<F: Shelf, K: Sink, L: Ledger>(
     }
 }
 
-/// Shows the program of a text.
+/// Shows the program that the program units of a text expand to.
 fn show_text<K: Sink, L: Ledger>(
     alloc: Global,
     text: &[u8],
@@ -72,10 +72,10 @@ fn show_text<K: Sink, L: Ledger>(
     ensures untested { IsUntested result → steps.new ≡ steps.old }
     ensures steps { steps.old ≤ steps.new }
 {
-    match open_program(alloc, text) {
+    match expansion(alloc, text) {
         Ok(opened) => show_program(alloc, &opened.program, opened.symbols.consts(), out, steps),
-        Err(OpenRefusal::At(refusal)) => is_refused(alloc, refusal, out),
-        Err(OpenRefusal::NoMemory) => Status::NoMemory,
+        Err(UnitRefusal::At(refusal)) => is_refused(alloc, refusal, out),
+        Err(UnitRefusal::NoMemory) => Status::NoMemory,
     }
 }
 

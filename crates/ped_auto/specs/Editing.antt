@@ -1,7 +1,7 @@
 -- What an editor means to the strategy: its present program, and what it makes of commands (ParaScope; this project).
 use Rattle.std.specs.Prelude.{◌≡◌, ℕ, ◌≤◌, ◌<◌, length, Option, Some, None, ⊤}
 use Rattle.ped_script.specs.declared.items.Command.{Command}
-use Rattle.ped_script.specs.declared.items.Command.TheVariants.{Interchange, Reverse, Skew, Strip, Peel, Distribute, Fuse, Expand, Privatise, Parallel, Serial, Reduce}
+use Rattle.ped_script.specs.declared.items.Command.TheVariants.{Interchange, Reverse, Skew, Strip, Peel, Distribute, Fuse, Inline, Expand, Privatise, Parallel, Serial, Reduce}
 use Rattle.ped_reduce.specs.ped_splits.specs.ped_reindex.specs.ped_loops.specs.ped_scalar.specs.ped_rules.specs.ped_loop_runs.specs.ped_bodies.specs.ped_steps.specs.ped_flow.specs.ped_tree.specs.Tree.{ProgramTree}
 use Rattle.ped_reduce.specs.ped_splits.specs.ped_reindex.specs.ped_loops.specs.ped_scalar.specs.ped_rules.specs.ped_loop_runs.specs.ped_bodies.specs.ped_steps.specs.Causes.{Cause}
 use Rattle.ped_reduce.specs.ped_splits.specs.ped_reindex.specs.ped_loops.specs.ped_scalar.specs.ped_rules.specs.ped_loop_runs.specs.ped_bodies.specs.ped_steps.specs.CodeCauses.{cause_of, IsShort}
@@ -41,6 +41,7 @@ place_of (Strip number size) = Some number
 place_of (Peel number last) = Some number
 place_of (Distribute number) = Some number
 place_of (Fuse number) = Some number
+place_of (Inline number) = Some number
 place_of (Expand number name) = Some number
 place_of (Privatise number name) = Some number
 place_of (Parallel number) = Some number

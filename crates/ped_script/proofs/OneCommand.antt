@@ -85,8 +85,10 @@ found_all =
     ⨾ own _ _ (λ rest. refl)
     ⨾ own _ _ (λ rest. refl)
     ⨾ own _ _ (λ rest. refl)
+    ⨾ own _ _ (λ rest. refl)
     ⨾ found _ _ (λ rest. option_or (number (λ s. word (codes "last") (done (Peel s true))) rest) None) (λ rest. refl)
     ⨾ found_peel
+    ⨾ own _ _ (λ rest. refl)
     ⨾ own _ _ (λ rest. refl)
     ⨾ own _ _ (λ rest. refl)
     ⨾ own _ _ (λ rest. refl)

@@ -9,7 +9,7 @@ use Rattle.std.proofs.lemmas.List.Elements.{All-from_recursion}
 use Rattle.ped_base.specs.Letters.{is_letter, is_digit, is_alphanumeric, begins_with_letter, is_name}
 use Rattle.ped_base.specs.Lists.{has_some, is_same_text}
 use Rattle.ped_script.specs.declared.items.Command.{Command}
-use Rattle.ped_script.specs.declared.items.Command.TheVariants.{Source, Deps, Show, Print, Advise, Replace, Insert, Delete, Interchange, Reverse, Skew, Strip, Peel, Distribute, Fuse, Expand, Privatise, Reduce, Parallel, Serial, Reject, Auto, Undo, Redo, Run, Races, Tested}
+use Rattle.ped_script.specs.declared.items.Command.TheVariants.{Source, Deps, Show, Calls, Print, Advise, Replace, Insert, Delete, Interchange, Reverse, Skew, Strip, Peel, Distribute, Fuse, Inline, Expand, Privatise, Reduce, Parallel, Serial, Reject, Auto, Undo, Redo, Run, Races, Tested}
 use Rattle.ped_script.specs.Words.{Text, is_blank, words_of, is_number, has_leading_zero, number_of, numbers_of, factor_of, name_of, names_of, all_of}
 use Rattle.ped_script.specs.Rows.{command_of, few_names, on_few}
 use Rattle.ped_script.specs.Shapes.{alone, with_number, with_two, peeled}
@@ -213,6 +213,7 @@ pub read_again : (c : Command) → IsWritable c → command_of (words_of (comman
 unfolding alone with_number with_two peeled
 read_again Source h = alone_again Source (codes "source") refl (word_of (codes "source") refl refl) refl
 read_again Show h = alone_again Show (codes "show") refl (word_of (codes "show") refl refl) refl
+read_again Calls h = alone_again Calls (codes "calls") refl (word_of (codes "calls") refl refl) refl
 read_again Print h = alone_again Print (codes "print") refl (word_of (codes "print") refl refl) refl
 read_again Auto h = alone_again Auto (codes "auto") refl (word_of (codes "auto") refl refl) refl
 read_again Undo h = alone_again Undo (codes "undo") refl (word_of (codes "undo") refl refl) refl
@@ -226,6 +227,7 @@ read_again (Interchange s) h = number_again_at (Interchange s) (codes "interchan
 read_again (Reverse s) h = number_again_at (Reverse s) (codes "reverse") s refl (word_of (codes "reverse") refl refl) h refl
 read_again (Distribute s) h = number_again_at (Distribute s) (codes "distribute") s refl (word_of (codes "distribute") refl refl) h refl
 read_again (Fuse s) h = number_again_at (Fuse s) (codes "fuse") s refl (word_of (codes "fuse") refl refl) h refl
+read_again (Inline s) h = number_again_at (Inline s) (codes "inline") s refl (word_of (codes "inline") refl refl) h refl
 read_again (Parallel s) h = number_again_at (Parallel s) (codes "parallel") s refl (word_of (codes "parallel") refl refl) h refl
 read_again (Serial s) h = number_again_at (Serial s) (codes "serial") s refl (word_of (codes "serial") refl refl) h refl
 read_again (Insert after lines) h =

@@ -5,7 +5,7 @@ use Rattle.std.specs.Fmt.{decimal, signed_decimal}
 use Rattle.ped_base.specs.Letters.{is_name}
 use Rattle.ped_script.specs.Words.{Text}
 use Rattle.ped_script.specs.declared.items.Command.{Command}
-use Rattle.ped_script.specs.declared.items.Command.TheVariants.{Source, Deps, Show, Print, Advise, Replace, Insert, Delete, Interchange, Reverse, Skew, Strip, Peel, Distribute, Fuse, Expand, Privatise, Reduce, Parallel, Serial, Reject, Auto, Undo, Redo, Run, Races, Tested}
+use Rattle.ped_script.specs.declared.items.Command.TheVariants.{Source, Deps, Show, Calls, Print, Advise, Replace, Insert, Delete, Interchange, Reverse, Skew, Strip, Peel, Distribute, Fuse, Inline, Expand, Privatise, Reduce, Parallel, Serial, Reject, Auto, Undo, Redo, Run, Races, Tested}
 
 -- the words of `peel`
 abbrev pub peel_words : ℕ → Bool → List Text
@@ -26,6 +26,7 @@ command_words Source = codes "source" ∷ []
 command_words (Deps None) = codes "deps" ∷ []
 command_words (Deps (Some s)) = codes "deps" ∷ decimal s ∷ []
 command_words Show = codes "show" ∷ []
+command_words Calls = codes "calls" ∷ []
 command_words Print = codes "print" ∷ []
 command_words (Advise s) = codes "advise" ∷ decimal s ∷ []
 command_words (Replace first last lines) = codes "replace" ∷ decimal first ∷ decimal last ∷ []
@@ -38,6 +39,7 @@ command_words (Strip s size) = codes "strip" ∷ decimal s ∷ signed_decimal si
 command_words (Peel s last) = peel_words s last
 command_words (Distribute s) = codes "distribute" ∷ decimal s ∷ []
 command_words (Fuse s) = codes "fuse" ∷ decimal s ∷ []
+command_words (Inline s) = codes "inline" ∷ decimal s ∷ []
 command_words (Expand s x) = codes "expand" ∷ decimal s ∷ x ∷ []
 command_words (Privatise s x) = codes "privatise" ∷ decimal s ∷ x ∷ []
 command_words (Reduce s names) = reduce_words s names
@@ -82,6 +84,7 @@ IsWritable Source = ⊤
 IsWritable (Deps None) = ⊤
 IsWritable (Deps (Some s)) = IsShortNumber s
 IsWritable Show = ⊤
+IsWritable Calls = ⊤
 IsWritable Print = ⊤
 IsWritable (Advise s) = IsShortNumber s
 IsWritable (Replace first last lines) = IsShortNumber first × IsShortNumber last × (lines ≡ [])
@@ -94,6 +97,7 @@ IsWritable (Strip s size) = IsShortNumber s × ((k : ℕ) × IsShortNumber k × 
 IsWritable (Peel s last) = IsShortNumber s
 IsWritable (Distribute s) = IsShortNumber s
 IsWritable (Fuse s) = IsShortNumber s
+IsWritable (Inline s) = IsShortNumber s
 IsWritable (Expand s x) = IsShortNumber s × IsShortName x
 IsWritable (Privatise s x) = IsShortNumber s × IsShortName x
 IsWritable (Reduce s names) = IsShortNumber s × AllByRecursion IsShortName names × (1 ≤ length names) × (length names ≤ 8)

@@ -4,7 +4,7 @@ use Rattle.std.specs.Option.{option_or}
 use Rattle.ped_base.specs.Lists.{has_some, is_same_text}
 use Rattle.ped_script.specs.Words.{Text, number_of, numbers_of, factor_of, name_of, names_of}
 use Rattle.ped_script.specs.declared.items.Command.{Command}
-use Rattle.ped_script.specs.declared.items.Command.TheVariants.{Source, Deps, Show, Print, Advise, Replace, Insert, Delete, Interchange, Reverse, Skew, Strip, Peel, Distribute, Fuse, Expand, Privatise, Reduce, Parallel, Serial, Reject, Auto, Undo, Redo, Run, Races, Tested}
+use Rattle.ped_script.specs.declared.items.Command.TheVariants.{Source, Deps, Show, Calls, Print, Advise, Replace, Insert, Delete, Interchange, Reverse, Skew, Strip, Peel, Distribute, Fuse, Inline, Expand, Privatise, Reduce, Parallel, Serial, Reject, Auto, Undo, Redo, Run, Races, Tested}
 
 -- the command that words are, where they fit the row
 abbrev pub Row : Type 0
@@ -54,6 +54,7 @@ rows =
     ∷ word (codes "deps") (done (Deps None))
     ∷ word (codes "deps") (number (λ s. done (Deps (Some s))))
     ∷ word (codes "show") (done Show)
+    ∷ word (codes "calls") (done Calls)
     ∷ word (codes "print") (done Print)
     ∷ word (codes "advise") (number (λ s. done (Advise s)))
     ∷ word (codes "replace") (number (λ a. number (λ b. done (Replace a b []))))
@@ -67,6 +68,7 @@ rows =
     ∷ word (codes "peel") (number (λ s. word (codes "last") (done (Peel s true))))
     ∷ word (codes "distribute") (number (λ s. done (Distribute s)))
     ∷ word (codes "fuse") (number (λ s. done (Fuse s)))
+    ∷ word (codes "inline") (number (λ s. done (Inline s)))
     ∷ word (codes "expand") (number (λ s. name (λ t. done (Expand s t))))
     ∷ word (codes "privatise") (number (λ s. name (λ t. done (Privatise s t))))
     ∷ word (codes "reduce") (number (λ s. few_names (λ names. Reduce s names)))

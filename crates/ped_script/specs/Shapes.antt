@@ -3,7 +3,7 @@ use Rattle.std.specs.Prelude.{ℕ, pos, [], true, false, codes, Option, Some, No
 use Rattle.ped_base.specs.Lists.{is_same_text}
 use Rattle.ped_script.specs.Words.{Text, number_of, factor_of, name_of}
 use Rattle.ped_script.specs.declared.items.Command.{Command}
-use Rattle.ped_script.specs.declared.items.Command.TheVariants.{Source, Deps, Show, Print, Advise, Replace, Insert, Delete, Interchange, Reverse, Skew, Strip, Peel, Distribute, Fuse, Expand, Privatise, Parallel, Serial, Reject, Auto, Undo, Redo, Races, Tested}
+use Rattle.ped_script.specs.declared.items.Command.TheVariants.{Source, Deps, Show, Calls, Print, Advise, Replace, Insert, Delete, Interchange, Reverse, Skew, Strip, Peel, Distribute, Fuse, Inline, Expand, Privatise, Parallel, Serial, Reject, Auto, Undo, Redo, Races, Tested}
 
 -- the command that is one word
 unfoldable pub alone : Text → Option Command
@@ -11,6 +11,7 @@ alone w =
     if is_same_text w (codes "source") then Some Source
     else if is_same_text w (codes "deps") then Some (Deps None)
     else if is_same_text w (codes "show") then Some Show
+    else if is_same_text w (codes "calls") then Some Calls
     else if is_same_text w (codes "print") then Some Print
     else if is_same_text w (codes "auto") then Some Auto
     else if is_same_text w (codes "undo") then Some Undo
@@ -29,6 +30,7 @@ with_number w n =
     else if is_same_text w (codes "reverse") then Some (Reverse n)
     else if is_same_text w (codes "distribute") then Some (Distribute n)
     else if is_same_text w (codes "fuse") then Some (Fuse n)
+    else if is_same_text w (codes "inline") then Some (Inline n)
     else if is_same_text w (codes "parallel") then Some (Parallel n)
     else if is_same_text w (codes "serial") then Some (Serial n)
     else None

@@ -12,6 +12,8 @@ pub enum Command {
     Deps(Option<u32>),
     /// Prints the source pane and the dependence pane.
     Show,
+    /// Prints the pane of calls: the blocks that CALLs were expanded to, and the dependences with each block as one statement.
+    Calls,
     /// Prints the source lines alone.
     Print,
     /// Says of each step that needs no more than this statement whether it is refused, and why.
@@ -58,6 +60,8 @@ pub enum Command {
     Distribute(u32),
     /// Fuses this loop with the next.
     Fuse(u32),
+    /// Puts the statements of this block, which a CALL was expanded to, in its place.
+    Inline(u32),
     /// Expands a scalar into an array over the iterations of this loop.
     Expand(u32, Name),
     /// Makes a scalar private to the iterations of this loop.

@@ -116,6 +116,9 @@ fn alone(word: &[u8]) -> Option<Command>
     if is_word(word, b"show") {
         return Some(Command::Show);
     }
+    if is_word(word, b"calls") {
+        return Some(Command::Calls);
+    }
     if is_word(word, b"print") {
         return Some(Command::Print);
     }
@@ -165,6 +168,9 @@ fn with_number(alloc: Global, word: &[u8], n: u32) -> Option<Command>
     }
     if is_word(word, b"fuse") {
         return Some(Command::Fuse(n));
+    }
+    if is_word(word, b"inline") {
+        return Some(Command::Inline(n));
     }
     if is_word(word, b"parallel") {
         return Some(Command::Parallel(n));

@@ -14,7 +14,7 @@ use Rattle.ped_session.specs.ped_graph.specs.Held.{Held, held_of}
 use Rattle.ped_session.specs.ped_graph.specs.Update.Fresh.{fresh_pairs, tested_pairs}
 use Rattle.ped_session.specs.declared.changes.Change.TheVariants.{Edit}
 use Rattle.ped_session.specs.declared.replies.Reply.{Reply}
-use Rattle.ped_session.specs.declared.replies.Reply.TheVariants.{Changed, Refused}
+use Rattle.ped_session.specs.declared.replies.Reply.TheVariants.{Refused}
 use Rattle.ped_session.specs.declared.replies.Refusal.TheVariants.{BadEdit, NoSuchLine}
 use Rattle.ped_session.specs.declared.versions.Entry.{Entry}
 use Rattle.ped_session.specs.Holding.{other_of}

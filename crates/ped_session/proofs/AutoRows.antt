@@ -1,5 +1,5 @@
 -- A script of commands that `auto` takes is read as these commands.
-use Rattle.std.proofs.Common.{◌≡◌, ◌⊎◌, inl, inr, ℕ, ◌+◌, ◌-◌, ◌<◌, ◌^◌, Bool, true, false, ◌&&◌, ◌||◌, cond, List, [], ◌∷◌, ◌++◌, take, length, get_or, codes, leb, eqb, Option, Some, None, refl, sym, ap, ◌∙◌, append_assoc, arith, rules}
+use Rattle.std.proofs.Common.{◌≡◌, ◌⊎◌, inl, inr, ℕ, ◌+◌, ◌-◌, ◌<◌, Bool, true, false, ◌&&◌, ◌||◌, cond, List, [], ◌∷◌, ◌++◌, take, length, get_or, codes, leb, eqb, Option, Some, None, refl, sym, ap, ◌∙◌, append_assoc, arith, rules}
 use Rattle.std.specs.List.{list_all, slice_split, AllByRecursion}
 use Rattle.std.specs.Fmt.{decimal}
 use Rattle.std.specs.Str.Lines.{lines, lines_of_parts, strip_carriage_return}
@@ -8,10 +8,10 @@ use Rattle.std.proofs.lemmas.Fmt.{digits_decimal}
 use Rattle.std.proofs.lemmas.Str.Parse.{IsNumeralModel, numerals_by_value}
 use Rattle.std.proofs.lemmas.List.Splits.{slice_split_at, length-slice_split}
 use Rattle.std.proofs.lemmas.List.Elements.{All-from_recursion}
-use Rattle.ped_base.specs.Letters.{is_letter, is_digit, is_alphanumeric, begins_with_letter, is_name}
+use Rattle.ped_base.specs.Letters.{is_letter, is_digit, is_alphanumeric, begins_with_letter}
 use Rattle.ped_transformations.specs.ped_auto.specs.Editing.{IsOfStrategy}
 use Rattle.ped_session.specs.ped_transformations.specs.ped_script.specs.declared.items.Command.{Command}
-use Rattle.ped_session.specs.ped_transformations.specs.ped_script.specs.declared.items.Command.TheVariants.{Source, Deps, Show, Print, Advise, Replace, Insert, Delete, Interchange, Reverse, Skew, Strip, Peel, Distribute, Fuse, Expand, Privatise, Reduce, Parallel, Serial, Reject, Auto, Undo, Redo, Run, Races, Tested}
+use Rattle.ped_session.specs.ped_transformations.specs.ped_script.specs.declared.items.Command.TheVariants.{Source, Deps, Show, Calls, Print, Advise, Replace, Insert, Delete, Interchange, Reverse, Skew, Strip, Peel, Distribute, Fuse, Inline, Expand, Privatise, Reduce, Parallel, Serial, Reject, Auto, Undo, Redo, Run, Races, Tested}
 use Rattle.ped_session.specs.ped_transformations.specs.ped_script.specs.declared.items.Item.{Item}
 use Rattle.ped_session.specs.ped_transformations.specs.ped_script.specs.Words.{words_of}
 use Rattle.ped_session.specs.ped_transformations.specs.ped_script.specs.Rows.{command_of}
@@ -83,6 +83,7 @@ command_plain (Reduce n names) is h = line_plain (codes "reduce") (decimal n ∷
 command_plain Source is h = absurd is
 command_plain (Deps of) is h = absurd is
 command_plain Show is h = absurd is
+command_plain Calls is h = absurd is
 command_plain Print is h = absurd is
 command_plain (Advise n) is h = absurd is
 command_plain (Replace first last given) is h = absurd is
@@ -94,6 +95,7 @@ command_plain (Skew n factor) is h = absurd is
 command_plain (Strip n size) is h = absurd is
 command_plain (Peel n last) is h = absurd is
 command_plain (Fuse n) is h = absurd is
+command_plain (Inline n) is h = absurd is
 command_plain (Expand n x) is h = absurd is
 command_plain (Serial n) is h = absurd is
 command_plain (Reject n x) is h = absurd is
@@ -139,6 +141,7 @@ alone (Reduce n names) is following = (refl, refl)
 alone Source is following = absurd is
 alone (Deps of) is following = absurd is
 alone Show is following = absurd is
+alone Calls is following = absurd is
 alone Print is following = absurd is
 alone (Advise n) is following = absurd is
 alone (Replace first last given) is following = absurd is
@@ -150,6 +153,7 @@ alone (Skew n factor) is following = absurd is
 alone (Strip n size) is following = absurd is
 alone (Peel n last) is following = absurd is
 alone (Fuse n) is following = absurd is
+alone (Inline n) is following = absurd is
 alone (Expand n x) is following = absurd is
 alone (Serial n) is following = absurd is
 alone (Reject n x) is following = absurd is

@@ -1,20 +1,16 @@
 -- The steps that `auto` takes in a session, one behind another.
-use Rattle.std.proofs.Common.{◌≡◌, inl, inr, ℕ, List, [], ◌∷◌, refl, sym, ap, subst, ◌∙◌}
-use Rattle.ped_transformations.specs.ped_reindex.specs.ped_loops.specs.ped_scalar.specs.ped_rules.specs.Steps.{StepKind, transformation, StepAt, MaybeStep, no_step, some_step, MatchStep}
+use Rattle.std.proofs.Common.{◌≡◌, inl, inr, ℕ, List, [], ◌∷◌, refl, sym, ap, subst}
+use Rattle.ped_transformations.specs.ped_reindex.specs.ped_loops.specs.ped_scalar.specs.ped_rules.specs.Steps.{transformation, StepAt, MaybeStep, no_step, some_step, MatchStep}
 use Rattle.ped_transformations.specs.ped_auto.specs.Replay.{Replays}
 use Rattle.ped_transformations.specs.ped_auto.specs.Strategy.{Report, IsAuto}
 use Rattle.ped_transformations.specs.ped_auto.proofs.OneCourse as course
 use Rattle.ped_transformations.specs.Table.{step_of}
-use Rattle.ped_transformations.proofs.LawfulTable.{AllLawful}
 use Rattle.ped_session.specs.ped_transformations.specs.ped_script.specs.declared.items.Command.{Command}
-use Rattle.ped_session.specs.declared.changes.Change.{Change}
-use Rattle.ped_session.specs.declared.changes.Change.TheVariants.{Transformation}
 use Rattle.ped_session.specs.declared.replies.Reply.{Reply}
 use Rattle.ped_session.specs.declared.replies.Reply.TheVariants.{Changed}
 use Rattle.ped_session.specs.States.{Other, State}
 use Rattle.ped_session.specs.Steps.{Transforms, change_by, IsOther, IsStep}
-use Rattle.ped_session.specs.Meanings.{IsMeaningKept, ComesFrom}
-use Rattle.ped_session.specs.Histories.{ArePrinted}
+use Rattle.ped_session.specs.Meanings.{ComesFrom}
 use Rattle.ped_session.specs.AutoEditing.{TransformsTo, TakesStep, session_editing}
 use Rattle.ped_session.specs.AutoEditingLaws.{IsTaken, taken, session_laws}
 use Rattle.ped_session.specs.AutoAnswers.{AcceptsAll}

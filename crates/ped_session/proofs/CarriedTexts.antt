@@ -1,10 +1,10 @@
 -- Names of references by their texts.
-use Rattle.std.proofs.Common.{◌≡◌, ◌∙◌, ℕ, List, [], ◌∷◌, ◌++◌, map, filter, cond, Bool, true, false, not, ◌||◌, refl, sym, ap, subst}
+use Rattle.std.proofs.Common.{◌≡◌, ◌∙◌, ℕ, List, [], ◌∷◌, ◌++◌, map, filter, cond, Bool, true, false, not, ◌||◌, refl, sym, ap}
 use Rattle.std.specs.Prelude.{if◌then◌else◌}
 use Rattle.std.specs.List.{list_any}
 use Rattle.std.proofs.lemmas.List.{map-append}
 use Rattle.ped_base.specs.Lists.{is_among, is_same_text}
-use Rattle.ped_session.specs.ped_tree.specs.Names.Collecting.{with_name, with_names}
+use Rattle.ped_session.specs.ped_tree.specs.Names.Collecting.{with_name}
 use Rattle.ped_session.specs.ped_refs.specs.Occurrences.{name_text}
 use Rattle.ped_session.specs.ped_refs.specs.declared.references.RefName.{RefName}
 use Rattle.ped_session.specs.ped_graph.specs.ped_edges.specs.Edges.{Edge}

@@ -1,11 +1,11 @@
 -- What a command does to the state of a session: nothing, an edit, a step, or a move along the history.
-use Rattle.std.proofs.Common.{◌≡◌, ℕ, Bool, true, false, List, [], ◌∷◌, Option, Some, None, refl, sym, ◌∙◌}
+use Rattle.std.proofs.Common.{◌≡◌, ℕ, Bool, true, false, List, Option, Some, None, refl, sym, ◌∙◌}
 use Rattle.std.specs.Prelude.{MatchBool, ⊤}
 use Rattle.ped_session.specs.ped_tree.specs.Tree.{StmtTree, ProgramTree}
 use Rattle.ped_session.specs.ped_tree.specs.Numbering.{statement_with}
 use Rattle.ped_session.specs.ped_graph.specs.DependencePane.{IsDependencePaneOf}
 use Rattle.ped_session.specs.ped_transformations.specs.ped_script.specs.declared.items.Command.{Command}
-use Rattle.ped_session.specs.ped_transformations.specs.ped_script.specs.declared.items.Command.TheVariants.{Source, Deps, Show, Print, Advise, Replace, Insert, Delete, Interchange, Reverse, Skew, Strip, Peel, Distribute, Fuse, Expand, Privatise, Reduce, Parallel, Serial, Reject, Auto, Undo, Redo, Run, Races, Tested}
+use Rattle.ped_session.specs.ped_transformations.specs.ped_script.specs.declared.items.Command.TheVariants.{Source, Deps, Show, Calls, Print, Advise, Replace, Insert, Delete, Interchange, Reverse, Skew, Strip, Peel, Distribute, Fuse, Inline, Expand, Privatise, Reduce, Parallel, Serial, Reject, Auto, Undo, Redo, Run, Races, Tested}
 use Rattle.ped_session.specs.declared.replies.Refusal.{Refusal}
 use Rattle.ped_session.specs.declared.replies.Refusal.TheVariants.{NoSuchLine}
 use Rattle.ped_session.specs.declared.replies.Reply.{Reply}
@@ -55,6 +55,7 @@ does_other Source d s next reply h = shows Source _ s next reply h
 does_other (Deps None) d s next reply h = shows (Deps None) _ s next reply h
 does_other (Deps (Some number)) d s next reply h = shows_of (Deps (Some number)) (λ t. IsDependencePaneOf t (Some number)) (statement_with number h.tree) s next reply h.shows
 does_other Show d s next reply h = shows Show _ s next reply h
+does_other Calls d s next reply h = shows Calls _ s next reply h
 does_other Print d s next reply h = prints Print _ s next reply h
 does_other (Replace first last lines) d s next reply h = edits (Replace first last lines) (are_lines s.present first last) _ _ _ s next reply h
 does_other (Insert after lines) d s next reply h = edits (Insert after lines) (is_place s.present after) _ _ _ s next reply h
@@ -71,6 +72,7 @@ does_other (Strip number size) d s next reply h = absurd h
 does_other (Peel number last) d s next reply h = absurd h
 does_other (Distribute number) d s next reply h = absurd h
 does_other (Fuse number) d s next reply h = absurd h
+does_other (Inline number) d s next reply h = absurd h
 does_other (Expand number name) d s next reply h = absurd h
 does_other (Privatise number name) d s next reply h = absurd h
 does_other (Reduce number names) d s next reply h = absurd h

@@ -13,9 +13,11 @@ use Rattle.ped_valid.proofs.OneVerdict.{one_of_both}
 use Rattle.ped_session.specs.ped_graph.specs.DependencePane.{IsDependencePane, IsDependencePaneOf}
 use Rattle.ped_session.specs.ped_graph.proofs.OnePane.{one_pane, one_pane_of}
 use Rattle.ped_session.specs.ped_graph.specs.Update.Fresh.{tested_pairs}
+use Rattle.ped_transformations.specs.ped_inline.specs.CallsPane.{IsCallsPane}
+use Rattle.ped_transformations.specs.ped_inline.proofs.OnePane.{one_pane_of_calls}
 use Rattle.ped_transformations.specs.ped_reindex.specs.ped_loops.specs.ped_scalar.specs.ped_rules.specs.ped_loop_runs.specs.ped_bodies.specs.ped_steps.specs.Causes.{Cause}
 use Rattle.ped_session.specs.ped_transformations.specs.ped_script.specs.declared.items.Command.{Command}
-use Rattle.ped_session.specs.ped_transformations.specs.ped_script.specs.declared.items.Command.TheVariants.{Source, Deps, Show, Print, Advise, Replace, Insert, Delete, Interchange, Reverse, Skew, Strip, Peel, Distribute, Fuse, Expand, Privatise, Reduce, Parallel, Serial, Reject, Auto, Undo, Redo, Run, Races, Tested}
+use Rattle.ped_session.specs.ped_transformations.specs.ped_script.specs.declared.items.Command.TheVariants.{Source, Deps, Show, Calls, Print, Advise, Replace, Insert, Delete, Interchange, Reverse, Skew, Strip, Peel, Distribute, Fuse, Inline, Expand, Privatise, Reduce, Parallel, Serial, Reject, Auto, Undo, Redo, Run, Races, Tested}
 use Rattle.ped_session.specs.declared.changes.Change.TheVariants.{Edit}
 use Rattle.ped_session.specs.declared.replies.Refusal.{Refusal}
 use Rattle.ped_session.specs.declared.replies.Refusal.TheVariants.{BadEdit, Step, NothingToUndo, NothingToRedo, NoSuchStatement, NoSuchLine}
@@ -157,6 +159,7 @@ one_other Source d s m n p q a b = one_shows IsSourcePane one_source_pane s p q 
 one_other (Deps None) d s m n p q a b = one_shows IsDependencePane one_pane s p q m n a b
 one_other (Deps (Some number)) d s m n p q a b = one_statement (λ t. IsDependencePaneOf t (Some number)) (λ t. one_pane_of t (Some number)) number s p q m n a b
 one_other Show d s m n p q a b = one_shows ArePanes one_panes s p q m n a b
+one_other Calls d s m n p q a b = one_shows IsCallsPane one_pane_of_calls s p q m n a b
 one_other Print d s m n p q a b = (a.0 ∙ sym b.0, a.1 ∙ sym b.1)
 one_other (Replace first last lines) d s m n p q a b = one_edit_by (are_lines s.present first last) _ _ _ s p q m n a b
 one_other (Insert after lines) d s m n p q a b = one_edit_by (is_place s.present after) _ _ _ s p q m n a b
@@ -173,6 +176,7 @@ one_other (Strip number size) d s m n p q a b = absurd a
 one_other (Peel number last) d s m n p q a b = absurd a
 one_other (Distribute number) d s m n p q a b = absurd a
 one_other (Fuse number) d s m n p q a b = absurd a
+one_other (Inline number) d s m n p q a b = absurd a
 one_other (Expand number name) d s m n p q a b = absurd a
 one_other (Privatise number name) d s m n p q a b = absurd a
 one_other (Reduce number names) d s m n p q a b = absurd a

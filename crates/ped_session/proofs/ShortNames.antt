@@ -1,5 +1,5 @@
 -- The scalars of a valid program have names that a script can write: a program of the profile has no other names.
-use Rattle.std.proofs.Common.{◌≡◌, ℕ, ◌+◌, ◌≤◌, Bool, true, false, not, ◌&&◌, ◌||◌, List, [], ◌∷◌, ◌++◌, map, length, leb, Option, Some, None, refl, sym, ap, ◌∙◌}
+use Rattle.std.proofs.Common.{◌≡◌, ℕ, ◌+◌, Bool, true, false, not, ◌&&◌, ◌||◌, List, [], ◌∷◌, ◌++◌, map, length, leb, Some, None, refl, ap, ◌∙◌}
 use Rattle.std.specs.Prelude.{if◌then◌else◌}
 use Rattle.std.specs.List.{list_all, flat_map}
 use Rattle.std.proofs.lemmas.Bool.{and_parts, and_from, leb-true}
@@ -19,9 +19,9 @@ use Rattle.ped_session.specs.ped_tree.specs.Grammar.Fits.{expr_fits, exprs_fit, 
 use Rattle.ped_valid.specs.ped_symbols.specs.declared.uses.Role.{Role}
 use Rattle.ped_valid.specs.ped_symbols.specs.declared.uses.Role.TheVariants.{Typed, Dimensioned, Named, Saved, Rejected, Private, Index, Assigned, Operand}
 use Rattle.ped_valid.specs.ped_symbols.specs.declared.uses.Use.{Use}
-use Rattle.ped_valid.specs.ped_symbols.specs.Uses.{used_as, expr_uses, exprs_uses, cond_uses, target_uses, item_uses, own_uses, bounds_uses, dimension_uses, type_uses, decl_uses}
+use Rattle.ped_valid.specs.ped_symbols.specs.Uses.{used_as, expr_uses, exprs_uses, cond_uses, target_uses, item_uses, own_uses, bounds_uses, dimension_uses, type_uses}
 use Rattle.ped_valid.specs.ped_symbols.specs.Sites.{Site, declaration, statement, private_names, private_site, stmt_sites, stmts_sites, decl_sites, program_sites, site_uses}
-use Rattle.ped_valid.specs.ped_symbols.specs.Kinds.{names_at, names_of, kind_of, kind_in}
+use Rattle.ped_valid.specs.ped_symbols.specs.Kinds.{names_at, names_of, kind_of}
 use Rattle.ped_valid.specs.ped_symbols.specs.RightUses.RightUses.{is_scalar_kind}
 use Rattle.ped_valid.specs.ped_symbols.specs.NameRefusals.{IsValid}
 use Rattle.ped_valid.specs.ped_symbols.proofs.RightUseLaws.Occurring.{first_among}

@@ -1,7 +1,7 @@
 -- Which commands take a step.
 use Rattle.std.proofs.Common.{◌≡◌, ℕ, List, Option, None, refl}
 use Rattle.ped_session.specs.ped_transformations.specs.ped_script.specs.declared.items.Command.{Command}
-use Rattle.ped_session.specs.ped_transformations.specs.ped_script.specs.declared.items.Command.TheVariants.{Source, Deps, Show, Print, Advise, Replace, Insert, Delete, Interchange, Reverse, Skew, Strip, Peel, Distribute, Fuse, Expand, Privatise, Reduce, Parallel, Serial, Reject, Auto, Undo, Redo, Run, Races, Tested}
+use Rattle.ped_session.specs.ped_transformations.specs.ped_script.specs.declared.items.Command.TheVariants.{Source, Deps, Show, Calls, Print, Advise, Replace, Insert, Delete, Interchange, Reverse, Skew, Strip, Peel, Distribute, Fuse, Inline, Expand, Privatise, Reduce, Parallel, Serial, Reject, Auto, Undo, Redo, Run, Races, Tested}
 use Rattle.ped_transformations.specs.Table.{step_of}
 use Rattle.ped_transformations.specs.CodeKinds.{IsPlace}
 
@@ -10,6 +10,7 @@ pub record IsNoOther (command : Command) : Type 0 where
   pub not_source : command ≡ Source → ⊥
   pub not_deps : (of : Option ℕ) → command ≡ Deps of → ⊥
   pub not_show : command ≡ Show → ⊥
+  pub not_calls : command ≡ Calls → ⊥
   pub not_print : command ≡ Print → ⊥
   pub not_advise : (number : ℕ) → command ≡ Advise number → ⊥
   pub not_replace : (first last : ℕ) (lines : List (List ℕ)) → command ≡ Replace first last lines → ⊥
@@ -27,6 +28,7 @@ pub takes_step : (command : Command) → IsNoOther command → IsPlace (step_of 
 takes_step Source is none = is.not_source refl
 takes_step (Deps of) is none = is.not_deps of refl
 takes_step Show is none = is.not_show refl
+takes_step Calls is none = is.not_calls refl
 takes_step Print is none = is.not_print refl
 takes_step (Advise number) is none = is.not_advise number refl
 takes_step (Replace first last lines) is none = is.not_replace first last lines refl
@@ -39,6 +41,7 @@ takes_step (Strip number size) is none = none
 takes_step (Peel number last) is none = none
 takes_step (Distribute number) is none = none
 takes_step (Fuse number) is none = none
+takes_step (Inline number) is none = none
 takes_step (Expand number name) is none = none
 takes_step (Privatise number name) is none = none
 takes_step (Reduce number names) is none = none

@@ -10,7 +10,7 @@ use Rattle.ped_valid.specs.Validity.{ReadsValid}
 use Rattle.ped_session.specs.ped_graph.specs.Update.Fresh.{tested_pairs}
 use Rattle.ped_transformations.specs.ped_reindex.specs.ped_loops.specs.ped_scalar.specs.ped_rules.specs.ped_loop_runs.specs.ped_bodies.specs.ped_steps.specs.declared.causes.Refused.{Refused}
 use Rattle.ped_transformations.specs.ped_reindex.specs.ped_loops.specs.ped_scalar.specs.ped_rules.specs.ped_loop_runs.specs.ped_bodies.specs.ped_steps.specs.declared.changes.Change as step
-use Rattle.ped_transformations.specs.ped_reindex.specs.ped_loops.specs.ped_scalar.specs.ped_rules.specs.ped_loop_runs.specs.ped_bodies.specs.ped_steps.specs.CodeCauses.{cause_of, IsShort}
+use Rattle.ped_transformations.specs.ped_reindex.specs.ped_loops.specs.ped_scalar.specs.ped_rules.specs.ped_loop_runs.specs.ped_bodies.specs.ped_steps.specs.CodeCauses.{cause_of}
 use Rattle.ped_transformations.specs.ped_reindex.specs.ped_loops.specs.ped_scalar.specs.ped_rules.specs.ped_loop_runs.specs.ped_bodies.specs.ped_steps.specs.Changes.{IsChange}
 use Rattle.ped_session.specs.declared.replies.Refusal.TheVariants.{NoSuchStatement}
 use Rattle.ped_session.specs.declared.replies.Reply.{Reply}

@@ -11,7 +11,7 @@ use Rattle.ped_session.specs.ped_graph.specs.DependencePane.{IsDependencePane, I
 use Rattle.ped_session.specs.ped_graph.specs.Update.Fresh.{tested_pairs}
 use Rattle.ped_transformations.specs.ped_reindex.specs.ped_loops.specs.ped_scalar.specs.ped_rules.specs.ped_loop_runs.specs.ped_bodies.specs.ped_steps.specs.Causes.{Cause}
 use Rattle.ped_session.specs.ped_transformations.specs.ped_script.specs.declared.items.Command.{Command}
-use Rattle.ped_session.specs.ped_transformations.specs.ped_script.specs.declared.items.Command.TheVariants.{Source, Deps, Show, Print, Advise, Replace, Insert, Delete, Undo, Redo, Run, Races, Tested}
+use Rattle.ped_session.specs.ped_transformations.specs.ped_script.specs.declared.items.Command.TheVariants.{Source, Deps, Show, Calls, Print, Advise, Replace, Insert, Delete, Undo, Redo, Run, Races, Tested}
 use Rattle.ped_session.specs.declared.changes.Change.{Change}
 use Rattle.ped_session.specs.declared.changes.Change.TheVariants.{Edit, Rejection, Transformation}
 use Rattle.ped_session.specs.declared.replies.Refusal.TheVariants.{BadEdit, Step, NothingToUndo, NothingToRedo, NoSuchStatement, NoSuchLine}
@@ -24,6 +24,7 @@ use Rattle.ped_session.specs.Panes.{IsSourcePane, ArePanes, tested_row}
 use Rattle.ped_session.specs.Blocks.{IsRunBlock}
 use Rattle.ped_session.specs.RaceRows.{IsRaceRow}
 use Rattle.ped_transformations.specs.ped_reindex.specs.ped_loops.specs.ped_scalar.specs.ped_rules.specs.Steps.{StepKind, transformation, rejection, StepAt, MatchStep}
+use Rattle.ped_transformations.specs.ped_inline.specs.CallsPane.{IsCallsPane}
 use Rattle.ped_transformations.specs.Table.{step_of}
 use Rattle.ped_transformations.specs.Advice.{IsAdvice}
 
@@ -98,6 +99,7 @@ IsOther Source data_bytes s reply next = Shows IsSourcePane s reply next
 IsOther (Deps None) data_bytes s reply next = Shows IsDependencePane s reply next
 IsOther (Deps (Some number)) data_bytes s reply next = ShowsStatement (λ t. IsDependencePaneOf t (Some number)) number s reply next
 IsOther Show data_bytes s reply next = Shows ArePanes s reply next
+IsOther Calls data_bytes s reply next = Shows IsCallsPane s reply next
 IsOther Print data_bytes s reply next = Prints s.present s reply next
 IsOther (Advise number) data_bytes s reply next = ShowsStatement (λ t. IsAdvice t number) number s reply next
 IsOther (Replace first last lines) data_bytes s reply next = Replaces first last lines s reply next

@@ -87,8 +87,9 @@ impl<L: Ledger> Session<L> {
         }
     }
 
-    /// A session on a valid program.
-    fn begin(alloc: Global, new: Opened, steps: &mut Steps<L>) -> Result<Session<L>, NoMemory>
+    /// A session on a valid program that is opened already. Its present source is the program's printed text, and each pair of
+    /// references is tested once. After want of memory no more pairs were tested.
+    pub fn begin(alloc: Global, new: Opened, steps: &mut Steps<L>) -> Result<Session<L>, NoMemory>
         requires valid { IsValid (program_tree new.program) }
         requires symbols { new.symbols ≡ table_of (program_tree new.program) }
         ensures opened { IfOk result (λ s. s ≡ opened (program_tree new.program)) }
@@ -210,6 +211,7 @@ impl<L: Ledger> Session<L> {
             Command::Source => return self.show_source(alloc),
             Command::Deps(of) => return self.show_dependences(alloc, *of),
             Command::Show => return self.show_both(alloc),
+            Command::Calls => return self.show_calls(alloc),
             Command::Print => return self.show_text(alloc),
             Command::Advise(number) => return self.show_advice(alloc, *number),
             Command::Replace { first, last, lines } => {

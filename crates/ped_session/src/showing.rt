@@ -3,6 +3,7 @@
 ghost use Rattle.std.specs.Prelude.{◌≡◌, IfOk, Option, Some, List, ℕ};
 ghost use Rattle.ped_session.specs.ped_graph.specs.DependencePane.{IsDependencePane, IsDependencePaneOf};
 ghost use Rattle.ped_transformations.specs.Advice.{IsAdvice};
+ghost use Rattle.ped_transformations.specs.ped_inline.specs.CallsPane.{IsCallsPane};
 ghost use Rattle.ped_session.specs.Panes.{IsSourcePane, ArePanes};
 ghost use Rattle.ped_session.specs.Panes as Panes;
 ghost use Rattle.ped_session.specs.Blocks.{IsRunBlock};
@@ -19,6 +20,7 @@ use crate::session::Session;
 use ped_order::races;
 use ped_print::source_pane;
 use ped_transformations::advice;
+use ped_transformations::ped_inline::calls_pane;
 use ped_transformations::ped_reindex::ped_loops::ped_scalar::ped_rules::ped_loop_runs::ped_bodies::ped_steps::Scene;
 use ped_transformations::ped_reindex::ped_loops::ped_scalar::ped_rules::ped_loop_runs::ped_bodies::ped_steps::ped_weaves::ped_laws::ped_flow::flow_of;
 use std::alloc::Global;
@@ -74,6 +76,21 @@ impl<L: Ledger> Session<L> {
         let dependences = self.graph.dependence_pane(alloc, None)?;
         panes.extend_from_slice(dependences.as_slice())?;
         Ok(Reply::Shown(panes))
+    }
+
+    /// The pane of calls.
+    pub(crate) fn show_calls(&self, alloc: Global) -> Result<Reply, NoMemory>
+        ensures { IfOk result (λ reply. Shows IsCallsPane self.now reply self.now) }
+    {
+        let present = &self.present;
+        let flow = flow_of(alloc, &present.program)?;
+        let scene = Scene {
+            tree: &present.program,
+            symbols: &present.symbols,
+            graph: &self.graph,
+            flow: &flow,
+        };
+        Ok(Reply::Shown(calls_pane(alloc, &scene)?))
     }
 
     /// The source lines alone.

@@ -1,4 +1,4 @@
--- Reading items with a comma between two, and items that end a text. Contracts of private functions alone speak of it.
+-- Reading items with a comma between two, and items that end a text (this project).
 use Rattle.std.specs.Prelude.{ℕ, zero, suc, List, [], ◌∷◌, length, codes, Option, Some, None, Bool, true, false, if◌then◌else◌}
 use Rattle.ped_expressions.specs.Scanning.{Answer, ◌>>=◌, go_on, after}
 

@@ -1,4 +1,4 @@
--- Reading the text of a statement from left to right. Contracts of private functions alone speak of it.
+-- Reading the text of a statement from left to right (this project).
 use Rattle.std.specs.Prelude.{ℕ, List, [], ◌∷◌, codes, Option, Some, None, Bool, true, false, ◌==◌, if◌then◌else◌}
 use Rattle.std.specs.List.{list_all}
 use Rattle.ped_base.specs.Letters.{is_letter, is_digit, is_alphanumeric}

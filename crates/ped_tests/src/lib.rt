@@ -15,3 +15,5 @@ mod matrices;
 mod references;
 #[cfg(test)]
 mod rows;
+#[cfg(test)]
+mod subroutines;

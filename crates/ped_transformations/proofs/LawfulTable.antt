@@ -2,7 +2,7 @@
 use Rattle.std.proofs.Common.{ℕ, ℤ, List, Bool}
 use Rattle.std.specs.Prelude.{⊤}
 use Rattle.ped_auto.specs.ped_script.specs.declared.items.Command.{Command}
-use Rattle.ped_auto.specs.ped_script.specs.declared.items.Command.TheVariants.{Source, Deps, Show, Print, Advise, Replace, Insert, Delete, Interchange, Reverse, Skew, Strip, Peel, Distribute, Fuse, Expand, Privatise, Reduce, Parallel, Serial, Reject, Auto, Undo, Redo, Run, Races, Tested}
+use Rattle.ped_auto.specs.ped_script.specs.declared.items.Command.TheVariants.{Source, Deps, Show, Calls, Print, Advise, Replace, Insert, Delete, Interchange, Reverse, Skew, Strip, Peel, Distribute, Fuse, Inline, Expand, Privatise, Reduce, Parallel, Serial, Reject, Auto, Undo, Redo, Run, Races, Tested}
 use Rattle.ped_auto.specs.ped_reduce.specs.ped_splits.specs.ped_reindex.specs.ped_loops.specs.ped_scalar.specs.ped_rules.specs.Steps.{StepAt, MatchStep}
 use Rattle.ped_auto.specs.ped_reduce.specs.ped_splits.specs.ped_reindex.specs.ped_loops.specs.ped_scalar.specs.ped_rules.specs.Lawful.{IsDetermined, IsLawful}
 use Rattle.ped_auto.specs.ped_reduce.specs.ped_splits.specs.ped_reindex.specs.ped_loops.specs.ped_scalar.proofs.LawfulSteps.{lawful_privatising, lawful_expanding}
@@ -20,6 +20,8 @@ use Rattle.ped_auto.specs.ped_reduce.specs.Reducing.{reducing}
 use Rattle.ped_auto.specs.ped_reduce.specs.ped_splits.specs.ped_reindex.specs.ped_loops.proofs.Determined.{determined_parallel, determined_serial, determined_reversal, determined_interchange, determined_rejection}
 use Rattle.ped_auto.specs.ped_reduce.specs.ped_splits.specs.ped_reindex.proofs.Determined.{determined_skew, determined_strip, determined_peel}
 use Rattle.ped_auto.specs.ped_reduce.specs.ped_splits.proofs.Determined.{determined_distribution, determined_fusion}
+use Rattle.ped_inline.specs.Inlining as step
+use Rattle.ped_inline.proofs.InlineLawful.{lawful_inline}
 use Rattle.ped_transformations.proofs.DeterminedReduction.{determined_reduction}
 use Rattle.ped_transformations.specs.Table.{step_of}
 
@@ -41,9 +43,11 @@ determined_step (Strip number size) = determined_strip number size
 determined_step (Peel number last) = determined_peel number last
 determined_step (Distribute number) = determined_distribution number
 determined_step (Fuse number) = determined_fusion number
+determined_step (Inline number) = determined_by _ (lawful_inline number)
 determined_step Source = tt
 determined_step (Deps of) = tt
 determined_step Show = tt
+determined_step Calls = tt
 determined_step Print = tt
 determined_step (Advise number) = tt
 determined_step (Replace first last lines) = tt
@@ -56,7 +60,7 @@ determined_step (Run choices) = tt
 determined_step Races = tt
 determined_step Tested = tt
 
--- the steps on loops, and reductions, are lawful
+-- the steps on loops, reductions, and blocks of CALLs are lawful
 pub record LoopsLawful : Type 0 where
   pub interchange : (s : ℕ) → IsLawful (interchanging s)
   pub reversal : (s : ℕ) → IsLawful (reversing s)
@@ -69,6 +73,7 @@ pub record LoopsLawful : Type 0 where
   pub distribution : (s : ℕ) → IsLawful (distributing s)
   pub fusion : (s : ℕ) → IsLawful (fusing s)
   pub reduction : (s : ℕ) (names : List (List ℕ)) → IsLawful (reducing s names)
+  pub inlining : (s : ℕ) → IsLawful (step.inlining s)
 
 -- each step of the table is lawful
 abbrev pub AllLawful : Type 0
@@ -88,9 +93,11 @@ lawful_step loops (Strip number size) = loops.strip number size
 lawful_step loops (Peel number last) = loops.peel number last
 lawful_step loops (Distribute number) = loops.distribution number
 lawful_step loops (Fuse number) = loops.fusion number
+lawful_step loops (Inline number) = loops.inlining number
 lawful_step loops Source = tt
 lawful_step loops (Deps of) = tt
 lawful_step loops Show = tt
+lawful_step loops Calls = tt
 lawful_step loops Print = tt
 lawful_step loops (Advise number) = tt
 lawful_step loops (Replace first last lines) = tt

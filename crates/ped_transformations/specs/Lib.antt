@@ -1,5 +1,6 @@
 pub use Rattle.ped_auto
 pub use Rattle.ped_auto.specs.ped_script
+pub use Rattle.ped_inline
 pub use Rattle.ped_auto.specs.ped_reduce
 pub use Rattle.ped_auto.specs.ped_reduce.specs.ped_splits.specs.ped_reindex
 pub mod Advice

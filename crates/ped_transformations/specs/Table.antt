@@ -1,6 +1,6 @@
 -- The one table of the steps: which one each command takes (ParaScope; this project).
 use Rattle.ped_auto.specs.ped_script.specs.declared.items.Command.{Command}
-use Rattle.ped_auto.specs.ped_script.specs.declared.items.Command.TheVariants.{Interchange, Reverse, Skew, Strip, Peel, Distribute, Fuse, Expand, Privatise, Reduce, Parallel, Serial, Reject}
+use Rattle.ped_auto.specs.ped_script.specs.declared.items.Command.TheVariants.{Interchange, Reverse, Skew, Strip, Peel, Distribute, Fuse, Inline, Expand, Privatise, Reduce, Parallel, Serial, Reject}
 use Rattle.ped_auto.specs.ped_reduce.specs.ped_splits.specs.ped_reindex.specs.ped_loops.specs.ped_scalar.specs.ped_rules.specs.Steps.{MaybeStep, no_step, some_step}
 use Rattle.ped_auto.specs.ped_reduce.specs.ped_splits.specs.ped_reindex.specs.ped_loops.specs.ped_scalar.specs.Privatising.{privatising}
 use Rattle.ped_auto.specs.ped_reduce.specs.ped_splits.specs.ped_reindex.specs.ped_loops.specs.ped_scalar.specs.Expanding.{expanding}
@@ -15,6 +15,7 @@ use Rattle.ped_auto.specs.ped_reduce.specs.ped_splits.specs.ped_reindex.specs.Pe
 use Rattle.ped_auto.specs.ped_reduce.specs.ped_splits.specs.Distributing.{distributing}
 use Rattle.ped_auto.specs.ped_reduce.specs.ped_splits.specs.Fusing.{fusing}
 use Rattle.ped_auto.specs.ped_reduce.specs.Reducing.{reducing}
+use Rattle.ped_inline.specs.Inlining.{inlining}
 
 -- the step that a command takes, where it takes one
 abbrev pub step_of : Command → MaybeStep
@@ -28,6 +29,7 @@ step_of (Strip number size) = some_step (stripping number size)
 step_of (Peel number last) = some_step (peeling number last)
 step_of (Distribute number) = some_step (distributing number)
 step_of (Fuse number) = some_step (fusing number)
+step_of (Inline number) = some_step (inlining number)
 step_of (Parallel number) = some_step (paralleling number)
 step_of (Serial number) = some_step (serialising number)
 step_of (Reject number name) = some_step (rejecting number name)

@@ -15,6 +15,7 @@ use ped_auto::ped_reduce::ped_splits::ped_reindex::{
 };
 use ped_auto::ped_reduce::ped_splits::{distribution_is_lawful, fusion_is_lawful};
 use ped_auto::ped_reduce::reduction_is_lawful;
+use ped_inline::inline_is_lawful;
 
 /// The step of each command is lawful, where it takes one: it has one first cause at most, makes one program, and where
 /// nothing forbids it there is one, which is valid; and a transformation of a program that may be trusted makes one that
@@ -33,4 +34,5 @@ pub fn every_step_is_lawful()
     distribution_is_lawful();
     fusion_is_lawful();
     reduction_is_lawful();
+    inline_is_lawful();
 }

@@ -12,4 +12,5 @@ pub use laws::every_step_is_lawful;
 pub use ped_auto;
 pub use ped_auto::ped_reduce;
 pub use ped_auto::ped_reduce::ped_splits::ped_reindex;
+pub use ped_inline;
 pub use table::{Kind, Place, answer, place_of};

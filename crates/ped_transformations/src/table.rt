@@ -19,6 +19,7 @@ use ped_auto::ped_reduce::ped_splits::{distribute, fuse};
 use ped_auto::ped_reduce::reduce;
 use ped_auto::ped_script::Command;
 use ped_base::NoMemory;
+use ped_inline::inline;
 use std::alloc::Global;
 use std::sync::ledger::Ledger;
 
@@ -55,6 +56,7 @@ pub fn place_of(command: &Command) -> Option<Place>
         Command::Peel { statement, last: _ } => Some(transformation(*statement)),
         Command::Distribute(number) => Some(transformation(*number)),
         Command::Fuse(number) => Some(transformation(*number)),
+        Command::Inline(number) => Some(transformation(*number)),
         Command::Parallel(number) => Some(transformation(*number)),
         Command::Serial(number) => Some(transformation(*number)),
         Command::Reject(number, _) => Some(rejection(*number)),
@@ -108,6 +110,7 @@ pub fn answer<L: Ledger>(
         }
         Command::Distribute(number) => return Ok(Some(distribute(alloc, scene, *number)?)),
         Command::Fuse(number) => return Ok(Some(fuse(alloc, scene, *number)?)),
+        Command::Inline(number) => return Ok(Some(inline(alloc, scene, *number)?)),
         Command::Parallel(number) => return Ok(Some(make_parallel(alloc, scene, *number)?)),
         Command::Serial(number) => return Ok(Some(make_serial(alloc, scene, *number)?)),
         Command::Reject(number, name) => return Ok(Some(reject(alloc, scene, *number, name)?)),

@@ -18,7 +18,7 @@ use Rattle.ped_answer.specs.ped_session.specs.ped_transformations.specs.Table.{s
 use Rattle.ped_answer.specs.ped_session.proofs.AutoTries.{there, of_try}
 use Rattle.ped_answer.specs.ped_session.specs.ped_transformations.specs.ped_auto.specs.Strategy.{Report, IsAuto}
 use Rattle.ped_answer.specs.ped_session.specs.ped_transformations.specs.ped_script.specs.declared.items.Command.{Command}
-use Rattle.ped_answer.specs.ped_session.specs.ped_transformations.specs.ped_script.specs.declared.items.Command.TheVariants.{Source, Deps, Show, Print, Advise, Replace, Insert, Delete, Interchange, Reverse, Skew, Strip, Peel, Distribute, Fuse, Expand, Privatise, Reduce, Parallel, Serial, Reject, Auto, Undo, Redo, Run, Races, Tested}
+use Rattle.ped_answer.specs.ped_session.specs.ped_transformations.specs.ped_script.specs.declared.items.Command.TheVariants.{Source, Deps, Show, Calls, Print, Advise, Replace, Insert, Delete, Interchange, Reverse, Skew, Strip, Peel, Distribute, Fuse, Inline, Expand, Privatise, Reduce, Parallel, Serial, Reject, Auto, Undo, Redo, Run, Races, Tested}
 use Rattle.ped_answer.specs.ped_session.specs.declared.replies.Refusal.TheVariants.{Step}
 use Rattle.ped_answer.specs.ped_session.specs.declared.replies.Reply.TheVariants.{Changed, Refused}
 use Rattle.ped_answer.specs.ped_session.specs.States.{Other, State, changed_to}
@@ -35,6 +35,7 @@ auto_or_other Auto = inl refl
 auto_or_other Source = inr (λ e. cc)
 auto_or_other (Deps of) = inr (λ e. cc)
 auto_or_other Show = inr (λ e. cc)
+auto_or_other Calls = inr (λ e. cc)
 auto_or_other Print = inr (λ e. cc)
 auto_or_other (Advise number) = inr (λ e. cc)
 auto_or_other (Replace first last lines) = inr (λ e. cc)
@@ -47,6 +48,7 @@ auto_or_other (Strip number size) = inr (λ e. cc)
 auto_or_other (Peel number last) = inr (λ e. cc)
 auto_or_other (Distribute number) = inr (λ e. cc)
 auto_or_other (Fuse number) = inr (λ e. cc)
+auto_or_other (Inline number) = inr (λ e. cc)
 auto_or_other (Expand number name) = inr (λ e. cc)
 auto_or_other (Privatise number name) = inr (λ e. cc)
 auto_or_other (Reduce number names) = inr (λ e. cc)

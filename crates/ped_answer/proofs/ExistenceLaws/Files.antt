@@ -4,6 +4,9 @@ use Rattle.std.specs.Prelude.{MatchOption, MatchBool, nat_lt}
 use Rattle.ped_answer.specs.ped_io.specs.Outside.{Contents, content}
 use Rattle.ped_answer.specs.ped_session.specs.ped_valid.specs.Verdicts.{HasOneValidTree, HasOneFirstRefusal}
 use Rattle.ped_answer.specs.ped_session.specs.ped_valid.proofs.OneVerdict.{one_of_both}
+use Rattle.ped_call_runs.specs.ped_calls.specs.Verdicts.{found_in_text}
+use Rattle.ped_call_runs.specs.ped_calls.specs.Laws.{HasOneExpansion, HasOneUnitRefusal}
+use Rattle.ped_call_runs.specs.ped_calls.proofs.OneVerdict as units
 use Rattle.ped_answer.specs.ped_session.specs.ped_transformations.specs.ped_script.specs.Items.{commands_of}
 use Rattle.ped_answer.proofs.ExistenceLaws.Replying.{SomeOutcome, panes, answers_of_script}
 use Rattle.ped_answer.proofs.ExistenceLaws.Reporting.{some_report}
@@ -21,10 +24,10 @@ HasSome answers = (s : Status) × (bytes : List ℕ) × answers s bytes
 
 -- something is shown of a text
 some_shown : (text : List ℕ) → HasSome (IsShown text)
-some_shown text = by (one_of_both text)
+some_shown text = by (units.one_of_both text)
   where
-    by : HasOneValidTree text ⊎ HasOneFirstRefusal text → HasSome (IsShown text)
-    by (inl h) = let bytes = panes h.tree in (Done, bytes.0, (h.tree, h.reads, bytes.1))
+    by : HasOneExpansion text ⊎ HasOneUnitRefusal text → HasSome (IsShown text)
+    by (inl h) = let bytes = panes h.tree in (Done, bytes.0, (h.tree, h.expands, bytes.1))
     by (inr h) = (ProgramRefused, refused_line h.first, (h.first, h.refuses, refl))
 
 -- a session has an answer: its status tells whether a line was refused
@@ -33,12 +36,12 @@ said_by text script data_bytes false bytes a = (Done, bytes, a)
 said_by text script data_bytes true bytes a = (SomeRefused, bytes, a)
 
 some_session : SomeOutcome → (text script data_bytes : List ℕ) → HasSome (IsSession text script data_bytes)
-some_session comes text script data_bytes = by (one_of_both text)
+some_session comes text script data_bytes = by (units.one_of_both text)
   where
-    by : HasOneValidTree text ⊎ HasOneFirstRefusal text → HasSome (IsSession text script data_bytes)
+    by : HasOneExpansion text ⊎ HasOneUnitRefusal text → HasSome (IsSession text script data_bytes)
     by (inl h) =
-        let (said, last, answers) = answers_of_script comes h.tree h.reads.valid (commands_of script) data_bytes in
-        said_by text script data_bytes said.refused said.bytes (record { tree = h.tree; reads = h.reads; said = said; last = last; answers = answers; says = refl; some = refl })
+        let (said, last, answers) = answers_of_script comes h.tree h.expands.valid (commands_of script) data_bytes in
+        said_by text script data_bytes said.refused said.bytes (record { tree = h.tree; expands = h.expands; said = said; last = last; answers = answers; says = refl; some = refl })
     by (inr h) = (ProgramRefused, refused_line h.first, (h.first, h.refuses, refl))
 
 -- a program that is made has its report, or a refusal
@@ -47,7 +50,7 @@ some_generated comes n = by (one_of_both (program n))
   where
     by : HasOneValidTree (program n) ⊎ HasOneFirstRefusal (program n) → HasSome (IsGenerated n)
     by (inl h) = let report = some_report comes n h.tree h.reads.valid in (Done, report.0, (h.tree, h.reads, report.1))
-    by (inr h) = (ProgramRefused, refused_line h.first, (h.first, h.refuses, refl))
+    by (inr h) = (ProgramRefused, refused_line (found_in_text h.first), (h.first, h.refuses, refl))
 
 -- there is an answer to a file where there is one to its bytes, by whether they are too many
 some_by : (i : Input) (answers : Status → List ℕ → Type 0) → HasSome answers → (long : Bool) → HasSome (λ s b. MatchBool long (IsJust TooLong (too_long_line i) s b) (answers s b))

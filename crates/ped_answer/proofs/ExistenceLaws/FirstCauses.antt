@@ -5,7 +5,7 @@ use Rattle.ped_answer.specs.ped_session.specs.ped_tree.specs.Tree.{ProgramTree}
 use Rattle.ped_answer.specs.ped_session.specs.ped_symbols.specs.NameRefusals.{IsValid}
 use Rattle.ped_answer.specs.ped_session.specs.ped_transformations.specs.ped_reindex.specs.ped_loops.specs.ped_scalar.specs.ped_rules.specs.ped_loop_runs.specs.ped_bodies.specs.ped_steps.specs.Causes.{Cause}
 use Rattle.ped_answer.specs.ped_session.specs.ped_transformations.specs.ped_script.specs.declared.items.Command.{Command}
-use Rattle.ped_answer.specs.ped_session.specs.ped_transformations.specs.ped_script.specs.declared.items.Command.TheVariants.{Source, Deps, Show, Print, Advise, Replace, Insert, Delete, Interchange, Reverse, Skew, Strip, Peel, Distribute, Fuse, Expand, Privatise, Reduce, Parallel, Serial, Reject, Auto, Undo, Redo, Run, Races, Tested}
+use Rattle.ped_answer.specs.ped_session.specs.ped_transformations.specs.ped_script.specs.declared.items.Command.TheVariants.{Source, Deps, Show, Calls, Print, Advise, Replace, Insert, Delete, Interchange, Reverse, Skew, Strip, Peel, Distribute, Fuse, Inline, Expand, Privatise, Reduce, Parallel, Serial, Reject, Auto, Undo, Redo, Run, Races, Tested}
 use Rattle.ped_answer.specs.ped_session.specs.ped_transformations.specs.ped_reindex.specs.ped_loops.specs.ped_scalar.specs.ped_rules.specs.Steps.{StepAt, MaybeStep, no_step, some_step, MatchStep}
 use Rattle.ped_answer.specs.ped_session.specs.ped_transformations.specs.ped_reindex.specs.ped_loops.specs.ped_scalar.specs.ped_rules.specs.Lawful.{IsDetermined}
 use Rattle.ped_answer.specs.ped_session.specs.ped_transformations.specs.Table.{step_of}
@@ -17,6 +17,7 @@ use Rattle.ped_answer.proofs.ExistenceLaws.InterchangeCauses.{interchange_cause}
 use Rattle.ped_answer.proofs.ExistenceLaws.LoopCauses.{parallel_cause, serial_cause, reversal_cause, rejection_cause}
 use Rattle.ped_answer.proofs.ExistenceLaws.ScalarCauses.{privatising_cause, expanding_cause}
 use Rattle.ped_answer.proofs.ExistenceLaws.SumCauses.{reducing_cause}
+use Rattle.ped_answer.proofs.ExistenceLaws.BlockCauses.{inlining_cause}
 
 -- a step is forbidden by a first cause, or it makes a valid program
 abbrev pub Goes : StepAt → ProgramTree → Type 0
@@ -49,6 +50,7 @@ each_cause (Strip number size) = λ t. strip_cause t number size
 each_cause (Peel number last) = λ t. peel_cause t number last
 each_cause (Distribute number) = λ t. distribute_cause t number
 each_cause (Fuse number) = λ t. fuse_cause t number
+each_cause (Inline number) = λ t. inlining_cause t number
 each_cause (Reduce number names) = λ t. reducing_cause t number names
 each_cause (Parallel number) = λ t. parallel_cause t number
 each_cause (Serial number) = λ t. serial_cause t number
@@ -61,6 +63,7 @@ each_cause (Delete first last) = tt
 each_cause (Run choices) = tt
 each_cause Source = tt
 each_cause Show = tt
+each_cause Calls = tt
 each_cause Print = tt
 each_cause Auto = tt
 each_cause Undo = tt

@@ -15,8 +15,9 @@ use Rattle.ped_answer.specs.ped_session.specs.ped_valid.proofs.OneVerdict.{one_o
 use Rattle.ped_answer.specs.ped_session.specs.ped_order.specs.ped_eval.specs.Outcomes.{Outcome}
 use Rattle.ped_answer.specs.ped_session.specs.ped_order.specs.ped_interleavings.specs.Interleavings.{Standing, at_start, IsInterleavedFrom}
 use Rattle.ped_answer.specs.ped_session.specs.ped_order.proofs.OneReport.{one_at_least}
+use Rattle.ped_answer.specs.ped_session.specs.ped_transformations.specs.ped_inline.specs.CallsPane.{IsCallsPane}
 use Rattle.ped_answer.specs.ped_session.specs.ped_transformations.specs.ped_script.specs.declared.items.Command.{Command}
-use Rattle.ped_answer.specs.ped_session.specs.ped_transformations.specs.ped_script.specs.declared.items.Command.TheVariants.{Source, Deps, Show, Print, Advise, Replace, Insert, Delete, Interchange, Reverse, Skew, Strip, Peel, Distribute, Fuse, Expand, Privatise, Reduce, Parallel, Serial, Reject, Auto, Undo, Redo, Run, Races, Tested}
+use Rattle.ped_answer.specs.ped_session.specs.ped_transformations.specs.ped_script.specs.declared.items.Command.TheVariants.{Source, Deps, Show, Calls, Print, Advise, Replace, Insert, Delete, Interchange, Reverse, Skew, Strip, Peel, Distribute, Fuse, Inline, Expand, Privatise, Reduce, Parallel, Serial, Reject, Auto, Undo, Redo, Run, Races, Tested}
 use Rattle.ped_answer.specs.ped_session.specs.ped_transformations.specs.ped_script.specs.declared.items.Item.{Item}
 use Rattle.ped_answer.specs.ped_session.specs.declared.changes.Change.TheVariants.{Edit}
 use Rattle.ped_answer.specs.ped_session.specs.declared.replies.Refusal.{Refusal}
@@ -38,7 +39,7 @@ use Rattle.ped_answer.specs.ped_session.specs.Scripts.{Said, said_by, bad_comman
 use Rattle.ped_answer.specs.ped_session.specs.AutoAnswers.{auto_text}
 use Rattle.ped_answer.proofs.ExistenceLaws.Advices.{advice_of}
 use Rattle.ped_answer.proofs.ExistenceLaws.Autos.{auto_or_other, some_auto}
-use Rattle.ped_answer.proofs.ExistenceLaws.Edges.{pane_of_program, pane_of_statement}
+use Rattle.ped_answer.proofs.ExistenceLaws.Edges.{pane_of_program, calls_pane_of_program, pane_of_statement}
 use Rattle.ped_answer.proofs.ExistenceLaws.FirstCauses.{Goes, each_goes}
 use Rattle.ped_answer.proofs.ExistenceLaws.Lowerings.{some_lowered}
 use Rattle.ped_answer.proofs.ExistenceLaws.Refusing.{refusal_for}
@@ -171,6 +172,7 @@ module _ (comes : SomeOutcome) (s : State) (all : ArePrinted s) where
   others (Deps None) other d = shows IsDependencePane pane_of_program
   others (Deps (Some number)) other d = shows_statement (λ t. IsDependencePaneOf t (Some number)) (λ t. pane_of_statement t (Some number)) number
   others Show other d = shows ArePanes panes
+  others Calls other d = shows IsCallsPane calls_pane_of_program
   others Print other d = record { reply = Shown s.present; next = s; is = (refl, refl); printed = all }
   others (Replace first last lines) other d = edits_where (are_lines s.present first last) (first - 1) (last + 1 - first) (spliced s.present (first - 1) (last + 1 - first) lines)
   others (Insert after lines) other d = edits_where (is_place s.present after) after 0 (spliced s.present after 0 lines)
@@ -187,6 +189,7 @@ module _ (comes : SomeOutcome) (s : State) (all : ArePrinted s) where
   others (Peel number last) other d = tt
   others (Distribute number) other d = tt
   others (Fuse number) other d = tt
+  others (Inline number) other d = tt
   others (Expand number name) other d = tt
   others (Privatise number name) other d = tt
   others (Reduce number names) other d = tt

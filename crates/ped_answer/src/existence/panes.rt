@@ -5,6 +5,7 @@ ghost use Rattle.ped_answer.specs.ped_session.specs.ped_tree.specs.Tree.{Program
 ghost use Rattle.ped_answer.specs.ped_session.specs.ped_graph.specs.ped_edges.specs.Edges.{Edge};
 ghost use Rattle.ped_answer.specs.ped_session.specs.ped_graph.specs.Dependences.{AreEdges};
 ghost use Rattle.ped_answer.specs.ped_session.specs.ped_graph.specs.DependencePane.{IsDependencePane, IsDependencePaneOf};
+ghost use Rattle.ped_answer.specs.ped_session.specs.ped_transformations.specs.ped_inline.specs.CallsPane.{IsCallsPane};
 
 /// Each program has its dependences: each pair of its references has the vectors of its view.
 pub fn dependences_exist()
@@ -19,4 +20,9 @@ pub fn dependence_pane_exists()
 /// Each program has a dependence pane of each of its statements, too.
 pub fn dependence_pane_of_exists()
     ensures { (t : ProgramTree) (of : Option ℕ) → (pane : List ℕ) × IsDependencePaneOf t of pane }
+{}
+
+/// Each program has a pane of calls. That it has no second one says `one_calls_pane` of ped_inline.
+pub fn calls_pane_exists()
+    ensures { (t : ProgramTree) → (pane : List ℕ) × IsCallsPane t pane }
 {}

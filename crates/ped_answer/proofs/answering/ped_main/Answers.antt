@@ -74,6 +74,11 @@ returns-in-Ok-clause-runs g c = λ files told before taken whole.
     let o = written g c files told before taken whole in
     (o.0, o.1, c.runs_are_as_before.ensures _ files c.serve.result o.0 whole o.2)
 
+pub returns-in-Ok-clause-units : goal.returns-in-Ok-clause-units
+returns-in-Ok-clause-units g c = λ files told before taken whole.
+    let o = written g c files told before taken whole in
+    (o.0, o.1, c.units_run_as_expanded.ensures _ files c.serve.result o.0 whole o.2)
+
 pub returns-in-Ok-clause-causes : goal.returns-in-Ok-clause-causes
 returns-in-Ok-clause-causes g c = λ files told before taken whole.
     let o = written g c files told before taken whole in

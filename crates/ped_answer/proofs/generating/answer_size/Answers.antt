@@ -7,6 +7,7 @@ use Rattle.ped_session.specs.ped_valid.specs.Refusals.{IsRefusalOf}
 use Rattle.ped_session.specs.ped_valid.specs.Validity.{ReadsValid, RefusesText}
 use Rattle.ped_session.specs.States.{opened}
 use Rattle.ped_answer.specs.declared.answering.Status.TheVariants.{ProgramRefused}
+use Rattle.ped_call_runs.specs.ped_calls.specs.Verdicts.{found_in_text}
 use Rattle.ped_answer.specs.Refusals.{refused_line}
 use Rattle.ped_answer.specs.Answer.{IsJust}
 use Rattle.ped_answer.specs.Generated.{IsGenerated}
@@ -35,17 +36,17 @@ returns-in-Ok-open-clause-untested g c = λ untested. absurd (is_report_tested c
 
 pub returns-in-Err-At-clause-answer : goal.returns-in-Err-At-clause-answer
 returns-in-Err-At-clause-answer g c = λ before told.
-    let o = c.is_refused.ensures.answer before told in
+    let o = c.is_refused_text.ensures.answer before told in
     let size = c.args.size in
     let f = finding_of c.in-Err-At.refusal in
     let refused = subst (λ (text : List ℕ). RefusesText text f) (c.as_slice.ensures ∙ c.in-Ok.ensures) (subst (IsRefusalOf c.as_slice.result.now) c.in-Err-At.field-0-is c.in-Err-At.ensures.refused) in
-    (o.0, o.1, outcome_weaker (IsJust ProgramRefused (refused_line f)) (IsGenerated size) (refusal_generated size f refused) _ o.0 c.is_refused.result o.2)
+    (o.0, o.1, outcome_weaker (IsJust ProgramRefused (refused_line (found_in_text f))) (IsGenerated size) (refusal_generated size f refused) _ o.0 c.is_refused_text.result o.2)
 
 pub returns-in-Err-At-clause-tests : goal.returns-in-Err-At-clause-tests
 returns-in-Err-At-clause-tests g c = λ n tests.
     let still = c.in-Err-At.ensures.untested (λ e. let f = sym c.in-Err-At.field-0-is ∙ e in cc) in
     let before = c.args.steps.now in
-    subst (λ (after : ℕ). Ticks c.is_refused.result before after n) (sym still) (idle_writing c.is_refused.result ProgramRefused before n (λ e. cc) (λ e. cc) c.is_refused.ensures.ends)
+    subst (λ (after : ℕ). Ticks c.is_refused_text.result before after n) (sym still) (idle_writing c.is_refused_text.result ProgramRefused before n (λ e. cc) (λ e. cc) c.is_refused_text.ensures.ends)
 
 pub returns-in-Ok-clause-tests : goal.returns-in-Ok-clause-tests
 returns-in-Ok-clause-tests g c =

@@ -1,7 +1,6 @@
 use Rattle.std.proofs.Common.{subst}
 use Rattle.ped_session.specs.ped_tree.specs.Views.{program_tree}
-use Rattle.ped_session.specs.ped_tree.specs.Grammar.RefusalViews.{finding_of}
-use Rattle.ped_session.specs.ped_valid.specs.Refusals.{IsRefusalOf}
+use Rattle.ped_call_runs.specs.ped_calls.specs.Views.{unit_finding_of, IsUnitRefusalOf}
 use Rattle.ped_answer.specs.declared.answering.Status.TheVariants.{Done, ProgramRefused}
 use Rattle.ped_answer.specs.Refusals.{refused_line}
 use Rattle.ped_answer.specs.Answer.{IsJust, IsShown, ShowsTree}
@@ -20,8 +19,8 @@ pub returns-in-Err-At-clause-answer : goal.returns-in-Err-At-clause-answer
 returns-in-Err-At-clause-answer g c = λ before told.
     let o = c.is_refused.ensures.answer before told in
     let text = c.args.text.now in
-    let f = finding_of c.in-Err-At.refusal in
-    (o.0, o.1, outcome_weaker (IsJust ProgramRefused (refused_line f)) (IsShown text) (refusal_shown text f (subst (IsRefusalOf text) c.in-Err-At.field-0-is c.in-Err-At.ensures.refused)) _ o.0 c.is_refused.result o.2)
+    let f = unit_finding_of c.in-Err-At.refusal in
+    (o.0, o.1, outcome_weaker (IsJust ProgramRefused (refused_line f)) (IsShown text) (refusal_shown text f (subst (IsUnitRefusalOf text) c.in-Err-At.field-0-is c.in-Err-At.ensures.refused)) _ o.0 c.is_refused.result o.2)
 
 pub returns-in-Ok-clause-tests : goal.returns-in-Ok-clause-tests
 returns-in-Ok-clause-tests g c = text_ticks c.args.text.now (program_tree c.in-Ok.opened.program) c.in-Ok.ensures.tree c.show_program.result _ _ c.show_program.ensures.tests

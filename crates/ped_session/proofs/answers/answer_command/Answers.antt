@@ -1,8 +1,5 @@
-use Rattle.std.proofs.Common.{◌≡◌, ◌⊎◌, inl, inr, ℕ, ◌+◌, ◌≤◌, List, Option, Some, refl, sym, subst, arith}
+use Rattle.std.proofs.Common.{inl, inr}
 use Rattle.std.proofs.lemmas.Result.{on_ok_weaker}
-use Rattle.ped_session.specs.ped_transformations.specs.ped_script.specs.declared.items.Command.{Command}
-use Rattle.ped_session.specs.States.{State}
-use Rattle.ped_session.specs.Scripts.{Said, AnswersReply, SaysAuto, AnswersCommand}
 use Rattle.ped_session.proofs.Answering.{adds_further}
 use Rattle.ped_session.proofs.OneAnswer.{not_auto}
 use Rattle.ped_session.proofs.answers.answer_command.Goals as goal

@@ -1,7 +1,6 @@
-use Rattle.std.proofs.Common.{◌≡◌, ◌∙◌, ℕ, List, [], map, ap}
+use Rattle.std.proofs.Common.{◌∙◌, List, [], map, ap}
 use Rattle.std.proofs.lemmas.Result.{IfOk-weaker}
 use Rattle.ped_session.specs.ped_refs.specs.Occurrences.{name_text}
-use Rattle.ped_session.specs.ped_refs.specs.declared.references.RefName.{RefName}
 use Rattle.ped_session.specs.ped_tree.specs.Names.Collecting.{with_names}
 use Rattle.ped_session.specs.ped_graph.specs.ped_edges.specs.Edges.{Edge}
 use Rattle.ped_session.specs.ped_graph.specs.ped_edges.specs.CodeEdges.{edge_of}

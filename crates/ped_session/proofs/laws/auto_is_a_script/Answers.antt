@@ -1,12 +1,7 @@
-use Rattle.std.proofs.Common.{◌≡◌, ℕ, List, sym, subst}
-use Rattle.std.specs.List.{AllByRecursion}
-use Rattle.ped_transformations.specs.ped_auto.specs.Strategy.{Report, IsAuto}
+use Rattle.std.proofs.Common.{List, sym, subst}
 use Rattle.ped_session.specs.ped_transformations.specs.ped_script.specs.declared.items.Item.{Item}
-use Rattle.ped_session.specs.ped_transformations.specs.ped_script.specs.Items.{commands_of}
-use Rattle.ped_session.specs.States.{State}
 use Rattle.ped_session.specs.Scripts.{AnswersItems}
-use Rattle.ped_session.specs.AutoEditing.{session_editing}
-use Rattle.ped_session.specs.AutoScripts.{script_of, items_on, all_accepted}
+use Rattle.ped_session.specs.AutoScripts.{items_on, all_accepted}
 use Rattle.ped_session.proofs.AutoRows.{script_again}
 use Rattle.ped_session.proofs.AutoScripts.{replayed}
 use Rattle.ped_session.proofs.AutoSteps.{auto_steps}

@@ -1,7 +1,7 @@
 use Rattle.std.proofs.lemmas.Result.{IfOk-weaker}
 use Rattle.ped_transformations.specs.Table.{step_of}
 use Rattle.ped_transformations.proofs.ByPlace.{with_none, from_none, some_then}
-use Rattle.ped_session.specs.Steps.{Transforms, IsOther}
+use Rattle.ped_session.specs.Steps.{Transforms}
 use Rattle.ped_session.proofs.session.Session.apply.Goals as goal
 
 pub returns-in-Some-clause-answers : goal.returns-in-Some-clause-answers

@@ -20,6 +20,7 @@ unreachable-requires g c =
       not_source = c.in_default.not-Source;
       not_deps = c.in_default.not-Deps;
       not_show = c.in_default.not-Show;
+      not_calls = c.in_default.not-Calls;
       not_print = c.in_default.not-Print;
       not_advise = c.in_default.not-Advise;
       not_replace = c.in_default.not-Replace;

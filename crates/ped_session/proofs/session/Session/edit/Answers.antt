@@ -1,4 +1,4 @@
-use Rattle.std.proofs.Common.{List, ap, sym, subst}
+use Rattle.std.proofs.Common.{ap, sym, subst}
 use Rattle.std.proofs.lemmas.Result.{IfOk-weaker}
 use Rattle.ped_session.specs.ped_tree.specs.Views.{program_tree}
 use Rattle.ped_valid.specs.ped_symbols.proofs.FewReferences.{few_statements}

@@ -1,0 +1,3 @@
+pub use Rattle.ped_calls
+pub use Rattle.ped_steps
+pub mod UnitRuns

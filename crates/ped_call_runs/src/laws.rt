@@ -1,0 +1,15 @@
+//! What runs of program units and of their expansion have in common.
+
+ghost use Rattle.std.specs.Prelude.{◌≡◌, ℕ, List};
+ghost use Rattle.ped_calls.specs.ped_valid.specs.ped_symbols.specs.NameRefusals.{IsValid};
+ghost use Rattle.ped_calls.specs.Units.{ProgramUnits};
+ghost use Rattle.ped_calls.specs.Expanding.{expansion};
+ghost use Rattle.ped_calls.specs.Verdicts.{ReadsLinkedUnits};
+ghost use Rattle.ped_steps.specs.ped_eval.specs.Outcomes.{Ends, outcome};
+ghost use Rattle.ped_call_runs.specs.UnitRuns.{run_units, outcome_of_units};
+
+/// Where the run of program units ends without a fault, the program that they expand to has the same outcome on the same
+/// data: it prints the same lines, and its live-out variables hold the same.
+pub fn expansions_run_alike()
+    ensures { (text : List ℕ) (us : ProgramUnits) (data_bytes : List ℕ) → ReadsLinkedUnits text us → IsValid (expansion us) → Ends (run_units us data_bytes).ending → outcome (expansion us) data_bytes ≡ outcome_of_units us data_bytes }
+{}

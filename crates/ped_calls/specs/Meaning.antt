@@ -1,0 +1,14 @@
+-- What stands for names, as the code keeps it. Contracts of private functions alone speak of it.
+use Rattle.std.specs.Prelude.{map}
+use Rattle.ped_tree.specs.Tree.{ExprTree, Head}
+use Rattle.ped_tree.specs.Views.{value_tree}
+use Rattle.ped_calls.specs.Expanding as plain
+use Rattle.ped_calls.specs.declared.replacing.Meanings.{Meanings}
+
+-- names with the plain trees of what stands for them
+abbrev pub meanings_of : Meanings → plain.Meanings
+meanings_of m = map value_tree m.exprs.entries
+
+-- a head with these bounds and this increment
+abbrev pub with_control : ExprTree → ExprTree → ExprTree → Head → Head
+with_control first last step h = record h { first = first; last = last; step = step }

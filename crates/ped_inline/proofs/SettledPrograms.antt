@@ -1,0 +1,127 @@
+-- A program whose front comments are among its declarations: they do nothing there, and it means the same.
+use Rattle.ped_base.specs.Lists.{is_among}
+use Rattle.ped_splits.specs.ped_reindex.specs.ped_loops.specs.ped_scalar.specs.ped_rules.specs.ped_loop_runs.specs.ped_bodies.specs.ped_steps.specs.Replacing.{followed}
+use Rattle.ped_splits.specs.ped_reindex.specs.ped_loops.specs.ped_scalar.specs.ped_rules.specs.ped_loop_runs.specs.ped_bodies.specs.ped_steps.specs.ped_laws.specs.ped_eval.specs.Outcomes.{bounds_of, setting_of}
+use Rattle.ped_splits.specs.ped_reindex.specs.ped_loops.specs.ped_scalar.specs.ped_rules.specs.ped_loop_runs.specs.ped_bodies.specs.ped_steps.specs.ped_laws.specs.ped_eval.specs.Runs.{run_all}
+use Rattle.ped_splits.specs.ped_reindex.specs.ped_loops.specs.ped_scalar.specs.ped_rules.specs.ped_loop_runs.specs.ped_bodies.specs.ped_steps.specs.ped_laws.specs.ped_eval.specs.Scopes.{Scope, Setting}
+use Rattle.ped_splits.specs.ped_reindex.specs.ped_loops.specs.ped_scalar.specs.ped_rules.specs.ped_loop_runs.specs.ped_bodies.specs.ped_steps.specs.ped_laws.specs.ped_store.specs.Stores.{Store}
+use Rattle.ped_splits.specs.ped_reindex.specs.ped_loops.specs.ped_scalar.specs.ped_rules.specs.ped_loop_runs.specs.ped_bodies.specs.ped_steps.specs.ped_symbols.specs.Kinds.{kind_among, kind_in, names_at}
+use Rattle.ped_splits.specs.ped_reindex.specs.ped_loops.specs.ped_scalar.specs.ped_rules.specs.ped_loop_runs.specs.ped_bodies.specs.ped_steps.specs.ped_symbols.specs.NameRefusals.{at_first, behind_sites}
+use Rattle.ped_splits.specs.ped_reindex.specs.ped_loops.specs.ped_scalar.specs.ped_rules.specs.ped_loop_runs.specs.ped_bodies.specs.ped_steps.specs.ped_symbols.specs.Sites.{Site, decl_sites, program_sites, stmt_sites, stmts_sites}
+use Rattle.ped_splits.specs.ped_reindex.specs.ped_loops.specs.ped_scalar.specs.ped_rules.specs.ped_loop_runs.specs.ped_bodies.specs.ped_steps.specs.ped_symbols.specs.declared.symbols.Kind.{Kind}
+use Rattle.ped_splits.specs.ped_reindex.specs.Settling.{behind_comments, front_comments, settled}
+use Rattle.ped_tree.specs.Accesses.{constant_names, constants_in}
+use Rattle.ped_tree.specs.NamesIn.{first_occurrences, saved_in}
+use Rattle.ped_tree.specs.Numbering.{statements_count}
+use Rattle.ped_tree.specs.Tree.{Assign, Comment, DeclTree, Do, If, Print, ProgramTree, Read, StmtTree, StmtTrees, Stop, more_stmts, no_stmts}
+use Rattle.std.proofs.Common.{List, None, Option, Some, [], ap, append-nil, arith, if◌then◌else◌, refl, sym, ℕ, ◌++◌, ◌+◌, ◌∙◌, ◌∷◌, ◌≡◌}
+use Rattle.std.proofs.lemmas.Grind.{flat_map-append}
+use Rattle.std.specs.List.{flat_map}
+
+-- the comments before the first statement that is none
+abbrev pub leading : StmtTrees → StmtTrees
+leading no_stmts = no_stmts
+leading (more_stmts (Comment text) rest) = more_stmts (Comment text) (leading rest)
+leading (more_stmts (Assign left right) rest) = no_stmts
+leading (more_stmts (If condition then_part else_part) rest) = no_stmts
+leading (more_stmts (Do h body) rest) = no_stmts
+leading (more_stmts (Print items) rest) = no_stmts
+leading (more_stmts (Read items) rest) = no_stmts
+leading (more_stmts Stop rest) = no_stmts
+
+pub leading_followed : (ss : StmtTrees) → followed (leading ss) (behind_comments ss) ≡ ss
+leading_followed no_stmts = refl
+leading_followed (more_stmts (Comment text) rest) = ap (more_stmts (Comment text)) (leading_followed rest)
+leading_followed (more_stmts (Assign left right) rest) = refl
+leading_followed (more_stmts (If condition then_part else_part) rest) = refl
+leading_followed (more_stmts (Do h body) rest) = refl
+leading_followed (more_stmts (Print items) rest) = refl
+leading_followed (more_stmts (Read items) rest) = refl
+leading_followed (more_stmts Stop rest) = refl
+
+pub leading_uncounted : (ss : StmtTrees) → statements_count (leading ss) ≡ 0
+leading_uncounted no_stmts = refl
+leading_uncounted (more_stmts (Comment text) rest) = let none = leading_uncounted rest in omega (arith, none)
+leading_uncounted (more_stmts (Assign left right) rest) = refl
+leading_uncounted (more_stmts (If condition then_part else_part) rest) = refl
+leading_uncounted (more_stmts (Do h body) rest) = refl
+leading_uncounted (more_stmts (Print items) rest) = refl
+leading_uncounted (more_stmts (Read items) rest) = refl
+leading_uncounted (more_stmts Stop rest) = refl
+
+-- what is told of a comment by nothing is told of statements without those at the front
+told_behind : {X : Type 0} (told : StmtTree → List X) (all : StmtTrees → List X) → ((s : StmtTree) (rest : StmtTrees) → all (more_stmts s rest) ≡ told s ++ all rest) → ((text : List ℕ) → told (Comment text) ≡ []) → (ss : StmtTrees) → all (behind_comments ss) ≡ all ss
+told_behind told all both none no_stmts = refl
+told_behind told all both none (more_stmts (Comment text) rest) = told_behind told all both none rest ∙ sym (both (Comment text) rest ∙ ap (λ (xs : List _). xs ++ all rest) (none text))
+told_behind told all both none (more_stmts (Assign left right) rest) = refl
+told_behind told all both none (more_stmts (If condition then_part else_part) rest) = refl
+told_behind told all both none (more_stmts (Do h body) rest) = refl
+told_behind told all both none (more_stmts (Print items) rest) = refl
+told_behind told all both none (more_stmts (Read items) rest) = refl
+told_behind told all both none (more_stmts Stop rest) = refl
+
+-- comments do nothing
+pub run_behind : (q : Setting) (ss : StmtTrees) (n : ℕ) (scope : Scope) (s : Store) → run_all q (behind_comments ss) n scope s ≡ run_all q ss n scope s
+run_behind q no_stmts n scope s = refl
+run_behind q (more_stmts (Comment text) rest) n scope s = run_behind q rest n scope s ∙ (let same : n ≡ n + 0 = omega arith in ap (λ (m : ℕ). run_all q rest m scope s) same)
+run_behind q (more_stmts (Assign left right) rest) n scope s = refl
+run_behind q (more_stmts (If condition then_part else_part) rest) n scope s = refl
+run_behind q (more_stmts (Do h body) rest) n scope s = refl
+run_behind q (more_stmts (Print items) rest) n scope s = refl
+run_behind q (more_stmts (Read items) rest) n scope s = refl
+run_behind q (more_stmts Stop rest) n scope s = refl
+
+-- among declarations they say nothing
+front_sites : (ss : StmtTrees) → flat_map decl_sites (front_comments ss) ≡ []
+front_sites no_stmts = refl
+front_sites (more_stmts (Comment text) rest) = front_sites rest
+front_sites (more_stmts (Assign left right) rest) = refl
+front_sites (more_stmts (If condition then_part else_part) rest) = refl
+front_sites (more_stmts (Do h body) rest) = refl
+front_sites (more_stmts (Print items) rest) = refl
+front_sites (more_stmts (Read items) rest) = refl
+front_sites (more_stmts Stop rest) = refl
+
+front_saved : (ss : StmtTrees) → flat_map saved_in (front_comments ss) ≡ []
+front_saved no_stmts = refl
+front_saved (more_stmts (Comment text) rest) = front_saved rest
+front_saved (more_stmts (Assign left right) rest) = refl
+front_saved (more_stmts (If condition then_part else_part) rest) = refl
+front_saved (more_stmts (Do h body) rest) = refl
+front_saved (more_stmts (Print items) rest) = refl
+front_saved (more_stmts (Read items) rest) = refl
+front_saved (more_stmts Stop rest) = refl
+
+front_constants : (ds : List DeclTree) (ss : StmtTrees) → constant_names (ds ++ front_comments ss) ≡ constant_names ds
+front_constants (d ∷ ds) ss = ap (λ (xs : List (List ℕ)). constants_in d ++ xs) (front_constants ds ss)
+front_constants [] no_stmts = refl
+front_constants [] (more_stmts (Comment text) rest) = front_constants [] rest
+front_constants [] (more_stmts (Assign left right) rest) = refl
+front_constants [] (more_stmts (If condition then_part else_part) rest) = refl
+front_constants [] (more_stmts (Do h body) rest) = refl
+front_constants [] (more_stmts (Print items) rest) = refl
+front_constants [] (more_stmts (Read items) rest) = refl
+front_constants [] (more_stmts Stop rest) = refl
+
+pub settled_constants : (r : ProgramTree) → constant_names (settled r).decls ≡ constant_names r.decls
+settled_constants r = front_constants r.decls r.body
+
+pub settled_saved : (r : ProgramTree) → flat_map saved_in (settled r).decls ≡ flat_map saved_in r.decls
+settled_saved r = flat_map-append saved_in r.decls (front_comments r.body) ∙ ap (λ (xs : List (List ℕ)). flat_map saved_in r.decls ++ xs) (front_saved r.body) ∙ append-nil (flat_map saved_in r.decls)
+
+settled_sites : (r : ProgramTree) → program_sites (settled r) ≡ program_sites r
+settled_sites r =
+    (λ i. decl_side i ++ told_behind stmt_sites stmts_sites (λ s rest. refl) (λ text. refl) r.body i)
+  where
+    decl_side : flat_map decl_sites (r.decls ++ front_comments r.body) ≡ flat_map decl_sites r.decls
+    decl_side = flat_map-append decl_sites r.decls (front_comments r.body) ∙ ap (λ (xs : List Site). flat_map decl_sites r.decls ++ xs) (front_sites r.body) ∙ append-nil (flat_map decl_sites r.decls)
+
+abbrev kind_at : List Site → List ℕ → Option Kind
+kind_at sites x = if is_among x (first_occurrences [] (names_at sites)) then Some (kind_among (behind_sites at_first sites).values (behind_sites at_first sites).arrays x) else None
+
+-- names stand for the same
+pub settled_kinds : (r : ProgramTree) (y : List ℕ) → kind_in (settled r) y ≡ kind_in r y
+settled_kinds r y = ap (λ (sites : List Site). kind_at sites y) (settled_sites r)
+
+pub settled_setting : (r : ProgramTree) → setting_of (settled r) ≡ setting_of r
+settled_setting r = ap (λ (sites : List Site). record { bounds = λ x. bounds_of (kind_at sites x); constants = (behind_sites at_first sites).values; number = λ n. n }) (settled_sites r)

@@ -1,0 +1,11 @@
+use Rattle.ped_tree.specs.Views.{program_tree}
+use Rattle.ped_splits.specs.ped_reindex.specs.ped_loops.specs.ped_scalar.specs.ped_rules.specs.ped_loop_runs.specs.ped_bodies.specs.ped_steps.specs.declared.rules.Rule.TheVariants.{NoCall}
+use Rattle.ped_inline.proofs.InlineRules.{no_call_first}
+use Rattle.ped_inline.proofs.InlineAnswers.{refused}
+use Rattle.ped_inline.proofs.inlining.inline.Goals as goal
+
+pub returns-in-None : goal.returns-in-None
+returns-in-None g c =
+    let t = program_tree c.args.scene.now.tree.now in
+    let s = c.args.number in
+    refused s t NoCall s c.against.result c.against.ensures (no_call_first s t c.in-None.ensures)

@@ -1,0 +1,21 @@
+use Rattle.std.proofs.Common.{ℕ, List, Option, IfOk, MatchOption, subst}
+use Rattle.ped_tree.specs.Tree.{ProgramTree}
+use Rattle.ped_tree.specs.Views.{program_tree}
+use Rattle.ped_splits.specs.ped_reindex.specs.ped_loops.specs.ped_scalar.specs.ped_rules.specs.ped_loop_runs.specs.ped_bodies.specs.ped_steps.specs.ped_symbols.specs.NameRefusals.{IsValid}
+use Rattle.ped_splits.specs.ped_reindex.specs.ped_loops.specs.ped_scalar.specs.ped_rules.specs.ped_loop_runs.specs.ped_bodies.specs.ped_steps.specs.Changes.{IsChange}
+use Rattle.ped_splits.specs.ped_reindex.specs.ped_loops.specs.ped_scalar.specs.ped_rules.specs.ped_loop_runs.specs.ped_bodies.specs.ped_steps.specs.declared.changes.Change.{Change}
+use Rattle.ped_splits.specs.ped_reindex.specs.ped_loops.specs.ped_scalar.specs.ped_rules.specs.ped_loop_runs.specs.ped_bodies.specs.ped_steps.proofs.Answering.{few_numbers}
+use Rattle.ped_inline.specs.Inlining.{inlined}
+use Rattle.ped_inline.proofs.inlining.inlined.Goals as goal
+
+pub with_body-requires-clause-few : goal.with_body-requires-clause-few
+with_body-requires-clause-few g c = few_numbers (program_tree c.args.scene.now.tree.now) c.requires.scene.valid
+
+pub inline_kept-requires : goal.inline_kept-requires
+inline_kept-requires g c = few_numbers (program_tree c.args.scene.now.tree.now) c.requires.scene.valid
+
+pub returns : goal.returns
+returns g c =
+    let u = inlined (program_tree c.args.scene.now.tree.now) c.args.number in
+    subst (λ (k : List (ℕ × ℕ)). IfOk c.change_to.result (λ (found : Option Change). MatchOption found (IsValid u → ⊥) (IsChange u k))) c.in_ok-keep.ensures
+    (subst (λ (v : ProgramTree). IfOk c.change_to.result (λ (found : Option Change). MatchOption found (IsValid v → ⊥) (IsChange v c.in_ok-keep.keep))) c.in_ok-tree.ensures.tree c.change_to.ensures)

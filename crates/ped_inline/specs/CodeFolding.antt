@@ -1,0 +1,34 @@
+-- Marked blocks, CALLs and rows as the code keeps them (this project).
+use Rattle.std.specs.Prelude.{ℕ, List, map, Option, Some, None}
+use Rattle.ped_splits.specs.ped_reindex.specs.ped_loops.specs.ped_scalar.specs.ped_rules.specs.ped_loop_runs.specs.ped_bodies.specs.ped_steps.specs.ped_refs.specs.Occurrences.{name_text}
+use Rattle.ped_splits.specs.ped_reindex.specs.ped_loops.specs.ped_scalar.specs.ped_rules.specs.ped_loop_runs.specs.ped_bodies.specs.ped_steps.specs.ped_laws.specs.ped_graph.specs.ped_edges.specs.CodeEdges.{kind_of}
+use Rattle.ped_inline.specs.Folding.{Block, Row}
+use Rattle.ped_inline.specs.CallsPane.{Called}
+use Rattle.ped_inline.specs.declared.block_places.Block as code_blocks
+use Rattle.ped_inline.specs.declared.called.Called as code_calls
+use Rattle.ped_inline.specs.declared.rows.FoldedRow.{FoldedRow}
+
+-- the marked block with this number, in so many DO loops (this project)
+abbrev pub numbered_block : (number loops : ℕ) → Block
+numbered_block number loops = record { number = number; loops = loops }
+
+-- the block that the code keeps (this project)
+abbrev pub block_seen : code_blocks.Block → Block
+block_seen b = numbered_block b.number b.loops
+
+-- the same, where there is one (this project)
+abbrev pub place_seen : Option code_blocks.Block → Option Block
+place_seen None = None
+place_seen (Some b) = Some (block_seen b)
+
+-- the blocks of statements that the code keeps (this project)
+abbrev pub places_seen : List (Option code_blocks.Block) → List (Option Block)
+places_seen places = map place_seen places
+
+-- the CALL that the code keeps (this project)
+abbrev pub called_seen : code_calls.Called → Called
+called_seen c = record { number = c.number; text = c.text.now }
+
+-- the row that the code keeps (this project)
+abbrev pub row_seen : FoldedRow → Row
+row_seen r = record { source = r.source; sink = r.sink; name = name_text r.name; kind = kind_of r.kind; level = r.level }

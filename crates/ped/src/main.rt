@@ -7,8 +7,8 @@ ghost use Rattle.std.specs.Prelude.{◌≡◌, ◌<◌};
 mod adapters;
 
 use crate::adapters::{DiskShelf, StdSink};
-use ped_answer::ped_verdict::Steps;
 use ped_answer::{Status, ped_main};
+use ped_verdict::Steps;
 use std::env::Env;
 use std::marker::Brand;
 use std::process::ExitCode;

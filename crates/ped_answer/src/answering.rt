@@ -20,13 +20,13 @@ use crate::headline::{
 use crate::sessions::answer_files;
 use crate::showing::show_file;
 use ped_io::{Shelf, Sink, SureShelf, SureSink};
-use ped_session::ped_verdict::Steps;
+use ped_verdict::Steps;
 use ped_words::{Request, WordsError, request};
 use std::alloc::Global;
 use std::sync::ledger::Ledger;
 
 /// How a call of the program ended. Its number is the exit status.
-#[derive(Clone, Copy, Debug, PartialEq, Eq)]
+#[derive(Clone, Copy, PartialEq, Eq)]
 pub enum Status {
     /// The answer was written whole.
     Done = 0,

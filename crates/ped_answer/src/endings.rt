@@ -5,7 +5,7 @@ ghost use Rattle.ped_session.specs.ped_order.specs.ped_eval.specs.Outcomes.{Ende
 ghost use Rattle.ped_session.specs.ped_order.specs.ped_eval.specs.OutcomeViews.{outcome_view, row_view};
 ghost use Rattle.ped_answer.specs.Generated.{EndAlike};
 
-use ped_session::ped_base::Bytes;
+use ped_base::Bytes;
 use ped_session::{LiveRow, Outcome};
 
 /// Whether both runs ended, with the same output and the same values of the live-out variables.

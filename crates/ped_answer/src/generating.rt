@@ -20,11 +20,11 @@ use crate::answering::Status;
 use crate::finishing::finish;
 use crate::refusals::is_refused_text;
 use crate::reporting::report;
+use ped_base::NoMemory;
 use ped_io::Sink;
-use ped_session::ped_base::NoMemory;
-use ped_session::ped_valid::OpenRefusal;
-use ped_session::ped_verdict::Steps;
 use ped_session::{Session, without_lists};
+use ped_valid::OpenRefusal;
+use ped_verdict::Steps;
 use std::alloc::Global;
 use std::sync::ledger::Ledger;
 

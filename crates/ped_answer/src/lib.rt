@@ -28,4 +28,3 @@ pub use headline::{
     auto_is_told, history_is_kept, panes_are_afresh, refusals_have_causes, runs_are_as_before,
     units_run_as_expanded,
 };
-pub use ped_session::ped_verdict;

@@ -8,8 +8,8 @@ ghost use Rattle.ped_answer.specs.Serving.{SaysUnread, unread_status};
 
 use crate::answering::Status;
 use crate::finishing::finish;
+use ped_base::{Bytes, NoMemory, push_number};
 use ped_io::{LoadError, Sink};
-use ped_session::ped_base::{Bytes, NoMemory, push_number};
 use std::alloc::Global;
 
 /// The most bytes that a program or a script may have.

@@ -7,12 +7,12 @@ ghost use Rattle.ped_session.specs.ped_symbols.specs.Kinds.{table_of};
 ghost use Rattle.ped_session.specs.ped_refs.specs.References.{references, pair_count};
 ghost use Rattle.ped_session.specs.Panes.{ArePanes};
 
-use ped_session::ped_base::{Bytes, NoMemory};
-use ped_session::ped_graph::Graph;
-use ped_session::ped_print::source_pane;
-use ped_session::ped_tree::Program;
-use ped_session::ped_tree::constants::Consts;
-use ped_session::ped_verdict::Steps;
+use ped_base::{Bytes, NoMemory};
+use ped_print::source_pane;
+use ped_session::Graph;
+use ped_tree::Program;
+use ped_tree::constants::Consts;
+use ped_verdict::Steps;
 use std::alloc::Global;
 use std::sync::ledger::Ledger;
 

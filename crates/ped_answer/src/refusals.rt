@@ -11,10 +11,10 @@ ghost use Rattle.ped_answer.specs.Refusals as Spec;
 
 use crate::answering::Status;
 use crate::finishing::finish;
-use ped_call_runs::ped_calls::{UnitFinding, UnitRule};
+use ped_base::{Bytes, NoMemory, push_number};
+use ped_call_runs::{UnitFinding, UnitRule};
 use ped_io::Sink;
-use ped_session::ped_base::{Bytes, NoMemory, push_number};
-use ped_session::ped_tree::grammar::Refusal;
+use ped_tree::grammar::Refusal;
 use std::alloc::Global;
 
 /// Says that the text of a program that was made is refused.

@@ -15,10 +15,10 @@ ghost use Rattle.ped_answer.specs.Tallies.{first_count, Counts, ReportsLast, Rep
 use crate::endings::end_alike;
 use crate::tallies::{Tally, apply_items};
 use itoa::Buffer;
-use ped_session::ped_base::{Bytes, NoMemory, push_number};
-use ped_session::ped_script::commands;
-use ped_session::ped_verdict::Steps;
+use ped_base::{Bytes, NoMemory, push_number};
+use ped_script::commands;
 use ped_session::{Outcome, Session, sources_are_printed};
+use ped_verdict::Steps;
 use std::alloc::Global;
 use std::sync::ledger::Ledger;
 

@@ -18,13 +18,13 @@ use crate::answering::Status;
 use crate::finishing::finish;
 use crate::loading::{DATA_LIMIT, SOURCE_LIMIT, say_unread};
 use crate::refusals::is_refused;
-use ped_call_runs::ped_calls::{UnitRefusal, expansion};
+use ped_base::NoMemory;
+use ped_call_runs::{UnitRefusal, expansion};
 use ped_io::{Shelf, Sink, load};
-use ped_session::ped_base::NoMemory;
-use ped_session::ped_script::commands;
-use ped_session::ped_valid::Opened;
-use ped_session::ped_verdict::Steps;
+use ped_script::commands;
 use ped_session::{Answered, Session, answer_items};
+use ped_valid::Opened;
+use ped_verdict::Steps;
 use std::alloc::Global;
 use std::sync::ledger::Ledger;
 

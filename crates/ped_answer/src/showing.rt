@@ -16,12 +16,12 @@ use crate::finishing::finish;
 use crate::loading::{SOURCE_LIMIT, say_unread};
 use crate::panes::panes;
 use crate::refusals::is_refused;
-use ped_call_runs::ped_calls::{UnitRefusal, expansion};
+use ped_base::NoMemory;
+use ped_call_runs::{UnitRefusal, expansion};
 use ped_io::{Shelf, Sink, load};
-use ped_session::ped_base::NoMemory;
-use ped_session::ped_tree::Program;
-use ped_session::ped_tree::constants::Consts;
-use ped_session::ped_verdict::Steps;
+use ped_tree::Program;
+use ped_tree::constants::Consts;
+use ped_verdict::Steps;
 use std::alloc::Global;
 use std::sync::ledger::Ledger;
 

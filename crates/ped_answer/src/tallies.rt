@@ -9,10 +9,10 @@ ghost use Rattle.ped_answer.specs.Generated as Spec;
 ghost use Rattle.ped_answer.specs.Generated.{AppliesCommand, Applies, tally_of, accepted_by, refused_by};
 ghost use Rattle.ped_answer.specs.Tallies.{IsNoAuto, counted, first_count, Counts};
 
-use ped_session::ped_base::NoMemory;
-use ped_session::ped_script::{Command, Item};
-use ped_session::ped_verdict::Steps;
+use ped_base::NoMemory;
+use ped_script::{Command, Item};
 use ped_session::{Reply, Session};
+use ped_verdict::Steps;
 use std::alloc::Global;
 use std::sync::ledger::Ledger;
 

@@ -11,10 +11,10 @@ ghost use Rattle.ped_auto.specs.CarriedNames.{AreCarried};
 ghost use Rattle.ped_auto.specs.Editing.{Editing, IsEditing, CanTry, Answers};
 
 use ped_base::{Name, NoMemory};
-use ped_reduce::ped_splits::ped_reindex::ped_loops::ped_scalar::ped_rules::ped_loop_runs::ped_bodies::ped_steps::Refused;
-use ped_reduce::ped_splits::ped_reindex::ped_loops::ped_scalar::ped_rules::ped_loop_runs::ped_bodies::ped_steps::ped_weaves::ped_laws::ped_graph::ped_refs::RefName;
-use ped_reduce::ped_splits::ped_reindex::ped_loops::ped_scalar::ped_rules::ped_loop_runs::ped_bodies::ped_steps::ped_weaves::ped_laws::ped_graph::ped_verdict::Steps;
+use ped_reduce::Refused;
+use ped_refs::RefName;
 use ped_script::Command;
+use ped_verdict::Steps;
 use std::alloc::Global;
 use std::sync::ledger::Ledger;
 

@@ -1,7 +1,7 @@
 //! What `auto` reports.
 
 use ped_base::Listed;
-use ped_reduce::ped_splits::ped_reindex::ped_loops::ped_scalar::ped_rules::ped_loop_runs::ped_bodies::ped_steps::Refused;
+use ped_reduce::Refused;
 use ped_script::Command;
 
 /// What `auto` has done, and what is left.

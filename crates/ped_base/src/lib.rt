@@ -12,5 +12,5 @@ mod numbers;
 pub use bounds::Bounds;
 pub use identifiers::{Name, Names, is_among};
 pub use listing::{Bytes, Listed};
-pub use memory::NoMemory;
+pub use memory::{NoMemory, both};
 pub use numbers::{push_number, push_signed};

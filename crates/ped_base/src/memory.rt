@@ -1,4 +1,6 @@
-//! Want of memory, the one error that any call which allocates may answer.
+//! Out of memory: the one error that any call which allocates may answer.
+
+ghost use Rattle.std.specs.Prelude.{◌≡◌, IfOk, Ok};
 
 use std::alloc::{AllocError, AllocFailed};
 use thiserror::Error;
@@ -17,5 +19,19 @@ impl From<AllocError> for NoMemory {
 impl<T: Drop> From<AllocFailed<T>> for NoMemory {
     fn from(_: AllocFailed<T>) -> Self {
         NoMemory
+    }
+}
+
+/// Two values, where the second one was made, too. Else the first is let go, and the answer is the error.
+///
+/// It is for a large value that is alive when a second one is asked for: `both(first, second)?` lets the first go
+/// by one call, where `let second = second?;` writes out all that its type may hold.
+pub fn both<A: Drop, B>(first: A, second: Result<B, NoMemory>) -> Result<(A, B), NoMemory>
+    ensures first { IfOk result (λ pair. pair.0 ≡ first) }
+    ensures second { IfOk result (λ pair. second ≡ Ok pair.1) }
+{
+    match second {
+        Ok(second) => Ok((first, second)),
+        Err(error) => Err(error),
     }
 }

@@ -15,7 +15,7 @@ use crate::placing::PlacedCall;
 use crate::refusals::{UnitFinding, UnitRule};
 use crate::scenes::Scene;
 use ped_base::{Bounds, Name, NoMemory, is_among};
-use ped_valid::ped_symbols::{Kind, Symbols};
+use ped_valid::{Kind, Symbols};
 use std::alloc::Global;
 
 /// The first of what is refused at CALLs for their arguments.

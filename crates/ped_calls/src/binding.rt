@@ -22,7 +22,7 @@ use crate::units::ProgramUnit;
 use ped_base::{Name, NoMemory};
 use ped_tree::constants::{Consts, constant};
 use ped_tree::{Expr, Stmt};
-use ped_valid::ped_symbols::Symbols;
+use ped_valid::Symbols;
 use std::alloc::Global;
 
 /// Has dummy arguments stand for what arguments are bound to, from left to right. Assignments of arguments to new names

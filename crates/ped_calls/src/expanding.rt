@@ -30,11 +30,11 @@ use ped_base::{Name, NoMemory};
 use ped_limits::{MOST_BLOCKS_NESTED, statement_count};
 use ped_tree::constants::Consts;
 use ped_tree::{Cond, Do, Expr, Stmt};
-use ped_valid::ped_symbols::Symbols;
+use ped_valid::Symbols;
 use std::alloc::{AllocFailed, Global};
 
 /// Why CALLs aren't expanded any further.
-#[derive(Clone, Copy, Debug, PartialEq, Eq)]
+#[derive(Clone, Copy, PartialEq, Eq)]
 pub enum Stopped {
     /// There would be too many statements, or too many blocks in one another.
     Past,

@@ -16,12 +16,10 @@ ghost use Rattle.ped_calls.specs.Views.{called_of, unit_item_of};
 
 use crate::items::{Called, UnitItem};
 use ped_base::{Names, NoMemory};
+use ped_expressions::{Failure, after, cond, expr, name_of, split_word};
+use ped_statements::read_statement;
 use ped_tree::Expr;
 use ped_tree::grammar::StatementReading;
-use ped_valid::ped_parse::ped_statements::ped_expressions::{
-    Failure, after, cond, expr, name_of, split_word,
-};
-use ped_valid::ped_parse::ped_statements::read_statement;
 use std::alloc::Global;
 
 /// What the text of a statement is, where a literal above 4294967295 is read as that number, as in `read_statement`.

@@ -11,7 +11,7 @@ use itoa::Buffer;
 use ped_base::{Bounds, Bytes, Name, NoMemory};
 use ped_tree::names::NameSet;
 use ped_tree::{Bound, Decl, Declarator, Expr};
-use ped_valid::ped_symbols::Kind;
+use ped_valid::Kind;
 use std::alloc::Global;
 
 /// The names that are taken, and the arrays that were given names.

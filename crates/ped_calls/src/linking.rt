@@ -22,7 +22,7 @@ use crate::units::ProgramUnit;
 use indexmap::IndexMap;
 use ped_base::{Name, NoMemory};
 use ped_tree::names::NameSet;
-use ped_valid::ped_symbols::Symbols;
+use ped_valid::Symbols;
 use std::alloc::Global;
 
 /// Looks whether the CALLs of units, the main program first, keep the rules 20 to 24, where their names stand for this.

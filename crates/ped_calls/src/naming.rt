@@ -22,7 +22,7 @@ use ped_base::{Listed, Name, Names, NoMemory};
 use ped_tree::grammar::Refusal;
 use ped_tree::names::NameSet;
 use ped_tree::{Cond, Decl, Declarator, Expr, Program, Relation, Stmt};
-use ped_valid::ped_symbols::{NameRefusal, Symbols, symbols_of};
+use ped_valid::{NameRefusal, Symbols, symbols_of};
 use std::alloc::Global;
 
 /// What the names of each unit stand for.

@@ -137,11 +137,7 @@ fn add_cond(names: &mut NameSet, c: &Cond) -> Result<(), NoMemory>
             add_expr(names, b)
         }
         Cond::Not(a) => add_cond(names, a),
-        Cond::And(a, b) => {
-            add_cond(names, a)?;
-            add_cond(names, b)
-        }
-        Cond::Or(a, b) => {
+        Cond::And(a, b) | Cond::Or(a, b) => {
             add_cond(names, a)?;
             add_cond(names, b)
         }
@@ -170,23 +166,7 @@ fn add_expr(names: &mut NameSet, e: &Expr) -> Result<(), NoMemory>
             add_exprs(names, subscripts)
         }
         Expr::Neg(a) => add_expr(names, a),
-        Expr::Add(a, b) => {
-            add_expr(names, a)?;
-            add_expr(names, b)
-        }
-        Expr::Sub(a, b) => {
-            add_expr(names, a)?;
-            add_expr(names, b)
-        }
-        Expr::Mul(a, b) => {
-            add_expr(names, a)?;
-            add_expr(names, b)
-        }
-        Expr::Div(a, b) => {
-            add_expr(names, a)?;
-            add_expr(names, b)
-        }
-        Expr::Pow(a, b) => {
+        Expr::Add(a, b) | Expr::Sub(a, b) | Expr::Mul(a, b) | Expr::Div(a, b) | Expr::Pow(a, b) => {
             add_expr(names, a)?;
             add_expr(names, b)
         }

@@ -37,8 +37,7 @@ use ped_print::print;
 use ped_tree::grammar::RefusalKind;
 use ped_tree::names::NameSet;
 use ped_tree::{Decl, Program, Stmt};
-use ped_valid::ped_symbols::{NameRefusal, Symbols, symbols_of};
-use ped_valid::{OpenRefusal, Opened, open_program};
+use ped_valid::{NameRefusal, OpenRefusal, Opened, Symbols, open_program, symbols_of};
 use std::alloc::Global;
 
 /// The printed text of the program that a file of program units expands to.

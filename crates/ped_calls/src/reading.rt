@@ -26,10 +26,10 @@ use crate::segments::{Segment, segments};
 use crate::unit_refusals::other_refusal;
 use crate::units::ProgramUnit;
 use ped_base::{Name, Names, NoMemory};
+use ped_blocks::program_of;
+use ped_lines::{LinesError, statements};
+use ped_refusals::{first_refusal, saved_names};
 use ped_tree::grammar::{NoteLine, Refusal, Statement, Statements, standing};
-use ped_valid::ped_parse::ped_blocks::program_of;
-use ped_valid::ped_parse::ped_lines::{LinesError, statements};
-use ped_valid::ped_parse::ped_refusals::{first_refusal, saved_names};
 use std::alloc::Global;
 
 /// A unit as its statements are read, with its first refusal.
@@ -182,7 +182,13 @@ fn read_unit(
 ) -> Result<ReadUnit, NoMemory>
     ensures { IfOk result (λ r. (all : PlainStatements) → all.lines ≡ lines → all.directives ≡ map note_of directives.now → IsReadUnit all (segment_of segment) r) }
 {
-    let other = other_refusal(alloc, &segment)?;
+    let other = match other_refusal(alloc, &segment) {
+        Ok(other) => other,
+        Err(error) => {
+            drop(segment);
+            return Err(error);
+        }
+    };
     let Segment { head, entries } = segment;
     let in_subroutine = is_headed(&head);
     let head = heading_of(alloc, head);

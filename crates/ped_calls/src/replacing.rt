@@ -1,6 +1,6 @@
 //! Expressions and heads of loops with what stands for each name. No sum is computed anew.
 
-ghost use Rattle.std.specs.Prelude.{◌≡◌, [], IfOk, OnOk, is_some, map, Ok};
+ghost use Rattle.std.specs.Prelude.{◌≡◌, [], IfOk, OnOk, is_some, map};
 ghost use Rattle.ped_tree.specs.Tree as Tree;
 ghost use Rattle.ped_tree.specs.Views.{expr_tree, pack_exprs, cond_tree, item_tree, stmt_tree, stmt_trees, do_tree, head_of};
 ghost use Rattle.ped_valid.specs.ped_symbols.specs.Entries.{entry_of, with_entry};
@@ -8,7 +8,7 @@ ghost use Rattle.ped_calls.specs.Expanding as Spec;
 ghost use Rattle.ped_calls.specs.Meaning.{meanings_of, with_control};
 
 use indexmap::IndexMap;
-use ped_base::{Listed, Name, Names, NoMemory};
+use ped_base::{Listed, Name, Names, NoMemory, both};
 use ped_tree::{Cond, Do, Expr, PrintItem, Relation, Stmt};
 use std::alloc::Global;
 
@@ -43,7 +43,7 @@ impl Meanings {
             drop(e);
             return Ok(());
         }
-        self.exprs.insert(*name, e)?;
+        drop(self.exprs.insert(*name, e)?);
         Ok(())
     }
 
@@ -128,17 +128,6 @@ pub fn all_replaced(alloc: Global, m: &Meanings, exprs: &[Expr]) -> Result<Vec<E
         all.push(replaced(alloc, m, e)?)?;
     }
     Ok(all)
-}
-
-/// Two values, where both are there; else the first is let go.
-fn both<T: Drop>(first: T, second: Result<T, NoMemory>) -> Result<(T, T), NoMemory>
-    ensures first { IfOk result (λ pair. pair.0 ≡ first) }
-    ensures second { IfOk result (λ pair. second ≡ Ok pair.1) }
-{
-    match second {
-        Ok(second) => Ok((first, second)),
-        Err(error) => Err(error),
-    }
 }
 
 /// A condition with what stands for each name.

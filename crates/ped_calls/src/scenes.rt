@@ -7,7 +7,7 @@ use crate::placing::Found;
 use crate::units::ProgramUnit;
 use indexmap::IndexMap;
 use ped_base::Name;
-use ped_valid::ped_symbols::Symbols;
+use ped_valid::Symbols;
 
 /// The units of a file with what their names stand for, the numbers of the subroutines, and the CALLs of each unit.
 #[derive(Clone, Copy)]

@@ -90,8 +90,8 @@ impl Seen {
                 return Err(error);
             }
         };
-        self.calls.push(call)?;
         self.entries.push(Entry { statement, reading })?;
+        self.calls.push(call)?;
         Ok(())
     }
 }

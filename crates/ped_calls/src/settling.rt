@@ -75,7 +75,9 @@ fn place(
         rest.push(statement)?;
         return Ok(());
     }
-    push_comment(alloc, decls, &statement)
+    let done = push_comment(alloc, decls, &statement);
+    drop(statement);
+    done
 }
 
 /// Adds a comment among statements to declarations.

@@ -71,23 +71,7 @@ fn add_names(names: &mut Vec<Name>, e: &Expr) -> Result<(), NoMemory>
             add_names_of_all(names, subscripts)
         }
         Expr::Neg(a) => add_names(names, a),
-        Expr::Add(a, b) => {
-            add_names(names, a)?;
-            add_names(names, b)
-        }
-        Expr::Sub(a, b) => {
-            add_names(names, a)?;
-            add_names(names, b)
-        }
-        Expr::Mul(a, b) => {
-            add_names(names, a)?;
-            add_names(names, b)
-        }
-        Expr::Div(a, b) => {
-            add_names(names, a)?;
-            add_names(names, b)
-        }
-        Expr::Pow(a, b) => {
+        Expr::Add(a, b) | Expr::Sub(a, b) | Expr::Mul(a, b) | Expr::Div(a, b) | Expr::Pow(a, b) => {
             add_names(names, a)?;
             add_names(names, b)
         }

@@ -65,7 +65,9 @@ fn passes_limit(alloc: Global, called: &Called) -> Result<bool, NoMemory>
     ensures { IfOk result (λ passes. passes ≡ Spec.call_passes_limit (Some (called_of called.now))) }
 {
     let statement = call_statement(alloc, called)?;
-    Ok(stmt_has_large_literal(&statement) || length(&statement) >= MOST_CHARACTERS)
+    let passes = stmt_has_large_literal(&statement) || length(&statement) >= MOST_CHARACTERS;
+    drop(statement);
+    Ok(passes)
 }
 
 /// The first of what was found and what is refused at the directives of a statement, none of which may stand there.

@@ -4,7 +4,7 @@ use ped_refs::RefName;
 use ped_verdict::Vector;
 
 /// How the two references of a dependence use what they name (Allen and Kennedy, section 2.2.1).
-#[derive(Clone, Copy, Debug, PartialEq, Eq)]
+#[derive(Clone, Copy, PartialEq, Eq)]
 pub enum Kind {
     /// A write, and then a read.
     Flow,
@@ -15,7 +15,7 @@ pub enum Kind {
 }
 
 /// What is known of a dependence (ParaScope).
-#[derive(Clone, Copy, Debug, PartialEq, Eq)]
+#[derive(Clone, Copy, PartialEq, Eq)]
 pub enum Mark {
     /// It is there.
     Proven,

@@ -36,6 +36,7 @@ pub use evaluation::{target_cell, truth_of, value_of};
 pub use exits::{leave_loop, write_exit};
 pub use notes::Notes;
 pub use outcomes::{LiveRow, Outcome};
+pub use ped_symbols::Symbols;
 pub use plans::{Plan, plan_of};
 pub use printing::{PrintError, line_of};
 pub use reading::take_items;

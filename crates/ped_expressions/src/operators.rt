@@ -14,7 +14,7 @@ use ped_tree::{Expr, Relation};
 use std::alloc::Global;
 
 /// What stands before the first term.
-#[derive(Clone, Copy, Debug, PartialEq, Eq)]
+#[derive(Clone, Copy, PartialEq, Eq)]
 pub enum Sign {
     /// Nothing.
     Unsigned,
@@ -25,7 +25,7 @@ pub enum Sign {
 }
 
 /// An operator between terms.
-#[derive(Clone, Copy, Debug, PartialEq, Eq)]
+#[derive(Clone, Copy, PartialEq, Eq)]
 pub enum Adding {
     /// `+`
     Add,
@@ -34,7 +34,7 @@ pub enum Adding {
 }
 
 /// An operator between factors.
-#[derive(Clone, Copy, Debug, PartialEq, Eq)]
+#[derive(Clone, Copy, PartialEq, Eq)]
 pub enum Scaling {
     /// `*`
     Multiply,

@@ -7,7 +7,7 @@ use ped_base::NoMemory;
 use std::alloc::AllocFailed;
 
 /// What a text is read as.
-#[derive(Debug, PartialEq, Eq, Drop)]
+#[derive(PartialEq, Eq, Drop)]
 pub enum Reading<T> {
     /// The text has this tree.
     Tree(T),
@@ -18,7 +18,7 @@ pub enum Reading<T> {
 }
 
 /// Why nothing is read at the front of a text.
-#[derive(Clone, Copy, Debug, PartialEq, Eq)]
+#[derive(Clone, Copy, PartialEq, Eq)]
 pub enum Failure {
     /// No form begins there, or it goes on in no way.
     NoForm,

@@ -2,9 +2,9 @@
 
 ghost use Rattle.std.specs.Prelude.{◌≤◌, IfSome};
 
-use ped_answer::ped_verdict::Steps;
 use ped_answer::{Status, answer_surely, ped_main};
 use ped_io::{Calls, Files, MemShelf, MemSink, SureShelf, SureSink};
+use ped_verdict::Steps;
 use std::alloc::Global;
 use std::sync::ledger::Ledger;
 

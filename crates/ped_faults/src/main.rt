@@ -10,7 +10,7 @@ mod files;
 
 use faults::{Ending, failing, surely};
 use files::files_of;
-use ped_answer::ped_verdict::Steps;
+use ped_verdict::Steps;
 use std::env::Env;
 use std::marker::Brand;
 use std::process::ExitCode;

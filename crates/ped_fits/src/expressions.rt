@@ -10,8 +10,7 @@ ghost use Rattle.ped_tree.specs.Grammar.Words as Words;
 use crate::comments::is_printable;
 use crate::names::name_fits;
 use ped_base::Name;
-use ped_limits::GREATEST_LITERAL;
-use ped_limits::ped_expressions::intrinsic_of;
+use ped_limits::{GREATEST_LITERAL, intrinsic_of};
 use ped_tree::{Cond, Expr, Intrinsic, PrintItem};
 
 /// Whether an expression can be written.

@@ -36,7 +36,7 @@ use ped_tree::{Do, Program, Stmt, count_statements};
 use std::alloc::Global;
 
 /// Who may read what a scalar holds.
-#[derive(Clone, Copy, Debug, PartialEq, Eq)]
+#[derive(Clone, Copy, PartialEq, Eq)]
 pub enum Reader {
     /// The first statement in text order that may read it, by its number.
     Statement(u32),

@@ -9,11 +9,11 @@ use std::alloc::Global;
 use std::marker::Model;
 
 /// There is no entry in the past.
-#[derive(Clone, Copy, Debug, PartialEq, Eq)]
+#[derive(Clone, Copy, PartialEq, Eq)]
 pub struct NothingToUndo;
 
 /// There is no entry in the future.
-#[derive(Clone, Copy, Debug, PartialEq, Eq)]
+#[derive(Clone, Copy, PartialEq, Eq)]
 pub struct NothingToRedo;
 
 /// Entries of the past and of the future. Contracts see both lists, and as `spare` how many entries

@@ -15,11 +15,7 @@ ghost use Rattle.ped_inline.specs.Inlining as Spec;
 use crate::blocks::block_at;
 use crate::settling::behind_comments;
 use ped_base::{Listed, NoMemory};
-use ped_splits::ped_reindex::ped_loops::ped_scalar::ped_rules::against;
-use ped_splits::ped_reindex::ped_loops::ped_scalar::ped_rules::ped_loop_runs::ped_bodies::ped_steps::ped_weaves::ped_laws::ped_graph::update::Keep;
-use ped_splits::ped_reindex::ped_loops::ped_scalar::ped_rules::ped_loop_runs::ped_bodies::ped_steps::{
-    Change, Refused, Rule, Scene, body_with, change_to, copy_decls,
-};
+use ped_splits::{Change, Keep, Refused, Rule, Scene, against, body_with, change_to, copy_decls};
 use ped_tree::{Program, Stmt, count_statements};
 use std::alloc::Global;
 use std::sync::ledger::Ledger;

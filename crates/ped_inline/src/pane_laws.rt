@@ -11,9 +11,7 @@ ghost use Rattle.ped_splits.specs.ped_reindex.specs.ped_loops.specs.ped_scalar.s
 ghost use Rattle.ped_inline.specs.CallsPane.{IsCallsPane};
 ghost use Rattle.ped_inline.specs.CoveredCalls.{is_in_block, AreInOneCall, IsCoveredFolded};
 
-use ped_splits::ped_reindex::ped_loops::ped_scalar::ped_rules::ped_loop_runs::ped_bodies::ped_steps::ped_weaves::ped_laws::conflicts::{
-    accesses_are_made, accesses_in_sequence, conflicts_are_covered,
-};
+use ped_splits::{accesses_are_made, accesses_in_sequence, conflicts_are_covered};
 
 /// Where two accesses of a run that references make conflict in one execution of a loop round both, and one of them is made
 /// in a marked block, but not both in one execution of one block, there is a folded dependence from the reference of the

@@ -15,10 +15,8 @@ ghost use Rattle.ped_inline.specs.RowOrders.{rows_total};
 
 use crate::block_places::{Block, block_at};
 use ped_base::NoMemory;
-use ped_splits::ped_reindex::ped_loops::ped_scalar::ped_rules::ped_loop_runs::ped_bodies::ped_steps::ped_weaves::ped_laws::ped_graph::ped_edges::{
-    Edge, Kind,
-};
-use ped_splits::ped_reindex::ped_loops::ped_scalar::ped_rules::ped_loop_runs::ped_bodies::ped_steps::ped_weaves::ped_laws::ped_graph::ped_refs::RefName;
+use ped_edges::{Edge, Kind};
+use ped_refs::RefName;
 use std::alloc::Global;
 use std::cmp::Ordering;
 use std::collections::BTreeSet;

@@ -6,4 +6,3 @@
 mod ends;
 
 pub use ends::{an_interleaving, lighter, one_interleaving};
-pub use ped_eval;

@@ -10,6 +10,6 @@ pub mod flow_runs;
 pub mod plain;
 pub mod runs;
 
-pub use ped_eval;
-pub use ped_flow;
-pub use ped_graph;
+pub use ped_flow::{Flow, Reader, flow_of, loop_at};
+pub use ped_graph::update::{Delta, Keep, swap, update};
+pub use ped_graph::{Graph, Kind, NameRefusal, PairKey, Prepared, Symbols, prepare, symbols_of};

@@ -17,5 +17,5 @@ pub use literals::{
     decl_has_large_literal, has_eight_dimensions, head_has_large_literal, stmt_has_large_literal,
 };
 pub use numbering::statement_count;
-pub use ped_expressions;
+pub use ped_expressions::intrinsic_of;
 pub use ped_print::{decl_length, length, private_length};

@@ -19,9 +19,7 @@ ghost use Rattle.ped_loop_runs.specs.ped_bodies.specs.ped_steps.specs.ped_laws.s
 ghost use Rattle.ped_loop_runs.specs.ped_bodies.specs.ped_steps.specs.Tidy.{is_written_in};
 ghost use Rattle.ped_loop_runs.specs.Carried.{MakeConflict, IsCoveredAt, IsCarriedInside, AreInTrips, IsCarriedByLoop, AreTrips, AllStoreWithin, NoneCarriedBy};
 
-use ped_bodies::ped_steps::ped_weaves::ped_laws::conflicts::{
-    accesses_are_made, accesses_in_sequence,
-};
+use ped_bodies::{accesses_are_made, accesses_in_sequence};
 
 /// Two references that make conflicting accesses: in two iterations of one loop, inside the same iterations of the loops
 /// round it, a dependence between them is carried by that loop, among the dependences of any pairs of which theirs is

@@ -6,9 +6,7 @@ ghost use Rattle.ped_loop_runs.specs.ped_bodies.specs.ped_steps.specs.ped_laws.s
 ghost use Rattle.ped_loop_runs.specs.ped_bodies.specs.ped_steps.specs.Runs.Meaning.{Keeps};
 ghost use Rattle.ped_loop_runs.specs.OneForOne.{IsOneForOne};
 
-use ped_bodies::ped_steps::ped_weaves::ped_laws::conflicts::{
-    accesses_are_made, accesses_in_sequence,
-};
+use ped_bodies::{accesses_are_made, accesses_in_sequence};
 
 /// A program keeps its meaning where a DO gives way to one with the same body and the same iterations, in the same order
 /// or from the last to the first, if it carries no dependence where their order changes or where it becomes a PARALLEL

@@ -67,15 +67,9 @@ module _ (g : Head) (inside : StmtTrees) where
   around_only head (more_stmts Stop rest) e = absurd (not_there e)
 
   -- the new loops of the code are those of the step
-  same_head : (k h : Head) (a b : StmtTrees) → Do k a ≡ Do h b → k ≡ h
-  same_head k h a b e = cc
-
-  same_statements : (k h : Head) (a b : StmtTrees) → Do k a ≡ Do h b → a ≡ b
-  same_statements k h a b e = cc
-
-  pub exchanged_by : (outer : Head) (body : StmtTrees) → only_loop body ≡ Some (found g inside) → (k : Head) (made : StmtTrees) → Do k made ≡ Do g (each_around (new_inner outer g) inside body)
-      → (first last : ExprTree) → first ≡ (new_outer outer g).first → last ≡ (new_outer outer g).last → alone (Do (record k { first = first; last = last }) made) ≡ with_exchanged outer body
-  exchanged_by outer body only k made is first last first_is last_is =
-      (λ i. alone (Do (record (same_head k g made (each_around (new_inner outer g) inside body) is i) { first = first_is i; last = last_is i }) (same_statements k g made (each_around (new_inner outer g) inside body) is i)))
+  pub exchanged_by : (outer : Head) (body : StmtTrees) → only_loop body ≡ Some (found g inside) → (made : StmtTrees) → made ≡ each_around (new_inner outer g) inside body
+      → (first last : ExprTree) → first ≡ (new_outer outer g).first → last ≡ (new_outer outer g).last → alone (Do (record g { first = first; last = last }) made) ≡ with_exchanged outer body
+  exchanged_by outer body only made is first last first_is last_is =
+      (λ i. alone (Do (record g { first = first_is i; last = last_is i }) (is i)))
       ∙ ap (λ (z : StmtTrees). alone (Do (new_outer outer g) z)) (around_only (new_inner outer g) body only)
       ∙ sym (ap (exchanged_loops outer body) only)

@@ -15,14 +15,10 @@ ghost use Rattle.ped_scalar.specs.ped_rules.specs.ped_loop_runs.specs.ped_bodies
 ghost use Rattle.ped_scalar.specs.ped_rules.specs.ped_loop_runs.specs.ped_bodies.specs.ped_steps.specs.ped_symbols.specs.Kinds.{table_of};
 ghost use Rattle.ped_loops.specs.CodePlain.{tree_at, values_at, IsPlaced, HasInterval, TellsPlain};
 
+use ped_affine::{Setting, assigned, interval, loop_variables};
 use ped_base::{Name, NoMemory};
-use ped_scalar::ped_rules::is_index;
-use ped_scalar::ped_rules::ped_loop_runs::ped_bodies::ped_steps::ped_weaves::ped_laws::ped_flow::Flow;
-use ped_scalar::ped_rules::ped_loop_runs::ped_bodies::ped_steps::ped_weaves::ped_laws::ped_graph::ped_affine::{
-    Setting, assigned, interval, loop_variables,
-};
-use ped_scalar::ped_rules::ped_loop_runs::ped_bodies::ped_steps::ped_weaves::ped_laws::ped_graph::ped_refs::Loop;
-use ped_scalar::ped_rules::ped_loop_runs::ped_bodies::ped_steps::{Scene, loop_at, loops_round};
+use ped_refs::Loop;
+use ped_scalar::{Flow, Scene, is_index, loop_at, loops_round};
 use ped_tree::constants::constant;
 use ped_tree::names::NameSet;
 use ped_tree::{Do, Expr, Intrinsic, Program};

@@ -11,9 +11,7 @@ ghost use Rattle.ped_scalar.specs.ped_rules.specs.ped_loop_runs.specs.ped_bodies
 ghost use Rattle.ped_loops.specs.Flags as Spec;
 
 use ped_base::NoMemory;
-use ped_scalar::ped_rules::ped_loop_runs::ped_bodies::ped_steps::{
-    Change, Scene, all_kept, change_to, program_with,
-};
+use ped_scalar::{Change, Scene, all_kept, change_to, program_with};
 use ped_tree::{Do, Program, Stmt};
 use std::alloc::Global;
 use std::sync::ledger::Ledger;

@@ -25,12 +25,10 @@ ghost use Rattle.ped_loops.specs.Shapes.{names_outer};
 use crate::bounds::are_plain;
 use crate::shapes::{Pair, exchanged, names_outer, pair_of};
 use ped_base::NoMemory;
-use ped_scalar::ped_rules::ped_loop_runs::ped_bodies::ped_steps::ped_weaves::ped_laws::ped_graph::ped_refs::Loop;
-use ped_scalar::ped_rules::ped_loop_runs::ped_bodies::ped_steps::{
-    Change, Refused, Rule, Scene, change_to, loop_at, loops_round, program_with,
-};
-use ped_scalar::ped_rules::{
-    against, all_but, escapes, first_crossing, has_step_one, leaves, only_loop,
+use ped_refs::Loop;
+use ped_scalar::{
+    Change, Refused, Rule, Scene, against, all_but, change_to, escapes, first_crossing,
+    has_step_one, leaves, loop_at, loops_round, only_loop, program_with,
 };
 use ped_tree::constants::Consts;
 use ped_tree::{Do, Program, Stmt};

@@ -8,11 +8,9 @@ ghost use Rattle.ped_loops.specs.Rejecting.{rejecting};
 ghost use Rattle.ped_loops.specs.Reversing.{reversing};
 ghost use Rattle.ped_loops.specs.Interchanging.{interchanging};
 
-use ped_scalar::ped_rules::ped_loop_runs::ped_bodies::ped_steps::ped_weaves::ped_laws::conflicts::{
-    accesses_are_made, accesses_in_sequence,
-};
-use ped_scalar::ped_rules::ped_loop_runs::{
-    indices_unwritten, none_rejected, one_for_one, private_names_cleared, stays_trusted,
+use ped_scalar::{
+    accesses_are_made, accesses_in_sequence, indices_unwritten, none_rejected, one_for_one,
+    private_names_cleared, stays_trusted,
 };
 
 /// `parallel` has one first cause at most and makes one program. Where nothing forbids it, that one is valid if the old one

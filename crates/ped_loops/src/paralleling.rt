@@ -13,10 +13,7 @@ ghost use Rattle.ped_loops.specs.Paralleling as Spec;
 
 use crate::flags::flagged;
 use ped_base::NoMemory;
-use ped_scalar::ped_rules::ped_loop_runs::ped_bodies::ped_steps::{
-    Change, Refused, Rule, Scene, loop_at,
-};
-use ped_scalar::ped_rules::{against, escapes, first_carried};
+use ped_scalar::{Change, Refused, Rule, Scene, against, escapes, first_carried, loop_at};
 use ped_tree::Do;
 use std::alloc::Global;
 use std::sync::ledger::Ledger;

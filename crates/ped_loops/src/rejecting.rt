@@ -18,14 +18,11 @@ ghost use Rattle.ped_scalar.specs.ped_rules.specs.ped_loop_runs.specs.ped_bodies
 ghost use Rattle.ped_loops.specs.Rejecting as Spec;
 
 use ped_base::{Name, NoMemory};
-use ped_scalar::ped_rules::ped_loop_runs::ped_bodies::ped_steps::ped_weaves::ped_laws::ped_graph::ped_edges::{
-    Edge, Mark,
+use ped_edges::{Edge, Mark};
+use ped_refs::RefName;
+use ped_scalar::{
+    Change, Refused, Rule, Scene, against, all_kept, change_to, level_at, loop_at, program_with,
 };
-use ped_scalar::ped_rules::ped_loop_runs::ped_bodies::ped_steps::ped_weaves::ped_laws::ped_graph::ped_refs::RefName;
-use ped_scalar::ped_rules::ped_loop_runs::ped_bodies::ped_steps::{
-    Change, Refused, Rule, Scene, all_kept, change_to, loop_at, program_with,
-};
-use ped_scalar::ped_rules::{against, level_at};
 use ped_tree::{Do, Program, Stmt};
 use std::alloc::Global;
 use std::sync::ledger::Ledger;
@@ -178,6 +175,11 @@ fn loop_with(alloc: Global, d: &Do, name: &Name) -> Result<Stmt, NoMemory>
     ensures { IfOk result (λ new. Replacing.alone (stmt_tree new) ≡ Spec.with_rejection name.now (head_of d.now) (stmt_trees d.now.body.items)) }
 {
     let mut new = d.copy(alloc)?;
-    new.rejected.push(*name)?;
-    Ok(Stmt::of_loop(new))
+    match new.rejected.push(*name) {
+        Ok(()) => Ok(Stmt::of_loop(new)),
+        Err(error) => {
+            drop(new);
+            Err(error)
+        }
+    }
 }

@@ -17,11 +17,11 @@ ghost use Rattle.ped_scalar.specs.ped_rules.specs.ped_loop_runs.specs.ped_bodies
 ghost use Rattle.ped_scalar.specs.ped_rules.specs.ped_loop_runs.specs.ped_bodies.specs.ped_steps.specs.ped_symbols.specs.NameRefusals.{IsValid};
 ghost use Rattle.ped_loops.specs.Reversing as Spec;
 
-use ped_base::NoMemory;
-use ped_scalar::ped_rules::ped_loop_runs::ped_bodies::ped_steps::{
-    Change, Refused, Rule, Scene, all_kept, change_to, loop_at, program_with,
+use ped_base::{NoMemory, both};
+use ped_scalar::{
+    Change, Refused, Rule, Scene, against, all_kept, change_to, escapes, first_carried, literal,
+    loop_at, program_with, unit_step,
 };
-use ped_scalar::ped_rules::{against, escapes, first_carried, literal, unit_step};
 use ped_tree::{Do, Program, Stmt};
 use std::alloc::Global;
 use std::sync::ledger::Ledger;
@@ -175,9 +175,9 @@ fn turned(alloc: Global, d: &Do, step: i64) -> Result<Stmt, NoMemory>
     requires { is_unit step ≡ true }
     ensures { IfOk result (λ new. stmt_tree new ≡ Tree.Do (record (head_of d.now) { first = (head_of d.now).last; last = (head_of d.now).first; step = literal step }) (stmt_trees d.now.body.items)) }
 {
-    let mut new = d.copy(alloc)?;
-    new.first = d.last.copy(alloc)?;
-    new.last = d.first.copy(alloc)?;
-    new.step = literal(alloc, step)?;
+    let first = d.last.copy(alloc)?;
+    let bounds = both(first, d.first.copy(alloc))?;
+    let ((first, last), step) = both(bounds, literal(alloc, step))?;
+    let new = d.with_header(first, last, step, alloc)?;
     Ok(Stmt::of_loop(new))
 }

@@ -9,10 +9,7 @@ ghost use Rattle.ped_loops.specs.Serialising as Spec;
 
 use crate::flags::flagged;
 use ped_base::NoMemory;
-use ped_scalar::ped_rules::ped_loop_runs::ped_bodies::ped_steps::{
-    Change, Refused, Rule, Scene, loop_at,
-};
-use ped_scalar::ped_rules::{against, escapes};
+use ped_scalar::{Change, Refused, Rule, Scene, against, escapes, loop_at};
 use ped_tree::Do;
 use std::alloc::Global;
 use std::sync::ledger::Ledger;

@@ -13,8 +13,8 @@ ghost use Rattle.ped_loops.specs.CodeShapes.{shape_in, outer_of, inner_of, HasSh
 ghost use Rattle.ped_loops.specs.CodeInterchanging.{one_around, each_around};
 ghost use Rattle.ped_loops.specs.Interchanging.{with_exchanged};
 
-use ped_base::{Name, NoMemory};
-use ped_scalar::ped_rules::ped_loop_runs::ped_bodies::ped_steps::ped_sums::{minus, plus};
+use ped_base::{Name, NoMemory, both};
+use ped_sums::{minus, plus};
 use ped_tree::{Do, Expr, Intrinsic, Stmt};
 use std::alloc::Global;
 
@@ -197,10 +197,23 @@ pub(crate) fn exchanged(alloc: Global, pair: &Pair) -> Result<Do, NoMemory>
     ensures { IfOk result (λ d. alone (do_tree d) ≡ with_exchanged (outer_of pair.now) (stmt_trees pair.now.outer.now.body.items)) }
 {
     let body = all_around(alloc, pair, &pair.outer.body)?;
-    let mut new = pair.inner.with_body(body, alloc)?;
-    new.first = outer_first(alloc, pair)?;
-    new.last = outer_last(alloc, pair)?;
-    Ok(new)
+    let first = outer_first(alloc, pair)?;
+    let (first, last) = both(first, outer_last(alloc, pair))?;
+    with_bounds(alloc, pair.inner, first, last, body)
+}
+
+/// A DO with these bounds and this body in place of its own.
+fn with_bounds(
+    alloc: Global,
+    d: &Do,
+    first: Expr,
+    last: Expr,
+    body: Vec<Stmt>,
+) -> Result<Do, NoMemory>
+    ensures { IfOk result (λ new. do_tree new ≡ Tree.Do (record (head_of d.now) { first = expr_tree first; last = expr_tree last }) (stmt_trees body.items)) }
+{
+    let ((first, last), step) = both((first, last), d.step.copy(alloc))?;
+    d.with_header_and_body(first, last, step, body, alloc)
 }
 
 /// The first bound of the new outer DO.
@@ -286,10 +299,9 @@ fn inside(alloc: Global, pair: &Pair) -> Result<Do, NoMemory>
     ensures { IfOk result (λ d. do_tree d ≡ Tree.Do (Spec.new_inner (outer_of pair.now) (inner_of pair.now)) (stmt_trees pair.now.inner.now.body.items)) }
 {
     let body = copies(alloc, &pair.inner.body)?;
-    let mut new = pair.outer.with_body(body, alloc)?;
-    new.first = inner_first(alloc, pair)?;
-    new.last = inner_last(alloc, pair)?;
-    Ok(new)
+    let first = inner_first(alloc, pair)?;
+    let (first, last) = both(first, inner_last(alloc, pair))?;
+    with_bounds(alloc, pair.outer, first, last, body)
 }
 
 /// Copies of statements.
@@ -366,21 +378,36 @@ fn asked_of(alloc: Global, shape: &Shape, x: &Name) -> Result<Option<Expr>, NoMe
     ensures { IfOk result (λ e. MatchOption e (Spec.asked_of (shape_in shape.now) x.now ≡ []) (λ e. Spec.asked_of (shape_in shape.now) x.now ≡ expr_tree e ∷ [])) }
 {
     let variable = Expr::scalar(*x);
+    let asked = asked_by(alloc, shape, x, &variable);
+    drop(variable);
+    asked
+}
+
+/// The same, where this is that variable as an expression.
+fn asked_by(
+    alloc: Global,
+    shape: &Shape,
+    x: &Name,
+    variable: &Expr,
+) -> Result<Option<Expr>, NoMemory>
+    requires { expr_tree variable.now ≡ Tree.Var x.now }
+    ensures { IfOk result (λ e. MatchOption e (Spec.asked_of (shape_in shape.now) x.now ≡ []) (λ e. Spec.asked_of (shape_in shape.now) x.now ≡ expr_tree e ∷ [])) }
+{
     match shape {
         Shape::Free => {
             return Ok(None);
         }
         Shape::Itself => {
-            return Ok(Some(variable));
+            return Ok(Some(Expr::scalar(*x)));
         }
         Shape::Sum(c) => {
-            return Ok(Some(minus(alloc, &variable, c)?));
+            return Ok(Some(minus(alloc, variable, c)?));
         }
         Shape::Difference(c) => {
-            return Ok(Some(plus(alloc, &variable, c)?));
+            return Ok(Some(plus(alloc, variable, c)?));
         }
         Shape::Turned(c) => {
-            return Ok(Some(minus(alloc, c, &variable)?));
+            return Ok(Some(minus(alloc, c, variable)?));
         }
     }
 }

@@ -16,9 +16,7 @@ ghost use Rattle.ped_machine.specs.Parts.{base_of, CanGo, is_comment, is_loop, p
 use crate::parts::{Part, Parts};
 use crate::steps::Done;
 use ped_base::NoMemory;
-use ped_interleavings::ped_eval::{
-    Notes, PrintError, State, Surroundings, assign, line_of, take_items, truth_of,
-};
+use ped_eval::{Notes, PrintError, State, Surroundings, assign, line_of, take_items, truth_of};
 use ped_store::RunFault;
 use ped_symbols::Symbols;
 use ped_tree::{Cond, Expr, PrintItem, Stmt, count_statements};

@@ -13,7 +13,7 @@ use crate::steps::Done;
 use crate::turns::{drop_copies, frame_of, open_copies};
 use crate::works::Work;
 use ped_base::{Name, NoMemory};
-use ped_interleavings::ped_eval::{Frame, Plan, Scope, State};
+use ped_eval::{Frame, Plan, Scope, State};
 use ped_symbols::Symbols;
 use ped_tree::Do;
 use std::alloc::Global;

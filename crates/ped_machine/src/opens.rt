@@ -22,7 +22,7 @@ use crate::parts::without_comments;
 use crate::steps::Done;
 use crate::works::Work;
 use ped_base::{Name, NoMemory};
-use ped_interleavings::ped_eval::{Plan, State};
+use ped_eval::{Plan, State};
 use ped_marks::{Mark, Marks};
 use ped_symbols::Symbols;
 use ped_tree::Do;

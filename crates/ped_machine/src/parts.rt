@@ -8,7 +8,7 @@ ghost use Rattle.ped_interleavings.specs.Lefts.{is_finished};
 ghost use Rattle.ped_machine.specs.Parts.{part_view, turn_view, parts_of, parts_left, advanced, counted, with_statements, with_next_turn, statements_behind, behind_first, begins_with_comment, first_turn, first_statements, has_some, first_number, first_count, is_comment, CanTurnOn, FirstGoesOn, IsFirstBlock, IsNext, IsSettled, IsSpent, IsWithoutComments};
 
 use ped_base::NoMemory;
-use ped_interleavings::ped_eval::Plan;
+use ped_eval::Plan;
 use ped_tree::{Do, Stmt, count_statement};
 use std::alloc::Global;
 

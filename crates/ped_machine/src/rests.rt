@@ -27,7 +27,7 @@ use crate::steps::Done;
 use crate::turns::{end_turn, enter_do};
 use crate::works::Work;
 use ped_base::NoMemory;
-use ped_interleavings::ped_eval::{NoWatch, Plan, RunError, State, plan_of, write_exit};
+use ped_eval::{NoWatch, Plan, RunError, State, plan_of, write_exit};
 use ped_marks::Marks;
 use ped_symbols::Symbols;
 use ped_tree::{Do, Stmt};

@@ -23,7 +23,7 @@ ghost use Rattle.ped_machine.specs.declared.steps.Done.TheVariants as done;
 use crate::parts::{Part, Parts, Turn};
 use crate::steps::Done;
 use ped_base::{Name, NoMemory};
-use ped_interleavings::ped_eval::{Frame, Plan, Scope, State, leave_loop};
+use ped_eval::{Frame, Plan, Scope, State, leave_loop};
 use ped_store::{Cell, Store};
 use ped_tree::{Do, copy_names};
 use std::alloc::Global;

@@ -18,7 +18,7 @@ ghost use Rattle.ped_machine.specs.Doing.{IsDone, IfOpen, IfSafe, HasRoom};
 
 use crate::steps::Done;
 use ped_base::{Name, NoMemory};
-use ped_interleavings::ped_eval::{Plan, State};
+use ped_eval::{Plan, State};
 use ped_symbols::Symbols;
 use ped_tree::Do;
 use std::alloc::Global;

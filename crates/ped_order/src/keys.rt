@@ -10,7 +10,7 @@ ghost use Rattle.ped_laws.specs.ped_eval.specs.AccessViews.{turn_view};
 ghost use Rattle.ped_order.specs.Keys.{cell_writes, iteration_of, key_of};
 
 use ped_base::{Name, NoMemory};
-use ped_laws::ped_eval::Turn;
+use ped_eval::Turn;
 use ped_store::{Cell, Iteration, PrivateCopy};
 use std::alloc::Global;
 use std::hash::{Hash, Hasher};

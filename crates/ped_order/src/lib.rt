@@ -17,7 +17,6 @@ mod watches;
 pub use agreeing::{interleavings_agree, without_choices};
 pub use laws::{no_race_where_race_free, one_report};
 pub use ped_interleavings::an_interleaving;
-pub use ped_laws::ped_eval;
-pub use ped_store;
+pub use ped_laws::{Delta, Graph, Keep, flow_of, swap, update};
 pub use reports::RaceReport;
 pub use searching::races;

@@ -14,9 +14,8 @@ ghost use Rattle.ped_order.specs.CarriedRaces.{IsCarried};
 use crate::reports::RaceReport;
 use crate::watches::{FoundRace, RaceWatch};
 use ped_base::NoMemory;
+use ped_eval::{Outcome, Symbols, run_watched};
 use ped_laws::conflicts::races_are_covered;
-use ped_laws::ped_eval::{Outcome, run_watched};
-use ped_laws::ped_graph::ped_symbols::Symbols;
 use ped_tree::Program;
 use std::alloc::Global;
 

@@ -14,7 +14,7 @@ use crate::keys::Key;
 use crate::sightings::{Entry, Sighting, earlier_of, rival_in, with_access};
 use indexmap::IndexMap;
 use ped_base::NoMemory;
-use ped_laws::ped_eval::{Access, Turn};
+use ped_eval::{Access, Turn};
 use std::alloc::Global;
 
 /// The accesses of a run without a race, by what later accesses ask for.

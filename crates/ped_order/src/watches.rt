@@ -5,7 +5,7 @@ ghost use Rattle.ped_order.specs.Saw.{Saw};
 
 use crate::tables::Table;
 use ped_base::NoMemory;
-use ped_laws::ped_eval::{Access, Watch};
+use ped_eval::{Access, Watch};
 use ped_store::Cell;
 use std::alloc::Global;
 

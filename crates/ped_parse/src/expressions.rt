@@ -7,7 +7,7 @@ ghost use Rattle.ped_tree.specs.Grammar.Literals as Literals;
 ghost use Rattle.ped_parse.specs.Refusals.{IsRefusalOfExpression};
 
 use crate::refusals::ReadRefusal;
-use ped_statements::ped_expressions::{Reading, read_expression};
+use ped_statements::{Reading, read_expression};
 use ped_tree::Expr;
 use ped_tree::grammar::{Refusal, RefusalKind};
 use std::alloc::Global;

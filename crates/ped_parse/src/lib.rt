@@ -8,9 +8,5 @@ mod refusals;
 
 pub use expressions::expression;
 pub use laws_of_reading::one_tree_or_one_refusal;
-pub use ped_blocks;
-pub use ped_lines;
-pub use ped_refusals;
-pub use ped_statements;
 pub use reading::read;
 pub use refusals::ReadRefusal;

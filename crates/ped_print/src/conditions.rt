@@ -11,7 +11,7 @@ use ped_base::{Bytes, NoMemory};
 use ped_tree::{Cond, Relation};
 
 /// Where a condition stands (ANSI X3.9-1978, section 6.4.2).
-#[derive(Clone, Copy, Debug, PartialEq, Eq)]
+#[derive(Clone, Copy, PartialEq, Eq)]
 pub enum Standing {
     /// As a whole, or as the left part of `.OR.`.
     Whole,

@@ -15,7 +15,7 @@ use std::alloc::Global;
 
 /// How many numbered statements begin on either side of some printed lines. A DO begins at its DO line, and a
 /// statement at its initial line.
-#[derive(Clone, Copy, Debug, PartialEq, Eq)]
+#[derive(Clone, Copy, PartialEq, Eq)]
 pub struct BegunStatements {
     /// How many begin before these lines.
     pub front: u32,

@@ -12,7 +12,7 @@ use ped_base::{Bytes, NoMemory, push_number};
 use ped_tree::{Expr, Intrinsic};
 
 /// Where an expression stands (ANSI X3.9-1978, section 6.1.2).
-#[derive(Clone, Copy, Debug, PartialEq, Eq)]
+#[derive(Clone, Copy, PartialEq, Eq)]
 pub enum Place {
     /// As a whole, or at the front of a sum.
     Alone,

@@ -12,12 +12,9 @@ ghost use Rattle.ped_reduce.specs.Reducing as Spec;
 
 use crate::referring::is_named;
 use ped_base::{Name, NoMemory};
-use ped_splits::ped_reindex::ped_loops::ped_scalar::ped_rules::level_at;
-use ped_splits::ped_reindex::ped_loops::ped_scalar::ped_rules::ped_loop_runs::ped_bodies::ped_steps::Scene;
-use ped_splits::ped_reindex::ped_loops::ped_scalar::ped_rules::ped_loop_runs::ped_bodies::ped_steps::ped_weaves::ped_laws::ped_graph::ped_edges::{
-    Edge, Mark,
-};
-use ped_splits::ped_reindex::ped_loops::ped_scalar::ped_rules::ped_loop_runs::ped_bodies::ped_steps::ped_weaves::ped_laws::ped_graph::ped_refs::RefName;
+use ped_edges::{Edge, Mark};
+use ped_refs::RefName;
+use ped_splits::{Scene, level_at};
 use std::alloc::Global;
 use std::sync::ledger::Ledger;
 

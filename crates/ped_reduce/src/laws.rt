@@ -12,10 +12,7 @@ ghost use Rattle.ped_reduce.specs.Lists.{has_list};
 ghost use Rattle.ped_reduce.specs.Lowering.{Lowered, not_lowered};
 ghost use Rattle.ped_reduce.specs.Reducing.{IsLowered, reducing};
 
-use ped_splits::ped_reindex::ped_loops::parallel_is_lawful;
-use ped_splits::ped_reindex::ped_loops::ped_scalar::ped_rules::ped_loop_runs::{
-    private_names_cleared, stays_trusted,
-};
+use ped_splits::{parallel_is_lawful, private_names_cleared, stays_trusted};
 
 /// `reduce` has one first cause at most and makes one program. Where nothing forbids it, that one is valid; and if the old one
 /// is tidy and without C$PED REJECT, so is the new one, and it means the same: the list is a comment (ParaScope).

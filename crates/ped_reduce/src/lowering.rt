@@ -21,11 +21,10 @@ use crate::partials::{Partials, declare, partials_of};
 use crate::rules::{early, late};
 use crate::summing::lowered_loop;
 use ped_base::{Name, NoMemory};
-use ped_splits::ped_reindex::ped_loops::ped_scalar::ped_rules::ped_loop_runs::ped_bodies::ped_steps::ped_weaves::ped_laws::ped_graph::ped_symbols::Symbols;
-use ped_splits::ped_reindex::ped_loops::ped_scalar::ped_rules::ped_loop_runs::ped_bodies::ped_steps::{
-    Scene, body_with, copy_decls, loop_at, loops_round, valid_symbols,
+use ped_splits::{
+    Course, Scene, Span, Symbols, body_with, copy_decls, course_of, loop_at, loops_round,
+    valid_symbols,
 };
-use ped_splits::ped_reindex::ped_loops::ped_scalar::ped_rules::{Course, Span, course_of};
 use ped_tree::{Do, Program, count_statements};
 use std::alloc::Global;
 use std::sync::ledger::Ledger;

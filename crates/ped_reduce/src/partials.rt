@@ -13,9 +13,8 @@ ghost use Rattle.ped_reduce.specs.Lowering as Spec;
 ghost use Rattle.ped_reduce.specs.CodeLowering.{partials_view, fresh_from};
 
 use itoa::Buffer;
-use ped_base::{Bytes, Name, NoMemory};
-use ped_splits::ped_reindex::ped_loops::ped_scalar::ped_rules::ped_loop_runs::ped_bodies::ped_steps::ped_weaves::ped_laws::ped_graph::ped_symbols::Symbols;
-use ped_splits::ped_reindex::ped_loops::ped_scalar::ped_rules::{Span, literal};
+use ped_base::{Bytes, Name, NoMemory, both};
+use ped_splits::{Span, Symbols, literal};
 use ped_tree::{Bound, Decl, Declarator, Program};
 use std::alloc::Global;
 
@@ -184,7 +183,7 @@ fn declaration(alloc: Global, array: Name, span: Span) -> Result<Decl, NoMemory>
     ensures { IfOk result (λ decl. decl_tree decl ≡ Expanding.declaration array (span_in span)) }
 {
     let lower = literal(alloc, span.first.min(span.last))?;
-    let upper = literal(alloc, span.first.max(span.last))?;
+    let (lower, upper) = both(lower, literal(alloc, span.first.max(span.last)))?;
     let mut bounds = Vec::new(alloc);
     bounds.push(Bound { lower, upper })?;
     let mut declarators = Vec::new(alloc);

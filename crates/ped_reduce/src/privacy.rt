@@ -10,7 +10,7 @@ ghost use Rattle.ped_splits.specs.ped_reindex.specs.ped_loops.specs.ped_scalar.s
 ghost use Rattle.ped_splits.specs.ped_reindex.specs.ped_loops.specs.ped_scalar.specs.ped_rules.specs.ped_loop_runs.specs.ped_bodies.specs.ped_steps.specs.ped_symbols.specs.NameRefusals as Refusals;
 
 use ped_base::{Name, is_among};
-use ped_splits::ped_reindex::ped_loops::ped_scalar::ped_rules::ped_loop_runs::ped_bodies::ped_steps::ped_weaves::ped_laws::ped_graph::ped_refs::Loop;
+use ped_refs::Loop;
 use ped_tree::{Do, Stmt};
 
 /// Whether the DO or one of these round it is a PARALLEL DO.

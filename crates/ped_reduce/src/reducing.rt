@@ -20,9 +20,8 @@ use crate::lists::{has_list, with_list};
 use crate::lowering::{is_in_live, is_lowerable, lower_front};
 use crate::rules::{early, late};
 use ped_base::{Name, NoMemory};
-use ped_splits::ped_reindex::ped_loops::ped_scalar::ped_rules::against;
-use ped_splits::ped_reindex::ped_loops::ped_scalar::ped_rules::ped_loop_runs::ped_bodies::ped_steps::{
-    Change, Refused, Rule, Scene, all_kept, change_to, loop_at, program_with, with_body,
+use ped_splits::{
+    Change, Refused, Rule, Scene, against, all_kept, change_to, loop_at, program_with, with_body,
 };
 use ped_tree::{Do, Program, Stmt};
 use std::alloc::Global;

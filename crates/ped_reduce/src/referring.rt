@@ -11,9 +11,7 @@ ghost use Rattle.ped_reduce.specs.Reducing as Spec;
 
 use crate::sums::sum_to;
 use ped_base::Name;
-use ped_splits::ped_reindex::ped_loops::ped_scalar::ped_rules::ped_loop_runs::ped_bodies::ped_steps::ped_weaves::ped_laws::ped_graph::ped_refs::{
-    Occurrence, RefName,
-};
+use ped_refs::{Occurrence, RefName};
 use ped_tree::Program;
 
 /// A DO by its number and by how many statements it has, with itself.

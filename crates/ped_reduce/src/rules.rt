@@ -23,16 +23,8 @@ ghost use Rattle.ped_reduce.specs.CodeRules.{also_from_range, behind_limit, IsFi
 use crate::privacy::{has_twice, is_in_parallel, is_index_of, is_some_private};
 use crate::referring::{Extent, first_beside_sums, is_referred};
 use ped_base::{Name, NoMemory};
-use ped_splits::ped_reindex::ped_loops::ped_scalar::ped_rules::ped_loop_runs::ped_bodies::ped_steps::ped_weaves::ped_laws::ped_graph::ped_refs::{
-    Occurrence, occurrences,
-};
-use ped_splits::ped_reindex::ped_loops::ped_scalar::ped_rules::ped_loop_runs::ped_bodies::ped_steps::ped_weaves::ped_laws::ped_graph::ped_symbols::{
-    Kind, Symbols,
-};
-use ped_splits::ped_reindex::ped_loops::ped_scalar::ped_rules::ped_loop_runs::ped_bodies::ped_steps::{
-    Rule, Scene, loops_round,
-};
-use ped_splits::ped_reindex::ped_loops::ped_scalar::ped_rules::{Course, course_of, escapes};
+use ped_refs::{Occurrence, occurrences};
+use ped_splits::{Course, Kind, Rule, Scene, Symbols, course_of, escapes, loops_round};
 use ped_tree::{Do, count_statements};
 use std::alloc::Global;
 use std::sync::ledger::Ledger;

@@ -15,8 +15,8 @@ ghost use Rattle.ped_reduce.specs.CodeSums.{sum_view};
 use crate::lists::without_list;
 use crate::partials::Partials;
 use crate::sums::{Sum, sum_to};
-use ped_base::{Listed, Name, NoMemory};
-use ped_splits::ped_reindex::ped_loops::ped_scalar::ped_rules::ped_loop_runs::ped_bodies::ped_steps::with_body;
+use ped_base::{Listed, Name, NoMemory, both};
+use ped_splits::with_body;
 use ped_tree::{Cond, Do, Expr, Intrinsic, Relation, Stmt};
 use std::alloc::Global;
 
@@ -192,9 +192,17 @@ fn high_part(alloc: Global, v: Name, p: &Partials, sum: &Sum) -> Result<Stmt, No
 {
     let value = with_sum(alloc, v, p, sum)?;
     let quotient = Expr::quotient(alloc, value, Expr::literal(65536))?;
-    let before = at(alloc, p.high, v)?;
-    let right = Expr::sum(alloc, before, quotient)?;
-    let left = at(alloc, p.high, v)?;
+    let (quotient, left) = both(quotient, at(alloc, p.high, v))?;
+    accumulation(alloc, left, quotient)
+}
+
+/// The assignment that adds a value to a variable or an element.
+fn accumulation(alloc: Global, left: Expr, value: Expr) -> Result<Stmt, NoMemory>
+    ensures { IfOk result (λ s. stmt_tree s ≡ Tree.Assign (expr_tree left) (Tree.Add (expr_tree left) (expr_tree value))) }
+{
+    let before = left.copy(alloc);
+    let ((left, value), before) = both((left, value), before)?;
+    let (left, right) = both(left, Expr::sum(alloc, before, value))?;
     Ok(Stmt::assignment(left, right))
 }
 
@@ -213,10 +221,15 @@ fn low_part(alloc: Global, v: Name, p: &Partials, sum: &Sum) -> Result<Stmt, NoM
 fn with_sum(alloc: Global, v: Name, p: &Partials, sum: &Sum) -> Result<Expr, NoMemory>
     ensures { IfOk result (λ e. expr_tree e ≡ Spec.with_sum (Spec.at p.now.low v) (sum_view sum.now)) }
 {
-    let low = at(alloc, p.low, v)?;
     match sum {
-        Sum::Plus(e) => Expr::sum(alloc, low, e.copy(alloc)?),
-        Sum::Minus(e) => Expr::difference(alloc, low, e.copy(alloc)?),
+        Sum::Plus(e) => {
+            let (low, e) = both(at(alloc, p.low, v)?, e.copy(alloc))?;
+            Expr::sum(alloc, low, e)
+        }
+        Sum::Minus(e) => {
+            let (low, e) = both(at(alloc, p.low, v)?, e.copy(alloc))?;
+            Expr::difference(alloc, low, e)
+        }
     }
 }
 
@@ -235,10 +248,10 @@ fn exits(alloc: Global, v: Name, partials: &[Partials]) -> Result<Vec<Stmt>, NoM
 fn exit(alloc: Global, v: Name, p: &Partials) -> Result<Stmt, NoMemory>
     ensures { IfOk result (λ s. stmt_tree s ≡ Spec.exit v (partials_view p.now)) }
 {
-    let flag = at(alloc, p.flag, v)?;
-    let condition = Cond::relation(Relation::Eq, flag, Expr::literal(1));
     let mut then_part = Vec::new(alloc);
     then_part.push(addition(alloc, v, p)?)?;
+    let flag = at(alloc, p.flag, v)?;
+    let condition = Cond::relation(Relation::Eq, flag, Expr::literal(1));
     Ok(Stmt::block_if(condition, then_part, Vec::new(alloc)))
 }
 
@@ -248,8 +261,7 @@ fn addition(alloc: Global, v: Name, p: &Partials) -> Result<Stmt, NoMemory>
 {
     let high = at(alloc, p.high, v)?;
     let product = Expr::product(alloc, high, Expr::literal(65536))?;
-    let low = at(alloc, p.low, v)?;
+    let (product, low) = both(product, at(alloc, p.low, v))?;
     let added = Expr::sum(alloc, product, low)?;
-    let right = Expr::sum(alloc, Expr::scalar(p.scalar), added)?;
-    Ok(Stmt::assignment(Expr::scalar(p.scalar), right))
+    accumulation(alloc, Expr::scalar(p.scalar), added)
 }

@@ -8,7 +8,7 @@ ghost use Rattle.ped_reindex.specs.Peeling as Spec;
 ghost use Rattle.ped_reindex.specs.CodePeeling.{IsFound};
 ghost use Rattle.ped_reindex.specs.CodePeeling as Code;
 
-use ped_loops::ped_scalar::ped_rules::is_far;
+use ped_loops::is_far;
 use ped_tree::Do;
 use ped_tree::constants::{Consts, constant};
 

@@ -6,7 +6,7 @@ ghost use Rattle.ped_reindex.specs.Skewing.{skewing};
 ghost use Rattle.ped_reindex.specs.Stripping.{stripping};
 ghost use Rattle.ped_reindex.specs.Peeling.{peeling};
 
-use ped_loops::ped_scalar::ped_rules::ped_loop_runs::{private_names_cleared, stays_trusted};
+use ped_loops::{private_names_cleared, stays_trusted};
 
 /// `skew` has one first cause at most and makes one program; where nothing forbids it, that one is valid, has no C$PED REJECT
 /// and is tidy if the old one is so, and means the same (Allen and Kennedy, section 5.9; ParaScope).

@@ -18,14 +18,13 @@ ghost use Rattle.ped_reindex.specs.Peeling as Spec;
 use crate::iterations::{Iteration, TakenOut, iteration_of};
 use crate::lists::has_list;
 use crate::settling::behind_comments;
-use ped_base::NoMemory;
-use ped_loops::ped_scalar::ped_rules::ped_loop_runs::ped_bodies::ped_steps::ped_sums::substitute_in_statements;
-use ped_loops::ped_scalar::ped_rules::ped_loop_runs::ped_bodies::ped_steps::ped_weaves::ped_laws::ped_graph::update::Keep;
-use ped_loops::ped_scalar::ped_rules::ped_loop_runs::ped_bodies::ped_steps::{
-    Change, Refused, Rule, Scene, body_with, change_to, copy_decls, loop_at,
+use ped_base::{NoMemory, both};
+use ped_loops::{
+    Change, Keep, Refused, Rule, Scene, against, body_with, change_to, copy_decls, escapes,
+    literal, loop_at, moved_by,
 };
-use ped_loops::ped_scalar::ped_rules::{against, escapes, literal, moved_by};
-use ped_tree::{Do, Program, Stmt, count_statements};
+use ped_sums::substitute_in_statements;
+use ped_tree::{Do, Expr, Program, Stmt, count_statements};
 use std::alloc::Global;
 use std::sync::ledger::Ledger;
 
@@ -223,7 +222,9 @@ fn iteration(alloc: Global, d: &Do, value: i64) -> Result<Vec<Stmt>, NoMemory>
     ensures { IfOk result (λ new. stmt_trees new.items ≡ Spec.iteration_of value (head_of d.now) (stmt_trees d.now.body.items)) }
 {
     let value = literal(alloc, value)?;
-    substitute_in_statements(alloc, &d.body, &d.variable, &value)
+    let body = substitute_in_statements(alloc, &d.body, &d.variable, &value);
+    drop(value);
+    body
 }
 
 /// The DO with the literal of this number for its initial value.
@@ -231,9 +232,8 @@ fn beginning_at(alloc: Global, d: &Do, bound: i64) -> Result<Stmt, NoMemory>
     requires { unsigned_abs bound ≤ 2147483647 }
     ensures { IfOk result (λ new. stmt_tree new ≡ Tree.Do (record (head_of d.now) { first = Sums.literal bound }) (stmt_trees d.now.body.items)) }
 {
-    let mut new = d.copy(alloc)?;
-    new.first = literal(alloc, bound)?;
-    Ok(Stmt::of_loop(new))
+    let (first, last) = both(literal(alloc, bound)?, d.last.copy(alloc))?;
+    with_bounds(alloc, d, first, last)
 }
 
 /// The DO with the literal of this number for its limit.
@@ -241,8 +241,16 @@ fn ending_at(alloc: Global, d: &Do, bound: i64) -> Result<Stmt, NoMemory>
     requires { unsigned_abs bound ≤ 2147483647 }
     ensures { IfOk result (λ new. stmt_tree new ≡ Tree.Do (record (head_of d.now) { last = Sums.literal bound }) (stmt_trees d.now.body.items)) }
 {
-    let mut new = d.copy(alloc)?;
-    new.last = literal(alloc, bound)?;
+    let (first, last) = both(d.first.copy(alloc)?, literal(alloc, bound))?;
+    with_bounds(alloc, d, first, last)
+}
+
+/// The DO with these bounds in place of its own.
+fn with_bounds(alloc: Global, d: &Do, first: Expr, last: Expr) -> Result<Stmt, NoMemory>
+    ensures { IfOk result (λ new. stmt_tree new ≡ Tree.Do (record (head_of d.now) { first = expr_tree first; last = expr_tree last }) (stmt_trees d.now.body.items)) }
+{
+    let ((first, last), step) = both((first, last), d.step.copy(alloc))?;
+    let new = d.with_header(first, last, step, alloc)?;
     Ok(Stmt::of_loop(new))
 }
 

@@ -14,20 +14,18 @@ ghost use Rattle.ped_loops.specs.ped_scalar.specs.ped_rules.specs.ped_loop_runs.
 ghost use Rattle.ped_loops.specs.ped_scalar.specs.ped_rules.specs.ped_loop_runs.specs.ped_bodies.specs.ped_steps.specs.ped_affine.specs.PairViews.{heads_of};
 ghost use Rattle.ped_loops.specs.ped_scalar.specs.ped_rules.specs.ped_loop_runs.specs.ped_bodies.specs.ped_steps.specs.ped_flow.specs.Questions.{IsLoop};
 ghost use Rattle.ped_loops.specs.ped_scalar.specs.ped_rules.specs.ped_loop_runs.specs.ped_bodies.specs.ped_steps.specs.ped_refs.specs.Loops.{nest_of};
+ghost use Rattle.ped_loops.specs.ped_scalar.specs.ped_rules.specs.ped_loop_runs.specs.ped_bodies.specs.ped_steps.specs.ped_sums.specs.Substitution.{statements_substituted};
 ghost use Rattle.ped_loops.specs.ped_scalar.specs.ped_rules.specs.ped_loop_runs.specs.ped_bodies.specs.ped_steps.specs.ped_symbols.specs.NameRefusals.{IsValid};
 ghost use Rattle.ped_reindex.specs.Skewing as Spec;
 ghost use Rattle.ped_reindex.specs.CodeSkewing.{skewed_statement, all_skewed};
 
-use ped_base::{Name, NoMemory};
-use ped_loops::ped_scalar::ped_rules::ped_loop_runs::ped_bodies::ped_steps::ped_sums::{
-    minus, plus, substitute_in_statements, times,
+use ped_base::{Name, NoMemory, both};
+use ped_loops::{
+    Change, Refused, Rule, Scene, against, all_kept, change_to, escapes, leaves, loop_at,
+    loops_round, only_loop, program_with, with_body,
 };
-use ped_loops::ped_scalar::ped_rules::ped_loop_runs::ped_bodies::ped_steps::ped_weaves::ped_laws::ped_graph::ped_refs::Loop;
-use ped_loops::ped_scalar::ped_rules::ped_loop_runs::ped_bodies::ped_steps::{
-    Change, Refused, Rule, Scene, all_kept, change_to, loop_at, loops_round, program_with,
-    with_body,
-};
-use ped_loops::ped_scalar::ped_rules::{against, escapes, leaves, only_loop};
+use ped_refs::Loop;
+use ped_sums::{minus, plus, substitute_in_statements, times};
 use ped_tree::{Do, Expr, Program, Stmt};
 use std::alloc::Global;
 use std::sync::ledger::Ledger;
@@ -197,7 +195,9 @@ fn bound_leaves<L: Ledger>(
     ensures { IfOk result (λ r. (s : ℕ) → r ≡ Rules.leaves (setting_at (program_tree scene.now.tree.now) s) (heads_of (nest_of nest.now)) (Spec.skewed_bound factor outer (expr_tree bound.now))) }
 {
     let skewed = skewed_bound(alloc, factor, outer, bound)?;
-    leaves(alloc, scene, nest, &skewed)
+    let leaves = leaves(alloc, scene, nest, &skewed);
+    drop(skewed);
+    leaves
 }
 
 /// The bound with the factor times the outer variable added.
@@ -219,7 +219,9 @@ fn offset(alloc: Global, factor: i64, outer: Name) -> Result<Expr, NoMemory>
     ensures { IfOk result (λ e. expr_tree e ≡ Spec.offset factor outer) }
 {
     let variable = Expr::scalar(outer);
-    times(alloc, size_of(factor), &variable)
+    let offset = times(alloc, size_of(factor), &variable);
+    drop(variable);
+    offset
 }
 
 /// The size of the factor.
@@ -346,10 +348,20 @@ fn skewed_loop(alloc: Global, factor: i64, outer: Name, inner: &Do) -> Result<Do
     requires { Spec.is_bad_factor factor ≡ false }
     ensures { IfOk result (λ new. do_tree new ≡ Spec.skewed_loop factor outer (head_of inner.now) (stmt_trees inner.now.body.items)) }
 {
+    let body = unskewed_body(alloc, factor, outer, inner)?;
+    let first = skewed_bound(alloc, factor, outer, &inner.first)?;
+    let (first, last) = both(first, skewed_bound(alloc, factor, outer, &inner.last))?;
+    let ((first, last), step) = both((first, last), inner.step.copy(alloc))?;
+    inner.with_header_and_body(first, last, step, body, alloc)
+}
+
+/// The body of the inner DO with what its variable was for the variable.
+fn unskewed_body(alloc: Global, factor: i64, outer: Name, inner: &Do) -> Result<Vec<Stmt>, NoMemory>
+    requires { Spec.is_bad_factor factor ≡ false }
+    ensures { IfOk result (λ new. stmt_trees new.items ≡ statements_substituted inner.now.variable (Spec.unskewed factor outer inner.now.variable) (stmt_trees inner.now.body.items)) }
+{
     let by = unskewed(alloc, factor, outer, inner.variable)?;
-    let body = substitute_in_statements(alloc, &inner.body, &inner.variable, &by)?;
-    let mut new = with_body(alloc, inner, body)?;
-    new.first = skewed_bound(alloc, factor, outer, &inner.first)?;
-    new.last = skewed_bound(alloc, factor, outer, &inner.last)?;
-    Ok(new)
+    let body = substitute_in_statements(alloc, &inner.body, &inner.variable, &by);
+    drop(by);
+    body
 }

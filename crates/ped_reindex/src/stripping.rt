@@ -1,32 +1,32 @@
 //! `strip`: the iterations of a DO are done in strips.
 
-ghost use Rattle.std.specs.Prelude.{◌≡◌, ◌+◌, ◌<◌, ◌^◌, ℕ, [], true, false, Some, IfOk, MatchOption};
+ghost use Rattle.std.specs.Prelude.{◌≡◌, ◌+◌, ◌<◌, ◌≤◌, ◌^◌, ℕ, [], ◌∷◌, ◌++◌, true, false, Some, IfOk, MatchOption, length};
 ghost use Rattle.ped_tree.specs.Numbering.{statements_count};
 ghost use Rattle.ped_tree.specs.Tree as Tree;
 ghost use Rattle.ped_tree.specs.Views.{expr_tree, stmt_tree, stmt_trees, do_tree, program_tree, head_of};
 ghost use Rattle.ped_loops.specs.ped_scalar.specs.ped_rules.specs.KeepMaps.{moved_by as MovedBy};
-ghost use Rattle.ped_loops.specs.ped_scalar.specs.ped_rules.specs.Rules.{WhereEscape, has_private, is_one, has_other_step};
+ghost use Rattle.ped_loops.specs.ped_scalar.specs.ped_rules.specs.Rules as Rules;
+ghost use Rattle.ped_loops.specs.ped_scalar.specs.ped_rules.specs.Rules.{WhereEscape, has_private, is_one, has_other_step, setting_at};
 ghost use Rattle.ped_loops.specs.ped_scalar.specs.ped_rules.specs.Steps.{Answers};
 ghost use Rattle.ped_loops.specs.ped_scalar.specs.ped_rules.specs.ped_loop_runs.specs.ped_bodies.specs.ped_steps.specs.Changes.{IsChange};
 ghost use Rattle.ped_loops.specs.ped_scalar.specs.ped_rules.specs.ped_loop_runs.specs.ped_bodies.specs.ped_steps.specs.Replacing as Replacing;
 ghost use Rattle.ped_loops.specs.ped_scalar.specs.ped_rules.specs.ped_loop_runs.specs.ped_bodies.specs.ped_steps.specs.Scenes.{IsSceneOf};
+ghost use Rattle.ped_loops.specs.ped_scalar.specs.ped_rules.specs.ped_loop_runs.specs.ped_bodies.specs.ped_steps.specs.ped_affine.specs.PairViews.{heads_of};
 ghost use Rattle.ped_loops.specs.ped_scalar.specs.ped_rules.specs.ped_loop_runs.specs.ped_bodies.specs.ped_steps.specs.ped_flow.specs.PlainBounds.{IsPlain};
 ghost use Rattle.ped_loops.specs.ped_scalar.specs.ped_rules.specs.ped_loop_runs.specs.ped_bodies.specs.ped_steps.specs.ped_flow.specs.Questions.{IsLoop};
+ghost use Rattle.ped_loops.specs.ped_scalar.specs.ped_rules.specs.ped_loop_runs.specs.ped_bodies.specs.ped_steps.specs.ped_refs.specs.Loops.{nest_of};
 ghost use Rattle.ped_loops.specs.ped_scalar.specs.ped_rules.specs.ped_loop_runs.specs.ped_bodies.specs.ped_steps.specs.ped_symbols.specs.Kinds.{table_of};
 ghost use Rattle.ped_loops.specs.ped_scalar.specs.ped_rules.specs.ped_loop_runs.specs.ped_bodies.specs.ped_steps.specs.ped_symbols.specs.NameRefusals.{IsValid};
 ghost use Rattle.ped_reindex.specs.Stripping as Spec;
 
 use crate::lists::has_list;
-use ped_base::{Name, Names, NoMemory};
-use ped_loops::is_plain;
-use ped_loops::ped_scalar::ped_rules::ped_loop_runs::ped_bodies::ped_steps::ped_sums::plus;
-use ped_loops::ped_scalar::ped_rules::ped_loop_runs::ped_bodies::ped_steps::ped_weaves::ped_laws::ped_graph::ped_refs::Loop;
-use ped_loops::ped_scalar::ped_rules::ped_loop_runs::ped_bodies::ped_steps::{
-    Change, Refused, Rule, Scene, change_to, loop_at, loops_round, program_with,
+use ped_base::{Name, Names, NoMemory, both};
+use ped_loops::{
+    Change, NewName, Refused, Rule, Scene, against, change_to, escapes, fresh_name, has_step_one,
+    is_plain, leaves, literal, loop_at, loops_round, moved_by, program_with,
 };
-use ped_loops::ped_scalar::ped_rules::{
-    NewName, against, escapes, fresh_name, has_step_one, leaves, literal, moved_by,
-};
+use ped_refs::Loop;
+use ped_sums::plus;
 use ped_tree::{Do, Expr, Intrinsic, Program, Stmt};
 use std::alloc::Global;
 use std::sync::ledger::Ledger;
@@ -191,14 +191,36 @@ fn strip_leaves<L: Ledger>(
     requires fresh { Spec.strip_variable (program_tree scene.now.tree.now) ≡ Some name }
     ensures { IfOk result (λ r. r ≡ Spec.strip_leaves (program_tree scene.now.tree.now) number size (head_of d.now) (stmt_trees d.now.body.items)) }
 {
-    let strips = strips_loop(alloc, d, size, name, Vec::new(alloc))?;
-    let mut nest = loops_round(alloc, scene.tree, number)?;
-    nest.push(Loop {
+    let nest = loops_round(alloc, scene.tree, number)?;
+    let (end, strips) = both(
+        strip_end(alloc, size, name)?,
+        strips_loop(alloc, d, size, name, Vec::new(alloc)),
+    )?;
+    let inner = Loop {
         number,
         statement: &strips,
-    })?;
-    let end = strip_end(alloc, size, name)?;
-    leaves(alloc, scene, &nest, &end)
+    };
+    let leaves = leaves_inside(alloc, scene, nest, inner, &end);
+    drop(strips);
+    drop(end);
+    leaves
+}
+
+/// Whether this expression may leave 2^62 in these DO loops, the outermost first, and in one more inside them.
+fn leaves_inside<'a, L: Ledger>(
+    alloc: Global,
+    scene: &Scene<L>,
+    nest: Vec<Loop<'a>>,
+    inner: Loop<'a>,
+    e: &Expr,
+) -> Result<bool, NoMemory>
+    requires scene { IsSceneOf (program_tree scene.now.tree.now) scene.now }
+    requires nest { length (nest.items ++ inner ∷ []) ≤ 6 }
+    ensures { IfOk result (λ r. (s : ℕ) → r ≡ Rules.leaves (setting_at (program_tree scene.now.tree.now) s) (heads_of (nest_of (nest.entry.items ++ inner.entry ∷ []))) (expr_tree e.now)) }
+{
+    let mut nest = nest;
+    nest.push(inner)?;
+    leaves(alloc, scene, &nest, e)
 }
 
 /// The last value of a whole strip.
@@ -208,7 +230,10 @@ fn strip_end(alloc: Global, size: i64, name: Name) -> Result<Expr, NoMemory>
 {
     let further = literal(alloc, size - 1)?;
     let variable = Expr::scalar(name);
-    plus(alloc, &variable, &further)
+    let end = plus(alloc, &variable, &further);
+    drop(variable);
+    drop(further);
+    end
 }
 
 /// The change to the program with the DO of this number in strips: none exactly where that program isn't valid.
@@ -272,9 +297,8 @@ fn strips_loop(
     requires { Spec.is_bad_size size ≡ false }
     ensures { IfOk result (λ new. do_tree new ≡ Tree.Do (Spec.strips_head size name (head_of d.now)) (stmt_trees body.items)) }
 {
-    let first = d.first.copy(alloc)?;
-    let last = d.last.copy(alloc)?;
-    let step = literal(alloc, size)?;
+    let (first, last) = both(d.first.copy(alloc)?, d.last.copy(alloc))?;
+    let ((first, last), step) = both((first, last), literal(alloc, size))?;
     Ok(Do {
         variable: name,
         first,
@@ -292,10 +316,8 @@ fn strip_loop(alloc: Global, d: &Do, size: i64, name: Name) -> Result<Stmt, NoMe
     requires { Spec.is_bad_size size ≡ false }
     ensures { IfOk result (λ new. stmt_tree new ≡ Tree.Do (Spec.strip_head size name (head_of d.now)) (stmt_trees d.now.body.items)) }
 {
-    let mut new = d.copy(alloc)?;
-    new.first = Expr::scalar(name);
-    new.last = strip_limit(alloc, d, size, name)?;
-    new.step = Expr::literal(1);
+    let last = strip_limit(alloc, d, size, name)?;
+    let new = d.with_header(Expr::scalar(name), last, Expr::literal(1), alloc)?;
     Ok(Stmt::of_loop(new))
 }
 

@@ -12,12 +12,10 @@ ghost use Rattle.ped_rules.specs.Carried as Spec;
 ghost use Rattle.ped_rules.specs.CodeCarried.{AreThose};
 
 use ped_base::NoMemory;
-use ped_loop_runs::ped_bodies::ped_steps::ped_weaves::ped_laws::ped_graph::ped_edges::{
-    Edge, Mark,
-};
-use ped_loop_runs::ped_bodies::ped_steps::ped_weaves::ped_laws::ped_graph::ped_verdict::Vector;
-use ped_loop_runs::ped_bodies::ped_steps::ped_weaves::ped_laws::ped_graph::ped_views::Direction;
-use ped_loop_runs::ped_bodies::ped_steps::{Scene, loops_round};
+use ped_edges::{Edge, Mark};
+use ped_loop_runs::{Scene, loops_round};
+use ped_verdict::Vector;
+use ped_views::Direction;
 use std::alloc::Global;
 use std::sync::ledger::Ledger;
 

@@ -3,7 +3,7 @@
 ghost use Rattle.std.specs.Prelude.{◌≡◌};
 ghost use Rattle.ped_loop_runs.specs.ped_bodies.specs.ped_steps.specs.declared.causes.Refused.TheVariants as refused;
 
-use ped_loop_runs::ped_bodies::ped_steps::{Refused, Rule};
+use ped_loop_runs::{Refused, Rule};
 
 /// A rule that stands, with the statement that it names.
 pub fn against(rule: Rule, statement: u32) -> Refused

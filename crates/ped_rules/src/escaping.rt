@@ -7,8 +7,7 @@ ghost use Rattle.ped_loop_runs.specs.ped_bodies.specs.ped_steps.specs.ped_flow.s
 ghost use Rattle.ped_loop_runs.specs.ped_bodies.specs.ped_steps.specs.Scenes.{IsSceneOf};
 ghost use Rattle.ped_rules.specs.Rules.{WhereEscape};
 
-use ped_loop_runs::ped_bodies::ped_steps::Scene;
-use ped_loop_runs::ped_bodies::ped_steps::ped_weaves::ped_laws::ped_flow::Reader;
+use ped_loop_runs::{Reader, Scene};
 use std::sync::ledger::Ledger;
 
 /// The statement that the rule IndexEscapes names against the DO with this number: the first that reads the variable of it

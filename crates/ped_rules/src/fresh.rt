@@ -12,12 +12,12 @@ ghost use Rattle.ped_rules.specs.CodeFresh.{letters_of};
 
 use itoa::Buffer;
 use ped_base::{Bytes, Name, NoMemory};
-use ped_loop_runs::ped_bodies::ped_steps::ped_weaves::ped_laws::ped_graph::ped_symbols::Symbols;
+use ped_loop_runs::Symbols;
 use ped_tree::{Decl, Program};
 use std::alloc::Global;
 
 /// What a new name is given to.
-#[derive(Clone, Copy, Debug, PartialEq, Eq)]
+#[derive(Clone, Copy, PartialEq, Eq)]
 pub enum NewName {
     /// An array: its name begins with KX.
     Array,

@@ -6,7 +6,7 @@ ghost use Rattle.ped_tree.specs.Nests.{indices_of};
 ghost use Rattle.ped_loop_runs.specs.ped_bodies.specs.ped_steps.specs.ped_refs.specs.Loops.{nest_of};
 
 use ped_base::Name;
-use ped_loop_runs::ped_bodies::ped_steps::ped_weaves::ped_laws::ped_graph::ped_refs::Loop;
+use ped_refs::Loop;
 
 /// Whether the name is the variable of one of these DO loops (ANSI X3.9-1978, section 11.10).
 pub fn is_index(name: &Name, loops: &[Loop]) -> bool

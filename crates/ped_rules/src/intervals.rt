@@ -7,12 +7,10 @@ ghost use Rattle.ped_loop_runs.specs.ped_bodies.specs.ped_steps.specs.ped_refs.s
 ghost use Rattle.ped_loop_runs.specs.ped_bodies.specs.ped_steps.specs.Scenes.{IsSceneOf};
 ghost use Rattle.ped_rules.specs.Rules as Spec;
 
+use ped_affine::{Setting, interval, loop_variables};
 use ped_base::NoMemory;
-use ped_loop_runs::ped_bodies::ped_steps::Scene;
-use ped_loop_runs::ped_bodies::ped_steps::ped_weaves::ped_laws::ped_graph::ped_affine::{
-    Setting, interval, loop_variables,
-};
-use ped_loop_runs::ped_bodies::ped_steps::ped_weaves::ped_laws::ped_graph::ped_refs::Loop;
+use ped_loop_runs::Scene;
+use ped_refs::Loop;
 use ped_tree::Expr;
 use ped_tree::names::NameSet;
 use std::alloc::Global;

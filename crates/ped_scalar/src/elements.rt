@@ -12,10 +12,9 @@ ghost use Rattle.ped_rules.specs.ped_loop_runs.specs.ped_bodies.specs.ped_steps.
 ghost use Rattle.ped_scalar.specs.Expanding as Spec;
 ghost use Rattle.ped_rules.specs.CodeSpans.{span_in, IsNear};
 
-use ped_base::{Name, NoMemory};
-use ped_rules::ped_loop_runs::ped_bodies::ped_steps::ped_sums::substitute_in_statements;
-use ped_rules::ped_loop_runs::ped_bodies::ped_steps::{body_with, copy_decls, with_body};
-use ped_rules::{Span, literal};
+use ped_base::{Name, NoMemory, both};
+use ped_rules::{Span, body_with, copy_decls, literal, with_body};
+use ped_sums::substitute_in_statements;
 use ped_tree::{Bound, Decl, Declarator, Do, Expr, Program, Stmt};
 use std::alloc::Global;
 
@@ -64,7 +63,8 @@ impl Elements {
         ensures { IfOk result (λ decl. decl_tree decl ≡ Spec.declaration self.now.array (span_in self.now.span)) }
     {
         let lower = literal(alloc, self.span.first.min(self.span.last))?;
-        let upper = literal(alloc, self.span.first.max(self.span.last))?;
+        let upper = literal(alloc, self.span.first.max(self.span.last));
+        let (lower, upper) = both(lower, upper)?;
         let mut bounds = Vec::new(alloc);
         bounds.push(Bound { lower, upper })?;
         let mut declarators = Vec::new(alloc);
@@ -93,7 +93,9 @@ impl Elements {
         ensures { IfOk result (λ new. stmt_tree new ≡ Tree.Do (head_of d.now) (statements_substituted self.now.scalar (Spec.element self.now.array (Tree.Var d.now.variable)) (stmt_trees d.now.body.items))) }
     {
         let element = element(alloc, self.array, Expr::scalar(d.variable))?;
-        let body = substitute_in_statements(alloc, &d.body, &self.scalar, &element)?;
+        let substituted = substitute_in_statements(alloc, &d.body, &self.scalar, &element);
+        drop(element);
+        let body = substituted?;
         Ok(Stmt::of_loop(with_body(alloc, d, body)?))
     }
 

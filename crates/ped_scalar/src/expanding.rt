@@ -24,11 +24,11 @@ use crate::keeping::expand_kept;
 use crate::privacy::{is_private_in, is_private_round};
 use crate::scalars::{is_scalar, is_unfit, live_by};
 use ped_base::{Name, NoMemory};
-use ped_rules::ped_loop_runs::ped_bodies::ped_steps::ped_weaves::ped_laws::ped_graph::ped_refs::Loop;
-use ped_rules::ped_loop_runs::ped_bodies::ped_steps::{
-    Change, Refused, Rule, Scene, change_to, loop_at, loops_round,
+use ped_refs::Loop;
+use ped_rules::{
+    Change, Course, NewName, Refused, Rule, Scene, Span, against, change_to, course_of, fresh_name,
+    loop_at, loops_round,
 };
-use ped_rules::{Course, NewName, Span, against, course_of, fresh_name};
 use ped_tree::Do;
 use std::alloc::Global;
 use std::sync::ledger::Ledger;

@@ -10,7 +10,7 @@ ghost use Rattle.ped_tree.specs.Views.{head_of};
 ghost use Rattle.ped_tree.specs.NamesIn.{loop_variables, all_loop_variables};
 
 use ped_base::Name;
-use ped_rules::ped_loop_runs::ped_bodies::ped_steps::ped_weaves::ped_laws::ped_graph::ped_refs::Loop;
+use ped_refs::Loop;
 use ped_tree::{Do, Stmt};
 
 /// Whether one of these DO loops is a PARALLEL DO.

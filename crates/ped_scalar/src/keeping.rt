@@ -7,7 +7,7 @@ ghost use Rattle.ped_tree.specs.Numbering.{statements_count};
 ghost use Rattle.ped_scalar.specs.Expanding as Spec;
 
 use ped_base::{Listed, NoMemory};
-use ped_rules::ped_loop_runs::ped_bodies::ped_steps::ped_weaves::ped_laws::ped_graph::update::Keep;
+use ped_rules::Keep;
 use ped_tree::{Do, Program, count_statements};
 use std::alloc::Global;
 

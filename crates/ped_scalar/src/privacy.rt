@@ -11,7 +11,7 @@ ghost use Rattle.ped_tree.specs.Views.{head_of};
 ghost use Rattle.ped_scalar.specs.Expanding as Spec;
 
 use ped_base::{Name, is_among};
-use ped_rules::ped_loop_runs::ped_bodies::ped_steps::ped_weaves::ped_laws::ped_graph::ped_refs::Loop;
+use ped_refs::Loop;
 use ped_tree::{Do, Stmt};
 
 /// Whether the name is in the PRIVATE list of one of these DO loops.

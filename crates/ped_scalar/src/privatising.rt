@@ -15,10 +15,9 @@ ghost use Rattle.ped_scalar.specs.Privatising as Spec;
 use crate::indices::is_some_parallel;
 use crate::scalars::{is_scalar, is_unfit, live_by};
 use ped_base::{Name, NoMemory, is_among};
-use ped_rules::against;
-use ped_rules::ped_loop_runs::ped_bodies::ped_steps::ped_weaves::ped_laws::ped_graph::ped_refs::Loop;
-use ped_rules::ped_loop_runs::ped_bodies::ped_steps::{
-    Change, Refused, Rule, Scene, all_kept, change_to, loop_at, loops_round, program_with,
+use ped_refs::Loop;
+use ped_rules::{
+    Change, Refused, Rule, Scene, against, all_kept, change_to, loop_at, loops_round, program_with,
 };
 use ped_tree::{Do, Program, Stmt};
 use std::alloc::Global;
@@ -136,6 +135,11 @@ fn loop_with(alloc: Global, d: &Do, name: &Name) -> Result<Stmt, NoMemory>
     ensures { IfOk result (λ new. Replacing.alone (stmt_tree new) ≡ Spec.with_private name.now (do_tree d.now)) }
 {
     let mut new = d.copy(alloc)?;
-    new.private.push(*name)?;
-    Ok(Stmt::of_loop(new))
+    match new.private.push(*name) {
+        Ok(()) => Ok(Stmt::of_loop(new)),
+        Err(error) => {
+            drop(new);
+            Err(error)
+        }
+    }
 }

@@ -10,9 +10,7 @@ ghost use Rattle.ped_rules.specs.ped_loop_runs.specs.ped_bodies.specs.ped_steps.
 ghost use Rattle.ped_scalar.specs.Scalars as Spec;
 
 use ped_base::{Name, NoMemory};
-use ped_rules::ped_loop_runs::ped_bodies::ped_steps::ped_weaves::ped_laws::ped_graph::ped_refs::{
-    Occurrence, RefName, occurrences,
-};
+use ped_refs::{Occurrence, RefName, occurrences};
 use ped_tree::{Do, Program, count_statements};
 use std::alloc::Global;
 

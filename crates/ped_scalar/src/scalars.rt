@@ -17,15 +17,8 @@ ghost use Rattle.ped_scalar.specs.Scalars as Spec;
 use crate::indices::is_index_in;
 use crate::referring::is_referred;
 use ped_base::{Name, NoMemory};
-use ped_rules::is_index;
-use ped_rules::ped_loop_runs::ped_bodies::ped_steps::Scene;
-use ped_rules::ped_loop_runs::ped_bodies::ped_steps::ped_weaves::ped_laws::ped_flow::{
-    Flow, Reader,
-};
-use ped_rules::ped_loop_runs::ped_bodies::ped_steps::ped_weaves::ped_laws::ped_graph::ped_refs::Loop;
-use ped_rules::ped_loop_runs::ped_bodies::ped_steps::ped_weaves::ped_laws::ped_graph::ped_symbols::{
-    Kind, Symbols,
-};
+use ped_refs::Loop;
+use ped_rules::{Flow, Kind, Reader, Scene, Symbols, is_index};
 use ped_tree::Do;
 use std::alloc::Global;
 use std::sync::ledger::Ledger;

@@ -10,16 +10,14 @@ ghost use Rattle.ped_session.specs.Adding.{added, Adds};
 ghost use Rattle.ped_session.specs.ped_transformations.specs.ped_script.specs.declared.items.Command.TheVariants as commands;
 
 use crate::auto_texts::auto_text;
-use crate::ped_base::{Bytes, NoMemory};
-use crate::ped_graph::ped_verdict::Steps;
-use crate::ped_script::{Command, Item};
 use crate::replies::Reply;
 use crate::scripts::{bad_command_row, reply_text};
 use crate::session::Session;
+use ped_base::{Bytes, NoMemory};
 use ped_order::interleavings_agree;
-use ped_transformations::every_step_is_lawful;
-use ped_transformations::ped_auto::auto;
-use ped_transformations::ped_reduce::lowering_keeps_the_meaning;
+use ped_script::{Command, Item};
+use ped_transformations::{auto, every_step_is_lawful, lowering_keeps_the_meaning};
+use ped_verdict::Steps;
 use std::alloc::Global;
 use std::sync::ledger::Ledger;
 

@@ -9,12 +9,9 @@ ghost use Rattle.ped_transformations.specs.ped_auto.specs.CodeReports.{causes_of
 ghost use Rattle.ped_session.specs.Replies.{answer_row};
 ghost use Rattle.ped_session.specs.AutoAnswers as Spec;
 
-use crate::ped_base::{Bytes, NoMemory, push_number};
-use crate::ped_script::{Command, command_text};
-use ped_transformations::ped_auto::AutoReport;
-use ped_transformations::ped_reindex::ped_loops::ped_scalar::ped_rules::ped_loop_runs::ped_bodies::ped_steps::{
-    Refused, cause_words,
-};
+use ped_base::{Bytes, NoMemory, push_number};
+use ped_script::{Command, command_text};
+use ped_transformations::{AutoReport, Refused, cause_words};
 use std::alloc::Global;
 
 /// What is printed of a report of `auto` on this line of a script, which has led to this source.

@@ -10,19 +10,15 @@ ghost use Rattle.ped_transformations.specs.ped_auto.specs.SerialLoops as Loops;
 ghost use Rattle.ped_session.specs.CodeStepReplies.{IsOfStep, Says};
 
 use crate::carrying::carried_names;
-use crate::ped_base::{Name, NoMemory};
-use crate::ped_graph::ped_refs::RefName;
-use crate::ped_graph::ped_symbols::{Kind, Symbols};
-use crate::ped_graph::ped_verdict::Steps;
-use crate::ped_script::Command;
-use crate::ped_tree::Program;
 use crate::replies::{Refusal, Reply};
 use crate::session::Session;
-use ped_transformations::ped_auto::Editor;
-use ped_transformations::ped_reindex::ped_loops::ped_scalar::ped_rules::ped_loop_runs::ped_bodies::ped_steps::{
-    Refused, loop_at,
-};
-use ped_transformations::place_of;
+use ped_base::{Name, NoMemory};
+use ped_refs::RefName;
+use ped_script::Command;
+use ped_transformations::{Editor, Refused, loop_at, place_of};
+use ped_tree::Program;
+use ped_valid::{Kind, Symbols};
+use ped_verdict::Steps;
 use std::alloc::Global;
 use std::sync::ledger::Ledger;
 

@@ -6,9 +6,9 @@ ghost use Rattle.std.specs.List.{flat_map};
 ghost use Rattle.ped_order.specs.ped_eval.specs.OutcomeViews.{outcome_view, row_view};
 ghost use Rattle.ped_session.specs.Blocks as Spec;
 
-use crate::ped_base::{Bytes, NoMemory, push_number, push_signed};
-use ped_order::ped_eval::{LiveRow, Outcome};
-use ped_order::ped_store::RunFault;
+use ped_base::{Bytes, NoMemory, push_number, push_signed};
+use ped_eval::{LiveRow, Outcome};
+use ped_store::RunFault;
 use std::alloc::Global;
 
 /// The printed lines, `ended` and the live-out variables; or the fault with its statement.

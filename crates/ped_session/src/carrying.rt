@@ -14,12 +14,12 @@ ghost use Rattle.ped_transformations.specs.ped_reindex.specs.ped_loops.specs.ped
 ghost use Rattle.ped_transformations.specs.ped_auto.specs.CarriedNames as Spec;
 ghost use Rattle.ped_transformations.specs.ped_auto.specs.CarriedNames.{AreCarried};
 
-use crate::ped_base::NoMemory;
-use crate::ped_graph::Graph;
-use crate::ped_graph::ped_edges::{Edge, Mark};
-use crate::ped_graph::ped_refs::RefName;
-use crate::ped_tree::Program;
-use ped_transformations::ped_reindex::ped_loops::ped_scalar::ped_rules::ped_loop_runs::ped_bodies::ped_steps::loops_round;
+use ped_base::NoMemory;
+use ped_edges::{Edge, Mark};
+use ped_order::Graph;
+use ped_refs::RefName;
+use ped_transformations::loops_round;
+use ped_tree::Program;
 use std::alloc::Global;
 use std::sync::ledger::Ledger;
 

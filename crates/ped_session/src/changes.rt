@@ -1,7 +1,7 @@
 //! The kinds of changes.
 
 /// The kind of a change between two sources of a session.
-#[derive(Clone, Copy, Debug, PartialEq, Eq)]
+#[derive(Clone, Copy, PartialEq, Eq)]
 pub enum Change {
     /// Lines were edited.
     Edit,

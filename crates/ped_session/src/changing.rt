@@ -13,14 +13,14 @@ ghost use Rattle.ped_session.specs.Meanings.{IsKept};
 ghost use Rattle.ped_session.specs.Scripts.{tests_of};
 
 use crate::changes::Change;
-use crate::ped_base::NoMemory;
-use crate::ped_graph::ped_verdict::Steps;
-use crate::ped_graph::update::{Keep, update};
 use crate::replies::Reply;
 use crate::session::Session;
 use crate::versions::{Entry, Version};
+use ped_base::NoMemory;
+use ped_order::{Keep, update};
 use ped_print::print;
 use ped_valid::Opened;
+use ped_verdict::Steps;
 use std::alloc::Global;
 use std::mem::replace;
 use std::sync::ledger::Ledger;

@@ -16,12 +16,12 @@ ghost use Rattle.ped_session.specs.Scripts.{tests_of};
 
 use crate::changes::Change;
 use crate::keeping::edit_keep;
-use crate::ped_base::{Bytes, NoMemory};
-use crate::ped_graph::ped_verdict::Steps;
 use crate::replies::{Refusal, Reply};
 use crate::session::Session;
 use crate::splices::{line_count, spliced};
+use ped_base::{Bytes, NoMemory};
 use ped_valid::{OpenRefusal, Opened, open_program};
+use ped_verdict::Steps;
 use std::alloc::Global;
 use std::sync::ledger::Ledger;
 

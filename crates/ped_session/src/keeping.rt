@@ -7,10 +7,10 @@ ghost use Rattle.ped_session.specs.ped_tree.specs.Numbering.{statements_count};
 ghost use Rattle.ped_session.specs.ped_tree.specs.Views.{program_tree};
 ghost use Rattle.ped_session.specs.Splices as Splices;
 
-use crate::ped_base::NoMemory;
-use crate::ped_graph::update::Keep;
-use crate::ped_tree::Program;
+use ped_base::NoMemory;
+use ped_order::Keep;
 use ped_print::begun;
+use ped_tree::Program;
 use std::alloc::Global;
 
 /// The statements that an edit of the first program keeps in the second, where so many lines of the first are kept at

@@ -30,12 +30,12 @@ ghost use Rattle.ped_session.specs.ped_transformations.specs.ped_script.specs.It
 ghost use Rattle.ped_session.specs.AutoAnswers.{AcceptsAll};
 ghost use Rattle.ped_session.specs.AutoScripts.{script_of, items_on, all_accepted};
 
-use crate::ped_script::rows_are_commands;
 use crate::session::Session;
 use ped_order::{interleavings_agree, without_choices};
-use ped_transformations::every_step_is_lawful;
-use ped_transformations::ped_auto::accepted_are_commands;
-use ped_transformations::ped_reduce::{lowering_keeps_the_meaning, one_lowering};
+use ped_script::rows_are_commands;
+use ped_transformations::{
+    accepted_are_commands, every_step_is_lawful, lowering_keeps_the_meaning, one_lowering,
+};
 use std::sync::ledger::Ledger;
 
 /// A command has one reply at most in a state, and leads to one state.

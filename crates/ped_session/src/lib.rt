@@ -34,15 +34,8 @@ pub use laws::{
     refused_changes_nothing, runs_are_as_before, runs_in_order, sources_are_printed,
     sources_keep_the_meaning, transformations_keep_the_meaning, undo_restores, without_lists,
 };
-pub use ped_base;
-pub use ped_order::ped_eval::{LiveRow, Outcome};
-pub use ped_order::{an_interleaving, without_choices};
-pub use ped_print;
-pub use ped_script;
-pub use ped_transformations::ped_reindex::ped_loops::ped_scalar::ped_rules::ped_loop_runs::ped_bodies::ped_steps::ped_weaves::ped_laws::ped_graph;
-pub use ped_transformations::ped_reindex::ped_loops::ped_scalar::ped_rules::ped_loop_runs::ped_bodies::ped_steps::ped_weaves::ped_laws::ped_graph::ped_verdict;
-pub use ped_tree;
-pub use ped_valid;
+pub use ped_eval::{LiveRow, Outcome};
+pub use ped_order::{Graph, an_interleaving, without_choices};
 pub use replies::{FirstCause, Refusal, Reply};
 pub use scripts::{bad_command_row, reply_text};
 pub use session::Session;

@@ -4,9 +4,9 @@ ghost use Rattle.std.specs.Prelude.{◌≡◌, IfOk};
 ghost use Rattle.ped_session.specs.ped_tree.specs.Views.{stmt_tree, stmt_trees};
 ghost use Rattle.ped_session.specs.Listing as Spec;
 
-use crate::ped_base::NoMemory;
-use crate::ped_tree::Stmt;
-use ped_transformations::ped_reduce::has_list;
+use ped_base::NoMemory;
+use ped_transformations::has_list;
+use ped_tree::Stmt;
 use std::alloc::Global;
 
 /// Whether one of these statements is a DO with a list, or one stands in it.

@@ -6,11 +6,11 @@ ghost use Rattle.ped_session.specs.ped_graph.specs.Update.Deltas.{TakesTo};
 ghost use Rattle.ped_session.specs.Holding.{tree_of};
 ghost use Rattle.ped_session.specs.Steps.{GoesBack, GoesForward};
 
-use crate::ped_graph::Graph;
 use crate::replies::{Refusal, Reply};
 use crate::session::Session;
 use crate::versions::{Entry, Version};
 use ped_history::{NothingToRedo, NothingToUndo};
+use ped_order::Graph;
 use std::mem::swap;
 use std::sync::ledger::Ledger;
 
@@ -54,5 +54,5 @@ fn exchange<L: Ledger>(present: &mut Version, graph: &mut Graph<L>, entry: &mut 
     ensures delta { TakesTo entry.new.delta graph.new graph.old }
 {
     swap(present, &mut entry.other);
-    crate::ped_graph::update::swap(graph, &mut entry.delta);
+    ped_order::swap(graph, &mut entry.delta);
 }

@@ -8,9 +8,9 @@ ghost use Rattle.ped_order.specs.ReportViews.{report_view};
 ghost use Rattle.ped_session.specs.RaceRows as Spec;
 
 use crate::blocks::push_fault;
-use crate::ped_base::{Bytes, NoMemory, push_number, push_signed};
+use ped_base::{Bytes, NoMemory, push_number, push_signed};
 use ped_order::RaceReport;
-use ped_order::ped_store::Cell;
+use ped_store::Cell;
 use std::alloc::Global;
 
 /// The row of a report: the first race, the fault that comes before any, or that there is neither.

@@ -3,9 +3,9 @@
 ghost use Rattle.std.specs.Prelude.{◌≡◌};
 ghost use Rattle.ped_transformations.specs.ped_reindex.specs.ped_loops.specs.ped_scalar.specs.ped_rules.specs.ped_loop_runs.specs.ped_bodies.specs.ped_steps.specs.CodeCauses.{cause_of, IsShort};
 
-use crate::ped_base::Bytes;
-use crate::ped_tree::grammar::Refusal as TextRefusal;
-use ped_transformations::ped_reindex::ped_loops::ped_scalar::ped_rules::ped_loop_runs::ped_bodies::ped_steps::Refused;
+use ped_base::Bytes;
+use ped_transformations::Refused;
+use ped_tree::grammar::Refusal as TextRefusal;
 use std::marker::Model;
 
 /// The first cause against a step. Contracts see the rule with the statement that it names, or the dependence.

@@ -14,17 +14,14 @@ ghost use Rattle.ped_session.specs.LoweredRuns as Spec;
 ghost use Rattle.ped_session.specs.LoweredRuns.{IsLoweredRun};
 
 use crate::listing::some_holds_list;
-use crate::ped_base::NoMemory;
-use crate::ped_graph::Graph;
-use crate::ped_graph::ped_symbols::Symbols;
-use crate::ped_tree::Program;
 use crate::versions::Version;
+use ped_base::NoMemory;
+use ped_eval::{Outcome, run_in_order};
 use ped_machine::Machine;
-use ped_order::ped_eval::{Outcome, run_in_order};
-use ped_order::{an_interleaving, without_choices};
-use ped_transformations::ped_reduce::{Lowered, lower};
-use ped_transformations::ped_reindex::ped_loops::ped_scalar::ped_rules::ped_loop_runs::ped_bodies::ped_steps::Scene;
-use ped_transformations::ped_reindex::ped_loops::ped_scalar::ped_rules::ped_loop_runs::ped_bodies::ped_steps::ped_weaves::ped_laws::ped_flow::flow_of;
+use ped_order::{Graph, an_interleaving, flow_of, without_choices};
+use ped_transformations::{Lowered, Scene, lower};
+use ped_tree::Program;
+use ped_valid::Symbols;
 use std::alloc::Global;
 use std::sync::ledger::Ledger;
 

@@ -6,9 +6,9 @@ ghost use Rattle.ped_session.specs.ped_tree.specs.Grammar.RefusalViews.{finding_
 ghost use Rattle.ped_transformations.specs.ped_reindex.specs.ped_loops.specs.ped_scalar.specs.ped_rules.specs.ped_loop_runs.specs.ped_bodies.specs.ped_steps.specs.CauseWords.{cause_words};
 ghost use Rattle.ped_session.specs.Replies as Spec;
 
-use crate::ped_base::{Bytes, NoMemory, push_number};
-use crate::ped_tree::grammar::Refusal as TextRefusal;
 use crate::replies::{FirstCause, Refusal, Reply};
+use ped_base::{Bytes, NoMemory, push_number};
+use ped_tree::grammar::Refusal as TextRefusal;
 use std::alloc::Global;
 
 /// What is printed of the reply to the command on this line of a script.
@@ -83,10 +83,6 @@ fn push_bad_edit(out: &mut Bytes, refusal: TextRefusal) -> Result<(), NoMemory>
 fn push_cause(alloc: Global, out: &mut Bytes, cause: &FirstCause) -> Result<(), NoMemory>
     ensures { OnOk result (out.new ≡ out.old ++ cause_words cause.now) }
 {
-    let words =
-        ped_transformations::ped_reindex::ped_loops::ped_scalar::ped_rules::ped_loop_runs::ped_bodies::ped_steps::cause_words(
-            alloc,
-            cause.refused(),
-        )?;
+    let words = ped_transformations::cause_words(alloc, cause.refused())?;
     out.extend_from_slice(words.as_slice())
 }

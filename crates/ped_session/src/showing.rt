@@ -12,17 +12,14 @@ ghost use Rattle.ped_session.specs.Steps.{Shows, ShowsStatement, Prints, IsStep}
 ghost use Rattle.ped_session.specs.ped_transformations.specs.ped_script.specs.declared.items.Command.TheVariants as commands;
 
 use crate::blocks::block;
-use crate::ped_base::{Bytes, NoMemory, push_number};
 use crate::race_rows::race_row;
 use crate::replies::{Refusal, Reply};
 use crate::running::run_version;
 use crate::session::Session;
-use ped_order::races;
+use ped_base::{Bytes, NoMemory, push_number};
+use ped_order::{flow_of, races};
 use ped_print::source_pane;
-use ped_transformations::advice;
-use ped_transformations::ped_inline::calls_pane;
-use ped_transformations::ped_reindex::ped_loops::ped_scalar::ped_rules::ped_loop_runs::ped_bodies::ped_steps::Scene;
-use ped_transformations::ped_reindex::ped_loops::ped_scalar::ped_rules::ped_loop_runs::ped_bodies::ped_steps::ped_weaves::ped_laws::ped_flow::flow_of;
+use ped_transformations::{Scene, advice, calls_pane};
 use std::alloc::Global;
 use std::sync::ledger::Ledger;
 

@@ -3,8 +3,8 @@
 ghost use Rattle.std.specs.Prelude.{◌≡◌, ◌++◌, ◌∷◌, [], take, drop, IfOk, OnOk};
 ghost use Rattle.ped_session.specs.Splices as Spec;
 
-use crate::ped_base::{Bytes, NoMemory};
-use crate::ped_script::TextLines;
+use ped_base::{Bytes, NoMemory};
+use ped_script::TextLines;
 use std::alloc::Global;
 
 /// How many lines a text has.

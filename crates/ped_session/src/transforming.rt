@@ -13,17 +13,14 @@ ghost use Rattle.ped_session.specs.Changing.{IsAnswerTo, IsTakeable, Takes, most
 ghost use Rattle.ped_session.specs.Scripts.{tests_of};
 
 use crate::changes::Change;
-use crate::ped_base::NoMemory;
-use crate::ped_graph::ped_verdict::Steps;
-use crate::ped_script::Command;
 use crate::replies::{FirstCause, Refusal, Reply};
 use crate::session::Session;
-use ped_transformations::ped_reindex::ped_loops::ped_scalar::ped_rules::ped_loop_runs::ped_bodies::ped_steps::ped_weaves::ped_laws::ped_flow::flow_of;
-use ped_transformations::ped_reindex::ped_loops::ped_scalar::ped_rules::ped_loop_runs::ped_bodies::ped_steps::{
-    Refused, Scene,
-};
-use ped_transformations::{Kind, Place, every_step_is_lawful};
+use ped_base::NoMemory;
+use ped_order::flow_of;
+use ped_script::Command;
+use ped_transformations::{Kind, Place, Refused, Scene, every_step_is_lawful};
 use ped_valid::Opened;
+use ped_verdict::Steps;
 use std::alloc::Global;
 use std::sync::ledger::Ledger;
 
@@ -58,13 +55,7 @@ impl<L: Ledger> Session<L> {
         alloc: Global,
         command: &Command,
         place: Place,
-    ) -> Result<
-        Result<
-            ped_transformations::ped_reindex::ped_loops::ped_scalar::ped_rules::ped_loop_runs::ped_bodies::ped_steps::Change,
-            Refused,
-        >,
-        NoMemory,
-    >
+    ) -> Result<Result<ped_transformations::Change, Refused>, NoMemory>
         requires { IsPlace (step_of command.now) (Some place) }
         ensures answers { IfOk result (IsAnswerTo command.now (change_by (kind_of place.kind)) self.now) }
         ensures takeable { IfOk result (IsTakeable (change_by (kind_of place.kind)) self.now) }
@@ -91,10 +82,7 @@ impl<L: Ledger> Session<L> {
         &mut self,
         alloc: Global,
         kind: Change,
-        answer: Result<
-            ped_transformations::ped_reindex::ped_loops::ped_scalar::ped_rules::ped_loop_runs::ped_bodies::ped_steps::Change,
-            Refused,
-        >,
+        answer: Result<ped_transformations::Change, Refused>,
         steps: &mut Steps<L>,
     ) -> Result<Reply, NoMemory>
         requires { IsTakeable kind self.old answer }

@@ -1,10 +1,10 @@
 //! Programs of a session.
 
 use crate::changes::Change;
-use crate::ped_base::Bytes;
-use crate::ped_graph::ped_symbols::Symbols;
-use crate::ped_graph::update::Delta;
-use crate::ped_tree::Program;
+use ped_base::Bytes;
+use ped_order::Delta;
+use ped_tree::Program;
+use ped_valid::Symbols;
 use std::sync::ledger::Ledger;
 
 /// A valid program of a session.

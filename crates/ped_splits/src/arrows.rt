@@ -18,14 +18,9 @@ ghost use Rattle.ped_splits.specs.CodeUnits.{IsParted, AreBelow, body_of, leads_
 use crate::units::{Parted, home_at};
 use ped_base::{Name, NoMemory};
 use ped_bits::{Matrix, Row};
-use ped_reindex::ped_loops::ped_scalar::ped_rules::level_at;
-use ped_reindex::ped_loops::ped_scalar::ped_rules::ped_loop_runs::ped_bodies::ped_steps::Scene;
-use ped_reindex::ped_loops::ped_scalar::ped_rules::ped_loop_runs::ped_bodies::ped_steps::ped_weaves::ped_laws::ped_graph::ped_edges::{
-    Edge, Mark,
-};
-use ped_reindex::ped_loops::ped_scalar::ped_rules::ped_loop_runs::ped_bodies::ped_steps::ped_weaves::ped_laws::ped_graph::ped_refs::{
-    Occurrence, RefName, occurrences,
-};
+use ped_edges::{Edge, Mark};
+use ped_refs::{Occurrence, RefName, occurrences};
+use ped_reindex::{Scene, level_at};
 use std::alloc::Global;
 use std::sync::ledger::Ledger;
 

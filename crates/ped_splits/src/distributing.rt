@@ -22,11 +22,10 @@ use crate::blocks::blocks;
 use crate::keeping::kept;
 use crate::units::{Parted, Unit, homes_of, units_of};
 use ped_base::{Listed, NoMemory};
-use ped_reindex::ped_loops::is_plain;
-use ped_reindex::ped_loops::ped_scalar::ped_rules::ped_loop_runs::ped_bodies::ped_steps::{
-    Change, Refused, Rule, Scene, change_to, loop_at, program_with, with_body,
+use ped_reindex::{
+    Change, Refused, Rule, Scene, against, change_to, escapes, is_plain, loop_at, program_with,
+    with_body,
 };
-use ped_reindex::ped_loops::ped_scalar::ped_rules::{against, escapes};
 use ped_tree::{Do, Stmt};
 use std::alloc::Global;
 use std::sync::ledger::Ledger;

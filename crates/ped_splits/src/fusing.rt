@@ -6,11 +6,13 @@ ghost use Rattle.ped_tree.specs.Views.{stmt_trees, program_tree, head_of};
 ghost use Rattle.ped_reindex.specs.ped_loops.specs.ped_scalar.specs.ped_rules.specs.Steps.{Answers};
 ghost use Rattle.ped_reindex.specs.ped_loops.specs.ped_scalar.specs.ped_rules.specs.ped_loop_runs.specs.ped_bodies.specs.ped_steps.specs.Scenes.{IsSceneOf};
 ghost use Rattle.ped_reindex.specs.ped_loops.specs.ped_scalar.specs.ped_rules.specs.ped_loop_runs.specs.ped_bodies.specs.ped_steps.specs.ped_flow.specs.Questions.{IsLoop, LoopOf, IsBrokenBy, IsShown};
+ghost use Rattle.ped_reindex.specs.ped_loops.specs.ped_scalar.specs.ped_rules.specs.ped_loop_runs.specs.ped_bodies.specs.ped_steps.specs.ped_refs.specs.References.{references, pairs};
 ghost use Rattle.ped_reindex.specs.ped_loops.specs.ped_scalar.specs.ped_rules.specs.ped_loop_runs.specs.ped_bodies.specs.ped_steps.specs.Causes.{NoRule};
 ghost use Rattle.ped_reindex.specs.ped_loops.specs.ped_scalar.specs.ped_rules.specs.ped_loop_runs.specs.ped_bodies.specs.ped_steps.specs.Changes.{IsChange};
+ghost use Rattle.ped_reindex.specs.ped_loops.specs.ped_scalar.specs.ped_rules.specs.Carried as Carried;
 ghost use Rattle.ped_reindex.specs.ped_loops.specs.ped_scalar.specs.ped_rules.specs.Rules.{is_parallel, has_private};
 ghost use Rattle.ped_splits.specs.CodePairs.{IsPair};
-ghost use Rattle.ped_splits.specs.CodeFusing.{IsReaderOf, IsBrokenInTwo, IsShownInTwo, IsBrokenInNew, HasPlainBounds};
+ghost use Rattle.ped_splits.specs.CodeFusing.{bodies_of, IsFirstBack, IsReaderOf, IsBrokenInTwo, IsShownInTwo, IsBrokenInNew, HasPlainBounds};
 ghost use Rattle.ped_splits.specs.CodeFusing as Code;
 ghost use Rattle.ped_splits.specs.Neighbours.{Neighbour, AreAlike};
 ghost use Rattle.ped_splits.specs.Neighbours as Two;
@@ -21,14 +23,10 @@ use crate::joining::{fused, kept_without, opened_at};
 use crate::neighbours::{Pair, pair_at};
 use crate::returning::first_back;
 use ped_base::NoMemory;
-use ped_reindex::ped_loops::is_plain;
-use ped_reindex::ped_loops::ped_scalar::ped_rules::ped_loop_runs::ped_bodies::ped_steps::ped_weaves::ped_laws::ped_flow::{
-    Reader, flow_of,
+use ped_edges::Edge;
+use ped_reindex::{
+    Change, Reader, Refused, Rule, Scene, against, change_to, flow_of, is_plain, level_at, loop_at,
 };
-use ped_reindex::ped_loops::ped_scalar::ped_rules::ped_loop_runs::ped_bodies::ped_steps::{
-    Change, Refused, Rule, Scene, change_to, loop_at,
-};
-use ped_reindex::ped_loops::ped_scalar::ped_rules::{against, level_at};
 use ped_tree::{Do, Program};
 use std::alloc::Global;
 use std::sync::ledger::Ledger;
@@ -285,16 +283,37 @@ fn unless_back<L: Ledger>(
         → IsChange (Two.fused is.neighbour) (Two.kept_without (Two.next_number is.neighbour) (program_tree scene.now.tree.now)) change }
     ensures { IfOk result (Answers (Spec.fusing pair.now.number) (program_tree scene.now.tree.now)) }
 {
-    let level = level_at(alloc, scene, pair.number)?;
-    let consts = change.symbols.consts();
-    match first_back(alloc, &change.tree, consts, pair, level)? {
-        Some(edge) => {
+    match first_forbidding(alloc, scene, pair, &change) {
+        Ok(Some(edge)) => {
+            drop(change);
             return Ok(Err(Refused::Dependence(edge)));
         }
-        None => {
+        Ok(None) => {
             return Ok(Ok(change));
         }
+        Err(error) => {
+            drop(change);
+            return Err(error);
+        }
     }
+}
+
+/// The first dependence that forbids the step, where this is the change.
+fn first_forbidding<L: Ledger>(
+    alloc: Global,
+    scene: &Scene<L>,
+    pair: &Pair,
+    change: &Change,
+) -> Result<Option<Edge>, NoMemory>
+    requires scene { IsSceneOf (program_tree scene.now.tree.now) scene.now }
+    requires pair { IsPair (program_tree scene.now.tree.now) pair.now }
+    requires change { (is : IsPair (program_tree scene.now.tree.now) pair.now)
+        → IsChange (Two.fused is.neighbour) (Two.kept_without (Two.next_number is.neighbour) (program_tree scene.now.tree.now)) change.now }
+    ensures { IfOk result (λ found. (is : IsPair (program_tree scene.now.tree.now) pair.now)
+        → IsFirstBack (Two.fused is.neighbour) (bodies_of pair.now (Carried.level_at (program_tree scene.now.tree.now) pair.now.number)) (pairs (references (Two.fused is.neighbour))) found) }
+{
+    let level = level_at(alloc, scene, pair.number)?;
+    first_back(alloc, &change.tree, change.symbols.consts(), pair, level)
 }
 
 /// The statement that the rule IndexEscapes names, where no DO comes next.

@@ -15,11 +15,8 @@ use crate::alike::is_same;
 use crate::neighbours::Pair;
 use crate::units::is_comment;
 use ped_base::{Listed, Name, Names, NoMemory, is_among};
-use ped_reindex::ped_loops::ped_scalar::ped_rules::ped_loop_runs::ped_bodies::ped_steps::ped_sums::substitute_in_statements;
-use ped_reindex::ped_loops::ped_scalar::ped_rules::ped_loop_runs::ped_bodies::ped_steps::ped_weaves::ped_laws::ped_graph::update::Keep;
-use ped_reindex::ped_loops::ped_scalar::ped_rules::ped_loop_runs::ped_bodies::ped_steps::{
-    copy_decls, with_body,
-};
+use ped_reindex::{Keep, copy_decls, with_body};
+use ped_sums::substitute_in_statements;
 use ped_tree::{Do, Expr, Program, Stmt, count_statement, count_statements};
 use std::alloc::Global;
 
@@ -39,13 +36,15 @@ pub(crate) fn fused(alloc: Global, program: &Program, pair: &Pair) -> Result<Pro
     ensures tree { IfOk result (λ p. (is : IsPair (program_tree program.now) pair.now) → program_tree p ≡ Spec.fused is.neighbour) }
     ensures lines { IfOk result (λ p. p.lines.items ≡ []) }
 {
+    let decls = copy_decls(alloc, &program.decls)?;
     let new = joined_loop(alloc, pair)?;
     let joint = Joint {
         number: pair.number,
         new: &new,
     };
-    let decls = copy_decls(alloc, &program.decls)?;
-    let body = joined_among(alloc, &program.body, 1, &joint)?;
+    let body = joined_among(alloc, &program.body, 1, &joint);
+    drop(new);
+    let body = body?;
     Ok(Program {
         decls,
         body,
@@ -59,13 +58,14 @@ fn joined_loop(alloc: Global, pair: &Pair) -> Result<Do, NoMemory>
         (followed (stmt_trees pair.now.own.now.body.items) (followed (stmt_trees pair.now.between.now)
         (Spec.renamed_body (head_of pair.now.own.now) (head_of pair.now.next.now) (stmt_trees pair.now.next.now.body.items))))) }
 {
+    let rejected = joined_names(alloc, &pair.own.rejected, &pair.next.rejected)?;
     let mut body = Vec::new(alloc);
     add_copies(alloc, &mut body, &pair.own.body)?;
     add_copies(alloc, &mut body, pair.between)?;
     let mut second = renamed_body(alloc, pair)?;
     body.append(&mut second)?;
     let mut new = with_body(alloc, pair.own, body)?;
-    new.rejected = joined_names(alloc, &pair.own.rejected, &pair.next.rejected)?;
+    new.rejected = rejected;
     Ok(new)
 }
 
@@ -111,7 +111,9 @@ fn renamed_body(alloc: Global, pair: &Pair) -> Result<Vec<Stmt>, NoMemory>
         return Ok(body);
     }
     let by = Expr::Var(pair.own.variable);
-    substitute_in_statements(alloc, &pair.next.body, &pair.next.variable, &by)
+    let body = substitute_in_statements(alloc, &pair.next.body, &pair.next.variable, &by);
+    drop(by);
+    body
 }
 
 /// Copies of statements, of which the first has the number `first`, with the one DO in the place of the two.
@@ -155,10 +157,10 @@ fn joined_in(alloc: Global, statement: &Stmt, number: u32, joint: &Joint) -> Res
             then_part,
             else_part,
         } => {
-            let condition = condition.copy(alloc)?;
             let then_new = joined_among(alloc, then_part, number + 1, joint)?;
-            let behind = number + 1 + count_statements(then_part);
-            let else_new = joined_among(alloc, else_part, behind, joint)?;
+            let after = number + 1 + count_statements(then_part);
+            let else_new = joined_among(alloc, else_part, after, joint)?;
+            let condition = condition.copy(alloc)?;
             return Ok(Stmt::block_if(condition, then_new, else_new));
         }
         Stmt::Assign { left: _, right: _ }

@@ -9,7 +9,7 @@ ghost use Rattle.ped_splits.specs.CodeUnits.{IsParted, body_of};
 
 use crate::units::Parted;
 use ped_base::{Listed, NoMemory};
-use ped_reindex::ped_loops::ped_scalar::ped_rules::ped_loop_runs::ped_bodies::ped_steps::ped_weaves::ped_laws::ped_graph::update::Keep;
+use ped_reindex::Keep;
 use ped_tree::{Program, count_statements};
 use std::alloc::Global;
 

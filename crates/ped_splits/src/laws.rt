@@ -16,11 +16,8 @@ ghost use Rattle.ped_splits.specs.Fusing.{Match, StandsAgainstFusion, fusing};
 ghost use Rattle.ped_splits.specs.Neighbours.{fused};
 ghost use Rattle.ped_splits.specs.OneVariable.{in_one, Cross};
 
-use ped_reindex::ped_loops::ped_scalar::ped_rules::ped_loop_runs::ped_bodies::ped_steps::ped_weaves::ped_laws::conflicts::{
-    accesses_are_made, accesses_in_sequence,
-};
-use ped_reindex::ped_loops::ped_scalar::ped_rules::ped_loop_runs::{
-    none_rejected, private_names_cleared, stays_trusted,
+use ped_reindex::{
+    accesses_are_made, accesses_in_sequence, none_rejected, private_names_cleared, stays_trusted,
 };
 
 /// `distribute` has one first cause at most and makes one program; where nothing forbids it, that one is valid, has no C$PED

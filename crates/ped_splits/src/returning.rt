@@ -17,12 +17,8 @@ ghost use Rattle.ped_splits.specs.Fusing as Fusing;
 use crate::joining::opened_at;
 use crate::neighbours::Pair;
 use ped_base::NoMemory;
-use ped_reindex::ped_loops::ped_scalar::ped_rules::ped_loop_runs::ped_bodies::ped_steps::ped_weaves::ped_laws::ped_graph::ped_edges::{
-    Edge, Mark,
-};
-use ped_reindex::ped_loops::ped_scalar::ped_rules::ped_loop_runs::ped_bodies::ped_steps::ped_weaves::ped_laws::ped_graph::{
-    PairKey, Prepared, prepare,
-};
+use ped_edges::{Edge, Mark};
+use ped_reindex::{PairKey, Prepared, prepare};
 use ped_tree::constants::Consts;
 use ped_tree::{Program, count_statements};
 use std::alloc::Global;

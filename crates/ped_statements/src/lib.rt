@@ -14,5 +14,5 @@ mod simple_statements;
 mod statements;
 
 pub use laws_of_statements::one_item;
-pub use ped_expressions;
+pub use ped_expressions::{Reading, read_expression};
 pub use statements::read_statement;

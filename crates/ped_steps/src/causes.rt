@@ -7,7 +7,7 @@ ghost use Rattle.ped_steps.specs.CodeCauses.{cause_of, IsShort};
 
 use crate::rules::Rule;
 use ped_base::{Bytes, NoMemory, push_number};
-use ped_weaves::ped_laws::ped_graph::ped_edges::Edge;
+use ped_edges::Edge;
 use std::alloc::Global;
 
 /// Why a step is refused.

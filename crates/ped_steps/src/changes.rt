@@ -7,8 +7,7 @@ ghost use Rattle.ped_steps.specs.Replacing as Spec;
 
 use ped_base::{Listed, NoMemory};
 use ped_tree::{Program, count_statements};
-use ped_weaves::ped_laws::ped_graph::ped_symbols::Symbols;
-use ped_weaves::ped_laws::ped_graph::update::Keep;
+use ped_weaves::{Keep, Symbols};
 use std::alloc::Global;
 
 /// What an accepted step makes of a program.

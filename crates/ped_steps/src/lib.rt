@@ -15,9 +15,10 @@ mod validity;
 pub use causes::{Refused, cause_words};
 pub use changes::{Change, all_kept};
 pub use laws::one_replacement;
-pub use ped_sums;
-pub use ped_weaves;
-pub use ped_weaves::ped_laws::ped_flow::loop_at;
+pub use ped_weaves::{
+    Flow, Keep, Kind, PairKey, Prepared, Reader, Symbols, accesses_are_made, accesses_in_sequence,
+    conflicts_are_covered, flow_of, loop_at, prepare,
+};
 pub use replacing::{body_with, copy_decls, program_with, with_body};
 pub use rounds::loops_round;
 pub use rules::Rule;

@@ -106,10 +106,10 @@ fn add(
             if number == place.number {
                 return add_copies(alloc, all, place.new);
             }
-            let condition = condition.copy(alloc)?;
             let then_new = filled(alloc, then_part, number + 1, place)?;
-            let behind = number + 1 + count_statements(then_part);
-            let else_new = filled(alloc, else_part, behind, place)?;
+            let after = number + 1 + count_statements(then_part);
+            let else_new = filled(alloc, else_part, after, place)?;
+            let condition = condition.copy(alloc)?;
             return add_one(all, Stmt::block_if(condition, then_new, else_new));
         }
         Stmt::Do(d) => {

@@ -7,8 +7,8 @@ ghost use Rattle.ped_weaves.specs.ped_laws.specs.ped_graph.specs.ped_refs.specs.
 ghost use Rattle.ped_weaves.specs.ped_laws.specs.ped_flow.specs.PlainBounds as Spec;
 
 use ped_base::NoMemory;
+use ped_refs::Loop;
 use ped_tree::{Do, Program, Stmt, count_statement, count_statements};
-use ped_weaves::ped_laws::ped_graph::ped_refs::Loop;
 use std::alloc::Global;
 
 /// The DO loops of a program round the statement with a number, the outermost first.

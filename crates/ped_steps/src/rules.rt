@@ -4,7 +4,7 @@ ghost use Rattle.std.specs.Prelude.{◌≡◌};
 ghost use Rattle.ped_steps.specs.RuleNames.{number_of, name_of};
 
 /// A rule that stands against a step, in the order of the numbers 1 to 20 (ParaScope; this project).
-#[derive(Clone, Copy, Debug, PartialEq, Eq)]
+#[derive(Clone, Copy, PartialEq, Eq)]
 pub enum Rule {
     /// The statement is no DO.
     NoLoop,

@@ -1,9 +1,7 @@
 //! What a step is given.
 
 use ped_tree::Program;
-use ped_weaves::ped_laws::ped_flow::Flow;
-use ped_weaves::ped_laws::ped_graph::Graph;
-use ped_weaves::ped_laws::ped_graph::ped_symbols::Symbols;
+use ped_weaves::{Flow, Graph, Symbols};
 use std::sync::ledger::Ledger;
 
 /// A valid program with what its names stand for, its dependences and the flow of its scalars. Steps read it, and

@@ -10,8 +10,7 @@ use crate::changes::Change;
 use ped_base::NoMemory;
 use ped_fits::fits;
 use ped_tree::Program;
-use ped_weaves::ped_laws::ped_graph::ped_symbols::{NameRefusal, Symbols, symbols_of};
-use ped_weaves::ped_laws::ped_graph::update::Keep;
+use ped_weaves::{Keep, NameRefusal, Symbols, symbols_of};
 use std::alloc::Global;
 
 /// What the names of a program stand for that was read from no text: none exactly where it isn't valid, since it breaks a

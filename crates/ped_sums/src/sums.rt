@@ -8,7 +8,7 @@ use crate::literals::{
     difference_of_literals, is_zero, literal, negative_literal, product_of_literals,
     sum_of_literals,
 };
-use ped_base::NoMemory;
+use ped_base::{NoMemory, both};
 use ped_tree::Expr;
 use std::alloc::Global;
 
@@ -35,7 +35,10 @@ fn added(alloc: Global, a: &Expr, b: &Expr) -> Result<Expr, NoMemory>
     let left = a.copy(alloc)?;
     match negative_literal(b) {
         Some(k) => Expr::difference(alloc, left, Expr::literal(k)),
-        None => Expr::sum(alloc, left, b.copy(alloc)?),
+        None => {
+            let (left, right) = both(left, b.copy(alloc))?;
+            Expr::sum(alloc, left, right)
+        }
     }
 }
 
@@ -59,7 +62,10 @@ fn subtracted(alloc: Global, a: &Expr, b: &Expr) -> Result<Expr, NoMemory>
     let left = a.copy(alloc)?;
     match negative_literal(b) {
         Some(k) => Expr::sum(alloc, left, Expr::literal(k)),
-        None => Expr::difference(alloc, left, b.copy(alloc)?),
+        None => {
+            let (left, right) = both(left, b.copy(alloc))?;
+            Expr::difference(alloc, left, right)
+        }
     }
 }
 
@@ -76,5 +82,6 @@ pub fn times(alloc: Global, k: u32, a: &Expr) -> Result<Expr, NoMemory>
     if let Some(n) = product_of_literals(k, a) {
         return literal(alloc, n);
     }
-    Expr::product(alloc, Expr::literal(k), a.copy(alloc)?)
+    let factor = a.copy(alloc)?;
+    Expr::product(alloc, Expr::literal(k), factor)
 }

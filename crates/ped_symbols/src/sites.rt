@@ -11,11 +11,11 @@ ghost use Rattle.ped_symbols.specs.Passes.{Knows, is_reached, refused_at};
 use crate::declared::Declared;
 use crate::pairs::one_less;
 use crate::uses::{Role, Use};
-use ped_limits::ped_expressions::intrinsic_of;
+use ped_limits::intrinsic_of;
 use ped_tree::grammar::{Refusal, RefusalKind, standing};
 
 /// What is wrong at a site beside single uses of names.
-#[derive(Clone, Copy, Debug, PartialEq, Eq)]
+#[derive(Clone, Copy, PartialEq, Eq)]
 pub struct Faults {
     /// It repeats what may be said once.
     pub repeats: bool,

@@ -11,7 +11,7 @@ use ped_base::{Name, NoMemory};
 use ped_tree::{Bound, Cond, Decl, Declarator, Do, Expr, PrintItem, Stmt};
 
 /// How a name is used at one place.
-#[derive(Clone, Copy, Debug, PartialEq, Eq)]
+#[derive(Clone, Copy, PartialEq, Eq)]
 pub enum Role {
     /// It stands in INTEGER (ANSI X3.9-1978, section 8.4.1).
     Typed,

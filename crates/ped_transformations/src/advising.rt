@@ -12,11 +12,9 @@ ghost use Rattle.ped_transformations.specs.CodeAdvice as told;
 ghost use Rattle.ped_transformations.specs.CodeAdvice.{IsAgainst, IsTellable, Tells};
 
 use crate::table::answer;
-use ped_auto::ped_reduce::ped_splits::ped_reindex::ped_loops::ped_scalar::ped_rules::ped_loop_runs::ped_bodies::ped_steps::{
-    Change, Refused, Scene, cause_words,
-};
-use ped_auto::ped_script::Command;
 use ped_base::{Bytes, NoMemory};
+use ped_inline::{Change, Refused, Scene, cause_words};
+use ped_script::Command;
 use std::alloc::Global;
 use std::sync::ledger::Ledger;
 

@@ -6,16 +6,12 @@ ghost use Rattle.ped_auto.specs.ped_reduce.specs.ped_splits.specs.ped_reindex.sp
 ghost use Rattle.ped_auto.specs.ped_reduce.specs.ped_splits.specs.ped_reindex.specs.ped_loops.specs.ped_scalar.specs.ped_rules.specs.Lawful.{IsLawful};
 ghost use Rattle.ped_transformations.specs.Table.{step_of};
 
-use ped_auto::ped_reduce::ped_splits::ped_reindex::ped_loops::{
-    interchange_is_lawful, parallel_is_lawful, rejection_is_lawful, reversal_is_lawful,
-    serial_is_lawful,
+use ped_auto::reduction_is_lawful;
+use ped_inline::{
+    distribution_is_lawful, fusion_is_lawful, inline_is_lawful, interchange_is_lawful,
+    parallel_is_lawful, peeling_is_lawful, rejection_is_lawful, reversal_is_lawful,
+    serial_is_lawful, skewing_is_lawful, stripping_is_lawful,
 };
-use ped_auto::ped_reduce::ped_splits::ped_reindex::{
-    peeling_is_lawful, skewing_is_lawful, stripping_is_lawful,
-};
-use ped_auto::ped_reduce::ped_splits::{distribution_is_lawful, fusion_is_lawful};
-use ped_auto::ped_reduce::reduction_is_lawful;
-use ped_inline::inline_is_lawful;
 
 /// The step of each command is lawful, where it takes one: it has one first cause at most, makes one program, and where
 /// nothing forbids it there is one, which is valid; and a transformation of a program that may be trusted makes one that

@@ -9,8 +9,9 @@ mod table;
 
 pub use advising::advice;
 pub use laws::every_step_is_lawful;
-pub use ped_auto;
-pub use ped_auto::ped_reduce;
-pub use ped_auto::ped_reduce::ped_splits::ped_reindex;
-pub use ped_inline;
+pub use ped_auto::{
+    AutoReport, Editor, Lowered, accepted_are_commands, auto, has_list, lower,
+    lowering_keeps_the_meaning, one_lowering,
+};
+pub use ped_inline::{Change, Refused, Scene, calls_pane, cause_words, loop_at, loops_round};
 pub use table::{Kind, Place, answer, place_of};

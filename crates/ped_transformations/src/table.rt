@@ -7,24 +7,18 @@ ghost use Rattle.ped_transformations.specs.declared.table.Kind.TheVariants as Ki
 ghost use Rattle.ped_transformations.specs.Table.{step_of};
 ghost use Rattle.ped_transformations.specs.CodeKinds.{IsPlace, AnswersStep};
 
-use ped_auto::ped_reduce::ped_splits::ped_reindex::ped_loops::ped_scalar::ped_rules::ped_loop_runs::ped_bodies::ped_steps::{
-    Change, Refused, Scene,
-};
-use ped_auto::ped_reduce::ped_splits::ped_reindex::ped_loops::ped_scalar::{expand, privatise};
-use ped_auto::ped_reduce::ped_splits::ped_reindex::ped_loops::{
-    interchange, make_parallel, make_serial, reject, reverse,
-};
-use ped_auto::ped_reduce::ped_splits::ped_reindex::{peel, skew, strip};
-use ped_auto::ped_reduce::ped_splits::{distribute, fuse};
-use ped_auto::ped_reduce::reduce;
-use ped_auto::ped_script::Command;
+use ped_auto::reduce;
 use ped_base::NoMemory;
-use ped_inline::inline;
+use ped_inline::{
+    Change, Refused, Scene, distribute, expand, fuse, inline, interchange, make_parallel,
+    make_serial, peel, privatise, reject, reverse, skew, strip,
+};
+use ped_script::Command;
 use std::alloc::Global;
 use std::sync::ledger::Ledger;
 
 /// What a step is to the meaning of a program (ParaScope).
-#[derive(Clone, Copy, Debug, PartialEq, Eq)]
+#[derive(Clone, Copy, PartialEq, Eq)]
 pub enum Kind {
     /// It keeps the meaning.
     Transformation,
@@ -33,7 +27,7 @@ pub enum Kind {
 }
 
 /// Where a step is taken.
-#[derive(Clone, Copy, Debug, PartialEq, Eq)]
+#[derive(Clone, Copy, PartialEq, Eq)]
 pub struct Place {
     /// The number of its statement.
     pub statement: u32,

@@ -7,7 +7,7 @@ use ped_base::NoMemory;
 use std::alloc::Global;
 
 /// A relational operator (ANSI X3.9-1978, section 6.3).
-#[derive(Clone, Copy, Debug, PartialEq, Eq)]
+#[derive(Clone, Copy, PartialEq, Eq)]
 pub enum Relation {
     /// `.LT.`
     Lt,

@@ -7,7 +7,7 @@ use std::alloc::Global;
 
 /// An intrinsic function of the profile (ANSI X3.9-1978, section 15.10). IABS is read as ABS, MAX0 as
 /// MAX and MIN0 as MIN.
-#[derive(Clone, Copy, Debug, PartialEq, Eq)]
+#[derive(Clone, Copy, PartialEq, Eq)]
 pub enum Intrinsic {
     /// The remainder of a division, of two arguments.
     Mod,

@@ -9,6 +9,5 @@ mod refusals;
 
 pub use laws::{one_valid_tree_or_one_refusal, printed_program_is_valid};
 pub use opening::{Opened, open_program};
-pub use ped_parse;
-pub use ped_symbols;
+pub use ped_symbols::{Kind, NameRefusal, Symbols, symbols_of};
 pub use refusals::OpenRefusal;

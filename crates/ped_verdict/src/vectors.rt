@@ -7,7 +7,7 @@ use std::marker::Model;
 
 /// A direction vector over at most six common loops, the outermost loop first (Allen and Kennedy, section
 /// 2.2.4). Contracts see the list of its directions.
-#[derive(Clone, Copy, Debug, PartialEq, Eq)]
+#[derive(Clone, Copy, PartialEq, Eq)]
 pub struct Vector {
     len: u8,
     directions: [Direction; 6],

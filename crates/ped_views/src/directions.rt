@@ -2,7 +2,7 @@
 
 /// The direction of a dependence in one loop: how the index at the source stands to the index at the
 /// sink in the order of iterations (Allen and Kennedy, direction vectors).
-#[derive(Clone, Copy, Debug, PartialEq, Eq)]
+#[derive(Clone, Copy, PartialEq, Eq)]
 pub enum Direction {
     /// `<`: the source's iteration comes first.
     Before,

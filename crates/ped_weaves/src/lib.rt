@@ -9,7 +9,11 @@ mod sources;
 mod weaves;
 
 pub use apart::{agreed_sets, parts_apart, standing_pieces};
-pub use ped_laws;
+pub use ped_laws::conflicts::{accesses_are_made, accesses_in_sequence, conflicts_are_covered};
+pub use ped_laws::{
+    Flow, Graph, Keep, Kind, NameRefusal, PairKey, Prepared, Reader, Symbols, flow_of, loop_at,
+    prepare, symbols_of,
+};
 pub use puttings::{act_for_act, kept_part};
 pub use sources::comes_free;
 pub use weaves::{counted_acts, trips_reordered, weaving, woven_rows};

@@ -1,7 +1,7 @@
 //! What a call may ask for.
 
 /// What the words of a call ask for. Names are those of files.
-#[derive(Clone, Copy, Debug, PartialEq, Eq)]
+#[derive(Clone, Copy, PartialEq, Eq)]
 pub enum Request<'a> {
     /// To show a program.
     Show {

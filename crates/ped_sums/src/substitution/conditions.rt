@@ -5,7 +5,7 @@ ghost use Rattle.ped_tree.specs.Views.{expr_tree, cond_tree};
 ghost use Rattle.ped_sums.specs.Substitution as Spec;
 
 use super::expressions::substitute;
-use ped_base::{Name, NoMemory};
+use ped_base::{Name, NoMemory, both};
 use ped_tree::{Cond, Expr};
 use std::alloc::Global;
 
@@ -19,24 +19,24 @@ pub fn substitute_in_condition(
     ensures { IfOk result (λ new. cond_tree new ≡ Spec.condition_substituted name.now (expr_tree by.now) (cond_tree condition.now)) }
 {
     match condition {
-        Cond::Rel(relation, left, right) => {
-            let left = substitute(alloc, left, name, by)?;
-            let right = substitute(alloc, right, name, by)?;
-            Ok(Cond::relation(*relation, left, right))
+        Cond::Rel(relation, a, b) => {
+            let a = substitute(alloc, a, name, by)?;
+            let (a, b) = both(a, substitute(alloc, b, name, by))?;
+            Ok(Cond::relation(*relation, a, b))
         }
         Cond::Not(operand) => {
             let operand = substitute_in_condition(alloc, operand, name, by)?;
             Cond::negation(alloc, operand)
         }
-        Cond::And(left, right) => {
-            let left = substitute_in_condition(alloc, left, name, by)?;
-            let right = substitute_in_condition(alloc, right, name, by)?;
-            Cond::conjunction(alloc, left, right)
+        Cond::And(a, b) => {
+            let a = substitute_in_condition(alloc, a, name, by)?;
+            let (a, b) = both(a, substitute_in_condition(alloc, b, name, by))?;
+            Cond::conjunction(alloc, a, b)
         }
-        Cond::Or(left, right) => {
-            let left = substitute_in_condition(alloc, left, name, by)?;
-            let right = substitute_in_condition(alloc, right, name, by)?;
-            Cond::disjunction(alloc, left, right)
+        Cond::Or(a, b) => {
+            let a = substitute_in_condition(alloc, a, name, by)?;
+            let (a, b) = both(a, substitute_in_condition(alloc, b, name, by))?;
+            Cond::disjunction(alloc, a, b)
         }
     }
 }

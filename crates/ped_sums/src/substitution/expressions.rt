@@ -5,9 +5,10 @@ ghost use Rattle.ped_tree.specs.Tree;
 ghost use Rattle.ped_tree.specs.Views.{expr_tree, pack_exprs};
 ghost use Rattle.ped_base.specs.Lists.{is_same_text};
 ghost use Rattle.ped_sums.specs.Substitution as Spec;
+ghost use Rattle.ped_sums.specs.Sums;
 
 use crate::sums::{minus, plus};
-use ped_base::{Name, NoMemory};
+use ped_base::{Name, NoMemory, both};
 use ped_tree::Expr;
 use std::alloc::Global;
 
@@ -80,38 +81,58 @@ pub fn substitute(alloc: Global, e: &Expr, name: &Name, by: &Expr) -> Result<Exp
             if !changes(a, b, name, by) {
                 return e.copy(alloc);
             }
-            let left = substitute(alloc, a, name, by)?;
-            let right = substitute(alloc, b, name, by)?;
-            plus(alloc, &left, &right)
+            let a = substitute(alloc, a, name, by)?;
+            let (a, b) = both(a, substitute(alloc, b, name, by))?;
+            sum_of(alloc, a, b)
         }
         Expr::Sub(a, b) => {
             if !changes(a, b, name, by) {
                 return e.copy(alloc);
             }
-            let left = substitute(alloc, a, name, by)?;
-            let right = substitute(alloc, b, name, by)?;
-            minus(alloc, &left, &right)
+            let a = substitute(alloc, a, name, by)?;
+            let (a, b) = both(a, substitute(alloc, b, name, by))?;
+            difference_of(alloc, a, b)
         }
         Expr::Mul(a, b) => {
-            let left = substitute(alloc, a, name, by)?;
-            let right = substitute(alloc, b, name, by)?;
-            Expr::product(alloc, left, right)
+            let a = substitute(alloc, a, name, by)?;
+            let (a, b) = both(a, substitute(alloc, b, name, by))?;
+            Expr::product(alloc, a, b)
         }
         Expr::Div(a, b) => {
-            let left = substitute(alloc, a, name, by)?;
-            let right = substitute(alloc, b, name, by)?;
-            Expr::quotient(alloc, left, right)
+            let a = substitute(alloc, a, name, by)?;
+            let (a, b) = both(a, substitute(alloc, b, name, by))?;
+            Expr::quotient(alloc, a, b)
         }
         Expr::Pow(a, b) => {
-            let base = substitute(alloc, a, name, by)?;
-            let exponent = substitute(alloc, b, name, by)?;
-            Expr::power(alloc, base, exponent)
+            let a = substitute(alloc, a, name, by)?;
+            let (a, b) = both(a, substitute(alloc, b, name, by))?;
+            Expr::power(alloc, a, b)
         }
         Expr::Call(intrinsic, arguments) => {
             let arguments = substitute_in_all(alloc, arguments, name, by)?;
             Ok(Expr::call(*intrinsic, arguments))
         }
     }
+}
+
+/// The sum of two expressions, which are let go.
+fn sum_of(alloc: Global, a: Expr, b: Expr) -> Result<Expr, NoMemory>
+    ensures { IfOk result (λ e. expr_tree e ≡ Sums.plus_of (expr_tree a) (expr_tree b)) }
+{
+    let sum = plus(alloc, &a, &b);
+    drop(a);
+    drop(b);
+    sum
+}
+
+/// The difference of two expressions, which are let go.
+fn difference_of(alloc: Global, a: Expr, b: Expr) -> Result<Expr, NoMemory>
+    ensures { IfOk result (λ e. expr_tree e ≡ Sums.minus_of (expr_tree a) (expr_tree b)) }
+{
+    let difference = minus(alloc, &a, &b);
+    drop(a);
+    drop(b);
+    difference
 }
 
 fn in_scalar(alloc: Global, other: &Name, name: &Name, by: &Expr) -> Result<Expr, NoMemory>

@@ -7,8 +7,8 @@ ghost use Rattle.ped_sums.specs.Substitution as Spec;
 
 use super::conditions::substitute_in_condition;
 use super::expressions::{substitute, substitute_in_all};
-use ped_base::{Name, NoMemory};
-use ped_tree::{Do, Expr, PrintItem, Stmt, copy_names};
+use ped_base::{Name, NoMemory, both};
+use ped_tree::{Do, Expr, PrintItem, Stmt};
 use std::alloc::Global;
 
 fn substitute_in_item(
@@ -54,7 +54,7 @@ pub fn substitute_in_statement(
     match statement {
         Stmt::Assign { left, right } => {
             let left = substitute(alloc, left, name, by)?;
-            let right = substitute(alloc, right, name, by)?;
+            let (left, right) = both(left, substitute(alloc, right, name, by))?;
             Ok(Stmt::assignment(left, right))
         }
         Stmt::If {
@@ -62,9 +62,9 @@ pub fn substitute_in_statement(
             then_part,
             else_part,
         } => {
-            let condition = substitute_in_condition(alloc, condition, name, by)?;
             let then_part = substitute_in_statements(alloc, then_part, name, by)?;
             let else_part = substitute_in_statements(alloc, else_part, name, by)?;
+            let condition = substitute_in_condition(alloc, condition, name, by)?;
             Ok(Stmt::block_if(condition, then_part, else_part))
         }
         Stmt::Do(body) => Ok(Stmt::of_loop(substitute_in_loop(alloc, body, name, by)?)),
@@ -80,22 +80,11 @@ pub fn substitute_in_statement(
 pub fn substitute_in_loop(alloc: Global, body: &Do, name: &Name, by: &Expr) -> Result<Do, NoMemory>
     ensures { IfOk result (λ new. do_tree new ≡ Spec.statement_substituted name.now (expr_tree by.now) (do_tree body.now)) }
 {
-    let first = substitute(alloc, &body.first, name, by)?;
-    let last = substitute(alloc, &body.last, name, by)?;
-    let step = substitute(alloc, &body.step, name, by)?;
-    let private = copy_names(&body.private, alloc)?;
-    let rejected = copy_names(&body.rejected, alloc)?;
     let statements = substitute_in_statements(alloc, &body.body, name, by)?;
-    Ok(Do {
-        variable: body.variable,
-        first,
-        last,
-        step,
-        parallel: body.parallel,
-        private,
-        rejected,
-        body: statements,
-    })
+    let first = substitute(alloc, &body.first, name, by)?;
+    let bounds = both(first, substitute(alloc, &body.last, name, by))?;
+    let ((first, last), step) = both(bounds, substitute(alloc, &body.step, name, by))?;
+    body.with_header_and_body(first, last, step, statements, alloc)
 }
 
 /// The statements, each with `by` in place of the scalar `name`.

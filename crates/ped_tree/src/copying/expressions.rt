@@ -1,12 +1,12 @@
 //! Copies of expressions and conditions.
 
-ghost use Rattle.std.specs.Prelude.{◌≡◌, Ok, IfOk, map};
+ghost use Rattle.std.specs.Prelude.{◌≡◌, IfOk, map};
 ghost use Rattle.ped_tree.specs.Tree;
 ghost use Rattle.ped_tree.specs.Views.{expr_tree, cond_tree};
 
 use crate::conditions::{Cond, Relation};
 use crate::expressions::Expr;
-use ped_base::NoMemory;
+use ped_base::{NoMemory, both};
 use std::alloc::Global;
 
 impl Expr {
@@ -91,15 +91,4 @@ fn copy_relation(
 {
     let (left, right) = both(left.copy(alloc)?, right.copy(alloc))?;
     Ok(Cond::relation(relation, left, right))
-}
-
-/// Two copies, where the second one was made, too; else the first is let go.
-fn both<T: Drop>(first: T, second: Result<T, NoMemory>) -> Result<(T, T), NoMemory>
-    ensures first { IfOk result (λ pair. pair.0 ≡ first) }
-    ensures second { IfOk result (λ pair. second ≡ Ok pair.1) }
-{
-    match second {
-        Ok(second) => Ok((first, second)),
-        Err(error) => Err(error),
-    }
 }

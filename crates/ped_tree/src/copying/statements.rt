@@ -85,6 +85,44 @@ impl Do {
         }
     }
 
+    /// A copy with this initial value, limit and increment in place of its own.
+    pub fn with_header(
+        &self,
+        first: Expr,
+        last: Expr,
+        step: Expr,
+        alloc: Global,
+    ) -> Result<Self, NoMemory>
+        ensures { IfOk result (λ copy. do_tree copy ≡ Tree.Do
+            (head self.now.variable first last step self.now.parallel self.now.private self.now.rejected)
+            (stmt_trees self.now.body.items)) }
+    {
+        let control = Control { first, last, step };
+        match copy_stmts(&self.body, alloc) {
+            Ok(body) => self.with_control(control, body, alloc),
+            Err(error) => {
+                drop(control);
+                Err(error)
+            }
+        }
+    }
+
+    /// A copy with this initial value, limit and increment, and with this body, in place of its own.
+    pub fn with_header_and_body(
+        &self,
+        first: Expr,
+        last: Expr,
+        step: Expr,
+        body: Vec<Stmt>,
+        alloc: Global,
+    ) -> Result<Self, NoMemory>
+        ensures { IfOk result (λ copy. do_tree copy ≡ Tree.Do
+            (head self.now.variable first last step self.now.parallel self.now.private self.now.rejected)
+            (stmt_trees body.items)) }
+    {
+        self.with_control(Control { first, last, step }, body, alloc)
+    }
+
     /// A copy with these parameters and this body in place of its own.
     fn with_control(
         &self,

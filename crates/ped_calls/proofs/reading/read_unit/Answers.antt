@@ -21,7 +21,7 @@ returns c all lines directives =
       headed = c.heading_of-head.ensures;
       seen = seen;
       saved = c.in_ok-saved.ensures ∙ ap (λ (es : List code.Entry). saved_names (map entry_of es)) c.deref.ensures.value ∙ ap saved_names seen.entries;
-      first = both_first (other_refusals s) (program_refusals all (seen_entries s)) (found_of c.in_ok-other.other) (found_of c.in_ok-first.first) (found_of c.first_of_both.result) c.in_ok-other.ensures
+      first = both_first (other_refusals s) (program_refusals all (seen_entries s)) (found_of c.in-Ok.other) (found_of c.in_ok-first.first) (found_of c.first_of_both.result) c.in-Ok.ensures
           (c.in_ok-first.ensures all lines directives ∙ ap (λ (es : List code.Entry). first_of (program_refusals all (map entry_of es))) c.deref-2.ensures.value ∙ ap (λ (es : List Entry). first_of (program_refusals all es)) seen.entries)
           c.first_of_both.ensures;
     }

@@ -19,14 +19,14 @@ returns-then-not-is_empty c left =
 pub returns : goal.returns
 returns c =
     let old = map decl_tree c.args.decls.now.items in
-    let new = map decl_tree c.push_comment.new.decls.items in
+    let new = map decl_tree c.push_comment-done.new.decls.items in
     let rest = c.args.rest.now in
     let zero : rest.len ≡ 0 = is_zero rest.len (sym c.is_empty.ensures ∙ c.if-not-is_empty.false) in
     let none : rest.items ≡ [] = nil_from_length rest.items (omega (arith, zero, rest.ok.0)) in
     let remark : is_comment (stmt_tree c.args.statement) ≡ true = sym c.is_comment.ensures ∙ c.if-not-is_comment.false in
-    on_ok_weaker c.push_comment.result
+    on_ok_weaker c.push_comment-done.result
     (λ h left.
     ap (λ (ss : List Stmt). placed new (map stmt_tree ss) left) none
     ∙ h remark left
     ∙ ap (λ (ss : List Stmt). placed old (map stmt_tree ss) (more_stmts (stmt_tree c.args.statement) left)) (sym none))
-    c.push_comment.ensures
+    c.push_comment-done.ensures

@@ -12,4 +12,4 @@ returns c =
     let f = to_z-of_z w64 k c.ranges.size in
     let less : to_z w64 (of_z w64 (to_z w64 (of_z w64 k) -ℤ pos 1)) ≡ k -ℤ pos 1 = (λ i. to_z w64 (of_z w64 (f i -ℤ pos 1))) ∙ to_z-of_z w64 (k -ℤ pos 1) (end_fits k c.requires) in
     let further = c.in_ok-further.ensures ∙ ap (λ (z : ℤ). literal z) less in
-    IfOk-weaker c.plus.result _ _ (λ e said. said ∙ (λ i. plus_of (c.scalar-variable.ensures i) (further i))) c.plus.ensures
+    IfOk-weaker c.plus-end.result _ _ (λ e said. said ∙ (λ i. plus_of (c.scalar-variable.ensures i) (further i))) c.plus-end.ensures

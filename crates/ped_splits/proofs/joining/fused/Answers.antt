@@ -15,8 +15,9 @@ returns-clause-tree c = λ is.
     let joined : Head → StmtTrees → StmtTrees → Head → StmtTrees → StmtTree = λ h own between k next. Do (joined_head h k) (followed own (followed between (renamed_body h k next))) in
     let new = c.in_ok-new.ensures ∙ (λ i. joined (sym is.own i) (sym is.own_body i) (sym is.between i) (sym is.next i) (sym is.next_body i)) in
     let decls = c.in_ok-decls.ensures ∙ ap (λ (ds : List Decl). map decl_tree ds) c.deref.ensures.value in
+    let made = rw c.in_ok-body.was at c.joined_among-body.ensures in
     let body =
-    c.in_ok-body.ensures
+    made
     ∙ (λ i. all_joined (new i) p.number (stmt_trees (c.deref-2.ensures.value i)) 1)
     ∙ ap (λ (ts : StmtTrees). all_joined (joined x.own x.own_body x.between x.next x.next_body) p.number ts 1) x.stands
     ∙ joined_gap (joined x.own x.own_body x.between x.next x.next_body) p.number x.own x.own_body x.between x.next x.next_body x.comments x.gap 1 x.numbered in

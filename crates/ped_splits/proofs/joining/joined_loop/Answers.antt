@@ -16,4 +16,4 @@ returns c =
     let first = c.in_ok-add_copies.ensures ∙ (λ i. followed (stmt_trees (c.new-body.ensures.items i)) (stmt_trees (c.deref.ensures.value i))) in
     let second = c.in_ok-add_copies-2.ensures ∙ ap (λ (b : StmtTrees). followed b between) first in
     let body = ap stmt_trees c.in_ok-append.ensures.items ∙ stmt_trees-append c.add_copies-2.new.all.items c.in_ok-second.second.items ∙ (λ i. followed (second i) (c.in_ok-second.ensures i)) ∙ followed-assoc own between renamed in
-    rejoined (head_of c.in_ok-new.new) (head_of p.own.now) (stmt_trees c.in_ok-new.new.body.items) (followed own (followed between renamed)) _ _ (c.in_ok-new.ensures ∙ ap (λ (b : StmtTrees). Do (head_of p.own.now) b) body) c.in_ok-new-2.ensures
+    rejoined (head_of c.in_ok-new.new) (head_of p.own.now) (stmt_trees c.in_ok-new.new.body.items) (followed own (followed between renamed)) _ _ (c.in_ok-new.ensures ∙ ap (λ (b : StmtTrees). Do (head_of p.own.now) b) body) c.in_ok-rejected.ensures

@@ -1,6 +1,8 @@
-//! Files of program units expanded to the text of one program.
+//! Whole texts read as expressions and conditions, and files of program units expanded to the text of one program.
 
 use ped_calls::{UnitFinding, UnitRefusal, UnitRule, expand_units};
+use ped_expressions::{Reading, read_condition, read_expression, read_reference};
+use ped_tree::{Cond, Expr};
 use std::test::Fail;
 
 /// A main program that calls a subroutine with a variable and a sum.
@@ -20,6 +22,18 @@ C$CALL NEXT(I,J+1)
       END IF
       END
 ";
+
+#[test]
+fn whole_texts_are_read(rt: HostRuntime) -> Result<(), Fail> {
+    let alloc = rt.alloc();
+    let sum = read_expression(alloc, b"A+B*2")?;
+    assert!(rt; matches!(sum, Reading::Tree(Expr::Add(_, _))));
+    let element = read_reference(alloc, b"A(I,1)")?;
+    assert!(rt; matches!(element, Reading::Tree(Expr::Element(_, _))));
+    let negation = read_condition(alloc, b".NOT.A.LT.B")?;
+    assert!(rt; matches!(negation, Reading::Tree(Cond::Not(_))));
+    Ok(())
+}
 
 #[test]
 fn a_call_is_expanded(rt: HostRuntime) -> Result<(), Fail> {

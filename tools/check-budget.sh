@@ -1,23 +1,33 @@
 #!/usr/bin/env bash
-# Holds the repository to its budget, by what makes the gate dear beside the proofs themselves. A crate is proved once
-# more for its tests and for each must-fail edit. And whenever the toolchain looks whether a crate is up to date, it goes
-# down every way that leads from the crate by crates.txt, so the same crate is read as often as ways lead to it.
+# Holds the repository to its budget, by what makes proofs dear. A crate's proof takes time for each step of its lowered code,
+# for each of its functions, and for each module that it loads: tools/proof-size shows all three, and CONTRIBUTING.md says what a
+# change costs by them. A crate is proved once more for its tests and for each must-fail edit. And whenever the toolchain
+# looks whether a crate is up to date, it goes down every way that leads from the crate by crates.txt, so the same crate is read as
+# often as ways lead to it.
 #
-# How far crates reach into the lemmas of others is held, too, file by file: tools/lemma-doors.py --list shows it.
+# Held are:
+# - must-fail edits: in seven cheap crates, three each at most; all other wrong bodies are files that tools/wrong-bodies tries
+# - tests: in one crate
+# - ways down by crates.txt
+# - no crate passes on another one as a whole: each `pub use` of src/lib.rt names items
+# - steps of a function, and of a crate: at most those below, but for those that tools/large-functions.txt lists with a number of
+#   their own, which may only fall. They are read from the built libraries, and passed over where a crate has none
+# - how far crates reach into the lemmas of others, file by file: tools/lemma-doors.py --list shows it
 #
 # There is a line for each count that is above its limit, and a last line with all. The status is 0 only where none is.
 set -eu
 cd -- "$(dirname -- "${BASH_SOURCE[0]}")/.."
 
 # The limits.
-most_edits=45
-most_crates_with_edits=12
-most_test_lines=250
-most_crates_with_tests=2
-# ped_auto, a link between ped_reduce and ped_transformations, has brought 199 ways. Subroutines have brought 2459: 1349 ped_calls and
-# ped_call_runs, by which ped_answer opens files beside sessions, and 1110 ped_inline, beside ped_reduce: it re-exports fewer levels there.
-# ped_tests expands a file by `expand_units`, which no program calls, and so has the 141 ways of ped_calls.
-most_ways=7750
+most_edits_of_a_crate=3
+most_crates_with_edits=7
+most_test_lines=60
+most_crates_with_tests=1
+# Items are passed on one by one, so a crate names each crate of which it uses items. A way costs 2 ms a look, and a crate that is
+# passed on as a whole costs each crate above it 5 s: so there are more ways than there were, and they cost less.
+most_ways=12000
+most_steps_of_a_function=100
+most_steps_of_a_crate=2500
 # 9 files of lemmas and 30 imports came with `auto`: what it does to sessions rests on what each step does to the number of statements.
 # With subroutines came 23 files and 168 imports: reading and refusing units rests on what reading and refusing a program does
 # (ped_calls), their runs on those of programs (ped_call_runs), and blocks on the dependences of programs (ped_inline).
@@ -62,6 +72,27 @@ count_ways() {
     ' crates.txt
 }
 
+# The most edits that a crate has.
+most_of_a_crate() {
+    cut -d / -f 2 | sort | uniq -c | awk '$1 > most { most = $1 } END { print most + 0 }'
+}
+
+# The places where a library passes on a crate as a whole.
+whole_crates() {
+    grep -nE '^ *pub use ([a-z_0-9]+|[a-z_0-9]+::\*|[a-z_0-9]+ as [a-z_0-9]+|[a-z_0-9]+::\{?self.*);' crates/*/src/lib.rt || true
+}
+
+# Of lines `NAME STEPS` of functions and crates, those with too many, as `NAME: STEPS steps, and the limit is LIMIT`.
+too_large() {
+    awk -v most_function="$most_steps_of_a_function" -v most_crate="$most_steps_of_a_crate" '
+        NR == FNR { if (!/^#/ && NF) limit[$1] = $2; next }
+        {
+            most = $1 in limit ? limit[$1] : $1 ~ /::/ ? most_function : most_crate
+            if ($2 > most) printf "%s: %d steps, and the limit is %d\n", $1, $2, most
+        }
+    ' tools/large-functions.txt -
+}
+
 said=()
 status=0
 hold() {
@@ -77,7 +108,7 @@ while IFS= read -r file; do
     test_lines=$((test_lines + $(lines_of_tests "$file")))
 done < <(tests)
 
-hold 'must-fail edits' "$(edits | wc -l)" "$most_edits"
+hold 'must-fail edits in one crate' "$(edits | most_of_a_crate)" "$most_edits_of_a_crate"
 hold 'crates with such edits' "$(edits | count_crates)" "$most_crates_with_edits"
 hold 'lines of tests' "$test_lines" "$most_test_lines"
 hold 'crates with tests' "$(tests | count_crates)" "$most_crates_with_tests"
@@ -87,6 +118,24 @@ read -r lemma_files lemma_imports needless_doors < <(python3 tools/lemma-doors.p
 hold 'files of lemmas that other crates cite' "$lemma_files" "$most_lemma_files"
 hold 'imports of other crates'"'"' lemmas' "$lemma_imports" "$most_lemma_imports"
 hold 'open files of lemmas that no other crate cites' "$needless_doors" "$most_needless_doors"
+
+while IFS= read -r place; do
+    printf 'budget: %s: a crate is passed on as a whole\n' "$place"
+    status=1
+done < <(whole_crates)
+
+built=$(tools/proof-size --files | grep -c . || true)
+libraries=$(find crates -mindepth 3 -maxdepth 3 -path '*/src/lib.rt' | wc -l)
+if [ "$built" -lt "$libraries" ]; then
+    printf 'budget: %s of %s libraries are built here, so steps are counted in these alone\n' "$built" "$libraries"
+fi
+if [ "$built" -gt 0 ]; then
+    steps=$(tools/proof-size --above "$most_steps_of_a_function") || status=1
+    while IFS= read -r line; do
+        printf 'budget: %s\n' "$line"
+        status=1
+    done < <(too_large <<<"$steps")
+fi
 
 printf 'budget: %s' "${said[0]}"
 printf ', %s' "${said[@]:1}"

@@ -1,0 +1,77 @@
+"""Names of a user's program as names of ped's profile, and back.
+
+A name of the profile has 1 to 31 capital letters and digits and begins with a letter. A user's name that is so, and
+is none of the profile's words, stays as it is. Any other becomes `KnX` with a number n. So does a name of the user
+that looks like one of these itself, so that no two names ever meet, whatever comes later.
+"""
+
+from __future__ import annotations
+
+import re
+from typing import Dict
+
+#: The word of the model for what is not known: a scalar that nobody assigns, and with a number further ones.
+OPAQUE = "OPQ"
+
+#: The words of the profile: those with which statements begin or go on, and its functions.
+WORDS = frozenset("""
+    PROGRAM IMPLICIT INTEGER DIMENSION PARAMETER SAVE READ PRINT IF THEN ELSE ELSEIF END ENDIF DO ENDDO PARALLEL
+    PARALLELDO PRIVATE CONTINUE STOP CALL SUBROUTINE RETURN FUNCTION DATA GOTO WHILE DOWHILE REAL LOGICAL CHARACTER
+    COMPLEX DOUBLE DOUBLEPRECISION BLOCKDATA COMMON EQUIVALENCE EXTERNAL INTRINSIC ENTRY FORMAT ASSIGN PAUSE WRITE
+    OPEN CLOSE INQUIRE BACKSPACE ENDFILE REWIND MOD ABS IABS MAX MAX0 MIN MIN0
+""".split())
+
+_NAME = re.compile(r"[A-Z][A-Z0-9]{0,30}")
+#: The names that a model makes for itself.
+_MADE = re.compile(rf"K[0-9]+X|{OPAQUE}[0-9]*")
+_WORD = re.compile(r"[A-Z][A-Z0-9]*")
+
+
+def is_profile_name(name: str) -> bool:
+    """Whether a user's name, in capitals, stays as it is in a model."""
+    return bool(_NAME.fullmatch(name)) and name not in WORDS and not _MADE.fullmatch(name)
+
+
+class Naming:
+    """The names of one model.
+
+    A key is a user's name, in capitals, or the text of an expression that the model has one scalar for. Equal keys
+    have one name, and no two keys have the same one.
+    """
+
+    def __init__(self) -> None:
+        self._names: Dict[str, str] = {}
+        self._keys: Dict[str, str] = {}
+        self._made = 0
+
+    def name(self, key: str) -> str:
+        """The profile's name for a key, the same each time."""
+        if key not in self._names:
+            name = key if is_profile_name(key) else self._next()
+            self._names[key] = name
+            self._keys[name] = key
+        return self._names[key]
+
+    def fresh(self) -> str:
+        """A name of the model's own, which no key has."""
+        return self._next()
+
+    def key(self, name: str) -> str:
+        """What a name of the model stands for; the name itself where that is nothing of the user's."""
+        return self._keys.get(name, name)
+
+    def is_users(self, name: str) -> bool:
+        """Whether a name of the model stands for something of the user's."""
+        return name in self._keys
+
+    def put_back(self, text: str) -> str:
+        """A text about the model with what its names stand for. An expression that is no name gets parentheses."""
+        return _WORD.sub(lambda match: self._restored(match.group()), text)
+
+    def _restored(self, name: str) -> str:
+        key = self.key(name)
+        return key if key == name or re.fullmatch(r"\w+", key) else f"({key})"
+
+    def _next(self) -> str:
+        self._made += 1
+        return f"K{self._made}X"

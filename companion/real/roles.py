@@ -1,0 +1,109 @@
+"""The questions of `accesses` about names, answered by the symbols of a unit."""
+
+from __future__ import annotations
+
+from typing import FrozenSet, List, Optional, Union
+
+from . import tree
+from .accesses import Kind, StatementFunction, Trouble
+from .symbols import Storage, Symbol, Symbols, TypeComponents
+
+#: What a name is by its storage, where it's no variable and no procedure.
+_KINDS = {Storage.CONSTANT: Kind.CONSTANT, Storage.TYPE: Kind.TYPE, Storage.UNKNOWN: Kind.UNKNOWN}
+
+#: The parts of a COMPLEX and the properties of a variable that have the form of a component.
+_PARTS = frozenset(["RE", "IM", "KIND", "LEN"])
+
+
+class Roles:
+    """What the names of a unit are for its statements: `accesses.Names`."""
+
+    def __init__(self, symbols: Symbols) -> None:
+        self._symbols = symbols
+
+    def kind_of(self, name: str) -> Kind:
+        """What a name is."""
+        symbol = self._symbols.get(name)
+        if symbol.storage in _KINDS:
+            return _KINDS[symbol.storage]
+        if symbol.storage is Storage.PROCEDURE:
+            if name in self._symbols.statement_functions:
+                return Kind.STATEMENT_FUNCTION
+            return Kind.INTRINSIC if "INTRINSIC" in symbol.attributes else Kind.PROCEDURE
+        return Kind.ARRAY if symbol.bounds else Kind.SCALAR
+
+    def is_intrinsic(self, name: str) -> bool:
+        """Whether a name before parentheses is that of an intrinsic function, if there is one of this name."""
+        return self._symbols.is_intrinsic(name)
+
+    def type_of(self, name: str) -> str:
+        """The type of a name, empty where it isn't known."""
+        return self._symbols.get(name).type
+
+    def attributes_of(self, name: str) -> FrozenSet[str]:
+        """The attributes of a variable."""
+        return self._symbols.get(name).attributes
+
+    def statement_function(self, name: str) -> Optional[StatementFunction]:
+        """A statement function by its name."""
+        found = self._symbols.statement_functions.get(name)
+        return None if found is None else StatementFunction(found.arguments, found.value)
+
+    def is_reached_by_calls(self, name: str) -> bool:
+        """Whether a procedure may read or write a variable that it hasn't got as an argument."""
+        return self._symbols.get(name).is_reached_by_calls
+
+    def outlives_unit(self, name: str) -> bool:
+        """Whether a variable's value may be needed when the unit has ended."""
+        return self._symbols.is_live_at_end(name)
+
+    def may_share_storage(self, name: str) -> bool:
+        """Whether another name of the unit may stand for the same storage."""
+        symbol = self._symbols.get(name)
+        return symbol.is_pointer or bool(symbol.group) or bool(symbol.attributes & {"VOLATILE", "ASYNCHRONOUS"})
+
+    def structure_trouble(self, designator: tree.Expression) -> Optional[Trouble]:
+        """Why nothing is said about a designator of a derived type; none where it is plain data."""
+        symbol: Optional[Symbol] = self._symbols.get(tree.root_of(designator))
+        home = self._symbols
+        for component in _components(designator):
+            assert symbol is not None
+            if symbol.type not in ("TYPE", "CLASS"):
+                return None if component in _PARTS else Trouble("function", f"{component} is no component")
+            found = self._type(symbol, home)
+            if isinstance(found, Trouble):
+                return found
+            symbol, home = found.component(component), found.home
+            if symbol is None and not found.is_complete:
+                return Trouble("use", f"not all components of {found.name} are known")
+            if symbol is None:
+                return Trouble("function", f"{component} is no data of the type {found.name}")
+            if "POINTER" in symbol.attributes:
+                return Trouble("pointer", f"{component} of the type {found.name} is a POINTER")
+        if symbol is not None and symbol.type in ("TYPE", "CLASS"):
+            return Trouble("function", f"{designator} is a structure as a whole")
+        return None
+
+    def _type(self, symbol: Symbol, home: Symbols) -> Union[TypeComponents, Trouble]:
+        """The components of a variable's type, which is seen where the variable is declared."""
+        if symbol.type == "CLASS":
+            return Trouble("function", f"{symbol.name} may have any type that extends its own")
+        found = home.components(symbol)
+        if found is None:
+            return Trouble("use", f"the type {symbol.derived} isn't in the files")
+        return found
+
+
+def _components(designator: tree.Expression) -> List[str]:
+    """The names of the components of a designator, the first one first."""
+    found: List[str] = []
+    part: tree.Expression = designator
+    while True:
+        if isinstance(part, tree.Component):
+            found.append(part.component)
+            part = part.base
+        elif isinstance(part, tree.Reference):
+            part = part.base
+        else:
+            break
+    return found[::-1]

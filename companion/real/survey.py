@@ -1,0 +1,292 @@
+"""What a loop of the user's reads and writes, and why it may get no model, before any of it is written."""
+
+from __future__ import annotations
+
+import re
+from dataclasses import dataclass, field
+from functools import cached_property
+from typing import Dict, FrozenSet, Iterator, List, Optional, Set, Tuple
+
+from . import intrinsics, tree
+from .accesses import Access, Effects, Kind
+from .facts import Facts
+from .indices import Refused
+from .keywords import words_of
+from .roles import Roles
+from .source import Mark
+from .symbols import Storage, Symbol, Symbols
+from .units import Block, File, Node, Unit, Written, loops_of
+
+_DEFINE = re.compile(r" *# *(define|undef)", re.IGNORECASE)
+_END_DIRECTIVE = re.compile(r" *[!cC*]\$(omp|acc) *end", re.IGNORECASE)
+_GLOBAL = frozenset([Storage.COMMON, Storage.HOST, Storage.MODULE])
+
+
+@dataclass(eq=False)
+class Scene:
+    """A unit with all that is known of it."""
+
+    file: File
+    unit: Unit
+    symbols: Symbols
+
+    @cached_property
+    def roles(self) -> Roles:
+        """What its names are."""
+        return Roles(self.symbols)
+
+    @cached_property
+    def facts(self) -> Facts:
+        """What its statements do, and where its run goes on."""
+        return Facts(self.unit, self.roles)
+
+    @cached_property
+    def has_unreadable(self) -> bool:
+        """Whether there is a statement that can't be read."""
+        return any(isinstance(written.statement, tree.Unreadable) for written in self.unit.statements())
+
+
+@dataclass
+class Survey:
+    """What a loop reads and writes. `bound` are the variables of FORALL and DO CONCURRENT around a statement."""
+
+    loop: Block
+    statements: List[Written] = field(default_factory=list)
+    effects: Dict[int, Effects] = field(default_factory=dict)
+    bound: Dict[int, FrozenSet[str]] = field(default_factory=dict)
+
+    @cached_property
+    def written(self) -> FrozenSet[str]:
+        """All names that the loop assigns, its DO variables among them."""
+        return frozenset(access.name for _, access in self.accesses() if access.writes)
+
+    @cached_property
+    def occurring(self) -> FrozenSet[str]:
+        """All variables in the loop."""
+        return frozenset(access.name for _, access in self.accesses())
+
+    @cached_property
+    def inner_variables(self) -> FrozenSet[str]:
+        """The DO variables of the loops in this one."""
+        return frozenset(filter(None, map(variable_of, loops_of(self.loop.body))))
+
+    def accesses(self) -> Iterator[Tuple[Written, Access]]:
+        """All reads and writes, in order of text."""
+        for written in self.statements:
+            for access in self.effects[written.number].accesses:
+                yield written, access
+
+
+def control_of(loop: Block) -> object:
+    """The control of a DO, none where it has none."""
+    statement = loop.head.statement
+    return statement.control if isinstance(statement, tree.Do) else None
+
+
+def variable_of(loop: Block) -> str:
+    """The variable of a DO; empty for DO WHILE and the like."""
+    control = control_of(loop)
+    return tree.root_of(control.variable) if isinstance(control, tree.Counted) else ""
+
+
+def surveyed(scene: Scene, loop: Block) -> Survey:
+    """What a loop reads and writes; raises `Refused` where that isn't known."""
+    _check_unit(scene, loop)
+    _check_header(loop)
+    found = Survey(loop)
+    for written in loop.statements():
+        found.statements.append(written)
+        found.effects[written.number] = scene.facts.effects(written)
+        found.bound[written.number] = scene.facts.graph.bound.get(written.number, frozenset())
+    for written in found.statements:
+        for trouble in found.effects[written.number].troubles:
+            raise Refused(trouble.reason, written.item.first, trouble.words)
+    _check_variables(scene, found)
+    _check_storage(scene, found)
+    _check_words(scene, found)
+    for fault in scene.facts.body(loop).faults:
+        raise Refused(fault.reason, fault.line, fault.words)
+    return found
+
+
+# --- Why a loop gets no model ----------------------------------------------------------------------------------------
+
+
+def _check_unit(scene: Scene, loop: Block) -> None:
+    """The declarations of the unit, and lines that are no statements."""
+    for fault in scene.symbols.faults:
+        raise Refused(fault.reason, fault.line, fault.words)
+    if loop.end is None:
+        raise Refused("parse", loop.head.item.first, "the end of the loop isn't there")
+    if scene.symbols.block_round(loop.head) is not None:
+        raise Refused("associate", loop.head.item.first, "a construct around the loop has names of its own")
+    for mark in scene.file.marks:
+        _check_mark(scene, loop, mark)
+
+
+def _check_mark(scene: Scene, loop: Block, mark: Mark) -> None:
+    unit = scene.unit
+    words = mark.text.strip()
+    is_here = mark.file in unit.files if mark.file else mark.first <= unit.last_line and mark.last >= unit.first_line
+    if mark.kind == "preprocessor":
+        if is_here or _DEFINE.match(mark.text) and (mark.file or mark.first <= loop.last_line):
+            raise Refused("preprocessor", mark.first, words)
+    elif mark.kind == "include":
+        if is_here:
+            raise Refused("include", mark.first, words)
+    elif is_here:
+        is_inside = mark.first <= loop.last_line and mark.last >= loop.first_line
+        # Lines of different files can't be compared.
+        is_apart = mark.file or loop.head.item.file
+        if is_apart or is_inside or _is_round(scene, loop, mark):
+            raise Refused("directive", mark.first, words)
+
+
+def _check_words(scene: Scene, found: Survey) -> None:
+    """Lines that only a compiler with -fopenmp reads, outside the loop, and directives that give threads copies.
+
+    No variable of the loop may occur there, since its value may be needed there, or clauses may not name it.
+    """
+    names = set(found.occurring) | {scene.symbols.get(name).block.strip("/") for name in found.occurring}
+    for mark in scene.file.marks:
+        words = words_of(mark.text[mark.text.find("$") + 1:])
+        is_here = bool(mark.file) or mark.first <= scene.unit.last_line and mark.last >= scene.unit.first_line
+        is_statement = mark.kind == "conditional" and is_here
+        if is_statement or mark.kind == "directive" and "THREADPRIVATE" in words:
+            common = sorted(words & (names - {""}))
+            if common or is_statement and words & {"GO", "GOTO"}:
+                raise Refused("directive", mark.first, mark.text.strip())
+
+
+def _is_round(scene: Scene, loop: Block, mark: Mark) -> bool:
+    """Whether a directive may be about a loop: it is on a DO around it, or begins a region that may hold the loop."""
+    rounds = [one for one in loops_of(scene.unit.body) if any(written is loop.head for written in one.statements())]
+    lines = scene.file.lines
+    for one in rounds:
+        number = one.first_line - 1
+        while number > mark.last and _is_comment(lines[number - 1]):
+            number -= 1
+        if number <= mark.last and mark.last < one.first_line or one.first_line <= mark.first <= loop.first_line:
+            return True
+    if mark.first > loop.last_line or mark.kind == "conditional":
+        return False
+    return any(
+        other.kind == "directive" and other.first > loop.last_line and other.first <= scene.unit.last_line
+        and _END_DIRECTIVE.match(other.text) for other in scene.file.marks
+    )
+
+
+def _is_comment(line: str) -> bool:
+    return not line.strip() or line[0] in "cC*!" or line.strip().startswith("!")
+
+
+def _check_header(loop: Block) -> None:
+    control = control_of(loop)
+    line = loop.head.item.first
+    if isinstance(loop.head.statement, tree.Unreadable):
+        raise Refused(loop.head.statement.reason, line, loop.head.statement.words)
+    if isinstance(control, tree.Concurrent):
+        raise Refused("concurrent", line, "DO CONCURRENT is the user's promise that its iterations are independent")
+    if not isinstance(control, tree.Counted):
+        raise Refused("while", line, "nothing counts the iterations")
+
+
+def _check_variables(scene: Scene, found: Survey) -> None:
+    """DO variables have to be INTEGER scalars that their bodies don't assign."""
+    for loop in [found.loop, *loops_of(found.loop.body)]:
+        control = control_of(loop)
+        if not isinstance(control, tree.Counted):
+            continue
+        line = loop.head.item.first
+        name = tree.root_of(control.variable)
+        symbol = scene.symbols.get(name)
+        if not isinstance(control.variable, tree.Name) or scene.roles.kind_of(name) is not Kind.SCALAR:
+            raise Refused("index", line, f"{control.variable} is no scalar")
+        if symbol.type != "INTEGER":
+            raise Refused("index", line, f"{name} isn't INTEGER")
+        if symbol.is_pointer:
+            raise Refused("pointer", line, f"{name} may be reached by pointers")
+        for node in loop.body:
+            _check_body(found, node, name)
+
+
+def _check_body(found: Survey, node: Node, name: str) -> None:
+    statements = [node] if isinstance(node, Written) else list(node.statements())
+    for written in statements:
+        known = found.effects.get(written.number)
+        if known is not None and any(access.name == name for access in known.writes):
+            raise Refused("index", written.item.first, f"{name} counts a DO, and is assigned in it")
+
+
+def _check_storage(scene: Scene, found: Survey) -> None:
+    """Names that may share their storage, of which one is written."""
+    symbols = {name: scene.symbols.get(name) for name in sorted(found.occurring)}
+    line = found.loop.head.item.first
+    for name, symbol in symbols.items():
+        if "VOLATILE" in symbol.attributes:
+            raise Refused("volatile", line, f"{name} is VOLATILE")
+        if "CODIMENSION" in symbol.attributes:
+            raise Refused("coarray", line, f"{name} is a coarray")
+        if "CRAY POINTEE" in symbol.attributes:
+            raise Refused("pointer", line, f"{name} is the pointee of a Cray pointer")
+    _check_groups(scene, found, symbols)
+    pointers = [name for name, symbol in symbols.items() if symbol.is_pointer]
+    written = [name for name in pointers if name in found.written]
+    if len(pointers) > 1 and written:
+        other = next(name for name in pointers if name != written[0])
+        raise Refused("pointer", line, f"{written[0]} and {other} may share storage, being POINTER or TARGET")
+
+
+def _check_groups(scene: Scene, found: Survey, symbols: Dict[str, Symbol]) -> None:
+    groups: Dict[str, List[str]] = {}
+    for name, symbol in symbols.items():
+        if symbol.group:
+            groups.setdefault(symbol.group, []).append(name)
+    for names in groups.values():
+        if len(names) > 1 and found.written.intersection(names):
+            first, second = names[:2]
+            line = _equivalence_line(scene, first, second) or found.loop.head.item.first
+            raise Refused("equivalence", line, f"{first} and {second} share storage")
+
+
+def _equivalence_line(scene: Scene, first: str, second: str) -> Optional[int]:
+    """The line of the EQUIVALENCE of two names of the unit."""
+    for declared in scene.unit.specification:
+        if isinstance(declared, Written) and isinstance(declared.statement, tree.Equivalence):
+            for group in declared.statement.groups:
+                if {first, second} <= {tree.root_of(one) for one in group}:
+                    return declared.item.first
+    return None
+
+
+# --- Assumptions -----------------------------------------------------------------------------------------------------
+
+
+def assumptions_of(scene: Scene, found: Survey) -> FrozenSet[str]:
+    """The assumptions that a verdict about a loop rests on by what occurs in it."""
+    assumed: Set[str] = {"A3", "A12"}
+    symbols = [scene.symbols.get(name) for name in sorted(found.occurring)]
+    if any(symbol.rank >= 2 for symbol in symbols):
+        assumed.add("A2")
+    if _has_strangers(found, symbols):
+        assumed.add("A1")
+    if scene.file.included or scene.symbols.declarations.uses or scene.has_unreadable:
+        assumed.add("A5")
+    if any(_has_intrinsic(scene, expression) for one in found.statements for expression in one.statement.expressions()):
+        assumed.add("A6")
+    return frozenset(assumed)
+
+
+def _has_strangers(found: Survey, symbols: List[Symbol]) -> bool:
+    """Whether there are two dummies, or a dummy and a global, one of them written."""
+    strangers = [one for one in symbols if one.storage is Storage.DUMMY or one.storage in _GLOBAL]
+    dummies = [one for one in strangers if one.storage is Storage.DUMMY]
+    return bool(dummies) and len(strangers) > 1 and any(one.name in found.written for one in strangers)
+
+
+def _has_intrinsic(scene: Scene, expression: tree.Expression) -> bool:
+    if isinstance(expression, tree.Reference) and isinstance(expression.base, tree.Name):
+        name = expression.base.name
+        if name in intrinsics.PURE and scene.roles.is_intrinsic(name):
+            return True
+    return any(_has_intrinsic(scene, part) for part in expression.parts())

@@ -1,0 +1,262 @@
+"""Models of loops, construct by construct. What is wanted was written by hand from the rules of docs/REAL.md."""
+
+from __future__ import annotations
+
+import unittest
+
+from ..real.model import Model
+from .real_loops import Loops, subroutine
+
+
+class Statements(unittest.TestCase):
+    """Each kind of statement."""
+
+    def test_assignments_have_the_sum_of_their_reads(self) -> None:
+        loops = subroutine("DO I = 1, N", "A(I) = X*B(I) - SQRT(B(I+1))/2.0", "X = 1.0", "END DO")
+        self.assertEqual(loops.body(), ["DO I = 1, N", "A(I) = X+B(I)+B(I+1)", "X = 1", "END DO"])
+
+    def test_ifs_and_their_branches(self) -> None:
+        loops = subroutine(
+            "DO I = 1, N", "IF (A(I) > X) THEN", "B(I) = 1", "ELSE IF (N == M) THEN", "B(I) = 2", "ELSE", "B(I) = 3",
+            "END IF", "IF (.TRUE.) A(I) = 0", "END DO",
+        )
+        self.assertEqual(loops.body(), [
+            "DO I = 1, N", "IF (A(I)+X.NE.0) THEN", "B(I) = 1", "ELSE", "IF (N+M.NE.0) THEN", "B(I) = 1", "ELSE",
+            "B(I) = 1", "END IF", "END IF", "IF (OPQ.NE.0) THEN", "A(I) = 1", "END IF", "END DO",
+        ])
+
+    def test_a_select_is_a_chain_of_ifs(self) -> None:
+        loops = subroutine(
+            "DO I = 1, N", "SELECT CASE (IX(I))", "CASE (1)", "A(I) = 1", "CASE (2:3)", "B(I) = 1", "END SELECT",
+            "END DO",
+        )
+        self.assertEqual(loops.body(), [
+            "DO I = 1, N", "IF (IX(I).NE.0) THEN", "A(I) = 1", "ELSE IF (OPQ.NE.0) THEN", "B(I) = 1", "END IF",
+            "END DO",
+        ])
+
+    def test_while_may_have_any_number_of_iterations(self) -> None:
+        loops = subroutine("DO I = 1, N", "DO WHILE (X > 0)", "X = X - A(I)", "END DO", "END DO")
+        self.assertEqual(loops.body(), [
+            "DO I = 1, N", "IF (X.NE.0) THEN", "END IF", "DO K1X = 1, OPQ", "IF (X.NE.0) THEN", "END IF",
+            "IF (OPQ.NE.0) THEN", "X = X+A(I)", "END IF", "END DO", "END DO",
+        ])
+
+    def test_sections_have_loops_of_their_own(self) -> None:
+        loops = subroutine("DO I = 1, N", "C(I,2:M) = C(3:N:2,I)", "END DO")
+        self.assertEqual(loops.body(), [
+            "DO I = 1, N", "DO K1X = 0, K2X", "IF (C(3+2*K1X,I).NE.0) THEN", "END IF", "END DO",
+            "DO K3X = 0, M-2", "C(I,2+K3X) = 1", "END DO", "END DO",
+        ])
+
+    def test_whole_arrays_leave_all_positions_open(self) -> None:
+        loops = subroutine("DO I = 1, N", "C = A(I)", "END DO")
+        self.assertEqual(loops.body(), ["DO I = 1, N", "C(OPQ*OPQ,OPQ*OPQ) = A(I)", "END DO"])
+
+    def test_where_may_leave_elements_alone(self) -> None:
+        loops = subroutine("DO I = 1, N", "WHERE (C(:,I) > 0) A = X", "END DO")
+        self.assertEqual(loops.body(), [
+            "DO I = 1, N", "DO K1X = 0, K2X", "IF (C(1+K1X,I).NE.0) THEN", "END IF", "END DO", "IF (X.NE.0) THEN",
+            "END IF", "IF (OPQ.NE.0) THEN", "A(OPQ*OPQ) = 1", "END IF", "END DO",
+        ])
+
+    def test_jumps_make_branches(self) -> None:
+        loops = subroutine("DO I = 1, N", "IF (A(I) < 0) CYCLE", "B(I) = 1", "END DO")
+        self.assertEqual(loops.body(), [
+            "DO I = 1, N", "IF (A(I).NE.0) THEN", "ELSE", "B(I) = 1", "END IF", "END DO",
+        ])
+
+    def test_jumps_that_make_no_branches_leave_parts_out(self) -> None:
+        loops = subroutine(
+            "DO I = 1, N", "IF (A(I) > 0) GO TO 5", "IF (A(I) < -1) GO TO 6", "X = 1", "5 Y = 2", "6 B(I) = X",
+            "END DO",
+        )
+        self.assertEqual(loops.body(), [
+            "DO I = 1, N", "IF (A(I).NE.0) THEN", "END IF", "IF (OPQ.NE.0) THEN", "IF (A(I).NE.0) THEN", "END IF",
+            "END IF", "IF (OPQ.NE.0) THEN", "X = 1", "END IF", "IF (OPQ.NE.0) THEN", "Y = 1", "END IF", "B(I) = X",
+            "END DO",
+        ])
+
+    def test_a_component_is_an_element_of_its_first_part(self) -> None:
+        loops = subroutine(
+            "DO I = 1, N", "P(I)%Q = P(I+1)%R + O%Q", "END DO",
+            declarations="TYPE T; REAL Q, R; END TYPE; TYPE(T) P(9), O",
+        )
+        self.assertEqual(loops.body(), ["DO I = 1, N", "P(I) = P(I+1)+O(1)", "END DO"])
+
+    def test_long_sums_are_cut(self) -> None:
+        value = " + ".join(f"B(I+{number})" for number in range(70))
+        loops = subroutine("DO I = 1, N", "A(I) = " + value.replace("+ B(I+40)", "&\n+ B(I+40)"), "END DO")
+        model = loops.model()
+        assert isinstance(model, Model)
+        self.assertEqual(model.text.count("B(I"), 70)
+        self.assertEqual(sum(verdict.word == "parallel" for verdict in loops.verdicts()), 1)
+
+
+class Subscripts(unittest.TestCase):
+    """Subscripts and bounds."""
+
+    def _body(self, statement: str, declarations: str = "") -> str:
+        return subroutine("DO I = 1, N", statement, "END DO", declarations=declarations).body()[1]
+
+    def test_sums_stay(self) -> None:
+        self.assertEqual(self._body("A(2*I-1+M) = X"), "A(2*I-1+M) = X")
+        self.assertEqual(self._body("A(-I) = X"), "A((-I)) = X")
+
+    def test_constants_have_their_values(self) -> None:
+        self.assertEqual(self._body("A(I+P) = X", "INTEGER, PARAMETER :: P = 2*3"), "A(I+6) = X")
+        self.assertEqual(self._body("A(I+P) = X", "INTEGER, PARAMETER :: P = -3"), "A(I+(-3)) = X")
+
+    def test_what_the_loop_does_not_change_is_one_scalar_for_each_text(self) -> None:
+        self.assertEqual(self._body("A(I+N*M) = B(N*M) + B(IX(5))"), "A(I+K1X) = B(K1X)+B(K2X)")
+
+    def test_other_products_are_open(self) -> None:
+        self.assertEqual(self._body("A(I*M) = B(I/2)"), "A(OPQ*OPQ) = B(OPQ*OPQ)")
+
+    def test_elements_stay(self) -> None:
+        self.assertEqual(self._body("A(IX(I)) = B(MIN(I, M))"), "A(IX(I)) = B(MIN(I,M))")
+
+    def test_what_the_loop_writes_is_read_in_subscripts(self) -> None:
+        loops = subroutine("DO I = 1, N", "K = IX(I)", "A(K) = X", "IX(I) = A(IX(I+1))", "END DO")
+        self.assertEqual(loops.body(), [
+            "DO I = 1, N", "K = IX(I)", "A(K) = X+K", "IX(I) = IX(I+1)+A(IX(I+1))", "END DO",
+        ])
+
+    def test_no_sum_of_a_real(self) -> None:
+        self.assertEqual(self._body("A(INT(I+0.7)) = 1.0"), "A(OPQ*OPQ) = 1")
+
+    def test_a_vector_of_subscripts_is_open(self) -> None:
+        self.assertEqual(self._body("A(IX) = X"), "A(OPQ*OPQ) = X")
+
+    def test_the_lower_bound_of_an_allocatable_array_is_open(self) -> None:
+        body = subroutine(
+            "DO I = 1, N", "D(:,I) = X", "END DO", declarations="REAL, ALLOCATABLE :: D(:,:)"
+        ).body()
+        self.assertEqual(body[1], "D(OPQ*OPQ,I) = X")
+
+    def test_integers_of_eight_bytes_are_refused(self) -> None:
+        lines = ["DO I = 1, N", "A(I+W) = X", "END DO"]
+        self.assertEqual(subroutine(*lines, declarations="INTEGER(8) W").reason(), "kind")
+        self.assertIsNone(subroutine(*lines, declarations="INTEGER(8) W", assume=["A7"]).reason())
+        self.assertEqual(subroutine("DO I = 1, 10_8", "A(I) = X", "END DO").reason(), "kind")
+
+    def test_bounds_that_are_left(self) -> None:
+        given = "REAL D(4,N), E(1,N)"
+        for statement, reason in [
+            ("D(5,I) = X", "bounds"), ("D(4,I) = X", None), ("E(I,1) = X", "bounds"), ("E(1,I) = X", None),
+            ("D(M,I) = X", None),
+        ]:
+            with self.subTest(statement):
+                self.assertEqual(subroutine("DO I = 1, N", statement, "END DO", declarations=given).reason(), reason)
+        loops = subroutine("DO I = 1, 5", "D(I,1) = X", "END DO", declarations=given)
+        self.assertEqual(loops.reason(), "bounds")
+
+
+class Headers(unittest.TestCase):
+    """The headers of DOs."""
+
+    def test_steps(self) -> None:
+        self.assertEqual(subroutine("DO I = N, 1, -2", "A(I) = X", "END DO").body()[0], "DO I = N, 1, -2")
+        self.assertEqual(subroutine("DO I = 1, N, M", "A(I) = X", "END DO").body()[0], "DO I = K1X, K2X")
+
+    def test_a_first_value_that_is_not_constant_is_counted_from_0(self) -> None:
+        body = subroutine("DO J = 1, N", "DO I = J+1, N", "C(I,J) = X", "END DO", "END DO").body()
+        self.assertEqual(body[1:3], ["DO K1X = 0, N-(J+1)", "C((J+1+K1X),J) = X"])
+
+    def test_induction_variables_are_sums_of_their_steps(self) -> None:
+        body = subroutine("DO I = 1, N", "A(K) = X", "K = K - 2", "A(K) = X", "END DO").body()
+        self.assertEqual(body, [
+            "DO K1X = 0, N-1", "A((K3X-2*K1X)) = X", "A((K3X-2*(K1X+1))) = X", "END DO",
+        ])
+        body = subroutine("DO I = 2, N", "K = 3 + K", "A(K+I) = X", "END DO").body()
+        self.assertEqual(body, ["DO K1X = 0, N-2", "A((K3X+3*(K1X+1))+((2+K1X))) = X", "END DO"])
+
+    def test_an_unknown_step_counts_where_its_variable_is_alone(self) -> None:
+        body = subroutine("DO I = 1, N", "A(K) = B(K) + B(K+1)", "K = K + M", "END DO", assume=["A8"]).body()
+        self.assertEqual(body, [
+            "DO K1X = 0, N-1", "A(K1X) = B(OPQ*OPQ)+B(OPQ*OPQ)", "IF (M.NE.0) THEN", "END IF", "END DO",
+        ])
+
+    def test_the_second_model_counts_down(self) -> None:
+        model = subroutine("DO J = 1, N", "DO I = 1, J-1", "C(I,J) = C(J,I)", "END DO", "END DO").model()
+        assert isinstance(model, Model) and model.second is not None
+        self.assertIn("DO K1X = 0, J-1-1", model.second.text)
+        self.assertIn("C((J-1-K1X),J) = C(J,(J-1-K1X))", model.second.text)
+
+    def test_a_variable_that_is_read_after_its_loop_is_assigned(self) -> None:
+        body = subroutine("DO I = 1, N", "DO J = 1, M", "A(J) = X", "END DO", "B(I-J) = X", "END DO").body()
+        self.assertEqual(body, [
+            "DO I = 1, N", "J = OPQ", "DO K1X = 0, M-1", "A((1+K1X)) = X", "END DO", "B(I-J) = X+J", "END DO",
+        ])
+
+    def test_no_model_of_other_loops(self) -> None:
+        for lines, reason in [
+            (["DO WHILE (X > 0)", "X = X - 1", "END DO"], "while"),
+            (["DO CONCURRENT (I=1:N)", "A(I) = X", "END DO"], "concurrent"),
+            (["DO X = 1.0, 2.0", "A(1) = X", "END DO"], "index"),
+            (["DO I = 1, N", "I = I + 1", "END DO"], "index"),
+            (["DO I = 1, N", "DO I = 1, M", "A(I) = X", "END DO", "END DO"], "index"),
+            (["DO I = 1, N, 0", "A(I) = X", "END DO"], "index"),
+        ]:
+            with self.subTest(lines[0]):
+                self.assertEqual(subroutine(*lines).reason(), reason)
+
+
+class Refusals(unittest.TestCase):
+    """What has no model."""
+
+    def test_each_reason(self) -> None:
+        for statement, reason in [
+            ("CALL P(A(I))", "call"), ("A(I) = F(I)", "function"), ("PRINT *, A(I)", "io"), ("IF (X > 0) EXIT", "exit"),
+            ("STOP", "exit"), ("A(I) = A(I", "parse"), ("ALLOCATE (D(3))", "allocate"),
+            ("ASSOCIATE (Q => A(I)); Q = 1; END ASSOCIATE", "associate"),
+        ]:
+            with self.subTest(statement):
+                given = "EXTERNAL F, P; REAL, ALLOCATABLE :: D(:)"
+                self.assertEqual(subroutine("DO I = 1, N", statement, "END DO", declarations=given).reason(), reason)
+
+    def test_shared_storage(self) -> None:
+        lines = ["DO I = 1, 9", "D(I) = E(I)", "END DO"]
+        for given, reason in [
+            ("REAL D(9), E(9); EQUIVALENCE (D(1), E(1))", "equivalence"), ("REAL D(9), E(9)", None),
+            ("REAL, POINTER :: D(:), E(:)", "pointer"), ("REAL, TARGET :: D(9), E(9)", "pointer"),
+            ("REAL, POINTER :: D(:); REAL E(9)", None), ("REAL, VOLATILE :: D(9); REAL E(9)", "volatile"),
+            ("REAL D(9), E(9); POINTER (P, D)", "pointer"),
+        ]:
+            with self.subTest(given):
+                self.assertEqual(subroutine(*lines, declarations=given).reason(), reason)
+
+    def test_one_member_of_an_equivalence_is_never_private(self) -> None:
+        given = "REAL T, U; EQUIVALENCE (T, U)"
+        loops = subroutine("DO I = 1, N", "T = A(I)", "B(I) = T", "END DO", declarations=given)
+        self.assertEqual([verdict.word for verdict in loops.verdicts()], ["carried"])
+
+    def test_directives(self) -> None:
+        loop = ["DO I = 1, N", "A(I) = X", "END DO"]
+        self.assertEqual(subroutine("!$OMP PARALLEL DO", *loop).reason(), "directive")
+        self.assertEqual(subroutine("!$OMP PARALLEL", *loop, "!$OMP END PARALLEL").reason(), "directive")
+        self.assertEqual(subroutine(loop[0], "!$ X = 1", *loop[1:]).reason(), "directive")
+        self.assertIsNone(subroutine("!$OMP PARALLEL DO", *loop, *loop).reason(1))
+
+    def test_lines_for_a_compiler_with_openmp_outside_the_loop(self) -> None:
+        loop = ["DO I = 1, N", "T = A(I)", "B(I) = T", "END DO"]
+        for line, reason in [("!$ X = T", "directive"), ("!$ X = U", None), ("!$OMP THREADPRIVATE(T)", "directive")]:
+            with self.subTest(line):
+                self.assertEqual(subroutine(*loop, line, declarations="REAL T, U").reason(), reason)
+
+    def test_names_of_modules_that_are_not_there(self) -> None:
+        head = ["SUBROUTINE S(A, N)", "USE ELSEWHERE", "REAL A(N); INTEGER I", "DO I = 1, N"]
+        for statement, reason in [
+            ("A(I) = Q", None), ("A(I) = A(I+Q)", "use"), ("A(I) = Q(I)", "use"), ("Q = A(I)", "use"),
+        ]:
+            with self.subTest(statement):
+                lines = [*head, statement, "END DO", "END"]
+                self.assertEqual(Loops("\n".join(lines) + "\n").reason(), reason)
+
+    def test_what_is_missing_refuses_the_unit(self) -> None:
+        lines = ["SUBROUTINE S(A, N)", "INCLUDE 'nowhere.inc'", "REAL A(N)", "DO I = 1, N", "A(I) = 1", "END DO", "END"]
+        self.assertEqual(Loops("\n".join(lines) + "\n").reason(), "include")
+
+
+if __name__ == "__main__":
+    unittest.main()

@@ -7,17 +7,22 @@ from __future__ import annotations
 
 from typing import Dict, Iterator, List, Sequence, Tuple
 
+from .blocks import blocks_of
+from .doubts import may_reject
 from .messages import listed
+from .outline import outline_of
 from .panes import Dependence
 from .ped import Ped
 from .program import Loop, Program
+from .progress import Progress
+from .recurrences import about_scalar, readers_after
 from .references import INPUT, OUTPUT
 from .refusals import cause_of, refused
 from .replies import Advised
 from .statements import Do, Print, Read
-from .sums import is_reduction, reduction, sums_of
+from .sums import reduction, sums_of
 from .trials import Answers, Outcome, Trial, ask, carried_names
-from .tuning import parts_in
+from .tuning import Parts, parts
 from .views import View
 
 #: The steps that take a scalar.
@@ -31,14 +36,46 @@ _FORMING = ("fuse", "interchange")
 class Adviser:
     """Says of the loops of a program what to try there."""
 
-    def __init__(self, view: View, ped: Ped, loops: Sequence[Loop], tries: bool) -> None:
+    def __init__(
+        self, view: View, ped: Ped, loops: Sequence[Loop], tries: bool, progress: Progress = Progress()
+    ) -> None:
         self._view = view
         self._answers = Answers({}, {})
+        #: For each loop and each scalar the steps that were tried for it alone, and for each loop those for several.
+        self._scalar: Dict[Tuple[int, str], List[Trial]] = {}
+        self._joined: Dict[int, List[Trial]] = {}
+        self._summing: Dict[int, List[Trial]] = {}
+        self._inlining: Dict[int, List[Trial]] = {}
+        self._blocks = blocks_of(view.panes.source) if tries else {}
+        self._parts: Dict[int, Parts] = {}
         if tries:
-            numbers = [loop.number for loop in loops]
-            self._answers = ask(ped, view, numbers, [trial for loop in loops for trial in self._trials(loop)])
-            further = [trial for loop in loops for trial in (*self._joined(loop), *self._forming(loop))]
-            self._answers.outcomes.update(ask(ped, view, [], further).outcomes)
+            self._ask(ped, loops, progress)
+
+    def _ask(self, ped: Ped, loops: Sequence[Loop], progress: Progress) -> None:
+        """Asks ped what it advises, and tries steps; what is tried last depends on what came of the others."""
+        for loop in loops:
+            for trial in self._trials(loop):
+                if trial.scalar is not None:
+                    self._scalar.setdefault((loop.number, trial.scalar), []).append(trial)
+                else:
+                    self._summing[loop.number] = [trial]
+        trials = [trial for tried in (*self._scalar.values(), *self._summing.values()) for trial in tried]
+        self._answers = ask(ped, self._view, [loop.number for loop in loops], trials, progress)
+        self._joined = {loop.number: list(self._joined_trials(loop)) for loop in loops}
+        self._inlining = {loop.number: list(self._inlining_trials(loop)) for loop in loops}
+        further = [
+            trial for loop in loops
+            for trial in (*self._joined[loop.number], *self._forming(loop), *self._inlining[loop.number])
+        ]
+        self._answers.outcomes.update(ask(ped, self._view, [], further, progress).outcomes)
+        outline = outline_of(self._view.panes.source)
+        divided = [outline.loops[loop.number] for loop in loops if self._is_divided(loop)]
+        self._parts = parts(ped, self._view, divided, progress)
+
+    def _is_divided(self, loop: Loop) -> bool:
+        """Whether ped accepts `distribute` of a loop that carries something."""
+        accepted = [one.word for one in self.advised(loop) if one.refusal is None]
+        return "distribute" in accepted and bool(carried_names(self._view.carried_by(loop)))
 
     def about_name(self, loop: Loop, name: str, rows: Sequence[Dependence]) -> List[str]:
         """What to try against the rows of a name that a loop carries."""
@@ -46,10 +83,11 @@ class Adviser:
         if name in (INPUT, OUTPUT):
             return list(_about_lines(program, loop, name))
         if name in program.arrays:
-            return list(_about_array(loop, name, rows))
-        advice = self._about_outcomes(self._outcomes_of(loop, name))
-        if is_reduction(program, name, rows) and not any(one.accepted for one in self._summing(loop)):
-            advice.append(f"{name} is summed up: store the terms in an array, and sum them up in a loop of its own")
+            return list(_about_array(program, loop, name, rows))
+        outcomes = self._outcomes_of(loop, name)
+        advice = self._about_outcomes(outcomes)
+        if outcomes and not any(one.accepted for one in outcomes) and not self._is_summed(loop, name):
+            advice.append(about_scalar(program, loop, name))
         return advice
 
     def about_loop(self, loop: Loop) -> List[str]:
@@ -59,10 +97,19 @@ class Adviser:
         advice.extend(self.about_step(loop, one) for one in told)
         if not self._answers.advised and not loop.form.parallel and not carried_names(self._view.carried_by(loop)):
             advice.extend(_about_variables(self._view.program, loop))
+        advice.extend(self.about_blocks(loop))
         others = [f"`{one.command}`" for one in self.advised(loop) if one not in told and one.refusal is None]
         if others:
             advice.append(f"ped accepts {listed(others)}")
         return advice
+
+    def about_blocks(self, loop: Loop) -> List[str]:
+        """What to try where a loop can't be taken apart, since a CALL is one statement."""
+        return [
+            f"try `{outcome.trial.steps[0]}`: ped accepts it, and the CALL is no longer one statement, which "
+            f"`distribute` keeps whole"
+            for outcome in self._outcomes(self._inlining.get(loop.number, [])) if outcome.accepted
+        ]
 
     def about_step(self, loop: Loop, advised: Advised) -> str:
         """What ped advises of a step, in words."""
@@ -72,22 +119,21 @@ class Adviser:
 
     def _effect(self, loop: Loop, advised: Advised) -> str:
         """What a step does, where its word alone doesn't say with which loop, or into what."""
-        outcome = self._answers.outcomes.get(Trial((advised.command,), loop.number))
+        outcome = self._answers.outcomes.get(Trial((advised.command,), loop.number, loop.level))
         if advised.word == "distribute":
-            panes = outcome.panes if outcome is not None else None
-            return f", and {parts_in(self._view, panes, loop.number).words}" if panes else ", and takes the loop apart"
+            made = self._parts.get(loop.number)
+            return f", and {made.words}" if made is not None else ", and takes the loop apart"
         if advised.word not in _FORMING:
             return ""
         words = f", and makes one of loops {loop.number} and {loop.last + 1}"
         if advised.word == "interchange":
             words = f", and puts DO {self._view.program.loops[loop.number + 1].variable} outside"
-        return words if outcome is None else f"{words}, which then carries {listed(outcome.names) or 'nothing'}"
+        return words if outcome is None else f"{words}, which then carries {_names(outcome)}"
 
     def about_scalars(self, loop: Loop) -> List[str]:
         """What came of a step for each of several scalars that a loop carries, and of that for its sums."""
-        outcomes = self._answers.outcomes
-        joined = [outcomes[trial] for trial in self._joined(loop) if trial in outcomes]
-        return self._about_outcomes([*joined, *(one for one in self._summing(loop) if one not in joined)])
+        joined = self._joined.get(loop.number, [])
+        return self._about_outcomes(self._outcomes([*joined, *self._summing.get(loop.number, [])]))
 
     def advised(self, loop: Loop) -> Tuple[Advised, ...]:
         """What ped advises at a loop; nothing where it wasn't asked."""
@@ -104,7 +150,7 @@ class Adviser:
             return not loop.form.parallel and not carries
         if advised.word == "distribute" and advised.refusal is None:
             return carries
-        outcome = self._answers.outcomes.get(Trial((advised.command,), loop.number))
+        outcome = self._answers.outcomes.get(Trial((advised.command,), loop.number, loop.level))
         is_better = outcome is not None and outcome.accepted and not outcome.names
         return advised.word in _FORMING and (advised.is_forbidden or is_better)
 
@@ -123,59 +169,79 @@ class Adviser:
         cause = _about_reads(self._view.program, outcomes[0]) or cause_of(refusal)
         return f"{steps}: refused {refusal}" + (f": {cause}" if cause else "")
 
+    def _outcomes(self, trials: Sequence[Trial]) -> List[Outcome]:
+        return [self._answers.outcomes[trial] for trial in trials if trial in self._answers.outcomes]
+
     def _outcomes_of(self, loop: Loop, name: str) -> List[Outcome]:
-        outcomes = self._answers.outcomes
-        return [outcomes[trial] for trial in _scalar_trials(loop, name) if trial in outcomes]
+        """What came of the steps for one scalar."""
+        return self._outcomes(self._scalar.get((loop.number, name), []))
 
-    def _sums(self, loop: Loop) -> List[str]:
-        return sums_of(self._view.program, self._view.carried_by(loop))
-
-    def _summing(self, loop: Loop) -> List[Outcome]:
-        """What came of the steps that say what a loop sums up."""
-        outcomes = self._answers.outcomes
-        trials = [trial for trial in (*self._trials(loop), *self._joined(loop)) if trial.sums]
-        return [outcomes[trial] for trial in trials if trial in outcomes]
+    def _is_summed(self, loop: Loop, name: str) -> bool:
+        """Whether ped accepts a step that says that a loop sums up this scalar."""
+        trials = [*self._summing.get(loop.number, []), *self._joined.get(loop.number, [])]
+        return any(
+            one.accepted and one.trial.sums and name in one.trial.steps[-1].split()[2:]
+            for one in self._outcomes(trials)
+        )
 
     def _trials(self, loop: Loop) -> Iterator[Trial]:
         if loop.form.parallel:
             return
-        names = carried_names(self._view.carried_by(loop))
+        carried = self._view.carried_by(loop)
+        names = carried_names(carried)
         for name in names:
             if name not in (INPUT, OUTPUT) and name not in self._view.program.arrays:
-                yield from _scalar_trials(loop, name)
-        sums = self._sums(loop)
+                # These steps take away the rows of the scalar, and no other ones.
+                rest = tuple(other for other in names if other != name)
+                for step in _SCALAR_STEPS:
+                    yield Trial((f"{step} {loop.number} {name}",), loop.number, loop.level, name, rest)
+        sums = sums_of(self._view.program, carried)
         if sums and sums == names:
-            yield Trial((reduction(loop.number, sums),), loop.number)
+            yield Trial((reduction(loop.number, sums),), loop.number, loop.level)
 
-    def _joined(self, loop: Loop) -> Iterator[Trial]:
+    def _joined_trials(self, loop: Loop) -> Iterator[Trial]:
         """For a loop that carries several scalars, an accepted step for each, all in one trial.
 
         Those that are left may be what the loop sums up; then the step for them comes last.
         """
-        names = carried_names(self._view.carried_by(loop))
-        accepted = {name: [one for one in self._outcomes_of(loop, name) if one.accepted] for name in names}
-        steps = [outcomes[0].trial.steps[0] for outcomes in accepted.values() if outcomes]
-        left = [name for name in names if not accepted[name]]
-        if steps and left and all(name in self._sums(loop) for name in left):
+        carried = self._view.carried_by(loop)
+        steps: List[str] = []
+        left: List[str] = []
+        for name in carried_names(carried):
+            accepted = [one.trial.steps[0] for one in self._outcomes_of(loop, name) if one.accepted]
+            steps.extend(accepted[:1])
+            left.extend([] if accepted else [name])
+        sums = sums_of(self._view.program, carried)
+        if steps and left and all(name in sums for name in left):
             steps.append(reduction(loop.number, left))
         if len(steps) > 1:
-            yield Trial(tuple(steps), loop.number)
+            yield Trial(tuple(steps), loop.number, loop.level)
+
+    def _inlining_trials(self, loop: Loop) -> Iterator[Trial]:
+        """For a loop that carries something and can't be taken apart, `inline` of each CALL in it."""
+        is_whole = any(
+            one.word == "distribute" and (one.refusal or "").startswith("rule 11 ") for one in self.advised(loop)
+        )
+        if not is_whole or not carried_names(self._view.carried_by(loop)):
+            return
+        last = 0
+        for block in self._blocks.values():
+            # A block in another one goes with that.
+            if block.number in loop and block.first_line > last:
+                last = block.last_line
+                yield Trial((f"inline {block.number}",), loop.number, loop.level, rest=("",))
 
     def _forming(self, loop: Loop) -> Iterator[Trial]:
-        """Those steps that ped accepts and that put other loops in the place of this one, which may be better."""
-        words = ("fuse", "distribute", "interchange") if carried_names(self._view.carried_by(loop)) else ("fuse",)
+        """Those steps that ped accepts and that put another loop in the place of this one, which may be better."""
+        words = ("fuse", "interchange") if carried_names(self._view.carried_by(loop)) else ("fuse",)
         for one in self.advised(loop):
             if one.refusal is None and one.word in words:
-                yield Trial((one.command,), loop.number)
+                yield Trial((one.command,), loop.number, loop.level)
 
 
 def place_of(advised: Advised) -> int:
     """The place of a step among those that lead to parallel loops; the others come last."""
     return _LEADING.index(advised.word) if advised.word in _LEADING else len(_LEADING)
-
-
-def _scalar_trials(loop: Loop, name: str) -> List[Trial]:
-    return [Trial((f"{step} {loop.number} {name}",), loop.number, name) for step in _SCALAR_STEPS]
 
 
 def _accepted(outcome: Outcome) -> str:
@@ -187,7 +253,11 @@ def _accepted(outcome: Outcome) -> str:
         return f"{words}, and the iterations may then be done in any order"
     if is_one and outcome.names:
         return words
-    return f"{words}, and the loop then carries {listed(outcome.names) or 'nothing'}"
+    return f"{words}, and the loop then carries {_names(outcome)}"
+
+
+def _names(outcome: Outcome) -> str:
+    return listed(list(outcome.names)) or "nothing"
 
 
 def _about_reads(program: Program, outcome: Outcome) -> str:
@@ -205,17 +275,12 @@ def _about_reads(program: Program, outcome: Outcome) -> str:
 
 def _about_variables(program: Program, loop: Loop) -> Iterator[str]:
     """Warns of a variable that a PARALLEL DO would leave without a value where something may read it."""
-    round_it = range(program.loops[loop.nest[0]].number, program.loops[loop.nest[0]].last + 1)
     for variable in dict.fromkeys([loop.variable, *(inner.variable for inner in program.inner_loops(loop))]):
-        readers = [
-            reference.statement for reference in program.references()
-            if reference.name == variable and not reference.writes and reference.statement not in loop
-            and (reference.statement > loop.last or reference.statement in round_it)
-        ]
+        readers = readers_after(program, loop, variable)
         if readers:
-            yield f"statement {readers[0]} may read {variable}, which has no value behind a PARALLEL DO"
+            yield f"statement {readers[0]} may read {variable}, which has no value after a PARALLEL DO"
         elif variable in program.saved:
-            yield f"{variable} is in SAVE, and has no value behind a PARALLEL DO"
+            yield f"{variable} is in SAVE, and has no value after a PARALLEL DO"
 
 
 def _about_lines(program: Program, loop: Loop, name: str) -> Iterator[str]:
@@ -228,8 +293,8 @@ def _about_lines(program: Program, loop: Loop, name: str) -> Iterator[str]:
         yield "PRINT keeps its lines in order: store the values in an array, and print them in a loop of their own"
 
 
-def _about_array(loop: Loop, name: str, rows: Sequence[Dependence]) -> Iterator[str]:
-    if all(row.mark == "pending" for row in rows):
+def _about_array(program: Program, loop: Loop, name: str, rows: Sequence[Dependence]) -> Iterator[str]:
+    if may_reject(program, rows):
         yield f"where you know that no two iterations use one element: C$PED REJECT {name} before the loop"
     if all(row.kind == "anti" for row in rows):
         yield f"only old values are read: copy {name} into another array before the loop, and read that one"

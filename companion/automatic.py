@@ -6,6 +6,7 @@ again: what `distribute` makes of a loop stands in its place, one loop behind th
 
 from __future__ import annotations
 
+from collections import Counter
 from dataclasses import dataclass
 from typing import Dict, Iterator, List, Optional, Sequence
 
@@ -13,6 +14,7 @@ from .lines import is_comment
 from .outline import outline_of
 from .panes import read_source
 from .ped import Ped
+from .questions import text_of
 from .refusals import refused
 from .views import View
 
@@ -47,18 +49,18 @@ class Rest:
 
 def rests(ped: Ped, view: View) -> Dict[int, List[Rest]]:
     """For each loop of a program what `auto` would leave of it; nothing where the program leaves no room to ask."""
-    text = "".join(line + "\n" for line in marked(view))
+    text = text_of(marked(view))
     if len(text) > _MOST_BYTES:
         return {}
     automatic, shown = ped.session(text, "auto\nsource\n")
     owners = _owners(_mark(view), shown.rows)
-    parts = list(owners.values())
+    parts = Counter(owners.values())
     sums = {step.split()[1]: step for step in automatic.taken if step.startswith("reduce ")}
     found: Dict[int, List[Rest]] = {}
     for left in automatic.left:
         owner = owners.get(left.number)
         if owner is not None:
-            is_part = parts.count(owner) > 1
+            is_part = parts[owner] > 1
             rest = Rest(owner, left.number, is_part, sums.get(str(left.number)), left.refusal)
             found.setdefault(owner, []).append(rest)
     return found

@@ -2,13 +2,18 @@
 
 from __future__ import annotations
 
-from typing import Iterator, Sequence, Tuple
+from typing import Iterable, Iterator, Sequence, Tuple
 
+from .expressions import value_of
 from .lines import LAST_COLUMN, Place, is_comment
 from .messages import listed
+from .openmp import Sums
 from .program import Loop, Program
 from .trials import carried_names
 from .views import View
+
+#: How many names a caution lists.
+_MOST_NAMES = 8
 
 #: A place, and what is said of it.
 Caution = Tuple[Place, str]
@@ -71,3 +76,36 @@ def _may_overwrite(program: Program, loop: Loop, variable: str) -> bool:
         number > loop.last or number in outermost and number not in loop
         for number in [*_assigning(program, variable), *loops]
     )
+
+
+def doubtful_directives(view: View, loops: Iterable[Loop], sums: Sums) -> Iterator[Tuple[Loop, str]]:
+    """What isn't sure of loops that get a directive for OpenMP; the names in a live list of sums are no cause."""
+    for loop in loops:
+        rows = [row for row in view.carried_by(loop) if row.name not in sums.get(loop.number, ())]
+        carried = carried_names(rows)
+        if carried:
+            yield loop, f"the iterations of this loop may race: it carries dependences of {_some(carried)}"
+        rejected = list(dict.fromkeys(row.name for row in rows if row.is_rejected))
+        if rejected:
+            words = f"this loop rests on C$PED REJECT {_some(rejected)}"
+            yield loop, f"{words}: that its iterations don't race is taken on trust"
+        if _leaves_range(view.program, loop):
+            yield loop, f"after this loop {loop.variable} would leave 32 bits: compiled, the loop may miss iterations"
+
+
+def _some(names: Sequence[str]) -> str:
+    """Names, of many the first ones."""
+    if len(names) <= _MOST_NAMES:
+        return listed(names)
+    return listed([*names[:_MOST_NAMES], f"{len(names) - _MOST_NAMES} others"])
+
+
+def _leaves_range(program: Program, loop: Loop) -> bool:
+    """Whether it is known of a loop that its variable leaves 32 bits after the last iteration."""
+    form = loop.form
+    first, last = value_of(form.first, program.constants), value_of(form.last, program.constants)
+    step = value_of(form.step, program.constants) if form.step is not None else 1
+    if first is None or last is None or not step:
+        return False
+    after = first + max((last - first + step) // step, 0) * step
+    return not -2**31 <= after < 2**31

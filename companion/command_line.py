@@ -3,10 +3,13 @@
 from __future__ import annotations
 
 import argparse
-import os
+import gc
 import sys
-from typing import BinaryIO, Callable, Dict, List, Optional, Tuple
+import traceback
+from contextlib import contextmanager
+from typing import IO, Callable, Dict, Iterator, List, Optional, Sequence, Tuple
 
+from .commands.calls import calls
 from .commands.check import check, refusal_rows
 from .commands.export import export
 from .commands.graph import graph
@@ -15,8 +18,11 @@ from .commands.omp import omp
 from .commands.tune import tune
 from .commands.why import Wanted, why
 from .messages import ERROR
+from .openmp import Wishes
+from .output import tell, use_locale, write_or_close, write_to
 from .panes import KINDS, MARKS
-from .ped import ENCODING, Ped, find_ped, shown
+from .ped import Ped, cause, find_ped, read_file, shown
+from .progress import Progress
 from .statuses import CompanionError, ProgramRefused, Status
 from .views import Question, View, open_view
 
@@ -34,8 +40,11 @@ exit statuses (0 to 7 are those of ped):
   8  check: a run meets a fault
   9  check: a run has a race
  10  check --strict: there is a warning
- 11  ped can't be started, or answers what isn't understood
+ 11  ped can't be started, or fails
  12  graph --svg: dot of graphviz can't be started, or fails
+ 13  ped answers what isn't understood
+ 14  pedx itself fails
+ 15  omp --strict: a loop may race, or rests on C$PED REJECT
 
 docs/COMPANION.md is the manual.
 """
@@ -43,25 +52,42 @@ docs/COMPANION.md is the manual.
 #: Parentheses nest up to 660 deep in a statement, and the calls that read them twice as deep.
 _DEPTH = 5000
 
-#: What a command answers: the text of standard output, that of standard error, and the status.
-Answer = Tuple[str, str, Status]
+#: How many objects more there may be before garbage is looked for.
+_GARBAGE = 500_000
+
+#: What a command answers: the text of standard output, none where nothing is to be written; that of standard error; and
+#: the status.
+Answer = Tuple[Optional[str], str, Status]
 
 
 def main(words: Optional[List[str]] = None) -> int:
     """Carries out a call with these words, and answers its exit status."""
     sys.setrecursionlimit(max(_DEPTH, sys.getrecursionlimit()))
-    options = _parser().parse_args(words)
+    # A program that is read is kept to the end. Looking through it for garbage again and again doubles the time.
+    gc.set_threshold(_GARBAGE)
+    use_locale()
+    try:
+        return _carried_out(_parser().parse_args(words))
+    except CompanionError as error:
+        return _ended(f"pedx: {ERROR}: {error.message}\n", error.status)
+    except MemoryError:
+        return _ended(f"pedx: {ERROR}: pedx ran out of memory\n", Status.NO_MEMORY)
+    except Exception:  # pylint: disable=broad-except
+        trace = traceback.format_exc().encode("ascii", "backslashreplace").decode("ascii")
+        return _ended(f"{trace}pedx: {ERROR}: this is an error in pedx itself\n", Status.FAILED)
+
+
+def _carried_out(options: argparse.Namespace) -> int:
     question = Question(options.file, options.script, options.data, getattr(options, "printed", False))
-    if question.data is not None and question.script is None and options.command not in ("check", "edit"):
-        return _ended(f"pedx: {ERROR}: --data wants --script\n", Status.BAD_WORDS)
+    if question.data is not None and question.script is None and options.command not in ("check", "edit", "omp"):
+        raise CompanionError(Status.BAD_WORDS, "--data wants --script")
     try:
         out, messages, status = _answer(options, question, Ped(find_ped(options.ped)))
-        _write(getattr(options, "output", None), out)
     except ProgramRefused as refusal:
         rows = refusal_rows(question.name, refusal)
         return _ended("".join(row + "\n" for row in rows), refusal.status)
-    except CompanionError as error:
-        return _ended(f"pedx: {ERROR}: {error.message}\n", error.status)
+    if out is not None:
+        _write(getattr(options, "output", None), out)
     return _ended(messages, status)
 
 
@@ -73,9 +99,16 @@ def _answer(options: argparse.Namespace, question: Question, ped: Ped) -> Answer
     if options.command == "edit":
         return _edit(ped, question), "", Status.DONE
     view = open_view(ped, question)
-    out = _COMMANDS[options.command](options, view, ped)
-    messages = "".join(row + "\n" for row in view.complaints)
-    return out, messages, Status.LINE_REFUSED if view.complaints else Status.DONE
+    status = Status.LINE_REFUSED if view.complaints else Status.DONE
+    if options.command == "omp":
+        data = read_file(question.data) if question.data is not None else None
+        answer = omp(view, ped, Wishes(options.live, options.all), options.strict, data)
+        return answer.text, _rows([*view.complaints, *answer.messages]), answer.status or status
+    return _COMMANDS[options.command](options, view, ped), _rows(view.complaints), status
+
+
+def _rows(rows: Sequence[str]) -> str:
+    return "".join(row + "\n" for row in rows)
 
 
 def _edit(ped: Ped, question: Question) -> str:
@@ -88,23 +121,50 @@ def _edit(ped: Ped, question: Question) -> str:
     return ""
 
 
+def _loops(options: argparse.Namespace, view: View, ped: Ped) -> str:
+    with _progress() as progress:
+        return loops(view, ped, options.loops, options.trials, progress)
+
+
+def _tune(options: argparse.Namespace, view: View, ped: Ped) -> str:
+    with _progress() as progress:
+        return tune(view, ped, options.loops, progress)
+
+
+@contextmanager
+def _progress() -> Iterator[Progress]:
+    """Shows how far a call is, where standard error is a terminal."""
+    progress = Progress(sys.stderr)
+    try:
+        yield progress
+    finally:
+        progress.clear()
+
+
 def _why(options: argparse.Namespace, view: View, ped: Ped) -> str:
     return why(view, Wanted(options.loop, options.statement, options.name, options.kind, options.mark))
 
 
 _COMMANDS: Dict[str, Callable[[argparse.Namespace, View, Ped], str]] = {
-    "loops": lambda options, view, ped: loops(view, ped, options.loops, options.trials),
-    "tune": lambda options, view, ped: tune(view, ped, options.loops),
+    "loops": _loops,
+    "tune": _tune,
     "why": _why,
-    "omp": lambda options, view, ped: omp(view, ped, options.live),
+    "calls": lambda options, view, ped: calls(view, ped),
     "graph": lambda options, view, ped: graph(view, options.loop, options.svg),
     "json": lambda options, view, ped: export(view),
 }
 
 
+class _Parser(argparse.ArgumentParser):
+    """A parser whose help and messages show no control characters of the words that they quote."""
+
+    def _print_message(self, message: str, file: Optional[IO[str]] = None) -> None:
+        (_put if file is sys.stdout else tell)(shown(message))
+
+
 def _parser() -> argparse.ArgumentParser:
     layout = argparse.RawDescriptionHelpFormatter
-    parser = argparse.ArgumentParser("pedx", description=_DESCRIPTION, epilog=_STATUSES, formatter_class=layout)
+    parser = _Parser("pedx", description=_DESCRIPTION, epilog=_STATUSES, formatter_class=layout)
     commands = parser.add_subparsers(dest="command", metavar="COMMAND", required=True)
 
     def add(name: str, words: str) -> argparse.ArgumentParser:
@@ -121,9 +181,14 @@ def _parser() -> argparse.ArgumentParser:
     command.add_argument("--no-trials", dest="trials", action="store_false", help="ask for no advice, and try no steps")
     command = add("tune", "say what stands in the way of each loop, and which single step removes it")
     command.add_argument("loops", metavar="S", type=int, nargs="*", help="the statement numbers of the wanted loops")
+    add("calls", "say which CALLs there are, what depends on them, and which can be inlined")
     _add_filters(add("why", "say of each row of the dependence pane why it is there"))
     command = add("omp", "write the program as FORTRAN with OpenMP directives, for gfortran -fopenmp")
     command.add_argument("--live", action="store_true", help="print the variables in SAVE at the end")
+    command.add_argument("--all", action="store_true", help="write a directive at loops in parallel loops, too")
+    command.add_argument(
+        "--strict", action="store_true", help="write nothing where a loop may race, or rests on C$PED REJECT"
+    )
     _add_output(command)
     command = add("check", "say what is wrong with a program, with a script, or with a run")
     command.add_argument("--run", action="store_true", help="run it, too; so do --script and --data")
@@ -141,7 +206,7 @@ def _add_common(command: argparse.ArgumentParser, is_editor: bool) -> None:
     data = "the data for runs"
     if not is_editor:
         script = "look at the program behind this script of a session"
-        data = "the data for the runs of the script, or of check"
+        data = "the data for the runs of the script, of check, or of the search for races of omp"
     command.add_argument("--script", metavar="SCRIPT", help=script)
     command.add_argument("--data", metavar="DATA", help=data)
     if not is_editor:
@@ -167,29 +232,25 @@ def _add_output(command: argparse.ArgumentParser) -> None:
 def _write(name: Optional[str], text: str) -> None:
     """Writes a text to a file, or to standard output."""
     if name is None:
-        _put(sys.stdout.buffer, text)
+        _put(text)
         return
     try:
-        with open(name, "wb") as file:
-            file.write(text.encode(ENCODING))
-    except OSError as error:
-        raise CompanionError(Status.NOT_READ, f"cannot write {shown(name)}: {error.strerror}") from error
+        write_to(name, text)
+    except (OSError, ValueError) as error:
+        raise CompanionError(Status.NOT_READ, f"cannot write {shown(name)}: {cause(error)}") from error
 
 
-def _put(stream: BinaryIO, text: str) -> None:
+def _put(text: str) -> None:
+    """Writes a text to standard output, which may have been closed before the call."""
+    if sys.stdout is None:
+        raise CompanionError(Status.NOT_WRITTEN, "cannot write: standard output is closed")
     try:
-        stream.write(text.encode(ENCODING, "replace"))
-        stream.flush()
+        write_or_close(sys.stdout, text)
     except OSError as error:
-        # What is left in the buffer can't be written at exit either.
-        os.dup2(os.open(os.devnull, os.O_WRONLY), stream.fileno())
         raise CompanionError(Status.NOT_WRITTEN, f"cannot write: {error.strerror}") from error
 
 
 def _ended(messages: str, status: Status) -> int:
-    """Writes the messages to standard error; that they can't be written changes nothing."""
-    try:
-        _put(sys.stderr.buffer, messages)
-    except CompanionError:
-        pass
+    """Writes the messages, and answers the status."""
+    tell(messages)
     return int(status)

@@ -1,4 +1,4 @@
-"""Why a dependence is pending: what keeps the tests from proving it.
+"""Why a dependence is pending: what keeps the tests from proving it; and whether a user may know better.
 
 The rule is that of docs/PANES.md, "Marks". A dependence is proven where constants alone decide that both statements
 are reached, and where each subscript tells of its loop all that there is to know.
@@ -6,7 +6,7 @@ are reached, and where each subscript tells of its loop all that there is to kno
 
 from __future__ import annotations
 
-from typing import Dict, List
+from typing import Dict, List, Sequence, Tuple
 
 from .expressions import value_of
 from .panes import Dependence
@@ -32,6 +32,23 @@ def doubts(program: Program, dependence: Dependence) -> List[str]:
     for position in both:
         causes.extend(_about_position(position))
     return causes
+
+
+def may_reject(program: Program, rows: Sequence[Dependence]) -> bool:
+    """Whether a user may know that the rows of one name aren't there, so that `reject` is worth being offered.
+
+    All iterations use one scalar, so its rows are no matter of doubt. Of an array each row has to be pending for a
+    subscript that leaves open which element it is; where bounds and IFs alone are open, the elements are the same.
+    """
+    if not rows or any(row.mark != "pending" or row.name not in program.arrays for row in rows):
+        return False
+    # Several rows may be of two references.
+    return all(_is_open(program, *pair) for pair in {(row.source, row.sink) for row in rows})
+
+
+def _is_open(program: Program, source: Tuple[int, int], sink: Tuple[int, int]) -> bool:
+    """Whether a subscript of one of two references to an array leaves open which element it is."""
+    return any(map(_about_position, positions(program, program.reference(source), program.reference(sink))))
 
 
 def _about_loop(program: Program, loop: Loop) -> List[str]:

@@ -44,8 +44,14 @@ class Span(NamedTuple):
 class Expression:
     """A part of an expression: where it stands, and its text without blanks."""
 
-    span: Span
+    #: The characters that it was read from.
+    source: Text
     text: str
+
+    @property
+    def span(self) -> Span:
+        """Where the expression stands."""
+        return Span(self.source.start, self.source.end)
 
     def parts(self) -> Tuple[Expression, ...]:
         """The expressions that this one is made of, from left to right."""
@@ -118,6 +124,7 @@ class _Reader:
     def __init__(self, text: Text) -> None:
         self._text = text
         self._tokens = list(_TOKEN.finditer(text.letters))
+        self._words = [match.group() for match in self._tokens] + [""]
         self._next = 0
 
     def operations(self, least: int) -> Expression:
@@ -169,13 +176,13 @@ class _Reader:
     def _operation(self, begin: int, operator: str, *operands: Expression) -> Operation:
         return Operation(*self._here(begin), operator=operator, operands=operands)
 
-    def _here(self, begin: int) -> Tuple[Span, str]:
-        """The place and the text of what was read from a token on."""
+    def _here(self, begin: int) -> Tuple[Text, str]:
+        """The characters of what was read from a token on, and their text."""
         text = self._text[self._tokens[begin].start():self._tokens[self._next - 1].end()]
-        return Span(text[0].start, text[-1].end), str(text)
+        return text, str(text)
 
     def _peek(self) -> str:
-        return self._tokens[self._next].group() if self._next < len(self._tokens) else ""
+        return self._words[min(self._next, len(self._tokens))]
 
     def _take(self) -> str:
         token = self._peek()

@@ -8,7 +8,8 @@ from __future__ import annotations
 
 import re
 from dataclasses import dataclass
-from typing import Iterator, List, NamedTuple, Optional, Sequence, Tuple, Union, overload
+from functools import cached_property
+from typing import Iterator, List, Match, NamedTuple, Optional, Sequence, Tuple, Union, overload
 
 FIRST_COLUMN = 7
 LAST_COLUMN = 72
@@ -41,13 +42,68 @@ class Character:
         return self.text[0] == "'"
 
 
+class _Letters:
+    """All characters of a statement, which its texts share; their places are found when they are asked for."""
+
+    def __init__(self, columns: str, lines: Sequence[int]) -> None:
+        #: Columns 7 to 72 of the lines, behind one another, and the numbers of these lines.
+        self._columns = columns
+        self._lines = lines
+        #: Whether a character may be longer than a letter, or a capital longer than its letter.
+        self._is_mixed = "'" in columns or not columns.isascii()
+        self.letters = self._mixed_letters() if self._is_mixed else columns.replace(" ", "").upper()
+
+    def _mixed_letters(self) -> str:
+        return "".join(_capital(match.group())[0] for match in self._matches)
+
+    @cached_property
+    def _matches(self) -> List[Match[str]]:
+        return list(_CHARACTER.finditer(self._columns))
+
+    @cached_property
+    def _offsets(self) -> List[int]:
+        """Where each character stands, where none of them is a constant."""
+        return [index for index, letter in enumerate(self._columns) if letter != " "]
+
+    def start(self, index: int) -> Place:
+        """The place of the first byte of a character."""
+        return self._place(self._matches[index].start() if self._is_mixed else self._offsets[index])
+
+    def end(self, index: int) -> Place:
+        """The place of the last byte of a character."""
+        return self._place(self._matches[index].end() - 1 if self._is_mixed else self._offsets[index])
+
+    def text(self, first: int, last: int) -> str:
+        """Some characters, up to but without the last one."""
+        if not self._is_mixed:
+            return self.letters[first:last]
+        return "".join(_capital(match.group()) for match in self._matches[first:last])
+
+    def _place(self, offset: int) -> Place:
+        width = LAST_COLUMN - FIRST_COLUMN + 1
+        return Place(self._lines[offset // width], FIRST_COLUMN + offset % width)
+
+
 class Text(Sequence[Character]):
     """Characters of one statement, without the blanks that mean nothing."""
 
-    def __init__(self, characters: Sequence[Character]) -> None:
-        self._characters = tuple(characters)
+    __slots__ = ("_all", "_first", "letters")
+
+    def __init__(self, characters: _Letters, first: int, letters: str) -> None:
+        self._all = characters
+        self._first = first
         #: One letter for each character, an apostrophe for a character constant.
-        self.letters = "".join(character.text[0] for character in self._characters)
+        self.letters = letters
+
+    @property
+    def start(self) -> Place:
+        """The place of the first byte."""
+        return self._all.start(self._first)
+
+    @property
+    def end(self) -> Place:
+        """The place of the last byte."""
+        return self._all.end(self._first + len(self.letters) - 1)
 
     @overload
     def __getitem__(self, index: int) -> Character: ...
@@ -57,14 +113,15 @@ class Text(Sequence[Character]):
 
     def __getitem__(self, index: Union[int, slice]) -> Union[Character, Text]:
         if isinstance(index, slice):
-            return Text(self._characters[index])
-        return self._characters[index]
+            return Text(self._all, self._first + index.indices(len(self.letters))[0], self.letters[index])
+        place = self._first + range(len(self.letters))[index]
+        return Character(self._all.text(place, place + 1), self._all.start(place), self._all.end(place))
 
     def __len__(self) -> int:
-        return len(self._characters)
+        return len(self.letters)
 
     def __str__(self) -> str:
-        return "".join(character.text for character in self._characters)
+        return self._all.text(self._first, self._first + len(self.letters))
 
     def split(self, separator: str) -> List[Text]:
         """The parts between the separators that stand outside parentheses."""
@@ -124,7 +181,7 @@ def split_lines(text: str) -> List[str]:
     lines = text.split("\n")
     if lines[-1] == "":
         lines.pop()
-    return [line[:-1] if line.endswith("\r") else line for line in lines]
+    return [line[:-1] if line.endswith("\r") else line for line in lines] if "\r" in text else lines
 
 
 def is_comment(line: str) -> bool:
@@ -177,15 +234,9 @@ def _statement(lines: Sequence[str], numbers: Sequence[int], directives: Sequenc
 def _joined(lines: Sequence[str], numbers: Sequence[int]) -> Text:
     """The text of a statement: its columns 7 to 72, joined; a shorter line counts as filled with blanks."""
     width = LAST_COLUMN - FIRST_COLUMN + 1
-    letters = "".join(lines[number - 1][FIRST_COLUMN - 1:LAST_COLUMN].ljust(width) for number in numbers)
-
-    def place(index: int) -> Place:
-        return Place(numbers[index // width], FIRST_COLUMN + index % width)
-
-    return Text([
-        Character(_capital(match.group()), place(match.start()), place(match.end() - 1))
-        for match in _CHARACTER.finditer(letters.rstrip(" "))
-    ])
+    columns = "".join(lines[number - 1][FIRST_COLUMN - 1:LAST_COLUMN].ljust(width) for number in numbers)
+    characters = _Letters(columns.rstrip(" "), numbers)
+    return Text(characters, 0, characters.letters)
 
 
 def _capital(text: str) -> str:

@@ -2,141 +2,295 @@
 
 What changes of the printed program:
 
-- A PARALLEL DO becomes a DO behind a directive `C$OMP PARALLEL DO`, whose PRIVATE clause names the scalars of its
-  PRIVATE list, and the variables of the loops in it, which are private in ped without being named.
-- So does a DO whose list of sums is live, with a clause REDUCTION(+:..) of the names in the list. Its variable has no
-  value behind it then; ped sees to it that nothing wants one, where it accepts the list.
-- PRIVATE is left out. The scalars that a DO in a PARALLEL DO names are private to the PARALLEL DO, too, where nothing
-  else in it uses them. A DO that stands in no PARALLEL DO needs no copies, since its iterations come one by one.
-- Comments that OpenMP would read, `C$` and something behind it, get a blank behind the C; a directive C$PED stays.
-- PROGRAM is left out where its name is a constant's as well, and a scalar is renamed whose name is a function's that
-  the program calls: both are free in ped and not in FORTRAN. So is one whose name begins with PARAMETER, since compilers
-  take an assignment to it for a PARAMETER statement without parentheses.
+- A PARALLEL DO becomes a DO after a directive `C$OMP PARALLEL DO`. The PRIVATE clause names the scalars of the PRIVATE
+  list, and the variables of the loops inside, which are private in ped without being named. A loop inside a loop with a
+  directive gets none, unless this is wished: there a directive costs more than it gives.
+- A DO whose list of sums is live gets a directive, too, with a clause REDUCTION(+:..) of the names in the list. Its
+  variable has no value after it then. ped accepts the list only where nothing needs that value.
+- PRIVATE is left out. The scalars that a DO inside a loop with a directive names are private to that loop, too, where
+  nothing else in it uses them. The header of such a DO is outside of it, so a read there is another use. A DO outside
+  all of these loops needs no copies, since its iterations come one by one.
+- The header of a loop with a directive may read a name that is private to the loop, as in `PARALLEL DO I = I, 9`. Then
+  the private one gets a new name.
+- PROGRAM is left out where its name is also that of a constant or of a called function. Names that FORTRAN or a
+  compiler takes for something else are replaced (companion/renaming.py); so are some constants (folding.py) and
+  comments (sentinels.py).
+- IMPLICIT INTEGER comes first where a constant gets its type only after its value. Large arrays are put into SAVE, since
+  compilers may otherwise put them on the stack, which they overflow.
 """
 
 from __future__ import annotations
 
-import re
-from typing import Dict, Iterator, List, Mapping, Sequence
+import textwrap
+from typing import Dict, Iterator, List, Mapping, NamedTuple, Optional, Sequence, Set, Tuple
 
-from .lines import FIRST_COLUMN, LAST_COLUMN, WrittenStatement, is_comment, read_statements
+from .expressions import names_in, value_of
+from .folding import Folding, bounds
+from .lines import FIRST_COLUMN, LAST_COLUMN, Place, WrittenStatement, is_comment, read_statements
 from .program import Loop, Program
-from .statements import Private, ProgramName, Word, read_form
+from .renaming import Names, called_functions, clashing_names, renamed
+from .sentinels import harmless
+from .statements import Declaration, Do, Form, Other, Parameter, Private, ProgramName, Save, Word, read_form
 
 _WIDTH = LAST_COLUMN - FIRST_COLUMN + 1
-_CONSTANT_OR_NAME = re.compile(r"'[^']*'|[A-Z][A-Z0-9]*")
-_CALL = re.compile(r"'[^']*'|([A-Z][A-Z0-9]*)\(")
-_FUNCTIONS = frozenset(["MOD", "ABS", "MAX", "MIN"])
-_HEADING = [
-    "C     WRITTEN BY PEDX OMP. TO COMPILE: gfortran -fopenmp -o NAME NAME.f",
-]
+_MARGIN = " " * (FIRST_COLUMN - 1)
+#: How many elements the arrays of a program may have that aren't in SAVE; more are put there.
+_MOST_ELEMENTS = 2**16
 
 #: For each loop whose list of sums is live the names in it.
 Sums = Mapping[int, Sequence[str]]
 
 
-def openmp_lines(lines: Sequence[str], program: Program, sums: Sums, live: bool) -> List[str]:
-    """A printed program as FORTRAN with OpenMP directives; with `live` it prints the variables in SAVE at its end."""
-    return [*_HEADING, *_Translation(lines, program, sums, live).lines()]
+class Wishes(NamedTuple):
+    """What a user wants of the translation."""
+
+    #: Print the variables in SAVE at the end.
+    live: bool = False
+    #: Write a directive at every parallel loop, and not at the outermost ones alone.
+    every: bool = False
+
+
+class Translated(NamedTuple):
+    """A translated program: its lines, and the options of gfortran with which it is to be compiled."""
+
+    lines: List[str]
+    options: Tuple[str, ...]
+
+
+def directed_loops(program: Program, sums: Sums, every: bool) -> Dict[int, Loop]:
+    """The loops that get a directive: parallel ones and those with live sums, but for those in another one of them."""
+    loops = {loop.number: loop for loop in program.loops.values() if loop.form.parallel or sums.get(loop.number)}
+    return {
+        number: loop for number, loop in loops.items()
+        if every or not any(outer in loops for outer in loop.nest[:-1])
+    }
+
+
+def translate(
+    lines: Sequence[str], program: Program, sums: Sums, wishes: Wishes, notes: Mapping[int, Sequence[str]]
+) -> Translated:
+    """A printed program as FORTRAN with OpenMP directives.
+
+    `notes` are comments about loops, by their statements; they are written before the loop's directive.
+    """
+    translation = _Translation(lines, program, sums, wishes, notes)
+    translated = list(translation.lines())
+    options = ["-fopenmp", "-O2"]
+    if sums:
+        # Sums may leave 32 bits on the way, in another order than the program's.
+        options.append("-fwrapv")
+    if translation.folding.leaves_range:
+        options.append("-fno-range-check")
+    return Translated(_heading(options) + translated, tuple(options))
+
+
+def _heading(options: Sequence[str]) -> List[str]:
+    return ["C     WRITTEN BY PEDX OMP. TO COMPILE:", f"C     gfortran {' '.join(options)} -o NAME NAME.f"]
+
+
+class _Written(NamedTuple):
+    """A statement: as it is written, its form, and its text from column 7 on with its blanks."""
+
+    written: WrittenStatement
+    form: Form
+    text: str
 
 
 class _Translation:
     """The lines of a printed program, statement by statement."""
 
-    def __init__(self, lines: Sequence[str], program: Program, sums: Sums, live: bool) -> None:
+    def __init__(
+        self, lines: Sequence[str], program: Program, sums: Sums, wishes: Wishes, notes: Mapping[int, Sequence[str]]
+    ) -> None:
         self._lines = lines
         self._program = program
         self._sums = sums
-        self._live = live
+        self._wishes = wishes
+        self._notes = notes
         self._numbers = {statement.line: statement.number for statement in program.statements}
-        self._statements = {statement.first_line: statement for statement in read_statements(lines)}
-        self._new_names = self._renamed()
+        self._statements = [
+            _Written(written, read_form(written.text), self._text(written)) for written in read_statements(lines)
+        ]
+        self._directed = directed_loops(program, sums, wishes.every)
+        #: For each loop the names of its PRIVATE list.
+        self._listed = {number: {name.name for name in loop.private} for number, loop in program.loops.items()}
+        texts = [statement.text for statement in self._statements]
+        self._names = Names(texts)
+        called = called_functions(texts)
+        clashing = clashing_names(program, [(one.form, one.text) for one in self._statements], called)
+        self._new_names = {name: self._names.new() for name in clashing}
+        #: For each loop with a directive the new names of what is private to it and read in its header.
+        self._inner_names = {number: self._renamed_inside(loop) for number, loop in self._directed.items()}
+        #: Names that the program itself can't have.
+        self._program_names = called.union(program.constants)
+        self._zero_name: Optional[str] = None
+        self.folding = Folding(program.constants, self._zero)
 
     def lines(self) -> Iterator[str]:
         """The translated lines."""
-        index = 0
-        while index < len(self._lines):
-            statement = self._statements.get(index + 1)
-            if statement is None:
-                yield _comment(self._lines[index])
-                index += 1
-            else:
-                yield from self._translated(statement)
-                index = statement.last_line
+        done = 0
+        typed = self._needs_types()
+        last_declaration = self._last_declaration()
+        for statement in self._statements:
+            written = statement.written
+            if typed and not isinstance(statement.form, ProgramName):
+                yield f"{_MARGIN}IMPLICIT INTEGER (A-Z)"
+                typed = False
+            yield from map(harmless, self._lines[done:written.first_line - 1])
+            yield from self._translated(statement)
+            if statement is last_declaration:
+                yield from self._large_arrays()
+            done = written.last_line
+        yield from map(harmless, self._lines[done:])
 
-    def _translated(self, statement: WrittenStatement) -> Iterator[str]:
-        form = read_form(statement.text)
-        loop = self._program.loops.get(self._numbers.get(statement.first_line, 0))
-        text = self._renamed_in(self._text(statement))
-        if self._live and form in (Word("STOP"), Word("END")):
+    def _translated(self, statement: _Written) -> Iterator[str]:
+        form = statement.form
+        line = statement.written.first_line
+        number = self._numbers.get(line, 0)
+        if self._wishes.live and form in (Word("STOP"), Word("END")):
             yield from self._live_lines()
-        sums = self._sums.get(loop.number, ()) if loop is not None else ()
-        if loop is not None and (loop.form.parallel or sums):
-            yield from _directive(self._private_names(loop), [self._new_names.get(name, name) for name in sums])
-            text = text.replace("PARALLEL DO", "DO", 1)
-        if isinstance(form, Private) or isinstance(form, ProgramName) and form.name in self._program.constants:
+        if isinstance(form, Private) or isinstance(form, ProgramName) and form.name in self._program_names:
             return
-        yield from _cut(self._lines[statement.first_line - 1][:FIRST_COLUMN - 1], text)
+        names = self._names_at(number)
+        text = renamed(form, self._repaired(statement), names)
+        loop = self._program.loops.get(number)
+        if loop is not None:
+            yield from self._before(loop, names)
+            variable = self._names_in(loop).get(loop.variable, loop.variable)
+            text = text.replace("PARALLEL DO", "DO", 1)
+            text = text.replace(f"DO {names.get(loop.variable, loop.variable)} =", f"DO {variable} =", 1)
+        yield from _cut(self._lines[line - 1][:FIRST_COLUMN - 1], text)
 
-    def _text(self, statement: WrittenStatement) -> str:
+    def _before(self, loop: Loop, names: Mapping[str, str]) -> Iterator[str]:
+        """The lines before a loop: what is noted of it, and its directive, where it has one."""
+        if loop.number not in self._directed:
+            return
+        for note in self._notes.get(loop.number, ()):
+            yield from _comment(note)
+        inner = self._names_in(loop)
+        private = [inner.get(name, name) for name in self._private_names(loop)]
+        yield from _directive(private, [names.get(name, name) for name in self._sums.get(loop.number, ())])
+
+    # Statements
+
+    def _text(self, written: WrittenStatement) -> str:
         """What a statement has from column 7 on, its indentation included."""
-        pieces = self._lines[statement.first_line - 1:statement.last_line]
-        columns = [piece[FIRST_COLUMN - 1:LAST_COLUMN] for piece in pieces if not is_comment(piece)]
+        columns = [self._lines[line - 1][FIRST_COLUMN - 1:LAST_COLUMN] for line in self._lines_of(written)]
         return "".join(piece.ljust(_WIDTH) for piece in columns[:-1]) + columns[-1]
+
+    def _lines_of(self, written: WrittenStatement) -> List[int]:
+        """The numbers of the lines of a statement."""
+        lines = range(written.first_line, written.last_line + 1)
+        return [line for line in lines if not is_comment(self._lines[line - 1])]
+
+    def _repaired(self, statement: _Written) -> str:
+        """The text of a statement with other constants, where a compiler would compute them otherwise."""
+        lines = self._lines_of(statement.written)
+
+        def index(place: Place) -> int:
+            return lines.index(place.line) * _WIDTH + place.column - FIRST_COLUMN
+
+        text = statement.text
+        repairs = list(self.folding.repairs(statement.form, statement.written.text))
+        for repair in sorted(repairs, key=lambda one: one.span, reverse=True):
+            text = text[:index(repair.span.start)] + repair.text + text[index(repair.span.end) + 1:]
+        return text
+
+    def _zero(self) -> str:
+        """The name of the variable that takes the place of constant zeros."""
+        if self._zero_name is None:
+            self._zero_name = self._names.new()
+        return self._zero_name
+
+    # Names
 
     def _private_names(self, loop: Loop) -> List[str]:
         """The names of the PRIVATE clause of a loop."""
         inner = self._program.inner_loops(loop)
+        used = self._used_outside(loop)
         names = [name.name for name in loop.private] + [one.variable for one in inner]
-        for one in inner:
-            names.extend(name.name for name in one.private if not self._used_outside(name.name, loop, inner))
-        return [self._new_names.get(name, name) for name in dict.fromkeys(names) if name != loop.variable]
+        names += [name.name for one in inner for name in one.private if name.name not in used]
+        return [name for name in dict.fromkeys(names) if name != loop.variable]
 
-    def _used_outside(self, name: str, loop: Loop, inner: Sequence[Loop]) -> bool:
-        """Whether a loop uses a scalar outside those loops in it that have it in PRIVATE."""
-        owners = [one for one in inner if name in [private.name for private in one.private]]
-        return any(
-            reference.name == name
-            for number in range(loop.number + 1, loop.last + 1)
-            if not any(number == owner.number or number in owner for owner in owners)
-            for reference in self._program.statement(number).references
-        )
+    def _used_outside(self, loop: Loop) -> Set[str]:
+        """What a loop uses outside the bodies of those loops in it that have it in PRIVATE.
+
+        The list of such a loop counts as a write in its header, and is no use.
+        """
+        return {
+            reference.name
+            for statement in self._program.statements[loop.number:loop.last]
+            for reference in statement.references
+            if not (reference.writes and isinstance(statement.form, Do))
+            and not any(reference.name in self._listed[inner] for inner in statement.loops if inner > loop.number)
+        }
+
+    def _renamed_inside(self, loop: Loop) -> Dict[str, str]:
+        """New names for what is private to a loop with a directive, and read in its header."""
+        read = {*names_in(loop.form.first), *names_in(loop.form.last)}
+        private = {loop.variable, *self._private_names(loop)}
+        return {name: self._names.new() for name in sorted(read & private)}
+
+    def _names_at(self, number: int) -> Dict[str, str]:
+        """The new names that hold at a statement, by those of the program."""
+        loops = self._program.statement(number).loops if number else ()
+        names = dict(self._new_names)
+        for loop in loops:
+            names.update(self._inner_names.get(loop, {}))
+        return names
+
+    def _names_in(self, loop: Loop) -> Dict[str, str]:
+        """The new names that hold in the body of a loop."""
+        return {**self._names_at(loop.number), **self._inner_names.get(loop.number, {})}
+
+    # Declarations
+
+    def _needs_types(self) -> bool:
+        """Whether a constant gets its type only after its value: FORTRAN would take it for REAL there."""
+        typed: Set[str] = set()
+        for statement in self._statements:
+            form = statement.form
+            if isinstance(form, Other) and statement.written.text.letters.startswith("IMPLICIT"):
+                return False
+            if isinstance(form, Declaration):
+                typed.update(one.name for one in form.declarators)
+            elif isinstance(form, Parameter):
+                if any(not "I" <= name[0] <= "N" and name not in typed for name, _ in form.values):
+                    return True
+        return False
+
+    def _last_declaration(self) -> Optional[_Written]:
+        declarations = [one for one in self._statements if isinstance(one.form, (Declaration, Parameter, Save))]
+        return declarations[-1] if declarations else None
+
+    def _large_arrays(self) -> Iterator[str]:
+        """A SAVE of the arrays that aren't in one yet, where they are large."""
+        sizes = {name: size for name, size in self._sizes() if name not in self._program.saved}
+        if sum(sizes.values()) > _MOST_ELEMENTS:
+            yield from _cut(_MARGIN, f"SAVE {', '.join(sizes)}")
+
+    def _sizes(self) -> Iterator[Tuple[str, int]]:
+        """The declared arrays with the numbers of their elements."""
+        for statement in self._statements:
+            if isinstance(statement.form, Declaration):
+                values = (value_of(bound, self._program.constants) or 0 for bound in bounds(statement.written.text))
+                for declarator in statement.form.declarators:
+                    size = 1
+                    for bound in declarator.bounds:
+                        least = next(values) if ":" in bound else 1
+                        size *= next(values) - least + 1
+                    if declarator.bounds:
+                        yield declarator.name, size
 
     def _live_lines(self) -> Iterator[str]:
         for name in sorted(self._program.saved):
-            name = self._new_names.get(name, name)
-            yield from _cut(" " * (FIRST_COLUMN - 1), f"PRINT *, 'live {name}', {name}")
-
-    def _renamed(self) -> Dict[str, str]:
-        """New names for the scalars that have the name of a function that the program calls, or begin with PARAMETER."""
-        texts = [statement.text.letters for statement in self._statements.values()]
-        called = {match.group(1) for text in texts for match in _CALL.finditer(text)}
-        used = {reference.name for reference in self._program.references()} | self._program.variables
-        clashing = (_FUNCTIONS & called & used) | {
-            name for name in used if name.startswith("PARAMETER") and name not in self._program.arrays
-        }
-        taken = {name for text in texts for name in _CONSTANT_OR_NAME.findall(text)}
-        new_names: Dict[str, str] = {}
-        for name in sorted(clashing):
-            new_names[name] = next(new for new in (f"K{number}" for number in range(10**5)) if new not in taken)
-            taken.add(new_names[name])
-        return new_names
-
-    def _renamed_in(self, text: str) -> str:
-        """A text with new names; a name before a parenthesis is the function's, in the text that ped prints."""
-        if not self._new_names:
-            return text
-
-        def new_name(match: re.Match[str]) -> str:
-            is_function = text[match.end():match.end() + 1] == "("
-            return match.group() if is_function else self._new_names.get(match.group(), match.group())
-
-        return _CONSTANT_OR_NAME.sub(new_name, text)
+            yield from _cut(_MARGIN, f"PRINT *, 'live {name}', {self._new_names.get(name, name)}")
 
 
-def _comment(line: str) -> str:
-    """A comment in a form that OpenMP doesn't read."""
-    return f"C {line[1:]}" if line[1:2] == "$" and line[1:5] != "$PED" else line
+def _comment(words: str) -> Iterator[str]:
+    """A comment, in as many lines as it takes."""
+    for line in textwrap.wrap(words, LAST_COLUMN - FIRST_COLUMN + 1, break_long_words=False):
+        yield f"C     {line}"
 
 
 def _directive(private: Sequence[str], sums: Sequence[str]) -> Iterator[str]:
@@ -157,6 +311,6 @@ def _clause(front: str, names: Sequence[str]) -> List[str]:
 
 
 def _cut(front: str, text: str) -> Iterator[str]:
-    """A statement in lines of fixed form, the first one behind what stands in columns 1 to 6."""
+    """A statement in lines of fixed form; `front` is columns 1 to 6 of the first one."""
     for begin in range(0, max(len(text), 1), _WIDTH):
         yield (front if begin == 0 else "     &") + text[begin:begin + _WIDTH]

@@ -4,7 +4,8 @@ from __future__ import annotations
 
 import re
 from dataclasses import dataclass
-from typing import Iterator, List, Optional, Sequence, Tuple
+from functools import lru_cache
+from typing import Iterator, List, NamedTuple, Optional, Sequence, Tuple
 
 from .statuses import CompanionError, Status
 
@@ -12,6 +13,9 @@ _SOURCE = re.compile(r"source (\d+)")
 _DEPENDENCES = re.compile(r"dependences (\d+)")
 _CALLS = re.compile(r"calls (\d+) edges (\d+)")
 _SOURCE_ROW = re.compile(r" *(\d+) ([ \d]{4}) (.*)", re.DOTALL)
+
+#: The signs of direction vectors.
+_SIGNS = ("<", "=", ">", "<=", ">=", "<>", "*")
 
 KINDS = ("flow", "anti", "output")
 MARKS = ("proven", "pending", "rejected")
@@ -21,7 +25,7 @@ class NoPane(CompanionError):
     """What ped printed isn't a pane."""
 
     def __init__(self, row: str) -> None:
-        super().__init__(Status.NO_PED, f"ped printed what is no pane: {row!r}")
+        super().__init__(Status.NOT_UNDERSTOOD, f"ped printed what is no pane: {row!r}")
 
 
 @dataclass(frozen=True)
@@ -33,8 +37,7 @@ class SourceRow:
     text: str
 
 
-@dataclass(frozen=True)
-class Dependence:
+class Dependence(NamedTuple):
     """A row of the dependence pane."""
 
     source: Tuple[int, int]
@@ -71,52 +74,53 @@ class Panes:
 
 def read_panes(rows: Sequence[str]) -> Panes:
     """Both panes, the source pane first; nothing else may stand there."""
-    count = len(source_pane(rows))
+    count = source_length(rows, 0)
     return Panes(read_source(rows[:count]), read_dependences(rows[count:]))
 
 
-def source_pane(rows: Sequence[str]) -> Sequence[str]:
-    """The rows of the source pane at the front of some rows, its first one included."""
-    return _pane(rows, _SOURCE)
+def source_length(rows: Sequence[str], first: int) -> int:
+    """How many rows the source pane has that begins at a place of some rows, its first one included."""
+    return _length(rows, first, _SOURCE)
 
 
-def dependence_pane(rows: Sequence[str]) -> Sequence[str]:
-    """The rows of the dependence pane at the front of some rows, its first one included."""
-    return _pane(rows, _DEPENDENCES)
+def dependences_length(rows: Sequence[str], first: int) -> int:
+    """How many rows the dependence pane has that begins at a place of some rows, its first one included."""
+    return _length(rows, first, _DEPENDENCES)
 
 
-def calls_pane(rows: Sequence[str]) -> Sequence[str]:
-    """The rows of the pane of calls at the front of some rows, its first one included."""
-    return _pane(rows, _CALLS)
+def calls_length(rows: Sequence[str], first: int) -> int:
+    """How many rows the pane of calls has that begins at a place of some rows, its first one included."""
+    return _length(rows, first, _CALLS)
 
 
 def read_source(rows: Sequence[str]) -> Tuple[SourceRow, ...]:
     """A source pane; nothing else may stand there."""
-    if len(source_pane(rows)) != len(rows):
+    if source_length(rows, 0) != len(rows):
         raise NoPane(rows[-1])
-    result = []
-    for row in rows[1:]:
-        match = _SOURCE_ROW.fullmatch(row)
-        if match is None:
-            raise NoPane(row)
-        line, statement, text = match.groups()
-        result.append(SourceRow(int(line), int(statement) if statement.strip() else None, text))
-    return tuple(result)
+    return tuple(map(read_source_row, rows[1:]))
+
+
+def read_source_row(row: str) -> SourceRow:
+    """A row of the source pane, but for its first one."""
+    match = _SOURCE_ROW.fullmatch(row)
+    if match is None:
+        raise NoPane(row)
+    line, statement, text = match.groups()
+    return SourceRow(int(line), int(statement) if statement.strip() else None, text)
 
 
 def read_dependences(rows: Sequence[str]) -> Tuple[Dependence, ...]:
     """A dependence pane; nothing else may stand there."""
-    if len(dependence_pane(rows)) != len(rows):
+    if dependences_length(rows, 0) != len(rows):
         raise NoPane(rows[-1])
     return tuple(read_dependence(row) for row in rows[1:])
 
 
-def _pane(rows: Sequence[str], first: re.Pattern[str]) -> Sequence[str]:
-    match = first.fullmatch(rows[0]) if rows else None
-    count = sum(map(int, match.groups())) if match is not None else len(rows)
-    if len(rows) <= count:
-        raise NoPane(rows[0] if rows else "")
-    return rows[:count + 1]
+def _length(rows: Sequence[str], first: int, title: re.Pattern[str]) -> int:
+    match = title.fullmatch(rows[first]) if first < len(rows) else None
+    if match is None or len(rows) - first <= sum(map(int, match.groups())):
+        raise NoPane(rows[first] if first < len(rows) else "")
+    return sum(map(int, match.groups())) + 1
 
 
 def read_dependence(row: str) -> Dependence:
@@ -124,26 +128,33 @@ def read_dependence(row: str) -> Dependence:
     try:
         source, sink, name, kind, level, vectors, distances, mark = row.split(" ")
         return Dependence(
-            source=_place(source),
-            sink=_place(sink),
-            name=name,
-            kind=_one_of(kind, KINDS),
-            level=None if level == "-" else int(level),
-            vectors=tuple(tuple(vector.split(",")) for vector in _in_parentheses(vectors)),
-            distances=tuple(
-                None if distance == "*" else int(distance)
-                for part in _in_parentheses(distances) for distance in part.split(",")
-            ),
-            mark=_one_of(mark, MARKS),
-            row=row,
+            _place(source), _place(sink), name, _one_of(kind, KINDS), None if level == "-" else int(level),
+            _vectors(vectors), _distances(distances), _one_of(mark, MARKS), row,
         )
     except ValueError as error:
         raise NoPane(row) from error
 
 
+# Few places, vectors and distances stand in many rows.
+
+
+@lru_cache(maxsize=2**16)
 def _place(text: str) -> Tuple[int, int]:
     statement, number = text.split(".")
     return int(statement), int(number)
+
+
+@lru_cache(maxsize=2**12)
+def _vectors(text: str) -> Tuple[Tuple[str, ...], ...]:
+    return tuple(tuple(_one_of(sign, _SIGNS) for sign in vector.split(",")) for vector in _in_parentheses(text))
+
+
+@lru_cache(maxsize=2**12)
+def _distances(text: str) -> Tuple[Optional[int], ...]:
+    return tuple(
+        None if distance == "*" else int(distance)
+        for part in _in_parentheses(text) for distance in part.split(",")
+    )
 
 
 def _one_of(word: str, words: Sequence[str]) -> str:

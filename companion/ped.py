@@ -6,17 +6,25 @@ import os
 import re
 import subprocess
 import tempfile
+from contextlib import contextmanager
 from pathlib import Path
-from typing import Dict, List, Optional, Tuple
+from typing import Dict, Iterator, List, Optional, Tuple
 
+from . import files
 from .lines import split_lines
 from .panes import Panes, read_panes
 from .replies import Reply, read_replies
 from .scripts import read_script
 from .statuses import CompanionError, ProgramRefused, Status
 
+#: Where this variable is set, the launcher doesn't say again that its program isn't proved.
+_KNOWN_UNPROVED = "PED_KNOWN_UNPROVED"
+
 #: Texts are bytes to ped. Read in this encoding, each byte is a character, and none is lost.
 ENCODING = "latin-1"
+
+#: How many bytes data may have. Programs and scripts may have fewer, and ped says so itself.
+_MOST = 4_194_304
 
 _REFUSED = re.compile(r"ped: refused (\d+) (\w+) at (\d+)")
 _TOO_LONG = re.compile(r"ped: (\S+) is longer than (\d+) bytes")
@@ -32,13 +40,25 @@ def shown(name: str) -> str:
     return os.fsencode(name).decode(ENCODING)
 
 
+def argument(name: str) -> str:
+    """The name of a file as a word that no program takes for an option."""
+    return os.path.join(os.curdir, name) if name.startswith("-") else name
+
+
+def cause(error: Exception) -> str:
+    """What the system says of a file that it doesn't read or write."""
+    return (error.strerror if isinstance(error, OSError) else None) or str(error)
+
+
 def read_file(name: str) -> str:
     """The whole text of a file."""
     try:
-        with open(name, "rb") as file:
-            return file.read().decode(ENCODING)
-    except OSError as error:
-        raise CompanionError(Status.NOT_READ, f"cannot read {shown(name)}: {error.strerror}") from error
+        data = files.read_bytes(name, _MOST + 1)
+    except (OSError, ValueError) as error:
+        raise CompanionError(Status.NOT_READ, f"cannot read {shown(name)}: {cause(error)}") from error
+    if len(data) > _MOST:
+        raise CompanionError(Status.TOO_LONG, f"{shown(name)} is longer than {_MOST} bytes")
+    return data.decode(ENCODING)
 
 
 class Ped:
@@ -48,6 +68,7 @@ class Ped:
         self._program = program
         #: Whether what it writes to standard error is dropped, as it would spoil what a terminal shows.
         self._is_quiet = is_quiet
+        self._environment: Optional[Dict[str, str]] = None
 
     def quiet(self) -> Ped:
         """The same program, without what it writes to standard error."""
@@ -55,29 +76,33 @@ class Ped:
 
     def show(self, source: str) -> Panes:
         """Both panes of a program."""
-        return read_panes(self._call({"program": source}, ["show", "--", "program"]))
+        rows = self._call({"program": source}, ["show", "--", "program"])
+        with understood():
+            return read_panes(rows)
 
     def session(self, source: str, script: str, data: Optional[str] = None) -> List[Reply]:
         """The reply to each command of a script."""
-        files = {"program": source, "script": script}
+        texts = {"program": source, "script": script}
         words = ["session"]
         if data is not None:
-            files["data"] = data
+            texts["data"] = data
             words += ["--data", "data"]
-        return read_replies(read_script(script), self._call(files, words + ["--", "program", "script"]))
+        rows = self._call(texts, words + ["--", "program", "script"])
+        with understood():
+            return read_replies(read_script(script), rows)
 
-    def _call(self, files: Dict[str, str], words: List[str]) -> List[str]:
+    def _call(self, texts: Dict[str, str], words: List[str]) -> List[str]:
         """The rows that ped prints in a folder with these files."""
         try:
             with tempfile.TemporaryDirectory(prefix="pedx-") as folder:
-                for name, text in files.items():
+                for name, text in texts.items():
                     Path(folder, name).write_bytes(text.encode(ENCODING))
                 status, answer = self._run(words, folder)
         except OSError as error:
             raise CompanionError(Status.NOT_READ, f"cannot write a file for ped: {error.strerror}") from error
         rows = split_lines(answer)
         if status not in (Status.DONE, Status.LINE_REFUSED):
-            raise self._failed(status, rows[-1] if rows else "", files["program"])
+            raise self._failed(status, rows[-1] if rows else "", texts["program"])
         return rows
 
     def _run(self, words: List[str], folder: str) -> Tuple[int, str]:
@@ -85,11 +110,12 @@ class Ped:
         try:
             done = subprocess.run(
                 [program, *words], cwd=folder, stdin=subprocess.DEVNULL, stdout=subprocess.PIPE,
-                stderr=subprocess.DEVNULL if self._is_quiet else None, check=False,
+                stderr=subprocess.DEVNULL if self._is_quiet else None, check=False, env=self._environment,
             )
         except OSError as error:
             message = f"cannot start {shown(self._program)}: {error.strerror}; --ped or PEDX_PED names the program ped"
             raise CompanionError(Status.NO_PED, message) from error
+        self._environment = {**os.environ, _KNOWN_UNPROVED: "1"}
         return done.returncode, done.stdout.decode(ENCODING)
 
     def _failed(self, status: int, last: str, source: str) -> CompanionError:
@@ -100,7 +126,18 @@ class Ped:
         too_long = _TOO_LONG.fullmatch(last)
         if status == Status.TOO_LONG and too_long is not None:
             return CompanionError(Status.TOO_LONG, f"the {too_long[1]} is longer than {too_long[2]} bytes")
+        if status in (Status.PROGRAM_REFUSED, Status.TOO_LONG):
+            return CompanionError(Status.NOT_UNDERSTOOD, f"ped answered what isn't understood: {last!r}")
         if status == Status.NO_MEMORY:
             return CompanionError(Status.NO_MEMORY, "ped ran out of memory")
         message = f"{shown(self._program)} ended with status {status}: {last or 'nothing printed'}"
         return CompanionError(Status.NO_PED, message)
+
+
+@contextmanager
+def understood() -> Iterator[None]:
+    """Takes what can't be read of an answer as that, whatever is wrong with it."""
+    try:
+        yield
+    except (ValueError, LookupError) as error:
+        raise CompanionError(Status.NOT_UNDERSTOOD, f"ped answered what isn't understood: {error}") from error

@@ -6,7 +6,9 @@ Statements are numbered as ped numbers them: a logical IF is two statements, and
 
 from __future__ import annotations
 
+from bisect import bisect_right
 from dataclasses import dataclass, field
+from functools import cached_property
 from typing import Dict, FrozenSet, Iterator, List, Optional, Sequence, Set, Tuple
 
 from .expressions import Expression, Span, value_of
@@ -77,6 +79,10 @@ class Program:
     constants: Dict[str, int] = field(default_factory=dict)
     arrays: Dict[str, Tuple[str, ...]] = field(default_factory=dict)
     saved: Set[str] = field(default_factory=set)
+    #: The statements with which the ELSE part of an IF begins.
+    after_else: Set[int] = field(default_factory=set)
+    #: What each loop assigns, where that was asked: kept by `subscripts.assigned_in`.
+    assigned: Dict[int, FrozenSet[str]] = field(default_factory=dict)
 
     def statement(self, number: int) -> Statement:
         """The statement with a number."""
@@ -98,13 +104,34 @@ class Program:
         for statement in self.statements:
             yield from statement.references
 
+    def uses(self, name: str) -> List[Reference]:
+        """The references of a name in text order."""
+        return self._by_name.get(name, [])
+
+    def uses_in(self, loop: Loop, name: str) -> List[Reference]:
+        """The references of a name in the body of a loop, in text order."""
+        found = self.uses(name)
+        numbers = self._statements_by_name.get(name, [])
+        return found[bisect_right(numbers, loop.number):bisect_right(numbers, loop.last)]
+
+    @cached_property
+    def _by_name(self) -> Dict[str, List[Reference]]:
+        found: Dict[str, List[Reference]] = {}
+        for reference in self.references():
+            found.setdefault(reference.name, []).append(reference)
+        return found
+
+    @cached_property
+    def _statements_by_name(self) -> Dict[str, List[int]]:
+        return {name: [one.statement for one in found] for name, found in self._by_name.items()}
+
     def loops_round(self, statement: int) -> List[Loop]:
         """The loops in whose body a statement stands, the outermost first."""
         return [self.loops[number] for number in self.statement(statement).loops]
 
     def inner_loops(self, loop: Loop) -> List[Loop]:
         """The loops in the body of a loop, in text order."""
-        return [inner for inner in self.loops.values() if inner.number in loop]
+        return [self.loops[number] for number in range(loop.number + 1, loop.last + 1) if number in self.loops]
 
     @property
     def variables(self) -> FrozenSet[str]:
@@ -205,7 +232,7 @@ class _Reader:
     def _number(self, form: Numbered, text: Text) -> None:
         """Gives a statement the next number."""
         program = self._program
-        span = Span(text[0].start, text[-1].end)
+        span = Span(text.start, text.end)
         number = len(program.statements) + 1
         loops = self._open(loops=True)
         program.statements.append(Statement(number, span, form, loops, self._open(loops=False)))
@@ -218,7 +245,9 @@ class _Reader:
 
     def _end_part(self, word: str, label: Optional[int]) -> None:
         """Takes ELSE, END IF or END DO. ELSE leaves its IF open."""
-        if word == "ENDIF":
+        if word == "ELSE":
+            self._program.after_else.add(len(self._program.statements) + 1)
+        elif word == "ENDIF":
             self._close_if()
         elif word == "ENDDO" and not self._is_open(label):
             # With the label of an open DO it ends what a CONTINUE with this label ends.

@@ -11,7 +11,7 @@ import re
 from dataclasses import dataclass
 from typing import Callable, Dict, List, Optional, Sequence, Tuple
 
-from .panes import calls_pane, dependence_pane, source_pane
+from .panes import calls_length, dependences_length, source_length
 from .scripts import Command
 from .statuses import CompanionError, Status
 
@@ -30,7 +30,7 @@ class NoReply(CompanionError):
     """The answer isn't that of a session with these commands."""
 
     def __init__(self, row: str) -> None:
-        super().__init__(Status.NO_PED, f"ped answered what isn't understood: {row!r}")
+        super().__init__(Status.NOT_UNDERSTOOD, f"ped answered what isn't understood: {row!r}")
 
 
 @dataclass(frozen=True)
@@ -137,60 +137,66 @@ class Reply:
 def read_replies(commands: Sequence[Command], rows: Sequence[str]) -> List[Reply]:
     """The reply to each command of a script."""
     replies = []
-    index = 0
+    first = 0
     for command in commands:
-        count = _count(command, rows[index:])
+        count = _count(command, rows, first)
         if count == 0:
-            raise NoReply(rows[index] if index < len(rows) else "")
-        replies.append(Reply(command, tuple(rows[index:index + count])))
-        index += count
-    if index != len(rows):
-        raise NoReply(rows[index])
+            raise NoReply(rows[first] if first < len(rows) else "")
+        replies.append(Reply(command, tuple(rows[first:first + count])))
+        first += count
+    if first != len(rows):
+        raise NoReply(rows[first])
     return replies
 
 
-def _count(command: Command, rows: Sequence[str]) -> int:
-    """How many of the rows are the reply to a command; 0 where none is."""
-    match = _ANSWER.fullmatch(rows[0]) if rows else None
+def _count(command: Command, rows: Sequence[str], first: int) -> int:
+    """How many rows, from the first one on, are the reply to a command; 0 where none is."""
+    if first >= len(rows):
+        return 0
+    match = _ANSWER.fullmatch(rows[first])
     if match is not None:
         if int(match.group(1)) != command.line:
             return 0
-        return _automatic(rows, match.group(2)) if match.group(2).startswith(_AUTO) else 1
+        return _automatic(rows, first, match.group(2)) if match.group(2).startswith(_AUTO) else 1
     counter = _SHOWN.get(command.word)
-    return counter(rows) if counter is not None and rows else 0
+    return counter(rows, first) if counter is not None else 0
 
 
-def _automatic(rows: Sequence[str], answer: str) -> int:
+def _automatic(rows: Sequence[str], first: int, answer: str) -> int:
     """How many rows an `auto` has printed: its answer, the steps that it has taken, the loops left, the source."""
     taken = int(answer[len(_AUTO):])
-    if _while(rows[1:], lambda row: row.startswith(_TAKEN)) != taken:
+    if _while(rows, first + 1, lambda row: row.startswith(_TAKEN)) != taken:
         return 0
-    count = 1 + taken + _while(rows[1 + taken:], _LEFT.fullmatch)
-    source = _printed(rows[count:])
+    count = 1 + taken + _while(rows, first + 1 + taken, _LEFT.fullmatch)
+    source = _printed(rows, first + count)
     return count + source if source else 0
 
 
-def _printed(rows: Sequence[str]) -> int:
-    return list(rows).index(_LAST_PRINTED) + 1 if _LAST_PRINTED in rows else 0
+def _printed(rows: Sequence[str], first: int) -> int:
+    last = next((place for place in range(first, len(rows)) if rows[place] == _LAST_PRINTED), None)
+    return last + 1 - first if last is not None else 0
 
 
-def _both(rows: Sequence[str]) -> int:
-    count = len(source_pane(rows))
-    return count + len(dependence_pane(rows[count:]))
+def _both(rows: Sequence[str], first: int) -> int:
+    count = source_length(rows, first)
+    return count + dependences_length(rows, first + count)
 
 
-def _run(rows: Sequence[str]) -> int:
-    if _FAULT.fullmatch(rows[0]):
+def _run(rows: Sequence[str], first: int) -> int:
+    if _FAULT.fullmatch(rows[first]):
         return 1
-    count = _while(rows, lambda row: row.startswith("| "))
-    if count == len(rows) or rows[count] != "ended":
+    count = _while(rows, first, lambda row: row.startswith("| "))
+    if first + count == len(rows) or rows[first + count] != "ended":
         return 0
     count += 1
-    return count + _while(rows[count:], lambda row: row.startswith("live "))
+    return count + _while(rows, first + count, lambda row: row.startswith("live "))
 
 
-def _advice(rows: Sequence[str]) -> int:
-    told = [row for step, row in zip(_ADVISED, rows) if re.fullmatch(step + " (?:ok|refused .*)", row)]
+def _advice(rows: Sequence[str], first: int) -> int:
+    told = [
+        row for step, row in zip(_ADVISED, rows[first:first + len(_ADVISED)])
+        if re.fullmatch(step + " (?:ok|refused .*)", row)
+    ]
     return len(told) if len(told) == len(_ADVISED) else 0
 
 
@@ -201,19 +207,22 @@ def _advised(step: str, row: str, loop: str) -> Advised:
     return Advised(" ".join([word, loop, *rest]), None if answer == "ok" else answer[len(_REFUSED):])
 
 
-def _while(rows: Sequence[str], belongs: Callable[[str], object]) -> int:
-    """How many rows at the front belong to a reply."""
-    return next((count for count, row in enumerate(rows) if not belongs(row)), len(rows))
+def _while(rows: Sequence[str], first: int, belongs: Callable[[str], object]) -> int:
+    """How many rows, from the first one on, belong to a reply."""
+    place = first
+    while place < len(rows) and belongs(rows[place]):
+        place += 1
+    return place - first
 
 
-_SHOWN: Dict[str, Callable[[Sequence[str]], int]] = {
-    "source": lambda rows: len(source_pane(rows)),
-    "deps": lambda rows: len(dependence_pane(rows)),
-    "calls": lambda rows: len(calls_pane(rows)),
+_SHOWN: Dict[str, Callable[[Sequence[str], int], int]] = {
+    "source": source_length,
+    "deps": dependences_length,
+    "calls": calls_length,
     "show": _both,
     "print": _printed,
     "run": _run,
-    "races": lambda rows: 1,
-    "tested": lambda rows: 1,
+    "races": lambda rows, first: 1,
+    "tested": lambda rows, first: 1,
     "advise": _advice,
 }

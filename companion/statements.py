@@ -266,7 +266,7 @@ def _name(text: Text) -> Name:
 
 
 def _span(text: Text) -> Span:
-    return Span(text[0].start, text[-1].end)
+    return Span(text.start, text.end)
 
 
 _READERS: Dict[str, Callable[[Text, int], Form]] = {

@@ -21,6 +21,9 @@ class Status(IntEnum):
     WARNING = 10
     NO_PED = 11
     NO_DOT = 12
+    NOT_UNDERSTOOD = 13
+    FAILED = 14
+    DOUBTFUL = 15
 
 
 class CompanionError(Exception):

@@ -192,12 +192,16 @@ def _names(expression: Expression) -> FrozenSet[str]:
 
 def assigned_in(program: Program, loop: Loop) -> FrozenSet[str]:
     """The names that a loop assigns: by an assignment or a READ, in PRIVATE, or as the variable of a DO."""
-    names = {
-        reference.name
-        for number in range(loop.number, loop.last + 1) for reference in program.statement(number).references
-        if reference.writes
-    }
-    return frozenset(names.union([loop.variable], (inner.variable for inner in program.inner_loops(loop))))
+    known = program.assigned.get(loop.number)
+    if known is None:
+        names = {
+            reference.name
+            for number in range(loop.number, loop.last + 1) for reference in program.statement(number).references
+            if reference.writes
+        }
+        known = frozenset(names.union([loop.variable], (inner.variable for inner in program.inner_loops(loop))))
+        program.assigned[loop.number] = known
+    return known
 
 
 def step_of(program: Program, loop: Loop) -> int:

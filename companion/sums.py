@@ -1,13 +1,13 @@
-"""What a loop sums up: the scalars for which the step `reduce` is meant; and other reductions.
+"""What a loop sums up: the scalars for which the step `reduce` is meant.
 
 Whether the step is carried out is ped's answer. What is looked up here is only whether it is worth being tried.
 """
 
 from __future__ import annotations
 
-from typing import Iterator, List, Sequence
+from typing import List, Sequence
 
-from .expressions import Call, Expression, Operation, Variable
+from .expressions import Expression, Operation, Variable
 from .panes import Dependence
 from .program import Program
 from .statements import Assignment
@@ -29,21 +29,6 @@ def sums_of(program: Program, carried: Sequence[Dependence]) -> List[str]:
 def reduction(loop: int, names: Sequence[str]) -> str:
     """The step for a loop that sums these scalars up."""
     return " ".join(["reduce", str(loop), *names])
-
-
-def is_reduction(program: Program, name: str, rows: Sequence[Dependence]) -> bool:
-    """Whether all the rows are of one statement that adds to a scalar, or takes the greater or the less."""
-    statements = _statements(rows)
-    form = program.statement(min(statements)).form
-    if len(statements) != 1 or not isinstance(form, Assignment) or form.target.text != name:
-        return False
-    value = form.value
-    operands: List[Expression] = []
-    if isinstance(value, Operation) and value.operator in ("+", "*"):
-        operands = list(_operands(value))
-    elif isinstance(value, Call) and value.name[:3] in ("MAX", "MIN"):
-        operands = list(value.arguments)
-    return any(_is_alone(operand, name) for operand in operands)
 
 
 def _is_summed(program: Program, name: str, rows: Sequence[Dependence]) -> bool:
@@ -73,12 +58,3 @@ def _is_alone(part: Expression, name: str) -> bool:
 
 def _has_name(part: Expression, name: str) -> bool:
     return _is_alone(part, name) or any(_has_name(inner, name) for inner in part.parts())
-
-
-def _operands(operation: Operation) -> Iterator[Expression]:
-    """The operands of operations with one operator in one another."""
-    for part in operation.operands:
-        if isinstance(part, Operation) and part.operator == operation.operator:
-            yield from _operands(part)
-        else:
-            yield part

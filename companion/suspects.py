@@ -9,14 +9,16 @@ from __future__ import annotations
 import re
 from typing import Callable, Dict, Iterator, List, NamedTuple, Optional, Sequence, Tuple, Union
 
-from .expressions import Element, Expression, NoExpression, Span, Variable, occurrences
-from .lines import FIRST_COLUMN, LAST_COLUMN, Place, read_statements
+from .expressions import INTRINSICS, Element, Expression, NoExpression, Span, Variable, occurrences
+from .lines import FIRST_COLUMN, LAST_COLUMN, Place, WrittenStatement, read_statements
 from .program import Program, Statement, read_program
 from .statements import (
-    Assignment, BlockIf, Declaration, Do, ElseIf, Form, LogicalIf, Name, Print, Private, Read,
-    read_form,
+    Assignment, BlockIf, Declaration, Do, ElseIf, Form, LogicalIf, Name, Print, Private, Read, Save, read_form,
 )
 
+#: The first words of statements that list names.
+_LISTS = ("INTEGER", "DIMENSION", "PARAMETER", "SAVE", "CALL", "SUBROUTINE")
+_NAME = re.compile(r"[A-Z][A-Z0-9]*")
 _FORBIDDEN = re.compile(r"[^A-Za-z0-9 =+\-*/(),.'$:]")
 
 
@@ -39,11 +41,19 @@ def suspect(lines: Sequence[str], number: int, line: int) -> Suspect:
         return Suspect(Place(line, _column(lines[line - 1], number)))
     find = _FINDERS.get(number)
     try:
-        found = find(lines, line) if find is not None else None
-    except (NoExpression, LookupError):
+        found = find(unit_of(lines, line), line) if find is not None else None
+    except (NoExpression, LookupError, StopIteration):
         # The text is refused, so it may have any form. Then the column is the statement's.
         found = None
     return found or Suspect(Place(line, _first_letter(lines[line - 1])))
+
+
+def unit_of(lines: Sequence[str], line: int) -> List[str]:
+    """The lines with those blanked that belong to another program unit than a line; an END ends each unit."""
+    ends = [statement.last_line for statement in read_statements(lines) if statement.text.letters == "END"]
+    first = max((end for end in ends if end < line), default=0)
+    last = min((end for end in ends if end >= line), default=len(lines))
+    return [text if first < number <= last else "" for number, text in enumerate(lines, 1)]
 
 
 def _column(text: str, number: int) -> int:
@@ -93,17 +103,37 @@ def _targets(statement: Statement) -> Iterator[Tuple[str, Span]]:
 
 
 def _real_name(lines: Sequence[str], line: int) -> Optional[Suspect]:
-    """The name that is REAL: undeclared, and not beginning with I to N."""
-    forms = {statement.first_line: read_form(statement.text) for statement in read_statements(lines)}
+    """The name that is REAL: undeclared, and not beginning with I to N. A SAVE without a list stands for all names."""
+    statements = read_statements(lines)
     declared = {
         one.name
-        for statement in read_statements(lines) if statement.text.letters.startswith("INTEGER")
-        for form in [forms[statement.first_line]] if isinstance(form, Declaration) for one in form.declarators
+        for form in (read_form(one.text) for one in statements if one.text.letters.startswith("INTEGER"))
+        if isinstance(form, Declaration) for one in form.declarators
     }
-    for name, place, _ in _uses(forms[line]):
-        if name not in declared and not "I" <= name[0] <= "N":
-            return Suspect(place, name)
+    here = next(one for one in statements if one.first_line == line)
+    named = statements if read_form(here.text) == Save(()) else [here]
+    for statement in named:
+        for name, place in _named(statement):
+            if name not in declared and not "I" <= name[0] <= "N":
+                return Suspect(here.text.start if statement is not here else place, name)
     return None
+
+
+def _named(statement: WrittenStatement) -> Iterator[Tuple[str, Place]]:
+    """The names of variables, arrays and constants in a statement, as far as they are told from its words."""
+    for directive in statement.directives:
+        yield directive.name, statement.text.start
+    letters = statement.text.letters
+    form = read_form(statement.text)
+    word = next((one for one in _LISTS if letters.startswith(one)), None)
+    if word is None or isinstance(form, (Assignment, Do)):
+        yield from ((name, place) for name, place, _ in _uses(form))
+        return
+    found = list(_NAME.finditer(letters, len(word)))
+    # The name of a subroutine is none of a variable.
+    for match in found[1:] if word in ("CALL", "SUBROUTINE") else found:
+        if match.group() not in INTRINSICS:
+            yield match.group(), statement.text[match.start()].start
 
 
 def _rank(lines: Sequence[str], line: int) -> Optional[Suspect]:

@@ -7,50 +7,56 @@ where the loop stands behind the step, and what it then carries. `reduce` leaves
 from __future__ import annotations
 
 from dataclasses import dataclass
-from typing import Iterator, List, Optional, Sequence, Tuple
+from typing import Dict, Iterator, List, Optional, Sequence, Tuple
 
 from .messages import listed
 from .outline import LoopLines, Outline, outline_of
-from .panes import Dependence, Panes, read_dependences, read_panes
+from .panes import read_source_row
 from .ped import Ped
+from .progress import Progress
+from .questions import ask_in_turn
 from .references import INPUT, OUTPUT
 from .replies import Reply
 from .sums import reduction, sums_of
-from .trials import carried_names
+from .trials import carried_names, names_of_level
 from .views import View
 
 
 @dataclass(frozen=True)
 class Place:
-    """Where a loop stands: its DO, the last statement in it, and its level."""
+    """Where a loop stands: its DO, and its level."""
 
     number: int
-    last: int
     level: int
-
-    def carries(self, row: Dependence) -> bool:
-        """Whether the loop carries a dependence."""
-        return row.level == self.level and all(self.number < end[0] <= self.last for end in (row.source, row.sink))
 
 
 @dataclass(frozen=True)
 class Attempt:
-    """A step to be tried, and where the loop stands behind it; no step is an attempt, too."""
+    """A step to be tried, and where the loop stands then; no step is an attempt, too."""
 
     step: Optional[str]
     place: Place
+    #: What the loop carries then, where that needn't be asked.
+    names: Optional[Tuple[str, ...]] = None
 
     @property
     def script(self) -> List[str]:
         """The commands; behind them the program is as it was, since a session begins with nothing to undo."""
         steps = [self.step] if self.step is not None else []
         number = self.place.number
-        return [*steps, f"deps {number}", f"parallel {number}", *["undo"] * (len(steps) + 1)]
+        shown = [f"deps {number}"] if self.names is None else []
+        made = [] if self.names else [f"parallel {number}"]
+        return [*steps, *shown, *made, *["undo"] * len((*steps, *made))]
 
     @property
     def sums(self) -> bool:
         """Whether the step says what the loop sums up."""
         return (self.step or "").startswith("reduce ")
+
+    @property
+    def divides(self) -> bool:
+        """Whether the step takes the loop apart."""
+        return (self.step or "").startswith("distribute ")
 
 
 @dataclass(frozen=True)
@@ -58,7 +64,7 @@ class Result:
     """What came of an attempt."""
 
     attempt: Attempt
-    #: Why the step was refused, and why `parallel` was; none where they were carried out.
+    #: Why the step was refused, and why `parallel` was; none where they were carried out, or not tried.
     refusal: Optional[str]
     hindrance: Optional[str]
     #: What the loop carries behind the step.
@@ -67,47 +73,53 @@ class Result:
     @property
     def frees(self) -> bool:
         """Whether the iterations may be done in any order behind the step."""
-        return self.refusal is None and (self.hindrance is None or self.attempt.sums)
+        return self.refusal is None and (self.attempt.sums or self.hindrance is None and not self.attempt.names)
 
 
 def attempts(view: View, outline: Outline, loop: LoopLines) -> Iterator[Attempt]:
     """The steps that may do something for a loop, and first none at all."""
-    here = Place(loop.number, loop.last, loop.level)
-    yield Attempt(None, here)
+    here = Place(loop.number, loop.level)
     carried = view.carried_by(view.program.loops[loop.number])
-    names = carried_names(carried)
+    names = tuple(carried_names(carried))
+    yield Attempt(None, here, names)
     sums = sums_of(view.program, carried)
-    if sums and sums == names:
-        yield Attempt(reduction(loop.number, sums), here)
+    if sums and sums == list(names):
+        yield Attempt(reduction(loop.number, sums), here, names)
     for name in names:
         if name not in (INPUT, OUTPUT) and name not in view.printed.arrays:
-            yield Attempt(f"privatise {loop.number} {name}", here)
-            yield Attempt(f"expand {loop.number} {name}", here)
+            # These steps take away the rows of the scalar, and no other ones.
+            rest = tuple(other for other in names if other != name) or None
+            yield Attempt(f"privatise {loop.number} {name}", here, rest)
+            yield Attempt(f"expand {loop.number} {name}", here, rest)
     if names:
-        yield Attempt(f"peel {loop.number} first", Place(loop.last, 2 * loop.last - loop.number, loop.level))
+        yield Attempt(f"peel {loop.number} first", Place(loop.last, loop.level))
         yield Attempt(f"peel {loop.number} last", here)
-        yield Attempt(f"interchange {loop.number}", Place(loop.number + 1, loop.last, loop.level + 1))
+        yield Attempt(f"interchange {loop.number}", Place(loop.number + 1, loop.level + 1))
     elif loop.level > 1:
         outer = outline.loops[loop.nest[-2]]
         if outer.number == loop.number - 1 and view.carried_by(view.program.loops[outer.number]):
-            yield Attempt(f"interchange {outer.number}", Place(outer.number, loop.last, outer.level))
+            yield Attempt(f"interchange {outer.number}", Place(outer.number, outer.level))
 
 
-def results(ped: Ped, view: View, tried: Sequence[Attempt]) -> List[Result]:
+def division(loop: int, level: int, names: Tuple[str, ...]) -> Attempt:
+    """The attempt to take a loop apart; what comes of it `parts` says."""
+    return Attempt(f"distribute {loop}", Place(loop, level), names)
+
+
+def results(ped: Ped, view: View, tried: Sequence[Attempt], progress: Progress) -> List[Result]:
     """What comes of attempts, each on the program of a view by itself."""
-    script = [command for attempt in tried for command in attempt.script]
-    source = "".join(line + "\n" for line in view.panes.lines)
-    replies = iter(ped.session(source, "".join(line + "\n" for line in script)))
-    return [_result(attempt, [next(replies) for _ in attempt.script]) for attempt in tried]
+    answers = ask_in_turn(ped, view.panes.lines, [attempt.script for attempt in tried], progress, "steps")
+    return [_result(attempt, replies) for attempt, replies in zip(tried, answers)]
 
 
 def _result(attempt: Attempt, replies: Sequence[Reply]) -> Result:
-    refusal = replies[0].refusal if attempt.step is not None else None
-    shown, made = replies[1:3] if attempt.step is not None else replies[:2]
+    rest = list(replies)
+    refusal = rest.pop(0).refusal if attempt.step is not None else None
     if refusal is not None:
         return Result(attempt, refusal, None, ())
-    rows = [row for row in read_dependences(shown.rows) if attempt.place.carries(row)]
-    return Result(attempt, None, made.refusal, tuple(carried_names(rows)))
+    names = attempt.names if attempt.names is not None else names_of_level(rest.pop(0), attempt.place.level)
+    # What the loop carries forbids `parallel`, so that isn't tried.
+    return Result(attempt, None, rest[0].refusal if not attempt.names else None, names)
 
 
 @dataclass(frozen=True)
@@ -127,20 +139,28 @@ class Parts:
         return f"{made}, of which {listed([str(number) for number in self.free])} {verb} nothing"
 
 
-def parts(ped: Ped, view: View, loop: LoopLines) -> Optional[Parts]:
-    """What `distribute` makes of a loop; nothing where ped refuses it."""
-    source = "".join(line + "\n" for line in view.panes.lines)
-    step, shown = ped.session(source, f"distribute {loop.number}\nshow\n")
-    return parts_in(view, read_panes(shown.rows), loop.number) if step.refusal is None else None
+def parts(ped: Ped, view: View, loops: Sequence[LoopLines], progress: Progress) -> Dict[int, Parts]:
+    """What `distribute` makes of each of some loops, for which ped accepts it."""
+    scripts = [[f"distribute {loop.number}", "source", "undo"] for loop in loops]
+    made: Dict[int, List[int]] = {}
+    for loop, (_, shown, _) in zip(loops, ask_in_turn(ped, view.panes.lines, scripts, progress, "loops taken apart")):
+        made[loop.number] = _made_of(view, loop, shown.rows)
+    scripts = [
+        [f"distribute {number}", *(f"deps {one}" for one in numbers), "undo"] for number, numbers in made.items()
+    ]
+    found: Dict[int, Parts] = {}
+    for loop, replies in zip(loops, ask_in_turn(ped, view.panes.lines, scripts, progress, "their parts")):
+        numbers = made[loop.number]
+        free = [one for one, shown in zip(numbers, replies[1:]) if not names_of_level(shown, loop.level)]
+        found[loop.number] = Parts(tuple(numbers), tuple(free))
+    return found
 
 
-def parts_in(view: View, panes: Panes, loop: int) -> Parts:
-    """What `distribute` has made of a loop, in the program behind it."""
-    outline = outline_of(panes.source)
-    carrying = {outline.carrier(row) for row in panes.dependences if not row.is_rejected}
-    # Each loop more is a DO more.
-    count = len(outline.lines) - len(view.printed.statements) + 1
-    numbers = [loop]
-    while len(numbers) < count:
-        numbers.append(outline.loops[numbers[-1]].last + 1)
-    return Parts(tuple(numbers), tuple(number for number in numbers if number not in carrying))
+def _made_of(view: View, loop: LoopLines, source: Sequence[str]) -> List[int]:
+    """The loops in the place of one that was taken apart, by the rows of the source pane behind the step."""
+    last = loop.last_line + len(source) - 1 - len(view.panes.source)
+    # Directives before the loop may be gone to another of its parts.
+    first = loop.first_line - len(view.printed.loops[loop.number].directives)
+    rows = [read_source_row(row) for row in source[max(first, 1):last + 1]]
+    begin = next(place for place, row in enumerate(rows) if row.statement == loop.number)
+    return [number for number, one in outline_of(rows[begin:]).loops.items() if one.level == 1]

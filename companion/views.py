@@ -10,7 +10,7 @@ from typing import Dict, Iterator, List, Optional, Sequence, Tuple
 from .lines import Place, split_lines
 from .messages import ERROR, located
 from .panes import Dependence, Panes, read_panes
-from .ped import Ped, read_file, shown
+from .ped import Ped, read_file, shown, understood
 from .program import Loop, Program, read_program
 from .refusals import refused
 from .replies import Reply
@@ -117,9 +117,11 @@ def view_of_file(panes: Panes, source: str, question: Question) -> View:
 
 def view_of_panes(panes: Panes, refusals: Tuple[str, ...] = ()) -> View:
     """The view of a printed program, in its printed lines."""
-    printed = read_program(panes.lines)
-    if not _agree(panes, printed):
-        raise CompanionError(Status.NO_PED, "ped numbers statements or references otherwise than pedx")
+    with understood():
+        printed = read_program(panes.lines)
+        agrees = _agree(panes, printed)
+    if not agrees:
+        raise CompanionError(Status.NOT_UNDERSTOOD, "ped numbers statements or references otherwise than pedx")
     return View(panes, printed, printed, panes.lines, PRINTED, refusals)
 
 
@@ -129,7 +131,22 @@ def _agree(panes: Panes, program: Program) -> bool:
     return numbers == [(statement.number, statement.line) for statement in program.statements] and all(
         program.has_reference(place, dependence.name)
         for dependence in panes.dependences for place in (dependence.source, dependence.sink)
-    )
+    ) and _have_loops(panes.dependences, program)
+
+
+def _have_loops(dependences: Sequence[Dependence], program: Program) -> bool:
+    """Whether each row has a sign and a distance for each loop round both its statements, and one of these as level."""
+    depths: Dict[Tuple[int, int], int] = {}
+    for row in dependences:
+        ends = (row.source[0], row.sink[0])
+        if ends not in depths:
+            depths[ends] = len(set(program.statement(ends[0]).loops).intersection(program.statement(ends[1]).loops))
+        depth = depths[ends]
+        if len(row.distances) != depth or not 1 <= (row.level or 1) <= depth:
+            return False
+        if any(len(vector) != depth for vector in row.vectors):
+            return False
+    return True
 
 
 def shape_of(program: Program) -> List[object]:

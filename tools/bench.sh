@@ -5,8 +5,8 @@
 # script, for an edit, a step back and a step forward, and how much memory a change keeps; how long `run` takes for an
 # assignment in loops, over an array and over a scalar, from 10^4 to 10^7 of them, and how much memory a store of 2^20
 # elements takes; how long `races` takes for an access, and how much memory, at 10^5 and 10^6 of them; how long `races` and
-# `run` take for an operand of an expression, with up to 600 of them; and how long the flow of scalars takes to be made, and
-# how much memory, and the questions about it, by the program of crate ped_show_flow; how `generate` grows with its size; how long `auto`
+# `run` take for an operand of an expression, with up to 600 of them; and how long a `privatise` takes that is refused, which makes
+# the flow of scalars and asks it; how `generate` grows with its size; how long `auto`
 # takes, with the steps that it tries and takes, and the pairs that these test; and, by tools/bench-units.sh, how long `ped show` takes on
 # files of program units. It is no part of the gate, and needs GNU time and awk. docs/PERFORMANCE.md says how to read the figures.
 #
@@ -143,35 +143,12 @@ least_session() {
     printf '%s\n' "$best"
 }
 
-# The same for the flow of scalars in a program: for making it so many times, or for its rows.
-least_flow() {
-    local best='' i format=$1
-    shift
-    for ((i = 0; i < runs; i++)); do
-        command time -f "$format" -o "$work/figure" "$flow" "$@" >/dev/null
-        best=$(awk -v best="$best" '{ sum = $1 + $2; print (best == "" || sum < best) ? sum : best }' "$work/figure")
-    done
-    printf '%s\n' "$best"
-}
-
 # The launcher proves and builds ped where that hasn't been done. What starting it takes is left out: it is the
 # time of showing a small file.
 ./prove
 # shellcheck source=tools/program.sh
 . "$PWD/tools/program.sh"
 ped=$(program_of "$(sources_sum)")
-
-# `rt run` proves and builds ped_show_flow and runs it without words, which it answers by its usage line.
-flow=$PWD/crates/ped_show_flow/out/ped_show_flow
-answer=$(cd crates/ped_show_flow && rt run </dev/null 2>"$work/build.log") || true
-case $answer in
-    "usage: ped_show_flow "*) ;;
-    *)
-        tail -n 20 "$work/build.log" >&2
-        echo "bench: ped_show_flow isn't proved or wasn't built" >&2
-        exit 1
-        ;;
-esac
 
 printf 'processors: %s\n' "$(nproc)"
 
@@ -208,22 +185,19 @@ flows() {
         print "      END"
     }'
 }
-printf '\n%10s %10s %12s %10s %12s\n' loops statements ms/flow_of MiB ms/rows
-while read -r loops statements times; do
+# A `privatise` that is refused makes the flow and asks it.
+for ((k = 0; k < 100; k++)); do echo "privatise 1 N8"; done >"$work/privatise"
+printf '\n%10s %10s %12s\n' loops statements ms/privatise
+while read -r loops statements; do
     flows "$loops" "$statements" >"$work/flows.f"
-    awk -v loops="$loops" -v statements="$statements" -v times="$times" \
-        -v made="$(least_flow '%U %S' "$work/flows.f" "$times")" \
-        -v none_made="$(least_flow '%U %S' "$work/flows.f" 0)" \
-        -v peak="$(least_flow %M "$work/flows.f" 1)" -v no_peak="$(least_flow %M "$work/flows.f" 0)" \
-        -v shown="$(least_flow '%U %S' "$work/flows.f")" \
-        -v one_made="$(least_flow '%U %S' "$work/flows.f" 1)" 'BEGIN {
-            making = (made - none_made) * 1e3 / times
-            printf "%10d %10d %12.1f %10.1f %12.0f\n", loops, statements, making, (peak > no_peak ? (peak - no_peak) / 1024 : 0), (shown - one_made) * 1e3
+    awk -v loops="$loops" -v statements="$statements" -v asked="$(least_session '%U %S' "$work/flows.f" "$work/privatise")" \
+        -v not_asked="$(least_session '%U %S' "$work/flows.f" "$work/no-script")" 'BEGIN {
+            printf "%10d %10d %12.1f\n", loops, statements, (asked - not_asked) * 1e3 / 100
         }'
 done <<'END'
-1 1000 100
-1 4000 100
-6 4000 100
+1 1000
+1 4000
+6 4000
 END
 
 # So many assignments in two loops over an array, repeated, or in one loop over a scalar. The data are empty.

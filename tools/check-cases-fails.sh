@@ -311,14 +311,13 @@ cp some.cases repository/cases/
 repository/tools/check-cases.sh >said 2>&1 && say 'a repository without a built program: it should fail, and it passes'
 grep -q 'not built' said || say 'a repository without a built program: it should say so'
 
-# Where no files are given, those of cases/flow/ and cases/faults/ are left out.
-mkdir repository/cases/flow repository/cases/faults
-printf '== K\n?\n=> read\n' >repository/cases/flow/some.cases
-cp repository/cases/flow/some.cases repository/cases/faults/
+# Where no files are given, those of cases/faults/ are left out.
+mkdir repository/cases/faults
+printf '== K\n?\n=> read\n' >repository/cases/faults/some.cases
 repository/tools/check-cases.sh --program "$work/program" >said 2>&1 || say 'a repository with cases of other programs: it should pass'
 [ "$(tail -n 1 said)" = 'cases: 1 passed, 0 failed' ] || say 'a repository with cases of other programs: these cases should not count'
-repository/tools/check-cases.sh --program "$work/program" repository/cases/flow/some.cases >said 2>&1 &&
-    say 'a case of cases/flow that is given and differs: it should fail, and it passes'
+repository/tools/check-cases.sh --program "$work/program" repository/cases/faults/some.cases >said 2>&1 &&
+    say 'a case of cases/faults that is given and differs: it should fail, and it passes'
 
 rm repository/cases/some.cases
 repository/tools/check-cases.sh --program "$work/program" >said 2>&1 && say 'a repository without cases: it should fail, and it passes'

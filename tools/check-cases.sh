@@ -3,8 +3,8 @@
 #
 #   tools/check-cases.sh [--program PROGRAM] [FILE ..]
 #
-# The files are those of cases/ where none is given, but for those of cases/flow/ and cases/faults/, which
-# tools/check-flow.sh and tools/check-faults.sh run; cases/README.md says how they are written. The program is the one that
+# The files are those of cases/ where none is given, but for those of cases/faults/, which tools/check-faults.sh runs;
+# cases/README.md says how they are written. The program is the one that
 # .ci/run or ./prove has proved and built from the present sources; nothing is proved or built here. The last line counts the
 # cases. The status is 0 only where there are some
 # and all passed.
@@ -34,7 +34,7 @@ fi
 files=("$@")
 if [ $# -eq 0 ]; then
     cd -- "$top"
-    mapfile -t files < <(find cases -type f ! -path cases/README.md ! -path 'cases/flow/*' ! -path 'cases/faults/*' | sort)
+    mapfile -t files < <(find cases -type f ! -path cases/README.md ! -path 'cases/faults/*' | sort)
 fi
 [ "${#files[@]}" -gt 0 ] || stop 'there are no files of cases'
 for file in "${files[@]}"; do

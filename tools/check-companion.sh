@@ -34,9 +34,12 @@ fi
 command -v gfortran >/dev/null || printf 'companion: gfortran is not there, so no translated program is compiled\n'
 
 cd -- "$top"
-export PEDX_PED=$program PYTHONDONTWRITEBYTECODE=1
 work=$(mktemp)
-trap 'rm -f -- "$work"' EXIT
+# The tests start pedx hundreds of times; compiled modules are kept for all of them, and not in the tree.
+compiled=$(mktemp -d)
+trap 'rm -rf -- "$work" "$compiled"' EXIT
+export PEDX_PED=$program PYTHONPYCACHEPREFIX=$compiled
+unset PYTHONDONTWRITEBYTECODE
 if python3 -m unittest discover -s companion/tests -t . >"$work" 2>&1; then
     printf 'companion: as wanted (%s)\n' "$(grep -E '^Ran [0-9]+ tests' "$work")"
 else

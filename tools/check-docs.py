@@ -30,7 +30,7 @@ import tempfile
 
 TOP = pathlib.Path(__file__).resolve().parent.parent
 SECONDS = 300
-IS_PROVED = '. "$PWD/tools/program.sh" && [ -x "$(program_of "$(sources_sum)")" ]'
+IS_PROVED = '. "$PWD/tools/program.sh" && is_program "$(program_of "$(sources_sum)")"'
 # Stands between the outputs of two commands of a block.
 MARK = "\x01"
 UNPROVED = "ped: this program isn't proved yet"

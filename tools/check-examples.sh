@@ -25,7 +25,7 @@ differs() {
 # ./ped would start a program that isn't proved.
 # shellcheck source=tools/program.sh
 . "$PWD/tools/program.sh"
-if ! [ -x "$(program_of "$(sources_sum)")" ]; then
+if ! is_program "$(program_of "$(sources_sum)")"; then
     printf 'examples: none was run, since the proved program is not built; .ci/run or ./prove builds it\n'
     exit 1
 fi

@@ -8,12 +8,14 @@ from typing import Iterator, List, Optional, Sequence, Tuple
 from ..cautions import idle_directives, parallel_loops, past_last_column, untidy_loops
 from ..expressions import Span
 from ..faults import FAULTS, NO_DATA
+from ..layout import looks_free, notes
 from ..lines import Place, split_lines
 from ..messages import ERROR, NOTE, WARNING, Mark, excerpt, located
 from ..panes import read_panes, read_source
 from ..ped import Ped, read_file
 from ..program import Program, read_program
 from ..refusals import REFUSALS
+from ..repairs import Refused, refusals
 from ..replies import Fault, Race, Reply
 from ..scripts import Command, weave
 from ..statuses import ProgramRefused, Status
@@ -57,7 +59,7 @@ def check(ped: Ped, question: Question, runs: bool, strict: bool) -> Report:
             view = _session(report, ped, question, source)
     except ProgramRefused as refusal:
         report.add(warnings)
-        report.add(list(refusal_rows(question.name, refusal)), Status.PROGRAM_REFUSED)
+        report.add(list(_all_refusals(ped, question.name, refusal)), Status.PROGRAM_REFUSED)
         return report
     found = sorted([*parallel_loops(view), *untidy_loops(view), *idle_directives(view)])
     warnings.extend(located(view.name, place, f"{WARNING}: {words}") for place, words in found)
@@ -65,13 +67,37 @@ def check(ped: Ped, question: Question, runs: bool, strict: bool) -> Report:
     return report
 
 
+def _all_refusals(ped: Ped, name: str, refusal: ProgramRefused) -> Iterator[str]:
+    """What ped refuses of a program, and what it would refuse next; and what is to be said of the file as a whole."""
+    about_file = [f"{name}: {NOTE}: {words}" for words in notes(split_lines(refusal.source))]
+    if looks_free(split_lines(refusal.source)):
+        # Each line would be refused.
+        yield from refusal_rows(name, refusal)
+        yield from about_file
+        return
+    found, is_whole = refusals(ped, refusal)
+    for one in found:
+        yield from _refusal(name, split_lines(refusal.source), one)
+    yield from about_file
+    if len(found) > 1:
+        yield f"{name}: {NOTE}: ped names the first of these; the others come once those before are repaired"
+    if not is_whole:
+        yield f"{name}: {NOTE}: there may be more, which can't be told yet"
+
+
 def refusal_rows(name: str, refusal: ProgramRefused) -> Iterator[str]:
     """A refusal of a program with its line, its rule and what to write instead."""
     lines = split_lines(refusal.source)
-    known = REFUSALS.get(refusal.number)
-    place, about = suspect(lines, refusal.number, refusal.line)
+    where = suspect(lines, refusal.number, refusal.line)
+    yield from _refusal(name, lines, Refused(refusal.number, refusal.name, where))
+
+
+def _refusal(name: str, lines: Sequence[str], refused: Refused) -> Iterator[str]:
+    known = REFUSALS.get(refused.number)
+    place, about = refused.where
     rule = f": {known.rule}" if known is not None else ""
-    yield located(name, place, f"{ERROR}: {refusal.number} {refusal.name}{rule}" + (f": {about}" if about else ""))
+    words = f"{ERROR}: {refused.number} {refused.name}{rule}" + (f": {about}" if about else "")
+    yield located(name, place, f"{words}{refused.because}")
     if place.line <= len(lines):
         yield from excerpt(lines, [Mark(Span(place, Place(place.line, place.column + len(about or "1") - 1)), "^")])
     if known is not None:

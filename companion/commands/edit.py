@@ -3,20 +3,17 @@
 from __future__ import annotations
 
 import os
-import signal
-from contextlib import contextmanager
-from typing import Iterator, Optional
+from typing import Optional
 
 from ..editor.editor import Editor
-from ..editor.saving import Names
+from ..editor.endings import ended_by_signals
+from ..editor.rescuing import Rescue
+from ..editor.saving import Names, What
 from ..editor.session import Session
 from ..editor.terminal import Terminal, on_terminal
-from ..messages import counted
+from ..messages import NOTE, counted
+from ..output import tell
 from ..ped import Ped, read_file, shown
-from ..statuses import CompanionError
-
-#: The signals of a terminal that goes away.
-_ENDING = (signal.SIGHUP, signal.SIGTERM)
 
 
 def edit(ped: Ped, file: str, script: Optional[str], data: Optional[str]) -> None:
@@ -30,15 +27,22 @@ def edit(ped: Ped, file: str, script: Optional[str], data: Optional[str]) -> Non
     session = Session(ped.quiet(), source)
     names = Names(file, script or "")
     greeting = _begin(session, names, script) if script is not None and os.path.exists(script) else ""
+    rescue = Rescue(session, names)
+    # Here Ctrl-C still ends the wait for a pipe.
+    text = read_file(data) if data is not None else None
 
     def use(terminal: Terminal) -> None:
-        editor = Editor(terminal, session, file, names)
-        if data is not None:
-            editor.take_data(data)
-        editor.run(greeting)
+        with rescue.at_bad_end():
+            editor = Editor(terminal, session, file, names, rescue)
+            if data is not None:
+                editor.take_data(data, text)
+            editor.run(greeting)
 
-    with _rescue(session, names):
-        on_terminal(use)
+    try:
+        with ended_by_signals():
+            on_terminal(use)
+    finally:
+        tell("".join(f"pedx: {NOTE}: {note}\n" for note in rescue.notes))
 
 
 def _begin(session: Session, names: Names, script: str) -> str:
@@ -47,31 +51,6 @@ def _begin(session: Session, names: Names, script: str) -> str:
     refused = session.load(text)
     if session.script == text:
         # Nothing in it is lost where it is written over.
-        names.own(script)
+        names.own(What.SCRIPT, script, text)
     words = f"{shown(script)}: {counted(len(session.changes), 'change')}"
     return f"{words}; refused: {counted(len(refused), 'line')}" if refused else words
-
-
-@contextmanager
-def _rescue(session: Session, names: Names) -> Iterator[None]:
-    """Saves the script under another name where the editor ends otherwise than the user wants."""
-    def end(number: int, frame: object) -> None:
-        raise SystemExit(128 + number)
-
-    before = [(one, signal.signal(one, end)) for one in _ENDING]
-    try:
-        yield
-    except BaseException:
-        if not session.is_saved:
-            _save(session, names)
-        raise
-    finally:
-        for one, handler in before:
-            signal.signal(one, handler)
-
-
-def _save(session: Session, names: Names) -> None:
-    try:
-        names.write(names.rescued, session.script)
-    except CompanionError:
-        pass

@@ -5,8 +5,8 @@ from __future__ import annotations
 import json
 from typing import Dict, List, Optional
 
+from ..output import readable
 from ..panes import Dependence, SourceRow
-from ..ped import ENCODING
 from ..program import Loop, Statement
 from ..references import Reference
 from ..statements import Assignment, BlockIf, Do, Print, Read
@@ -28,7 +28,7 @@ def export(view: View) -> str:
     places = {id(row): place for place, row in enumerate(view.dependences)}
     document: Dict[str, Value] = {
         "schema": SCHEMA,
-        "file": _readable(view.name),
+        "file": readable(view.name),
         "program": program.name,
         "arrays": {name: list(bounds) for name, bounds in view.printed.arrays.items()},
         "constants": view.printed.constants,
@@ -50,16 +50,8 @@ def _dumped(value: Value) -> str:
     return json.dumps(value)
 
 
-def _readable(text: str) -> str:
-    """A text as it was meant: in UTF-8 where its bytes are that."""
-    try:
-        return text.encode(ENCODING).decode("utf-8")
-    except UnicodeDecodeError:
-        return text
-
-
 def _source_row(row: SourceRow) -> Dict[str, Value]:
-    return {"line": row.line, "statement": row.statement, "text": _readable(row.text)}
+    return {"line": row.line, "statement": row.statement, "text": readable(row.text)}
 
 
 def _statement(view: View, statement: Statement) -> Dict[str, Value]:

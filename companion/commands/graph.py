@@ -21,10 +21,11 @@ def graph(view: View, number: Optional[int], svg: bool) -> str:
 def _drawn(text: str) -> str:
     """The picture that `dot` makes of a graph."""
     try:
-        done = subprocess.run(["dot", "-Tsvg"], input=text.encode(ENCODING), stdout=subprocess.PIPE, check=False)
+        done = subprocess.run(["dot", "-Tsvg"], input=text.encode(ENCODING), capture_output=True, check=False)
     except OSError as error:
         message = f"cannot start dot of graphviz: {error.strerror}; without --svg the graph is written as text"
         raise CompanionError(Status.NO_DOT, message) from error
     if done.returncode != 0:
-        raise CompanionError(Status.NO_DOT, f"dot of graphviz ended with status {done.returncode}")
+        said = done.stderr.decode(ENCODING).strip()
+        raise CompanionError(Status.NO_DOT, f"dot of graphviz ended with status {done.returncode}: {said}")
     return done.stdout.decode(ENCODING)

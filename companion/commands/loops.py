@@ -2,7 +2,8 @@
 
 from __future__ import annotations
 
-from typing import Iterator, List, Sequence, Tuple
+from bisect import bisect
+from typing import Dict, Iterator, List, Sequence, Tuple
 
 from ..advice import Adviser
 from ..automatic import Rest, rests
@@ -10,18 +11,31 @@ from ..messages import counted, listed
 from ..panes import KINDS, MARKS, Dependence
 from ..ped import Ped
 from ..program import Loop
+from ..progress import Progress
 from ..statuses import CompanionError, Status
-from ..trials import carried_names
+from ..trials import carried_names, rows_by_name
 from ..views import View
 
+#: More loops aren't named one by one.
+_MOST_NAMED = 20
+#: Of a program with more lines `auto` takes some time.
+_LONG = 500
 
-def loops(view: View, ped: Ped, numbers: Sequence[int], tries: bool) -> str:
-    """The table of the loops, or of those with these statement numbers."""
+
+def loops(view: View, ped: Ped, numbers: Sequence[int], tries: bool, progress: Progress = Progress()) -> str:
+    """The table of the loops, or of those with these statement numbers.
+
+    What `auto` leaves is told in the table of all loops alone, since it has ped look at all of them.
+    """
     chosen = [find_loop(view, number) for number in numbers] or list(view.program.loops.values())
     if not chosen:
         return "no loops\n"
-    adviser = Adviser(view, ped, chosen, tries)
-    left = rests(ped, view) if tries and not all(loop.form.parallel for loop in chosen) else {}
+    adviser = Adviser(view, ped, chosen, tries, progress)
+    left: Dict[int, List[Rest]] = {}
+    if tries and not numbers and not all(loop.form.parallel for loop in chosen):
+        if len(view.panes.lines) > _LONG:
+            progress.announce("auto: ped looks at all loops; --no-trials does without it")
+        left = rests(ped, view)
     headers = [header(loop) for loop in chosen]
     width = max(map(len, headers + ["loop"]))
     rows = [f"{'S':>4} {'line':>5}  {'loop':{width}}  verdict"]
@@ -36,9 +50,20 @@ def find_loop(view: View, number: int) -> Loop:
     """The loop of a statement."""
     loop = view.program.loops.get(number)
     if loop is None:
-        known = ", ".join(str(one) for one in view.program.loops) or "there is none"
-        raise CompanionError(Status.BAD_WORDS, f"statement {number} of {view.name} is no DO; the loops are: {known}")
+        raise CompanionError(Status.BAD_WORDS, f"statement {number} of {view.name} is no DO; {_known(view, number)}")
     return loop
+
+
+def _known(view: View, number: int) -> str:
+    """The statements of the loops; where there are many, the two next to a number."""
+    known = list(view.program.loops)
+    if not known:
+        return "the loops are: there is none"
+    if len(known) <= _MOST_NAMED:
+        return f"the loops are: {', '.join(map(str, known))}"
+    place = bisect(known, number)
+    near = [str(one) for one in known[max(place - 1, 0):place + 1]]
+    return f"it has {len(known)} loops, the nearest at {listed(near)}"
 
 
 def header(loop: Loop) -> str:
@@ -62,9 +87,7 @@ def _verdict(view: View, loop: Loop) -> str:
 
 
 def _remarks(view: View, adviser: Adviser, loop: Loop, left: Sequence[Rest]) -> Iterator[str]:
-    rows = view.carried_by(loop)
-    for name in carried_names(rows):
-        mine = [row for row in rows if row.name == name]
+    for name, mine in rows_by_name(view.carried_by(loop)).items():
         yield f"{name}: {summary(mine)}"
         for advice in adviser.about_name(loop, name, mine):
             yield f"- {advice}"

@@ -11,13 +11,15 @@ from dataclasses import dataclass
 from typing import Dict, Iterator, List, Sequence, Tuple
 
 from ..advice import Adviser, place_of
+from ..calls import Calls
 from ..messages import listed
-from ..outline import outline_of
+from ..outline import Outline, outline_of
 from ..ped import Ped
 from ..program import Loop
+from ..progress import Progress
 from ..refusals import refused
 from ..replies import Advised
-from ..trials import carried_names
+from ..trials import carried_names, rows_by_name
 from ..tuning import attempts, results
 from ..views import View
 
@@ -41,7 +43,7 @@ def advised(ped: Ped, view: View, loop: Loop) -> List[Advice]:
     adviser = Adviser(view, ped, [loop], tries=True)
     steps = adviser.advised(loop)
     accepted = [one for one in sorted(steps, key=place_of) if one.refusal is None]
-    words = _about_names(adviser, view, loop)
+    words = [*_about_names(adviser, view, loop), *adviser.about_blocks(loop)]
     words.extend(adviser.about_step(loop, one) for one in accepted if one.word == "parallel")
     words.extend(_freeing(ped, view, loop, [one.command for one in accepted]))
     told = {step for one in words for step in _accepted(one)}
@@ -52,10 +54,9 @@ def advised(ped: Ped, view: View, loop: Loop) -> List[Advice]:
 
 def _about_names(adviser: Adviser, view: View, loop: Loop) -> List[str]:
     """What to try against what a loop carries, name by name, and for several scalars at once."""
-    rows = view.carried_by(loop)
     words: List[str] = []
-    for name in carried_names(rows):
-        words.extend(adviser.about_name(loop, name, [row for row in rows if row.name == name]))
+    for name, rows in rows_by_name(view.carried_by(loop)).items():
+        words.extend(adviser.about_name(loop, name, rows))
     return [*words, *adviser.about_scalars(loop)]
 
 
@@ -66,7 +67,7 @@ def _freeing(ped: Ped, view: View, loop: Loop, accepted: Sequence[str]) -> Itera
     outline = outline_of(view.panes.source)
     outer = f"interchange {loop.nest[-2]}" if loop.level > 1 else ""
     tried = [one for one in attempts(view, outline, outline.loops[loop.number]) if one.step in (*accepted, outer)]
-    for result in results(ped, view, tried) if tried else ():
+    for result in results(ped, view, tried, Progress()):
         if result.frees:
             then = f"and then `parallel {result.attempt.place.number}`"
             yield f"try `{result.attempt.step}`: ped accepts it, {then}"
@@ -101,6 +102,16 @@ def advice_page(view: View, loop: Loop, advice: List[Advice]) -> List[str]:
     if not advice:
         lines.append("There is nothing that can be tried here by itself.")
     return lines
+
+
+def calls_page(calls: Calls, outline: Outline) -> List[str]:
+    """The CALLs as a page, each with a key that inlines it, and what depends on them."""
+    lines: List[str] = []
+    keys = iter(KEYS)
+    for number, call in calls.calls.items():
+        lines.append(f"{next(keys, ''):>3}  {number} {call}")
+        lines.extend(f"       {words}" for words in calls.about(number, outline.nests))
+    return lines or ["The program has no CALL."]
 
 
 def _accepted(words: str) -> Tuple[str, ...]:

@@ -15,7 +15,11 @@ _END_OF_TEXT = "."
 
 
 class NoChange(Exception):
-    """No edit leads to the text."""
+    """No edit leads to the text, because of one of its lines."""
+
+    def __init__(self, line: int, cause: str) -> None:
+        super().__init__(f"line {line}: {cause}")
+        self.line = line
 
 
 @dataclass(frozen=True)
@@ -48,7 +52,8 @@ def edit_between(old: Sequence[str], new: Sequence[str]) -> Lines:
     taken = old[front:len(old) - back]
     put = new[front:len(new) - back]
     if _END_OF_TEXT in put:
-        raise NoChange("a line that is a period and nothing else can't be put into a program")
+        line = front + put.index(_END_OF_TEXT) + 1
+        raise NoChange(line, "a line that is a period and nothing else can't be put into a program")
     if not taken and not put:
         return ()
     if not put:

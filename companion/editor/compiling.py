@@ -6,12 +6,11 @@ import os
 import shlex
 import shutil
 import subprocess
-from typing import List, Optional
+from typing import List, Optional, Sequence
 
 from ..lines import split_lines
 from ..ped import ENCODING
 
-_OPTIONS = ("-fopenmp", "-O2")
 #: How long the compiled program may take, in seconds.
 _SECONDS = 60
 _THREADS = "4"
@@ -23,9 +22,9 @@ def compiler() -> Optional[List[str]]:
     return words if words and shutil.which(words[0]) else None
 
 
-def compile_command(words: List[str], source: str) -> List[str]:
-    """The command that compiles a file, and gives what it makes the file's name without its ending."""
-    return [*words, *_OPTIONS, "-o", os.path.splitext(source)[0], source]
+def compile_command(words: List[str], options: Sequence[str], source: str) -> List[str]:
+    """The command that compiles a file with these options; the result has the file's name without its ending."""
+    return [*words, *options, "-o", os.path.splitext(source)[0], source]
 
 
 def compiled(command: List[str]) -> List[str]:

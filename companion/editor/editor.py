@@ -2,31 +2,38 @@
 
 from __future__ import annotations
 
-from contextlib import contextmanager
-from typing import Callable, Dict, Iterator, List, Optional, Sequence
+import os
+from contextlib import contextmanager, suppress
+from typing import Callable, Dict, Iterator, List, Optional, Sequence, Tuple
 
+from .. import files
+from ..blocks import block_at, blocks_of
+from ..calls import read_calls
 from ..commands.why import explained
+from ..doubts import may_reject
+from ..exports import export_of
 from ..faults import FAULTS
-from ..lists import live_sums
+from ..lines import split_lines
 from ..messages import counted, listed
-from ..openmp import openmp_lines
-from ..ped import read_file, shown
+from ..openmp import Wishes
+from ..ped import ENCODING, argument, cause, read_file, shown
 from ..refusals import refused
 from ..replies import Fault, Reply
 from ..statuses import CompanionError
-from ..trials import carried_names
+from ..trials import carried_names, rows_by_name
 from . import keys
-from .advice import KEYS, advice_page, advised
+from .advice import KEYS, advice_page, advised, calls_page
 from .changes import NoChange
 from .compiling import compile_command, compiled, compiler, run_compiled
 from .desk import Desk
 from .filters import Filters
-from .free_edits import NoEditor, about_refusal, edited, refused_line
-from .keys import STEPS, Asks, Step
+from .free_edits import TEXT, Draft, NoEditor, about_refusal, refused_line
+from .keys import BLOCK_STEPS, STEPS, Asks, Step
 from .pages import show_page
 from .pictures import Painter, Row
 from .prompts import ask, pick
-from .saving import Names
+from .rescuing import Rescue, has_text_alone, remove, rescued
+from .saving import Names, What
 from .session import Session
 from .terminal import (
     DOWN, END, ENTER, ESCAPE, HOME, INTERRUPTED, OTHER, PAGE_DOWN, PAGE_UP, RESIZED, TAB, UP, Terminal,
@@ -40,20 +47,24 @@ _EXPLAINED = 50
 class Editor:
     """The editor of a session on a terminal."""
 
-    def __init__(self, terminal: Terminal, session: Session, name: str, names: Names) -> None:
+    def __init__(self, terminal: Terminal, session: Session, name: str, names: Names, rescue: Rescue) -> None:
         self._terminal = terminal
         self._session = session
         self._names = names
+        self._rescue = rescue
         self._painter = Painter(name)
         self._desk = Desk(session.present)
         self._choices = ""
         self._data_name = ""
         self._is_done = False
+        #: What was rescued and is part of the changes now; it may go once they are saved.
+        self._taken: List[str] = []
         self._actions = self._table()
 
     def run(self, greeting: str = "") -> None:
         """Does what the keys say until the user ends it."""
-        self._desk.say(greeting or "? tells the keys, n goes to the next loop, a tells what to do with it")
+        if not self._offer_rescued():
+            self._desk.say(greeting or "? tells the keys, n goes to the next loop, a tells what to do with it")
         while not self._is_done:
             self._draw()
             self._act(self._terminal.key())
@@ -63,6 +74,8 @@ class Editor:
         try:
             if key in STEPS:
                 self._step(STEPS[key])
+            elif key in BLOCK_STEPS:
+                self._step_of_block(BLOCK_STEPS[key])
             elif key in self._actions:
                 self._actions[key]()
             elif key not in (RESIZED, OTHER):
@@ -72,7 +85,7 @@ class Editor:
         except KeyboardInterrupt:
             self._desk.say("interrupted")
 
-    def _table(self) -> Dict[str, Callable[[], None]]:
+    def _table(self) -> Dict[str, Callable[[], object]]:
         desk = self._desk
         page = max(1, self._terminal.size[0] // 2)
         return {
@@ -81,7 +94,7 @@ class Editor:
             HOME: lambda: desk.move(-_ENDLESS), END: lambda: desk.move(_ENDLESS),
             keys.NEXT_LOOP: lambda: desk.go_to_loop(True), keys.PREVIOUS_LOOP: lambda: desk.go_to_loop(False),
             keys.OUTER_LOOP: desk.go_out, TAB: self._change_pane, ESCAPE: self._to_source,
-            keys.ADVICE: self._advise, ENTER: self._why,
+            keys.ADVICE: self._advise, keys.CALLS: self._show_calls, ENTER: self._why,
             keys.LEVEL: lambda: self._filter(desk.filters.with_next_level(desk.outline.depth)),
             keys.KIND: lambda: self._filter(desk.filters.with_next_kind()),
             keys.MARK: lambda: self._filter(desk.filters.with_next_mark()),
@@ -123,6 +136,9 @@ class Editor:
 
     def _pick(self, words: str, choices: str) -> str:
         return pick(self._terminal, self._background, words, choices) or ""
+
+    def _confirm(self, words: str) -> bool:
+        return self._pick(f"{words} (y, n)", "yn") == "y"
 
     def _page(self, title: str, lines: Sequence[str]) -> None:
         """Shows a page. The key that closes it is carried out, but for those that only close it."""
@@ -181,6 +197,18 @@ class Editor:
             for step in offered[place]:
                 self._carry_out(step, loop.number)
 
+    def _show_calls(self) -> None:
+        with self._busy("calls"):
+            found = read_calls(self._session.answer("calls").rows)
+        self._desk.say("")
+        numbers = list(found.calls)
+        lines = calls_page(found, self._desk.outline)
+        hint = "the key before a CALL inlines it; another one closes the page" if numbers else "any key closes the page"
+        key = show_page(self._terminal, "The CALLs, and what depends on them", lines, hint)
+        place = KEYS.find(key) if len(key) == 1 else -1
+        if 0 <= place < len(numbers):
+            self._carry_out(f"inline {numbers[place]}", numbers[place])
+
     # Changing
 
     def _step(self, step: Step) -> None:
@@ -194,6 +222,14 @@ class Editor:
         if answer is not None:
             self._carry_out(f"{step.word} {loop.number} {answer}".strip(), loop.number)
 
+    def _step_of_block(self, step: Step) -> None:
+        block = block_at(blocks_of(self._desk.present.panes.source), self._desk.line)
+        if block is None:
+            where = f"the line stands in none; {keys.CALLS} shows them"
+            self._desk.say(f"{step.word} wants the block of a CALL, and {where}")
+        else:
+            self._carry_out(f"{step.word} {block.number}", block.number)
+
     def _offered(self, asks: Asks) -> List[str]:
         """What can be meant, the likeliest first."""
         if asks is Asks.FACTOR:
@@ -204,10 +240,9 @@ class Editor:
             return ["first", "last"]
         rows = self._desk.carried
         if asks is Asks.VARIABLE:
-            rows = [row for row in rows if row.mark == "pending"]
+            program = self._desk.present.view.program
+            return [name for name, mine in rows_by_name(rows).items() if may_reject(program, mine)]
         names = [name for name in carried_names(rows) if not name.startswith("(")]
-        if asks is Asks.VARIABLE:
-            return names
         scalars = [name for name in names if name not in self._desk.outline.arrays]
         return [" ".join(scalars), *scalars] if asks is Asks.SUMS and len(scalars) > 1 else scalars
 
@@ -241,26 +276,57 @@ class Editor:
         self._desk.say(f"auto: {counted(len(reply.taken), 'step')}; {loops} left")
 
     def _edit(self) -> None:
-        lines, line = list(self._session.present.lines), self._desk.line
+        self._edit_draft(Draft(self._session.present.lines))
+
+    def _edit_draft(self, draft: Draft) -> bool:
+        """Has a text edited until ped takes it, or the user drops it; answers whether ped has taken it."""
+        self._rescue.draft = draft
+        line = self._desk.line
         while True:
-            try:
-                with self._terminal.set_aside():
-                    lines = edited(lines, line)
-                with self._busy("edit"):
-                    refusal = self._session.edit(lines)
-            except (NoEditor, NoChange) as error:
-                self._desk.say(str(error))
-                return
-            if refusal is None:
+            why, line = self._try_edit(draft, line)
+            if not why:
                 break
-            line = refused_line(refusal) or line
-            self._desk.say(about_refusal(refusal))
-            if self._pick("edit on, or drop the edit? (e, d)", "ed") != "e":
-                self._desk.say("the edit was dropped; the program is as it was")
-                return
+            self._desk.say(why)
+            if draft.text == self._session.present.text or not self._goes_on(draft):
+                self._rescue.draft = None
+                return False
+        self._rescue.draft = None
         is_changed = self._session.present is not self._desk.present
         self._desk.put(self._session.present)
         self._desk.say(f"{self._session.changes[-1].command}: ok" if is_changed else "the edit changed nothing")
+        return True
+
+    def _try_edit(self, draft: Draft, line: int) -> Tuple[str, int]:
+        """Has a text edited, and asks ped to take it; answers why it doesn't, if so, and the line to be shown then."""
+        try:
+            with self._terminal.set_aside():
+                draft.edit(line)
+            with self._busy("edit"):
+                refusal = self._session.edit(draft.lines)
+        except NoEditor as error:
+            return str(error), line
+        except NoChange as error:
+            return str(error), error.line
+        except CompanionError as error:
+            return error.message, line
+        except KeyboardInterrupt:
+            return "interrupted", line
+        return (about_refusal(refusal), refused_line(refusal) or line) if refusal is not None else ("", line)
+
+    def _goes_on(self, draft: Draft) -> bool:
+        """Whether the user goes on with a text that ped doesn't take. It's dropped only where the user says so."""
+        while True:
+            answer = self._pick("edit on, write the text to a file, or drop it? (e, w, d)", "ewd")
+            if answer == "e":
+                return True
+            if answer == "d":
+                self._desk.say("the edit was dropped; the program is as it was")
+                return False
+            try:
+                if answer == "w" and self._write(What.EDIT, self._names.edited, draft.text) is not None:
+                    return False
+            except CompanionError as error:
+                self._desk.say(error.message)
 
     def _undo(self) -> None:
         with self._busy("undo"):
@@ -317,42 +383,58 @@ class Editor:
 
     def _choose_data(self) -> None:
         name = self._ask("data from which file? (none: no data)", [self._data_name])
-        if name is not None:
-            self.take_data(name)
-            self._desk.say(f"data: {shown(name) or 'none'}")
+        if name is None:
+            return
+        with self._busy(f"{shown(name)} is read"):
+            text = read_file(name) if name else None
+        self.take_data(name, text)
+        self._desk.say(f"data: {shown(name) or 'none'}")
 
-    def take_data(self, name: str) -> None:
-        """Takes the data for runs from a file; without a name there are none."""
-        self._session.data = read_file(name) if name else None
+    def take_data(self, name: str, text: Optional[str]) -> None:
+        """Takes the data for runs, those of a file; without a text there are none."""
+        self._session.data = text
         self._data_name = name
 
     # Saving
 
-    def _write(self, words: str, offered: str, text: str) -> Optional[str]:
+    def _write(self, what: What, offered: str, text: str) -> Optional[str]:
         """Writes a text to a file that the user names; answers the name."""
-        name = self._ask(words, [offered])
+        name = self._ask(what.value, [offered])
         if not name:
             return None
-        if self._names.is_others(name) and self._pick(f"{shown(name)} is there; write over it? (y, n)", "yn") != "y":
-            self._desk.say("nothing was written")
+        if not self._may_write(what, name):
             return None
-        self._names.write(name, text)
+        self._names.write(what, name, text)
         self._desk.say(f"{shown(name)} is written")
         return name
 
+    def _may_write(self, what: What, name: str) -> bool:
+        """Whether a file isn't others', or the user has it written over all the same."""
+        if not self._names.is_others(what, name):
+            return True
+        if self._confirm(f"{shown(name)} is there; write over it?"):
+            self._names.own(what, name)
+            return True
+        self._desk.say("nothing was written")
+        return False
+
     def _save_script(self) -> bool:
-        name = self._write("save the script as", self._names.script, self._session.script)
+        name = self._write(What.SCRIPT, self._names.script, self._session.script)
         if name is None:
             return False
         self._names.script = name
         self._session.mark_saved()
-        with self._busy("the script is replayed"):
-            proof = "replays to this program" if self._session.replays() else "DOESN'T replay to this program"
+        self._drop_taken()
+        try:
+            with self._busy("the script is replayed"):
+                proof = "replays to this program" if self._session.replays() else "DOESN'T replay to this program"
+        except CompanionError as error:
+            proof = f"can't be replayed: {error.message}"
         self._desk.say(f"{shown(name)} holds {counted(len(self._session.changes), 'change')} and {proof}")
         return True
 
     def _write_program(self) -> None:
-        name = self._write("write the program to", self._names.program, self._session.present.text)
+        name = self._write(What.PROGRAM, self._names.program, self._session.present.text)
         self._names.program = name or self._names.program
 
     def _openmp(self) -> None:
@@ -361,9 +443,14 @@ class Editor:
         if not live:
             self._desk.say("nothing was done")
             return
-        sums = live_sums(self._session.ped, present.panes.lines, present.view.printed)
-        lines = openmp_lines(present.panes.lines, present.view.printed, sums, live == "y")
-        name = self._write("write the OpenMP program to", self._names.openmp, "".join(one + "\n" for one in lines))
+        with self._busy("the program is translated"):
+            export = export_of(self._session.ped, present.view, Wishes(live == "y"), self._session.data)
+        if export.doubts:
+            show_page(self._terminal, "Not all is sure of the OpenMP program", export.doubts, "a key closes the page")
+            if not self._confirm("not all is sure of it: write it all the same?"):
+                self._desk.say("nothing was written")
+                return
+        name = self._write(What.OPENMP, self._names.openmp, export.text)
         if name is None:
             return
         self._names.openmp = name
@@ -371,20 +458,21 @@ class Editor:
         if words is None:
             self._desk.say(f"{shown(name)} is written; gfortran isn't there to compile it ($FC names another compiler)")
         else:
-            self._compile(compile_command(words, name), name)
+            self._compile(compile_command(words, export.options, argument(name)), name)
 
     def _compile(self, command: List[str], name: str) -> None:
         line = shown(" ".join(command))
-        if self._pick(f"{line}: compile it? (y, n)", "yn") != "y":
+        if not self._confirm(f"{line}: compile it?") or not self._may_write(What.COMPILED, command[-2]):
             return
         with self._busy(line):
             complaints = compiled(command)
+        self._names.own(What.COMPILED, command[-2])
         if complaints:
             self._desk.say("the compiler complains")
             self._page(line, complaints)
             return
         self._desk.say(f"compiled: {line}")
-        if self._pick("run it with four threads? (y, n)", "yn") == "y":
+        if self._confirm("run it with four threads?"):
             with self._busy(shown(command[-2])):
                 rows = run_compiled(name, self._session.data)
             self._desk.say(f"{shown(command[-2])} has run")
@@ -396,3 +484,56 @@ class Editor:
             return
         answer = self._pick("the changes aren't saved: save, quit without, or stay? (w, q, n)", "wqn")
         self._is_done = answer == "q" or answer == "w" and self._save_script()
+
+    # What was rescued
+
+    def _offer_rescued(self) -> bool:
+        """Offers what an earlier editor has rescued; answers whether something of it was taken."""
+        is_taken = False
+        for name in rescued(self._names.rescued_script):
+            if self._offer(name, "a script that was rescued", self._take_script):
+                is_taken = True
+                break
+        for name in rescued(self._names.rescued_edit):
+            if self._offer(name, "the text of an edit that was rescued", self._take_edit):
+                return True
+        return is_taken
+
+    def _offer(self, name: str, what: str, take: Callable[[str], bool]) -> bool:
+        self._desk.say(f"{shown(name)} holds {what}")
+        answer = self._pick("go on with it, leave it, or remove it? (y, n, r)", "ynr")
+        try:
+            if answer == "r":
+                remove(name)
+            return answer == "y" and take(name)
+        except OSError as error:
+            self._desk.say(f"cannot {'remove' if answer == 'r' else 'read'} {shown(name)}: {cause(error)}")
+        except CompanionError as error:
+            self._desk.say(error.message)
+        except KeyboardInterrupt:
+            self._desk.say("interrupted")
+        return False
+
+    def _take_script(self, name: str) -> bool:
+        with self._busy(shown(name)):
+            refusals = self._session.load(read_file(name), is_saved=False)
+        self._desk.put(self._session.present)
+        changes = counted(len(self._session.changes), "change")
+        self._desk.say(f"{shown(name)}: {changes}; refused: {counted(len(refusals), 'line')}")
+        if not refusals:
+            self._taken.append(name)
+        return True
+
+    def _take_edit(self, name: str) -> bool:
+        text = files.read_bytes(os.path.join(name, TEXT)).decode(ENCODING)
+        if self._edit_draft(Draft(split_lines(text), rescued=name)):
+            self._taken.append(name)
+        return True
+
+    def _drop_taken(self) -> None:
+        """Removes what was rescued and is saved now."""
+        for name in self._taken:
+            with suppress(OSError):
+                if has_text_alone(name):
+                    remove(name)
+        self._taken = []

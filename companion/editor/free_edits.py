@@ -5,41 +5,120 @@ from __future__ import annotations
 import os
 import re
 import shlex
+import shutil
 import subprocess
 import tempfile
 from pathlib import Path
 from typing import List, Optional, Sequence
 
+from .. import files
 from ..lines import split_lines
-from ..ped import ENCODING
+from ..ped import ENCODING, cause
 from ..refusals import REFUSALS
+from .endings import Ended, deaf_to_keys
 
 #: Editors that take `+LINE` before the name of a file.
 _TAKE_LINE = (
     "vi", "vim", "nvim", "view", "ex", "nano", "pico", "emacs", "emacsclient", "jed", "joe", "mg", "ne", "kak",
 )
 _BAD_EDIT = re.compile(r"BadEdit (\d+) (\w+) at (\d+)")
+#: How long the user's editor may take to save its text where all is ended: by itself, and after a signal. In seconds.
+_PATIENCE = (0.5, 5.0)
+
+#: The file with the text, in a folder of its own.
+TEXT = "program.f"
 
 
 class NoEditor(Exception):
     """The editor couldn't be started, or ended badly."""
 
 
-def edited(lines: Sequence[str], line: int) -> List[str]:
-    """The lines as they come back from $VISUAL or $EDITOR, which is shown this line first."""
-    words = shlex.split(os.environ.get("VISUAL") or os.environ.get("EDITOR") or "vi")
-    place = [f"+{line}"] if Path(words[0]).name in _TAKE_LINE else []
-    with tempfile.TemporaryDirectory(prefix="pedx-") as folder:
-        file = Path(folder, "program.f")
-        file.write_bytes("".join(one + "\n" for one in lines).encode(ENCODING))
+class Draft:
+    """The text of an edit until the program takes it, or the user drops it.
+
+    While the user's editor is open, its folder may hold a later text, and what that editor puts beside it. What was
+    rescued is a text with such files beside it, and the user's editor finds all of it.
+    """
+
+    def __init__(self, lines: Sequence[str], rescued: Optional[str] = None) -> None:
+        self.lines = list(lines)
+        self._rescued = rescued
+        self.folder: Optional[str] = None
+        #: Whether the user's editor is still open at the end, since no signal has ended it.
+        self.is_open = False
+
+    @property
+    def text(self) -> str:
+        """The text as a file."""
+        return "".join(line + "\n" for line in self.lines)
+
+    def edit(self, line: int) -> None:
+        """Has the text edited in $VISUAL or $EDITOR, which is shown this line first.
+
+        Where that is ended by a signal, the folder stays.
+        """
+        words = _words()
+        place = [f"+{line}"] if Path(words[0]).name in _TAKE_LINE else []
         try:
-            status = subprocess.run([*words, *place, str(file)], check=False).returncode
-            text = file.read_bytes().decode(ENCODING)
+            self.folder = tempfile.mkdtemp(prefix="pedx-")
+            file = os.path.join(self.folder, TEXT)
+            if self._rescued is not None:
+                shutil.copytree(self._rescued, self.folder, symlinks=True, dirs_exist_ok=True)
+            else:
+                files.create(file, self.text.encode(ENCODING))
         except OSError as error:
-            raise NoEditor(f"cannot start {words[0]}: {error.strerror}; $EDITOR names the editor") from error
+            self._close()
+            raise NoEditor(f"cannot write the text for {words[0]}: {cause(error)}") from error
+        self._rescued = None
+        status = self._run([*words, *place, file])
+        try:
+            self.lines = split_lines(files.read_bytes(file).decode(ENCODING))
+        except OSError as error:
+            raise NoEditor(f"cannot read what {words[0]} has left in {file}: {cause(error)}") from error
+        self._close()
         if status != 0:
             raise NoEditor(f"{words[0]} ended with status {status}, so nothing was changed")
-    return split_lines(text)
+
+    def _run(self, command: List[str]) -> int:
+        """Starts the user's editor, and answers its status once it has ended."""
+        with deaf_to_keys():
+            try:
+                editor = subprocess.Popen(command)
+            except (OSError, ValueError) as error:
+                self._close()
+                message = f"cannot start {command[0]}: {cause(error)}; $EDITOR names the editor"
+                raise NoEditor(message) from error
+            try:
+                return editor.wait()
+            except Ended as end:
+                self.is_open = not _is_ended(editor, end.number)
+                raise
+
+    def _close(self) -> None:
+        if self.folder is not None:
+            shutil.rmtree(self.folder, ignore_errors=True)
+            self.folder = None
+
+
+def _words() -> List[str]:
+    """The words that start the user's editor."""
+    named = os.environ.get("VISUAL") or os.environ.get("EDITOR") or "vi"
+    try:
+        words = shlex.split(named)
+    except ValueError as error:
+        raise NoEditor(f"$EDITOR isn't understood: {error}") from error
+    return words or ["vi"]
+
+
+def _is_ended(editor: "subprocess.Popen[bytes]", number: int) -> bool:
+    """Gives the user's editor time to save its text and to end, then passes the signal on. It's never killed."""
+    for seconds in _PATIENCE:
+        try:
+            editor.wait(seconds)
+            return True
+        except subprocess.TimeoutExpired:
+            editor.send_signal(number)
+    return False
 
 
 def refused_line(refusal: str) -> Optional[int]:

@@ -45,8 +45,13 @@ STEPS: Dict[str, Step] = {
     "j": Step("reject", Asks.VARIABLE, "say that pending dependences aren't there"),
 }
 
+#: The steps at the block of a CALL.
+BLOCK_STEPS: Dict[str, Step] = {
+    "I": Step("inline", Asks.NOTHING, "put the statements of the CALL at the line in its place"),
+}
+
 NEXT_LOOP, PREVIOUS_LOOP, OUTER_LOOP = "n", "b", "o"
-ADVICE, AUTO, EDIT, UNDO, REDO = "a", "A", "e", "u", "y"
+ADVICE, CALLS, AUTO, EDIT, UNDO, REDO = "a", "c", "A", "e", "u", "y"
 LEVEL, KIND, MARK, NAME, NO_FILTERS = "L", "K", "M", "N", "0"
 RUN, RACES, DATA = "R", "C", "D"
 SAVE, WRITE, OPENMP = "w", "W", "O"
@@ -61,11 +66,12 @@ _OTHERS: Tuple[Tuple[str, str], ...] = (
     (f"{TAB}, {ESCAPE}", "into the dependences (^ source, ~ sink), and back"),
     ("Looking", ""),
     (ADVICE, "advice for the present loop, with keys that carry it out"),
+    (CALLS, "the CALLs and what depends on them, with keys that inline"),
     (ENTER, "why the chosen dependence is there, or those of the loop"),
     (f"{LEVEL} {KIND} {MARK} {NAME}", "filter the dependences by level, kind, mark, name"),
     (NO_FILTERS, "take the filters away"),
     ("Changing", ""),
-    (AUTO, "auto: make all loops parallel that can be, each step a change"),
+    (AUTO, "auto: take steps that make loops parallel, each a change"),
     (EDIT, "edit the program in $EDITOR"),
     (f"{UNDO} {REDO}", "undo the last change, redo what was undone last"),
     ("Running", ""),
@@ -84,5 +90,5 @@ def help_lines() -> Iterator[str]:
     for keys, about in _OTHERS:
         yield f"  {keys:19} {about}" if about else keys
         if keys == "Changing":
-            for key, step in STEPS.items():
+            for key, step in {**STEPS, **BLOCK_STEPS}.items():
                 yield f"  {key:6} {step.word:12} {step.about}"

@@ -5,7 +5,8 @@ from __future__ import annotations
 import re
 from typing import List, Sequence
 
-from .pictures import Row, Style, first_shown, folded, visible
+from ..output import visible
+from .pictures import Row, Style, first_shown, folded
 from .terminal import DOWN, END, HOME, OTHER, PAGE_DOWN, PAGE_UP, RESIZED, UP, Terminal
 
 #: What stands before the words of a line: blanks, and perhaps a key or a dash.

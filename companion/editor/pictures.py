@@ -2,13 +2,12 @@
 
 from __future__ import annotations
 
-import re
 from enum import Enum
 from typing import List, NamedTuple, Sequence
 
 from ..messages import counted
+from ..output import visible
 from ..panes import Dependence, SourceRow
-from ..ped import ENCODING
 from .desk import Desk
 from .filters import Filters
 
@@ -18,7 +17,6 @@ LEAST_WIDTH = 30
 
 _MESSAGE_ROWS = 2
 _HINT = "? keys  n next  a advice  e edit  u undo  R run  w save  O OpenMP  q quit"
-_CONTROL = re.compile(r"[\x00-\x1f\x7f-\x9f]")
 
 
 class Style(Enum):
@@ -35,15 +33,6 @@ class Row(NamedTuple):
 
     text: str
     style: Style = Style.PLAIN
-
-
-def visible(text: str) -> str:
-    """A text as a terminal can show it: in UTF-8 where its bytes are that, and without control characters."""
-    try:
-        text = text.encode(ENCODING).decode("utf-8")
-    except UnicodeError:
-        pass
-    return _CONTROL.sub("?", text)
 
 
 def folded(text: str, width: int) -> List[str]:

@@ -4,6 +4,7 @@ from __future__ import annotations
 
 from typing import Callable, List, Optional, Sequence
 
+from ..output import visible
 from .pictures import Row, Style
 from .terminal import BACKSPACE, DOWN, ENTER, ESCAPE, INTERRUPTED, TAB, UP, Terminal
 
@@ -17,7 +18,9 @@ def ask(terminal: Terminal, background: Background, words: str, choices: Sequenc
     place = 0
     is_fresh = True
     while True:
-        row = f"{words} {text}"
+        row = f"{visible(words)} {text}"
+        # Of a row that is too long the end is shown, where the user types.
+        row = row[max(0, len(row) - terminal.size[1] + 1):]
         terminal.draw([*background(), Row(row, Style.LOOP)], len(row))
         key = terminal.key()
         if key == ENTER:
@@ -36,8 +39,10 @@ def ask(terminal: Terminal, background: Background, words: str, choices: Sequenc
 
 def pick(terminal: Terminal, background: Background, words: str, keys: str) -> Optional[str]:
     """Asks for one of some keys; none where the user thinks better of it."""
+    row = visible(words)
     while True:
-        terminal.draw([*background(), Row(words, Style.LOOP)], len(words) + 1)
+        row = row[max(0, len(row) - terminal.size[1] + 2):]
+        terminal.draw([*background(), Row(row, Style.LOOP)], len(row) + 1)
         key = terminal.key()
         if key in (ESCAPE, INTERRUPTED):
             return None

@@ -11,7 +11,7 @@ from functools import cached_property
 from typing import Dict, List, Optional, Sequence
 
 from ..panes import Dependence, Panes, read_panes
-from ..ped import Ped
+from ..ped import Ped, understood
 from ..replies import Reply
 from ..statuses import CompanionError, Status
 from ..views import View, view_of_panes
@@ -25,26 +25,16 @@ class Present:
     def __init__(self, panes: Panes) -> None:
         self.panes = panes
         self.lines: Lines = lines_of(panes.lines)
+        with understood():
+            #: The loops of the program.
+            self.outline = outline_of(panes.source)
+            #: For each loop the rows that it carries, in the order of the pane.
+            self.carried = _carried(self.outline, panes.dependences)
 
     @property
     def text(self) -> str:
         """The program as a file."""
         return _text(self.lines)
-
-    @cached_property
-    def outline(self) -> Outline:
-        """The loops of the program."""
-        return outline_of(self.panes.source)
-
-    @cached_property
-    def carried(self) -> Dict[int, List[Dependence]]:
-        """For each loop the rows that it carries, in the order of the pane."""
-        rows: Dict[int, List[Dependence]] = {}
-        for row in self.panes.dependences:
-            loop = self.outline.carrier(row)
-            if loop is not None:
-                rows.setdefault(loop, []).append(row)
-        return rows
 
     @cached_property
     def view(self) -> View:
@@ -78,12 +68,15 @@ class Session:
         """Takes note that the script was saved."""
         self._saved = list(self.changes)
 
-    def load(self, script: str) -> List[Reply]:
-        """Carries a script out, and answers what was refused. Of the script the changes that stand are kept."""
+    def load(self, script: str, is_saved: bool = True) -> List[Reply]:
+        """Carries a script out, and answers what was refused. Of the script the changes that stand are kept.
+
+        They count as saved or not, as is said.
+        """
         replies = self._ped.session(self._source, script, self.data)
         self.changes, self._undone = carried_out(replies)
         self.present = self._replayed(self.changes)
-        self.mark_saved()
+        self._saved = list(self.changes) if is_saved else []
         return [reply for reply in replies if reply.refusal is not None]
 
     def step(self, command: str) -> Optional[str]:
@@ -94,9 +87,10 @@ class Session:
         """Has ped make parallel what can be; each step that it takes is a change of its own."""
         reply, shown = self._ped.session(self.present.text, "auto\nshow\n")
         if reply.taken:
+            present = Present(read_panes(shown.rows))
             self.changes.extend(Change(lines_of((step,))) for step in reply.taken)
             self._undone = []
-            self.present = Present(read_panes(shown.rows))
+            self.present = present
         return reply
 
     def edit(self, lines: Sequence[str]) -> Optional[str]:
@@ -145,15 +139,28 @@ class Session:
         reply, shown = self._ped.session(self.present.text, text + "show\n")
         if not reply.accepted:
             return reply.refusal or "what was asked"
+        present = Present(read_panes(shown.rows))
         self.changes.append(Change(script, self.present.lines))
         self._undone = []
-        self.present = Present(read_panes(shown.rows))
+        self.present = present
         return None
 
     def _replayed(self, changes: Sequence[Change]) -> Present:
         """The program behind some changes of the first program."""
         shown = self._ped.session(self._source, script_of(changes) + "show\n")[-1]
         return Present(read_panes(shown.rows))
+
+
+def _carried(outline: Outline, rows: Sequence[Dependence]) -> Dict[int, List[Dependence]]:
+    """For each loop the rows that it carries. It's an error where a row names what isn't there."""
+    carried: Dict[int, List[Dependence]] = {}
+    for row in rows:
+        if row.source[0] not in outline.lines or row.sink[0] not in outline.lines:
+            raise LookupError(row.row)
+        loop = outline.carrier(row)
+        if loop is not None:
+            carried.setdefault(loop, []).append(row)
+    return carried
 
 
 def _text(lines: Sequence[str]) -> str:

@@ -3,19 +3,23 @@
 from __future__ import annotations
 
 import curses
-import locale
 import os
+import select
 import signal
-from contextlib import contextmanager
+from contextlib import contextmanager, suppress
 from typing import Callable, Dict, Iterator, Sequence, Tuple
 
+from ..output import printable, terminal_encoding
 from ..statuses import CompanionError, Status
+from .endings import Ended
 from .pictures import Row, Style
 
 #: How long a key that begins with an escape is waited for, in milliseconds.
 _ESCAPE_DELAY = "25"
 #: Ctrl-Z, which stops the editor until the shell goes on with it.
 _SUSPEND = "\x1a"
+#: So often in turn a key may not be read before the terminal counts as gone.
+_FAILURES = 1000
 
 #: The names of keys that are no character.
 UP, DOWN, PAGE_UP, PAGE_DOWN, HOME, END = "up", "down", "page up", "page down", "home", "end"
@@ -43,6 +47,8 @@ class Terminal:
 
     def __init__(self, window: "curses.window") -> None:
         self._window = window
+        self._encoding = terminal_encoding()
+        self._failures = 0
         # Ctrl-C is a key like others; only what takes time can be interrupted.
         curses.raw()
         self._show_cursor(False)
@@ -57,11 +63,9 @@ class Terminal:
         height, width = self.size
         self._window.erase()
         for index, row in enumerate(rows[:height]):
-            try:
-                self._window.addnstr(index, 0, row.text, width, _STYLES[row.style])
-            except curses.error:
-                # The last column of the last row can't be written without an error, which means nothing.
-                pass
+            # The last column of the last row can't be written without an error, which means nothing.
+            with suppress(curses.error):
+                self._window.addnstr(index, 0, printable(row.text, self._encoding), width, _STYLES[row.style])
         self._show_cursor(cursor >= 0)
         if cursor >= 0:
             self._window.move(min(len(rows), height) - 1, min(cursor, width - 1))
@@ -72,8 +76,12 @@ class Terminal:
         try:
             key = self._window.get_wch()
         except curses.error:
-            # The wait was cut off by a signal, that of a resize perhaps.
+            # The wait was cut off by a signal, that of a resize perhaps, or the terminal has gone away.
+            self._failures += 1
+            if self._failures > _FAILURES or _is_gone():
+                raise Ended(signal.SIGHUP) from None
             return RESIZED
+        self._failures = 0
         if key == _SUSPEND:
             with self.set_aside():
                 os.kill(os.getpid(), signal.SIGTSTP)
@@ -87,13 +95,16 @@ class Terminal:
 
     @contextmanager
     def interruptible(self) -> Iterator[None]:
-        """Has Ctrl-C interrupt what is done, by a KeyboardInterrupt."""
+        """Has Ctrl-C interrupt what is done, by a KeyboardInterrupt, also where pedx was started with Ctrl-C ignored."""
+        before = signal.signal(signal.SIGINT, signal.default_int_handler)
         curses.noraw()
         curses.cbreak()
         try:
             yield
         finally:
-            curses.raw()
+            signal.signal(signal.SIGINT, before)
+            with suppress(curses.error):
+                curses.raw()
 
     @contextmanager
     def set_aside(self) -> Iterator[None]:
@@ -103,26 +114,47 @@ class Terminal:
         try:
             yield
         finally:
-            curses.reset_prog_mode()
-            self._window.clear()
-            self._window.refresh()
+            with suppress(curses.error):
+                curses.reset_prog_mode()
+                self._window.clear()
+                self._window.refresh()
 
     @staticmethod
     def _show_cursor(is_shown: bool) -> None:
-        try:
+        # Some terminals always show it.
+        with suppress(curses.error):
             curses.curs_set(1 if is_shown else 0)
-        except curses.error:
-            # Some terminals always show it.
-            pass
+
+
+def _is_gone() -> bool:
+    """Whether nothing is at the other end of the terminal any longer."""
+    terminal = select.poll()
+    terminal.register(0, 0)
+    return any(event & (select.POLLHUP | select.POLLERR) for _, event in terminal.poll(0))
 
 
 def on_terminal(use: Callable[[Terminal], None]) -> None:
     """Has the terminal used, and puts it back as it was, whatever happens."""
-    locale.setlocale(locale.LC_ALL, "")
     os.environ.setdefault("ESCDELAY", _ESCAPE_DELAY)
     if not (os.isatty(0) and os.isatty(1)):
         raise CompanionError(Status.BAD_WORDS, "edit wants a terminal as its input and output")
     try:
-        curses.wrapper(lambda window: use(Terminal(window)))
+        window = curses.initscr()
+        try:
+            curses.noecho()
+            window.keypad(True)
+            use(Terminal(window))
+        finally:
+            _put_back(window)
     except curses.error as error:
         raise CompanionError(Status.NOT_WRITTEN, f"the terminal can't be used: {error}") from error
+
+
+def _put_back(window: "curses.window") -> None:
+    """Puts the terminal back as it was, as far as it's still there."""
+    with suppress(curses.error):
+        window.keypad(False)
+    acts: Sequence[Callable[[], object]] = (curses.echo, curses.noraw, curses.nocbreak, curses.endwin)
+    for act in acts:
+        with suppress(curses.error):
+            act()

@@ -220,6 +220,23 @@ class Player:
         """Sends a signal."""
         os.kill(self._process, number)
 
+    def has_plain_modes(self) -> bool:
+        """Whether the terminal is as a shell wants it: with whole lines, an echo, and keys that send signals."""
+        modes = termios.tcgetattr(self._terminal)[3]
+        return all(modes & mode for mode in (termios.ICANON, termios.ECHO, termios.ISIG))
+
+    def hang_up(self) -> int:
+        """Takes the terminal away, waits for the end of pedx, and answers its status."""
+        os.close(self._terminal)
+        self._terminal = os.open(os.devnull, os.O_RDWR)
+        begin = time.monotonic()
+        while self.status is None:
+            if time.monotonic() - begin > _PATIENCE:
+                raise AssertionError("pedx didn't end")
+            time.sleep(0.01)
+            self._look_for_end()
+        return self.status
+
     def close(self) -> None:
         """Ends what is still running."""
         if self.status is None:
@@ -237,6 +254,9 @@ class Player:
     def _read(self, seconds: float) -> bool:
         """Takes what is written within some time; answers whether something came."""
         ready, _, _ = select.select([self._terminal], [], [], seconds)
+        if not ready and self.status is None:
+            # Another program may still have the terminal.
+            self._look_for_end()
         if not ready or self.status is not None:
             return False
         try:
@@ -250,5 +270,12 @@ class Player:
 
     def _end(self) -> None:
         if self.status is None:
-            status = os.waitpid(self._process, 0)[1]
-            self.status = os.WEXITSTATUS(status) if os.WIFEXITED(status) else 128 + os.WTERMSIG(status)
+            self._take_status(os.waitpid(self._process, 0)[1])
+
+    def _look_for_end(self) -> None:
+        process, status = os.waitpid(self._process, os.WNOHANG)
+        if process:
+            self._take_status(status)
+
+    def _take_status(self, status: int) -> None:
+        self.status = os.WEXITSTATUS(status) if os.WIFEXITED(status) else 128 + os.WTERMSIG(status)

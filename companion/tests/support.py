@@ -80,6 +80,21 @@ def view_of(source: str) -> View:
     return view_of_file(ped().show(source), source, Question("p.f"))
 
 
+def is_wanted(compiled_rows: str, rows: Tuple[str, ...]) -> bool:
+    """Whether a compiled program has printed what `run` shows.
+
+    FORTRAN puts other blanks between the items of a PRINT than ped. What is undefined, `?`, may be any number.
+    """
+    lines = compiled_rows.splitlines()
+    printed = "".join("".join(line.split()) for line in lines if not line.startswith(" live "))
+    live = [word for line in lines if line.startswith(" live ") for word in line.split()]
+    wanted = "".join("".join(row[2:].split()) for row in rows if row.startswith("| "))
+    wanted_live = [word for row in rows if row.startswith("live ") for word in row.split()]
+    return printed == wanted and len(live) == len(wanted_live) and all(
+        wanted_word in ("?", word) for word, wanted_word in zip(live, wanted_live)
+    )
+
+
 @dataclass(frozen=True)
 class Case:
     """A case: where it stands, its files, and its answers by their kinds."""

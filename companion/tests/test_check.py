@@ -53,6 +53,27 @@ class Programs(Check):
         rows, status = self.check("")
         self.assertIs(status, Status.PROGRAM_REFUSED)
         self.assertTrue(rows[0].startswith("p.f:1:1: error: 9 OpenBlock: "), rows)
+        self.assertEqual(rows[2], "p.f: note: there is no main program: the file has no statement")
+
+    def test_no_main_program(self) -> None:
+        rows, _ = self.check(fortran("SUBROUTINE S(I)", "I = 1", "END"))
+        self.assertEqual(rows[-1], (
+            "p.f: note: there is no main program: the file begins with another unit; the main program comes first, and "
+            "ends with END"
+        ))
+        rows, _ = self.check(fortran("SUBROUTINES = 1", "I = (1", "END"))
+        self.assertNotIn("no main program", "\n".join(rows))
+
+    def test_free_form(self) -> None:
+        """Each line would be refused; the first one is enough."""
+        rows, status = self.check("program p\ninteger :: a(5)\n! a\ndo i = 1, 5\n  a(i) = i\nend do\nend program\n")
+        self.assertIs(status, Status.PROGRAM_REFUSED)
+        self.assertEqual([row for row in rows if "error" in row], [rows[0]])
+        self.assertTrue(rows[-1].startswith("p.f: note: this looks like free form; "), rows)
+        comments = "C A & B &\nCALL OF ALL\n"
+        for fixed in (" K = 1\n" + fortran("L = 2", "M = 3", "END"), comments + fortran("K = (1", "END")):
+            rows, _ = self.check(fixed)
+            self.assertNotIn("free form", "\n".join(rows))
 
     def test_past_column_72(self) -> None:
         source = "      K = 1" + " " * 61 + "+ 2\nC" + " " * 80 + "COMMENT\n      END\n"
@@ -63,6 +84,63 @@ class Programs(Check):
         self.assertTrue(rows[0].startswith("p.f:1:73: warning: "))
         self.assertTrue(rows[1].startswith("p.f:1:7: error: 7 Syntax: "))
         self.assertIs(status, Status.PROGRAM_REFUSED)
+
+    def test_all_refusals(self) -> None:
+        """Those of lines come first, then those of statements, and those of names."""
+        rows, _ = self.check(fortran(
+            "INTEGER A(5)", "K = 1; L = 2", "DO 10 I = 1, 5", "I = 7", "10 A(I) = B", "B = A(1,2)", "GO TO 20", "C = B",
+            "END",
+        ))
+        told = [row.split(": ")[0] + ":" + row.split(": ")[2] for row in rows if ": error: " in row]
+        self.assertEqual(told, [
+            "p.f:2:12:5 BadCharacter", "p.f:4:7:11 IndexAssigned", "p.f:7:7:8 NotInProfile", "p.f:5:14:14 RealName",
+            "p.f:6:11:17 RankDiffers", "p.f:8:7:14 RealName",
+        ])
+        self.assertFalse([row for row in rows if "perhaps" in row])
+        self.assertEqual(
+            rows[-1], "p.f: note: ped names the first of these; the others come once those before are repaired"
+        )
+
+    def test_refusals_that_may_come_of_others(self) -> None:
+        """`INTEGR` may be meant to declare A, and nothing else can tell."""
+        rows, _ = self.check(fortran("INTEGR A(5)", "B = 1", "STOP", "END"))
+        self.assertTrue(rows[0].startswith("p.f:1:7: error: 7 Syntax: "))
+        self.assertTrue(rows[4].endswith(": B (perhaps only because of line 1)"), rows)
+
+    def test_open_blocks(self) -> None:
+        """What is open gets its end, so that names are looked at."""
+        rows, _ = self.check(fortran("DO 10 I = 1, 5", "IF (I.EQ.2) THEN", "DO J = 1, 3", "X = I"))
+        self.assertEqual([row.split(": ")[0] for row in rows if ": error: " in row], ["p.f:4:7"] * 2)
+        self.assertIn("14 RealName", rows[-5])
+
+    def test_tab(self) -> None:
+        """Behind a tab the statement is looked at as compilers do that know tabs."""
+        rows, _ = self.check("\tDO I = 1, 3\n\tI = 1\n\tEND DO\n\tEND\n")
+        told = [row.split(": ")[0] + ":" + row.split(": ")[2] for row in rows if ": error: " in row]
+        self.assertEqual(told, [f"p.f:{line}:1:1 Tab" for line in range(1, 5)] + ["p.f:2:7:11 IndexAssigned"])
+
+    def test_real_names(self) -> None:
+        """The name is told wherever it stands; a SAVE without a list stands for all names of its unit."""
+        for lines, line, name in (
+            (("SAVE", "K = 1", "X = Y", "END"), 1, "X"), (("SAVE L, XS", "K = 1", "END"), 1, "XS"),
+            (("DIMENSION N(3), FIELD(9)", "END"), 1, "FIELD"), (("PARAMETER (N=3, SIZE=4)", "END"), 1, "SIZE"),
+            (("INTEGER A(WIDE)", "END"), 1, "WIDE"), (("CALL A(N,R)", "END", "SUBROUTINE A(I,J)", "END"), 1, "R"),
+            (("CALL A(N)", "END", "SUBROUTINE A(V)", "END"), 3, "V"),
+            (("INTEGER X", "X = 1", "CALL S", "END", "SUBROUTINE S", "X = 2", "END"), 6, "X"),
+        ):
+            with self.subTest(lines):
+                row, *_ = self.check(fortran(*lines))[0]
+                self.assertTrue(row.startswith(f"p.f:{line}:") and row.endswith(f": {name}"), row)
+
+    def test_second_real_name_of_save(self) -> None:
+        rows, _ = self.check(fortran("SAVE", "X = Y", "END"))
+        self.assertEqual([row.split(": ")[-1] for row in rows if ": error: " in row], ["X", "Y"])
+
+    def test_limits(self) -> None:
+        """Of too many statements the first one too many is enough."""
+        rows, _ = self.check(fortran(*["K = 1"] * 4010, "END"))
+        self.assertEqual(len([row for row in rows if ": error: " in row]), 1)
+        self.assertEqual(rows[-1], "p.f: note: there may be more, which can't be told yet")
 
     def test_parallel_loops(self) -> None:
         rows, _ = self.check(fortran("INTEGER A(9)", "PARALLEL DO 10 I = 2, 9", "10 A(I) = A(I-1)", "END"))

@@ -76,6 +76,28 @@ class Calls(unittest.TestCase):
         self.assertEqual(self.ends(Status.DONE, ["omp", RECURRENCE, "-o", target]), "")
         self.assertEqual(Path(target).read_text(), self.ends(Status.DONE, ["omp", RECURRENCE]))
 
+    @unittest.skipUnless(os.path.exists("/dev/zero"), "no device without an end")
+    def test_pipes_and_devices(self) -> None:
+        """Nothing waits for the other end of a pipe, or reads without end."""
+        pipe = str(Path(self.folder, "pipe"))
+        os.mkfifo(pipe)
+        self.ends(Status.NOT_READ, ["check", pipe], f"cannot read {pipe}: nothing writes to this pipe")
+        self.ends(Status.NOT_READ, ["check", RECURRENCE, "--script", pipe], "nothing writes to this pipe")
+        self.ends(Status.NOT_READ, ["omp", RECURRENCE, "-o", pipe], f"cannot write {pipe}: nothing reads from this pipe")
+        self.ends(Status.TOO_LONG, ["check", "/dev/zero"], "/dev/zero is longer than 4194304 bytes")
+        self.ends(Status.DONE, ["omp", RECURRENCE, "-o", os.devnull])
+
+    @unittest.skipUnless(os.path.exists("/bin/sh"), "no shell")
+    def test_closed_output(self) -> None:
+        """Standard output that was closed before the call; with standard error closed there's the status alone."""
+        for closed, said in ((">&-", "standard output is closed"), (">&- 2>&-", "")):
+            done = subprocess.run(
+                ["/bin/sh", "-c", f'exec "$@" {closed}', "sh", sys.executable, str(TOP / "pedx"), "json", RECURRENCE],
+                cwd=TOP, stdout=subprocess.PIPE, stderr=subprocess.PIPE, universal_newlines=True, check=False,
+            )
+            self.assertEqual(done.returncode, Status.NOT_WRITTEN)
+            self.assertIn(said, done.stderr)
+
     def test_name_with_a_dash(self) -> None:
         shutil.copy(str(TOP / RECURRENCE), str(Path(self.folder, "-p.f")))
         words = [sys.executable, str(TOP / "pedx"), "loops", "--", "-p.f"]
@@ -126,13 +148,13 @@ class Calls(unittest.TestCase):
     def test_no_ped(self) -> None:
         self.ends(Status.NO_PED, ["loops", RECURRENCE, "--ped", "/nowhere/ped"], "cannot start /nowhere/ped: ")
         self.ends(Status.NO_PED, ["loops", RECURRENCE], "cannot start /nowhere/ped: ", PEDX_PED="/nowhere/ped")
-        self.ends(Status.NO_PED, ["loops", RECURRENCE, "--ped", self.fake("something", 0)], "is no pane")
         self.ends(Status.NO_PED, ["loops", RECURRENCE, "--ped", self.fake("x", 71)], "ended with status 71: ped: x")
 
     def test_statuses_of_ped(self) -> None:
         self.ends(Status.NO_MEMORY, ["loops", RECURRENCE, "--ped", self.fake("", 6)], "out of memory")
         fake = self.fake("program is longer than 1048576 bytes", 7)
         self.ends(Status.TOO_LONG, ["loops", RECURRENCE, "--ped", fake], "the program is longer than 1048576 bytes")
+        self.ends(Status.NOT_UNDERSTOOD, ["loops", RECURRENCE, "--ped", self.fake("refused x", 5)], "isn't understood")
         fake = self.fake("refused 99 NewRefusal at 3", 5)
         words = ["loops", RECURRENCE, "--ped", fake]
         self.ends(Status.PROGRAM_REFUSED, words, f"{RECURRENCE}:3:7: error: 99 NewRefusal\n")

@@ -325,7 +325,7 @@ class Editing(Played):
         player.wait("replace 5 5: ok")
         self.will_edit("END DO", "ENDE")
         player.press("e")
-        player.wait("edit on, or drop the edit?")
+        player.wait("edit on, write the text to a file, or drop it?")
         player.press("d")
         player.wait("the edit was dropped")
         rows = player.screen.rows
@@ -462,6 +462,22 @@ class Saving(Played):
         rows = player.wait("live B")
         self.assertEqual(rows[1].split(), ["live", "B", "2", "4", "6", "8", "10"])
         self.assertIn("C$OMP PARALLEL DO", self.path("p-omp.f").read_text())
+
+    def test_doubtful_openmp(self) -> None:
+        """What isn't sure is shown first, and nothing is written without a yes."""
+        player = self.play(CHAIN.replace("      DO ", "      PARALLEL DO "))
+        for answer, words in (("n", "nothing was written"), ("y", "write the OpenMP program to p-omp.f")):
+            player.press("O")
+            player.wait("print the variables in SAVE at its end?")
+            player.press("n")
+            player.wait("the iterations of this loop may race")
+            player.press("x")
+            player.wait("not all is sure of it: write it all the same?")
+            player.press(answer)
+            player.wait(words)
+        self.assertFalse(self.path("p-omp.f").exists())
+        player.press(ESCAPE)
+        self.quit(player)
 
 
 class Refused(Played):

@@ -7,9 +7,10 @@ from ..editor.advice import Advice, advice_page, advised
 from ..editor.changes import NoChange, edit_between
 from ..editor.desk import Desk
 from ..editor.filters import Filters
-from ..editor.pictures import LEAST_HEIGHT, LEAST_WIDTH, Painter, first_shown, folded, visible
+from ..editor.pictures import LEAST_HEIGHT, LEAST_WIDTH, Painter, first_shown, folded
 from ..editor.session import Present, Session
 from ..outline import outline_of
+from ..output import visible
 from .support import example_view, examples, fortran, ped, view_of
 
 NEST = fortran(

@@ -63,7 +63,7 @@ class FakePed(Ped):
     def _rows(command: Command, lines: List[str]) -> List[str]:
         shown = [f"source {len(lines)}", *(f"{number:5}      {text}" for number, text in enumerate(lines, 1))]
         others = {
-            "advise": ADVICE, "show": [*shown, "dependences 0"], "source": shown,
+            "advise": ADVICE, "deps": ["dependences 0"], "source": shown,
             "auto": [f"{command.line}: auto 0", *lines],
         }
         return others.get(command.word, [f"{command.line}: ok"])
@@ -99,6 +99,25 @@ class Verdicts(unittest.TestCase):
             find_loop(example_view("private"), 2)
         self.assertIs(caught.exception.status, Status.BAD_WORDS)
 
+    def test_asks_of_chosen_loops_alone(self) -> None:
+        """`auto` would have ped look at all loops."""
+        nest = ["DO I = 2, 9", "DO J = 1, 9", "A(I,J) = A(I-1,J)", "END DO", "END DO"]
+        view = view_of(fortran("INTEGER A(9,9)", *nest * 3, "END"))
+        fake = FakePed()
+        loops(view, fake, [4], tries=True)
+        self.assertEqual(fake.scripts, ["advise 4\n", "interchange 4\ndeps 4\nundo\n"])
+        fake = FakePed()
+        loops(view, fake, [], tries=True)
+        self.assertIn("auto\nsource\n", fake.scripts)
+
+    def test_no_loop_of_many(self) -> None:
+        view = view_of(fortran(*["DO I = 2, 9", "K = I", "END DO"] * 30, "END"))
+        with self.assertRaises(CompanionError) as caught:
+            find_loop(view, 24)
+        self.assertEqual(
+            caught.exception.message, "statement 24 of p.f is no DO; it has 30 loops, the nearest at 23 and 25"
+        )
+
     def test_no_loops(self) -> None:
         self.assertEqual(loops(view_of(fortran("K = 1", "END")), _NO_PED, [], tries=True), "no loops\n")
 
@@ -125,10 +144,10 @@ class Advice(unittest.TestCase):
         ])
 
     def test_product(self) -> None:
-        """A product is summed up, in a way, but not by additions."""
+        """A product is no sum."""
         view = view_of(fortran("DO 10 I = 1, 9", "10 K = K*I", "PRINT *, K", "END"))
         self.assertEqual(advice(view, 1)[1:], [
-            "K is summed up: store the terms in an array, and sum them up in a loop of its own",
+            "K is a product: store the factors in an array, and multiply them in a loop of its own",
         ])
 
     def test_open_sum(self) -> None:
@@ -184,6 +203,29 @@ class Advice(unittest.TestCase):
             "try `distribute 1`: ped accepts it, and makes 3 loops of it",
         ])
 
+    def test_no_rejection(self) -> None:
+        """Rows that bounds and IFs alone leave pending, and those beside a proven one, aren't to be rejected."""
+        view = view_of(fortran(
+            "INTEGER A(99), B(99), L(99)", "READ *, N", "DO 10 I = 2, N", "A(I) = A(I-1)", "10 B(2) = A(I)", "END"
+        ))
+        self.assertFalse([row for row in advice(view, 2) if "REJECT" in row])
+
+    def test_maximum(self) -> None:
+        view = view_of(fortran("INTEGER A(9)", "DO 10 I = 1, 9", "10 M = MAX(M,A(I))", "PRINT *, M", "END"))
+        self.assertEqual(advice(view, 1)[1:], [
+            "M is a maximum: store the values that are compared in an array, and take the maximum in a loop of its own",
+        ])
+
+    def test_call_in_the_way(self) -> None:
+        """The CALL is one statement, so the loop isn't taken apart."""
+        view = view_of(fortran(
+            "INTEGER A(9), B(9)", "DO 10 I = 2, 9", "10 CALL S(A,B,I)", "END",
+            "SUBROUTINE S(A,B,I)", "INTEGER A(9), B(9)", "A(I) = A(I-1)+1", "B(I) = 2*A(I)", "END",
+        ))
+        self.assertEqual(advice(view, 1), [
+            "try `inline 2`: ped accepts it, and the CALL is no longer one statement, which `distribute` keeps whole",
+        ])
+
     def test_lines(self) -> None:
         view = view_of(fortran("INTEGER A(9)", "DO 10 I = 1, 9", "READ *, A(I)", "10 PRINT *, A(I)", "END"))
         self.assertEqual(advice(view, 1), [
@@ -197,11 +239,11 @@ class Advice(unittest.TestCase):
 
     def test_variable_behind_the_loop(self) -> None:
         read = view_of(fortran("INTEGER A(9)", "DO 10 I = 1, 9", "10 A(I) = I", "PRINT *, 2", "PRINT *, I", "END"))
-        self.assertIn("statement 4 may read I, which has no value behind a PARALLEL DO", untried(read, 1))
+        self.assertIn("statement 4 may read I, which has no value after a PARALLEL DO", untried(read, 1))
         saved = view_of(fortran(
             "INTEGER A(9,9)", "SAVE J", "DO 10 I = 1, 9", "DO 10 J = 1, 9", "10 A(I,J) = I", "END"
         ))
-        self.assertIn("J is in SAVE, and has no value behind a PARALLEL DO", untried(saved, 1))
+        self.assertIn("J is in SAVE, and has no value after a PARALLEL DO", untried(saved, 1))
 
     def test_asks_for_advice(self) -> None:
         """Of a loop that carries nothing `advise` tells, and nothing is tried."""
@@ -210,7 +252,7 @@ class Advice(unittest.TestCase):
         self.assertEqual(advice(nest, 1, fake), [
             "try `parallel 1`: ped accepts it", "ped accepts `interchange 1` and `peel 1 first`",
         ])
-        self.assertEqual(fake.scripts, ["advise 1\n", "auto\nsource\n"])
+        self.assertEqual(fake.scripts, ["advise 1\n"])
 
     def test_tries_what_may_be_better(self) -> None:
         """The rows depend on each other: whether the columns do where they come outside is tried."""
@@ -220,7 +262,7 @@ class Advice(unittest.TestCase):
             "try `interchange 1`: ped accepts it, and puts DO J outside, which then carries nothing",
             "ped accepts `parallel 1` and `peel 1 first`",
         ])
-        self.assertEqual(fake.scripts, ["advise 1\n", "interchange 1\nshow\nundo\n", "auto\nsource\n"])
+        self.assertEqual(fake.scripts, ["advise 1\n", "interchange 1\ndeps 1\nundo\n"])
 
     def test_parallel_refused(self) -> None:
         """The variable is wanted behind the loop, where it would have no value."""

@@ -1,33 +1,54 @@
-"""The translation for OpenMP: its text, and what the compiled programs print."""
+"""The translation for OpenMP: its text, what is said of it, and what the compiled programs print."""
 
 import os
 import shutil
 import subprocess
+import sys
 import tempfile
 import unittest
 from concurrent.futures import ThreadPoolExecutor
 from pathlib import Path
-from typing import Dict, Iterator, List, NamedTuple, Optional, Tuple
+from typing import Dict, Iterator, List, NamedTuple, Optional, Sequence, Tuple
 
+from ..editor.compiling import compile_command
+from ..exports import Export, export_of
 from ..lines import split_lines
 from ..lists import live_sums
-from ..openmp import Sums, openmp_lines
+from ..openmp import Sums, Wishes, translate
 from ..ped import ENCODING, read_file
 from ..program import read_program
+from ..statuses import Status
 from ..views import Question, View, open_view
-from .support import EXAMPLES, examples, example_view, fortran, ped, view_of
+from .support import EXAMPLES, TOP, examples, example_view, fortran, is_wanted, ped, ped_path, view_of
+
+#: How many lines the heading has.
+_HEADING = 2
 
 
-def translated(text: str, live: bool = False, sums: Optional[Sums] = None) -> List[str]:
+def translated(text: str, wishes: Wishes = Wishes(), sums: Optional[Sums] = None) -> List[str]:
     """A printed program, translated, without the heading."""
     lines = split_lines(text)
-    return openmp_lines(lines, read_program(lines), sums or {}, live)[1:]
+    return translate(lines, read_program(lines), sums or {}, wishes, {}).lines[_HEADING:]
+
+
+def exported(*statements: str, data: Optional[str] = None, wishes: Wishes = Wishes()) -> Export:
+    """The export of a program; comments begin with `C$`."""
+    return export_of(ped(), view_of(program_of(*statements)), wishes, data)
+
+
+def program_of(*statements: str) -> str:
+    """A text with a statement or a comment on each line; comments begin with `C$`."""
+    return "".join(f"{one}\n" if one.startswith("C$") else fortran(one) for one in statements)
+
+
+def options_of(*statements: str) -> Tuple[str, ...]:
+    """The options with which a program is to be compiled."""
+    return exported(*statements).options
 
 
 def live_lists(*statements: str) -> Sums:
     """The lists of sums of a program that are live; comments begin with `C$`."""
-    text = "".join(f"{one}\n" if one.startswith("C$") else fortran(one) for one in statements)
-    lines = ped().show(text).lines
+    lines = ped().show(program_of(*statements)).lines
     return live_sums(ped(), lines, read_program(lines))
 
 
@@ -77,9 +98,25 @@ class Text(unittest.TestCase):
         self.assertEqual(len(lines[1]), 72)
 
     def test_comments(self) -> None:
-        comments = "C$    X = Y +\nC$OMP NONSENSE\nC$PED REJECT A\nC PLAIN\n"
-        text = comments + fortran("DO 10 I = 1, 2", "10 A(L(I)) = 1", "END")
-        self.assertEqual(translated(text)[:4], ["C $    X = Y +", "C $OMP NONSENSE", "C$PED REJECT A", "C PLAIN"])
+        """A blank in column 2 keeps each compiler from reading a comment as a directive."""
+        for sentinel in (
+            "$    X = Y +", "$OMP PARALLEL", "$omp barrier", "$ACC LOOP", "$ 10 X = Y", "GCC$ IVDEP", "gcc$ unroll 4",
+            "DIR$ IVDEP",
+            "dir$ ivdep", "DEC$ UNROLL", "PGI$ NODEPCHK", "IBM* INDEPENDENT", "VOCL LOOP,NOVREC", "*$* ASSERT",
+            "*VDIR NODEP",
+            "MIC$ DOALL", "HPF$ INDEPENDENT", "SMP$ DO", "@PROCESS", "OCL", "!$OMP FLUSH", "!DIR$ X", "\r$OMP FLUSH",
+            "\0$OMP FLUSH",
+            "\t$OMP FLUSH", "$PEDANTIC", "$REDUCE K", "D = 7",
+        ):
+            with self.subTest(sentinel):
+                lines = translated(f"C{sentinel}\n" + fortran("K = 1", "END"))
+                wanted = f"C{sentinel}" if sentinel == "$PEDANTIC" else f"C {sentinel}"
+                self.assertEqual(lines[0], wanted)
+
+    def test_comments_that_stay(self) -> None:
+        comments = ["C", "C PLAIN", "C     FAR", "C-----", "C*****", "C$PED REJECT A"]
+        text = "".join(f"{one}\n" for one in comments) + fortran("DO I = 1, 2", "A(L(I)) = 1", "END DO", "END")
+        self.assertEqual(translated(text)[:len(comments)], comments)
 
     def test_sums(self) -> None:
         """The clause names the list, and PRIVATE what it would of a PARALLEL DO."""
@@ -115,10 +152,323 @@ class Text(unittest.TestCase):
 
     def test_live_variables(self) -> None:
         text = fortran("SAVE B, A", "IF (K.EQ.1) THEN", "STOP", "END IF", "END")
-        self.assertEqual(translated(text, live=True), split_lines(fortran(
+        self.assertEqual(translated(text, Wishes(live=True)), split_lines(fortran(
             "SAVE B, A", "IF (K.EQ.1) THEN", "PRINT *, 'live A', A", "PRINT *, 'live B', B", "STOP", "END IF",
             "PRINT *, 'live A', A", "PRINT *, 'live B', B", "END",
         )))
+
+
+class Names(unittest.TestCase):
+    """New names are none that the program has, and each use of the old one is replaced."""
+
+    def test_taken_names(self) -> None:
+        """K0 is the variable of a DO, K1 a constant, K2 the program, K3 private, K4 an array."""
+        text = fortran(
+            "PROGRAM K2", "PARAMETER (K1=2)", "INTEGER K4(3)", "SAVE MAX", "MAX = 5", "DO K0 = 1, 3", "PRIVATE K3",
+            "K3 = MAX(MAX,2)", "END DO", "PRINT *, MAX", "END",
+        )
+        self.assertEqual(translated(text, Wishes(live=True)), split_lines(fortran(
+            "PROGRAM K2", "PARAMETER (K1=2)", "INTEGER K4(3)", "SAVE K5", "K5 = 5", "DO K0 = 1, 3", "K3 = MAX(K5,2)",
+            "END DO",
+            "PRINT *, K5", "PRINT *, 'live MAX', K5", "END",
+        )))
+
+    def test_words_in_constants(self) -> None:
+        text = fortran("MAX = 5", "PRINT *, 'MAX K0', MAX(MAX,1), 'K1''MAX'", "END")
+        self.assertEqual(translated(text), split_lines(fortran(
+            "K0 = 5", "PRINT *, 'MAX K0', MAX(K0,1), 'K1''MAX'", "END"
+        )))
+
+    def test_constants(self) -> None:
+        text = fortran("PARAMETER (MAX=3)", "INTEGER A(MAX)", "A(MAX) = MAX(MAX,2)", "END")
+        self.assertEqual(translated(text), split_lines(fortran(
+            "PARAMETER (K0=3)", "INTEGER A(K0)", "A(K0) = MAX(K0,2)", "END"
+        )))
+
+    def test_program_name(self) -> None:
+        """PROGRAM goes where its name is also a function's that is called anywhere, and stays else."""
+        for called in ("K = MAX(K,2)", "INTEGER A(MAX(2,3))", "IF (MAX(K,2).EQ.2) THEN"):
+            with self.subTest(called):
+                self.assertEqual(translated(fortran("PROGRAM MAX", called, "END"))[0], fortran(called)[:-1])
+        text = fortran("PROGRAM MAX", "K = MIN(K,2)", "END")
+        self.assertEqual(translated(text), split_lines(text))
+
+    def test_declared_or_listed_only(self) -> None:
+        text = fortran("INTEGER MAX", "SAVE MAX", "DO MOD = 1, 3", "PRIVATE MIN", "K = MAX(K,MIN(2,MOD(K,5)))",
+        "END DO", "END")
+        self.assertEqual(translated(text), split_lines(fortran(
+            "INTEGER K0", "SAVE K0", "DO K2 = 1, 3", "K = MAX(K,MIN(2,MOD(K,5)))", "END DO", "END"
+        )))
+
+    def test_words_of_statements(self) -> None:
+        """A name isn't taken for a word of a statement, nor the other way round."""
+        text = fortran(
+            "INTEGER INTEGER, PARAMETERS, PARAMETERX", "PARAMETER (PARAMETERS=2)",
+            "IF (PARAMETERX.EQ.PARAMETERS) THEN", "READ *, PARAMETERX",
+            "END IF", "DO CONCURRENTDO = 1, 2", "PRINT *, CONCURRENTDO", "END DO", "END",
+        )
+        self.assertEqual(translated(text), split_lines(fortran(
+            "INTEGER INTEGER, K1, K2", "PARAMETER (K1=2)", "IF (K2.EQ.K1) THEN", "READ *, K2", "END IF", "DO K0 = 1, 2",
+            "PRINT *, K0", "END DO", "END",
+        )))
+
+
+class Headers(unittest.TestCase):
+    """The header of a DO belongs to what is round it, also where the DO has a name of it in PRIVATE."""
+
+    def test_inner_header(self) -> None:
+        """KT is read outside the inner loop that has it in PRIVATE, so it is shared."""
+        text = fortran(
+            "PARALLEL DO I = 1, 5", "IF (I.EQ.2) THEN", "DO J = 1, KT", "PRIVATE KT", "KT = I*J", "END DO", "END IF",
+            "END DO", "END"
+        )
+        self.assertEqual(translated(text)[0], "C$OMP PARALLEL DO PRIVATE(J)")
+
+    def test_own_header(self) -> None:
+        """What is private to a loop with a directive, and read in its header, has two names."""
+        text = fortran(
+            "PARALLEL DO I = I, KT+J", "PRIVATE KT", "KT = I", "DO J = 1, KT", "L = J+KT+I", "END DO", "END DO",
+            "I = KT", "END"
+        )
+        self.assertEqual(translated(text), split_lines(
+            "C$OMP PARALLEL DO PRIVATE(K2,K1)\n" + fortran(
+                "DO K0 = I, KT+J", "K2 = K0", "DO K1 = 1, K2", "L = K1+K2+K0", "END DO", "END DO", "I = KT", "END"
+            )
+        ))
+
+    def test_own_header_of_an_inner_directive(self) -> None:
+        text = fortran(
+            "PARALLEL DO I = 1, 9", "PRIVATE T", "T = I", "PARALLEL DO J = 1, T", "PRIVATE T", "T = J", "END DO",
+            "END DO", "END"
+        )
+        self.assertEqual(translated(text, Wishes(every=True)), split_lines(
+            "C$OMP PARALLEL DO PRIVATE(T,J)\n" + fortran("DO I = 1, 9", "T = I")
+            + "C$OMP PARALLEL DO PRIVATE(K0)\n" + fortran("DO J = 1, T", "K0 = J", "END DO", "END DO", "END")
+        ))
+
+
+class Nests(unittest.TestCase):
+    """The outermost loop of a nest gets a directive."""
+
+    TEXT = program_of(
+        "DO L = 1, 2", "PARALLEL DO I = 1, 9", "PARALLEL DO J = 1, 9", "PRIVATE T", "T = J", "END DO", "END DO",
+        "END DO",
+        "DO I = 1, 9", "PARALLEL DO J = 1, 9", "M = J", "END DO", "END DO", "END",
+    )
+
+    def directives(self, wishes: Wishes, sums: Optional[Sums] = None) -> List[str]:
+        """The lines with a directive, and the lines behind them."""
+        lines = translated(self.TEXT, wishes, sums)
+        return [line for pair in zip(lines, lines[1:]) if pair[0].startswith("C$OMP") for line in pair]
+
+    def test_outermost(self) -> None:
+        self.assertEqual(self.directives(Wishes()), [
+            "C$OMP PARALLEL DO PRIVATE(J,T)", "      DO I = 1, 9", "C$OMP PARALLEL DO", "      DO J = 1, 9",
+        ])
+        self.assertEqual(self.directives(Wishes(), {5: ["N"]})[2:], [
+            "C$OMP PARALLEL DO PRIVATE(J) REDUCTION(+:N)", "      DO I = 1, 9",
+        ])
+
+    def test_all(self) -> None:
+        self.assertEqual(self.directives(Wishes(every=True)), [
+            "C$OMP PARALLEL DO PRIVATE(J,T)", "      DO I = 1, 9", "C$OMP PARALLEL DO PRIVATE(T)", "      DO J = 1, 9",
+            "C$OMP PARALLEL DO", "      DO J = 1, 9",
+        ])
+
+
+class Declarations(unittest.TestCase):
+    """What FORTRAN needs in the declarations, and ped doesn't."""
+
+    def test_type_behind_the_value(self) -> None:
+        text = fortran("PROGRAM P", "PARAMETER (SIZE=5)", "INTEGER SIZE", "K = SIZE", "END")
+        self.assertEqual(translated(text)[:3], split_lines(
+            fortran("PROGRAM P", "IMPLICIT INTEGER (A-Z)", "PARAMETER (SIZE=5)")
+        ))
+        for first in ("INTEGER SIZE", "IMPLICIT INTEGER (A-Z)"):
+            text = fortran(first, "PARAMETER (SIZE=5)", "K = SIZE", "END")
+            self.assertEqual(translated(text), split_lines(text))
+
+    def test_large_arrays(self) -> None:
+        """Arrays that aren't in SAVE might be put on the stack."""
+        text = fortran("PARAMETER (N=300)", "INTEGER A(N,0:N), B(5), C(9)", "SAVE C", "A(1,1) = 1", "END")
+        self.assertEqual(translated(text), split_lines(fortran(
+            "PARAMETER (N=300)", "INTEGER A(N,0:N), B(5), C(9)", "SAVE C", "SAVE A, B", "A(1,1) = 1", "END"
+        )))
+        for small in (fortran("INTEGER A(300)", "A(1) = 1", "END"), fortran("INTEGER A(300,300)", "SAVE A", "END")):
+            self.assertEqual(translated(small), split_lines(small))
+
+    def test_constants_beyond_32_bits(self) -> None:
+        """They have the values that ped computes, within 128 bits."""
+        text = fortran(
+            "PARAMETER (M=2**40/2**38)", "INTEGER A(100000*100000/1000000000), B(-2**40/2**38:5)",
+            "DO I = 1, 9, 2**33/2**32",
+            "K = J*(2**31-2**32+5)-M*2", "END DO", "L = -2147483647-1",
+            "IF (2**31-2**32.EQ.K.OR..NOT.2**40.LT.2**39) THEN",
+            "END IF", "END",
+        )
+        self.assertEqual(translated(text), split_lines(fortran(
+            "PARAMETER (M=4)", "INTEGER A(10), B((-4):5)", "DO I = 1, 9, 2", "K = J*((-2147483643))-M*2", "END DO",
+            "L = -2147483647-1", "IF ((-2147483647-1).EQ.K.OR..NOT.0.EQ.1) THEN", "END IF", "END",
+        )))
+
+    def test_constant_zeros(self) -> None:
+        """gfortran refuses to divide by them, though ped does so only where it comes to it."""
+        text = fortran(
+            "PARAMETER (N=3)", "K = 1/0", "K = K/(N-3)+MOD(K,0)", "K = 0**(-1)+0**2", "K = 5/(1/0)",
+            "K = 1/(2**40-2**40)", "END"
+        )
+        self.assertEqual(translated(text), split_lines(fortran(
+            "PARAMETER (N=3)", "K = 1/K0", "K = K/(K0)+MOD(K,K0)", "K = K0**(-1)+0**2", "K = 5/(1/K0)", "K = 1/(K0)",
+            "END"
+        )))
+
+    def test_cut_statements(self) -> None:
+        """A constant, and a name, that are cut at column 72."""
+        for width in range(50, 66):
+            header = "K = " + "+".join(["L"] * (width // 2))
+            text = fortran("MAX = 1", f"{header}+MAX+2**40/2**38*MAX(MAX,1)/J", "END")
+            lines = split_lines(text)
+            cut = [*lines[:1], lines[1][:72], "     &" + lines[1][72:], *lines[2:]]
+            joined = "".join(line[6:] for line in translated("".join(f"{line}\n" for line in cut))[1:-1])
+            self.assertEqual(joined, f"{header}+K0+4*MAX(K0,1)/J")
+
+
+class Compiling(unittest.TestCase):
+    """The command that compiles an export."""
+
+    def test_heading(self) -> None:
+        export = exported("DO I = 1, 9", "C$REDUCE K", "K = K+I", "END DO", "PRINT *, K", "END")
+        command = compile_command(["gfortran"], export.options, "NAME.f")
+        self.assertEqual(split_lines(export.text)[1], "C     " + " ".join(command))
+        self.assertEqual(command, ["gfortran", "-fopenmp", "-O2", "-fwrapv", "-o", "NAME", "NAME.f"])
+
+    def test_options(self) -> None:
+        plain = ("-fopenmp", "-O2")
+        self.assertEqual(options_of("PARALLEL DO I = 1, 9", "K = I", "END DO", "END"), plain)
+        self.assertEqual(options_of("K = L*(2**40)", "K = 2**40/2**38", "END"), (*plain, "-fno-range-check"))
+        self.assertEqual(options_of("K = 2**40/2**38", "END"), plain)
+
+
+class Doubts(unittest.TestCase):
+    """A directive that isn't sure is said to be so, at the directive and in a message."""
+
+    def said(self, export: Export, words: str) -> List[str]:
+        """The comments right before the first directive, and that a message has the same words."""
+        lines = split_lines(export.text)
+        directive = next(index for index, line in enumerate(lines) if line.startswith("C$OMP"))
+        first = directive
+        while lines[first - 1].startswith("C     "):
+            first -= 1
+        self.assertIn(words, " ".join(export.doubts))
+        self.assertIn(words.upper(), " ".join(line[6:] for line in lines[first:directive]))
+        return lines
+
+    def test_nothing(self) -> None:
+        self.assertEqual(exported("INTEGER A(9)", "PARALLEL DO I = 1, 9", "A(I) = I", "END DO", "END").doubts, ())
+        self.assertEqual(exported("DO I = 1, 9", "C$REDUCE K", "K = K+I", "END DO", "PRINT *, K", "END").doubts, ())
+        self.assertEqual(exported("INTEGER A(9)", "DO I = 2, 9", "A(I) = A(I-1)", "END DO", "END").doubts, ())
+
+    def test_carried(self) -> None:
+        export = exported("INTEGER A(9)", "PARALLEL DO I = 2, 9", "A(I) = A(I-1)+K", "K = I", "END DO", "END")
+        self.said(export, "the iterations of this loop may race: it carries dependences of K and A")
+        self.assertEqual(len(export.doubts), 1)
+        self.assertTrue(export.doubts[0].startswith("p.f:2:7: warning: "))
+
+    def test_many_names(self) -> None:
+        sums = [f"N{number} = N{number}+I" for number in range(1, 11)]
+        words = ", ".join(f"N{number}" for number in range(1, 9))
+        self.said(exported("PARALLEL DO I = 1, 9", *sums, "END DO", "END"), f"dependences of {words} and 2 others")
+
+    def test_rejected(self) -> None:
+        loop = ["C$PED REJECT A", "PARALLEL DO I = 2, 9", "A(L(I)) = I", "END DO", "END"]
+        self.said(exported("INTEGER A(9), L(9)", *loop), "this loop rests on C$PED REJECT A")
+
+    def test_rejected_with_sums(self) -> None:
+        loop = ["C$PED REJECT A", "DO I = 2, 9", "C$REDUCE K", "A(L(I)) = I", "K = K+I", "END DO", "PRINT *, K", "END"]
+        export = exported("INTEGER A(9), L(9)", *loop)
+        self.assertIn("REDUCTION(+:K)", export.text)
+        self.said(export, "this loop rests on C$PED REJECT A")
+        self.assertEqual(len(export.doubts), 1)
+
+    def test_inner_loops(self) -> None:
+        """What an inner loop carries counts where that has a directive."""
+        loops = [
+            "INTEGER A(9,9)", "PARALLEL DO I = 1, 9", "PARALLEL DO J = 2, 9", "A(I,J) = A(I,J-1)", "END DO", "END DO",
+            "END"
+        ]
+        self.assertEqual(exported(*loops).doubts, ())
+        self.assertEqual(len(exported(*loops, wishes=Wishes(every=True)).doubts), 1)
+
+    def test_variable_that_leaves_32_bits(self) -> None:
+        """OpenMP loops of gfortran miss iterations there."""
+        for bounds, count in (
+            ("1, 2147483647", 1), ("1, 2147483646", 0), ("2147483640, 2147483646, 5", 1), ("-5, -2147483647-1, -1", 1),
+            ("2147483647, 1", 0), ("K, 2147483647", 0),
+        ):
+            with self.subTest(bounds):
+                export = exported(f"PARALLEL DO I = {bounds}", "CONTINUE", "END DO", "END")
+                self.assertEqual(len(export.doubts), count)
+
+    def test_data(self) -> None:
+        """Where data are given, a race on them is said, and a fault."""
+        text = ["INTEGER A(20)", "READ *, K", "PARALLEL DO I = 1, 9", "A(MOD(I,K)+1) = I/K", "END DO", "END"]
+        self.assertEqual(len(exported(*text, data="20\n").doubts), 1)
+        export = exported(*text, data="3\n")
+        self.assertEqual(len(export.doubts), 2)
+        words = "a run on the given data has a race: two iterations of a PARALLEL DO use A(2), at statements 3 and 3"
+        self.said(export, words)
+        self.assertIn(f"p.f:4:7: error: {words}", export.doubts)
+        self.assertIn("the run meets fault 3", exported(*text, data="0\n").doubts[1])
+
+
+class Calls(unittest.TestCase):
+    """Calls of `pedx omp`."""
+
+    def setUp(self) -> None:
+        self.folder = Path(tempfile.mkdtemp(prefix="pedx-test-"))
+        self.addCleanup(shutil.rmtree, self.folder)
+
+    def call(self, program: str, *words: str) -> "subprocess.CompletedProcess[str]":
+        """A call on a program, in a folder of its own."""
+        (self.folder / "p.f").write_text(program)
+        return subprocess.run(
+            [sys.executable, str(TOP / "pedx"), "omp", "p.f", *words], cwd=self.folder, stdout=subprocess.PIPE,
+            stderr=subprocess.PIPE, universal_newlines=True, check=False, env={**os.environ, "PEDX_PED": ped_path()},
+        )
+
+    def test_strict(self) -> None:
+        """Nothing is written where not all is sure, and a file that is there stays as it is."""
+        racy = fortran("PARALLEL DO I = 1, 9", "K = I", "END DO", "END")
+        (self.folder / "out.f").write_text("old")
+        done = self.call(racy, "--strict", "-o", "out.f")
+        self.assertEqual((done.returncode, done.stdout), (Status.DOUBTFUL, ""))
+        self.assertEqual(split_lines(done.stderr), [
+            "p.f:1:7: warning: the iterations of this loop may race: it carries dependences of K",
+            "pedx: error: nothing is written, since not all is sure of it",
+        ])
+        self.assertEqual((self.folder / "out.f").read_text(), "old")
+        free = fortran("INTEGER A(9)", "PARALLEL DO I = 1, 9", "A(I) = I", "END DO", "END")
+        done = self.call(free, "--strict", "-o", "out.f")
+        self.assertEqual((done.returncode, done.stderr), (Status.DONE, ""))
+        self.assertIn("C$OMP PARALLEL DO", (self.folder / "out.f").read_text())
+
+    def test_without_strict(self) -> None:
+        done = self.call(fortran("PARALLEL DO I = 1, 9", "K = I", "END DO", "END"))
+        self.assertEqual(done.returncode, Status.DONE)
+        self.assertIn("C$OMP PARALLEL DO", done.stdout)
+        self.assertIn("may race", done.stderr)
+
+    def test_data(self) -> None:
+        (self.folder / "data").write_text("1\n")
+        text = fortran("INTEGER A(9)", "READ *, K", "PARALLEL DO I = 1, 9", "A(I) = I/K", "END DO", "END")
+        self.assertEqual(self.call(text, "--data", "data", "--strict").returncode, Status.DONE)
+        (self.folder / "data").write_text("0\n")
+        self.assertEqual(self.call(text, "--data", "data", "--strict").returncode, Status.DOUBTFUL)
+
+    def test_all(self) -> None:
+        text = fortran("PARALLEL DO I = 1, 9", "PARALLEL DO J = 1, 9", "CONTINUE", "END DO", "END DO", "END")
+        self.assertEqual(self.call(text).stdout.count("C$OMP"), 1)
+        self.assertEqual(self.call(text, "--all").stdout.count("C$OMP"), 2)
 
 
 class Lists(unittest.TestCase):
@@ -205,12 +555,86 @@ OTHERS: Dict[str, str] = {
         "FUNCTIONF(ITERATION) = TEMPORARYOFEACHITERATIONALONE12*ITERATION", "END DO", "DO WHILE = 1, 2",
         "DOUBLEPRECISION = WHILE", "END DO", "PRINT *, DOUBLEPRECISION", "END",
     ),
+    "names in use": fortran(
+        "INTEGER A(5)", "SAVE A, MAX", "MAX = 5", "A(2) = 1", "DO K0 = 1, 3", "A(2) = MAX(MAX,2)+A(2)", "END DO",
+        "PRINT *, MAX",
+        "END",
+    ),
+    "inner header": fortran(
+        "INTEGER A(5,9)", "SAVE A", "KT = 7", "PARALLEL DO I = 1, 5", "IF (I.EQ.2) THEN", "DO J = 1, KT",
+        "PRIVATE KT", "KT = I*J",
+        "A(I,J) = KT", "END DO", "END IF", "END DO", "END",
+    ),
+    "own header": fortran(
+        "INTEGER A(9)", "SAVE A", "I = 3", "KT = 5", "J = 2", "PARALLEL DO I = I, KT+J", "PRIVATE KT", "KT = I",
+        "A(I) = 0",
+        "DO J = 1, KT", "A(I) = A(I)+J", "END DO", "END DO", "END",
+    ),
+    "program and function": fortran(
+        "PROGRAM MAX", "PARAMETER (MIN=3)", "INTEGER A(MIN), ABS", "SAVE A", "A(1) = MAX(MIN,2)+MIN(MIN,2)+ABS(-MIN)",
+        "PARALLEL DO MOD = 2, MIN", "PRIVATE ABS", "ABS = MOD", "A(MOD) = MOD(ABS,2)", "END DO", "END",
+    ),
+    "types": fortran("SAVE X", "DIMENSION X(3)", "PARAMETER (SIZE=3)", "INTEGER SIZE, X", "X(SIZE) = SIZE", "END"),
+    "large": fortran(
+        "INTEGER A(1048576), B(1048576), C(1048576), D(1048576)", "PARALLEL DO I = 1, 1048576", "A(I) = I",
+        "B(I) = A(I)",
+        "C(I) = B(I)", "D(I) = C(I)", "END DO", "PRINT *, A(5), B(1048576), C(7), D(1)", "END",
+    ),
+    "constants": fortran(
+        "PARAMETER (M=2**40/2**38)", "INTEGER A(M)", "SAVE A", "DO I = 1, M, 2**33/2**32",
+        "A(I) = I*(2**31-2**32+2147483647)",
+        "A(I+1) = 100000*100000/M/100000", "END DO", "IF (2**40.GT.2**39) PRINT *, MOD(2**40+7,10)", "END",
+    ),
+    "zeros": fortran(
+        "PARAMETER (N=3)", "SAVE K", "K = 1", "IF (K.EQ.2) THEN", "K = 1/0+MOD(K,N-3)+0**(-1)+1/MIN(0,0)", "END IF",
+        "END"
+    ),
+    "constants in print": "".join([
+        fortran(f"PRINT *, '{'8' * 56}"), "     &!$OMP PARALLEL DO', '', 'IT''S', '!DIR$'\n", fortran("END"),
+    ]),
     "sums": fortran(
         "INTEGER A(99)", "SAVE K, L, J", "K = 2147483000", "L = 0", "J = 0", "DO 10 I = 1, 99", "10 A(I) = I*I-50*I",
         "DO 20 I = 99, 1, -2", "C$REDUCE K", "C$REDUCE L", "C$REDUCE J", "IF (A(I).GT.0) K = K-A(I)", "DO 30 M = 1, 3",
         "30 L = L+M*A(I)", "20 J = I+J", "PRINT *, J", "END",
     ).replace("      C$", "C$"),
 }
+
+
+#: Words with which statements of FORTRAN and of its dialects begin, and words in them.
+WORDS = """
+    ABSTRACT ALLOCATABLE ALLOCATE ASSIGN ASSOCIATE ASYNCHRONOUS AUTOMATIC BACKSPACE BIND BLOCK BLOCKDATA BYTE CALL
+    CASE CHANGETEAM CHARACTER CLASS CLOSE CODIMENSION COMMON COMPLEX CONCURRENT CONTAINS CONTIGUOUS CONTINUE CRITICAL
+    CYCLE DATA DEALLOCATE DEFAULT DEFERRED DIMENSION DO DOUBLECOMPLEX DOUBLEPRECISION DOWHILE DOCONCURRENT ELEMENTAL
+    ELSE ELSEIF ELSEWHERE END ENDASSOCIATE ENDBLOCK ENDBLOCKDATA ENDCRITICAL ENDDO ENDENUM ENDFILE ENDFORALL
+    ENDFUNCTION ENDIF ENDINTERFACE ENDMODULE ENDPROCEDURE ENDPROGRAM ENDSELECT ENDSUBMODULE ENDSUBROUTINE ENDTEAM
+    ENDTYPE ENDWHERE ENTRY ENUM ENUMERATOR EQUIVALENCE ERRORSTOP EVENTPOST EVENTWAIT EXIT EXTENDS EXTERNAL FAILIMAGE
+    FINAL FLUSH FORALL FORMAT FORMTEAM FUNCTION GENERIC GOTO IF IMAGE IMPLICIT IMPLICITNONE IMPORT IMPURE IN INCLUDE
+    INOUT INQUIRE INTEGER INTENT INTERFACE INTRINSIC IS KIND LOCAL LOCK LOGICAL MAP MODULE MODULEPROCEDURE NAMELIST
+    NONE NONINTRINSIC NONRECURSIVE NOPASS NULLIFY ONLY OPEN OPERATOR OPTIONAL OPTIONS OUT PARALLELDO PARAMETER PASS
+    PAUSE POINTER PRECISION PRINT PRIVATE PROCEDURE PROGRAM PROTECTED PUBLIC PURE QUIET RANK READ REAL RECORD
+    RECURSIVE RESULT RETURN REWIND SAVE SELECT SELECTCASE SELECTRANK SELECTTYPE SEQUENCE SHARED STATIC STOP STRUCTURE
+    SUBMODULE SUBROUTINE SYNC SYNCALL SYNCIMAGES SYNCMEMORY SYNCTEAM TARGET TEAM THEN TO TYPE TYPEIS UNION UNLOCK USE
+    VALUE VIRTUAL VOLATILE WAIT WHERE WHILE WRITE ACCEPT ENCODE DECODE DEFINEFILE DELETE FIND REWRITE ASSIGNMENT
+    CONVERT ATTRIBUTES REDUCTION FIRSTPRIVATE MAIN
+""".split()
+
+
+def named_by_words() -> Iterator[Tuple[str, str]]:
+    """Programs in which scalars, variables of loops, arrays and constants have words as their names."""
+    for at in range(0, len(WORDS), 90):
+        part = WORDS[at:at + 90]
+        statements = ["IMPLICIT INTEGER (A-Z)", "KZ = 0"]
+        for name in part:
+            statements += [f"{name} = 3", f"DO {name} = {name}, 5", "KZ = MOD(KZ+1,7)", "END DO", f"PRINT *, {name}+1"]
+            statements += [f"IF ({name}.EQ.6) {name} = 2*{name}", f"PRINT *, {name}"]
+        yield f"scalars from {at} on", fortran(*statements, "END")
+        statements = [f"INTEGER {name}(3)" for name in part] + ["SAVE"]
+        for name in part:
+            statements += [f"{name}(1) = 2", f"{name}({name}(1)) = {name}(1)+5", f"PRINT *, {name}(2)"]
+        yield f"arrays from {at} on", fortran(*statements, "END")
+        constants = [f"PARAMETER ({name}={number})" for number, name in enumerate(part)]
+        uses = [f"PRINT *, {name}, MAX({name},40)" for name in part]
+        yield f"constants from {at} on", fortran("IMPLICIT INTEGER (A-Z)", *constants, *uses, "END")
 
 
 def samples() -> Iterator[Sample]:
@@ -239,15 +663,24 @@ class Compiled(unittest.TestCase):
                     self.assertEqual(complaint, "")
 
 
+    def test_words_as_names(self) -> None:
+        for name, text in named_by_words():
+            export = export_of(ped(), view_of(text), Wishes(live=True))
+            run, = ped().session(text, "run\n")
+            with self.subTest(name), tempfile.TemporaryDirectory(prefix="pedx-test-") as folder:
+                Path(folder, "p.f").write_bytes(export.text.encode(ENCODING))
+                self.assertEqual(compiled(folder, "words", ["-fopenmp", "-O0"]), "")
+                self.assertTrue(is_wanted(executed(folder, "words", ""), run.rows))
+
+
 def compared(sample: Sample) -> Tuple[Sample, str]:
     """What differs between the runs of a sample; of one that meets a fault, whether it is compiled."""
-    lines = sample.view.panes.lines
-    sums = live_sums(ped(), lines, sample.view.printed)
-    text = "".join(f"{line}\n" for line in openmp_lines(lines, sample.view.printed, sums, live=True))
-    run, = ped().session("".join(f"{line}\n" for line in lines), "run\n", sample.data)
+    export = export_of(ped(), sample.view, Wishes(live=True))
+    run, = ped().session("".join(f"{line}\n" for line in sample.view.panes.lines), "run\n", sample.data)
     with tempfile.TemporaryDirectory(prefix="pedx-test-") as folder:
-        Path(folder, "p.f").write_bytes(text.encode(ENCODING))
-        complaint = compiled(folder, "serial", []) + compiled(folder, "parallel", ["-fopenmp"])
+        Path(folder, "p.f").write_bytes(export.text.encode(ENCODING))
+        options = [option for option in export.options if option != "-fopenmp"]
+        complaint = compiled(folder, "serial", options) + compiled(folder, "parallel", export.options)
         if complaint or run.fault:
             return sample, complaint
         serial, parallel = executed(folder, "serial", sample.data), executed(folder, "parallel", sample.data)
@@ -258,9 +691,9 @@ def compared(sample: Sample) -> Tuple[Sample, str]:
     return sample, ""
 
 
-def compiled(folder: str, name: str, flags: List[str]) -> str:
+def compiled(folder: str, name: str, options: Sequence[str]) -> str:
     """Compiles a program, and answers what the compiler says where it refuses it."""
-    words = ["gfortran", "-fno-range-check", *flags, "-o", name, "p.f"]
+    words = ["gfortran", *options, "-o", name, "p.f"]
     done = subprocess.run(words, cwd=folder, stdout=subprocess.PIPE, stderr=subprocess.STDOUT, check=False)
     return done.stdout.decode(ENCODING) if done.returncode != 0 else ""
 
@@ -273,21 +706,6 @@ def executed(folder: str, name: str, data: str) -> str:
         stderr=subprocess.STDOUT, check=False,
     )
     return done.stdout.decode(ENCODING)
-
-
-def is_wanted(compiled_rows: str, rows: Tuple[str, ...]) -> bool:
-    """Whether a compiled program has printed what `run` shows.
-
-    FORTRAN puts other blanks between the items of a PRINT than ped. What is undefined, `?`, may be any number.
-    """
-    lines = compiled_rows.splitlines()
-    printed = "".join("".join(line.split()) for line in lines if not line.startswith(" live "))
-    live = [word for line in lines if line.startswith(" live ") for word in line.split()]
-    wanted = "".join("".join(row[2:].split()) for row in rows if row.startswith("| "))
-    wanted_live = [word for row in rows if row.startswith("live ") for word in row.split()]
-    return printed == wanted and len(live) == len(wanted_live) and all(
-        wanted_word in ("?", word) for word, wanted_word in zip(live, wanted_live)
-    )
 
 
 if __name__ == "__main__":

@@ -2,7 +2,7 @@
 
 import unittest
 
-from ..panes import NoPane, calls_pane, read_dependence, read_panes
+from ..panes import NoPane, calls_length, read_dependence, read_panes
 
 PANES = """\
 source 3
@@ -30,11 +30,11 @@ class Panes(unittest.TestCase):
 
     def test_calls(self) -> None:
         rows = ["calls 1 edges 2", "2 SWEEP(A,B)", "2 2 A flow 1", "2 3 A flow -"]
-        self.assertEqual(calls_pane([*rows, "ended"]), rows)
-        self.assertEqual(calls_pane(["calls 0 edges 0", "ended"]), ["calls 0 edges 0"])
+        self.assertEqual(calls_length(["ended", *rows, "ended"], 1), len(rows))
+        self.assertEqual(calls_length(["calls 0 edges 0", "ended"], 0), 1)
         for other in (rows[:-1], ["calls 1"], []):
             with self.assertRaises(NoPane):
-                calls_pane(other)
+                calls_length(other, 0)
 
     def test_other_rows(self) -> None:
         for rows in ([], ["source 1"], PANES.splitlines()[:-1], PANES.splitlines() + ["more"], ["dependences 0"]):

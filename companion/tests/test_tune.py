@@ -1,11 +1,12 @@
 """`pedx tune`: what stands in the way of loops, and which single step removes it. What is wanted is known by hand."""
 
 import unittest
-from typing import List
+from typing import List, Optional
 
 from ..commands.tune import tune
 from ..ped import Ped
-from .support import fortran, ped, view_of
+from ..replies import Reply
+from .support import fortran, ped, ped_path, view_of
 
 _NO_PED = Ped("/nowhere/ped")
 
@@ -86,6 +87,48 @@ class Ways(unittest.TestCase):
         self.assertEqual(rows[1:], [
             "`reject 1 A`, where you know that no two iterations use one element; ped then promises nothing",
         ])
+
+    def test_no_rejection_of_scalars(self) -> None:
+        """All iterations use one M; that no two use one element can be true of A alone."""
+        rows = told(fortran(
+            "INTEGER A(9), L(9)", "READ *, N", "DO I = 1, N", "A(L(I)) = M", "M = MAX(M,L(I))", "END DO", "PRINT *, M",
+            "END",
+        ))
+        self.assertEqual(rows[1:], [
+            "M is a maximum that statement 3 reads on the way: it stays in order; the rest of the loop can be taken "
+            "apart from it",
+            "`reject 2 A`, where you know that no two iterations use one element; ped then promises nothing",
+        ])
+
+    def test_no_rejection_of_what_is_certain(self) -> None:
+        """The rows are pending since N and the IF are open; but which elements are used is certain."""
+        rows = told(fortran(
+            "INTEGER A(99)", "READ *, N", "DO I = 2, N", "IF (I.GT.N/2) A(I) = A(I-1)", "END DO", "PRINT *, A(9)", "END"
+        ))
+        self.assertEqual(rows[1:], ["no single step removes it; `pedx why FILE --loop 2` tells why"])
+
+    def test_no_rejection_beside_proven_rows(self) -> None:
+        """Each iteration reads what the one before has written, whatever L holds."""
+        rows = told(fortran(
+            "INTEGER A(99), L(9)", "DO I = 2, 9", "A(I) = A(I-1)+A(L(I))", "END DO", "PRINT *, A(9)", "END"
+        ))
+        self.assertEqual(rows[1:], ["no single step removes it; `pedx why FILE --loop 1` tells why"])
+
+    def test_sessions(self) -> None:
+        """All loops of a short program are asked about in one session, and what is taken apart in two more."""
+        calls: List[str] = []
+
+        class Counted(Ped):
+            """A program that notes the scripts that it is given."""
+
+            def session(self, source: str, script: str, data: Optional[str] = None) -> List[Reply]:
+                calls.append(script)
+                return super().session(source, script, data)
+
+        lines = [line for _ in range(20) for line in ("DO I = 2, 9", "A(I) = A(I-1)+I", "B(I) = 2*A(I)", "END DO")]
+        text = tune(view_of(fortran("INTEGER A(9), B(9)", *lines, "END")), Counted(ped_path()), [])
+        self.assertEqual(text.count("makes 2 loops of it"), 20)
+        self.assertEqual(len(calls), 3)
 
     def test_nothing_helps(self) -> None:
         rows = told(fortran("INTEGER A(99)", "DO I = 2, 99", "A(I) = A(I-1)", "END DO", "END"))

@@ -54,7 +54,7 @@ class Views(unittest.TestCase):
             changed = [row.replace(old, new) for row in rows]
             with self.assertRaises(CompanionError) as caught:
                 view_of_panes(read_panes(changed))
-            self.assertIs(caught.exception.status, Status.NO_PED)
+            self.assertIs(caught.exception.status, Status.NOT_UNDERSTOOD)
 
 
 class Sessions(unittest.TestCase):

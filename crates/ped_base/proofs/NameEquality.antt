@@ -1,5 +1,5 @@
 -- Two names are equal where their bytes are, and a table of names finds what stands in its list.
-use Rattle.std.proofs.Common.{◌≡◌, ℕ, suc, ◌-◌, Bool, true, false, ◌&&◌, List, [], ◌∷◌, ◌++◌, length, replicate, eqb, eqb-true, refl, ap, ◌∙◌, arith}
+use Rattle.std.proofs.Common.{◌≡◌, ℕ, true, ◌&&◌, List, [], ◌∷◌, eqb, eqb-true, refl, ap, ◌∙◌, arith}
 use Rattle.std.proofs.lemmas.Bool.{and_parts}
 use Rattle.std.specs.List.{list_any}
 use Rattle.std.specs.Map.{lookup}
@@ -7,32 +7,8 @@ use Rattle.std.specs.Cmp.Lexicographic.{pointwise}
 use Rattle.ped_base.specs.Lists.{is_same_text, is_among}
 use Rattle.ped_base.specs.contracts.identifiers.NamePartialEq.TheImpl as code
 
-swap : (a b c : Bool) → a && (b && c) ≡ b && (a && c)
-swap true true c = refl
-swap true false c = refl
-swap false true c = refl
-swap false false c = refl
-
-zero_suc : (n : ℕ) → eqb 0 (suc n) ≡ false
-zero_suc n = grind (arith, eqb-true)
-
-suc_zero : (n : ℕ) → eqb (suc n) 0 ≡ false
-suc_zero n = grind (arith, eqb-true)
-
-suc_suc : (m n : ℕ) → eqb (suc m) (suc n) ≡ eqb m n
-suc_suc m n = grind (arith, eqb-true)
-
 itself : (n : ℕ) → eqb n n ≡ true
 itself n = grind (arith, eqb-true)
-
--- what stands behind both doesn't count where it is the same behind texts of one length
-padded : (x y p q : List ℕ) → (length x ≡ length y → pointwise eqb p q ≡ true) → eqb (length x) (length y) && pointwise eqb (x ++ p) (y ++ q) ≡ pointwise eqb x y
-padded [] [] p q h = h refl
-padded [] (y ∷ ys) p q h = ap (λ b. b && pointwise eqb p (y ∷ (ys ++ q))) (zero_suc (length ys))
-padded (x ∷ xs) [] p q h = ap (λ b. b && pointwise eqb (x ∷ (xs ++ p)) q) (suc_zero (length xs))
-padded (x ∷ xs) (y ∷ ys) p q h =
-    ap (λ b. b && (eqb x y && pointwise eqb (xs ++ p) (ys ++ q))) (suc_suc (length xs) (length ys))
-    ∙ swap (eqb (length xs) (length ys)) (eqb x y) (pointwise eqb (xs ++ p) (ys ++ q)) ∙ ap (λ b. eqb x y && b) (padded xs ys p q (λ e. h (ap suc e)))
 
 -- a text is the same as itself
 pub same_itself : (x : List ℕ) → is_same_text x x ≡ true
@@ -61,7 +37,7 @@ same_is (x ∷ xs) (y ∷ ys) h =
 
 -- the code's test of two names
 pub name_same : (x y : List ℕ) → (code.eq-value).it x y ≡ is_same_text x y
-name_same x y = padded x y (replicate (31 - length x) 0) (replicate (31 - length y) 0) (λ e. ap (λ n. pointwise eqb (replicate (31 - n) 0) (replicate (31 - length y) 0)) e ∙ same_itself (replicate (31 - length y) 0))
+name_same x y = refl
 
 -- a name is found in a list by the code's test where it is one of the names
 pub any_same : (x : List ℕ) (names : List (List ℕ)) → list_any ((code.eq-value).it x) names ≡ is_among x names

@@ -2,6 +2,8 @@
 
 ghost use Rattle.std.specs.Prelude.{◌≡◌, ◌≤◌, IsTrue, length};
 ghost use Rattle.std.specs.List.{list_all};
+ghost use Rattle.std.specs.Cmp.{partial_equiv_from_equiv};
+ghost use Rattle.std.specs.Cmp.Lexicographic.{nat_list_eq_equiv};
 ghost use Rattle.ped_base.specs.Letters as Spec;
 ghost use Rattle.ped_base.specs.Lists as Lists;
 
@@ -11,7 +13,7 @@ use std::marker::Model;
 
 /// A name of 1 to 31 capital letters and digits, a letter first (ANSI X3.9-1978, section 2.2, allows
 /// six characters; the room for more is for the profile's longer names). Contracts see its bytes.
-#[derive(Clone, Copy, PartialEq, Eq)]
+#[derive(Clone, Copy)]
 pub struct Name {
     len: u8,
     text: [u8; 31],
@@ -31,6 +33,21 @@ impl Model for Name {
     ghost inverse = { inside };
 
     ghost inverse_ok = { inside_back };
+}
+
+/// Names are equal where their bytes are. The rest of the 31 bytes isn't looked at, since most names are short.
+impl PartialEq for Name {
+    ghost eq = { Lists.is_same_text };
+
+    ghost laws = { partial_equiv_from_equiv nat_list_eq_equiv };
+
+    fn eq(&self, other: &Name) -> bool {
+        self.as_bytes() == other.as_bytes()
+    }
+}
+
+impl Eq for Name {
+    ghost laws = { nat_list_eq_equiv };
 }
 
 /// The bytes go to a hasher at once: a write for each of them would take most of the time that a table of names takes.

@@ -95,7 +95,7 @@ fn push_operand(out: &mut Bytes, operator: &[u8], place: Place, e: &Expr) -> Res
 
 /// Adds subscripts or arguments, between parentheses.
 #[cycle(expressions)]
-fn push_enclosed(out: &mut Bytes, all: &[Expr]) -> Result<(), NoMemory>
+pub fn push_enclosed(out: &mut Bytes, all: &[Expr]) -> Result<(), NoMemory>
     ensures { OnOk result (out.new ≡ out.old ++ codes "(" ++ exprs_text (pack_exprs (map expr_tree all.now)) ++ codes ")") }
 {
     out.push(b'(')?;

@@ -15,6 +15,7 @@ mod programs;
 mod statements;
 
 pub use counts::{BegunStatements, begun};
+pub use expressions::push_enclosed;
 pub use laws::statements_begin_once;
 pub use lengths::{decl_length, do_length, if_length, length, private_length, save_length};
 pub use programs::{print, source_pane};

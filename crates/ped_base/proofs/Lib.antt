@@ -1,3 +1,4 @@
 mod Keeping
 pub mod ArithmeticLaws
+pub mod FirstLines
 pub mod NameEquality

@@ -1,5 +1,4 @@
 pub mod Filling
-pub mod FirstLines
 pub mod OneLine
 pub mod Constants
 pub mod Quoting

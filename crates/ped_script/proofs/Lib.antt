@@ -1,5 +1,4 @@
 mod Choices
-mod FirstLines
 mod Numbers
 mod OneCommand
 mod Passing

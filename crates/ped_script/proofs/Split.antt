@@ -8,7 +8,7 @@ use Rattle.std.proofs.lemmas.List.Quantifiers.{position-Some}
 use Rattle.std.proofs.lemmas.List.Splits.{slice_split_first, slice_split-cons_yes}
 use Rattle.ped_base.specs.Lists.{has_some}
 use Rattle.ped_script.specs.Words.{Text, is_blank, words_of}
-use Rattle.ped_script.proofs.FirstLines.{unsplit, guarded, beyond}
+use Rattle.ped_base.proofs.FirstLines.{unsplit, guarded, beyond}
 
 -- is no blank
 abbrev is_ink : ℕ → Bool

@@ -1,13 +1,14 @@
 -- A script of commands that `auto` takes is read as these commands.
-use Rattle.std.proofs.Common.{◌≡◌, ◌⊎◌, inl, inr, ℕ, ◌+◌, ◌-◌, ◌<◌, Bool, true, false, ◌&&◌, ◌||◌, cond, List, [], ◌∷◌, ◌++◌, take, length, get_or, codes, leb, eqb, Option, Some, None, refl, sym, ap, ◌∙◌, append_assoc, arith, rules}
+use Rattle.std.proofs.Common.{◌≡◌, ◌⊎◌, inl, inr, ℕ, ◌+◌, ◌-◌, Bool, true, false, ◌&&◌, ◌||◌, cond, List, [], ◌∷◌, ◌++◌, take, length, get_or, codes, leb, eqb, Option, Some, None, refl, sym, ap, ◌∙◌, append_assoc, arith, rules}
 use Rattle.std.specs.List.{list_all, slice_split, AllByRecursion}
 use Rattle.std.specs.Fmt.{decimal}
-use Rattle.std.specs.Str.Lines.{lines, lines_of_parts, strip_carriage_return}
+use Rattle.std.specs.Str.Lines.{lines, lines_of_parts}
 use Rattle.std.specs.Str.Parse.{digits_value}
 use Rattle.std.proofs.lemmas.Fmt.{digits_decimal}
 use Rattle.std.proofs.lemmas.Str.Parse.{IsNumeralModel, numerals_by_value}
 use Rattle.std.proofs.lemmas.List.Splits.{slice_split_at, length-slice_split}
 use Rattle.std.proofs.lemmas.List.Elements.{All-from_recursion}
+use Rattle.ped_base.proofs.FirstLines.{more_parts}
 use Rattle.ped_base.specs.Letters.{is_letter, is_digit, is_alphanumeric, begins_with_letter}
 use Rattle.ped_transformations.specs.ped_auto.specs.Editing.{IsOfStrategy}
 use Rattle.ped_session.specs.ped_transformations.specs.ped_script.specs.declared.items.Command.{Command}
@@ -120,10 +121,6 @@ none_in end apart (c ∷ cs) h = let b = both (leb 32 c) (list_all (leb 32) cs) 
 no_return : (w : List ℕ) → IsPlain w → eqb (get_or w (length w - 1) 0) 13 ≡ false
 no_return [] h = refl
 no_return (c ∷ cs) h = All-from_recursion (λ x. eqb x 13 ≡ false) (c ∷ cs) (none_in 13 return_apart (c ∷ cs) h) (length (c ∷ cs) - 1) 0 (omega arith)
-
-more_parts : (part : List ℕ) (parts : List (List ℕ)) → 0 < length parts → lines_of_parts (part ∷ parts) ≡ strip_carriage_return part ∷ lines_of_parts parts
-more_parts part [] h = absurd (omega arith)
-more_parts part (next ∷ parts) h = refl
 
 first_line : (w rest : List ℕ) → IsPlain w → lines (w ++ 10 ∷ rest) ≡ w ∷ lines rest
 first_line w rest h =

@@ -1,8 +1,9 @@
 -- The lines of a text in which each line has a newline behind it.
-use Rattle.std.proofs.Common.{◌≡◌, ℕ, suc, ◌-◌, ◌<◌, Bool, true, false, if◌then◌else◌, List, [], ◌∷◌, ◌++◌, length, take, get_or, refl, ap, ◌∙◌, append_assoc, eqb, arith}
+use Rattle.std.proofs.Common.{◌≡◌, ℕ, suc, ◌-◌, Bool, true, false, if◌then◌else◌, List, [], ◌∷◌, ◌++◌, length, take, get_or, refl, ap, ◌∙◌, append_assoc, eqb, arith}
 use Rattle.std.specs.List.{AllByRecursion, list_any, list_all, flat_map, slice_split, onto_first}
 use Rattle.std.specs.Str.Lines.{lines, lines_of_parts, strip_carriage_return}
 use Rattle.std.proofs.lemmas.List.Splits.{slice_split-cons_no, length-slice_split}
+use Rattle.ped_base.proofs.FirstLines.{more_parts}
 use Rattle.ped_tree.specs.Grammar.Characters.{is_printable}
 use Rattle.ped_lines.proofs.PrintedLaws.Bytes.{neither, both, none_of, printable_newline, printable_return}
 
@@ -42,10 +43,6 @@ split_first [] rest h = refl
 split_first (c ∷ cs) rest h =
     let parts = neither (eqb c 10) (list_any (λ c. eqb c 10) cs) h in
     slice_split-cons_no (λ c. eqb c 10) c (cs ++ 10 ∷ rest) parts.0 ∙ ap (onto_first c) (split_first cs rest parts.1)
-
-more_parts : (part : List ℕ) (parts : List (List ℕ)) → 0 < length parts → lines_of_parts (part ∷ parts) ≡ strip_carriage_return part ∷ lines_of_parts parts
-more_parts part [] h = absurd (omega arith)
-more_parts part (next ∷ parts) h = refl
 
 line_first : (line rest : List ℕ) → IsLine line → lines (line ++ 10 ∷ rest) ≡ line ∷ lines rest
 line_first line rest h =

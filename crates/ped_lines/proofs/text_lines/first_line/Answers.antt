@@ -1,6 +1,6 @@
 use Rattle.std.proofs.Common.{sym, ◌∙◌, arith}
 use Rattle.std.proofs.lemmas.Bool.{eqb-false}
-use Rattle.ped_lines.proofs.FirstLines.{first_line_is, only_line_is}
+use Rattle.ped_base.proofs.FirstLines.{first_line_is, only_line_is}
 use Rattle.ped_lines.proofs.text_lines.first_line.Goals as goal
 
 pub returns-in-Some-clause-line : goal.returns-in-Some-clause-line

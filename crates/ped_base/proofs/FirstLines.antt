@@ -10,7 +10,7 @@ pub guarded : {A : Type 0} (b : Bool) (x y : A) → cond b (Some x) None ≡ Som
 guarded true x y e = (refl, cc)
 guarded false x y e = absurd cc
 
-more_parts : (part : List ℕ) (parts : List (List ℕ)) → 0 < length parts → lines_of_parts (part ∷ parts) ≡ strip_carriage_return part ∷ lines_of_parts parts
+pub more_parts : (part : List ℕ) (parts : List (List ℕ)) → 0 < length parts → lines_of_parts (part ∷ parts) ≡ strip_carriage_return part ∷ lines_of_parts parts
 more_parts part [] h = absurd (omega arith)
 more_parts part (next ∷ parts) h = refl
 
@@ -37,7 +37,7 @@ pub beyond : (b : Bool) (n : ℕ) → cond b (Some n) None ≡ None → b ≡ fa
 beyond true n h = absurd cc
 beyond false n h = refl
 
-alone : (part : List ℕ) → 0 < length part → lines_of_parts (part ∷ []) ≡ part ∷ []
+pub alone : (part : List ℕ) → 0 < length part → lines_of_parts (part ∷ []) ≡ part ∷ []
 alone part h = ap (λ (b : Bool). cond b [] (part ∷ [])) (ne_eqb (length part) 0 (λ none. omega (arith, none)))
 
 pub line_alone : (text : List ℕ) → position (λ c. eqb c 10) text ≡ None → 0 < length text → lines text ≡ text ∷ []

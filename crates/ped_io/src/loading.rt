@@ -52,9 +52,10 @@ impl From<OutsideFault> for LoadError {
     }
 }
 
-/// Reads a whole file of at most `limit` bytes, in pieces of 4096 bytes. Over a shelf that tells, the bytes are the
-/// whole content of the name, and `TooLong` comes only where that is longer than `limit`. `ReadFault` comes only
-/// where the count of the name's faults rose. What the shelf tells stays, and so do the counts of other files it tells.
+/// Reads a whole file of at most `limit` bytes, in pieces of 4096 bytes. The bytes are the whole content of the name, and
+/// `TooLong` comes only where that is longer than `limit`: so it is in all files that the shelf may hold by what the reads
+/// gave, of which those that it tells are one. `ReadFault` comes only where the count of the name's faults rose. What the
+/// shelf tells stays, and so do the counts of other files it tells.
 pub fn load<F: Shelf>(
     alloc: Global,
     shelf: &mut F,
@@ -62,7 +63,7 @@ pub fn load<F: Shelf>(
     limit: u64,
 ) -> Result<Bytes, LoadError>
     ensures loaded { IfOk result (λ bytes. (files : Contents) →
-        F.told shelf.old ≡ Some files → content files name.now ≡ Some bytes) }
+        F.may_hold shelf.new files → content files name.now ≡ Some bytes) }
     ensures within { IfOk result (λ bytes. length bytes ≤ limit) }
 
     // The shelf has counted the fault that stopped the reading.
@@ -70,8 +71,9 @@ pub fn load<F: Shelf>(
         Rose (F.count shelf.old name.now) (F.count shelf.new name.now) }
 
     ensures too_long { IsErrOf result LoadError.TooLong → (files : Contents) →
-        F.told shelf.old ≡ Some files →
+        F.may_hold shelf.new files →
         (bytes : List ℕ) × (content files name.now ≡ Some bytes) × (limit < length bytes) }
+    ensures less { (files : Contents) → F.may_hold shelf.new files → F.may_hold shelf.old files }
     ensures counts { (m : List ℕ) → F.count shelf.old m ≤ F.count shelf.new m }
     ensures others { (files : Contents) → F.told shelf.old ≡ Some files →
         (m : List ℕ) → m ≢ name.now → IsHeld files m → F.count shelf.new m ≡ F.count shelf.old m }

@@ -63,9 +63,14 @@ impl MemShelf {
 }
 
 impl Shelf for MemShelf {
+    ghost use Rattle.std.specs.Prelude.{◌≡◌, Some};
     ghost use Rattle.ped_io.specs.Shelves.{told_of, count_of};
 
     ghost told = { λ shelf. Some (told_of shelf) };
+
+    ghost may_hold = { λ shelf files. Some (told_of shelf) ≡ Some files };
+
+    ghost told_held = { λ s files told. told };
 
     ghost count = { count_of };
 
@@ -83,7 +88,7 @@ impl Shelf for MemShelf {
         // What any shelf ensures.
         ensures within { IfOk result (λ n. n ≤ length piece.old) }
         ensures given { IfOk result (λ n. (files : Contents) →
-            Some (told_of self.old) ≡ Some files →
+            Some (told_of self.new) ≡ Some files →
             (bytes : List ℕ) × (content files name.now ≡ Some bytes)
             × GivesPart bytes at n piece.old piece.new) }
         ensures cause { IsErrOf result OutsideFault.Failed →
@@ -92,6 +97,8 @@ impl Shelf for MemShelf {
         ensures others { (files : Contents) → Some (told_of self.old) ≡ Some files →
             (m : List ℕ) → m ≢ name.now → IsHeld files m →
             count_of self.new m ≡ count_of self.old m }
+        ensures less { (files : Contents) → Some (told_of self.new) ≡ Some files →
+            Some (told_of self.old) ≡ Some files }
         ensures same { Some (told_of self.new) ≡ Some (told_of self.old) }
     {
         self.calls = one_more(self.calls);

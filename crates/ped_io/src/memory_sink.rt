@@ -63,8 +63,13 @@ impl MemSink {
 
 impl Sink for MemSink {
     ghost use Rattle.std.specs.Prelude.{Some};
+    ghost use Rattle.std.proofs.lemmas.Option.{same_Some};
 
     ghost taken = { λ sink. Some sink.taken };
+
+    ghost sent = { λ sink. sink.taken };
+
+    ghost taken_sent = { λ s bytes taken. same_Some _ _ taken };
 
     ghost faults = { λ sink. sink.faults };
 
@@ -82,6 +87,8 @@ impl Sink for MemSink {
         ensures took { IfOk result (λ n. Some self.new.taken
             ≡ option_map (λ before. before ++ take n piece.now) (Some self.old.taken)) }
         ensures err { OnErr result (Some self.new.taken ≡ Some self.old.taken) }
+        ensures sent { IfOk result (λ n. self.new.taken ≡ self.old.taken ++ take n piece.now) }
+        ensures unsent { OnErr result (self.new.taken ≡ self.old.taken) }
         ensures cause { IsErrOf result OutsideFault.Failed → Rose self.old.faults self.new.faults }
         ensures counts { self.old.faults ≤ self.new.faults }
     {

@@ -33,6 +33,9 @@ pub trait Shelf {
     /// The files, where the shelf tells them.
     ghost told: { Self → Option Contents };
 
+    /// The files may hold this, by all that reads have given so far.
+    ghost may_hold: { Self → Contents → Type 0 };
+
     /// How many faults the reads of a name have met.
     ghost count: { Self → List ℕ → ℕ };
 
@@ -42,9 +45,12 @@ pub trait Shelf {
         ensures within { IfOk result (λ n. n ≤ length piece.old) }
 
         // A name that holds nothing is never read.
-        ensures given { IfOk result (λ n. (files : Contents) → told self.old ≡ Some files →
+        ensures given { IfOk result (λ n. (files : Contents) → may_hold self.new files →
             (bytes : List ℕ) × (content files name.now ≡ Some bytes)
             × GivesPart bytes at n piece.old piece.new) }
+
+        // What the files may hold behind a read they might hold before it.
+        ensures less { (files : Contents) → may_hold self.new files → may_hold self.old files }
 
         ensures cause { IsErrOf result OutsideFault.Failed →
             Rose (count self.old name.now) (count self.new name.now) }
@@ -52,6 +58,9 @@ pub trait Shelf {
         ensures others { (files : Contents) → told self.old ≡ Some files →
             (m : List ℕ) → m ≢ name.now → IsHeld files m → count self.new m ≡ count self.old m }
         ensures same { told self.new ≡ told self.old };
+
+    /// The files that are told may be held.
+    ghost told_held: { (s : Self) (files : Contents) → told s ≡ Some files → may_hold s files };
 }
 
 /// A place that takes bytes. What every sink keeps to: how many bytes it takes, and which; and that a fault has been
@@ -59,6 +68,9 @@ pub trait Shelf {
 pub trait Sink {
     /// All bytes taken so far, where the sink tells them.
     ghost taken: { Self → Option (List ℕ) };
+
+    /// All bytes that writes have answered to have taken.
+    ghost sent: { Self → List ℕ };
 
     /// How many faults the writes have met.
     ghost faults: { Self → ℕ };
@@ -70,7 +82,12 @@ pub trait Sink {
         ensures took { IfOk result (λ n. taken self.new
             ≡ option_map (λ before. before ++ take n piece.now) (taken self.old)) }
         ensures err { OnErr result (taken self.new ≡ taken self.old) }
+        ensures sent { IfOk result (λ n. sent self.new ≡ sent self.old ++ take n piece.now) }
+        ensures unsent { OnErr result (sent self.new ≡ sent self.old) }
         ensures cause { IsErrOf result OutsideFault.Failed →
             Rose (faults self.old) (faults self.new) }
         ensures counts { faults self.old ≤ faults self.new };
+
+    /// Where the bytes taken are told, they are those sent.
+    ghost taken_sent: { (s : Self) (bytes : List ℕ) → taken s ≡ Some bytes → sent s ≡ bytes };
 }

@@ -34,9 +34,14 @@ impl SureShelf {
 }
 
 impl Shelf for SureShelf {
+    ghost use Rattle.std.specs.Prelude.{◌≡◌, Some};
     ghost use Rattle.ped_io.specs.Shelves.{all_names};
 
     ghost told = { λ files. Some (all_names files) };
+
+    ghost may_hold = { λ s files. Some (all_names s) ≡ Some files };
+
+    ghost told_held = { λ s files told. told };
 
     ghost count = { λ _ _. 0 };
 
@@ -51,9 +56,11 @@ impl Shelf for SureShelf {
         // What any shelf ensures.
         ensures within { IfOk result (λ n. n ≤ length piece.old) }
         ensures given { IfOk result (λ n. (files : Contents) →
-            Some (all_names self.old) ≡ Some files →
+            Some (all_names self.new) ≡ Some files →
             (bytes : List ℕ) × (content files name.now ≡ Some bytes)
             × GivesPart bytes at n piece.old piece.new) }
+        ensures less { (files : Contents) → Some (all_names self.new) ≡ Some files →
+            Some (all_names self.old) ≡ Some files }
         ensures same { Some (all_names self.new) ≡ Some (all_names self.old) }
     {
         let Some(content) = content_of(&self.files, name) else {

@@ -41,8 +41,13 @@ impl SureSink {
 
 impl Sink for SureSink {
     ghost use Rattle.std.specs.Prelude.{Some};
+    ghost use Rattle.std.proofs.lemmas.Option.{same_Some};
 
     ghost taken = { λ sink. Some sink };
+
+    ghost sent = { λ sink. sink };
+
+    ghost taken_sent = { λ s bytes taken. same_Some _ _ taken };
 
     ghost faults = { λ _. 0 };
 

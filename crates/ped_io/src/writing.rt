@@ -26,6 +26,11 @@ pub fn put_all<K: Sink>(sink: &mut K, bytes: &[u8]) -> Result<(), PutFault>
     ensures part { IfErr result (λ fault. K.taken sink.new
         ≡ option_map (λ before. before ++ take (sent_of fault) bytes.now) (K.taken sink.old)) }
 
+    // The same of the bytes that writes have answered to have taken.
+    ensures sent { OnOk result (K.sent sink.new ≡ K.sent sink.old ++ bytes.now) }
+    ensures sent_part { IfErr result (λ fault. K.sent sink.new
+        ≡ K.sent sink.old ++ take (sent_of fault) bytes.now) }
+
     // Something was left.
     ensures left { IfErr result (λ fault. sent_of fault < length bytes.now) }
 

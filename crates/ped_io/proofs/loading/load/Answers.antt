@@ -33,9 +33,9 @@ read_more bytes loaded after old new at n read grown part =
     ∙ sym (take-add at n bytes)
 
 pub returns-then-n-eq0-clause-loaded : goal.returns-then-n-eq0-clause-loaded
-returns-then-n-eq0-clause-loaded g c files told =
-    let given = c.in_ok-n.ensures.given files (c.loop-loaded.invariant.same ∙ told) in
-    let read = c.loop-loaded.invariant.read files told given.0 given.1 in
+returns-then-n-eq0-clause-loaded g c files held =
+    let given = c.in_ok-n.ensures.given files held in
+    let read = c.loop-loaded.invariant.read files (c.in_ok-n.ensures.less files held) given.0 given.1 in
     let all = all_read given.0 _ _ _ _ _ read c.if-n-eq0.true (omega arith) given.2 in
     given.1 ∙ ap (λ bytes. Some bytes) (sym all)
 
@@ -49,15 +49,16 @@ loop-loaded-preserved g c =
       at = omega (arith, ap length grown, length-append c.loop-loaded.loaded front, length-take c.in_ok-n.n c.read_at.new.piece, now.within);
       within = omega arith;
       room = search rules;
-      read = λ files told bytes held.
-          let given = now.given files (before.same ∙ told) in
+      read = λ files may bytes held.
+          let given = now.given files may in
           let part = part_of files c.args.name.now bytes _ _ _ _ held given in
-          read_more bytes _ _ _ _ _ _ (before.read files told bytes held) grown part;
-      inside = λ files told bytes held.
-          let given = now.given files (before.same ∙ told) in
+          read_more bytes _ _ _ _ _ _ (before.read files (now.less files may) bytes held) grown part;
+      inside = λ files may bytes held.
+          let given = now.given files may in
           let part = part_of files c.args.name.now bytes _ _ _ _ held given in
-          let was = before.inside files told bytes held in
+          let was = before.inside files (now.less files may) bytes held in
           omega (arith, part.inside, length-drop c.loop-loaded.at bytes, was);
+      less = λ files may. before.less files (now.less files may);
       counts = λ m. omega (arith, before.counts m, now.counts m);
       others = λ files told m other held.
           now.others files (before.same ∙ told) m other held ∙ before.others files told m other held;

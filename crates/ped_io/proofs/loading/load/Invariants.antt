@@ -7,10 +7,11 @@ invariant-loop-loaded g l = record {
   at : l.at ≡ length l.loaded;
   within : l.at ≤ l.limit;
   room : length l.piece ≡ 4096;
-  read : (files : Contents) → g.F.Shelf.told l.initial.shelf ≡ Some files →
+  read : (files : Contents) → g.F.Shelf.may_hold l.shelf files →
       (bytes : List ℕ) → content files l.name ≡ Some bytes → l.loaded ≡ take l.at bytes;
-  inside : (files : Contents) → g.F.Shelf.told l.initial.shelf ≡ Some files →
+  inside : (files : Contents) → g.F.Shelf.may_hold l.shelf files →
       (bytes : List ℕ) → content files l.name ≡ Some bytes → l.at ≤ length bytes;
+  less : (files : Contents) → g.F.Shelf.may_hold l.shelf files → g.F.Shelf.may_hold l.initial.shelf files;
   counts : (m : List ℕ) → g.F.Shelf.count l.initial.shelf m ≤ g.F.Shelf.count l.shelf m;
   others : (files : Contents) → g.F.Shelf.told l.initial.shelf ≡ Some files →
       (m : List ℕ) → m ≢ l.name → IsHeld files m →

@@ -19,6 +19,14 @@ took_more (Some b) before now bytes piece sent n rest was took =
     ∙ ap (option_map (λ b. b ++ take n piece)) was
     ∙ ap (λ t. Some t) (append_assoc b (take sent bytes) (take n piece) ∙ ap (λ t. b ++ t) joined)
 
+sent_more : (start before now bytes piece : List ℕ) (sent n : ℕ) → piece ≡ drop sent bytes →
+    before ≡ start ++ take sent bytes → now ≡ before ++ take n piece → now ≡ start ++ take (sent + n) bytes
+sent_more start before now bytes piece sent n rest was took =
+    took
+    ∙ ap (λ b. b ++ take n piece) was
+    ∙ append_assoc start (take sent bytes) (take n piece)
+    ∙ ap (λ t. start ++ t) (ap (λ t. take sent bytes ++ take n t) rest ∙ sym (take-add sent n bytes))
+
 pub loop-sent-preserved : goal.loop-sent-preserved
 loop-sent-preserved g c =
     let bytes : List ℕ = c.args.bytes.now in
@@ -30,5 +38,6 @@ loop-sent-preserved g c =
     record {
       within = omega (arith, within, length-take left (drop sent bytes), length-drop sent bytes);
       took = took_more _ _ _ bytes rest _ _ (take_rest bytes sent) was c.in-Ok.ensures.took;
+      sent_so = sent_more _ _ _ bytes rest _ _ (take_rest bytes sent) c.loop-sent.invariant.sent_so c.in-Ok.ensures.sent;
       counts = omega arith;
     }

@@ -7,6 +7,7 @@ invariant-loop-sent g l = record {
   within : l.sent ≤ length l.bytes;
   took : g.K.Sink.taken l.sink
       ≡ option_map (λ before. before ++ take l.sent l.bytes) (g.K.Sink.taken l.initial.sink);
+  sent_so : g.K.Sink.sent l.sink ≡ g.K.Sink.sent l.initial.sink ++ take l.sent l.bytes;
   counts : g.K.Sink.faults l.initial.sink ≤ g.K.Sink.faults l.sink;
 }
 

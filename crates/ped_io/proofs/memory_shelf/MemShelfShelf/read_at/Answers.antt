@@ -1,4 +1,4 @@
-use Rattle.std.proofs.Common.{rules, ◌≡◌, ◌<◌, ℕ, Some, refl, get_or, length, ap, ◌∙◌, arith}
+use Rattle.std.proofs.Common.{rules, ◌≡◌, ◌<◌, ℕ, Some, refl, get_or, length, ap, sym, ◌∙◌, arith}
 use Rattle.std.proofs.lemmas.List.{with_items_is}
 use Rattle.ped_io.proofs.Parts.{GivesPart-Copies, given_told, content-held}
 use Rattle.ped_io.proofs.Places.{own_place}
@@ -12,7 +12,7 @@ returns-clause-given c files told =
     let contents = told_of c.args.self.now in
     let bytes = c.in-Some.content.now in
     let held : held_content contents c.args.name.now ≡ Some bytes = search rules in
-    given_told contents files c.args.name.now bytes _ _ _ _ told
+    given_told contents files c.args.name.now bytes _ _ _ _ (sym (ap (λ s. Some (told_of s)) c.self.view_is) ∙ told)
     (content-held contents c.args.name.now bytes held)
     (GivesPart-Copies _ _ _ _ _ _ (λ none. omega (arith, c.self.invariant.0)) c.copy_part.ensures)
 

@@ -35,7 +35,10 @@ pub use laws::{
     sources_keep_the_meaning, transformations_keep_the_meaning, undo_restores, without_lists,
 };
 pub use ped_eval::{LiveRow, Outcome};
-pub use ped_order::{Graph, an_interleaving, without_choices};
+pub use ped_order::{
+    Graph, an_interleaving, conflicts_are_covered, races_are_covered, without_choices,
+};
+pub use ped_transformations::calls_are_covered;
 pub use replies::{FirstCause, Refusal, Reply};
 pub use scripts::{bad_command_row, reply_text};
 pub use session::Session;

@@ -13,5 +13,7 @@ pub use ped_auto::{
     AutoReport, Editor, Lowered, accepted_are_commands, auto, has_list, lower,
     lowering_keeps_the_meaning, one_lowering,
 };
-pub use ped_inline::{Change, Refused, Scene, calls_pane, cause_words, loop_at, loops_round};
+pub use ped_inline::{
+    Change, Refused, Scene, calls_are_covered, calls_pane, cause_words, loop_at, loops_round,
+};
 pub use table::{Kind, Place, answer, place_of};

@@ -9,7 +9,6 @@ pub mod Expanding
 pub mod Verdicts
 pub mod Laws
 pub mod UnitReading
-pub mod Places
 pub mod Views
 pub mod Seeing
 pub mod Meaning

@@ -11,7 +11,7 @@ use Rattle.ped_session.specs.States.{State, opened}
 use Rattle.ped_session.specs.Scripts.{Said, nothing_said, said_both, AnswersCommand, AnswersItem, AnswersItems}
 use Rattle.ped_answer.specs.declared.answering.Status.{Status}
 use Rattle.ped_answer.specs.Answer.{IsWhole, Answers}
-use Rattle.ped_call_runs.specs.ped_calls.specs.Verdicts.{IsExpansion}
+use Rattle.ped_call_runs.specs.ped_calls.specs.ped_units.specs.Verdicts.{IsExpansion}
 use Rattle.ped_answer.specs.Headline.{ItemFact, AnswersEach, EachItemOn, EachItem}
 use Rattle.ped_answer.proofs.WholeAnswers.{session_whole}
 

@@ -7,7 +7,7 @@ use Rattle.ped_session.specs.ped_tree.specs.Grammar.Refusal.{Finding}
 use Rattle.ped_session.specs.ped_tree.specs.SourcePane.{source_pane}
 use Rattle.ped_session.specs.ped_valid.specs.Validity.{ReadsValid, RefusesText}
 use Rattle.ped_session.specs.ped_valid.proofs.OneVerdict.{one_of_both}
-use Rattle.ped_call_runs.specs.ped_calls.specs.Verdicts.{UnitFinding, found_in_text, RefusesUnits, IsExpansion}
+use Rattle.ped_call_runs.specs.ped_calls.specs.ped_units.specs.Verdicts.{UnitFinding, found_in_text, RefusesUnits, IsExpansion}
 use Rattle.ped_call_runs.specs.ped_calls.proofs.OneVerdict as units
 use Rattle.ped_session.specs.ped_graph.proofs.OnePane.{one_pane}
 use Rattle.ped_session.specs.ped_transformations.specs.ped_script.specs.Items.{commands_of}

@@ -18,9 +18,9 @@ use Rattle.ped_session.specs.LoweredRuns.{HasNoList}
 use Rattle.ped_session.specs.Steps.{Shows, IsStep}
 use Rattle.ped_session.specs.Scripts.{Said, AnswersCommand}
 use Rattle.ped_session.specs.RunsAsBefore.{RunsAsBefore, AnswersAsBefore}
-use Rattle.ped_call_runs.specs.ped_calls.specs.Units.{ProgramUnits}
-use Rattle.ped_call_runs.specs.ped_calls.specs.Expanding.{expansion}
-use Rattle.ped_call_runs.specs.ped_calls.specs.Verdicts.{ReadsLinkedUnits, IsExpansion}
+use Rattle.ped_call_runs.specs.ped_calls.specs.ped_units.specs.Units.{ProgramUnits}
+use Rattle.ped_call_runs.specs.ped_calls.specs.ped_units.specs.Expanding.{expansion}
+use Rattle.ped_call_runs.specs.ped_calls.specs.ped_units.specs.Verdicts.{ReadsLinkedUnits, IsExpansion}
 use Rattle.ped_call_runs.specs.UnitRuns.{run_units, outcome_of_units}
 use Rattle.ped_answer.specs.declared.answering.Status.{Status}
 use Rattle.ped_answer.specs.Answer.{IsWhole, Answers}

@@ -21,7 +21,7 @@ use Rattle.ped_session.specs.Steps.{IsStep}
 use Rattle.ped_session.specs.Scripts.{tests_of}
 use Rattle.ped_answer.specs.declared.answering.Status.{Status}
 use Rattle.ped_answer.specs.declared.answering.Status.TheVariants.{Done, SomeRefused, BadWords, ReadFault, WriteFault, ProgramRefused, NoMemory, TooLong}
-use Rattle.ped_call_runs.specs.ped_calls.specs.Verdicts.{found_in_text}
+use Rattle.ped_call_runs.specs.ped_calls.specs.ped_units.specs.Verdicts.{found_in_text}
 use Rattle.ped_answer.specs.Refusals.{refused_line}
 
 -- how many changes were accepted, how many lines were refused, and how many pairs of references the changes tested

@@ -9,8 +9,8 @@ use Rattle.ped_session.specs.ped_tree.specs.Printing.{program_text}
 use Rattle.ped_session.specs.ped_tree.specs.Numbering.{statement_with}
 use Rattle.ped_session.specs.ped_valid.specs.Validity.{ReadsValid}
 use Rattle.ped_session.specs.ped_order.specs.ped_eval.specs.Outcomes.{Ends, outcome, IsRaceFree}
-use Rattle.ped_call_runs.specs.ped_calls.specs.Units.{ProgramUnits}
-use Rattle.ped_call_runs.specs.ped_calls.specs.Verdicts.{IsExpansion}
+use Rattle.ped_call_runs.specs.ped_calls.specs.ped_units.specs.Units.{ProgramUnits}
+use Rattle.ped_call_runs.specs.ped_calls.specs.ped_units.specs.Verdicts.{IsExpansion}
 use Rattle.ped_call_runs.specs.UnitRuns.{run_units, outcome_of_units}
 use Rattle.ped_session.specs.ped_graph.specs.DependencePane.{IsDependencePane, IsDependencePaneOf}
 use Rattle.ped_session.specs.ped_transformations.specs.ped_inline.specs.CallsPane.{IsCallsPane}

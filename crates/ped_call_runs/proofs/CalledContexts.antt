@@ -21,11 +21,11 @@ use Rattle.ped_calls.specs.ped_valid.specs.ped_symbols.specs.Kinds.{at_last, kin
 use Rattle.ped_calls.specs.ped_valid.specs.ped_symbols.specs.NameRefusals.{has_twice}
 use Rattle.ped_calls.specs.ped_valid.specs.ped_symbols.specs.Values.{Values, fixed_value}
 use Rattle.ped_calls.specs.Giving.{IsSmall}
-use Rattle.ped_calls.specs.Forms.{Called}
-use Rattle.ped_calls.specs.Units.{ProgramUnit, ProgramUnits, all_units, unit_of}
-use Rattle.ped_calls.specs.Refusals.{for_names}
-use Rattle.ped_calls.specs.Linking.{IsIn, Placed, calls_of, associated, IsAssigned, bounds_by, array_bounds, argument_bounds, is_scalar, is_scalar_name, Arguments, Misfits, other_bounds, no_scalar, HasAllArguments}
-use Rattle.ped_calls.specs.Expanding.{Given, free_name, with_local, Meanings, meaning, or_itself, name_or, replaced, is_variable_name, Bound, body_names, constants_of, with_formals, with_constants, Renamed, meanings_in, nothing_given}
+use Rattle.ped_calls.specs.ped_units.specs.Forms.{Called}
+use Rattle.ped_calls.specs.ped_units.specs.Units.{ProgramUnit, ProgramUnits, all_units, unit_of}
+use Rattle.ped_calls.specs.ped_units.specs.Refusals.{for_names}
+use Rattle.ped_calls.specs.ped_units.specs.Linking.{IsIn, Placed, calls_of, associated, IsAssigned, bounds_by, array_bounds, argument_bounds, is_scalar, is_scalar_name, Arguments, Misfits, other_bounds, no_scalar, HasAllArguments}
+use Rattle.ped_calls.specs.ped_units.specs.Expanding.{Given, free_name, with_local, Meanings, meaning, or_itself, name_or, replaced, is_variable_name, Bound, body_names, constants_of, with_formals, with_constants, Renamed, meanings_in, nothing_given}
 use Rattle.ped_calls.proofs.SmallKinds.{small_constants}
 use Rattle.ped_steps.specs.ped_eval.specs.ped_store.specs.Variables.{no_dimensions}
 use Rattle.ped_steps.specs.ped_eval.specs.Outcomes.{bounds_of}

@@ -10,9 +10,9 @@ use Rattle.ped_tree.specs.Tree.{ExprTree, ExprTrees, Int, Var, Element, Neg, Add
 use Rattle.ped_steps.specs.ped_sums.specs.Sums.{literal}
 use Rattle.ped_calls.specs.ped_valid.specs.ped_symbols.specs.Values.{Values, fixed_value}
 use Rattle.ped_calls.specs.Giving.{IsSmall}
-use Rattle.ped_calls.specs.Units.{ProgramUnit, ProgramUnits, all_units}
-use Rattle.ped_calls.specs.Linking.{IsIn}
-use Rattle.ped_calls.specs.Expanding.{Given, Meanings, meaning, name_or, name_meant, replaced, all_replaced, is_variable_name, constants_of, nothing_given}
+use Rattle.ped_calls.specs.ped_units.specs.Units.{ProgramUnit, ProgramUnits, all_units}
+use Rattle.ped_calls.specs.ped_units.specs.Linking.{IsIn}
+use Rattle.ped_calls.specs.ped_units.specs.Expanding.{Given, Meanings, meaning, name_or, name_meant, replaced, all_replaced, is_variable_name, constants_of, nothing_given}
 use Rattle.ped_steps.specs.ped_eval.specs.Scopes.{Setting}
 use Rattle.ped_call_runs.specs.UnitRuns.{own, Instance}
 use Rattle.ped_call_runs.proofs.EachNames.{Each, each_front, each_behind, each_joined}

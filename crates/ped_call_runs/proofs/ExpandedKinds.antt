@@ -26,9 +26,9 @@ use Rattle.ped_calls.specs.ped_valid.specs.ped_symbols.specs.Values.{Values, fix
 use Rattle.ped_calls.specs.ped_valid.specs.ped_symbols.proofs.RightUseLaws.Occurring.{occurs_first}
 use Rattle.ped_calls.specs.ped_valid.specs.ped_symbols.proofs.RightUseLaws.Whole.{names_occur, others_unvalued}
 use Rattle.ped_calls.specs.Giving.{IsSmall}
-use Rattle.ped_calls.specs.Units.{ProgramUnits}
-use Rattle.ped_calls.specs.Refusals.{save_of_formals, for_names}
-use Rattle.ped_calls.specs.Expanding.{Given, free_name, literal_bounds, declared_as, constants_of, nothing_given, main_expanded, expansion}
+use Rattle.ped_calls.specs.ped_units.specs.Units.{ProgramUnits}
+use Rattle.ped_calls.specs.ped_units.specs.Refusals.{save_of_formals, for_names}
+use Rattle.ped_calls.specs.ped_units.specs.Expanding.{Given, free_name, literal_bounds, declared_as, constants_of, nothing_given, main_expanded, expansion}
 use Rattle.ped_calls.proofs.SmallKinds.{small_fixed}
 use Rattle.ped_steps.specs.ped_eval.specs.ped_store.specs.Variables.{no_dimensions}
 use Rattle.ped_steps.specs.ped_eval.specs.Outcomes.{bounds_of}

@@ -7,8 +7,8 @@ use Rattle.ped_tree.specs.Constants.ConstantExpressions.{constant_value}
 use Rattle.ped_tree.specs.NamesIn.{expr_names}
 use Rattle.ped_tree.specs.Numbering.{statement_count, statements_count}
 use Rattle.ped_tree.specs.Tree.{ExprTree, Int, Var, Rel, StmtTree, StmtTrees, Assign, no_stmts, more_stmts}
-use Rattle.ped_calls.specs.Forms.{Called}
-use Rattle.ped_calls.specs.Expanding.{Meanings, replaced, is_variable_name, behind_stmts, call_comment, block_of}
+use Rattle.ped_calls.specs.ped_units.specs.Forms.{Called}
+use Rattle.ped_calls.specs.ped_units.specs.Expanding.{Meanings, replaced, is_variable_name, behind_stmts, call_comment, block_of}
 use Rattle.ped_steps.specs.ped_eval.specs.ped_store.specs.Cells.{Cell, Scalar, Element, Private, In, Out}
 use Rattle.ped_steps.specs.ped_eval.specs.ped_store.specs.Stores.{Number, Store, put, is_storable, storable, out_of_range}
 use Rattle.ped_steps.specs.ped_eval.specs.ped_store.specs.Acts.{Act, Place}

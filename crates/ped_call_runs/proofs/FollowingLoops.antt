@@ -5,7 +5,7 @@ use Rattle.ped_base.specs.Lists.{is_same_text, is_among}
 use Rattle.ped_base.proofs.NameEquality.{same_is}
 use Rattle.ped_tree.specs.NamesIn.{expr_names, all_loop_variables}
 use Rattle.ped_tree.specs.Tree.{Head, StmtTrees}
-use Rattle.ped_calls.specs.Expanding.{Meanings, name_or, name_meant, head_replaced}
+use Rattle.ped_calls.specs.ped_units.specs.Expanding.{Meanings, name_or, name_meant, head_replaced}
 use Rattle.ped_steps.specs.ped_eval.specs.ped_store.specs.Cells.{Private}
 use Rattle.ped_steps.specs.ped_eval.specs.ped_store.specs.Stores.{Undefined, Number, Store}
 use Rattle.ped_steps.specs.ped_eval.specs.ped_store.specs.Acts.{store_behind, iterations_of}

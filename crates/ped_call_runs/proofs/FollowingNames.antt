@@ -12,7 +12,7 @@ use Rattle.ped_base.proofs.NameEquality.{same_is, same_itself}
 use Rattle.ped_tree.specs.Tree.{ExprTree, Int, Var, Neg}
 use Rattle.ped_tree.specs.Constants.NamedConstants.{value_named}
 use Rattle.ped_steps.specs.ped_sums.specs.Sums.{literal}
-use Rattle.ped_calls.specs.Expanding.{Meanings, meaning, name_or, name_meant}
+use Rattle.ped_calls.specs.ped_units.specs.Expanding.{Meanings, meaning, name_or, name_meant}
 use Rattle.ped_steps.specs.ped_eval.specs.ped_store.specs.Cells.{Cell, Scalar, Element, Private, In, Out, same_cell}
 use Rattle.ped_steps.specs.ped_eval.specs.ped_store.specs.Stores.{Number, Store, number_read, outside_bounds}
 use Rattle.ped_steps.specs.ped_eval.specs.ped_store.specs.Storage.{is_within}

@@ -3,8 +3,8 @@ use Rattle.std.proofs.Common.{◌≡◌, ℕ, suc, ℤ, Bool, true, List, [], �
 use Rattle.std.specs.List.{flat_map}
 use Rattle.ped_tree.specs.Tree.{ExprTree}
 use Rattle.ped_tree.specs.NamesIn.{expr_names}
-use Rattle.ped_calls.specs.Expanding.{Meanings, replaced}
-use Rattle.ped_calls.specs.Linking.{assigned_left}
+use Rattle.ped_calls.specs.ped_units.specs.Expanding.{Meanings, replaced}
+use Rattle.ped_calls.specs.ped_units.specs.Linking.{assigned_left}
 use Rattle.ped_steps.specs.ped_eval.specs.ped_store.specs.Cells.{Cell, In, same_cell}
 use Rattle.ped_steps.specs.ped_eval.specs.ped_store.specs.Stores.{Number, Lines, Store, put, lines_in}
 use Rattle.ped_steps.specs.ped_eval.specs.ped_store.specs.Acts.{Touch, Place, store_behind}

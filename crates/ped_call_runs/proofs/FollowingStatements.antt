@@ -4,10 +4,10 @@ use Rattle.std.specs.List.{flat_map}
 use Rattle.ped_tree.specs.NamesIn.{expr_names, cond_names, item_names, all_loop_variables}
 use Rattle.ped_tree.specs.Numbering.{statement_count, statements_count}
 use Rattle.ped_tree.specs.Tree.{ExprTree, StmtTree, StmtTrees, Assign, If, Do, Print, Read, Stop, Comment, no_stmts, more_stmts}
-use Rattle.ped_calls.specs.Forms.{Called}
-use Rattle.ped_calls.specs.Units.{call_of}
-use Rattle.ped_calls.specs.Expanding.{Meanings, replaced, cond_replaced, item_replaced, head_replaced, called_replaced, Given, Expanded, AllExpanded, expanded_or, expanded_in, all_expanded_in}
-use Rattle.ped_calls.specs.Linking.{assigned_left}
+use Rattle.ped_calls.specs.ped_units.specs.Forms.{Called}
+use Rattle.ped_calls.specs.ped_units.specs.Units.{call_of}
+use Rattle.ped_calls.specs.ped_units.specs.Expanding.{Meanings, replaced, cond_replaced, item_replaced, head_replaced, called_replaced, Given, Expanded, AllExpanded, expanded_or, expanded_in, all_expanded_in}
+use Rattle.ped_calls.specs.ped_units.specs.Linking.{assigned_left}
 use Rattle.ped_steps.specs.ped_eval.specs.ped_store.specs.Cells.{Cell}
 use Rattle.ped_steps.specs.ped_eval.specs.ped_store.specs.Stores.{Store}
 use Rattle.ped_steps.specs.ped_eval.specs.Scopes.{Setting, Scope, names_in, place_of}

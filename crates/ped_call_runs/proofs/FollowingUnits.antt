@@ -5,10 +5,10 @@ use Rattle.ped_base.specs.Dimensions.{Dimensions}
 use Rattle.ped_base.specs.Lists.{has_some}
 use Rattle.ped_tree.specs.Tree.{ProgramTree}
 use Rattle.ped_calls.specs.ped_valid.specs.ped_symbols.specs.Kinds.{kind_in}
-use Rattle.ped_calls.specs.Forms.{Called}
-use Rattle.ped_calls.specs.Units.{ProgramUnits}
-use Rattle.ped_calls.specs.Refusals.{for_names}
-use Rattle.ped_calls.specs.Expanding.{Given, Expanded, call_expanded, constants_of, nothing_given, expansion}
+use Rattle.ped_calls.specs.ped_units.specs.Forms.{Called}
+use Rattle.ped_calls.specs.ped_units.specs.Units.{ProgramUnits}
+use Rattle.ped_calls.specs.ped_units.specs.Refusals.{for_names}
+use Rattle.ped_calls.specs.ped_units.specs.Expanding.{Given, Expanded, call_expanded, constants_of, nothing_given, expansion}
 use Rattle.ped_steps.specs.ped_eval.specs.ped_store.specs.Cells.{Scalar, Element, Private, In, Out}
 use Rattle.ped_steps.specs.ped_eval.specs.ped_store.specs.Stores.{Store, store_at_start, number_in, lines_in}
 use Rattle.ped_steps.specs.ped_eval.specs.ped_store.specs.Storage.{elements_of}

@@ -5,7 +5,7 @@ use Rattle.std.proofs.lemmas.Bool.{and_parts, both_ways, ltb-true, ltb-false}
 use Rattle.ped_base.specs.Letters as Letters
 use Rattle.ped_base.specs.Lists.{is_among}
 use Rattle.ped_tree.specs.Grammar.Words.{is_name}
-use Rattle.ped_calls.specs.Expanding.{numbered_name, free_from, free_name}
+use Rattle.ped_calls.specs.ped_units.specs.Expanding.{numbered_name, free_from, free_name}
 use Rattle.ped_calls.proofs.NumberedNames.{free_is_free_wide}
 
 -- powers of ten

@@ -9,10 +9,10 @@ use Rattle.ped_calls.specs.ped_valid.specs.ped_symbols.specs.declared.symbols.Ki
 use Rattle.ped_calls.specs.ped_valid.specs.ped_symbols.specs.Entries.{entry_of}
 use Rattle.ped_calls.specs.ped_valid.specs.ped_symbols.specs.Kinds.{kind_in}
 use Rattle.ped_calls.specs.ped_valid.specs.ped_symbols.specs.Values.{Values, fixed_value}
-use Rattle.ped_calls.specs.Forms.{Called}
-use Rattle.ped_calls.specs.Units.{ProgramUnit, ProgramUnits, unit_of, call_of}
-use Rattle.ped_calls.specs.Refusals.{save_of_formals, for_names}
-use Rattle.ped_calls.specs.Expanding.{Given, free_name, with_new, declared_as, with_local, Meanings, replaced, called_replaced, is_variable_name, Bound, standing, bound_by, bound_arguments, body_names, constants_of, with_formals, with_constants, Renamed, with_renamed, renamed, meanings_in, Expanded, expanded_or, expanded_in, all_expanded_in, unit_expanded, call_expanded, nothing_given, main_expanded, expansion}
+use Rattle.ped_calls.specs.ped_units.specs.Forms.{Called}
+use Rattle.ped_calls.specs.ped_units.specs.Units.{ProgramUnit, ProgramUnits, unit_of, call_of}
+use Rattle.ped_calls.specs.ped_units.specs.Refusals.{save_of_formals, for_names}
+use Rattle.ped_calls.specs.ped_units.specs.Expanding.{Given, free_name, with_new, declared_as, with_local, Meanings, replaced, called_replaced, is_variable_name, Bound, standing, bound_by, bound_arguments, body_names, constants_of, with_formals, with_constants, Renamed, with_renamed, renamed, meanings_in, Expanded, expanded_or, expanded_in, all_expanded_in, unit_expanded, call_expanded, nothing_given, main_expanded, expansion}
 use Rattle.ped_steps.specs.ped_eval.specs.Loops.{sorted_once}
 use Rattle.ped_steps.specs.ped_eval.specs.Outcomes.{live_names}
 

@@ -7,7 +7,7 @@ use Rattle.ped_tree.specs.Constants.NamedConstants.{value_named}
 use Rattle.ped_steps.specs.ped_sums.specs.Sums.{literal}
 use Rattle.ped_calls.specs.ped_valid.specs.ped_symbols.specs.Entries.{entry_of, with_entry}
 use Rattle.ped_calls.specs.ped_valid.specs.ped_symbols.specs.Values.{Values}
-use Rattle.ped_calls.specs.Expanding.{Meanings, with_formals, with_constants}
+use Rattle.ped_calls.specs.ped_units.specs.Expanding.{Meanings, with_formals, with_constants}
 use Rattle.ped_call_runs.specs.UnitRuns.{own, with_own}
 
 -- an entry stays where others are put behind it

@@ -13,10 +13,10 @@ use Rattle.ped_calls.specs.ped_valid.specs.ped_symbols.specs.Sites.{decl_sites, 
 use Rattle.ped_calls.specs.ped_valid.specs.ped_symbols.specs.Uses.{decl_uses}
 use Rattle.ped_calls.specs.ped_valid.specs.ped_symbols.proofs.RightUseLaws.Occurring.{first_among}
 use Rattle.ped_calls.specs.ped_valid.specs.ped_symbols.proofs.RightUseLaws.Whole.{names_occur}
-use Rattle.ped_calls.specs.Forms.{Called}
-use Rattle.ped_calls.specs.Units.{ProgramUnit, call_of, instead_of, with_calls, all_with_calls}
-use Rattle.ped_calls.specs.Refusals.{dimensioned, is_whole_array, plain_arguments, is_zero, and_zeros, condition_of, using_arguments, save_of_formals, for_names}
-use Rattle.ped_calls.specs.Expanding.{naming_arguments, body_names}
+use Rattle.ped_calls.specs.ped_units.specs.Forms.{Called}
+use Rattle.ped_calls.specs.ped_units.specs.Units.{ProgramUnit, call_of, instead_of, with_calls, all_with_calls}
+use Rattle.ped_calls.specs.ped_units.specs.Refusals.{dimensioned, is_whole_array, plain_arguments, is_zero, and_zeros, condition_of, using_arguments, save_of_formals, for_names}
+use Rattle.ped_calls.specs.ped_units.specs.Expanding.{naming_arguments, body_names}
 use Rattle.ped_steps.proofs.RunLaws.ExpandedNamesSites.{stmts_at}
 use Rattle.ped_steps.proofs.RunLaws.NamesKept.{occurs, occurs_append}
 use Rattle.ped_call_runs.proofs.EachNames.{Each, each_front, each_behind, each_of, of_each, each_joined}

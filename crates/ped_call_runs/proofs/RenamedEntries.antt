@@ -6,9 +6,9 @@ use Rattle.ped_base.proofs.NameEquality.{same_is, same_itself}
 use Rattle.ped_tree.specs.Tree.{ExprTree, Var}
 use Rattle.ped_calls.specs.ped_valid.specs.ped_symbols.specs.Entries.{entry_of, with_entry}
 use Rattle.ped_calls.specs.ped_valid.specs.ped_symbols.specs.Kinds.{kind_in}
-use Rattle.ped_calls.specs.Units.{ProgramUnit}
-use Rattle.ped_calls.specs.Refusals.{for_names}
-use Rattle.ped_calls.specs.Expanding.{Given, free_name, with_local, Renamed, with_renamed, renamed}
+use Rattle.ped_calls.specs.ped_units.specs.Units.{ProgramUnit}
+use Rattle.ped_calls.specs.ped_units.specs.Refusals.{for_names}
+use Rattle.ped_calls.specs.ped_units.specs.Expanding.{Given, free_name, with_local, Renamed, with_renamed, renamed}
 use Rattle.ped_call_runs.specs.UnitRuns.{own}
 use Rattle.ped_call_runs.proofs.GivenMore.{GivesMore, gives_same, gives_then, gives_local, renamed_give}
 use Rattle.ped_call_runs.proofs.SwappedNames.{swapped, paired, AreApart}

@@ -13,11 +13,11 @@ use Rattle.ped_calls.specs.ped_valid.specs.ped_symbols.specs.NameRefusals.{next_
 use Rattle.ped_calls.specs.ped_valid.specs.ped_symbols.specs.Sites.{Site, private_names, private_site, stmt_sites, stmts_sites, decl_sites, program_sites}
 use Rattle.ped_calls.specs.ped_valid.specs.ped_symbols.specs.Values.{within, fixed_value, is_bad_step, site_fails}
 use Rattle.ped_calls.specs.ped_valid.specs.ped_symbols.proofs.RightUseLaws.Occurring.{among_first}
-use Rattle.ped_calls.specs.Forms.{Called}
-use Rattle.ped_calls.specs.Units.{ProgramUnit, ProgramUnits, all_units, call_of, instead_of, with_calls, all_with_calls}
-use Rattle.ped_calls.specs.Refusals.{dimensioned, using_arguments}
-use Rattle.ped_calls.specs.Linking.{IsIn, Placed, placed, calls_in, all_calls_in, calls_of, assigned_left, assigned_in, all_assigned_in, assigns, IsAssigned, Arguments, CallPlace, Sited, sited, IsLinked}
-use Rattle.ped_calls.specs.Expanding.{naming_arguments, body_names, constants_of}
+use Rattle.ped_calls.specs.ped_units.specs.Forms.{Called}
+use Rattle.ped_calls.specs.ped_units.specs.Units.{ProgramUnit, ProgramUnits, all_units, call_of, instead_of, with_calls, all_with_calls}
+use Rattle.ped_calls.specs.ped_units.specs.Refusals.{dimensioned, using_arguments}
+use Rattle.ped_calls.specs.ped_units.specs.Linking.{IsIn, Placed, placed, calls_in, all_calls_in, calls_of, assigned_left, assigned_in, all_assigned_in, assigns, IsAssigned, Arguments, CallPlace, Sited, sited, IsLinked}
+use Rattle.ped_calls.specs.ped_units.specs.Expanding.{naming_arguments, body_names, constants_of}
 use Rattle.ped_call_runs.proofs.EachNames.{Each, each_front, each_behind, each_of, of_each, each_joined, each_two}
 use Rattle.ped_call_runs.proofs.EachCalls.{AllCalls, EachCall, OfCall}
 use Rattle.ped_call_runs.proofs.ConstantValues.{HasSome}

@@ -4,9 +4,9 @@ use Rattle.std.proofs.lemmas.Bool.{ltb-true, ltb-false}
 use Rattle.ped_tree.specs.Numbering.{statement_count, statements_count}
 use Rattle.ped_tree.specs.Tree.{ExprTree, StmtTree, StmtTrees, Assign, If, Do, Print, Read, Stop, Comment, no_stmts, more_stmts}
 use Rattle.ped_calls.specs.ped_valid.specs.ped_symbols.specs.Values.{Values, fixed_value}
-use Rattle.ped_calls.specs.Forms.{Called}
-use Rattle.ped_calls.specs.Units.{call_of}
-use Rattle.ped_calls.specs.Expanding.{Given, with_new, Meanings, replaced, called_replaced, is_variable_name, Bound, standing, bound_by, bound_arguments, Expanded, AllExpanded, expanded_or, expanded_in, all_expanded_in}
+use Rattle.ped_calls.specs.ped_units.specs.Forms.{Called}
+use Rattle.ped_calls.specs.ped_units.specs.Units.{call_of}
+use Rattle.ped_calls.specs.ped_units.specs.Expanding.{Given, with_new, Meanings, replaced, called_replaced, is_variable_name, Bound, standing, bound_by, bound_arguments, Expanded, AllExpanded, expanded_or, expanded_in, all_expanded_in}
 use Rattle.ped_call_runs.specs.UnitRuns.{count_or, sized, all_sized}
 use Rattle.ped_call_runs.proofs.EachCalls.{OfCall, EachCall, AllCalls}
 use Rattle.ped_call_runs.proofs.RisingNumbers.{passed}

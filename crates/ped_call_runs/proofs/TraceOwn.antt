@@ -8,9 +8,9 @@ use Rattle.ped_calls.specs.ped_valid.specs.ped_symbols.specs.Entries.{entry_of}
 use Rattle.ped_calls.specs.ped_valid.specs.ped_symbols.specs.Kinds.{kind_in}
 use Rattle.ped_calls.specs.ped_valid.specs.ped_symbols.specs.NameRefusals.{has_twice}
 use Rattle.ped_calls.specs.ped_valid.specs.ped_symbols.specs.Values.{Values, fixed_value}
-use Rattle.ped_calls.specs.Units.{ProgramUnit}
-use Rattle.ped_calls.specs.Refusals.{for_names}
-use Rattle.ped_calls.specs.Expanding.{Given, free_name, with_new, is_variable_name, Renamed, with_renamed}
+use Rattle.ped_calls.specs.ped_units.specs.Units.{ProgramUnit}
+use Rattle.ped_calls.specs.ped_units.specs.Refusals.{for_names}
+use Rattle.ped_calls.specs.ped_units.specs.Expanding.{Given, free_name, with_new, is_variable_name, Renamed, with_renamed}
 use Rattle.ped_call_runs.specs.UnitRuns.{own}
 use Rattle.ped_call_runs.proofs.Traces.{value_traced, arguments_traced, locals_traced}
 use Rattle.ped_call_runs.proofs.OwnNames.{firsts, IsOwnIn, OwnIn, NoneTwice}

@@ -7,10 +7,10 @@ use Rattle.ped_tree.specs.Tree.{ExprTree, StmtTree, StmtTrees, Assign, If, Do, P
 use Rattle.ped_calls.specs.ped_valid.specs.ped_symbols.specs.Entries.{entry_of}
 use Rattle.ped_calls.specs.ped_valid.specs.ped_symbols.specs.Kinds.{kind_in}
 use Rattle.ped_calls.specs.ped_valid.specs.ped_symbols.specs.Values.{Values, fixed_value}
-use Rattle.ped_calls.specs.Forms.{Called}
-use Rattle.ped_calls.specs.Units.{ProgramUnit, ProgramUnits, unit_of, call_of}
-use Rattle.ped_calls.specs.Refusals.{for_names}
-use Rattle.ped_calls.specs.Expanding.{Given, free_name, with_new, Meanings, called_replaced, is_variable_name, bound_arguments, body_names, constants_of, with_formals, with_constants, Renamed, with_renamed, meanings_in, call_comment, Expanded, expanded_in, all_expanded_in, call_expanded, nothing_given}
+use Rattle.ped_calls.specs.ped_units.specs.Forms.{Called}
+use Rattle.ped_calls.specs.ped_units.specs.Units.{ProgramUnit, ProgramUnits, unit_of, call_of}
+use Rattle.ped_calls.specs.ped_units.specs.Refusals.{for_names}
+use Rattle.ped_calls.specs.ped_units.specs.Expanding.{Given, free_name, with_new, Meanings, called_replaced, is_variable_name, bound_arguments, body_names, constants_of, with_formals, with_constants, Renamed, with_renamed, meanings_in, call_comment, Expanded, expanded_in, all_expanded_in, call_expanded, nothing_given}
 use Rattle.ped_call_runs.specs.UnitRuns.{own, number_inside, sized, all_sized, call_size}
 use Rattle.ped_call_runs.proofs.FollowingStores.{Bond, tight, loose, free}
 

@@ -20,11 +20,11 @@ use Rattle.ped_calls.specs.ped_valid.specs.ped_symbols.specs.Values.{Values, sit
 use Rattle.ped_calls.specs.ped_valid.specs.ped_symbols.proofs.RightUseLaws.Constants.{none_named}
 use Rattle.ped_calls.specs.ped_valid.specs.ped_symbols.proofs.RightUseLaws.Occurring.{among_first}
 use Rattle.ped_calls.specs.ped_valid.specs.ped_symbols.proofs.RightUseLaws.Quiet.{AreQuiet, all_quiet, quiet_back, no_constant_used, none_fails, stmts_declare_nothing}
-use Rattle.ped_calls.specs.Forms.{Called}
-use Rattle.ped_calls.specs.Units.{ProgramUnit, with_calls, all_with_calls}
-use Rattle.ped_calls.specs.Refusals.{dimensioned, using_arguments, save_of_formals, for_names, lines_for_names, units_name_refusals}
-use Rattle.ped_calls.specs.Linking.{IsIn, assigned_left, assigned_in, all_assigned_in, assigns}
-use Rattle.ped_calls.specs.Expanding.{constants_of}
+use Rattle.ped_calls.specs.ped_units.specs.Forms.{Called}
+use Rattle.ped_calls.specs.ped_units.specs.Units.{ProgramUnit, with_calls, all_with_calls}
+use Rattle.ped_calls.specs.ped_units.specs.Refusals.{dimensioned, using_arguments, save_of_formals, for_names, lines_for_names, units_name_refusals}
+use Rattle.ped_calls.specs.ped_units.specs.Linking.{IsIn, assigned_left, assigned_in, all_assigned_in, assigns}
+use Rattle.ped_calls.specs.ped_units.specs.Expanding.{constants_of}
 use Rattle.ped_call_runs.proofs.EachNames.{Each, each_of, each_map, each_joined}
 use Rattle.ped_call_runs.proofs.DeclaredAtLast.{last_values}
 

@@ -18,12 +18,12 @@ use Rattle.ped_calls.specs.ped_valid.specs.ped_symbols.specs.NameRefusals.{has_t
 use Rattle.ped_calls.specs.ped_valid.specs.ped_symbols.specs.Values.{Values}
 use Rattle.ped_calls.specs.ped_valid.specs.ped_symbols.proofs.RightUseLaws.Occurring.{occurs_first}
 use Rattle.ped_calls.specs.ped_valid.specs.ped_symbols.proofs.RightUseLaws.Whole.{others_unvalued}
-use Rattle.ped_calls.specs.Forms.{Called}
-use Rattle.ped_calls.specs.Units.{ProgramUnit, ProgramUnits, all_units, unit_of, call_of}
-use Rattle.ped_calls.specs.Refusals.{save_of_formals, for_names}
-use Rattle.ped_calls.specs.Linking.{IsIn, Arguments, IsLinked}
-use Rattle.ped_calls.specs.Verdicts.{ReadsLinkedUnits}
-use Rattle.ped_calls.specs.Expanding.{Given, is_variable_name, constants_of, call_expanded, nothing_given, expansion}
+use Rattle.ped_calls.specs.ped_units.specs.Forms.{Called}
+use Rattle.ped_calls.specs.ped_units.specs.Units.{ProgramUnit, ProgramUnits, all_units, unit_of, call_of}
+use Rattle.ped_calls.specs.ped_units.specs.Refusals.{save_of_formals, for_names}
+use Rattle.ped_calls.specs.ped_units.specs.Linking.{IsIn, Arguments, IsLinked}
+use Rattle.ped_calls.specs.ped_units.specs.Verdicts.{ReadsLinkedUnits}
+use Rattle.ped_calls.specs.ped_units.specs.Expanding.{Given, is_variable_name, constants_of, call_expanded, nothing_given, expansion}
 use Rattle.ped_steps.specs.ped_eval.specs.Outcomes.{setting_of, live_names}
 use Rattle.ped_steps.specs.ped_eval.specs.Scopes.{Setting}
 use Rattle.ped_steps.specs.Runs.Renumbering.{renumbered}

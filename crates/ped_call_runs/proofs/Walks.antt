@@ -11,10 +11,10 @@ use Rattle.ped_tree.specs.NamesIn.{expr_names, cond_names, item_names, head_name
 use Rattle.ped_tree.specs.Numbering.{statement_count, statements_count}
 use Rattle.ped_tree.specs.Tree.{ExprTree, CondTree, Rel, Not, And, Or, ItemTree, Value, Text, Head, StmtTree, StmtTrees, Assign, If, Do, Print, Read, Stop, Comment, no_stmts, more_stmts}
 use Rattle.ped_calls.specs.ped_valid.specs.ped_symbols.specs.Values.{Values}
-use Rattle.ped_calls.specs.Forms.{Called}
-use Rattle.ped_calls.specs.Units.{ProgramUnit, ProgramUnits, all_units, unit_among, unit_of, call_of}
-use Rattle.ped_calls.specs.Linking.{IsIn, assigned_left}
-use Rattle.ped_calls.specs.Expanding.{Given, Meanings, meaning, name_meant, replaced, cond_replaced, item_replaced, head_replaced, called_replaced, Bound, bound_arguments, body_names, constants_of, with_formals, with_constants, Renamed, meanings_in, behind_stmts, call_comment, Expanded, AllExpanded, expanded_or, expanded_in, all_expanded_in, unit_expanded, call_expanded, nothing_given}
+use Rattle.ped_calls.specs.ped_units.specs.Forms.{Called}
+use Rattle.ped_calls.specs.ped_units.specs.Units.{ProgramUnit, ProgramUnits, all_units, unit_among, unit_of, call_of}
+use Rattle.ped_calls.specs.ped_units.specs.Linking.{IsIn, assigned_left}
+use Rattle.ped_calls.specs.ped_units.specs.Expanding.{Given, Meanings, meaning, name_meant, replaced, cond_replaced, item_replaced, head_replaced, called_replaced, Bound, bound_arguments, body_names, constants_of, with_formals, with_constants, Renamed, meanings_in, behind_stmts, call_comment, Expanded, AllExpanded, expanded_or, expanded_in, all_expanded_in, unit_expanded, call_expanded, nothing_given}
 use Rattle.ped_steps.specs.ped_eval.specs.Loops.{increment}
 use Rattle.ped_steps.specs.ped_eval.specs.Scopes.{Setting}
 use Rattle.ped_call_runs.specs.UnitRuns.{own, is_own, Instance, number_inside, called_instance, stmts_replaced, call_stays, count_or, sized, all_sized, size_in, call_size}

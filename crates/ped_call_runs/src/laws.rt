@@ -2,9 +2,9 @@
 
 ghost use Rattle.std.specs.Prelude.{◌≡◌, ℕ, List};
 ghost use Rattle.ped_calls.specs.ped_valid.specs.ped_symbols.specs.NameRefusals.{IsValid};
-ghost use Rattle.ped_calls.specs.Units.{ProgramUnits};
-ghost use Rattle.ped_calls.specs.Expanding.{expansion};
-ghost use Rattle.ped_calls.specs.Verdicts.{ReadsLinkedUnits};
+ghost use Rattle.ped_calls.specs.ped_units.specs.Units.{ProgramUnits};
+ghost use Rattle.ped_calls.specs.ped_units.specs.Expanding.{expansion};
+ghost use Rattle.ped_calls.specs.ped_units.specs.Verdicts.{ReadsLinkedUnits};
 ghost use Rattle.ped_steps.specs.ped_eval.specs.Outcomes.{Ends, outcome};
 ghost use Rattle.ped_call_runs.specs.UnitRuns.{run_units, outcome_of_units};
 

@@ -5,4 +5,4 @@
 mod laws;
 
 pub use laws::expansions_run_alike;
-pub use ped_calls::{UnitFinding, UnitRefusal, UnitRule, expansion};
+pub use ped_calls::{OpenRefusal, Opened, UnitFinding, UnitRefusal, UnitRule, expansion};

@@ -11,7 +11,7 @@ use Rattle.ped_tree.specs.Grammar.Contexts.{numbered_in}
 use Rattle.ped_tree.specs.Grammar.ProgramRefusals.{listed_stmts}
 use Rattle.ped_tree.specs.Grammar.Occurrences.{rejected_names}
 use Rattle.ped_tree.specs.Grammar.BlockForms.{PlainForm, a_simple, a_continue, a_logical_if, PrivateForm, no_private, private_list, BodyForm, nothing, and_then, PartForm, a_plain, an_if, a_do, RestForm, ends_if, has_else, has_else_if, LoopForm, loop, EndingForm, at_plain, at_end_do, with_inner, plain_item, entry, private_entries, body_entries, part_entries, rest_entries, loop_entries, ending_entries, comments_of, plain_trees, names_of_private, comments_of_private, first_of_rest, whole_head, body_trees, part_trees, rest_trees, loop_trees, ending_trees}
-use Rattle.ped_calls.specs.Forms.{Called}
+use Rattle.ped_links.specs.ped_units.specs.Forms.{Called}
 use Rattle.ped_calls.proofs.BoundedStatements.{IsBounded, AreBounded, joined, if_bounded, do_bounded, packed_listed}
 
 -- what a statement says is short, where these stand for CALLs

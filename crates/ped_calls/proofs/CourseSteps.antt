@@ -6,8 +6,8 @@ use Rattle.std.proofs.lemmas.List.{map_push}
 use Rattle.ped_tree.specs.Views.{stmt_tree, pack_stmts}
 use Rattle.ped_tree.specs.declared.statements.Stmt.{Stmt}
 use Rattle.ped_tree.specs.Numbering.{statement_count, statements_count}
-use Rattle.ped_calls.specs.Forms.{Called}
-use Rattle.ped_calls.specs.Expanding.{Given, Meanings, Expanded, AllExpanded, behind_stmts, cond_replaced, head_replaced, expanded_in, all_expanded_in}
+use Rattle.ped_links.specs.ped_units.specs.Forms.{Called}
+use Rattle.ped_links.specs.ped_units.specs.Expanding.{Given, Meanings, Expanded, AllExpanded, behind_stmts, cond_replaced, head_replaced, expanded_in, all_expanded_in}
 use Rattle.ped_calls.specs.Giving.{given_of}
 use Rattle.ped_calls.specs.Courses.{IsUnderWay, GoesOn, Passes, too_many, too_deep, IsTooDeep, AreTooDeep, StopsAt, ExpandsOn}
 use Rattle.ped_calls.specs.declared.expanding.Course.{Course}

@@ -6,12 +6,12 @@ use Rattle.ped_tree.specs.Tree.{ExprTree, Head, StmtTree, StmtTrees, Assign, If,
 use Rattle.ped_tree.specs.Views.{stmt_tree}
 use Rattle.ped_tree.specs.declared.statements.Stmt.{Stmt}
 use Rattle.ped_tree.specs.Numbering.{statement_count, statements_count}
-use Rattle.ped_valid.specs.ped_symbols.specs.Sites.{private_site, stmt_sites, stmts_sites}
-use Rattle.ped_calls.specs.Forms.{Called}
-use Rattle.ped_calls.specs.Units.{call_of}
-use Rattle.ped_calls.specs.Linking.{placed, calls_in, all_calls_in}
-use Rattle.ped_calls.specs.Expanding.{behind_stmts}
-use Rattle.ped_calls.specs.Verdicts.{one_for, call_here, call_count, calls_count, while_calls, with_first_calls, first_calls}
+use Rattle.ped_links.specs.ped_valid.specs.ped_symbols.specs.Sites.{private_site, stmt_sites, stmts_sites}
+use Rattle.ped_links.specs.ped_units.specs.Forms.{Called}
+use Rattle.ped_links.specs.ped_units.specs.Units.{call_of}
+use Rattle.ped_links.specs.ped_units.specs.Linking.{placed, calls_in, all_calls_in}
+use Rattle.ped_links.specs.ped_units.specs.Expanding.{behind_stmts}
+use Rattle.ped_links.specs.ped_units.specs.Verdicts.{one_for, call_here, call_count, calls_count, while_calls, with_first_calls, first_calls}
 use Rattle.ped_calls.proofs.CourseSteps.{behind_pushed}
 
 -- how many CALLs stand in the parts of a statement

@@ -7,16 +7,16 @@ use Rattle.ped_tree.specs.Numbering.{statements_count}
 use Rattle.ped_tree.specs.Grammar.LimitNumbers.{most_statements}
 use Rattle.ped_tree.specs.Grammar.Fits.{fits}
 use Rattle.ped_tree.specs.Grammar.Refusal.{Refusal}
-use Rattle.ped_valid.specs.ped_symbols.specs.NameRefusals.{name_refusals, IsValid}
-use Rattle.ped_valid.specs.ped_symbols.specs.ped_refs.proofs.SizeLaws.Small.{small_program}
-use Rattle.ped_calls.specs.Units.{ProgramUnits}
-use Rattle.ped_calls.specs.Linking.{Placed, calls_of}
-use Rattle.ped_calls.specs.Expanding.{constants_of, main_call_expanded, nothing_given, main_expanded, with_statements, expansion}
-use Rattle.ped_calls.specs.Placing.{placed_call}
-use Rattle.ped_calls.specs.Verdicts.{calls_count, settled, partial, IsPast, IsWithin, IsFirstPast}
+use Rattle.ped_links.specs.ped_valid.specs.ped_symbols.specs.NameRefusals.{name_refusals, IsValid}
+use Rattle.ped_links.specs.ped_valid.specs.ped_symbols.specs.ped_refs.proofs.SizeLaws.Small.{small_program}
+use Rattle.ped_links.specs.ped_units.specs.Units.{ProgramUnits}
+use Rattle.ped_links.specs.ped_units.specs.Linking.{Placed, calls_of}
+use Rattle.ped_links.specs.ped_units.specs.Expanding.{constants_of, main_call_expanded, nothing_given, main_expanded, with_statements, expansion}
+use Rattle.ped_links.specs.Placing.{placed_call}
+use Rattle.ped_links.specs.ped_units.specs.Verdicts.{calls_count, settled, partial, IsPast, IsWithin, IsFirstPast}
 use Rattle.ped_calls.specs.Opening.{expanded_program, has_many, Judges, StartsWell}
 use Rattle.ped_calls.specs.declared.opening.Judgement.{Judgement}
-use Rattle.ped_calls.specs.declared.placing.PlacedCall.{PlacedCall}
+use Rattle.ped_links.specs.declared.placing.PlacedCall.{PlacedCall}
 use Rattle.ped_calls.proofs.FirstCalls.{all_whole, all_placed}
 use Rattle.ped_calls.proofs.Judged.{not_below, neither}
 use Rattle.ped_calls.proofs.PlainExpanding.{all_same}

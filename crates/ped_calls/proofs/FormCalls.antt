@@ -7,7 +7,7 @@ use Rattle.ped_tree.specs.Grammar.Items.{Item, does, logical_if, end_if, ends_pr
 use Rattle.ped_tree.specs.Grammar.Occurrences.{rejected_names}
 use Rattle.ped_tree.specs.Grammar.BlockForms.{PlainForm, a_simple, a_continue, a_logical_if, PrivateForm, no_private, private_list, BodyForm, nothing, and_then, PartForm, a_plain, an_if, a_do, RestForm, ends_if, has_else, has_else_if, LoopForm, loop, EndingForm, at_plain, at_end_do, with_inner, plain_item, entry, private_entries, body_entries, part_entries, rest_entries, loop_entries, ending_entries, comments_of, plain_trees, comments_of_private, names_of_private, first_of_rest, whole_head, body_trees, part_trees, rest_trees, loop_trees, ending_trees}
 use Rattle.ped_tree.specs.Grammar.ProgramForms.{DeclForm, a_declaration, a_save_of_all, ProgramForm, decl_entry, program_entries, behind_front, all_trees, program_form_tree}
-use Rattle.ped_calls.specs.Verdicts.{call_count, calls_count}
+use Rattle.ped_links.specs.ped_units.specs.Verdicts.{call_count, calls_count}
 
 -- the CALLs of what a statement says
 abbrev pub item_calls : Item → ℕ

@@ -1,7 +1,7 @@
 -- The next new name: those with lesser numbers that are taken are passed over.
 use Rattle.std.proofs.Common.{◌≡◌, ℕ, zero, suc, ◌+◌, ◌-◌, ◌<◌, ◌≤◌, Bool, true, false, List, refl, ap, ◌∙◌, arith, if◌then◌else◌}
 use Rattle.ped_base.specs.Lists.{is_among}
-use Rattle.ped_calls.specs.Expanding.{numbered_name, free_from}
+use Rattle.ped_links.specs.ped_units.specs.Expanding.{numbered_name, free_from}
 
 -- one that is taken
 pub passed : (tries : ℕ) (taken : List (List ℕ)) (n : ℕ) → is_among (numbered_name n) taken ≡ true → free_from (suc tries) taken n ≡ free_from tries taken (n + 1)

@@ -4,11 +4,11 @@ use Rattle.std.proofs.lemmas.List.{map_push, drop_all}
 use Rattle.std.proofs.lemmas.Grind.{common_steps}
 use Rattle.ped_base.specs.Dimensions.{dimensions, IsBounds}
 use Rattle.ped_base.specs.declared.bounds.Bounds.TheInside.{Inside}
-use Rattle.ped_sums.specs.Sums.{literal}
+use Rattle.ped_links.specs.ped_units.specs.ped_sums.specs.Sums.{literal}
 use Rattle.ped_tree.specs.Tree.{BoundTree}
 use Rattle.ped_tree.specs.Views.{bound_tree}
 use Rattle.ped_tree.specs.declared.declarations.Bound.{Bound}
-use Rattle.ped_calls.specs.Expanding.{literal_bounds}
+use Rattle.ped_links.specs.ped_units.specs.Expanding.{literal_bounds}
 use Rattle.ped_calls.specs.Giving.{IsSmall, HasSmallBounds}
 
 next_item : (xs : List ℤ) (n i : ℕ) (d : ℤ) → i < n → n ≤ length xs → drop i (take n xs) ≡ get_or xs i d ∷ drop (i + 1) (take n xs)

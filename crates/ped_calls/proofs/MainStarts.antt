@@ -16,19 +16,19 @@ use Rattle.ped_tree.specs.Grammar.BlockForms.{entry, body_entries, body_keeps_la
 use Rattle.ped_tree.specs.Grammar.ProgramForms.{ProgramForm, decl_entry, program_entries, decl_trees, front_remarks, behind_front, all_trees, program_form_tree}
 use Rattle.ped_tree.specs.Grammar.ProgramRefusals.{at_statements, at_end, program_refusals}
 use Rattle.ped_tree.specs.Grammar.Reading.{IsReading}
-use Rattle.ped_valid.specs.ped_parse.specs.ped_blocks.proofs.BlocksFound.{left_empty, right_empty, first_none}
-use Rattle.ped_valid.specs.ped_parse.specs.ped_printed.proofs.ProgramLaws.FitBodyLists.{CommentsFit, IsSourced, Sourced, first_sourced, rest_sourced, Accepted, accepted_behind, At}
-use Rattle.ped_valid.specs.ped_parse.specs.ped_printed.proofs.ProgramLaws.FitBodyWhole.{StatementSourced, front_fit, begins_behind_front, body_place, all_fit, whole_body_fits}
-use Rattle.ped_valid.specs.ped_parse.specs.ped_printed.proofs.ProgramLaws.FitDeclsNames.{Named, saved_named}
-use Rattle.ped_valid.specs.ped_parse.specs.ped_printed.proofs.ProgramLaws.FitDecls.{declarations_both, declarations_fit, constants_both, behind_declarations, front_constants}
-use Rattle.ped_valid.specs.ped_parse.specs.ped_printed.proofs.ProgramLaws.Sources.{statements_sourced}
-use Rattle.ped_valid.specs.ped_symbols.specs.NameRefusals.{name_refusals}
-use Rattle.ped_valid.proofs.WithoutLines.{none_on_any}
-use Rattle.ped_calls.specs.Forms.{Called, UnitItem, plain, calls, calls_if, begins_unit, returns, IsUnitItem}
-use Rattle.ped_calls.specs.Units.{ProgramUnits, all_units, call_statement}
-use Rattle.ped_calls.specs.Reading.{UnitEntry, AreUnitEntries, ends, begins, own_entries, further_segments, Segment, segments_of, is_end_next, as_reading, as_entries, stand_in, seen_entries, kept_entries, IsUnitOf}
-use Rattle.ped_calls.specs.Refusals.{for_names, lines_for_names, other_refusals, segment_refusals, before_another, segments_refusals, units_name_refusals}
-use Rattle.ped_calls.specs.Verdicts.{call_count, calls_count, ReadsRightUnits}
+use Rattle.ped_links.specs.ped_valid.specs.ped_parse.specs.ped_blocks.proofs.BlocksFound.{left_empty, right_empty, first_none}
+use Rattle.ped_links.specs.ped_valid.specs.ped_parse.specs.ped_printed.proofs.ProgramLaws.FitBodyLists.{CommentsFit, IsSourced, Sourced, first_sourced, rest_sourced, Accepted, accepted_behind, At}
+use Rattle.ped_links.specs.ped_valid.specs.ped_parse.specs.ped_printed.proofs.ProgramLaws.FitBodyWhole.{StatementSourced, front_fit, begins_behind_front, body_place, all_fit, whole_body_fits}
+use Rattle.ped_links.specs.ped_valid.specs.ped_parse.specs.ped_printed.proofs.ProgramLaws.FitDeclsNames.{Named, saved_named}
+use Rattle.ped_links.specs.ped_valid.specs.ped_parse.specs.ped_printed.proofs.ProgramLaws.FitDecls.{declarations_both, declarations_fit, constants_both, behind_declarations, front_constants}
+use Rattle.ped_links.specs.ped_valid.specs.ped_parse.specs.ped_printed.proofs.ProgramLaws.Sources.{statements_sourced}
+use Rattle.ped_links.specs.ped_valid.specs.ped_symbols.specs.NameRefusals.{name_refusals}
+use Rattle.ped_links.specs.ped_valid.proofs.WithoutLines.{none_on_any}
+use Rattle.ped_links.specs.ped_units.specs.Forms.{Called, UnitItem, plain, calls, calls_if, begins_unit, returns, IsUnitItem}
+use Rattle.ped_links.specs.ped_units.specs.Units.{ProgramUnits, all_units, call_statement}
+use Rattle.ped_links.specs.ped_units.specs.Reading.{UnitEntry, AreUnitEntries, ends, begins, own_entries, further_segments, Segment, segments_of, is_end_next, as_reading, as_entries, stand_in, seen_entries, kept_entries, IsUnitOf}
+use Rattle.ped_links.specs.ped_units.specs.Refusals.{for_names, lines_for_names, other_refusals, segment_refusals, before_another, segments_refusals, units_name_refusals}
+use Rattle.ped_links.specs.ped_units.specs.Verdicts.{call_count, calls_count, ReadsRightUnits}
 use Rattle.ped_calls.specs.Opening.{StartsWell}
 use Rattle.ped_calls.proofs.FormCalls.{reading_calls, entries_calls, form_calls}
 use Rattle.ped_calls.proofs.PlainFiles.{Says, AllSay, all_say}

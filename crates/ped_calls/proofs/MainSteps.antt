@@ -10,24 +10,24 @@ use Rattle.ped_tree.specs.Grammar.LimitNumbers.{most_statements}
 use Rattle.ped_tree.specs.NamesIn.{first_occurrences}
 use Rattle.ped_tree.specs.Names.Collecting.{with_name, with_names}
 use Rattle.ped_tree.specs.Views.{decl_tree, stmt_trees}
-use Rattle.ped_valid.specs.ped_symbols.specs.declared.symbols.Kind.{Kind}
-use Rattle.ped_valid.specs.ped_symbols.specs.Declarations.{program_name}
+use Rattle.ped_links.specs.ped_valid.specs.ped_symbols.specs.declared.symbols.Kind.{Kind}
+use Rattle.ped_links.specs.ped_valid.specs.ped_symbols.specs.Declarations.{program_name}
 use Rattle.ped_base.specs.Lists.{is_same_text}
-use Rattle.ped_valid.specs.ped_symbols.specs.Kinds.{Table, table_of, kind_of, names_of}
-use Rattle.ped_valid.specs.ped_symbols.specs.Values.{Values}
-use Rattle.ped_calls.specs.Units.{ProgramUnits, unit_of, unit_among}
-use Rattle.ped_calls.specs.Units as units
-use Rattle.ped_calls.specs.Numbers.{number_among, number_of_unit}
-use Rattle.ped_calls.specs.Refusals.{for_names}
-use Rattle.ped_calls.specs.Expanding.{Given, Meanings, all_expanded_in, call_expanded, main_call_expanded, main_expanded, with_statements, constants_of, nothing_given}
+use Rattle.ped_links.specs.ped_valid.specs.ped_symbols.specs.Kinds.{Table, table_of, kind_of, names_of}
+use Rattle.ped_links.specs.ped_valid.specs.ped_symbols.specs.Values.{Values}
+use Rattle.ped_links.specs.ped_units.specs.Units.{ProgramUnits, unit_of, unit_among}
+use Rattle.ped_links.specs.ped_units.specs.Units as units
+use Rattle.ped_links.specs.Numbers.{number_among, number_of_unit}
+use Rattle.ped_links.specs.ped_units.specs.Refusals.{for_names}
+use Rattle.ped_links.specs.ped_units.specs.Expanding.{Given, Meanings, all_expanded_in, call_expanded, main_call_expanded, main_expanded, with_statements, constants_of, nothing_given}
 use Rattle.ped_calls.specs.Giving.{given_of}
-use Rattle.ped_calls.specs.Naming.{AreTables}
-use Rattle.ped_calls.specs.Views.{program_unit_of}
+use Rattle.ped_links.specs.ped_units.specs.Naming.{AreTables}
+use Rattle.ped_links.specs.ped_units.specs.Views.{program_unit_of}
 use Rattle.ped_calls.specs.Courses.{units_of, Passes, AreTooDeep, StopsAt}
 use Rattle.ped_calls.specs.declared.expanding.Stopped.{Stopped}
 use Rattle.ped_calls.specs.declared.expanding.Stopped.TheVariants.{Past, OutOfMemory}
 use Rattle.ped_calls.specs.declared.expanding.Course.{Course}
-use Rattle.ped_calls.specs.declared.units.ProgramUnit.{ProgramUnit}
+use Rattle.ped_links.specs.ped_units.specs.declared.units.ProgramUnit.{ProgramUnit}
 
 -- where nothing stands for names, CALLs are expanded as those of the main program
 pub main_same : (us : ProgramUnits) (m : Meanings) (deeper : ℕ) (cs : Values) (ss : StmtTrees) (g : Given) → m ≡ [] → deeper ≡ length us.others → cs ≡ constants_of us.main

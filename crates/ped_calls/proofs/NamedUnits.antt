@@ -4,17 +4,17 @@ use Rattle.std.specs.Prelude.{IsTrue, ◌&&◌, ◌||◌, if◌then◌else◌}
 use Rattle.ped_tree.specs.Grammar.Statement.{Statement}
 use Rattle.ped_tree.specs.Grammar.Words.{is_name}
 use Rattle.ped_tree.specs.Grammar.Grouping.{statements_of}
-use Rattle.ped_valid.specs.ped_symbols.specs.Kinds.{Table}
-use Rattle.ped_calls.specs.Forms.{UnitItem, plain, calls, calls_if, begins_unit, returns, UnitForm, call, if_call, subroutine, a_return, unit_form_item, IsUnitItem}
-use Rattle.ped_calls.specs.Units.{ProgramUnit, ProgramUnits, all_units}
-use Rattle.ped_calls.specs.Reading.{UnitEntry, AreUnitEntries, ends, begins, further_segments, own_entries, Segment, name_in, IsHeaded, AreUnitsOf}
-use Rattle.ped_calls.specs.Refusals.{ReadsUnits}
-use Rattle.ped_calls.specs.Linking.{IsIn}
-use Rattle.ped_calls.specs.Links.{AreNamed, AreUnitsWith}
-use Rattle.ped_calls.specs.Naming.{AreTables}
-use Rattle.ped_calls.specs.Views.{program_unit_of}
+use Rattle.ped_links.specs.ped_valid.specs.ped_symbols.specs.Kinds.{Table}
+use Rattle.ped_links.specs.ped_units.specs.Forms.{UnitItem, plain, calls, calls_if, begins_unit, returns, UnitForm, call, if_call, subroutine, a_return, unit_form_item, IsUnitItem}
+use Rattle.ped_links.specs.ped_units.specs.Units.{ProgramUnit, ProgramUnits, all_units}
+use Rattle.ped_links.specs.ped_units.specs.Reading.{UnitEntry, AreUnitEntries, ends, begins, further_segments, own_entries, Segment, name_in, IsHeaded, AreUnitsOf}
+use Rattle.ped_links.specs.ped_units.specs.Refusals.{ReadsUnits}
+use Rattle.ped_links.specs.ped_units.specs.Linking.{IsIn}
+use Rattle.ped_links.specs.Links.{AreNamed, AreUnitsWith}
+use Rattle.ped_links.specs.ped_units.specs.Naming.{AreTables}
+use Rattle.ped_links.specs.ped_units.specs.Views.{program_unit_of}
 use Rattle.ped_calls.specs.Courses.{units_of}
-use Rattle.ped_calls.specs.declared.units.ProgramUnit as code
+use Rattle.ped_links.specs.ped_units.specs.declared.units.ProgramUnit as code
 
 named_form : (f : UnitForm) (x : List ℕ) (formals : List (List ℕ)) → unit_form_item f ≡ begins_unit x formals → x ≡ [] → ⊥
 named_form (call c) x formals h none = cc

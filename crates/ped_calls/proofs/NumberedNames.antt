@@ -9,7 +9,7 @@ use Rattle.std.proofs.lemmas.Fmt.{decimal_is_IsNumeral, decimal_is_IsNumeral_wid
 use Rattle.ped_base.specs.Letters.{is_letter, is_digit, is_alphanumeric, name_of}
 use Rattle.ped_base.specs.Lists.{is_same_text, is_among}
 use Rattle.ped_base.proofs.NameEquality.{same_is}
-use Rattle.ped_calls.specs.Expanding.{numbered_name, free_from, free_name}
+use Rattle.ped_links.specs.ped_units.specs.Expanding.{numbered_name, free_from, free_name}
 use Rattle.ped_calls.proofs.FreeNames.{passed, stopped}
 
 -- digits are letters or digits

@@ -6,22 +6,21 @@ use Rattle.ped_tree.specs.Grammar.Refusal.{Finding, first_of}
 use Rattle.ped_tree.specs.Grammar.Statement.{Statement}
 use Rattle.ped_tree.specs.Grammar.Grouping.{statements_of}
 use Rattle.ped_tree.specs.Grammar.LineRefusals.{first_line_refusal}
-use Rattle.ped_valid.specs.ped_parse.specs.ped_statements.proofs.OneReading.{reading_is}
-use Rattle.ped_valid.specs.ped_parse.specs.ped_blocks.proofs.BlocksFound.{first_none}
-use Rattle.ped_valid.specs.ped_symbols.specs.NameRefusals.{name_refusals, IsValid}
-use Rattle.ped_calls.specs.Units.{ProgramUnits, all_units}
-use Rattle.ped_calls.specs.Reading.{UnitEntry, AreUnitEntries, IsCutIntoUnits}
-use Rattle.ped_calls.specs.Refusals.{first_segments_refusal, ReadsUnits, units_name_refusals}
-use Rattle.ped_calls.specs.Linking.{LinkRefusal, NoUnit, Recursion, Arguments, Aliased, CallPlace, number_of_link, IsFirstLink, IsLinked}
-use Rattle.ped_calls.specs.Expanding.{expansion}
-use Rattle.ped_calls.specs.Verdicts.{UnitFinding, of_text, of_links, found_in_text, ReadsRightUnits, ReadsLinkedUnits, IsFirstPast, RefusesUnits, in_lines, in_statements, in_names, in_links, in_expanding, IsExpansion}
+use Rattle.ped_links.specs.ped_valid.specs.ped_parse.specs.ped_statements.proofs.OneReading.{reading_is}
+use Rattle.ped_links.specs.ped_valid.specs.ped_parse.specs.ped_blocks.proofs.BlocksFound.{first_none}
+use Rattle.ped_links.specs.ped_valid.specs.ped_symbols.specs.NameRefusals.{name_refusals, IsValid}
+use Rattle.ped_links.specs.ped_units.specs.Units.{ProgramUnits, all_units}
+use Rattle.ped_links.specs.ped_units.specs.Reading.{UnitEntry, AreUnitEntries, IsCutIntoUnits}
+use Rattle.ped_links.specs.ped_units.specs.Refusals.{first_segments_refusal, ReadsUnits, units_name_refusals}
+use Rattle.ped_links.specs.ped_units.specs.Linking.{LinkRefusal, NoUnit, Recursion, Arguments, Aliased, CallPlace, number_of_link, IsFirstLink, IsLinked}
+use Rattle.ped_links.specs.ped_units.specs.Expanding.{expansion}
+use Rattle.ped_links.specs.ped_units.specs.Verdicts.{UnitFinding, of_text, of_links, found_in_text, ReadsRightUnits, ReadsLinkedUnits, IsFirstPast, RefusesUnits, in_lines, in_statements, in_names, in_links, in_expanding, IsExpansion}
 use Rattle.ped_calls.specs.Laws.{HasOneExpansion, HasOneUnitRefusal}
-use Rattle.ped_calls.proofs.Known.{IsKnown, holds, fails, known_true, known_both, known_as}
-use Rattle.ped_calls.proofs.LinksKnown.{FirstLink, linked_or_refused}
+use Rattle.ped_links.proofs.Known.{IsKnown, holds, fails, known_true, known_both, known_as}
+use Rattle.ped_links.proofs.LinksKnown.{FirstLink, linked_or_refused}
 use Rattle.ped_calls.proofs.MainStarts.{starts_well}
-use Rattle.ped_calls.proofs.OneUnits.{one_unit_cut, one_units, units_there}
+use Rattle.ped_links.specs.ped_units.proofs.OneUnits.{one_unit_cut, one_units, units_there, unit_item_there}
 use Rattle.ped_calls.proofs.PastKnown.{PastThere, past_there, same_limit}
-use Rattle.ped_calls.proofs.UnitForms.{unit_item_there}
 
 none_some : (f : Finding) → ◌≡◌ {A = Option Finding} None (Some f) → ⊥
 none_some f e = cc

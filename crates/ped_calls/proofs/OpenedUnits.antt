@@ -4,21 +4,21 @@ use Rattle.std.specs.Prelude.{All}
 use Rattle.ped_tree.specs.Tree.{ProgramTree}
 use Rattle.ped_tree.specs.Grammar.Refusal.{first_of}
 use Rattle.ped_tree.specs.Grammar.RefusalViews.{finding_of}
-use Rattle.ped_valid.specs.ped_symbols.specs.Kinds.{Table}
-use Rattle.ped_valid.specs.ped_symbols.specs.NameRefusals.{IsValid}
-use Rattle.ped_calls.specs.Units.{ProgramUnit, ProgramUnits, all_units}
-use Rattle.ped_calls.specs.Refusals.{ReadsUnits, units_name_refusals}
-use Rattle.ped_calls.specs.Linking.{IsLinked}
-use Rattle.ped_calls.specs.Links.{AreUnitsWith, IsLinkRefusal}
-use Rattle.ped_calls.specs.Naming.{HasFew, HaveTables, IsFirstNameRefusal}
-use Rattle.ped_calls.specs.Expanding.{expansion}
+use Rattle.ped_links.specs.ped_valid.specs.ped_symbols.specs.Kinds.{Table}
+use Rattle.ped_links.specs.ped_valid.specs.ped_symbols.specs.NameRefusals.{IsValid}
+use Rattle.ped_links.specs.ped_units.specs.Units.{ProgramUnit, ProgramUnits, all_units}
+use Rattle.ped_links.specs.ped_units.specs.Refusals.{ReadsUnits, units_name_refusals}
+use Rattle.ped_links.specs.ped_units.specs.Linking.{IsLinked}
+use Rattle.ped_links.specs.Links.{AreUnitsWith, IsLinkRefusal}
+use Rattle.ped_links.specs.ped_units.specs.Naming.{HasFew, HaveTables, IsFirstNameRefusal}
+use Rattle.ped_links.specs.ped_units.specs.Expanding.{expansion}
 use Rattle.ped_calls.specs.Courses.{units_of}
 use Rattle.ped_calls.specs.Opening.{StartsWell, IsPastAt}
-use Rattle.ped_calls.specs.Verdicts.{ReadsRightUnits, ReadsLinkedUnits, in_names, in_links, in_expanding, IsExpansion}
-use Rattle.ped_calls.specs.Views.{program_unit_of, IsUnitRefusalOf}
-use Rattle.ped_calls.specs.declared.units.ProgramUnit as code
-use Rattle.ped_calls.specs.declared.refusals.UnitRefusal.{UnitRefusal}
-use Rattle.ped_calls.specs.declared.refusals.UnitRefusal.TheVariants.{At, NoMemory}
+use Rattle.ped_links.specs.ped_units.specs.Verdicts.{ReadsRightUnits, ReadsLinkedUnits, in_names, in_links, in_expanding, IsExpansion}
+use Rattle.ped_links.specs.ped_units.specs.Views.{program_unit_of, IsUnitRefusalOf}
+use Rattle.ped_links.specs.ped_units.specs.declared.units.ProgramUnit as code
+use Rattle.ped_links.specs.ped_units.specs.declared.refusals.UnitRefusal.{UnitRefusal}
+use Rattle.ped_links.specs.ped_units.specs.declared.refusals.UnitRefusal.TheVariants.{At, NoMemory}
 use Rattle.ped_calls.proofs.FewUnits.{few_units}
 use Rattle.ped_calls.proofs.MainStarts.{starts_well}
 use Rattle.ped_calls.proofs.NamedUnits.{units_same, are_with}

@@ -4,11 +4,11 @@ use Rattle.std.specs.Prelude.{◌||◌, not}
 use Rattle.std.proofs.lemmas.Bool.{cases_lt}
 use Rattle.ped_tree.specs.Grammar.Fits.{fits}
 use Rattle.ped_tree.specs.Grammar.Refusal.{Finding, Refusal, Tab, BadLabel, TooManyContinuations, ContinuationFirst, BadCharacter, OpenConstant, Syntax, NotInProfile, OpenBlock, BadTerminal, IndexAssigned, StopPlace, RealName, DeclaredTwice, NotConstant, RankDiffers, BoundsEmpty, Limit, StorageLimit}
-use Rattle.ped_valid.specs.ped_symbols.specs.NameRefusals.{name_refusals, IsValid}
-use Rattle.ped_calls.specs.Units.{ProgramUnits}
-use Rattle.ped_calls.specs.Linking.{Placed, calls_of}
-use Rattle.ped_calls.specs.Expanding.{expansion}
-use Rattle.ped_calls.specs.Verdicts.{calls_count, partial, passes_limit, IsPast, IsWithin, IsFirstPast}
+use Rattle.ped_links.specs.ped_valid.specs.ped_symbols.specs.NameRefusals.{name_refusals, IsValid}
+use Rattle.ped_links.specs.ped_units.specs.Units.{ProgramUnits}
+use Rattle.ped_links.specs.ped_units.specs.Linking.{Placed, calls_of}
+use Rattle.ped_links.specs.ped_units.specs.Expanding.{expansion}
+use Rattle.ped_links.specs.ped_units.specs.Verdicts.{calls_count, partial, passes_limit, IsPast, IsWithin, IsFirstPast}
 use Rattle.ped_calls.specs.Opening.{StartsWell}
 use Rattle.ped_calls.proofs.FirstCalls.{all_placed}
 use Rattle.ped_calls.proofs.FirstPast.{valid_whole, within_more, within_none}

@@ -1,10 +1,10 @@
 -- Where each name stands for itself and there is no CALL, statements are expanded to themselves.
 use Rattle.std.proofs.Common.{◌≡◌, ℕ, List, [], ◌∷◌, map, Option, Some, None, refl, ap, ◌∙◌, arith}
 use Rattle.ped_tree.specs.Tree.{ExprTree, ExprTrees, Int, Var, Element, Neg, Add, Sub, Mul, Div, Pow, Call, no_exprs, more_exprs, CondTree, Rel, Not, And, Or, ItemTree, Value, Text, Head, StmtTree, StmtTrees, Assign, If, Do, Print, Read, Stop, Comment, no_stmts, more_stmts}
-use Rattle.ped_calls.specs.Forms.{Called}
-use Rattle.ped_calls.specs.Units.{call_of}
-use Rattle.ped_calls.specs.Expanding.{Expanded, AllExpanded, name_meant, replaced, all_replaced, cond_replaced, item_replaced, head_replaced, expanded_or, if_expanded, do_expanded, then_expanded, expanded_in, all_expanded_in}
-use Rattle.ped_calls.specs.Verdicts.{one_for, call_count, calls_count}
+use Rattle.ped_links.specs.ped_units.specs.Forms.{Called}
+use Rattle.ped_links.specs.ped_units.specs.Units.{call_of}
+use Rattle.ped_links.specs.ped_units.specs.Expanding.{Expanded, AllExpanded, name_meant, replaced, all_replaced, cond_replaced, item_replaced, head_replaced, expanded_or, if_expanded, do_expanded, then_expanded, expanded_in, all_expanded_in}
+use Rattle.ped_links.specs.ped_units.specs.Verdicts.{one_for, call_count, calls_count}
 
 mutual
   pub same_expr : (e : ExprTree) → replaced [] e ≡ e

@@ -10,14 +10,14 @@ use Rattle.ped_tree.specs.Grammar.Occurrences.{saved_names}
 use Rattle.ped_tree.specs.Grammar.ProgramForms.{first_lines}
 use Rattle.ped_tree.specs.Grammar.ProgramRefusals.{is_left_out, is_behind_end, breaks_syntax, at_statement, at_statements, at_end, program_refusals}
 use Rattle.ped_tree.specs.Grammar.Reading.{IsReading, AreEntries}
-use Rattle.ped_valid.specs.ped_parse.specs.ped_blocks.proofs.BlocksFound.{none_stands, left_empty, right_empty, first_none}
-use Rattle.ped_valid.specs.Validity.{ReadsValid}
-use Rattle.ped_valid.proofs.WithoutLines.{none_on_any}
-use Rattle.ped_calls.specs.Forms.{plain, IsUnitItem}
-use Rattle.ped_calls.specs.Units.{all_units}
-use Rattle.ped_calls.specs.Reading.{UnitEntry, AreUnitEntries}
-use Rattle.ped_calls.specs.Refusals.{ReadsUnits, units_name_refusals}
-use Rattle.ped_calls.specs.Verdicts.{IsExpansion}
+use Rattle.ped_links.specs.ped_valid.specs.ped_parse.specs.ped_blocks.proofs.BlocksFound.{none_stands, left_empty, right_empty, first_none}
+use Rattle.ped_links.specs.ped_valid.specs.Validity.{ReadsValid}
+use Rattle.ped_links.specs.ped_valid.proofs.WithoutLines.{none_on_any}
+use Rattle.ped_links.specs.ped_units.specs.Forms.{plain, IsUnitItem}
+use Rattle.ped_links.specs.ped_units.specs.Units.{all_units}
+use Rattle.ped_links.specs.ped_units.specs.Reading.{UnitEntry, AreUnitEntries}
+use Rattle.ped_links.specs.ped_units.specs.Refusals.{ReadsUnits, units_name_refusals}
+use Rattle.ped_links.specs.ped_units.specs.Verdicts.{IsExpansion}
 use Rattle.ped_calls.proofs.FirstPast.{without_calls}
 use Rattle.ped_calls.proofs.PlainUnits.{ArePlain, alone, read_none, reads_alone, plain_names, plain_linked}
 

@@ -9,19 +9,19 @@ use Rattle.ped_tree.specs.Grammar.ProgramRefusals.{program_refusals}
 use Rattle.ped_tree.specs.Grammar.Reading.{AreEntries, Reads, Refuses}
 use Rattle.ped_tree.specs.Grammar.Reading as reading
 use Rattle.ped_tree.proofs.GrammarLaws.OneReading.{one_entries}
-use Rattle.ped_valid.specs.ped_parse.specs.ped_statements.proofs.OneStatement.{one_item}
-use Rattle.ped_valid.specs.Validity.{ReadsValid, RefusesNames, RefusesText}
-use Rattle.ped_valid.specs.Validity as texts
-use Rattle.ped_calls.specs.Units.{ProgramUnits}
-use Rattle.ped_calls.specs.Reading.{UnitEntry, AreUnitEntries}
-use Rattle.ped_calls.specs.Refusals.{ReadsUnits}
-use Rattle.ped_calls.specs.Linking.{Placed}
-use Rattle.ped_calls.specs.Verdicts.{UnitFinding, found_in_text, RefusesUnits, in_lines, in_statements, in_names, in_links, in_expanding, IsExpansion}
+use Rattle.ped_links.specs.ped_valid.specs.ped_parse.specs.ped_statements.proofs.OneStatement.{one_item}
+use Rattle.ped_links.specs.ped_valid.specs.Validity.{ReadsValid, RefusesNames, RefusesText}
+use Rattle.ped_links.specs.ped_valid.specs.Validity as texts
+use Rattle.ped_links.specs.ped_units.specs.Units.{ProgramUnits}
+use Rattle.ped_links.specs.ped_units.specs.Reading.{UnitEntry, AreUnitEntries}
+use Rattle.ped_links.specs.ped_units.specs.Refusals.{ReadsUnits}
+use Rattle.ped_links.specs.ped_units.specs.Linking.{Placed}
+use Rattle.ped_links.specs.ped_units.specs.Verdicts.{UnitFinding, found_in_text, RefusesUnits, in_lines, in_statements, in_names, in_links, in_expanding, IsExpansion}
 use Rattle.ped_calls.specs.Laws.{HasNoUnits, RefusesAsText}
 use Rattle.ped_calls.proofs.FirstPast.{without_calls}
 use Rattle.ped_calls.proofs.PlainFiles.{valid_expands}
 use Rattle.ped_calls.proofs.PlainUnits.{plain_entry, are_plain, IsAlone, read_none, plain_refusals, plain_reads, plain_cut, read_alone, alone, reads_alone, plain_names, plain_linked, calls_nowhere}
-use Rattle.ped_calls.proofs.UnitForms.{unit_item_there}
+use Rattle.ped_links.specs.ped_units.proofs.OneUnits.{unit_item_there}
 
 -- what the text's statements are in a file of program units
 pub entries_there : (ss : List Statement) (es : List Entry) → AreEntries ss es → (us : List UnitEntry) × AreUnitEntries ss us

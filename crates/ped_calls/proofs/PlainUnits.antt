@@ -17,14 +17,14 @@ use Rattle.ped_tree.specs.Grammar.ProgramForms.{program_form_tree, first_lines}
 use Rattle.ped_tree.specs.Grammar.ProgramRefusals.{meets, program_refusals}
 use Rattle.ped_tree.specs.Grammar.Reading.{IsReading, AreEntries, IsCutInto, Reads, HasFirstLines}
 use Rattle.ped_tree.proofs.GrammarLaws.OneReading.{one_entries}
-use Rattle.ped_valid.specs.ped_parse.specs.ped_statements.proofs.OneStatement.{one_item}
-use Rattle.ped_valid.specs.ped_symbols.specs.NameRefusals.{name_refusals, has_twice}
-use Rattle.ped_calls.specs.Forms.{Called, UnitItem, plain, calls, calls_if, begins_unit, returns, UnitForm, call, if_call, subroutine, a_return, unit_form_text, unit_form_item, IsUnitItem}
-use Rattle.ped_calls.specs.Units.{ProgramUnit, ProgramUnits, all_units, call_of, call_statement, instead_of, with_calls, all_with_calls}
-use Rattle.ped_calls.specs.Reading.{UnitEntry, AreUnitEntries, IsCutIntoUnits, ends, begins, own_entries, further_segments, Segment, segments_of, is_end_next, as_reading, as_entries, stand_in, seen_entries, kept_entries, IsUnitOf, AreUnitsOf}
-use Rattle.ped_calls.specs.Refusals.{call_in, call_passes_limit, at_call, for_names, lines_for_names, dimensioned, using_arguments, segments_refusals, ReadsUnits, units_name_refusals}
-use Rattle.ped_calls.specs.Linking.{IsIn, Placed, calls_of, NoUnit, Recursion, Arguments, Aliased, CallPlace, IsAtCall, ListsTwice, HasPrivateFormal, IsLinked}
-use Rattle.ped_calls.specs.Verdicts.{one_for, call_count, calls_count}
+use Rattle.ped_links.specs.ped_valid.specs.ped_parse.specs.ped_statements.proofs.OneStatement.{one_item}
+use Rattle.ped_links.specs.ped_valid.specs.ped_symbols.specs.NameRefusals.{name_refusals, has_twice}
+use Rattle.ped_links.specs.ped_units.specs.Forms.{Called, UnitItem, plain, calls, calls_if, begins_unit, returns, UnitForm, call, if_call, subroutine, a_return, unit_form_text, unit_form_item, IsUnitItem}
+use Rattle.ped_links.specs.ped_units.specs.Units.{ProgramUnit, ProgramUnits, all_units, call_of, call_statement, instead_of, with_calls, all_with_calls}
+use Rattle.ped_links.specs.ped_units.specs.Reading.{UnitEntry, AreUnitEntries, IsCutIntoUnits, ends, begins, own_entries, further_segments, Segment, segments_of, is_end_next, as_reading, as_entries, stand_in, seen_entries, kept_entries, IsUnitOf, AreUnitsOf}
+use Rattle.ped_links.specs.ped_units.specs.Refusals.{call_in, call_passes_limit, at_call, for_names, lines_for_names, dimensioned, using_arguments, segments_refusals, ReadsUnits, units_name_refusals}
+use Rattle.ped_links.specs.ped_units.specs.Linking.{IsIn, Placed, calls_of, NoUnit, Recursion, Arguments, Aliased, CallPlace, IsAtCall, ListsTwice, HasPrivateFormal, IsLinked}
+use Rattle.ped_links.specs.ped_units.specs.Verdicts.{one_for, call_count, calls_count}
 use Rattle.ped_calls.specs.Laws.{is_plain, IsPlain}
 use Rattle.ped_calls.proofs.FirstCalls.{all_placed}
 use Rattle.ped_calls.proofs.FormCalls.{item_calls, reading_calls, entries_calls, form_calls}

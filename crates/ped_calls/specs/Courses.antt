@@ -5,25 +5,25 @@ use Rattle.ped_tree.specs.Views.{pack_exprs}
 use Rattle.ped_tree.specs.Numbering.{statements_count}
 use Rattle.ped_tree.specs.Grammar.Fits.{Surroundings, stmt_fits, stmts_fit}
 use Rattle.ped_tree.specs.Grammar.LimitNumbers.{most_statements}
-use Rattle.ped_valid.specs.ped_symbols.specs.Kinds.{table_of}
-use Rattle.ped_calls.specs.Units.{ProgramUnit, ProgramUnits, unit_of}
-use Rattle.ped_calls.specs.Forms.{Called}
-use Rattle.ped_calls.specs.Refusals.{for_names}
-use Rattle.ped_calls.specs.Expanding as plain
-use Rattle.ped_calls.specs.Expanding.{Meanings, Expanded, AllExpanded, expanded_in, all_expanded_in, call_expanded, bound_expanded, bound_arguments, behind_stmts}
+use Rattle.ped_links.specs.ped_valid.specs.ped_symbols.specs.Kinds.{table_of}
+use Rattle.ped_links.specs.ped_units.specs.Units.{ProgramUnit, ProgramUnits, unit_of}
+use Rattle.ped_links.specs.ped_units.specs.Forms.{Called}
+use Rattle.ped_links.specs.ped_units.specs.Refusals.{for_names}
+use Rattle.ped_links.specs.ped_units.specs.Expanding as plain
+use Rattle.ped_links.specs.ped_units.specs.Expanding.{Meanings, Expanded, AllExpanded, expanded_in, all_expanded_in, call_expanded, bound_expanded, bound_arguments, behind_stmts}
 use Rattle.ped_calls.specs.Binding.{local_meanings}
 use Rattle.ped_calls.specs.Giving.{given_of, HasNext}
 use Rattle.ped_calls.specs.Meaning.{meanings_of}
-use Rattle.ped_calls.specs.Naming.{AreTables}
-use Rattle.ped_calls.specs.Numbers.{AreNumbers}
-use Rattle.ped_calls.specs.Views.{program_unit_of}
+use Rattle.ped_links.specs.ped_units.specs.Naming.{AreTables}
+use Rattle.ped_links.specs.Numbers.{AreNumbers}
+use Rattle.ped_links.specs.ped_units.specs.Views.{program_unit_of}
 use Rattle.ped_calls.specs.declared.expanding.Course.{Course}
 use Rattle.ped_calls.specs.declared.expanding.File.{File}
 use Rattle.ped_calls.specs.declared.expanding.Subroutine.{Subroutine}
 use Rattle.ped_calls.specs.declared.expanding.Within.{Within}
 use Rattle.ped_calls.specs.declared.expanding.Stopped.{Stopped}
 use Rattle.ped_calls.specs.declared.expanding.Stopped.TheVariants.{Past, OutOfMemory}
-use Rattle.ped_calls.specs.declared.units.ProgramUnit as code
+use Rattle.ped_links.specs.ped_units.specs.declared.units.ProgramUnit as code
 
 -- the first of units; one without anything where there is none
 abbrev pub first_unit : List ProgramUnit → ProgramUnit

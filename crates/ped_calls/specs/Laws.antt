@@ -5,9 +5,9 @@ use Rattle.ped_tree.specs.Tree.{ProgramTree}
 use Rattle.ped_tree.specs.Grammar.Refusal.{Finding}
 use Rattle.ped_tree.specs.Grammar.Statement.{Statement}
 use Rattle.ped_tree.specs.Grammar.Grouping.{statements_of}
-use Rattle.ped_valid.specs.Validity.{RefusesText}
-use Rattle.ped_calls.specs.Forms.{UnitItem, plain, calls, calls_if, begins_unit, returns, IsUnitItem}
-use Rattle.ped_calls.specs.Verdicts.{UnitFinding, found_in_text, RefusesUnits, IsExpansion}
+use Rattle.ped_links.specs.ped_valid.specs.Validity.{RefusesText}
+use Rattle.ped_links.specs.ped_units.specs.Forms.{UnitItem, plain, calls, calls_if, begins_unit, returns, IsUnitItem}
+use Rattle.ped_links.specs.ped_units.specs.Verdicts.{UnitFinding, found_in_text, RefusesUnits, IsExpansion}
 
 -- a statement is no CALL, has none behind a logical IF, and is no SUBROUTINE statement (ANSI X3.9-1978, sections 11.5, 15.6)
 abbrev pub is_plain : UnitItem → Bool

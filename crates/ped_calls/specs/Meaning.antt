@@ -2,7 +2,7 @@
 use Rattle.std.specs.Prelude.{map}
 use Rattle.ped_tree.specs.Tree.{ExprTree, Head}
 use Rattle.ped_tree.specs.Views.{value_tree}
-use Rattle.ped_calls.specs.Expanding as plain
+use Rattle.ped_links.specs.ped_units.specs.Expanding as plain
 use Rattle.ped_calls.specs.declared.replacing.Meanings.{Meanings}
 
 -- names with the plain trees of what stands for them

@@ -6,16 +6,16 @@ use Rattle.ped_tree.specs.Numbering.{statements_count}
 use Rattle.ped_tree.specs.Grammar.LimitNumbers.{most_statements}
 use Rattle.ped_tree.specs.Grammar.Fits.{fits, begins_with_statement}
 use Rattle.ped_tree.specs.Grammar.Refusal.{Refusal}
-use Rattle.ped_valid.specs.ped_symbols.specs.Kinds.{table_of}
-use Rattle.ped_valid.specs.ped_symbols.specs.NameRefusals.{name_refusals, IsValid}
-use Rattle.ped_calls.specs.Units.{ProgramUnits}
-use Rattle.ped_calls.specs.Expanding.{main_expanded, with_statements, behind_stmts}
-use Rattle.ped_calls.specs.Verdicts.{front_comments, behind_comments, settled, calls_count, partial, IsPast, of_text, IsFirstPast}
-use Rattle.ped_calls.specs.Views.{unit_finding_of}
+use Rattle.ped_links.specs.ped_valid.specs.ped_symbols.specs.Kinds.{table_of}
+use Rattle.ped_links.specs.ped_valid.specs.ped_symbols.specs.NameRefusals.{name_refusals, IsValid}
+use Rattle.ped_links.specs.ped_units.specs.Units.{ProgramUnits}
+use Rattle.ped_links.specs.ped_units.specs.Expanding.{main_expanded, with_statements, behind_stmts}
+use Rattle.ped_links.specs.ped_units.specs.Verdicts.{front_comments, behind_comments, settled, calls_count, partial, IsPast, of_text, IsFirstPast}
+use Rattle.ped_links.specs.ped_units.specs.Views.{unit_finding_of}
 use Rattle.ped_tree.specs.Grammar.RefusalViews.{kind_of}
 use Rattle.ped_tree.specs.declared.grammar.refusals.RefusalKind.{RefusalKind}
-use Rattle.ped_calls.specs.declared.refusals.UnitRefusal.{UnitRefusal}
-use Rattle.ped_calls.specs.declared.refusals.UnitRefusal.TheVariants.{At, NoMemory}
+use Rattle.ped_links.specs.ped_units.specs.declared.refusals.UnitRefusal.{UnitRefusal}
+use Rattle.ped_links.specs.ped_units.specs.declared.refusals.UnitRefusal.TheVariants.{At, NoMemory}
 use Rattle.ped_calls.specs.declared.opening.Judgement.{Judgement}
 use Rattle.ped_calls.specs.declared.opening.Judgement.TheVariants.{Valid, PastStatements, PastStorage}
 

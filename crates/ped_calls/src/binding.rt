@@ -4,25 +4,24 @@
 ghost use Rattle.std.specs.Prelude.{◌≡◌, ◌+◌, ◌++◌, ◌∷◌, [], IfOk, IfSome, OnOk, map, drop};
 ghost use Rattle.ped_tree.specs.Tree.{Var, Assign};
 ghost use Rattle.ped_tree.specs.Views.{expr_tree, stmt_tree};
-ghost use Rattle.ped_valid.specs.ped_symbols.specs.Kinds.{table_of};
-ghost use Rattle.ped_valid.specs.ped_symbols.specs.Values as Values;
-ghost use Rattle.ped_valid.specs.ped_symbols.specs.Entries.{entry_of};
-ghost use Rattle.ped_calls.specs.Refusals.{for_names};
-ghost use Rattle.ped_calls.specs.Expanding as Spec;
-ghost use Rattle.ped_calls.specs.Expanding.{free_name, with_new, with_formals, with_constants, bound_arguments};
+ghost use Rattle.ped_links.specs.ped_valid.specs.ped_symbols.specs.Kinds.{table_of};
+ghost use Rattle.ped_links.specs.ped_valid.specs.ped_symbols.specs.Values as Values;
+ghost use Rattle.ped_links.specs.ped_valid.specs.ped_symbols.specs.Entries.{entry_of};
+ghost use Rattle.ped_links.specs.ped_units.specs.Refusals.{for_names};
+ghost use Rattle.ped_links.specs.ped_units.specs.Expanding as Spec;
+ghost use Rattle.ped_links.specs.ped_units.specs.Expanding.{free_name, with_new, with_formals, with_constants, bound_arguments};
 ghost use Rattle.ped_calls.specs.Giving.{given_of, HasNext, IsSmall, HasSmallKind};
 ghost use Rattle.ped_calls.specs.Meaning.{meanings_of};
 ghost use Rattle.ped_calls.specs.Binding.{AreSmall, local_meanings, renamed_one};
-ghost use Rattle.ped_calls.specs.Views.{program_unit_of};
+ghost use Rattle.ped_links.specs.ped_units.specs.Views.{program_unit_of};
 
 use crate::giving::{Given, literal};
 use crate::occurring::body_names;
 use crate::replacing::Meanings;
-use crate::units::ProgramUnit;
 use ped_base::{Name, NoMemory};
+use ped_links::{ProgramUnit, Symbols};
 use ped_tree::constants::{Consts, constant};
 use ped_tree::{Expr, Stmt};
-use ped_valid::Symbols;
 use std::alloc::Global;
 
 /// Has dummy arguments stand for what arguments are bound to, from left to right. Assignments of arguments to new names

@@ -4,7 +4,7 @@ ghost use Rattle.std.specs.Prelude.{◌≡◌, ◌++◌, ◌∷◌, [], IfOk, ma
 ghost use Rattle.ped_tree.specs.declared.conditions.Relation.TheVariants.{Eq};
 ghost use Rattle.ped_tree.specs.Tree.{If, Rel, Int, no_stmts};
 ghost use Rattle.ped_tree.specs.Views.{expr_tree, pack_exprs, stmt_tree, stmt_trees};
-ghost use Rattle.ped_calls.specs.Expanding as Spec;
+ghost use Rattle.ped_links.specs.ped_units.specs.Expanding as Spec;
 
 use crate::printing::push_called;
 use ped_base::{Bytes, Name, NoMemory};

@@ -2,8 +2,8 @@
 
 ghost use Rattle.std.specs.Prelude.{◌≡◌, IfOk, MatchOption, map, None, Some, is_some};
 ghost use Rattle.ped_tree.specs.Views.{expr_tree, pack_exprs};
-ghost use Rattle.ped_calls.specs.Units.{call_of, called_in};
-ghost use Rattle.ped_calls.specs.Expanding as Spec;
+ghost use Rattle.ped_links.specs.ped_units.specs.Units.{call_of, called_in};
+ghost use Rattle.ped_links.specs.ped_units.specs.Expanding as Spec;
 ghost use Rattle.ped_calls.specs.CallViews.{arguments_in, is_literal as is_literal_tree};
 ghost use Rattle.ped_calls.specs.Meaning.{meanings_of};
 

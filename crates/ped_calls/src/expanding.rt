@@ -6,31 +6,29 @@ ghost use Rattle.ped_tree.specs.Views.{expr_tree, pack_exprs, cond_tree, stmt_tr
 ghost use Rattle.ped_tree.specs.Numbering as Numbering;
 ghost use Rattle.ped_tree.specs.Grammar.LimitNumbers.{most_blocks_nested};
 ghost use Rattle.ped_print.specs.Lengths.{limited};
-ghost use Rattle.ped_valid.specs.ped_symbols.specs.Kinds.{table_of};
-ghost use Rattle.ped_calls.specs.Units as Units;
-ghost use Rattle.ped_calls.specs.Refusals.{for_names};
-ghost use Rattle.ped_calls.specs.Expanding as Spec;
+ghost use Rattle.ped_links.specs.ped_valid.specs.ped_symbols.specs.Kinds.{table_of};
+ghost use Rattle.ped_links.specs.ped_units.specs.Units as Units;
+ghost use Rattle.ped_links.specs.ped_units.specs.Refusals.{for_names};
+ghost use Rattle.ped_links.specs.ped_units.specs.Expanding as Spec;
 ghost use Rattle.ped_calls.specs.Giving.{given_of};
 ghost use Rattle.ped_calls.specs.Meaning.{meanings_of};
 ghost use Rattle.ped_calls.specs.Courses.{units_of, KnowsFile, IsUnderWay, GoesOn, StopsAt, Passes, IsTooDeep, AreTooDeep, expanded_at, all_expanded_at, called_at, block_at, inside_at, IsMissing, IsFound};
-ghost use Rattle.ped_calls.specs.Views.{program_unit_of};
+ghost use Rattle.ped_links.specs.ped_units.specs.Views.{program_unit_of};
 ghost use Rattle.ped_calls.specs.declared.expanding.Stopped.TheVariants as variant;
 
 use crate::binding::{add_names, bind};
 use crate::blocks::{bare_block, begun, block, joined};
 use crate::calls::{arguments_replaced, called_name};
 use crate::giving::Given;
-use crate::numbering::number_of;
 use crate::replacing::{
     Meanings, all_replaced, assignment_replaced, cond_replaced, items_replaced, loop_replaced,
 };
-use crate::units::ProgramUnit;
 use indexmap::IndexMap;
 use ped_base::{Name, NoMemory};
 use ped_limits::{MOST_BLOCKS_NESTED, statement_count};
+use ped_links::{ProgramUnit, Symbols, number_of};
 use ped_tree::constants::Consts;
 use ped_tree::{Cond, Do, Expr, Stmt};
-use ped_valid::Symbols;
 use std::alloc::{AllocFailed, Global};
 
 /// Why CALLs aren't expanded any further.

@@ -3,12 +3,12 @@
 ghost use Rattle.std.specs.Prelude.{◌≡◌, ◌-◌, ◌==◌, ◌&&◌, if◌then◌else◌, IfOk, OnOk, map};
 ghost use Rattle.ped_tree.specs.Tree.{StmtTrees, more_stmts};
 ghost use Rattle.ped_tree.specs.Views.{stmt_tree, stmt_trees};
-ghost use Rattle.ped_calls.specs.Expanding.{behind_stmts};
-ghost use Rattle.ped_calls.specs.Verdicts as Spec;
+ghost use Rattle.ped_links.specs.ped_units.specs.Expanding.{behind_stmts};
+ghost use Rattle.ped_links.specs.ped_units.specs.Verdicts as Spec;
 
 use crate::calls::is_call;
-use crate::naming::with_condition;
 use ped_base::NoMemory;
+use ped_links::with_condition;
 use ped_tree::Stmt;
 use std::alloc::Global;
 

@@ -1,17 +1,17 @@
 //! New names, each given once, and the arrays that are declared with them.
 
 ghost use Rattle.std.specs.Prelude.{◌≡◌, [], IfOk, OnOk, map};
-ghost use Rattle.ped_sums.specs.Sums as Sums;
+ghost use Rattle.ped_links.specs.ped_units.specs.ped_sums.specs.Sums as Sums;
 ghost use Rattle.ped_tree.specs.Views.{expr_tree, bound_tree, decl_tree};
-ghost use Rattle.ped_calls.specs.Expanding as Spec;
-ghost use Rattle.ped_calls.specs.Expanding.{numbered_name, free_name, with_new, with_local};
+ghost use Rattle.ped_links.specs.ped_units.specs.Expanding as Spec;
+ghost use Rattle.ped_links.specs.ped_units.specs.Expanding.{numbered_name, free_name, with_new, with_local};
 ghost use Rattle.ped_calls.specs.Giving.{given_of, HasNext, IsSmall, HasSmallBounds, HasSmallKind, decls_of};
 
 use itoa::Buffer;
 use ped_base::{Bounds, Bytes, Name, NoMemory};
+use ped_links::Kind;
 use ped_tree::names::NameSet;
 use ped_tree::{Bound, Decl, Declarator, Expr};
-use ped_valid::Kind;
 use std::alloc::Global;
 
 /// The names that are taken, and the arrays that were given names.

@@ -3,8 +3,8 @@
 
 ghost use Rattle.std.specs.Prelude.{◌⊎◌, ◌↔◌, ℕ, List};
 ghost use Rattle.ped_tree.specs.Tree.{ProgramTree};
-ghost use Rattle.ped_valid.specs.Validity.{ReadsValid};
-ghost use Rattle.ped_calls.specs.Verdicts.{UnitFinding, RefusesUnits, IsExpansion};
+ghost use Rattle.ped_links.specs.ped_valid.specs.Validity.{ReadsValid};
+ghost use Rattle.ped_links.specs.ped_units.specs.Verdicts.{UnitFinding, RefusesUnits, IsExpansion};
 ghost use Rattle.ped_calls.specs.Laws.{HasNoUnits, RefusesAsText, HasOneExpansion, HasOneUnitRefusal};
 
 /// A text without CALL and SUBROUTINE statements expands to the valid tree that it reads as and to no other, and is

@@ -7,8 +7,8 @@ ghost use Rattle.ped_tree.specs.Names.Collecting.{with_names};
 ghost use Rattle.ped_tree.specs.Tree.{Print, Value};
 ghost use Rattle.ped_tree.specs.Views.{expr_tree, pack_exprs, cond_tree, item_tree, stmt_tree, stmt_trees, head};
 ghost use Rattle.ped_tree.specs.Accesses.{listed};
-ghost use Rattle.ped_calls.specs.Units.{with_calls, all_with_calls};
-ghost use Rattle.ped_calls.specs.Expanding.{naming_arguments};
+ghost use Rattle.ped_links.specs.ped_units.specs.Units.{with_calls, all_with_calls};
+ghost use Rattle.ped_links.specs.ped_units.specs.Expanding.{naming_arguments};
 
 use ped_base::{Name, NoMemory};
 use ped_tree::names::NameSet;
@@ -16,7 +16,6 @@ use ped_tree::{Cond, Do, Expr, PrintItem, Stmt};
 use std::alloc::Global;
 
 /// The names in statements, those in arguments of CALLs among them, but no subroutine's name.
-#[tactic(auto, using(crate::proofs::CollectedNames::collected))]
 pub fn body_names(alloc: Global, statements: &[Stmt]) -> Result<NameSet, NoMemory>
     ensures { IfOk result (λ names. names ≡ first_occurrences [] (stmts_names (all_with_calls naming_arguments (stmt_trees statements.now)))) }
 {
@@ -120,7 +119,6 @@ fn add_read_items(names: &mut NameSet, items: &[Expr]) -> Result<(), NoMemory>
 }
 
 /// Adds the names in the arguments of a CALL.
-#[tactic(auto, using(crate::proofs::CollectedNames::names_of_arguments))]
 fn add_arguments(names: &mut NameSet, arguments: &[Expr]) -> Result<(), NoMemory>
     ensures { OnOk result (names.new ≡ with_names names.old (stmt_names (Print (map Value (listed (pack_exprs (map expr_tree arguments.now))))))) }
 {

@@ -9,35 +9,33 @@ ghost use Rattle.ped_tree.specs.Numbering.{statements_count};
 ghost use Rattle.ped_tree.specs.Views.{decl_tree, stmt_trees, program_tree};
 ghost use Rattle.ped_tree.specs.Printing.{program_text};
 ghost use Rattle.ped_tree.specs.Grammar.LimitNumbers.{most_statements};
-ghost use Rattle.ped_valid.specs.ped_symbols.specs.Declarations.{program_name};
-ghost use Rattle.ped_valid.specs.ped_symbols.specs.Kinds.{table_of};
-ghost use Rattle.ped_valid.specs.ped_symbols.specs.NameRefusals.{IsValid};
-ghost use Rattle.ped_calls.specs.Expanding.{nothing_given, expansion as plain_expansion};
-ghost use Rattle.ped_calls.specs.Verdicts.{IsExpansion, IsFirstPast};
-ghost use Rattle.ped_calls.specs.Units.{ProgramUnits};
+ghost use Rattle.ped_links.specs.ped_valid.specs.ped_symbols.specs.Declarations.{program_name};
+ghost use Rattle.ped_links.specs.ped_valid.specs.ped_symbols.specs.Kinds.{table_of};
+ghost use Rattle.ped_links.specs.ped_valid.specs.ped_symbols.specs.NameRefusals.{IsValid};
+ghost use Rattle.ped_links.specs.ped_units.specs.Expanding.{nothing_given, expansion as plain_expansion};
+ghost use Rattle.ped_links.specs.ped_units.specs.Verdicts.{IsExpansion, IsFirstPast};
+ghost use Rattle.ped_links.specs.ped_units.specs.Units.{ProgramUnits};
 ghost use Rattle.ped_tree.specs.Grammar.RefusalViews.{kind_of};
 ghost use Rattle.ped_calls.specs.Courses.{KnowsFile, IsUnderWay, units_of};
 ghost use Rattle.ped_calls.specs.Opening.{Judges, JudgesProgram, StartsWell, IsPastAt, FindsPast};
 ghost use Rattle.ped_calls.specs.Giving.{given_of, HasNext};
-ghost use Rattle.ped_calls.specs.Views.{IsUnitRefusalOf};
+ghost use Rattle.ped_links.specs.ped_units.specs.Views.{IsUnitRefusalOf};
 
 use crate::expanding::{Course, File, Stopped, count_from};
 use crate::first_calls::first_calls;
 use crate::giving::Given;
-use crate::linking::{look_at_calls, unit_numbers};
-use crate::naming::tables;
-use crate::placing::placed_calls;
-use crate::reading::read_units;
-use crate::refusals::{UnitFinding, UnitRefusal, UnitRule};
 use crate::settling::settled;
 use ped_base::{Bytes, Name, NoMemory};
 use ped_fits::fits;
 use ped_limits::MOST_STATEMENTS;
+use ped_links::{
+    NameRefusal, OpenRefusal, Opened, Symbols, UnitFinding, UnitRefusal, UnitRule, look_at_calls,
+    open_program, placed_calls, read_units, symbols_of, tables, unit_numbers,
+};
 use ped_print::print;
 use ped_tree::grammar::RefusalKind;
 use ped_tree::names::NameSet;
 use ped_tree::{Decl, Program, Stmt};
-use ped_valid::{NameRefusal, OpenRefusal, Opened, Symbols, open_program, symbols_of};
 use std::alloc::Global;
 
 /// The printed text of the program that a file of program units expands to.

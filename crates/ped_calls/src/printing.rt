@@ -2,7 +2,7 @@
 
 ghost use Rattle.std.specs.Prelude.{◌≡◌, ◌++◌, map, OnOk};
 ghost use Rattle.ped_tree.specs.Views.{expr_tree, pack_exprs};
-ghost use Rattle.ped_calls.specs.Units as Units;
+ghost use Rattle.ped_links.specs.ped_units.specs.Units as Units;
 
 use ped_base::{Bytes, Name, NoMemory};
 use ped_print::push_enclosed;

@@ -4,7 +4,7 @@
 ghost use Rattle.std.specs.Prelude.{◌≡◌, ◌++◌, ◌∷◌, [], true, IfOk, OnOk, map};
 ghost use Rattle.ped_tree.specs.Tree.{StmtTrees, more_stmts, Remark};
 ghost use Rattle.ped_tree.specs.Views.{decl_tree, stmt_tree, stmt_trees, program_tree};
-ghost use Rattle.ped_calls.specs.Verdicts as Spec;
+ghost use Rattle.ped_links.specs.ped_units.specs.Verdicts as Spec;
 ghost use Rattle.ped_calls.specs.Opening.{placed, is_comment as is_comment_tree};
 
 use ped_base::{Bytes, NoMemory};

@@ -4,7 +4,7 @@ use Rattle.std.specs.Prelude.{MatchOption, MatchBool, nat_lt}
 use Rattle.ped_answer.specs.ped_io.specs.Outside.{Contents, content}
 use Rattle.ped_answer.specs.ped_session.specs.ped_valid.specs.Verdicts.{HasOneValidTree, HasOneFirstRefusal}
 use Rattle.ped_answer.specs.ped_session.specs.ped_valid.proofs.OneVerdict.{one_of_both}
-use Rattle.ped_call_runs.specs.ped_calls.specs.Verdicts.{found_in_text}
+use Rattle.ped_call_runs.specs.ped_calls.specs.ped_units.specs.Verdicts.{found_in_text}
 use Rattle.ped_call_runs.specs.ped_calls.specs.Laws.{HasOneExpansion, HasOneUnitRefusal}
 use Rattle.ped_call_runs.specs.ped_calls.proofs.OneVerdict as units
 use Rattle.ped_answer.specs.ped_session.specs.ped_transformations.specs.ped_script.specs.Items.{commands_of}

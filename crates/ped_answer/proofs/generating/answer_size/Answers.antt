@@ -7,7 +7,7 @@ use Rattle.ped_session.specs.ped_valid.specs.Refusals.{IsRefusalOf}
 use Rattle.ped_session.specs.ped_valid.specs.Validity.{ReadsValid, RefusesText}
 use Rattle.ped_session.specs.States.{opened}
 use Rattle.ped_answer.specs.declared.answering.Status.TheVariants.{ProgramRefused}
-use Rattle.ped_call_runs.specs.ped_calls.specs.Verdicts.{found_in_text}
+use Rattle.ped_call_runs.specs.ped_calls.specs.ped_units.specs.Verdicts.{found_in_text}
 use Rattle.ped_answer.specs.Refusals.{refused_line}
 use Rattle.ped_answer.specs.Answer.{IsJust}
 use Rattle.ped_answer.specs.Generated.{IsGenerated}

@@ -1,6 +1,6 @@
 use Rattle.std.proofs.Common.{◌+◌, drop, sym, ap, ◌∙◌}
 use Rattle.std.proofs.lemmas.Result.{on_ok_weaker}
-use Rattle.ped_calls.specs.Expanding.{Meanings, with_constants}
+use Rattle.ped_links.specs.ped_units.specs.Expanding.{Meanings, with_constants}
 use Rattle.ped_calls.specs.Meaning.{meanings_of}
 use Rattle.ped_calls.proofs.BoundArguments.{constant_at, no_constant_at}
 use Rattle.ped_calls.proofs.binding.add_constant_at.Goals as goal

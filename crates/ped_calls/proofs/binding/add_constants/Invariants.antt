@@ -1,5 +1,5 @@
 use Rattle.std.proofs.Common.{◌≡◌, drop}
-use Rattle.ped_calls.specs.Expanding.{with_constants}
+use Rattle.ped_links.specs.ped_units.specs.Expanding.{with_constants}
 use Rattle.ped_calls.specs.Meaning.{meanings_of}
 use Rattle.ped_calls.proofs.binding.add_constants.Given as goal
 

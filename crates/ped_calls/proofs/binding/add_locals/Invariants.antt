@@ -1,8 +1,8 @@
 use Rattle.std.proofs.Common.{◌≡◌, drop}
-use Rattle.ped_calls.specs.Expanding.{renamed}
+use Rattle.ped_links.specs.ped_units.specs.Expanding.{renamed}
 use Rattle.ped_calls.specs.Giving.{given_of, HasNext}
 use Rattle.ped_calls.specs.Meaning.{meanings_of}
-use Rattle.ped_calls.specs.Views.{program_unit_of}
+use Rattle.ped_links.specs.ped_units.specs.Views.{program_unit_of}
 use Rattle.ped_calls.proofs.binding.add_locals.Given as goal
 
 abbrev pub invariant-loop-name : goal.invariant-loop-name

@@ -4,11 +4,11 @@ use Rattle.std.proofs.lemmas.Result.{on_ok_weaker}
 use Rattle.ped_tree.specs.Tree.{StmtTrees, If, Do, Print, Read, Stop, Comment}
 use Rattle.ped_tree.specs.Views.{expr_tree, cond_tree, item_tree, stmt_tree, stmt_trees, do_tree, head_of}
 use Rattle.ped_tree.specs.declared.statements.Stmt.{Stmt}
-use Rattle.ped_calls.specs.Expanding.{behind_stmts}
-use Rattle.ped_calls.specs.Verdicts.{calls_count, first_calls}
+use Rattle.ped_links.specs.ped_units.specs.Expanding.{behind_stmts}
+use Rattle.ped_links.specs.ped_units.specs.Verdicts.{calls_count, first_calls}
 use Rattle.ped_calls.proofs.CourseSteps.{packed_behind}
 use Rattle.ped_calls.proofs.FirstCalls.{kept_here, copied_here}
-use Rattle.ped_calls.proofs.StatementTrees.{tree-If, tree-Do, tree-Stop, tree-Comment, tree-Print, tree-Read}
+use Rattle.ped_links.proofs.StatementTrees.{tree-If, tree-Do, tree-Stop, tree-Comment, tree-Print, tree-Read}
 use Rattle.ped_calls.proofs.first_calls.+first_calls.Goals as goal
 
 pub first_calls-returns-clause-statements : goal.first_calls-returns-clause-statements

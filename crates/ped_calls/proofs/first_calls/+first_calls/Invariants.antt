@@ -1,7 +1,7 @@
 use Rattle.std.proofs.Common.{◌≡◌, ◌-◌, map, drop}
 use Rattle.ped_tree.specs.Views.{stmt_tree, stmt_trees}
-use Rattle.ped_calls.specs.Expanding.{behind_stmts}
-use Rattle.ped_calls.specs.Verdicts.{calls_count, first_calls}
+use Rattle.ped_links.specs.ped_units.specs.Expanding.{behind_stmts}
+use Rattle.ped_links.specs.ped_units.specs.Verdicts.{calls_count, first_calls}
 use Rattle.ped_calls.proofs.first_calls.+first_calls.Given as goal
 
 abbrev pub invariant-first_calls-loop-statement : goal.invariant-first_calls-loop-statement

@@ -4,7 +4,7 @@ use Rattle.std.proofs.lemmas.Bool.Decides.{nat_tests}
 use Rattle.ped_tree.specs.Tree.{more_stmts}
 use Rattle.ped_tree.specs.Views.{stmt_tree}
 use Rattle.ped_tree.specs.declared.statements.Stmt.{Stmt}
-use Rattle.ped_calls.specs.Expanding.{behind_stmts}
+use Rattle.ped_links.specs.ped_units.specs.Expanding.{behind_stmts}
 use Rattle.ped_calls.proofs.CourseSteps.{behind_pushed}
 use Rattle.ped_calls.proofs.first_calls.add_assignment.Goals as goal
 

@@ -1,7 +1,7 @@
 use Rattle.std.proofs.Common.{List, map, ap, ◌∙◌}
 use Rattle.ped_tree.specs.Views.{stmt_tree}
 use Rattle.ped_tree.specs.declared.statements.Stmt.{Stmt}
-use Rattle.ped_calls.specs.Expanding.{behind_stmts}
+use Rattle.ped_links.specs.ped_units.specs.Expanding.{behind_stmts}
 use Rattle.ped_calls.proofs.CourseSteps.{behind_pushed}
 use Rattle.ped_calls.proofs.first_calls.add_copy.Goals as goal
 

@@ -3,7 +3,7 @@ use Rattle.std.proofs.lemmas.Int.{to_z-of_z}
 use Rattle.ped_base.specs.Dimensions.{Dimensions, dimensions}
 use Rattle.ped_tree.specs.Views.{bound_tree}
 use Rattle.ped_tree.specs.declared.declarations.Bound.{Bound}
-use Rattle.ped_calls.specs.Expanding.{literal_bounds}
+use Rattle.ped_links.specs.ped_units.specs.Expanding.{literal_bounds}
 use Rattle.ped_calls.specs.Giving.{HasSmallBounds}
 use Rattle.ped_calls.proofs.LiteralBounds.{bound_more, no_bound, small_lower, small_upper}
 use Rattle.ped_calls.proofs.giving.literal_bounds.Goals.{then-loop-place-test+else-place-lt7, else-loop-place-test}

@@ -1,6 +1,6 @@
 use Rattle.std.proofs.Common.{◌≡◌, ◌≤◌, ◌-◌, ◌++◌, map, drop}
 use Rattle.ped_tree.specs.Views.{bound_tree}
-use Rattle.ped_calls.specs.Expanding.{literal_bounds}
+use Rattle.ped_links.specs.ped_units.specs.Expanding.{literal_bounds}
 use Rattle.ped_calls.proofs.giving.literal_bounds.Given as goal
 
 abbrev pub invariant-loop-place : goal.invariant-loop-place

@@ -3,12 +3,12 @@ use Rattle.ped_tree.specs.Tree.{ProgramTree}
 use Rattle.ped_tree.specs.Numbering.{statements_count}
 use Rattle.ped_tree.specs.Views.{stmt_trees}
 use Rattle.ped_tree.specs.declared.statements.Stmt.{Stmt}
-use Rattle.ped_valid.specs.ped_symbols.specs.Kinds.{table_of}
-use Rattle.ped_valid.specs.ped_symbols.specs.NameRefusals.{IsValid}
+use Rattle.ped_links.specs.ped_valid.specs.ped_symbols.specs.Kinds.{table_of}
+use Rattle.ped_links.specs.ped_valid.specs.ped_symbols.specs.NameRefusals.{IsValid}
 use Rattle.ped_calls.specs.Courses.{units_of}
 use Rattle.ped_calls.specs.Opening.{Judges}
 use Rattle.ped_calls.specs.declared.opening.Judgement.{Judgement}
-use Rattle.ped_calls.specs.declared.units.ProgramUnit.{ProgramUnit}
+use Rattle.ped_links.specs.ped_units.specs.declared.units.ProgramUnit.{ProgramUnit}
 use Rattle.ped_calls.proofs.FirstPast.{all_expanded, many_invalid, names_invalid, whole_judged}
 use Rattle.ped_calls.proofs.MainSteps.{main_body}
 use Rattle.ped_calls.proofs.opening.expanded.Goals as goal

@@ -1,15 +1,15 @@
 use Rattle.std.proofs.Common.{◌≡◌, List, map, subst}
 use Rattle.std.proofs.lemmas.Result.{IfOk-weaker, IfErr-weaker}
 use Rattle.ped_tree.specs.Views.{program_tree}
-use Rattle.ped_valid.specs.declared.opening.Opened.{Opened}
-use Rattle.ped_valid.specs.ped_symbols.specs.NameRefusals.{IsValid}
+use Rattle.ped_links.specs.ped_valid.specs.declared.opening.Opened.{Opened}
+use Rattle.ped_links.specs.ped_valid.specs.ped_symbols.specs.NameRefusals.{IsValid}
 use Rattle.ped_calls.specs.Courses.{units_of}
-use Rattle.ped_calls.specs.Expanding.{expansion}
-use Rattle.ped_calls.specs.Numbers.{AreNumbers}
+use Rattle.ped_links.specs.ped_units.specs.Expanding.{expansion}
+use Rattle.ped_links.specs.Numbers.{AreNumbers}
 use Rattle.ped_calls.specs.Opening.{IsPastAt}
-use Rattle.ped_calls.specs.Verdicts.{IsExpansion}
-use Rattle.ped_calls.specs.Views.{program_unit_of, IsUnitRefusalOf}
-use Rattle.ped_calls.specs.declared.units.ProgramUnit.{ProgramUnit}
+use Rattle.ped_links.specs.ped_units.specs.Verdicts.{IsExpansion}
+use Rattle.ped_links.specs.ped_units.specs.Views.{program_unit_of, IsUnitRefusalOf}
+use Rattle.ped_links.specs.ped_units.specs.declared.units.ProgramUnit.{ProgramUnit}
 use Rattle.ped_calls.proofs.CourseSteps.{err_passes}
 use Rattle.ped_calls.proofs.MainSteps.{tables_count}
 use Rattle.ped_calls.proofs.NamedUnits.{some_unit}

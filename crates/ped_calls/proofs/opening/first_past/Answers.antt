@@ -1,14 +1,14 @@
 use Rattle.std.proofs.Common.{◌≡◌, ◌<◌, ◌+◌, List, map, length, get_or, ap, subst, ◌∙◌, arith}
 use Rattle.ped_tree.specs.Grammar.RefusalViews.{kind_of}
-use Rattle.ped_calls.specs.Units as units
-use Rattle.ped_calls.specs.Linking.{calls_of}
+use Rattle.ped_links.specs.ped_units.specs.Units as units
+use Rattle.ped_links.specs.ped_units.specs.Linking.{calls_of}
 use Rattle.ped_calls.specs.Courses.{units_of}
 use Rattle.ped_calls.specs.Opening.{FindsPast}
-use Rattle.ped_calls.specs.Placing.{placed_call}
-use Rattle.ped_calls.specs.Verdicts.{IsFirstPast}
-use Rattle.ped_calls.specs.Views.{program_unit_of}
-use Rattle.ped_calls.specs.declared.placing.PlacedCall.{PlacedCall}
-use Rattle.ped_calls.specs.declared.units.ProgramUnit.{ProgramUnit}
+use Rattle.ped_links.specs.Placing.{placed_call}
+use Rattle.ped_links.specs.ped_units.specs.Verdicts.{IsFirstPast}
+use Rattle.ped_links.specs.ped_units.specs.Views.{program_unit_of}
+use Rattle.ped_links.specs.declared.placing.PlacedCall.{PlacedCall}
+use Rattle.ped_links.specs.ped_units.specs.declared.units.ProgramUnit.{ProgramUnit}
 use Rattle.ped_calls.proofs.FirstPast.{within_none, within_more, first_at, none_left}
 use Rattle.ped_calls.proofs.MainSteps.{main_there}
 use Rattle.ped_calls.proofs.opening.first_past.Goals as goal

@@ -6,7 +6,7 @@ use Rattle.ped_tree.specs.Views.{decl_tree, stmt_trees, program_tree}
 use Rattle.ped_calls.specs.Courses.{units_of}
 use Rattle.ped_calls.specs.Giving.{given_of}
 use Rattle.ped_calls.specs.Opening.{expanded_program, JudgesProgram}
-use Rattle.ped_calls.specs.Verdicts.{settled}
+use Rattle.ped_links.specs.ped_units.specs.Verdicts.{settled}
 use Rattle.ped_calls.proofs.Judged.{judged_whole, stopped_many}
 use Rattle.ped_calls.proofs.MainSteps.{main_decls, expanded_from, went_on, stopped_from}
 use Rattle.ped_calls.proofs.opening.judged_within.Goals as goal

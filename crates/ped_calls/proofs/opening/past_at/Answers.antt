@@ -4,9 +4,9 @@ use Rattle.ped_tree.specs.Views.{stmt_trees}
 use Rattle.ped_tree.specs.declared.statements.Stmt.{Stmt}
 use Rattle.ped_calls.specs.Courses.{units_of}
 use Rattle.ped_calls.specs.Opening.{Judges}
-use Rattle.ped_calls.specs.Verdicts.{first_calls}
+use Rattle.ped_links.specs.ped_units.specs.Verdicts.{first_calls}
 use Rattle.ped_calls.specs.declared.opening.Judgement.{Judgement}
-use Rattle.ped_calls.specs.declared.units.ProgramUnit.{ProgramUnit}
+use Rattle.ped_links.specs.ped_units.specs.declared.units.ProgramUnit.{ProgramUnit}
 use Rattle.ped_calls.proofs.Judged.{JudgesAt, judged_at, valid_finds}
 use Rattle.ped_calls.proofs.MainSteps.{main_body}
 use Rattle.ped_calls.proofs.opening.past_at.Goals as goal

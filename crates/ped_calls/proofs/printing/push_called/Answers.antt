@@ -3,7 +3,7 @@ use Rattle.std.specs.Prelude.{codes}
 use Rattle.ped_tree.specs.Printing.{exprs_text}
 use Rattle.ped_tree.specs.Views.{expr_tree, pack_exprs}
 use Rattle.ped_tree.specs.declared.expressions.Expr.{Expr}
-use Rattle.ped_calls.specs.Units.{arguments_text}
+use Rattle.ped_links.specs.ped_units.specs.Units.{arguments_text}
 use Rattle.ped_calls.proofs.printing.push_called.Goals as goal
 
 regroup : (a b t : List ℕ) → a ++ b ++ codes "(" ++ t ++ codes ")" ≡ a ++ b ++ (codes "(" ++ t ++ codes ")")

@@ -1,9 +1,14 @@
-use Rattle.std.proofs.Common.{◌≤◌, ◌∙◌, ap, map, length, arith, take_all}
+use Rattle.std.proofs.Common.{◌≡◌, ◌≤◌, ◌∙◌, List, [], ◌∷◌, refl, ap, map, length, arith, take_all}
+use Rattle.ped_tree.specs.Tree.{ExprTree, more_exprs}
 use Rattle.ped_tree.specs.Views.{expr_tree, pack_exprs}
-use Rattle.ped_calls.specs.Expanding.{replaced}
+use Rattle.ped_links.specs.ped_units.specs.Expanding.{Meanings, replaced, all_replaced}
 use Rattle.ped_calls.specs.Meaning.{meanings_of}
-use Rattle.ped_calls.proofs.Packed.{exprs_packed}
 use Rattle.ped_calls.proofs.replacing.+replaced.Goals as goal
+
+-- expressions of a list, packed for a tree
+exprs_packed : (m : Meanings) (es : List ExprTree) → pack_exprs (map (replaced m) es) ≡ all_replaced m (pack_exprs es)
+exprs_packed m [] = refl
+exprs_packed m (e ∷ es) = ap (more_exprs (replaced m e)) (exprs_packed m es)
 
 pub all_replaced-returns-clause-packed : goal.all_replaced-returns-clause-packed
 all_replaced-returns-clause-packed t c =

@@ -1,6 +1,6 @@
 use Rattle.std.proofs.Common.{◌≡◌, map, take}
 use Rattle.ped_tree.specs.Views.{expr_tree}
-use Rattle.ped_calls.specs.Expanding.{replaced}
+use Rattle.ped_links.specs.ped_units.specs.Expanding.{replaced}
 use Rattle.ped_calls.specs.Meaning.{meanings_of}
 use Rattle.ped_calls.proofs.replacing.+replaced.Given as goal
 

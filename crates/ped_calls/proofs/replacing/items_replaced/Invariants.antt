@@ -1,6 +1,6 @@
 use Rattle.std.proofs.Common.{◌≡◌, map, take}
 use Rattle.ped_tree.specs.Views.{item_tree}
-use Rattle.ped_calls.specs.Expanding.{item_replaced}
+use Rattle.ped_links.specs.ped_units.specs.Expanding.{item_replaced}
 use Rattle.ped_calls.specs.Meaning.{meanings_of}
 use Rattle.ped_calls.proofs.replacing.items_replaced.Given as goal
 

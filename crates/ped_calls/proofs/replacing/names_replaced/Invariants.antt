@@ -1,5 +1,5 @@
 use Rattle.std.proofs.Common.{◌≡◌, map, take}
-use Rattle.ped_calls.specs.Expanding.{name_meant}
+use Rattle.ped_links.specs.ped_units.specs.Expanding.{name_meant}
 use Rattle.ped_calls.specs.Meaning.{meanings_of}
 use Rattle.ped_calls.proofs.replacing.names_replaced.Given as goal
 

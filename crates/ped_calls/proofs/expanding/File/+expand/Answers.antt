@@ -5,13 +5,13 @@ use Rattle.ped_tree.specs.Views.{expr_tree, pack_exprs, cond_tree, stmt_tree, st
 use Rattle.ped_tree.specs.Numbering.{statement_count, statements_count}
 use Rattle.ped_tree.specs.Grammar.LimitNumbers.{most_blocks_nested}
 use Rattle.ped_tree.specs.declared.statements.Stmt.{Stmt}
-use Rattle.ped_calls.specs.Forms.{Called}
-use Rattle.ped_calls.specs.Expanding as plain
-use Rattle.ped_calls.specs.Expanding.{Expanded, with_formals, bound_arguments, call_comment, call_expanded}
+use Rattle.ped_links.specs.ped_units.specs.Forms.{Called}
+use Rattle.ped_links.specs.ped_units.specs.Expanding as plain
+use Rattle.ped_links.specs.ped_units.specs.Expanding.{Expanded, with_formals, bound_arguments, call_comment, call_expanded}
 use Rattle.ped_calls.specs.Meaning.{meanings_of}
 use Rattle.ped_calls.specs.Courses.{units_of, ExpandsOn, GoesOn, Passes, StopsAt, IsTooDeep, AreTooDeep, expanded_at, all_expanded_at, block_at, inside_at}
 use Rattle.ped_calls.specs.Giving.{given_of}
-use Rattle.ped_calls.specs.Views.{program_unit_of}
+use Rattle.ped_links.specs.ped_units.specs.Views.{program_unit_of}
 use Rattle.ped_calls.specs.declared.giving.Given.{Given}
 use Rattle.ped_calls.specs.declared.expanding.Course.{Course}
 use Rattle.ped_calls.specs.declared.expanding.File.{File}
@@ -20,7 +20,7 @@ use Rattle.ped_calls.proofs.CourseSteps.{stops_by, stopped_passes, packed_behind
 use Rattle.ped_calls.proofs.BlockSteps.{block_goes, block_past, block_is, front_count, room_passes, call_is_block}
 use Rattle.ped_calls.proofs.Expansions.{call_counts}
 use Rattle.ped_calls.proofs.Measures.{stmts_weight, inside_smaller, unit_weight, stmts_left, item_weight}
-use Rattle.ped_calls.proofs.StatementTrees.{tree-If, tree-Do}
+use Rattle.ped_links.proofs.StatementTrees.{tree-If, tree-Do}
 use Rattle.ped_calls.proofs.expanding.File.+expand.Goals as goal
 
 pub statements-loop-statement-init : goal.statements-loop-statement-init

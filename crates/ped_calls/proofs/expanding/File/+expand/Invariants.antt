@@ -1,6 +1,6 @@
 use Rattle.std.proofs.Common.{◌+◌, ◌*◌, map, drop}
 use Rattle.ped_tree.specs.Views.{stmt_tree, stmt_trees}
-use Rattle.ped_calls.specs.Expanding.{call_expanded}
+use Rattle.ped_links.specs.ped_units.specs.Expanding.{call_expanded}
 use Rattle.ped_calls.specs.Courses.{ExpandsOn, units_of}
 use Rattle.ped_calls.specs.Meaning.{meanings_of}
 use Rattle.ped_calls.proofs.Measures.{stmt_weight, stmts_weight, expand_measure}

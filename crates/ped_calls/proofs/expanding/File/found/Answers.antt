@@ -1,5 +1,5 @@
 use Rattle.std.proofs.Common.{◌<◌, ◌∙◌, map, drop, length, sym, arith, inr}
-use Rattle.ped_calls.specs.Views.{program_unit_of}
+use Rattle.ped_links.specs.ped_units.specs.Views.{program_unit_of}
 use Rattle.ped_calls.proofs.MainSteps.{number_missing, number_below, unit_found, tables_count}
 use Rattle.ped_calls.proofs.expanding.File.found.Goals as goal
 

@@ -1,9 +1,9 @@
 use Rattle.std.proofs.Common.{◌≡◌, ◌-◌, IfErr, length, sym, ap, subst, ◌∙◌}
 use Rattle.ped_tree.specs.Numbering.{statements_count}
 use Rattle.ped_tree.specs.Views.{stmt_trees}
-use Rattle.ped_valid.specs.ped_symbols.specs.Kinds.{Table}
+use Rattle.ped_links.specs.ped_valid.specs.ped_symbols.specs.Kinds.{Table}
 use Rattle.ped_calls.specs.Courses.{units_of, Passes, StopsAt, AreTooDeep}
-use Rattle.ped_calls.specs.Expanding.{Given, AllExpanded, constants_of}
+use Rattle.ped_links.specs.ped_units.specs.Expanding.{Given, AllExpanded, constants_of}
 use Rattle.ped_calls.specs.Giving.{given_of}
 use Rattle.ped_calls.specs.Meaning.{meanings_of}
 use Rattle.ped_calls.proofs.MainSteps.{main_same, others_count, main_table}

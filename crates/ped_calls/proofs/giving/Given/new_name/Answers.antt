@@ -2,7 +2,7 @@ use Rattle.std.proofs.Common.{rules, ◌≡◌, ℕ, ◌+◌, ◌-◌, ◌<◌, 
 use Rattle.ped_base.specs.Lists.{is_among}
 use Rattle.ped_tree.specs.Names.Collecting.{with_name}
 use Rattle.ped_tree.specs.Views.{decl_tree}
-use Rattle.ped_calls.specs.Expanding.{numbered_name, free_from, free_name}
+use Rattle.ped_links.specs.ped_units.specs.Expanding.{numbered_name, free_from, free_name}
 use Rattle.ped_calls.proofs.FreeNames.{stopped, all_passed}
 use Rattle.ped_calls.proofs.NumberedNames.{free_is_free}
 use Rattle.ped_calls.proofs.giving.Given.new_name.Goals.{then-loop-left-test+else-contains, else-loop-left-test}

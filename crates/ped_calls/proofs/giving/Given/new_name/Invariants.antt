@@ -1,6 +1,6 @@
 use Rattle.std.proofs.Common.{◌≡◌, ◌≤◌, ◌<◌, ◌+◌, ℕ, true, length}
 use Rattle.ped_base.specs.Lists.{is_among}
-use Rattle.ped_calls.specs.Expanding.{numbered_name, free_from, free_name}
+use Rattle.ped_links.specs.ped_units.specs.Expanding.{numbered_name, free_from, free_name}
 use Rattle.ped_calls.proofs.giving.Given.new_name.Given as goal
 
 abbrev pub invariant-loop-left : goal.invariant-loop-left

@@ -1,5 +1,5 @@
 use Rattle.std.proofs.Common.{is_some, ap, sym, ◌∙◌}
-use Rattle.ped_calls.proofs.Meant.{table_finds, there_meant}
+use Rattle.ped_links.proofs.Meant.{table_finds, there_meant}
 use Rattle.ped_calls.proofs.replacing.Meanings.has.Goals as goal
 
 pub returns : goal.returns

@@ -1,8 +1,8 @@
 use Rattle.std.proofs.Common.{rules, ◌≡◌, Some, None, ap, ◌∙◌}
 use Rattle.std.specs.Map.{lookup}
 use Rattle.ped_base.specs.contracts.identifiers.NamePartialEq.TheImpl as code
-use Rattle.ped_calls.specs.Expanding.{name_or}
-use Rattle.ped_calls.proofs.Meant.{meant}
+use Rattle.ped_links.specs.ped_units.specs.Expanding.{name_or}
+use Rattle.ped_links.proofs.Meant.{meant}
 use Rattle.ped_calls.proofs.replacing.Meanings.name_of.Goals as goal
 
 pub returns-in-Some : goal.returns-in-Some

@@ -7,7 +7,7 @@ use Rattle.ped_tree.specs.declared.expressions.Expr.{Expr}
 use Rattle.ped_tree.specs.declared.expressions.Expr.TheOpen as open_expr
 use Rattle.ped_tree.specs.declared.expressions.Expr.TheVariants as variant
 use Rattle.ped_tree.specs.declared.expressions.Expr.TheFolds.{fold-roll-Expr}
-use Rattle.ped_calls.proofs.Meant.{meant}
+use Rattle.ped_links.proofs.Meant.{meant}
 use Rattle.ped_calls.proofs.replacing.Meanings.of.Goals as goal
 
 -- a copy stands for the same

@@ -1,9 +1,0 @@
-use Rattle.std.proofs.Common.{ℕ, drop}
-use Rattle.ped_calls.specs.Units.{ProgramUnits}
-use Rattle.ped_calls.specs.Arguments.{IsAt, SomeAliased}
-use Rattle.ped_calls.specs.Scenes.{unit_at}
-use Rattle.ped_calls.proofs.arguments.At.is_aliased.Given as goal
-
-abbrev pub invariant-loop-place : goal.invariant-loop-place
-invariant-loop-place l = (us : ProgramUnits) (i : ℕ) → IsAt us i l.self → SomeAliased us (unit_at us i) (unit_at us l.self.callee) l.self.formals.now l.self.call.now.arguments
-    → SomeAliased us (unit_at us i) (unit_at us l.self.callee) (drop l.place l.self.formals.now) (drop l.place l.self.call.now.arguments)

@@ -1,7 +1,0 @@
-use Rattle.std.proofs.Common.{take}
-use Rattle.ped_calls.specs.FirstLinks.{IsFirstOf}
-use Rattle.ped_calls.specs.Links.{StandsAtLines}
-use Rattle.ped_calls.proofs.linking.at_private.Given as goal
-
-abbrev pub invariant-loop-line : goal.invariant-loop-line
-invariant-loop-line l = IsFirstOf (StandsAtLines (take l.line-index l.lines)) l.found

@@ -1,9 +1,0 @@
-use Rattle.std.proofs.Common.{◌≡◌, length}
-use Rattle.ped_calls.specs.Reaching.{AreBelow}
-use Rattle.ped_calls.proofs.ranking.count_down.Given as goal
-
-abbrev pub invariant-loop-number : goal.invariant-loop-number
-invariant-loop-number l = record {
-  wide : length l.counts ≡ length l.initial.counts;
-  waiting : AreBelow (length l.initial.counts) l.waiting.items;
-}

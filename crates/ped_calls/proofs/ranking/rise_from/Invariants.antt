@@ -1,6 +1,0 @@
-use Rattle.std.proofs.Common.{take}
-use Rattle.ped_calls.specs.Ranking.{RiseFrom}
-use Rattle.ped_calls.proofs.ranking.rise_from.Given as goal
-
-abbrev pub invariant-loop-to : goal.invariant-loop-to
-invariant-loop-to l = RiseFrom l.ranks l.from (take l.to-index l.ends)

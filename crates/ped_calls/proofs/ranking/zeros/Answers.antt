@@ -1,6 +1,0 @@
-use Rattle.std.proofs.Common.{ℕ, List, ◌++◌, [], ◌∷◌, ap, ◌∙◌}
-use Rattle.std.proofs.lemmas.List.{replicate_more}
-use Rattle.ped_calls.proofs.ranking.zeros.Goals as goal
-
-pub loop-preserved : goal.loop-preserved
-loop-preserved c = c.in_ok-push.ensures.items ∙ ap (λ (xs : List ℕ). xs ++ 0 ∷ []) c.loop.invariant ∙ replicate_more c.loop.counter 0

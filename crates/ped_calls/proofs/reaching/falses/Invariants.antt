@@ -1,5 +1,0 @@
-use Rattle.std.proofs.Common.{◌≡◌, false, replicate}
-use Rattle.ped_calls.proofs.reaching.falses.Given as goal
-
-abbrev pub invariant-loop : goal.invariant-loop
-invariant-loop l = l.falses.items ≡ replicate l.counter false

@@ -1,8 +1,0 @@
-use Rattle.std.proofs.Common.{map}
-use Rattle.ped_tree.specs.Grammar.StatementViews.{statement_of}
-use Rattle.ped_calls.specs.Seeing.{AreItemsReadAs}
-use Rattle.ped_calls.specs.Views.{unit_entry_of}
-use Rattle.ped_calls.proofs.reading.entries.Given as goal
-
-abbrev pub invariant-loop-statement : goal.invariant-loop-statement
-invariant-loop-statement l = AreItemsReadAs (map statement_of l.yielded) (map unit_entry_of l.entries.items)

@@ -1,4 +1,0 @@
-use Rattle.ped_calls.proofs.reading.read_units.Goals as goal
-
-pub returns-in-Err-clause-refused : goal.returns-in-Err-clause-refused
-returns-in-Err-clause-refused c = c.of_lines.ensures c.args.text.now c.in-Err.ensures.err

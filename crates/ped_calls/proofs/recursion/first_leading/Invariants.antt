@@ -1,9 +1,0 @@
-use Rattle.std.proofs.Common.{take}
-use Rattle.ped_calls.specs.Units.{ProgramUnits, all_units}
-use Rattle.ped_calls.specs.Linking.{Recursion}
-use Rattle.ped_calls.specs.FirstLinks.{IsFirstOf}
-use Rattle.ped_calls.specs.Scenes.{IsScene, StandsAtCalls, CallsMarked}
-use Rattle.ped_calls.proofs.recursion.first_leading.Given as goal
-
-abbrev pub invariant-loop-call : goal.invariant-loop-call
-invariant-loop-call l = (us : ProgramUnits) → IsScene us l.scene → IsFirstOf (StandsAtCalls (take l.call-index l.calls) Recursion (CallsMarked (all_units us) l.leading)) l.found

@@ -1,9 +1,0 @@
-use Rattle.ped_calls.specs.ArrowViews.{ends_of}
-use Rattle.ped_calls.specs.Units.{ProgramUnits}
-use Rattle.ped_calls.specs.FirstLinks.{IsFirstOf}
-use Rattle.ped_calls.specs.Scenes.{IsScene}
-use Rattle.ped_calls.proofs.Recursive.{LeadingBelow}
-use Rattle.ped_calls.proofs.recursion.first_recursion.Given as goal
-
-abbrev pub invariant-loop-unit : goal.invariant-loop-unit
-invariant-loop-unit l = (us : ProgramUnits) → IsScene us l.scene → IsFirstOf (LeadingBelow us (ends_of l.callers) l.unit) l.found

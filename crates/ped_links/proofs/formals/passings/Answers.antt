@@ -1,0 +1,37 @@
+use Rattle.std.proofs.Common.{◌≡◌, ◌<◌, ℕ, List, [], length, ap, subst, ◌∙◌, arith}
+use Rattle.std.proofs.lemmas.List.{length-map, length-replicate}
+use Rattle.ped_links.specs.ArrowViews.{ends_of}
+use Rattle.ped_links.specs.Reaching.{Leads}
+use Rattle.ped_units.specs.Units.{all_units}
+use Rattle.ped_units.specs.Views.{program_unit_of}
+use Rattle.ped_links.proofs.ArrowsAdded.{no_arrows}
+use Rattle.ped_links.proofs.NumberedUnits.{units_long}
+use Rattle.ped_links.proofs.Passings.{none_passed, units_step, all_passed, passed_all}
+use Rattle.ped_links.proofs.PlacesMet.{calls_read}
+use Rattle.ped_links.proofs.formals.passings.Goals as goal
+
+pub loop-unit-init : goal.loop-unit-init
+loop-unit-init c = record {
+  wide = let long = ap length c.in_ok-arrows.ensures in let wide = length-replicate {A = List ℕ} c.args.formals.now.count [] in omega (arith, long, wide);
+  arrows = λ us scene f from to. (λ l. absurd (no_arrows c.args.formals.now.count from to (subst (λ (ends : List (List ℕ)). Leads ends from to) c.in_ok-arrows.ensures l)), λ h. absurd (none_passed us from to h));
+}
+
+pub loop-unit-preserved : goal.loop-unit-preserved
+loop-unit-preserved c = record {
+  wide = c.add_passings.ensures.wide ∙ c.loop-unit.invariant.wide;
+  arrows = λ us scene f.
+      let walks = c.args.scene.now.walks.now in
+      let n = c.loop-unit.unit in
+      let long = units_long us c.args.scene.now.units.now scene.units in
+      let below : n < length (all_units us) = omega (arith, long) in
+      let calls = c.deref.ensures.value ∙ calls_read us walks n c.index-scene-unit.result scene.walked below c.index-scene-unit.is in
+      units_step us n c.deref.result.now (ends_of c.loop-unit.arrows) (ends_of c.add_passings.new.arrows) calls (c.loop-unit.invariant.arrows us scene f) (c.in_ok-add_passings.ensures.added us scene f below);
+}
+
+pub returns-clause-arrows : goal.returns-clause-arrows
+returns-clause-arrows c us scene f from to =
+    let long = ap length scene.units in
+    let as_long = length-map c.args.scene.now.units.now program_unit_of in
+    let wide : c.loop-unit.unit ≡ length (all_units us) = omega (arith, long, as_long) in
+    let known = c.loop-unit.invariant.arrows us scene f from to in
+    (λ l. all_passed us c.loop-unit.unit from to wide (known.0 l), λ a. known.1 (passed_all us c.loop-unit.unit from to wide a))

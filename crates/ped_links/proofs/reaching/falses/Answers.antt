@@ -1,0 +1,6 @@
+use Rattle.std.proofs.Common.{Bool, false, List, ◌++◌, [], ◌∷◌, ap, ◌∙◌}
+use Rattle.std.proofs.lemmas.List.{replicate_more}
+use Rattle.ped_links.proofs.reaching.falses.Goals as goal
+
+pub loop-preserved : goal.loop-preserved
+loop-preserved c = c.in_ok-push.ensures.items ∙ ap (λ (xs : List Bool). xs ++ false ∷ []) c.loop.invariant ∙ replicate_more c.loop.counter false

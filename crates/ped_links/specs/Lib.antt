@@ -1,0 +1,12 @@
+pub use Rattle.ped_units
+pub use Rattle.ped_units.specs.ped_valid
+pub mod Reaching
+pub mod Ranking
+pub mod Placing
+pub mod Numbers
+pub mod FirstLinks
+pub mod Scenes
+pub mod Recursions
+pub mod Arguments
+pub mod Links
+pub mod ArrowViews

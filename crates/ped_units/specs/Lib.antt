@@ -1,0 +1,13 @@
+pub use Rattle.ped_valid
+pub use Rattle.ped_sums
+pub mod Forms
+pub mod Units
+pub mod Reading
+pub mod Refusals
+pub mod Linking
+pub mod Expanding
+pub mod Verdicts
+pub mod UnitReading
+pub mod Views
+pub mod Seeing
+pub mod Naming

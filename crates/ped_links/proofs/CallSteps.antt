@@ -6,7 +6,7 @@ use Rattle.ped_units.specs.Linking.{LinkRefusal, Arguments}
 use Rattle.ped_units.specs.Verdicts.{of_links}
 use Rattle.ped_units.specs.Views.{rule_of}
 use Rattle.ped_links.specs.FirstLinks.{standing_link, IsFirstOf, EitherStands, StandsIf}
-use Rattle.ped_links.specs.Links.{StandsAtLines, StandsAtPlaces}
+use Rattle.ped_links.specs.LinkPlaces.{StandsAtLines, StandsAtPlaces}
 use Rattle.ped_links.specs.Scenes.{StandsAtCalls}
 use Rattle.ped_links.specs.declared.placing.PlacedCall.{PlacedCall}
 use Rattle.ped_units.specs.declared.refusals.UnitRule.{UnitRule}

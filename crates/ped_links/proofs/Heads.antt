@@ -4,7 +4,8 @@ use Rattle.ped_base.specs.Lists.{is_same_text, is_among}
 use Rattle.ped_units.specs.ped_valid.specs.ped_symbols.specs.NameRefusals.{has_twice}
 use Rattle.ped_units.specs.Units.{ProgramUnit, ProgramUnits, all_units}
 use Rattle.ped_units.specs.Linking.{LinkRefusal, NoUnit, Recursion, Arguments, Aliased, CallPlace}
-use Rattle.ped_links.specs.Links.{AreNamed, IsBelow, HasEarlier}
+use Rattle.ped_links.specs.Links.{AreNamed}
+use Rattle.ped_links.specs.LinkPlaces.{IsBelow, HasEarlier}
 use Rattle.ped_links.specs.Numbers.{number_among, number_of_unit}
 use Rattle.ped_links.specs.Scenes.{unit_at, AtHeads}
 use Rattle.ped_units.specs.Views.{name_or_none}

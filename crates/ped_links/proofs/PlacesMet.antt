@@ -10,7 +10,7 @@ use Rattle.ped_units.specs.ped_valid.specs.ped_symbols.specs.Sites.{Site, declar
 use Rattle.ped_units.specs.Units.{ProgramUnit, ProgramUnits, all_units, unit_of}
 use Rattle.ped_units.specs.Linking.{IsIn, Placed, calls_of, Sited, sited, LinkRefusal, NoUnit, Recursion, Arguments, Aliased, CallPlace}
 use Rattle.ped_links.specs.FirstLinks.{IsFirstOf, EitherStands, first_link_of}
-use Rattle.ped_links.specs.Links.{StandsAtLines, StandsAtPlaces, PlacesFound}
+use Rattle.ped_links.specs.LinkPlaces.{StandsAtLines, StandsAtPlaces, PlacesFound}
 use Rattle.ped_links.specs.Numbers.{number_of_unit}
 use Rattle.ped_links.specs.Placing.{placed_call, private_line, private_lines}
 use Rattle.ped_links.specs.Scenes.{unit_at, IsWalked, AreWalked, AtPlaces}

@@ -6,9 +6,9 @@ use Rattle.ped_units.specs.Units.{ProgramUnit, ProgramUnits, all_units}
 use Rattle.ped_units.specs.Linking.{IsIn, Placed, calls_of, CallsUnit, LeadsAlong, Reaches, LinkRefusal, NoUnit, Recursion, Arguments, Aliased, CallPlace, IsAtCall, OfCalled, IsRecursive, is_before}
 use Rattle.ped_units.specs.Verdicts.{number_of_rule}
 use Rattle.ped_links.specs.FirstLinks.{comes_first, IsFirstOf, EitherStands, first_link_of}
-use Rattle.ped_links.specs.Numbers.{number_of_unit, IsMarkedNumber}
+use Rattle.ped_links.specs.Numbers.{number_of_unit}
 use Rattle.ped_links.specs.Placing.{placed_call}
-use Rattle.ped_links.specs.Reaching.{Leads, LeadAlong, IsReached, IsMarked}
+use Rattle.ped_links.specs.Reaching.{Leads, LeadAlong, IsReached, IsMarked, IsMarkedNumber}
 use Rattle.ped_links.specs.Recursions.{CallsIn, IsLeading, MayComeFirst, IsFoundIn}
 use Rattle.ped_links.specs.Scenes.{unit_at, CallsAt, CallsMarked, StandsAtCalls, AtRecursions}
 use Rattle.ped_links.specs.declared.placing.PlacedCall.{PlacedCall}

@@ -6,9 +6,8 @@ use Rattle.ped_tree.specs.Tree.{ExprTree, Int, Var, Element, Neg, Add, Sub, Mul,
 use Rattle.ped_units.specs.Units.{ProgramUnit, ProgramUnits, all_units}
 use Rattle.ped_units.specs.Linking.{IsIn, calls_of, associated, FormalOf, PassesFor, IsUsed, IsUsedAlong}
 use Rattle.ped_links.specs.Arguments.{formals_at, formal_number, AreUses, IsPassed, ArePassed, IsSeed}
-use Rattle.ped_links.specs.Numbers.{IsMarkedNumber}
 use Rattle.ped_links.specs.Placing.{argument_name}
-use Rattle.ped_links.specs.Reaching.{Leads, LeadAlong, IsReached, IsMarked}
+use Rattle.ped_links.specs.Reaching.{Leads, LeadAlong, IsReached, IsMarked, IsMarkedNumber}
 use Rattle.ped_links.specs.Scenes.{unit_at}
 use Rattle.ped_links.proofs.FormalNumbers.{numbered_there, has_a_number, one_number}
 use Rattle.ped_links.proofs.NumberedUnits.{unit_of_number, number_of_unit_of}

@@ -11,7 +11,8 @@ use Rattle.ped_units.specs.ped_valid.specs.ped_symbols.specs.Entries.{entry_of}
 use Rattle.ped_units.specs.ped_valid.specs.ped_symbols.specs.Kinds.{Table, table_of}
 use Rattle.ped_units.specs.Units.{ProgramUnit, ProgramUnits, all_units}
 use Rattle.ped_units.specs.Linking.{IsIn, Placed, calls_of, associated, Association, IsUsed, IsAssigned, IsIndex, assigns, indexes, kind_there, bounds_by, is_scalar, is_constant, LinkRefusal, Arguments, Aliased}
-use Rattle.ped_links.specs.Numbers.{number_of_unit, place_among, ArePlaces, IsMarkedNumber}
+use Rattle.ped_links.specs.Numbers.{number_of_unit, place_among, ArePlaces}
+use Rattle.ped_links.specs.Reaching.{IsMarkedNumber}
 use Rattle.ped_units.specs.Refusals.{for_names}
 use Rattle.ped_links.specs.FirstLinks.{EitherStands, StandsIf}
 use Rattle.ped_links.specs.Scenes.{unit_at, StandsAtCalls}

@@ -9,4 +9,5 @@ pub mod Scenes
 pub mod Recursions
 pub mod Arguments
 pub mod Links
+pub mod LinkPlaces
 pub mod ArrowViews

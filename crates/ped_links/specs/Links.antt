@@ -1,15 +1,10 @@
--- What is refused at the CALLs of units and before them, as the code looks at it. Contracts of private functions alone speak of it.
-use Rattle.std.specs.Prelude.{◌≡◌, ◌<◌, ℕ, List, [], map, true, Option, Some, None}
+-- The units of a file with what their names stand for, and the first of their refusals by CALLs, as the code tells (this project).
+use Rattle.std.specs.Prelude.{◌≡◌, List, [], map}
 use Rattle.ped_units.specs.Units.{ProgramUnit, ProgramUnits, all_units}
-use Rattle.ped_units.specs.Linking.{IsIn, LinkRefusal, NoUnit, Arguments, CallPlace, IsFirstLink}
+use Rattle.ped_units.specs.Linking.{IsIn, LinkRefusal, IsFirstLink}
 use Rattle.ped_units.specs.Verdicts.{of_links}
 use Rattle.ped_units.specs.Naming.{AreTables}
-use Rattle.ped_links.specs.Numbers.{number_of_unit}
-use Rattle.ped_links.specs.FirstLinks.{EitherStands}
-use Rattle.ped_links.specs.Scenes.{StandsAtCalls}
 use Rattle.ped_units.specs.Views.{program_unit_of, rule_of}
-use Rattle.ped_links.specs.declared.placing.Found.{Found}
-use Rattle.ped_links.specs.declared.placing.PlacedCall.{PlacedCall}
 use Rattle.ped_units.specs.declared.units.ProgramUnit as code
 use Rattle.ped_units.specs.declared.refusals.UnitRefusal.{UnitRefusal}
 use Rattle.ped_units.specs.declared.refusals.UnitRefusal.TheVariants as refusal
@@ -29,35 +24,3 @@ pub record AreUnitsWith (us : ProgramUnits) (given : List code.ProgramUnit) (kno
 abbrev pub IsLinkRefusal : ProgramUnits → UnitRefusal → Type 0
 IsLinkRefusal us refusal.NoMemory = Unit {0}
 IsLinkRefusal us (refusal.At f) = (r : LinkRefusal) × (rule_of f.rule ≡ of_links r) × IsFirstLink us r f.line
-
--- there is a number, and it is below this
-abbrev pub IsBelow : Option ℕ → ℕ → Type 0
-IsBelow None n = ⊥
-IsBelow (Some k) n = k < n
-
--- the first unit of a name comes before this number
-abbrev pub HasEarlier : List ProgramUnit → Option (List ℕ) → ℕ → Type 0
-HasEarlier us None n = ⊥
-HasEarlier us (Some x) n = IsBelow (number_of_unit us x) n
-
--- a rule of arguments stands at one of these lines
-abbrev pub StandsAtLines : List ℕ → LinkRefusal → ℕ → Type 0
-StandsAtLines lines r line = (r ≡ Arguments) × IsIn line lines
-
--- a CALL calls no unit
-abbrev pub CallsNone : List ProgramUnit → PlacedCall → Type 0
-CallsNone us c = number_of_unit us c.name ≡ None
-
--- a CALL stands in a PARALLEL DO
-abbrev pub IsParallel : PlacedCall → Type 0
-IsParallel c = c.around.parallel ≡ true
-
--- one of these CALLs names no unit, or stands in a PARALLEL DO
-abbrev pub StandsAtPlaces : List ProgramUnit → List PlacedCall → LinkRefusal → ℕ → Type 0
-StandsAtPlaces us calls = EitherStands (StandsAtCalls calls NoUnit (CallsNone us)) (StandsAtCalls calls CallPlace IsParallel)
-
--- what stands at the CALLs and PRIVATE statements that some walks found
-pub record PlacesFound (us : ProgramUnits) (walks : List Found) (r : LinkRefusal) (line : ℕ) : Type 0 where
-  pub walk : Found
-  pub is_walk : IsIn walk walks
-  pub stands : EitherStands (StandsAtLines walk.private.items) (StandsAtPlaces (all_units us) walk.calls.items) r line

@@ -1,9 +1,8 @@
--- Numbers of units and of dummy arguments, as the code keeps them. Contracts of private functions alone speak of it.
+-- Numbers of units and of dummy arguments, as the code keeps them (this project).
 use Rattle.std.specs.Prelude.{◌≡◌, ℕ, ◌+◌, List, [], ◌∷◌, drop, Bool, Option, Some, None, if◌then◌else◌}
 use Rattle.ped_base.specs.Lists.{is_same_text}
 use Rattle.ped_units.specs.ped_valid.specs.ped_symbols.specs.Entries.{entry_of, with_entry}
 use Rattle.ped_units.specs.Units.{ProgramUnit}
-use Rattle.ped_links.specs.Reaching.{IsMarked}
 
 -- the number of the first of these units that has the name, where the first of all has this number
 abbrev pub number_among : List ProgramUnit → ℕ → List ℕ → Option ℕ
@@ -31,8 +30,3 @@ ArePlaces names entries = (x : List ℕ) → entry_of entries x ≡ place_among 
 abbrev pub with_number : List (List ℕ × ℕ) → Option (List ℕ) → ℕ → List (List ℕ × ℕ)
 with_number entries None n = entries
 with_number entries (Some x) n = with_entry entries x n
-
--- there is a number, and it is marked
-abbrev pub IsMarkedNumber : List Bool → Option ℕ → Type 0
-IsMarkedNumber marks None = ⊥
-IsMarkedNumber marks (Some k) = IsMarked marks k

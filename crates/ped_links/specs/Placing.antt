@@ -1,4 +1,4 @@
--- What a walk over the statements of a unit finds at its CALLs and at its PRIVATE statements, as the code keeps it. Contracts of private functions alone speak of it.
+-- What a walk over the statements of a unit finds at its CALLs and at its PRIVATE statements, as the code keeps it (this project).
 use Rattle.std.specs.Prelude.{◌≡◌, ℕ, List, [], ◌∷◌, ◌++◌, map, length, drop, Option, Some, None, if◌then◌else◌}
 use Rattle.std.specs.List.{flat_map, list_any}
 use Rattle.ped_tree.specs.Tree.{ExprTree, Var, Head}

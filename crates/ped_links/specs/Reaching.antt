@@ -1,5 +1,5 @@
 -- What arrows between numbers lead to. Contracts of private functions alone speak of it.
-use Rattle.std.specs.Prelude.{◌≡◌, ◌<◌, ◌+◌, ◌⊎◌, ℕ, List, [], ◌∷◌, length, get_or, map, Bool, false, true}
+use Rattle.std.specs.Prelude.{◌≡◌, ◌<◌, ◌+◌, ◌⊎◌, ℕ, List, [], ◌∷◌, length, get_or, map, Bool, false, true, Option, Some, None}
 use Rattle.std.specs.Global.{Vec}
 use Rattle.ped_units.specs.Linking.{IsIn}
 
@@ -34,6 +34,11 @@ EndBelow count ends = (i j : ℕ) → Leads ends i j → j < count
 -- a number is marked
 abbrev pub IsMarked : List Bool → ℕ → Type 0
 IsMarked marks n = get_or marks n false ≡ true
+
+-- there is a number, and it is marked
+abbrev pub IsMarkedNumber : List Bool → Option ℕ → Type 0
+IsMarkedNumber marks None = ⊥
+IsMarkedNumber marks (Some k) = IsMarked marks k
 
 -- how many numbers aren't marked
 abbrev pub unmarked : List Bool → ℕ

@@ -4,7 +4,8 @@ use Rattle.ped_units.specs.ped_valid.specs.ped_symbols.specs.Sites.{program_site
 use Rattle.ped_units.specs.Units.{ProgramUnit, ProgramUnits, all_units}
 use Rattle.ped_units.specs.Linking.{IsIn, Placed, calls_of, LinkRefusal, NoUnit, Recursion, Arguments, Aliased, CallPlace, RepeatsUnit, ListsTwice, HasPrivateFormal, IsAtCall, OfCalled, CallsNoUnit, IsRecursive, HasBadArguments, IsAliased, IsInParallel}
 use Rattle.ped_units.specs.Naming.{AreTables}
-use Rattle.ped_links.specs.Numbers.{number_of_unit, AreNumbers, IsMarkedNumber}
+use Rattle.ped_links.specs.Numbers.{number_of_unit, AreNumbers}
+use Rattle.ped_links.specs.Reaching.{IsMarkedNumber}
 use Rattle.ped_links.specs.Placing.{placed_call, private_lines}
 use Rattle.ped_units.specs.Views.{program_unit_of}
 use Rattle.ped_links.specs.declared.placing.Found.{Found}

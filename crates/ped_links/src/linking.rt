@@ -5,6 +5,7 @@ ghost use Rattle.ped_units.specs.ped_valid.specs.ped_symbols.specs.NameRefusals.
 ghost use Rattle.ped_units.specs.Units.{ProgramUnit as PlainUnit, ProgramUnits, all_units};
 ghost use Rattle.ped_units.specs.Linking as Rules;
 ghost use Rattle.ped_links.specs.Links as Spec;
+ghost use Rattle.ped_links.specs.LinkPlaces.{HasEarlier, IsBelow, StandsAtLines, StandsAtPlaces};
 ghost use Rattle.ped_links.specs.FirstLinks.{IsFirstOf};
 ghost use Rattle.ped_links.specs.Numbers.{AreNumbers};
 ghost use Rattle.ped_links.specs.Scenes.{IsScene, AreWalked, AtHeads, AtPlaces};
@@ -106,7 +107,7 @@ fn first_at_heads(alloc: Global, scene: &Scene) -> Result<Option<UnitFinding>, N
 
 /// Whether a unit with this number has the name of one before it.
 fn is_repeated(unit: &ProgramUnit, number: usize, numbers: &IndexMap<Name, usize>) -> bool
-    ensures { (us : List PlainUnit) → AreNumbers us numbers.now.entries → IsTrue result ↔ Spec.HasEarlier us unit.now.name number }
+    ensures { (us : List PlainUnit) → AreNumbers us numbers.now.entries → IsTrue result ↔ HasEarlier us unit.now.name number }
 {
     match &unit.name {
         Some(name) => is_below(number_of(numbers, name), number),
@@ -116,7 +117,7 @@ fn is_repeated(unit: &ProgramUnit, number: usize, numbers: &IndexMap<Name, usize
 
 /// Whether there is a number, and it is below this.
 fn is_below(first: Option<usize>, number: usize) -> bool
-    ensures { IsTrue result ↔ Spec.IsBelow first number }
+    ensures { IsTrue result ↔ IsBelow first number }
 {
     match first {
         Some(first) => first < number,
@@ -152,7 +153,7 @@ fn first_at_places(scene: &Scene) -> Option<UnitFinding>
 
 /// The first of the lines at which PRIVATE names dummy arguments.
 fn at_private(lines: &[u64]) -> Option<UnitFinding>
-    ensures { IsFirstOf (Spec.StandsAtLines lines.now) result }
+    ensures { IsFirstOf (StandsAtLines lines.now) result }
 {
     let mut found = None;
     for line in lines {
@@ -163,7 +164,7 @@ fn at_private(lines: &[u64]) -> Option<UnitFinding>
 
 /// The first of these CALLs that names no unit, or stands in a PARALLEL DO.
 fn at_calls(scene: &Scene, calls: &[PlacedCall]) -> Option<UnitFinding>
-    ensures { (us : ProgramUnits) → IsScene us scene.now → IsFirstOf (Spec.StandsAtPlaces (all_units us) calls.now) result }
+    ensures { (us : ProgramUnits) → IsScene us scene.now → IsFirstOf (StandsAtPlaces (all_units us) calls.now) result }
 {
     let mut found = None;
     for call in calls {

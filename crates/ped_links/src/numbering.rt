@@ -4,6 +4,7 @@ ghost use Rattle.std.specs.Prelude.{◌≡◌, ◌↔◌, ◌<◌, ℕ, List, ma
 ghost use Rattle.ped_units.specs.ped_valid.specs.ped_symbols.specs.Entries.{with_entry};
 ghost use Rattle.ped_units.specs.Units.{ProgramUnit as PlainUnit};
 ghost use Rattle.ped_links.specs.Numbers as Spec;
+ghost use Rattle.ped_links.specs.Reaching.{IsMarkedNumber};
 ghost use Rattle.ped_units.specs.Views.{program_unit_of};
 
 use indexmap::IndexMap;
@@ -75,7 +76,7 @@ pub fn place_of(places: &IndexMap<Name, usize>, name: &Name) -> Option<usize>
 
 /// Whether there is a number, and it is marked.
 pub fn is_marked(number: Option<usize>, marks: &[bool]) -> bool
-    ensures { IsTrue result ↔ Spec.IsMarkedNumber marks.now number }
+    ensures { IsTrue result ↔ IsMarkedNumber marks.now number }
 {
     match number {
         Some(number) if number < marks.len() => marks[number],

@@ -1,4 +1,4 @@
--- What the names of units stand for, or which of their refusals is the first, as the code tells. Contracts of private functions alone speak of it.
+-- What the names of units stand for, or which of their refusals is the first, as the code tells (this project).
 use Rattle.std.specs.Prelude.{◌≡◌, ◌<◌, ◌^◌, ℕ, List, [], map, length, Option, Some, None, Result, Ok, Err}
 use Rattle.std.specs.Global.{Vec}
 use Rattle.std.specs.List.{flat_map}

@@ -3,7 +3,7 @@ use Rattle.std.proofs.lemmas.Grind.{common_steps}
 use Rattle.ped_units.specs.Units.{all_units}
 use Rattle.ped_units.specs.Linking.{NoUnit, CallPlace}
 use Rattle.ped_links.specs.FirstLinks.{IsFirstOf, standing_link}
-use Rattle.ped_links.specs.Links.{StandsAtPlaces, CallsNone, IsParallel}
+use Rattle.ped_links.specs.LinkPlaces.{StandsAtPlaces, CallsNone, IsParallel}
 use Rattle.ped_links.specs.declared.placing.PlacedCall.{PlacedCall}
 use Rattle.ped_units.specs.declared.refusals.UnitFinding.{UnitFinding}
 use Rattle.ped_units.specs.declared.refusals.UnitRule.TheVariants as rule

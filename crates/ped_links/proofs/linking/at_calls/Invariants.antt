@@ -1,7 +1,7 @@
 use Rattle.std.proofs.Common.{take}
 use Rattle.ped_units.specs.Units.{ProgramUnits, all_units}
 use Rattle.ped_links.specs.FirstLinks.{IsFirstOf}
-use Rattle.ped_links.specs.Links.{StandsAtPlaces}
+use Rattle.ped_links.specs.LinkPlaces.{StandsAtPlaces}
 use Rattle.ped_links.specs.Scenes.{IsScene}
 use Rattle.ped_links.proofs.linking.at_calls.Given as goal
 

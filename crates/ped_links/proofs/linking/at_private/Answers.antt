@@ -1,7 +1,7 @@
 use Rattle.std.proofs.Common.{◌+◌, ◌≤◌, ℕ, List, length, take, get_or, sym, subst, arith, take_all}
 use Rattle.std.proofs.lemmas.List.{take_more}
 use Rattle.ped_links.specs.FirstLinks.{IsFirstOf}
-use Rattle.ped_links.specs.Links.{StandsAtLines}
+use Rattle.ped_links.specs.LinkPlaces.{StandsAtLines}
 use Rattle.ped_links.proofs.CallSteps.{line_more}
 use Rattle.ped_links.proofs.linking.at_private.Goals as goal
 

@@ -1,6 +1,6 @@
 use Rattle.std.proofs.Common.{take}
 use Rattle.ped_links.specs.FirstLinks.{IsFirstOf}
-use Rattle.ped_links.specs.Links.{StandsAtLines}
+use Rattle.ped_links.specs.LinkPlaces.{StandsAtLines}
 use Rattle.ped_links.proofs.linking.at_private.Given as goal
 
 abbrev pub invariant-loop-line : goal.invariant-loop-line

@@ -2,7 +2,7 @@ use Rattle.std.proofs.Common.{◌≡◌, ◌+◌, ◌≤◌, [], ◌∷◌, ◌+
 use Rattle.std.proofs.lemmas.Grind.{common_steps}
 use Rattle.ped_units.specs.Units.{all_units}
 use Rattle.ped_links.specs.FirstLinks.{IsFirstOf, first_link_of}
-use Rattle.ped_links.specs.Links.{StandsAtLines, StandsAtPlaces, PlacesFound}
+use Rattle.ped_links.specs.LinkPlaces.{StandsAtLines, StandsAtPlaces, PlacesFound}
 use Rattle.ped_links.specs.Scenes.{AtPlaces}
 use Rattle.ped_links.specs.declared.placing.Found.{Found}
 use Rattle.ped_links.specs.declared.placing.PlacedCall.{PlacedCall}

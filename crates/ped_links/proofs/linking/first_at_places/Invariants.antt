@@ -1,7 +1,7 @@
 use Rattle.std.proofs.Common.{take}
 use Rattle.ped_units.specs.Units.{ProgramUnits}
 use Rattle.ped_links.specs.FirstLinks.{IsFirstOf}
-use Rattle.ped_links.specs.Links.{PlacesFound}
+use Rattle.ped_links.specs.LinkPlaces.{PlacesFound}
 use Rattle.ped_links.specs.Scenes.{IsScene}
 use Rattle.ped_links.proofs.linking.first_at_places.Given as goal
 

@@ -1,5 +1,5 @@
 use Rattle.std.proofs.Common.{ℕ, List, Option, sym, subst}
-use Rattle.ped_links.specs.Links.{IsBelow, HasEarlier}
+use Rattle.ped_links.specs.LinkPlaces.{IsBelow, HasEarlier}
 use Rattle.ped_links.proofs.linking.is_repeated.Goals as goal
 
 pub returns-in-Some : goal.returns-in-Some

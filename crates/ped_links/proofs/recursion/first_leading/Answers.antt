@@ -3,7 +3,7 @@ use Rattle.std.proofs.lemmas.Grind.{common_steps}
 use Rattle.ped_units.specs.Units.{all_units}
 use Rattle.ped_units.specs.Linking.{Recursion}
 use Rattle.ped_links.specs.FirstLinks.{IsFirstOf}
-use Rattle.ped_links.specs.Numbers.{IsMarkedNumber}
+use Rattle.ped_links.specs.Reaching.{IsMarkedNumber}
 use Rattle.ped_links.specs.Scenes.{StandsAtCalls, CallsMarked}
 use Rattle.ped_links.specs.declared.placing.PlacedCall.{PlacedCall}
 use Rattle.ped_units.specs.declared.refusals.UnitRule.TheVariants as rule

@@ -3,7 +3,7 @@ use Rattle.std.specs.Prelude.{IsTrue}
 use Rattle.ped_base.specs.Lists.{is_among}
 use Rattle.ped_units.specs.Units.{all_units}
 use Rattle.ped_links.specs.Arguments.{formal_number}
-use Rattle.ped_links.specs.Numbers.{IsMarkedNumber}
+use Rattle.ped_links.specs.Reaching.{IsMarkedNumber}
 use Rattle.ped_links.proofs.Used.{formals_there}
 use Rattle.ped_links.proofs.formals.Marks.is_index.Goals as goal
 

@@ -9,9 +9,8 @@ use crate::coefficients::{
     add_all, add_of_loops, add_of_names, add_zeros, are_zeros, multiply_all, negate_all, sum,
 };
 use crate::intervals::is_near;
-use crate::names::is_index;
 use ped_base::{Name, NoMemory, is_among};
-use ped_refs::Loop;
+use ped_refs::{Loop, is_index};
 use ped_tree::constants::Consts;
 use ped_views::product;
 use std::alloc::Global;

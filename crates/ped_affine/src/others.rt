@@ -7,9 +7,9 @@ ghost use Rattle.ped_affine.specs.AffineForms.{form_variables};
 ghost use Rattle.ped_affine.specs.PairViews as Spec;
 ghost use Rattle.ped_affine.specs.Arguments.{setting_of, site};
 
-use crate::names::is_index;
 use crate::settings::{Place, Setting};
 use ped_base::{Name, NoMemory};
+use ped_refs::is_index;
 use ped_tree::Expr;
 use std::alloc::Global;
 

@@ -3,8 +3,7 @@
 
 ghost use Rattle.std.specs.Prelude.{◌≡◌, ◌≤◌, IsTrue, take, drop, map, length, IfOk};
 ghost use Rattle.std.specs.List.{list_all};
-ghost use Rattle.ped_base.specs.Lists.{is_among};
-ghost use Rattle.ped_tree.specs.Nests.{indices_of, common_nest};
+ghost use Rattle.ped_tree.specs.Nests.{common_nest};
 ghost use Rattle.ped_tree.specs.Views.{expr_tree};
 ghost use Rattle.ped_refs.specs.Loops.{nest_of};
 ghost use Rattle.ped_affine.specs.Arguments.{setting_of, site};
@@ -14,8 +13,8 @@ ghost use Rattle.ped_graph.specs.Sides as Spec;
 ghost use Rattle.ped_graph.specs.Sides.{IsSide, IsLike, IsOwnRow, IsOwnPosition, AreOwnPositions};
 
 use ped_affine::{Place, Setting, view};
-use ped_base::{Name, NoMemory};
-use ped_refs::Loop;
+use ped_base::NoMemory;
+use ped_refs::{Loop, is_index};
 use ped_tree::Expr;
 use ped_views::{AffRow, LoopRange, PairView, Position};
 use std::alloc::Global;
@@ -79,18 +78,6 @@ fn is_alone(setting: &Setting, nest: &[Loop], e: &Expr) -> bool
         Expr::Int(_) | Expr::Element(_, _) | Expr::Div(_, _) | Expr::Pow(_, _) | Expr::Call(_, _) =>
             true,
     }
-}
-
-/// Whether the name is the variable of one of these loops.
-fn is_index(name: &Name, loops: &[Loop]) -> bool
-    ensures { result ≡ is_among name.now (indices_of (nest_of loops.now)) }
-{
-    for l in loops {
-        if l.has_variable(name) {
-            return true;
-        }
-    }
-    false
 }
 
 /// Whether a view is told to be that of the pair of these sides; where it isn't told, the view may be that of the pair

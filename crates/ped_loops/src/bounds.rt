@@ -17,8 +17,8 @@ ghost use Rattle.ped_loops.specs.CodePlain.{tree_at, values_at, IsPlaced, HasInt
 
 use ped_affine::{Setting, assigned, interval, loop_variables};
 use ped_base::{Name, NoMemory};
-use ped_refs::Loop;
-use ped_scalar::{Flow, Scene, is_index, loop_at, loops_round};
+use ped_refs::{Loop, is_index};
+use ped_scalar::{Flow, Scene, loop_at, loops_round};
 use ped_tree::constants::constant;
 use ped_tree::names::NameSet;
 use ped_tree::{Do, Expr, Intrinsic, Program};

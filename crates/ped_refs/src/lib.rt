@@ -18,7 +18,7 @@ mod surroundings;
 pub use counting::{MOST_PAIRS, first_beyond_limit, pairs, within_limit};
 pub use laws::{pairs_ascend, references_ascend};
 pub use listing::refs;
-pub use loops::Loop;
+pub use loops::{Loop, is_index};
 pub use occurring::{Occurrence, occurrences};
 pub use pairing::{Pair, listed_pairs};
 pub use references::{Ref, RefName, Refs};

@@ -1,8 +1,0 @@
-use Rattle.std.proofs.Common.{◌≡◌, drop}
-use Rattle.ped_base.specs.Lists.{is_among}
-use Rattle.ped_tree.specs.Nests.{indices_of}
-use Rattle.ped_refs.specs.Loops.{nest_of}
-use Rattle.ped_affine.proofs.names.is_index.Given as goal
-
-abbrev pub invariant-loop-l : goal.invariant-loop-l
-invariant-loop-l l = is_among l.name (indices_of (nest_of (drop l.l-index l.nest))) ≡ is_among l.name (indices_of (nest_of l.nest))

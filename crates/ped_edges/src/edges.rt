@@ -1,5 +1,9 @@
 //! Dependences between two references, as the tests find them and the user marks them.
 
+ghost use Rattle.std.specs.Prelude.{◌≡◌, filter, not};
+ghost use Rattle.ped_edges.specs.CodeEdges.{edge_of, mark_of};
+ghost use Rattle.ped_edges.specs.Edges.{is_rejected};
+
 use ped_refs::RefName;
 use ped_verdict::Vector;
 
@@ -25,6 +29,18 @@ pub enum Mark {
     Rejected,
 }
 
+impl Mark {
+    /// Whether the user has said that the dependence isn't there.
+    pub fn is_rejected(self) -> bool
+        ensures { result ≡ is_rejected (mark_of self) }
+    {
+        match self {
+            Mark::Rejected => true,
+            Mark::Proven | Mark::Pending => false,
+        }
+    }
+}
+
 /// A dependence between two references.
 #[derive(Drop)]
 pub struct Edge {
@@ -44,4 +60,11 @@ pub struct Edge {
     pub distances: Vec<Option<i128>>,
     /// What is known of it.
     pub mark: Mark,
+}
+
+/// Keeps the dependences that the user hasn't rejected.
+pub fn keep_unrejected(edges: &mut Vec<Edge>)
+    ensures { edges.new.items ≡ filter (λ e. not (is_rejected (edge_of e).mark)) edges.old.items }
+{
+    edges.retain(|edge| !edge.mark.is_rejected());
 }

@@ -66,7 +66,8 @@ fn push_name(out: &mut Bytes, name: &RefName) -> Result<(), NoMemory>
     }
 }
 
-fn push_kind(out: &mut Bytes, kind: Kind) -> Result<(), NoMemory>
+/// Adds the word for the kind of a dependence. After want of memory the text ends somewhere in the word.
+pub fn push_kind(out: &mut Bytes, kind: Kind) -> Result<(), NoMemory>
     ensures { OnOk result (out.new ≡ out.old ++ shown.kind_text (kind_of kind)) }
 {
     match kind {
@@ -76,8 +77,9 @@ fn push_kind(out: &mut Bytes, kind: Kind) -> Result<(), NoMemory>
     }
 }
 
-/// Adds the level of the loop that carries a dependence, and a dash where none does.
-fn push_level(out: &mut Bytes, level: Option<u8>) -> Result<(), NoMemory>
+/// Adds the level of the loop that carries a dependence, and a dash where none does. After want of memory the text ends
+/// somewhere in the level.
+pub fn push_level(out: &mut Bytes, level: Option<u8>) -> Result<(), NoMemory>
     ensures { OnOk result (out.new ≡ out.old ++ shown.level_text level) }
 {
     match level {

@@ -5,8 +5,6 @@ ghost use Rattle.std.specs.List.{flat_map};
 ghost use Rattle.std.specs.Fmt.{decimal};
 ghost use Rattle.ped_tree.specs.Views.{program_tree};
 ghost use Rattle.ped_splits.specs.ped_reindex.specs.ped_loops.specs.ped_scalar.specs.ped_rules.specs.ped_loop_runs.specs.ped_bodies.specs.ped_steps.specs.Scenes.{IsSceneOf};
-ghost use Rattle.ped_splits.specs.ped_reindex.specs.ped_loops.specs.ped_scalar.specs.ped_rules.specs.ped_loop_runs.specs.ped_bodies.specs.ped_steps.specs.ped_laws.specs.ped_graph.specs.ped_edges.specs.CodeEdges.{kind_of};
-ghost use Rattle.ped_splits.specs.ped_reindex.specs.ped_loops.specs.ped_scalar.specs.ped_rules.specs.ped_loop_runs.specs.ped_bodies.specs.ped_steps.specs.ped_laws.specs.ped_graph.specs.ped_edges.specs.Rows as shown;
 ghost use Rattle.ped_inline.specs.CallsPane as Spec;
 ghost use Rattle.ped_inline.specs.CallsPane.{IsCallsPane};
 ghost use Rattle.ped_inline.specs.CodeFolding.{called_seen, row_seen};
@@ -15,7 +13,7 @@ use crate::block_places::block_places;
 use crate::called::{Called, calls};
 use crate::rows::{FoldedRow, bytes_of, folded_rows};
 use ped_base::{Bytes, NoMemory, push_number};
-use ped_edges::Kind;
+use ped_edges::{push_kind, push_level};
 use ped_splits::Scene;
 use std::alloc::Global;
 use std::collections::BTreeSet;
@@ -112,24 +110,4 @@ fn push_row(out: &mut Bytes, row: &FoldedRow) -> Result<(), NoMemory>
     push_kind(out, row.kind)?;
     out.push(b' ')?;
     push_level(out, row.level)
-}
-
-fn push_kind(out: &mut Bytes, kind: Kind) -> Result<(), NoMemory>
-    ensures { OnOk result (out.new ≡ out.old ++ shown.kind_text (kind_of kind)) }
-{
-    match kind {
-        Kind::Flow => out.extend_from_slice(b"flow"),
-        Kind::Anti => out.extend_from_slice(b"anti"),
-        Kind::Output => out.extend_from_slice(b"output"),
-    }
-}
-
-/// Adds the level of the loop that carries a dependence, and a dash where none does.
-fn push_level(out: &mut Bytes, level: Option<u8>) -> Result<(), NoMemory>
-    ensures { OnOk result (out.new ≡ out.old ++ shown.level_text level) }
-{
-    match level {
-        Some(level) => push_number(out, u64::from(level)),
-        None => out.push(b'-'),
-    }
 }

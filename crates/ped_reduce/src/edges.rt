@@ -6,13 +6,13 @@ ghost use Rattle.ped_tree.specs.Views.{program_tree};
 ghost use Rattle.ped_splits.specs.ped_reindex.specs.ped_loops.specs.ped_scalar.specs.ped_rules.specs.Carried as Carried;
 ghost use Rattle.ped_splits.specs.ped_reindex.specs.ped_loops.specs.ped_scalar.specs.ped_rules.specs.CodeCarried.{AreThose};
 ghost use Rattle.ped_splits.specs.ped_reindex.specs.ped_loops.specs.ped_scalar.specs.ped_rules.specs.ped_loop_runs.specs.ped_bodies.specs.ped_steps.specs.Scenes.{IsSceneOf};
-ghost use Rattle.ped_splits.specs.ped_reindex.specs.ped_loops.specs.ped_scalar.specs.ped_rules.specs.ped_loop_runs.specs.ped_bodies.specs.ped_steps.specs.ped_laws.specs.ped_graph.specs.ped_edges.specs.CodeEdges.{edge_of, mark_of};
+ghost use Rattle.ped_splits.specs.ped_reindex.specs.ped_loops.specs.ped_scalar.specs.ped_rules.specs.ped_loop_runs.specs.ped_bodies.specs.ped_steps.specs.ped_laws.specs.ped_graph.specs.ped_edges.specs.CodeEdges.{edge_of};
 ghost use Rattle.ped_splits.specs.ped_reindex.specs.ped_loops.specs.ped_scalar.specs.ped_rules.specs.ped_loop_runs.specs.ped_bodies.specs.ped_steps.specs.ped_refs.specs.Occurrences.{name_text};
 ghost use Rattle.ped_reduce.specs.Reducing as Spec;
 
 use crate::referring::is_named;
 use ped_base::{Name, NoMemory};
-use ped_edges::{Edge, Mark};
+use ped_edges::{Edge, keep_unrejected};
 use ped_refs::RefName;
 use ped_splits::{Scene, level_at};
 use std::alloc::Global;
@@ -45,16 +45,9 @@ fn edges_beside<L: Ledger>(
 {
     let level = level_at(alloc, scene, number)?;
     let mut edges = scene.graph.edges_at(alloc, number, level)?;
-    keep_standing(&mut edges);
+    keep_unrejected(&mut edges);
     keep_beside(&mut edges, names);
     Ok(edges)
-}
-
-/// Keeps the dependences that the user hasn't rejected.
-fn keep_standing(edges: &mut Vec<Edge>)
-    ensures { edges.new.items ≡ filter (λ e. not (Carried.is_rejected (edge_of e).mark)) edges.old.items }
-{
-    edges.retain(|edge| !is_rejected(edge.mark));
 }
 
 /// Keeps the dependences that are on none of these names.
@@ -62,15 +55,6 @@ fn keep_beside(edges: &mut Vec<Edge>, names: &[Name])
     ensures { edges.new.items ≡ filter (λ e. not (Lists.is_among (edge_of e).name names.now)) edges.old.items }
 {
     edges.retain(|edge| !is_one_of(&edge.name, names));
-}
-
-fn is_rejected(mark: Mark) -> bool
-    ensures { result ≡ Carried.is_rejected (mark_of mark) }
-{
-    match mark {
-        Mark::Rejected => true,
-        Mark::Proven | Mark::Pending => false,
-    }
 }
 
 /// Whether this, on which a dependence is, is one of these names. The data and the output are none.

@@ -5,7 +5,7 @@ use Rattle.ped_tree.specs.Tree.{ProgramTree}
 use Rattle.ped_loop_runs.specs.ped_bodies.specs.ped_steps.specs.ped_views.specs.declared.directions.Direction.{Direction}
 use Rattle.ped_loop_runs.specs.ped_bodies.specs.ped_steps.specs.ped_views.specs.declared.directions.Direction.TheVariants.{Before, Same, After}
 use Rattle.ped_loop_runs.specs.ped_bodies.specs.ped_steps.specs.ped_flow.specs.PlainBounds.{nest_round}
-use Rattle.ped_loop_runs.specs.ped_bodies.specs.ped_steps.specs.ped_laws.specs.ped_graph.specs.ped_edges.specs.Edges.{Mark, proven, pending, rejected, Edge}
+use Rattle.ped_loop_runs.specs.ped_bodies.specs.ped_steps.specs.ped_laws.specs.ped_graph.specs.ped_edges.specs.Edges.{Edge, is_rejected}
 use Rattle.ped_loop_runs.specs.ped_bodies.specs.ped_steps.specs.ped_laws.specs.ped_graph.specs.ped_edges.specs.CodeEdges.{edge_of, HasAtMostSixLoops}
 use Rattle.ped_loop_runs.specs.ped_bodies.specs.ped_steps.specs.ped_laws.specs.ped_graph.specs.ped_edges.specs.declared.edges.Edge.{Edge as CodeEdge}
 use Rattle.ped_loop_runs.specs.ped_bodies.specs.ped_steps.specs.ped_laws.specs.ped_graph.specs.Dependences.{AreEdges}
@@ -19,12 +19,6 @@ level_at t s = length (nest_round t s) + 1
 -- the DO with this number carries the dependence, of which both ends stand in its body (Allen and Kennedy, section 2.2.5)
 abbrev pub is_carried_by : ProgramTree → ℕ → Edge → Bool
 is_carried_by t s e = is_level (level_at t s) e.level && (is_in_body s (extent_of t s) e.source.0 && is_in_body s (extent_of t s) e.sink.0)
-
--- the user has said that the dependence isn't there (ParaScope)
-abbrev pub is_rejected : Mark → Bool
-is_rejected proven = false
-is_rejected pending = false
-is_rejected rejected = true
 
 -- the DO carries the dependence, and the user hasn't rejected it (Allen and Kennedy, section 5.2; ParaScope)
 abbrev pub carried : ProgramTree → ℕ → Edge → Bool

@@ -1,18 +1,18 @@
 //! Dependences that forbid a step, since a DO carries them (Allen and Kennedy, sections 2.2.5, 5.2).
 
-ghost use Rattle.std.specs.Prelude.{◌≡◌, ◌+◌, ◌<◌, ◌^◌, [], ◌∷◌, List, map, filter, length, slice_get, not, All, IfOk, MatchOption};
+ghost use Rattle.std.specs.Prelude.{◌≡◌, ◌+◌, ◌<◌, ◌^◌, [], ◌∷◌, List, map, filter, length, slice_get, All, IfOk, MatchOption};
 ghost use Rattle.std.specs.List.{list_any};
 ghost use Rattle.ped_tree.specs.Views.{program_tree, stmt_trees, head_of};
 ghost use Rattle.ped_loop_runs.specs.ped_bodies.specs.ped_steps.specs.ped_flow.specs.PlainBounds.{nest_round};
 ghost use Rattle.ped_loop_runs.specs.ped_bodies.specs.ped_steps.specs.Scenes.{IsSceneOf};
-ghost use Rattle.ped_loop_runs.specs.ped_bodies.specs.ped_steps.specs.ped_laws.specs.ped_graph.specs.ped_edges.specs.CodeEdges.{edge_of, mark_of, HasAtMostSixLoops};
+ghost use Rattle.ped_loop_runs.specs.ped_bodies.specs.ped_steps.specs.ped_laws.specs.ped_graph.specs.ped_edges.specs.CodeEdges.{edge_of, HasAtMostSixLoops};
 ghost use Rattle.ped_loop_runs.specs.ped_bodies.specs.ped_steps.specs.ped_laws.specs.ped_graph.specs.ped_edges.specs.Edges as plain;
 ghost use Rattle.ped_loop_runs.specs.ped_bodies.specs.ped_steps.specs.ped_laws.specs.ped_graph.specs.Dependences.{AreEdges};
 ghost use Rattle.ped_rules.specs.Carried as Spec;
 ghost use Rattle.ped_rules.specs.CodeCarried.{AreThose};
 
 use ped_base::NoMemory;
-use ped_edges::{Edge, Mark};
+use ped_edges::{Edge, keep_unrejected};
 use ped_loop_runs::{Scene, loops_round};
 use ped_verdict::Vector;
 use ped_views::Direction;
@@ -60,7 +60,7 @@ fn carried_edges<L: Ledger>(
 {
     let level = level_at(alloc, scene, number)?;
     let mut edges = scene.graph.edges_at(alloc, number, level)?;
-    keep_standing(&mut edges);
+    keep_unrejected(&mut edges);
     Ok(edges)
 }
 
@@ -71,22 +71,6 @@ pub fn level_at<L: Ledger>(alloc: Global, scene: &Scene<L>, number: u32) -> Resu
 {
     let round = loops_round(alloc, scene.tree, number)?;
     Ok(round.len() as u8 + 1)
-}
-
-/// Keeps the dependences that the user hasn't rejected.
-fn keep_standing(edges: &mut Vec<Edge>)
-    ensures { edges.new.items ≡ filter (λ e. not (Spec.is_rejected (edge_of e).mark)) edges.old.items }
-{
-    edges.retain(|edge| !is_rejected(edge.mark));
-}
-
-fn is_rejected(mark: Mark) -> bool
-    ensures { result ≡ Spec.is_rejected (mark_of mark) }
-{
-    match mark {
-        Mark::Rejected => true,
-        Mark::Proven | Mark::Pending => false,
-    }
 }
 
 /// Keeps the dependences with a vector that has `>` behind this level.

@@ -6,7 +6,7 @@ ghost use Rattle.ped_base.specs.Lists.{is_same_text};
 ghost use Rattle.ped_session.specs.ped_tree.specs.Views.{program_tree};
 ghost use Rattle.ped_session.specs.ped_tree.specs.Names.Collecting as Collecting;
 ghost use Rattle.ped_session.specs.ped_graph.specs.Held.{held_of};
-ghost use Rattle.ped_session.specs.ped_graph.specs.ped_edges.specs.CodeEdges.{edge_of, mark_of};
+ghost use Rattle.ped_session.specs.ped_graph.specs.ped_edges.specs.CodeEdges.{edge_of};
 ghost use Rattle.ped_session.specs.ped_refs.specs.Occurrences.{name_text};
 ghost use Rattle.ped_valid.specs.ped_symbols.specs.NameRefusals.{IsValid};
 ghost use Rattle.ped_transformations.specs.ped_reindex.specs.ped_loops.specs.ped_scalar.specs.ped_rules.specs.Carried as Carried;
@@ -15,7 +15,7 @@ ghost use Rattle.ped_transformations.specs.ped_auto.specs.CarriedNames as Spec;
 ghost use Rattle.ped_transformations.specs.ped_auto.specs.CarriedNames.{AreCarried};
 
 use ped_base::NoMemory;
-use ped_edges::{Edge, Mark};
+use ped_edges::{Edge, keep_unrejected};
 use ped_order::Graph;
 use ped_refs::RefName;
 use ped_transformations::loops_round;
@@ -53,7 +53,7 @@ fn carried_edges<L: Ledger>(
 {
     let level = level_at(alloc, program, number)?;
     let mut edges = graph.edges_at(alloc, number, level)?;
-    keep_standing(&mut edges);
+    keep_unrejected(&mut edges);
     Ok(edges)
 }
 
@@ -64,22 +64,6 @@ fn level_at(alloc: Global, program: &Program, number: u32) -> Result<u8, NoMemor
 {
     let round = loops_round(alloc, program, number)?;
     Ok(round.len() as u8 + 1)
-}
-
-/// Keeps the dependences that the user hasn't rejected.
-fn keep_standing(edges: &mut Vec<Edge>)
-    ensures { edges.new.items ≡ filter (λ e. not (Carried.is_rejected (edge_of e).mark)) edges.old.items }
-{
-    edges.retain(|edge| !is_rejected(edge.mark));
-}
-
-fn is_rejected(mark: Mark) -> bool
-    ensures { result ≡ Carried.is_rejected (mark_of mark) }
-{
-    match mark {
-        Mark::Rejected => true,
-        Mark::Proven | Mark::Pending => false,
-    }
 }
 
 /// The names of dependences, each once.

@@ -8,17 +8,17 @@ ghost use Rattle.ped_bits.specs.Reaching.{Arrow};
 ghost use Rattle.ped_tree.specs.Views.{head_of, program_tree};
 ghost use Rattle.ped_reindex.specs.ped_loops.specs.ped_scalar.specs.ped_rules.specs.ped_loop_runs.specs.ped_bodies.specs.ped_steps.specs.Scenes.{IsSceneOf};
 ghost use Rattle.ped_reindex.specs.ped_loops.specs.ped_scalar.specs.ped_rules.specs.ped_loop_runs.specs.ped_bodies.specs.ped_steps.specs.ped_laws.specs.ped_graph.specs.Dependences.{AreEdges};
-ghost use Rattle.ped_reindex.specs.ped_loops.specs.ped_scalar.specs.ped_rules.specs.ped_loop_runs.specs.ped_bodies.specs.ped_steps.specs.ped_laws.specs.ped_graph.specs.ped_edges.specs.CodeEdges.{edge_of, mark_of};
+ghost use Rattle.ped_reindex.specs.ped_loops.specs.ped_scalar.specs.ped_rules.specs.ped_loop_runs.specs.ped_bodies.specs.ped_steps.specs.ped_laws.specs.ped_graph.specs.ped_edges.specs.CodeEdges.{edge_of};
 ghost use Rattle.ped_reindex.specs.ped_loops.specs.ped_scalar.specs.ped_rules.specs.ped_loop_runs.specs.ped_bodies.specs.ped_steps.specs.ped_laws.specs.ped_graph.specs.ped_edges.specs.Edges as plain;
 ghost use Rattle.ped_reindex.specs.ped_loops.specs.ped_scalar.specs.ped_rules.specs.ped_loop_runs.specs.ped_bodies.specs.ped_steps.specs.ped_refs.specs.Occurrences.{references_of, name_text};
-ghost use Rattle.ped_reindex.specs.ped_loops.specs.ped_scalar.specs.ped_rules.specs.Carried.{is_rejected as IsRejected};
+ghost use Rattle.ped_edges.specs.Edges.{is_rejected};
 ghost use Rattle.ped_splits.specs.Units as Spec;
 ghost use Rattle.ped_splits.specs.CodeUnits.{IsParted, AreBelow, body_of, leads_between, refers_by};
 
 use crate::units::{Parted, home_at};
 use ped_base::{Name, NoMemory};
 use ped_bits::{Matrix, Row};
-use ped_edges::{Edge, Mark};
+use ped_edges::Edge;
 use ped_refs::{Occurrence, RefName, occurrences};
 use ped_reindex::{Scene, level_at};
 use std::alloc::Global;
@@ -98,9 +98,9 @@ fn add_arrow(from: usize, to: usize, arrows: &mut Matrix)
 /// Whether a dependence has to be kept in a DO of this level: it is independent of loops, or carried at this level or deeper,
 /// and the user hasn't rejected it.
 fn is_to_keep(level: u8, edge: &Edge) -> bool
-    ensures { result ≡ (Spec.is_within level (edge_of edge.now).level && not (IsRejected (edge_of edge.now).mark)) }
+    ensures { result ≡ (Spec.is_within level (edge_of edge.now).level && not (is_rejected (edge_of edge.now).mark)) }
 {
-    is_within(level, edge.level) && !is_rejected(edge.mark)
+    is_within(level, edge.level) && !edge.mark.is_rejected()
 }
 
 fn is_within(level: u8, carried: Option<u8>) -> bool
@@ -109,15 +109,6 @@ fn is_within(level: u8, carried: Option<u8>) -> bool
     match carried {
         Some(carried) => level <= carried,
         None => true,
-    }
-}
-
-fn is_rejected(mark: Mark) -> bool
-    ensures { result ≡ IsRejected (mark_of mark) }
-{
-    match mark {
-        Mark::Rejected => true,
-        Mark::Proven | Mark::Pending => false,
     }
 }
 

@@ -4,12 +4,11 @@ ghost use Rattle.std.specs.Prelude.{◌≡◌, ◌+◌, ◌<◌, ◌^◌, ◌∷
 ghost use Rattle.ped_tree.specs.Tree.{ProgramTree};
 ghost use Rattle.ped_tree.specs.Views.{program_tree, stmt_trees};
 ghost use Rattle.ped_tree.specs.Numbering.{statements_count};
-ghost use Rattle.ped_reindex.specs.ped_loops.specs.ped_scalar.specs.ped_rules.specs.Carried as Carried;
 ghost use Rattle.ped_reindex.specs.ped_loops.specs.ped_scalar.specs.ped_rules.specs.ped_loop_runs.specs.ped_bodies.specs.ped_steps.specs.ped_symbols.specs.Kinds.{table_of};
 ghost use Rattle.ped_reindex.specs.ped_loops.specs.ped_scalar.specs.ped_rules.specs.ped_loop_runs.specs.ped_bodies.specs.ped_steps.specs.ped_symbols.specs.NameRefusals.{IsValid};
 ghost use Rattle.ped_reindex.specs.ped_loops.specs.ped_scalar.specs.ped_rules.specs.ped_loop_runs.specs.ped_bodies.specs.ped_steps.specs.ped_laws.specs.ped_graph.specs.DependencePane as Pane;
 ghost use Rattle.ped_reindex.specs.ped_loops.specs.ped_scalar.specs.ped_rules.specs.ped_loop_runs.specs.ped_bodies.specs.ped_steps.specs.ped_laws.specs.ped_graph.specs.Held.{held_of};
-ghost use Rattle.ped_reindex.specs.ped_loops.specs.ped_scalar.specs.ped_rules.specs.ped_loop_runs.specs.ped_bodies.specs.ped_steps.specs.ped_laws.specs.ped_graph.specs.ped_edges.specs.CodeEdges.{edge_of, mark_of, HasAtMostSixLoops};
+ghost use Rattle.ped_reindex.specs.ped_loops.specs.ped_scalar.specs.ped_rules.specs.ped_loop_runs.specs.ped_bodies.specs.ped_steps.specs.ped_laws.specs.ped_graph.specs.ped_edges.specs.CodeEdges.{edge_of, HasAtMostSixLoops};
 ghost use Rattle.ped_reindex.specs.ped_loops.specs.ped_scalar.specs.ped_rules.specs.ped_loop_runs.specs.ped_bodies.specs.ped_steps.specs.ped_refs.specs.References.{Reference, references, pairs};
 ghost use Rattle.ped_splits.specs.CodeFusing.{bodies_of, key_is_back, StandsInside, forbids_at, IsFirstAmong, IsFirstBack};
 ghost use Rattle.ped_splits.specs.Fusing as Fusing;
@@ -17,7 +16,7 @@ ghost use Rattle.ped_splits.specs.Fusing as Fusing;
 use crate::joining::opened_at;
 use crate::neighbours::Pair;
 use ped_base::NoMemory;
-use ped_edges::{Edge, Mark};
+use ped_edges::Edge;
 use ped_reindex::{PairKey, Prepared, prepare};
 use ped_tree::constants::Consts;
 use ped_tree::{Program, count_statements};
@@ -164,7 +163,7 @@ fn first_kept(edges: Vec<Edge>) -> Option<Edge>
 fn forbids(edge: &Edge, level: u8) -> bool
     ensures { result ≡ forbids_at level (edge_of edge.now) }
 {
-    is_level(edge.level, level) && !is_rejected(edge.mark)
+    is_level(edge.level, level) && !edge.mark.is_rejected()
 }
 
 fn is_level(level: Option<u8>, other: u8) -> bool
@@ -173,15 +172,6 @@ fn is_level(level: Option<u8>, other: u8) -> bool
     match level {
         Some(level) => level == other,
         None => false,
-    }
-}
-
-fn is_rejected(mark: Mark) -> bool
-    ensures { result ≡ Carried.is_rejected (mark_of mark) }
-{
-    match mark {
-        Mark::Rejected => true,
-        Mark::Proven | Mark::Pending => false,
     }
 }
 

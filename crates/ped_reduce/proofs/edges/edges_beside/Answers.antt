@@ -2,7 +2,8 @@ use Rattle.std.proofs.Common.{ℕ, not, ap, ◌∙◌}
 use Rattle.ped_base.specs.Lists.{is_among}
 use Rattle.ped_tree.specs.Views.{program_tree}
 use Rattle.ped_splits.specs.ped_reindex.specs.ped_loops.specs.ped_scalar.specs.ped_rules.specs.ped_loop_runs.specs.ped_bodies.specs.ped_steps.specs.ped_laws.specs.ped_graph.specs.DependencePane.{edges_at}
-use Rattle.ped_splits.specs.ped_reindex.specs.ped_loops.specs.ped_scalar.specs.ped_rules.specs.Carried.{is_carried_by, is_rejected, carried}
+use Rattle.ped_splits.specs.ped_reindex.specs.ped_loops.specs.ped_scalar.specs.ped_rules.specs.Carried.{is_carried_by, carried}
+use Rattle.ped_edges.specs.Edges.{is_rejected}
 use Rattle.ped_splits.specs.ped_reindex.specs.ped_loops.specs.ped_scalar.specs.ped_rules.specs.CodeCarried.{AreThose}
 use Rattle.ped_splits.specs.ped_reindex.specs.ped_loops.specs.ped_scalar.specs.ped_rules.proofs.CarriedEdges.{both_tests}
 use Rattle.ped_reduce.proofs.edges.edges_beside.Goals as goal
@@ -18,5 +19,5 @@ returns g c =
       those = found.2 ∙ ap (λ (level : ℕ). edges_at t s level found.0) c.in_ok-level.ensures;
       short = c.in_ok-edges.ensures.short;
     } in
-    let standing : AreThose t (carried t s) c.keep_standing.new.edges.items = both_tests t (is_carried_by t s) (λ e. not (is_rejected e.mark)) c.in_ok-edges.edges.items c.keep_standing.new.edges.items all c.keep_standing.ensures in
-    both_tests t (carried t s) (λ e. not (is_among e.name c.args.names.now)) c.keep_standing.new.edges.items c.keep_beside.new.edges.items standing c.keep_beside.ensures
+    let standing : AreThose t (carried t s) c.keep_unrejected.new.edges.items = both_tests t (is_carried_by t s) (λ e. not (is_rejected e.mark)) c.in_ok-edges.edges.items c.keep_unrejected.new.edges.items all c.keep_unrejected.ensures in
+    both_tests t (carried t s) (λ e. not (is_among e.name c.args.names.now)) c.keep_unrejected.new.edges.items c.keep_beside.new.edges.items standing c.keep_beside.ensures

@@ -1,7 +1,8 @@
 use Rattle.std.proofs.Common.{ℕ, not, ap, ◌∙◌}
 use Rattle.ped_session.specs.ped_tree.specs.Views.{program_tree}
 use Rattle.ped_session.specs.ped_graph.specs.DependencePane.{edges_at}
-use Rattle.ped_transformations.specs.ped_reindex.specs.ped_loops.specs.ped_scalar.specs.ped_rules.specs.Carried.{is_carried_by, is_rejected}
+use Rattle.ped_transformations.specs.ped_reindex.specs.ped_loops.specs.ped_scalar.specs.ped_rules.specs.Carried.{is_carried_by}
+use Rattle.ped_edges.specs.Edges.{is_rejected}
 use Rattle.ped_transformations.specs.ped_reindex.specs.ped_loops.specs.ped_scalar.specs.ped_rules.specs.CodeCarried.{AreThose}
 use Rattle.ped_transformations.specs.ped_reindex.specs.ped_loops.specs.ped_scalar.specs.ped_rules.proofs.CarriedEdges.{both_tests}
 use Rattle.ped_session.proofs.carrying.carried_edges.Goals as goal
@@ -17,4 +18,4 @@ returns g c =
       those = found.2 ∙ ap (λ (level : ℕ). edges_at t s level found.0) c.in_ok-level.ensures;
       short = c.in_ok-edges.ensures.short;
     } in
-    both_tests t (is_carried_by t s) (λ e. not (is_rejected e.mark)) c.in_ok-edges.edges.items c.keep_standing.new.edges.items all c.keep_standing.ensures
+    both_tests t (is_carried_by t s) (λ e. not (is_rejected e.mark)) c.in_ok-edges.edges.items c.keep_unrejected.new.edges.items all c.keep_unrejected.ensures

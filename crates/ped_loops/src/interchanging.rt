@@ -226,7 +226,9 @@ fn unless_stepping<L: Ledger>(
         return Ok(Err(against(Rule::StepShape, number)));
     }
     let new = exchanged(alloc, pair)?;
-    unless_far(alloc, scene, number, outer, inner, &new)
+    let answer = unless_far(alloc, scene, number, outer, inner, &new);
+    drop(new);
+    answer
 }
 
 /// Whether a bound of the inner DO names the variable of the outer one, and the increment of one of the two isn't 1.
@@ -338,12 +340,14 @@ fn unless_crossing<L: Ledger>(
 {
     match first_crossing(alloc, scene, number) {
         Ok(Some(edge)) => {
+            drop(change);
             return Ok(Err(Refused::Dependence(edge)));
         }
         Ok(None) => {
             return Ok(Ok(change));
         }
         Err(NoMemory) => {
+            drop(change);
             return Err(NoMemory);
         }
     }

@@ -119,12 +119,14 @@ fn unless_carried<L: Ledger>(
 {
     match first_carried(alloc, scene, number) {
         Ok(Some(edge)) => {
+            drop(change);
             return Ok(Err(Refused::Dependence(edge)));
         }
         Ok(None) => {
             return Ok(Ok(change));
         }
         Err(NoMemory) => {
+            drop(change);
             return Err(NoMemory);
         }
     }

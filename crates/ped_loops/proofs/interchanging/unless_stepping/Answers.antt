@@ -15,8 +15,8 @@ returns-then-lacks_units g c =
     refused s t StepShape s c.against.result c.against.ensures
     (first_stepping t s (head_of outer) (stmt_trees outer.body.items) c.requires.is (head_of inner) (stmt_trees inner.body.items) c.requires.only _ consts c.lacks_units.result c.lacks_units.ensures c.requires.none c.if-lacks_units.true)
 
-pub unless_far-requires-clause-none : goal.unless_far-requires-clause-none
-unless_far-requires-clause-none g c =
+pub unless_far-answer-requires-clause-none : goal.unless_far-answer-requires-clause-none
+unless_far-answer-requires-clause-none g c =
     let t = program_tree c.args.scene.now.tree.now in
     let s = c.args.number in
     let outer = c.args.outer.now in

@@ -207,9 +207,13 @@ fn skewed_bound(alloc: Global, factor: i64, outer: Name, bound: &Expr) -> Result
 {
     let offset = offset(alloc, factor, outer)?;
     if factor < 0 {
-        minus(alloc, bound, &offset)
+        let new = minus(alloc, bound, &offset);
+        drop(offset);
+        new
     } else {
-        plus(alloc, bound, &offset)
+        let new = plus(alloc, bound, &offset);
+        drop(offset);
+        new
     }
 }
 

@@ -4,4 +4,5 @@ mod DeterminedReduction
 pub mod LawfulTable
 pub mod OneAdvice
 mod SerialCounts
+mod StepAnswers
 pub mod Growing

@@ -1,5 +1,6 @@
 -- Where a step is taken and of which kind it is, as the code has it; and what the code answers for a command (this project).
-use Rattle.std.specs.Prelude.{◌≡◌, Option, Some, None, Result, ⊤}
+use Rattle.std.specs.Prelude.{◌≡◌, Option, Some, None, Result, Ok, Err, ⊤}
+use Rattle.ped_base.specs.declared.memory.NoMemory.{NoMemory}
 use Rattle.ped_tree.specs.Tree.{ProgramTree}
 use Rattle.ped_auto.specs.ped_reduce.specs.ped_splits.specs.ped_reindex.specs.ped_loops.specs.ped_scalar.specs.ped_rules.specs.ped_loop_runs.specs.ped_bodies.specs.ped_steps.specs.declared.causes.Refused.{Refused}
 use Rattle.ped_auto.specs.ped_reduce.specs.ped_splits.specs.ped_reindex.specs.ped_loops.specs.ped_scalar.specs.ped_rules.specs.ped_loop_runs.specs.ped_bodies.specs.ped_steps.specs.declared.changes.Change.{Change}
@@ -26,3 +27,8 @@ IsPlace step (Some place) = MatchStep step ⊥ (IsAt place)
 abbrev pub AnswersStep : MaybeStep → ProgramTree → Option (Result Change Refused) → Type 0
 AnswersStep step t None = MatchStep step ⊤ (λ at. ⊥)
 AnswersStep step t (Some answer) = MatchStep step ⊥ (λ at. Answers at t answer)
+
+-- what a step answers, as the answer of a command that takes one
+abbrev pub some_of : Result (Result Change Refused) NoMemory → Result (Option (Result Change Refused)) NoMemory
+some_of (Ok found) = Ok (Some found)
+some_of (Err error) = Err error

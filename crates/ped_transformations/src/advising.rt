@@ -1,6 +1,6 @@
 //! Advice on a statement: which steps could be taken there, and what forbids the others.
 
-ghost use Rattle.std.specs.Prelude.{◌≡◌, ◌++◌, codes, option_map, ⊤, IfOk, OnOk};
+ghost use Rattle.std.specs.Prelude.{◌≡◌, [], ◌++◌, codes, option_map, ⊤, IfOk, OnOk};
 ghost use Rattle.ped_tree.specs.Views.{program_tree};
 ghost use Rattle.ped_auto.specs.ped_reduce.specs.ped_splits.specs.ped_reindex.specs.ped_loops.specs.ped_scalar.specs.ped_rules.specs.Steps.{MatchStep};
 ghost use Rattle.ped_auto.specs.ped_reduce.specs.ped_splits.specs.ped_reindex.specs.ped_loops.specs.ped_scalar.specs.ped_rules.specs.ped_loop_runs.specs.ped_bodies.specs.ped_steps.specs.Scenes.{IsSceneOf};
@@ -25,33 +25,65 @@ pub fn advice<L: Ledger>(alloc: Global, scene: &Scene<L>, statement: u32) -> Res
     ensures { IfOk result (Spec.IsAdvice (program_tree scene.now.tree.now) statement) }
 {
     let mut out = Bytes::new(alloc);
+    tell_all(alloc, scene, statement, &mut out)?;
+    Ok(out)
+}
+
+/// Adds the line of each of these steps, to nothing.
+fn tell_all<L: Ledger>(
+    alloc: Global,
+    scene: &Scene<L>,
+    statement: u32,
+    out: &mut Bytes,
+) -> Result<(), NoMemory>
+    requires scene { IsSceneOf (program_tree scene.now.tree.now) scene.now }
+    requires empty { out.old ≡ [] }
+    ensures { OnOk result (Spec.IsAdvice (program_tree scene.now.tree.now) statement out.new) }
+{
     let interchange = Command::Interchange(statement);
-    tell(alloc, scene, b"interchange", &interchange, &mut out)?;
+    tell(alloc, scene, b"interchange", interchange, out)?;
     let reverse = Command::Reverse(statement);
-    tell(alloc, scene, b"reverse", &reverse, &mut out)?;
+    tell(alloc, scene, b"reverse", reverse, out)?;
     let distribute = Command::Distribute(statement);
-    tell(alloc, scene, b"distribute", &distribute, &mut out)?;
+    tell(alloc, scene, b"distribute", distribute, out)?;
     let fuse = Command::Fuse(statement);
-    tell(alloc, scene, b"fuse", &fuse, &mut out)?;
+    tell(alloc, scene, b"fuse", fuse, out)?;
     let parallel = Command::Parallel(statement);
-    tell(alloc, scene, b"parallel", &parallel, &mut out)?;
+    tell(alloc, scene, b"parallel", parallel, out)?;
     let serial = Command::Serial(statement);
-    tell(alloc, scene, b"serial", &serial, &mut out)?;
+    tell(alloc, scene, b"serial", serial, out)?;
     let first = Command::Peel {
         statement,
         last: false,
     };
-    tell(alloc, scene, b"peel first", &first, &mut out)?;
+    tell(alloc, scene, b"peel first", first, out)?;
     let last = Command::Peel {
         statement,
         last: true,
     };
-    tell(alloc, scene, b"peel last", &last, &mut out)?;
-    Ok(out)
+    tell(alloc, scene, b"peel last", last, out)?;
+    Ok(())
+}
+
+/// Adds the line of the step that a command takes, behind the words by which it is told. The command is let go.
+fn tell<L: Ledger>(
+    alloc: Global,
+    scene: &Scene<L>,
+    words: &[u8],
+    command: Command,
+    out: &mut Bytes,
+) -> Result<(), NoMemory>
+    requires scene { IsSceneOf (program_tree scene.now.tree.now) scene.now }
+    requires step { MatchStep (step_of command) ⊥ (λ at. ⊤) }
+    ensures { OnOk result (Tells (program_tree scene.now.tree.now) (words.now, command) out.old out.new) }
+{
+    let told = push_line(alloc, scene, words, &command, out);
+    drop(command);
+    told
 }
 
 /// Adds the line of the step that a command takes, behind the words by which it is told.
-fn tell<L: Ledger>(
+fn push_line<L: Ledger>(
     alloc: Global,
     scene: &Scene<L>,
     words: &[u8],
@@ -92,7 +124,10 @@ fn cause_in(found: Result<Change, Refused>) -> Option<Refused>
     ensures { result ≡ told.cause_in found }
 {
     match found {
-        Ok(_) => return None,
+        Ok(change) => {
+            drop(change);
+            return None;
+        }
         Err(refused) => return Some(refused),
     }
 }

@@ -5,7 +5,7 @@ ghost use Rattle.ped_tree.specs.Views.{program_tree};
 ghost use Rattle.ped_auto.specs.ped_reduce.specs.ped_splits.specs.ped_reindex.specs.ped_loops.specs.ped_scalar.specs.ped_rules.specs.ped_loop_runs.specs.ped_bodies.specs.ped_steps.specs.Scenes.{IsSceneOf};
 ghost use Rattle.ped_transformations.specs.declared.table.Kind.TheVariants as Kind;
 ghost use Rattle.ped_transformations.specs.Table.{step_of};
-ghost use Rattle.ped_transformations.specs.CodeKinds.{IsPlace, AnswersStep};
+ghost use Rattle.ped_transformations.specs.CodeKinds.{IsPlace, AnswersStep, some_of};
 
 use ped_auto::reduce;
 use ped_base::NoMemory;
@@ -89,25 +89,37 @@ pub fn answer<L: Ledger>(
 {
     match command {
         Command::Privatise(number, name) => {
-            return Ok(Some(privatise(alloc, scene, *number, name)?));
+            return of_step(privatise(alloc, scene, *number, name));
         }
-        Command::Expand(number, name) => return Ok(Some(expand(alloc, scene, *number, name)?)),
+        Command::Expand(number, name) => return of_step(expand(alloc, scene, *number, name)),
         Command::Reduce(number, names) => {
-            return Ok(Some(reduce(alloc, scene, *number, names.as_slice())?));
+            return of_step(reduce(alloc, scene, *number, names.as_slice()));
         }
-        Command::Interchange(number) => return Ok(Some(interchange(alloc, scene, *number)?)),
-        Command::Reverse(number) => return Ok(Some(reverse(alloc, scene, *number)?)),
-        Command::Skew(number, factor) => return Ok(Some(skew(alloc, scene, *number, *factor)?)),
-        Command::Strip(number, size) => return Ok(Some(strip(alloc, scene, *number, *size)?)),
+        Command::Interchange(number) => return of_step(interchange(alloc, scene, *number)),
+        Command::Reverse(number) => return of_step(reverse(alloc, scene, *number)),
+        Command::Skew(number, factor) => return of_step(skew(alloc, scene, *number, *factor)),
+        Command::Strip(number, size) => return of_step(strip(alloc, scene, *number, *size)),
         Command::Peel { statement, last } => {
-            return Ok(Some(peel(alloc, scene, *statement, *last)?));
+            return of_step(peel(alloc, scene, *statement, *last));
         }
-        Command::Distribute(number) => return Ok(Some(distribute(alloc, scene, *number)?)),
-        Command::Fuse(number) => return Ok(Some(fuse(alloc, scene, *number)?)),
-        Command::Inline(number) => return Ok(Some(inline(alloc, scene, *number)?)),
-        Command::Parallel(number) => return Ok(Some(make_parallel(alloc, scene, *number)?)),
-        Command::Serial(number) => return Ok(Some(make_serial(alloc, scene, *number)?)),
-        Command::Reject(number, name) => return Ok(Some(reject(alloc, scene, *number, name)?)),
+        Command::Distribute(number) => return of_step(distribute(alloc, scene, *number)),
+        Command::Fuse(number) => return of_step(fuse(alloc, scene, *number)),
+        Command::Inline(number) => return of_step(inline(alloc, scene, *number)),
+        Command::Parallel(number) => return of_step(make_parallel(alloc, scene, *number)),
+        Command::Serial(number) => return of_step(make_serial(alloc, scene, *number)),
+        Command::Reject(number, name) => return of_step(reject(alloc, scene, *number, name)),
         _ => return Ok(None),
+    }
+}
+
+/// What a step answers, as the answer of a command that takes one.
+fn of_step(
+    found: Result<Result<Change, Refused>, NoMemory>,
+) -> Result<Option<Result<Change, Refused>>, NoMemory>
+    ensures { result ≡ some_of found }
+{
+    match found {
+        Ok(found) => Ok(Some(found)),
+        Err(error) => Err(error),
     }
 }

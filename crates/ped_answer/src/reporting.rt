@@ -1,7 +1,6 @@
 //! What is reported of a program that was made: its script is applied, and the figures are told.
 
-ghost use Rattle.std.specs.Prelude.{◌≡◌, ◌+◌, ◌≤◌, ◌∷◌, [], ◌++◌, codes, List, ℕ, IfOk, OnOk};
-ghost use Rattle.std.specs.Fmt.{decimal};
+ghost use Rattle.std.specs.Prelude.{◌≡◌, ◌+◌, ◌≤◌, [], ◌++◌, codes, List, ℕ, IfOk, OnOk};
 ghost use Rattle.ped_gen.specs.Generated as made;
 ghost use Rattle.ped_session.specs.ped_tree.specs.Tree.{ProgramTree};
 ghost use Rattle.ped_session.specs.ped_order.specs.ped_eval.specs.OutcomeViews.{outcome_view};

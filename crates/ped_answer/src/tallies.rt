@@ -1,12 +1,12 @@
 //! What the items of a script come to in a session: how many changes are accepted, how many lines are refused, and how
 //! many pairs of references are tested.
 
-ghost use Rattle.std.specs.Prelude.{◌≡◌, ◌≢◌, ◌+◌, ◌*◌, ◌^◌, ◌<◌, ◌≤◌, Some, IfOk, OnOk};
+ghost use Rattle.std.specs.Prelude.{◌≡◌, ◌≢◌, ◌+◌, ◌^◌, ◌<◌, ◌≤◌, Some, IfOk, OnOk};
 ghost use Rattle.std.specs.List.{AllByRecursion};
 ghost use Rattle.ped_session.specs.ped_transformations.specs.ped_script.specs.declared.items.Command.TheVariants as commands;
 ghost use Rattle.ped_session.specs.States.{State};
 ghost use Rattle.ped_answer.specs.Generated as Spec;
-ghost use Rattle.ped_answer.specs.Generated.{AppliesCommand, Applies, tally_of, accepted_by, refused_by};
+ghost use Rattle.ped_answer.specs.Generated.{AppliesCommand, Applies, tally_of};
 ghost use Rattle.ped_answer.specs.Tallies.{IsNoAuto, counted, first_count, Counts};
 
 use ped_base::NoMemory;

@@ -3,7 +3,7 @@
 ghost use Rattle.std.specs.Prelude.{◌≡◌, ◌≢◌, ◌+◌, ◌≤◌, Some, IfOk, OnOk};
 ghost use Rattle.ped_session.specs.States.{State};
 ghost use Rattle.ped_session.specs.Scripts as Spec;
-ghost use Rattle.ped_session.specs.Scripts.{AnswersItem, AnswersItems};
+ghost use Rattle.ped_session.specs.Scripts.{AnswersItems};
 ghost use Rattle.ped_session.specs.RunsAsBefore.{AnswersAsBefore};
 ghost use Rattle.ped_session.specs.Replies as Replies;
 ghost use Rattle.ped_session.specs.Adding.{added, Adds};

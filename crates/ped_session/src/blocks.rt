@@ -1,7 +1,6 @@
 //! What is printed of an outcome.
 
 ghost use Rattle.std.specs.Prelude.{◌≡◌, ◌++◌, map, IfOk, OnOk};
-ghost use Rattle.std.specs.Fmt.{decimal, signed_decimal};
 ghost use Rattle.std.specs.List.{flat_map};
 ghost use Rattle.ped_order.specs.ped_eval.specs.OutcomeViews.{outcome_view, row_view};
 ghost use Rattle.ped_session.specs.Blocks as Spec;

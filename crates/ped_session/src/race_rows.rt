@@ -1,7 +1,6 @@
 //! What is printed of a report of races.
 
 ghost use Rattle.std.specs.Prelude.{◌≡◌, ◌++◌, take, IfOk, OnOk};
-ghost use Rattle.std.specs.Fmt.{signed_decimal};
 ghost use Rattle.std.specs.List.{flat_map};
 ghost use Rattle.ped_order.specs.ped_store.specs.CellViews.{cell_view};
 ghost use Rattle.ped_order.specs.ReportViews.{report_view};

@@ -1,6 +1,6 @@
 //! Sessions, and the commands that they answer.
 
-ghost use Rattle.std.specs.Prelude.{◌≡◌, ◌≢◌, ◌+◌, ◌≤◌, ℕ, List, length, IfOk, IfErr, OnOk, OnErr, is_ok, true, None};
+ghost use Rattle.std.specs.Prelude.{◌≡◌, ◌≢◌, ◌+◌, ◌≤◌, List, length, IfOk, IfErr, OnOk, OnErr, is_ok, true, None};
 ghost use Rattle.ped_session.specs.ped_tree.specs.Tree.{ProgramTree};
 ghost use Rattle.ped_session.specs.ped_tree.specs.Numbering.{statements_count};
 ghost use Rattle.ped_session.specs.ped_graph.specs.ped_refs.specs.References.{references, pair_count};
@@ -26,7 +26,7 @@ ghost use Rattle.ped_session.specs.ped_transformations.specs.ped_script.specs.de
 use crate::replies::Reply;
 use crate::running::run_version;
 use crate::versions::{Entry, Version};
-use ped_base::{Bytes, NoMemory};
+use ped_base::NoMemory;
 use ped_edges::Edge;
 use ped_eval::Outcome;
 use ped_history::History;

@@ -4,14 +4,11 @@ ghost use Rattle.std.specs.Prelude.{◌≡◌, ◌<◌, ◌+◌, ◌^◌, not, f
 ghost use Rattle.std.specs.List.{list_any};
 ghost use Rattle.ped_tree.specs.Numbering.{statements_count};
 ghost use Rattle.ped_tree.specs.Views.{stmt_trees, program_tree, head_of};
-ghost use Rattle.ped_tree.specs.Tree.{ProgramTree};
 ghost use Rattle.ped_splits.specs.ped_reindex.specs.ped_loops.specs.ped_scalar.specs.ped_rules.specs.ped_loop_runs.specs.ped_bodies.specs.ped_steps.specs.Scenes.{IsSceneOf};
 ghost use Rattle.ped_splits.specs.ped_reindex.specs.ped_loops.specs.ped_scalar.specs.ped_rules.specs.ped_loop_runs.specs.ped_bodies.specs.ped_steps.specs.ped_symbols.specs.Kinds.{table_of};
-ghost use Rattle.ped_splits.specs.ped_reindex.specs.ped_loops.specs.ped_scalar.specs.ped_rules.specs.ped_loop_runs.specs.ped_bodies.specs.ped_steps.specs.ped_symbols.specs.RightUses.RightUses as uses;
 ghost use Rattle.ped_splits.specs.ped_reindex.specs.ped_loops.specs.ped_scalar.specs.ped_rules.specs.ped_loop_runs.specs.ped_bodies.specs.ped_steps.specs.ped_flow.specs.Questions.{IsLoop};
 ghost use Rattle.ped_splits.specs.ped_reindex.specs.ped_loops.specs.ped_scalar.specs.ped_rules.specs.ped_loop_runs.specs.ped_bodies.specs.ped_steps.specs.ped_refs.specs.Occurrences.{references_of};
 ghost use Rattle.ped_splits.specs.ped_reindex.specs.ped_loops.specs.ped_scalar.specs.ped_rules.specs.ped_loop_runs.specs.ped_bodies.specs.ped_steps.specs.ped_refs.specs.References.{references};
-ghost use Rattle.ped_splits.specs.ped_reindex.specs.ped_loops.specs.ped_scalar.specs.Scalars as Scalars;
 ghost use Rattle.ped_splits.specs.ped_reindex.specs.ped_loops.specs.ped_scalar.specs.Expanding.{has_far_value};
 ghost use Rattle.ped_splits.specs.ped_reindex.specs.ped_loops.specs.ped_scalar.specs.ped_rules.specs.Chains.{no_rules};
 ghost use Rattle.ped_splits.specs.ped_reindex.specs.ped_loops.specs.ped_scalar.specs.ped_rules.specs.Rules.{isnt_constant};
@@ -24,7 +21,7 @@ use crate::privacy::{has_twice, is_in_parallel, is_index_of, is_some_private};
 use crate::referring::{Extent, first_beside_sums, is_referred};
 use ped_base::{Name, NoMemory};
 use ped_refs::{Occurrence, occurrences};
-use ped_splits::{Course, Kind, Rule, Scene, Symbols, course_of, escapes, loops_round};
+use ped_splits::{Course, Rule, Scene, course_of, escapes, loops_round};
 use ped_tree::{Do, count_statements};
 use std::alloc::Global;
 use std::sync::ledger::Ledger;
@@ -183,31 +180,13 @@ fn is_unsummable<L: Ledger>(
     requires all { references_of found.now ≡ references (program_tree scene.now.tree.now) }
     ensures { result ≡ Spec.is_unsummable (program_tree scene.now.tree.now) number (stmt_trees d.now.body.items) name.now }
 {
-    if !is_scalar(scene.symbols, name) {
+    if !scene.symbols.is_scalar(name) {
         return true;
     }
     if is_index_of(name, &scene.tree.body) {
         return true;
     }
     !is_referred(found, extent_of(number, d), name)
-}
-
-/// Whether the name is that of a scalar variable of the program.
-fn is_scalar(symbols: &Symbols, name: &Name) -> bool
-    ensures { (t : ProgramTree) → symbols.now ≡ table_of t → result ≡ Scalars.is_scalar t name.now }
-{
-    is_scalar_kind(symbols.kind(name))
-}
-
-fn is_scalar_kind(kind: Option<Kind>) -> bool
-    ensures { result ≡ uses.is_scalar_kind kind }
-{
-    match kind {
-        Some(Kind::Scalar) => true,
-        Some(Kind::Array(_)) => false,
-        Some(Kind::Constant(_)) => false,
-        None => false,
-    }
 }
 
 /// Where the DO with this number stands.

@@ -13,7 +13,7 @@ mod stripping;
 
 pub use laws::{peeling_is_lawful, skewing_is_lawful, stripping_is_lawful};
 pub use ped_loops::{
-    Change, Course, Keep, Kind, PairKey, Prepared, Reader, Refused, Rule, Scene, Span, Symbols,
+    Change, Course, Keep, PairKey, Prepared, Reader, Refused, Rule, Scene, Span, Symbols,
     accesses_are_made, accesses_in_sequence, against, all_kept, body_with, cause_words, change_to,
     conflicts_are_covered, copy_decls, course_of, escapes, expand, flow_of, interchange,
     interchange_is_lawful, is_plain, level_at, literal, loop_at, loops_round, make_parallel,

@@ -22,7 +22,7 @@ ghost use Rattle.ped_scalar.specs.Expanding as Spec;
 use crate::elements::Elements;
 use crate::keeping::expand_kept;
 use crate::privacy::{is_private_in, is_private_round};
-use crate::scalars::{is_scalar, is_unfit, live_by};
+use crate::scalars::{is_unfit, live_by};
 use ped_base::{Name, NoMemory};
 use ped_refs::Loop;
 use ped_rules::{
@@ -217,7 +217,7 @@ fn lost_by<L: Ledger>(scene: &Scene<L>, number: u32, name: &Name) -> Option<u32>
     requires { IsSceneOf (program_tree scene.now.tree.now) scene.now }
     ensures { MatchOption result ((n : ℕ) → Spec.IsScalarLostBy (program_tree scene.now.tree.now) number name.now n → ⊥) (Spec.IsScalarLostBy (program_tree scene.now.tree.now) number name.now) }
 {
-    if !is_scalar(scene.symbols, name) {
+    if !scene.symbols.is_scalar(name) {
         return None;
     }
     match scene.flow.exposed(number, name) {

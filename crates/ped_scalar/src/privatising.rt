@@ -13,7 +13,7 @@ ghost use Rattle.ped_rules.specs.Steps.{Answers};
 ghost use Rattle.ped_scalar.specs.Privatising as Spec;
 
 use crate::indices::is_some_parallel;
-use crate::scalars::{is_scalar, is_unfit, live_by};
+use crate::scalars::{is_unfit, live_by};
 use ped_base::{Name, NoMemory, is_among};
 use ped_refs::Loop;
 use ped_rules::{
@@ -99,7 +99,7 @@ fn exposed_or_live<L: Ledger>(scene: &Scene<L>, number: u32, name: &Name) -> Opt
     requires { IsSceneOf (program_tree scene.now.tree.now) scene.now }
     ensures { MatchOption result ((n : ℕ) → Spec.IsScalarExposedOrLiveBy (program_tree scene.now.tree.now) number name.now n → ⊥) (Spec.IsScalarExposedOrLiveBy (program_tree scene.now.tree.now) number name.now) }
 {
-    if !is_scalar(scene.symbols, name) {
+    if !scene.symbols.is_scalar(name) {
         return None;
     }
     match scene.flow.exposed(number, name) {

@@ -1,14 +1,11 @@
 //! What the rules of the steps on scalars ask.
 
 ghost use Rattle.std.specs.Prelude.{◌≡◌, ◌+◌, ◌<◌, ◌^◌, ℕ, length, IfOk, MatchOption};
-ghost use Rattle.ped_tree.specs.Tree.{ProgramTree};
 ghost use Rattle.ped_tree.specs.Numbering.{statements_count};
 ghost use Rattle.ped_tree.specs.Views.{stmt_trees, program_tree};
 ghost use Rattle.ped_rules.specs.ped_loop_runs.specs.ped_bodies.specs.ped_steps.specs.ped_refs.specs.References.{references};
 ghost use Rattle.ped_rules.specs.ped_loop_runs.specs.ped_bodies.specs.ped_steps.specs.ped_refs.specs.Loops.{nest_of};
 ghost use Rattle.ped_tree.specs.Views.{head_of};
-ghost use Rattle.ped_rules.specs.ped_loop_runs.specs.ped_bodies.specs.ped_steps.specs.ped_symbols.specs.Kinds.{table_of};
-ghost use Rattle.ped_rules.specs.ped_loop_runs.specs.ped_bodies.specs.ped_steps.specs.ped_symbols.specs.RightUses.RightUses as uses;
 ghost use Rattle.ped_rules.specs.ped_loop_runs.specs.ped_bodies.specs.ped_steps.specs.ped_flow.specs.PlainBounds.{nest_round};
 ghost use Rattle.ped_rules.specs.ped_loop_runs.specs.ped_bodies.specs.ped_steps.specs.ped_flow.specs.Questions.{IsLoop, IsFirst, IsExposed};
 ghost use Rattle.ped_rules.specs.ped_loop_runs.specs.ped_bodies.specs.ped_steps.specs.Scenes.{IsSceneOf, IsFlowOf};
@@ -18,28 +15,10 @@ use crate::indices::is_index_in;
 use crate::referring::is_referred;
 use ped_base::{Name, NoMemory};
 use ped_refs::{Loop, is_index};
-use ped_rules::{Flow, Kind, Reader, Scene, Symbols};
+use ped_rules::{Flow, Reader, Scene};
 use ped_tree::Do;
 use std::alloc::Global;
 use std::sync::ledger::Ledger;
-
-/// Whether the name is that of a scalar variable of the program.
-pub(crate) fn is_scalar(symbols: &Symbols, name: &Name) -> bool
-    ensures { (t : ProgramTree) → symbols.now ≡ table_of t → result ≡ Spec.is_scalar t name.now }
-{
-    is_scalar_kind(symbols.kind(name))
-}
-
-fn is_scalar_kind(kind: Option<Kind>) -> bool
-    ensures { result ≡ uses.is_scalar_kind kind }
-{
-    match kind {
-        Some(Kind::Scalar) => true,
-        Some(Kind::Array(_)) => false,
-        Some(Kind::Constant(_)) => false,
-        None => false,
-    }
-}
 
 /// The statement by which a scalar is live behind the DO with this number: the first that may read it there, or the DO
 /// itself where only the program's end may show it.
@@ -75,7 +54,7 @@ pub(crate) fn is_unfit<L: Ledger>(
     requires round { nest_of round.now ≡ nest_round (program_tree scene.now.tree.now) number }
     ensures { IfOk result (λ r. r ≡ Spec.is_unfit (program_tree scene.now.tree.now) number name.now (head_of d.now) (stmt_trees d.now.body.items)) }
 {
-    if !is_scalar(scene.symbols, name) {
+    if !scene.symbols.is_scalar(name) {
         return Ok(true);
     }
     if is_index(name, round) || is_index_in(name, d) {

@@ -3,9 +3,6 @@
 ghost use Rattle.std.specs.Prelude.{◌≡◌};
 ghost use Rattle.ped_session.specs.ped_tree.specs.Tree.{ProgramTree};
 ghost use Rattle.ped_session.specs.ped_tree.specs.Views.{program_tree};
-ghost use Rattle.ped_valid.specs.ped_symbols.specs.Kinds.{table_of};
-ghost use Rattle.ped_valid.specs.ped_symbols.specs.RightUses.RightUses as uses;
-ghost use Rattle.ped_transformations.specs.ped_reindex.specs.ped_loops.specs.ped_scalar.specs.Scalars as Scalars;
 ghost use Rattle.ped_transformations.specs.ped_auto.specs.SerialLoops as Loops;
 ghost use Rattle.ped_session.specs.CodeStepReplies.{IsOfStep, Says};
 
@@ -17,7 +14,6 @@ use ped_refs::RefName;
 use ped_script::Command;
 use ped_transformations::{Editor, Refused, loop_at, place_of};
 use ped_tree::Program;
-use ped_valid::{Kind, Symbols};
 use ped_verdict::Steps;
 use std::alloc::Global;
 use std::sync::ledger::Ledger;
@@ -43,7 +39,7 @@ impl<L: Ledger> Editor<L> for Session<L> {
     }
 
     fn is_scalar(&self, name: &Name) -> bool {
-        is_scalar_of(&self.present.symbols, name)
+        self.present.symbols.is_scalar(name)
     }
 
     fn step(
@@ -73,24 +69,6 @@ fn is_serial_at(program: &Program, number: u32) -> bool
         None => {
             return false;
         }
-    }
-}
-
-/// Whether the name is that of a scalar variable of the program with these names.
-fn is_scalar_of(symbols: &Symbols, name: &Name) -> bool
-    ensures { (t : ProgramTree) → symbols.now ≡ table_of t → result ≡ Scalars.is_scalar t name.now }
-{
-    is_scalar_kind(symbols.kind(name))
-}
-
-fn is_scalar_kind(kind: Option<Kind>) -> bool
-    ensures { result ≡ uses.is_scalar_kind kind }
-{
-    match kind {
-        Some(Kind::Scalar) => true,
-        Some(Kind::Array(_)) => false,
-        Some(Kind::Constant(_)) => false,
-        None => false,
     }
 }
 

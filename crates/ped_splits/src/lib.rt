@@ -18,7 +18,7 @@ pub use distributing::distribute;
 pub use fusing::fuse;
 pub use laws::{distribution_is_lawful, fusion_is_lawful};
 pub use ped_reindex::{
-    Change, Course, Keep, Kind, Refused, Rule, Scene, Span, Symbols, accesses_are_made,
+    Change, Course, Keep, Refused, Rule, Scene, Span, Symbols, accesses_are_made,
     accesses_in_sequence, against, all_kept, body_with, cause_words, change_to,
     conflicts_are_covered, copy_decls, course_of, escapes, expand, interchange,
     interchange_is_lawful, level_at, literal, loop_at, loops_round, make_parallel, make_serial,

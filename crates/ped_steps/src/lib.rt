@@ -16,7 +16,7 @@ pub use causes::{Refused, cause_words};
 pub use changes::{Change, all_kept};
 pub use laws::one_replacement;
 pub use ped_weaves::{
-    Flow, Keep, Kind, PairKey, Prepared, Reader, Symbols, accesses_are_made, accesses_in_sequence,
+    Flow, Keep, PairKey, Prepared, Reader, Symbols, accesses_are_made, accesses_in_sequence,
     conflicts_are_covered, flow_of, loop_at, prepare,
 };
 pub use replacing::{body_with, copy_decls, program_with, with_body};

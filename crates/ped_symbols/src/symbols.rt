@@ -2,6 +2,7 @@
 
 ghost use Rattle.std.specs.Prelude.{◌≡◌, ◌++◌, ◌^◌, ◌<◌, [], List, map, length, Some, IfOk, IfErr, OnOk};
 ghost use Rattle.ped_tree.specs.Numbering.{statements_count};
+ghost use Rattle.ped_tree.specs.Tree.{ProgramTree};
 ghost use Rattle.ped_refs.specs.References.{Reference, references};
 ghost use Rattle.ped_tree.specs.Grammar.RefusalViews.{found_of};
 ghost use Rattle.ped_tree.specs.Views.{program_tree, stmt_trees};
@@ -11,9 +12,10 @@ ghost use Rattle.ped_symbols.specs.Declarations.{declared_in};
 ghost use Rattle.ped_symbols.specs.Passed.{HasPassed, GoesOver};
 ghost use Rattle.ped_symbols.specs.Passes.{Knows, Holds, CountsTo, Stands, kind_with, with_kinds, first_with};
 ghost use Rattle.ped_symbols.specs.Entries.{entry_of};
-ghost use Rattle.ped_symbols.specs.Kinds.{names_at, table_of};
+ghost use Rattle.ped_symbols.specs.Kinds.{names_at, kind_in, table_of};
 ghost use Rattle.ped_symbols.specs.NameRefusals.{Before, at_first, name_refusals};
 ghost use Rattle.ped_symbols.specs.Refused.{IsFirstOf};
+ghost use Rattle.ped_symbols.specs.RightUses.RightUses.{is_scalar, is_scalar_kind};
 ghost use Rattle.ped_symbols.specs.declared.symbols.NameRefusal.TheVariants as variant;
 
 use crate::declarations::{Held, declarations};
@@ -86,6 +88,13 @@ impl Symbols {
         self.kinds.get(name).copied()
     }
 
+    /// Whether the name is that of a scalar variable of the program (ANSI X3.9-1978, section 2.5).
+    pub fn is_scalar(&self, name: &Name) -> bool
+        ensures { (t : ProgramTree) → self.now ≡ table_of t → result ≡ is_scalar (kind_in t) name.now }
+    {
+        is_scalar_kind(self.kind(name))
+    }
+
     /// The named constants with their values, in the order of their PARAMETER items.
     pub fn consts(&self) -> &Consts
         ensures { result.now ≡ self.now.constants }
@@ -102,6 +111,17 @@ impl Symbols {
             names.push(*name)?;
         }
         Ok(names)
+    }
+}
+
+fn is_scalar_kind(kind: Option<Kind>) -> bool
+    ensures { result ≡ is_scalar_kind kind }
+{
+    match kind {
+        Some(Kind::Scalar) => true,
+        Some(Kind::Array(_)) => false,
+        Some(Kind::Constant(_)) => false,
+        None => false,
     }
 }
 

@@ -11,8 +11,8 @@ mod weaves;
 pub use apart::{agreed_sets, parts_apart, standing_pieces};
 pub use ped_laws::conflicts::{accesses_are_made, accesses_in_sequence, conflicts_are_covered};
 pub use ped_laws::{
-    Flow, Graph, Keep, Kind, NameRefusal, PairKey, Prepared, Reader, Symbols, flow_of, loop_at,
-    prepare, symbols_of,
+    Flow, Graph, Keep, NameRefusal, PairKey, Prepared, Reader, Symbols, flow_of, loop_at, prepare,
+    symbols_of,
 };
 pub use puttings::{act_for_act, kept_part};
 pub use sources::comes_free;

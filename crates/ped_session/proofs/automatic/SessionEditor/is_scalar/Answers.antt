@@ -8,4 +8,4 @@ pub returns : goal.returns
 returns g c =
     let s = c.self.inside in
     let t = tree_of s.present in
-    (t, reads_version s.present c.self.invariant.version c.args.self.now.present (ap (λ (u : State). u.present) c.self.view_is), c.is_scalar_of.ensures t c.self.invariant.version.symbols)
+    (t, reads_version s.present c.self.invariant.version c.args.self.now.present (ap (λ (u : State). u.present) c.self.view_is), c.is_scalar.ensures t c.self.invariant.version.symbols)

@@ -48,6 +48,13 @@ impl Held {
             elements: Elements::none(),
         }
     }
+
+    /// The named constants alone.
+    pub fn into_consts(self) -> Consts
+        ensures { result ≡ self.consts }
+    {
+        self.consts
+    }
 }
 
 /// Goes over declarations: what they say is held, and the first refusal in them is found.

@@ -26,7 +26,7 @@ use crate::statements::{Known, statements};
 use crate::tables::NameTable;
 use crate::uses::{Use, push_decls};
 use indexmap::IndexMap;
-use ped_base::{Bounds, Name, Names, NoMemory};
+use ped_base::{Bounds, Name, Names, NoMemory, both};
 use ped_tree::constants::Consts;
 use ped_tree::grammar::Refusal;
 use ped_tree::{Program, Stmt};
@@ -197,11 +197,12 @@ fn over_declared(
 {
     let until_many_pairs = until_many_pairs(alloc, program)?;
     let mut held = Held::nothing(alloc);
-    let (first, kinds) = over_sites(alloc, program, uses, declared, until_many_pairs, &mut held)?;
+    let walked = over_sites(alloc, program, uses, declared, until_many_pairs, &mut held);
+    let (consts, (first, kinds)) = both(held.into_consts(), walked)?;
     Ok(Passed {
         first,
         kinds,
-        consts: held.consts,
+        consts,
     })
 }
 

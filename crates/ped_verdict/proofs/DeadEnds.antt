@@ -27,7 +27,7 @@ in_front loops [] rest source sink is js h = widened loops rest source sink is j
 in_front (r ∷ loops) (d ∷ front) rest (a ∷ source) (b ∷ sink) (i ∷ is) (j ∷ js) h = (h.0, in_front loops front rest source sink is js h.1)
 in_front loops (d ∷ front) rest source sink is js h = tt
 
-point_in_front : (v : View) (p : SubscriptPair) (front vector : List Direction) → BeginsWith front vector → (at : _) → IsPoint v p vector at → IsPoint v p front at
+pub point_in_front : (v : View) (p : SubscriptPair) (front vector : List Direction) → BeginsWith front vector → (at : _) → IsPoint v p vector at → IsPoint v p front at
 point_in_front v p front vector (rest, e) at q = record {
   indices = q.indices;
   common = in_front v.loops front rest p.source.common p.sink.common at.source at.sink (subst (λ (w : List Direction). CommonInRange v.loops w p.source.common p.sink.common at.source at.sink) (sym e) q.common);

@@ -1,4 +1,5 @@
 mod Answering
+mod Begun
 mod Chosen
 mod DeadEnds
 mod Deciding

@@ -18,7 +18,7 @@ use Rattle.ped_verdict.proofs.FormFacts.{both, neither, zero_is, occurring-none,
 abbrev pub all_at : ℤ → List ℤ → List ℤ
 all_at i row = replicate (length row) i
 
-nothing : (a i : ℤ) → is_zero a ≡ true → a *ℤ i ≡ pos 0
+pub nothing : (a i : ℤ) → is_zero a ≡ true → a *ℤ i ≡ pos 0
 nothing a i z = ap (λ (x : ℤ). x *ℤ i) (zero_is a z) ∙ zero-*ℤ i
 
 -- loops whose index doesn't occur

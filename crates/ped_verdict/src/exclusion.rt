@@ -4,7 +4,6 @@
 ghost use Rattle.std.specs.Prelude.{◌≡◌, ◌↔◌, ◌<◌, pos, neg_ℤ, length, slice_get, IfSome, IsTrue};
 ghost use Rattle.ped_views.specs.Forms as plain;
 ghost use Rattle.ped_views.specs.Excluded.{NeverMeets, FormExcludes, Excludes};
-ghost use Rattle.ped_views.specs.Vectors.{IsPossible};
 ghost use Rattle.ped_verdict.specs.CodeForms.{HasOneZero};
 ghost use Rattle.ped_verdict.specs.Groups.{AreGroups};
 
@@ -15,22 +14,8 @@ use ped_siv::{
 };
 use ped_views::{Direction, LoopRange, PairView, Position};
 
-/// Whether no position and no group excludes a vector over the common loops. The groups are those of the view.
-pub(crate) fn is_possible(view: &PairView, groups: &[Vec<StrongRow>], vector: &[Direction]) -> bool
-    requires groups { AreGroups view.now groups.now }
-    requires vector { length vector.now ≡ length view.now.loops }
-    ensures { IsTrue result ↔ IsPossible view.now vector.now }
-{
-    for position in 0..view.positions.len() {
-        if excludes(view, groups, position, vector) {
-            return false;
-        }
-    }
-    true
-}
-
 /// Whether the position at this place excludes the vector. One that isn't usable excludes nothing.
-fn excludes(
+pub(crate) fn excludes(
     view: &PairView,
     groups: &[Vec<StrongRow>],
     position: usize,

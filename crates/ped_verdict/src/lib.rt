@@ -7,6 +7,7 @@ mod distances;
 mod exactness;
 mod exclusion;
 mod forms;
+mod fronts;
 mod groups;
 mod listing;
 mod places;

@@ -1,16 +1,16 @@
 //! The possible vectors of a view, refined from `*` (Allen and Kennedy, section 3.3.3).
 
 ghost use Rattle.std.specs.Prelude.{◌≡◌, ◌≤◌, ◌^◌, length, IfOk};
+ghost use Rattle.ped_verdict.specs.Fronts.{IsReady};
 ghost use Rattle.ped_verdict.specs.Groups.{AreGroups};
 ghost use Rattle.ped_verdict.specs.Marked.{AreMarked, AreAdded};
 
-use crate::exclusion::is_possible;
+use crate::fronts::is_open;
 use crate::groups::groups;
 use crate::places::{place_of, vector_count};
 use crate::vectors::Vector;
 use ped_base::NoMemory;
 use ped_bits::Row;
-use ped_miv::may_refine;
 use ped_siv::StrongRow;
 use ped_views::{Direction, PairView};
 use std::alloc::Global;
@@ -25,31 +25,23 @@ pub(crate) fn possible_vectors(alloc: Global, view: &PairView) -> Result<Row, No
     Ok(possible)
 }
 
-/// Adds the places of the possible vectors that begin with this front. Where Banerjee's inequality already
-/// rules the front out, whatever directions stand behind it, there is none.
+/// Adds the places of the possible vectors that begin with this front. Where a position already rules the front out,
+/// whatever directions stand behind it, there is none.
 fn refine(view: &PairView, groups: &[Vec<StrongRow>], front: Vector, possible: &mut Row)
     requires groups { AreGroups view.now groups.now }
     requires front { length front ≤ length view.now.loops }
+    requires ready { IsReady view.now front }
     requires wide { length possible.old ≡ 3 ^ length view.now.loops }
     ensures { AreAdded view.now front possible.old possible.new }
 {
-    if front.directions().len() == view.loops.len() {
-        mark(view, groups, front, possible);
-    } else if may_refine(view, front.directions()) {
+    if !is_open(view, groups, &front) {
+        return;
+    }
+    if front.len() == view.loops.len() {
+        possible.set(place_of(front.directions()));
+    } else {
         refine(view, groups, front.with(Direction::Before), possible);
         refine(view, groups, front.with(Direction::Same), possible);
         refine(view, groups, front.with(Direction::After), possible);
-    }
-}
-
-/// Adds the place of a vector where it is possible.
-fn mark(view: &PairView, groups: &[Vec<StrongRow>], vector: Vector, possible: &mut Row)
-    requires groups { AreGroups view.now groups.now }
-    requires vector { length vector ≡ length view.now.loops }
-    requires wide { length possible.old ≡ 3 ^ length view.now.loops }
-    ensures { AreAdded view.now vector possible.old possible.new }
-{
-    if is_possible(view, groups, vector.directions()) {
-        possible.set(place_of(vector.directions()));
     }
 }

@@ -1,6 +1,7 @@
 //! Direction vectors that take no memory of their own.
 
-ghost use Rattle.std.specs.Prelude.{◌≡◌, ◌<◌, ◌≤◌, length, [], ◌∷◌, ◌++◌};
+ghost use Rattle.std.specs.Prelude.{◌≡◌, ◌<◌, ◌≤◌, ◌-◌, length, replicate, [], ◌∷◌, ◌++◌};
+ghost use Rattle.ped_views.specs.declared.directions.Direction.TheVariants.{Same};
 
 use ped_views::Direction;
 use std::marker::Model;
@@ -52,6 +53,22 @@ impl Vector {
             len: self.len + 1,
             directions,
         }
+    }
+
+    /// How many loops the vector is over.
+    pub(crate) fn len(&self) -> usize
+        ensures { result ≡ length self.now }
+    {
+        self.len as usize
+    }
+
+    /// The directions, and `=` for each further one of so many loops.
+    pub(crate) fn padded(&self, loops: usize) -> &[Direction]
+        requires most { length self.now ≤ loops }
+        requires few { loops ≤ 6 }
+        ensures { result.now ≡ self.now ++ replicate (loops - length self.now) Same }
+    {
+        &self.directions[..loops]
     }
 
     /// The directions, the outermost loop first.

@@ -8,7 +8,9 @@ ghost use Rattle.ped_rules.specs.ped_loop_runs.specs.ped_bodies.specs.ped_steps.
 ghost use Rattle.ped_tree.specs.Views.{head_of};
 ghost use Rattle.ped_rules.specs.ped_loop_runs.specs.ped_bodies.specs.ped_steps.specs.ped_flow.specs.Questions.{IsLoop};
 ghost use Rattle.ped_rules.specs.ped_loop_runs.specs.ped_bodies.specs.ped_steps.specs.Replacing as Replacing;
+ghost use Rattle.ped_rules.specs.ped_loop_runs.specs.ped_bodies.specs.ped_steps.specs.Changes.{IsChange};
 ghost use Rattle.ped_rules.specs.ped_loop_runs.specs.ped_bodies.specs.ped_steps.specs.Scenes.{IsSceneOf};
+ghost use Rattle.ped_rules.specs.ped_loop_runs.specs.ped_bodies.specs.ped_steps.specs.ped_symbols.specs.NameRefusals.{IsValid};
 ghost use Rattle.ped_rules.specs.Steps.{Answers};
 ghost use Rattle.ped_scalar.specs.Privatising as Spec;
 
@@ -74,9 +76,7 @@ fn privatise_in<L: Ledger>(
     if is_among(name, d.private.as_slice()) {
         return Ok(Err(against(Rule::AlreadyPrivate, number)));
     }
-    let tree = with_private(alloc, scene.tree, number, d, name)?;
-    let keep = all_kept(alloc, scene.tree)?;
-    match change_to(alloc, tree, keep)? {
+    match privatised(alloc, scene, number, d, name)? {
         Some(change) => {
             return Ok(Ok(change));
         }
@@ -110,6 +110,25 @@ fn exposed_or_live<L: Ledger>(scene: &Scene<L>, number: u32, name: &Name) -> Opt
             return live_by(scene.flow, number, name);
         }
     }
+}
+
+/// The change to the program with the name last in the PRIVATE list of the DO with this number: none exactly where that
+/// program isn't valid.
+fn privatised<L: Ledger>(
+    alloc: Global,
+    scene: &Scene<L>,
+    number: u32,
+    d: &Do,
+    name: &Name,
+) -> Result<Option<Change>, NoMemory>
+    requires scene { IsSceneOf (program_tree scene.now.tree.now) scene.now }
+    requires is { IsLoop (program_tree scene.now.tree.now) number (head_of d.now) (stmt_trees d.now.body.items) }
+    ensures { IfOk result (λ found. MatchOption found (IsValid (Spec.privatised (program_tree scene.now.tree.now) number name.now) → ⊥)
+        (IsChange (Spec.privatised (program_tree scene.now.tree.now) number name.now) (Replacing.all_kept (program_tree scene.now.tree.now)))) }
+{
+    let tree = with_private(alloc, scene.tree, number, d, name)?;
+    let keep = all_kept(alloc, scene.tree)?;
+    change_to(alloc, tree, keep)
 }
 
 /// The program with the name last in the PRIVATE list of the DO with this number.

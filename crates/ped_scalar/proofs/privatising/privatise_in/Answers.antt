@@ -1,13 +1,13 @@
-use Rattle.std.proofs.Common.{ℕ, List, ◌||◌, Option, MatchOption, sym, ap, ◌∙◌, subst, arith}
+use Rattle.std.proofs.Common.{ℕ, List, ◌||◌, Option, MatchOption, sym, ap, ◌∙◌, subst}
 use Rattle.std.specs.List.{list_any}
 use Rattle.ped_base.specs.Lists.{is_among}
-use Rattle.ped_tree.specs.Tree.{ProgramTree}
 use Rattle.ped_tree.specs.Nests.{Loop}
 use Rattle.ped_tree.specs.Views.{program_tree, stmt_trees}
 use Rattle.ped_rules.specs.ped_loop_runs.specs.ped_bodies.specs.ped_steps.specs.ped_refs.specs.Loops.{nest_of}
 use Rattle.ped_tree.specs.Views.{head_of}
 use Rattle.ped_rules.specs.ped_loop_runs.specs.ped_bodies.specs.ped_steps.specs.ped_symbols.specs.NameRefusals.{IsValid}
 use Rattle.ped_rules.specs.ped_loop_runs.specs.ped_bodies.specs.ped_steps.specs.declared.rules.Rule.TheVariants.{ParallelState, ExposedOrLive, NotScalar, Limit, AlreadyPrivate}
+use Rattle.ped_rules.specs.ped_loop_runs.specs.ped_bodies.specs.ped_steps.specs.Replacing.{all_kept}
 use Rattle.ped_rules.specs.ped_loop_runs.specs.ped_bodies.specs.ped_steps.specs.Changes.{IsChange}
 use Rattle.ped_rules.specs.ped_loop_runs.specs.ped_bodies.specs.ped_steps.specs.declared.changes.Change.{Change}
 use Rattle.ped_rules.specs.ped_loop_runs.specs.ped_bodies.specs.ped_steps.proofs.Answering.{few_numbers}
@@ -17,12 +17,6 @@ use Rattle.ped_scalar.proofs.privatising.privatise_in.Goals as goal
 
 pub loops_round-requires : goal.loops_round-requires
 loops_round-requires g c = few_numbers (program_tree c.args.scene.now.tree.now) c.requires.scene.valid
-
-pub all_kept-requires : goal.all_kept-requires
-all_kept-requires g c = let few = few_numbers (program_tree c.args.scene.now.tree.now) c.requires.scene.valid in omega (arith, few)
-
-pub with_private-requires-clause-few : goal.with_private-requires-clause-few
-with_private-requires-clause-few g c = few_numbers (program_tree c.args.scene.now.tree.now) c.requires.scene.valid
 
 pub returns-then-is_parallel : goal.returns-then-is_parallel
 returns-then-is_parallel g c =
@@ -82,11 +76,9 @@ returns-in-Some-2 g c =
     let nest = ap nest_of c.deref.ensures.value ∙ c.in_ok-round.ensures in
     let test = c.is_parallel.ensures ∙ ap (λ (n : List Loop). h.parallel || list_any (λ (m : Loop). m.head.parallel) n) nest in
     let among = c.is_among.ensures ∙ ap (λ (names : List (List ℕ)). is_among x names) c.as_slice.ensures in
-    let u = program_tree c.in_ok-tree.tree in
-    let found : IsChange u c.in_ok-keep.keep c.in-Some-2.change =
-    subst (λ (o : Option Change). MatchOption o (IsValid u → ⊥) (IsChange u c.in_ok-keep.keep)) c.in-Some-2.is c.in_ok-change.ensures in
-    let change = subst (λ (v : ProgramTree). IsChange v c.in_ok-keep.keep c.in-Some-2.change) c.in_ok-tree.ensures.tree found in
-    let made = subst (λ (k : List (ℕ × ℕ)). IsChange (privatised t s x) k c.in-Some-2.change) c.in_ok-keep.ensures change in
+    let u = privatised t s x in
+    let made : IsChange u (all_kept t) c.in-Some-2.change =
+    subst (λ (o : Option Change). MatchOption o (IsValid u → ⊥) (IsChange u (all_kept t))) c.in-Some-2.is c.in_ok-change.ensures in
     rules.accepted s x t c.in-Some-2.change
     (rules.nothing_stands s x t h body c.requires.is (sym test ∙ c.if-is_parallel.false) c.in_default.ensures (sym c.in_ok-is_unfit.ensures ∙ c.if-branch.false) (sym among ∙ c.if-is_among.false) made.valid) made
 
@@ -100,8 +92,7 @@ returns-in-None g c =
     let nest = ap nest_of c.deref.ensures.value ∙ c.in_ok-round.ensures in
     let test = c.is_parallel.ensures ∙ ap (λ (n : List Loop). h.parallel || list_any (λ (m : Loop). m.head.parallel) n) nest in
     let among = c.is_among.ensures ∙ ap (λ (names : List (List ℕ)). is_among x names) c.as_slice.ensures in
-    let u = program_tree c.in_ok-tree.tree in
-    let none : IsValid u → ⊥ = subst (λ (o : Option Change). MatchOption o (IsValid u → ⊥) (IsChange u c.in_ok-keep.keep)) c.in-None.is c.in_ok-change.ensures in
-    let invalid = λ (v : IsValid (privatised t s x)). none (subst IsValid (sym c.in_ok-tree.ensures.tree) v) in
+    let u = privatised t s x in
+    let invalid : IsValid u → ⊥ = subst (λ (o : Option Change). MatchOption o (IsValid u → ⊥) (IsChange u (all_kept t))) c.in-None.is c.in_ok-change.ensures in
     rules.refused s x t Limit s c.against-in-None.result c.against-in-None.ensures
     (rules.limit_first s x t h body c.requires.is (sym test ∙ c.if-is_parallel.false) c.in_default.ensures (sym c.in_ok-is_unfit.ensures ∙ c.if-branch.false) (sym among ∙ c.if-is_among.false) invalid)

@@ -1,0 +1,22 @@
+use Rattle.std.proofs.Common.{ℕ, List, Option, MatchOption, subst, arith}
+use Rattle.std.specs.Prelude.{IfOk}
+use Rattle.ped_tree.specs.Tree.{ProgramTree}
+use Rattle.ped_tree.specs.Views.{program_tree}
+use Rattle.ped_rules.specs.ped_loop_runs.specs.ped_bodies.specs.ped_steps.specs.ped_symbols.specs.NameRefusals.{IsValid}
+use Rattle.ped_rules.specs.ped_loop_runs.specs.ped_bodies.specs.ped_steps.specs.Changes.{IsChange}
+use Rattle.ped_rules.specs.ped_loop_runs.specs.ped_bodies.specs.ped_steps.specs.declared.changes.Change.{Change}
+use Rattle.ped_rules.specs.ped_loop_runs.specs.ped_bodies.specs.ped_steps.proofs.Answering.{few_numbers}
+use Rattle.ped_scalar.specs.Privatising.{privatised}
+use Rattle.ped_scalar.proofs.privatising.privatised.Goals as goal
+
+pub with_private-requires-clause-few : goal.with_private-requires-clause-few
+with_private-requires-clause-few g c = few_numbers (program_tree c.args.scene.now.tree.now) c.requires.scene.valid
+
+pub all_kept-requires : goal.all_kept-requires
+all_kept-requires g c = let few = few_numbers (program_tree c.args.scene.now.tree.now) c.requires.scene.valid in omega (arith, few)
+
+pub returns : goal.returns
+returns g c =
+    let u = privatised (program_tree c.args.scene.now.tree.now) c.args.number c.args.name.now in
+    subst (λ (k : List (ℕ × ℕ)). IfOk c.change_to.result (λ (found : Option Change). MatchOption found (IsValid u → ⊥) (IsChange u k))) c.in_ok-keep.ensures
+    (subst (λ (v : ProgramTree). IfOk c.change_to.result (λ (found : Option Change). MatchOption found (IsValid v → ⊥) (IsChange v c.in_ok-keep.keep))) c.in_ok-tree.ensures.tree c.change_to.ensures)

@@ -11,7 +11,7 @@ ghost use Rattle.ped_order.specs.Keys.{cell_writes, iteration_of, key_of};
 
 use ped_base::{Name, NoMemory};
 use ped_eval::Turn;
-use ped_store::{Cell, Iteration, PrivateCopy};
+use ped_store::{Cell, Iteration, PrivateCopy, mixed};
 use std::alloc::Global;
 use std::hash::{Hash, Hasher};
 use std::marker::Model;
@@ -177,7 +177,7 @@ fn are_same_iterations(a: &[Iteration], b: &[Iteration]) -> bool
 fn hash_iterations<H: Hasher>(iterations: &[Iteration], state: &mut H)
     ensures { state.new ≡ fold H.write state.old (iterations_writes iterations.now) }
 {
-    iterations.hash(state);
+    state.write_u64(mixed(iterations));
 }
 
 /// Feeds a cell to a hasher.

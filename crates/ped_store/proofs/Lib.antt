@@ -3,6 +3,7 @@ mod DataTexts
 mod ElementOrder
 mod LaidSlots
 mod Layouts
+mod Lent
 mod Places
 mod Readings
 mod SameCopies

@@ -1,5 +1,5 @@
 -- How iterations are kept, and what a hasher is fed of them (this project).
-use Rattle.std.specs.Prelude.{◌≡◌, ◌-◌, ◌≤◌, List, ◌++◌, length, take, drop, replicate}
+use Rattle.std.specs.Prelude.{◌≡◌, ℕ, ◌+◌, ◌-◌, ◌*◌, ◌%◌, ◌^◌, ◌≤◌, List, [], ◌∷◌, ◌++◌, length, take, drop, replicate}
 use Rattle.std.specs.Hash as fed
 use Rattle.std.proofs.Common.{arith}
 use Rattle.std.proofs.lemmas.List.{length-take-le, take-append-drop}
@@ -28,10 +28,11 @@ inside_back a h =
     rw (l, ← h.rest) (take-append-drop a.depth a.items) in
     λ i. record { depth = l i; items = t i }
 
--- what a hasher is fed of an iteration
-abbrev pub iteration_writes : Iteration → fed.HashWrites
-iteration_writes i = fed.u32 i.statement ++ fed.u64 i.number
+-- one number for the numbers of iterations, below 2 ^ 64
+abbrev pub mixed : List Iteration → ℕ
+mixed [] = 0
+mixed (i ∷ is) = (mixed is * 6364136223846793005 % 2 ^ 64 + i.number) % 2 ^ 64
 
 -- what a hasher is fed of iterations
 abbrev pub iterations_writes : List Iteration → fed.HashWrites
-iterations_writes is = fed.slice iteration_writes is
+iterations_writes is = fed.u64 (mixed is)

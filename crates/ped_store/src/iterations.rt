@@ -1,6 +1,7 @@
 //! Iterations of DO loops, in a room of a fixed size.
 
 ghost use Rattle.std.specs.Prelude.{◌≡◌, ◌<◌, ◌++◌, ◌∷◌, [], length};
+ghost use Rattle.ped_store.specs.Iterations as Spec;
 
 use std::hash::{Hash, Hasher};
 use std::marker::Model;
@@ -102,6 +103,19 @@ impl Hash for Iterations {
     ghost respects_eq = { iterations_hash_alike };
 
     fn hash<H: Hasher>(&self, state: &mut H) {
-        self.as_slice().hash(state);
+        state.write_u64(mixed(self.as_slice()));
+    }
+}
+
+/// One number for iterations, to which each adds. A write to a hasher for each of them would take most of the time that a
+/// table of private copies takes.
+pub fn mixed(iterations: &[Iteration]) -> u64
+    ensures { result ≡ Spec.mixed iterations.now }
+{
+    match iterations.split_first() {
+        Some((first, rest)) => mixed(rest)
+            .wrapping_mul(6364136223846793005)
+            .wrapping_add(first.number),
+        None => 0,
     }
 }

@@ -17,6 +17,6 @@ mod store;
 pub use cells::Cell;
 pub use copies::PrivateCopy;
 pub use faults::{FaultKind, RunFault};
-pub use iterations::{Iteration, Iterations};
+pub use iterations::{Iteration, Iterations, mixed};
 pub use shapes::{Shape, Shapes};
 pub use store::Store;

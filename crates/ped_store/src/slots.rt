@@ -1,7 +1,7 @@
 //! Where the cells of scalars and of arrays stand: each name has a slot, and the elements of an array stand densely, in
 //! storage order.
 
-ghost use Rattle.std.specs.Prelude.{◌≡◌, ℕ, ◌+◌, ◌<◌, ◌^◌, min, List, [], length, IfOk, OnOk, Some, None, if◌then◌else◌};
+ghost use Rattle.std.specs.Prelude.{◌≡◌, ℕ, ◌+◌, ◌<◌, ◌^◌, min, List, [], length, IfOk, OnOk, IfSome, Some, None, MatchOption, if◌then◌else◌};
 ghost use Rattle.std.specs.Option.{option_or};
 ghost use Rattle.ped_base.specs.Lists.{is_same_text};
 ghost use Rattle.ped_store.specs.Cells.{Scalar, Element};
@@ -151,26 +151,75 @@ fn saturated_extent(lower: &i64, upper: &i64) -> usize
     ((i128::from(*upper) - i128::from(*lower)) as usize).saturating_add(1)
 }
 
-/// The slot of a name.
-pub fn find_slot(slots: &SlotTable, name: &Name) -> Option<Slot>
-    ensures { result ≡ slot_of slots.now.entries name.now }
+/// Where the slots of names probably stand: for each number that a name may have, the place of the last name that has it.
+/// No answer rests on it, since the name at the place is compared; without it each look-up would hash.
+#[derive(Drop)]
+pub struct NearPlaces {
+    places: Vec<usize>,
+}
+
+/// Where the slots of the names of these shapes probably stand, each behind those of the shapes before it.
+pub fn near_places(alloc: Global, shapes: &[Shape]) -> Result<NearPlaces, NoMemory> {
+    let mut places = Vec::from_elem(alloc, 0, 256)?;
+    for place in 0..shapes.len() {
+        if let Some(near) = places.get_mut(near_number(&shapes[place].name)) {
+            *near = place;
+        }
+    }
+    Ok(NearPlaces { places })
+}
+
+/// A number below 256 that few names share.
+fn near_number(name: &Name) -> usize
+    ensures { result < 256 }
 {
-    slots.get(name).copied()
+    match name.as_bytes() {
+        [first, .., last] => (usize::from(*first) * 5 + usize::from(*last)) % 256,
+        [only] => usize::from(*only) % 256,
+        [] => 0,
+    }
+}
+
+/// The slot of a name.
+pub fn find_slot<'a>(slots: &'a SlotTable, near: &NearPlaces, name: &Name) -> Option<&'a Slot>
+    ensures { MatchOption result (None ≡ slot_of slots.now.entries name.now) (λ slot. Some slot.now ≡ slot_of slots.now.entries name.now) }
+{
+    match near_slot(slots, near, name) {
+        Some(slot) => return Some(slot),
+        None => return slots.get(name),
+    }
+}
+
+/// The slot of a name, where it stands at its probable place.
+fn near_slot<'a>(slots: &'a SlotTable, near: &NearPlaces, name: &Name) -> Option<&'a Slot>
+    ensures { IfSome result (λ slot. Some slot.now ≡ slot_of slots.now.entries name.now) }
+{
+    let place = near.places.get(near_number(name))?;
+    let (key, slot) = slots.get_index(*place)?;
+    if *name == *key {
+        return Some(slot);
+    }
+    None
 }
 
 /// Where a scalar stands; none where the name isn't one.
-pub fn scalar_index(slots: &SlotTable, name: &Name) -> Option<usize>
+pub fn scalar_index(slots: &SlotTable, near: &NearPlaces, name: &Name) -> Option<usize>
     ensures { result ≡ Slots.index_of slots.now.entries (Scalar name.now) }
 {
-    find_slot(slots, name)?.scalar()
+    find_slot(slots, near, name)?.scalar()
 }
 
 /// Where an element stands; none where the name is no array, or the subscripts don't lie within its bounds.
-pub fn element_index(slots: &SlotTable, name: &Name, subscripts: &[i128]) -> Option<usize>
+pub fn element_index(
+    slots: &SlotTable,
+    near: &NearPlaces,
+    name: &Name,
+    subscripts: &[i128],
+) -> Option<usize>
     requires { (end : ℕ) × IsLaid 0 slots.now.entries end × (end < 2 ^ 63) }
     ensures { result ≡ Slots.index_of slots.now.entries (Element name.now subscripts.now) }
 {
-    find_slot(slots, name)?.element(subscripts)
+    find_slot(slots, near, name)?.element(subscripts)
 }
 
 /// The place of an element among those of its array, from 0; none where the subscripts don't lie within the bounds.

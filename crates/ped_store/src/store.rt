@@ -19,7 +19,10 @@ use crate::copies::PrivateCopy;
 use crate::data_lines::DataLines;
 use crate::faults::RunFault;
 use crate::shapes::Shape;
-use crate::slots::{Layout, Slot, SlotTable, element_index, find_slot, lay_out, scalar_index};
+use crate::slots::{
+    Layout, NearPlaces, Slot, SlotTable, element_index, find_slot, lay_out, near_places,
+    scalar_index,
+};
 use indexmap::IndexMap;
 use ped_base::{Bytes, Listed, Name, NoMemory};
 use std::alloc::Global;
@@ -30,6 +33,7 @@ use std::marker::Model;
 #[derive(Drop)]
 pub struct Store {
     slots: SlotTable,
+    near: NearPlaces,
     held: Vec<Option<i128>>,
     copies: IndexMap<PrivateCopy, Option<i128>>,
     input: DataLines,
@@ -54,9 +58,11 @@ impl Store {
     pub fn new(alloc: Global, shapes: &[Shape], input: &[u8]) -> Result<Store, NoMemory>
         ensures { IfOk result (λ s. memory_of s ≡ memory_at_start shapes.now (lines input.now)) }
     {
+        let near = near_places(alloc, shapes)?;
         let Layout { slots, cells } = lay_out(alloc, shapes)?;
         Ok(Store {
             slots,
+            near,
             held: undefined_cells(alloc, cells)?,
             copies: IndexMap::new(alloc),
             input: DataLines::new(alloc, input)?,
@@ -136,8 +142,8 @@ impl Store {
     pub fn values(&self, alloc: Global, name: &Name) -> Result<Listed<Option<i128>>, NoMemory>
         ensures { IfOk result (λ values. values ≡ values_of ((memory_of self.now).bounds name.now) name.now (memory_of self.now).cells) }
     {
-        match find_slot(&self.slots, name) {
-            Some(slot) => return copied_values(alloc, held_in(&self.held, &slot)),
+        match find_slot(&self.slots, &self.near, name) {
+            Some(slot) => return copied_values(alloc, held_in(&self.held, slot)),
             None => return copied_values(alloc, &[None]),
         }
     }
@@ -251,12 +257,17 @@ impl Store {
         }
     }
 
-    fn set_scalar(&mut self, name: &Name, value: &i128) -> Result<(), RunFault>
+    /// Stores a number in a scalar, as `set` does.
+    ///
+    /// # Errors
+    ///
+    /// 4 where the number isn't from -2^31 to 2^31-1. The store is as it was then.
+    pub fn set_scalar(&mut self, name: &Name, value: &i128) -> Result<(), RunFault>
         requires { IsTrue ((memory_of self.old).stands (Scalar name.now)) }
         ensures ok { OnOk result (stored (Scalar name.now) value.now (memory_of self.old) ≡ Ok (memory_of self.new)) }
         ensures err { IfErr result (λ n. (stored (Scalar name.now) value.now (memory_of self.old) ≡ Err n) × (self.new ≡ self.old)) }
     {
-        match scalar_index(&self.slots, name) {
+        match scalar_index(&self.slots, &self.near, name) {
             Some(index) => {
                 if is_storable(value) {
                     self.put_number(index, value);
@@ -268,7 +279,13 @@ impl Store {
         }
     }
 
-    fn set_element(
+    /// Stores a number in an element, as `set` does.
+    ///
+    /// # Errors
+    ///
+    /// 2 where a subscript lies outside its bounds, and else 4 where the number isn't from -2^31 to 2^31-1. The store is as
+    /// it was then.
+    pub fn set_element(
         &mut self,
         name: &Name,
         subscripts: &[i128],
@@ -278,7 +295,7 @@ impl Store {
         ensures ok { OnOk result (stored (Element name.now subscripts.now) value.now (memory_of self.old) ≡ Ok (memory_of self.new)) }
         ensures err { IfErr result (λ n. (stored (Element name.now subscripts.now) value.now (memory_of self.old) ≡ Err n) × (self.new ≡ self.old)) }
     {
-        match element_index(&self.slots, name, subscripts) {
+        match element_index(&self.slots, &self.near, name, subscripts) {
             Some(index) => {
                 if is_storable(value) {
                     self.put_number(index, value);
@@ -330,7 +347,7 @@ impl Store {
         requires { IsTrue ((memory_of self.old).stands (Scalar name.now)) }
         ensures { memory_of self.new ≡ with_content (Scalar name.now) (content_of content) (memory_of self.old) }
     {
-        match scalar_index(&self.slots, name) {
+        match scalar_index(&self.slots, &self.near, name) {
             Some(index) => {
                 self.put(index, content);
                 return;
@@ -353,20 +370,30 @@ impl Store {
         self.held[index] = content;
     }
 
-    fn get_scalar(&self, name: &Name) -> Result<i128, RunFault>
+    /// The number that a scalar holds, as `get` tells it.
+    ///
+    /// # Errors
+    ///
+    /// 1 where it is undefined.
+    pub fn get_scalar(&self, name: &Name) -> Result<i128, RunFault>
         ensures { result ≡ got (memory_of self.now) (Scalar name.now) }
     {
-        match scalar_index(&self.slots, name) {
+        match scalar_index(&self.slots, &self.near, name) {
             Some(index) => return number_at(&self.held, index),
             None => return Err(RunFault::UNDEFINED_READ),
         }
     }
 
-    fn get_element(&self, name: &Name, subscripts: &[i128]) -> Result<i128, RunFault>
+    /// The number that an element holds, as `get` tells it.
+    ///
+    /// # Errors
+    ///
+    /// 2 where a subscript lies outside its bounds, and else 1 where the element is undefined.
+    pub fn get_element(&self, name: &Name, subscripts: &[i128]) -> Result<i128, RunFault>
         requires { 0 < length subscripts.now }
         ensures { result ≡ got (memory_of self.now) (Element name.now subscripts.now) }
     {
-        match element_index(&self.slots, name, subscripts) {
+        match element_index(&self.slots, &self.near, name, subscripts) {
             Some(index) => return number_at(&self.held, index),
             None => return Err(RunFault::OUTSIDE_BOUNDS),
         }

@@ -1,6 +1,6 @@
-use Rattle.std.proofs.Common.{◌∙◌}
-use Rattle.ped_base.proofs.NameEquality.{looked_up}
+use Rattle.ped_store.specs.Slots.{slot_of}
+use Rattle.ped_store.proofs.Lent.{lent}
 use Rattle.ped_store.proofs.slots.find_slot.Goals as goal
 
-pub returns : goal.returns
-returns c = c.copied.ensures ∙ c.get.ensures.value ∙ looked_up c.args.name.now c.args.slots.now.entries
+pub returns-in-None : goal.returns-in-None
+returns-in-None c = lent c.get.result (slot_of c.args.slots.now.entries c.args.name.now) c.get.ensures.value

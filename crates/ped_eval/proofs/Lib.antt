@@ -15,7 +15,8 @@ mod Lines
 pub mod Moments
 mod Notings
 pub mod Parts
-pub mod Prints
+pub mod Plain
+mod Prints
 mod Quotients
 mod ReadNotes
 pub mod Readings
@@ -25,6 +26,7 @@ pub mod Running
 pub mod SameValues
 mod Seeing
 mod ShapesByNames
+mod SortedNames
 mod Spans
 pub mod Starts
 mod StatementActs

@@ -129,8 +129,22 @@ fn note_index(name: &Name, around: &Surroundings, notes: &mut Notes)
     }
 }
 
-/// The value of a scalar that is read from its cell.
+/// The value of a scalar that is read from its cell. The cell is made for kept notes alone, and for private copies.
 fn stored_value(name: &Name, around: &Surroundings, notes: &mut Notes) -> Valued
+    ensures value { result ≡ (Evaluation.read_cell (memory_of around.now.store.now).cells (Scopes.cell_of around.now.scope.now name.now)).result }
+    ensures noted { HasReferred notes.old (Scopes.cell_of around.now.scope.now name.now) false notes.new }
+{
+    if notes.kept {
+        return cell_value(name, around, notes);
+    }
+    if around.scope.has_copy(name) {
+        return cell_value(name, around, notes);
+    }
+    around.store.get_scalar(name)
+}
+
+/// The value of the cell that a scalar stands for.
+fn cell_value(name: &Name, around: &Surroundings, notes: &mut Notes) -> Valued
     ensures value { result ≡ (Evaluation.read_cell (memory_of around.now.store.now).cells (Scopes.cell_of around.now.scope.now name.now)).result }
     ensures noted { HasReferred notes.old (Scopes.cell_of around.now.scope.now name.now) false notes.new }
 {
@@ -139,7 +153,8 @@ fn stored_value(name: &Name, around: &Surroundings, notes: &mut Notes) -> Valued
     around.store.get(&cell)
 }
 
-/// The value of an element: its subscripts are evaluated in order, then their bounds are tested, then it is read.
+/// The value of an element: its subscripts are evaluated in order, then their bounds are tested, then it is read. Its cell
+/// is made for kept notes alone.
 #[cycle(value_of)]
 fn element_value(
     name: &Name,
@@ -150,8 +165,48 @@ fn element_value(
     ensures value { result ≡ value_at around.now (Tree.Element name.now (pack_exprs (map expr_tree subscripts.now))) }
     ensures noted { HasNoted notes.old (seen_at around.now (Tree.Element name.now (pack_exprs (map expr_tree subscripts.now)))) notes.new }
 {
+    if notes.kept {
+        return noted_element(name, subscripts, around, notes);
+    }
+    unnoted_element(name, subscripts, around, notes)
+}
+
+/// The value of an element, of which notes are made.
+#[cycle(value_of)]
+fn noted_element(
+    name: &Name,
+    subscripts: &[Expr],
+    around: &Surroundings,
+    notes: &mut Notes,
+) -> Valued
+    ensures value { result ≡ value_at around.now (Tree.Element name.now (pack_exprs (map expr_tree subscripts.now))) }
+    ensures noted { HasNoted notes.old (seen_at around.now (Tree.Element name.now (pack_exprs (map expr_tree subscripts.now)))) notes.new }
+{
     match element_cell(name, subscripts, around, notes) {
         Ok(cell) => return value_within(&cell, around, notes),
+        Err(fault) => return Err(fault),
+    }
+}
+
+/// The value of an element, of which no notes are kept.
+#[cycle(value_of)]
+fn unnoted_element(
+    name: &Name,
+    indices: &[Expr],
+    around: &Surroundings,
+    notes: &mut Notes,
+) -> Valued
+    requires { notes.old.kept ≡ false }
+    ensures value { result ≡ value_at around.now (Tree.Element name.now (pack_exprs (map expr_tree indices.now))) }
+    ensures noted { HasNoted notes.old (seen_at around.now (Tree.Element name.now (pack_exprs (map expr_tree indices.now)))) notes.new }
+{
+    if !is_rank(indices.len()) {
+        return Err(fault_in(indices, RunFault::OUTSIDE_BOUNDS, around, notes));
+    }
+    match places_of(indices, around, notes) {
+        Ok(places) => return around
+            .store
+            .get_element(name, first_places(&places, indices.len())),
         Err(fault) => return Err(fault),
     }
 }
@@ -235,6 +290,14 @@ fn element_cell(
         }
         Err(fault) => return Err(fault),
     }
+}
+
+/// The first places.
+fn first_places(places: &[i128; 7], count: usize) -> &[i128]
+    requires { count ≤ 7 }
+    ensures { result.now ≡ take count places.now }
+{
+    &places[..count]
 }
 
 /// Whether an element may have so many subscripts.

@@ -1,7 +1,8 @@
 //! The iterations of DO loops round a place of a run, and what scalars stand for there.
 
-ghost use Rattle.std.specs.Prelude.{◌≡◌, ◌<◌, ◌≤◌, ◌+◌, ◌∷◌, [], length, map, MatchOption, IfOk, OnOk, OnErr};
-ghost use Rattle.ped_store.specs.Cells.{Private};
+ghost use Rattle.std.specs.Prelude.{◌≡◌, ◌<◌, ◌≤◌, ◌+◌, ◌∷◌, [], length, map, true, false, MatchOption, IfOk, OnOk, OnErr};
+ghost use Rattle.ped_base.specs.Lists as Lists;
+ghost use Rattle.ped_store.specs.Cells.{Scalar, Private};
 ghost use Rattle.ped_store.specs.Acts as Acts;
 ghost use Rattle.ped_store.specs.CellViews.{cell_view, IsCell};
 ghost use Rattle.ped_eval.specs.Scopes as Scopes;
@@ -107,6 +108,25 @@ impl Scope {
         cell_in(&self.frames, name)
     }
 
+    /// The same of a scalar that probably stands at this place among the names that are private to the innermost iteration,
+    /// so that a walk along them looks for none.
+    pub fn cell_at(&self, name: &Name, place: usize) -> Cell
+        ensures cell { IsCell result }
+        ensures view { cell_view result ≡ Scopes.cell_of self.now name.now }
+    {
+        if is_private_at(&self.frames, name, place) {
+            return copy_in(&self.frames, name);
+        }
+        cell_in(&self.frames, name)
+    }
+
+    /// Whether a scalar stands for a private copy; else it stands for its own cell.
+    pub(crate) fn has_copy(&self, name: &Name) -> bool
+        ensures { result ≡ false → Scopes.cell_of self.now name.now ≡ Scalar name.now }
+    {
+        has_copy_in(&self.frames, name)
+    }
+
     /// The iterations, that of the outermost DO first.
     pub(crate) fn path(&self, alloc: Global) -> Result<Listed<Turn>, NoMemory>
         ensures { IfOk result (λ path. map turn_view path ≡ Scopes.turns_of self.now) }
@@ -203,6 +223,41 @@ fn cell_in(frames: &[Frame], name: &Name) -> Cell
         left = outer;
     }
     Cell::Scalar(*name)
+}
+
+/// Whether a scalar stands at this place among the names that are private to the innermost of these iterations.
+fn is_private_at(frames: &[Frame], name: &Name, place: usize) -> bool
+    ensures some { result ≡ true → 0 < length frames.now }
+    ensures view { result ≡ true → Scopes.cell_of (scope_view frames.now) name.now ≡ Private name.now (Acts.iterations_of (Scopes.turns_of (scope_view frames.now))) }
+{
+    match split_innermost(frames) {
+        Some((innermost, _)) => return is_at(innermost.private.as_slice(), name, place),
+        None => return false,
+    }
+}
+
+/// Whether a name stands at this place.
+fn is_at(names: &[Name], name: &Name, place: usize) -> bool
+    ensures { result ≡ true → Lists.is_among name.now names.now ≡ true }
+{
+    match names.get(place) {
+        Some(found) => return *name == *found,
+        None => return false,
+    }
+}
+
+/// Whether a scalar stands for a private copy in these iterations.
+fn has_copy_in(frames: &[Frame], name: &Name) -> bool
+    ensures { result ≡ false → Scopes.cell_of (scope_view frames.now) name.now ≡ Scalar name.now }
+{
+    let mut left = frames;
+    while let Some((innermost, outer)) = split_innermost(left) {
+        if is_among(name, innermost.private.as_slice()) {
+            return true;
+        }
+        left = outer;
+    }
+    false
 }
 
 /// The copy of a scalar that belongs to the innermost of these iterations.

@@ -1,6 +1,8 @@
 //! Names in byte order.
 
-ghost use Rattle.std.specs.Prelude.{◌≡◌, IfOk, OnOk};
+ghost use Rattle.std.specs.Prelude.{◌≡◌, IfOk};
+ghost use Rattle.std.specs.Ordering.{nat_cmp};
+ghost use Rattle.std.specs.Cmp.Lexicographic.{slice_cmp};
 ghost use Rattle.ped_eval.specs.Loops as Loops;
 
 use ped_base::{Name, Names, NoMemory};
@@ -11,29 +13,15 @@ use std::cmp::Ordering;
 pub(crate) fn sorted_once(alloc: Global, names: &[Name]) -> Result<Names, NoMemory>
     ensures { IfOk result (λ sorted. sorted ≡ Loops.sorted_once names.now) }
 {
-    let mut sorted = Vec::new(alloc);
-    let mut left = names.len();
-    while left > 0 {
-        left -= 1;
-        insert_sorted(&mut sorted, &names[left])?;
-    }
+    let mut sorted = Vec::from_slice(alloc, names)?;
+    sorted.sort_by(|a, b| compared(a, b))?;
+    sorted.dedup();
     Ok(Names::from_vec(sorted))
 }
 
-/// Puts a name among names in byte order, where they haven't got it.
-fn insert_sorted(sorted: &mut Vec<Name>, name: &Name) -> Result<(), NoMemory>
-    ensures { OnOk result (sorted.new.items ≡ Loops.with_sorted name.now sorted.old.items) }
+/// Which of two names comes first in byte order.
+fn compared(a: &Name, b: &Name) -> Ordering
+    ensures { result ≡ slice_cmp nat_cmp a.now b.now }
 {
-    for i in 0..sorted.len() {
-        match name.as_bytes().cmp(sorted[i].as_bytes()) {
-            Ordering::Less => {
-                sorted.insert(i, *name)?;
-                return Ok(());
-            }
-            Ordering::Equal => return Ok(()),
-            Ordering::Greater => {}
-        }
-    }
-    sorted.push(*name)?;
-    Ok(())
+    a.as_bytes().cmp(b.as_bytes())
 }

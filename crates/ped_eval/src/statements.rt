@@ -1,12 +1,14 @@
 //! Statements in order.
 
-ghost use Rattle.std.specs.Prelude.{◌≡◌, ◌<◌, ◌+◌, ◌∷◌, ℕ, true, Ok, Err, OnOk, IfErr};
-ghost use Rattle.ped_tree.specs.Tree.{Assign};
+ghost use Rattle.std.specs.Prelude.{◌≡◌, ◌<◌, ◌+◌, ◌∷◌, ℕ, true, false, Ok, Err, OnOk, IfErr, IfSome};
+ghost use Rattle.ped_tree.specs.Tree.{Var, Assign};
 ghost use Rattle.ped_tree.specs.Views.{expr_tree, stmt_tree, stmt_trees, do_tree};
 ghost use Rattle.ped_tree.specs.Numbering.{statement_count, statements_count};
+ghost use Rattle.ped_store.specs.Cells.{Scalar};
 ghost use Rattle.ped_store.specs.Stores.{Number};
 ghost use Rattle.ped_store.specs.Memories.{with_content};
 ghost use Rattle.ped_store.specs.Keeping.{memory_of};
+ghost use Rattle.ped_eval.specs.Scopes.{cell_of};
 ghost use Rattle.ped_eval.specs.ScopeViews.{names_at, outside};
 ghost use Rattle.ped_eval.specs.Statements.{Stored, assigned};
 ghost use Rattle.ped_eval.specs.Loops.{frame};
@@ -28,11 +30,13 @@ use crate::notes::Notes;
 use crate::plans::{Plan, plan_of};
 use crate::printing::watched_print;
 use crate::reading::run_read;
+use crate::scopes::Scope;
 use crate::states::{Flow, RunError, State};
 use crate::surroundings::Surroundings;
 use crate::telling::{tell, tell_exit, watched_truth};
 use crate::turns::{close_copies, enter_loop, open_turn};
 use crate::watches::Watch;
+use ped_base::Name;
 use ped_store::RunFault;
 use ped_symbols::Symbols;
 use ped_tree::{Do, Expr, Stmt, count_statement, count_statements};
@@ -169,6 +173,88 @@ fn run_assignment(
 ///
 /// The first fault.
 pub fn assign(
+    symbols: &Symbols,
+    state: &mut State,
+    left: &Expr,
+    right: &Expr,
+    notes: &mut Notes,
+) -> Result<(), RunFault>
+    requires right { target_is_right (kinds_by symbols.now) (expr_tree left.now) ≡ true }
+    requires ready { IsReady symbols.now state.old.scope (memory_of state.old.store) }
+    ensures ok { OnOk result ((w : Stored) × ((assigned (names_at (memory_of state.old.store) state.old.scope symbols.now.constants) (expr_tree left.now) (expr_tree right.now) (memory_of state.old.store).cells).result ≡ Ok w)
+        × (memory_of state.new.store ≡ with_content w.cell (Number w.number) (memory_of state.old.store))) }
+    ensures err { IfErr result (λ n. (assigned (names_at (memory_of state.old.store) state.old.scope symbols.now.constants) (expr_tree left.now) (expr_tree right.now) (memory_of state.old.store).cells).result ≡ Err n) }
+    ensures scope { state.new.scope ≡ state.old.scope }
+    ensures noted { HasAdded notes.old (assignment_noted notes.old.next (assigned (names_at (memory_of state.old.store) state.old.scope symbols.now.constants) (expr_tree left.now) (expr_tree right.now) (memory_of state.old.store).cells)) notes.new }
+{
+    match unnoted_scalar(left, &state.scope, notes) {
+        Some(name) => return assign_scalar(symbols, state, name, right, notes),
+        None => return assign_cell(symbols, state, left, right, notes),
+    }
+}
+
+/// The scalar that a left side is, where it stands for its own cell and no notes are kept.
+fn unnoted_scalar<'a>(left: &'a Expr, scope: &Scope, notes: &Notes) -> Option<&'a Name>
+    ensures { IfSome result (λ x. (expr_tree left.now ≡ Var x.now) × (cell_of scope.now x.now ≡ Scalar x.now) × (notes.now.kept ≡ false)) }
+{
+    if notes.kept {
+        return None;
+    }
+    match left {
+        Expr::Var(name) => return own_scalar(name, scope),
+        Expr::Int(_)
+        | Expr::Element(_, _)
+        | Expr::Neg(_)
+        | Expr::Add(_, _)
+        | Expr::Sub(_, _)
+        | Expr::Mul(_, _)
+        | Expr::Div(_, _)
+        | Expr::Pow(_, _)
+        | Expr::Call(_, _) => return None,
+    }
+}
+
+/// The scalar, where it stands for its own cell.
+fn own_scalar<'a>(name: &'a Name, scope: &Scope) -> Option<&'a Name>
+    ensures { IfSome result (λ x. (x.now ≡ name.now) × (cell_of scope.now name.now ≡ Scalar name.now)) }
+{
+    if scope.has_copy(name) {
+        return None;
+    }
+    Some(name)
+}
+
+/// Stores the value of the right side in a scalar that stands for its own cell. No notes are kept.
+fn assign_scalar(
+    symbols: &Symbols,
+    state: &mut State,
+    name: &Name,
+    right: &Expr,
+    notes: &mut Notes,
+) -> Result<(), RunFault>
+    requires right { target_is_right (kinds_by symbols.now) (Var name.now) ≡ true }
+    requires own { cell_of state.old.scope name.now ≡ Scalar name.now }
+    requires kept { notes.old.kept ≡ false }
+    requires ready { IsReady symbols.now state.old.scope (memory_of state.old.store) }
+    ensures ok { OnOk result ((w : Stored) × ((assigned (names_at (memory_of state.old.store) state.old.scope symbols.now.constants) (Var name.now) (expr_tree right.now) (memory_of state.old.store).cells).result ≡ Ok w)
+        × (memory_of state.new.store ≡ with_content w.cell (Number w.number) (memory_of state.old.store))) }
+    ensures err { IfErr result (λ n. (assigned (names_at (memory_of state.old.store) state.old.scope symbols.now.constants) (Var name.now) (expr_tree right.now) (memory_of state.old.store).cells).result ≡ Err n) }
+    ensures scope { state.new.scope ≡ state.old.scope }
+    ensures noted { HasAdded notes.old (assignment_noted notes.old.next (assigned (names_at (memory_of state.old.store) state.old.scope symbols.now.constants) (Var name.now) (expr_tree right.now) (memory_of state.old.store).cells)) notes.new }
+{
+    let around = Surroundings {
+        store: &state.store,
+        scope: &state.scope,
+        consts: symbols.consts(),
+    };
+    match value_of(right, &around, notes) {
+        Ok(value) => return state.store.set_scalar(name, &value),
+        Err(fault) => return Err(fault),
+    }
+}
+
+/// Stores the value of the right side in the cell of the left side; notes are made of what is read, and of the write.
+fn assign_cell(
     symbols: &Symbols,
     state: &mut State,
     left: &Expr,

@@ -70,8 +70,8 @@ fn open_copies(alloc: Global, state: &mut State, names: &[Name]) -> Result<(), N
     ensures copies { OnOk result (memory_of state.new.store ≡ with_copies state.old.scope names.now (memory_of state.old.store)) }
     ensures scope { state.new.scope ≡ state.old.scope }
 {
-    for name in names {
-        let cell = state.scope.cell(name);
+    for place in 0..names.len() {
+        let cell = state.scope.cell_at(&names[place], place);
         state.store.open_copy(alloc, &cell)?;
     }
     Ok(())
@@ -83,8 +83,8 @@ pub fn close_copies(state: &mut State, names: &[Name])
     ensures copies { memory_of state.new.store ≡ without_copies state.old.scope names.now (memory_of state.old.store) }
     ensures scope { state.new.scope ≡ state.old.scope }
 {
-    for name in names {
-        let cell = state.scope.cell(name);
+    for place in 0..names.len() {
+        let cell = state.scope.cell_at(&names[place], place);
         state.store.close_copy(&cell);
     }
 }

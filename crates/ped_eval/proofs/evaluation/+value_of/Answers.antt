@@ -1,4 +1,4 @@
-use Rattle.std.proofs.Common.{◌≡◌, ℕ, ℤ, List, ◌+◌, ◌-◌, ◌<◌, length, take, drop, refl, sym, ap, subst, ◌∙◌, Ok, Err, pos, replicate, map, to_z, arith, rules}
+use Rattle.std.proofs.Common.{◌≡◌, ℕ, ℤ, List, ◌+◌, ◌-◌, ◌<◌, true≢false, length, take, drop, refl, sym, ap, subst, ◌∙◌, Ok, Err, pos, replicate, map, to_z, arith, rules}
 use Rattle.std.specs.Int.{w128}
 use Rattle.std.specs.Int.RustNames.{FitsSigned}
 use Rattle.std.proofs.lemmas.Int.{to_z-of_z}
@@ -10,8 +10,10 @@ use Rattle.ped_tree.specs.declared.expressions.Intrinsic.{Intrinsic}
 use Rattle.ped_tree.specs.declared.expressions.Intrinsic.TheVariants.{Max, Min}
 use Rattle.ped_tree.specs.Tree.{Element, Call, Add, Sub, Mul, Div, Pow}
 use Rattle.ped_tree.specs.Views.{expr_tree, pack_exprs}
+use Rattle.ped_store.specs.Cells as cells
 use Rattle.ped_store.specs.CellViews.{cell_view}
 use Rattle.ped_store.specs.Keeping.{memory_of}
+use Rattle.ped_store.specs.Memories.{got}
 use Rattle.ped_store.specs.Stores.{number_read}
 use Rattle.ped_eval.specs.Evaluation.{by_number}
 use Rattle.ped_eval.specs.Results.{value_at, values_at, of_one, of_two, next_result}
@@ -162,24 +164,60 @@ pub next_value-returns-in-Err-clause-noted : goal.next_value-returns-in-Err-clau
 next_value-returns-in-Err-clause-noted t c =
     fault_noted c.args.notes.now c.args.first.now c.in-Err.fault (seen_at c.args.around.now (expr_tree c.args.e.now)) c.in-Err.is
 
-pub element_value-returns-in-Ok-clause-value : goal.element_value-returns-in-Ok-clause-value
-element_value-returns-in-Ok-clause-value t c =
+pub noted_element-returns-in-Ok-clause-value : goal.noted_element-returns-in-Ok-clause-value
+noted_element-returns-in-Ok-clause-value t c =
     let m = memory_of c.args.around.now.store.now in
     c.value_within.ensures.value ∙ sym (element_at c.args.around.now c.args.name.now (pack_exprs (map expr_tree c.args.subscripts.now)) ∙ ap (of_one (λ d. number_read (m.cells d))) c.in-Ok.ensures.target ∙ got_bounded m (cell_view c.in-Ok.cell))
 
-pub element_value-returns-in-Ok-clause-noted : goal.element_value-returns-in-Ok-clause-noted
-element_value-returns-in-Ok-clause-noted t c =
+pub noted_element-returns-in-Ok-clause-noted : goal.noted_element-returns-in-Ok-clause-noted
+noted_element-returns-in-Ok-clause-noted t c =
     element_noted c.args.around.now c.args.notes.now c.element_cell.new.notes c.value_within.new.notes c.args.name.now c.args.subscripts.now _ c.in-Ok.ensures.target c.in-Ok.ensures.noted c.value_within.ensures.noted
 
-pub element_value-returns-in-Err-clause-value : goal.element_value-returns-in-Err-clause-value
-element_value-returns-in-Err-clause-value t c =
+pub noted_element-returns-in-Err-clause-value : goal.noted_element-returns-in-Err-clause-value
+noted_element-returns-in-Err-clause-value t c =
     let m = memory_of c.args.around.now.store.now in
     sym (element_at c.args.around.now c.args.name.now (pack_exprs (map expr_tree c.args.subscripts.now)) ∙ ap (of_one (λ d. number_read (m.cells d))) c.in-Err.ensures.err)
 
-pub element_value-returns-in-Err-clause-noted : goal.element_value-returns-in-Err-clause-noted
-element_value-returns-in-Err-clause-noted t c =
+pub noted_element-returns-in-Err-clause-noted : goal.noted_element-returns-in-Err-clause-noted
+noted_element-returns-in-Err-clause-noted t c =
     element_noted c.args.around.now c.args.notes.now c.element_cell.new.notes c.element_cell.new.notes c.args.name.now c.args.subscripts.now _ c.in-Err.ensures.err c.in-Err.ensures.noted
     (outside_noted c.element_cell.new.notes (memory_of c.args.around.now.store.now).cells _ c.in-Err.fault refl)
+
+pub unnoted_element-returns-in-Ok-clause-value : goal.unnoted_element-returns-in-Ok-clause-value
+unnoted_element-returns-in-Ok-clause-value t c =
+    let m = memory_of c.args.around.now.store.now in
+    let js = take (length c.args.indices.now) c.in-Ok.places in
+    c.get_element.ensures ∙ ap (λ (ks : List ℤ). got m (cells.Element c.args.name.now ks)) c.first_places.ensures
+    ∙ sym (
+    element_at c.args.around.now c.args.name.now (pack_exprs (map expr_tree c.args.indices.now))
+    ∙ ap (of_one (λ d. number_read (m.cells d))) (target_ranked c.args.around.now c.args.name.now c.args.indices.now js c.in-Ok.ensures.places (sym c.is_rank.ensures ∙ c.if-not-is_rank.false))
+    ∙ got_bounded m (cells.Element c.args.name.now js)
+    )
+
+pub unnoted_element-returns-in-Ok-clause-noted : goal.unnoted_element-returns-in-Ok-clause-noted
+unnoted_element-returns-in-Ok-clause-noted t c = λ k. absurd (true≢false (sym (c.in-Ok.ensures.noted k).kept ∙ c.requires))
+
+pub unnoted_element-returns-in-Err-clause-value : goal.unnoted_element-returns-in-Err-clause-value
+unnoted_element-returns-in-Err-clause-value t c =
+    let m = memory_of c.args.around.now.store.now in
+    sym (
+    element_at c.args.around.now c.args.name.now (pack_exprs (map expr_tree c.args.indices.now))
+    ∙ ap (of_one (λ d. number_read (m.cells d))) (target_faulted c.args.around.now c.args.name.now c.args.indices.now c.in-Err.fault c.in-Err.ensures.err)
+    )
+
+pub unnoted_element-returns-in-Err-clause-noted : goal.unnoted_element-returns-in-Err-clause-noted
+unnoted_element-returns-in-Err-clause-noted t c = λ k. absurd (true≢false (sym (c.in-Err.ensures.noted k).kept ∙ c.requires))
+
+pub unnoted_element-returns-then-not-is_rank-clause-value : goal.unnoted_element-returns-then-not-is_rank-clause-value
+unnoted_element-returns-then-not-is_rank-clause-value t c =
+    let m = memory_of c.args.around.now.store.now in
+    sym (
+    element_at c.args.around.now c.args.name.now (pack_exprs (map expr_tree c.args.indices.now))
+    ∙ ap (of_one (λ d. number_read (m.cells d))) (target_unranked c.args.around.now c.args.name.now c.args.indices.now (sym c.is_rank.ensures ∙ c.if-not-is_rank.true) ∙ ap Err (sym c.fault_in.ensures.fault))
+    )
+
+pub unnoted_element-returns-then-not-is_rank-clause-noted : goal.unnoted_element-returns-then-not-is_rank-clause-noted
+unnoted_element-returns-then-not-is_rank-clause-noted t c = λ k. absurd (true≢false (sym (c.fault_in.ensures.noted k).kept ∙ c.requires))
 
 pub absolute_value_of_one-returns-clause-value : goal.absolute_value_of_one-returns-clause-value
 absolute_value_of_one-returns-clause-value t c =

@@ -8,15 +8,15 @@ use Rattle.ped_eval.specs.Turns.{with_copies}
 use Rattle.ped_eval.proofs.Walks.{walked, one_of_all}
 use Rattle.ped_eval.proofs.turns.open_copies.Goals as goal
 
-pub loop-name-preserved : goal.loop-name-preserved
-loop-name-preserved c =
-    let r = c.loop-name.invariant in
+pub loop-place-preserved : goal.loop-place-preserved
+loop-place-preserved c =
+    let r = c.loop-place.invariant in
     let at = c.args.state.now.scope in
-    let x : List ℕ = c.name-item.result in
-    let cell = c.cell-cell.ensures.view ∙ ap (λ (s : Scope). cell_of s x) r.scope in
+    let x : List ℕ = c.index-names-place.result in
+    let cell = c.cell_at-cell.ensures.view ∙ ap (λ (s : Scope). cell_of s x) r.scope in
     record {
-      rest = walked (λ y m. with_copy (cell_of at y) m) (with_copies at) (λ y ys m. refl) c.args.names.now c.loop-name.name-index x (memory_of c.loop-name.state.store) _ _ c.loop-name-test.true c.name-item.is
-          (c.in_ok-open_copy.ensures.ok ∙ ap (λ (d : Cell). with_copy d (memory_of c.loop-name.state.store)) cell) r.rest;
-      right = (one_of_all (λ y. is_copy (cell_of at y)) c.args.names.now c.loop-name.name-index x c.loop-name-test.true c.name-item.is r.right).1;
+      rest = walked (λ y m. with_copy (cell_of at y) m) (with_copies at) (λ y ys m. refl) c.args.names.now c.loop-place.place x (memory_of c.loop-place.state.store) _ _ c.loop-place-test.true c.index-names-place.is
+          (c.in_ok-open_copy.ensures.ok ∙ ap (λ (d : Cell). with_copy d (memory_of c.loop-place.state.store)) cell) r.rest;
+      right = (one_of_all (λ y. is_copy (cell_of at y)) c.args.names.now c.loop-place.place x c.loop-place-test.true c.index-names-place.is r.right).1;
       scope = r.scope;
     }

@@ -1,6 +1,6 @@
 -- A program stays tidy, and without C$PED REJECT, where the statements of a block come in its place: each path of it is one of the old program.
 use Rattle.std.proofs.Common.{◌≡◌, ◌⊎◌, ℕ, suc, ◌+◌, ◌<◌, ◌≤◌, ◌==◌, List, [], ◌∷◌, ◌++◌, Bool, true, false, ◌&&◌, ◌||◌, Some, inl, inr, refl, sym, ap, subst, ◌∙◌, append-nil, eqb-true, arith}
-use Rattle.std.proofs.lemmas.Bool.{or_parts}
+use Rattle.std.proofs.lemmas.Bool.{or_parts, or_left}
 use Rattle.ped_base.specs.Lists.{is_among}
 use Rattle.ped_tree.specs.Tree.{Head, StmtTree, StmtTrees, Assign, If, Do, Print, Read, Stop, Comment, no_stmts, more_stmts, ProgramTree}
 use Rattle.ped_tree.specs.Numbering.{statements_count}
@@ -35,10 +35,6 @@ use Rattle.ped_inline.proofs.SettledPrograms.{leading, leading_followed, leading
 or_false : (a : Bool) → (a || false) ≡ a
 or_false true = refl
 or_false false = refl
-
-or_left : (a b : Bool) → a ≡ true → (a || b) ≡ true
-or_left true b e = refl
-or_left false b e = untrue e
 
 or_true : (a : Bool) → ((a || true) && true) ≡ true
 or_true true = refl

@@ -1,5 +1,6 @@
 -- The rules that stand against `parallel` and `serial`, one behind the other; and what is so where none stands.
 use Rattle.std.proofs.Common.{◌≡◌, ℕ, List, Bool, true, false, refl, sym, ◌∙◌, arith}
+use Rattle.std.proofs.lemmas.Bool.{false_from_ne_true}
 use Rattle.ped_tree.specs.Tree.{Head, StmtTrees, ProgramTree}
 use Rattle.ped_scalar.specs.ped_rules.proofs.OneLoop.{fails_there}
 use Rattle.ped_scalar.specs.ped_rules.specs.ped_loop_runs.specs.ped_bodies.specs.ped_steps.specs.ped_symbols.specs.NameRefusals.{IsValid}
@@ -14,10 +15,6 @@ use Rattle.ped_scalar.specs.ped_rules.proofs.OneEach.{no_loop_one, loop_one, esc
 use Rattle.ped_scalar.specs.ped_rules.proofs.Decided.{some_loop, limit_stands, limit_not, limit_valid}
 use Rattle.ped_loops.specs.Flags.{flagged}
 use Rattle.ped_loops.proofs.Contained.{contained}
-
-false_by : (b : Bool) → (b ≡ true → ⊥) → b ≡ false
-false_by true h = absurd (h refl)
-false_by false h = refl
 
 -- the step that makes a DO parallel or serial, and a test by which rule 3 stands
 module _ (test : Head → StmtTrees → Bool) (flag : Bool) (s : ℕ) where
@@ -103,7 +100,7 @@ module _ (test : Head → StmtTrees → Bool) (flag : Bool) (s : ℕ) where
       its_loop = some_loop t s (not_this NoLoop (WhereNoLoop t s) state none)
 
       pub test_fails : (l : LoopOf t s) → test l.head l.body ≡ false
-      test_fails l = false_by (test l.head l.body) (λ holds. not_this ParallelState (WhereLoop t s test) escape none_but_loop s (l, holds, refl))
+      test_fails l = false_from_ne_true (test l.head l.body) (λ holds. not_this ParallelState (WhereLoop t s test) escape none_but_loop s (l, holds, refl))
 
       pub is_valid : IsValid (flagged t s flag)
       is_valid = limit_valid Makes t s its_loop (one_made t) (not_this Limit (WhereLimit Makes t s) no_rules none_but_escape) (flagged t s flag) (all_kept t) (refl, refl)

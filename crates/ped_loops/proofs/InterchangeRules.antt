@@ -1,5 +1,6 @@
 -- The rules that stand against `interchange`, one behind the other; and what is so where none stands.
 use Rattle.std.proofs.Common.{Bool, List, arith, false, inl, inr, refl, sym, true, ℕ, ◌+◌, ◌∙◌, ◌≡◌, ◌≤◌}
+use Rattle.std.proofs.lemmas.Bool.{false_from_ne_true}
 use Rattle.ped_loops.proofs.Contained.{contained}
 use Rattle.ped_loops.specs.CodeInterchanging.{NoneUpTo}
 use Rattle.ped_loops.specs.Interchanging.{IsBoundOfEither, MakesInterchanged, StandsAgainstInterchange, is_tied, has_no_unit, interchanged, makes_far}
@@ -18,10 +19,6 @@ use Rattle.ped_scalar.specs.ped_rules.specs.ped_loop_runs.specs.ped_bodies.specs
 use Rattle.ped_scalar.specs.ped_rules.specs.ped_loop_runs.specs.ped_bodies.specs.ped_steps.specs.ped_symbols.specs.Kinds.{table_of}
 use Rattle.ped_scalar.specs.ped_rules.specs.ped_loop_runs.specs.ped_bodies.specs.ped_steps.specs.ped_symbols.specs.NameRefusals.{IsValid}
 use Rattle.ped_tree.specs.Tree.{Head, ProgramTree, StmtTrees}
-
-false_by : (b : Bool) → (b ≡ true → ⊥) → b ≡ false
-false_by true h = absurd (h refl)
-false_by false h = refl
 
 -- rules from some place of a chain on, where none of those before stands
 record IsPast (stands rest : Rules) : Type 0 where
@@ -294,7 +291,7 @@ module _ (s : ℕ) where
       its_loop = some_loop t s (λ n p. none NoLoop n (inl (refl, p)))
 
       test_fails : (r : Rule) (test : Head → StmtTrees → Bool) → ((n : ℕ) → WhereLoop t s test n → ⊥) → (l : LoopOf t s) → test l.head l.body ≡ false
-      test_fails r test unless l = false_by (test l.head l.body) (λ holds. unless s (l, holds, refl))
+      test_fails r test unless l = false_from_ne_true (test l.head l.body) (λ holds. unless s (l, holds, refl))
 
       pub is_perfect : (l : LoopOf t s) → isnt_perfect l.head l.body ≡ false
       is_perfect = test_fails NotPerfect isnt_perfect (not_perfect 9 upto_all (omega arith))

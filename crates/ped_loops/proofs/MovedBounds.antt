@@ -16,16 +16,12 @@ use Rattle.ped_tree.specs.Grammar.Fits.{expr_fits}
 use Rattle.ped_tree.specs.NamesIn.{expr_names}
 use Rattle.ped_tree.specs.Tree.{Add, Call, Div, Element, ExprTree, Int, Mul, Neg, Pow, ProgramTree, Sub, Var}
 use Rattle.std.proofs.Common.{Bool, List, None, Option, Result, Some, ap, false, if◌then◌else◌, inl, inr, refl, subst, sym, true, ℕ, ℤ, ◌+ℤ◌, ◌+◌, ◌-ℤ◌, ◌∙◌, ◌≡◌, ◌⊎◌}
-use Rattle.std.proofs.lemmas.Bool.{and_from, and_parts}
+use Rattle.std.proofs.lemmas.Bool.{and_from, and_parts, not-true}
 use Rattle.std.specs.Int.{is_negative}
 use Rattle.std.specs.Prelude.{is_none, nat_le, not, unsigned_abs}
 
 one_shape : (a b : Shape) → Some a ≡ Some b → a ≡ b
 one_shape a b e = cc
-
-is_false : (b : Bool) → not b ≡ true → b ≡ false
-is_false true h = absurd cc
-is_false false h = refl
 
 named_is : (x : List ℕ) (a : ExprTree) → is_variable x a ≡ true → a ≡ Var x
 named_is x (Var y) h = ap Var (sym (same_is x y h))
@@ -40,7 +36,7 @@ named_is x (Pow a b) h = absurd cc
 named_is x (Call f arguments) h = absurd cc
 
 with_is : (x : List ℕ) (a c : ExprTree) → is_with x a c ≡ true → (a ≡ Var x) × (is_among x (expr_names c) ≡ false)
-with_is x a c h = let both = and_parts (is_variable x a) (not (is_named x c)) h in (named_is x a both.0, is_false (is_named x c) both.1)
+with_is x a c h = let both = and_parts (is_variable x a) (not (is_named x c)) h in (named_is x a both.0, not-true (is_named x c) both.1)
 
 -- what a shape tells of a bound
 abbrev pub IsShaped : (x : List ℕ) → ExprTree → Shape → Type 0

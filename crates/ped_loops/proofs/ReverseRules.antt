@@ -1,6 +1,7 @@
 -- The rules that stand against `reverse`, one behind the other; and what is so where none stands.
 use Rattle.std.proofs.Common.{◌≡◌, ℕ, ℤ, List, Bool, true, false, Option, Some, None, refl, sym, ap, ◌∙◌, arith}
 use Rattle.std.specs.Prelude.{not}
+use Rattle.std.proofs.lemmas.Bool.{false_from_ne_true}
 use Rattle.ped_tree.specs.Tree.{Head, StmtTrees, ProgramTree}
 use Rattle.ped_scalar.specs.ped_rules.proofs.OneLoop.{fails_there}
 use Rattle.ped_scalar.specs.ped_rules.specs.ped_loop_runs.specs.ped_bodies.specs.ped_steps.specs.ped_symbols.specs.Kinds.{table_of}
@@ -16,10 +17,6 @@ use Rattle.ped_scalar.specs.ped_rules.proofs.OneEach.{no_loop_one, loop_one, esc
 use Rattle.ped_scalar.specs.ped_rules.proofs.Decided.{some_loop, limit_stands, limit_not, limit_valid}
 use Rattle.ped_loops.specs.Reversing.{reversed, MakesReversed, StandsAgainstReversal}
 use Rattle.ped_loops.proofs.Contained.{contained}
-
-false_by : (b : Bool) → (b ≡ true → ⊥) → b ≡ false
-false_by true h = absurd (h refl)
-false_by false h = refl
 
 module _ (s : ℕ) where
   pub one_made : (t new other : ProgramTree) (keep more : List (ℕ × ℕ)) → MakesReversed s t new keep → MakesReversed s t other more → (new ≡ other) × (keep ≡ more)
@@ -121,10 +118,10 @@ module _ (s : ℕ) where
       its_loop = some_loop t s (not_this NoLoop (WhereNoLoop t s) state none)
 
       pub is_serial : (l : LoopOf t s) → l.head.parallel ≡ false
-      is_serial l = false_by l.head.parallel (λ holds. not_this ParallelState (WhereLoop t s is_parallel) escape none_but_loop s (l, holds, refl))
+      is_serial l = false_from_ne_true l.head.parallel (λ holds. not_this ParallelState (WhereLoop t s is_parallel) escape none_but_loop s (l, holds, refl))
 
       pub has_unit : (l : LoopOf t s) → other_step l.head l.body ≡ false
-      has_unit l = false_by (other_step l.head l.body) (λ holds. not_this StepShape (WhereLoop t s other_step) limit none_but_escape s (l, holds, refl))
+      has_unit l = false_from_ne_true (other_step l.head l.body) (λ holds. not_this StepShape (WhereLoop t s other_step) limit none_but_escape s (l, holds, refl))
 
       pub is_valid : IsValid (reversed t s)
       is_valid = limit_valid (MakesReversed s) t s its_loop (one_made t) (not_this Limit (WhereLimit (MakesReversed s) t s) no_rules none_but_shape) (reversed t s) (all_kept t) (refl, refl)

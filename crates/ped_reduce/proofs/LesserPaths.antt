@@ -2,6 +2,7 @@
 use Rattle.std.proofs.Common.{◌≡◌, ℕ, ◌+◌, Bool, true, false, ◌&&◌, ◌||◌, List, [], ◌∷◌, ◌++◌, map, Option, Some, None, refl, sym, ap, ◌∙◌, if◌then◌else◌}
 use Rattle.std.specs.List.{list_any, flat_map}
 use Rattle.std.proofs.lemmas.List.Folds.{list_any-append}
+use Rattle.std.proofs.lemmas.Bool.{or_left}
 use Rattle.ped_base.specs.Lists.{is_same_text, is_among}
 use Rattle.ped_tree.specs.Tree.{ExprTree, Int, Var, Element, Neg, Add, Sub, Mul, Div, Pow, Call, Head, StmtTree, StmtTrees, Assign, If, Do, Print, Read, Stop, Comment, no_stmts, more_stmts}
 use Rattle.ped_tree.specs.Numbering.{statement_count, statements_count}
@@ -80,10 +81,6 @@ cut_less a b c d h cut = record {
   first = λ e. (let p = none_both c.first (when c.keeps d.first) e in both_none a.first (when a.keeps b.first) (h.first p.0) (ap (λ (x : Bool). when x b.first) cut));
 }
   where
-    or_left : (x y : Bool) → x ≡ true → (x || y) ≡ true
-    or_left true y e = refl
-    or_left false y e = untrue e
-
     only : (x y z : Bool) → y ≡ false → (x || (y && z)) ≡ true → x ≡ true
     only true y z f e = refl
     only false true z f e = untrue (sym f)

@@ -1,5 +1,6 @@
 -- The paths from the exit of a DO in what comes of a program by lowering say no more than those in the program.
 use Rattle.std.proofs.Common.{◌≡◌, ℕ, ◌+◌, ◌<◌, ◌==◌, Bool, true, false, ◌||◌, List, [], ◌∷◌, ◌++◌, Option, Some, None, refl, sym, ap, subst, ◌∙◌, if◌then◌else◌, inl, inr, arith, eqb-true, append-nil, append_assoc}
+use Rattle.std.proofs.lemmas.Bool.{or_left, or_right}
 use Rattle.ped_base.specs.Lists.{is_same_text, is_among}
 use Rattle.ped_tree.proofs.NameLaws.Collected.{among_append}
 use Rattle.ped_tree.specs.Tree.{CondTree, Head, StmtTree, StmtTrees, Assign, If, Do, Print, Read, Stop, Comment, no_stmts, more_stmts, ProgramTree}
@@ -118,14 +119,6 @@ module _ (cs : List (List ℕ)) (w : List ℕ) where
 
   -- the DO loops of a lowered DO
   module _ (ps : List Partials) (unsummed : is_among w (scalars_of ps) ≡ false) (parallel : Bool) (h : Head) (body : StmtTrees) where
-    or_right : (a b : Bool) → b ≡ true → (a || b) ≡ true
-    or_right true b e = refl
-    or_right false b e = e
-
-    or_left : (a b : Bool) → a ≡ true → (a || b) ≡ true
-    or_left true b e = refl
-    or_left false b e = untrue e
-
     has_left : (xs ys : List (List ℕ)) → is_among w xs ≡ true → is_among w (xs ++ ys) ≡ true
     has_left xs ys e = among_append w xs ys ∙ or_left (is_among w xs) (is_among w ys) e
 

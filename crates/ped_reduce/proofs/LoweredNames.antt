@@ -1,5 +1,6 @@
 -- The names in a program stand in what comes of it by lowering, too.
 use Rattle.std.proofs.Common.{◌≡◌, ◌⊎◌, ℕ, ◌+◌, List, [], ◌∷◌, ◌++◌, Bool, true, false, ◌||◌, Option, Some, None, inl, inr, refl, sym, ap, ◌∙◌, append_assoc}
+use Rattle.std.proofs.lemmas.Bool.{or_left, or_right}
 use Rattle.ped_base.specs.Lists.{is_same_text, is_among}
 use Rattle.ped_base.proofs.NameEquality.{same_is}
 use Rattle.ped_tree.proofs.NameLaws.Collected.{among_append}
@@ -20,14 +21,6 @@ module _ (y : List ℕ) where
   -- the name is among these
   abbrev Has : List (List ℕ) → Type 0
   Has names = is_among y names ≡ true
-
-  or_left : (a b : Bool) → a ≡ true → (a || b) ≡ true
-  or_left true b h = refl
-  or_left false b h = untrue h
-
-  or_right : (a b : Bool) → b ≡ true → (a || b) ≡ true
-  or_right true b h = refl
-  or_right false b h = h
 
   has_left : (xs ys : List (List ℕ)) → Has xs → Has (xs ++ ys)
   has_left xs ys h = among_append y xs ys ∙ or_left (is_among y xs) (is_among y ys) h

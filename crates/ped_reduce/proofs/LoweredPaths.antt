@@ -1,5 +1,6 @@
 -- The paths of what comes of a program by lowering say no more than those of the program, of a scalar to which nothing is added.
 use Rattle.std.proofs.Common.{◌≡◌, ◌⊎◌, ℕ, ◌+◌, Bool, true, false, not, ◌&&◌, ◌||◌, List, [], ◌∷◌, ◌++◌, map, Option, Some, None, refl, sym, ap, subst, ◌∙◌, if◌then◌else◌, inl, inr, append-nil, append_assoc}
+use Rattle.std.proofs.lemmas.Bool.{or_left, or_right}
 use Rattle.ped_base.specs.Lists.{is_same_text, is_among}
 use Rattle.ped_base.proofs.NameEquality.{same_is}
 use Rattle.ped_tree.proofs.NameLaws.Collected.{among_append}
@@ -260,10 +261,6 @@ module _ (cs : List (List ℕ)) (w : List ℕ) (ps : List Partials) (unsummed : 
   starts : AreNoMore w (copied h body) (copied head new)
   starts e = left_in h.private (if parallel then all_loop_variables new else []) (private_only (ap (λ (b : Bool). is_among w (h.private ++ (if b then all_loop_variables body else []))) (sym serial) ∙ e))
     where
-      or_left : (a b : Bool) → a ≡ true → (a || b) ≡ true
-      or_left true b k = refl
-      or_left false b k = untrue k
-
       left_in : (xs ys : List (List ℕ)) → is_among w xs ≡ true → is_among w (xs ++ ys) ≡ true
       left_in xs ys k = among_append w xs ys ∙ or_left (is_among w xs) (is_among w ys) k
 
@@ -273,10 +270,6 @@ module _ (cs : List (List ℕ)) (w : List ℕ) (ps : List Partials) (unsummed : 
   exits_more : AreNoMore w (own_exit h ++ copied h body) (own_exit head ++ copied head new)
   exits_more e = right_in (own_exit head) (copied head new) (starts (ap (λ (b : Bool). is_among w ((if b then h.variable ∷ [] else []) ++ copied h body)) (sym serial) ∙ e))
     where
-      or_right : (a b : Bool) → b ≡ true → (a || b) ≡ true
-      or_right true b k = refl
-      or_right false b k = k
-
       right_in : (xs ys : List (List ℕ)) → is_among w ys ≡ true → is_among w (xs ++ ys) ≡ true
       right_in xs ys k = among_append w xs ys ∙ or_right (is_among w xs) (is_among w ys) k
 

@@ -4,6 +4,7 @@ use Rattle.std.specs.Ordering.{int_eq}
 use Rattle.std.specs.Cmp.Lexicographic.{pointwise}
 use Rattle.std.specs.List.{list_any, list_all, AllByRecursion}
 use Rattle.std.proofs.lemmas.Int.{ints}
+use Rattle.std.proofs.lemmas.Bool.{or_right}
 use Rattle.ped_base.specs.Lists.{is_same_text, is_among}
 use Rattle.ped_base.proofs.NameEquality.{same_itself}
 use Rattle.ped_tree.specs.Tree.{Var}
@@ -149,10 +150,6 @@ module _ (s : Setting) (outer : List Loop) (l : Loop) (unvalued : constant_value
     there : (ls : List Loop) → is_among v (indices_of (ls ++ l ∷ inner)) ≡ true
     there [] = ap (λ (b : Bool). b || is_among v (indices_of inner)) (same_itself v)
     there (m ∷ ms) = or_right (is_same_text v m.head.variable) (is_among v (indices_of (ms ++ l ∷ inner))) (there ms)
-      where
-        or_right : (a b : Bool) → b ≡ true → (a || b) ≡ true
-        or_right true b h = refl
-        or_right false b h = h
 
     abbrev nest : List Loop
     nest = outer ++ l ∷ inner

@@ -2,7 +2,7 @@
 use Rattle.std.proofs.Common.{◌≡◌, ◌⊎◌, ℕ, suc, ◌+◌, List, [], ◌∷◌, ◌++◌, Bool, true, false, ◌&&◌, ◌||◌, Option, Some, None, is_some, inl, inr, refl, sym, ap, ◌∙◌}
 use Rattle.std.specs.Prelude.{codes}
 use Rattle.std.specs.List.{flat_map}
-use Rattle.std.proofs.lemmas.Bool.{and_parts, both_ways, or_parts}
+use Rattle.std.proofs.lemmas.Bool.{and_parts, both_ways, or_parts, or_left, or_right}
 use Rattle.ped_base.specs.Lists.{is_same_text, is_among}
 use Rattle.ped_base.proofs.NameEquality.{same_itself, same_is}
 use Rattle.ped_tree.proofs.NameLaws.Collected.{among_append}
@@ -28,14 +28,6 @@ use Rattle.ped_reduce.proofs.ReferencesInGaps.{loop}
 use Rattle.ped_reduce.proofs.NamedReads.{expr_told, cond_told, items_told, left_told, lefts_told}
 use Rattle.ped_reduce.proofs.SumStores.{is_array, is_total, is_either}
 use Rattle.ped_reduce.proofs.SumBodies.{Lacks, OneOr, IsSumOr, IsClear, AreClear}
-
-or_left : (a b : Bool) → a ≡ true → (a || b) ≡ true
-or_left true b h = refl
-or_left false b h = untrue h
-
-or_right : (a b : Bool) → b ≡ true → (a || b) ≡ true
-or_right true b h = refl
-or_right false b h = h
 
 false_or : (b : Bool) → (b ≡ true → ⊥) → b ≡ false
 false_or true h = absurd (h refl)

@@ -2,7 +2,7 @@
 use Rattle.std.proofs.Common.{◌≡◌, ℕ, zero, suc, ◌+◌, ◌-◌, ◌<◌, ◌≤◌, ◌==◌, List, [], ◌∷◌, ◌++◌, length, Bool, true, false, not, ◌&&◌, ◌||◌, Option, Some, None, is_some, if◌then◌else◌, inl, inr, refl, sym, ap, subst, ◌∙◌, arith}
 use Rattle.std.specs.Prelude.{nat_lt}
 use Rattle.std.specs.List.{list_any, range_with_len}
-use Rattle.std.proofs.lemmas.Bool.{both_ways, and_parts, or_parts, ltb-true, not-false}
+use Rattle.std.proofs.lemmas.Bool.{both_ways, and_parts, or_parts, ltb-true, not-false, or_right}
 use Rattle.ped_base.specs.Lists.{is_same_text, is_among}
 use Rattle.ped_base.proofs.NameEquality.{same_is}
 use Rattle.ped_tree.proofs.NameLaws.Collected.{among_append}
@@ -61,10 +61,6 @@ use Rattle.ped_reduce.proofs.SumGoals.{kept_apart, MayKeepApart, LiveMayKeepApar
 false_or : (b : Bool) → (b ≡ true → ⊥) → b ≡ false
 false_or true h = absurd (h refl)
 false_or false h = refl
-
-or_right : (a b : Bool) → b ≡ true → (a || b) ≡ true
-or_right true b h = refl
-or_right false b h = h
 
 one_partials : (a b : List Partials) → Some a ≡ Some b → a ≡ b
 one_partials a b e = cc

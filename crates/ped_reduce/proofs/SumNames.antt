@@ -1,12 +1,12 @@
 -- A name that stands in what a DO becomes whose sums are kept apart stands in the DO, or is that of one of the scalars or of their arrays; and the other way round.
 use Rattle.std.proofs.Common.{◌≡◌, ◌⊎◌, ℕ, List, [], ◌∷◌, ◌++◌, Bool, true, false, ◌||◌, inl, inr, refl, sym, ap, ◌∙◌}
-use Rattle.std.proofs.lemmas.Bool.{or_parts}
+use Rattle.std.proofs.lemmas.Bool.{or_parts, or_left, or_right}
 use Rattle.ped_base.specs.Lists.{is_same_text, is_among}
 use Rattle.ped_tree.proofs.NameLaws.Collected.{among_append}
 use Rattle.ped_tree.specs.declared.expressions.Intrinsic.TheVariants.{Mod}
 use Rattle.ped_tree.specs.Tree.{ExprTree, Int, Var, Add, Div, Call, no_exprs, more_exprs, Head, StmtTree, StmtTrees, Assign, If, Do, Print, Read, Stop, Comment, no_stmts, more_stmts}
 use Rattle.ped_tree.specs.NamesIn.{expr_names, cond_names, head_names, stmt_names, stmts_names}
-use Rattle.ped_splits.specs.ped_reindex.specs.ped_loops.specs.ped_scalar.specs.ped_rules.specs.ped_loop_runs.specs.ped_bodies.specs.ped_steps.specs.ped_flow.proofs.Truths.{untrue, or_split}
+use Rattle.ped_splits.specs.ped_reindex.specs.ped_loops.specs.ped_scalar.specs.ped_rules.specs.ped_loop_runs.specs.ped_bodies.specs.ped_steps.specs.ped_flow.proofs.Truths.{or_split}
 use Rattle.ped_splits.specs.ped_reindex.specs.ped_loops.specs.ped_scalar.specs.ped_rules.specs.ped_loop_runs.specs.ped_bodies.specs.ped_steps.specs.ped_laws.specs.Acts.Orders.{IsIn}
 use Rattle.ped_splits.specs.ped_reindex.specs.ped_loops.specs.ped_scalar.specs.ped_rules.specs.ped_loop_runs.specs.ped_bodies.specs.ped_steps.specs.Replacing.{followed, alone}
 use Rattle.ped_splits.specs.ped_reindex.specs.ped_loops.specs.ped_scalar.specs.ped_rules.specs.ped_loop_runs.specs.ped_bodies.specs.ped_steps.specs.Runs.Gaps.{Gap, at_front, past, in_then, in_else, in_body, filled}
@@ -135,14 +135,6 @@ module _ (y : List ℕ) where
 module _ (y : List ℕ) (a b : StmtTrees) (more : is_among y (stmts_names a) ≡ true → is_among y (stmts_names b) ≡ true) where
   abbrev Has : List (List ℕ) → Type 0
   Has names = is_among y names ≡ true
-
-  or_left : (c d : Bool) → c ≡ true → (c || d) ≡ true
-  or_left true d h = refl
-  or_left false d h = untrue h
-
-  or_right : (c d : Bool) → d ≡ true → (c || d) ≡ true
-  or_right true d h = refl
-  or_right false d h = h
 
   first_more : (xs us zs : List (List ℕ)) → (Has xs → Has us) → Has (xs ++ zs) → Has (us ++ zs)
   first_more xs us zs f h = among_append y us zs ∙ elim (or_split (is_among y xs) (is_among y zs) (sym (among_append y xs zs) ∙ h)) [

@@ -29,6 +29,7 @@ use Rattle.ped_tree.specs.Numbering.{statement_with}
 use Rattle.ped_tree.specs.Tree.{Add, Call, Div, Do, Element, ExprTree, ExprTrees, Head, Int, Mul, Neg, Pow, ProgramTree, StmtTree, StmtTrees, Sub, Var, more_exprs, more_stmts, no_exprs, no_stmts}
 use Rattle.std.proofs.Common.{Bool, List, None, Some, ap, false, if◌then◌else◌, refl, subst, sym, true, unsigned_abs, ℕ, ℤ, ◌++◌, ◌||◌, ◌∙◌, ◌∷◌, ◌≡◌}
 use Rattle.std.specs.Int.{is_negative}
+use Rattle.std.proofs.lemmas.Bool.{or_right}
 
 none_in_both : (y : List ℕ) (xs ys : List (List ℕ)) → is_among y xs ≡ false → is_among y ys ≡ false → is_among y (xs ++ ys) ≡ false
 none_in_both y xs ys p q = among_append y xs ys ∙ (λ i. p i || q i)
@@ -82,10 +83,6 @@ absent_literal y n = go (is_negative n)
     go true = refl
     go false = refl
 
-or_true : (r : Bool) → r || true ≡ true
-or_true true = refl
-or_true false = refl
-
 module _ (t : ProgramTree) (valid : IsValid t) (s : ℕ) (loop : LoopOf t s) (last : Bool) (p : Peeled) (span : HasSpan (table_of t).constants loop.head last p) where
   abbrev d : Head
   d = loop.head
@@ -126,8 +123,8 @@ module _ (t : ProgramTree) (valid : IsValid t) (s : ℕ) (loop : LoopOf t s) (la
 
     alike : (b : Bool) → is_same_text y d.variable ≡ b → Alike b (is_among y (stmts_names (with_peeled last p d body))) (is_among y (stmt_names (Do d body)))
     alike true e = record {
-      but = or_true (is_among y (stmts_names (with_peeled last p d body))) ∙ sym (or_true (is_among y (stmt_names (Do d body))));
-      kept = λ h. new_there ∙ ap (λ (b : Bool). is_among y (stmts_names copy) || b) h ∙ or_true (is_among y (stmts_names copy));
+      but = or_right (is_among y (stmts_names (with_peeled last p d body))) true refl ∙ sym (or_right (is_among y (stmt_names (Do d body))) true refl);
+      kept = λ h. new_there ∙ ap (λ (b : Bool). is_among y (stmts_names copy) || b) h ∙ or_right (is_among y (stmts_names copy)) true refl;
     }
     alike false e = record { but = ap (λ (b : Bool). b || false) same; kept = λ h. same ∙ h }
       where

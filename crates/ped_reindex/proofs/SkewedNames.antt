@@ -2,7 +2,7 @@
 use Rattle.std.proofs.Common.{◌≡◌, ℕ, ℤ, ◌+ℤ◌, ◌-ℤ◌, List, [], ◌∷◌, ◌++◌, Bool, true, false, ◌||◌, ◌==◌, Option, Some, None, refl, sym, ap, ◌∙◌, subst, append-nil, if◌then◌else◌}
 use Rattle.std.specs.Prelude.{unsigned_abs}
 use Rattle.std.specs.Int.{is_negative}
-use Rattle.std.proofs.lemmas.Bool.{both_ways}
+use Rattle.std.proofs.lemmas.Bool.{both_ways, or_right}
 use Rattle.ped_base.specs.Lists.{is_same_text, is_among}
 use Rattle.ped_tree.specs.NamesIn.{expr_names, head_names, stmt_names, stmts_names}
 use Rattle.ped_tree.specs.Numbering.{statement_with}
@@ -29,10 +29,6 @@ use Rattle.ped_reindex.specs.Skewing.{offset, skewed_bound, unskewed, skewed_hea
 or_false : (b : Bool) → b || false ≡ b
 or_false true = refl
 or_false false = refl
-
-or_true : (b : Bool) → b || true ≡ true
-or_true true = refl
-or_true false = refl
 
 -- an offset is no literal
 record IsOpen (e : ExprTree) : Type 0 where
@@ -122,7 +118,7 @@ own_name_there : (y : List ℕ) (g : Head) → is_same_text y g.variable ≡ tru
 own_name_there y g e =
     among_append y g.rejected (g.variable ∷ (expr_names g.first ++ expr_names g.last ++ expr_names g.step ++ g.private))
     ∙ (λ z. is_among y g.rejected || (e z || is_among y (expr_names g.first ++ expr_names g.last ++ expr_names g.step ++ g.private)))
-    ∙ or_true (is_among y g.rejected)
+    ∙ or_right (is_among y g.rejected) true refl
 
 module _ (t : ProgramTree) (valid : IsValid t) (l : ℕ) (loop : LoopOf t l) (g : Head) (inside other_body : StmtTrees) (f : ℤ) (only : only_loop loop.body ≡ Some (pair g inside))
     (new_only : only_loop other_body ≡ Some (pair (skewed_head f loop.head.variable g) (statements_substituted g.variable (unskewed f loop.head.variable g.variable) inside))) where
@@ -166,7 +162,7 @@ module _ (t : ProgramTree) (valid : IsValid t) (l : ℕ) (loop : LoopOf t l) (g 
     where
       go : (e : Bool) → is_same_text y i ≡ e → Alike e (is_among y (head_names loop.head) || rest y) (is_among y (head_names loop.head) || old_rest y)
       go true q = record {
-        but = or_true (is_among y (head_names loop.head) || rest y) ∙ sym (or_true (is_among y (head_names loop.head) || old_rest y));
+        but = or_right (is_among y (head_names loop.head) || rest y) true refl ∙ sym (or_right (is_among y (head_names loop.head) || old_rest y) true refl);
         kept = λ k. (λ z. own_name_there y loop.head q z || rest y);
       }
       go false q = record {

@@ -1,6 +1,6 @@
 -- The iterations of a DO done in strips: a program that may be trusted stays so.
 use Rattle.std.proofs.Common.{Bool, List, [], ap, append-nil, arith, codes, false, if◌then◌else◌, inr, not, pos, refl, subst, sym, true, ℕ, ◌&&◌, ◌++◌, ◌||◌, ◌∙◌, ◌∷◌, ◌≡◌}
-use Rattle.std.proofs.lemmas.Bool.{both_ways, or_parts}
+use Rattle.std.proofs.lemmas.Bool.{both_ways, or_parts, or_right}
 use Rattle.std.specs.List.{flat_map, list_any}
 use Rattle.ped_base.proofs.NameEquality.{same_is}
 use Rattle.ped_base.specs.Lists.{is_among, is_same_text}
@@ -153,7 +153,7 @@ module _ (t : ProgramTree) (valid : IsValid t) (l : ℕ) (loop : LoopOf t l) (co
 
   leaves_alone : ClearedLaw → LeavesAlone exchange t
   leaves_alone cleared = record {
-    variables = λ v e. new_variables v ∙ (λ i. is_same_text v w || (sym (old_variables v) ∙ e) i) ∙ or_true (is_same_text v w);
+    variables = λ v e. new_variables v ∙ (λ i. is_same_text v w || (sym (old_variables v) ∙ e) i) ∙ or_right (is_same_text v w) true refl;
     further = further;
     unshown = unshown;
     writes = λ v none. writes_alike v ∙ none;
@@ -161,10 +161,6 @@ module _ (t : ProgramTree) (valid : IsValid t) (l : ℕ) (loop : LoopOf t l) (co
     leaves = λ v other keeps.
         ap (λ (b : Bool). b && true) (cleared cs v d loop.body (start_of exchange) ((or_parts (is_same_text v w) (is_among v loops) (sym (new_variables v) ∙ other)).1) ∙ ap (λ (xs : List (List ℕ)). not (is_among v xs)) private);
   }
-    where
-      or_true : (a : Bool) → a || true ≡ true
-      or_true true = refl
-      or_true false = refl
 
   -- and C$PED REJECT stands before neither where it stood before none
   unrejected : some_rejection old ≡ false → some_rejection new ≡ false

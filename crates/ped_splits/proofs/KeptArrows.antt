@@ -1,6 +1,7 @@
 -- A dependence that has to be kept leads from a DO to itself or to one behind it, and a PRIVATE name stays in one DO (Allen and Kennedy, sections 2.4, 6.2.2).
 use Rattle.std.proofs.Common.{◌≡◌, ◌⊎◌, ℕ, zero, suc, ◌+◌, ◌<◌, ◌≤◌, List, [], ◌∷◌, ◌++◌, length, map, slice_index_or, Bool, true, false, not, ◌&&◌, ◌||◌, inl, inr, refl, sym, ap, subst, ◌∙◌, arith}
 use Rattle.std.specs.List.{list_any, range_with_len}
+use Rattle.std.proofs.lemmas.Bool.{or_right}
 use Rattle.ped_base.specs.Lists.{is_same_text}
 use Rattle.ped_tree.specs.Tree.{Head, StmtTrees, ProgramTree}
 use Rattle.ped_reindex.specs.ped_loops.specs.ped_scalar.specs.ped_rules.specs.Carried.{level_at}
@@ -15,11 +16,7 @@ use Rattle.ped_splits.proofs.Partitions.{flat}
 any_in : {X : Type 0} (p : X → Bool) (xs : List X) (x : X) → IsIn x xs → p x ≡ true → list_any p xs ≡ true
 any_in p [] x i h = elim i [ ]
 any_in p (y ∷ ys) x (inl e) h = ap (λ (b : Bool). b || list_any p ys) (ap p (sym e) ∙ h)
-any_in p (y ∷ ys) x (inr i) h = ap (λ (b : Bool). p y || b) (any_in p ys x i h) ∙ or_true (p y)
-  where
-    or_true : (a : Bool) → a || true ≡ true
-    or_true true = refl
-    or_true false = refl
+any_in p (y ∷ ys) x (inr i) h = ap (λ (b : Bool). p y || b) (any_in p ys x i h) ∙ or_right (p y) true refl
 
 one_or : (a b : Bool) → b ≡ true → a || b ≡ true
 one_or true b h = refl

@@ -5,7 +5,7 @@ use Rattle.std.specs.List.{list_any}
 use Rattle.std.proofs.lemmas.Option.{slice_get_within, get_or_from_slice_get}
 use Rattle.std.proofs.lemmas.List.{get_or-set_same, get_or-set_other}
 use Rattle.std.proofs.lemmas.List.Folds.{list_any-append}
-use Rattle.std.proofs.lemmas.Bool.{cases_eq, eqb-true, eq-eqb}
+use Rattle.std.proofs.lemmas.Bool.{cases_eq, eqb-true, eq-eqb, or_right}
 use Rattle.ped_base.specs.Lists.{is_same_text}
 use Rattle.ped_bits.specs.Places.{Has}
 use Rattle.ped_reindex.specs.ped_loops.specs.ped_scalar.specs.ped_rules.specs.ped_loop_runs.specs.ped_bodies.specs.ped_steps.specs.ped_refs.specs.References.{Reference}
@@ -19,10 +19,6 @@ or_false : (b : Bool) → (b || false) ≡ b
 or_false true = refl
 or_false false = refl
 
-or_true : (b : Bool) → (b || true) ≡ true
-or_true true = refl
-or_true false = refl
-
 pub other_number : (a b : ℕ) → (b ≡ a → ⊥) → (a == b) ≡ false
 other_number a b n = by (a == b) refl
   where
@@ -34,7 +30,7 @@ other_number a b n = by (a == b) refl
 pub set_unit : (row : List Bool) (unit : ℕ) → unit < length row → (i : ℕ) → slice_index_or (slice_set row unit true) i false ≡ (slice_index_or row i false || (unit == i))
 set_unit row unit h i = elim (cases_eq i unit) [
   | inl e ↦
-      ap (λ (k : ℕ). slice_index_or (slice_set row unit true) k false) e ∙ get_or-set_same row unit true false h ∙ sym (or_true (slice_index_or row i false))
+      ap (λ (k : ℕ). slice_index_or (slice_set row unit true) k false) e ∙ get_or-set_same row unit true false h ∙ sym (or_right (slice_index_or row i false) true refl)
       ∙ ap (λ (b : Bool). slice_index_or row i false || b) (sym (eq-eqb unit i (sym e)))
   | inr n ↦ get_or-set_other row unit i true false n ∙ sym (or_false (slice_index_or row i false)) ∙ ap (λ (b : Bool). slice_index_or row i false || b) (sym (other_number unit i n))
 ]

@@ -1,7 +1,7 @@
 -- What names stand for in a program in which the second of two DO loops has the variable of the first: what they stood for, where they occur.
 use Rattle.std.proofs.Common.{◌≡◌, ℕ, List, [], ◌∷◌, ◌++◌, Bool, true, false, ◌||◌, Option, None, Some, refl, sym, ap, subst, ◌∙◌, if◌then◌else◌}
 use Rattle.std.specs.List.{flat_map}
-use Rattle.std.proofs.lemmas.Bool.{both_ways}
+use Rattle.std.proofs.lemmas.Bool.{both_ways, or_right}
 use Rattle.ped_base.proofs.NameEquality.{same_is}
 use Rattle.ped_base.specs.Lists.{is_among, is_same_text}
 use Rattle.ped_tree.proofs.NameLaws.Collected.{among_append}
@@ -95,11 +95,7 @@ module _ (t : ProgramTree) (s : ℕ) (x : Neighbour t s) (r : IsRenaming t s x) 
     own_there b e h =
         among_append y (head_names x.own) (stmts_names x.own_body)
         ∙ ap (λ (c : Bool). c || is_among y (stmts_names x.own_body)) (among_append y x.own.rejected (I ∷ (expr_names x.own.first ++ expr_names x.own.last ++ expr_names x.own.step ++ x.own.private))
-        ∙ (λ i. is_among y x.own.rejected || ((e ∙ h) i || is_among y (expr_names x.own.first ++ expr_names x.own.last ++ expr_names x.own.step ++ x.own.private))) ∙ or_true (is_among y x.own.rejected))
-      where
-        or_true : (c : Bool) → c || true ≡ true
-        or_true true = refl
-        or_true false = refl
+        ∙ (λ i. is_among y x.own.rejected || ((e ∙ h) i || is_among y (expr_names x.own.first ++ expr_names x.own.last ++ expr_names x.own.step ++ x.own.private))) ∙ or_right (is_among y x.own.rejected) true refl)
 
     substituted_names : is_same_text y I ≡ false → is_among y (stmts_names (statements_substituted J (Var I) x.next_body)) ≡ is_among y (stmts_names x.next_body)
     substituted_names e = in_stmts J (Var I) y apart (λ i. e i || false) x.next_body

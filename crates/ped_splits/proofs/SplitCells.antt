@@ -1,6 +1,6 @@
 -- New names of copies in the DO that is taken apart: no two cells that units touch get one name, and none gets that of a cell that counts for nothing.
 use Rattle.std.proofs.Common.{◌≡◌, ℕ, ◌⊎◌, ◌==◌, List, [], ◌∷◌, ◌++◌, Bool, true, false, ◌||◌, Option, Some, None, inl, inr, if◌then◌else◌, eq-eqb, eqb-true, refl, sym, ap, ◌∙◌}
-use Rattle.std.proofs.lemmas.Bool.{both_ways}
+use Rattle.std.proofs.lemmas.Bool.{both_ways, false_from_ne_true}
 use Rattle.std.specs.List.{list_any}
 use Rattle.ped_base.specs.Lists.{is_among}
 use Rattle.ped_tree.specs.Tree.{Do, ProgramTree}
@@ -23,10 +23,6 @@ use Rattle.ped_reindex.specs.ped_loops.specs.ped_scalar.specs.ped_rules.specs.pe
 use Rattle.ped_reindex.specs.ped_loops.specs.ped_scalar.specs.ped_rules.specs.ped_loop_runs.specs.ped_bodies.specs.ped_steps.specs.ped_laws.specs.ped_store.specs.Stores.{Store}
 use Rattle.ped_splits.proofs.SplitFacts.{IsSplit}
 use Rattle.ped_splits.proofs.SplitNames.{in_its_loop, names_or_moves, number_of, split_names, unit_of_name, unit_of_statement}
-
-false_unless : (b : Bool) → (b ≡ true → ⊥) → b ≡ false
-false_unless true h = absurd (h refl)
-false_unless false h = refl
 
 same_first : (i j : Iteration) (is js : List Iteration) → i ∷ is ≡ j ∷ js → i ≡ j
 same_first i j is js e = cc
@@ -117,7 +113,7 @@ module _ (t : ProgramTree) (s : ℕ) (l : LoopOf t s) (found : List (List ℕ)) 
 
   -- what a name stands for at the place of the DO is no such copy
   other_cell : (y z : List ℕ) (i : Iteration) (rest : List Iteration) → same_cell (cell_of scope y) (Private z (front ++ i ∷ rest)) ≡ false
-  other_cell y z i rest = false_unless (same_cell (cell_of scope y) (Private z (front ++ i ∷ rest))) (λ h. no_copy_within scope y z i rest (cell_is (cell_of scope y) (Private z (front ++ i ∷ rest)) h))
+  other_cell y z i rest = false_from_ne_true (same_cell (cell_of scope y) (Private z (front ++ i ∷ rest))) (λ h. no_copy_within scope y z i rest (cell_is (cell_of scope y) (Private z (front ++ i ∷ rest)) h))
 
   pub none_here : (ys : List (List ℕ)) (z : List ℕ) (i : Iteration) (rest : List Iteration) → list_any (λ y. same_cell (cell_of scope y) (Private z (iterations_of (turns_of scope) ++ i ∷ rest))) ys ≡ false
   none_here [] z i rest = refl

@@ -1,6 +1,7 @@
 -- The entries and ends of DO loops with PRIVATE names: they write the variable and, at the place of the DO, the PRIVATE names.
 use Rattle.std.proofs.Common.{◌≡◌, ◌⊎◌, ℕ, suc, ◌-◌, ◌==◌, ◌≤◌, List, [], ◌∷◌, ◌++◌, Bool, true, false, ◌||◌, inl, inr, refl, sym, ap, subst, ◌∙◌, append-nil, if◌then◌else◌, arith}
 use Rattle.std.specs.List.{list_any, range_with_len}
+use Rattle.std.proofs.lemmas.Bool.{or_right}
 use Rattle.ped_reindex.specs.ped_loops.proofs.NestKnots.{in_numbers, in_rows}
 use Rattle.ped_reindex.specs.ped_loops.specs.ped_scalar.specs.ped_rules.specs.ped_loop_runs.specs.ped_bodies.proofs.BodyLaws.TripLists.{end_in_order}
 use Rattle.ped_reindex.specs.ped_loops.specs.ped_scalar.specs.ped_rules.specs.ped_loop_runs.specs.ped_bodies.specs.Trips.{loop_entry, trip_end}
@@ -20,11 +21,7 @@ use Rattle.ped_splits.proofs.SplitKnots.{loop_knots, trip_knots, unit_knots}
 pub any_there : {X : Type 0} (p : X → Bool) (xs : List X) (x : X) → IsIn x xs → p x ≡ true → list_any p xs ≡ true
 any_there p [] x i h = absurd i
 any_there p (y ∷ ys) x (inl e) h = ap (λ (b : Bool). b || list_any p ys) (ap p (sym e) ∙ h)
-any_there p (y ∷ ys) x (inr i) h = ap (λ (b : Bool). p y || b) (any_there p ys x i h) ∙ or_true (p y)
-  where
-    or_true : (a : Bool) → a || true ≡ true
-    or_true true = refl
-    or_true false = refl
+any_there p (y ∷ ys) x (inr i) h = ap (λ (b : Bool). p y || b) (any_there p ys x i h) ∙ or_right (p y) true refl
 
 same_control : (c a : List Act) → control c ≡ control a → c ≡ a
 same_control c a q = cc

@@ -1,6 +1,6 @@
 -- What units did stands in the run one behind another; it is done by statements of the unit, in its iteration.
 use Rattle.std.proofs.Common.{◌≡◌, ◌⊎◌, ℕ, zero, suc, ◌+◌, ◌-◌, ◌<◌, ◌≤◌, List, [], ◌∷◌, ◌++◌, length, Bool, true, false, ◌||◌, inl, inr, refl, sym, ap, subst, ◌∙◌, append_assoc, arith}
-use Rattle.std.proofs.lemmas.Bool.{both_ways, cases_lt}
+use Rattle.std.proofs.lemmas.Bool.{both_ways, cases_lt, or_right}
 use Rattle.std.specs.Prelude.{slice_index_or}
 use Rattle.ped_base.specs.Lists.{is_among, is_same_text}
 use Rattle.ped_tree.proofs.NameLaws.Collected.{among_append}
@@ -162,12 +162,8 @@ module _ (t : ProgramTree) (s : ℕ) (l : LoopOf t s) (found : List (List ℕ)) 
       quiet : (z : StmtTree) → statement_count z ≡ 0 → is_among y (loop_variables z) ≡ false
       quiet = only_comment (λ z. is_among y (loop_variables z) ≡ false) (λ text. refl)
 
-      or_true : (a : Bool) → a || true ≡ true
-      or_true true = refl
-      or_true false = refl
-
       by : (b : Bool) → is_among y (all_loop_variables l.body) ≡ b → is_same_text y l.head.variable || is_among y (all_loop_variables l.body) ≡ true
-      by true is = ap (λ (b : Bool). is_same_text y l.head.variable || b) is ∙ or_true (is_same_text y l.head.variable)
+      by true is = ap (λ (b : Bool). is_same_text y l.head.variable || b) is ∙ or_right (is_same_text y l.head.variable) true refl
       by false is =
           let none = joined_none (λ ts. is_among y (all_loop_variables ts)) (λ z. is_among y (loop_variables z)) refl (λ z rest. among_append y (loop_variables z) (all_loop_variables rest)) quiet l.body (k ∷ []) is in
           absurd (both_ways (is_among y (all_loop_variables (unit k))) (ap (λ (ts : StmtTrees). is_among y (all_loop_variables ts)) (sym (followed_none (unit k))) ∙ none) there)

@@ -1,6 +1,6 @@
 -- What the entries of the new DO loops read is steady: scalars that keep their values throughout the outermost DO.
 use Rattle.std.proofs.Common.{◌≡◌, ◌⊎◌, ℕ, suc, ◌-◌, ◌==◌, List, [], ◌∷◌, ◌++◌, append-nil, Bool, true, false, ◌||◌, Some, inl, inr, if◌then◌else◌, refl, sym, ap, subst, ◌∙◌}
-use Rattle.std.proofs.lemmas.Bool.{both_ways}
+use Rattle.std.proofs.lemmas.Bool.{both_ways, false_from_ne_true}
 use Rattle.std.specs.List.{list_any}
 use Rattle.std.specs.Str.Lines.{lines}
 use Rattle.ped_base.specs.Lists.{is_among}
@@ -52,10 +52,6 @@ use Rattle.ped_splits.proofs.SplitEnds.{is_written, old_leaves}
 use Rattle.ped_splits.proofs.SplitFacts.{IsSplit}
 use Rattle.ped_splits.proofs.SplitKnots.{loop_knots}
 use Rattle.ped_splits.proofs.SplitRuns as runs
-
-false_unless : (b : Bool) → (b ≡ true → ⊥) → b ≡ false
-false_unless true h = absurd (h refl)
-false_unless false h = refl
 
 held_in : (u : Store) (xs : List Seen) (c : Cell) (n : Content) → Holds u xs → IsIn (cell_seen c n) xs → u c ≡ n
 held_in u [] c n q i = absurd i
@@ -157,7 +153,7 @@ module _ (t : ProgramTree) (s : ℕ) (l : LoopOf t s) (found : List (List ℕ)) 
 
   -- part of what has no write has none
   none_in_part : (whole acts : List Act) (c : Cell) → IsPart whole acts → written whole c ≡ false → written acts c ≡ false
-  none_in_part whole acts c part none = false_unless (written acts c) (λ m. both_ways (written whole c) none
+  none_in_part whole acts c part none = false_from_ne_true (written acts c) (λ m. both_ways (written whole c) none
       (ap (λ (ys : List Act). written ys c) part.is ∙ written_append part.before (acts ++ part.behind) c ∙ or_right (written part.before c) (written (acts ++ part.behind) c) (written_append acts part.behind c ∙ or_left (written acts c) (written part.behind c) m)))
 
   pub fixed_unwritten : (c : Cell) → IsOfFixed (setting_of t).constants t s c → written (run (setting_of t) (Do l.head l.body) s scope v).acts c ≡ false
@@ -176,7 +172,7 @@ module _ (t : ProgramTree) (s : ℕ) (l : LoopOf t s) (found : List (List ℕ)) 
   pub fixed_counts : (c : Cell) → IsOfFixed (setting_of t).constants t s c
       → (is_cell_among (loop_variables (Do l.head l.body)) c || list_any (λ y. same_cell (cell_of scope y) c) l.head.private ≡ false) × (stands_apart (loop_variables (Do l.head l.body)) c ≡ false)
   fixed_counts c f =
-      let none : is_among f.0 variables ≡ false = false_unless (is_among f.0 variables) (λ m. both_ways (is_among f.0 (all_loop_variables t.body)) f.2.other (loops_of_program t s l f.0 m)) in
-      let unlisted : list_any (λ y. same_cell (cell_of scope y) c) l.head.private ≡ false = false_unless (list_any (λ y. same_cell (cell_of scope y) c) l.head.private) (λ h.
+      let none : is_among f.0 variables ≡ false = false_from_ne_true (is_among f.0 variables) (λ m. both_ways (is_among f.0 (all_loop_variables t.body)) f.2.other (loops_of_program t s l f.0 m)) in
+      let unlisted : list_any (λ y. same_cell (cell_of scope y) c) l.head.private ≡ false = false_from_ne_true (list_any (λ y. same_cell (cell_of scope y) c) l.head.private) (λ h.
       both_ways (written old_acts c) (fixed_unwritten c f) (is_written scope c old_acts (old_leaves t s l found x scope v goes c h))) in
       ((λ i. (ap (is_cell_among variables) f.1 ∙ none) i || unlisted i), ap (stands_apart variables) f.1 ∙ none)

@@ -1,6 +1,6 @@
 -- The cells that a unit touches in an iteration: none is that of a PRIVATE name at the place of the DO, and none that counts for nothing is read.
 use Rattle.std.proofs.Common.{◌≡◌, ℕ, ◌⊎◌, ◌+◌, ◌-◌, ◌<◌, ◌≤◌, List, [], ◌∷◌, ◌++◌, length, Bool, true, false, ◌||◌, inl, inr, if◌then◌else◌, refl, sym, ap, subst, ◌∙◌, append_assoc, arith}
-use Rattle.std.proofs.lemmas.Bool.{both_ways}
+use Rattle.std.proofs.lemmas.Bool.{both_ways, false_from_ne_true}
 use Rattle.std.specs.List.{list_any}
 use Rattle.std.specs.Prelude.{slice_index_or}
 use Rattle.ped_base.specs.Lists.{is_among, is_same_text}
@@ -39,10 +39,6 @@ use Rattle.ped_splits.proofs.SplitPieces.{trip_unit}
 use Rattle.ped_splits.proofs.SplitRuns as runs
 use Rattle.ped_splits.proofs.SplitUnits.{offset, size_of_unit}
 use Rattle.ped_splits.specs.Units.{units}
-
-false_unless : (b : Bool) → (b ≡ true → ⊥) → b ≡ false
-false_unless true h = absurd (h refl)
-false_unless false h = refl
 
 -- none of these names is so
 none_any : (P : List ℕ → Bool) (ys : List (List ℕ)) → ((y : List ℕ) → is_among y ys ≡ true → P y ≡ false) → list_any P ys ≡ false
@@ -128,8 +124,8 @@ module _ (t : ProgramTree) (s : ℕ) (l : LoopOf t s) (found : List (List ℕ)) 
 
     -- none is that of a PRIVATE name at the place of the DO
     pub unit_away : (c : Cell) → IsUnitCell i k c → list_any (λ y. same_cell (cell_of scope y) c) l.head.private ≡ false
-    unit_away c (inl none) = none_any (λ y. same_cell (cell_of scope y) c) l.head.private (λ y m. false_unless (same_cell (cell_of scope y) c) (λ h. both_ways (is_of_scalar c) none (ap is_of_scalar (sym (cell_is (cell_of scope y) c h)) ∙ of_scalar scope y)))
-    unit_away c (inr (inl own)) = none_any (λ y. same_cell (cell_of scope y) c) l.head.private (λ y m. false_unless (same_cell (cell_of scope y) c) (λ h.
+    unit_away c (inl none) = none_any (λ y. same_cell (cell_of scope y) c) l.head.private (λ y m. false_from_ne_true (same_cell (cell_of scope y) c) (λ h. both_ways (is_of_scalar c) none (ap is_of_scalar (sym (cell_is (cell_of scope y) c h)) ∙ of_scalar scope y)))
+    unit_away c (inr (inl own)) = none_any (λ y. same_cell (cell_of scope y) c) l.head.private (λ y m. false_from_ne_true (same_cell (cell_of scope y) c) (λ h.
         let same : y ≡ own.0 = sym (named_so scope y) ∙ ap cell_name (cell_is (cell_of scope y) c h ∙ own.2) ∙ named_so scope own.0 in
         both_ways (is_among own.0 l.head.private) own.1 (ap (λ (z : List ℕ). is_among z l.head.private) (sym same) ∙ m)))
     unit_away c (inr (inr (inl copy))) =

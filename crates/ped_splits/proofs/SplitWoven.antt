@@ -1,6 +1,6 @@
 -- What the DO loops do into which a DO is taken apart is woven anew of what its units did: by blocks, and in each by iterations.
 use Rattle.std.proofs.Common.{◌⊎◌, length, ◌≡◌, ℕ, ◌+◌, ◌≤◌, ◌<◌, List, [], ◌∷◌, ◌++◌, Bool, true, false, ◌||◌, ◌&&◌, not, refl, sym, ap, subst, ◌∙◌, append_assoc, inl, inr, arith}
-use Rattle.std.proofs.lemmas.Bool.{and_parts, both_ways}
+use Rattle.std.proofs.lemmas.Bool.{and_parts, both_ways, false_from_ne_true, or_right}
 use Rattle.std.specs.List.{flat_map, list_any, range_with_len}
 use Rattle.std.specs.Str.Lines.{lines}
 use Rattle.ped_tree.specs.Tree.{Do, ProgramTree}
@@ -211,11 +211,7 @@ module _ (making : MakingLaw) (sequence : SequenceLaw) (law : UnrejectedLaw) (t 
   private_idle : (y : List ℕ) → IsIn y l.head.private → idle (cell_of scope y) ≡ true
   private_idle y i =
       ap (λ (b : Bool). is_cell_among variables (cell_of scope y) || b) (any_there (λ z. same_cell (cell_of scope z) (cell_of scope y)) l.head.private y i (is_cell (cell_of scope y) (cell_of scope y) refl))
-      ∙ or_true (is_cell_among variables (cell_of scope y))
-    where
-      or_true : (a : Bool) → a || true ≡ true
-      or_true true = refl
-      or_true false = refl
+      ∙ or_right (is_cell_among variables (cell_of scope y)) true refl
 
   new_controls : (at : ℕ) (bs : List (List ℕ)) (c : List Act) → IsIn (control c) (new_knots at bs) → WriteWithin idle (touches_of c)
   new_controls at [] c i = absurd i
@@ -374,18 +370,14 @@ module _ (making : MakingLaw) (sequence : SequenceLaw) (law : UnrejectedLaw) (t 
   unreached c i m (inl (inr none)) = both_ways (is_of_scalar c) none (among_of_scalar variables c i)
   unreached c i m (inr copy) = unwanted_copy c copy m
 
-  false_unless : (b : Bool) → (b ≡ true → ⊥) → b ≡ false
-  false_unless true h = absurd (h refl)
-  false_unless false h = refl
-
   old_unwritten : (c : Cell) → is_cell_among variables c ≡ true → wants (shown_at_end t) behind c ≡ true → written (old_list its_weave) c ≡ false
-  old_unwritten c i m = ap (λ (acts : List Act). written acts c) (sym whole_old) ∙ false_unless (written old_acts c) (λ k.
+  old_unwritten c i m = ap (λ (acts : List Act). written acts c) (sym whole_old) ∙ false_from_ne_true (written old_acts c) (λ k.
       let r = write_in old_acts c k in
       unreached c i m (subst (λ (y : Cell). IsOwn p scope y ⊎ IsCopyInside p scope s (statements_count (alone (Do l.head l.body))) y) r.4
       (subst (λ (n : ℕ). IsOwn p scope r.2.cell ⊎ IsCopyInside p scope s n r.2.cell) (let many : statement_count (Do l.head l.body) ≡ statements_count (alone (Do l.head l.body)) = omega arith in many) (run_reaches p (Do l.head l.body) s scope v r.0 r.1 r.2 r.3))))
 
   new_unwritten : (c : Cell) → is_cell_among variables c ≡ true → wants (shown_at_end t) behind c ≡ true → written (new_list its_weave) c ≡ false
-  new_unwritten c i m = false_unless (written (new_list its_weave) c) (λ k.
+  new_unwritten c i m = false_from_ne_true (written (new_list its_weave) c) (λ k.
       let r = write_in (new_list its_weave) c k in
       elim (in_knots new_unit its_weave.new r.0 r.1) [
         | inl b ↦ of_block_there b.0 b.1 b.2 r.0 b.3 r.2 r.3 r.4 r.5

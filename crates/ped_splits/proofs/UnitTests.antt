@@ -1,7 +1,7 @@
 -- What a test tells of statements by "or" it tells of the units of a body, and of the DO loops that are made of them.
 use Rattle.std.proofs.Common.{◌≡◌, ℕ, zero, suc, ◌+◌, ◌<◌, ◌≤◌, ◌==◌, List, [], ◌∷◌, length, slice_index_or, Bool, true, false, ◌||◌, if◌then◌else◌, inl, inr, refl, sym, ap, ◌∙◌, eqb-true, arith}
 use Rattle.std.specs.List.{list_any}
-use Rattle.std.proofs.lemmas.Bool.{or_parts}
+use Rattle.std.proofs.lemmas.Bool.{or_parts, or_right}
 use Rattle.ped_tree.specs.Tree.{Head, StmtTree, StmtTrees, Assign, If, Do, Print, Read, Stop, Comment, no_stmts, more_stmts}
 use Rattle.ped_tree.specs.Numbering.{statement_count, statements_count}
 use Rattle.ped_reindex.specs.ped_loops.specs.ped_scalar.specs.ped_rules.specs.ped_loop_runs.specs.ped_bodies.specs.ped_steps.specs.Replacing.{followed, alone}
@@ -17,10 +17,6 @@ grouped false q r = refl
 or_none : (a : Bool) → a || false ≡ a
 or_none true = refl
 or_none false = refl
-
-or_true : (a : Bool) → a || true ≡ true
-or_true true = refl
-or_true false = refl
 
 -- what is so of comments is so of statements without a number
 pub only_comment : (P : StmtTree → Type 0) → ((text : List ℕ) → P (Comment text)) → (s : StmtTree) → statement_count s ≡ 0 → P s
@@ -85,7 +81,7 @@ module _ (all : StmtTrees → Bool) (told : StmtTree → Bool) (none : all no_st
   joined_some body (k ∷ ks) i (inl x) e =
       both (slice_index_or (units body) k no_stmts) (units_at body ks) ∙ ap (λ (b : Bool). b || all (units_at body ks)) (ap (λ (m : ℕ). all (slice_index_or (units body) m no_stmts)) (sym x) ∙ e)
   joined_some body (k ∷ ks) i (inr r) e =
-      both (slice_index_or (units body) k no_stmts) (units_at body ks) ∙ ap (λ (b : Bool). all (slice_index_or (units body) k no_stmts) || b) (joined_some body ks i r e) ∙ or_true (all (slice_index_or (units body) k no_stmts))
+      both (slice_index_or (units body) k no_stmts) (units_at body ks) ∙ ap (λ (b : Bool). all (slice_index_or (units body) k no_stmts) || b) (joined_some body ks i r e) ∙ or_right (all (slice_index_or (units body) k no_stmts)) true refl
 
   -- the DO loops of blocks
   pub loops_none : (h : Head) (body : StmtTrees) (found : List (List ℕ)) → ((b : List ℕ) → told (Do h (units_at body b)) ≡ false) → all (loops_of found h body) ≡ false
@@ -100,7 +96,7 @@ module _ (all : StmtTrees → Bool) (told : StmtTree → Bool) (none : all no_st
   loops_some h body [] i inside f = elim inside [ ]
   loops_some h body (b ∷ bs) i inside f = elim (in_either i b (flat bs) inside) [
     | inl x ↦ more (Do h (units_at body b)) (loops_of bs h body) ∙ ap (λ (r : Bool). r || all (loops_of bs h body)) (f b x)
-    | inr y ↦ more (Do h (units_at body b)) (loops_of bs h body) ∙ ap (λ (r : Bool). told (Do h (units_at body b)) || r) (loops_some h body bs i y f) ∙ or_true (told (Do h (units_at body b)))
+    | inr y ↦ more (Do h (units_at body b)) (loops_of bs h body) ∙ ap (λ (r : Bool). told (Do h (units_at body b)) || r) (loops_some h body bs i y f) ∙ or_right (told (Do h (units_at body b))) true refl
   ]
 
   -- where a test tells of a DO by its head, or by its body, it tells the same of all DO loops that the body is taken apart into

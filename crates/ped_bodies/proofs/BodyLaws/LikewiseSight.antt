@@ -4,6 +4,7 @@ use Rattle.std.specs.Prelude.{length, not, ◌&&◌, ◌||◌}
 use Rattle.std.specs.List.{flat_map, join_with_byte}
 use Rattle.std.specs.Fmt.{signed_decimal}
 use Rattle.std.proofs.lemmas.List.Folds.{list_any-append}
+use Rattle.std.proofs.lemmas.Bool.{or_right}
 use Rattle.ped_steps.specs.ped_flow.specs.ped_base.specs.Dimensions.{Dimensions}
 use Rattle.ped_steps.specs.ped_flow.specs.ped_base.specs.Lists.{is_same_text, is_among}
 use Rattle.ped_steps.specs.ped_flow.specs.ped_base.specs.declared.arithmetic.faults.Fault.{Fault}
@@ -40,21 +41,17 @@ use Rattle.ped_bodies.proofs.BodyLaws.Corresponding.{read_meets, nothing_alike, 
 abbrev pub Within : List (List ℕ) → List (List ℕ) → Type 0
 Within names xs = (x : List ℕ) → is_among x xs ≡ true → is_among x names ≡ true
 
-or_true : (b : Bool) → b || true ≡ true
-or_true true = refl
-or_true false = refl
-
 pub among_first : (x : List ℕ) (xs ys : List (List ℕ)) → is_among x xs ≡ true → is_among x (xs ++ ys) ≡ true
 among_first x xs ys h = list_any-append (is_same_text x) xs ys ∙ ap (λ (b : Bool). b || is_among x ys) h
 
 pub among_rest : (x : List ℕ) (xs ys : List (List ℕ)) → is_among x ys ≡ true → is_among x (xs ++ ys) ≡ true
-among_rest x xs ys h = list_any-append (is_same_text x) xs ys ∙ ap (λ (b : Bool). is_among x xs || b) h ∙ or_true (is_among x xs)
+among_rest x xs ys h = list_any-append (is_same_text x) xs ys ∙ ap (λ (b : Bool). is_among x xs || b) h ∙ or_right (is_among x xs) true refl
 
 pub among_itself : (x : List ℕ) (xs : List (List ℕ)) → is_among x (x ∷ xs) ≡ true
 among_itself x xs = ap (λ (b : Bool). b || is_among x xs) (text_itself x)
 
 pub among_more : (x y : List ℕ) (xs : List (List ℕ)) → is_among x xs ≡ true → is_among x (y ∷ xs) ≡ true
-among_more x y xs h = ap (λ (b : Bool). is_same_text x y || b) h ∙ or_true (is_same_text x y)
+among_more x y xs h = ap (λ (b : Bool). is_same_text x y || b) h ∙ or_right (is_same_text x y) true refl
 
 module _ (names : List (List ℕ)) where
   pub within_parts : (xs ys : List (List ℕ)) → Within names (xs ++ ys) → Within names xs × Within names ys

@@ -3,7 +3,7 @@ use Rattle.std.proofs.Common.{◌≡◌, ℕ, zero, suc, ◌≤◌, List, [], �
 use Rattle.std.specs.Prelude.{◌==◌}
 use Rattle.std.specs.List.{list_all}
 use Rattle.std.specs.Option.{option_or}
-use Rattle.std.proofs.lemmas.Bool.{both_ways, and_parts}
+use Rattle.std.proofs.lemmas.Bool.{both_ways, and_parts, false_from_ne_true}
 use Rattle.std.proofs.lemmas.Bool.Decides.{nat_tests}
 use Rattle.std.proofs.lemmas.List.{append_assoc, append-nil}
 use Rattle.std.proofs.lemmas.List.Folds.{list_any-append}
@@ -24,10 +24,6 @@ use Rattle.ped_laws.proofs.CoveringLaws.Texts.{text_is}
 use Rattle.ped_laws.specs.Conflicts.Reaching.{IsEntered, Reached}
 use Rattle.ped_laws.proofs.ConflictLaws.CoveringNests.{IsOf, AreOf, reached_are, same_depth, one_nest}
 
-false_unless : (b : Bool) → (b ≡ true → ⊥) → b ≡ false
-false_unless true h = absurd (h refl)
-false_unless false h = refl
-
 -- the PRIVATE names of a DO are among the names of which its iterations have copies
 copied_by : (x : List ℕ) (e : Entered) (parallel : Bool) → is_among x e.head.private ≡ true → is_among x (if parallel then e.head.variable ∷ (e.head.private ++ e.inner) else e.head.private) ≡ true
 copied_by x e false h = h
@@ -39,7 +35,7 @@ pub private_copied : (t : ProgramTree) (s : Setting) (first : Store) (outer : Sc
 private_copied t s first outer l f x e h = ap (λ (g : Frame). is_among x g.private) e.is ∙ copied_by x (entered_with (setting_of t) l.number l.head e.body e.seen e.bounds) l.head.parallel h
 
 not_private : (t : ProgramTree) (s : Setting) (first : Store) (outer : Scope) (l : Loop) (f : Frame) (x : List ℕ) → IsEntered t s first outer l f → is_among x f.private ≡ false → is_among x l.head.private ≡ false
-not_private t s first outer l f x e h = false_unless (is_among x l.head.private) (λ k. both_ways (is_among x f.private) h (private_copied t s first outer l f x e k))
+not_private t s first outer l f x e h = false_from_ne_true (is_among x l.head.private) (λ k. both_ways (is_among x f.private) h (private_copied t s first outer l f x e k))
 
 -- a DO further in that doesn't name the variable changes nothing
 no_owner_more : (x : List ℕ) (ls : List Loop) (l : Loop) → is_among x l.head.private ≡ false → innermost_private x (ls ++ l ∷ []) ≡ innermost_private x ls

@@ -2,7 +2,7 @@
 use Rattle.std.proofs.Common.{◌≡◌, ℕ, ◌+◌, List, [], ◌∷◌, ◌++◌, length, Bool, true, false, not, ◌&&◌, ◌||◌, refl, sym, ap, ◌∙◌, inl, inr, if◌then◌else◌, codes}
 use Rattle.std.specs.Prelude.{nat_le}
 use Rattle.std.specs.List.{list_all, flat_map}
-use Rattle.std.proofs.lemmas.Bool.{both_ways, and_parts}
+use Rattle.std.proofs.lemmas.Bool.{both_ways, and_parts, not-true}
 use Rattle.std.proofs.lemmas.List.{map-append}
 use Rattle.std.proofs.lemmas.List.Folds.{list_any-append}
 use Rattle.ped_flow.specs.ped_base.specs.Lists.{has_some, is_same_text, is_among}
@@ -52,10 +52,6 @@ unmet x (y ∷ ys) others h k = go (is_same_text x y) refl k (unmet x ys others 
     go : (b : Bool) → is_same_text x y ≡ b → (b || is_among x ys) ≡ true → (is_among x ys ≡ true → is_among x others ≡ false) → is_among x others ≡ false
     go true e j more = ap (λ (z : List ℕ). is_among z others) (text_is x y e) ∙ parts.0
     go false e j more = more j
-
-is_false : (b : Bool) → not b ≡ true → b ≡ false
-is_false true h = absurd cc
-is_false false h = refl
 
 meets_append : (xs ys others : List (List ℕ)) → meets (xs ++ ys) others ≡ false → (meets xs others ≡ false) × (meets ys others ≡ false)
 meets_append xs ys others h = or_nones (meets xs others) (meets ys others) (sym (list_any-append (λ x. is_among x others) xs ys) ∙ h)
@@ -118,7 +114,7 @@ module _ (c indices variables : List (List ℕ)) where
     where
       unmet_all : (names : List (List ℕ)) → (not (has_some names) || ((a && b) && not (meets names (index ∷ variables)))) ≡ true → is_among x.name names ≡ true → meets names (index ∷ variables) ≡ false
       unmet_all [] h k = refl
-      unmet_all (y ∷ ys) h k = is_false (meets (y ∷ ys) (index ∷ variables)) (and_parts (a && b) (not (meets (y ∷ ys) (index ∷ variables))) h).1
+      unmet_all (y ∷ ys) h k = not-true (meets (y ∷ ys) (index ∷ variables)) (and_parts (a && b) (not (meets (y ∷ ys) (index ∷ variables))) h).1
 
 -- the references of a statement
 abbrev AllSpared : List Reference → Type 0
@@ -154,7 +150,7 @@ module _ (c : List (List ℕ)) where
       ap (λ (ls : List Loop). is_among r.access.name (indices_of ls)) o.1 ∙ same r.access.name ∙ h r.access o.2 w e f g
 
   simple_unmet : (p : Surroundings) (s : StmtTree) → simple_fits p s ≡ true → meets (assigned_by s) p.variables ≡ false
-  simple_unmet p s h = is_false (meets (assigned_by s) p.variables) (and_parts (is_within p s) (not (meets (assigned_by s) p.variables)) (and_parts _ _ h).0).1
+  simple_unmet p s h = not-true (meets (assigned_by s) p.variables) (and_parts (is_within p s) (not (meets (assigned_by s) p.variables)) (and_parts _ _ h).0).1
 
   mutual
     statement_spared : (p : Surroundings) (nest : List Loop) (n : ℕ) (s : StmtTree) → AreRound p nest → stmt_fits p s ≡ true → AllSpared (statement_references c nest n s)

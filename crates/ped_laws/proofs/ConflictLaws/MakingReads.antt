@@ -3,7 +3,7 @@ use Rattle.std.proofs.Common.{◌≡◌, ℕ, ℤ, pos, List, [], ◌∷◌, ◌
 use Rattle.std.specs.Prelude.{codes}
 use Rattle.std.specs.List.{list_all, flat_map, join_with_byte}
 use Rattle.std.specs.Fmt.{signed_decimal}
-use Rattle.std.proofs.lemmas.Bool.{and_parts}
+use Rattle.std.proofs.lemmas.Bool.{and_parts, or_left}
 use Rattle.ped_flow.specs.ped_base.specs.Lists.{is_same_text, is_among}
 use Rattle.ped_flow.specs.ped_base.specs.Arithmetic.Arithmetic.{sum_of, difference_of, negation_of, product_of, quotient_of, power_of}
 use Rattle.ped_flow.specs.ped_base.proofs.NameEquality.{same_is, same_itself}
@@ -45,10 +45,6 @@ ok_one x y h = cc
 pub came : {A B : Type 0} (seen : List Seen) (a : Result A ℕ) (next : A → Evaluated B) (y : B) → (onward seen a next).result ≡ Ok y → (x : A) × (a ≡ Ok x) × ((next x).result ≡ Ok y)
 came seen (Ok x) next y h = (x, refl, h)
 came seen (Err fault) next y h = absurd cc
-
-or_left : (a b : Bool) → a ≡ true → (a || b) ≡ true
-or_left true b h = refl
-or_left false b h = absurd cc
 
 -- a name is neither that of the data nor that of the output
 not_other : (x : List ℕ) → is_name x ≡ true → (y : List ℕ) → is_name y ≡ false → is_same_text x y ≡ false

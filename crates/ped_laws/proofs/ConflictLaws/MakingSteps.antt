@@ -2,7 +2,7 @@
 use Rattle.std.proofs.Common.{◌≡◌, ℕ, zero, suc, ◌+◌, ◌≤◌, List, [], ◌∷◌, ◌++◌, Bool, true, false, not, ◌&&◌, ◌||◌, Option, Some, None, Result, Ok, Err, refl, sym, ap, ◌∙◌, arith, ◌⊎◌, inl, inr, if◌then◌else◌}
 use Rattle.std.specs.Prelude.{nat_lt}
 use Rattle.std.specs.List.{list_all}
-use Rattle.std.proofs.lemmas.Bool.{and_parts}
+use Rattle.std.proofs.lemmas.Bool.{and_parts, not-true}
 use Rattle.ped_flow.specs.ped_base.specs.Lists.{has_some, is_same_text, is_among}
 use Rattle.ped_flow.specs.ped_tree.proofs.NameLaws.Collected.{among_append}
 use Rattle.ped_flow.specs.ped_tree.specs.Tree.{ExprTree, CondTree, ItemTree, Head, StmtTree, StmtTrees, Assign, If, Do, Print, Read, Stop, Comment, no_stmts, more_stmts, ProgramTree}
@@ -75,10 +75,6 @@ private_named : (xs : List (List ℕ)) (a b : Bool) → (not (has_some xs) || ((
 private_named [] a b h = refl
 private_named (x ∷ xs) a b h = (and_parts _ a (and_parts _ b h).0).0
 
-is_false : (b : Bool) → not b ≡ true → b ≡ false
-is_false true h = absurd cc
-is_false false h = refl
-
 pub head_fits : (around : Surroundings) (h : Head) (b : StmtTrees) → loop_fits around h b ≡ true → HeadFits around h
 head_fits around h b fits =
     let one = and_parts _ (list_all is_name h.rejected) fits in
@@ -90,7 +86,7 @@ head_fits around h b fits =
     let seven = and_parts _ (expr_fits h.step) six.0 in
     let eight = and_parts _ (expr_fits h.last) seven.0 in
     let nine = and_parts _ (expr_fits h.first) eight.0 in
-    record { bounds = (nine.1, eight.1); named = private_named h.private _ _ two.1; other = is_false (is_among h.variable around.variables) six.1 }
+    record { bounds = (nine.1, eight.1); named = private_named h.private _ _ two.1; other = not-true (is_among h.variable around.variables) six.1 }
 
 -- what the head of a DO tells that is right
 pub record HeadUses (t : ProgramTree) (h : Head) : Type 0 where

@@ -1,6 +1,7 @@
 -- The loops round a reference assign only names that the outermost of them assigns.
-use Rattle.std.proofs.Common.{◌≡◌, ℕ, suc, ◌+◌, ◌-◌, ◌==◌, List, [], ◌∷◌, ◌++◌, length, Bool, true, false, ◌||◌, ◌⊎◌, inl, inr, Some, None, if◌then◌else◌, refl, sym, ap, ◌∙◌, subst, arith}
+use Rattle.std.proofs.Common.{◌≡◌, ℕ, suc, ◌+◌, ◌-◌, ◌==◌, List, [], ◌∷◌, ◌++◌, length, Bool, true, false, ◌⊎◌, inl, inr, Some, None, if◌then◌else◌, refl, sym, ap, ◌∙◌, subst, arith}
 use Rattle.std.proofs.lemmas.List.Folds.{list_any-append}
+use Rattle.std.proofs.lemmas.Bool.{or_left, or_right}
 use Rattle.ped_flow.specs.ped_base.specs.Lists.{is_same_text, is_among}
 use Rattle.ped_flow.specs.ped_tree.specs.Tree.{Head, StmtTree, StmtTrees, Assign, If, Do, Print, Read, Stop, Comment, no_stmts, more_stmts, ProgramTree}
 use Rattle.ped_flow.specs.ped_tree.specs.Accesses.{Access, own_accesses, constant_names}
@@ -11,14 +12,6 @@ use Rattle.ped_graph.specs.ped_refs.specs.References.{Reference, numbered_access
 use Rattle.ped_laws.specs.Acts.Orders.{IsIn}
 use Rattle.ped_flow.specs.ped_affine.specs.Assigned.{assigned_in, assigned_in_all}
 use Rattle.ped_graph.specs.Dependences.{assigned_by}
-
-or_left : (a b : Bool) → a ≡ true → (a || b) ≡ true
-or_left true b h = refl
-or_left false b h = absurd cc
-
-or_right : (a b : Bool) → b ≡ true → (a || b) ≡ true
-or_right true b h = refl
-or_right false b h = h
 
 pub among_front : (x : List ℕ) (a b : List (List ℕ)) → is_among x a ≡ true → is_among x (a ++ b) ≡ true
 among_front x a b h = list_any-append (is_same_text x) a b ∙ or_left (is_among x a) (is_among x b) h

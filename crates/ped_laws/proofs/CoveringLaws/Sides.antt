@@ -1,6 +1,6 @@
 -- The values of the unknowns of one side: the loops' variables first, and then the other variables.
 use Rattle.std.proofs.Common.{◌≡◌, ℕ, suc, ◌+◌, ◌-◌, ◌≤◌, List, [], ◌∷◌, ◌++◌, map, take, drop, drop-drop, length, filter, cond, Bool, true, false, not, ◌&&◌, ◌||◌, ◌==◌, refl, sym, ap, ◌∙◌, subst, arith, ℤ, pos, if◌then◌else◌}
-use Rattle.std.proofs.lemmas.Bool.{and_parts}
+use Rattle.std.proofs.lemmas.Bool.{and_parts, or_left, or_right}
 use Rattle.ped_flow.specs.ped_base.specs.Lists.{is_same_text, is_among}
 use Rattle.ped_flow.specs.ped_tree.specs.Tree.{ExprTree}
 use Rattle.ped_flow.specs.ped_tree.specs.Nests.{Loop, indices_of, common_nest}
@@ -10,14 +10,6 @@ use Rattle.ped_flow.specs.ped_affine.specs.PairViews.{Site, depths_of, is_other,
 use Rattle.ped_laws.specs.Covering.Weights.{first_values}
 use Rattle.ped_laws.specs.Covering.Together.{AreDistinct, side_values, AgreeOnOthers}
 use Rattle.ped_laws.proofs.CoveringLaws.Texts.{text_is, text_itself}
-
-or_left : (a b : Bool) → a ≡ true → (a || b) ≡ true
-or_left true b h = refl
-or_left false b h = absurd cc
-
-or_right : (a b : Bool) → b ≡ true → (a || b) ≡ true
-or_right true b h = refl
-or_right false b h = h
 
 or_false : (a b : Bool) → a ≡ false → b ≡ false → (a || b) ≡ false
 or_false true b h k = absurd cc

@@ -2,7 +2,7 @@
 use Rattle.std.proofs.Common.{◌≡◌, ℕ, List, [], ◌∷◌, map, length, Bool, true, false, ◌||◌, refl, sym, ap, ◌∙◌, subst, arith, ℤ, pos, neg_ℤ, ◌+ℤ◌, ◌-ℤ◌, ◌*ℤ◌, if◌then◌else◌}
 use Rattle.std.specs.List.{list_all}
 use Rattle.std.proofs.Math.IntN.{*ℤ_comm}
-use Rattle.std.proofs.lemmas.Bool.{and_parts}
+use Rattle.std.proofs.lemmas.Bool.{and_parts, or_right}
 use Rattle.std.proofs.lemmas.Bool.Decides.{Decides-int_eq}
 use Rattle.std.proofs.lemmas.Int.{ints}
 use Rattle.ped_flow.specs.ped_base.specs.Lists.{is_same_text, is_among}
@@ -92,10 +92,6 @@ module _ (values : List ℕ → ℤ) (x : List ℕ) where
       let z = none (is_same_text x y) refl in
       omega (arith, linear)
     where
-      or_right : (a b : Bool) → b ≡ true → (a || b) ≡ true
-      or_right true b q = refl
-      or_right false b q = q
-
       among : x ≡ y → is_among y before ≡ true
       among e = subst (λ (z : List ℕ). is_among z before ≡ true) e h
 

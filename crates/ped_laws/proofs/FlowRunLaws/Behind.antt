@@ -2,7 +2,7 @@
 use Rattle.std.proofs.Common.{◌≡◌, ℕ, zero, suc, ◌+◌, ◌≤◌, List, [], ◌∷◌, ◌++◌, Bool, true, false, ◌&&◌, ◌||◌, ◌==◌, Option, Some, None, Result, Ok, Err, if◌then◌else◌, refl, sym, ap, subst, ◌∙◌, ◌⊎◌, inl, inr, arith, eqb-true}
 use Rattle.std.specs.List.{list_any}
 use Rattle.std.proofs.lemmas.List.Folds.{list_any-append}
-use Rattle.std.proofs.lemmas.Bool.{and_parts}
+use Rattle.std.proofs.lemmas.Bool.{and_parts, or_left, or_right}
 use Rattle.ped_flow.specs.ped_base.specs.Lists.{is_among}
 use Rattle.ped_flow.specs.ped_tree.specs.Tree.{CondTree, Head, StmtTree, StmtTrees, Assign, If, Do, Print, Read, Stop, Comment, no_stmts, more_stmts, ProgramTree}
 use Rattle.ped_flow.specs.ped_tree.specs.Accesses.{constant_names}
@@ -38,14 +38,6 @@ use Rattle.ped_laws.proofs.FlowRunLaws.Covered.{none_in_loops, all_covered}
 use Rattle.ped_laws.proofs.FlowRunLaws.Looping.{Goes}
 use Rattle.ped_laws.proofs.FlowRunLaws.Resting.{rest_run, RestFollows, more_rest, entered_rest, rest_followed}
 use Rattle.ped_laws.proofs.FlowRunLaws.Standing.{Stand, first_stands, rest_stands, inner_stands, else_stands, is_there}
-
-or_left : (a b : Bool) → a ≡ true → (a || b) ≡ true
-or_left true b h = refl
-or_left false b h = untrue h
-
-or_right : (a b : Bool) → b ≡ true → (a || b) ≡ true
-or_right true b h = refl
-or_right false b h = h
 
 -- an act in one of two lists, and what stands behind it
 pub split_behind : (xs ys front : List Act) (a : Act) (behind : List Act) → xs ++ ys ≡ front ++ a ∷ behind

@@ -2,6 +2,7 @@
 use Rattle.std.proofs.Common.{◌≡◌, ℕ, suc, ℤ, List, [], ◌∷◌, ◌++◌, Bool, true, false, not, ◌&&◌, ◌||◌, if◌then◌else◌, refl, sym, ap, subst, ◌∙◌, ◌⊎◌, inl, inr, eqb, eqb-true, arith}
 use Rattle.std.proofs.lemmas.List.Folds.{list_any-append}
 use Rattle.std.proofs.lemmas.List.{append-nil}
+use Rattle.std.proofs.lemmas.Bool.{or_left, or_right}
 use Rattle.ped_flow.specs.ped_base.specs.Lists.{is_same_text, is_among}
 use Rattle.ped_eval.specs.ped_store.specs.Cells.{Cell, same_cell}
 use Rattle.ped_eval.specs.ped_store.specs.Stores.{Number}
@@ -48,14 +49,6 @@ holds_anyhow c b (t ∷ ts) h = by (writes_to t c) (is_number t.content) h (λ k
     by : (w v : Bool) → holds_number c (if w then v else false) ts ≡ true → (holds_number c false ts ≡ true → holds_number c b ts ≡ true) → holds_number c (if w then v else b) ts ≡ true
     by true v h k = h
     by false v h k = k h
-
-or_left : (a b : Bool) → a ≡ true → (a || b) ≡ true
-or_left true b h = refl
-or_left false b h = untrue h
-
-or_right : (a b : Bool) → b ≡ true → (a || b) ≡ true
-or_right true b h = refl
-or_right false b h = h
 
 -- what isn't true is false
 pub not_so : (a : Bool) → (a ≡ true → ⊥) → a ≡ false

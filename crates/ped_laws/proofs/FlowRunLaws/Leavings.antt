@@ -1,6 +1,7 @@
 -- What the exit of a DO does to a scalar of which it leaves the cell: its variable, or a name of which its iterations have copies.
 use Rattle.std.proofs.Common.{map, ◌≡◌, ℕ, suc, ℤ, List, [], ◌∷◌, ◌++◌, Bool, true, false, ◌&&◌, ◌||◌, if◌then◌else◌, refl, sym, ap, ◌∙◌, inl, inr}
 use Rattle.std.proofs.lemmas.List.Folds.{list_any-append}
+use Rattle.std.proofs.lemmas.Bool.{or_right}
 use Rattle.ped_flow.specs.ped_base.specs.Lists.{is_same_text, is_among}
 use Rattle.ped_flow.specs.ped_tree.specs.Tree.{Head, StmtTrees}
 use Rattle.ped_flow.specs.ped_tree.specs.NamesIn.{all_loop_variables}
@@ -17,14 +18,6 @@ use Rattle.ped_laws.specs.FlowRuns.Covering.{is_number, holds_number}
 use Rattle.ped_laws.proofs.FlowRunLaws.Coverings.{written_parts, holds_append, needed_parts, not_so, kept_number}
 use Rattle.ped_laws.proofs.FlowRunLaws.Reading.{reads_cell, needed_read, exit_unread}
 use Rattle.ped_laws.proofs.FlowRunLaws.Names.{cleared, inner_among, same_cells}
-
-or_left : (a b : Bool) → a ≡ true → (a || b) ≡ true
-or_left true b h = refl
-or_left false b h = untrue h
-
-or_right : (a b : Bool) → b ≡ true → (a || b) ≡ true
-or_right true b h = refl
-or_right false b h = h
 
 -- what isn't read isn't needed
 pub unread_unneeded : (c : Cell) (ts : List Touch) → reads_cell c ts ≡ false → needed_by ts c ≡ false

@@ -3,6 +3,7 @@ use Rattle.std.proofs.Common.{◌≡◌, ℕ, suc, ◌+◌, ◌≤◌, ◌<◌, 
 use Rattle.std.specs.List.{list_any, flat_map}
 use Rattle.std.proofs.lemmas.List.{append-nil, map-append}
 use Rattle.std.proofs.lemmas.List.Folds.{list_any-append}
+use Rattle.std.proofs.lemmas.Bool.{or_left, or_right}
 use Rattle.ped_flow.specs.ped_base.specs.Lists.{is_same_text, is_among}
 use Rattle.ped_flow.specs.ped_tree.specs.Tree.{ExprTree, CondTree, ItemTree, Head, StmtTree, StmtTrees, Assign, If, Do, Print, Read, Stop, Comment, no_stmts, more_stmts}
 use Rattle.ped_flow.specs.ped_tree.specs.Numbering.{statement_count, statements_count}
@@ -45,14 +46,6 @@ pub record IsLocated (p : Setting) (x : List ℕ) (c : Cell) (S : Scope) (n coun
   pub reader : ℕ
   pub loose : outside reader ≡ true
   pub cell : (c ≡ cell_of S x) ⊎ IsDeeper p x c S n count
-
-or_left : (a b : Bool) → a ≡ true → (a || b) ≡ true
-or_left true b h = refl
-or_left false b h = untrue h
-
-or_right : (a b : Bool) → b ≡ true → (a || b) ≡ true
-or_right true b h = refl
-or_right false b h = h
 
 -- names that are read are so by their statement
 names_loose : (x : List ℕ) (n : ℕ) (names : List (List ℕ)) (more : List Event) → is_among x names ≡ true → list_any (is_read_by x n) (reads_of n names ++ more) ≡ true

@@ -1,6 +1,7 @@
 -- DO loops: a path of a DO covers its acts, where paths of its body cover those of each iteration.
 use Rattle.std.proofs.Common.{◌≡◌, ℕ, zero, suc, ◌+◌, List, [], ◌∷◌, ◌++◌, Bool, true, false, ◌&&◌, ◌||◌, ◌==◌, if◌then◌else◌, refl, sym, ap, subst, ◌∙◌, inl, inr, append_assoc, arith}
 use Rattle.std.proofs.lemmas.List.{append-nil}
+use Rattle.std.proofs.lemmas.Bool.{or_right}
 use Rattle.ped_flow.specs.ped_base.specs.Lists.{is_same_text, is_among}
 use Rattle.ped_flow.specs.ped_tree.specs.Tree.{Head, StmtTrees}
 use Rattle.ped_eval.specs.ped_store.specs.Cells.{Cell, Private}
@@ -25,10 +26,6 @@ use Rattle.ped_laws.proofs.FlowRunLaws.Names.{cleared, copied_among}
 use Rattle.ped_laws.proofs.FlowRunLaws.Reading.{exit_unread}
 use Rattle.ped_laws.proofs.FlowRunLaws.Leavings.{unread_unneeded, exit_writes, cleared_lost, cleared_elsewhere, IsLeft, left_behind, exit_leaves}
 use Rattle.ped_laws.proofs.FlowRunLaws.Unstopped.{IsUnstopped}
-
-or_right : (a b : Bool) → b ≡ true → (a || b) ≡ true
-or_right true b h = refl
-or_right false b h = h
 
 -- touches of a run that doesn't stop have a path, where the run goes on
 abbrev pub Goes : (List Event → List Touch → Type 0) → List Touch → Ending → Type 0

@@ -5,6 +5,7 @@ use Rattle.ped_flow.specs.ped_base.specs.Lists.{is_same_text, is_among}
 use Rattle.ped_flow.specs.ped_tree.specs.Tree.{ExprTree, ExprTrees, Int, Var, Element, Neg, Add, Sub, Mul, Div, Pow, Call, no_exprs, more_exprs, CondTree, Rel, Not, And, Or, ItemTree, Value, Text}
 use Rattle.std.specs.List.{flat_map}
 use Rattle.std.proofs.Common.{length}
+use Rattle.std.proofs.lemmas.Bool.{or_left, or_right}
 use Rattle.ped_flow.specs.ped_base.specs.declared.arithmetic.faults.Fault.{Fault}
 use Rattle.ped_flow.specs.ped_base.specs.Arithmetic.Arithmetic.{sum_of, difference_of, product_of, quotient_of, power_of}
 use Rattle.ped_flow.specs.ped_tree.specs.Constants.NamedConstants.{value_named}
@@ -57,14 +58,6 @@ pub record Saw (S : Scope) (x : List ℕ) (c : Cell) (names : List (List ℕ)) :
   pub cell : c ≡ cell_of S x
   pub untold : index_value S x ≡ None
   pub among : is_among x names ≡ true
-
-or_left : (a b : Bool) → a ≡ true → (a || b) ≡ true
-or_left true b h = refl
-or_left false b h = untrue h
-
-or_right : (a b : Bool) → b ≡ true → (a || b) ≡ true
-or_right true b h = refl
-or_right false b h = h
 
 pub among_left : (x : List ℕ) (a b : List (List ℕ)) → is_among x a ≡ true → is_among x (a ++ b) ≡ true
 among_left x a b h = list_any-append (is_same_text x) a b ∙ or_left (is_among x a) (is_among x b) h

@@ -2,6 +2,7 @@
 use Rattle.std.proofs.Common.{◌≡◌, ℕ, zero, suc, ◌+◌, ℤ, List, [], ◌∷◌, ◌++◌, Bool, true, false, ◌||◌, ◌==◌, Option, Some, None, Result, Ok, Err, if◌then◌else◌, refl, sym, ap, ◌∙◌, ◌⊎◌, inl, inr}
 use Rattle.std.specs.List.{flat_map}
 use Rattle.std.proofs.lemmas.List.Folds.{list_any-append}
+use Rattle.std.proofs.lemmas.Bool.{or_left, or_right}
 use Rattle.ped_flow.specs.ped_base.specs.Lists.{is_same_text, is_among}
 use Rattle.ped_flow.specs.ped_tree.specs.Tree.{ExprTree, Int, Var, Element, Neg, Add, Sub, Mul, Div, Pow, Call, ItemTree, Head, StmtTree, StmtTrees, Assign, If, Do, Print, Read, Stop, Comment, no_stmts, more_stmts}
 use Rattle.ped_flow.specs.ped_tree.specs.Numbering.{statement_count, statements_count}
@@ -28,14 +29,6 @@ use Rattle.ped_laws.proofs.FlowRunLaws.Seeing.{among_left, among_right, element_
 use Rattle.ped_laws.proofs.FlowRunLaws.Coverings.{written_parts, seen_unwritten, not_so}
 use Rattle.ped_laws.proofs.FlowRunLaws.Names.{inner_among}
 use Rattle.ped_laws.proofs.FlowRunLaws.Leaves.{not_line, assigned_target}
-
-or_left : (a b : Bool) → a ≡ true → (a || b) ≡ true
-or_left true b h = refl
-or_left false b h = untrue h
-
-or_right : (a b : Bool) → b ≡ true → (a || b) ≡ true
-or_right true b h = refl
-or_right false b h = h
 
 parts : (xs ys : List Touch) (c : Cell) → written_by (xs ++ ys) c ≡ true → (written_by xs c ≡ true) ⊎ (written_by ys c ≡ true)
 parts xs ys c h = or_split (written_by xs c) (written_by ys c) (sym (written_parts xs ys c) ∙ h)

@@ -1,6 +1,7 @@
 -- Iterations of the DO loops in an outermost DO.
-use Rattle.std.proofs.Common.{◌≡◌, ℕ, ◌-◌, ◌==◌, List, [], ◌∷◌, ◌++◌, Bool, true, false, ◌||◌, ◌⊎◌, inl, inr, Option, Some, None, if◌then◌else◌, refl, sym, ap, ◌∙◌}
+use Rattle.std.proofs.Common.{◌≡◌, ℕ, ◌-◌, ◌==◌, List, [], ◌∷◌, ◌++◌, Bool, true, false, ◌||◌, ◌⊎◌, inl, inr, Option, Some, None, if◌then◌else◌, sym, ap, ◌∙◌}
 use Rattle.std.proofs.lemmas.List.Folds.{list_any-append}
+use Rattle.std.proofs.lemmas.Bool.{or_left, or_right}
 use Rattle.ped_flow.specs.ped_base.specs.Lists.{is_same_text, is_among}
 use Rattle.ped_flow.specs.ped_tree.specs.Tree.{Head, StmtTree, StmtTrees, Assign, If, Do, Print, Read, Stop, Comment, no_stmts, more_stmts, ProgramTree}
 use Rattle.ped_flow.specs.ped_tree.specs.Numbering.{numbered, all_numbered, at_place, statement_with}
@@ -30,14 +31,6 @@ one_at u (x ∷ xs) i e = go (i == 0) (one_at u xs (i - 1)) e
 one_of_either : (u : StmtTree) (xs ys : List StmtTree) → IsOneOf u (xs ++ ys) → IsOneOf u xs ⊎ IsOneOf u ys
 one_of_either u [] ys h = inr h
 one_of_either u (x ∷ xs) ys h = elim h [ inl e ↦ inl (inl e) | inr k ↦ elim (one_of_either u xs ys k) [ inl a ↦ inl (inr a) | inr b ↦ inr b ] ]
-
-or_left : (a b : Bool) → a ≡ true → (a || b) ≡ true
-or_left true b h = refl
-or_left false b h = untrue h
-
-or_right : (a b : Bool) → b ≡ true → (a || b) ≡ true
-or_right true b h = refl
-or_right false b h = h
 
 -- what is among the loop variables of a part is among those of the whole
 module _ (x : List ℕ) (u : StmtTree) (holds : is_among x (loop_variables u) ≡ true) where

@@ -1,6 +1,6 @@
 -- What the acts of a run touch.
 use Rattle.std.proofs.Common.{◌≡◌, ℕ, zero, suc, ◌+◌, ◌<◌, ℤ, List, [], ◌∷◌, ◌++◌, Bool, true, false, eqb, Option, Some, None, Result, Ok, Err, refl, sym, ap, subst, ◌∙◌, ◌⊎◌, inl, inr, arith, if◌then◌else◌, ◌||◌}
-use Rattle.std.proofs.lemmas.Bool.{both_ways}
+use Rattle.std.proofs.lemmas.Bool.{both_ways, or_right}
 use Rattle.std.proofs.lemmas.List.Folds.{list_any-append}
 use Rattle.ped_flow.specs.ped_base.specs.Lists.{is_same_text, is_among}
 use Rattle.ped_flow.specs.ped_tree.specs.Tree.{ExprTree, CondTree, ItemTree, Head, StmtTree, StmtTrees, Assign, If, Do, Print, Read, Stop, Comment, no_stmts, more_stmts}
@@ -135,10 +135,6 @@ module _ (Own : List Turn → Cell → Type 0) (May : Scope → List ℕ → Typ
         each_more (Sound (turns_of scope)) (write_touch (cell_of scope x) Undefined 0) (undefined_all scope xs)
         ((inr (owned scope x (h x (ap (λ b. b || is_among x xs) (text_itself x)))), cell_at scope x), no_lines scope x)
         (inner_sound xs (λ y i. h y (or_right (is_same_text y x) (is_among y xs) i)))
-      where
-        or_right : (a b : Bool) → b ≡ true → a || b ≡ true
-        or_right true b h = refl
-        or_right false b h = h
 
     exit_sound : (e : Entered) → 0 < e.behind_bounds → May scope e.head.variable → ((x : List ℕ) → is_among x e.inner ≡ true → May scope x) → Each (Sound (turns_of scope)) (exit_touches e scope)
     exit_sound e h m i =

@@ -1,6 +1,6 @@
 -- Copies, and the iterations that they belong to.
 use Rattle.std.proofs.Common.{◌≡◌, ℕ, List, [], ◌∷◌, ◌++◌, Bool, true, false, eqb, eqb-true, refl, sym, ap, ◌∙◌, arith, if◌then◌else◌, ◌||◌}
-use Rattle.std.proofs.lemmas.Bool.{and_parts, both_ways}
+use Rattle.std.proofs.lemmas.Bool.{and_parts, both_ways, or_right}
 use Rattle.std.proofs.lemmas.List.Folds.{list_any-append}
 use Rattle.std.proofs.lemmas.Map.Lookups.{exact_bytes}
 use Rattle.std.specs.Ordering.{nat_cmp}
@@ -168,10 +168,6 @@ once_among z (x ∷ xs) = sorted_among z x (sorted_once xs) ∙ ap (λ b. is_sam
 pub inner_among : (parallel : Bool) (body : StmtTrees) (z : List ℕ) → is_among z (inner_variables parallel body) ≡ true → is_among z (all_loop_variables body) ≡ true
 inner_among true body z h = sym (once_among z (all_loop_variables body)) ∙ h
 inner_among false body z h = absurd cc
-
-or_right : (a b : Bool) → b ≡ true → a || b ≡ true
-or_right true b h = refl
-or_right false b h = h
 
 -- the variables of the DO loops in a PARALLEL DO have copies in its iterations
 pub body_copies : (scope : Scope) (e : Entered) (k : ℕ) (body : StmtTrees) → e.inner ≡ inner_variables e.head.parallel body → HaveCopies scope (all_loop_variables body) → HaveCopies (frame e k ∷ scope) (all_loop_variables body)

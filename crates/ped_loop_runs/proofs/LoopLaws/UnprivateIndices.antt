@@ -2,7 +2,7 @@
 use Rattle.std.proofs.Common.{◌≡◌, ℕ, ◌+◌, ◌⊎◌, List, [], ◌∷◌, ◌++◌, length, Bool, true, false, ◌&&◌, ◌||◌, refl, sym, ap, ◌∙◌, inl, inr}
 use Rattle.std.specs.Prelude.{not, nat_le}
 use Rattle.std.specs.List.{list_all}
-use Rattle.std.proofs.lemmas.Bool.{and_parts}
+use Rattle.std.proofs.lemmas.Bool.{and_parts, not-true}
 use Rattle.std.proofs.lemmas.List.Folds.{list_any-append}
 use Rattle.ped_loop_runs.specs.ped_bodies.specs.ped_steps.specs.ped_laws.specs.ped_flow.specs.ped_base.specs.Lists.{has_some, is_same_text, is_among}
 use Rattle.ped_loop_runs.specs.ped_bodies.specs.ped_steps.specs.ped_laws.specs.ped_flow.specs.ped_base.proofs.NameEquality.{same_is}
@@ -17,10 +17,6 @@ use Rattle.ped_loop_runs.specs.ped_bodies.specs.ped_steps.specs.ped_laws.specs.p
 use Rattle.ped_loop_runs.specs.ped_bodies.specs.ped_steps.specs.ped_laws.specs.ped_flow.specs.ped_tree.specs.NamesIn.{loop_variables, all_loop_variables}
 use Rattle.ped_loop_runs.specs.ped_bodies.specs.ped_steps.specs.ped_laws.proofs.ConflictLaws.MakingParts.{among_first, among_right}
 use Rattle.ped_loop_runs.specs.ped_bodies.specs.ped_steps.proofs.RunLaws.ExpandedPlacesParts.{not_true}
-
-is_false : (b : Bool) → not b ≡ true → b ≡ false
-is_false true h = absurd cc
-is_false false h = refl
 
 none_of : (a b : Bool) → a || b ≡ false → (a ≡ false) × (b ≡ false)
 none_of true b e = absurd cc
@@ -42,7 +38,7 @@ unmet (y ∷ ys) others v h i =
 own_unprivate : (names others : List (List ℕ)) (v : List ℕ) (a b : Bool) → (not (has_some names) || ((a && b) && not (meets names (v ∷ others)))) ≡ true → is_among v names ≡ false
 own_unprivate [] others v a b h = refl
 own_unprivate (y ∷ ys) others v a b h =
-    unmet (y ∷ ys) (v ∷ others) v (is_false (meets (y ∷ ys) (v ∷ others)) (and_parts (a && b) (not (meets (y ∷ ys) (v ∷ others))) h).1) (among_first v others)
+    unmet (y ∷ ys) (v ∷ others) v (not-true (meets (y ∷ ys) (v ∷ others)) (and_parts (a && b) (not (meets (y ∷ ys) (v ∷ others))) h).1) (among_first v others)
 
 -- what a DO that fits says of its variable and its PRIVATE names
 module _ (p : Surroundings) (h : Head) (body : StmtTrees) (fits : loop_fits p h body ≡ true) where
@@ -55,7 +51,7 @@ module _ (p : Surroundings) (h : Head) (body : StmtTrees) (fits : loop_fits p h 
       let two = and_parts _ (private_fits p h) one.0 in
       let three = and_parts _ _ two.0 in
       let four = and_parts _ _ three.0 in
-      is_false (is_among h.variable p.private) (and_parts _ (not (is_among h.variable p.private)) four.0).1
+      not-true (is_among h.variable p.private) (and_parts _ (not (is_among h.variable p.private)) four.0).1
 
   variable_apart : is_among h.variable (h.private ++ p.private) ≡ false
   variable_apart =

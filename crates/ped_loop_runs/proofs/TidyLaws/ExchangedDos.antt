@@ -1,13 +1,13 @@
 -- Where each DO of a program comes from in which statements have been exchanged: it is one of the new statements or in one, or it stood in the old program.
 use Rattle.std.proofs.Common.{◌≡◌, ℕ, ◌+◌, ◌-◌, ◌<◌, ◌≤◌, List, [], ◌∷◌, ◌++◌, Bool, true, false, ◌||◌, ◌⊎◌, inl, inr, refl, sym, subst, ◌∙◌, arith}
 use Rattle.std.proofs.lemmas.List.Folds.{list_any-append}
+use Rattle.std.proofs.lemmas.Bool.{or_left, or_right}
 use Rattle.ped_loop_runs.specs.ped_bodies.specs.ped_steps.specs.ped_flow.specs.ped_base.specs.Lists.{is_same_text, is_among}
 use Rattle.ped_loop_runs.specs.ped_bodies.specs.ped_steps.specs.ped_flow.specs.ped_tree.specs.Tree.{Head, StmtTree, StmtTrees, Assign, If, Do, Print, Read, Stop, Comment, no_stmts, more_stmts, ProgramTree}
 use Rattle.ped_loop_runs.specs.ped_bodies.specs.ped_steps.specs.ped_flow.specs.ped_tree.specs.Numbering.{statement_count, statements_count}
 use Rattle.ped_loop_runs.specs.ped_bodies.specs.ped_steps.specs.ped_flow.specs.ped_tree.specs.NamesIn.{loop_variables, all_loop_variables}
 use Rattle.ped_loop_runs.specs.ped_bodies.specs.ped_steps.specs.ped_flow.specs.PlainBounds.{all_loops_round}
 use Rattle.ped_loop_runs.specs.ped_bodies.specs.ped_steps.specs.ped_flow.specs.Questions.{LoopOf}
-use Rattle.ped_loop_runs.specs.ped_bodies.specs.ped_steps.specs.ped_flow.proofs.Truths.{untrue}
 use Rattle.ped_loop_runs.specs.ped_bodies.specs.ped_steps.specs.ped_laws.specs.Acts.Orders.{IsIn}
 use Rattle.ped_loop_runs.specs.ped_bodies.specs.ped_steps.specs.Runs.Gaps.{Gap, filled}
 use Rattle.ped_loop_runs.specs.ped_bodies.specs.ped_steps.proofs.RunLaws.FilledGaps.{counted}
@@ -41,14 +41,6 @@ module _ (x : Exchange) (t u : ProgramTree) (is : IsExchanged x t u) where
 
   moves : (k m : ℕ) (h : Head) (b : StmtTrees) → start_of x + statements_count (old_of x) ≤ k → m + statements_count (old_of x) ≡ k + statements_count x.new → Stands t k h b → From m h b
   moves k m h b above e = itself k m h b (inr (k - (start_of x + statements_count (old_of x)), omega (arith, above), omega (arith, above, e)))
-
-  or_right : (a b : Bool) → b ≡ true → (a || b) ≡ true
-  or_right true b e = refl
-  or_right false b e = e
-
-  or_left : (a b : Bool) → a ≡ true → (a || b) ≡ true
-  or_left true b e = refl
-  or_left false b e = untrue e
 
   round : (n : ℕ) (h : Head) (g : Gap) → n < start_of x → IsIn (record { number = n; head = h }) (all_loops_round (start_of x) (filled x.gap (old_of x)) 1) → Stands t n h (filled g (old_of x)) → From n h (filled g x.new)
   round n h g below there stands = inr (record { number = n; body = filled g (old_of x); stands = stands; staying = inl (below, refl); variables = from })

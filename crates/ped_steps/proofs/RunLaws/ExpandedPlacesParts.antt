@@ -1,6 +1,6 @@
 -- What a valid program tells of each of its DO loops, and where an element may stand for a scalar there.
 use Rattle.std.proofs.Common.{◌≡◌, ℕ, ◌+◌, ◌-◌, ◌==◌, List, [], ◌∷◌, ◌++◌, Bool, true, false, not, ◌||◌, Some, None, refl, sym, ap, subst, ◌∙◌, if◌then◌else◌}
-use Rattle.std.proofs.lemmas.Bool.{and_parts}
+use Rattle.std.proofs.lemmas.Bool.{and_parts, not-true, or_left}
 use Rattle.std.proofs.lemmas.List.Folds.{list_any-append}
 use Rattle.std.specs.List.{list_all}
 use Rattle.ped_base.specs.Lists.{is_same_text, is_among}
@@ -22,14 +22,6 @@ use Rattle.ped_steps.proofs.RunLaws.ExpandedPlaces.{OfEach, each_of_both}
 
 some_is : (a b : StmtTree) → Some a ≡ Some b → a ≡ b
 some_is a b e = cc
-
-is_false : (b : Bool) → not b ≡ true → b ≡ false
-is_false true h = absurd cc
-is_false false h = refl
-
-or_left : (a b : Bool) → a ≡ true → a || b ≡ true
-or_left true b h = refl
-or_left false b h = absurd cc
 
 pub or_right : (a b : Bool) → b ≡ true → a || b ≡ true
 or_right true b h = refl
@@ -55,7 +47,7 @@ variable_apart p h b fits =
     let three = and_parts _ _ two.0 in
     let four = and_parts _ _ three.0 in
     let five = and_parts _ (not (is_among h.variable p.private)) four.0 in
-    is_false (is_among h.variable p.variables) (and_parts _ (not (is_among h.variable p.variables)) five.0).1
+    not-true (is_among h.variable p.variables) (and_parts _ (not (is_among h.variable p.variables)) five.0).1
 
 -- and so the variable of a DO is that of no DO in it
 module _ (x : List ℕ) where

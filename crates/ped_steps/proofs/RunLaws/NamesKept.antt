@@ -4,6 +4,7 @@ use Rattle.std.specs.Prelude.{◌||◌, ◌==◌}
 use Rattle.std.specs.List.{flat_map}
 use Rattle.std.proofs.lemmas.List.{map-append}
 use Rattle.std.proofs.lemmas.Grind.{flat_map-append}
+use Rattle.std.proofs.lemmas.Bool.{or_right}
 use Rattle.ped_base.specs.Lists.{is_same_text, is_among}
 use Rattle.ped_tree.specs.Tree.{StmtTree, StmtTrees, Assign, If, Do, Print, Read, Stop, Comment, no_stmts, more_stmts, ProgramTree}
 use Rattle.ped_tree.specs.Numbering.{statement_count, statements_count, numbered, all_numbered, statement_with}
@@ -45,10 +46,6 @@ or_false : (r : Bool) → r || false ≡ r
 or_false true = refl
 or_false false = refl
 
-or_true : (r : Bool) → r || true ≡ true
-or_true true = refl
-or_true false = refl
-
 both_alike : (e a b c d : Bool) → Alike e a b → Alike e c d → Alike e (a || c) (b || d)
 both_alike e a b c d p q = record { but = go e p.but q.but; kept = λ h. more b h }
   where
@@ -56,12 +53,12 @@ both_alike e a b c d p q = record { but = go e p.but q.but; kept = λ h. more b 
     plain r s h = sym (or_false r) ∙ h ∙ or_false s
 
     go : (e : Bool) → a || e ≡ b || e → c || e ≡ d || e → (a || c) || e ≡ (b || d) || e
-    go true h k = or_true (a || c) ∙ sym (or_true (b || d))
+    go true h k = or_right (a || c) true refl ∙ sym (or_right (b || d) true refl)
     go false h k = λ i. (plain a b h i || plain c d k i) || false
 
     more_by : (r : Bool) → r ≡ b → r || d ≡ true → a || c ≡ true
     more_by true w h = ap (λ (z : Bool). z || c) (p.kept (sym w))
-    more_by false w h = ap (λ (z : Bool). a || z) (q.kept h) ∙ or_true a
+    more_by false w h = ap (λ (z : Bool). a || z) (q.kept h) ∙ or_right a true refl
 
     more : (r : Bool) → b || d ≡ true → a || c ≡ true
     more r h = more_by b refl h

@@ -1,10 +1,11 @@
 -- A piece of a run depends on the bounds of those arrays alone that its statements name.
-use Rattle.std.proofs.Common.{◌≡◌, ℕ, ◌+◌, ℤ, List, [], ◌∷◌, ◌++◌, length, Bool, true, false, not, ◌&&◌, ◌||◌, Option, Some, None, Result, Ok, Err, if◌then◌else◌, refl, ◌∙◌}
+use Rattle.std.proofs.Common.{◌≡◌, ℕ, ◌+◌, ℤ, List, [], ◌∷◌, ◌++◌, length, not, ◌&&◌, ◌||◌, Option, Some, None, Result, Ok, Err, if◌then◌else◌, refl, ◌∙◌}
 use Rattle.std.proofs.lemmas.List.Folds.{list_any-append}
 use Rattle.std.specs.List.{flat_map, join_with_byte}
 use Rattle.ped_base.specs.Dimensions.{Dimensions}
 use Rattle.ped_base.specs.Lists.{is_same_text, is_among}
 use Rattle.std.specs.Fmt.{signed_decimal}
+use Rattle.std.proofs.lemmas.Bool.{or_left, or_right}
 use Rattle.ped_base.specs.Arithmetic.Arithmetic.{sum_of, difference_of, negation_of, product_of, quotient_of, power_of}
 use Rattle.ped_tree.specs.Constants.NamedConstants.{value_named}
 use Rattle.ped_tree.specs.Constants.ConstantExpressions.{intrinsic_result}
@@ -25,14 +26,6 @@ use Rattle.ped_weaves.specs.ped_laws.specs.ped_eval.specs.Statements.{assigned, 
 use Rattle.ped_weaves.specs.ped_laws.specs.ped_eval.specs.Loops.{limits, in_bounds, entered_with}
 use Rattle.ped_weaves.specs.ped_laws.specs.ped_eval.specs.Runs.{on, does, nothing_done, run_taking, then_run, run_from_entry, run, run_all}
 use Rattle.ped_steps.specs.Runs.Pasting.{AgreeInBounds}
-
-or_left : (a b : Bool) → a ≡ true → (a || b) ≡ true
-or_left true b h = refl
-or_left false b h = absurd cc
-
-or_right : (a b : Bool) → b ≡ true → (a || b) ≡ true
-or_right true b h = refl
-or_right false b h = h
 
 module _ (bounds others : List ℕ → Dimensions) where
   pub agree_left : (xs ys : List (List ℕ)) → AgreeInBounds bounds others (xs ++ ys) → AgreeInBounds bounds others xs

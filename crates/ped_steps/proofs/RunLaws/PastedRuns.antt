@@ -4,6 +4,7 @@ use Rattle.std.specs.Prelude.{pos}
 use Rattle.std.specs.List.{list_any}
 use Rattle.std.proofs.lemmas.List.{append-nil, append_assoc}
 use Rattle.std.proofs.lemmas.List.Folds.{list_any-append}
+use Rattle.std.proofs.lemmas.Bool.{or_right}
 use Rattle.ped_tree.specs.Tree.{CondTree, Head, StmtTree, StmtTrees, If, Do, no_stmts, more_stmts, ProgramTree}
 use Rattle.ped_tree.specs.Nests.{Loop}
 use Rattle.ped_tree.specs.NamesIn.{cond_names, head_names, stmt_names, stmts_names}
@@ -94,11 +95,7 @@ module _ (p : Setting) (t : ProgramTree) (l : ℕ) (scope : Scope) where
       ap (list_any (λ (m : Loop). m.head.parallel)) (r.nest ∙ ap (λ (z : List Loop). r.front ++ z) e)
       ∙ (list_any-append (λ (m : Loop). m.head.parallel) r.front ((record { number = n; head = h }) ∷ rest)
       ∙ (ap (λ (b : Bool). list_any (λ (m : Loop). m.head.parallel) r.front || (b || list_any (λ (m : Loop). m.head.parallel) rest)) parallel
-      ∙ or_true (list_any (λ (m : Loop). m.head.parallel) r.front)))
-    where
-      or_true : (b : Bool) → (b || true) ≡ true
-      or_true true = refl
-      or_true false = refl
+      ∙ or_right (list_any (λ (m : Loop). m.head.parallel) r.front) true refl))
 
   reached_body : (n k : ℕ) (h : Head) (b : StmtTrees) (seen : List Seen) (m : Limits) (loops rest : List Loop) → loops ≡ (record { number = n; head = h }) ∷ rest → IsReached p t l scope n (Do h b ∷ all_numbered b) loops
       → IsReached p t l (frame (entered_with p n h b seen m) k ∷ scope) (n + 1) (all_numbered b) rest

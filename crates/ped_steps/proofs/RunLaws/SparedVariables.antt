@@ -2,7 +2,7 @@
 use Rattle.std.proofs.Common.{◌≡◌, ℕ, ◌+◌, List, [], ◌∷◌, ◌++◌, length, Bool, true, false, not, ◌&&◌, ◌||◌, Option, Some, None, refl, sym, ap, ◌∙◌}
 use Rattle.std.specs.Prelude.{nat_le, nat_lt}
 use Rattle.std.specs.List.{list_all, flat_map}
-use Rattle.std.proofs.lemmas.Bool.{both_ways, and_parts}
+use Rattle.std.proofs.lemmas.Bool.{both_ways, and_parts, not-true}
 use Rattle.std.proofs.lemmas.List.Folds.{list_any-append}
 use Rattle.ped_base.specs.Lists.{has_some, is_same_text, is_among}
 use Rattle.ped_tree.specs.Tree.{ExprTree, Int, Var, Element, Neg, Add, Sub, Mul, Div, Pow, Call, Head, StmtTree, StmtTrees, Assign, If, Do, Print, Read, Stop, Comment, no_stmts, more_stmts, ProgramTree}
@@ -31,10 +31,6 @@ none_of false b e = (refl, e)
 
 among_both : (y : List ℕ) (xs ys : List (List ℕ)) → is_among y xs ≡ false → is_among y ys ≡ false → is_among y (xs ++ ys) ≡ false
 among_both y xs ys h k = list_any-append (is_same_text y) xs ys ∙ (λ i. h i || k i)
-
-is_false : (b : Bool) → not b ≡ true → b ≡ false
-is_false true h = absurd cc
-is_false false h = refl
 
 meets_append : (xs ys others : List (List ℕ)) → meets (xs ++ ys) others ≡ false → (meets xs others ≡ false) × (meets ys others ≡ false)
 meets_append xs ys others h = none_of (meets xs others) (meets ys others) (sym (list_any-append (λ x. is_among x others) xs ys) ∙ h)
@@ -66,7 +62,7 @@ variable_free p h body f =
     let c = and_parts _ (nat_lt p.depth most_blocks_nested) b.0 in
     let d = and_parts _ (nat_lt (length p.variables) most_loops_nested) c.0 in
     let e = and_parts _ (not (is_among h.variable p.private)) d.0 in
-    is_false (is_among h.variable p.variables) (and_parts _ (not (is_among h.variable p.variables)) e.0).1
+    not-true (is_among h.variable p.variables) (and_parts _ (not (is_among h.variable p.variables)) e.0).1
 
 variable_scalar : (k : NameKinds) (h : Head) → head_is_right k h ≡ true → is_scalar k h.variable ≡ true
 variable_scalar k h r =
@@ -110,11 +106,11 @@ module _ (k : NameKinds) where
         among_both v (assigned_left item) (flat_map assigned_left items) (left_spared others item i both.0 none.0) (lefts_spared others items i both.1 none.1)
 
     simple_unmet : (p : Surroundings) (s : StmtTree) → simple_fits p s ≡ true → meets (assigned_by s) p.variables ≡ false
-    simple_unmet p s h = is_false (meets (assigned_by s) p.variables) (and_parts (is_within p s) (not (meets (assigned_by s) p.variables)) (and_parts _ _ h).0).1
+    simple_unmet p s h = not-true (meets (assigned_by s) p.variables) (and_parts (is_within p s) (not (meets (assigned_by s) p.variables)) (and_parts _ _ h).0).1
 
     private_spared : (names others : List (List ℕ)) (variable : List ℕ) (a b : Bool) → is_among v others ≡ true → (not (has_some names) || ((a && b) && not (meets names (variable ∷ others)))) ≡ true → is_among v names ≡ false
     private_spared [] others variable a b i h = refl
-    private_spared (y ∷ ys) others variable a b i h = apart_from v (y ∷ ys) (variable ∷ others) (more (is_same_text v variable)) (is_false (meets (y ∷ ys) (variable ∷ others)) (and_parts (a && b) (not (meets (y ∷ ys) (variable ∷ others))) h).1)
+    private_spared (y ∷ ys) others variable a b i h = apart_from v (y ∷ ys) (variable ∷ others) (more (is_same_text v variable)) (not-true (meets (y ∷ ys) (variable ∷ others)) (and_parts (a && b) (not (meets (y ∷ ys) (variable ∷ others))) h).1)
       where
         more : (c : Bool) → c || is_among v others ≡ true
         more true = refl

@@ -1,7 +1,7 @@
 -- A scalar's cell and its copy in an iteration change places.
 use Rattle.std.proofs.Common.{◌≡◌, ℕ, suc, ◌≤◌, List, [], ◌∷◌, ◌++◌, length, Bool, true, false, Some, refl, sym, ap, ◌∙◌, arith, if◌then◌else◌}
 use Rattle.std.specs.Prelude.{◌||◌}
-use Rattle.std.proofs.lemmas.Bool.{both_ways}
+use Rattle.std.proofs.lemmas.Bool.{both_ways, or_right}
 use Rattle.std.proofs.lemmas.List.Folds.{list_any-append}
 use Rattle.ped_base.specs.Lists.{is_same_text, is_among}
 use Rattle.ped_weaves.specs.ped_laws.specs.ped_store.specs.Cells.{Cell, Scalar, Element, Private, In, Out, same_cell}
@@ -104,11 +104,7 @@ among_behind y x xs n = list_any-append (is_same_text y) xs (x ∷ []) ∙ ap (�
     or_nothing false = refl
 
 pub among_last : (x : List ℕ) (xs : List (List ℕ)) → is_among x (xs ++ x ∷ []) ≡ true
-among_last x xs = list_any-append (is_same_text x) xs (x ∷ []) ∙ ap (λ (b : Bool). is_among x xs || (b || false)) (text_itself x) ∙ or_true (is_among x xs)
-  where
-    or_true : (b : Bool) → b || true ≡ true
-    or_true true = refl
-    or_true false = refl
+among_last x xs = list_any-append (is_same_text x) xs (x ∷ []) ∙ ap (λ (b : Bool). is_among x xs || (b || false)) (text_itself x) ∙ or_right (is_among x xs) true refl
 
 -- an iteration that has one more private name: its scalar's cell and its copy change places
 module _ (S : Scope) (f g : Frame) (x : List ℕ) (turn : g.turn ≡ f.turn) (variable : g.variable ≡ f.variable) (private : g.private ≡ f.private ++ x ∷ []) (absent : is_among x f.private ≡ false) where

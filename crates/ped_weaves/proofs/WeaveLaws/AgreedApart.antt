@@ -1,7 +1,7 @@
 -- Parts of a list exchanged for others, where stores differ on cells that stand apart.
 use Rattle.std.proofs.Common.{◌≡◌, List, [], ◌∷◌, ◌++◌, Bool, true, false, refl, sym, ap, ◌∙◌, ◌⊎◌, inl, inr}
 use Rattle.std.specs.Prelude.{not}
-use Rattle.std.proofs.lemmas.Bool.{both_ways}
+use Rattle.std.proofs.lemmas.Bool.{both_ways, false_from_ne_true}
 use Rattle.ped_laws.specs.ped_store.specs.Cells.{Cell}
 use Rattle.ped_laws.specs.ped_store.specs.Stores.{Store}
 use Rattle.ped_laws.specs.ped_store.specs.Acts.{Act}
@@ -64,15 +64,11 @@ not_true : (b : Bool) → not b ≡ true → b ≡ false
 not_true true h = absurd cc
 not_true false h = refl
 
-false_unless : (b : Bool) → (b ≡ true → ⊥) → b ≡ false
-false_unless true h = absurd (h refl)
-false_unless false h = refl
-
 -- the sets that stores agree on suit acts where idle cells stand apart and nobody wants them behind the acts
 pub agreed_suit : (apart shown idle : Cell → Bool) (acts rest : List Act) → ((c : Cell) → idle c ≡ true → (apart c ≡ true) × (wants shown rest c ≡ false)) → Suit idle (agreed apart shown (acts ++ rest)) (agreed apart shown rest) acts
 agreed_suit apart shown idle acts rest h = record {
   needed = needed_agreed apart shown acts rest;
-  wanted = (λ c k. (false_unless (idle c) (counts c k), agreed_before_or_written apart shown acts rest c k));
+  wanted = (λ c k. (false_from_ne_true (idle c) (counts c k), agreed_before_or_written apart shown acts rest c k));
 }
   where
     counts : (c : Cell) → agreed apart shown rest c ≡ true → idle c ≡ true → ⊥

@@ -1,5 +1,6 @@
 -- Lists woven anew.
 use Rattle.std.proofs.Common.{◌≡◌, ℕ, List, [], ◌∷◌, Bool, true, false, refl, sym, ap, subst, ◌∙◌, inl, inr}
+use Rattle.std.proofs.lemmas.Bool.{false_from_ne_true}
 use Rattle.ped_laws.specs.ped_store.specs.Cells.{Cell}
 use Rattle.ped_laws.specs.ped_store.specs.Stores.{Store}
 use Rattle.ped_laws.specs.ped_store.specs.Acts.{Manner, reads, Touch, Act}
@@ -26,10 +27,6 @@ pub blocks_unread : (d : Cell → Bool) (acts : ℕ → ℕ → List Act) (ks : 
 blocks_unread d acts [] h = tt
 blocks_unread d acts (block i j ∷ ks) h = none_append d (acts i j) (acts_in_blocks (blocks_in acts ks)) (h i j (inl refl)) (blocks_unread d acts ks (λ i j k. h i j (inr k)))
 blocks_unread d acts (control c ∷ ks) h = blocks_unread d acts ks (λ i j k. h i j (inr k))
-
-false_unless : (b : Bool) → (b ≡ true → ⊥) → b ≡ false
-false_unless true h = absurd (h refl)
-false_unless false h = refl
 
 -- what IsWoven says, and what follows for the new blocks
 new_unread_at : (w : Weave) (before behind : Cell → Bool) (s : Store) → IsWoven w before behind s → (i j : ℕ) → IsIn (block i j) w.old → ReadNone w.idle (w.others i j)
@@ -129,7 +126,7 @@ woven_stands w before behind s f k t agree = (new, alike)
     steady c x i j m =
         let e = k.steady c x i j m in (
           e.counts,
-          false_unless (written (acts_before (tightened w.others w.new)) x.cell) (λ h.
+          false_from_ne_true (written (acts_before (tightened w.others w.new)) x.cell) (λ h.
               let n = new_write w before behind s k x.cell e.counts (ap (λ z. written z x.cell) (sym (before_tightened w.others w.new)) ∙ h) in
               e.unwritten n.0 n.1 n.2),
           sym (agree x.cell e.agreed) ∙ e.held,

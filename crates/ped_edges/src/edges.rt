@@ -1,6 +1,6 @@
 //! Dependences between two references, as the tests find them and the user marks them.
 
-ghost use Rattle.std.specs.Prelude.{◌≡◌, filter, not};
+ghost use Rattle.std.specs.Prelude.{◌≡◌, [], ◌∷◌, List, filter, not, MatchOption};
 ghost use Rattle.ped_edges.specs.CodeEdges.{edge_of, mark_of};
 ghost use Rattle.ped_edges.specs.Edges.{is_rejected};
 
@@ -67,4 +67,15 @@ pub fn keep_unrejected(edges: &mut Vec<Edge>)
     ensures { edges.new.items ≡ filter (λ e. not (is_rejected (edge_of e).mark)) edges.old.items }
 {
     edges.retain(|edge| !edge.mark.is_rejected());
+}
+
+/// The first of these dependences, where there is one.
+pub fn first_of(edges: Vec<Edge>) -> Option<Edge>
+    ensures { MatchOption result (edges.items ≡ []) (λ e. (rest : List Edge) × (edges.items ≡ e ∷ rest)) }
+{
+    let mut edges = edges;
+    if edges.is_empty() {
+        return None;
+    }
+    Some(edges.swap_remove(0))
 }

@@ -9,6 +9,6 @@ mod rows;
 mod signs;
 mod vectors;
 
-pub use edges::{Edge, Kind, Mark, keep_unrejected};
+pub use edges::{Edge, Kind, Mark, first_of, keep_unrejected};
 pub use pane::{edges_pane, push_edges_pane};
 pub use rows::{push_kind, push_level};

@@ -1,6 +1,6 @@
 //! Dependences that forbid sums in any order.
 
-ghost use Rattle.std.specs.Prelude.{◌≡◌, ◌∷◌, [], filter, not, List, IfOk, MatchOption};
+ghost use Rattle.std.specs.Prelude.{◌≡◌, filter, not, IfOk};
 ghost use Rattle.ped_base.specs.Lists as Lists;
 ghost use Rattle.ped_tree.specs.Views.{program_tree};
 ghost use Rattle.ped_splits.specs.ped_reindex.specs.ped_loops.specs.ped_scalar.specs.ped_rules.specs.Carried as Carried;
@@ -12,7 +12,7 @@ ghost use Rattle.ped_reduce.specs.Reducing as Spec;
 
 use crate::referring::is_named;
 use ped_base::{Name, NoMemory};
-use ped_edges::{Edge, keep_unrejected};
+use ped_edges::{Edge, first_of, keep_unrejected};
 use ped_refs::RefName;
 use ped_splits::{Scene, level_at};
 use std::alloc::Global;
@@ -67,15 +67,4 @@ fn is_one_of(found: &RefName, names: &[Name]) -> bool
         }
     }
     false
-}
-
-/// The first of these dependences, where there is one.
-fn first_of(edges: Vec<Edge>) -> Option<Edge>
-    ensures { MatchOption result (edges.items ≡ []) (λ e. (rest : List Edge) × (edges.items ≡ e ∷ rest)) }
-{
-    let mut edges = edges;
-    if edges.is_empty() {
-        return None;
-    }
-    Some(edges.swap_remove(0))
 }

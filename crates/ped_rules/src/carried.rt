@@ -1,6 +1,6 @@
 //! Dependences that forbid a step, since a DO carries them (Allen and Kennedy, sections 2.2.5, 5.2).
 
-ghost use Rattle.std.specs.Prelude.{◌≡◌, ◌+◌, ◌<◌, ◌^◌, [], ◌∷◌, List, map, filter, length, slice_get, All, IfOk, MatchOption};
+ghost use Rattle.std.specs.Prelude.{◌≡◌, ◌+◌, ◌<◌, ◌^◌, map, filter, length, slice_get, All, IfOk};
 ghost use Rattle.std.specs.List.{list_any};
 ghost use Rattle.ped_tree.specs.Views.{program_tree, stmt_trees, head_of};
 ghost use Rattle.ped_loop_runs.specs.ped_bodies.specs.ped_steps.specs.ped_flow.specs.PlainBounds.{nest_round};
@@ -12,7 +12,7 @@ ghost use Rattle.ped_rules.specs.Carried as Spec;
 ghost use Rattle.ped_rules.specs.CodeCarried.{AreThose};
 
 use ped_base::NoMemory;
-use ped_edges::{Edge, keep_unrejected};
+use ped_edges::{Edge, first_of, keep_unrejected};
 use ped_loop_runs::{Scene, loops_round};
 use ped_verdict::Vector;
 use ped_views::Direction;
@@ -100,15 +100,4 @@ fn is_after(level: u8, directions: &[Direction]) -> bool
         Some(direction) => *direction == Direction::After,
         None => false,
     }
-}
-
-/// The first of these dependences, where there is one.
-fn first_of(edges: Vec<Edge>) -> Option<Edge>
-    ensures { MatchOption result (edges.items ≡ []) (λ e. (rest : List Edge) × (edges.items ≡ e ∷ rest)) }
-{
-    let mut edges = edges;
-    if edges.is_empty() {
-        return None;
-    }
-    Some(edges.swap_remove(0))
 }

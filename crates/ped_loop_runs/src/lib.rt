@@ -37,7 +37,7 @@ pub use ped_bodies::{
     Change, Flow, Keep, PairKey, Prepared, Reader, Refused, Rule, Scene, Symbols,
     accesses_are_made, accesses_in_sequence, all_kept, body_with, cause_words, change_to,
     conflicts_are_covered, copy_decls, flow_of, loop_at, loops_round, prepare, program_with,
-    valid_symbols, with_body,
+    valid_symbols,
 };
 pub use places::{executed_during, places_tell, ranges_entered};
 pub use rejections::{none_rejected, stays_unrejected};

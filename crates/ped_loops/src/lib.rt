@@ -26,7 +26,7 @@ pub use ped_scalar::{
     conflicts_are_covered, copy_decls, course_of, escapes, expand, flow_of, fresh_name,
     has_step_one, is_far, leaves, level_at, literal, loop_at, loops_round, moved_by, none_rejected,
     only_loop, prepare, private_names_cleared, privatise, program_with, stays_trusted,
-    valid_symbols, with_body,
+    valid_symbols,
 };
 pub use rejecting::reject;
 pub use reversing::reverse;

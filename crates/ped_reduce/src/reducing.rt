@@ -21,7 +21,7 @@ use crate::lowering::{is_in_live, is_lowerable, lower_front};
 use crate::rules::{early, late};
 use ped_base::{Name, NoMemory};
 use ped_splits::{
-    Change, Refused, Rule, Scene, against, all_kept, change_to, loop_at, program_with, with_body,
+    Change, Refused, Rule, Scene, against, all_kept, change_to, loop_at, program_with,
 };
 use ped_tree::{Do, Program, Stmt};
 use std::alloc::Global;
@@ -205,5 +205,5 @@ fn loop_with(alloc: Global, d: &Do, names: &[Name]) -> Result<Stmt, NoMemory>
     ensures { IfOk result (λ new. Replacing.alone (stmt_tree new) ≡ Spec.with_listed names.now (head_of d.now) (stmt_trees d.now.body.items)) }
 {
     let body = with_list(alloc, d, names)?;
-    Ok(Stmt::of_loop(with_body(alloc, d, body)?))
+    Ok(Stmt::of_loop(d.with_body(body, alloc)?))
 }

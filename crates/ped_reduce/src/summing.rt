@@ -16,7 +16,6 @@ use crate::lists::without_list;
 use crate::partials::Partials;
 use crate::sums::{Sum, sum_to};
 use ped_base::{Listed, Name, NoMemory, both};
-use ped_splits::with_body;
 use ped_tree::{Cond, Do, Expr, Intrinsic, Relation, Stmt};
 use std::alloc::Global;
 
@@ -41,7 +40,7 @@ fn loop_apart(alloc: Global, partials: &[Partials], d: &Do) -> Result<Stmt, NoMe
     let mut body = zeros(alloc, d.variable, partials)?;
     let rest = without_list(alloc, &d.body)?;
     add_summed(alloc, d.variable, partials, rest, &mut body)?;
-    let mut new = with_body(alloc, d, body)?;
+    let mut new = d.with_body(body, alloc)?;
     new.parallel = true;
     Ok(Stmt::of_loop(new))
 }
@@ -51,7 +50,7 @@ fn exit_loop(alloc: Global, partials: &[Partials], d: &Do) -> Result<Stmt, NoMem
     ensures { IfOk result (λ s. stmt_tree s ≡ Tree.Do (Spec.bare (head_of d.now)) (Spec.exits d.now.variable (map partials_view partials.now))) }
 {
     let body = exits(alloc, d.variable, partials)?;
-    let mut new = with_body(alloc, d, body)?;
+    let mut new = d.with_body(body, alloc)?;
     new.parallel = false;
     new.private = Listed::new(alloc);
     new.rejected = Listed::new(alloc);
@@ -135,7 +134,7 @@ fn add_one_summed(
         Stmt::Do(d) => {
             let mut body = Vec::new(alloc);
             add_summed(alloc, v, partials, &d.body, &mut body)?;
-            let new = with_body(alloc, d, body)?;
+            let new = d.with_body(body, alloc)?;
             return add_one(all, Stmt::of_loop(new));
         }
         Stmt::Print(_) | Stmt::Read(_) | Stmt::Stop | Stmt::Comment(_) => {

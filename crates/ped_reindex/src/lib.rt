@@ -19,7 +19,7 @@ pub use ped_loops::{
     interchange_is_lawful, is_plain, level_at, literal, loop_at, loops_round, make_parallel,
     make_serial, none_rejected, parallel_is_lawful, prepare, private_names_cleared, privatise,
     program_with, reject, rejection_is_lawful, reversal_is_lawful, reverse, serial_is_lawful,
-    stays_trusted, valid_symbols, with_body,
+    stays_trusted, valid_symbols,
 };
 pub use peeling::peel;
 pub use skewing::skew;

@@ -22,7 +22,7 @@ ghost use Rattle.ped_reindex.specs.CodeSkewing.{skewed_statement, all_skewed};
 use ped_base::{Name, NoMemory, both};
 use ped_loops::{
     Change, Refused, Rule, Scene, against, all_kept, change_to, escapes, leaves, loop_at,
-    loops_round, only_loop, program_with, with_body,
+    loops_round, only_loop, program_with,
 };
 use ped_refs::Loop;
 use ped_sums::{minus, plus, substitute_in_statements, times};
@@ -299,7 +299,7 @@ fn outer_with(alloc: Global, d: &Do, factor: i64) -> Result<Stmt, NoMemory>
     ensures { IfOk result (λ new. Replacing.alone (stmt_tree new) ≡ Spec.with_skewed factor (head_of d.now) (stmt_trees d.now.body.items)) }
 {
     let body = skew_each(alloc, factor, d.variable, &d.body)?;
-    Ok(Stmt::of_loop(with_body(alloc, d, body)?))
+    Ok(Stmt::of_loop(d.with_body(body, alloc)?))
 }
 
 /// Copies of these statements, each DO among them skewed.

@@ -27,6 +27,6 @@ pub use ped_loop_runs::{
     accesses_are_made, accesses_in_sequence, all_kept, body_with, cause_words, change_to,
     conflicts_are_covered, copy_decls, flow_of, indices_unwritten, loop_at, loops_round,
     none_rejected, one_for_one, prepare, private_names_cleared, program_with, stays_trusted,
-    valid_symbols, with_body,
+    valid_symbols,
 };
 pub use spans::{Course, Span, course_of, is_far};

@@ -13,7 +13,7 @@ ghost use Rattle.ped_scalar.specs.Expanding as Spec;
 ghost use Rattle.ped_rules.specs.CodeSpans.{span_in, IsNear};
 
 use ped_base::{Name, NoMemory, both};
-use ped_rules::{Span, body_with, copy_decls, literal, with_body};
+use ped_rules::{Span, body_with, copy_decls, literal};
 use ped_sums::substitute_in_statements;
 use ped_tree::{Bound, Decl, Declarator, Do, Expr, Program, Stmt};
 use std::alloc::Global;
@@ -96,7 +96,7 @@ impl Elements {
         let substituted = substitute_in_statements(alloc, &d.body, &self.scalar, &element);
         drop(element);
         let body = substituted?;
-        Ok(Stmt::of_loop(with_body(alloc, d, body)?))
+        Ok(Stmt::of_loop(d.with_body(body, alloc)?))
     }
 
     /// The assignment of the last element to the scalar.

@@ -24,6 +24,6 @@ pub use ped_rules::{
     cause_words, change_to, conflicts_are_covered, copy_decls, course_of, escapes, first_carried,
     first_crossing, flow_of, fresh_name, has_step_one, indices_unwritten, is_far, leaves, level_at,
     literal, loop_at, loops_round, moved_by, none_rejected, one_for_one, only_loop, prepare,
-    private_names_cleared, program_with, stays_trusted, unit_step, valid_symbols, with_body,
+    private_names_cleared, program_with, stays_trusted, unit_step, valid_symbols,
 };
 pub use privatising::privatise;

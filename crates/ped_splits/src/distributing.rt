@@ -2,7 +2,7 @@
 
 ghost use Rattle.std.specs.Prelude.{◌≡◌, ◌<◌, ℕ, map, length, false, slice_index_or, All, IfOk, OnOk, MatchOption};
 ghost use Rattle.ped_tree.specs.Tree as Tree;
-ghost use Rattle.ped_tree.specs.Views.{stmt_tree, stmt_trees, program_tree, head_of};
+ghost use Rattle.ped_tree.specs.Views.{stmt_trees, program_tree, head_of};
 ghost use Rattle.ped_reindex.specs.ped_loops.specs.ped_scalar.specs.ped_rules.specs.Rules.{WhereEscape};
 ghost use Rattle.ped_reindex.specs.ped_loops.specs.ped_scalar.specs.ped_rules.specs.Steps.{Answers};
 ghost use Rattle.ped_reindex.specs.ped_loops.specs.ped_scalar.specs.ped_rules.specs.ped_loop_runs.specs.ped_bodies.specs.ped_steps.specs.Changes.{IsChange};
@@ -19,12 +19,12 @@ ghost use Rattle.ped_splits.specs.Units.{units};
 
 use crate::arrows::reaching;
 use crate::blocks::blocks;
+use crate::joining::loop_with;
 use crate::keeping::kept;
 use crate::units::{Parted, Unit, homes_of, units_of};
 use ped_base::{Listed, NoMemory};
 use ped_reindex::{
     Change, Refused, Rule, Scene, against, change_to, escapes, is_plain, loop_at, program_with,
-    with_body,
 };
 use ped_tree::{Do, Stmt};
 use std::alloc::Global;
@@ -199,13 +199,6 @@ fn loops_of(alloc: Global, parted: &Parted, found: &[Listed<usize>]) -> Result<V
         loops.push(loop_with(alloc, parted.statement, body)?)?;
     }
     Ok(loops)
-}
-
-/// A DO with the head of another and these statements as its body.
-fn loop_with(alloc: Global, d: &Do, body: Vec<Stmt>) -> Result<Stmt, NoMemory>
-    ensures { IfOk result (λ new. stmt_tree new ≡ Tree.Do (head_of d.now) (stmt_trees body.items)) }
-{
-    Ok(Stmt::of_loop(with_body(alloc, d, body)?))
 }
 
 /// Copies of the statements of these units.

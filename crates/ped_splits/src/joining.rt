@@ -15,7 +15,7 @@ use crate::alike::is_same;
 use crate::neighbours::Pair;
 use crate::units::is_comment;
 use ped_base::{Listed, Name, Names, NoMemory, is_among};
-use ped_reindex::{Keep, copy_decls, with_body};
+use ped_reindex::{Keep, copy_decls};
 use ped_sums::substitute_in_statements;
 use ped_tree::{Do, Expr, Program, Stmt, count_statement, count_statements};
 use std::alloc::Global;
@@ -64,7 +64,7 @@ fn joined_loop(alloc: Global, pair: &Pair) -> Result<Do, NoMemory>
     add_copies(alloc, &mut body, pair.between)?;
     let mut second = renamed_body(alloc, pair)?;
     body.append(&mut second)?;
-    let mut new = with_body(alloc, pair.own, body)?;
+    let mut new = pair.own.with_body(body, alloc)?;
     new.rejected = rejected;
     Ok(new)
 }
@@ -174,10 +174,10 @@ fn joined_in(alloc: Global, statement: &Stmt, number: u32, joint: &Joint) -> Res
 }
 
 /// A DO as a statement, with the head of another and these statements as its body.
-fn loop_with(alloc: Global, d: &Do, body: Vec<Stmt>) -> Result<Stmt, NoMemory>
+pub(crate) fn loop_with(alloc: Global, d: &Do, body: Vec<Stmt>) -> Result<Stmt, NoMemory>
     ensures { IfOk result (λ new. stmt_tree new ≡ Tree.Do (head_of d.now) (stmt_trees body.items)) }
 {
-    Ok(Stmt::of_loop(with_body(alloc, d, body)?))
+    Ok(Stmt::of_loop(d.with_body(body, alloc)?))
 }
 
 /// Whether the statement is no comment and has the sought number, where this is its own.

@@ -24,5 +24,5 @@ pub use ped_reindex::{
     interchange_is_lawful, level_at, literal, loop_at, loops_round, make_parallel, make_serial,
     parallel_is_lawful, peel, peeling_is_lawful, private_names_cleared, privatise, program_with,
     reject, rejection_is_lawful, reversal_is_lawful, reverse, serial_is_lawful, skew,
-    skewing_is_lawful, stays_trusted, strip, stripping_is_lawful, valid_symbols, with_body,
+    skewing_is_lawful, stays_trusted, strip, stripping_is_lawful, valid_symbols,
 };

@@ -1,7 +1,7 @@
 //! New programs by statements in the place of one statement.
 
 ghost use Rattle.std.specs.Prelude.{◌≡◌, ◌+◌, ◌<◌, ◌^◌, [], map, IfOk, OnOk};
-ghost use Rattle.ped_tree.specs.Views.{stmt_tree, stmt_trees, do_tree, decl_tree, program_tree};
+ghost use Rattle.ped_tree.specs.Views.{stmt_tree, stmt_trees, decl_tree, program_tree};
 ghost use Rattle.ped_tree.specs.Numbering.{statement_count, statements_count};
 ghost use Rattle.ped_tree.specs.Tree;
 ghost use Rattle.ped_tree.specs.Views.{head_of};
@@ -156,16 +156,9 @@ fn add_copies(alloc: Global, all: &mut Vec<Stmt>, statements: &[Stmt]) -> Result
     Ok(())
 }
 
-/// A DO with the head of another and these statements as its body.
-pub fn with_body(alloc: Global, d: &Do, body: Vec<Stmt>) -> Result<Do, NoMemory>
-    ensures { IfOk result (λ new. do_tree new ≡ Tree.Do (head_of d.now) (stmt_trees body.items)) }
-{
-    d.with_body(body, alloc)
-}
-
 /// A DO as a statement, with the head of another and these statements as its body.
 fn loop_with(alloc: Global, d: &Do, body: Vec<Stmt>) -> Result<Stmt, NoMemory>
     ensures { IfOk result (λ new. stmt_tree new ≡ Tree.Do (head_of d.now) (stmt_trees body.items)) }
 {
-    Ok(Stmt::of_loop(with_body(alloc, d, body)?))
+    Ok(Stmt::of_loop(d.with_body(body, alloc)?))
 }

@@ -15,8 +15,8 @@ ghost use Rattle.ped_inline.specs.Inlining as Spec;
 use crate::blocks::block_at;
 use crate::settling::behind_comments;
 use ped_base::{Listed, NoMemory};
-use ped_splits::{Change, Keep, Refused, Rule, Scene, against, body_with, change_to, copy_decls};
-use ped_tree::{Program, Stmt, count_statements};
+use ped_splits::{Change, Keep, Refused, Rule, Scene, against, body_with, change_to};
+use ped_tree::{Program, Stmt, copy_decls, count_statements};
 use std::alloc::Global;
 use std::sync::ledger::Ledger;
 
@@ -94,7 +94,7 @@ fn with_body(
     ensures tree { IfOk result (λ p. program_tree p ≡ Spec.inlined (program_tree program.now) number) }
     ensures lines { IfOk result (λ p. p.lines.items ≡ []) }
 {
-    let mut decls = copy_decls(alloc, &program.decls)?;
+    let mut decls = copy_decls(&program.decls, alloc)?;
     let all = body_with(alloc, &program.body, number, statements)?;
     let body = behind_comments(alloc, &mut decls, all)?;
     Ok(Program {

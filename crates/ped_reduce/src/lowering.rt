@@ -21,11 +21,8 @@ use crate::partials::{Partials, declare, partials_of};
 use crate::rules::{early, late};
 use crate::summing::lowered_loop;
 use ped_base::{Name, NoMemory};
-use ped_splits::{
-    Course, Scene, Span, Symbols, body_with, copy_decls, course_of, loop_at, loops_round,
-    valid_symbols,
-};
-use ped_tree::{Do, Program, count_statements};
+use ped_splits::{Course, Scene, Span, Symbols, body_with, course_of, loop_at, loops_round, valid_symbols};
+use ped_tree::{Do, Program, copy_decls, count_statements};
 use std::alloc::Global;
 use std::sync::ledger::Ledger;
 
@@ -104,7 +101,7 @@ fn copy_of(alloc: Global, program: &Program) -> Result<Program, NoMemory>
     ensures tree { IfOk result (λ p. program_tree p ≡ program_tree program.now) }
     ensures lines { IfOk result (λ p. p.lines.items ≡ []) }
 {
-    let decls = copy_decls(alloc, &program.decls)?;
+    let decls = copy_decls(&program.decls, alloc)?;
     let mut body = Vec::new(alloc);
     for statement in &program.body {
         body.push(statement.copy(alloc)?)?;
@@ -404,7 +401,7 @@ fn tree_with(
 {
     let new = lowered_loop(alloc, partials, d)?;
     let body = body_with(alloc, &lowered.tree.body, number + lowered.more, &new)?;
-    let mut decls = copy_decls(alloc, &lowered.tree.decls)?;
+    let mut decls = copy_decls(&lowered.tree.decls, alloc)?;
     declare(alloc, &mut decls, span, partials)?;
     Ok(Program {
         decls,

@@ -19,12 +19,9 @@ use crate::iterations::{Iteration, TakenOut, iteration_of};
 use crate::lists::has_list;
 use crate::settling::behind_comments;
 use ped_base::{NoMemory, both};
-use ped_loops::{
-    Change, Keep, Refused, Rule, Scene, against, body_with, change_to, copy_decls, escapes,
-    literal, loop_at, moved_by,
-};
+use ped_loops::{Change, Keep, Refused, Rule, Scene, against, body_with, change_to, escapes, literal, loop_at, moved_by};
 use ped_sums::substitute_in_statements;
-use ped_tree::{Do, Expr, Program, Stmt, count_statements};
+use ped_tree::{Do, Expr, Program, Stmt, copy_decls, count_statements};
 use std::alloc::Global;
 use std::sync::ledger::Ledger;
 
@@ -171,7 +168,7 @@ fn with_peeled(
     ensures tree { IfOk result (λ p. program_tree p ≡ Spec.peeled (program_tree program.now) number last (peeled_in taken)) }
     ensures lines { IfOk result (λ p. p.lines.items ≡ []) }
 {
-    let mut decls = copy_decls(alloc, &program.decls)?;
+    let mut decls = copy_decls(&program.decls, alloc)?;
     let new = new_statements(alloc, d, last, taken)?;
     let all = body_with(alloc, &program.body, number, &new)?;
     let body = behind_comments(alloc, &mut decls, all)?;

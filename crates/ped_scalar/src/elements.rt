@@ -13,9 +13,9 @@ ghost use Rattle.ped_scalar.specs.Expanding as Spec;
 ghost use Rattle.ped_rules.specs.CodeSpans.{span_in, IsNear};
 
 use ped_base::{Name, NoMemory, both};
-use ped_rules::{Span, body_with, copy_decls, literal};
+use ped_rules::{Span, body_with, literal};
 use ped_sums::substitute_in_statements;
-use ped_tree::{Bound, Decl, Declarator, Do, Expr, Program, Stmt};
+use ped_tree::{Bound, Decl, Declarator, Do, Expr, Program, Stmt, copy_decls};
 use std::alloc::Global;
 
 /// What the elements of a scalar are: those of an array, over the values of a DO's variable.
@@ -46,7 +46,7 @@ impl Elements {
         ensures tree { IfOk result (λ p. program_tree p ≡ Spec.expanded (program_tree program.now) number self.now.scalar self.now.live self.now.array (span_in self.now.span)) }
         ensures lines { IfOk result (λ p. p.lines.items ≡ []) }
     {
-        let mut decls = copy_decls(alloc, &program.decls)?;
+        let mut decls = copy_decls(&program.decls, alloc)?;
         decls.push(self.declaration(alloc)?)?;
         let new = self.statements(alloc, d)?;
         let body = body_with(alloc, &program.body, number, &new)?;

@@ -15,9 +15,9 @@ use crate::alike::is_same;
 use crate::neighbours::Pair;
 use crate::units::is_comment;
 use ped_base::{Listed, Name, Names, NoMemory, is_among};
-use ped_reindex::{Keep, copy_decls};
+use ped_reindex::Keep;
 use ped_sums::substitute_in_statements;
-use ped_tree::{Do, Expr, Program, Stmt, count_statement, count_statements};
+use ped_tree::{Do, Expr, Program, Stmt, copy_decls, count_statement, count_statements};
 use std::alloc::Global;
 
 /// Where the one DO comes.
@@ -36,7 +36,7 @@ pub(crate) fn fused(alloc: Global, program: &Program, pair: &Pair) -> Result<Pro
     ensures tree { IfOk result (λ p. (is : IsPair (program_tree program.now) pair.now) → program_tree p ≡ Spec.fused is.neighbour) }
     ensures lines { IfOk result (λ p. p.lines.items ≡ []) }
 {
-    let decls = copy_decls(alloc, &program.decls)?;
+    let decls = copy_decls(&program.decls, alloc)?;
     let new = joined_loop(alloc, pair)?;
     let joint = Joint {
         number: pair.number,

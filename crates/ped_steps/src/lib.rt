@@ -19,7 +19,7 @@ pub use ped_weaves::{
     Flow, Keep, PairKey, Prepared, Reader, Symbols, accesses_are_made, accesses_in_sequence,
     conflicts_are_covered, flow_of, loop_at, prepare,
 };
-pub use replacing::{body_with, copy_decls, program_with};
+pub use replacing::{body_with, program_with};
 pub use rounds::loops_round;
 pub use rules::Rule;
 pub use scenes::Scene;

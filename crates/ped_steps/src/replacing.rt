@@ -1,7 +1,7 @@
 //! New programs by statements in the place of one statement.
 
-ghost use Rattle.std.specs.Prelude.{◌≡◌, ◌+◌, ◌<◌, ◌^◌, [], map, IfOk, OnOk};
-ghost use Rattle.ped_tree.specs.Views.{stmt_tree, stmt_trees, decl_tree, program_tree};
+ghost use Rattle.std.specs.Prelude.{◌≡◌, ◌+◌, ◌<◌, ◌^◌, [], IfOk, OnOk};
+ghost use Rattle.ped_tree.specs.Views.{stmt_tree, stmt_trees, program_tree};
 ghost use Rattle.ped_tree.specs.Numbering.{statement_count, statements_count};
 ghost use Rattle.ped_tree.specs.Tree;
 ghost use Rattle.ped_tree.specs.Views.{head_of};
@@ -9,7 +9,7 @@ ghost use Rattle.ped_steps.specs.Replacing as Spec;
 ghost use Rattle.ped_steps.specs.Placing.{placed, all_placed};
 
 use ped_base::NoMemory;
-use ped_tree::{Decl, Do, Program, Stmt, count_statement, count_statements};
+use ped_tree::{Do, Program, Stmt, copy_decls, count_statement, count_statements};
 use std::alloc::Global;
 
 /// The program with copies of these statements in the place of its statement with this number. It has no lines.
@@ -23,20 +23,13 @@ pub fn program_with(
     ensures tree { IfOk result (λ p. program_tree p ≡ Spec.program_with (λ s. stmt_trees new.now) number (program_tree program.now)) }
     ensures lines { IfOk result (λ p. p.lines.items ≡ []) }
 {
-    let decls = copy_decls(alloc, &program.decls)?;
+    let decls = copy_decls(&program.decls, alloc)?;
     let body = body_with(alloc, &program.body, number, new)?;
     Ok(Program {
         decls,
         body,
         lines: Vec::new(alloc),
     })
-}
-
-/// Copies of declarations.
-pub fn copy_decls(alloc: Global, decls: &[Decl]) -> Result<Vec<Decl>, NoMemory>
-    ensures { IfOk result (λ copies. map decl_tree copies.items ≡ map decl_tree decls.now) }
-{
-    ped_tree::copy_decls(decls, alloc)
 }
 
 /// The body of a program with copies of these statements in the place of the statement with this number.

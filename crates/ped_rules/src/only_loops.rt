@@ -41,7 +41,7 @@ fn alone<'a>(d: &'a Do, behind: &[Stmt]) -> Option<&'a Do>
 }
 
 /// Whether these statements are comments.
-fn are_comments(statements: &[Stmt]) -> bool
+pub fn are_comments(statements: &[Stmt]) -> bool
     ensures { result ≡ (statements_count (stmt_trees statements.now) == 0) }
 {
     for statement in statements {
@@ -53,7 +53,7 @@ fn are_comments(statements: &[Stmt]) -> bool
 }
 
 /// Whether this statement is a comment.
-fn is_comment(statement: &Stmt) -> bool
+pub fn is_comment(statement: &Stmt) -> bool
     ensures { result ≡ (statement_count (stmt_tree statement.now) == 0) }
 {
     match statement {

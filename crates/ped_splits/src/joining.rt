@@ -13,9 +13,8 @@ ghost use Rattle.ped_splits.specs.Neighbours as Spec;
 
 use crate::alike::is_same;
 use crate::neighbours::Pair;
-use crate::units::is_comment;
 use ped_base::{Listed, Name, Names, NoMemory, is_among};
-use ped_reindex::Keep;
+use ped_reindex::{Keep, is_comment};
 use ped_sums::substitute_in_statements;
 use ped_tree::{Do, Expr, Program, Stmt, copy_decls, count_statement, count_statements};
 use std::alloc::Global;

@@ -1,12 +1,13 @@
 //! Units: the statements of the body of a DO, each with the comments before it.
 
 ghost use Rattle.std.specs.Prelude.{◌≡◌, ◌==◌, ◌+◌, ◌<◌, ◌≤◌, ◌^◌, ◌++◌, drop, length, replicate, slice_range, IfOk, OnOk, if◌then◌else◌};
-ghost use Rattle.ped_tree.specs.Numbering.{statement_count, statements_count};
-ghost use Rattle.ped_tree.specs.Views.{stmt_tree, stmt_trees};
+ghost use Rattle.ped_tree.specs.Numbering.{statements_count};
+ghost use Rattle.ped_tree.specs.Views.{stmt_trees};
 ghost use Rattle.ped_splits.specs.Units as Spec;
 ghost use Rattle.ped_splits.specs.CodeUnits.{AreShort, unit_trees, home_of};
 
 use ped_base::NoMemory;
+use ped_reindex::{are_comments, is_comment};
 use ped_tree::{Do, Stmt, count_statements};
 use std::alloc::Global;
 
@@ -66,37 +67,6 @@ fn end_of_unit(body: &[Stmt], place: usize) -> usize
         body.len()
     } else {
         place + 1
-    }
-}
-
-/// Whether these statements are comments.
-fn are_comments(statements: &[Stmt]) -> bool
-    ensures { result ≡ (statements_count (stmt_trees statements.now) == 0) }
-{
-    for statement in statements {
-        if !is_comment(statement) {
-            return false;
-        }
-    }
-    true
-}
-
-/// Whether this statement is a comment.
-pub(crate) fn is_comment(statement: &Stmt) -> bool
-    ensures { result ≡ (statement_count (stmt_tree statement.now) == 0) }
-{
-    match statement {
-        Stmt::Comment(_) => true,
-        Stmt::Assign { left: _, right: _ }
-        | Stmt::If {
-            condition: _,
-            then_part: _,
-            else_part: _,
-        }
-        | Stmt::Do(_)
-        | Stmt::Print(_)
-        | Stmt::Read(_)
-        | Stmt::Stop => false,
     }
 }
 

@@ -2,11 +2,8 @@
 
 ghost use Rattle.std.specs.Prelude.{◌≡◌, ◌≤◌, ◌<◌, ◌+◌, ◌^◌, ◌∷◌, ◌++◌, [], ℕ, List, None, Some, codes, map, option_map, IfOk, OnOk, MatchOption};
 ghost use Rattle.std.specs.Fmt.{decimal};
-ghost use Rattle.std.specs.List.{flat_map};
-ghost use Rattle.ped_base.specs.Lists as Lists;
 ghost use Rattle.ped_tree.specs.Views.{program_tree, decl_tree};
 ghost use Rattle.ped_splits.specs.ped_reindex.specs.ped_loops.specs.ped_scalar.specs.ped_rules.specs.ped_loop_runs.specs.ped_bodies.specs.ped_steps.specs.ped_symbols.specs.Kinds.{table_of};
-ghost use Rattle.ped_splits.specs.ped_reindex.specs.ped_loops.specs.ped_scalar.specs.ped_rules.specs.Fresh as Fresh;
 ghost use Rattle.ped_splits.specs.ped_reindex.specs.ped_loops.specs.ped_scalar.specs.ped_rules.specs.CodeSpans.{span_in, IsNear};
 ghost use Rattle.ped_splits.specs.ped_reindex.specs.ped_loops.specs.ped_scalar.specs.Expanding as Expanding;
 ghost use Rattle.ped_reduce.specs.Lowering as Spec;
@@ -14,7 +11,7 @@ ghost use Rattle.ped_reduce.specs.CodeLowering.{partials_view, fresh_from};
 
 use itoa::Buffer;
 use ped_base::{Bytes, Name, NoMemory, both};
-use ped_splits::{Span, Symbols, literal};
+use ped_splits::{Span, Symbols, literal, occurs};
 use ped_tree::{Bound, Decl, Declarator, Program};
 use std::alloc::Global;
 
@@ -121,41 +118,6 @@ fn numbered(alloc: Global, n: u128) -> Result<Name, NoMemory>
     match Name::from_bytes(text.as_slice()) {
         Some(name) => Ok(name),
         None => unreachable!(),
-    }
-}
-
-/// Whether the name occurs in the program.
-fn occurs(program: &Program, symbols: &Symbols, name: &Name) -> bool
-    requires { symbols.now ≡ table_of (program_tree program.now) }
-    ensures { result ≡ Fresh.occurs (program_tree program.now) name.now }
-{
-    symbols.kind(name).is_some() || is_program(name, &program.decls)
-}
-
-/// Whether the name is that of the program.
-fn is_program(name: &Name, decls: &[Decl]) -> bool
-    ensures { result ≡ Lists.is_among name.now (flat_map Fresh.program_name (map decl_tree decls.now)) }
-{
-    for decl in decls {
-        if is_program_name(name, decl) {
-            return true;
-        }
-    }
-    false
-}
-
-/// Whether a declaration gives the program the name.
-fn is_program_name(name: &Name, decl: &Decl) -> bool
-    ensures { result ≡ Lists.is_among name.now (Fresh.program_name (decl_tree decl.now)) }
-{
-    match decl {
-        Decl::Program(other) => name.as_bytes() == other.as_bytes(),
-        Decl::Implicit
-        | Decl::Integer(_)
-        | Decl::Dimension(_)
-        | Decl::Parameter(_)
-        | Decl::Save(_)
-        | Decl::Comment(_) => false,
     }
 }
 

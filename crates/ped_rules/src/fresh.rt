@@ -78,7 +78,7 @@ fn numbered(alloc: Global, kind: NewName, n: u128) -> Result<Name, NoMemory>
 }
 
 /// Whether the name occurs in the program.
-fn occurs(program: &Program, symbols: &Symbols, name: &Name) -> bool
+pub fn occurs(program: &Program, symbols: &Symbols, name: &Name) -> bool
     requires { symbols.now ≡ table_of (program_tree program.now) }
     ensures { result ≡ Spec.occurs (program_tree program.now) name.now }
 {

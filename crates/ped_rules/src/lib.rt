@@ -16,7 +16,7 @@ mod spans;
 pub use carried::{first_carried, first_crossing, level_at};
 pub use causes::against;
 pub use escaping::escapes;
-pub use fresh::{NewName, fresh_name};
+pub use fresh::{NewName, fresh_name, occurs};
 pub use increments::{has_step_one, unit_step};
 pub use intervals::leaves;
 pub use keeping::{all_but, moved_by};

@@ -17,11 +17,11 @@ ghost use Rattle.ped_splits.specs.ped_reindex.specs.ped_loops.specs.ped_scalar.s
 ghost use Rattle.ped_reduce.specs.Reducing as Spec;
 ghost use Rattle.ped_reduce.specs.CodeRules.{also_from_range, behind_limit, IsFirstOf};
 
-use crate::privacy::{has_twice, is_in_parallel, is_index_of, is_some_private};
+use crate::privacy::{has_twice, is_in_parallel, is_some_private};
 use crate::referring::{Extent, first_beside_sums, is_referred};
 use ped_base::{Name, NoMemory};
 use ped_refs::{Occurrence, occurrences};
-use ped_splits::{Course, Rule, Scene, course_of, escapes, loops_round};
+use ped_splits::{Course, Rule, Scene, course_of, escapes, is_index_of, loops_round};
 use ped_tree::{Do, count_statements};
 use std::alloc::Global;
 use std::sync::ledger::Ledger;

@@ -11,11 +11,10 @@ ghost use Rattle.ped_rules.specs.ped_loop_runs.specs.ped_bodies.specs.ped_steps.
 ghost use Rattle.ped_rules.specs.ped_loop_runs.specs.ped_bodies.specs.ped_steps.specs.Scenes.{IsSceneOf, IsFlowOf};
 ghost use Rattle.ped_scalar.specs.Scalars as Spec;
 
-use crate::indices::is_index_in;
 use crate::referring::is_referred;
 use ped_base::{Name, NoMemory};
 use ped_refs::{Loop, is_index};
-use ped_rules::{Flow, Reader, Scene};
+use ped_rules::{Flow, Reader, Scene, is_index_in};
 use ped_tree::Do;
 use std::alloc::Global;
 use std::sync::ledger::Ledger;

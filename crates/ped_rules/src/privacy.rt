@@ -6,16 +6,15 @@ ghost use Rattle.ped_base.specs.Lists as Lists;
 ghost use Rattle.ped_tree.specs.NamesIn as Names;
 ghost use Rattle.ped_tree.specs.Tree;
 ghost use Rattle.ped_tree.specs.Views.{stmt_tree, stmt_trees};
-ghost use Rattle.ped_rules.specs.ped_loop_runs.specs.ped_bodies.specs.ped_steps.specs.ped_refs.specs.Loops.{nest_of};
+ghost use Rattle.ped_loop_runs.specs.ped_bodies.specs.ped_steps.specs.ped_refs.specs.Loops.{nest_of};
 ghost use Rattle.ped_tree.specs.Views.{head_of};
-ghost use Rattle.ped_scalar.specs.Expanding as Spec;
 
 use ped_base::{Name, is_among};
 use ped_refs::Loop;
 use ped_tree::{Do, Stmt};
 
 /// Whether the name is in the PRIVATE list of one of these DO loops.
-pub(crate) fn is_private_round(name: &Name, loops: &[Loop]) -> bool
+pub fn is_private_round(name: &Name, loops: &[Loop]) -> bool
     ensures { result ≡ list_any (λ l. Lists.is_among name.now l.head.private) (nest_of loops.now) }
 {
     for l in loops {
@@ -27,7 +26,7 @@ pub(crate) fn is_private_round(name: &Name, loops: &[Loop]) -> bool
 }
 
 /// Whether the name is in the PRIVATE list of a DO or of one in it.
-pub(crate) fn is_private_in(name: &Name, d: &Do) -> bool
+pub fn is_private_in(name: &Name, d: &Do) -> bool
     ensures { result ≡ Lists.is_among name.now (Names.private_names_in (Tree.Do (head_of d.now) (stmt_trees d.now.body.items))) }
 {
     is_among(name, d.private.as_slice()) || is_private_among(name, &d.body)

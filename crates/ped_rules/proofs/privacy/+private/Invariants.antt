@@ -2,7 +2,7 @@ use Rattle.std.proofs.Common.{◌≡◌, drop}
 use Rattle.ped_base.specs.Lists.{is_among}
 use Rattle.ped_tree.specs.Views.{stmt_trees}
 use Rattle.ped_tree.specs.NamesIn.{all_private_names_in}
-use Rattle.ped_scalar.proofs.privacy.+private.Given as goal
+use Rattle.ped_rules.proofs.privacy.+private.Given as goal
 
 abbrev pub invariant-is_private_among-loop-statement : goal.invariant-is_private_among-loop-statement
 invariant-is_private_among-loop-statement l =

@@ -5,7 +5,7 @@ ghost use Rattle.std.specs.List.{list_any};
 ghost use Rattle.ped_base.specs.Lists as Lists;
 ghost use Rattle.ped_tree.specs.Tree;
 ghost use Rattle.ped_tree.specs.Views.{stmt_tree, stmt_trees};
-ghost use Rattle.ped_rules.specs.ped_loop_runs.specs.ped_bodies.specs.ped_steps.specs.ped_refs.specs.Loops.{nest_of};
+ghost use Rattle.ped_loop_runs.specs.ped_bodies.specs.ped_steps.specs.ped_refs.specs.Loops.{nest_of};
 ghost use Rattle.ped_tree.specs.Views.{head_of};
 ghost use Rattle.ped_tree.specs.NamesIn.{loop_variables, all_loop_variables};
 
@@ -14,7 +14,7 @@ use ped_refs::Loop;
 use ped_tree::{Do, Stmt};
 
 /// Whether one of these DO loops is a PARALLEL DO.
-pub(crate) fn is_some_parallel(loops: &[Loop]) -> bool
+pub fn is_some_parallel(loops: &[Loop]) -> bool
     ensures { result ≡ list_any (λ m. m.head.parallel) (nest_of loops.now) }
 {
     for l in loops {
@@ -26,7 +26,7 @@ pub(crate) fn is_some_parallel(loops: &[Loop]) -> bool
 }
 
 /// Whether the name is the variable of a DO or of one in it.
-pub(crate) fn is_index_in(name: &Name, d: &Do) -> bool
+pub fn is_index_in(name: &Name, d: &Do) -> bool
     ensures { result ≡ Lists.is_among name.now (loop_variables (Tree.Do (head_of d.now) (stmt_trees d.now.body.items))) }
 {
     is_same(name, &d.variable) || is_index_of(name, &d.body)
@@ -40,7 +40,7 @@ fn is_same(a: &Name, b: &Name) -> bool
 
 /// Whether the name is the variable of a DO among statements or in them.
 #[cycle(loops)]
-fn is_index_of(name: &Name, statements: &[Stmt]) -> bool
+pub fn is_index_of(name: &Name, statements: &[Stmt]) -> bool
     ensures { result ≡ Lists.is_among name.now (all_loop_variables (stmt_trees statements.now)) }
 {
     for statement in statements {

@@ -1,4 +1,3 @@
-mod Settled
 mod SettledPrograms
 mod BlockAnswers
 pub mod InlineRules

@@ -1,7 +1,6 @@
 pub use Rattle.ped_splits
 pub mod Blocks
 pub mod Inlining
-pub mod CodeSettling
 pub mod Folding
 pub mod CallsPane
 pub mod CodeFolding

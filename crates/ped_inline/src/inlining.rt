@@ -13,9 +13,10 @@ ghost use Rattle.ped_inline.specs.Blocks.{IsBlock};
 ghost use Rattle.ped_inline.specs.Inlining as Spec;
 
 use crate::blocks::block_at;
-use crate::settling::behind_comments;
 use ped_base::{Listed, NoMemory};
-use ped_splits::{Change, Keep, Refused, Rule, Scene, against, body_with, change_to};
+use ped_splits::{
+    Change, Keep, Refused, Rule, Scene, against, behind_comments, body_with, change_to,
+};
 use ped_tree::{Program, Stmt, copy_decls, count_statements};
 use std::alloc::Global;
 use std::sync::ledger::Ledger;

@@ -10,7 +10,6 @@ mod laws;
 mod pane;
 mod pane_laws;
 mod rows;
-mod settling;
 
 pub use inlining::inline;
 pub use laws::inline_is_lawful;

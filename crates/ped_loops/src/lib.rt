@@ -20,7 +20,15 @@ pub use laws::{
     serial_is_lawful,
 };
 pub use paralleling::make_parallel;
-pub use ped_scalar::{Change, Course, Keep, NewName, PairKey, Prepared, Reader, Refused, Rule, Scene, Span, Symbols, accesses_are_made, accesses_in_sequence, against, all_kept, are_comments, body_with, cause_words, change_to, conflicts_are_covered, course_of, escapes, expand, flow_of, fresh_name, has_step_one, is_comment, is_far, is_index_of, is_private_in, is_private_round, is_some_parallel, leaves, level_at, literal, loop_at, loops_round, moved_by, none_rejected, occurs, only_loop, prepare, private_names_cleared, privatise, program_with, stays_trusted, valid_symbols};
+pub use ped_scalar::{
+    Change, Course, Keep, NewName, PairKey, Prepared, Reader, Refused, Rule, Scene, Span, Symbols,
+    accesses_are_made, accesses_in_sequence, against, all_kept, are_comments, body_with,
+    cause_words, change_to, conflicts_are_covered, course_of, escapes, expand, flow_of, fresh_name,
+    has_step_one, is_comment, is_far, is_index_of, is_private_in, is_private_round,
+    is_some_parallel, leaves, level_at, literal, loop_at, loops_round, moved_by, none_rejected,
+    occurs, only_loop, prepare, private_names_cleared, privatise, program_with, stays_trusted,
+    valid_symbols,
+};
 pub use rejecting::reject;
 pub use reversing::reverse;
 pub use serialising::make_serial;

@@ -21,7 +21,9 @@ use crate::partials::{Partials, declare, partials_of};
 use crate::rules::{early, late};
 use crate::summing::lowered_loop;
 use ped_base::{Name, NoMemory};
-use ped_splits::{Course, Scene, Span, Symbols, body_with, course_of, loop_at, loops_round, valid_symbols};
+use ped_splits::{
+    Course, Scene, Span, Symbols, body_with, course_of, loop_at, loops_round, valid_symbols,
+};
 use ped_tree::{Do, Program, copy_decls, count_statements};
 use std::alloc::Global;
 use std::sync::ledger::Ledger;

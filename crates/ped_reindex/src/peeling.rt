@@ -19,7 +19,10 @@ use crate::iterations::{Iteration, TakenOut, iteration_of};
 use crate::lists::has_list;
 use crate::settling::behind_comments;
 use ped_base::{NoMemory, both};
-use ped_loops::{Change, Keep, Refused, Rule, Scene, against, body_with, change_to, escapes, literal, loop_at, moved_by};
+use ped_loops::{
+    Change, Keep, Refused, Rule, Scene, against, body_with, change_to, escapes, literal, loop_at,
+    moved_by,
+};
 use ped_sums::substitute_in_statements;
 use ped_tree::{Do, Expr, Program, Stmt, copy_decls, count_statements};
 use std::alloc::Global;

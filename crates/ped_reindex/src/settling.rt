@@ -12,7 +12,7 @@ use std::alloc::Global;
 
 /// Moves the comments before the first statement that is none to the declarations, and answers the statements from that one
 /// on.
-pub(crate) fn behind_comments(
+pub fn behind_comments(
     alloc: Global,
     decls: &mut Vec<Decl>,
     statements: Vec<Stmt>,

@@ -25,6 +25,11 @@ pub use intervals::leaves;
 pub use keeping::{all_but, moved_by};
 pub use literals::literal;
 pub use only_loops::{are_comments, is_comment, only_loop};
-pub use ped_loop_runs::{Change, Flow, Keep, PairKey, Prepared, Reader, Refused, Rule, Scene, Symbols, accesses_are_made, accesses_in_sequence, all_kept, body_with, cause_words, change_to, conflicts_are_covered, flow_of, indices_unwritten, loop_at, loops_round, none_rejected, one_for_one, prepare, private_names_cleared, program_with, stays_trusted, valid_symbols};
+pub use ped_loop_runs::{
+    Change, Flow, Keep, PairKey, Prepared, Reader, Refused, Rule, Scene, Symbols,
+    accesses_are_made, accesses_in_sequence, all_kept, body_with, cause_words, change_to,
+    conflicts_are_covered, flow_of, indices_unwritten, loop_at, loops_round, none_rejected,
+    one_for_one, prepare, private_names_cleared, program_with, stays_trusted, valid_symbols,
+};
 pub use privacy::{is_private_in, is_private_round};
 pub use spans::{Course, Span, course_of, is_far};

@@ -24,7 +24,10 @@ use crate::keeping::expand_kept;
 use crate::scalars::{is_unfit, live_by};
 use ped_base::{Name, NoMemory};
 use ped_refs::Loop;
-use ped_rules::{Change, Course, NewName, Refused, Rule, Scene, Span, against, change_to, course_of, fresh_name, is_private_in, is_private_round, loop_at, loops_round};
+use ped_rules::{
+    Change, Course, NewName, Refused, Rule, Scene, Span, against, change_to, course_of, fresh_name,
+    is_private_in, is_private_round, loop_at, loops_round,
+};
 use ped_tree::Do;
 use std::alloc::Global;
 use std::sync::ledger::Ledger;

@@ -17,7 +17,10 @@ ghost use Rattle.ped_scalar.specs.Privatising as Spec;
 use crate::scalars::{is_unfit, live_by};
 use ped_base::{Name, NoMemory, is_among};
 use ped_refs::Loop;
-use ped_rules::{Change, Refused, Rule, Scene, against, all_kept, change_to, is_some_parallel, loop_at, loops_round, program_with};
+use ped_rules::{
+    Change, Refused, Rule, Scene, against, all_kept, change_to, is_some_parallel, loop_at,
+    loops_round, program_with,
+};
 use ped_tree::{Do, Program, Stmt};
 use std::alloc::Global;
 use std::sync::ledger::Ledger;

@@ -15,5 +15,6 @@ mod KnownSides
 mod NamedUnknowns
 mod Slices
 mod Standing
+mod ToldViews
 mod Updated
 mod Yielded

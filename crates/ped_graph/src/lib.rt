@@ -20,6 +20,7 @@ mod selections;
 mod sides;
 mod telling;
 mod testing;
+mod told;
 pub mod update;
 
 pub use frames::{Frame, PairKey};

@@ -1,6 +1,6 @@
 //! What is known of the pairs of a program without a test, and the views that are to be tested.
 
-ghost use Rattle.std.specs.Prelude.{◌≡◌, ◌≤◌, ◌<◌, ◌&&◌, ◌++◌, ◌∷◌, [], Some, map, length, IfOk, OnOk, All, slice_get};
+ghost use Rattle.std.specs.Prelude.{◌≡◌, ◌≤◌, ◌<◌, ◌&&◌, ◌++◌, ◌∷◌, [], Some, map, length, IfOk, IfSome, OnOk, All, slice_get};
 ghost use Rattle.ped_tree.specs.Views.{program_tree};
 ghost use Rattle.ped_symbols.specs.Kinds.{table_of};
 ghost use Rattle.ped_refs.specs.References.{Reference, outermost, references, pairs};
@@ -19,8 +19,9 @@ ghost use Rattle.ped_graph.specs.KnownProgram.{IsKnown, IsRound, AreSides};
 use crate::facts::{Facts, push_facts};
 use crate::firmness::all_firm;
 use crate::guards::guards;
-use crate::rounds::{assigned_by, outermost};
-use crate::sides::{Side, side_at};
+use crate::rounds::{assigned_by, have_same_outermost, outermost};
+use crate::sides::{Side, side_at, side_there};
+use crate::told::told_view;
 use ped_affine::{Place, Setting, loop_variables, view};
 use ped_base::NoMemory;
 use ped_refs::{Occurrence, Pair, listed_pairs};
@@ -124,6 +125,7 @@ fn views_of_pairs(alloc: Global, known: &Known, listed: &[Pair]) -> Result<Vec<P
     requires listed { map (pair_at (references_of known.now.found.now)) listed.now ≡ map Some (pairs (references (program_tree known.now.program.now))) }
     ensures { IfOk result (λ views. views.items ≡ views_of (program_tree known.now.program.now)) }
 {
+    let sides = sides_of(alloc, known)?;
     let mut views = Vec::new(alloc);
     let mut round = Round {
         number: 0,
@@ -132,29 +134,82 @@ fn views_of_pairs(alloc: Global, known: &Known, listed: &[Pair]) -> Result<Vec<P
     for pair in listed {
         let number = outermost(occurrence_at(known, pair.source));
         enter(alloc, &mut round, known.program, number)?;
-        add_view(alloc, &mut views, known, &round, pair)?;
+        add_view(alloc, &mut views, known, &sides, &round, pair)?;
     }
     Ok(views)
 }
 
 /// Adds the view of a pair of the program's references, by their places.
-fn add_view(
+fn add_view<'a>(
     alloc: Global,
     views: &mut Vec<PairView>,
     known: &Known,
+    sides: &'a [Side<'a>],
     round: &Round,
     pair: &Pair,
 ) -> Result<(), NoMemory>
     requires known { IsKnown known.now }
+    requires sides { AreSides (program_tree known.now.program.now) (references_of known.now.found.now) sides.now }
     requires within { IsWithin (length known.now.found.now) pair.now }
     requires round { IsRound (program_tree known.now.program.now) round.now }
     requires entered { (source : Reference) → slice_get (references_of known.now.found.now) pair.now.source ≡ Some source → round.now.number ≡ outermost source }
     ensures { OnOk result ((p : Reference × Reference) → pair_at (references_of known.now.found.now) pair.now ≡ Some p
         → views.new.items ≡ views.old.items ++ view_of (program_tree known.now.program.now) p.0 p.1 ∷ []) }
 {
-    let view = view_at(alloc, known, round, pair)?;
+    let view = view_of_pair(alloc, known, sides, round, pair)?;
     views.push(view)?;
     Ok(())
+}
+
+/// The view of a pair of the program's references, by their places: by their sides, where these tell it.
+fn view_of_pair<'a>(
+    alloc: Global,
+    known: &Known,
+    sides: &'a [Side<'a>],
+    round: &Round,
+    pair: &Pair,
+) -> Result<PairView, NoMemory>
+    requires known { IsKnown known.now }
+    requires sides { AreSides (program_tree known.now.program.now) (references_of known.now.found.now) sides.now }
+    requires within { IsWithin (length known.now.found.now) pair.now }
+    requires round { IsRound (program_tree known.now.program.now) round.now }
+    requires entered { (source : Reference) → slice_get (references_of known.now.found.now) pair.now.source ≡ Some source → round.now.number ≡ outermost source }
+    ensures { IfOk result (λ v. (p : Reference × Reference) → pair_at (references_of known.now.found.now) pair.now ≡ Some p
+        → v ≡ view_of (program_tree known.now.program.now) p.0 p.1) }
+{
+    match told_at(alloc, known, sides, pair)? {
+        Some(view) => Ok(view),
+        None => view_at(alloc, known, round, pair),
+    }
+}
+
+/// The view of a pair of the program's references, by their places, where their sides tell it.
+fn told_at<'a>(
+    alloc: Global,
+    known: &Known,
+    sides: &'a [Side<'a>],
+    pair: &Pair,
+) -> Result<Option<PairView>, NoMemory>
+    requires known { IsKnown known.now }
+    requires sides { AreSides (program_tree known.now.program.now) (references_of known.now.found.now) sides.now }
+    requires within { IsWithin (length known.now.found.now) pair.now }
+    ensures { IfOk result (λ told. IfSome told (λ v. (p : Reference × Reference) → pair_at (references_of known.now.found.now) pair.now ≡ Some p
+        → v ≡ view_of (program_tree known.now.program.now) p.0 p.1)) }
+{
+    let source = occurrence_at(known, pair.source);
+    let sink = occurrence_at(known, pair.sink);
+    if !have_same_outermost(source, sink) {
+        return Ok(None);
+    }
+    if pair.source >= sides.len() {
+        return Ok(None);
+    }
+    if pair.sink >= sides.len() {
+        return Ok(None);
+    }
+    let first = side_there(sides, pair.source);
+    let second = side_there(sides, pair.sink);
+    told_view(alloc, first, second)
 }
 
 /// The references of a program as sides of their pairs.

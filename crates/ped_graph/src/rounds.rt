@@ -1,6 +1,6 @@
 //! The outermost DO round a reference, and what it assigns.
 
-ghost use Rattle.std.specs.Prelude.{◌≡◌, [], IfOk, OnOk};
+ghost use Rattle.std.specs.Prelude.{◌≡◌, [], IfOk, OnOk, IsTrue};
 ghost use Rattle.ped_tree.specs.Views.{program_tree};
 ghost use Rattle.ped_tree.specs.Numbering.{statement_with};
 ghost use Rattle.ped_tree.specs.Names.Collecting.{with_names};
@@ -33,4 +33,11 @@ pub fn assigned_by(alloc: Global, program: &Program, number: u32) -> Result<Name
         Some(Stmt::Do(d)) => assigned(alloc, d),
         _ => Ok(NameSet::new(alloc)),
     }
+}
+
+/// Whether the outermost DO round both references is the same.
+pub fn have_same_outermost(source: &Occurrence, sink: &Occurrence) -> bool
+    ensures { IsTrue result → outermost (reference_of source.now) ≡ outermost (reference_of sink.now) }
+{
+    outermost(source) == outermost(sink)
 }

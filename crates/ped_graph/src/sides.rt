@@ -1,7 +1,7 @@
 //! What is computed once of a reference for all its pairs, and the views that are told by it (Allen and Kennedy,
 //! sections 3.1 and 3.2).
 
-ghost use Rattle.std.specs.Prelude.{◌≡◌, ◌≤◌, IsTrue, take, drop, map, length, IfOk};
+ghost use Rattle.std.specs.Prelude.{◌≡◌, ◌≤◌, ◌<◌, IsTrue, Some, take, drop, map, length, slice_get, IfOk};
 ghost use Rattle.std.specs.List.{list_all};
 ghost use Rattle.ped_tree.specs.Nests.{common_nest};
 ghost use Rattle.ped_tree.specs.Views.{expr_tree};
@@ -106,7 +106,7 @@ fn is_like(common: usize, source: &Side, sink: &Side, view: &PairView) -> bool
 }
 
 /// How many loops at the front of two nests are common: those with one statement number.
-fn common_depth(source: &[Loop], sink: &[Loop]) -> usize
+pub(crate) fn common_depth(source: &[Loop], sink: &[Loop]) -> usize
     ensures { result ≡ length (common_nest (nest_of source.now) (nest_of sink.now)) }
 {
     for (i, l) in source.iter().enumerate() {
@@ -184,4 +184,12 @@ fn is_row(common: usize, own: &AffRow, row: &AffRow) -> bool
         && row.constant == own.constant
         && same_numbers(&row.common, &coefficients[..common])
         && same_numbers(&row.inner, &coefficients[common..])
+}
+
+/// The side at a place.
+pub fn side_there<'a>(sides: &'a [Side<'a>], place: usize) -> &'a Side<'a>
+    requires { place < length sides.now }
+    ensures { slice_get sides.now place ≡ Some result.now }
+{
+    &sides[place]
 }

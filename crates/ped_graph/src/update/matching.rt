@@ -6,7 +6,7 @@ ghost use Rattle.indexmap.specs.IndexMap.{get};
 ghost use Rattle.ped_tree.specs.Views.{program_tree};
 ghost use Rattle.ped_views.specs.Views.{View};
 ghost use Rattle.ped_refs.specs.References.{Reference, outermost, references, pairs};
-ghost use Rattle.ped_refs.specs.Occurrences.{reference_of, references_of, pair_at, IsWithin};
+ghost use Rattle.ped_refs.specs.Occurrences.{references_of, pair_at, IsWithin};
 ghost use Rattle.ped_graph.specs.Dependences.{view_of};
 ghost use Rattle.ped_graph.specs.Held.{Framed, pair_by, frame_of, held_of};
 ghost use Rattle.ped_graph.specs.Keys.{key_shown};
@@ -18,12 +18,12 @@ use crate::Graph;
 use crate::frames::{Frame, PairKey};
 use crate::parts::{Kept, Parts, Slot};
 use crate::preparing::{Known, Round, enter, facts_of_pairs, occurrence_at, sides_of, view_at};
-use crate::rounds::outermost;
-use crate::sides::{Side, tells_view};
+use crate::rounds::{have_same_outermost, outermost};
+use crate::sides::{Side, side_there, tells_view};
 use crate::testing::tested;
 use indexmap::IndexMap;
 use ped_base::NoMemory;
-use ped_refs::{Occurrence, Pair};
+use ped_refs::Pair;
 use ped_tree::names::NameSet;
 use ped_verdict::Steps;
 use ped_views::PairView;
@@ -240,21 +240,6 @@ fn is_told(changed: &Changed, pair: &Pair, view: &PairView) -> bool
     let first = side_there(changed.sides, pair.source);
     let second = side_there(changed.sides, pair.sink);
     tells_view(first, second, view)
-}
-
-/// Whether the outermost DO round both references is the same.
-fn have_same_outermost(source: &Occurrence, sink: &Occurrence) -> bool
-    ensures { IsTrue result → outermost (reference_of source.now) ≡ outermost (reference_of sink.now) }
-{
-    outermost(source) == outermost(sink)
-}
-
-/// The side at a place.
-fn side_there<'a>(sides: &'a [Side<'a>], place: usize) -> &'a Side<'a>
-    requires { place < length sides.now }
-    ensures { slice_get sides.now place ≡ Some result.now }
-{
-    &sides[place]
 }
 
 /// The place of the pair of a graph from which a pair with this key and this view comes, none where it is fresh.

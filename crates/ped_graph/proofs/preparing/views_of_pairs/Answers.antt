@@ -1,10 +1,14 @@
-use Rattle.std.proofs.Common.{◌≡◌, ◌∙◌, ◌+◌, ap, sym, ◌∷◌, drop, add-one, arith}
+use Rattle.std.proofs.Common.{◌≡◌, ◌∙◌, ◌+◌, ap, sym, subst, ◌∷◌, drop, add-one, arith}
 use Rattle.ped_tree.specs.Views.{program_tree}
 use Rattle.ped_refs.specs.References.{Reference, references, pairs}
 use Rattle.ped_refs.specs.Occurrences.{references_of, pair_at}
 use Rattle.ped_graph.specs.Dependences.{view_of}
+use Rattle.ped_graph.specs.KnownProgram.{AreSides}
 use Rattle.ped_graph.proofs.Places.{next_listed, index_there, same_length, none_left, more_made, all_made}
 use Rattle.ped_graph.proofs.preparing.views_of_pairs.Goals as goal
+
+pub add_view-requires-clause-sides : goal.add_view-requires-clause-sides
+add_view-requires-clause-sides c = subst (AreSides (program_tree c.args.known.now.program.now) (references_of c.args.known.now.found.now)) (sym c.deref.ensures.value) c.in_ok-sides.ensures
 
 pub loop-pair-preserved : goal.loop-pair-preserved
 loop-pair-preserved c =

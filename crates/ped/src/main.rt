@@ -1,14 +1,20 @@
-//! The program `ped`: a source editor for loop parallelisation. `ped_main` of ped_answer carries what is proved of
-//! it; `main` hands it the words, the machine's files and standard output.
+//! The program `ped`: a source editor for loop parallelisation. `answered` carries what is proved of it: it is `ped_main` of
+//! ped_answer over the machine's files and standard output. `main` hands it the words, and ends with its status.
 #![tactic(auto)]
 
-ghost use Rattle.std.specs.Prelude.{◌≡◌, ◌<◌};
+ghost use Rattle.std.specs.Prelude.{◌≡◌, ◌<◌, ◌++◌, ℕ, List, map, string_bytes};
+ghost use Rattle.ped_host.specs.Events.{bytes_of};
+ghost use Rattle.ped_host.specs.Reads.{MayHold};
+ghost use Rattle.ped_answer.specs.ped_io.specs.Outside.{Contents, Rose};
+ghost use Rattle.ped_answer.specs.ped_words.specs.Requests.{request_of};
+ghost use Rattle.ped_answer.specs.Answer.{IsWhole, MayAnswer, Sends};
+ghost use Rattle.ped_answer.specs.Headline.{IsHeadline};
+ghost use Rattle.ped_answer.specs.TestCounts.{Tests, Ticks};
 
-mod adapters;
-
-use crate::adapters::{DiskShelf, StdSink};
 use ped_answer::{Status, ped_main};
+use ped_host::{DiskShelf, StdSink};
 use ped_verdict::Steps;
+use std::alloc::Global;
 use std::env::Env;
 use std::marker::Brand;
 use std::process::ExitCode;
@@ -17,11 +23,11 @@ use std::sync::ledger::{Blank, Ledger};
 use std::{env, io};
 
 fn main(rt: HostRuntime) -> ExitCode {
-    ExitCode::from(answered::<Brand, _>(&rt, Blank::new(1)).number())
+    ExitCode::from(called::<Brand, _>(&rt, Blank::new(1)).number())
 }
 
-/// Answers the words by the machine's files and standard output, with the one counter of dependence tests.
-fn answered<L: Ledger, R: Env + Files + Print + AllocGlobal>(rt: &R, blank: Blank) -> Status
+/// Answers the words of the call, with the one counter of dependence tests.
+fn called<L: Ledger, R: Env + Files + Print + AllocGlobal>(rt: &R, blank: Blank) -> Status
     requires name { blank.name ≡ L.name }
     requires parts { blank.parts ≡ L.parts }
     requires some { 0 < L.parts }
@@ -31,10 +37,37 @@ fn answered<L: Ledger, R: Env + Files + Print + AllocGlobal>(rt: &R, blank: Blan
     let mut out = StdSink::new(rt);
     let mut steps = Steps::<L>::new(blank);
     match words(rt) {
-        Ok(words) => ped_main(alloc, &words, &mut shelf, &mut out, &mut steps),
+        Ok(words) => answered(alloc, &words, &mut shelf, &mut out, &mut steps),
         Err(e) if e.kind() == io::ErrorKind::OutOfMemory => Status::NoMemory,
-        Err(_) => ped_main(alloc, &[], &mut shelf, &mut out, &mut steps),
+        Err(_) => answered(alloc, &[], &mut shelf, &mut out, &mut steps),
     }
+}
+
+/// Answers the words by the machine's files and standard output. What is said of it is said of all files that may hold what
+/// the reads have given, and of the bytes that writes have answered to have taken.
+fn answered<L: Ledger, R: Files + Print>(
+    alloc: Global,
+    words: &[String],
+    shelf: &mut DiskShelf<R>,
+    out: &mut StdSink<R>,
+    steps: &mut Steps<L>,
+) -> Status
+    // The bytes written and the status are those of the answer, unless a read, a write or the memory kept it from being
+    // written whole.
+    ensures answer { (files : Contents) → MayHold files shelf.new.log.events →
+        Sends (MayAnswer (request_of (map string_bytes words.now)) files (λ name. Rose shelf.old.faults shelf.new.faults))
+        (Rose out.old.faults out.new.faults) (bytes_of out.old.log.events) (bytes_of out.new.log.events) result }
+
+    // Where the answer was written whole, all parts of the headline are so of the bytes written.
+    ensures headline { (files : Contents) → MayHold files shelf.new.log.events → IsWhole result →
+        (bytes : List ℕ) × (bytes_of out.new.log.events ≡ bytes_of out.old.log.events ++ bytes)
+        × IsHeadline (request_of (map string_bytes words.now)) files bytes }
+
+    // As many dependence tests were made as the answer takes.
+    ensures tests { (files : Contents) → MayHold files shelf.new.log.events →
+        (n : ℕ) → Tests (request_of (map string_bytes words.now)) files n → Ticks result steps.old steps.new n }
+{
+    ped_main(alloc, words, shelf, out, steps)
 }
 
 /// The words after the program's name; an error where one of them is no text.

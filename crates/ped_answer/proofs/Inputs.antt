@@ -58,35 +58,36 @@ behind i is files f g answers h since NoMemory b x = absurd x
 -- a file is read whole, and then the rest is served on its bytes
 pub read_served : (i : Input) (is : List Input) (rest : List ℕ → Contents → Status → List ℕ → Type 0) (rest_tests : List ℕ → Contents → ℕ → Type 0)
     (told : Option Contents) (counts : List ℕ → ℕ) (text : List ℕ) (call : Call)
-    → ((files : Contents) → told ≡ Some files → content files i.name ≡ Some text) → length text ≤ i.most
+    → ((files : Contents) → call.may files → content files i.name ≡ Some text) → length text ≤ i.most
     → ((name : List ℕ) → counts name ≤ call.counts name)
     → ((files : Contents) → told ≡ Some files → (name : List ℕ) → name ≢ i.name → IsHeld files name → call.counts name ≡ counts name)
     → call.told ≡ told
     → Served is (rest text) (rest_tests text) call
     → Served (i ∷ is) (λ files. AnswersInput i files (λ bytes. rest bytes files)) (λ files. TestsInput i files (λ bytes. rest_tests bytes files)) (record call { told = told; counts = counts })
 read_served i is rest rest_tests told counts text call loaded short rises others same served =
-    let held : (files : Contents) → told ≡ Some files → IsHeldWithin i files =
-    λ files e. record { bytes = text; held = loaded files e; within = le-ltb i.most (length text) short } in
+    let held : (files : Contents) → call.may files → IsHeldWithin i files =
+    λ files may. record { bytes = text; held = loaded files may; within = le-ltb i.most (length text) short } in
     let since : (name : List ℕ) → HasFailed call name → Rose (counts name) (call.counts_after name) =
     λ name. rose_since (counts name) (call.counts name) (call.counts_after name) (rises name) in
     record {
-      sends = λ files e before taken.
-          let o = served.sends files (same ∙ e) before taken in (
+      sends = λ files may.
+          let o = served.sends files may in (
             o.0,
             o.1,
             outcome_weaker (MayGive is files (HasFailed call) (rest text files)) (MayGive (i ∷ is) files (λ name. Rose (counts name) (call.counts_after name)) (AnswersInput i files (λ bytes. rest bytes files)))
-                (behind i is files (HasFailed call) (λ name. Rose (counts name) (call.counts_after name)) (λ bytes. rest bytes files) (held files e) since) (SinkFailed call) o.0 call.status o.2,
+                (behind i is files (HasFailed call) (λ name. Rose (counts name) (call.counts_after name)) (λ bytes. rest bytes files) (held files may) since) (SinkFailed call) o.0 call.status o.2,
           );
       words = served.words;
       read_fault = λ fault. let one = served.read_fault fault in (one.0, inr one.1, since one.0 one.2);
       write_fault = served.write_fault;
-      too_long = λ long files e. inr (held files e, served.too_long long files (same ∙ e));
+      too_long = λ long files may. inr (held files may, served.too_long long files may);
       rises = λ name. let first = rises name in let second = served.rises name in omega arith;
       others = λ files e name not there.
           served.others files (same ∙ e) name (λ one. not (inr one)) there ∙ others files e name (λ n. not (inl n)) there;
       sink_rises = served.sink_rises;
       untold = served.untold;
-      ticks = λ files e n tests. served.ticks files (same ∙ e) n (of_some _ _ (λ bytes. rest_tests bytes files n) i files (held files e) tests);
+      told_sent = served.told_sent;
+      ticks = λ files may n tests. served.ticks files may n (of_some _ _ (λ bytes. rest_tests bytes files n) i files (held files may) tests);
       untested = served.untested;
       steps_rise = served.steps_rise;
     }
@@ -123,35 +124,35 @@ says_too_long = unread_ends (λ s fault. s ≡ TooLong → fault ≡ load.TooLon
 -- a file isn't loaded, and that is said
 pub unread_served : (i : Input) (is : List Input) (rest : List ℕ → Contents → Status → List ℕ → Type 0) (rest_tests : List ℕ → Contents → ℕ → Type 0) (fault : LoadError) (call : Call)
     → (fault ≡ load.ReadFault → HasFailed call i.name)
-    → (fault ≡ load.TooLong → (files : Contents) → call.told ≡ Some files → (bytes : List ℕ) × (content files i.name ≡ Some bytes) × (i.most < length bytes))
+    → (fault ≡ load.TooLong → (files : Contents) → call.may files → (bytes : List ℕ) × (content files i.name ≡ Some bytes) × (i.most < length bytes))
     → ((name : List ℕ) → call.counts name ≤ call.counts_after name)
     → ((files : Contents) → call.told ≡ Some files → (name : List ℕ) → name ≢ i.name → IsHeld files name → call.counts_after name ≡ call.counts name)
-    → ((before : List ℕ) → call.taken ≡ Some before → Sends (SaysUnread i fault) (SinkFailed call) before call.taken_after call.status)
+    → Sends (SaysUnread i fault) (SinkFailed call) call.sent call.sent_after call.status
     → (call.status ≡ unread_status fault) ⊎ (call.status ≡ WriteFault) ⊎ (call.status ≡ NoMemory)
-    → (call.status ≡ WriteFault → SinkFailed call) → call.faults ≤ call.faults_after → (call.taken ≡ None → call.taken_after ≡ None)
+    → (call.status ≡ WriteFault → SinkFailed call) → call.faults ≤ call.faults_after → (call.taken ≡ None → call.taken_after ≡ None) → ((before : List ℕ) → call.taken ≡ Some before → call.taken_after ≡ Some call.sent_after)
     → call.steps_after ≡ call.steps
     → Served (i ∷ is) (λ files. AnswersInput i files (λ bytes. rest bytes files)) (λ files. TestsInput i files (λ bytes. rest_tests bytes files)) call
-unread_served i is rest rest_tests fault call rose more rises others says ends write_fault sink_rises untold still =
-    let long : (files : Contents) → call.told ≡ Some files → fault ≡ load.TooLong → IsTooLong i files =
-    λ files e f. let m = more f files e in record { bytes = m.0; held = m.1; more = lt-ltb i.most (length m.0) m.2 } in
+unread_served i is rest rest_tests fault call rose more rises others says ends write_fault sink_rises untold told_sent still =
+    let long : (files : Contents) → call.may files → fault ≡ load.TooLong → IsTooLong i files =
+    λ files may f. let m = more f files may in record { bytes = m.0; held = m.1; more = lt-ltb i.most (length m.0) m.2 } in
     let c = calm fault call.status ends in
     record {
-      sends = λ files e before taken.
-          let o = says before taken in (
-            o.0,
-            o.1,
-            outcome_weaker (SaysUnread i fault) (MayGive (i ∷ is) files (HasFailed call) (AnswersInput i files (λ bytes. rest bytes files)))
-                (unread_given i is files (HasFailed call) (λ bytes. rest bytes files) fault rose (long files e)) (SinkFailed call) o.0 call.status o.2,
-          );
+      sends = λ files may. (
+        says.0,
+        says.1,
+        outcome_weaker (SaysUnread i fault) (MayGive (i ∷ is) files (HasFailed call) (AnswersInput i files (λ bytes. rest bytes files)))
+            (unread_given i is files (HasFailed call) (λ bytes. rest bytes files) fault rose (long files may)) (SinkFailed call) says.0 call.status says.2,
+      );
       words = c.2;
       read_fault = λ f. (i.name, inl refl, rose (says_read_fault fault call.status ends f));
       write_fault = write_fault;
-      too_long = λ l files e. inl (long files e (says_too_long fault call.status ends l));
+      too_long = λ l files may. inl (long files may (says_too_long fault call.status ends l));
       rises = rises;
       others = λ files e name not there. others files e name (λ n. not (inl n)) there;
       sink_rises = sink_rises;
       untold = untold;
-      ticks = λ files e n tests. subst (λ (m : ℕ). Ticks call.status call.steps m n) (sym still) (idle_ticks call.status call.steps n c.0 c.1);
+      told_sent = told_sent;
+      ticks = λ files may n tests. subst (λ (m : ℕ). Ticks call.status call.steps m n) (sym still) (idle_ticks call.status call.steps n c.0 c.1);
       untested = λ u. still;
       steps_rise = omega arith;
     }
@@ -222,24 +223,23 @@ pub text_served : (answers : Status → List ℕ → Type 0) (tests : ℕ → Ty
     → ((files : Contents) (failed : List ℕ → Type 0) (s : Status) (b : List ℕ) → answers s b → MayGive [] files failed answers s b)
     → IsOfText call.status
     → ((name : List ℕ) → call.counts_after name ≡ call.counts name)
-    → ((before : List ℕ) → call.taken ≡ Some before → Sends answers (SinkFailed call) before call.taken_after call.status)
-    → (call.status ≡ WriteFault → SinkFailed call) → call.faults ≤ call.faults_after → (call.taken ≡ None → call.taken_after ≡ None)
+    → Sends answers (SinkFailed call) call.sent call.sent_after call.status
+    → (call.status ≡ WriteFault → SinkFailed call) → call.faults ≤ call.faults_after → (call.taken ≡ None → call.taken_after ≡ None) → ((before : List ℕ) → call.taken ≡ Some before → call.taken_after ≡ Some call.sent_after)
     → ((n : ℕ) → tests n → Ticks call.status call.steps call.steps_after n) → (IsUntested call.status → call.steps_after ≡ call.steps) → call.steps ≤ call.steps_after
     → Served [] (λ files. answers) (λ files. tests) call
-text_served answers tests call given ends kept says write_fault sink_rises untold ticks untested rise =
+text_served answers tests call given ends kept says write_fault sink_rises untold told_sent ticks untested rise =
     record {
-      sends = λ files e before taken.
-          let o = says before taken in
-          (o.0, o.1, outcome_weaker answers (MayGive [] files (HasFailed call) answers) (given files (HasFailed call)) (SinkFailed call) o.0 call.status o.2);
+      sends = λ files may. (says.0, says.1, outcome_weaker answers (MayGive [] files (HasFailed call) answers) (given files (HasFailed call)) (SinkFailed call) says.0 call.status says.2);
       words = not_of_text call.status BadWords (λ f. cc) (λ f. cc) (λ f. cc) (λ f. cc) (λ f. cc) ends;
       read_fault = λ f. absurd (not_of_text call.status ReadFault (λ g. cc) (λ g. cc) (λ g. cc) (λ g. cc) (λ g. cc) ends f);
       write_fault = write_fault;
-      too_long = λ l files e. absurd (not_of_text call.status TooLong (λ g. cc) (λ g. cc) (λ g. cc) (λ g. cc) (λ g. cc) ends l);
+      too_long = λ l files may. absurd (not_of_text call.status TooLong (λ g. cc) (λ g. cc) (λ g. cc) (λ g. cc) (λ g. cc) ends l);
       rises = λ name. let k = kept name in omega arith;
       others = λ files e name not there. kept name;
       sink_rises = sink_rises;
       untold = untold;
-      ticks = λ files e. ticks;
+      told_sent = told_sent;
+      ticks = λ files may. ticks;
       untested = untested;
       steps_rise = rise;
     }

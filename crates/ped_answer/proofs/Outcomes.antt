@@ -1,5 +1,5 @@
 -- Outcomes of writing, and how those of a part are those of the whole.
-use Rattle.std.proofs.Common.{◌≡◌, ◌⊎◌, ℕ, Bool, true, false, List, [], ◌∷◌, ◌++◌, Option, Some, None, take, drop, refl, sym, ◌∙◌, subst, inl, inr, arith}
+use Rattle.std.proofs.Common.{◌≡◌, ◌⊎◌, ℕ, Bool, true, false, List, [], ◌∷◌, ◌++◌, Option, Some, None, take, drop, option_map, refl, sym, ap, ◌∙◌, subst, inl, inr, arith}
 use Rattle.std.proofs.lemmas.List.{take-append-drop}
 use Rattle.ped_io.specs.Outside.{Contents, Rose}
 use Rattle.ped_io.specs.declared.writing.PutFault.{PutFault}
@@ -46,6 +46,13 @@ front_of status bytes n = inr (status, bytes, (refl, refl), (drop n bytes, take-
 pub counted : (fault : PutFault) (n : ℕ) (rose : Type 0) → (IsWriteFault fault → rose) → fault ≡ put.WriteFault n → rose
 counted (put.WriteFault m) n rose h e = h tt
 counted (put.NoMemory m) n rose h e = absurd (let f = e in cc)
+
+-- where a sink that says what it has taken takes more, it says that, and this is what was sent
+pub more_told : (taken after : Option (List ℕ)) (sent more : List ℕ) → ((bytes : List ℕ) → after ≡ Some bytes → sent ≡ bytes) → after ≡ option_map (λ before. before ++ more) taken
+    → (before : List ℕ) → taken ≡ Some before → after ≡ Some sent
+more_told taken after sent more law took before told =
+    let now = took ∙ ap (option_map (λ (b : List ℕ). b ++ more)) told in
+    now ∙ ap (λ (b : List ℕ). Some b) (sym (law (before ++ more) now))
 
 -- the usage line answers words that ask for nothing
 pub usage_may_answer : (request : Option Request) (files : Contents) (failed : List ℕ → Type 0) → request ≡ None → (s : Status) (b : List ℕ) → IsJust BadWords usage_line s b → MayAnswer request files failed s b
@@ -102,20 +109,20 @@ one_failed (i ∷ is) files failed line (inr later) =
     (there.0, inr there.1, there.2)
 
 -- where no input and no sink failed, what came is the answer whole, or memory ran out
-pub whole_of : (request : Option Request) (files : Contents) (failed : List ℕ → Type 0) (sink_failed : Type 0) (taken : Option (List ℕ)) (before sent : List ℕ) (status : Status)
-    → taken ≡ Some (before ++ sent) → IsOutcome (MayAnswer request files failed) sink_failed sent status
+pub whole_of : (request : Option Request) (files : Contents) (failed : List ℕ → Type 0) (sink_failed : Type 0) (after before sent : List ℕ) (status : Status)
+    → after ≡ before ++ sent → IsOutcome (MayAnswer request files failed) sink_failed sent status
     → ((name : List ℕ) → IsOneOf (inputs_of request) name → ¬ (failed name)) → ¬ sink_failed
-    → (status ≡ NoMemory) ⊎ ((bytes : List ℕ) × Answers request files status bytes × (taken ≡ Some (before ++ bytes)))
-whole_of request files failed sink_failed taken before sent Done e o none sure = inr (sent, o, e)
-whole_of request files failed sink_failed taken before sent SomeRefused e o none sure = inr (sent, o, e)
-whole_of request files failed sink_failed taken before sent BadWords e o none sure = inr (sent, o, e)
-whole_of request files failed sink_failed taken before sent ProgramRefused e o none sure = inr (sent, o, e)
-whole_of request files failed sink_failed taken before sent TooLong e o none sure = inr (sent, o, e)
-whole_of request files failed sink_failed taken before sent ReadFault e o none sure =
+    → (status ≡ NoMemory) ⊎ ((bytes : List ℕ) × Answers request files status bytes × (after ≡ before ++ bytes))
+whole_of request files failed sink_failed after before sent Done e o none sure = inr (sent, o, e)
+whole_of request files failed sink_failed after before sent SomeRefused e o none sure = inr (sent, o, e)
+whole_of request files failed sink_failed after before sent BadWords e o none sure = inr (sent, o, e)
+whole_of request files failed sink_failed after before sent ProgramRefused e o none sure = inr (sent, o, e)
+whole_of request files failed sink_failed after before sent TooLong e o none sure = inr (sent, o, e)
+whole_of request files failed sink_failed after before sent ReadFault e o none sure =
     let one = one_failed (inputs_of request) files failed sent o in
     absurd (none one.0 one.1 one.2)
-whole_of request files failed sink_failed taken before sent WriteFault e o none sure = absurd (sure o.0)
-whole_of request files failed sink_failed taken before sent NoMemory e o none sure = inl refl
+whole_of request files failed sink_failed after before sent WriteFault e o none sure = absurd (sure o.0)
+whole_of request files failed sink_failed after before sent NoMemory e o none sure = inl refl
 
 -- a count that is always 0 doesn't rise
 pub never_rises : ¬ (Rose 0 0)

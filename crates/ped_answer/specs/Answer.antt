@@ -183,9 +183,9 @@ IsOutcome answers sink_failed sent TooLong = answers TooLong sent
 IsOutcome answers sink_failed sent WriteFault = sink_failed × IsFrontOfAnswer answers sent
 IsOutcome answers sink_failed sent NoMemory = IsFrontOfAnswer answers sent
 
--- what the sink took behind the bytes before, and how the call ended
-abbrev pub Sends : (Status → List ℕ → Type 0) → Type 0 → List ℕ → Option (List ℕ) → Status → Type 0
-Sends answers sink_failed before taken status = (sent : List ℕ) × (taken ≡ Some (before ++ sent)) × IsOutcome answers sink_failed sent status
+-- what was sent behind the bytes before, and how the call ended
+abbrev pub Sends : (Status → List ℕ → Type 0) → Type 0 → List ℕ → List ℕ → Status → Type 0
+Sends answers sink_failed before after status = (bytes : List ℕ) × (after ≡ before ++ bytes) × IsOutcome answers sink_failed bytes status
 
 -- both panes of the tree, and no other answer
 abbrev pub ShowsTree : ProgramTree → Status → List ℕ → Type 0

@@ -285,3 +285,14 @@ AutoRequest None files bytes = ⊤
 AutoRequest (Some (show program)) files bytes = ⊤
 AutoRequest (Some (session program script data_file)) files bytes = EachItem ParallelisesBy program script data_file files bytes
 AutoRequest (Some (generate number)) files bytes = ⊤
+
+-- All parts.
+
+-- all of this is so of one list of bytes, that of an answer which was written whole (this project)
+pub record IsHeadline (request : Option Request) (files : Contents) (bytes : List ℕ) : Type 0 where
+  pub panes : PanesRequest request files bytes
+  pub history : HistoryRequest request files bytes
+  pub runs : RunsRequest request files bytes
+  pub units : UnitsRequest request files bytes
+  pub causes : CausesRequest request files bytes
+  pub parallelised : AutoRequest request files bytes

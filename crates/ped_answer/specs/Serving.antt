@@ -12,13 +12,16 @@ use Rattle.ped_words.specs.Requests.{Request}
 use Rattle.ped_answer.specs.Answer.{Input, inputs_of, IsOneOf, HoldsTooMany, MayGive, Answers, Sends, IsJust, cannot_read_line, too_long_line}
 use Rattle.ped_answer.specs.TestCounts.{Tests, Ticks, IsUntested}
 
--- a call: the files that its shelf tells, each name's count of faults before and after it, the bytes that its sink has taken and its count of faults before and after it, the tests counted before and after it, and how it ended
-pub record Call : Type 0 where
+-- a call: the files that its shelf tells, what they may hold by all that reads have given at its end, each name's count of faults before and after it, the bytes that its sink says it has taken, those that were sent, and its count of faults before and after it, the tests counted before and after it, and how it ended
+pub record Call : Type 1 where
   pub told : Option Contents
+  pub may : Contents → Type 0
   pub counts : List ℕ → ℕ
   pub counts_after : List ℕ → ℕ
   pub taken : Option (List ℕ)
   pub taken_after : Option (List ℕ)
+  pub sent : List ℕ
+  pub sent_after : List ℕ
   pub faults : ℕ
   pub faults_after : ℕ
   pub steps : ℕ
@@ -33,19 +36,20 @@ HasFailed call name = Rose (call.counts name) (call.counts_after name)
 abbrev pub SinkFailed : Call → Type 0
 SinkFailed call = Rose call.faults call.faults_after
 
--- a call reads these files in order and gives the answer, by what the shelf holds, with the tests that it takes; each fault has its cause, and no count falls
+-- a call reads these files in order and gives the answer, by whatever the files may hold, with the tests that it takes; each fault has its cause, and no count falls
 pub record Served (inputs : List Input) (answers : Contents → Status → List ℕ → Type 0) (tests : Contents → ℕ → Type 0) (call : Call) : Type 0 where
-  pub sends : (files : Contents) → call.told ≡ Some files → (before : List ℕ) → call.taken ≡ Some before
-      → Sends (MayGive inputs files (HasFailed call) (answers files)) (SinkFailed call) before call.taken_after call.status
+  pub sends : (files : Contents) → call.may files
+      → Sends (MayGive inputs files (HasFailed call) (answers files)) (SinkFailed call) call.sent call.sent_after call.status
   pub words : call.status ≢ BadWords
   pub read_fault : call.status ≡ ReadFault → (name : List ℕ) × IsOneOf inputs name × HasFailed call name
   pub write_fault : call.status ≡ WriteFault → SinkFailed call
-  pub too_long : call.status ≡ TooLong → (files : Contents) → call.told ≡ Some files → HoldsTooMany inputs files
+  pub too_long : call.status ≡ TooLong → (files : Contents) → call.may files → HoldsTooMany inputs files
   pub rises : (name : List ℕ) → call.counts name ≤ call.counts_after name
   pub others : (files : Contents) → call.told ≡ Some files → (name : List ℕ) → ¬ (IsOneOf inputs name) → IsHeld files name → call.counts_after name ≡ call.counts name
   pub sink_rises : call.faults ≤ call.faults_after
   pub untold : call.taken ≡ None → call.taken_after ≡ None
-  pub ticks : (files : Contents) → call.told ≡ Some files → (n : ℕ) → tests files n → Ticks call.status call.steps call.steps_after n
+  pub told_sent : (before : List ℕ) → call.taken ≡ Some before → call.taken_after ≡ Some call.sent_after
+  pub ticks : (files : Contents) → call.may files → (n : ℕ) → tests files n → Ticks call.status call.steps call.steps_after n
   pub untested : IsUntested call.status → call.steps_after ≡ call.steps
   pub steps_rise : call.steps ≤ call.steps_after
 

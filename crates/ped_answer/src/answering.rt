@@ -7,7 +7,7 @@ ghost use Rattle.ped_words.specs.Requests as plain;
 ghost use Rattle.ped_words.specs.Requests.{request_of};
 ghost use Rattle.ped_words.specs.Views.{request_view, IsSized};
 ghost use Rattle.ped_answer.specs.Answer.{inputs_of, IsOneOf, HoldsTooMany, IsWhole, Answers, MayAnswer, Sends};
-ghost use Rattle.ped_answer.specs.Headline.{PanesRequest, HistoryRequest, RunsRequest, UnitsRequest, CausesRequest, AutoRequest};
+ghost use Rattle.ped_answer.specs.Headline.{PanesRequest, HistoryRequest, RunsRequest, UnitsRequest, CausesRequest, AutoRequest, IsHeadline};
 ghost use Rattle.ped_answer.specs.TestCounts.{Tests, Ticks, IsUntested};
 ghost use Rattle.ped_answer.specs.Serving.{ServedRequest};
 
@@ -69,15 +69,14 @@ pub fn ped_main<F: Shelf, K: Sink, L: Ledger>(
     out: &mut K,
     steps: &mut Steps<L>,
 ) -> Status
-    // Over a shelf and a sink that tell, the bytes sent and the status are those of the answer, unless
-    // the shelf, the sink or the memory kept it from being written whole.
-    ensures answer { (files : Contents) → F.told shelf.old ≡ Some files →
-        (before : List ℕ) → K.taken out.old ≡ Some before →
+    // For all files that the shelf may hold by what the reads gave, the bytes sent and the status are those of the answer,
+    // unless the shelf, the sink or the memory kept it from being written whole.
+    ensures answer { (files : Contents) → F.may_hold shelf.new files →
         Sends (MayAnswer (request_of (map string_bytes words.now)) files
         (λ name. Rose (F.count shelf.old name) (F.count shelf.new name)))
-        (Rose (K.faults out.old) (K.faults out.new)) before (K.taken out.new) result }
+        (Rose (K.faults out.old) (K.faults out.new)) (K.sent out.old) (K.sent out.new) result }
 
-    // Whatever they tell, the words decide on theirs, and a fault has its cause.
+    // The words decide on theirs, and a fault has its cause.
     ensures words { result ≡ Status.BadWords → request_of (map string_bytes words.now) ≡ None }
     ensures other_words { request_of (map string_bytes words.now) ≡ None →
         (result ≡ Status.BadWords) ⊎ (result ≡ Status.WriteFault) ⊎ (result ≡ Status.NoMemory) }
@@ -85,33 +84,35 @@ pub fn ped_main<F: Shelf, K: Sink, L: Ledger>(
         (name : List ℕ) × IsOneOf (inputs_of (request_of (map string_bytes words.now))) name
         × Rose (F.count shelf.old name) (F.count shelf.new name) }
     ensures write_fault { result ≡ Status.WriteFault → Rose (K.faults out.old) (K.faults out.new) }
-    ensures too_long { result ≡ Status.TooLong → (files : Contents) → F.told shelf.old ≡ Some files →
+    ensures too_long { result ≡ Status.TooLong → (files : Contents) → F.may_hold shelf.new files →
         HoldsTooMany (inputs_of (request_of (map string_bytes words.now))) files }
 
     // Where neither has failed, the answer is written whole, unless memory ran out.
-    ensures complete { (files : Contents) → F.told shelf.old ≡ Some files →
-        (before : List ℕ) → K.taken out.old ≡ Some before →
+    ensures complete { (files : Contents) → F.may_hold shelf.new files →
         ((name : List ℕ) → IsOneOf (inputs_of (request_of (map string_bytes words.now))) name →
         ¬ (Rose (F.count shelf.old name) (F.count shelf.new name))) →
         ¬ (Rose (K.faults out.old) (K.faults out.new)) →
         (result ≡ Status.NoMemory) ⊎ ((bytes : List ℕ)
         × Answers (request_of (map string_bytes words.now)) files result bytes
-        × (K.taken out.new ≡ Some (before ++ bytes))) }
+        × (K.sent out.new ≡ K.sent out.old ++ bytes)) }
+
+    // Where an answer is written whole, all of the following is so of the one list of bytes that was sent.
+    ensures headline { (files : Contents) → F.may_hold shelf.new files → IsWhole result →
+        (bytes : List ℕ) × (K.sent out.new ≡ K.sent out.old ++ bytes)
+        × IsHeadline (request_of (map string_bytes words.now)) files bytes }
 
     // Where an answer is written whole, all panes in it, those of the file in mode `show` and those of each `source`, `deps`,
     // `deps S` and `show` of a script, are those that come of reading the printed text of the present program afresh, and so
     // is the advice of `advise S`. `print` shows that text.
-    ensures panes { (files : Contents) → F.told shelf.old ≡ Some files →
-        (before : List ℕ) → K.taken out.old ≡ Some before → IsWhole result →
-        (bytes : List ℕ) × (K.taken out.new ≡ Some (before ++ bytes))
+    ensures panes { (files : Contents) → F.may_hold shelf.new files → IsWhole result →
+        (bytes : List ℕ) × (K.sent out.new ≡ K.sent out.old ++ bytes)
         × PanesRequest (request_of (map string_bytes words.now)) files bytes }
 
     // In a session the sources stand one behind another: `undo` and `redo` go along them, byte for byte, and are accepted
     // exactly where there is one to go to; an accepted change puts its source behind the present one, in the place of all
     // that stood there, and so does each step that `auto` says was accepted; and nothing else moves.
-    ensures history { (files : Contents) → F.told shelf.old ≡ Some files →
-        (before : List ℕ) → K.taken out.old ≡ Some before → IsWhole result →
-        (bytes : List ℕ) × (K.taken out.new ≡ Some (before ++ bytes))
+    ensures history { (files : Contents) → F.may_hold shelf.new files → IsWhole result →
+        (bytes : List ℕ) × (K.sent out.new ≡ K.sent out.old ++ bytes)
         × HistoryRequest (request_of (map string_bytes words.now)) files bytes }
 
     // Where a session's answer is written whole, each `run` of its script shows what the programs show from which the
@@ -120,34 +121,30 @@ pub fn ped_main<F: Shelf, K: Sink, L: Ledger>(
     // in a PARALLEL DO writes the variable of it or of a DO in it, and each path from that PARALLEL DO's exit to the end
     // overwrites such a variable that is saved. And in each state, each transformation of the history keeps the meaning of
     // such a program, and leaves it tidy and without C$PED REJECT.
-    ensures runs { (files : Contents) → F.told shelf.old ≡ Some files →
-        (before : List ℕ) → K.taken out.old ≡ Some before → IsWhole result →
-        (bytes : List ℕ) × (K.taken out.new ≡ Some (before ++ bytes))
+    ensures runs { (files : Contents) → F.may_hold shelf.new files → IsWhole result →
+        (bytes : List ℕ) × (K.sent out.new ≡ K.sent out.old ++ bytes)
         × RunsRequest (request_of (map string_bytes words.now)) files bytes }
 
     // Where the program units of a session's file run on its data without a fault, the program that they expand to, on which
     // the session opens, has the same outcome. So each `run` shows it: without choices where the present source is that
     // program's and no DO of it has a list of sums, and with whatever choices where the present source has come from that one
     // by transformations alone, if it is tidy and without C$PED REJECT and runs without a race.
-    ensures units { (files : Contents) → F.told shelf.old ≡ Some files →
-        (before : List ℕ) → K.taken out.old ≡ Some before → IsWhole result →
-        (bytes : List ℕ) × (K.taken out.new ≡ Some (before ++ bytes))
+    ensures units { (files : Contents) → F.may_hold shelf.new files → IsWhole result →
+        (bytes : List ℕ) × (K.sent out.new ≡ K.sent out.old ++ bytes)
         × UnitsRequest (request_of (map string_bytes words.now)) files bytes }
 
     // A transformation or `reject` at a statement that the present program has is refused exactly where a rule stands against
     // it or a dependence forbids it, and the first of these is told: the rule with the least number, and else the first row
     // of the pane. Where the program has no such statement, that is told.
-    ensures causes { (files : Contents) → F.told shelf.old ≡ Some files →
-        (before : List ℕ) → K.taken out.old ≡ Some before → IsWhole result →
-        (bytes : List ℕ) × (K.taken out.new ≡ Some (before ++ bytes))
+    ensures causes { (files : Contents) → F.may_hold shelf.new files → IsWhole result →
+        (bytes : List ℕ) × (K.sent out.new ≡ K.sent out.old ++ bytes)
         × CausesRequest (request_of (map string_bytes words.now)) files bytes }
 
     // `auto` tells accepted steps, which lead one behind another from the state before it to the one behind it, as they do
     // in a script; each DO of its program that isn't a PARALLEL DO, with the first of all that forbids `parallel` there; and
     // its source, which has come from the former one by transformations alone.
-    ensures parallelised { (files : Contents) → F.told shelf.old ≡ Some files →
-        (before : List ℕ) → K.taken out.old ≡ Some before → IsWhole result →
-        (bytes : List ℕ) × (K.taken out.new ≡ Some (before ++ bytes))
+    ensures parallelised { (files : Contents) → F.may_hold shelf.new files → IsWhole result →
+        (bytes : List ℕ) × (K.sent out.new ≡ K.sent out.old ++ bytes)
         × AutoRequest (request_of (map string_bytes words.now)) files bytes }
 
     // What stays.
@@ -159,9 +156,13 @@ pub fn ped_main<F: Shelf, K: Sink, L: Ledger>(
     ensures faults { K.faults out.old ≤ K.faults out.new }
     ensures untold { K.taken out.old ≡ None → K.taken out.new ≡ None }
 
+    // Files that the shelf may hold at the end it might hold before; and a sink that says what it has taken says what was sent.
+    ensures less { (files : Contents) → F.may_hold shelf.new files → F.may_hold shelf.old files }
+    ensures told_sent { (before : List ℕ) → K.taken out.old ≡ Some before → K.taken out.new ≡ Some (K.sent out.new) }
+
     // As many dependence tests are made as the answer takes, where it was written whole; otherwise at most as
-    // many. Without a program there are none, whatever the shelf tells.
-    ensures tests { (files : Contents) → F.told shelf.old ≡ Some files →
+    // many. Without a program there are none, whatever the files hold.
+    ensures tests { (files : Contents) → F.may_hold shelf.new files →
         (n : ℕ) → Tests (request_of (map string_bytes words.now)) files n → Ticks result steps.old steps.new n }
     ensures untested { IsUntested result → steps.new ≡ steps.old }
     ensures steps { steps.old ≤ steps.new }
@@ -219,10 +220,13 @@ fn serve<F: Shelf, K: Sink, L: Ledger>(
     requires { IsSized asked }
     ensures served { ServedRequest (request_view asked.entry) (record {
       told = F.told shelf.old;
+      may = F.may_hold shelf.new;
       counts = F.count shelf.old;
       counts_after = F.count shelf.new;
       taken = K.taken out.old;
       taken_after = K.taken out.new;
+      sent = K.sent out.old;
+      sent_after = K.sent out.new;
       faults = K.faults out.old;
       faults_after = K.faults out.new;
       steps = steps.old;
@@ -230,6 +234,7 @@ fn serve<F: Shelf, K: Sink, L: Ledger>(
       status = result;
     }) }
     ensures same { F.told shelf.new ≡ F.told shelf.old }
+    ensures less { (files : Contents) → F.may_hold shelf.new files → F.may_hold shelf.old files }
 {
     match asked {
         Request::Show { program } => show_file(alloc, program, shelf, out, steps),

@@ -10,13 +10,13 @@ use ped_io::{PutFault, Sink, put_all};
 /// Writes all bytes, and answers the status where they were taken.
 pub fn finish<K: Sink>(out: &mut K, bytes: &[u8], status: Status) -> Status
     requires { (status ≢ Status.WriteFault) × (status ≢ Status.NoMemory) }
-    ensures answer { (before : List ℕ) → K.taken out.old ≡ Some before →
-        Sends (IsJust status bytes.now)
-        (Rose (K.faults out.old) (K.faults out.new)) before (K.taken out.new) result }
+    ensures answer { Sends (IsJust status bytes.now)
+        (Rose (K.faults out.old) (K.faults out.new)) (K.sent out.old) (K.sent out.new) result }
     ensures ends { (result ≡ status) ⊎ (result ≡ Status.WriteFault) ⊎ (result ≡ Status.NoMemory) }
     ensures write_fault { result ≡ Status.WriteFault → Rose (K.faults out.old) (K.faults out.new) }
     ensures faults { K.faults out.old ≤ K.faults out.new }
     ensures untold { K.taken out.old ≡ None → K.taken out.new ≡ None }
+    ensures told_sent { (before : List ℕ) → K.taken out.old ≡ Some before → K.taken out.new ≡ Some (K.sent out.new) }
 {
     match put_all(out, bytes) {
         Ok(()) => status,

@@ -36,14 +36,14 @@ pub fn answer_size<K: Sink, L: Ledger>(
     steps: &mut Steps<L>,
 ) -> Status
     requires { (1 ≤ size) × (size ≤ 300) }
-    ensures answer { (before : List ℕ) → K.taken out.old ≡ Some before →
-        Sends (IsGenerated size)
-        (Rose (K.faults out.old) (K.faults out.new)) before (K.taken out.new) result }
+    ensures answer { Sends (IsGenerated size)
+        (Rose (K.faults out.old) (K.faults out.new)) (K.sent out.old) (K.sent out.new) result }
     ensures ends { (result ≡ Status.Done) ⊎ (result ≡ Status.ProgramRefused)
         ⊎ (result ≡ Status.WriteFault) ⊎ (result ≡ Status.NoMemory) }
     ensures write_fault { result ≡ Status.WriteFault → Rose (K.faults out.old) (K.faults out.new) }
     ensures faults { K.faults out.old ≤ K.faults out.new }
     ensures untold { K.taken out.old ≡ None → K.taken out.new ≡ None }
+    ensures told_sent { (before : List ℕ) → K.taken out.old ≡ Some before → K.taken out.new ≡ Some (K.sent out.new) }
     ensures tests { (n : ℕ) → TestsGenerated size n → Ticks result steps.old steps.new n }
     ensures untested { IsUntested result → steps.new ≡ steps.old }
     ensures steps { steps.old ≤ steps.new }
@@ -68,13 +68,13 @@ fn answer_session<K: Sink, L: Ledger>(
 ) -> Status
     requires size { (1 ≤ size) × (size ≤ 300) }
     requires opened { (t : ProgramTree) × ReadsValid (made.program size) t × (session.old ≡ opened t) }
-    ensures answer { (before : List ℕ) → K.taken out.old ≡ Some before →
-        Sends (AnswersReport size)
-        (Rose (K.faults out.old) (K.faults out.new)) before (K.taken out.new) result }
+    ensures answer { Sends (AnswersReport size)
+        (Rose (K.faults out.old) (K.faults out.new)) (K.sent out.old) (K.sent out.new) result }
     ensures ends { (result ≡ Status.Done) ⊎ (result ≡ Status.WriteFault) ⊎ (result ≡ Status.NoMemory) }
     ensures write_fault { result ≡ Status.WriteFault → Rose (K.faults out.old) (K.faults out.new) }
     ensures faults { K.faults out.old ≤ K.faults out.new }
     ensures untold { K.taken out.old ≡ None → K.taken out.new ≡ None }
+    ensures told_sent { (before : List ℕ) → K.taken out.old ≡ Some before → K.taken out.new ≡ Some (K.sent out.new) }
     ensures tests { (tally : Spec.Tally) (last : State) → Applies (commands_of (made.script size)) session.old tally last → Ticks result steps.old steps.new tally.tests }
     ensures steps { steps.old ≤ steps.new }
 {

@@ -26,13 +26,13 @@ pub fn say_unread<K: Sink>(
     fault: LoadError,
     out: &mut K,
 ) -> Status
-    ensures answer { (before : List ℕ) → K.taken out.old ≡ Some before →
-        Sends (SaysUnread (record { name = name.now; most = limit }) fault)
-        (Rose (K.faults out.old) (K.faults out.new)) before (K.taken out.new) result }
+    ensures answer { Sends (SaysUnread (record { name = name.now; most = limit }) fault)
+        (Rose (K.faults out.old) (K.faults out.new)) (K.sent out.old) (K.sent out.new) result }
     ensures ends { (result ≡ unread_status fault) ⊎ (result ≡ Status.WriteFault) ⊎ (result ≡ Status.NoMemory) }
     ensures write_fault { result ≡ Status.WriteFault → Rose (K.faults out.old) (K.faults out.new) }
     ensures faults { K.faults out.old ≤ K.faults out.new }
     ensures untold { K.taken out.old ≡ None → K.taken out.new ≡ None }
+    ensures told_sent { (before : List ℕ) → K.taken out.old ≡ Some before → K.taken out.new ≡ Some (K.sent out.new) }
 {
     match fault {
         LoadError::ReadFault => return cannot_read(alloc, name, out),
@@ -43,13 +43,13 @@ pub fn say_unread<K: Sink>(
 
 /// Says that a file is longer than it may be.
 fn is_too_long<K: Sink>(alloc: Global, name: &str, limit: u64, out: &mut K) -> Status
-    ensures answer { (before : List ℕ) → K.taken out.old ≡ Some before →
-        Sends (IsJust Status.TooLong (Spec.too_long_line (record { name = name.now; most = limit })))
-        (Rose (K.faults out.old) (K.faults out.new)) before (K.taken out.new) result }
+    ensures answer { Sends (IsJust Status.TooLong (Spec.too_long_line (record { name = name.now; most = limit })))
+        (Rose (K.faults out.old) (K.faults out.new)) (K.sent out.old) (K.sent out.new) result }
     ensures ends { (result ≡ Status.TooLong) ⊎ (result ≡ Status.WriteFault) ⊎ (result ≡ Status.NoMemory) }
     ensures write_fault { result ≡ Status.WriteFault → Rose (K.faults out.old) (K.faults out.new) }
     ensures faults { K.faults out.old ≤ K.faults out.new }
     ensures untold { K.taken out.old ≡ None → K.taken out.new ≡ None }
+    ensures told_sent { (before : List ℕ) → K.taken out.old ≡ Some before → K.taken out.new ≡ Some (K.sent out.new) }
 {
     match too_long_line(alloc, name, limit) {
         Ok(line) => finish(out, line.as_slice(), Status::TooLong),
@@ -72,13 +72,13 @@ fn too_long_line(alloc: Global, name: &str, limit: u64) -> Result<Bytes, NoMemor
 
 /// Says that a file can't be read.
 fn cannot_read<K: Sink>(alloc: Global, name: &str, out: &mut K) -> Status
-    ensures answer { (before : List ℕ) → K.taken out.old ≡ Some before →
-        Sends (IsJust Status.ReadFault (Spec.cannot_read_line name.now))
-        (Rose (K.faults out.old) (K.faults out.new)) before (K.taken out.new) result }
+    ensures answer { Sends (IsJust Status.ReadFault (Spec.cannot_read_line name.now))
+        (Rose (K.faults out.old) (K.faults out.new)) (K.sent out.old) (K.sent out.new) result }
     ensures ends { (result ≡ Status.ReadFault) ⊎ (result ≡ Status.WriteFault) ⊎ (result ≡ Status.NoMemory) }
     ensures write_fault { result ≡ Status.WriteFault → Rose (K.faults out.old) (K.faults out.new) }
     ensures faults { K.faults out.old ≤ K.faults out.new }
     ensures untold { K.taken out.old ≡ None → K.taken out.new ≡ None }
+    ensures told_sent { (before : List ℕ) → K.taken out.old ≡ Some before → K.taken out.new ≡ Some (K.sent out.new) }
 {
     match cannot_read_line(alloc, name) {
         Ok(line) => finish(out, line.as_slice(), Status::ReadFault),

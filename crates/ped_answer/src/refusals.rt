@@ -18,13 +18,13 @@ use std::alloc::Global;
 
 /// Says that the text of a program that was made is refused.
 pub fn is_refused_text<K: Sink>(alloc: Global, refusal: Refusal, out: &mut K) -> Status
-    ensures answer { (before : List ℕ) → K.taken out.old ≡ Some before →
-        Sends (IsJust Status.ProgramRefused (Spec.refused_line (found_in_text (finding_of refusal))))
-        (Rose (K.faults out.old) (K.faults out.new)) before (K.taken out.new) result }
+    ensures answer { Sends (IsJust Status.ProgramRefused (Spec.refused_line (found_in_text (finding_of refusal))))
+        (Rose (K.faults out.old) (K.faults out.new)) (K.sent out.old) (K.sent out.new) result }
     ensures ends { (result ≡ Status.ProgramRefused) ⊎ (result ≡ Status.WriteFault) ⊎ (result ≡ Status.NoMemory) }
     ensures write_fault { result ≡ Status.WriteFault → Rose (K.faults out.old) (K.faults out.new) }
     ensures faults { K.faults out.old ≤ K.faults out.new }
     ensures untold { K.taken out.old ≡ None → K.taken out.new ≡ None }
+    ensures told_sent { (before : List ℕ) → K.taken out.old ≡ Some before → K.taken out.new ≡ Some (K.sent out.new) }
 {
     let finding = UnitFinding {
         rule: UnitRule::Text(refusal.kind),
@@ -35,13 +35,13 @@ pub fn is_refused_text<K: Sink>(alloc: Global, refusal: Refusal, out: &mut K) ->
 
 /// Says that a file's text is refused.
 pub fn is_refused<K: Sink>(alloc: Global, refusal: UnitFinding, out: &mut K) -> Status
-    ensures answer { (before : List ℕ) → K.taken out.old ≡ Some before →
-        Sends (IsJust Status.ProgramRefused (Spec.refused_line (unit_finding_of refusal)))
-        (Rose (K.faults out.old) (K.faults out.new)) before (K.taken out.new) result }
+    ensures answer { Sends (IsJust Status.ProgramRefused (Spec.refused_line (unit_finding_of refusal)))
+        (Rose (K.faults out.old) (K.faults out.new)) (K.sent out.old) (K.sent out.new) result }
     ensures ends { (result ≡ Status.ProgramRefused) ⊎ (result ≡ Status.WriteFault) ⊎ (result ≡ Status.NoMemory) }
     ensures write_fault { result ≡ Status.WriteFault → Rose (K.faults out.old) (K.faults out.new) }
     ensures faults { K.faults out.old ≤ K.faults out.new }
     ensures untold { K.taken out.old ≡ None → K.taken out.new ≡ None }
+    ensures told_sent { (before : List ℕ) → K.taken out.old ≡ Some before → K.taken out.new ≡ Some (K.sent out.new) }
 {
     match refused_line(alloc, refusal) {
         Ok(line) => finish(out, line.as_slice(), Status::ProgramRefused),

@@ -1,7 +1,7 @@
 //! Sessions: the files are read in order, and then the script is answered on the program that the first one's text expands to.
 
 ghost use Rattle.std.specs.Prelude.{◌≡◌, ◌⊎◌, ◌∷◌, [], ◌+◌, ◌≤◌, ℕ, List, Some, None, IfOk, option_map};
-ghost use Rattle.ped_io.specs.Outside.{Rose};
+ghost use Rattle.ped_io.specs.Outside.{Contents, Rose};
 ghost use Rattle.ped_session.specs.ped_tree.specs.Views.{program_tree};
 ghost use Rattle.ped_session.specs.ped_symbols.specs.NameRefusals.{IsValid};
 ghost use Rattle.ped_session.specs.ped_symbols.specs.Kinds.{table_of};
@@ -39,10 +39,13 @@ pub fn answer_files<F: Shelf, K: Sink, L: Ledger>(
 ) -> Status
     ensures served { ServedRequest (session program.now script.now (option_map (λ file. file.now) data_file.entry)) (record {
       told = F.told shelf.old;
+      may = F.may_hold shelf.new;
       counts = F.count shelf.old;
       counts_after = F.count shelf.new;
       taken = K.taken out.old;
       taken_after = K.taken out.new;
+      sent = K.sent out.old;
+      sent_after = K.sent out.new;
       faults = K.faults out.old;
       faults_after = K.faults out.new;
       steps = steps.old;
@@ -50,6 +53,7 @@ pub fn answer_files<F: Shelf, K: Sink, L: Ledger>(
       status = result;
     }) }
     ensures same { F.told shelf.new ≡ F.told shelf.old }
+    ensures less { (files : Contents) → F.may_hold shelf.new files → F.may_hold shelf.old files }
 {
     match load(alloc, shelf, program, SOURCE_LIMIT) {
         Ok(text) => answer_script_file(
@@ -80,10 +84,13 @@ fn answer_script_file<F: Shelf, K: Sink, L: Ledger>(
         (λ files. TestsInput (source_input script.now) files (λ commands. TestsData (option_map (λ file. file.now) data_file.entry) files (TestsSession text.now commands)))
         (record {
           told = F.told shelf.old;
+          may = F.may_hold shelf.new;
           counts = F.count shelf.old;
           counts_after = F.count shelf.new;
           taken = K.taken out.old;
           taken_after = K.taken out.new;
+          sent = K.sent out.old;
+          sent_after = K.sent out.new;
           faults = K.faults out.old;
           faults_after = K.faults out.new;
           steps = steps.old;
@@ -91,6 +98,7 @@ fn answer_script_file<F: Shelf, K: Sink, L: Ledger>(
           status = result;
         }) }
     ensures same { F.told shelf.new ≡ F.told shelf.old }
+    ensures less { (files : Contents) → F.may_hold shelf.new files → F.may_hold shelf.old files }
 {
     match load(alloc, shelf, script, SOURCE_LIMIT) {
         Ok(script) => answer_data(alloc, text, script.as_slice(), data_file, shelf, out, steps),
@@ -113,10 +121,13 @@ fn answer_data<F: Shelf, K: Sink, L: Ledger>(
         (λ files. TestsData (option_map (λ file. file.now) data_file.entry) files (TestsSession text.now script.now))
         (record {
           told = F.told shelf.old;
+          may = F.may_hold shelf.new;
           counts = F.count shelf.old;
           counts_after = F.count shelf.new;
           taken = K.taken out.old;
           taken_after = K.taken out.new;
+          sent = K.sent out.old;
+          sent_after = K.sent out.new;
           faults = K.faults out.old;
           faults_after = K.faults out.new;
           steps = steps.old;
@@ -124,6 +135,7 @@ fn answer_data<F: Shelf, K: Sink, L: Ledger>(
           status = result;
         }) }
     ensures same { F.told shelf.new ≡ F.told shelf.old }
+    ensures less { (files : Contents) → F.may_hold shelf.new files → F.may_hold shelf.old files }
 {
     match data_file {
         Some(name) => answer_data_file(alloc, text, script, name, shelf, out, steps),
@@ -146,10 +158,13 @@ fn answer_data_file<F: Shelf, K: Sink, L: Ledger>(
         (λ files. TestsInput (data_input name.now) files (TestsSession text.now script.now))
         (record {
           told = F.told shelf.old;
+          may = F.may_hold shelf.new;
           counts = F.count shelf.old;
           counts_after = F.count shelf.new;
           taken = K.taken out.old;
           taken_after = K.taken out.new;
+          sent = K.sent out.old;
+          sent_after = K.sent out.new;
           faults = K.faults out.old;
           faults_after = K.faults out.new;
           steps = steps.old;
@@ -157,6 +172,7 @@ fn answer_data_file<F: Shelf, K: Sink, L: Ledger>(
           status = result;
         }) }
     ensures same { F.told shelf.new ≡ F.told shelf.old }
+    ensures less { (files : Contents) → F.may_hold shelf.new files → F.may_hold shelf.old files }
 {
     match load(alloc, shelf, name, DATA_LIMIT) {
         Ok(input) => answer_texts(alloc, text, script, input.as_slice(), out, steps),
@@ -173,14 +189,14 @@ fn answer_texts<K: Sink, L: Ledger>(
     out: &mut K,
     steps: &mut Steps<L>,
 ) -> Status
-    ensures answer { (before : List ℕ) → K.taken out.old ≡ Some before →
-        Sends (IsSession text.now script.now input.now)
-        (Rose (K.faults out.old) (K.faults out.new)) before (K.taken out.new) result }
+    ensures answer { Sends (IsSession text.now script.now input.now)
+        (Rose (K.faults out.old) (K.faults out.new)) (K.sent out.old) (K.sent out.new) result }
     ensures ends { (result ≡ Status.Done) ⊎ (result ≡ Status.SomeRefused) ⊎ (result ≡ Status.ProgramRefused)
         ⊎ (result ≡ Status.WriteFault) ⊎ (result ≡ Status.NoMemory) }
     ensures write_fault { result ≡ Status.WriteFault → Rose (K.faults out.old) (K.faults out.new) }
     ensures faults { K.faults out.old ≤ K.faults out.new }
     ensures untold { K.taken out.old ≡ None → K.taken out.new ≡ None }
+    ensures told_sent { (before : List ℕ) → K.taken out.old ≡ Some before → K.taken out.new ≡ Some (K.sent out.new) }
     ensures tests { (n : ℕ) → TestsSession text.now script.now input.now n → Ticks result steps.old steps.new n }
     ensures untested { IsUntested result → steps.new ≡ steps.old }
     ensures steps { steps.old ≤ steps.new }
@@ -203,13 +219,13 @@ fn answer_program<K: Sink, L: Ledger>(
 ) -> Status
     requires valid { IsValid (program_tree program.program) }
     requires symbols { program.symbols ≡ table_of (program_tree program.program) }
-    ensures answer { (before : List ℕ) → K.taken out.old ≡ Some before →
-        Sends (AnswersFrom (opened (program_tree program.program)) script.now input.now)
-        (Rose (K.faults out.old) (K.faults out.new)) before (K.taken out.new) result }
+    ensures answer { Sends (AnswersFrom (opened (program_tree program.program)) script.now input.now)
+        (Rose (K.faults out.old) (K.faults out.new)) (K.sent out.old) (K.sent out.new) result }
     ensures ends { (result ≡ Status.Done) ⊎ (result ≡ Status.SomeRefused) ⊎ (result ≡ Status.WriteFault) ⊎ (result ≡ Status.NoMemory) }
     ensures write_fault { result ≡ Status.WriteFault → Rose (K.faults out.old) (K.faults out.new) }
     ensures faults { K.faults out.old ≤ K.faults out.new }
     ensures untold { K.taken out.old ≡ None → K.taken out.new ≡ None }
+    ensures told_sent { (before : List ℕ) → K.taken out.old ≡ Some before → K.taken out.new ≡ Some (K.sent out.new) }
     ensures tests { (said : Said) (last : State) → AnswersItems (commands_of script.now) input.now (opened (program_tree program.program)) said last
         → Ticks result steps.old steps.new (pair_count (references (program_tree program.program)) + said.tests) }
     ensures steps { steps.old ≤ steps.new }
@@ -229,13 +245,13 @@ fn answer_script<K: Sink, L: Ledger>(
     out: &mut K,
     steps: &mut Steps<L>,
 ) -> Status
-    ensures answer { (before : List ℕ) → K.taken out.old ≡ Some before →
-        Sends (AnswersFrom session.old script.now input.now)
-        (Rose (K.faults out.old) (K.faults out.new)) before (K.taken out.new) result }
+    ensures answer { Sends (AnswersFrom session.old script.now input.now)
+        (Rose (K.faults out.old) (K.faults out.new)) (K.sent out.old) (K.sent out.new) result }
     ensures ends { (result ≡ Status.Done) ⊎ (result ≡ Status.SomeRefused) ⊎ (result ≡ Status.WriteFault) ⊎ (result ≡ Status.NoMemory) }
     ensures write_fault { result ≡ Status.WriteFault → Rose (K.faults out.old) (K.faults out.new) }
     ensures faults { K.faults out.old ≤ K.faults out.new }
     ensures untold { K.taken out.old ≡ None → K.taken out.new ≡ None }
+    ensures told_sent { (before : List ℕ) → K.taken out.old ≡ Some before → K.taken out.new ≡ Some (K.sent out.new) }
     ensures tests { (said : Said) (last : State) → AnswersItems (commands_of script.now) input.now session.old said last → Ticks result steps.old steps.new said.tests }
     ensures steps { steps.old ≤ steps.new }
 {

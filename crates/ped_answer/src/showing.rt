@@ -1,7 +1,7 @@
 //! Programs that are shown: both panes, or why the file's text is refused.
 
 ghost use Rattle.std.specs.Prelude.{◌≡◌, ◌⊎◌, ◌≤◌, ℕ, List, Some, None};
-ghost use Rattle.ped_io.specs.Outside.{Rose};
+ghost use Rattle.ped_io.specs.Outside.{Contents, Rose};
 ghost use Rattle.ped_session.specs.ped_tree.specs.Views.{program_tree};
 ghost use Rattle.ped_session.specs.ped_symbols.specs.NameRefusals.{IsValid};
 ghost use Rattle.ped_session.specs.ped_symbols.specs.Kinds.{table_of};
@@ -35,10 +35,13 @@ pub fn show_file<F: Shelf, K: Sink, L: Ledger>(
 ) -> Status
     ensures served { ServedRequest (show program.now) (record {
       told = F.told shelf.old;
+      may = F.may_hold shelf.new;
       counts = F.count shelf.old;
       counts_after = F.count shelf.new;
       taken = K.taken out.old;
       taken_after = K.taken out.new;
+      sent = K.sent out.old;
+      sent_after = K.sent out.new;
       faults = K.faults out.old;
       faults_after = K.faults out.new;
       steps = steps.old;
@@ -46,6 +49,7 @@ pub fn show_file<F: Shelf, K: Sink, L: Ledger>(
       status = result;
     }) }
     ensures same { F.told shelf.new ≡ F.told shelf.old }
+    ensures less { (files : Contents) → F.may_hold shelf.new files → F.may_hold shelf.old files }
 {
     match load(alloc, shelf, program, SOURCE_LIMIT) {
         Ok(text) => show_text(alloc, text.as_slice(), out, steps),
@@ -60,14 +64,14 @@ fn show_text<K: Sink, L: Ledger>(
     out: &mut K,
     steps: &mut Steps<L>,
 ) -> Status
-    ensures answer { (before : List ℕ) → K.taken out.old ≡ Some before →
-        Sends (IsShown text.now)
-        (Rose (K.faults out.old) (K.faults out.new)) before (K.taken out.new) result }
+    ensures answer { Sends (IsShown text.now)
+        (Rose (K.faults out.old) (K.faults out.new)) (K.sent out.old) (K.sent out.new) result }
     ensures ends { (result ≡ Status.Done) ⊎ (result ≡ Status.ProgramRefused)
         ⊎ (result ≡ Status.WriteFault) ⊎ (result ≡ Status.NoMemory) }
     ensures write_fault { result ≡ Status.WriteFault → Rose (K.faults out.old) (K.faults out.new) }
     ensures faults { K.faults out.old ≤ K.faults out.new }
     ensures untold { K.taken out.old ≡ None → K.taken out.new ≡ None }
+    ensures told_sent { (before : List ℕ) → K.taken out.old ≡ Some before → K.taken out.new ≡ Some (K.sent out.new) }
     ensures tests { (n : ℕ) → TestsText text.now n → Ticks result steps.old steps.new n }
     ensures untested { IsUntested result → steps.new ≡ steps.old }
     ensures steps { steps.old ≤ steps.new }
@@ -89,13 +93,13 @@ fn show_program<K: Sink, L: Ledger>(
 ) -> Status
     requires valid { IsValid (program_tree program.now) }
     requires constants { consts.now ≡ (table_of (program_tree program.now)).constants }
-    ensures answer { (before : List ℕ) → K.taken out.old ≡ Some before →
-        Sends (ShowsTree (program_tree program.now))
-        (Rose (K.faults out.old) (K.faults out.new)) before (K.taken out.new) result }
+    ensures answer { Sends (ShowsTree (program_tree program.now))
+        (Rose (K.faults out.old) (K.faults out.new)) (K.sent out.old) (K.sent out.new) result }
     ensures ends { (result ≡ Status.Done) ⊎ (result ≡ Status.WriteFault) ⊎ (result ≡ Status.NoMemory) }
     ensures write_fault { result ≡ Status.WriteFault → Rose (K.faults out.old) (K.faults out.new) }
     ensures faults { K.faults out.old ≤ K.faults out.new }
     ensures untold { K.taken out.old ≡ None → K.taken out.new ≡ None }
+    ensures told_sent { (before : List ℕ) → K.taken out.old ≡ Some before → K.taken out.new ≡ Some (K.sent out.new) }
     ensures tests { Ticks result steps.old steps.new (pair_count (references (program_tree program.now))) }
     ensures steps { steps.old ≤ steps.new }
 {

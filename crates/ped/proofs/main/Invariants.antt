@@ -1,4 +1,4 @@
 use Rattle.ped.proofs.main.Given as goal
 
-abbrev pub ghosts-answered : goal.ghosts-answered
-ghosts-answered a = record { name = a.blank.name; parts = a.blank.parts }
+abbrev pub ghosts-called : goal.ghosts-called
+ghosts-called a = record { name = a.blank.name; parts = a.blank.parts }

@@ -15,10 +15,13 @@ use Rattle.ped_answer.proofs.answering.ped_main.Goals as goal
 abbrev call_of : (g : Over) (c : goal.After-serve g) → Call
 call_of g c = record {
   told = g.F.Shelf.told c.args.shelf.now;
+  may = g.F.Shelf.may_hold c.serve.new.shelf;
   counts = g.F.Shelf.count c.args.shelf.now;
   counts_after = g.F.Shelf.count c.serve.new.shelf;
   taken = g.K.Sink.taken c.args.out.now;
   taken_after = g.K.Sink.taken c.serve.new.out;
+  sent = g.K.Sink.sent c.args.out.now;
+  sent_after = g.K.Sink.sent c.serve.new.out;
   faults = g.K.Sink.faults c.args.out.now;
   faults_after = g.K.Sink.faults c.serve.new.out;
   steps = c.args.steps.now;
@@ -46,48 +49,63 @@ pub returns-in-Ok-clause-too_long : goal.returns-in-Ok-clause-too_long
 returns-in-Ok-clause-too_long g c = (served g c).too_long
 
 pub returns-in-Ok-clause-complete : goal.returns-in-Ok-clause-complete
-returns-in-Ok-clause-complete g c = λ files told before taken none sure.
-    let o = returns-in-Ok-clause-answer g c files told before taken in
+returns-in-Ok-clause-complete g c = λ files may none sure.
+    let o = returns-in-Ok-clause-answer g c files may in
     let failed : List ℕ → Type 0 = λ (name : List ℕ). Rose (g.F.Shelf.count c.args.shelf.now name) (g.F.Shelf.count c.serve.new.shelf name) in
-    whole_of _ files failed _ _ before o.0 c.serve.result o.1 o.2 none sure
+    whole_of _ files failed _ _ _ o.0 c.serve.result o.1 o.2 none sure
 
 -- what was written whole is the answer
-written : (g : Over) (c : goal.After-serve g) (files : Contents) → g.F.Shelf.told c.args.shelf.now ≡ Some files → (before : List ℕ) → g.K.Sink.taken c.args.out.now ≡ Some before → IsWhole c.serve.result
-    → (bytes : List ℕ) × (g.K.Sink.taken c.serve.new.out ≡ Some (before ++ bytes)) × Answers (request_of (map string_bytes c.args.words.now)) files c.serve.result bytes
-written g c files told before taken whole =
-    let o = returns-in-Ok-clause-answer g c files told before taken in
+written : (g : Over) (c : goal.After-serve g) (files : Contents) → g.F.Shelf.may_hold c.serve.new.shelf files → IsWhole c.serve.result
+    → (bytes : List ℕ) × (g.K.Sink.sent c.serve.new.out ≡ g.K.Sink.sent c.args.out.now ++ bytes) × Answers (request_of (map string_bytes c.args.words.now)) files c.serve.result bytes
+written g c files may whole =
+    let o = returns-in-Ok-clause-answer g c files may in
     let failed : List ℕ → Type 0 = λ (name : List ℕ). Rose (g.F.Shelf.count c.args.shelf.now name) (g.F.Shelf.count c.serve.new.shelf name) in
     (o.0, o.1, sent_whole _ files failed _ o.0 c.serve.result whole o.2)
 
+pub returns-in-Ok-clause-headline : goal.returns-in-Ok-clause-headline
+returns-in-Ok-clause-headline g c = λ files may whole.
+    let o = written g c files may whole in (
+      o.0,
+      o.1,
+      record {
+        panes = c.panes_are_afresh.ensures _ files c.serve.result o.0 whole o.2;
+        history = c.history_is_kept.ensures _ files c.serve.result o.0 whole o.2;
+        runs = c.runs_are_as_before.ensures _ files c.serve.result o.0 whole o.2;
+        units = c.units_run_as_expanded.ensures _ files c.serve.result o.0 whole o.2;
+        causes = c.refusals_have_causes.ensures _ files c.serve.result o.0 whole o.2;
+        parallelised = c.auto_is_told.ensures _ files c.serve.result o.0 whole o.2;
+      },
+    )
+
 pub returns-in-Ok-clause-panes : goal.returns-in-Ok-clause-panes
-returns-in-Ok-clause-panes g c = λ files told before taken whole.
-    let o = written g c files told before taken whole in
-    (o.0, o.1, c.panes_are_afresh.ensures _ files c.serve.result o.0 whole o.2)
+returns-in-Ok-clause-panes g c = λ files may whole.
+    let o = returns-in-Ok-clause-headline g c files may whole in
+    (o.0, o.1, o.2.panes)
 
 pub returns-in-Ok-clause-history : goal.returns-in-Ok-clause-history
-returns-in-Ok-clause-history g c = λ files told before taken whole.
-    let o = written g c files told before taken whole in
-    (o.0, o.1, c.history_is_kept.ensures _ files c.serve.result o.0 whole o.2)
+returns-in-Ok-clause-history g c = λ files may whole.
+    let o = returns-in-Ok-clause-headline g c files may whole in
+    (o.0, o.1, o.2.history)
 
 pub returns-in-Ok-clause-runs : goal.returns-in-Ok-clause-runs
-returns-in-Ok-clause-runs g c = λ files told before taken whole.
-    let o = written g c files told before taken whole in
-    (o.0, o.1, c.runs_are_as_before.ensures _ files c.serve.result o.0 whole o.2)
+returns-in-Ok-clause-runs g c = λ files may whole.
+    let o = returns-in-Ok-clause-headline g c files may whole in
+    (o.0, o.1, o.2.runs)
 
 pub returns-in-Ok-clause-units : goal.returns-in-Ok-clause-units
-returns-in-Ok-clause-units g c = λ files told before taken whole.
-    let o = written g c files told before taken whole in
-    (o.0, o.1, c.units_run_as_expanded.ensures _ files c.serve.result o.0 whole o.2)
+returns-in-Ok-clause-units g c = λ files may whole.
+    let o = returns-in-Ok-clause-headline g c files may whole in
+    (o.0, o.1, o.2.units)
 
 pub returns-in-Ok-clause-causes : goal.returns-in-Ok-clause-causes
-returns-in-Ok-clause-causes g c = λ files told before taken whole.
-    let o = written g c files told before taken whole in
-    (o.0, o.1, c.refusals_have_causes.ensures _ files c.serve.result o.0 whole o.2)
+returns-in-Ok-clause-causes g c = λ files may whole.
+    let o = returns-in-Ok-clause-headline g c files may whole in
+    (o.0, o.1, o.2.causes)
 
 pub returns-in-Ok-clause-parallelised : goal.returns-in-Ok-clause-parallelised
-returns-in-Ok-clause-parallelised g c = λ files told before taken whole.
-    let o = written g c files told before taken whole in
-    (o.0, o.1, c.auto_is_told.ensures _ files c.serve.result o.0 whole o.2)
+returns-in-Ok-clause-parallelised g c = λ files may whole.
+    let o = returns-in-Ok-clause-headline g c files may whole in
+    (o.0, o.1, o.2.parallelised)
 
 pub returns-in-Ok-clause-counts : goal.returns-in-Ok-clause-counts
 returns-in-Ok-clause-counts g c = (served g c).rises
@@ -101,6 +119,9 @@ returns-in-Ok-clause-faults g c = (served g c).sink_rises
 pub returns-in-Ok-clause-untold : goal.returns-in-Ok-clause-untold
 returns-in-Ok-clause-untold g c = (served g c).untold
 
+pub returns-in-Ok-clause-told_sent : goal.returns-in-Ok-clause-told_sent
+returns-in-Ok-clause-told_sent g c = (served g c).told_sent
+
 pub returns-in-Ok-clause-tests : goal.returns-in-Ok-clause-tests
 returns-in-Ok-clause-tests g c = (served g c).ticks
 
@@ -111,11 +132,11 @@ pub returns-in-Ok-clause-steps : goal.returns-in-Ok-clause-steps
 returns-in-Ok-clause-steps g c = (served g c).steps_rise
 
 pub returns-in-Err-Bad-clause-answer : goal.returns-in-Err-Bad-clause-answer
-returns-in-Err-Bad-clause-answer g c = λ files told before taken.
-    let o = c.finish.ensures.answer before taken in
+returns-in-Err-Bad-clause-answer g c = λ files may.
+    let o = c.finish.ensures.answer in
     let failed : List ℕ → Type 0 = λ (name : List ℕ). Rose (g.F.Shelf.count c.args.shelf.now name) (g.F.Shelf.count c.args.shelf.now name) in
     let none = c.in-Err-Bad.ensures.bad (ap Err c.in-Err-Bad.field-0-is) in
     (o.0, o.1, outcome_weaker (IsJust BadWords usage_line) (MayAnswer _ files failed) (usage_may_answer _ files failed none) _ o.0 c.finish.result o.2)
 
 pub returns-in-Err-Bad-clause-tests : goal.returns-in-Err-Bad-clause-tests
-returns-in-Err-Bad-clause-tests g c = λ files told n tests. idle_writing c.finish.result BadWords _ n (λ e. cc) (λ e. cc) c.finish.ensures.ends
+returns-in-Err-Bad-clause-tests g c = λ files may n tests. idle_writing c.finish.result BadWords _ n (λ e. cc) (λ e. cc) c.finish.ensures.ends

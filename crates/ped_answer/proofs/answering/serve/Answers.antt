@@ -13,10 +13,13 @@ returns-in-Generate-clause-served g c =
     let size = c.in-Generate.size in
     let call : Call = record {
       told = g.F.Shelf.told c.args.shelf.now;
+      may = g.F.Shelf.may_hold c.args.shelf.now;
       counts = g.F.Shelf.count c.args.shelf.now;
       counts_after = g.F.Shelf.count c.args.shelf.now;
       taken = g.K.Sink.taken c.args.out.now;
       taken_after = g.K.Sink.taken c.answer_size.new.out;
+      sent = g.K.Sink.sent c.args.out.now;
+      sent_after = g.K.Sink.sent c.answer_size.new.out;
       faults = g.K.Sink.faults c.args.out.now;
       faults_after = g.K.Sink.faults c.answer_size.new.out;
       steps = c.args.steps.now;
@@ -26,5 +29,5 @@ returns-in-Generate-clause-served g c =
     subst (λ (r : Request). ServedRequest (request_view r) call) (sym c.in-Generate.is)
     (text_served (IsGenerated size) (TestsGenerated size) call
     (λ files failed. generated_given size files failed)
-    (shown_ends c.answer_size.result c.answer_size.ensures.ends) (λ name. refl) c.answer_size.ensures.answer c.answer_size.ensures.write_fault c.answer_size.ensures.faults c.answer_size.ensures.untold
+    (shown_ends c.answer_size.result c.answer_size.ensures.ends) (λ name. refl) c.answer_size.ensures.answer c.answer_size.ensures.write_fault c.answer_size.ensures.faults c.answer_size.ensures.untold c.answer_size.ensures.told_sent
     c.answer_size.ensures.tests c.answer_size.ensures.untested c.answer_size.ensures.steps)

@@ -1,23 +1,37 @@
-use Rattle.std.proofs.Common.{◌++◌, List, ℕ, take, option_map, ap, ◌∙◌}
+use Rattle.std.proofs.Common.{ℕ, List, take}
 use Rattle.ped_io.specs.Faults.{sent_of}
-use Rattle.ped_answer.proofs.Outcomes.{front_of, counted}
+use Rattle.ped_answer.proofs.Outcomes.{front_of, counted, more_told}
 use Rattle.ped_answer.proofs.finishing.finish.Goals as goal
 
+pub returns-in-Ok-clause-told_sent : goal.returns-in-Ok-clause-told_sent
+returns-in-Ok-clause-told_sent g c = λ before told.
+    more_told _ _ _ c.args.bytes.now (g.met.K.Sink.taken_sent c.put_all.new.sink) c.in-Ok.ensures.all before told
+
 pub returns-in-Err-WriteFault-clause-answer : goal.returns-in-Err-WriteFault-clause-answer
-returns-in-Err-WriteFault-clause-answer g c = λ before told.
+returns-in-Err-WriteFault-clause-answer g c =
     let n = sent_of c.in-Err-WriteFault.field-0 in (
       take n c.args.bytes.now,
-      c.in-Err-WriteFault.ensures.part ∙ ap (option_map (λ (b : List ℕ). b ++ take n c.args.bytes.now)) told,
+      c.in-Err-WriteFault.ensures.sent_part,
       (
         counted c.in-Err-WriteFault.field-0 c.in-Err-WriteFault.field-0-0 _ c.in-Err-WriteFault.ensures.cause c.in-Err-WriteFault.field-0-is,
         front_of c.args.status c.args.bytes.now n,
       ),
     )
 
+pub returns-in-Err-WriteFault-clause-told_sent : goal.returns-in-Err-WriteFault-clause-told_sent
+returns-in-Err-WriteFault-clause-told_sent g c = λ before told.
+    let n = sent_of c.in-Err-WriteFault.field-0 in
+    more_told _ _ _ (take n c.args.bytes.now) (g.met.K.Sink.taken_sent c.put_all.new.sink) c.in-Err-WriteFault.ensures.part before told
+
 pub returns-in-Err-NoMemory-clause-answer : goal.returns-in-Err-NoMemory-clause-answer
-returns-in-Err-NoMemory-clause-answer g c = λ before told.
+returns-in-Err-NoMemory-clause-answer g c =
     let n = sent_of c.in-Err-NoMemory.field-0 in (
       take n c.args.bytes.now,
-      c.in-Err-NoMemory.ensures.part ∙ ap (option_map (λ (b : List ℕ). b ++ take n c.args.bytes.now)) told,
+      c.in-Err-NoMemory.ensures.sent_part,
       front_of c.args.status c.args.bytes.now n,
     )
+
+pub returns-in-Err-NoMemory-clause-told_sent : goal.returns-in-Err-NoMemory-clause-told_sent
+returns-in-Err-NoMemory-clause-told_sent g c = λ before told.
+    let n = sent_of c.in-Err-NoMemory.field-0 in
+    more_told _ _ _ (take n c.args.bytes.now) (g.met.K.Sink.taken_sent c.put_all.new.sink) c.in-Err-NoMemory.ensures.part before told

@@ -8,8 +8,8 @@ use Rattle.ped_answer.proofs.Outcomes.{outcome_weaker, report_written}
 use Rattle.ped_answer.proofs.generating.answer_session.Goals as goal
 
 pub returns-in-Ok-clause-answer : goal.returns-in-Ok-clause-answer
-returns-in-Ok-clause-answer g c = λ before told.
-    let o = c.finish.ensures.answer before told in
+returns-in-Ok-clause-answer g c =
+    let o = c.finish.ensures.answer in
     let r = c.in-Ok.ensures.reports in
     let size = c.args.size in
     let bytes = c.as_slice.result.now in

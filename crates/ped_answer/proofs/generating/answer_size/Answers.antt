@@ -18,8 +18,8 @@ use Rattle.ped_answer.proofs.Outcomes.{outcome_weaker, report_generated, refusal
 use Rattle.ped_answer.proofs.generating.answer_size.Goals as goal
 
 pub returns-in-Ok-open-clause-answer : goal.returns-in-Ok-open-clause-answer
-returns-in-Ok-open-clause-answer g c = λ before told.
-    let o = c.answer_session.ensures.answer before told in
+returns-in-Ok-open-clause-answer g c =
+    let o = c.answer_session.ensures.answer in
     let size = c.args.size in
     (o.0, o.1, outcome_weaker (AnswersReport size) (IsGenerated size) (report_generated size) _ o.0 c.answer_session.result o.2)
 
@@ -35,8 +35,8 @@ pub returns-in-Ok-open-clause-untested : goal.returns-in-Ok-open-clause-untested
 returns-in-Ok-open-clause-untested g c = λ untested. absurd (is_report_tested c.answer_session.result c.answer_session.ensures.ends untested)
 
 pub returns-in-Err-At-clause-answer : goal.returns-in-Err-At-clause-answer
-returns-in-Err-At-clause-answer g c = λ before told.
-    let o = c.is_refused_text.ensures.answer before told in
+returns-in-Err-At-clause-answer g c =
+    let o = c.is_refused_text.ensures.answer in
     let size = c.args.size in
     let f = finding_of c.in-Err-At.refusal in
     let refused = subst (λ (text : List ℕ). RefusesText text f) (c.as_slice.ensures ∙ c.in-Ok.ensures) (subst (IsRefusalOf c.as_slice.result.now) c.in-Err-At.field-0-is c.in-Err-At.ensures.refused) in

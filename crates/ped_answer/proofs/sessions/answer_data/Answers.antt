@@ -12,10 +12,13 @@ returns-in-Some-clause-served g c =
     let script = c.args.script.now in
     let call : Call = record {
       told = g.F.Shelf.told c.args.shelf.now;
+      may = g.F.Shelf.may_hold c.answer_data_file.new.shelf;
       counts = g.F.Shelf.count c.args.shelf.now;
       counts_after = g.F.Shelf.count c.answer_data_file.new.shelf;
       taken = g.K.Sink.taken c.args.out.now;
       taken_after = g.K.Sink.taken c.answer_data_file.new.out;
+      sent = g.K.Sink.sent c.args.out.now;
+      sent_after = g.K.Sink.sent c.answer_data_file.new.out;
       faults = g.K.Sink.faults c.args.out.now;
       faults_after = g.K.Sink.faults c.answer_data_file.new.out;
       steps = c.args.steps.now;
@@ -32,10 +35,13 @@ returns-in-None-clause-served g c =
     let script = c.args.script.now in
     let call : Call = record {
       told = g.F.Shelf.told c.args.shelf.now;
+      may = g.F.Shelf.may_hold c.args.shelf.now;
       counts = g.F.Shelf.count c.args.shelf.now;
       counts_after = g.F.Shelf.count c.args.shelf.now;
       taken = g.K.Sink.taken c.args.out.now;
       taken_after = g.K.Sink.taken c.answer_texts.new.out;
+      sent = g.K.Sink.sent c.args.out.now;
+      sent_after = g.K.Sink.sent c.answer_texts.new.out;
       faults = g.K.Sink.faults c.args.out.now;
       faults_after = g.K.Sink.faults c.answer_texts.new.out;
       steps = c.args.steps.now;
@@ -46,5 +52,5 @@ returns-in-None-clause-served g c =
     (sym (ap (option_map (λ (file : Bor (List ℕ)). file.now)) c.in-None.is))
     (text_served (IsSession text script []) (TestsSession text script []) call
     (λ files failed. session_given text script [] files failed)
-    (session_ends c.answer_texts.result c.answer_texts.ensures.ends) (λ name. refl) c.answer_texts.ensures.answer c.answer_texts.ensures.write_fault c.answer_texts.ensures.faults c.answer_texts.ensures.untold
+    (session_ends c.answer_texts.result c.answer_texts.ensures.ends) (λ name. refl) c.answer_texts.ensures.answer c.answer_texts.ensures.write_fault c.answer_texts.ensures.faults c.answer_texts.ensures.untold c.answer_texts.ensures.told_sent
     c.answer_texts.ensures.tests c.answer_texts.ensures.untested c.answer_texts.ensures.steps)

@@ -13,10 +13,13 @@ returns-in-Ok-clause-served g c =
     let bytes = c.as_slice.result.now in
     let rest : Call = record {
       told = g.F.Shelf.told c.load.new.shelf;
+      may = g.F.Shelf.may_hold c.answer_script_file.new.shelf;
       counts = g.F.Shelf.count c.load.new.shelf;
       counts_after = g.F.Shelf.count c.answer_script_file.new.shelf;
       taken = g.K.Sink.taken c.args.out.now;
       taken_after = g.K.Sink.taken c.answer_script_file.new.out;
+      sent = g.K.Sink.sent c.args.out.now;
+      sent_after = g.K.Sink.sent c.answer_script_file.new.out;
       faults = g.K.Sink.faults c.args.out.now;
       faults_after = g.K.Sink.faults c.answer_script_file.new.out;
       steps = c.args.steps.now;
@@ -25,7 +28,7 @@ returns-in-Ok-clause-served g c =
     } in
     read_served (source_input c.args.program.now) (source_input c.args.script.now ∷ data_inputs data_file) (λ text files. AnswersInput (source_input c.args.script.now) files (λ commands. AnswersData data_file files (IsSession text commands))) (λ text files. TestsInput (source_input c.args.script.now) files (λ commands. TestsData data_file files (TestsSession text commands)))
     (g.F.Shelf.told c.args.shelf.now) (g.F.Shelf.count c.args.shelf.now) bytes rest
-    (λ files told. c.in-Ok.ensures.loaded files told ∙ ap Some (sym c.as_slice.ensures))
+    (λ files may. c.in-Ok.ensures.loaded files (c.answer_script_file.ensures.less files may) ∙ ap Some (sym c.as_slice.ensures))
     (subst (λ (x : List ℕ). length x ≤ 1048576) (sym c.as_slice.ensures) c.in-Ok.ensures.within)
     c.load.ensures.counts c.load.ensures.others c.load.ensures.same
     c.answer_script_file.ensures.served
@@ -36,10 +39,13 @@ returns-in-Err-clause-served g c =
     let data_file = option_map (λ (file : _). file.now) c.args.data_file in
     let said : Call = record {
       told = g.F.Shelf.told c.args.shelf.now;
+      may = g.F.Shelf.may_hold c.load.new.shelf;
       counts = g.F.Shelf.count c.args.shelf.now;
       counts_after = g.F.Shelf.count c.load.new.shelf;
       taken = g.K.Sink.taken c.args.out.now;
       taken_after = g.K.Sink.taken c.say_unread.new.out;
+      sent = g.K.Sink.sent c.args.out.now;
+      sent_after = g.K.Sink.sent c.say_unread.new.out;
       faults = g.K.Sink.faults c.args.out.now;
       faults_after = g.K.Sink.faults c.say_unread.new.out;
       steps = c.args.steps.now;
@@ -49,4 +55,4 @@ returns-in-Err-clause-served g c =
     unread_served (source_input c.args.program.now) (source_input c.args.script.now ∷ data_inputs data_file) (λ text files. AnswersInput (source_input c.args.script.now) files (λ commands. AnswersData data_file files (IsSession text commands))) (λ text files. TestsInput (source_input c.args.script.now) files (λ commands. TestsData data_file files (TestsSession text commands))) c.in-Err.fault said
     (λ e. c.in-Err.ensures.fault (ap Err e)) (λ e. c.in-Err.ensures.too_long (ap Err e))
     c.load.ensures.counts c.load.ensures.others
-    c.say_unread.ensures.answer c.say_unread.ensures.ends c.say_unread.ensures.write_fault c.say_unread.ensures.faults c.say_unread.ensures.untold refl
+    c.say_unread.ensures.answer c.say_unread.ensures.ends c.say_unread.ensures.write_fault c.say_unread.ensures.faults c.say_unread.ensures.untold c.say_unread.ensures.told_sent refl

@@ -7,8 +7,8 @@ use Rattle.ped_answer.proofs.Outcomes.{outcome_weaker}
 use Rattle.ped_answer.proofs.sessions.answer_program.Goals as goal
 
 pub returns-in-Ok-clause-answer : goal.returns-in-Ok-clause-answer
-returns-in-Ok-clause-answer g c = λ before told.
-    let o = c.answer_script.ensures.answer before told in
+returns-in-Ok-clause-answer g c =
+    let o = c.answer_script.ensures.answer in
     let script = c.args.script.now in
     let input = c.args.input.now in
     let first = opened (program_tree c.args.program.program) in

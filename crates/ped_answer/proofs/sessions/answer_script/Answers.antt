@@ -8,8 +8,8 @@ use Rattle.ped_answer.proofs.Outcomes.{outcome_weaker, said_from}
 use Rattle.ped_answer.proofs.sessions.answer_script.Goals as goal
 
 pub returns-in-Ok-clause-answer : goal.returns-in-Ok-clause-answer
-returns-in-Ok-clause-answer g c = λ before told.
-    let o = c.finish.ensures.answer before told in
+returns-in-Ok-clause-answer g c =
+    let o = c.finish.ensures.answer in
     let state = c.args.session.now in
     let script = c.args.script.now in
     let input = c.args.input.now in

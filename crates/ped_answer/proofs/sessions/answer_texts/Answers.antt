@@ -11,8 +11,8 @@ use Rattle.ped_answer.proofs.Outcomes.{outcome_weaker, script_answered, refusal_
 use Rattle.ped_answer.proofs.sessions.answer_texts.Goals as goal
 
 pub returns-in-Ok-clause-answer : goal.returns-in-Ok-clause-answer
-returns-in-Ok-clause-answer g c = λ before told.
-    let o = c.answer_program.ensures.answer before told in
+returns-in-Ok-clause-answer g c =
+    let o = c.answer_program.ensures.answer in
     let text = c.args.text.now in
     let script = c.args.script.now in
     let input = c.args.input.now in
@@ -27,8 +27,8 @@ pub returns-in-Ok-clause-untested : goal.returns-in-Ok-clause-untested
 returns-in-Ok-clause-untested g c = λ untested. absurd (is_session_tested c.answer_program.result c.answer_program.ensures.ends untested)
 
 pub returns-in-Err-At-clause-answer : goal.returns-in-Err-At-clause-answer
-returns-in-Err-At-clause-answer g c = λ before told.
-    let o = c.is_refused.ensures.answer before told in
+returns-in-Err-At-clause-answer g c =
+    let o = c.is_refused.ensures.answer in
     let text = c.args.text.now in
     let script = c.args.script.now in
     let input = c.args.input.now in

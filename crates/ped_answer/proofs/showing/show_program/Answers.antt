@@ -8,8 +8,8 @@ use Rattle.ped_answer.proofs.Outcomes.{outcome_weaker}
 use Rattle.ped_answer.proofs.showing.show_program.Goals as goal
 
 pub returns-in-Ok-clause-answer : goal.returns-in-Ok-clause-answer
-returns-in-Ok-clause-answer g c = λ before told.
-    let o = c.finish.ensures.answer before told in
+returns-in-Ok-clause-answer g c =
+    let o = c.finish.ensures.answer in
     let t = program_tree c.args.program.now in
     (o.0, o.1, outcome_weaker (IsJust Done c.as_slice.result.now) (ShowsTree t) (λ s b j. (j.0, subst (ArePanes t) (sym (j.1 ∙ c.as_slice.ensures)) c.in-Ok.ensures.panes)) _ o.0 c.finish.result o.2)
 

@@ -9,15 +9,15 @@ use Rattle.ped_answer.proofs.Outcomes.{outcome_weaker, tree_shown, refusal_shown
 use Rattle.ped_answer.proofs.showing.show_text.Goals as goal
 
 pub returns-in-Ok-clause-answer : goal.returns-in-Ok-clause-answer
-returns-in-Ok-clause-answer g c = λ before told.
-    let o = c.show_program.ensures.answer before told in
+returns-in-Ok-clause-answer g c =
+    let o = c.show_program.ensures.answer in
     let text = c.args.text.now in
     let t = program_tree c.in-Ok.opened.program in
     (o.0, o.1, outcome_weaker (ShowsTree t) (IsShown text) (tree_shown text t c.in-Ok.ensures.tree) _ o.0 c.show_program.result o.2)
 
 pub returns-in-Err-At-clause-answer : goal.returns-in-Err-At-clause-answer
-returns-in-Err-At-clause-answer g c = λ before told.
-    let o = c.is_refused.ensures.answer before told in
+returns-in-Err-At-clause-answer g c =
+    let o = c.is_refused.ensures.answer in
     let text = c.args.text.now in
     let f = unit_finding_of c.in-Err-At.refusal in
     (o.0, o.1, outcome_weaker (IsJust ProgramRefused (refused_line f)) (IsShown text) (refusal_shown text f (subst (IsUnitRefusalOf text) c.in-Err-At.field-0-is c.in-Err-At.ensures.refused)) _ o.0 c.is_refused.result o.2)

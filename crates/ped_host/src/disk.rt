@@ -1,23 +1,24 @@
-//! The machine's files and standard output, as the program asks for them. What they hold is not told;
-//! each counts its faults.
+//! The machine's files.
 
-ghost use Rattle.std.specs.Prelude.{◌≡◌, ◌≤◌, IfOk, None, length};
+ghost use Rattle.std.specs.Prelude.{◌≡◌, ◌≤◌, IfOk, None, [], length};
 ghost use Rattle.ped_io.specs.Outside.{Rose};
 
-use ped_io::{OutsideFault, Shelf, Sink};
+use crate::log::Log;
+use ped_io::{OutsideFault, Shelf};
 use std::alloc::Global;
 use std::io::{Read, Seek, SeekFrom};
 use std::rt::Files;
 use std::{fs, io};
 
 /// The machine's files by their paths. One file at a time stays open, so that it is read on where the
-/// last read ended.
+/// last read ended. What each read gave is noted.
 #[derive(Drop)]
 pub struct DiskShelf<'a, R: Files> {
     files: &'a R,
     alloc: Global,
     open: Option<OpenFile<R::File>>,
     faults: u64,
+    log: Log,
 }
 
 #[derive(Drop)]
@@ -28,21 +29,24 @@ struct OpenFile<F> {
 }
 
 impl<'a, R: Files> DiskShelf<'a, R> {
-    /// The machine's files, with no fault counted.
+    /// The machine's files, with no fault counted and nothing read.
     pub fn new(alloc: Global, files: &'a R) -> Self
-        ensures { result.faults ≡ 0 }
+        ensures none { result.faults ≡ 0 }
+        ensures log { result.log.events ≡ [] }
     {
         DiskShelf {
             files,
             alloc,
             open: None,
             faults: 0,
+            log: Log::new(),
         }
     }
 
     fn read_on(&mut self, name: &str, at: u64, piece: &mut [u8]) -> io::Result<usize>
         ensures within { IfOk result (λ n. n ≤ length piece.old) }
         ensures faults { self.new.faults ≡ self.old.faults }
+        ensures log { self.new.log ≡ self.old.log }
     {
         let kept = String::from_str(self.alloc, name)?;
         let mut file = match self.open.take() {
@@ -70,13 +74,22 @@ fn open_at<R: Files>(files: &R, name: &str, at: u64) -> io::Result<R::File> {
 }
 
 impl<R: Files> Shelf for DiskShelf<'_, R> {
+    ghost use Rattle.std.proofs.lemmas.Option.{none-some};
+    ghost use Rattle.ped_host.specs.Reads.{MayHold};
+
     ghost told = { λ _. None };
+
+    ghost may_hold = { λ s files. MayHold files s.log.events };
 
     ghost count = { λ s _. s.faults };
 
     fn read_at(&mut self, name: &str, at: u64, piece: &mut [u8]) -> Result<usize, OutsideFault> {
+        let room = piece.len() as u64;
         match self.read_on(name, at, piece) {
-            Ok(n) => Ok(n),
+            Ok(n) => {
+                self.log.note(name.as_bytes(), &[at, room], &piece[..n]);
+                Ok(n)
+            }
             Err(e) if e.kind() == io::ErrorKind::OutOfMemory => Err(OutsideFault::NoMemory),
             Err(_) => {
                 self.faults = self.faults.saturating_add(1);
@@ -84,36 +97,6 @@ impl<R: Files> Shelf for DiskShelf<'_, R> {
             }
         }
     }
-}
 
-/// Standard output.
-#[derive(Drop)]
-pub struct StdSink<'a, P: Print> {
-    out: &'a P,
-    faults: u64,
-}
-
-impl<'a, P: Print> StdSink<'a, P> {
-    /// Standard output, with no fault counted.
-    pub fn new(out: &'a P) -> Self
-        ensures { result.faults ≡ 0 }
-    {
-        StdSink { out, faults: 0 }
-    }
-}
-
-impl<P: Print> Sink for StdSink<'_, P> {
-    ghost taken = { λ _. None };
-
-    ghost faults = { λ s. s.faults };
-
-    fn write(&mut self, piece: &[u8]) -> Result<usize, OutsideFault> {
-        match self.out.write_some(piece) {
-            Ok(n) if n > 0 || piece.is_empty() => Ok(n),
-            _ => {
-                self.faults = self.faults.saturating_add(1);
-                Err(OutsideFault::Failed)
-            }
-        }
-    }
+    ghost told_held = { λ s files told. absurd (none-some files told) };
 }

@@ -8,7 +8,7 @@ use Rattle.ped_session.specs.ped_tree.specs.Tree.{ProgramTree}
 use Rattle.ped_session.specs.ped_tree.specs.Printing.{program_text}
 use Rattle.ped_session.specs.ped_tree.specs.Numbering.{statement_with}
 use Rattle.ped_session.specs.ped_valid.specs.Validity.{ReadsValid}
-use Rattle.ped_session.specs.ped_order.specs.ped_eval.specs.Outcomes.{Ends, outcome, IsRaceFree}
+use Rattle.ped_session.specs.ped_order.specs.ped_eval.specs.Outcomes.{Ends, Outcome, outcome, IsRaceFree}
 use Rattle.ped_call_runs.specs.ped_calls.specs.ped_units.specs.Units.{ProgramUnits}
 use Rattle.ped_call_runs.specs.ped_calls.specs.ped_units.specs.Verdicts.{IsExpansion}
 use Rattle.ped_call_runs.specs.UnitRuns.{run_units, outcome_of_units}
@@ -38,7 +38,7 @@ use Rattle.ped_session.specs.AutoAnswers.{auto_text, AcceptsAll}
 use Rattle.ped_session.specs.AutoScripts.{script_of, items_on}
 use Rattle.ped_session.specs.Scripts.{Said, nothing_said, said_both, AnswersItem}
 use Rattle.ped_session.specs.Blocks.{block}
-use Rattle.ped_session.specs.LoweredRuns.{HasNoList}
+use Rattle.ped_session.specs.LoweredRuns.{HasNoList, IsLoweredRun}
 use Rattle.ped_session.specs.Meanings.{IsMeaningKept, ComesFrom}
 use Rattle.ped_session.specs.RunsAsBefore.{RunsAsBefore}
 use Rattle.ped_answer.specs.Answer.{AreData}
@@ -202,11 +202,19 @@ HistoryRequest (Some (generate number)) files bytes = ⊤
 
 -- Runs.
 
+-- whatever the data and the choices are, an outcome of the present program is that of each program from which it has come by transformations alone, where that one is tidy and without C$PED REJECT and runs on these data without a fault and without a race; whether a `run` shows it or not (ParaScope; this project)
+abbrev pub AgreesOnAllRuns : State → Type 0
+AgreesOnAllRuns s =
+    (earlier : List ℕ) (t u : ProgramTree) (data_bytes choices : List ℕ) (o : Outcome) → ComesFrom s.present s.past earlier → ReadsValid earlier t → ReadsValid s.present u
+    → IsTrusted t → IsRaceFree t data_bytes → IsLoweredRun choices data_bytes u o → o ≡ outcome t data_bytes
+
 -- before an item and behind it, each transformation of the history keeps the meaning of a program that is tidy and without C$PED REJECT, and leaves it so; and a `run`, whatever choices it has, shows what the programs show from which the present one has come by transformations alone, where these are tidy and without C$PED REJECT and run on the data without a fault and without a race; sums of lists that are live may be done in any order. A program is tidy where no reference in a PARALLEL DO writes the variable of it or of a DO in it, and each path from that PARALLEL DO's exit to the end overwrites such a variable that is saved (ParaScope; this project)
 pub record KeepsMeaning (line : ℕ) (command : Option Command) (data_bytes : List ℕ) (s : State) (said : Said) (next : State) : Type 0 where
   pub here : IsMeaningKept s
   pub there : IsMeaningKept next
   pub runs : RunsAsBefore command data_bytes s said
+  pub all_here : AgreesOnAllRuns s
+  pub all_there : AgreesOnAllRuns next
 
 -- the runs in a session's answer
 abbrev pub RunsRequest : Option Request → Contents → List ℕ → Type 0

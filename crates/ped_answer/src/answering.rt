@@ -120,7 +120,8 @@ pub fn ped_main<F: Shelf, K: Sink, L: Ledger>(
     // without a fault and without a race, also where sums of lists that are live are done in any order. Tidy: no reference
     // in a PARALLEL DO writes the variable of it or of a DO in it, and each path from that PARALLEL DO's exit to the end
     // overwrites such a variable that is saved. And in each state, each transformation of the history keeps the meaning of
-    // such a program, and leaves it tidy and without C$PED REJECT.
+    // such a program, and leaves it tidy and without C$PED REJECT; and on all data and with all choices, also those of no
+    // `run`, the present program has the outcome of each such program from which it has come by transformations alone.
     ensures runs { (files : Contents) → F.may_hold shelf.new files → IsWhole result →
         (bytes : List ℕ) × (K.sent out.new ≡ K.sent out.old ++ bytes)
         × RunsRequest (request_of (map string_bytes words.now)) files bytes }

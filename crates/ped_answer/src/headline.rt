@@ -35,12 +35,13 @@ pub fn refusals_have_causes()
 
 /// In each answer to a session each `run` of its script shows what the programs show from which the present one has come
 /// by transformations alone, if they are tidy and without C$PED REJECT and run on the data without a fault and without a
-/// race.
+/// race. And so it is on all data and with all choices, whether a `run` shows it or not.
 pub fn runs_are_as_before()
     ensures { (request : Option plain.Request) (files : Contents) (s : Status) (bytes : List ℕ) → IsWhole s →
         Answers request files s bytes → RunsRequest request files bytes }
 {
     ped_session::runs_are_as_before();
+    ped_session::interleavings_keep_the_meaning();
 }
 
 /// In each answer to a session on whose data the program units of its file run without a fault, the program on which it opens

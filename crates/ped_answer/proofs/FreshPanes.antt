@@ -117,7 +117,7 @@ file_shows text ProgramRefused b whole h = absurd whole
 file_shows text NoMemory b whole h = absurd whole
 file_shows text TooLong b whole h = absurd whole
 
-shows_file : (program : List ℕ) (files : Contents) (s : Status) (b : List ℕ) → IsWhole s → Answers (Some (show program)) files s b → ShowsFile program files b
+pub shows_file : (program : List ℕ) (files : Contents) (s : Status) (b : List ℕ) → IsWhole s → Answers (Some (show program)) files s b → ShowsFile program files b
 shows_file program files s b whole h =
     let p = of_file (source_input program) files IsShown s b whole h in
     let of = file_shows p.bytes s b whole p.answer in

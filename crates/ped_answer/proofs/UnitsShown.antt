@@ -24,11 +24,11 @@ use Rattle.ped_call_runs.specs.ped_calls.specs.ped_units.specs.Verdicts.{ReadsLi
 use Rattle.ped_call_runs.specs.UnitRuns.{run_units, outcome_of_units}
 use Rattle.ped_answer.specs.declared.answering.Status.{Status}
 use Rattle.ped_answer.specs.Answer.{IsWhole, Answers}
-use Rattle.ped_answer.specs.Headline.{AnswersEach, RunsUnits, UnitsRequest}
+use Rattle.ped_answer.specs.Headline.{AnswersEach, RunsUnits, IsExpandedAlike, UnitsRequest}
 use Rattle.ped_answer.proofs.OneAnswer.{one_tree}
 use Rattle.ped_answer.proofs.ExistenceLaws.Replying.{reads_as}
 use Rattle.ped_answer.proofs.EachItems.{session_files}
-use Rattle.ped_answer.proofs.FreshPanes.{bytes_of}
+use Rattle.ped_answer.proofs.FreshPanes.{bytes_of, shows_file}
 use Rattle.ped_answer.proofs.ScriptRuns.{AsBefore}
 
 -- program units that run without a fault and what they expand to have one outcome
@@ -43,6 +43,10 @@ RunInOrder = (data_bytes : List ℕ) (s next : State) (reply : Reply) → IsStep
 same_outcome : RunAlike → (text : List ℕ) (t : ProgramTree) (d : List ℕ) (e : IsExpansion text t) → Ends (run_units e.units d).ending → outcome t d ≡ outcome_of_units e.units d
 same_outcome alike text t d e ends =
     subst (λ (x : ProgramTree). outcome x d ≡ outcome_of_units e.units d) e.expands (alike text e.units d e.linked (subst IsValid (sym e.expands) e.valid) ends)
+
+-- and so it is on all data
+same_on_all : RunAlike → (text : List ℕ) (t : ProgramTree) → IsExpandedAlike text t
+same_on_all alike text t e d ends = same_outcome alike text t d e ends
 
 -- the run of the source on which the session opened
 shown_in_order : RunInOrder → (t : ProgramTree) → IsValid t → (line : ℕ) (d : List ℕ) (s next : State) (said : Said) → AnswersCommand line (Some (Run [])) d s said next → s.present ≡ program_text t → HasNoList t → said.bytes ≡ block (outcome t d)
@@ -82,7 +86,10 @@ each_shows alike order text t (item ∷ items) d s last said h = (
 -- the answer to a request
 pub request_units : RunAlike → RunInOrder → AsBefore → (request : Option Request) (files : Contents) (s : Status) (b : List ℕ) → IsWhole s → Answers request files s b → UnitsRequest request files b
 request_units alike order as_before None files s b whole h = tt
-request_units alike order as_before (Some (show program)) files s b whole h = tt
+request_units alike order as_before (Some (show program)) files s b whole h =
+    let p = shows_file program files s b whole h in
+    (p, same_on_all alike p.text p.tree)
 request_units alike order as_before (Some (session program script data_file)) files s b whole h =
-    session_files RunsUnits (λ text d t expands items said last answers. each_shows alike order text t items d (opened t) last said (as_before t items d said last answers)) program script data_file files s b whole h
+    let p = session_files RunsUnits (λ text d t expands items said last answers. each_shows alike order text t items d (opened t) last said (as_before t items d said last answers)) program script data_file files s b whole h in
+    (p, same_on_all alike p.text p.tree)
 request_units alike order as_before (Some (generate number)) files s b whole h = tt

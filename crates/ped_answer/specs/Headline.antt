@@ -236,11 +236,15 @@ abbrev pub RunsUnits : List ℕ → ProgramTree → ItemFact
 RunsUnits text first line command data_bytes s said next =
     (choices : List ℕ) → command ≡ Some (Run choices) → (e : IsExpansion text first) → Ends (run_units e.units data_bytes).ending → ShowsUnits e.units first choices data_bytes s said.bytes
 
--- the runs in a session's answer, by the program units of its file
+-- on all data on which the units of this text run without a fault, the program to which they expand has their outcome (ANSI X3.9-1978, section 15.6; this project)
+abbrev pub IsExpandedAlike : List ℕ → ProgramTree → Type 0
+IsExpandedAlike text t = (e : IsExpansion text t) (data_bytes : List ℕ) → Ends (run_units e.units data_bytes).ending → outcome t data_bytes ≡ outcome_of_units e.units data_bytes
+
+-- the program that is shown or opened, by the program units of its file, and the runs in a session's answer
 abbrev pub UnitsRequest : Option Request → Contents → List ℕ → Type 0
 UnitsRequest None files bytes = ⊤
-UnitsRequest (Some (show program)) files bytes = ⊤
-UnitsRequest (Some (session program script data_file)) files bytes = EachItemOn RunsUnits program script data_file files bytes
+UnitsRequest (Some (show program)) files bytes = (p : ShowsFile program files bytes) × IsExpandedAlike p.text p.tree
+UnitsRequest (Some (session program script data_file)) files bytes = (p : EachItemOn RunsUnits program script data_file files bytes) × IsExpandedAlike p.text p.tree
 UnitsRequest (Some (generate number)) files bytes = ⊤
 
 -- Causes.

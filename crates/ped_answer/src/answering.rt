@@ -126,10 +126,11 @@ pub fn ped_main<F: Shelf, K: Sink, L: Ledger>(
         (bytes : List ℕ) × (K.sent out.new ≡ K.sent out.old ++ bytes)
         × RunsRequest (request_of (map string_bytes words.now)) files bytes }
 
-    // Where the program units of a session's file run on its data without a fault, the program that they expand to, on which
-    // the session opens, has the same outcome. So each `run` shows it: without choices where the present source is that
-    // program's and no DO of it has a list of sums, and with whatever choices where the present source has come from that one
-    // by transformations alone, if it is tidy and without C$PED REJECT and runs without a race.
+    // On all data on which the program units of a file run without a fault, the program that they expand to, which is shown or
+    // on which the session opens, has the same outcome. So in a session on whose data they do, each `run` shows it: without
+    // choices where the present source is that program's and no DO of it has a list of sums, and with whatever choices where
+    // the present source has come from that one by transformations alone, if it is tidy and without C$PED REJECT and runs
+    // without a race.
     ensures units { (files : Contents) → F.may_hold shelf.new files → IsWhole result →
         (bytes : List ℕ) × (K.sent out.new ≡ K.sent out.old ++ bytes)
         × UnitsRequest (request_of (map string_bytes words.now)) files bytes }

@@ -44,10 +44,10 @@ pub fn runs_are_as_before()
     ped_session::interleavings_keep_the_meaning();
 }
 
-/// In each answer to a session on whose data the program units of its file run without a fault, the program on which it opens
-/// has the units' outcome, and each `run` of its script shows it: without choices before the first change, where no DO has a
-/// list of sums; and with whatever choices behind transformations alone, where the opened program is tidy and without
-/// C$PED REJECT and runs without a race.
+/// In each answer on a file, the program that is shown, or on which the session opens, has the outcome of the file's program
+/// units on all data on which these run without a fault. In a session on whose data they do, each `run` of its script shows
+/// it: without choices before the first change, where no DO has a list of sums; and with whatever choices behind
+/// transformations alone, where the opened program is tidy and without C$PED REJECT and runs without a race.
 pub fn units_run_as_expanded()
     ensures { (request : Option plain.Request) (files : Contents) (s : Status) (bytes : List ℕ) → IsWhole s →
         Answers request files s bytes → UnitsRequest request files bytes }

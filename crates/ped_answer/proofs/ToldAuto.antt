@@ -6,14 +6,19 @@ use Rattle.ped_words.specs.Requests.{Request, show, session, generate}
 use Rattle.ped_session.specs.ped_tree.specs.Tree.{ProgramTree}
 use Rattle.ped_session.specs.ped_valid.specs.Validity.{ReadsValid}
 use Rattle.ped_session.specs.ped_transformations.specs.ped_reindex.specs.ped_loops.specs.Paralleling.{paralleling}
+use Rattle.ped_session.specs.ped_transformations.specs.ped_reindex.specs.ped_loops.specs.ped_scalar.specs.ped_rules.specs.Steps.{transformation, MaybeStep, no_step, some_step, MatchStep}
 use Rattle.ped_session.specs.ped_transformations.specs.ped_reindex.specs.ped_loops.specs.ped_scalar.specs.ped_rules.specs.ped_loop_runs.specs.ped_bodies.specs.ped_steps.specs.Causes.{Cause}
+use Rattle.ped_session.specs.ped_transformations.specs.ped_auto.specs.Replay.{Replays}
 use Rattle.ped_session.specs.ped_transformations.specs.ped_auto.specs.Strategy.{Report, IsAuto}
+use Rattle.ped_session.specs.ped_transformations.specs.Table.{step_of}
 use Rattle.ped_session.specs.ped_transformations.specs.ped_script.specs.Items.{commands_of}
+use Rattle.ped_session.specs.ped_transformations.specs.ped_script.specs.declared.items.Command.{Command}
 use Rattle.ped_session.specs.ped_transformations.specs.ped_script.specs.declared.items.Command.TheVariants.{Source, Deps, Show, Calls, Print, Advise, Replace, Insert, Delete, Interchange, Reverse, Skew, Strip, Peel, Distribute, Fuse, Inline, Expand, Privatise, Reduce, Parallel, Serial, Reject, Auto, Undo, Redo, Run, Races, Tested}
 use Rattle.ped_session.specs.declared.replies.Refusal.TheVariants.{Step}
-use Rattle.ped_session.specs.declared.replies.Reply.TheVariants.{Refused}
+use Rattle.ped_session.specs.declared.replies.Reply.{Reply}
+use Rattle.ped_session.specs.declared.replies.Reply.TheVariants.{Changed, Refused}
 use Rattle.ped_session.specs.States.{State}
-use Rattle.ped_session.specs.AutoEditing.{TakesStep, session_editing}
+use Rattle.ped_session.specs.AutoEditing.{TransformsTo, TakesStep, session_editing}
 use Rattle.ped_session.specs.AutoEditingLaws.{one_program, refused_for}
 use Rattle.ped_session.specs.AutoScripts.{script_of, items_on}
 use Rattle.ped_session.specs.Scripts.{Said, SaysAuto, AnswersCommand}
@@ -21,7 +26,7 @@ use Rattle.ped_session.proofs.AutoSteps.{auto_steps, accepts_all, auto_comes}
 use Rattle.ped_answer.specs.declared.answering.Status.{Status}
 use Rattle.ped_answer.specs.Answer.{IsWhole, Answers}
 use Rattle.ped_answer.specs.StepCauses.{Forbids}
-use Rattle.ped_answer.specs.Headline.{Parallelises, ParallelisesBy, AutoRequest}
+use Rattle.ped_answer.specs.Headline.{IsTransformation, Parallelises, ParallelisesBy, AutoRequest}
 use Rattle.ped_answer.proofs.EachItems.{SoOfValid, session_each}
 use Rattle.ped_answer.proofs.ToldCauses.{are_causes}
 
@@ -37,6 +42,15 @@ all_left_for : (s : State) (t : ProgramTree) → ReadsValid s.present t → (lef
 all_left_for s t reads [] h = tt
 all_left_for s t reads (l ∷ left) h = (left_for s t reads l.0 l.1 h.0, all_left_for s t reads left h.1)
 
+-- a step that `auto` takes is a transformation
+of_step : (step : MaybeStep) (s next : State) (reply : Reply) → MatchStep step ⊥ (TransformsTo s reply next) → MatchStep step ⊥ (λ at. at.kind ≡ transformation)
+of_step no_step s next reply h = h
+of_step (some_step at) s next reply h = h.0
+
+all_transformations : (cs : List Command) (s last : State) (tests : ℕ) → Replays session_editing s cs last tests → AllByRecursion IsTransformation cs
+all_transformations [] s last tests h = tt
+all_transformations (c ∷ cs) s last tests h = (of_step (step_of c) s h.0 Changed h.3.0, all_transformations cs h.0 last h.2 h.4)
+
 -- the steps of `auto` are read from the script of them
 abbrev pub ReadsBack : Type 0
 ReadsBack = (s last : State) (report : Report) (tests : ℕ) → IsAuto session_editing s report last tests → commands_of (script_of report.accepted) ≡ items_on 1 report.accepted
@@ -45,9 +59,11 @@ auto_told : ReadsBack → (line : ℕ) (s next : State) (said : Said) → SaysAu
 auto_told back line s next said h =
     let r = h.0.report in
     let does = h.0.does in
+    let replays = auto_steps s next r said.tests does in
     record {
       accepted = r.accepted;
-      accepts = accepts_all r.accepted s next said.tests (auto_steps s next r said.tests does);
+      accepts = accepts_all r.accepted s next said.tests replays;
+      steps = all_transformations r.accepted s next said.tests replays;
       script = back s next r said.tests does;
       comes = auto_comes s next r said.tests does;
       tree = does.left.program;

@@ -22,7 +22,7 @@ use Rattle.ped_session.specs.ped_transformations.specs.Table.{step_of}
 use Rattle.ped_session.specs.ped_transformations.specs.Advice.{IsAdvice}
 use Rattle.ped_session.specs.ped_transformations.specs.ped_auto.specs.SerialLoops.{serial_loops}
 use Rattle.ped_session.specs.ped_transformations.specs.ped_reindex.specs.ped_loops.specs.Paralleling.{paralleling}
-use Rattle.ped_session.specs.ped_transformations.specs.ped_reindex.specs.ped_loops.specs.ped_scalar.specs.ped_rules.specs.Steps.{StepAt, MatchStep}
+use Rattle.ped_session.specs.ped_transformations.specs.ped_reindex.specs.ped_loops.specs.ped_scalar.specs.ped_rules.specs.Steps.{StepAt, MatchStep, transformation}
 use Rattle.ped_session.specs.ped_transformations.specs.ped_reindex.specs.ped_loops.specs.ped_scalar.specs.ped_rules.specs.ped_loop_runs.specs.Unrejected.{IsTrusted}
 use Rattle.ped_session.specs.ped_transformations.specs.ped_reindex.specs.ped_loops.specs.ped_scalar.specs.ped_rules.specs.ped_loop_runs.specs.ped_bodies.specs.ped_steps.specs.Causes.{Cause}
 use Rattle.ped_session.specs.ped_transformations.specs.ped_reindex.specs.ped_loops.specs.ped_scalar.specs.ped_rules.specs.ped_loop_runs.specs.ped_bodies.specs.ped_steps.specs.CauseWords.{cause_words}
@@ -274,10 +274,15 @@ pub record AreLeft (t : ProgramTree) (left : List (ℕ × Cause)) : Type 0 where
   pub loops : map (λ l. l.0) left ≡ serial_loops t
   pub causes : AllByRecursion (λ l. Forbids (Parallel l.0) t l.1 × (paralleling l.0).IsCause t (Some l.1)) left
 
--- `auto` tells accepted steps, which lead one behind another from the state before it to the one behind it, and which a script of the told lines is read as; then the DOs that aren't PARALLEL DOs in its program, each with its first cause; and the source, which has come from the former one by transformations alone (ParaScope; this project)
+-- the command takes a step, and that is a transformation (ParaScope; this project)
+abbrev pub IsTransformation : Command → Type 0
+IsTransformation command = MatchStep (step_of command) ⊥ (λ at. at.kind ≡ transformation)
+
+-- `auto` tells accepted steps, which lead one behind another from the state before it to the one behind it, and which a script of the told lines is read as, and all of which are transformations; then the DOs that aren't PARALLEL DOs in its program, each with its first cause; and the source, which has come from the former one by transformations alone (ParaScope; this project)
 pub record Parallelises (line : ℕ) (s : State) (bytes : List ℕ) (next : State) : Type 0 where
   pub accepted : List Command
   pub accepts : AcceptsAll accepted s next
+  pub steps : AllByRecursion IsTransformation accepted
   pub script : commands_of (script_of accepted) ≡ items_on 1 accepted
   pub comes : ComesFrom next.present next.past s.present
   pub tree : ProgramTree

@@ -142,9 +142,9 @@ pub fn ped_main<F: Shelf, K: Sink, L: Ledger>(
         (bytes : List ℕ) × (K.sent out.new ≡ K.sent out.old ++ bytes)
         × CausesRequest (request_of (map string_bytes words.now)) files bytes }
 
-    // `auto` tells accepted steps, which lead one behind another from the state before it to the one behind it, as they do
-    // in a script; each DO of its program that isn't a PARALLEL DO, with the first of all that forbids `parallel` there; and
-    // its source, which has come from the former one by transformations alone.
+    // `auto` tells accepted steps, all of them transformations, which lead one behind another from the state before it to the
+    // one behind it, as they do in a script; each DO of its program that isn't a PARALLEL DO, with the first of all that
+    // forbids `parallel` there; and its source, which has come from the former one by transformations alone.
     ensures parallelised { (files : Contents) → F.may_hold shelf.new files → IsWhole result →
         (bytes : List ℕ) × (K.sent out.new ≡ K.sent out.old ++ bytes)
         × AutoRequest (request_of (map string_bytes words.now)) files bytes }

@@ -58,8 +58,8 @@ pub fn units_run_as_expanded()
 }
 
 /// In each answer to a session each `auto` tells steps that lead, one behind another, to its source, which has come from the
-/// former one by transformations alone; its lines are a script that is read as these steps; and it tells the first cause
-/// against `parallel` at each DO that is left.
+/// former one by transformations alone, as each of these steps is one; its lines are a script that is read as them; and it
+/// tells the first cause against `parallel` at each DO that is left.
 pub fn auto_is_told<L: Ledger>()
     ensures { (request : Option plain.Request) (files : Contents) (s : Status) (bytes : List ℕ) → IsWhole s →
         Answers request files s bytes → AutoRequest request files bytes }

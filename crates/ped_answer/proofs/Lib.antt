@@ -1,5 +1,6 @@
 mod AmongCauses
 mod Counting
+mod CoveredPanes
 mod EachItems
 mod ExistenceLaws
 mod FreshPanes

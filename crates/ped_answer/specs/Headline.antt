@@ -42,6 +42,7 @@ use Rattle.ped_session.specs.LoweredRuns.{HasNoList, IsLoweredRun}
 use Rattle.ped_session.specs.Meanings.{IsMeaningKept, ComesFrom}
 use Rattle.ped_session.specs.RunsAsBefore.{RunsAsBefore}
 use Rattle.ped_answer.specs.Answer.{AreData}
+use Rattle.ped_answer.specs.Covered.{IsCoveringPane, AreCoveringPanes, IsCoveringPaneOf, IsCoveringCalls}
 use Rattle.ped_answer.specs.StepCauses.{Forbids}
 
 -- what may be so of an item of a script: of its line, its command, the data of the session, the state before it, what it says, and the state behind it (this project)
@@ -303,6 +304,23 @@ AutoRequest (Some (show program)) files bytes = ⊤
 AutoRequest (Some (session program script data_file)) files bytes = EachItem ParallelisesBy program script data_file files bytes
 AutoRequest (Some (generate number)) files bytes = ⊤
 
+-- Coverage.
+
+-- `deps`, `deps S`, `show` and `calls` show panes that cover whatever the runs of the present program do, on whatever data: it is the one that comes of reading the present source afresh (Allen and Kennedy, section 2.2.1; ParaScope)
+abbrev pub Covers : ℕ → Option Command → List ℕ → State → Said → State → Type 0
+Covers line (Some (Deps None)) data_bytes s said next = Afresh IsCoveringPane s.present said.bytes
+Covers line (Some (Deps (Some number))) data_bytes s said next = Afresh (IsOfStatement (IsCoveringPaneOf number) line number) s.present said.bytes
+Covers line (Some Show) data_bytes s said next = Afresh AreCoveringPanes s.present said.bytes
+Covers line (Some Calls) data_bytes s said next = Afresh IsCoveringCalls s.present said.bytes
+Covers line command data_bytes s said next = ⊤
+
+-- the panes of an answer cover what runs do
+abbrev pub CoveredRequest : Option Request → Contents → List ℕ → Type 0
+CoveredRequest None files bytes = ⊤
+CoveredRequest (Some (show program)) files bytes = (p : ShowsFile program files bytes) × Afresh AreCoveringPanes (program_text p.tree) bytes
+CoveredRequest (Some (session program script data_file)) files bytes = EachItem Covers program script data_file files bytes
+CoveredRequest (Some (generate number)) files bytes = ⊤
+
 -- All parts.
 
 -- all of this is so of one list of bytes, that of an answer which was written whole (this project)
@@ -313,3 +331,4 @@ pub record IsHeadline (request : Option Request) (files : Contents) (bytes : Lis
   pub units : UnitsRequest request files bytes
   pub causes : CausesRequest request files bytes
   pub parallelised : AutoRequest request files bytes
+  pub covered : CoveredRequest request files bytes

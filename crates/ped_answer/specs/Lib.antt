@@ -4,6 +4,7 @@ pub use Rattle.ped_io
 pub use Rattle.ped_session
 pub use Rattle.ped_words
 pub mod Answer
+pub mod Covered
 pub mod Existence
 pub mod Generated
 pub mod Headline

@@ -7,15 +7,15 @@ ghost use Rattle.ped_words.specs.Requests as plain;
 ghost use Rattle.ped_words.specs.Requests.{request_of};
 ghost use Rattle.ped_words.specs.Views.{request_view, IsSized};
 ghost use Rattle.ped_answer.specs.Answer.{inputs_of, IsOneOf, HoldsTooMany, IsWhole, Answers, MayAnswer, Sends};
-ghost use Rattle.ped_answer.specs.Headline.{PanesRequest, HistoryRequest, RunsRequest, UnitsRequest, CausesRequest, AutoRequest, IsHeadline};
+ghost use Rattle.ped_answer.specs.Headline.{PanesRequest, HistoryRequest, RunsRequest, UnitsRequest, CausesRequest, AutoRequest, CoveredRequest, IsHeadline};
 ghost use Rattle.ped_answer.specs.TestCounts.{Tests, Ticks, IsUntested};
 ghost use Rattle.ped_answer.specs.Serving.{ServedRequest};
 
 use crate::finishing::finish;
 use crate::generating::answer_size;
 use crate::headline::{
-    auto_is_told, history_is_kept, panes_are_afresh, refusals_have_causes, runs_are_as_before,
-    units_run_as_expanded,
+    auto_is_told, history_is_kept, panes_are_afresh, panes_cover_runs, refusals_have_causes,
+    runs_are_as_before, units_run_as_expanded,
 };
 use crate::sessions::answer_files;
 use crate::showing::show_file;
@@ -149,6 +149,12 @@ pub fn ped_main<F: Shelf, K: Sink, L: Ledger>(
         (bytes : List ℕ) × (K.sent out.new ≡ K.sent out.old ++ bytes)
         × AutoRequest (request_of (map string_bytes words.now)) files bytes }
 
+    // Each pane of dependences and of calls covers whatever the runs of its program do, on whatever data: two accesses to one
+    // cell, one of them a write, in one execution of a DO round both have a row, and so does what a CALL does to all outside.
+    ensures covered { (files : Contents) → F.may_hold shelf.new files → IsWhole result →
+        (bytes : List ℕ) × (K.sent out.new ≡ K.sent out.old ++ bytes)
+        × CoveredRequest (request_of (map string_bytes words.now)) files bytes }
+
     // What stays.
     ensures same { F.told shelf.new ≡ F.told shelf.old }
     ensures counts { (name : List ℕ) → F.count shelf.old name ≤ F.count shelf.new name }
@@ -175,6 +181,7 @@ pub fn ped_main<F: Shelf, K: Sink, L: Ledger>(
     units_run_as_expanded();
     refusals_have_causes();
     auto_is_told::<L>();
+    panes_cover_runs();
     match request(alloc, words) {
         Ok(asked) => serve(alloc, asked, shelf, out, steps),
         Err(WordsError::Bad) => finish(out, USAGE, Status::BadWords),

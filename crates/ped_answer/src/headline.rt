@@ -6,7 +6,7 @@ ghost use Rattle.ped_io.specs.Outside.{Contents};
 ghost use Rattle.ped_words.specs.Requests as plain;
 ghost use Rattle.ped_answer.specs.declared.answering.Status.{Status};
 ghost use Rattle.ped_answer.specs.Answer.{IsWhole, Answers};
-ghost use Rattle.ped_answer.specs.Headline.{PanesRequest, HistoryRequest, RunsRequest, UnitsRequest, CausesRequest, AutoRequest};
+ghost use Rattle.ped_answer.specs.Headline.{PanesRequest, HistoryRequest, RunsRequest, UnitsRequest, CausesRequest, AutoRequest, CoveredRequest};
 
 use std::sync::ledger::Ledger;
 
@@ -17,6 +17,20 @@ pub fn panes_are_afresh()
         Answers request files s bytes → PanesRequest request files bytes }
 {
     ped_session::sources_are_printed();
+}
+
+/// In each answer to `show`, and in each to a session at each `deps`, `deps S`, `show` and `calls`, the panes cover whatever the
+/// runs of the present program do, on whatever data. Two accesses to one cell, one of them a write, in one execution of a DO
+/// round both have a row with the directions in which they stand; two that race have one that a PARALLEL DO carries; and what
+/// a CALL does to all that stands outside it has one in the pane of calls.
+pub fn panes_cover_runs()
+    ensures { (request : Option plain.Request) (files : Contents) (s : Status) (bytes : List ℕ) → IsWhole s →
+        Answers request files s bytes → CoveredRequest request files bytes }
+{
+    panes_are_afresh();
+    ped_session::conflicts_are_covered();
+    ped_session::races_are_covered();
+    ped_session::calls_are_covered();
 }
 
 /// In each answer to a session the sources stand one behind another: `undo` and `redo` go along them, byte for byte, and are

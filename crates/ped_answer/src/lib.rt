@@ -25,6 +25,6 @@ pub use existence::{
 };
 pub use generating::made_programs_have_no_list;
 pub use headline::{
-    auto_is_told, history_is_kept, panes_are_afresh, refusals_have_causes, runs_are_as_before,
-    units_run_as_expanded,
+    auto_is_told, history_is_kept, panes_are_afresh, panes_cover_runs, refusals_have_causes,
+    runs_are_as_before, units_run_as_expanded,
 };

@@ -74,6 +74,7 @@ returns-in-Ok-clause-headline g c = λ files may whole.
         units = c.units_run_as_expanded.ensures _ files c.serve.result o.0 whole o.2;
         causes = c.refusals_have_causes.ensures _ files c.serve.result o.0 whole o.2;
         parallelised = c.auto_is_told.ensures _ files c.serve.result o.0 whole o.2;
+        covered = c.panes_cover_runs.ensures _ files c.serve.result o.0 whole o.2;
       },
     )
 
@@ -106,6 +107,11 @@ pub returns-in-Ok-clause-parallelised : goal.returns-in-Ok-clause-parallelised
 returns-in-Ok-clause-parallelised g c = λ files may whole.
     let o = returns-in-Ok-clause-headline g c files may whole in
     (o.0, o.1, o.2.parallelised)
+
+pub returns-in-Ok-clause-covered : goal.returns-in-Ok-clause-covered
+returns-in-Ok-clause-covered g c = λ files may whole.
+    let o = returns-in-Ok-clause-headline g c files may whole in
+    (o.0, o.1, o.2.covered)
 
 pub returns-in-Ok-clause-counts : goal.returns-in-Ok-clause-counts
 returns-in-Ok-clause-counts g c = (served g c).rises

@@ -1,0 +1,226 @@
+-- The panes of an answer cover what runs of their programs do.
+use Rattle.std.proofs.Common.{◌≡◌, inl, inr, refl, sym, ap, ap₂, ◌∙◌, subst, ℕ, ◌<◌, Bool, true, false, List, [], ◌∷◌, Option, Some, None}
+use Rattle.std.specs.Prelude.{◌||◌, filter, MatchOption}
+use Rattle.ped_io.specs.Outside.{Contents}
+use Rattle.ped_words.specs.Requests.{Request, show, session, generate}
+use Rattle.ped_session.specs.ped_tree.specs.Tree.{ProgramTree, StmtTree}
+use Rattle.ped_session.specs.ped_tree.specs.Printing.{program_text}
+use Rattle.ped_session.specs.ped_tree.specs.Numbering.{statement_with}
+use Rattle.ped_session.specs.ped_symbols.specs.NameRefusals.{IsValid}
+use Rattle.ped_session.specs.ped_graph.specs.ped_edges.specs.Edges.{Edge}
+use Rattle.ped_session.specs.ped_graph.specs.Dependences.{AreEdges}
+use Rattle.ped_session.specs.ped_graph.specs.DependencePane.{extent_of, is_in, edges_of, IsDependencePane, IsDependencePaneOf}
+use Rattle.ped_session.specs.ped_order.specs.ped_store.specs.Races.{Access, conflict, race}
+use Rattle.ped_session.specs.ped_order.specs.ped_laws.specs.Acts.Orders.{IsIn}
+use Rattle.ped_session.specs.ped_order.specs.ped_laws.specs.Conflicts.Directions.{share_a_loop}
+use Rattle.ped_session.specs.ped_order.specs.ped_laws.specs.Conflicts.Covered.{ComeInRun, IsCovered, IsCarriedInParallel}
+use Rattle.ped_session.specs.ped_transformations.specs.ped_inline.specs.CallsPane.{IsCallsPane}
+use Rattle.ped_session.specs.ped_transformations.specs.ped_inline.specs.CoveredCalls.{is_in_block, AreInOneCall, IsCoveredFolded}
+use Rattle.ped_session.specs.ped_transformations.specs.ped_script.specs.declared.items.Item.{Item}
+use Rattle.ped_session.specs.ped_transformations.specs.ped_script.specs.declared.items.Command.{Command}
+use Rattle.ped_session.specs.ped_transformations.specs.ped_script.specs.declared.items.Command.TheVariants.{Source, Deps, Show, Calls, Print, Advise, Replace, Insert, Delete, Interchange, Reverse, Skew, Strip, Peel, Distribute, Fuse, Inline, Expand, Privatise, Reduce, Parallel, Serial, Reject, Auto, Undo, Redo, Run, Races, Tested}
+use Rattle.ped_session.specs.Panes.{ArePanes}
+use Rattle.ped_session.specs.States.{State}
+use Rattle.ped_session.specs.Replies.{answer_row}
+use Rattle.ped_session.specs.Scripts.{Said}
+use Rattle.ped_answer.specs.Covered.{ConflictInRun, RaceInRun, CoverRuns, IsCoveringPane, AreCoveringPanes, touches, CoverRunsAt, IsCoveringPaneOf, IsCoveringCalls}
+use Rattle.ped_answer.specs.Headline.{ItemFact, AnswersEach, EachItem, Afresh, IsOfStatement, ShowsAfresh, PanesRequest, Covers, CoveredRequest}
+
+-- dependences cover conflicts
+abbrev pub ConflictsCovered : Type 0
+ConflictsCovered = (t : ProgramTree) (data_bytes : List ℕ) (a b : Access) (edges : List Edge) → IsValid t → ComeInRun t data_bytes a b → conflict a b ≡ true → 0 < a.reference → 0 < b.reference
+    → share_a_loop a.place.turns b.place.turns ≡ true → AreEdges t edges → IsCovered t edges a b
+
+-- and races
+abbrev pub RacesCovered : Type 0
+RacesCovered = (t : ProgramTree) (data_bytes : List ℕ) (a b : Access) (edges : List Edge) → IsValid t → ComeInRun t data_bytes a b → race a b ≡ true → AreEdges t edges
+    → IsCarriedInParallel t edges a.place.statement b.place.statement
+
+-- folded dependences cover what CALLs do
+abbrev pub CallsCovered : Type 0
+CallsCovered = (t : ProgramTree) (data_bytes : List ℕ) (a b : Access) (edges : List Edge) → IsValid t → ComeInRun t data_bytes a b → conflict a b ≡ true → 0 < a.reference → 0 < b.reference
+    → share_a_loop a.place.turns b.place.turns ≡ true → AreEdges t edges → (is_in_block t a || is_in_block t b) ≡ true → (¬ AreInOneCall t a b) → IsCoveredFolded t edges a b
+
+-- all three
+pub record Laws : Type 0 where
+  pub conflicts : ConflictsCovered
+  pub races : RacesCovered
+  pub calls : CallsCovered
+
+cover_runs : Laws → (t : ProgramTree) → IsValid t → (edges : List Edge) → AreEdges t edges → CoverRuns t edges
+cover_runs laws t valid edges are = record {
+  conflicts = λ d a b m. laws.conflicts t d a b edges valid m.come m.conflicts m.first m.second m.share are;
+  races = λ d a b m. laws.races t d a b edges valid m.come m.races are;
+}
+
+pane_covers : Laws → (t : ProgramTree) → IsValid t → (pane : List ℕ) → IsDependencePane t pane → IsCoveringPane t pane
+pane_covers laws t valid pane h = (h.0, h.1, h.2, cover_runs laws t valid h.0 h.1)
+
+panes_cover : Laws → (t : ProgramTree) → IsValid t → (bytes : List ℕ) → ArePanes t bytes → AreCoveringPanes t bytes
+panes_cover laws t valid bytes h = (h.0, pane_covers laws t valid h.0 h.1, h.2)
+
+kept_first : {X : Type 0} (p : X → Bool) (x : X) (xs : List X) → p x ≡ true → filter p (x ∷ xs) ≡ x ∷ filter p xs
+kept_first p x xs h = rw h refl
+
+dropped_first : {X : Type 0} (p : X → Bool) (x : X) (xs : List X) → p x ≡ false → filter p (x ∷ xs) ≡ filter p xs
+dropped_first p x xs h = rw h refl
+
+-- an item that passes is left
+in_filter : {X : Type 0} (p : X → Bool) (xs : List X) (x : X) → IsIn x xs → p x ≡ true → IsIn x (filter p xs)
+in_filter p [] x i h = absurd i
+in_filter p (y ∷ ys) x (inl e) h = subst (IsIn x) (sym (kept_first p y ys (ap p (sym e) ∙ h))) (inl e)
+in_filter p (y ∷ ys) x (inr i) h = by (in_filter p ys x i h) (p y) refl
+  where
+    by : IsIn x (filter p ys) → (b : Bool) → p y ≡ b → IsIn x (filter p (y ∷ ys))
+    by more true q = subst (IsIn x) (sym (kept_first p y ys q)) (inr more)
+    by more false q = subst (IsIn x) (sym (dropped_first p y ys q)) more
+
+-- a dependence that touches the statement is among those of the statement
+among_rows : (t : ProgramTree) (number : ℕ) (edges : List Edge) (e : Edge) → IsIn e edges → (is_in number (extent_of t number) e.source.0 || is_in number (extent_of t number) e.sink.0) ≡ true → IsIn e (edges_of t number edges)
+among_rows t number edges e among is = in_filter (λ (f : Edge). is_in number (extent_of t number) f.source.0 || is_in number (extent_of t number) f.sink.0) edges e among is
+
+-- the statement is touched where the dependence goes from this statement to that one
+touched : (t : ProgramTree) (number : ℕ) (e : Edge) (first second : ℕ) → e.source.0 ≡ first → e.sink.0 ≡ second
+    → (is_in number (extent_of t number) first || is_in number (extent_of t number) second) ≡ true → (is_in number (extent_of t number) e.source.0 || is_in number (extent_of t number) e.sink.0) ≡ true
+touched t number e first second source sink is =
+    ap₂ (λ (m n : ℕ). is_in number (extent_of t number) m || is_in number (extent_of t number) n) source sink ∙ is
+
+rows_cover : Laws → (t : ProgramTree) → IsValid t → (number : ℕ) (edges : List Edge) → AreEdges t edges → CoverRunsAt t number (edges_of t number edges)
+rows_cover laws t valid number edges are = record {
+  conflicts = λ d a b m is.
+      let c = laws.conflicts t d a b edges valid m.come m.conflicts m.first m.second m.share are in
+      record {
+        edge = c.edge;
+        listed = among_rows t number edges c.edge c.listed (touched t number c.edge a.place.statement b.place.statement (ap (λ (p : ℕ × ℕ). p.0) c.source) (ap (λ (p : ℕ × ℕ). p.0) c.sink) is);
+        source = c.source;
+        sink = c.sink;
+        vector = c.vector;
+        contains = c.contains;
+        stands = c.stands;
+      };
+  races = λ d a b m is.
+      let c = laws.races t d a b edges valid m.come m.races are in
+      record {
+        edge = c.edge;
+        listed = among_rows t number edges c.edge c.listed (touched t number c.edge a.place.statement b.place.statement c.first_statement c.second_statement is);
+        reference = c.reference;
+        of_program = c.of_program;
+        source = c.source;
+        first_statement = c.first_statement;
+        second_statement = c.second_statement;
+        level = c.level;
+        carried = c.carried;
+        parallel = c.parallel;
+      };
+}
+
+pane_of_covers : Laws → (number : ℕ) (t : ProgramTree) → IsValid t → (pane : List ℕ) → IsDependencePaneOf t (Some number) pane → IsCoveringPaneOf number t pane
+pane_of_covers laws number t valid pane h = (h.0, h.1, h.2, rows_cover laws t valid number h.0 h.1)
+
+calls_cover : Laws → (t : ProgramTree) → IsValid t → (pane : List ℕ) → IsCallsPane t pane → IsCoveringCalls t pane
+calls_cover laws t valid pane h =
+    let edges = h.0 in
+    let are = h.1 in
+    let rows = h.2 in
+    let are_rows = h.3 in (
+      edges,
+      are,
+      rows,
+      are_rows,
+      h.4,
+      λ d a b m in_block apart.
+          let c = laws.calls t d a b edges valid m.come m.conflicts m.first m.second m.share are in_block apart in
+          (c, are_rows.none_lost c.covered.edge c.covered.listed c.folded),
+    )
+
+-- what comes of reading afresh is so of a valid program
+afresh_so : (IsSo Covering : ProgramTree → List ℕ → Type 0) → ((t : ProgramTree) → IsValid t → (bytes : List ℕ) → IsSo t bytes → Covering t bytes) → (text bytes : List ℕ) → Afresh IsSo text bytes → Afresh Covering text bytes
+afresh_so IsSo Covering covers text bytes h = record {
+  tree = h.tree;
+  reads = h.reads;
+  no_other = h.no_other;
+  printed = h.printed;
+  so = covers h.tree h.reads.valid bytes h.so;
+}
+
+-- of the program alone, where it has the statement
+of_statement : (IsSo Covering : ProgramTree → List ℕ → Type 0) (line : ℕ) (t : ProgramTree) (bytes : List ℕ) → (IsSo t bytes → Covering t bytes) → (found : Option StmtTree) (row : Type 0)
+    → MatchOption found row (λ (statement : StmtTree). IsSo t bytes) → MatchOption found row (λ (statement : StmtTree). Covering t bytes)
+of_statement IsSo Covering line t bytes covers None row h = h
+of_statement IsSo Covering line t bytes covers (Some statement) row h = covers h
+
+statement_so : (IsSo Covering : ProgramTree → List ℕ → Type 0) (line number : ℕ) → ((t : ProgramTree) → IsValid t → (bytes : List ℕ) → IsSo t bytes → Covering t bytes)
+    → (t : ProgramTree) → IsValid t → (bytes : List ℕ) → IsOfStatement IsSo line number t bytes → IsOfStatement Covering line number t bytes
+statement_so IsSo Covering line number covers t valid bytes h = of_statement IsSo Covering line t bytes (covers t valid bytes) (statement_with number t) _ h
+
+-- an item whose pane comes of reading afresh covers runs
+item_covers : Laws → (line : ℕ) (command : Option Command) (d : List ℕ) (s : State) (said : Said) (next : State) → ShowsAfresh line command d s said next → Covers line command d s said next
+item_covers laws line None d s said next h = tt
+item_covers laws line (Some (Deps None)) d s said next h = afresh_so IsDependencePane IsCoveringPane (pane_covers laws) s.present said.bytes h
+item_covers laws line (Some (Deps (Some number))) d s said next h =
+    afresh_so (IsOfStatement (λ t. IsDependencePaneOf t (Some number)) line number) (IsOfStatement (IsCoveringPaneOf number) line number)
+    (statement_so (λ t. IsDependencePaneOf t (Some number)) (IsCoveringPaneOf number) line number (pane_of_covers laws number)) s.present said.bytes h
+item_covers laws line (Some Show) d s said next h = afresh_so ArePanes AreCoveringPanes (panes_cover laws) s.present said.bytes h
+item_covers laws line (Some Calls) d s said next h = afresh_so IsCallsPane IsCoveringCalls (calls_cover laws) s.present said.bytes h
+item_covers laws line (Some Source) d s said next h = tt
+item_covers laws line (Some Print) d s said next h = tt
+item_covers laws line (Some (Advise number)) d s said next h = tt
+item_covers laws line (Some (Replace first last lines)) d s said next h = tt
+item_covers laws line (Some (Insert after lines)) d s said next h = tt
+item_covers laws line (Some (Delete first last)) d s said next h = tt
+item_covers laws line (Some (Interchange number)) d s said next h = tt
+item_covers laws line (Some (Reverse number)) d s said next h = tt
+item_covers laws line (Some (Skew number factor)) d s said next h = tt
+item_covers laws line (Some (Strip number size)) d s said next h = tt
+item_covers laws line (Some (Peel number last)) d s said next h = tt
+item_covers laws line (Some (Distribute number)) d s said next h = tt
+item_covers laws line (Some (Fuse number)) d s said next h = tt
+item_covers laws line (Some (Inline number)) d s said next h = tt
+item_covers laws line (Some (Expand number name)) d s said next h = tt
+item_covers laws line (Some (Privatise number name)) d s said next h = tt
+item_covers laws line (Some (Reduce number names)) d s said next h = tt
+item_covers laws line (Some (Parallel number)) d s said next h = tt
+item_covers laws line (Some (Serial number)) d s said next h = tt
+item_covers laws line (Some (Reject number name)) d s said next h = tt
+item_covers laws line (Some Auto) d s said next h = tt
+item_covers laws line (Some Undo) d s said next h = tt
+item_covers laws line (Some Redo) d s said next h = tt
+item_covers laws line (Some (Run choices)) d s said next h = tt
+item_covers laws line (Some Races) d s said next h = tt
+item_covers laws line (Some Tested) d s said next h = tt
+
+-- and so does each
+each_covers : Laws → (items : List Item) (d : List ℕ) (s last : State) (said : Said) → AnswersEach ShowsAfresh items d s said last → AnswersEach Covers items d s said last
+each_covers laws [] d s last said h = h
+each_covers laws (item ∷ items) d s last said h = (
+  h.0,
+  h.1,
+  h.2,
+  item_covers laws item.line item.command d s h.0 h.1 h.3,
+  h.4,
+  each_covers laws items d h.1 last h.4 h.5,
+  h.6,
+)
+
+session_covers : Laws → (program script : List ℕ) (data_file : Option (List ℕ)) (files : Contents) (bytes : List ℕ) → EachItem ShowsAfresh program script data_file files bytes → EachItem Covers program script data_file files bytes
+session_covers laws program script data_file files bytes h = record {
+  text = h.text;
+  program_is = h.program_is;
+  commands = h.commands;
+  script_is = h.script_is;
+  data_bytes = h.data_bytes;
+  data_are = h.data_are;
+  tree = h.tree;
+  expands = h.expands;
+  said = h.said;
+  last = h.last;
+  answers = each_covers laws _ h.data_bytes _ h.last h.said h.answers;
+  says = h.says;
+}
+
+-- the panes of an answer
+pub request_covered : Laws → (request : Option Request) (files : Contents) (bytes : List ℕ) → PanesRequest request files bytes → CoveredRequest request files bytes
+request_covered laws None files bytes h = tt
+request_covered laws (Some (show program)) files bytes h = (h, afresh_so ArePanes AreCoveringPanes (panes_cover laws) (program_text h.tree) bytes h.afresh)
+request_covered laws (Some (session program script data_file)) files bytes h = session_covers laws program script data_file files bytes h
+request_covered laws (Some (generate number)) files bytes h = tt

@@ -65,7 +65,7 @@ fn answered<L: Ledger, R: Files + Print>(
 
     // As many dependence tests were made as the answer takes.
     ensures tests { (files : Contents) → MayHold files shelf.new.log.events →
-        (n : ℕ) → Tests (request_of (map string_bytes words.now)) files n → Ticks result steps.old steps.new n }
+        (n : ℕ) × Tests (request_of (map string_bytes words.now)) files n × Ticks result steps.old steps.new n }
 {
     ped_main(alloc, words, shelf, out, steps)
 }

@@ -4,6 +4,7 @@ mod Alike
 mod Autos
 mod BlockCauses
 mod ChainCauses
+pub mod Counts
 mod DistributeCauses
 mod FuseCauses
 pub mod Edges

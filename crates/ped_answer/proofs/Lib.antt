@@ -9,6 +9,7 @@ mod MadePrograms
 mod MadeScripts
 mod NoLists
 mod OneAnswer
+mod OneCount
 mod OneReport
 mod Outcomes
 mod Reports

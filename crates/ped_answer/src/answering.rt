@@ -11,6 +11,7 @@ ghost use Rattle.ped_answer.specs.Headline.{PanesRequest, HistoryRequest, RunsRe
 ghost use Rattle.ped_answer.specs.TestCounts.{Tests, Ticks, IsUntested};
 ghost use Rattle.ped_answer.specs.Serving.{ServedRequest};
 
+use crate::existence::some_tests;
 use crate::finishing::finish;
 use crate::generating::answer_size;
 use crate::headline::{
@@ -172,6 +173,8 @@ pub fn ped_main<F: Shelf, K: Sink, L: Ledger>(
     // many. Without a program there are none, whatever the files hold.
     ensures tests { (files : Contents) → F.may_hold shelf.new files →
         (n : ℕ) → Tests (request_of (map string_bytes words.now)) files n → Ticks result steps.old steps.new n }
+    ensures counted { (files : Contents) → F.may_hold shelf.new files →
+        (n : ℕ) × Tests (request_of (map string_bytes words.now)) files n × Ticks result steps.old steps.new n }
     ensures untested { IsUntested result → steps.new ≡ steps.old }
     ensures steps { steps.old ≤ steps.new }
 {
@@ -182,6 +185,7 @@ pub fn ped_main<F: Shelf, K: Sink, L: Ledger>(
     refusals_have_causes();
     auto_is_told::<L>();
     panes_cover_runs();
+    some_tests();
     match request(alloc, words) {
         Ok(asked) => serve(alloc, asked, shelf, out, steps),
         Err(WordsError::Bad) => finish(out, USAGE, Status::BadWords),
@@ -193,6 +197,12 @@ pub fn ped_main<F: Shelf, K: Sink, L: Ledger>(
 pub fn one_answer()
     ensures { (request : Option plain.Request) (files : Contents) (s t : Status) (a b : List ℕ) →
         Answers request files s a → Answers request files t b → (s ≡ t) × (a ≡ b) }
+{}
+
+/// Words and files take one number of dependence tests.
+pub fn one_count_of_tests()
+    ensures { (request : Option plain.Request) (files : Contents) (m n : ℕ) →
+        Tests request files m → Tests request files n → m ≡ n }
 {}
 
 /// Answers the words over a shelf and a sink that never fail: no read fault and no write fault comes.

@@ -12,5 +12,5 @@ pub use panes::{
     calls_pane_exists, dependence_pane_exists, dependence_pane_of_exists, dependences_exist,
 };
 pub use replies::{
-    answers_exist, lowerings_exist, replies_exist, script_answers_exist, some_answer,
+    answers_exist, lowerings_exist, replies_exist, script_answers_exist, some_answer, some_tests,
 };

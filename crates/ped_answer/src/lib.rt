@@ -17,11 +17,11 @@ mod sessions;
 mod showing;
 mod tallies;
 
-pub use answering::{Status, answer_surely, one_answer, ped_main};
+pub use answering::{Status, answer_surely, one_answer, one_count_of_tests, ped_main};
 pub use existence::{
     answers_exist, calls_pane_exists, dependence_pane_exists, dependence_pane_of_exists,
     dependences_exist, exclusions_are_decided, lowerings_exist, replies_exist,
-    script_answers_exist, some_answer, vectors_exist,
+    script_answers_exist, some_answer, some_tests, vectors_exist,
 };
 pub use generating::made_programs_have_no_list;
 pub use headline::{

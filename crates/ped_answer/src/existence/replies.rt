@@ -17,6 +17,7 @@ ghost use Rattle.ped_answer.specs.ped_session.specs.Scripts.{Said, AnswersItems}
 ghost use Rattle.ped_answer.specs.declared.answering.Status.{Status};
 ghost use Rattle.ped_answer.specs.ped_words.specs.Requests.{Request};
 ghost use Rattle.ped_answer.specs.Answer.{Answers};
+ghost use Rattle.ped_answer.specs.TestCounts.{Tests};
 
 use ped_session::an_interleaving;
 
@@ -56,6 +57,14 @@ pub fn script_answers_exist()
 /// second one says `one_answer` of ped_answer.
 pub fn some_answer()
     ensures { (request : Option Request) (files : Contents) → (status : Status) × (bytes : List ℕ) × Answers request files status bytes }
+{
+    an_interleaving();
+}
+
+/// The answer to words and files takes so many dependence tests, whatever is asked for and whatever the files hold. That it
+/// takes no other number says `one_count_of_tests`.
+pub fn some_tests()
+    ensures { (request : Option Request) (files : Contents) → (n : ℕ) × Tests request files n }
 {
     an_interleaving();
 }

@@ -131,6 +131,11 @@ returns-in-Ok-clause-told_sent g c = (served g c).told_sent
 pub returns-in-Ok-clause-tests : goal.returns-in-Ok-clause-tests
 returns-in-Ok-clause-tests g c = (served g c).ticks
 
+pub returns-in-Ok-clause-counted : goal.returns-in-Ok-clause-counted
+returns-in-Ok-clause-counted g c = λ files may.
+    let n = c.some_tests.ensures (request_of (map string_bytes c.args.words.now)) files in
+    (n.0, n.1, (served g c).ticks files may n.0 n.1)
+
 pub returns-in-Ok-clause-untested : goal.returns-in-Ok-clause-untested
 returns-in-Ok-clause-untested g c = (served g c).untested
 
@@ -146,3 +151,13 @@ returns-in-Err-Bad-clause-answer g c = λ files may.
 
 pub returns-in-Err-Bad-clause-tests : goal.returns-in-Err-Bad-clause-tests
 returns-in-Err-Bad-clause-tests g c = λ files may n tests. idle_writing c.finish.result BadWords _ n (λ e. cc) (λ e. cc) c.finish.ensures.ends
+
+pub returns-in-Err-Bad-clause-counted : goal.returns-in-Err-Bad-clause-counted
+returns-in-Err-Bad-clause-counted g c = λ files may.
+    let n = c.some_tests.ensures (request_of (map string_bytes c.args.words.now)) files in
+    (n.0, n.1, returns-in-Err-Bad-clause-tests g c files may n.0 n.1)
+
+pub returns-in-Err-NoMemory-clause-counted : goal.returns-in-Err-NoMemory-clause-counted
+returns-in-Err-NoMemory-clause-counted g c = λ files may.
+    let n = c.some_tests.ensures (request_of (map string_bytes c.args.words.now)) files in
+    (n.0, n.1, omega arith)

@@ -36,6 +36,7 @@ MODULE = re.compile(r"^pub mod ([a-z_0-9]+);")
 USE = re.compile(r"^(pub )?use ([^;]+);", re.M | re.S)
 OWN_TRAIT = re.compile(r"^pub trait ([A-Za-z_0-9]+)", re.M)
 DEFINED = re.compile(r"^ *(?:(?:abbrev|unfoldable) )?pub (?:(?:record|data) )?([A-Za-z_0-9]+)", re.M)
+MEMBER = re.compile(r"^ *ghost (\w+): ", re.M)
 NAME = re.compile(r"^[A-Za-z_0-9]*(?:_|::)[A-Za-z_0-9:]*$")
 
 complaints = Complaints("contracts")
@@ -318,11 +319,13 @@ def crate_lines(name):
 
 
 def check_head(pages):
-    """Complains of names in the head page that are no public item, clause, definition or crate."""
+    """Complains of names in the head page that are no public item, clause, definition, ghost member of a trait or crate."""
     shown = "\n".join(line for lines in pages.values() for line in lines if line.startswith("| "))
     known = {part for name in re.findall(r"`([A-Za-z_0-9:]+)`", shown) for part in (name, name.split("::")[-1])}
     for path in CRATES.glob("*/specs/**/*.antt"):
         known.update(DEFINED.findall(path.read_text()))
+    for path in CRATES.glob("*/src/**/*.rt"):
+        known.update(MEMBER.findall(path.read_text()))
     for name in HEAD_PAGE.read_text().split("`")[1::2]:
         if NAME.match(name) and name not in known and not (CRATES / name).is_dir():
             complaints.add(f"{HEAD_PAGE.name}: nothing public is called {name}")

@@ -16,11 +16,12 @@ use Rattle.ped_session.specs.ped_order.specs.ped_laws.specs.Conflicts.Directions
 use Rattle.ped_session.specs.ped_order.specs.ped_laws.specs.Conflicts.Covered.{ComeInRun, IsCovered, IsCarriedInParallel}
 use Rattle.ped_session.specs.ped_transformations.specs.ped_inline.specs.CallsPane.{IsCallsPane}
 use Rattle.ped_session.specs.ped_transformations.specs.ped_inline.specs.CoveredCalls.{is_in_block, AreInOneCall, IsCoveredFolded}
+use Rattle.ped_session.specs.ped_transformations.specs.ped_script.specs.Items.{commands_of}
 use Rattle.ped_session.specs.ped_transformations.specs.ped_script.specs.declared.items.Item.{Item}
 use Rattle.ped_session.specs.ped_transformations.specs.ped_script.specs.declared.items.Command.{Command}
 use Rattle.ped_session.specs.ped_transformations.specs.ped_script.specs.declared.items.Command.TheVariants.{Source, Deps, Show, Calls, Print, Advise, Replace, Insert, Delete, Interchange, Reverse, Skew, Strip, Peel, Distribute, Fuse, Inline, Expand, Privatise, Reduce, Parallel, Serial, Reject, Auto, Undo, Redo, Run, Races, Tested}
 use Rattle.ped_session.specs.Panes.{ArePanes}
-use Rattle.ped_session.specs.States.{State}
+use Rattle.ped_session.specs.States.{State, opened}
 use Rattle.ped_session.specs.Replies.{answer_row}
 use Rattle.ped_session.specs.Scripts.{Said}
 use Rattle.ped_answer.specs.Covered.{ConflictInRun, RaceInRun, CoverRuns, IsCoveringPane, AreCoveringPanes, touches, CoverRunsAt, IsCoveringPaneOf, IsCoveringCalls}
@@ -214,7 +215,7 @@ session_covers laws program script data_file files bytes h = record {
   expands = h.expands;
   said = h.said;
   last = h.last;
-  answers = each_covers laws _ h.data_bytes _ h.last h.said h.answers;
+  answers = each_covers laws (commands_of h.commands) h.data_bytes (opened h.tree) h.last h.said h.answers;
   says = h.says;
 }
 

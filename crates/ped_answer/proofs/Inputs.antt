@@ -129,7 +129,7 @@ pub unread_served : (i : Input) (is : List Input) (rest : List ℕ → Contents 
     → ((files : Contents) → call.told ≡ Some files → (name : List ℕ) → name ≢ i.name → IsHeld files name → call.counts_after name ≡ call.counts name)
     → Sends (SaysUnread i fault) (SinkFailed call) call.sent call.sent_after call.status
     → (call.status ≡ unread_status fault) ⊎ (call.status ≡ WriteFault) ⊎ (call.status ≡ NoMemory)
-    → (call.status ≡ WriteFault → SinkFailed call) → call.faults ≤ call.faults_after → (call.taken ≡ None → call.taken_after ≡ None) → ((before : List ℕ) → call.taken ≡ Some before → call.taken_after ≡ Some call.sent_after)
+    → (call.status ≡ WriteFault → SinkFailed call) → call.faults ≤ call.faults_after → (call.taken ≡ None → call.taken_after ≡ None) → (call.taken ≡ Some call.sent → call.taken_after ≡ Some call.sent_after)
     → call.steps_after ≡ call.steps
     → Served (i ∷ is) (λ files. AnswersInput i files (λ bytes. rest bytes files)) (λ files. TestsInput i files (λ bytes. rest_tests bytes files)) call
 unread_served i is rest rest_tests fault call rose more rises others says ends write_fault sink_rises untold told_sent still =
@@ -224,7 +224,7 @@ pub text_served : (answers : Status → List ℕ → Type 0) (tests : ℕ → Ty
     → IsOfText call.status
     → ((name : List ℕ) → call.counts_after name ≡ call.counts name)
     → Sends answers (SinkFailed call) call.sent call.sent_after call.status
-    → (call.status ≡ WriteFault → SinkFailed call) → call.faults ≤ call.faults_after → (call.taken ≡ None → call.taken_after ≡ None) → ((before : List ℕ) → call.taken ≡ Some before → call.taken_after ≡ Some call.sent_after)
+    → (call.status ≡ WriteFault → SinkFailed call) → call.faults ≤ call.faults_after → (call.taken ≡ None → call.taken_after ≡ None) → (call.taken ≡ Some call.sent → call.taken_after ≡ Some call.sent_after)
     → ((n : ℕ) → tests n → Ticks call.status call.steps call.steps_after n) → (IsUntested call.status → call.steps_after ≡ call.steps) → call.steps ≤ call.steps_after
     → Served [] (λ files. answers) (λ files. tests) call
 text_served answers tests call given ends kept says write_fault sink_rises untold told_sent ticks untested rise =

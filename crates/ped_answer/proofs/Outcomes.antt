@@ -47,12 +47,9 @@ pub counted : (fault : PutFault) (n : ℕ) (rose : Type 0) → (IsWriteFault fau
 counted (put.WriteFault m) n rose h e = h tt
 counted (put.NoMemory m) n rose h e = absurd (let f = e in cc)
 
--- where a sink that says what it has taken takes more, it says that, and this is what was sent
-pub more_told : (taken after : Option (List ℕ)) (sent more : List ℕ) → ((bytes : List ℕ) → after ≡ Some bytes → sent ≡ bytes) → after ≡ option_map (λ before. before ++ more) taken
-    → (before : List ℕ) → taken ≡ Some before → after ≡ Some sent
-more_told taken after sent more law took before told =
-    let now = took ∙ ap (option_map (λ (b : List ℕ). b ++ more)) told in
-    now ∙ ap (λ (b : List ℕ). Some b) (sym (law (before ++ more) now))
+-- where a sink that says what it has taken takes more, it says what was sent
+pub more_told : (taken after : Option (List ℕ)) (sent now more : List ℕ) → after ≡ option_map (λ before. before ++ more) taken → now ≡ sent ++ more → taken ≡ Some sent → after ≡ Some now
+more_told taken after sent now more took is told = took ∙ ap (option_map (λ (b : List ℕ). b ++ more)) told ∙ ap (λ (b : List ℕ). Some b) (sym is)
 
 -- the usage line answers words that ask for nothing
 pub usage_may_answer : (request : Option Request) (files : Contents) (failed : List ℕ → Type 0) → request ≡ None → (s : Status) (b : List ℕ) → IsJust BadWords usage_line s b → MayAnswer request files failed s b

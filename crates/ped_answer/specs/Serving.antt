@@ -48,7 +48,7 @@ pub record Served (inputs : List Input) (answers : Contents → Status → List 
   pub others : (files : Contents) → call.told ≡ Some files → (name : List ℕ) → ¬ (IsOneOf inputs name) → IsHeld files name → call.counts_after name ≡ call.counts name
   pub sink_rises : call.faults ≤ call.faults_after
   pub untold : call.taken ≡ None → call.taken_after ≡ None
-  pub told_sent : (before : List ℕ) → call.taken ≡ Some before → call.taken_after ≡ Some call.sent_after
+  pub told_sent : call.taken ≡ Some call.sent → call.taken_after ≡ Some call.sent_after
   pub ticks : (files : Contents) → call.may files → (n : ℕ) → tests files n → Ticks call.status call.steps call.steps_after n
   pub untested : IsUntested call.status → call.steps_after ≡ call.steps
   pub steps_rise : call.steps ≤ call.steps_after

@@ -167,7 +167,7 @@ pub fn ped_main<F: Shelf, K: Sink, L: Ledger>(
 
     // Files that the shelf may hold at the end it might hold before; and a sink that says what it has taken says what was sent.
     ensures less { (files : Contents) → F.may_hold shelf.new files → F.may_hold shelf.old files }
-    ensures told_sent { (before : List ℕ) → K.taken out.old ≡ Some before → K.taken out.new ≡ Some (K.sent out.new) }
+    ensures told_sent { K.taken out.old ≡ Some (K.sent out.old) → K.taken out.new ≡ Some (K.sent out.new) }
 
     // As many dependence tests are made as the answer takes, where it was written whole; otherwise at most as
     // many. Without a program there are none, whatever the files hold.

@@ -43,7 +43,7 @@ pub fn answer_size<K: Sink, L: Ledger>(
     ensures write_fault { result ≡ Status.WriteFault → Rose (K.faults out.old) (K.faults out.new) }
     ensures faults { K.faults out.old ≤ K.faults out.new }
     ensures untold { K.taken out.old ≡ None → K.taken out.new ≡ None }
-    ensures told_sent { (before : List ℕ) → K.taken out.old ≡ Some before → K.taken out.new ≡ Some (K.sent out.new) }
+    ensures told_sent { K.taken out.old ≡ Some (K.sent out.old) → K.taken out.new ≡ Some (K.sent out.new) }
     ensures tests { (n : ℕ) → TestsGenerated size n → Ticks result steps.old steps.new n }
     ensures untested { IsUntested result → steps.new ≡ steps.old }
     ensures steps { steps.old ≤ steps.new }
@@ -74,7 +74,7 @@ fn answer_session<K: Sink, L: Ledger>(
     ensures write_fault { result ≡ Status.WriteFault → Rose (K.faults out.old) (K.faults out.new) }
     ensures faults { K.faults out.old ≤ K.faults out.new }
     ensures untold { K.taken out.old ≡ None → K.taken out.new ≡ None }
-    ensures told_sent { (before : List ℕ) → K.taken out.old ≡ Some before → K.taken out.new ≡ Some (K.sent out.new) }
+    ensures told_sent { K.taken out.old ≡ Some (K.sent out.old) → K.taken out.new ≡ Some (K.sent out.new) }
     ensures tests { (tally : Spec.Tally) (last : State) → Applies (commands_of (made.script size)) session.old tally last → Ticks result steps.old steps.new tally.tests }
     ensures steps { steps.old ≤ steps.new }
 {

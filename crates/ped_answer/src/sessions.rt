@@ -196,7 +196,7 @@ fn answer_texts<K: Sink, L: Ledger>(
     ensures write_fault { result ≡ Status.WriteFault → Rose (K.faults out.old) (K.faults out.new) }
     ensures faults { K.faults out.old ≤ K.faults out.new }
     ensures untold { K.taken out.old ≡ None → K.taken out.new ≡ None }
-    ensures told_sent { (before : List ℕ) → K.taken out.old ≡ Some before → K.taken out.new ≡ Some (K.sent out.new) }
+    ensures told_sent { K.taken out.old ≡ Some (K.sent out.old) → K.taken out.new ≡ Some (K.sent out.new) }
     ensures tests { (n : ℕ) → TestsSession text.now script.now input.now n → Ticks result steps.old steps.new n }
     ensures untested { IsUntested result → steps.new ≡ steps.old }
     ensures steps { steps.old ≤ steps.new }
@@ -225,7 +225,7 @@ fn answer_program<K: Sink, L: Ledger>(
     ensures write_fault { result ≡ Status.WriteFault → Rose (K.faults out.old) (K.faults out.new) }
     ensures faults { K.faults out.old ≤ K.faults out.new }
     ensures untold { K.taken out.old ≡ None → K.taken out.new ≡ None }
-    ensures told_sent { (before : List ℕ) → K.taken out.old ≡ Some before → K.taken out.new ≡ Some (K.sent out.new) }
+    ensures told_sent { K.taken out.old ≡ Some (K.sent out.old) → K.taken out.new ≡ Some (K.sent out.new) }
     ensures tests { (said : Said) (last : State) → AnswersItems (commands_of script.now) input.now (opened (program_tree program.program)) said last
         → Ticks result steps.old steps.new (pair_count (references (program_tree program.program)) + said.tests) }
     ensures steps { steps.old ≤ steps.new }
@@ -251,7 +251,7 @@ fn answer_script<K: Sink, L: Ledger>(
     ensures write_fault { result ≡ Status.WriteFault → Rose (K.faults out.old) (K.faults out.new) }
     ensures faults { K.faults out.old ≤ K.faults out.new }
     ensures untold { K.taken out.old ≡ None → K.taken out.new ≡ None }
-    ensures told_sent { (before : List ℕ) → K.taken out.old ≡ Some before → K.taken out.new ≡ Some (K.sent out.new) }
+    ensures told_sent { K.taken out.old ≡ Some (K.sent out.old) → K.taken out.new ≡ Some (K.sent out.new) }
     ensures tests { (said : Said) (last : State) → AnswersItems (commands_of script.now) input.now session.old said last → Ticks result steps.old steps.new said.tests }
     ensures steps { steps.old ≤ steps.new }
 {

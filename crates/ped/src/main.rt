@@ -7,7 +7,7 @@ ghost use Rattle.ped_host.specs.Events.{bytes_of};
 ghost use Rattle.ped_host.specs.Reads.{MayHold};
 ghost use Rattle.ped_answer.specs.ped_io.specs.Outside.{Contents, Rose};
 ghost use Rattle.ped_answer.specs.ped_words.specs.Requests.{request_of};
-ghost use Rattle.ped_answer.specs.Answer.{IsWhole, MayAnswer, Sends};
+ghost use Rattle.ped_answer.specs.Answer.{inputs_of, AgreeOn, HasRead, IsWhole, MayAnswer, Sends};
 ghost use Rattle.ped_answer.specs.Headline.{IsHeadline};
 ghost use Rattle.ped_answer.specs.TestCounts.{Tests, Ticks};
 
@@ -57,6 +57,10 @@ fn answered<L: Ledger, R: Files + Print>(
     ensures answer { (files : Contents) → MayHold files shelf.new.log.events →
         Sends (MayAnswer (request_of (map string_bytes words.now)) files (λ name. Rose shelf.old.faults shelf.new.faults))
         (Rose out.old.faults out.new.faults) (bytes_of out.old.log.events) (bytes_of out.new.log.events) result }
+
+    // Where the status is 0, 1 or 5, all such files hold the same under the names of the words.
+    ensures known { HasRead result → (files others : Contents) → MayHold files shelf.new.log.events →
+        MayHold others shelf.new.log.events → AgreeOn (inputs_of (request_of (map string_bytes words.now))) files others }
 
     // Where the answer was written whole, all parts of the headline are so of the bytes written.
     ensures headline { (files : Contents) → MayHold files shelf.new.log.events → IsWhole result →

@@ -13,6 +13,7 @@ use Rattle.ped_answer.specs.declared.answering.Status.{Status}
 use Rattle.ped_answer.specs.declared.answering.Status.TheVariants.{Done, SomeRefused, BadWords, ReadFault, WriteFault, ProgramRefused, NoMemory, TooLong}
 use Rattle.ped_gen.specs.Generated as made
 use Rattle.ped_answer.specs.Generated.{Tally, Applies}
+use Rattle.ped_answer.specs.Answer.{HasRead}
 use Rattle.ped_answer.specs.TestCounts.{TestsText, of_tree, of_refusal, TestsSession, of_script, of_refused_program, TestsGenerated, of_report, of_refused_text, Ticks, IsUntested}
 use Rattle.ped_answer.specs.Serving.{session_status}
 use Rattle.ped_answer.proofs.OneAnswer.{one_tree, not_both, one_expansion, never_both}
@@ -38,6 +39,12 @@ not_other s only other h w m (inr (inr e)) d = m (sym e ∙ d)
 -- a call that made no test, and then wrote an answer that is none on a program
 pub idle_writing : (s only : Status) (before n : ℕ) → only ≢ Done → only ≢ SomeRefused → (s ≡ only) ⊎ (s ≡ WriteFault) ⊎ (s ≡ NoMemory) → Ticks s before before n
 idle_writing s only before n h k e = idle_ticks s before n (not_other s only Done h (λ d. cc) (λ d. cc) e) (not_other s only SomeRefused k (λ d. cc) (λ d. cc) e)
+
+-- nor has one that wrote an answer to bad words read all files
+pub read_nothing : (s : Status) → (s ≡ BadWords) ⊎ (s ≡ WriteFault) ⊎ (s ≡ NoMemory) → HasRead s → ⊥
+read_nothing s (inl e) h = subst HasRead e h
+read_nothing s (inr (inl e)) h = subst HasRead e h
+read_nothing s (inr (inr e)) h = subst HasRead e h
 
 -- as many tests as the answer takes are at most as many
 within : (s : Status) (before after n : ℕ) → (s ≡ WriteFault) ⊎ (s ≡ NoMemory) → after ≤ before + n → Ticks s before after n

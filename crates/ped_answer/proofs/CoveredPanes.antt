@@ -22,10 +22,9 @@ use Rattle.ped_session.specs.ped_transformations.specs.ped_script.specs.declared
 use Rattle.ped_session.specs.ped_transformations.specs.ped_script.specs.declared.items.Command.TheVariants.{Source, Deps, Show, Calls, Print, Advise, Replace, Insert, Delete, Interchange, Reverse, Skew, Strip, Peel, Distribute, Fuse, Inline, Expand, Privatise, Reduce, Parallel, Serial, Reject, Auto, Undo, Redo, Run, Races, Tested}
 use Rattle.ped_session.specs.Panes.{ArePanes}
 use Rattle.ped_session.specs.States.{State, opened}
-use Rattle.ped_session.specs.Replies.{answer_row}
 use Rattle.ped_session.specs.Scripts.{Said}
-use Rattle.ped_answer.specs.Covered.{ConflictInRun, RaceInRun, CoverRuns, IsCoveringPane, AreCoveringPanes, touches, CoverRunsAt, IsCoveringPaneOf, IsCoveringCalls}
-use Rattle.ped_answer.specs.Headline.{ItemFact, AnswersEach, EachItem, Afresh, IsOfStatement, ShowsAfresh, PanesRequest, Covers, CoveredRequest}
+use Rattle.ped_answer.specs.Covered.{CoverRuns, IsCoveringPane, AreCoveringPanes, touches, CoverRunsAt, IsCoveringPaneOf, IsCoveringCalls}
+use Rattle.ped_answer.specs.Headline.{AnswersEach, EachItem, Afresh, IsOfStatement, ShowsAfresh, PanesRequest, Covers, CoveredRequest}
 
 -- dependences cover conflicts
 abbrev pub ConflictsCovered : Type 0

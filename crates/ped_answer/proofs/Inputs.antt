@@ -7,7 +7,7 @@ use Rattle.ped_io.specs.declared.loading.LoadError.{LoadError}
 use Rattle.ped_io.specs.declared.loading.LoadError.TheVariants as load
 use Rattle.ped_answer.specs.declared.answering.Status.{Status}
 use Rattle.ped_answer.specs.declared.answering.Status.TheVariants.{Done, SomeRefused, BadWords, ReadFault, WriteFault, ProgramRefused, NoMemory, TooLong}
-use Rattle.ped_answer.specs.Answer.{Input, IsHeldWithin, IsTooLong, CannotRead, MayGive, AnswersInput, IsShown, IsSession, Sends}
+use Rattle.ped_answer.specs.Answer.{Input, HasRead, IsHeldWithin, IsTooLong, CannotRead, MayGive, AnswersInput, IsShown, IsSession, Sends}
 use Rattle.ped_answer.specs.Generated.{IsGenerated}
 use Rattle.ped_answer.specs.TestCounts.{TestsInput, Ticks, IsUntested}
 use Rattle.ped_answer.specs.Serving.{Call, HasFailed, SinkFailed, Served, SaysUnread, unread_status}
@@ -77,6 +77,7 @@ read_served i is rest rest_tests told counts text call loaded short rises others
             outcome_weaker (MayGive is files (HasFailed call) (rest text files)) (MayGive (i ∷ is) files (λ name. Rose (counts name) (call.counts_after name)) (AnswersInput i files (λ bytes. rest bytes files)))
                 (behind i is files (HasFailed call) (λ name. Rose (counts name) (call.counts_after name)) (λ bytes. rest bytes files) (held files may) since) (SinkFailed call) o.0 call.status o.2,
           );
+      known = λ read files others may too. (loaded files may ∙ sym (loaded others too), served.known read files others may too);
       words = served.words;
       read_fault = λ fault. let one = served.read_fault fault in (one.0, inr one.1, since one.0 one.2);
       write_fault = served.write_fault;
@@ -115,6 +116,9 @@ unread_ends P read long write memory fault s (inr (inr e)) = subst (λ (x : Stat
 calm : (fault : LoadError) (s : Status) → (s ≡ unread_status fault) ⊎ (s ≡ WriteFault) ⊎ (s ≡ NoMemory) → (s ≢ Done) × (s ≢ SomeRefused) × (s ≢ BadWords)
 calm = unread_ends (λ s fault. (s ≢ Done) × (s ≢ SomeRefused) × (s ≢ BadWords)) ((λ e. cc), (λ e. cc), (λ e. cc)) ((λ e. cc), (λ e. cc), (λ e. cc)) (λ fault. ((λ e. cc), (λ e. cc), (λ e. cc))) (λ fault. ((λ e. cc), (λ e. cc), (λ e. cc)))
 
+not_read : (fault : LoadError) (s : Status) → (s ≡ unread_status fault) ⊎ (s ≡ WriteFault) ⊎ (s ≡ NoMemory) → HasRead s → ⊥
+not_read = unread_ends (λ s fault. HasRead s → ⊥) (λ h. h) (λ h. h) (λ fault h. h) (λ fault h. h)
+
 says_read_fault : (fault : LoadError) (s : Status) → (s ≡ unread_status fault) ⊎ (s ≡ WriteFault) ⊎ (s ≡ NoMemory) → s ≡ ReadFault → fault ≡ load.ReadFault
 says_read_fault = unread_ends (λ s fault. s ≡ ReadFault → fault ≡ load.ReadFault) (λ e. refl) (λ e. absurd (let f = e in cc)) (λ fault e. absurd (let f = e in cc)) (λ fault e. absurd (let f = e in cc))
 
@@ -143,6 +147,7 @@ unread_served i is rest rest_tests fault call rose more rises others says ends w
         outcome_weaker (SaysUnread i fault) (MayGive (i ∷ is) files (HasFailed call) (AnswersInput i files (λ bytes. rest bytes files)))
             (unread_given i is files (HasFailed call) (λ bytes. rest bytes files) fault rose (long files may)) (SinkFailed call) says.0 call.status says.2,
       );
+      known = λ read files others may too. absurd (not_read fault call.status ends read);
       words = c.2;
       read_fault = λ f. (i.name, inl refl, rose (says_read_fault fault call.status ends f));
       write_fault = write_fault;
@@ -230,6 +235,7 @@ pub text_served : (answers : Status → List ℕ → Type 0) (tests : ℕ → Ty
 text_served answers tests call given ends kept says write_fault sink_rises untold told_sent ticks untested rise =
     record {
       sends = λ files may. (says.0, says.1, outcome_weaker answers (MayGive [] files (HasFailed call) answers) (given files (HasFailed call)) (SinkFailed call) says.0 call.status says.2);
+      known = λ read files others may too. tt;
       words = not_of_text call.status BadWords (λ f. cc) (λ f. cc) (λ f. cc) (λ f. cc) (λ f. cc) ends;
       read_fault = λ f. absurd (not_of_text call.status ReadFault (λ g. cc) (λ g. cc) (λ g. cc) (λ g. cc) (λ g. cc) ends f);
       write_fault = write_fault;

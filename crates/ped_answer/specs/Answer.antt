@@ -44,6 +44,11 @@ abbrev pub IsOneOf : List Input → List ℕ → Type 0
 IsOneOf [] name = ⊥
 IsOneOf (i ∷ is) name = (name ≡ i.name) ⊎ IsOneOf is name
 
+-- two such contents hold the same under the names of these files
+abbrev pub AgreeOn : List Input → Contents → Contents → Type 0
+AgreeOn [] files others = ⊤
+AgreeOn (i ∷ is) files others = (content files i.name ≡ content others i.name) × AgreeOn is files others
+
 -- how the program is called
 abbrev pub usage_line : List ℕ
 usage_line = codes "usage: ped show PROGRAM | session PROGRAM SCRIPT [--data FILE] | generate N" ++ 10 ∷ []
@@ -121,6 +126,17 @@ IsWhole WriteFault = ⊥
 IsWhole ProgramRefused = ⊥
 IsWhole NoMemory = ⊥
 IsWhole TooLong = ⊥
+
+-- the endings that come only where all files of the words were read to their end
+abbrev pub HasRead : Status → Type 0
+HasRead Done = ⊤
+HasRead SomeRefused = ⊤
+HasRead BadWords = ⊥
+HasRead ReadFault = ⊥
+HasRead WriteFault = ⊥
+HasRead ProgramRefused = ⊤
+HasRead NoMemory = ⊥
+HasRead TooLong = ⊥
 
 -- these are the data of a session: what the file holds, or none without a file
 abbrev pub AreData : Option (List ℕ) → Contents → List ℕ → Type 0

@@ -9,7 +9,7 @@ use Rattle.ped_session.specs.Scripts.{Said, AnswersItems}
 use Rattle.ped_answer.specs.declared.answering.Status.{Status}
 use Rattle.ped_answer.specs.declared.answering.Status.TheVariants.{Done, SomeRefused, BadWords, ReadFault, WriteFault, NoMemory, TooLong}
 use Rattle.ped_words.specs.Requests.{Request}
-use Rattle.ped_answer.specs.Answer.{Input, inputs_of, IsOneOf, HoldsTooMany, MayGive, Answers, Sends, IsJust, cannot_read_line, too_long_line}
+use Rattle.ped_answer.specs.Answer.{Input, inputs_of, IsOneOf, AgreeOn, HasRead, HoldsTooMany, MayGive, Answers, Sends, IsJust, cannot_read_line, too_long_line}
 use Rattle.ped_answer.specs.TestCounts.{Tests, Ticks, IsUntested}
 
 -- a call: the files that its shelf tells, what they may hold by all that reads have given at its end, each name's count of faults before and after it, the bytes that its sink says it has taken, those that were sent, and its count of faults before and after it, the tests counted before and after it, and how it ended
@@ -40,6 +40,7 @@ SinkFailed call = Rose call.faults call.faults_after
 pub record Served (inputs : List Input) (answers : Contents → Status → List ℕ → Type 0) (tests : Contents → ℕ → Type 0) (call : Call) : Type 0 where
   pub sends : (files : Contents) → call.may files
       → Sends (MayGive inputs files (HasFailed call) (answers files)) (SinkFailed call) call.sent call.sent_after call.status
+  pub known : HasRead call.status → (files others : Contents) → call.may files → call.may others → AgreeOn inputs files others
   pub words : call.status ≢ BadWords
   pub read_fault : call.status ≡ ReadFault → (name : List ℕ) × IsOneOf inputs name × HasFailed call name
   pub write_fault : call.status ≡ WriteFault → SinkFailed call

@@ -6,7 +6,7 @@ ghost use Rattle.ped_io.specs.Shelves.{all_names};
 ghost use Rattle.ped_words.specs.Requests as plain;
 ghost use Rattle.ped_words.specs.Requests.{request_of};
 ghost use Rattle.ped_words.specs.Views.{request_view, IsSized};
-ghost use Rattle.ped_answer.specs.Answer.{inputs_of, IsOneOf, HoldsTooMany, IsWhole, Answers, MayAnswer, Sends};
+ghost use Rattle.ped_answer.specs.Answer.{inputs_of, IsOneOf, AgreeOn, HasRead, HoldsTooMany, IsWhole, Answers, MayAnswer, Sends};
 ghost use Rattle.ped_answer.specs.Headline.{PanesRequest, HistoryRequest, RunsRequest, UnitsRequest, CausesRequest, AutoRequest, CoveredRequest, IsHeadline};
 ghost use Rattle.ped_answer.specs.TestCounts.{Tests, Ticks, IsUntested};
 ghost use Rattle.ped_answer.specs.Serving.{ServedRequest};
@@ -76,6 +76,11 @@ pub fn ped_main<F: Shelf, K: Sink, L: Ledger>(
         Sends (MayAnswer (request_of (map string_bytes words.now)) files
         (λ name. Rose (F.count shelf.old name) (F.count shelf.new name)))
         (Rose (K.faults out.old) (K.faults out.new)) (K.sent out.old) (K.sent out.new) result }
+
+    // Whichever such files are taken, what the words name is known: where the status is 0, 1 or 5, all files that may be held
+    // hold the same under the names of the words.
+    ensures known { HasRead result → (files others : Contents) → F.may_hold shelf.new files → F.may_hold shelf.new others →
+        AgreeOn (inputs_of (request_of (map string_bytes words.now))) files others }
 
     // The words decide on theirs, and a fault has its cause.
     ensures words { result ≡ Status.BadWords → request_of (map string_bytes words.now) ≡ None }

@@ -1,6 +1,6 @@
 //! Answers that are written whole, with the status behind them.
 
-ghost use Rattle.std.specs.Prelude.{◌≡◌, ◌≢◌, ◌⊎◌, ◌≤◌, ℕ, List, Some, None};
+ghost use Rattle.std.specs.Prelude.{◌≡◌, ◌≢◌, ◌⊎◌, ◌≤◌, Some, None};
 ghost use Rattle.ped_io.specs.Outside.{Rose};
 ghost use Rattle.ped_answer.specs.Answer.{Sends, IsJust};
 

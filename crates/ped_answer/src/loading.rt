@@ -1,6 +1,6 @@
 //! Files that can't be loaded: the line that says why.
 
-ghost use Rattle.std.specs.Prelude.{◌≡◌, ◌⊎◌, ◌≤◌, ℕ, List, Some, None, IfOk};
+ghost use Rattle.std.specs.Prelude.{◌≡◌, ◌⊎◌, ◌≤◌, Some, None, IfOk};
 ghost use Rattle.ped_io.specs.Outside.{Rose};
 ghost use Rattle.ped_answer.specs.Answer as Spec;
 ghost use Rattle.ped_answer.specs.Answer.{Sends, IsJust};

@@ -1,6 +1,6 @@
 //! Sessions: the files are read in order, and then the script is answered on the program that the first one's text expands to.
 
-ghost use Rattle.std.specs.Prelude.{◌≡◌, ◌⊎◌, ◌∷◌, [], ◌+◌, ◌≤◌, ℕ, List, Some, None, IfOk, option_map};
+ghost use Rattle.std.specs.Prelude.{◌≡◌, ◌⊎◌, ◌∷◌, [], ◌+◌, ◌≤◌, ℕ, Some, None, IfOk, option_map};
 ghost use Rattle.ped_io.specs.Outside.{Contents, Rose};
 ghost use Rattle.ped_session.specs.ped_tree.specs.Views.{program_tree};
 ghost use Rattle.ped_session.specs.ped_symbols.specs.NameRefusals.{IsValid};

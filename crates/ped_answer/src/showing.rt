@@ -1,6 +1,6 @@
 //! Programs that are shown: both panes, or why the file's text is refused.
 
-ghost use Rattle.std.specs.Prelude.{◌≡◌, ◌⊎◌, ◌≤◌, ℕ, List, Some, None};
+ghost use Rattle.std.specs.Prelude.{◌≡◌, ◌⊎◌, ◌≤◌, ℕ, Some, None};
 ghost use Rattle.ped_io.specs.Outside.{Contents, Rose};
 ghost use Rattle.ped_session.specs.ped_tree.specs.Views.{program_tree};
 ghost use Rattle.ped_session.specs.ped_symbols.specs.NameRefusals.{IsValid};

@@ -1,11 +1,11 @@
-use Rattle.std.proofs.Common.{◌≡◌, ◌++◌, ℕ, List, map, string_bytes, Option, Some, Err, ap, subst, sym}
+use Rattle.std.proofs.Common.{◌≡◌, ◌++◌, ℕ, List, map, string_bytes, Option, Err, ap, subst, sym, arith}
 use Rattle.ped_io.specs.Outside.{Contents, Rose}
 use Rattle.ped_answer.specs.declared.answering.Status.TheVariants.{BadWords}
 use Rattle.ped_words.specs.Requests.{Request, request_of}
 use Rattle.ped_answer.specs.Answer.{IsWhole, inputs_of, MayAnswer, Answers, IsJust, usage_line}
 use Rattle.ped_answer.specs.TestCounts.{Tests}
 use Rattle.ped_answer.specs.Serving.{Call, Served}
-use Rattle.ped_answer.proofs.Counting.{idle_writing}
+use Rattle.ped_answer.proofs.Counting.{idle_writing, read_nothing}
 use Rattle.ped_answer.proofs.WholeAnswers.{sent_whole}
 use Rattle.ped_answer.proofs.Outcomes.{outcome_weaker, usage_may_answer, whole_of}
 use Rattle.ped_answer.proofs.answering.ped_main.Given.{Over}
@@ -35,6 +35,9 @@ served g c = subst (λ (r : Option Request). Served (inputs_of r) (Answers r) (T
 
 pub returns-in-Ok-clause-answer : goal.returns-in-Ok-clause-answer
 returns-in-Ok-clause-answer g c = (served g c).sends
+
+pub returns-in-Ok-clause-known : goal.returns-in-Ok-clause-known
+returns-in-Ok-clause-known g c = (served g c).known
 
 pub returns-in-Ok-clause-words : goal.returns-in-Ok-clause-words
 returns-in-Ok-clause-words g c = λ bad. absurd ((served g c).words bad)
@@ -148,6 +151,12 @@ returns-in-Err-Bad-clause-answer g c = λ files may.
     let failed : List ℕ → Type 0 = λ (name : List ℕ). Rose (g.F.Shelf.count c.args.shelf.now name) (g.F.Shelf.count c.args.shelf.now name) in
     let none = c.in-Err-Bad.ensures.bad (ap Err c.in-Err-Bad.field-0-is) in
     (o.0, o.1, outcome_weaker (IsJust BadWords usage_line) (MayAnswer _ files failed) (usage_may_answer _ files failed none) _ o.0 c.finish.result o.2)
+
+pub returns-in-Err-Bad-clause-known : goal.returns-in-Err-Bad-clause-known
+returns-in-Err-Bad-clause-known g c = λ read files others may too. absurd (read_nothing c.finish.result c.finish.ensures.ends read)
+
+pub returns-in-Err-NoMemory-clause-known : goal.returns-in-Err-NoMemory-clause-known
+returns-in-Err-NoMemory-clause-known g c = λ read files others may too. absurd read
 
 pub returns-in-Err-Bad-clause-tests : goal.returns-in-Err-Bad-clause-tests
 returns-in-Err-Bad-clause-tests g c = λ files may n tests. idle_writing c.finish.result BadWords _ n (λ e. cc) (λ e. cc) c.finish.ensures.ends

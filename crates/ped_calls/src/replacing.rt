@@ -1,11 +1,11 @@
 //! Expressions and heads of loops with what stands for each name. No sum is computed anew.
 
-ghost use Rattle.std.specs.Prelude.{◌≡◌, [], IfOk, OnOk, is_some, map};
+ghost use Rattle.std.specs.Prelude.{◌≡◌, [], Ok, IfOk, OnOk, is_some, map};
 ghost use Rattle.ped_tree.specs.Tree as Tree;
 ghost use Rattle.ped_tree.specs.Views.{expr_tree, pack_exprs, cond_tree, item_tree, stmt_tree, stmt_trees, do_tree, head_of};
 ghost use Rattle.ped_links.specs.ped_valid.specs.ped_symbols.specs.Entries.{entry_of, with_entry};
 ghost use Rattle.ped_links.specs.ped_units.specs.Expanding as Spec;
-ghost use Rattle.ped_calls.specs.Meaning.{meanings_of, with_control};
+ghost use Rattle.ped_calls.specs.Meaning.{meanings_of, with_control, with_operands as with_operands_tree};
 
 use indexmap::IndexMap;
 use ped_base::{Listed, Name, Names, NoMemory, both};
@@ -91,28 +91,44 @@ pub fn replaced(alloc: Global, m: &Meanings, e: &Expr) -> Result<Expr, NoMemory>
             all_replaced(alloc, m, subscripts)?,
         )),
         Expr::Neg(a) => Expr::negation(alloc, replaced(alloc, m, a)?),
-        Expr::Add(a, b) => {
-            let (a, b) = both(replaced(alloc, m, a)?, replaced(alloc, m, b))?;
-            Expr::sum(alloc, a, b)
-        }
-        Expr::Sub(a, b) => {
-            let (a, b) = both(replaced(alloc, m, a)?, replaced(alloc, m, b))?;
-            Expr::difference(alloc, a, b)
-        }
-        Expr::Mul(a, b) => {
-            let (a, b) = both(replaced(alloc, m, a)?, replaced(alloc, m, b))?;
-            Expr::product(alloc, a, b)
-        }
-        Expr::Div(a, b) => {
-            let (a, b) = both(replaced(alloc, m, a)?, replaced(alloc, m, b))?;
-            Expr::quotient(alloc, a, b)
-        }
-        Expr::Pow(a, b) => {
-            let (a, b) = both(replaced(alloc, m, a)?, replaced(alloc, m, b))?;
-            Expr::power(alloc, a, b)
+        Expr::Add(a, b) | Expr::Sub(a, b) | Expr::Mul(a, b) | Expr::Div(a, b) | Expr::Pow(a, b) => {
+            let (a, b) = with_second(alloc, m, replaced(alloc, m, a), b)?;
+            with_operands(alloc, e, a, b)
         }
         Expr::Call(intrinsic, arguments) => {
             Ok(Expr::Call(*intrinsic, all_replaced(alloc, m, arguments)?))
+        }
+    }
+}
+
+/// An expression, and a second one with what stands for each name.
+#[cycle(replaced)]
+fn with_second(
+    alloc: Global,
+    m: &Meanings,
+    first: Result<Expr, NoMemory>,
+    second: &Expr,
+) -> Result<(Expr, Expr), NoMemory>
+    ensures first { IfOk result (λ pair. first ≡ Ok pair.0) }
+    ensures second { IfOk result (λ pair. expr_tree pair.1 ≡ Spec.replaced (meanings_of m.now) (expr_tree second.now)) }
+{
+    let first = first?;
+    both(first, replaced(alloc, m, second))
+}
+
+/// The operation that an expression is, on these operands; of what has not two operands, the first of these.
+fn with_operands(alloc: Global, e: &Expr, left: Expr, right: Expr) -> Result<Expr, NoMemory>
+    ensures { IfOk result (λ new. expr_tree new ≡ with_operands_tree (expr_tree e.now) (expr_tree left) (expr_tree right)) }
+{
+    match e {
+        Expr::Add(_, _) => Expr::sum(alloc, left, right),
+        Expr::Sub(_, _) => Expr::difference(alloc, left, right),
+        Expr::Mul(_, _) => Expr::product(alloc, left, right),
+        Expr::Div(_, _) => Expr::quotient(alloc, left, right),
+        Expr::Pow(_, _) => Expr::power(alloc, left, right),
+        Expr::Int(_) | Expr::Var(_) | Expr::Element(_, _) | Expr::Neg(_) | Expr::Call(_, _) => {
+            drop(right);
+            Ok(left)
         }
     }
 }

@@ -8,9 +8,10 @@ from __future__ import annotations
 
 import re
 from dataclasses import dataclass
-from typing import Dict, Iterator, List, Mapping, NamedTuple, Optional, Tuple
+from itertools import accumulate
+from typing import Dict, List, Mapping, Optional, Tuple, Union
 
-from .lines import Place, Text
+from .lines import Span, Text
 
 INTRINSICS = frozenset(["MOD", "ABS", "IABS", "MAX", "MAX0", "MIN", "MIN0"])
 
@@ -33,13 +34,6 @@ class NoExpression(Exception):
     """A text isn't an expression of a form that is known here."""
 
 
-class Span(NamedTuple):
-    """The places of the first and the last character of a part of a statement."""
-
-    start: Place
-    end: Place
-
-
 @dataclass(frozen=True)
 class Expression:
     """A part of an expression: where it stands, and its text without blanks."""
@@ -51,7 +45,7 @@ class Expression:
     @property
     def span(self) -> Span:
         """Where the expression stands."""
-        return Span(self.source.start, self.source.end)
+        return self.source.span
 
     def parts(self) -> Tuple[Expression, ...]:
         """The expressions that this one is made of, from left to right."""
@@ -122,51 +116,61 @@ class _Reader:
     """Reads a text from left to right. Calls nest twice as deep as its parentheses, which may be 660."""
 
     def __init__(self, text: Text) -> None:
+        tokens = _TOKEN.findall(text.letters)
         self._text = text
-        self._tokens = list(_TOKEN.finditer(text.letters))
-        self._words = [match.group() for match in self._tokens] + [""]
+        #: Where each token begins, and the end of the last one.
+        self._starts = [0, *accumulate(map(len, tokens))]
+        #: The tokens, and behind them empty ones: one may be taken at the end.
+        self._tokens = [*tokens, "", ""]
         self._next = 0
+        #: The token that is to be taken next.
+        self._token = self._tokens[0]
 
     def operations(self, least: int) -> Expression:
         """An expression of operators that bind at least so tightly; `**` groups to the right, others to the left."""
         begin = self._next
-        if self._peek() in _PREFIX_TAKES:
+        if self._token in _PREFIX_TAKES:
             operator = self._take()
             left: Expression = self._operation(begin, operator, self.operations(_PREFIX_TAKES[operator]))
         else:
             left = self._primary()
-        while _BINDING.get(self._peek(), -1) >= least:
+        binding = _BINDING.get(self._token, -1)
+        while binding >= least:
             operator = self._take()
-            binding = _BINDING[operator]
             right = self.operations(binding if operator == "**" else binding + 1)
             left = self._operation(begin, operator, left, right)
+            binding = _BINDING.get(self._token, -1)
         return left
 
     def _primary(self) -> Expression:
         begin = self._next
         token = self._take()
-        if token == "(":
-            inner = self.operations(0)
-            self.expect(")")
-            return inner
+        if token[:1].isalpha():
+            return self._named(begin, token)
         if token.isdigit():
-            return Number(*self._here(begin), value=int(token))
+            return Number(*self._here(begin), int(token))
         if token == "'":
             return Constant(*self._here(begin))
-        if not token[:1].isalpha():
+        if token != "(":
             raise NoExpression(str(self._text))
-        if self._peek() != "(":
-            return Variable(*self._here(begin), name=token)
+        inner = self.operations(0)
+        self.expect(")")
+        return inner
+
+    def _named(self, begin: int, name: str) -> Expression:
+        """What begins with a name."""
+        if self._token != "(":
+            return Variable(*self._here(begin), name)
         parts = self._list()
-        if token in INTRINSICS:
-            return Call(*self._here(begin), name=token, arguments=parts)
-        return Element(*self._here(begin), name=token, subscripts=parts)
+        if name in INTRINSICS:
+            return Call(*self._here(begin), name, parts)
+        return Element(*self._here(begin), name, parts)
 
     def _list(self) -> Tuple[Expression, ...]:
         """Expressions in parentheses."""
         parts = []
         separator = "("
-        while self._peek() == separator:
+        while self._token == separator:
             self._take()
             parts.append(self.operations(0))
             separator = ","
@@ -174,39 +178,42 @@ class _Reader:
         return tuple(parts)
 
     def _operation(self, begin: int, operator: str, *operands: Expression) -> Operation:
-        return Operation(*self._here(begin), operator=operator, operands=operands)
+        return Operation(*self._here(begin), operator, operands)
 
     def _here(self, begin: int) -> Tuple[Text, str]:
         """The characters of what was read from a token on, and their text."""
-        text = self._text[self._tokens[begin].start():self._tokens[self._next - 1].end()]
+        text = self._text.part(self._starts[begin], self._starts[self._next])
         return text, str(text)
 
-    def _peek(self) -> str:
-        return self._words[min(self._next, len(self._tokens))]
-
     def _take(self) -> str:
-        token = self._peek()
+        token = self._token
         self._next += 1
+        self._token = self._tokens[self._next]
         return token
 
     def expect(self, token: str) -> None:
         """Takes a token, the text's end where it is empty."""
-        if self._peek() != token:
+        if self._take() != token:
             raise NoExpression(str(self._text))
-        self._next += 1
 
 
-def occurrences(expression: Expression) -> Iterator[Expression]:
+def occurrences(expression: Expression) -> List[Union[Variable, Element]]:
     """The variables and elements of an expression as they are used: the subscripts of an element come before it."""
+    found: List[Union[Variable, Element]] = []
+    _gather(expression, found)
+    return found
+
+
+def _gather(expression: Expression, found: List[Union[Variable, Element]]) -> None:
     for part in expression.parts():
-        yield from occurrences(part)
+        _gather(part, found)
     if isinstance(expression, (Variable, Element)):
-        yield expression
+        found.append(expression)
 
 
 def names_in(expression: Expression) -> List[str]:
     """The names of variables and arrays in an expression, as they are used."""
-    return [part.name for part in occurrences(expression) if isinstance(part, (Variable, Element))]
+    return [part.name for part in occurrences(expression)]
 
 
 def value_of(expression: Expression, constants: Mapping[str, int]) -> Optional[int]:

@@ -11,8 +11,8 @@ import operator
 from dataclasses import dataclass
 from typing import Callable, Dict, Iterator, Mapping, Optional
 
-from .expressions import Call, Expression, Number, Operation, Span, Variable, read_expression, value_of
-from .lines import Text
+from .expressions import Call, Expression, Number, Operation, Variable, read_expression, value_of
+from .lines import Span, Text
 from .statements import Assignment, BlockIf, Declaration, Do, Form, Parameter, Print, Read
 
 _GREATEST = 2**31 - 1

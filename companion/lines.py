@@ -16,6 +16,7 @@ LAST_COLUMN = 72
 
 #: A whole character constant, in which two apostrophes are one, or another character that isn't blank.
 _CHARACTER = re.compile(r"'(?:[^']|'')*(?:'|$)|[^ ]", re.DOTALL)
+_PARENTHESIS = re.compile("[()]")
 
 
 class Place(NamedTuple):
@@ -23,6 +24,13 @@ class Place(NamedTuple):
 
     line: int
     column: int
+
+
+class Span(NamedTuple):
+    """The places of the first and the last character of a part of a statement."""
+
+    start: Place
+    end: Place
 
 
 @dataclass(frozen=True)
@@ -73,11 +81,11 @@ class _Letters:
         """The place of the last byte of a character."""
         return self._place(self._matches[index].end() - 1 if self._is_mixed else self._offsets[index])
 
-    def text(self, first: int, last: int) -> str:
-        """Some characters, up to but without the last one."""
+    def text(self, first: int, letters: str) -> str:
+        """What stands in the place of some letters, from the first one on."""
         if not self._is_mixed:
-            return self.letters[first:last]
-        return "".join(_capital(match.group()) for match in self._matches[first:last])
+            return letters
+        return "".join(_capital(match.group()) for match in self._matches[first:first + len(letters)])
 
     def _place(self, offset: int) -> Place:
         width = LAST_COLUMN - FIRST_COLUMN + 1
@@ -105,6 +113,11 @@ class Text(Sequence[Character]):
         """The place of the last byte."""
         return self._all.end(self._first + len(self.letters) - 1)
 
+    @property
+    def span(self) -> Span:
+        """Where the text stands."""
+        return Span(self.start, self.end)
+
     @overload
     def __getitem__(self, index: int) -> Character: ...
 
@@ -113,47 +126,50 @@ class Text(Sequence[Character]):
 
     def __getitem__(self, index: Union[int, slice]) -> Union[Character, Text]:
         if isinstance(index, slice):
-            return Text(self._all, self._first + index.indices(len(self.letters))[0], self.letters[index])
+            return self.part(*index.indices(len(self.letters))[:2])
         place = self._first + range(len(self.letters))[index]
-        return Character(self._all.text(place, place + 1), self._all.start(place), self._all.end(place))
+        text = self._all.text(place, self.letters[index])
+        return Character(text, self._all.start(place), self._all.end(place))
+
+    def part(self, first: int, last: Optional[int] = None) -> Text:
+        """The characters from one index up to another one, or to the end: what a slice is, in less time."""
+        return Text(self._all, self._first + first, self.letters[first:last])
 
     def __len__(self) -> int:
         return len(self.letters)
 
     def __str__(self) -> str:
-        return self._all.text(self._first, self._first + len(self.letters))
+        return self._all.text(self._first, self.letters)
 
     def split(self, separator: str) -> List[Text]:
         """The parts between the separators that stand outside parentheses."""
         parts = []
         begin = 0
         for index in self.outside_parentheses(separator):
-            parts.append(self[begin:index])
+            parts.append(self.part(begin, index))
             begin = index + 1
-        parts.append(self[begin:])
+        parts.append(self.part(begin))
         return parts
 
     def outside_parentheses(self, letter: str) -> Iterator[int]:
-        """The indices at which a letter stands outside parentheses."""
-        depth = 0
-        for index, here in enumerate(self.letters):
-            if here == "(":
-                depth += 1
-            elif here == ")":
-                depth -= 1
-            elif here == letter and depth == 0:
+        """The indices at which a letter, no parenthesis, stands outside parentheses."""
+        letters = self.letters
+        depth = begin = 0
+        index = letters.find(letter)
+        while index >= 0:
+            depth += letters.count("(", begin, index) - letters.count(")", begin, index)
+            if depth == 0:
                 yield index
+            begin = index
+            index = letters.find(letter, index + 1)
 
     def closing(self, opening: int) -> int:
         """The index of the parenthesis that closes the one at an index; the text's end where there is none."""
         depth = 0
-        for index in range(opening, len(self)):
-            if self.letters[index] == "(":
-                depth += 1
-            elif self.letters[index] == ")":
-                depth -= 1
-                if depth == 0:
-                    return index
+        for match in _PARENTHESIS.finditer(self.letters, opening):
+            depth += 1 if match.group() == "(" else -1
+            if depth == 0 and match.group() == ")":
+                return match.start()
         return len(self)
 
 

@@ -5,8 +5,7 @@ from __future__ import annotations
 from dataclasses import dataclass
 from typing import List, Sequence
 
-from .expressions import Span
-from .lines import LAST_COLUMN, Place
+from .lines import LAST_COLUMN, Place, Span
 
 ERROR = "error"
 WARNING = "warning"

@@ -11,8 +11,8 @@ from dataclasses import dataclass, field
 from functools import cached_property
 from typing import Dict, FrozenSet, Iterator, List, Optional, Sequence, Set, Tuple
 
-from .expressions import Expression, Span, value_of
-from .lines import Directive, Text, WrittenStatement, read_statements
+from .expressions import value_of
+from .lines import Directive, Span, Text, WrittenStatement, read_statements
 from .references import Reference, references_of
 from .statements import (
     Assignment, BlockIf, Declaration, Do, ElseIf, Form, LogicalIf, Name, Numbered, Parameter, Print, Private,
@@ -20,21 +20,26 @@ from .statements import (
 )
 
 
-@dataclass(frozen=True)
+@dataclass
 class Statement:
-    """A numbered statement: where it stands, its form, and the numbers of the loops and the IFs round it."""
+    """A numbered statement: its text, its form, and the numbers of the loops and the IFs round it."""
 
     number: int
-    span: Span
+    text: Text
     form: Numbered
     loops: Tuple[int, ...]
     ifs: Tuple[int, ...]
     references: Tuple[Reference, ...] = ()
 
     @property
+    def span(self) -> Span:
+        """Where the statement stands."""
+        return self.text.span
+
+    @property
     def line(self) -> int:
         """The line at which the statement begins."""
-        return self.span.start.line
+        return self.text.start.line
 
 
 @dataclass
@@ -164,20 +169,23 @@ class _Reader:
     def __init__(self) -> None:
         self._program = Program()
         self._blocks: List[_Block] = []
-        self._expressions: List[Tuple[str, Expression]] = []
+        #: The numbers of the loops, and of the IFs, that are open.
+        self._loops: Tuple[int, ...] = ()
+        self._ifs: Tuple[int, ...] = ()
 
     def finish(self) -> Program:
         """The program, with the references of its statements."""
         program = self._program
         constants = frozenset(program.constants)
-        for index, statement in enumerate(program.statements):
-            number = statement.number
-            excluded = constants.union(loop.variable for loop in program.loops_round(number))
-            private = program.loops[number].private if number in program.loops else []
-            references = references_of(number, statement.form, private, excluded)
-            program.statements[index] = Statement(
-                number, statement.span, statement.form, statement.loops, statement.ifs, tuple(references)
-            )
+        #: For each nest of loops the names that are no references there.
+        excluded: Dict[Tuple[int, ...], FrozenSet[str]] = {}
+        for statement in program.statements:
+            nest = statement.loops
+            if nest not in excluded:
+                excluded[nest] = constants.union(program.loops[number].variable for number in nest)
+            loop = program.loops.get(statement.number)
+            private = loop.private if loop is not None else []
+            statement.references = references_of(statement.number, statement.form, private, excluded[nest])
         return program
 
     def take(self, written: WrittenStatement) -> None:
@@ -210,38 +218,46 @@ class _Reader:
 
     def _execute(self, form: Form, written: WrittenStatement) -> None:
         if isinstance(form, LogicalIf):
-            self._number(BlockIf(form.condition), written.text)
-            self._blocks.append(_Block(len(self._program.statements), is_loop=False))
+            self._open(_Block(self._number(BlockIf(form.condition), written.text), is_loop=False))
             inner = read_form(form.text)
             if isinstance(inner, (Assignment, Print, Read)) or inner == Word("STOP"):
                 self._number(inner, form.text)
             self._close_if()
         elif isinstance(form, (BlockIf, ElseIf)):
-            self._number(BlockIf(form.condition), written.text)
-            number = len(self._program.statements)
-            self._blocks.append(_Block(number, is_loop=False, chained=isinstance(form, ElseIf)))
+            number = self._number(BlockIf(form.condition), written.text)
+            self._open(_Block(number, is_loop=False, chained=isinstance(form, ElseIf)))
         elif isinstance(form, Do):
-            self._number(form, written.text)
-            number = len(self._program.statements)
-            self._blocks.append(_Block(number, is_loop=True, label=form.label))
-            nest = self._open(loops=True)
-            self._program.loops[number] = Loop(number, form, nest, written.directives, last=number)
+            number = self._number(form, written.text)
+            self._open(_Block(number, is_loop=True, label=form.label))
+            self._program.loops[number] = Loop(number, form, self._loops, written.directives, last=number)
         elif isinstance(form, (Assignment, Print, Read)) or form == Word("STOP"):
             self._number(form, written.text)
 
-    def _number(self, form: Numbered, text: Text) -> None:
+    def _number(self, form: Numbered, text: Text) -> int:
         """Gives a statement the next number."""
         program = self._program
-        span = Span(text.start, text.end)
         number = len(program.statements) + 1
-        loops = self._open(loops=True)
-        program.statements.append(Statement(number, span, form, loops, self._open(loops=False)))
-        for loop in loops:
+        program.statements.append(Statement(number, text, form, self._loops, self._ifs))
+        for loop in self._loops:
             program.loops[loop].last = number
+        return number
 
-    def _open(self, loops: bool) -> Tuple[int, ...]:
-        """The numbers of the loops, or of the IFs, that are open."""
-        return tuple(block.number for block in self._blocks if block.is_loop == loops)
+    def _open(self, block: _Block) -> None:
+        """Opens a DO or an IF."""
+        self._blocks.append(block)
+        if block.is_loop:
+            self._loops = (*self._loops, block.number)
+        else:
+            self._ifs = (*self._ifs, block.number)
+
+    def _close(self) -> _Block:
+        """Closes the innermost DO or IF."""
+        block = self._blocks.pop()
+        if block.is_loop:
+            self._loops = self._loops[:-1]
+        else:
+            self._ifs = self._ifs[:-1]
+        return block
 
     def _end_part(self, word: str, label: Optional[int]) -> None:
         """Takes ELSE, END IF or END DO. ELSE leaves its IF open."""
@@ -252,7 +268,7 @@ class _Reader:
         elif word == "ENDDO" and not self._is_open(label):
             # With the label of an open DO it ends what a CONTINUE with this label ends.
             if self._blocks and self._blocks[-1].is_loop and self._blocks[-1].label is None:
-                self._blocks.pop()
+                self._close()
 
     def _is_open(self, label: Optional[int]) -> bool:
         """Whether a loop with this label is open."""
@@ -261,10 +277,10 @@ class _Reader:
     def _close_if(self) -> None:
         """Closes the innermost IF, and those of whose ELSE part it is the ELSE IF."""
         while self._blocks and not self._blocks[-1].is_loop:
-            if not self._blocks.pop().chained:
+            if not self._close().chained:
                 return
 
     def _end_loops(self, label: int) -> None:
         """Ends the open loops with a label."""
         while self._blocks and self._blocks[-1].is_loop and self._blocks[-1].label == label:
-            self._blocks.pop()
+            self._close()

@@ -7,9 +7,10 @@ none, and the variable of a DO is none in the body of that DO.
 from __future__ import annotations
 
 from dataclasses import dataclass
-from typing import Container, Iterator, List, Sequence, Tuple, Union
+from typing import Container, Iterator, Sequence, Tuple, Union
 
-from .expressions import Element, Expression, Span, Variable, occurrences
+from .expressions import Element, Expression, Variable, occurrences
+from .lines import Span, Text
 from .statements import Assignment, BlockIf, Do, Name, Numbered, Print, Read
 
 OUTPUT = "(OUT)"
@@ -18,15 +19,20 @@ INPUT = "(IN)"
 
 @dataclass(frozen=True)
 class Reference:
-    """A reference: its statement, its number there, its name, whether it writes, and where it stands."""
+    """A reference: its statement, its number there, its name, whether it writes, and what it was read from."""
 
     statement: int
     number: int
     name: str
     writes: bool
-    span: Span
+    source: Text
     text: str
     subscripts: Tuple[Expression, ...] = ()
+
+    @property
+    def span(self) -> Span:
+        """Where the reference stands."""
+        return self.source.span
 
     @property
     def key(self) -> Tuple[int, int]:
@@ -34,20 +40,20 @@ class Reference:
         return self.statement, self.number
 
 
-#: A use that has no number yet: the name, whether it writes, where it stands, its text and its subscripts.
-_Use = Tuple[str, bool, Span, str, Tuple[Expression, ...]]
+#: A use that has no number yet: the name, whether it writes, what it was read from, its text and its subscripts.
+_Use = Tuple[str, bool, Text, str, Tuple[Expression, ...]]
 
 
 def references_of(
     statement: int, form: Numbered, private: Sequence[Name], excluded: Container[str]
-) -> List[Reference]:
+) -> Tuple[Reference, ...]:
     """The references of a statement in their order.
 
     `private` are the PRIVATE names of a DO. `excluded` are the names that are no references: the named constants and
     the variables of the loops round the statement.
     """
     uses = [use for use in _uses(form, private) if use[0] not in excluded]
-    return [Reference(statement, number, *use) for number, use in enumerate(uses, 1)]
+    return tuple(Reference(statement, number, *use) for number, use in enumerate(uses, 1))
 
 
 def _uses(form: Numbered, private: Sequence[Name]) -> Iterator[_Use]:
@@ -60,7 +66,7 @@ def _uses(form: Numbered, private: Sequence[Name]) -> Iterator[_Use]:
         yield from _reads(form.first)
         yield from _reads(form.last)
         for name in private:
-            yield name.name, True, name.span, name.name, ()
+            yield name.name, True, name.source, name.name, ()
     elif isinstance(form, Print):
         for item in form.items:
             yield from _reads(item)
@@ -73,14 +79,11 @@ def _uses(form: Numbered, private: Sequence[Name]) -> Iterator[_Use]:
 
 def _reads(expression: Expression) -> Iterator[_Use]:
     for part in occurrences(expression):
-        if isinstance(part, Variable):
-            yield part.name, False, part.span, part.text, ()
-        elif isinstance(part, Element):
-            yield part.name, False, part.span, part.text, part.subscripts
+        yield part.name, False, part.source, part.text, part.parts()
 
 
 def _write(target: Union[Variable, Element]) -> Iterator[_Use]:
     """The reads of a target's subscripts, and its write."""
     for subscript in target.parts():
         yield from _reads(subscript)
-    yield target.name, True, target.span, target.text, target.parts()
+    yield target.name, True, target.source, target.text, target.parts()

@@ -10,16 +10,21 @@ import re
 from dataclasses import dataclass
 from typing import Callable, Dict, List, Optional, Tuple, Union
 
-from .expressions import Element, Expression, NoExpression, Span, Variable, read_expression
-from .lines import Text
+from .expressions import Element, Expression, NoExpression, Variable, read_expression
+from .lines import Span, Text
 
 
 @dataclass(frozen=True)
 class Name:
-    """A name with its place."""
+    """A name with the characters that it was read from."""
 
     name: str
-    span: Span
+    source: Text
+
+    @property
+    def span(self) -> Span:
+        """Where the name stands."""
+        return self.source.span
 
 
 @dataclass(frozen=True)
@@ -109,17 +114,17 @@ class Private:
 
 @dataclass(frozen=True)
 class Print:
-    """PRINT: its items, and the place of the word."""
+    """PRINT: its word, and its items."""
 
-    word: Span
+    word: Text
     items: Tuple[Expression, ...]
 
 
 @dataclass(frozen=True)
 class Read:
-    """READ: its items, and the place of the word."""
+    """READ: its word, and its items."""
 
-    word: Span
+    word: Text
     items: Tuple[Union[Variable, Element], ...]
 
 
@@ -158,28 +163,33 @@ def read_form(text: Text) -> Form:
 
 def _assignment(text: Text) -> Optional[Assignment]:
     equals = next(text.outside_parentheses("="), None)
-    if equals is None or len(text[equals + 1:].split(",")) > 1:
+    if equals is None:
+        return None
+    value = text.part(equals + 1)
+    if next(value.outside_parentheses(","), None) is not None:
         return None
     match = _NAME.match(text.letters)
     if match is None or not (match.end() == equals or text.closing(match.end()) == equals - 1):
         return None
-    target = read_expression(text[:equals])
+    target = read_expression(text.part(0, equals))
     if not isinstance(target, (Variable, Element)):
         return None
-    return Assignment(target, read_expression(text[equals + 1:]))
+    return Assignment(target, read_expression(value))
 
 
 def _do(text: Text) -> Optional[Do]:
     match = _DO.match(text.letters)
-    equals = next(text.outside_parentheses("="), None)
-    if match is None or equals is None or equals <= match.end():
+    if match is None:
         return None
-    bounds = [read_expression(part) for part in text[equals + 1:].split(",")]
+    equals = next(text.outside_parentheses("="), None)
+    if equals is None or equals <= match.end():
+        return None
+    bounds = [read_expression(part) for part in text.part(equals + 1).split(",")]
     if len(bounds) not in (2, 3):
         return None
     return Do(
         label=int(match.group(2)) if match.group(2) else None,
-        variable=_name(text[match.end():equals]),
+        variable=_name(text.part(match.end(), equals)),
         first=bounds[0],
         last=bounds[1],
         step=bounds[2] if len(bounds) == 3 else None,
@@ -242,12 +252,12 @@ def _private(text: Text, begin: int) -> Form:
 
 
 def _print(text: Text, begin: int) -> Form:
-    return Print(_span(text[:begin - 1]), tuple(_items(text[begin:])))
+    return Print(text[:begin - 1], tuple(_items(text[begin:])))
 
 
 def _read(text: Text, begin: int) -> Form:
     items = [item for item in _items(text[begin:]) if isinstance(item, (Variable, Element))]
-    return Read(_span(text[:begin - 1]), tuple(items))
+    return Read(text[:begin - 1], tuple(items))
 
 
 def _items(text: Text) -> List[Expression]:
@@ -262,11 +272,7 @@ def _items(text: Text) -> List[Expression]:
 def _name(text: Text) -> Name:
     if not _NAME.fullmatch(text.letters):
         raise NoExpression(str(text))
-    return Name(text.letters, _span(text))
-
-
-def _span(text: Text) -> Span:
-    return Span(text.start, text.end)
+    return Name(text.letters, text)
 
 
 _READERS: Dict[str, Callable[[Text, int], Form]] = {

@@ -9,8 +9,8 @@ from __future__ import annotations
 import re
 from typing import Callable, Dict, Iterator, List, NamedTuple, Optional, Sequence, Tuple, Union
 
-from .expressions import INTRINSICS, Element, Expression, NoExpression, Span, Variable, occurrences
-from .lines import FIRST_COLUMN, LAST_COLUMN, Place, WrittenStatement, read_statements
+from .expressions import INTRINSICS, Expression, NoExpression, occurrences
+from .lines import FIRST_COLUMN, LAST_COLUMN, Place, Span, WrittenStatement, read_statements
 from .program import Program, Statement, read_program
 from .statements import (
     Assignment, BlockIf, Declaration, Do, ElseIf, Form, LogicalIf, Name, Print, Private, Read, Save, read_form,
@@ -152,9 +152,7 @@ def _uses(form: Form) -> Iterator[_Use]:
         if isinstance(part, Name):
             yield part.name, part.span.start, 0
         else:
-            for one in occurrences(part):
-                if isinstance(one, (Variable, Element)):
-                    yield one.name, one.span.start, len(one.parts())
+            yield from ((one.name, one.source.start, len(one.parts())) for one in occurrences(part))
     if isinstance(form, LogicalIf):
         yield from _uses(read_form(form.text))
 

@@ -6,10 +6,9 @@ from dataclasses import dataclass, field
 from typing import Iterator, List, Optional, Sequence, Tuple
 
 from ..cautions import idle_directives, parallel_loops, past_last_column, untidy_loops
-from ..expressions import Span
 from ..faults import FAULTS, NO_DATA
 from ..layout import looks_free, notes
-from ..lines import Place, split_lines
+from ..lines import Place, Span, split_lines
 from ..messages import ERROR, NOTE, WARNING, Mark, excerpt, located
 from ..panes import read_panes, read_source
 from ..ped import Ped, read_file

@@ -22,6 +22,10 @@ from .trials import carried_names, names_of_level
 from .views import View
 
 
+#: How many loops are taken apart before the source pane is shown.
+_TOGETHER = 32
+
+
 @dataclass(frozen=True)
 class Place:
     """Where a loop stands: its DO, and its level."""
@@ -141,26 +145,65 @@ class Parts:
 
 def parts(ped: Ped, view: View, loops: Sequence[LoopLines], progress: Progress) -> Dict[int, Parts]:
     """What `distribute` makes of each of some loops, for which ped accepts it."""
-    scripts = [[f"distribute {loop.number}", "source", "undo"] for loop in loops]
-    made: Dict[int, List[int]] = {}
-    for loop, (_, shown, _) in zip(loops, ask_in_turn(ped, view.panes.lines, scripts, progress, "loops taken apart")):
-        made[loop.number] = _made_of(view, loop, shown.rows)
+    made = _made_of(ped, view, _groups(loops), progress)
     scripts = [
         [f"distribute {number}", *(f"deps {one}" for one in numbers), "undo"] for number, numbers in made.items()
     ]
+    levels = {loop.number: loop.level for loop in loops}
     found: Dict[int, Parts] = {}
-    for loop, replies in zip(loops, ask_in_turn(ped, view.panes.lines, scripts, progress, "their parts")):
-        numbers = made[loop.number]
-        free = [one for one, shown in zip(numbers, replies[1:]) if not names_of_level(shown, loop.level)]
-        found[loop.number] = Parts(tuple(numbers), tuple(free))
+    answers = ask_in_turn(ped, view.panes.lines, scripts, progress, "their parts")
+    for (number, numbers), replies in zip(made.items(), answers):
+        free = [one for one, shown in zip(numbers, replies[1:]) if not names_of_level(shown, levels[number])]
+        found[number] = Parts(tuple(numbers), tuple(free))
     return found
 
 
-def _made_of(view: View, loop: LoopLines, source: Sequence[str]) -> List[int]:
-    """The loops in the place of one that was taken apart, by the rows of the source pane behind the step."""
-    last = loop.last_line + len(source) - 1 - len(view.panes.source)
-    # Directives before the loop may be gone to another of its parts.
-    first = loop.first_line - len(view.printed.loops[loop.number].directives)
-    rows = [read_source_row(row) for row in source[max(first, 1):last + 1]]
-    begin = next(place for place, row in enumerate(rows) if row.statement == loop.number)
-    return [number for number, one in outline_of(rows[begin:]).loops.items() if one.level == 1]
+def _groups(loops: Sequence[LoopLines]) -> List[List[LoopLines]]:
+    """Loops in groups: those of a group have one level, so none stands in another one, and are in text order."""
+    levels: Dict[int, List[LoopLines]] = {}
+    for _, loop in sorted({loop.number: loop for loop in loops}.items()):
+        levels.setdefault(loop.level, []).append(loop)
+    return [alike[first:first + _TOGETHER] for alike in levels.values() for first in range(0, len(alike), _TOGETHER)]
+
+
+def _made_of(
+    ped: Ped, view: View, groups: Sequence[Sequence[LoopLines]], progress: Progress
+) -> Dict[int, List[int]]:
+    """For each loop those that `distribute` makes of it alone.
+
+    The source pane is one of the whole program. So it is shown once for a group, and the last loop is taken apart first,
+    which leaves the numbers of the others. Where that fails for one of them, each is taken apart by itself.
+    """
+    scripts = [
+        [*(f"distribute {loop.number}" for loop in reversed(group)), "source", *("undo" for _ in group)]
+        for group in groups
+    ]
+    made: Dict[int, List[int]] = {}
+    alone: List[List[LoopLines]] = []
+    answers = ask_in_turn(ped, view.panes.lines, scripts, progress, "groups of loops taken apart")
+    for group, replies in zip(groups, answers):
+        if len(group) == 1 or all(reply.accepted for reply in replies[:len(group)]):
+            made.update(_made_of_group(view, group, replies[len(group)].rows))
+        else:
+            alone.extend([loop] for loop in group)
+    if alone:
+        made.update(_made_of(ped, view, alone, progress))
+    return made
+
+
+def _made_of_group(view: View, group: Sequence[LoopLines], source: Sequence[str]) -> Iterator[Tuple[int, List[int]]]:
+    """The loops in the place of each of a group, by the rows of the source pane; they hold the statements of its body."""
+    last = group[-1].last_line + len(source) - 1 - len(view.panes.source)
+    # Directives before the first loop may be gone to another of its parts.
+    first = group[0].first_line - len(view.printed.loops[group[0].number].directives)
+    outline = outline_of([read_source_row(row) for row in source[max(first, 1):last + 1]])
+    further = 0
+    for loop in group:
+        numbers = []
+        number, left = loop.number + further, loop.last - loop.number
+        while left > 0 or not numbers:
+            numbers.append(number - further)
+            left -= outline.loops[number].last - number
+            number = outline.loops[number].last + 1
+        further += len(numbers) - 1
+        yield loop.number, numbers

@@ -171,8 +171,8 @@ def _made_of(
 ) -> Dict[int, List[int]]:
     """For each loop those that `distribute` makes of it alone.
 
-    The source pane is one of the whole program. So it is shown once for a group, and the last loop is taken apart first,
-    which leaves the numbers of the others. Where that fails for one of them, each is taken apart by itself.
+    The source pane is that of the whole program. So it is shown once for a group, and the last loop is taken apart
+    first, which leaves the numbers of the others. Where that fails for one of them, each is taken apart by itself.
     """
     scripts = [
         [*(f"distribute {loop.number}" for loop in reversed(group)), "source", *("undo" for _ in group)]
@@ -192,7 +192,7 @@ def _made_of(
 
 
 def _made_of_group(view: View, group: Sequence[LoopLines], source: Sequence[str]) -> Iterator[Tuple[int, List[int]]]:
-    """The loops in the place of each of a group, by the rows of the source pane; they hold the statements of its body."""
+    """The loops in the place of each of a group, by the rows of the source pane; they share its body's statements."""
     last = group[-1].last_line + len(source) - 1 - len(view.panes.source)
     # Directives before the first loop may be gone to another of its parts.
     first = group[0].first_line - len(view.printed.loops[group[0].number].directives)

@@ -1,5 +1,6 @@
 """Programs: numbers of statements, loops and IFs, in the printed form and in the texts of users."""
 
+import sys
 import unittest
 from typing import List, Tuple
 
@@ -107,6 +108,28 @@ class Programs(unittest.TestCase):
                 self.assertEqual(shape_of(written), shape_of(printed), case.name)
                 count += 1
         self.assertGreater(count, 300)
+
+    def test_few_calls(self) -> None:
+        """How many calls of Python it takes to read a statement; they are counted, since times differ."""
+        count = 100
+        statements = [
+            text for number in range(count)
+            for text in (f"DO I = 2, {number}", f"T = A(I-1)+I+{number}", f"A(I) = T-{number}*2", "END DO")
+        ]
+        calls = 0
+
+        def counted(frame: object, event: str, argument: object) -> None:
+            nonlocal calls
+            calls += event in ("call", "c_call")
+
+        before = sys.getprofile()
+        sys.setprofile(counted)
+        try:
+            program = read("INTEGER A(100)", *statements, "END")
+        finally:
+            sys.setprofile(before)
+        self.assertEqual(len(program.statements), 3 * count)
+        self.assertLess(calls, 300 * len(program.statements))
 
 
 if __name__ == "__main__":

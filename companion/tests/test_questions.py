@@ -16,6 +16,7 @@ from ..progress import Progress
 from ..questions import ask_in_turn
 from ..replies import Reply, read_replies
 from ..scripts import Command, read_script
+from ..tuning import parts
 from ..views import Question, View, view_of_file
 from .support import fortran, ped
 
@@ -81,6 +82,28 @@ class Sessions(unittest.TestCase):
         self.assertEqual([[reply.command.words[0] for reply in replies] for replies in answers],
                          [[command.split()[0] for command in script] for script in scripts])
         self.assertTrue(stream.getvalue().rstrip().endswith("steps: 15 of 15 questions are answered"))
+
+
+class Parts(unittest.TestCase):
+    """Loops taken apart in groups become what each becomes alone, and the source pane is shown once a group."""
+
+    BODY = ["DO J = 2, 9", "A(J) = A(J-1)", "B(J) = A(J)", "C(J) = C(J-1)", "END DO"]
+    SOURCE = fortran(
+        "INTEGER A(9), B(9), C(9), L(9)", *BODY,
+        "DO I = 2, 9", "L(I) = L(I-1)", *BODY, *BODY, "END DO", *BODY, "END"
+    )
+
+    def test_groups(self) -> None:
+        view = view_of_file(ped().show(self.SOURCE), self.SOURCE, Question("p.f"))
+        nested = list(outline_of(view.panes.source).loops.values())
+        found = []
+        for together, shown in ((1, 5), (2, 3), (32, 2)):
+            program = Counting(ped())
+            with patch("companion.tuning._TOGETHER", together):
+                found.append(parts(program, view, [*nested, nested[0]], Progress()))
+            self.assertEqual("".join(program.scripts).split().count("source"), shown)
+        self.assertEqual(found[1:], [found[0]] * 2)
+        self.assertGreater(min(len(one.numbers) for one in found[0].values()), 1)
 
 
 class Answering(Ped):

@@ -147,7 +147,7 @@ class _Reader:
         token = self._take()
         if token[:1].isalpha():
             return self._named(begin, token)
-        if token.isdigit():
+        if token.isdecimal():
             return Number(*self._here(begin), int(token))
         if token == "'":
             return Constant(*self._here(begin))

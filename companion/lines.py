@@ -241,7 +241,7 @@ def _statement(lines: Sequence[str], numbers: Sequence[int], directives: Sequenc
     return WrittenStatement(
         first_line=numbers[0],
         last_line=numbers[-1],
-        label=int(label) if label.isdigit() else None,
+        label=int(label) if label.isdecimal() else None,
         text=_joined(lines, numbers),
         directives=tuple(directives),
     )

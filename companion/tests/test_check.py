@@ -101,6 +101,12 @@ class Programs(Check):
             rows[-1], "p.f: note: ped names the first of these; the others come once those before are repaired"
         )
 
+    def test_other_digits(self) -> None:
+        """A raised 2 is a digit to Python, but no number."""
+        rows, status = self.check(fortran("K = \xb2", "L = 10\xb2", "END") + " \xb9    M = 3\n")
+        self.assertIs(status, Status.PROGRAM_REFUSED)
+        self.assertTrue(rows[0].startswith("p.f:1:11: error: 5 BadCharacter: "), rows)
+
     def test_refusals_that_may_come_of_others(self) -> None:
         """`INTEGR` may be meant to declare A, and nothing else can tell."""
         rows, _ = self.check(fortran("INTEGR A(5)", "B = 1", "STOP", "END"))

@@ -17,12 +17,14 @@ from .commands.loops import loops
 from .commands.omp import omp
 from .commands.tune import tune
 from .commands.why import Wanted, why
+from .languages import file_and_line
 from .messages import ERROR
 from .openmp import Wishes
 from .output import tell, use_locale, write_or_close, write_to
 from .panes import KINDS, MARKS
 from .ped import Ped, cause, find_ped, read_file, shown
 from .progress import Progress
+from .readings import COMMANDS, add_words, answer_real, check_language, view_or_none
 from .statuses import CompanionError, ProgramRefused, Status
 from .views import Question, View, open_view
 
@@ -45,12 +47,16 @@ exit statuses (0 to 7 are those of ped):
  13  ped answers what isn't understood
  14  pedx itself fails
  15  omp --strict: a loop may race, or rests on C$PED REJECT
+ 16  the Python library fparser isn't there, which reads real Fortran
+ 17  omp --check: the result doesn't compile, or its runs differ from the serial one
 
-docs/COMPANION.md is the manual.
+docs/COMPANION.md is the manual, docs/REAL.md that of real Fortran.
 """
 
 #: Parentheses nest up to 660 deep in a statement, and the calls that read them twice as deep.
 _DEPTH = 5000
+
+_LOOPS = "the statement numbers of the wanted loops; in real Fortran lines"
 
 #: How many objects more there may be before garbage is looked for.
 _GARBAGE = 500_000
@@ -78,6 +84,10 @@ def main(words: Optional[List[str]] = None) -> int:
 
 
 def _carried_out(options: argparse.Namespace) -> int:
+    options.line = None
+    if options.command in COMMANDS:
+        options.file, options.line = file_and_line(options.file)
+    check_language(options.command, options.file)
     question = Question(options.file, options.script, options.data, getattr(options, "printed", False))
     if question.data is not None and question.script is None and options.command not in ("check", "edit", "omp"):
         raise CompanionError(Status.BAD_WORDS, "--data wants --script")
@@ -98,7 +108,13 @@ def _answer(options: argparse.Namespace, question: Question, ped: Ped) -> Answer
         return report.text, "", report.status
     if options.command == "edit":
         return _edit(ped, question), "", Status.DONE
-    view = open_view(ped, question)
+    if options.command in COMMANDS:
+        found = view_or_none(options, question, ped)
+        if found is None:
+            return answer_real(options, ped)
+        view = found
+    else:
+        view = open_view(ped, question)
     status = Status.LINE_REFUSED if view.complaints else Status.DONE
     if options.command == "omp":
         data = read_file(question.data) if question.data is not None else None
@@ -167,17 +183,21 @@ def _parser() -> argparse.ArgumentParser:
     parser = _Parser("pedx", description=_DESCRIPTION, epilog=_STATUSES, formatter_class=layout)
     commands = parser.add_subparsers(dest="command", metavar="COMMAND", required=True)
 
-    def add(name: str, words: str) -> argparse.ArgumentParser:
+    def add(name: str, purpose: str) -> argparse.ArgumentParser:
+        description = purpose[0].upper() + purpose[1:] + "."
         command = commands.add_parser(
-            name, help=words, description=words[0].upper() + words[1:] + ".", epilog=_STATUSES, formatter_class=layout
+            name, help=purpose, description=description, epilog=_STATUSES, formatter_class=layout
         )
-        command.add_argument("file", metavar="FILE", help="the program")
+        words = "the program, or FILE:LINE in real Fortran" if name in COMMANDS else "the program"
+        command.add_argument("file", metavar="FILE", help=words)
         _add_common(command, is_editor=name == "edit")
+        if name in COMMANDS:
+            add_words(command, name)
         return command
 
     add("edit", "edit a program and transform its loops, with both panes on a terminal")
     command = add("loops", "say which loops are parallel, what the others carry, and what to try there")
-    command.add_argument("loops", metavar="S", type=int, nargs="*", help="the statement numbers of the wanted loops")
+    command.add_argument("loops", metavar="S", type=int, nargs="*", help=_LOOPS)
     command.add_argument("--no-trials", dest="trials", action="store_false", help="ask for no advice, and try no steps")
     command = add("tune", "say what stands in the way of each loop, and which single step removes it")
     command.add_argument("loops", metavar="S", type=int, nargs="*", help="the statement numbers of the wanted loops")
@@ -190,6 +210,8 @@ def _parser() -> argparse.ArgumentParser:
         "--strict", action="store_true", help="write nothing where a loop may race, or rests on C$PED REJECT"
     )
     _add_output(command)
+    command = add("model", "show the program that ped is asked about a loop of real Fortran")
+    command.add_argument("loops", metavar="LINE", type=int, nargs="*", help="lines of the wanted loops; else all")
     command = add("check", "say what is wrong with a program, with a script, or with a run")
     command.add_argument("--run", action="store_true", help="run it, too; so do --script and --data")
     command.add_argument("--strict", action="store_true", help="end with status 10 where there is a warning")

@@ -3,9 +3,9 @@
 from __future__ import annotations
 
 from dataclasses import dataclass
-from typing import List, Sequence
+from typing import List, Sequence, Tuple
 
-from .lines import LAST_COLUMN, Place, Span
+from .lines import FIRST_COLUMN, LAST_COLUMN, Place, Span
 
 ERROR = "error"
 WARNING = "warning"
@@ -26,14 +26,19 @@ def located(name: str, place: Place, words: str) -> str:
     return f"{name}:{place.line}:{place.column}: {words}"
 
 
-def excerpt(lines: Sequence[str], marks: Sequence[Mark]) -> List[str]:
-    """The lines of a program that hold marks, each with its marks below it."""
+def excerpt(
+    lines: Sequence[str], marks: Sequence[Mark], columns: Tuple[int, int] = (FIRST_COLUMN, LAST_COLUMN)
+) -> List[str]:
+    """The lines of a program that hold marks, each with its marks below it.
+
+    A mark that goes over several lines is between the first and the last of `columns` there.
+    """
     rows = []
     for number in sorted({number for mark in marks for number in _lines_of(mark)}):
         rows.append(f"{number:5} | {lines[number - 1]}".rstrip())
         for mark in marks:
             if number in _lines_of(mark):
-                rows.append(f"      | {_below(lines[number - 1], number, mark)}".rstrip())
+                rows.append(f"      | {_below(lines[number - 1], number, mark, columns)}".rstrip())
     return rows
 
 
@@ -41,13 +46,14 @@ def _lines_of(mark: Mark) -> range:
     return range(mark.span.start.line, mark.span.end.line + 1)
 
 
-def _below(line: str, number: int, mark: Mark) -> str:
+def _below(line: str, number: int, mark: Mark, columns: Tuple[int, int]) -> str:
     """What stands below a line that holds a mark, or a part of it; the words stand below the last part."""
     start, end = mark.span
-    first = start.column if number == start.line else 7
-    last = end.column if number == end.line else min(len(line), LAST_COLUMN)
+    first = start.column if number == start.line else columns[0]
+    last = end.column if number == end.line else min(len(line), columns[1])
     words = f" {mark.words}" if mark.words and number == end.line else ""
-    return " " * (first - 1) + mark.sign * max(last - first + 1, 1) + words
+    margin = "".join("\t" if letter == "\t" else " " for letter in line[:first - 1])
+    return margin.ljust(first - 1) + mark.sign * max(last - first + 1, 1) + words
 
 
 def listed(words: Sequence[str], last: str = "and") -> str:

@@ -24,6 +24,8 @@ class Status(IntEnum):
     NOT_UNDERSTOOD = 13
     FAILED = 14
     DOUBTFUL = 15
+    NO_LIBRARY = 16
+    DIFFERS = 17
 
 
 class CompanionError(Exception):

@@ -13,7 +13,7 @@ A comment of a line of its own says of other blocks what they are; it isn't show
     <!-- pairs NAME: COMMAND -->    from here on of two blocks the first is written to the file NAME, and the second is what
                                     COMMAND then writes; `<tab>` in the first stands for a tab
     <!-- pairs end -->              no longer
-    <!-- needs TOOL .. -->          the next block is passed over where one of these tools isn't there
+    <!-- needs TOOL .. -->          the next block is passed over where one of these tools isn't there; `fparser` is the library
 
 Links to files of the repository and to headings of pages are looked at, too: they have to be there.
 
@@ -21,6 +21,7 @@ Each page has a folder of its own, in which all that stands at the top of the re
 The program is the one that .ci/run or ./prove has proved and built from the present sources; with --unproved it may also be one
 that ./ped has built without proof. The last line counts, and the status is 0 only where all is as shown.
 """
+import functools
 import pathlib
 import re
 import shutil
@@ -126,6 +127,15 @@ def lines_of(text):
     return [line for line in lines if not line.startswith(UNPROVED)]
 
 
+@functools.lru_cache(maxsize=None)
+def is_there(tool):
+    """Whether a tool is on the PATH, or the library of Python that real Fortran is read by is found."""
+    if tool != "fparser":
+        return shutil.which(tool) is not None
+    words = "from companion.real.library import statement_classes; statement_classes()"
+    return subprocess.run([sys.executable, "-B", "-c", words], cwd=TOP, stderr=subprocess.DEVNULL).returncode == 0
+
+
 class Page:
     """A page with its folder, and what was found in it."""
 
@@ -172,7 +182,7 @@ class Page:
                     pairs = None if words == "end" else words.split(": ", 1)
                     first = None
                 continue
-            if needs and not all(shutil.which(tool) for tool in needs):
+            if needs and not all(map(is_there, needs)):
                 self.passed_over += 1
             elif file_name:
                 (self.folder / file_name).write_text(part.text())

@@ -22,7 +22,11 @@ From a loop to what is said about it:
 - `indices`, `bodies`, `model`: a loop as a program for ped; `naming` and `writer`: its names and its text;
 - `asking`: what ped says about a model;
 - `verdicts`: what is said about a loop; `assumptions`: what that rests on;
-- `report`, `document`: verdicts as text and as JSON; `directives`: what is written into the user's file.
+- `report`, `document`: verdicts as text and as JSON;
+- `explaining`, `locating`: why a loop carries what it does, in the user's own lines;
+- `directives`, `exporting`: what is written into the user's file; `compiled`: runs of it, compared.
+
+`commands.real` has the commands, and `readings` says which files are read so.
 
 Nothing in this package is imported where a program of ped's profile is read.
 """

@@ -9,7 +9,7 @@ from __future__ import annotations
 
 import re
 from concurrent.futures import ThreadPoolExecutor
-from dataclasses import dataclass
+from dataclasses import dataclass, field
 from typing import Dict, FrozenSet, Iterable, List, Mapping, Optional, Sequence, Tuple, Union
 
 from ..lines import Place, split_lines
@@ -19,6 +19,7 @@ from ..program import Program, read_program
 from ..replies import Reply
 from ..statuses import CompanionError, ProgramRefused, Status
 from .model import Model
+from .naming import Naming
 from .units import Fault
 from .writer import Origin
 
@@ -29,14 +30,27 @@ _NONE: FrozenSet[str] = frozenset()
 _NEEDED = re.compile(r"rule 12 \w+ at 1")
 
 
+@dataclass(frozen=True, eq=False)
+class Found:
+    """A row of ped's, the model that it is about as a program, and the model's names."""
+
+    row: Dependence
+    program: Program
+    names: Naming
+
+
 @dataclass(frozen=True)
 class Pair:
-    """Two references in different iterations of the loop that may touch the same place, one of them writing."""
+    """Two references in different iterations of the loop that may touch the same place, one of them writing.
+
+    `found` is the row that says so; none for a value that is needed after the loop.
+    """
 
     source: Origin
     sink: Origin
     kind: str
     mark: str
+    found: Optional[Found] = field(default=None, compare=False, repr=False)
 
 
 @dataclass(frozen=True)
@@ -159,7 +173,7 @@ class _Asking:
         replies = self._ped.session(sheet.text, "".join(line + "\n" for line in script))
         private, needed = _privatised(replies, candidates)
         rows = read_dependences(replies[len(candidates)].rows)
-        pairs = _pairs(rows, read_program(split_lines(sheet.text)), sheet.origins)
+        pairs = _pairs(rows, read_program(split_lines(sheet.text)), sheet.origins, model.names)
         return _Session(private, needed, pairs, replies[-1].accepted)
 
     def _assigned_always(self, names: Sequence[str]) -> FrozenSet[str]:
@@ -183,13 +197,15 @@ def _privatised(replies: Sequence[Reply], names: Sequence[str]) -> Tuple[FrozenS
     return private, needed
 
 
-def _pairs(rows: Sequence[Dependence], program: Program, origins: Mapping[Place, Origin]) -> Tuple[Pair, ...]:
+def _pairs(
+    rows: Sequence[Dependence], program: Program, origins: Mapping[Place, Origin], names: Naming
+) -> Tuple[Pair, ...]:
     """The pairs of the rows that the outermost loop carries, in their order."""
     found: Dict[Tuple[Origin, Origin, str], Pair] = {}
     for row in rows:
         if row.level == 1:
             source, sink = (_origin(program, origins, key, row) for key in (row.source, row.sink))
-            pair = Pair(source, sink, row.kind, row.mark)
+            pair = Pair(source, sink, row.kind, row.mark, Found(row, program, names))
             known = found.get(_key(pair))
             if known is None or known.mark != "proven":
                 found[_key(pair)] = pair

@@ -103,7 +103,7 @@ class Plan:
     def _by_unknown_steps(self, variable: str, normalised: bool) -> Count:
         """All whole numbers between two unknown ones, in place of those that are unknown steps apart."""
         if normalised:
-            counter = self.names.fresh()
+            counter = self.names.fresh(variable)
             return Count((f"DO {counter} = 0, {OPAQUE}",), self.indices.opaque, counter)
         name, first, last = self.names.name(variable), self.names.fresh(), self.names.fresh()
         return Count((f"DO {name} = {first}, {last}",), (name,), name)
@@ -112,7 +112,7 @@ class Plan:
         self, control: tree.Counted, first: Optional[Pieces], last: Optional[Pieces], step: int, turns: bool = False
     ) -> Count:
         """Iterations counted from 0. The variable is its first value and so many steps, or its last one less them."""
-        counter = self.names.fresh()
+        counter = self.names.fresh(tree.root_of(control.variable))
         limit: Pieces = (self.names.fresh(),)
         if first is not None and last is not None and abs(step) == 1:
             above, below = (last, first) if step == 1 else (first, last)

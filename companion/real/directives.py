@@ -51,12 +51,16 @@ def directive_text(clauses: Clauses, form: str) -> str:
     return text.lower() if form == "free" else text
 
 
-def directive_lines(clauses: Clauses, form: str, indentation: int = 0) -> List[str]:
-    """A loop's directive in lines, without line ends: in fixed form up to column 72, in free form up to column 100."""
+def directive_lines(clauses: Clauses, form: str, indentation: int = 0, schedule: str = "") -> List[str]:
+    """A loop's directive in lines, without line ends: in fixed form up to column 72, in free form up to column 100.
+
+    With `schedule` it has that clause SCHEDULE, too.
+    """
+    pieces = _pieces(clauses) + ([f" SCHEDULE({schedule})"] if schedule else [])
     if form == "fixed":
-        return _cut("!$OMP PARALLEL DO", "!$OMP&", "", _pieces(clauses), _LAST_COLUMNS[form])
+        return _cut("!$OMP PARALLEL DO", "!$OMP&", "", pieces, _LAST_COLUMNS[form])
     margin = " " * min(indentation, _DEEPEST)
-    pieces = [piece.lower() for piece in _pieces(clauses)]
+    pieces = [piece.lower() for piece in pieces]
     return _cut(margin + "!$omp parallel do", margin + "!$omp&", " &", pieces, _LAST_COLUMNS[form])
 
 

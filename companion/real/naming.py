@@ -42,6 +42,7 @@ class Naming:
     def __init__(self) -> None:
         self._names: Dict[str, str] = {}
         self._keys: Dict[str, str] = {}
+        self._counted: Dict[str, str] = {}
         self._made = 0
 
     def name(self, key: str) -> str:
@@ -52,9 +53,16 @@ class Naming:
             self._keys[name] = key
         return self._names[key]
 
-    def fresh(self) -> str:
-        """A name of the model's own, which no key has."""
-        return self._next()
+    def fresh(self, variable: str = "") -> str:
+        """A name of the model's own, which no key has; it may count the DO of a variable of the user's."""
+        name = self._next()
+        if variable:
+            self._counted[name] = variable
+        return name
+
+    def counted_by(self, name: str) -> str:
+        """The user's variable of the DO that a name of the model counts; empty where the DO is the model's own."""
+        return self._counted.get(name) or (self._keys.get(name, ""))
 
     def key(self, name: str) -> str:
         """What a name of the model stands for; the name itself where that is nothing of the user's."""

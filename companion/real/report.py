@@ -13,7 +13,7 @@ from .units import File
 from .verdicts import CARRIED, PARALLEL, REFUSED, VALUE, Verdict, Would
 
 #: Where the assumptions are explained.
-_PAGE = "docs/REAL.md"
+PAGE = "docs/REAL.md"
 #: A header is at least so wide, and at most.
 _NARROWEST, _WIDEST = 16, 48
 #: So many pairs of lines are named of one name.
@@ -29,7 +29,7 @@ def report(name: str, file: File, verdicts: Sequence[Verdict]) -> str:
         rows.extend(_table(verdicts))
     cited = {one for verdict in verdicts if verdict.word != REFUSED for one in verdict.assumes}
     if cited:
-        rows.append(f"assumed: {assumptions.cited(cited)} ({_PAGE})")
+        rows.append(f"assumed: {assumptions.cited(cited)} ({PAGE})")
     return "".join(row.rstrip() + "\n" for row in rows)
 
 
@@ -147,6 +147,12 @@ def _steps(would: Sequence[Would]) -> Dict[str, str]:
         if "A8" in one.assumed:
             found.update(one.clauses.inductions)
     return found
+
+
+def helped(verdict: Verdict) -> str:
+    """What is said of a further assumption, or of the fewest, with which a loop is parallel; there has to be one."""
+    would = _shortest(verdict.would)
+    return _helped(would[0], _steps(would))
 
 
 def _helped(would: Would, steps: Dict[str, str]) -> str:

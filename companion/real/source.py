@@ -12,6 +12,7 @@ import re
 from dataclasses import dataclass, field
 from typing import Dict, List, Optional, Sequence, Tuple
 
+from ..languages import FREE_SUFFIXES
 from ..lines import split_lines
 
 #: Stands for a backslash, which is an ordinary character in Fortran. No file has it, as files are read as latin-1.
@@ -22,9 +23,6 @@ BLANK = "\ue001"
 
 #: Stands for a `!` in a constant. Where a constant goes over lines, the reader loses count of its quotes.
 EXCLAMATION = "\ue002"
-
-#: The suffixes of files in free form.
-FREE_SUFFIXES = (".f90", ".f95", ".f03", ".f08", ".f18")
 
 _INCLUDE = re.compile(r"""\s*include\s*('[^']*'|"[^"]*")\s*(?:!.*)?$""", re.IGNORECASE)
 _CONDITION = re.compile(r"\s*#\s*(if|ifdef|ifndef|endif|define|undef|include)\b")

@@ -4,54 +4,15 @@ import os
 import shutil
 import subprocess
 import sys
-import tempfile
 import unittest
 from pathlib import Path
-from typing import Dict, List, Optional
 
 from ..statuses import Status
-from .support import TOP, ped_path
+from .calling import Calling
+from .support import TOP
 
 RECURRENCE = "examples/recurrence.f"
-_FAKE_PED = """\
-#!/bin/sh
-echo 'ped: {said}'
-exit {status}
-"""
-
-
-class Calls(unittest.TestCase):
-    def setUp(self) -> None:
-        self.folder = tempfile.mkdtemp(prefix="pedx-test-")
-        self.addCleanup(shutil.rmtree, self.folder)
-
-    def file(self, name: str, text: str) -> str:
-        """A file in the folder of the test."""
-        path = Path(self.folder, name)
-        path.write_text(text)
-        return str(path)
-
-    def call(self, *words: str, environment: Optional[Dict[str, str]] = None) -> "subprocess.CompletedProcess[str]":
-        """A call at the repository's top."""
-        return subprocess.run(
-            [sys.executable, str(TOP / "pedx"), *words], cwd=TOP, stdin=subprocess.DEVNULL, stdout=subprocess.PIPE,
-            stderr=subprocess.PIPE, universal_newlines=True, check=False,
-            env={**os.environ, "PEDX_PED": ped_path(), **(environment or {})},
-        )
-
-    def ends(self, status: Status, words: List[str], said: str = "", **environment: str) -> str:
-        """A call ends with a status and says something of it; what it prints."""
-        done = self.call(*words, environment=environment)
-        self.assertEqual(done.returncode, status, done.stderr)
-        self.assertIn(said, done.stderr)
-        return done.stdout
-
-    def fake(self, said: str, status: int) -> str:
-        """A program that says something and ends with a status."""
-        path = self.file("ped", _FAKE_PED.format(said=said, status=status))
-        os.chmod(path, 0o755)
-        return path
-
+class Calls(Calling):
     def test_done(self) -> None:
         for command in ("loops", "why", "omp", "check", "graph", "json"):
             self.ends(Status.DONE, [command, RECURRENCE])
@@ -114,10 +75,9 @@ class Calls(unittest.TestCase):
         self.assertEqual((done.returncode, done.stderr[:26]), (Status.NOT_WRITTEN, "pedx: error: cannot write:"))
 
     def test_refused(self) -> None:
-        for command in ("loops", "why", "omp", "graph", "json"):
-            out = self.ends(
-                Status.PROGRAM_REFUSED, [command, "examples/refused.f"], "examples/refused.f:4:7: error: 11 IndexAssig"
-            )
+        for command in ("loops", "why", "omp", "json", "graph"):
+            words = [command, "examples/refused.f"] + ["--profile"] * (command != "graph")
+            out = self.ends(Status.PROGRAM_REFUSED, words, "examples/refused.f:4:7: error: 11 IndexAssig")
             self.assertEqual(out, "")
         out = self.ends(Status.PROGRAM_REFUSED, ["check", "examples/refused.f"])
         self.assertTrue(out.startswith("examples/refused.f:4:7: "))
@@ -153,10 +113,11 @@ class Calls(unittest.TestCase):
     def test_statuses_of_ped(self) -> None:
         self.ends(Status.NO_MEMORY, ["loops", RECURRENCE, "--ped", self.fake("", 6)], "out of memory")
         fake = self.fake("program is longer than 1048576 bytes", 7)
-        self.ends(Status.TOO_LONG, ["loops", RECURRENCE, "--ped", fake], "the program is longer than 1048576 bytes")
+        words = ["loops", RECURRENCE, "--profile", "--ped", fake]
+        self.ends(Status.TOO_LONG, words, "the program is longer than 1048576 bytes")
         self.ends(Status.NOT_UNDERSTOOD, ["loops", RECURRENCE, "--ped", self.fake("refused x", 5)], "isn't understood")
         fake = self.fake("refused 99 NewRefusal at 3", 5)
-        words = ["loops", RECURRENCE, "--ped", fake]
+        words = ["loops", RECURRENCE, "--profile", "--ped", fake]
         self.ends(Status.PROGRAM_REFUSED, words, f"{RECURRENCE}:3:7: error: 99 NewRefusal\n")
 
     def test_link(self) -> None:

@@ -87,6 +87,9 @@ class Names(Protocol):
     def outlives_unit(self, name: str) -> bool:
         """Whether a variable's value may be needed when the unit has ended."""
 
+    def is_kept(self, name: str) -> bool:
+        """Whether a variable's value may be needed by the next run of the unit, and by nothing else outside this one."""
+
     def may_share_storage(self, name: str) -> bool:
         """Whether another name of the unit may stand for the same storage: EQUIVALENCE, POINTER, TARGET."""
 

@@ -23,7 +23,7 @@ _READING = (
     tree.Forall,
 )
 #: The most DOs of the profile in one another.
-_MOST_LOOPS = 6
+MOST_LOOPS = 6
 _JUMPS = (tree.GoTo, tree.Cycle, tree.Exit, tree.Continue)
 _PLAIN = (
     tree.GoTo, tree.Cycle, tree.Exit, tree.Continue, tree.End, tree.Else, tree.Case, tree.Format, tree.Data,
@@ -359,7 +359,7 @@ class BodyWriter:
         pieces: Dict[int, Pieces] = {}
         if self._scene.roles.kind_of(access.name) is Kind.ARRAY:
             sections = [index for index, one in enumerate(arguments) if isinstance(one, tree.Section)]
-            for index in sections if len(sections) + self._loops <= _MOST_LOOPS else ():
+            for index in sections if len(sections) + self._loops <= MOST_LOOPS else ():
                 count = self._plan.section(access.name, index, arguments[index], site)
                 if count is not None:
                     headers.append(count.header)

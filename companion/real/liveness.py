@@ -60,6 +60,9 @@ class Liveness:
         #: Names that are live everywhere.
         self._always = self._all if graph.is_open else self._mask(filter(names.may_share_storage, found))
         self._at_end = self._mask(filter(names.outlives_unit, found))
+        #: Saved variables: only a further run of the unit may read what they have at its end, or at a call.
+        self._kept = self._mask(filter(names.is_kept, found)) & ~self._always
+        self._needed = 0
         self._live: Optional[Dict[int, int]] = None
         self._iterations: Dict[int, Iteration] = {}
 
@@ -169,20 +172,32 @@ class Liveness:
         use = self.uses[node]
         if use.reads_all:
             return self._all
-        return self._mask(use.reads) | (self._shared if use.calls else 0)
+        return self._mask(use.reads) | (self._without_idle(self._shared) if use.calls else 0)
+
+    def _without_idle(self, mask: int) -> int:
+        """Names without those saved ones that no further run of the unit reads before it assigns them."""
+        return mask & ~self._kept | mask & self._needed
 
     def _live_at(self, nodes: Iterable[int]) -> FrozenSet[str]:
         """The names that are live at the begin of some nodes, found backward until nothing changes."""
         if self._live is None:
-            successors = self._graph.successors
-            reads = {node: self._reads(node) for node in successors}
-            assigns = {node: self._mask(self.uses[node].assigns) for node in successors}
-
-            def transfer(node: int, after: int) -> int:
-                return reads[node] | after & ~assigns[node]
-
-            self._live = _fixed_point(successors, {END: self._at_end}, transfer)
+            self._live = self._found_live()
+            # What a run may read of the one before it is needed at the end, which may make it read more.
+            while self._kept & ~self._needed & _union(self._live, [self._graph.entry]):
+                self._needed |= self._kept & _union(self._live, [self._graph.entry])
+                self._live = self._found_live()
         return self._named(self._always | _union(self._live, nodes))
+
+    def _found_live(self) -> Dict[int, int]:
+        """What is live at the begin of each node, with what is needed at the end."""
+        successors = self._graph.successors
+        reads = {node: self._reads(node) for node in successors}
+        assigns = {node: self._mask(self.uses[node].assigns) for node in successors}
+
+        def transfer(node: int, after: int) -> int:
+            return reads[node] | after & ~assigns[node]
+
+        return _fixed_point(successors, {END: self._without_idle(self._at_end)}, transfer)
 
     def _unassigned(self, loop: Block, members: FrozenSet[int]) -> Dict[int, int]:
         """What an iteration may have left unassigned at the begin of each of its nodes, and at its end, the step.

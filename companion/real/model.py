@@ -14,16 +14,18 @@ from functools import cached_property
 from typing import Callable, Dict, FrozenSet, Optional, Sequence, Set, Tuple, Union
 
 from . import tree
-from .bodies import BodyWriter, Plan
+from .bodies import MOST_LOOPS, BodyWriter, Plan
 from .flow import has_iteration
 from .indices import Indices, Pieces, Refused, Site
 from .naming import Naming
 from .recurrences import Induction, Reduction
 from .survey import Scene, Survey, assumptions_of, control_of, surveyed, variable_of
-from .units import Block, Fault, Written, loops_of
+from .units import Block, Fault, Written, depth_of, loops_of
 from .writer import TooLong, Writer
 from .writer import Written as Sheet
 
+#: With more DOs in one another nothing is said about a unit.
+_DEEPEST_UNIT = 100
 #: Attributes with which a scalar has no copies.
 _NO_COPIES = frozenset(["ALLOCATABLE", "POINTER", "TARGET", "OPTIONAL", "ASYNCHRONOUS", "CRAY POINTER"])
 
@@ -76,6 +78,10 @@ class Model:
 
 def model_of(scene: Scene, loop: Block, granted: FrozenSet[str]) -> Union[Model, Fault]:
     """The model of a loop, or why there is none. `granted` are the assumptions that may be made."""
+    if scene.depth > _DEEPEST_UNIT:
+        return Fault("limit", loop.first_line, f"its unit has {scene.depth} DOs in one another")
+    if depth_of((loop,)) > MOST_LOOPS:
+        return Fault("limit", loop.first_line, f"there are more than {MOST_LOOPS} DOs in one another")
     try:
         return _Making(scene, loop, granted).model()
     except Refused as refused:

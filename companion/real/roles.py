@@ -57,6 +57,10 @@ class Roles:
         """Whether a variable's value may be needed when the unit has ended."""
         return self._symbols.is_live_at_end(name)
 
+    def is_kept(self, name: str) -> bool:
+        """Whether a variable's value may be needed by the next run of the unit, and by nothing else outside this one."""
+        return self._symbols.is_kept(name)
+
     def may_share_storage(self, name: str) -> bool:
         """Whether another name of the unit may stand for the same storage."""
         symbol = self._symbols.get(name)

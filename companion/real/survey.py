@@ -15,10 +15,19 @@ from .keywords import words_of
 from .roles import Roles
 from .source import Mark
 from .symbols import Storage, Symbol, Symbols
-from .units import Block, File, Node, Unit, Written, loops_of
+from .units import Block, File, Node, Unit, Written, depth_of, loops_of
 
 _DEFINE = re.compile(r" *# *(define|undef)", re.IGNORECASE)
 _END_DIRECTIVE = re.compile(r" *[!cC*]\$(omp|acc) *end", re.IGNORECASE)
+#: Statements in lines with `!$` that change nothing for other statements, in capitals, and names before parentheses.
+_HARMLESS = tuple(map(re.compile, [
+    r"USE *(, *INTRINSIC *:: *)?OMP_LIB( *, *ONLY *:.*)?", r"CALL +OMP_\w+ *(\(.*\))?", r"[A-Z]\w* *=[^=>].*",
+    r"PRINT *\* *,.*",
+]))
+_DECLARING = re.compile(r"(INTEGER|REAL|LOGICAL|DOUBLE PRECISION)( *:: *| )[\w, ]+")
+_TYPES = frozenset(["INTEGER", "REAL", "LOGICAL", "DOUBLE", "PRECISION"])
+_CONSTANT = re.compile("'[^']*'|\"[^\"]*\"")
+_CALLED = re.compile(r"([A-Z]\w*) *\(")
 _GLOBAL = frozenset([Storage.COMMON, Storage.HOST, Storage.MODULE])
 
 
@@ -39,6 +48,11 @@ class Scene:
     def facts(self) -> Facts:
         """What its statements do, and where its run goes on."""
         return Facts(self.unit, self.roles)
+
+    @cached_property
+    def depth(self) -> int:
+        """How many DOs there are in one another."""
+        return depth_of(self.unit.body)
 
     @cached_property
     def has_unreadable(self) -> bool:
@@ -145,7 +159,8 @@ def _check_mark(scene: Scene, loop: Block, mark: Mark) -> None:
 def _check_words(scene: Scene, found: Survey) -> None:
     """Lines that only a compiler with -fopenmp reads, outside the loop, and directives that give threads copies.
 
-    No variable of the loop may occur there, since its value may be needed there, or clauses may not name it.
+    No variable of the loop may occur there, since its value may be needed there, or clauses may not name it. Nor may
+    such a line declare anything, or change which statements are carried out.
     """
     names = set(found.occurring) | {scene.symbols.get(name).block.strip("/") for name in found.occurring}
     for mark in scene.file.marks:
@@ -154,8 +169,28 @@ def _check_words(scene: Scene, found: Survey) -> None:
         is_statement = mark.kind == "conditional" and is_here
         if is_statement or mark.kind == "directive" and "THREADPRIVATE" in words:
             common = sorted(words & (names - {""}))
-            if common or is_statement and words & {"GO", "GOTO"}:
+            if common or is_statement and not _is_harmless(scene, mark.text):
                 raise Refused("directive", mark.first, mark.text.strip())
+
+
+def _is_harmless(scene: Scene, line: str) -> bool:
+    """Whether a line with `!$` is a whole statement that declares nothing of the unit's, and leads nowhere else.
+
+    It is USE OMP_LIB, a call of that module's, an assignment or a PRINT without any other function, or the declaration
+    of names that have no other property and that the unit hasn't otherwise.
+    """
+    if scene.file.form == "fixed" and line[5:6] not in ("", " ", "0"):
+        return False
+    text = _CONSTANT.sub("0", line[line.find("$") + 1:]).partition("!")[0].upper().strip()
+    if not text:
+        return True
+    if text[0] == "&" or text[-1] == "&" or text[0].isdigit() or set(text) & set(";'\""):
+        return False
+    if any(not match.group(1).startswith("OMP_") for match in _CALLED.finditer(text)):
+        return False
+    if _DECLARING.fullmatch(text):
+        return not any((words_of(text) - _TYPES) & one.names for one in scene.unit.statements())
+    return any(pattern.fullmatch(text) for pattern in _HARMLESS)
 
 
 def _is_round(scene: Scene, loop: Block, mark: Mark) -> bool:
@@ -166,7 +201,8 @@ def _is_round(scene: Scene, loop: Block, mark: Mark) -> bool:
         number = one.first_line - 1
         while number > mark.last and _is_comment(lines[number - 1]):
             number -= 1
-        if number <= mark.last and mark.last < one.first_line or one.first_line <= mark.first <= loop.first_line:
+        is_before = mark.kind == "directive" and number <= mark.last < one.first_line
+        if is_before or one.first_line <= mark.first <= loop.first_line:
             return True
     if mark.first > loop.last_line or mark.kind == "conditional":
         return False
@@ -266,13 +302,13 @@ def assumptions_of(scene: Scene, found: Survey) -> FrozenSet[str]:
     """The assumptions that a verdict about a loop rests on by what occurs in it."""
     assumed: Set[str] = {"A3", "A12"}
     symbols = [scene.symbols.get(name) for name in sorted(found.occurring)]
-    if any(symbol.rank >= 2 for symbol in symbols):
+    if any(symbol.rank >= 2 for symbol in symbols) or _has_neighbours(found, symbols):
         assumed.add("A2")
     if _has_strangers(found, symbols):
         assumed.add("A1")
-    if scene.file.included or scene.symbols.declarations.uses or scene.has_unreadable:
+    if scene.file.included or scene.symbols.uses_modules or scene.has_unreadable:
         assumed.add("A5")
-    if any(_has_intrinsic(scene, expression) for one in found.statements for expression in one.statement.expressions()):
+    if scene.symbols.missing_modules or any(_has_intrinsic(scene, expression) for one in found.statements for expression in one.statement.expressions()):
         assumed.add("A6")
     return frozenset(assumed)
 
@@ -282,6 +318,18 @@ def _has_strangers(found: Survey, symbols: List[Symbol]) -> bool:
     strangers = [one for one in symbols if one.storage is Storage.DUMMY or one.storage in _GLOBAL]
     dummies = [one for one in strangers if one.storage is Storage.DUMMY]
     return bool(dummies) and len(strangers) > 1 and any(one.name in found.written for one in strangers)
+
+
+def _has_neighbours(found: Survey, symbols: List[Symbol]) -> bool:
+    """Whether an array is in one common block with another variable, one of them written."""
+    blocks: Dict[str, List[Symbol]] = {}
+    for symbol in symbols:
+        if symbol.block:
+            blocks.setdefault(symbol.block, []).append(symbol)
+    return any(
+        len(members) > 1 and any(one.rank for one in members) and any(one.name in found.written for one in members)
+        for members in blocks.values()
+    )
 
 
 def _has_intrinsic(scene: Scene, expression: tree.Expression) -> bool:

@@ -115,6 +115,15 @@ class Symbol:
             return not self.attributes & {"INTENT(IN)", "VALUE"}
         return self.storage is Storage.RESULT or self.storage in _GLOBAL or self.is_pointer or "SAVE" in self.attributes
 
+    @property
+    def is_kept(self) -> bool:
+        """Whether a run of the unit finds the value of the run before it, and nothing but the unit's own statements can.
+
+        So that value is needed only where a run may read the variable before it assigns it.
+        """
+        is_seen = self.is_pointer or bool(self.group) or bool(self.attributes & {"CAPTURED", "NAMELIST", "VOLATILE"})
+        return self.storage is Storage.LOCAL and "SAVE" in self.attributes and not is_seen
+
 
 _GLOBAL = frozenset([Storage.COMMON, Storage.HOST, Storage.MODULE, Storage.UNKNOWN])
 _VARIABLES = frozenset([
@@ -276,6 +285,10 @@ class Symbols:
     def is_live_at_end(self, name: str) -> bool:
         """Whether the value of a name may be used after RETURN or END; in a main program none is."""
         return self.unit.kind != "PROGRAM" and self.get(name).outlives_unit
+
+    def is_kept(self, name: str) -> bool:
+        """Whether the next run of the unit, and nothing else, may use the value of a name."""
+        return self.unit.kind in ("SUBROUTINE", "FUNCTION") and self.get(name).is_kept
 
     def declares(self, name: str) -> bool:
         """Whether the unit's own declarations make a name one of the unit."""

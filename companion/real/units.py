@@ -150,6 +150,20 @@ def loops_of(nodes: Tuple[Node, ...]) -> Iterator[Block]:
                 yield from loops_of(branch.body)
 
 
+def depth_of(nodes: Tuple[Node, ...]) -> int:
+    """How many DOs there are in one another, at most."""
+    deepest = 0
+    waiting: List[Tuple[Node, int]] = [(node, 0) for node in nodes]
+    while waiting:
+        node, depth = waiting.pop()
+        if isinstance(node, Block):
+            depth += node.kind == "DO"
+            deepest = max(deepest, depth)
+            inside = [*node.lead, *(one for branch in node.branches for one in branch.body)]
+            waiting.extend((one, depth) for one in inside)
+    return deepest
+
+
 def _holds(block: Block, end: Written) -> bool:
     """Whether the end of a block is the last node of a body in it, so that it mustn't be counted twice."""
     last: Optional[Node] = block

@@ -246,8 +246,9 @@ class Live(unittest.TestCase):
 
     def test_end_of_a_unit(self) -> None:
         wanted = {
-            "REAL A(9)": False, "REAL A(9)\nSAVE S": True, "REAL A(9)\nCOMMON S": True,
-            "REAL A(9), S\nDATA S /1/": True,
+            "REAL A(9)": False, "REAL A(9)\nSAVE S": False, "REAL A(9)\nCOMMON S": True,
+            "REAL A(9), S\nDATA S /1/": False, "REAL A(9)\nREAL, SAVE, TARGET :: S": True,
+            "REAL A(9)\nSAVE S\nNAMELIST /L/ S": True,
         }
         for declarations, is_live in wanted.items():
             made = program("SUBROUTINE P", declarations, "DO I = 1, N", "S = A(I)", "END DO", "END")
@@ -256,6 +257,30 @@ class Live(unittest.TestCase):
             made = program("SUBROUTINE P(S)", f"REAL, INTENT({intent}) :: S", "DO I = 1, 9", "S = I", "END DO", "END")
             self.assertEqual("S" in made.live_after(), is_live, intent)
         self.assertIn("F", program("FUNCTION F()", "DO I = 1, 9", "F = I", "END DO", "END").live_after())
+
+    def test_values_that_the_next_run_finds(self) -> None:
+        """What is saved is needed at the end where a run may read it before it assigns it."""
+        loop = ("DO I = 1, 9", "S = A(I)", "T = I", "END DO")
+
+        def live(*lines: str, saved: str = "SAVE") -> str:
+            made = program("SUBROUTINE P", f"REAL A(9)\n{saved}", *lines, "END")
+            return "".join(sorted(made.live_after() & {"I", "S", "T"}))
+
+        self.assertEqual(live(*loop), "")
+        self.assertEqual(live("X = S", *loop), "S")
+        self.assertEqual(live("IF (A(1) > 0) X = S", *loop, "S = 0"), "")
+        # T is needed, as the next run may make S of it, which a further one reads.
+        self.assertEqual(live("IF (A(1) > 0) X = S", "S = T", *loop[:1], *loop[2:]), "ST")
+        self.assertEqual(live("IF (A(2) > 0) S = T", "IF (A(1) > 0) X = S", *loop[:1], *loop[2:]), "ST")
+        # A call may lead to a further run.
+        self.assertEqual(live(*loop, "CALL Q"), "")
+        self.assertEqual(live("X = I", *loop, "CALL Q", "I = 0"), "I")
+        self.assertEqual(live(*loop, "RETURN", "ENTRY Q"), "IST")
+        made = program(
+            "SUBROUTINE P", "REAL A(9)\nSAVE", *loop, "CALL Q", "CONTAINS", "SUBROUTINE Q", "A(1) = S", "END SUBROUTINE",
+            "END", name="P",
+        )
+        self.assertEqual(made.live_after() & {"I", "S", "T"}, {"S"})
 
     def test_shared_storage(self) -> None:
         loop = ("DO I = 1, N", "S = A(I)", "END DO")

@@ -231,6 +231,14 @@ class Refusals(unittest.TestCase):
         loops = subroutine("DO I = 1, N", "T = A(I)", "B(I) = T", "END DO", declarations=given)
         self.assertEqual([verdict.word for verdict in loops.verdicts()], ["carried"])
 
+    def test_very_deep_nests(self) -> None:
+        """Of the seven outermost of 13 DOs nothing is said; of a unit with 400 of them neither, and in short time."""
+        for count, wanted in ((13, 7), (400, 401)):
+            lines = [*(f"DO I{index} = 1, 2" for index in range(count)), "A(I0) = 1", *["END DO"] * count]
+            loops = subroutine(*lines, "DO I = 1, N", "B(I) = 1", "END DO")
+            reasons = [loops.reason(index) for index in range(count + 1)]
+            self.assertEqual(reasons.count("limit"), wanted)
+
     def test_directives(self) -> None:
         loop = ["DO I = 1, N", "A(I) = X", "END DO"]
         self.assertEqual(subroutine("!$OMP PARALLEL DO", *loop).reason(), "directive")
@@ -243,6 +251,32 @@ class Refusals(unittest.TestCase):
         for line, reason in [("!$ X = T", "directive"), ("!$ X = U", None), ("!$OMP THREADPRIVATE(T)", "directive")]:
             with self.subTest(line):
                 self.assertEqual(subroutine(*loop, line, declarations="REAL T, U").reason(), reason)
+
+    def test_lines_for_a_compiler_with_openmp_that_declare_or_jump(self) -> None:
+        loop = ["DO I = 1, N", "T = A(I)", "B(I) = T", "END DO"]
+        for lines, reason in {
+            ("USE OMP_LIB",): None, ("USE OMP_LIB, ONLY: OMP_GET_WTIME",): None, ("USE OTHER",): "directive",
+            ("INTEGER NT, ME",): None, ("INTEGER :: NT",): None, ("INTEGER N2, M",): "directive",
+            ("INTEGER, PARAMETER :: Q = 3",): "directive", ("IMPLICIT NONE",): "directive", ("SAVE",): "directive",
+            ("EQUIVALENCE (Q, R)",): "directive", ("INTEGER NT(9)",): "directive", ("REAL Q; SAVE",): "directive",
+        }.items():
+            with self.subTest(lines):
+                marked = "\n".join(f"!$ {line}" for line in lines)
+                self.assertEqual(subroutine(*loop, declarations=f"REAL T\n{marked}").reason(), reason)
+        for line, reason in {
+            "NT = OMP_GET_MAX_THREADS()": None, "CALL OMP_SET_NUM_THREADS(4)": None, "NT = F(1)": "directive",
+            "PRINT *, 'A (B) ! C', NT ! D": None, "DO Q = 1, 2": "directive", "END DO": "directive",
+            "IF (NT > 2) THEN": "directive", "IF (NT > 2) RETURN": "directive", "RETURN": "directive",
+            "10 CONTINUE": "directive", "CALL OTHER": "directive", "& + 1": "directive", "NT = &": "directive", "": None,
+        }.items():
+            with self.subTest(line):
+                self.assertEqual(subroutine(*loop, f"!$ {line}", declarations="REAL T").reason(), reason)
+        text = (
+            "      SUBROUTINE S(A)\n      REAL A(9)\n!$    NT = 1\n!$   1 + F(2)\n      DO I = 1, 9\n      A(I) = 1\n"
+            "      END DO\n      END\n"
+        )
+        self.assertEqual(Loops(text, "s.f").reason(), "directive")
+        self.assertIsNone(Loops(text.replace("!$   1 + F(2)\n", ""), "s.f").reason())
 
     def test_names_of_modules_that_are_not_there(self) -> None:
         head = ["SUBROUTINE S(A, N)", "USE ELSEWHERE", "REAL A(N); INTEGER I", "DO I = 1, N"]

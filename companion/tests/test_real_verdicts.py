@@ -282,6 +282,26 @@ class Arrays(unittest.TestCase):
         ]) + "\n"
         self.assertEqual(only(Loops(text)).clauses.last, ("T",))
 
+    def test_assumptions_about_modules(self) -> None:
+        """A module of a host counts, too; one that isn't in the file might have operators of its own."""
+        inner = [
+            "CONTAINS", "SUBROUTINE P(A, N)", "INTEGER N, I", "REAL A(N)", "DO I = 1, N", "A(I) = 1", "END DO",
+            "END SUBROUTINE", "END",
+        ]
+        for head, wanted in (
+            (["SUBROUTINE S"], ("A1", "A3", "A12")), (["SUBROUTINE S", "USE NONE"], ("A1", "A3", "A5", "A6", "A12")),
+            (["MODULE M", "END MODULE", "SUBROUTINE S", "USE M"], ("A1", "A3", "A5", "A12")),
+        ):
+            self.assertEqual(only(Loops("\n".join([*head, *inner]) + "\n")).assumes, wanted)
+
+    def test_neighbours_in_a_common_block(self) -> None:
+        """Beyond the end of one array is the next one: A2."""
+        lines = ["DO I = 1, N", "P(I) = Q(I)", "END DO"]
+        for given, cites in (
+            ("COMMON /C/ P(9), Q(9)", True), ("COMMON /C/ P(9) /D/ Q(9)", False), ("REAL P(9), Q(9)", False),
+        ):
+            self.assertEqual("A2" in only(subroutine(*lines, declarations=given)).assumes, cites, given)
+
     def test_assumptions_that_are_denied(self) -> None:
         found = only(subroutine("DO I = 1, N", "C(I,1) = C(I,2)", "END DO", deny=["A2"]))
         assert found.refusal is not None

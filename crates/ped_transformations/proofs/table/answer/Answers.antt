@@ -37,3 +37,39 @@ returns-in-Reduce g c =
     let t = program_tree c.args.scene.now.tree.now in
     let found = subst (λ (names : List (List ℕ)). IfOk c.reduce.result (Answers (reducing c.in-Reduce.number names) t)) c.as_slice.ensures c.reduce.ensures in
     answered t _ c.args.command.now c.in-Reduce.is c.reduce.result _ c.of_step-in-Reduce.ensures found
+
+pub returns-in-Interchange : goal.returns-in-Interchange
+returns-in-Interchange g c =
+    answered (program_tree c.args.scene.now.tree.now) _ c.args.command.now c.in-Interchange.is c.interchange.result _ c.of_step-in-Interchange.ensures c.interchange.ensures
+
+pub returns-in-Reverse : goal.returns-in-Reverse
+returns-in-Reverse g c =
+    answered (program_tree c.args.scene.now.tree.now) _ c.args.command.now c.in-Reverse.is c.reverse.result _ c.of_step-in-Reverse.ensures c.reverse.ensures
+
+pub returns-in-Peel : goal.returns-in-Peel
+returns-in-Peel g c =
+    answered (program_tree c.args.scene.now.tree.now) _ c.args.command.now c.in-Peel.is c.peel.result _ c.of_step-in-Peel.ensures c.peel.ensures
+
+pub returns-in-Distribute : goal.returns-in-Distribute
+returns-in-Distribute g c =
+    answered (program_tree c.args.scene.now.tree.now) _ c.args.command.now c.in-Distribute.is c.distribute.result _ c.of_step-in-Distribute.ensures c.distribute.ensures
+
+pub returns-in-Fuse : goal.returns-in-Fuse
+returns-in-Fuse g c =
+    answered (program_tree c.args.scene.now.tree.now) _ c.args.command.now c.in-Fuse.is c.fuse.result _ c.of_step-in-Fuse.ensures c.fuse.ensures
+
+pub returns-in-Inline : goal.returns-in-Inline
+returns-in-Inline g c =
+    answered (program_tree c.args.scene.now.tree.now) _ c.args.command.now c.in-Inline.is c.inline.result _ c.of_step-in-Inline.ensures c.inline.ensures
+
+pub returns-in-Parallel : goal.returns-in-Parallel
+returns-in-Parallel g c =
+    answered (program_tree c.args.scene.now.tree.now) _ c.args.command.now c.in-Parallel.is c.make_parallel.result _ c.of_step-in-Parallel.ensures c.make_parallel.ensures
+
+pub returns-in-Serial : goal.returns-in-Serial
+returns-in-Serial g c =
+    answered (program_tree c.args.scene.now.tree.now) _ c.args.command.now c.in-Serial.is c.make_serial.result _ c.of_step-in-Serial.ensures c.make_serial.ensures
+
+pub returns-in-Reject : goal.returns-in-Reject
+returns-in-Reject g c =
+    answered (program_tree c.args.scene.now.tree.now) _ c.args.command.now c.in-Reject.is c.reject.result _ c.of_step-in-Reject.ensures c.reject.ensures

@@ -59,22 +59,23 @@ pub(crate) fn open_copies(
     ensures room { HasRoom (memory_of store.old) (memory_of store.new) }
     ensures stand { OnOk result (list_all (λ x. (memory_of store.new).stands (cell_of scope.now x)) names.now ≡ true) }
 {
-    for name in names {
-        open_copy(alloc, store, scope, name)?;
+    for place in 0..names.len() {
+        let cell = scope.cell_at(&names[place], place);
+        open_copy(alloc, store, &cell)?;
     }
     Ok(())
 }
 
-/// Makes the copy of a name, which is private to these iterations. One that stands keeps what it holds.
-fn open_copy(alloc: Global, store: &mut Store, scope: &Scope, name: &Name) -> Result<(), NoMemory>
-    requires { is_copy (cell_of scope.now name.now) ≡ true }
+/// Makes a private copy. One that stands keeps what it holds.
+fn open_copy(alloc: Global, store: &mut Store, cell: &Cell) -> Result<(), NoMemory>
+    requires cell { IsCell cell.now }
+    requires copy { is_copy (cell_view cell.now) ≡ true }
     ensures room { HasRoom (memory_of store.old) (memory_of store.new) }
-    ensures stands { OnOk result ((memory_of store.new).stands (cell_of scope.now name.now) ≡ true) }
+    ensures stands { OnOk result ((memory_of store.new).stands (cell_view cell.now) ≡ true) }
 {
-    let cell = scope.cell(name);
-    match store.get(&cell) {
+    match store.get(cell) {
         Ok(_) => return Ok(()),
-        Err(_) => return store.open_copy(alloc, &cell),
+        Err(_) => return store.open_copy(alloc, cell),
     }
 }
 
@@ -83,8 +84,8 @@ pub(crate) fn drop_copies(store: &mut Store, scope: &Scope, names: &[Name])
     ensures cells { (memory_of store.new).cells ≡ (memory_of store.old).cells }
     ensures kept { (base : Scopes.Scope) → IsWithin base scope.now → list_all (is_own base) names.now ≡ true → HasKept base (memory_of store.old) (memory_of store.new) }
 {
-    for name in names {
-        let cell = scope.cell(name);
+    for place in 0..names.len() {
+        let cell = scope.cell_at(&names[place], place);
         drop_copy(store, &cell);
     }
 }

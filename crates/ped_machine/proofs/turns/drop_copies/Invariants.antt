@@ -5,8 +5,8 @@ use Rattle.ped_interleavings.specs.ped_eval.specs.Scopes as Scopes
 use Rattle.ped_machine.specs.Bases.{is_own, HasKept, IsWithin}
 use Rattle.ped_machine.proofs.turns.drop_copies.Given as goal
 
-abbrev pub invariant-loop-name : goal.invariant-loop-name
-invariant-loop-name l = record {
+abbrev pub invariant-loop-place : goal.invariant-loop-place
+invariant-loop-place l = record {
   cells : (memory_of l.store).cells ≡ (memory_of l.initial.store).cells;
-  kept : (base : Scopes.Scope) → IsWithin base l.scope → list_all (is_own base) l.names ≡ true → (list_all (is_own base) (drop l.name-index l.names) ≡ true) × HasKept base (memory_of l.initial.store) (memory_of l.store);
+  kept : (base : Scopes.Scope) → IsWithin base l.scope → list_all (is_own base) l.names ≡ true → (list_all (is_own base) (drop l.place l.names) ≡ true) × HasKept base (memory_of l.initial.store) (memory_of l.store);
 }

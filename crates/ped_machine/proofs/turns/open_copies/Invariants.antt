@@ -7,9 +7,9 @@ use Rattle.ped_interleavings.specs.ped_eval.specs.Agreement.{is_copy}
 use Rattle.ped_machine.specs.Doing.{HasGrown, HasRoom}
 use Rattle.ped_machine.proofs.turns.open_copies.Given as goal
 
-abbrev pub invariant-loop-name : goal.invariant-loop-name
-invariant-loop-name l = record {
+abbrev pub invariant-loop-place : goal.invariant-loop-place
+invariant-loop-place l = record {
   room : HasRoom (memory_of l.initial.store) (memory_of l.store);
-  copies : list_all (λ x. is_copy (cell_of l.scope x)) (drop l.name-index l.names) ≡ true;
-  stand : (m : Memory) → HasGrown (memory_of l.store) m → list_all (λ x. m.stands (cell_of l.scope x)) (drop l.name-index l.names) ≡ true → list_all (λ x. m.stands (cell_of l.scope x)) l.names ≡ true;
+  copies : list_all (λ x. is_copy (cell_of l.scope x)) (drop l.place l.names) ≡ true;
+  stand : (m : Memory) → HasGrown (memory_of l.store) m → list_all (λ x. m.stands (cell_of l.scope x)) (drop l.place l.names) ≡ true → list_all (λ x. m.stands (cell_of l.scope x)) l.names ≡ true;
 }

@@ -26,7 +26,8 @@ fn main(rt: HostRuntime) -> ExitCode {
     ExitCode::from(called::<Brand, _>(&rt, Blank::new(1)).number())
 }
 
-/// Answers the words of the call, with the one counter of dependence tests.
+/// Answers the words of the call, with the one counter of dependence tests. Where one of them is no text, none are answered;
+/// where memory runs out before that, nothing is written.
 fn called<L: Ledger, R: Env + Files + Print + AllocGlobal>(rt: &R, blank: Blank) -> Status
     requires name { blank.name ≡ L.name }
     requires parts { blank.parts ≡ L.parts }
@@ -53,7 +54,8 @@ fn answered<L: Ledger, R: Files + Print>(
     steps: &mut Steps<L>,
 ) -> Status
     // The bytes written and the status are those of the answer, unless a read, a write or the memory kept it from being
-    // written whole.
+    // written whole. Faults of reads are counted for all names together: so the line of status 3 may name a file of the words
+    // before the one that failed.
     ensures answer { (files : Contents) → MayHold files shelf.new.log.events →
         Sends (MayAnswer (request_of (map string_bytes words.now)) files (λ name. Rose shelf.old.faults shelf.new.faults))
         (Rose out.old.faults out.new.faults) (bytes_of out.old.log.events) (bytes_of out.new.log.events) result }

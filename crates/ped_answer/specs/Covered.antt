@@ -1,4 +1,4 @@
--- What the panes of dependences and of calls cover: whatever runs of their program do, on whatever data (Allen and Kennedy, section 2.2.1; ParaScope; this project).
+-- What the panes of dependences and of calls cover of the run in order of their program, on whatever data: conflicts of accesses that references make, and races (Allen and Kennedy, section 2.2.1; ParaScope; this project).
 use Rattle.std.specs.Prelude.{◌≡◌, ℕ, ◌<◌, List, ◌++◌, Bool, true, ◌||◌}
 use Rattle.ped_session.specs.ped_tree.specs.Tree.{ProgramTree}
 use Rattle.ped_session.specs.ped_tree.specs.SourcePane.{source_pane}
@@ -14,7 +14,7 @@ use Rattle.ped_session.specs.ped_transformations.specs.ped_inline.specs.CallsPan
 use Rattle.ped_session.specs.ped_transformations.specs.ped_inline.specs.CoveredCalls.{is_in_block, AreInOneCall, IsCoveredFolded}
 use Rattle.ped_session.specs.ped_transformations.specs.ped_inline.specs.Folding.{blocks, Row, row_of, AreRows}
 
--- in the run of a program on these data one access comes before another, both are made by references, and they conflict in one execution of a DO round both (Allen and Kennedy, section 2.2.1)
+-- in the run in order of a program on these data one access comes before another, both are made by references, so that neither is what a DO stores in its own variable, and they conflict in one execution of a DO round both (Allen and Kennedy, section 2.2.1)
 pub record ConflictInRun (t : ProgramTree) (data_bytes : List ℕ) (a b : Access) : Type 0 where
   pub come : ComeInRun t data_bytes a b
   pub conflicts : conflict a b ≡ true
@@ -22,21 +22,21 @@ pub record ConflictInRun (t : ProgramTree) (data_bytes : List ℕ) (a b : Access
   pub second : 0 < b.reference
   pub share : share_a_loop a.place.turns b.place.turns ≡ true
 
--- in the run of a program on these data one access comes before another, and they race (Allen and Kennedy, section 2.2.5)
+-- in the run in order of a program on these data one access comes before another, and they race (Allen and Kennedy, section 2.2.5)
 pub record RaceInRun (t : ProgramTree) (data_bytes : List ℕ) (a b : Access) : Type 0 where
   pub come : ComeInRun t data_bytes a b
   pub races : race a b ≡ true
 
--- whatever the data are, these dependences cover each conflict of the run, and a PARALLEL DO carries one for each race (Allen and Kennedy, sections 2.2.1, 2.2.5)
+-- whatever the data are, these dependences cover each conflict of the run in order that references make, and a PARALLEL DO carries one for each race (Allen and Kennedy, sections 2.2.1, 2.2.5)
 pub record CoverRuns (t : ProgramTree) (edges : List Edge) : Type 0 where
   pub conflicts : (data_bytes : List ℕ) (a b : Access) → ConflictInRun t data_bytes a b → IsCovered t edges a b
   pub races : (data_bytes : List ℕ) (a b : Access) → RaceInRun t data_bytes a b → IsCarriedInParallel t edges a.place.statement b.place.statement
 
--- the pane of dependences has a row for each dependence of the program, and these cover its runs (ParaScope)
+-- the pane of dependences has a row for each dependence of the program, and these cover its run in order (ParaScope)
 abbrev pub IsCoveringPane : ProgramTree → List ℕ → Type 0
 IsCoveringPane t pane = (edges : List Edge) × AreEdges t edges × (pane ≡ edges_pane edges) × CoverRuns t edges
 
--- both panes of a program, of which that of dependences covers its runs (ParaScope)
+-- both panes of a program, of which that of dependences covers its run in order (ParaScope)
 abbrev pub AreCoveringPanes : ProgramTree → List ℕ → Type 0
 AreCoveringPanes t bytes = (pane : List ℕ) × IsCoveringPane t pane × (bytes ≡ source_pane t ++ pane)
 
@@ -53,12 +53,12 @@ pub record CoverRunsAt (t : ProgramTree) (number : ℕ) (edges : List Edge) : Ty
 abbrev pub IsCoveringPaneOf : ℕ → ProgramTree → List ℕ → Type 0
 IsCoveringPaneOf number t pane = (edges : List Edge) × AreEdges t edges × (pane ≡ edges_pane (edges_of t number edges)) × CoverRunsAt t number (edges_of t number edges)
 
--- whatever the data are, there is a row for each conflict of the run of which an access is made in a marked block, but not both in one execution of one block: it goes from the block or statement of the earlier access to that of the later one, and has the level of the loop in whose iterations they stand apart first (Allen and Kennedy, sections 2.2.1, 2.2.5; ParaScope)
+-- whatever the data are, there is a row for each conflict of the run in order that references make and of which an access is made in a marked block, but not both in one execution of one block: it goes from the block or statement of the earlier access to that of the later one, and has the level of the loop in whose iterations they stand apart first (Allen and Kennedy, sections 2.2.1, 2.2.5; ParaScope)
 abbrev pub CoverCalls : ProgramTree → List Edge → List Row → Type 0
 CoverCalls t edges rows =
     (data_bytes : List ℕ) (a b : Access) → ConflictInRun t data_bytes a b → (is_in_block t a || is_in_block t b) ≡ true → (¬ AreInOneCall t a b)
     → (c : IsCoveredFolded t edges a b) × IsIn (row_of (blocks t) c.covered.edge) rows
 
--- the pane of calls has a row for each folded dependence, and these cover what CALLs do to all that stands outside them (ParaScope)
+-- the pane of calls has a row for each folded dependence, and these cover each conflict in the run in order of a reference in a marked block with one outside of this execution of it, in one execution of a DO round both (ParaScope)
 abbrev pub IsCoveringCalls : ProgramTree → List ℕ → Type 0
 IsCoveringCalls t pane = (edges : List Edge) × AreEdges t edges × (rows : List Row) × AreRows (blocks t) edges rows × (pane ≡ calls_pane (calls t) rows) × CoverCalls t edges rows

@@ -306,7 +306,7 @@ AutoRequest (Some (generate number)) files bytes = ⊤
 
 -- Coverage.
 
--- `deps`, `deps S`, `show` and `calls` show panes that cover whatever the runs of the present program do, on whatever data: it is the one that comes of reading the present source afresh (Allen and Kennedy, section 2.2.1; ParaScope)
+-- `deps`, `deps S`, `show` and `calls` show panes that cover the conflicts of references in the run in order of the present program, on whatever data, and those of dependences its races, too: this program is the one that comes of reading the present source afresh (Allen and Kennedy, section 2.2.1; ParaScope)
 abbrev pub Covers : ℕ → Option Command → List ℕ → State → Said → State → Type 0
 Covers line (Some (Deps None)) data_bytes s said next = Afresh IsCoveringPane s.present said.bytes
 Covers line (Some (Deps (Some number))) data_bytes s said next = Afresh (IsOfStatement (IsCoveringPaneOf number) line number) s.present said.bytes
@@ -314,7 +314,7 @@ Covers line (Some Show) data_bytes s said next = Afresh AreCoveringPanes s.prese
 Covers line (Some Calls) data_bytes s said next = Afresh IsCoveringCalls s.present said.bytes
 Covers line command data_bytes s said next = ⊤
 
--- the panes of an answer cover what runs do
+-- the panes of an answer cover what references do in runs in order
 abbrev pub CoveredRequest : Option Request → Contents → List ℕ → Type 0
 CoveredRequest None files bytes = ⊤
 CoveredRequest (Some (show program)) files bytes = (p : ShowsFile program files bytes) × Afresh AreCoveringPanes (program_text p.tree) bytes

@@ -155,8 +155,10 @@ pub fn ped_main<F: Shelf, K: Sink, L: Ledger>(
         (bytes : List ℕ) × (K.sent out.new ≡ K.sent out.old ++ bytes)
         × AutoRequest (request_of (map string_bytes words.now)) files bytes }
 
-    // Each pane of dependences and of calls covers whatever the runs of its program do, on whatever data: two accesses to one
-    // cell, one of them a write, in one execution of a DO round both have a row, and so does what a CALL does to all outside.
+    // Each pane of dependences covers the run in order of its program, on whatever data: two accesses that references make
+    // to one cell, one of them a write, in one execution of a DO round both have a row, and for two that race a PARALLEL DO
+    // carries one. In the pane of calls such two have a row where one is made in the block of a CALL, but not both in one
+    // execution of it. No reference makes what a DO stores in its own variable, nor what a CALL stores so.
     ensures covered { (files : Contents) → F.may_hold shelf.new files → IsWhole result →
         (bytes : List ℕ) × (K.sent out.new ≡ K.sent out.old ++ bytes)
         × CoveredRequest (request_of (map string_bytes words.now)) files bytes }

@@ -19,10 +19,12 @@ pub fn panes_are_afresh()
     ped_session::sources_are_printed();
 }
 
-/// In each answer to `show`, and in each to a session at each `deps`, `deps S`, `show` and `calls`, the panes cover whatever the
-/// runs of the present program do, on whatever data. Two accesses to one cell, one of them a write, in one execution of a DO
-/// round both have a row with the directions in which they stand; two that race have one that a PARALLEL DO carries; and what
-/// a CALL does to all that stands outside it has one in the pane of calls.
+/// In each answer to `show`, and in each to a session at each `deps`, `deps S`, `show` and `calls`, the panes cover the run
+/// in order of the present program, on whatever data. Two accesses that references make to one cell, one of them a write, in
+/// one execution of a DO round both have a row with the directions in which they stand; two that race have one that a
+/// PARALLEL DO carries. In the pane of calls two such accesses have a row with their level where one is made in the block of
+/// a CALL, but not both in one execution of it; of races it isn't said there. No reference makes what a DO stores in its own
+/// variable, nor what a CALL stores so.
 pub fn panes_cover_runs()
     ensures { (request : Option plain.Request) (files : Contents) (s : Status) (bytes : List ℕ) → IsWhole s →
         Answers request files s bytes → CoveredRequest request files bytes }

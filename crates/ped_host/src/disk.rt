@@ -11,7 +11,7 @@ use std::rt::Files;
 use std::{fs, io};
 
 /// The machine's files by their paths. One file at a time stays open, so that it is read on where the
-/// last read ended. What each read gave is noted.
+/// last read ended. What each read gave is noted. Faults are counted for all names together.
 #[derive(Drop)]
 pub struct DiskShelf<'a, R: Files> {
     files: &'a R,
@@ -43,6 +43,8 @@ impl<'a, R: Files> DiskShelf<'a, R> {
         }
     }
 
+    /// Reads on in the open file, or in the file of this name from this place on. No contract says which file and which
+    /// place that is.
     fn read_on(&mut self, name: &str, at: u64, piece: &mut [u8]) -> io::Result<usize>
         ensures within { IfOk result (λ n. n ≤ length piece.old) }
         ensures faults { self.new.faults ≡ self.old.faults }
@@ -65,6 +67,7 @@ impl<'a, R: Files> DiskShelf<'a, R> {
     }
 }
 
+/// Opens the file of this name at this place.
 fn open_at<R: Files>(files: &R, name: &str, at: u64) -> io::Result<R::File> {
     let mut file = fs::open(files, name)?;
     if at > 0 {

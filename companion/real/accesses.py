@@ -75,6 +75,9 @@ class Names(Protocol):
         A structure as a whole, a POINTER on the way, a binding and a type that isn't known are such reasons.
         """
 
+    def component_type(self, designator: tree.Expression) -> str:
+        """The type of a component of a structure, as `type_of` has it; empty where it isn't plain data."""
+
     def statement_function(self, name: str) -> Optional[StatementFunction]:
         """A statement function by its name."""
 

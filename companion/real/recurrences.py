@@ -270,7 +270,7 @@ def type_of(value: tree.Expression, names: Names) -> str:
         return _operation_type(value, names)
     if isinstance(value, tree.Reference) and isinstance(value.base, tree.Name):
         return _reference_type(value.base.name, value.arguments, names)
-    return ""
+    return names.component_type(value) if isinstance(value, (tree.Reference, tree.Component)) else ""
 
 
 def _operation_type(value: tree.Operation, names: Names) -> str:
@@ -284,7 +284,7 @@ def _operation_type(value: tree.Operation, names: Names) -> str:
 
 
 def _reference_type(name: str, arguments: Sequence[tree.Expression], names: Names) -> str:
-    if names.kind_of(name) in (Kind.ARRAY, Kind.CONSTANT):
+    if names.kind_of(name) in (Kind.ARRAY, Kind.CONSTANT, Kind.STATEMENT_FUNCTION):
         return names.type_of(name)
     if not names.is_intrinsic(name) or any(isinstance(argument, tree.Section) for argument in arguments):
         return ""

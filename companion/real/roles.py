@@ -88,6 +88,20 @@ class Roles:
             return Trouble("function", f"{designator} is a structure as a whole")
         return None
 
+    def component_type(self, designator: tree.Expression) -> str:
+        """The type of a component of a structure, as `type_of` has it; empty where it isn't plain data."""
+        components = _components(designator)
+        if not components or self.structure_trouble(designator) is not None:
+            return ""
+        symbol, home = self._symbols.get(tree.root_of(designator)), self._symbols
+        for component in components:
+            found = home.components(symbol)
+            inner = None if found is None else found.component(component)
+            if found is None or inner is None:
+                return ""
+            symbol, home = inner, found.home
+        return symbol.type
+
     def _type(self, symbol: Symbol, home: Symbols) -> Union[TypeComponents, Trouble]:
         """The components of a variable's type, which is seen where the variable is declared."""
         if symbol.type == "CLASS":

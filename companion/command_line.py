@@ -138,6 +138,8 @@ def _edit(ped: Ped, question: Question) -> str:
 
 
 def _loops(options: argparse.Namespace, view: View, ped: Ped) -> str:
+    if options.as_json:
+        return export(view)
     with _progress() as progress:
         return loops(view, ped, options.loops, options.trials, progress)
 

@@ -25,14 +25,14 @@ COMMANDS = ("loops", "why", "omp", "model", "json")
 #: The words for real Fortran alone, and those for programs of the profile alone, with what they are when not given.
 _REAL: Dict[str, object] = {
     "--form": None, "--columns": None, "-I": [], "--assume": [], "--deny": [], "--exact": False, "--openmp": None,
-    "--json": False, "--at": [], "--in-place": False, "--check": False, "--with": [],
+    "--at": [], "--in-place": False, "--check": False, "--with": [],
 }
 _PROFILE: Dict[str, object] = {
     "--script": None, "--data": None, "--printed": False, "--no-trials": True, "--statement": [], "--live": False,
     "--all": False, "--strict": False,
 }
 #: Where the words are in what argparse has read, if not under their own names.
-_KEYS = {"-I": "folders", "--no-trials": "trials", "--with": "others", "--json": "as_json"}
+_KEYS = {"-I": "folders", "--no-trials": "trials", "--with": "others"}
 
 #: The text of standard output, none where nothing is to be written; that of standard error; the status.
 Answer = Tuple[Optional[str], str, Status]

@@ -91,7 +91,7 @@ class Names(Protocol):
         """Whether a variable's value may be needed when the unit has ended."""
 
     def is_kept(self, name: str) -> bool:
-        """Whether a variable's value may be needed by the next run of the unit, and by nothing else outside this one."""
+        """Whether the next run of the unit may need a variable's value, and nothing else outside this run can."""
 
     def may_share_storage(self, name: str) -> bool:
         """Whether another name of the unit may stand for the same storage: EQUIVALENCE, POINTER, TARGET."""

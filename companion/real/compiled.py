@@ -7,8 +7,10 @@ from __future__ import annotations
 
 import os
 import re
+import resource
 import subprocess
 import tempfile
+from contextlib import suppress
 from dataclasses import dataclass
 from pathlib import Path
 from typing import Dict, Iterator, List, Optional, Sequence, Tuple
@@ -112,10 +114,13 @@ class _Checking:
             self._compiler, *_FLAGS, *flags, *linking, *self._layout(), f"-J{place}",
             *(f"-I{folder}" for folder in self._included()), *others, str(source), *output,
         ]
-        done = subprocess.run(
-            command, stdin=subprocess.DEVNULL, stdout=subprocess.PIPE, stderr=subprocess.STDOUT, check=False,
-            cwd=place, timeout=_COMPILING,
-        )
+        try:
+            done = subprocess.run(
+                command, stdin=subprocess.DEVNULL, stdout=subprocess.PIPE, stderr=subprocess.STDOUT, check=False,
+                cwd=place, timeout=_COMPILING,
+            )
+        except subprocess.TimeoutExpired as error:
+            raise CheckFails(f"the compiler takes longer than {_COMPILING} seconds") from error
         if done.returncode:
             said = done.stdout.decode(ENCODING).replace(str(place) + os.sep, "").splitlines()
             raise CheckFails("\n".join([f"{words}:", *(f"  {line}" for line in said[:_MOST_LINES])]))
@@ -186,13 +191,9 @@ class _Checking:
 
 def _with_stack() -> None:
     """Gives a run all the stack that it may have: with -fopenmp local arrays are on it."""
-    try:
-        import resource
-
+    with suppress(ValueError, OSError):
         hard = resource.getrlimit(resource.RLIMIT_STACK)[1]
         resource.setrlimit(resource.RLIMIT_STACK, (hard, hard))
-    except (ImportError, ValueError, OSError):
-        pass
 
 
 def _ended(status: int) -> str:

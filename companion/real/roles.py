@@ -58,7 +58,7 @@ class Roles:
         return self._symbols.is_live_at_end(name)
 
     def is_kept(self, name: str) -> bool:
-        """Whether a variable's value may be needed by the next run of the unit, and by nothing else outside this one."""
+        """Whether the next run of the unit may need a variable's value, and nothing else outside this run can."""
         return self._symbols.is_kept(name)
 
     def may_share_storage(self, name: str) -> bool:

@@ -308,7 +308,8 @@ def assumptions_of(scene: Scene, found: Survey) -> FrozenSet[str]:
         assumed.add("A1")
     if scene.file.included or scene.symbols.uses_modules or scene.has_unreadable:
         assumed.add("A5")
-    if scene.symbols.missing_modules or any(_has_intrinsic(scene, expression) for one in found.statements for expression in one.statement.expressions()):
+    expressions = (expression for one in found.statements for expression in one.statement.expressions())
+    if scene.symbols.missing_modules or any(_has_intrinsic(scene, expression) for expression in expressions):
         assumed.add("A6")
     return frozenset(assumed)
 

@@ -117,7 +117,7 @@ class Symbol:
 
     @property
     def is_kept(self) -> bool:
-        """Whether a run of the unit finds the value of the run before it, and nothing but the unit's own statements can.
+        """Whether a run of the unit finds the value of the run before it, and only the unit's own statements can.
 
         So that value is needed only where a run may read the variable before it assigns it.
         """

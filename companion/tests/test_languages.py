@@ -57,6 +57,10 @@ class Calls(Calling):
         self.ends(Status.BAD_WORDS, ["omp", RECURRENCE, "--at", "4"], "takes no --at")
         self.ends(Status.BAD_WORDS, ["omp", RECURRENCE, "--in-place"], "takes no --in-place")
 
+    def test_loops_as_json(self) -> None:
+        """Of a program of the profile there is one document."""
+        self.assertEqual(*(self.ends(Status.DONE, words + [RECURRENCE]) for words in (["loops", "--json"], ["json"])))
+
     def test_files_in_free_form(self) -> None:
         name = self.file("p.f90", "end\n")
         for command in ("edit", "tune", "calls", "check", "graph"):

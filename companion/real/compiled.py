@@ -7,7 +7,6 @@ from __future__ import annotations
 
 import os
 import re
-import resource
 import subprocess
 import tempfile
 from contextlib import suppress
@@ -16,6 +15,11 @@ from pathlib import Path
 from typing import Dict, Iterator, List, Optional, Sequence, Tuple
 
 from ..ped import ENCODING, argument
+
+try:
+    import resource
+except ImportError:  # Only Unix has it.
+    resource = None  # type: ignore[assignment]
 
 #: Threads and schedules of the compared runs. Each loop gets SCHEDULE(RUNTIME): else OMP_SCHEDULE does nothing.
 WAYS: Tuple[Tuple[int, str], ...] = ((1, "static"), (2, "static"), (4, "static,1"), (4, "dynamic"), (3, "guided"))
@@ -191,6 +195,8 @@ class _Checking:
 
 def _with_stack() -> None:
     """Gives a run all the stack that it may have: with -fopenmp local arrays are on it."""
+    if resource is None:
+        return
     with suppress(ValueError, OSError):
         hard = resource.getrlimit(resource.RLIMIT_STACK)[1]
         resource.setrlimit(resource.RLIMIT_STACK, (hard, hard))

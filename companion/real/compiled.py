@@ -24,7 +24,7 @@ except ImportError:  # Only Unix has it.
 #: Threads and schedules of the compared runs. Each loop gets SCHEDULE(RUNTIME): else OMP_SCHEDULE does nothing.
 WAYS: Tuple[Tuple[int, str], ...] = ((1, "static"), (2, "static"), (4, "static,1"), (4, "dynamic"), (3, "guided"))
 #: How many seconds a compiler and a run may take.
-_COMPILING, _RUNNING = 300, 120
+_COMPILING, _RUNNING = 300, 300
 #: So many lines of a compiler's message are shown.
 _MOST_LINES = 12
 _MOST_WIDTH = 60
@@ -150,7 +150,8 @@ class _Checking:
         place.mkdir()
         environment = {
             **os.environ, "OMP_NUM_THREADS": str(threads), "OMP_SCHEDULE": schedule, "OMP_DYNAMIC": "false",
-            "OMP_STACKSIZE": "64M",
+            # Threads that wait don't spin: on a machine with other work a run would take minutes.
+            "OMP_STACKSIZE": "64M", "OMP_WAIT_POLICY": "passive",
         }
         try:
             done = subprocess.run(

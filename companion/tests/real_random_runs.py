@@ -100,7 +100,12 @@ class Batch:
 
     def run(self, program: str, number: int, threads: int = 1, schedule: str = "static") -> Tuple[int, bytes]:
         """The status and the output of a run."""
-        environment = {**os.environ, "OMP_NUM_THREADS": str(threads), "OMP_SCHEDULE": schedule, "OMP_WAIT_POLICY": "passive"}
+        environment = {
+            **os.environ,
+            "OMP_NUM_THREADS": str(threads),
+            "OMP_SCHEDULE": schedule,
+            "OMP_WAIT_POLICY": "passive",
+        }
         try:
             done = subprocess.run(
                 [program, str(number)], stdout=subprocess.PIPE, stderr=subprocess.DEVNULL, env=environment, check=False,

@@ -22,7 +22,7 @@ MANUAL = TOP / "docs" / "COMPANION.md"
 #: A block of the manual that begins with a call.
 _BLOCK = re.compile(r"^```\n(\$ .*?)^```$", re.MULTILINE | re.DOTALL)
 #: A block that shows the screen of the editor, with the program and the keys that lead to it.
-_SCREEN = re.compile(r"^(<!-- screen (\S+): (.*) -->\n```\n)(.*?)^```$", re.MULTILINE | re.DOTALL)
+_SCREEN = re.compile(r"^(<!-- screen (\S+): ([^\n]*) -->\n```\n)(.*?)^```$", re.MULTILINE | re.DOTALL)
 
 
 def printed(block: str) -> str:

@@ -75,11 +75,11 @@ class Unreadable(unittest.TestCase):
 
     def test_error_in_pedx(self) -> None:
         """An error in pedx isn't the status of a refused line, and isn't put on ped."""
-        with mock.patch("companion.command_line.open_view", side_effect=KeyError("\x1b[31m")):
+        with mock.patch("companion.command_line.view_or_none", side_effect=KeyError("\x1b[31m")):
             status, messages = ended("why", SQUARES)
         self.assertEqual(status, Status.FAILED)
         self.assertIn("this is an error in pedx itself", messages)
-        with mock.patch("companion.command_line.open_view", side_effect=MemoryError):
+        with mock.patch("companion.command_line.view_or_none", side_effect=MemoryError):
             self.assertEqual(ended("why", SQUARES)[0], Status.NO_MEMORY)
 
 

@@ -1,0 +1,3 @@
+-- How long runs are.
+mod IterationCounts
+pub mod RunLengths

@@ -1,0 +1,11 @@
+mod Trips
+mod FirmPairs
+mod ComingLaws
+mod TouchingLaws
+mod ChoosingLaws
+mod MeetingLaws
+mod OrderingLaws
+mod RowLaws
+mod BoundLaws
+mod ShapeLaws
+mod Examples

@@ -1,0 +1,4 @@
+-- Proven dependences: their references, the accesses of these, and that they occur.
+pub mod FirmRows
+pub mod ReferenceAccesses
+pub mod ProvenRows

@@ -1,0 +1,3 @@
+-- What dependences don't look at.
+mod NamedValues
+pub mod SameDependences

@@ -14,8 +14,6 @@ use Rattle.ped_tree.specs.Constants.NamedConstants.{value_named}
 use Rattle.ped_tree.specs.NamesIn.{expr_names}
 use Rattle.ped_tree.specs.Tree.{ExprTree, Int, Var, Element, Neg, Add, Sub, Mul, Div, Pow, Call, StmtTrees, ProgramTree}
 use Rattle.ped_steps.specs.ped_sums.specs.Sums.{literal}
-use Rattle.ped_calls.specs.ped_valid.specs.ped_symbols.specs.declared.symbols.Kind.{Kind}
-use Rattle.ped_calls.specs.ped_valid.specs.ped_symbols.specs.declared.symbols.Kind.TheVariants.{Scalar, Array, Constant}
 use Rattle.ped_calls.specs.ped_valid.specs.ped_symbols.specs.Entries.{entry_of, with_entry}
 use Rattle.ped_calls.specs.ped_valid.specs.ped_symbols.specs.Kinds.{at_last, kind_by, kind_of, kind_in, names_of}
 use Rattle.ped_calls.specs.ped_valid.specs.ped_symbols.specs.NameRefusals.{has_twice}
@@ -27,7 +25,6 @@ use Rattle.ped_calls.specs.ped_units.specs.Refusals.{for_names}
 use Rattle.ped_calls.specs.ped_units.specs.Linking.{IsIn, Placed, calls_of, associated, IsAssigned, bounds_by, array_bounds, argument_bounds, is_scalar, is_scalar_name, Arguments, Misfits, other_bounds, no_scalar, HasAllArguments}
 use Rattle.ped_calls.specs.ped_units.specs.Expanding.{Given, free_name, with_local, Meanings, meaning, or_itself, name_or, replaced, is_variable_name, Bound, body_names, constants_of, with_formals, with_constants, Renamed, meanings_in, nothing_given}
 use Rattle.ped_calls.proofs.SmallKinds.{small_constants}
-use Rattle.ped_steps.specs.ped_eval.specs.ped_store.specs.Variables.{no_dimensions}
 use Rattle.ped_steps.specs.ped_eval.specs.Outcomes.{bounds_of}
 use Rattle.ped_steps.specs.ped_eval.specs.Scopes.{Setting}
 use Rattle.ped_call_runs.specs.UnitRuns.{own, Instance, number_inside, formals_stand, bounds_with_own, own_constants, called_instance}
@@ -36,7 +33,7 @@ use Rattle.ped_call_runs.proofs.FollowingStores.{Bond, is_bound}
 use Rattle.ped_call_runs.proofs.FollowingNames.{MeansAlike, by_name, by_constant, by_held, NamedAlike}
 use Rattle.ped_call_runs.proofs.ConstantValues.{constant_kept, unreplaced}
 use Rattle.ped_call_runs.proofs.GivenMore.{GivesMore, gives_then}
-use Rattle.ped_call_runs.proofs.ExpandedKinds.{bounds_by_entries, bounds_said, small_literal}
+use Rattle.ped_call_runs.proofs.ExpandedKinds.{small_literal}
 use Rattle.ped_call_runs.proofs.MeaningEntries.{new_entry, other_entry, own_kept, own_entry, constants_kept, of_constant, constants_entry, formals_kept, no_formal}
 use Rattle.ped_call_runs.proofs.Traces.{locals_traced}
 use Rattle.ped_call_runs.proofs.OwnNames.{own_apart}
@@ -44,6 +41,7 @@ use Rattle.ped_call_runs.proofs.TraceOwn.{own_same}
 use Rattle.ped_call_runs.proofs.RenamedEntries.{HasPair, renamed_stays, IsRenamed, renamed_new}
 use Rattle.ped_call_runs.proofs.WrittenNames.{IsName}
 use Rattle.ped_call_runs.proofs.UnitNames.{IsPlain, HasPlainNames}
+use Rattle.ped_call_runs.proofs.UnitArrays.{IsArray}
 use Rattle.ped_call_runs.proofs.SuitedUnits.{Reads, Writes}
 use Rattle.ped_call_runs.proofs.Contexts.{IsOld, IsWritten, IsNameOrLiteral, Context, Telling}
 use Rattle.ped_call_runs.proofs.ArgumentsStand.{Facts, own_loose, KeepsBonds, bound_kept, held_kept, fixed_constant, EachFormal, FormalAlike, variable, known, made, FormalStands}
@@ -177,23 +175,13 @@ other_unvalued : (n : ℕ) (vs : Values) (y : List ℕ) → IsOther n y → valu
 other_unvalued n [] y h = refl
 other_unvalued n (v ∷ vs) y h = λ i. if (same_flip y (own n v.0) ∙ h v.0) i then Some v.1 else other_unvalued n vs y h i
 
--- a name with a value has no bounds
-valued_bounds : (t : ProgramTree) (x : List ℕ) (w : ℤ) → value_named (at_last t).values x ≡ Some w → bounds_of (kind_in t x) ≡ no_dimensions
-valued_bounds t x w h = bounds_said t x ∙ ap (λ (o : Option ℤ). bounds_by_entries o (entry_of (at_last t).arrays x)) h
-
--- and is neither an array nor a scalar
+-- a name with a value is neither an array nor a scalar
 valued_kind : (t : ProgramTree) (x : List ℕ) (w : ℤ) → value_named (at_last t).values x ≡ Some w → (bounds_by (kind_in t x) ≡ None) × (is_scalar (kind_in t x) ≡ false)
 valued_kind t x w h = go (is_among x (names_of t))
   where
     go : (b : Bool) → (bounds_by (if b then Some (kind_of t x) else None) ≡ None) × (is_scalar (if b then Some (kind_of t x) else None) ≡ false)
     go false = (refl, refl)
     go true = (ap (λ (o : Option ℤ). bounds_by (Some (kind_by o (entry_of (at_last t).arrays x)))) h, ap (λ (o : Option ℤ). is_scalar (Some (kind_by o (entry_of (at_last t).arrays x)))) h)
-
-no_bounds_by : (o : Option Kind) → bounds_by o ≡ None → bounds_of o ≡ no_dimensions
-no_bounds_by None h = refl
-no_bounds_by (Some Scalar) h = refl
-no_bounds_by (Some (Array d)) h = absurd cc
-no_bounds_by (Some (Constant n)) h = refl
 
 -- an argument that is no variable's name is the name of no array and of no scalar
 no_variable_kind : (u : ProgramUnit) (a : ExprTree) → is_variable_name (constants_of u) a ≡ false → (argument_bounds u a ≡ None) × (is_scalar_name u a ≡ false)
@@ -342,15 +330,15 @@ module _ (us : ProgramUnits) (pairs : List (List ℕ × List ℕ)) (gaps : List 
   -- a variable of the caller stands for the name
   moved : (x z : List ℕ) → meaning there.stands x ≡ meaning i.stands z → meaning meant x ≡ meaning k z → ((y : List ℕ) → meaning i.stands z ≡ Var y → IsOld lo y)
       → MeansAlike first f p q i.stands k z → MeansAlike after f there.setting q there.stands meant x
-  moved x z left right old (by_name y l r d e h) =
+  moved x z left right old (by_name y l r d h) =
       let is = old y l in
-      by_name y (left ∙ l) (right ∙ r) (d ∙ sym (there_valued y is)) (e ∙ sym (there_bounds y is)) (bound_kept first after keeps y h)
-  moved x z left right old (by_constant y m l r range d e) =
+      by_name y (left ∙ l) (right ∙ r) (d ∙ sym (there_valued y is)) (bound_kept first after keeps y h)
+  moved x z left right old (by_constant y m l r range e) =
       let is = old y l in
-      by_constant y m (left ∙ l) (right ∙ r) range (there_bounds y is ∙ d) (there_valued y is ∙ e)
-  moved x z left right old (by_held y m l r range d e h) =
+      by_constant y m (left ∙ l) (right ∙ r) range (there_valued y is ∙ e)
+  moved x z left right old (by_held y m l r range e h) =
       let is = old y l in
-      by_held y m (left ∙ l) (right ∙ r) range (there_bounds y is ∙ d) (there_valued y is ∙ e) (held_kept first after keeps y m h)
+      by_held y m (left ∙ l) (right ∙ r) range (there_valued y is ∙ e) (held_kept first after keeps y m h)
 
   -- what is written here is written there
   written_there : (x z : List ℕ) → meaning meant x ≡ meaning k z → IsWritten (meaning meant x) → IsWritten (meaning k z)
@@ -368,17 +356,16 @@ module _ (us : ProgramUnits) (pairs : List (List ℕ × List ℕ)) (gaps : List 
           let w = written_there x z (right ∙ kz) written in
           moved x z (left ∙ lz) (right ∙ kz) (context.old z rz w) (context.reads z rz w)
       by_formal is a l r left right in_call (known w unnamed lx rx small h) =
-          by_held (own n x) w (left ∙ lx) (right ∙ rx) (small_in_range w small) (own_bounds v n p.bounds x ∙ no_bounds_by (kind_in (for_names v) x) (no_array x a in_call unnamed)) (own_value x None (plain.formals x is)) h
-      by_formal is a l r left right in_call (made y unnamed lx rx to h valued bounds) =
-          by_name (own n x) (left ∙ lx) (right ∙ rx ∙ ap Var (sym to)) (ap (value_named q.constants) to ∙ valued ∙ sym (own_value x None (plain.formals x is)))
-          (ap q.bounds to ∙ bounds ∙ sym (own_bounds v n p.bounds x ∙ no_bounds_by (kind_in (for_names v) x) (no_array x a in_call unnamed))) h
+          by_held (own n x) w (left ∙ lx) (right ∙ rx) (small_in_range w small) (own_value x None (plain.formals x is)) h
+      by_formal is a l r left right in_call (made y unnamed lx rx to h valued) =
+          by_name (own n x) (left ∙ lx) (right ∙ rx ∙ ap Var (sym to)) (ap (value_named q.constants) to ∙ valued ∙ sym (own_value x None (plain.formals x is))) h
 
       go : NameOf x → MeansAlike after f there.setting q there.stands meant x
       go (formal is a l r left right s) = by_formal is a l r left right s.associated s.alike
-      go (constant w value left right) = by_constant (own n x) w left right (small_in_range w (constant_small x w value)) (own_bounds v n p.bounds x ∙ valued_bounds (for_names v) x w value) (own_value x (Some w) value)
+      go (constant w value left right) = by_constant (own n x) w left right (small_in_range w (constant_small x w value)) (own_value x (Some w) value)
       go (local y unvalued left right named) =
           let is = named (written y right) in
-          by_name (own n x) left (right ∙ ap Var (sym is.to)) (ap (value_named q.constants) is.to ∙ is.valued ∙ sym (own_value x None unvalued)) (ap q.bounds is.to ∙ is.bounds ∙ sym (own_bounds v n p.bounds x)) is.bound
+          by_name (own n x) left (right ∙ ap Var (sym is.to)) (ap (value_named q.constants) is.to ∙ is.valued ∙ sym (own_value x None unvalued)) is.bound
 
   -- names of this CALL's own are old for CALLs with greater numbers
   own_old : (x : List ℕ) → IsOld (number_inside c n) (own n x)
@@ -405,7 +392,7 @@ module _ (us : ProgramUnits) (pairs : List (List ℕ × List ℕ)) (gaps : List 
       by_formal : (a l r : ExprTree) → meaning there.stands x ≡ l → meaning meant x ≡ r → FormalAlike us pairs gaps top f q facts u lo first k i context constants telling v c n body after x a l r → IsOld (number_inside c n) y
       by_formal a l r left right (variable z is rz pz lz kz) = λ m w from. context.old z rz (written_there x z (right ∙ kz) written) y (sym (left ∙ lz) ∙ e) m w (from_lo m from)
       by_formal a l r left right (known w unnamed lx rx small h) = of_own (left ∙ lx)
-      by_formal a l r left right (made z unnamed lx rx to h valued bounds) = of_own (left ∙ lx)
+      by_formal a l r left right (made z unnamed lx rx to h valued) = of_own (left ∙ lx)
 
       go : NameOf x → IsOld (number_inside c n) y
       go (formal is a l r left right s) = by_formal a l r left right s.alike
@@ -429,6 +416,52 @@ module _ (us : ProgramUnits) (pairs : List (List ℕ × List ℕ)) (gaps : List 
     ),
   )
 
+  -- a name that stands for one of the caller
+  moved_name : (x z : List ℕ) → Reads us u z → IsWritten (meaning k z) → meaning there.stands x ≡ meaning i.stands z → meaning meant x ≡ meaning k z → NamedAlike first f p q i.stands k z → NamedAlike after f there.setting q there.stands meant x
+  moved_name x z rz w left right named = record {
+    name = named.name;
+    left = left ∙ named.left;
+    right = right ∙ named.right;
+    bounds = named.bounds ∙ sym (there_bounds named.name (context.old z rz w named.name named.left));
+    bound = bound_kept first after keeps named.name named.bound;
+  }
+
+  -- an array that is a dummy argument stands for an array
+  array_argument : (x z : List ℕ) → IsIn (record { formal = x; argument = Var z }) (associated v c) → IsArray v x → IsArray u z
+  array_argument x z in_call array = go (array_bounds u z) refl
+    where
+      some_none : (d : Dimensions) → None ≡ Some d → ⊥
+      some_none d e = absurd cc
+
+      go : (o : Option Dimensions) → array_bounds u z ≡ o → IsArray u z
+      go (Some d) e = (d, e)
+      go None e = absurd (fits x (Var z) in_call (other_bounds array.0 array.1 (λ l. some_none array.0 (sym e ∙ l))))
+
+  arrays_there : (x : List ℕ) → Reads us v x → IsArray v x → IsWritten (meaning meant x) → NamedAlike after f there.setting q there.stands meant x
+  arrays_there x reads array written = go (name_of x reads)
+    where
+      Goal : Type 0
+      Goal = NamedAlike after f there.setting q there.stands meant x
+
+      unbounded : array_bounds v x ≡ None → Goal
+      unbounded e = let z : None ≡ Some array.0 = sym e ∙ array.1 in absurd cc
+
+      by_formal : (a l r : ExprTree) → meaning there.stands x ≡ l → meaning meant x ≡ r → IsIn (record { formal = x; argument = a }) (associated v c)
+          → FormalAlike us pairs gaps top f q facts u lo first k i context constants telling v c n body after x a l r → Goal
+      by_formal a l r left right in_call (variable z e rz pz lz kz) =
+          let w = written_there x z (right ∙ kz) written in
+          moved_name x z rz w (left ∙ lz) (right ∙ kz)
+          (context.arrays z rz (array_argument x z (subst (λ (d : ExprTree). IsIn (record { formal = x; argument = d }) (associated v c)) e in_call) array) w)
+      by_formal a l r left right in_call (known w unnamed lx rx small h) = unbounded (no_array x a in_call unnamed)
+      by_formal a l r left right in_call (made y unnamed lx rx to h valued) = unbounded (no_array x a in_call unnamed)
+
+      go : NameOf x → Goal
+      go (formal is a l r left right s) = by_formal a l r left right s.associated s.alike
+      go (constant w value left right) = unbounded (valued_kind (for_names v) x w value).0
+      go (local y unvalued left right named) =
+          let is = named (written y right) in
+          record { name = own n x; left = left; right = right ∙ ap Var (sym is.to); bounds = ap q.bounds is.to ∙ is.bounds ∙ sym (own_bounds v n p.bounds x); bound = is.bound }
+
   writes_there : (x : List ℕ) → Writes us v x → IsWritten (meaning meant x) → NamedAlike after f there.setting q there.stands meant x
   writes_there x writes written = go (name_of x writes.reads)
     where
@@ -440,15 +473,9 @@ module _ (us : ProgramUnits) (pairs : List (List ℕ × List ℕ)) (gaps : List 
             reads = rz;
             may = record { plain = pz; assigned = λ from. passed x z is (subst (λ (d : ExprTree). IsIn (record { formal = x; argument = d }) (associated v c)) e in_call) from (writes.may.assigned is) };
           }) w in
-          record {
-            name = named.name;
-            left = left ∙ lz ∙ named.left;
-            right = right ∙ kz ∙ named.right;
-            bounds = named.bounds ∙ sym (there_bounds named.name (context.old z rz w named.name named.left));
-            bound = bound_kept first after keeps named.name named.bound;
-          }
+          moved_name x z rz w (left ∙ lz) (right ∙ kz) named
       by_formal is a l r left right in_call (known w unnamed lx rx small h) = absurd (not_assigned x a in_call unnamed (writes.may.assigned is))
-      by_formal is a l r left right in_call (made y unnamed lx rx to h valued bounds) = absurd (not_assigned x a in_call unnamed (writes.may.assigned is))
+      by_formal is a l r left right in_call (made y unnamed lx rx to h valued) = absurd (not_assigned x a in_call unnamed (writes.may.assigned is))
 
       go : NameOf x → NamedAlike after f there.setting q there.stands meant x
       go (formal is a l r left right s) = by_formal is a l r left right s.associated s.alike
@@ -475,7 +502,7 @@ module _ (us : ProgramUnits) (pairs : List (List ℕ × List ℕ)) (gaps : List 
       by_formal : (a l r : ExprTree) → meaning meant x ≡ r → FormalAlike us pairs gaps top f q facts u lo first k i context constants telling v c n body after x a l r → IsNameOrLiteral (meaning meant x)
       by_formal a l r right (variable z e rz pz lz kz) = subst IsNameOrLiteral (sym (right ∙ kz)) (context.shape z rz pz)
       by_formal a l r right (known w unnamed lx rx small h) = inr (w, small, right ∙ rx)
-      by_formal a l r right (made y unnamed lx rx to h valued bounds) = inl (y, right ∙ rx)
+      by_formal a l r right (made y unnamed lx rx to h valued) = inl (y, right ∙ rx)
 
       go : NameOf x → IsNameOrLiteral (meaning meant x)
       go (formal is a l r left right s) = by_formal a l r right s.alike
@@ -488,6 +515,7 @@ module _ (us : ProgramUnits) (pairs : List (List ℕ × List ℕ)) (gaps : List 
     constants = refl;
     reads = reads_there;
     old = old_there;
+    arrays = arrays_there;
     writes = writes_there;
     fixed = fixed_there;
     shape = shape_there;

@@ -25,6 +25,7 @@ use Rattle.ped_call_runs.proofs.OwnNames.{firsts, OwnIn, outside_in, own_apart}
 use Rattle.ped_call_runs.proofs.RenamedEntries.{HasPair, pair_front, pair_behind}
 use Rattle.ped_call_runs.proofs.WrittenNames.{IsName}
 use Rattle.ped_call_runs.proofs.UnitNames.{IsPlain}
+use Rattle.ped_call_runs.proofs.UnitArrays.{IsArray}
 use Rattle.ped_call_runs.proofs.SuitedUnits.{Reads, Writes}
 
 -- a name that is none of the own of CALLs from this number on
@@ -143,6 +144,7 @@ module _ (us : ProgramUnits) (pairs : List (List ℕ × List ℕ)) (gaps : List 
     pub reads : (x : List ℕ) → Reads us u x → IsWritten (meaning k x) → MeansAlike b f i.setting q i.stands k x
     pub old : (x : List ℕ) → Reads us u x → IsWritten (meaning k x) → (y : List ℕ) → meaning i.stands x ≡ Var y → IsOld lo y
     pub writes : (x : List ℕ) → Writes us u x → IsWritten (meaning k x) → NamedAlike b f i.setting q i.stands k x
+    pub arrays : (x : List ℕ) → Reads us u x → IsArray u x → IsWritten (meaning k x) → NamedAlike b f i.setting q i.stands k x
     pub fixed : (x : List ℕ) → Reads us u x → (n : ℤ) → value_named (constants_of u) x ≡ Some n → (constant_value q.constants (meaning k x) ≡ Some n) × (constant_value i.setting.constants (meaning i.stands x) ≡ Some n)
     pub shape : (x : List ℕ) → Reads us u x → IsPlain u x → IsNameOrLiteral (meaning k x)
     pub fresh : (m : ℕ) (x : List ℕ) → lo ≤ m → value_named i.setting.constants (own m x) ≡ None

@@ -255,7 +255,7 @@ module _ (us : ProgramUnits) (none : us.main.formals ≡ []) where
           ∙ ap (bounds_by_entries None) (stays names h later name taken_then ∙ e)
 
       -- one that is given to a scalar has no bounds
-      pub scalar_bounds : h.arrays ≡ g.arrays → bounds_of (kind_in (expansion us) name) ≡ no_dimensions
+      scalar_bounds : h.arrays ≡ g.arrays → bounds_of (kind_in (expansion us) name) ≡ no_dimensions
       scalar_bounds same = bounds_now None (ap (λ (ds : List DeclTree). entry_of (behind_decls (behind_decls at_first us.main.tree.decls) ds).arrays name) same ∙ said_nothing g before name free)
 
       -- and one that is given to a variable of a subroutine has its bounds

@@ -1,5 +1,5 @@
 -- What names stand for in a subroutine that runs, and in the statements that its CALL expands to.
-use Rattle.std.proofs.Common.{◌≡◌, ℕ, ℤ, pos, negsuc, List, [], ◌∷◌, ◌++◌, length, Bool, true, false, ◌&&◌, Option, Some, None, Ok, Err, refl, sym, ap, ◌∙◌, subst, arith, if◌then◌else◌}
+use Rattle.std.proofs.Common.{◌≡◌, ℕ, ℤ, pos, negsuc, List, [], ◌∷◌, ◌++◌, length, Bool, true, false, ◌&&◌, Option, Some, None, Ok, Err, refl, sym, ap, ◌∙◌, subst, inr, arith, if◌then◌else◌}
 use Rattle.std.specs.Prelude.{int_lt}
 use Rattle.std.specs.Int.{is_negative}
 use Rattle.std.proofs.lemmas.Bool.{both_ways}
@@ -14,15 +14,14 @@ use Rattle.ped_tree.specs.Constants.NamedConstants.{value_named}
 use Rattle.ped_steps.specs.ped_sums.specs.Sums.{literal}
 use Rattle.ped_calls.specs.ped_units.specs.Expanding.{Meanings, meaning, name_or, name_meant}
 use Rattle.ped_steps.specs.ped_eval.specs.ped_store.specs.Cells.{Cell, Scalar, Element, Private, In, Out, same_cell}
-use Rattle.ped_steps.specs.ped_eval.specs.ped_store.specs.Stores.{Number, Store, number_read, outside_bounds}
+use Rattle.ped_steps.specs.ped_eval.specs.ped_store.specs.Stores.{Content, Number, Store, number_read, outside_bounds}
 use Rattle.ped_steps.specs.ped_eval.specs.ped_store.specs.Storage.{is_within}
-use Rattle.ped_steps.specs.ped_eval.specs.ped_store.specs.Variables.{no_dimensions}
 use Rattle.ped_steps.specs.ped_eval.specs.ped_store.specs.Acts.{iterations_of}
 use Rattle.ped_steps.specs.ped_eval.specs.Scopes.{Setting, Frame, Scope, turns_of, cell_of, index_value, Names, names_in}
-use Rattle.ped_steps.specs.ped_eval.specs.Evaluation.{Evaluated, ◌>>>◌, given, by_number, read_cell}
+use Rattle.ped_steps.specs.ped_eval.specs.Evaluation.{cell_seen, Evaluated, ◌>>>◌, given, by_number, read_cell}
 use Rattle.ped_steps.specs.ped_eval.specs.Values.{variable_value, name_value, is_rank, element_cell, value, target}
 use Rattle.ped_steps.proofs.RunLaws.ExchangedTouches.{told_apart}
-use Rattle.ped_call_runs.proofs.FollowingValues.{itself, Follows, ComesTo, ReadsAlike, StoresAlike, fine_cell, cell_one}
+use Rattle.ped_call_runs.proofs.FollowingValues.{itself, FollowsBy, Follows, ComesTo, ReadsAlike, ElementAlike, StoresAlike, cell_one}
 use Rattle.ped_call_runs.proofs.FollowingStores.{Bond, tight, loose, held, free, Agrees, IsBelow, is_bound, cell_follows}
 
 -- cells under other names
@@ -113,9 +112,9 @@ module _ (f : List ℕ → List ℕ) (twice : (x : List ℕ) → f (f x) ≡ x) 
 
 -- what a name stands for on both sides: a name and the renamed one; a named constant and its literal; a variable of the CALL that holds a number, and its literal
 pub data MeansAlike (b : List ℕ → Bond) (f : List ℕ → List ℕ) (p q : Setting) (m k : Meanings) (x : List ℕ) : Type 0 where
-  by_name : (y : List ℕ) → meaning m x ≡ Var y → meaning k x ≡ Var (f y) → value_named q.constants (f y) ≡ value_named p.constants y → q.bounds (f y) ≡ p.bounds y → is_bound (b y) ≡ true → MeansAlike b f p q m k x
-  by_constant : (y : List ℕ) (n : ℤ) → meaning m x ≡ Var y → meaning k x ≡ literal n → is_in_range n ≡ true → p.bounds y ≡ no_dimensions → value_named p.constants y ≡ Some n → MeansAlike b f p q m k x
-  by_held : (y : List ℕ) (n : ℤ) → meaning m x ≡ Var y → meaning k x ≡ literal n → is_in_range n ≡ true → p.bounds y ≡ no_dimensions → value_named p.constants y ≡ None → b y ≡ held n → MeansAlike b f p q m k x
+  by_name : (y : List ℕ) → meaning m x ≡ Var y → meaning k x ≡ Var (f y) → value_named q.constants (f y) ≡ value_named p.constants y → is_bound (b y) ≡ true → MeansAlike b f p q m k x
+  by_constant : (y : List ℕ) (n : ℤ) → meaning m x ≡ Var y → meaning k x ≡ literal n → is_in_range n ≡ true → value_named p.constants y ≡ Some n → MeansAlike b f p q m k x
+  by_held : (y : List ℕ) (n : ℤ) → meaning m x ≡ Var y → meaning k x ≡ literal n → is_in_range n ≡ true → value_named p.constants y ≡ None → b y ≡ held n → MeansAlike b f p q m k x
 
 -- a name that may be assigned: a name stands for it, and the renamed one on the other side
 pub record NamedAlike (b : List ℕ → Bond) (f : List ℕ → List ℕ) (p q : Setting) (m k : Meanings) (x : List ℕ) : Type 0 where
@@ -133,14 +132,6 @@ literal_comes g s (pos n) r = go (is_negative (pos n)) refl
     go false h = refl
 literal_comes g s (negsuc n) r = ap (λ (t : Bool). given (by_number (if t then Ok (negsuc n) else Err OutOfRange))) r
 
-and_false : (t : Bool) → t && false ≡ false
-and_false true = refl
-and_false false = refl
-
-no_element : (js : List ℤ) → is_rank (length js) && is_within no_dimensions js ≡ false
-no_element [] = refl
-no_element (j ∷ js) = and_false (is_rank (length (j ∷ js)))
-
 module _ (b : List ℕ → Bond) (f : List ℕ → List ℕ) (twice : (x : List ℕ) → f (f x) ≡ x) (p q : Setting) (scope other : Scope) (same : AreNamed f scope other) (unheld : IsUnheld b scope) (s w : Store) (below : IsBelow (bond_of b) (named_cell f) s w) where
   -- what stands for a name on both sides
   both_meant : (m k : Meanings) (x : List ℕ) (e d : ExprTree) → meaning m x ≡ e → meaning k x ≡ d → Follows itself (value (names_in p scope) e s) (value (names_in q other) d w)
@@ -149,13 +140,6 @@ module _ (b : List ℕ → Bond) (f : List ℕ → List ℕ) (twice : (x : List 
       subst (λ (a : ExprTree). Follows itself (value (names_in p scope) a s) (value (names_in q other) (meaning k x) w)) (sym u)
       (subst (λ (a : ExprTree). Follows itself (value (names_in p scope) e s) (value (names_in q other) a w)) (sym v) h)
 
-  both_named : (m k : Meanings) (x : List ℕ) (e d : ExprTree) (js : List ℤ) → meaning m x ≡ e → meaning k x ≡ d
-      → Follows itself (given (element_cell (names_in p scope) (name_or x e) js) >>> read_cell s) (given (element_cell (names_in q other) (name_or x d) js) >>> read_cell w)
-      → Follows itself (given (element_cell (names_in p scope) (name_meant m x) js) >>> read_cell s) (given (element_cell (names_in q other) (name_meant k x) js) >>> read_cell w)
-  both_named m k x e d js u v h =
-      subst (λ (z : List ℕ). Follows itself (given (element_cell (names_in p scope) z js) >>> read_cell s) (given (element_cell (names_in q other) (name_meant k x) js) >>> read_cell w)) (sym (ap (name_or x) u))
-      (subst (λ (z : List ℕ). Follows itself (given (element_cell (names_in p scope) (name_or x e) js) >>> read_cell s) (given (element_cell (names_in q other) z js) >>> read_cell w)) (sym (ap (name_or x) v)) h)
-
   -- a scalar that is read
   scalar_follows : (y : List ℕ) → is_bound (b y) ≡ true → Follows itself (variable_value (index_value scope y) s (cell_of scope y)) (variable_value (index_value other (f y)) w (cell_of other (f y)))
   scalar_follows y h =
@@ -163,7 +147,7 @@ module _ (b : List ℕ → Bond) (f : List ℕ → List ℕ) (twice : (x : List 
       (subst (λ (c : Cell). Follows itself (variable_value (index_value scope y) s (cell_of scope y)) (variable_value (index_value scope y) w c)) (sym (same.cell y)) (go (index_value scope y)))
     where
       go : (o : Option ℤ) → Follows itself (variable_value o s (cell_of scope y)) (variable_value o w (named_cell f (cell_of scope y)))
-      go (Some n) = λ v e. e
+      go (Some n) = refl
       go None = cell_follows (bond_of b) (named_cell f) (same_cells f twice) (cell_of scope y) s w (cell_bound b scope y h) below
 
   name_follows : (y : List ℕ) → value_named q.constants (f y) ≡ value_named p.constants y → is_bound (b y) ≡ true → Follows itself (value (names_in p scope) (Var y) s) (value (names_in q other) (Var (f y)) w)
@@ -171,7 +155,7 @@ module _ (b : List ℕ → Bond) (f : List ℕ → List ℕ) (twice : (x : List 
       subst (λ (o : Option ℤ). Follows itself (value (names_in p scope) (Var y) s) (name_value o (names_in q other) (f y) w)) (sym c) (go (value_named p.constants y))
     where
       go : (o : Option ℤ) → Follows itself (name_value o (names_in p scope) y s) (name_value o (names_in q other) (f y) w)
-      go (Some n) = λ v e. e
+      go (Some n) = refl
       go None = scalar_follows y h
 
   -- an element that is found, and one that is read
@@ -181,8 +165,8 @@ module _ (b : List ℕ → Bond) (f : List ℕ → List ℕ) (twice : (x : List 
       (go (is_rank (length js) && is_within (p.bounds y) js))
     where
       go : (t : Bool) → Follows (named_cell f) (given (if t then Ok (Element y js) else Err outside_bounds)) (given (if t then Ok (Element (f y) js) else Err outside_bounds))
-      go true = λ v e. fine_cell (named_cell f) (Element y js) v e
-      go false = λ v e. absurd cc
+      go true = refl
+      go false = inr refl
 
   element_follows : (y : List ℕ) (js : List ℤ) → q.bounds (f y) ≡ p.bounds y → is_bound (b y) ≡ true
       → Follows itself (given (element_cell (names_in p scope) y js) >>> read_cell s) (given (element_cell (names_in q other) (f y) js) >>> read_cell w)
@@ -192,40 +176,35 @@ module _ (b : List ℕ → Bond) (f : List ℕ → List ℕ) (twice : (x : List 
     where
       go : (t : Bool) → Follows itself (given (if t then Ok (Element y js) else Err outside_bounds) >>> read_cell s) (given (if t then Ok (Element (f y) js) else Err outside_bounds) >>> read_cell w)
       go true = cell_follows (bond_of b) (named_cell f) (same_cells f twice) (Element y js) s w (unheld_bound (b y) h) below
-      go false = λ v e. absurd cc
-
-  -- where there is no array there is no element
-  unfound_follows : (y : List ℕ) (js : List ℤ) (a : Evaluated ℤ) → p.bounds y ≡ no_dimensions → Follows itself (given (element_cell (names_in p scope) y js) >>> read_cell s) a
-  unfound_follows y js a e =
-      subst (λ (d : Dimensions). Follows itself (given (if is_rank (length js) && is_within d js then Ok (Element y js) else Err outside_bounds) >>> read_cell s) a) (sym e)
-      (subst (λ (t : Bool). Follows itself (given (if t then Ok (Element y js) else Err outside_bounds) >>> read_cell s) a) (sym (no_element js)) (λ v l. absurd cc))
+      go false = inr refl
 
   constant_follows : (y : List ℕ) (n : ℤ) → is_in_range n ≡ true → value_named p.constants y ≡ Some n → Follows itself (value (names_in p scope) (Var y) s) (value (names_in q other) (literal n) w)
   constant_follows y n r c =
       subst (λ (z : Evaluated ℤ). Follows itself (value (names_in p scope) (Var y) s) z) (sym (literal_comes (names_in q other) w n r))
-      (subst (λ (o : Option ℤ). Follows itself (name_value o (names_in p scope) y s) (given (Ok n))) (sym c) (λ v e. e))
+      (subst (λ (o : Option ℤ). Follows itself (name_value o (names_in p scope) y s) (given (Ok n))) (sym c) refl)
 
   held_follows : (y : List ℕ) (n : ℤ) → is_in_range n ≡ true → value_named p.constants y ≡ None → b y ≡ held n → Follows itself (value (names_in p scope) (Var y) s) (value (names_in q other) (literal n) w)
   held_follows y n r c h =
-      let holds : s (Scalar y) ≡ Number n = subst (λ (z : Bond). Agrees z (s (Scalar y)) (w (Scalar (f y)))) h (below (Scalar y)) in
+      let holds : s (Scalar y) ≡ Number n = subst (λ (z : Bond). Agrees (Scalar y) z (s (Scalar y)) (w (Scalar (f y)))) h (below (Scalar y)) in
       subst (λ (z : Evaluated ℤ). Follows itself (value (names_in p scope) (Var y) s) z) (sym (literal_comes (names_in q other) w n r))
       (subst (λ (o : Option ℤ). Follows itself (name_value o (names_in p scope) y s) (given (Ok n))) (sym c)
       (subst (λ (o : Option ℤ). Follows itself (variable_value o s (cell_of scope y)) (given (Ok n))) (sym (unheld.index y (ap is_bound h)))
-      (subst (λ (a : Cell). Follows itself (read_cell s a) (given (Ok n))) (sym (unheld.cell y (ap is_bound h))) (λ v e. sym (ap number_read holds) ∙ e))))
+      (subst (λ (a : Cell). Follows itself (read_cell s a) (given (Ok n))) (sym (unheld.cell y (ap is_bound h)))
+      (subst (λ (c : Content). FollowsBy itself (cell_seen (Scalar y) c ∷ []) (number_read c) (Ok n)) (sym holds) refl))))
 
   -- a name of the subroutine that is read
   pub reads_alike : (m k : Meanings) (x : List ℕ) → MeansAlike b f p q m k x → ReadsAlike (names_in p scope) (names_in q other) s w m k x
-  reads_alike m k x (by_name y u v c d h) = record {
-    alone = both_meant m k x (Var y) (Var (f y)) u v (name_follows y c h);
-    element = λ js. both_named m k x (Var y) (Var (f y)) js u v (element_follows y js d h);
-  }
-  reads_alike m k x (by_constant y n u v r d c) = record {
-    alone = both_meant m k x (Var y) (literal n) u v (constant_follows y n r c);
-    element = λ js. both_named m k x (Var y) (literal n) js u v (unfound_follows y js (given (element_cell (names_in q other) (name_or x (literal n)) js) >>> read_cell w) d);
-  }
-  reads_alike m k x (by_held y n u v r d c h) = record {
-    alone = both_meant m k x (Var y) (literal n) u v (held_follows y n r c h);
-    element = λ js. both_named m k x (Var y) (literal n) js u v (unfound_follows y js (given (element_cell (names_in q other) (name_or x (literal n)) js) >>> read_cell w) d);
+  reads_alike m k x (by_name y u v c h) = record { alone = both_meant m k x (Var y) (Var (f y)) u v (name_follows y c h) }
+  reads_alike m k x (by_constant y n u v r c) = record { alone = both_meant m k x (Var y) (literal n) u v (constant_follows y n r c) }
+  reads_alike m k x (by_held y n u v r c h) = record { alone = both_meant m k x (Var y) (literal n) u v (held_follows y n r c h) }
+
+  -- the same with subscripts
+  pub elements_alike : (m k : Meanings) (x : List ℕ) → NamedAlike b f p q m k x → ElementAlike (names_in p scope) (names_in q other) s w m k x
+  elements_alike m k x a = record {
+    element = λ js.
+        subst (λ (z : List ℕ). Follows itself (given (element_cell (names_in p scope) z js) >>> read_cell s) (given (element_cell (names_in q other) (name_meant k x) js) >>> read_cell w)) (sym (ap (name_or x) a.left))
+        (subst (λ (z : List ℕ). Follows itself (given (element_cell (names_in p scope) a.name js) >>> read_cell s) (given (element_cell (names_in q other) z js) >>> read_cell w)) (sym (ap (name_or x) a.right))
+        (element_follows a.name js a.bounds a.bound));
   }
 
   -- a name of the subroutine that is assigned
@@ -234,7 +213,7 @@ module _ (b : List ℕ → Bond) (f : List ℕ → List ℕ) (twice : (x : List 
     alone =
         subst (λ (e : ExprTree). Follows (named_cell f) (target (names_in p scope) e s) (target (names_in q other) (meaning k x) w)) (sym a.left)
         (subst (λ (e : ExprTree). Follows (named_cell f) (target (names_in p scope) (Var a.name) s) (target (names_in q other) e w)) (sym a.right)
-        (subst (λ (c : Cell). Follows (named_cell f) (given (Ok (cell_of scope a.name))) (given (Ok c))) (sym (same.cell a.name)) (λ v e. fine_cell (named_cell f) (cell_of scope a.name) v e)));
+        (subst (λ (c : Cell). Follows (named_cell f) (given (Ok (cell_of scope a.name))) (given (Ok c))) (sym (same.cell a.name)) refl));
     alone_may =
         subst (λ (e : ExprTree). ComesTo (λ c. is_bound (bond_of b c) ≡ true) (target (names_in p scope) e s)) (sym a.left)
         (λ v e. subst (λ (c : Cell). is_bound (bond_of b c) ≡ true) (cell_one (cell_of scope a.name) v e) (cell_bound b scope a.name a.bound));

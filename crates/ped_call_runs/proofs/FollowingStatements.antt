@@ -1,5 +1,5 @@
 -- Statements of a unit and what they expand to: where the unit's statements end, the expanded ones end alike, given that its CALLs do.
-use Rattle.std.proofs.Common.{◌≡◌, ℕ, ◌+◌, ℤ, List, ◌∷◌, map, Bool, Option, Some, None, refl, sym, ap, subst, if◌then◌else◌}
+use Rattle.std.proofs.Common.{◌≡◌, ℕ, ◌+◌, ℤ, List, ◌∷◌, map, Bool, Option, Some, None, refl, sym, ap, subst, inl}
 use Rattle.std.specs.List.{flat_map}
 use Rattle.ped_tree.specs.NamesIn.{expr_names, cond_names, item_names, all_loop_variables}
 use Rattle.ped_tree.specs.Numbering.{statement_count, statements_count}
@@ -15,10 +15,11 @@ use Rattle.ped_steps.specs.ped_eval.specs.Loops.{limits, iteration_count}
 use Rattle.ped_steps.specs.ped_eval.specs.Runs.{run, run_all}
 use Rattle.ped_call_runs.specs.UnitRuns.{Instance, CallRun, call_stays, stmts_replaced, sized, all_sized, run_or, unit_run, unit_run_all}
 use Rattle.ped_call_runs.proofs.EachNames.{Each, each_map}
-use Rattle.ped_call_runs.proofs.FollowingValues.{ReadsAlike, StoresAlike, truth_follows, line_follows, limits_follow, assigned_may, assigned_follows}
+use Rattle.ped_call_runs.proofs.EachElements.{EachElement, CondElements, ItemsElements, TargetsElements, elements_map, cond_elements_map, items_elements_map, targets_elements_map}
+use Rattle.ped_call_runs.proofs.FollowingValues.{ReadsAlike, ElementAlike, StoresAlike, truth_follows, line_follows, limits_follow, assigned_may, assigned_follows}
 use Rattle.ped_call_runs.proofs.FollowingStores.{Bond, IsBelow, is_bound}
 use Rattle.ped_call_runs.proofs.FollowingEndings.{RunsAlike, then_alike, run_if_alike, run_do_alike, assignment_alike, print_alike}
-use Rattle.ped_call_runs.proofs.FollowingNames.{named_cell, bond_of, same_cells, AreNamed, IsUnheld, MeansAlike, NamedAlike, reads_alike, stores_alike}
+use Rattle.ped_call_runs.proofs.FollowingNames.{named_cell, bond_of, same_cells, AreNamed, IsUnheld, MeansAlike, NamedAlike, reads_alike, elements_alike, stores_alike}
 use Rattle.ped_call_runs.proofs.FollowingReads.{read_alike}
 use Rattle.ped_call_runs.proofs.FollowingLoops.{HeadsAlike, frame_named, frame_unheld, loop_exit}
 
@@ -30,14 +31,25 @@ module _ (b : List ℕ → Bond) (f : List ℕ → List ℕ) (q : Setting) (k : 
   abbrev pub Named : List (List ℕ) → Type 0
   Named xs = Each (NamedAlike b f i.setting q i.stands k) xs
 
+  -- elements that are read
+  abbrev pub Elements : ExprTree → Type 0
+  Elements e = EachElement (NamedAlike b f i.setting q i.stands k) e
+
+  -- both count as the same statement
+  abbrev pub SameNumber : ℕ → ℕ → Type 0
+  SameNumber n j = q.number j ≡ i.setting.number n
+
   -- an assignment that is no CALL stands alike on both sides
-  pub record AssignsAlike (left right : ExprTree) : Type 0 where
+  pub record AssignsAlike (left right : ExprTree) (n j : ℕ) : Type 0 where
+    pub number : SameNumber n j
     pub in_left : Means (expr_names left)
     pub in_right : Means (expr_names right)
+    pub left_elements : Elements left
+    pub right_elements : Elements right
     pub assigned : Named (assigned_left left)
 
   abbrev pub AssignStands : ExprTree → ExprTree → ℕ → ℕ → Given → Option Called → Type 0
-  AssignStands left right n j g None = AssignsAlike left right
+  AssignStands left right n j g None = AssignsAlike left right n j
   AssignStands left right n j g (Some c) = holds c n j g
 
   -- expanded statements, and what is given behind them
@@ -52,15 +64,16 @@ module _ (b : List ℕ → Bond) (f : List ℕ → List ℕ) (q : Setting) (k : 
     pub Stands : StmtTree → ℕ → ℕ → Given → Type 0
     Stands (Assign left right) n j g = AssignStands left right n j g (call_of left right)
     Stands (If condition then_part else_part) n j g =
-        Means (cond_names condition)
+        (SameNumber n j × Means (cond_names condition) × CondElements (NamedAlike b f i.setting q i.stands k) condition)
         × AllStand then_part (n + 1) (j + 1) g
         × AllStand else_part (n + 1 + all_sized size then_part) (j + 1 + statements_count (AllMade then_part g).statements) (AllMade then_part g).state
     Stands (Do h body) n j g =
         HeadsAlike b f i.setting q i.stands k h (all_loop_variables (stmts_replaced i.stands body)) (all_loop_variables (AllMade body g).statements)
-        × (q.number j ≡ i.setting.number n)
+        × SameNumber n j
+        × (Elements h.first × Elements h.last)
         × AllStand body (n + 1) (j + 1) g
-    Stands (Print items) n j g = Means (flat_map item_names items)
-    Stands (Read items) n j g = Means (flat_map expr_names items) × Named (flat_map assigned_left items)
+    Stands (Print items) n j g = SameNumber n j × Means (flat_map item_names items) × ItemsElements (NamedAlike b f i.setting q i.stands k) items
+    Stands (Read items) n j g = SameNumber n j × Means (flat_map expr_names items) × Named (flat_map assigned_left items) × TargetsElements (NamedAlike b f i.setting q i.stands k) items
     Stands Stop n j g = Unit {0}
     Stands (Comment text) n j g = Unit {0}
 
@@ -98,12 +111,18 @@ module _ (b : List ℕ → Bond) (f : List ℕ → List ℕ) (twice : (x : List 
     stores : (xs : List (List ℕ)) → Each (NamedAlike b f p q m k) xs → (s w : Store) → Below s w → Each (StoresAlike (named_cell f) May (names_in p scope) (names_in q other) s w m k) xs
     stores xs h s w below = each_map (NamedAlike b f p q m k) (StoresAlike (named_cell f) May (names_in p scope) (names_in q other) s w m k) xs (λ x l. stores_alike b f twice p q scope other same unheld s w below m k x l) h
 
-    plain_follows : (left right : ExprTree) (n j : ℕ) → AssignsAlike b f q k size inner holds i left right → RunsAlike Below (run p (Assign (replaced m left) (replaced m right)) n scope) (run q (Assign (replaced k left) (replaced k right)) j other)
+    elements : (s w : Store) → Below s w → (x : List ℕ) → NamedAlike b f p q m k x → ElementAlike (names_in p scope) (names_in q other) s w m k x
+    elements s w below x l = elements_alike b f twice p q scope other same unheld s w below m k x l
+
+    in_expression : (s w : Store) → Below s w → (e : ExprTree) → EachElement (NamedAlike b f p q m k) e → EachElement (ElementAlike (names_in p scope) (names_in q other) s w m k) e
+    in_expression s w below e h = elements_map (NamedAlike b f p q m k) (ElementAlike (names_in p scope) (names_in q other) s w m k) (elements s w below) e h
+
+    plain_follows : (left right : ExprTree) (n j : ℕ) → AssignsAlike b f q k size inner holds i left right n j → RunsAlike Below (run p (Assign (replaced m left) (replaced m right)) n scope) (run q (Assign (replaced k left) (replaced k right)) j other)
     plain_follows left right n j h s w below =
         assignment_alike (bond_of b) (named_cell f) (same_cells f twice) (names_in p scope) (names_in q other) (place_of p n scope) (place_of q j other)
-        (replaced m left) (replaced m right) (replaced k left) (replaced k right) s w below
+        (replaced m left) (replaced m right) (replaced k left) (replaced k right) s w h.number below
         (assigned_follows (names_in p scope) (names_in q other) s w m k (named_cell f) May left right
-        (reads (expr_names left) h.in_left s w below) (reads (expr_names right) h.in_right s w below) (stores (assigned_left left) h.assigned s w below))
+        (reads (expr_names left) h.in_left s w below) (reads (expr_names right) h.in_right s w below) (in_expression s w below left h.left_elements) (in_expression s w below right h.right_elements) (stores (assigned_left left) h.assigned s w below))
         (assigned_may (names_in p scope) (names_in q other) s w m k (named_cell f) May left right (stores (assigned_left left) h.assigned s w below))
 
     -- an assignment, or the CALL that it is
@@ -125,8 +144,9 @@ module _ (b : List ℕ → Bond) (f : List ℕ → List ℕ) (twice : (x : List 
         (unit_run_all call size i x (n + 1) scope) (unit_run_all call size i y (n + 1 + all_sized size x) scope)
         (run_all q (all_expanded_in k inner x g).statements (j + 1) other)
         (run_all q (all_expanded_in k inner y (all_expanded_in k inner x g).state).statements (j + 1 + statements_count (all_expanded_in k inner x g).statements) other)
-        s w below
-        (truth_follows (names_in p scope) (names_in q other) s w m k c (reads scope other same unheld (cond_names c) h.0 s w below))
+        s w h.0.0 below
+        (truth_follows (names_in p scope) (names_in q other) s w m k c (reads scope other same unheld (cond_names c) h.0.1 s w below)
+        (cond_elements_map (NamedAlike b f p q m k) (ElementAlike (names_in p scope) (names_in q other) s w m k) (elements scope other same unheld s w below) c h.0.2))
         (statements_follow calls x (n + 1) (j + 1) g h.1 scope other same unheld)
         (statements_follow calls y (n + 1 + all_sized size x) (j + 1 + statements_count (all_expanded_in k inner x g).statements) (all_expanded_in k inner x g).state h.2 scope other same unheld)
     statement_follows calls (Do head body) n j g h scope other same unheld s w below =
@@ -135,25 +155,29 @@ module _ (b : List ℕ → Bond) (f : List ℕ → List ℕ) (twice : (x : List 
         let seen = (limits (names_in p scope) (head_replaced m head) s).seen in
         let others = (limits (names_in q other) (head_replaced k head) w).seen in
         run_do_alike Below p q n j scope other (head_replaced m head) (head_replaced k head) ss ts
-        (λ r. unit_run_all call size i body (n + 1) (r ∷ scope)) (λ r. run_all q ts (j + 1) (r ∷ other)) s w below
-        (limits_follow (names_in p scope) (names_in q other) s w m k head (reads scope other same unheld (expr_names head.first) h.0.first s w below) (reads scope other same unheld (expr_names head.last) h.0.last s w below))
+        (λ r. unit_run_all call size i body (n + 1) (r ∷ scope)) (λ r. run_all q ts (j + 1) (r ∷ other)) s w h.1 below
+        (limits_follow (names_in p scope) (names_in q other) s w m k head (reads scope other same unheld (expr_names head.first) h.0.first s w below) (reads scope other same unheld (expr_names head.last) h.0.last s w below)
+        (in_expression scope other same unheld s w below head.first h.2.0) (in_expression scope other same unheld s w below head.last h.2.1))
         (λ l. ap (λ (z : ℤ). iteration_count l.first l.last z) h.0.step)
-        (λ l c. statements_follow calls body (n + 1) (j + 1) g h.2 _ _
+        (λ l c. statements_follow calls body (n + 1) (j + 1) g h.3 _ _
         (frame_named b f twice p q m k n j head ss ts h.0 h.1 seen others l c scope other same)
         (frame_unheld b f twice p q m k n j head ss ts h.0 h.1 seen others l c scope unheld))
         (λ l u v r. loop_exit b f twice p q m k n j head ss ts h.0 h.1 seen others l scope other same u v r)
     statement_follows calls (Print items) n j g h scope other same unheld s w below =
-        print_alike (bond_of b) (named_cell f) (same_cells f twice) refl refl (names_in p scope) (names_in q other) (place_of p n scope) (place_of q j other) (map (item_replaced m) items) (map (item_replaced k) items) s w below
-        (line_follows (names_in p scope) (names_in q other) s w m k items (reads scope other same unheld (flat_map item_names items) h s w below))
+        print_alike (bond_of b) (named_cell f) (same_cells f twice) refl refl (names_in p scope) (names_in q other) (place_of p n scope) (place_of q j other) (map (item_replaced m) items) (map (item_replaced k) items) s w h.0 below
+        (line_follows (names_in p scope) (names_in q other) s w m k items (reads scope other same unheld (flat_map item_names items) h.1 s w below)
+        (items_elements_map (NamedAlike b f p q m k) (ElementAlike (names_in p scope) (names_in q other) s w m k) (elements scope other same unheld s w below) items h.2))
     statement_follows calls (Read items) n j g h scope other same unheld s w below =
         read_alike (bond_of b) (named_cell f) (same_cells f twice) (names_in p scope) (names_in q other) m k refl refl (place_of p n scope) (place_of q j other) items
-        (reads scope other same unheld (flat_map expr_names items) h.0) (stores scope other same unheld (flat_map assigned_left items) h.1) s w below
-    statement_follows calls Stop n j g h scope other same unheld s w below = (w, refl, below)
-    statement_follows calls (Comment text) n j g h scope other same unheld s w below = (w, refl, below)
+        (reads scope other same unheld (flat_map expr_names items) h.1)
+        (λ x y l. targets_elements_map (NamedAlike b f p q m k) (ElementAlike (names_in p scope) (names_in q other) x y m k) (elements scope other same unheld x y l) items h.3)
+        (stores scope other same unheld (flat_map assigned_left items) h.2) s w h.0 below
+    statement_follows calls Stop n j g h scope other same unheld s w below = inl (w, refl, below)
+    statement_follows calls (Comment text) n j g h scope other same unheld s w below = inl (w, refl, below)
 
     pub statements_follow : CallsFollow → (ts : StmtTrees) (n j : ℕ) (g : Given) → StandAll ts n j g → (scope other : Scope) → AreNamed f scope other → IsUnheld b scope
         → RunsAlike Below (unit_run_all call size i ts n scope) (run_all q (all_expanded_in k inner ts g).statements j other)
-    statements_follow calls no_stmts n j g h scope other same unheld s w below = (w, refl, below)
+    statements_follow calls no_stmts n j g h scope other same unheld s w below = inl (w, refl, below)
     statements_follow calls (more_stmts t rest) n j g h scope other same unheld s w below =
         let made : Expanded Given = expanded_in k inner t g in
         then_alike Below (unit_run call size i t n scope s) (run q made.statement j other w) (unit_run_all call size i rest (n + sized size t) scope)

@@ -1,5 +1,5 @@
 -- Program units and their expansion: where all that stands in the units stands alike in the expansion, the outcomes are the same.
-use Rattle.std.proofs.Common.{◌≡◌, ℕ, ℤ, List, [], ◌∷◌, map, length, refl, sym, ap, ◌∙◌, subst, inr, if◌then◌else◌}
+use Rattle.std.proofs.Common.{◌≡◌, ℕ, ℤ, List, [], ◌∷◌, map, length, refl, sym, ap, ◌∙◌, subst, inl, inr, if◌then◌else◌}
 use Rattle.std.specs.Str.Lines.{lines}
 use Rattle.ped_base.specs.Dimensions.{Dimensions}
 use Rattle.ped_base.specs.Lists.{has_some}
@@ -15,13 +15,14 @@ use Rattle.ped_steps.specs.ped_eval.specs.ped_store.specs.Storage.{elements_of}
 use Rattle.ped_steps.specs.ped_eval.specs.ped_store.specs.Variables.{values_of}
 use Rattle.ped_steps.specs.ped_eval.specs.Scopes.{Setting}
 use Rattle.ped_steps.specs.ped_eval.specs.Runs.{Ending, going, stopped, failed, run_all}
-use Rattle.ped_steps.specs.ped_eval.specs.Outcomes.{bounds_of, setting_of, run_of, LiveRow, live_names, live_rows, Ended, Ends, outcome, outcome_of}
+use Rattle.ped_steps.specs.ped_eval.specs.Outcomes.{bounds_of, setting_of, run_of, LiveRow, live_names, live_rows, Ended, Fault, Ends, outcome, outcome_of}
 use Rattle.ped_steps.specs.Runs.Renumbering.{EndsAs, IsToldBack, renumbered}
 use Rattle.ped_steps.proofs.RunLaws.RenumberedPrograms.{program_renumbered, ends_back, outcome_renumbered}
 use Rattle.ped_call_runs.specs.UnitRuns.{main_instance, call_size, call_run, run_units, outcome_of_units}
+use Rattle.ped_call_runs.specs.UnitFaults.{FaultsInOwn, expanded_number}
 use Rattle.ped_call_runs.proofs.EachNames.{Each}
 use Rattle.ped_call_runs.proofs.FollowingStores.{Bond, tight, loose, held, free, Agrees, IsBelow}
-use Rattle.ped_call_runs.proofs.FollowingEndings.{EndsAlike}
+use Rattle.ped_call_runs.proofs.FollowingEndings.{EndsAlike, RunAlike}
 use Rattle.ped_call_runs.proofs.FollowingNames.{named_cell, unheld, bond_of}
 use Rattle.ped_call_runs.proofs.FollowingStatements.{AllStand, statements_follow}
 use Rattle.ped_call_runs.proofs.FollowingDepths.{Holds, calls_follow}
@@ -39,8 +40,7 @@ pub record StandAlike (us : ProgramUnits) : Type 0 where
   pub bond : List ℕ → Bond
   pub unknown : (x : List ℕ) (n : ℤ) → bond x ≡ held n → ⊥
   pub number : ℕ → ℕ
-  pub back : ℕ → ℕ
-  pub told : IsToldBack number back
+  pub told : IsToldBack number (expanded_number us)
   pub statements : AllStand bond name (renumbered number (setting_of (expansion us))) [] (call_size (length us.others) us) (call_expanded (length us.others) us (constants_of us.main))
       (Holds us name (renumbered number (setting_of (expansion us))) (length us.others) bond [] (main_instance us) (constants_of us.main)) (main_instance us) us.main.tree.body 1 1 (nothing_given us)
   pub live : live_names (expansion us) ≡ live_names (for_names us.main)
@@ -54,21 +54,21 @@ module _ (b : List ℕ → Bond) (f : List ℕ → List ℕ) where
   start_below : ((x : List ℕ) (n : ℤ) → b x ≡ held n → ⊥) → (ls : List (List ℕ)) → Below (store_at_start ls) (store_at_start ls)
   start_below unknown ls (Scalar x) = go (b x) (unknown x)
     where
-      go : (z : Bond) → ((n : ℤ) → z ≡ held n → ⊥) → Agrees z (store_at_start ls (Scalar x)) (store_at_start ls (Scalar (f x)))
+      go : (z : Bond) → ((n : ℤ) → z ≡ held n → ⊥) → Agrees (Scalar x) z (store_at_start ls (Scalar x)) (store_at_start ls (Scalar (f x)))
       go tight h = refl
       go loose h = inr refl
       go (held n) h = absurd (h n refl)
       go free h = tt
   start_below unknown ls (Element x js) = go (b x)
     where
-      go : (z : Bond) → Agrees (unheld z) (store_at_start ls (Element x js)) (store_at_start ls (Element (f x) js))
+      go : (z : Bond) → Agrees (Element x js) (unheld z) (store_at_start ls (Element x js)) (store_at_start ls (Element (f x) js))
       go tight = refl
       go loose = inr refl
       go (held n) = tt
       go free = tt
   start_below unknown ls (Private x path) = go (b x)
     where
-      go : (z : Bond) → Agrees (unheld z) (store_at_start ls (Private x path)) (store_at_start ls (Private (f x) path))
+      go : (z : Bond) → Agrees (Private x path) (unheld z) (store_at_start ls (Private x path)) (store_at_start ls (Private (f x) path))
       go tight = refl
       go loose = inr refl
       go (held n) = tt
@@ -81,10 +81,10 @@ module _ (b : List ℕ → Bond) (f : List ℕ → List ℕ) where
   row_alike t u x a s w below = λ i. values_at (a.bounds i) i
     where
       scalar : w (Scalar x) ≡ s (Scalar x)
-      scalar = subst (λ (y : List ℕ). w (Scalar y) ≡ s (Scalar x)) a.name (subst (λ (z : Bond). Agrees z (s (Scalar x)) (w (Scalar (f x)))) a.bond (below (Scalar x)))
+      scalar = subst (λ (y : List ℕ). w (Scalar y) ≡ s (Scalar x)) a.name (subst (λ (z : Bond). Agrees (Scalar x) z (s (Scalar x)) (w (Scalar (f x)))) a.bond (below (Scalar x)))
 
       element : (js : List ℤ) → w (Element x js) ≡ s (Element x js)
-      element js = subst (λ (y : List ℕ). w (Element y js) ≡ s (Element x js)) a.name (subst (λ (z : Bond). Agrees (unheld z) (s (Element x js)) (w (Element (f x) js))) a.bond (below (Element x js)))
+      element js = subst (λ (y : List ℕ). w (Element y js) ≡ s (Element x js)) a.name (subst (λ (z : Bond). Agrees (Element x js) (unheld z) (s (Element x js)) (w (Element (f x) js))) a.bond (below (Element x js)))
 
       values_at : (d : Dimensions) → values_of d x w ≡ values_of d x s
       values_at d = λ i. if has_some d.lower then map (λ js. number_in (element js i)) (elements_of d) else number_in (scalar i) ∷ []
@@ -125,8 +125,15 @@ module _ (us : ProgramUnits) (a : StandAlike us) where
   abbrev inner : Called → Given → Expanded Given
   inner = call_expanded depth us (constants_of us.main)
 
+  abbrev R : Store → Store → Type 0
+  R = IsBelow (bond_of a.bond) (named_cell a.name)
+
+  -- the ending of the expansion under the numbers of the units
+  abbrev renumbered_ending : List ℕ → Ending
+  renumbered_ending data_bytes = (run_all q (expansion us).body 1 [] (store_at_start (lines data_bytes))).ending
+
   -- the units and their expansion, under the numbers of the units, end alike
-  units_follow : (data_bytes : List ℕ) → EndsAlike (IsBelow (bond_of a.bond) (named_cell a.name)) (run_units us data_bytes).ending (run_all q (expansion us).body 1 [] (store_at_start (lines data_bytes))).ending
+  units_follow : (data_bytes : List ℕ) → RunAlike R (run_units us data_bytes) (renumbered_ending data_bytes)
   units_follow data_bytes =
       statements_follow a.bond a.name a.twice q [] (call_size depth us) inner (Holds us a.name q depth a.bond [] (main_instance us) (constants_of us.main)) (call_run depth us) (main_instance us)
       (calls_follow us a.name q a.twice depth a.bond [] (main_instance us) (constants_of us.main))
@@ -134,15 +141,41 @@ module _ (us : ProgramUnits) (a : StandAlike us) where
       (record { turns = refl; index = λ x. refl; cell = λ x. refl }) (record { index = λ y h. refl; cell = λ y h. refl })
       (store_at_start (lines data_bytes)) (store_at_start (lines data_bytes)) (start_below a.bond a.name a.unknown (lines data_bytes))
 
+  -- where no undefined variable of a CALL's own is read last, they end alike
+  ends_alike : (data_bytes : List ℕ) → (FaultsInOwn (run_units us data_bytes) → ⊥) → EndsAlike R (run_units us data_bytes).ending (renumbered_ending data_bytes)
+  ends_alike data_bytes none = go (units_follow data_bytes)
+    where
+      go : RunAlike R (run_units us data_bytes) (renumbered_ending data_bytes) → EndsAlike R (run_units us data_bytes).ending (renumbered_ending data_bytes)
+      go (inl h) = h
+      go (inr own) = absurd (none own)
+
+  -- the expansion under its own numbers
+  abbrev Same : List ℕ → Type 0
+  Same data_bytes = EndsAs a.number (renumbered_ending data_bytes) (run_of (expansion us) data_bytes).ending
+
+  same_ending : (data_bytes : List ℕ) → Same data_bytes
+  same_ending data_bytes = (program_renumbered a.number (expanded_number us) a.told (setting_of (expansion us)) (expansion us) (lines data_bytes)).ending
+
   -- where the run of the units ends, the expansion has the same outcome
   pub outcomes_alike : (data_bytes : List ℕ) → Ends (run_units us data_bytes).ending → outcome (expansion us) data_bytes ≡ outcome_of_units us data_bytes
   outcomes_alike data_bytes ends =
       let units : Ending = (run_units us data_bytes).ending in
-      let here : Ending = (run_all q (expansion us).body 1 [] (store_at_start (lines data_bytes))).ending in
+      let here : Ending = renumbered_ending data_bytes in
       let there : Ending = (run_of (expansion us) data_bytes).ending in
-      let follows : EndsAlike (IsBelow (bond_of a.bond) (named_cell a.name)) units here = units_follow data_bytes in
-      let same : EndsAs a.number here there = (program_renumbered a.number a.back a.told (setting_of (expansion us)) (expansion us) (lines data_bytes)).ending in
+      let follows : EndsAlike R units here = ends_alike data_bytes (λ own. subst Ends own.ending ends) in
+      let same : EndsAs a.number here there = same_ending data_bytes in
       let ended : Ends here = other_ends a.bond a.name units here follows ends in
-      let finished : Ends there = ends_back a.number a.back a.told here there same ended in
+      let finished : Ends there = ends_back a.number (expanded_number us) a.told here there same ended in
       sym (outcome_renumbered a.number (expansion us) here there same finished)
       ∙ outcome_alike a.bond a.name (for_names us.main) (expansion us) a.live a.rows units here follows ends
+
+  -- where it faults, so does the expansion, but for an undefined variable of a CALL's own
+  pub faults_alike : (data_bytes : List ℕ) (fault statement : ℕ) → (run_units us data_bytes).ending ≡ failed fault statement → (FaultsInOwn (run_units us data_bytes) → ⊥) → outcome (expansion us) data_bytes ≡ Fault fault (expanded_number us statement)
+  faults_alike data_bytes fault statement fails none =
+      let here : renumbered_ending data_bytes ≡ failed fault statement = subst (λ (e : Ending). EndsAlike R e (renumbered_ending data_bytes)) fails (ends_alike data_bytes none) in
+      go (run_of (expansion us) data_bytes).ending (subst (λ (e : Ending). EndsAs a.number e (run_of (expansion us) data_bytes).ending) here (same_ending data_bytes))
+    where
+      go : (there : Ending) → EndsAs a.number (failed fault statement) there → outcome_of (expansion us) there ≡ Fault fault (expanded_number us statement)
+      go (going s) h = absurd h
+      go (stopped s) h = absurd h
+      go (failed other old) h = λ i. Fault (sym h.0 i) ((sym (a.told.back old) ∙ ap (expanded_number us) (sym h.1)) i)

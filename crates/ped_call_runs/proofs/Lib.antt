@@ -1,4 +1,5 @@
 mod EachNames
+mod EachElements
 mod FollowingValues
 mod FollowingStores
 mod FollowingEndings
@@ -34,10 +35,12 @@ mod FirstBonds
 mod WrittenNames
 mod ConstantValues
 mod UnitNames
+mod UnitArrays
 mod NamesThere
 mod SuitedUnits
 mod Contexts
 mod ArgumentsStand
 mod CalledContexts
 mod Walks
+mod LeftOut
 mod UnitsStand

@@ -1,5 +1,5 @@
 -- Names of CALLs' own are different, where the numbers of the CALLs are.
-use Rattle.std.proofs.Common.{◌≡◌, ℕ, ◌+◌, ◌≤◌, ◌<◌, List, [], ◌∷◌, ◌++◌, Bool, true, false, ◌&&◌, ◌||◌, eqb, eqb-true, refl, ap, ◌∙◌, arith}
+use Rattle.std.proofs.Common.{◌≡◌, ℕ, ◌≤◌, ◌<◌, List, [], ◌∷◌, ◌++◌, Bool, true, false, ◌&&◌, ◌||◌, eqb, eqb-true, refl, ap, ◌∙◌, arith}
 use Rattle.ped_base.specs.Lists.{is_same_text, is_among}
 use Rattle.ped_call_runs.specs.UnitRuns.{own}
 

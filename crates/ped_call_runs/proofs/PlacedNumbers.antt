@@ -1,5 +1,5 @@
 -- Where a piece stands in the whole trace: its number in the expansion leads to its number in the unit.
-use Rattle.std.proofs.Common.{◌≡◌, ℕ, ◌+◌, ◌≤◌, List, [], ◌++◌, length, refl, sym, ap, ◌∙◌, arith, append_assoc, append-nil}
+use Rattle.std.proofs.Common.{◌≡◌, ℕ, suc, ◌+◌, ◌≤◌, ◌<◌, List, [], ◌∷◌, ◌++◌, length, refl, sym, ap, ◌∙◌, arith, append_assoc, append-nil}
 use Rattle.ped_call_runs.proofs.RisingNumbers.{passed, number_past}
 use Rattle.ped_call_runs.proofs.Traces.{Trace}
 use Rattle.ped_call_runs.proofs.TraceNumbers.{Lie, lie_wider, lie_joined, length_joined, passed_joined, passed_all, passed_none, IsCounted}
@@ -73,6 +73,42 @@ placed_inside all n j count gaps p = record {
   number = let x = p.number in omega (arith, x);
   before = lie_wider 0 j 0 (j + 1) p.front (omega (arith)) (omega (arith)) p.before;
   later = lie_wider (j + (count + 1)) p.last (j + 1 + count) p.last p.behind (omega (arith)) (omega (arith)) p.later;
+}
+
+-- behind an argument that is no statement of the block
+pub placed_gap : (all : List ℕ) (n j count : ℕ) (gaps : List ℕ) → 0 < j → IsPlaced all n j count (j ∷ gaps) → IsPlaced all (n + 1) j count gaps
+placed_gap all n j count gaps less p = record {
+  front = p.front ++ j ∷ [];
+  behind = p.behind;
+  last = p.last;
+  whole = p.whole ∙ sym (append_assoc p.front (j ∷ []) (gaps ++ p.behind));
+  number = let x = p.number in let l = length_joined p.front (j ∷ []) in omega (arith, x, l);
+  before = lie_joined 0 j p.front (j ∷ []) p.before (less, omega (arith), tt);
+  later = p.later;
+}
+
+-- behind one that is
+pub placed_next : (all : List ℕ) (n j made more : ℕ) (gaps : List ℕ) → IsPlaced all n j (suc made + more) gaps → IsPlaced all (n + 1) (j + 1) (made + more) gaps
+placed_next all n j made more gaps p = record {
+  front = p.front;
+  behind = p.behind;
+  last = p.last;
+  whole = p.whole;
+  number = let x = p.number in omega (arith, x);
+  before = lie_wider 0 j 0 (j + 1) p.front (omega (arith)) (omega (arith)) p.before;
+  later = lie_wider (j + (suc made + more)) p.last (j + 1 + (made + more)) p.last p.behind (omega (arith)) (omega (arith)) p.later;
+}
+
+-- the arguments in the block of a CALL, whose first statement is the comment
+pub placed_arguments : (all : List ℕ) (n j count : ℕ) (gaps : List ℕ) → IsPlaced all n j (count + 1) gaps → IsPlaced all (n + 1) (j + 1 + 0) count gaps
+placed_arguments all n j count gaps p = record {
+  front = p.front;
+  behind = p.behind;
+  last = p.last;
+  whole = p.whole;
+  number = let x = p.number in omega (arith, x);
+  before = lie_wider 0 j 0 (j + 1 + 0) p.front (omega (arith)) (omega (arith)) p.before;
+  later = lie_wider (j + (count + 1)) p.last (j + 1 + 0 + count) p.last p.behind (omega (arith)) (omega (arith)) p.later;
 }
 
 behind_arguments : (n j many made front gaps all : ℕ) → n ≡ j + front → many ≡ made + gaps → all ≡ front + gaps → n + 1 + many ≡ j + 1 + 0 + made + all

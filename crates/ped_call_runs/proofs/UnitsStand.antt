@@ -34,11 +34,12 @@ use Rattle.ped_call_runs.proofs.EachNames.{each_behind, each_of, of_each}
 use Rattle.ped_call_runs.proofs.FollowingStores.{is_bound}
 use Rattle.ped_call_runs.proofs.FollowingNames.{by_name}
 use Rattle.ped_call_runs.proofs.FollowingUnits.{IsLiveAlike, StandAlike}
-use Rattle.ped_call_runs.proofs.RisingNumbers.{number_past, past_told_back}
+use Rattle.ped_call_runs.proofs.RisingNumbers.{number_past}
+use Rattle.ped_call_runs.proofs.LeftOut.{left_out_gaps, expanded_back}
 use Rattle.ped_call_runs.proofs.SwappedNames.{swapped, AreApart, swapped_twice}
 use Rattle.ped_call_runs.proofs.GivenKept.{live_names_alike}
 use Rattle.ped_call_runs.proofs.GivenMore.{gives_same}
-use Rattle.ped_call_runs.proofs.ExpandedKinds.{all_given, constants_alike, undeclared, main_bounds, new_valued, scalar_bounds, local_bounds}
+use Rattle.ped_call_runs.proofs.ExpandedKinds.{all_given, constants_alike, undeclared, main_bounds, new_valued, local_bounds}
 use Rattle.ped_call_runs.proofs.EachCalls.{OfCall, EachCall, AllCalls, UnitFits, FitsAt, all_weaker}
 use Rattle.ped_call_runs.proofs.Traces.{Trace, call_traced, units_traced, first_bond}
 use Rattle.ped_call_runs.proofs.PlacedNumbers.{placed_number, placed_all}
@@ -51,7 +52,9 @@ use Rattle.ped_call_runs.proofs.FirstBonds.{first_unknown, first_tight}
 use Rattle.ped_call_runs.proofs.WrittenNames.{written_name, IsName, AreNames, in_stmts, DeclareNames, in_decls, declared_names, all_declared, in_declared}
 use Rattle.ped_call_runs.proofs.NamedPairs.{named_pairs, in_named, named_first, named_own, named_once, named_new}
 use Rattle.ped_call_runs.proofs.ConstantValues.{unreplaced}
+use Rattle.ped_call_runs.proofs.EachElements.{StmtsElements}
 use Rattle.ped_call_runs.proofs.UnitNames.{HasPlainNames, all_plain}
+use Rattle.ped_call_runs.proofs.UnitArrays.{IsArray, all_arrays}
 use Rattle.ped_call_runs.proofs.NamesThere.{body_named}
 use Rattle.ped_call_runs.proofs.SuitedUnits.{Reads, CallSuits, OrCallSuits, Suits, AllSuit, unit_suits}
 use Rattle.ped_call_runs.proofs.Contexts.{Context, Telling}
@@ -135,6 +138,9 @@ module _ (text : List ℕ) (us : ProgramUnits) (reads : ReadsLinkedUnits text us
 
   plain : (u : ProgramUnit) → IsIn u (all_units us) → HasPlainNames u
   plain = all_plain (all_units us) reads.right.names
+
+  arrays : (u : ProgramUnit) → IsIn u (all_units us) → StmtsElements (IsArray u) u.tree.body
+  arrays = all_arrays (all_units us) reads.right.names
 
   abbrev depth : ℕ
   depth = length us.others
@@ -221,7 +227,6 @@ module _ (text : List ℕ) (us : ProgramUnits) (reads : ReadsLinkedUnits text us
     paired = λ x y h. pair_swapped x y pairs apart h;
     number = λ n j s c t p k. placed_number trace.gaps n j s c t p k;
     valued = λ g h b l n is. new_valued us none names g h b l n is;
-    scalar = λ g h b l n is same. scalar_bounds us none names g h b l n is same;
     local = λ g h b l n is t x same. local_bounds us none names g h b l n is t x same;
   }
 
@@ -240,8 +245,11 @@ module _ (text : List ℕ) (us : ProgramUnits) (reads : ReadsLinkedUnits text us
     constants = refl;
     reads = λ x r w.
         let same : f x ≡ x = stays x (read_taken x r) (written_name x (w x refl)) in
-        by_name x refl (ap Var (sym same)) (ap (value_named q.constants) same ∙ same_value x) (ap q.bounds same ∙ main_bounds us none names x (read_taken x r)) (ap is_bound (first_tight pairs x (written_name x (w x refl))));
+        by_name x refl (ap Var (sym same)) (ap (value_named q.constants) same ∙ same_value x) (ap is_bound (first_tight pairs x (written_name x (w x refl))));
     old = λ x r w y e m z from. written_name y (w y e) m z;
+    arrays = λ x r h w.
+        let same : f x ≡ x = stays x (read_taken x r) (written_name x (w x refl)) in
+        record { name = x; left = refl; right = ap Var (sym same); bounds = ap q.bounds same ∙ main_bounds us none names x (read_taken x r); bound = ap is_bound (first_tight pairs x (written_name x (w x refl))) };
     writes = λ x r w.
         let same : f x ≡ x = stays x (read_taken x r.reads) (written_name x (w x refl)) in
         record { name = x; left = refl; right = ap Var (sym same); bounds = ap q.bounds same ∙ main_bounds us none names x (read_taken x r.reads); bound = ap is_bound (first_tight pairs x (written_name x (w x refl))) };
@@ -285,11 +293,10 @@ module _ (text : List ℕ) (us : ProgramUnits) (reads : ReadsLinkedUnits text us
     bond = first_bond pairs;
     unknown = first_unknown pairs;
     number = number_past trace.gaps;
-    back = (past_told_back trace.gaps).0;
-    told = (past_told_back trace.gaps).1;
-    statements = all_stand us pairs trace.gaps top f q facts plain depth us.main 1 (first_bond pairs) [] (main_instance us) context (constants_of us.main)
-        (calls_stand us pairs trace.gaps top f q facts plain depth us.main 1 (first_bond pairs) [] (main_instance us) context (constants_of us.main) telling)
-        body 1 1 before (omega (arith)) (unit_suits us reads.linked us.main (inl refl) (plain us.main (inl refl))) fit (record {
+    told = record { back = λ m. expanded_back us trace.gaps (left_out_gaps us plain fit) m };
+    statements = all_stand us pairs trace.gaps top f q facts plain arrays depth us.main 1 (first_bond pairs) [] (main_instance us) context (constants_of us.main)
+        (calls_stand us pairs trace.gaps top f q facts plain arrays depth us.main 1 (first_bond pairs) [] (main_instance us) context (constants_of us.main) telling)
+        body 1 1 before (omega (arith)) (unit_suits us reads.linked us.main (inl refl) (plain us.main (inl refl))) (arrays us.main (inl refl)) fit (record {
           placed = placed_all (statements_count (expansion us).body) trace;
           within = record { inside = λ x y is h. in_named x y trace.pairs is h; only = λ m x from to h. named_first (own m x) trace.pairs h };
           names = written;

@@ -1,3 +1,4 @@
 pub use Rattle.ped_calls
 pub use Rattle.ped_steps
 pub mod UnitRuns
+pub mod UnitFaults

@@ -5,11 +5,20 @@ ghost use Rattle.ped_calls.specs.ped_valid.specs.ped_symbols.specs.NameRefusals.
 ghost use Rattle.ped_calls.specs.ped_units.specs.Units.{ProgramUnits};
 ghost use Rattle.ped_calls.specs.ped_units.specs.Expanding.{expansion};
 ghost use Rattle.ped_calls.specs.ped_units.specs.Verdicts.{ReadsLinkedUnits};
-ghost use Rattle.ped_steps.specs.ped_eval.specs.Outcomes.{Ends, outcome};
+ghost use Rattle.ped_steps.specs.ped_eval.specs.Runs.{failed};
+ghost use Rattle.ped_steps.specs.ped_eval.specs.Outcomes.{Ends, Fault, outcome};
 ghost use Rattle.ped_call_runs.specs.UnitRuns.{run_units, outcome_of_units};
+ghost use Rattle.ped_call_runs.specs.UnitFaults.{FaultsInOwn, expanded_number};
 
 /// Where the run of program units ends without a fault, the program that they expand to has the same outcome on the same
 /// data: it prints the same lines, and its live-out variables hold the same.
 pub fn expansions_run_alike()
     ensures { (text : List ℕ) (us : ProgramUnits) (data_bytes : List ℕ) → ReadsLinkedUnits text us → IsValid (expansion us) → Ends (run_units us data_bytes).ending → outcome (expansion us) data_bytes ≡ outcome_of_units us data_bytes }
+{}
+
+/// Where the run of program units meets a fault, the program that they expand to meets the same fault on the same data, at
+/// what the statement has become. One fault is left out: a variable that a CALL has of its own is read while it is undefined.
+/// In the expansion it may hold what the CALL before has left in it.
+pub fn expansions_fault_alike()
+    ensures { (text : List ℕ) (us : ProgramUnits) (data_bytes : List ℕ) (fault statement : ℕ) → ReadsLinkedUnits text us → IsValid (expansion us) → (run_units us data_bytes).ending ≡ failed fault statement → (FaultsInOwn (run_units us data_bytes) → ⊥) → outcome (expansion us) data_bytes ≡ Fault fault (expanded_number us statement) }
 {}

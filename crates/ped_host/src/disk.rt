@@ -1,7 +1,6 @@
 //! The machine's files.
 
 ghost use Rattle.std.specs.Prelude.{◌≡◌, ◌≤◌, IfOk, None, [], length};
-ghost use Rattle.ped_io.specs.Outside.{Rose};
 
 use crate::log::Log;
 use ped_io::{OutsideFault, Shelf};
@@ -11,13 +10,12 @@ use std::rt::Files;
 use std::{fs, io};
 
 /// The machine's files by their paths. One file at a time stays open, so that it is read on where the
-/// last read ended. What each read gave is noted. Faults are counted for all names together.
+/// last read ended. Each read is noted: its name, and what it gave or that it failed.
 #[derive(Drop)]
 pub struct DiskShelf<'a, R: Files> {
     files: &'a R,
     alloc: Global,
     open: Option<OpenFile<R::File>>,
-    faults: u64,
     log: Log,
 }
 
@@ -29,16 +27,14 @@ struct OpenFile<F> {
 }
 
 impl<'a, R: Files> DiskShelf<'a, R> {
-    /// The machine's files, with no fault counted and nothing read.
+    /// The machine's files, of which nothing was read.
     pub fn new(alloc: Global, files: &'a R) -> Self
-        ensures none { result.faults ≡ 0 }
-        ensures log { result.log.events ≡ [] }
+        ensures { result.log.events ≡ [] }
     {
         DiskShelf {
             files,
             alloc,
             open: None,
-            faults: 0,
             log: Log::new(),
         }
     }
@@ -47,7 +43,6 @@ impl<'a, R: Files> DiskShelf<'a, R> {
     /// place that is.
     fn read_on(&mut self, name: &str, at: u64, piece: &mut [u8]) -> io::Result<usize>
         ensures within { IfOk result (λ n. n ≤ length piece.old) }
-        ensures faults { self.new.faults ≡ self.old.faults }
         ensures log { self.new.log ≡ self.old.log }
     {
         let kept = String::from_str(self.alloc, name)?;
@@ -78,13 +73,15 @@ fn open_at<R: Files>(files: &R, name: &str, at: u64) -> io::Result<R::File> {
 
 impl<R: Files> Shelf for DiskShelf<'_, R> {
     ghost use Rattle.std.proofs.lemmas.Option.{none-some};
-    ghost use Rattle.ped_host.specs.Reads.{MayHold};
+    ghost use Rattle.ped_host.specs.Reads.{MayHold, names_of, failures};
 
     ghost told = { λ _. None };
 
     ghost may_hold = { λ s files. MayHold files s.log.events };
 
-    ghost count = { λ s _. s.faults };
+    ghost count = { λ s name. failures s.log.events name };
+
+    ghost read_names = { λ s. names_of s.log.events };
 
     fn read_at(&mut self, name: &str, at: u64, piece: &mut [u8]) -> Result<usize, OutsideFault> {
         let room = piece.len() as u64;
@@ -93,9 +90,12 @@ impl<R: Files> Shelf for DiskShelf<'_, R> {
                 self.log.note(name.as_bytes(), &[at, room], &piece[..n]);
                 Ok(n)
             }
-            Err(e) if e.kind() == io::ErrorKind::OutOfMemory => Err(OutsideFault::NoMemory),
+            Err(e) if e.kind() == io::ErrorKind::OutOfMemory => {
+                self.log.note(name.as_bytes(), &[at], &[]);
+                Err(OutsideFault::NoMemory)
+            }
             Err(_) => {
-                self.faults = self.faults.saturating_add(1);
+                self.log.note(name.as_bytes(), &[], &[]);
                 Err(OutsideFault::Failed)
             }
         }

@@ -1,11 +1,16 @@
 -- What stands outside: files by name, the bytes that a read gives, and counts of faults (this project).
-use Rattle.std.specs.Prelude.{◌≡◌, ◌⊎◌, ◌<◌, ◌≤◌, ℕ, List, Option, IsSome, length, take, drop, find, option_map}
+use Rattle.std.specs.Prelude.{◌≡◌, ◌⊎◌, ◌<◌, ◌≤◌, ◌++◌, ℕ, List, Option, IsSome, length, take, drop, find, option_map}
+use Rattle.std.specs.List.{AllByRecursion}
 use Rattle.std.specs.Option.{option_or}
 use Rattle.ped_base.specs.Lists.{is_same_text}
 
 -- a count of faults has risen, or it stands at the greatest number that 64 bits hold and can't rise
 abbrev pub Rose : ℕ → ℕ → Type 0
 Rose before now = (before < now) ⊎ (now ≡ 18446744073709551615)
+
+-- a list of names, the newest first, has grown by such names alone
+abbrev pub AddsOnly : (List ℕ → Type 0) → List (List ℕ) → List (List ℕ) → Type 0
+AddsOnly IsSuch before after = (since : List (List ℕ)) × (after ≡ since ++ before) × AllByRecursion IsSuch since
 
 -- the files that a shelf tells: names with contents, and what every other name holds, if anything
 pub record Contents : Type 0 where

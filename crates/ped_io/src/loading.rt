@@ -1,7 +1,7 @@
 //! Files that are read whole.
 
 ghost use Rattle.std.specs.Prelude.{◌≡◌, ◌≢◌, ◌<◌, ◌≤◌, ℕ, List, Some, length, IfOk, IsErrOf};
-ghost use Rattle.ped_io.specs.Outside.{Contents, content, IsHeld, Rose};
+ghost use Rattle.ped_io.specs.Outside.{Contents, content, AddsOnly, IsHeld, Rose};
 ghost use Rattle.ped_io.specs.declared.loading.LoadError.TheVariants.{NoMemory};
 
 use crate::outside::{OutsideFault, Shelf};
@@ -55,7 +55,7 @@ impl From<OutsideFault> for LoadError {
 /// Reads a whole file of at most `limit` bytes, in pieces of 4096 bytes. The bytes are the whole content of the name, and
 /// `TooLong` comes only where that is longer than `limit`: so it is in all files that the shelf may hold by what the reads
 /// gave, of which those that it tells are one. `ReadFault` comes only where the count of the name's faults rose. What the
-/// shelf tells stays, and so do the counts of other files it tells.
+/// shelf tells stays, and so do the counts of other files it tells. It notes reads of this name alone.
 pub fn load<F: Shelf>(
     alloc: Global,
     shelf: &mut F,
@@ -78,6 +78,7 @@ pub fn load<F: Shelf>(
     ensures others { (files : Contents) → F.told shelf.old ≡ Some files →
         (m : List ℕ) → m ≢ name.now → IsHeld files m → F.count shelf.new m ≡ F.count shelf.old m }
     ensures same { F.told shelf.new ≡ F.told shelf.old }
+    ensures names { AddsOnly (λ m. m ≡ name.now) (F.read_names shelf.old) (F.read_names shelf.new) }
 {
     let mut loaded = Bytes::new(alloc);
     let mut piece = [0; 4096];

@@ -63,7 +63,7 @@ impl MemShelf {
 }
 
 impl Shelf for MemShelf {
-    ghost use Rattle.std.specs.Prelude.{◌≡◌, Some};
+    ghost use Rattle.std.specs.Prelude.{◌≡◌, [], Some};
     ghost use Rattle.ped_io.specs.Shelves.{told_of, count_of};
 
     ghost told = { λ shelf. Some (told_of shelf) };
@@ -73,6 +73,8 @@ impl Shelf for MemShelf {
     ghost told_held = { λ s files told. told };
 
     ghost count = { count_of };
+
+    ghost read_names = { λ _. [] };
 
     fn read_at(&mut self, name: &str, at: u64, piece: &mut [u8]) -> Result<usize, OutsideFault>
         // The exact behaviour: a call fails by its number or for want of the file, and only so.

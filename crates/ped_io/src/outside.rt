@@ -1,7 +1,7 @@
 //! What the program asks of the outside: to read files by name and to take bytes.
 
 ghost use Rattle.std.specs.Prelude.{◌≡◌, ◌≢◌, ◌≤◌, ◌++◌, ℕ, List, Option, Some, length, take, option_map, IfOk, OnErr, IsErrOf};
-ghost use Rattle.ped_io.specs.Outside.{Contents, content, IsHeld, GivesPart, Rose};
+ghost use Rattle.ped_io.specs.Outside.{Contents, content, AddsOnly, IsHeld, GivesPart, Rose};
 
 use ped_base::NoMemory;
 use thiserror::Error;
@@ -39,6 +39,9 @@ pub trait Shelf {
     /// How many faults the reads of a name have met.
     ghost count: { Self → List ℕ → ℕ };
 
+    /// The names of which reads were asked, the newest first, as far as the shelf notes them.
+    ghost read_names: { Self → List (List ℕ) };
+
     /// Reads bytes of a file from `at` on into the piece's front, and answers how many. No byte is
     /// given only where the piece has no room or the file has no byte there.
     fn read_at(&mut self, name: &str, at: u64, piece: &mut [u8]) -> Result<usize, OutsideFault>
@@ -57,7 +60,10 @@ pub trait Shelf {
         ensures counts { (m : List ℕ) → count self.old m ≤ count self.new m }
         ensures others { (files : Contents) → told self.old ≡ Some files →
             (m : List ℕ) → m ≢ name.now → IsHeld files m → count self.new m ≡ count self.old m }
-        ensures same { told self.new ≡ told self.old };
+        ensures same { told self.new ≡ told self.old }
+
+        // No other name is noted.
+        ensures names { AddsOnly (λ m. m ≡ name.now) (read_names self.old) (read_names self.new) };
 
     /// The files that are told may be held.
     ghost told_held: { (s : Self) (files : Contents) → told s ≡ Some files → may_hold s files };

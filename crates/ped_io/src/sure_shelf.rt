@@ -34,7 +34,7 @@ impl SureShelf {
 }
 
 impl Shelf for SureShelf {
-    ghost use Rattle.std.specs.Prelude.{◌≡◌, Some};
+    ghost use Rattle.std.specs.Prelude.{◌≡◌, [], Some};
     ghost use Rattle.ped_io.specs.Shelves.{all_names};
 
     ghost told = { λ files. Some (all_names files) };
@@ -44,6 +44,8 @@ impl Shelf for SureShelf {
     ghost told_held = { λ s files told. told };
 
     ghost count = { λ _ _. 0 };
+
+    ghost read_names = { λ _. [] };
 
     fn read_at(&mut self, name: &str, at: u64, piece: &mut [u8]) -> Result<usize, OutsideFault>
         // The exact behaviour.

@@ -3,6 +3,7 @@ use Rattle.std.proofs.lemmas.List.{length-take, take_all}
 use Rattle.std.proofs.lemmas.Option.{same_Some}
 use Rattle.std.proofs.Math.Seq.{take-add}
 use Rattle.ped_io.specs.Outside.{Contents, content, GivesPart}
+use Rattle.ped_io.proofs.Names.{adds_more}
 use Rattle.ped_io.proofs.loading.load.Goals as goal
 
 -- a read gives part of the one content that the name has
@@ -63,4 +64,18 @@ loop-loaded-preserved g c =
       others = λ files told m other held.
           now.others files (before.same ∙ told) m other held ∙ before.others files told m other held;
       same = now.same ∙ before.same;
+      names = adds_more _ _ _ _ before.names now.names;
     }
+
+pub returns-in_err-n-clause-names : goal.returns-in_err-n-clause-names
+returns-in_err-n-clause-names g c = adds_more _ _ _ _ c.loop-loaded.invariant.names c.read_at.ensures.names
+
+pub returns-then-n-eq0-clause-names : goal.returns-then-n-eq0-clause-names
+returns-then-n-eq0-clause-names g c = adds_more _ _ _ _ c.loop-loaded.invariant.names c.read_at.ensures.names
+
+pub returns-then-limit-at-clause-names : goal.returns-then-limit-at-clause-names
+returns-then-limit-at-clause-names g c = adds_more _ _ _ _ c.loop-loaded.invariant.names c.read_at.ensures.names
+
+pub returns-in_err-extend_from_slice-clause-names :
+    goal.returns-in_err-extend_from_slice-clause-names
+returns-in_err-extend_from_slice-clause-names g c = adds_more _ _ _ _ c.loop-loaded.invariant.names c.read_at.ensures.names

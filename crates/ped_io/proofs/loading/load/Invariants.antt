@@ -1,5 +1,5 @@
 use Rattle.std.proofs.Common.{◌≡◌, ◌≢◌, ◌-◌, ◌≤◌, ℕ, List, Some, length, take}
-use Rattle.ped_io.specs.Outside.{Contents, content, IsHeld}
+use Rattle.ped_io.specs.Outside.{Contents, content, AddsOnly, IsHeld}
 use Rattle.ped_io.proofs.loading.load.Given as goal
 
 abbrev pub invariant-loop-loaded : goal.invariant-loop-loaded
@@ -17,6 +17,7 @@ invariant-loop-loaded g l = record {
       (m : List ℕ) → m ≢ l.name → IsHeld files m →
       g.F.Shelf.count l.shelf m ≡ g.F.Shelf.count l.initial.shelf m;
   same : g.F.Shelf.told l.shelf ≡ g.F.Shelf.told l.initial.shelf;
+  names : AddsOnly (λ m. m ≡ l.name) (g.F.Shelf.read_names l.initial.shelf) (g.F.Shelf.read_names l.shelf);
 }
 
 abbrev pub decreases-loop-loaded : goal.decreases-loop-loaded

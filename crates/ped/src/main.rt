@@ -4,10 +4,10 @@
 
 ghost use Rattle.std.specs.Prelude.{◌≡◌, ◌<◌, ◌++◌, ℕ, List, map, string_bytes};
 ghost use Rattle.ped_host.specs.Events.{bytes_of};
-ghost use Rattle.ped_host.specs.Reads.{MayHold};
-ghost use Rattle.ped_answer.specs.ped_io.specs.Outside.{Contents, Rose};
+ghost use Rattle.ped_host.specs.Reads.{MayHold, names_of, failures};
+ghost use Rattle.ped_answer.specs.ped_io.specs.Outside.{Contents, AddsOnly, Rose};
 ghost use Rattle.ped_answer.specs.ped_words.specs.Requests.{request_of};
-ghost use Rattle.ped_answer.specs.Answer.{inputs_of, AgreeOn, HasRead, IsWhole, MayAnswer, Sends};
+ghost use Rattle.ped_answer.specs.Answer.{inputs_of, IsOneOf, AgreeOn, HasRead, IsWhole, MayAnswer, Sends};
 ghost use Rattle.ped_answer.specs.Headline.{IsHeadline};
 ghost use Rattle.ped_answer.specs.TestCounts.{Tests, Ticks};
 
@@ -54,11 +54,20 @@ fn answered<L: Ledger, R: Files + Print>(
     steps: &mut Steps<L>,
 ) -> Status
     // The bytes written and the status are those of the answer, unless a read, a write or the memory kept it from being
-    // written whole. Faults of reads are counted for all names together: so the line of status 3 may name a file of the words
-    // before the one that failed.
+    // written whole. The line of status 3 names a file of which a read has failed, and those before it in the words were read.
     ensures answer { (files : Contents) → MayHold files shelf.new.log.events →
-        Sends (MayAnswer (request_of (map string_bytes words.now)) files (λ name. Rose shelf.old.faults shelf.new.faults))
+        Sends (MayAnswer (request_of (map string_bytes words.now)) files
+        (λ name. Rose (failures shelf.old.log.events name) (failures shelf.new.log.events name)))
         (Rose out.old.faults out.new.faults) (bytes_of out.old.log.events) (bytes_of out.new.log.events) result }
+
+    // Whatever the files hold, status 3 comes only where a read of a file of the words has failed.
+    ensures read_fault { result ≡ Status.ReadFault →
+        (name : List ℕ) × IsOneOf (inputs_of (request_of (map string_bytes words.now))) name
+        × Rose (failures shelf.old.log.events name) (failures shelf.new.log.events name) }
+
+    // Each read was of a file of the words, whatever came of it.
+    ensures names { AddsOnly (IsOneOf (inputs_of (request_of (map string_bytes words.now))))
+        (names_of shelf.old.log.events) (names_of shelf.new.log.events) }
 
     // Where the status is 0, 1 or 5, all such files hold the same under the names of the words.
     ensures known { HasRead result → (files others : Contents) → MayHold files shelf.new.log.events →

@@ -7,13 +7,19 @@ use Rattle.ped_session.specs.ped_tree.specs.Tree.{ProgramTree, StmtTree}
 use Rattle.ped_session.specs.ped_tree.specs.Printing.{program_text}
 use Rattle.ped_session.specs.ped_tree.specs.Numbering.{statement_with}
 use Rattle.ped_session.specs.ped_symbols.specs.NameRefusals.{IsValid}
-use Rattle.ped_session.specs.ped_graph.specs.ped_edges.specs.Edges.{Edge}
-use Rattle.ped_session.specs.ped_graph.specs.Dependences.{AreEdges}
+use Rattle.ped_session.specs.ped_graph.specs.ped_views.specs.declared.directions.Direction.{Direction}
+use Rattle.ped_session.specs.ped_graph.specs.ped_refs.specs.References.{Reference, references, outermost}
+use Rattle.ped_session.specs.ped_graph.specs.ped_edges.specs.Edges.{Edge, proven}
+use Rattle.ped_session.specs.ped_graph.specs.Dependences.{AreEdges, place_of}
 use Rattle.ped_session.specs.ped_graph.specs.DependencePane.{extent_of, is_in, edges_of, IsDependencePane, IsDependencePaneOf}
+use Rattle.ped_session.specs.ped_order.specs.ped_store.specs.Stores.{Store}
 use Rattle.ped_session.specs.ped_order.specs.ped_store.specs.Races.{Access, conflict, race}
+use Rattle.ped_session.specs.ped_order.specs.ped_eval.specs.Runs.{going}
+use Rattle.ped_session.specs.ped_order.specs.ped_eval.specs.Outcomes.{run_of}
 use Rattle.ped_session.specs.ped_order.specs.ped_laws.specs.Acts.Orders.{IsIn}
 use Rattle.ped_session.specs.ped_order.specs.ped_laws.specs.Conflicts.Directions.{share_a_loop}
 use Rattle.ped_session.specs.ped_order.specs.ped_laws.specs.Conflicts.Covered.{ComeInRun, IsCovered, IsCarriedInParallel}
+use Rattle.ped_rows.specs.Occurring.{IsUncopied, IsLeft, Occurs}
 use Rattle.ped_session.specs.ped_transformations.specs.ped_inline.specs.CallsPane.{IsCallsPane}
 use Rattle.ped_session.specs.ped_transformations.specs.ped_inline.specs.CoveredCalls.{is_in_block, AreInOneCall, IsCoveredFolded}
 use Rattle.ped_session.specs.ped_transformations.specs.ped_script.specs.Items.{commands_of}
@@ -23,8 +29,9 @@ use Rattle.ped_session.specs.ped_transformations.specs.ped_script.specs.declared
 use Rattle.ped_session.specs.Panes.{ArePanes}
 use Rattle.ped_session.specs.States.{State, opened}
 use Rattle.ped_session.specs.Scripts.{Said}
-use Rattle.ped_answer.specs.Covered.{CoverRuns, IsCoveringPane, AreCoveringPanes, touches, CoverRunsAt, IsCoveringPaneOf, IsCoveringCalls}
+use Rattle.ped_answer.specs.Covered.{OccursOnceLeft, CoverRuns, IsCoveringPane, AreCoveringPanes, touches, CoverRunsAt, IsCoveringPaneOf, HasRow, IsCoveringCalls}
 use Rattle.ped_answer.specs.Headline.{AnswersEach, EachItem, Afresh, IsOfStatement, ShowsAfresh, PanesRequest, Covers, CoveredRequest}
+use Rattle.ped_answer.proofs.LoopAccesses.{so_or_by_loop}
 
 -- dependences cover conflicts
 abbrev pub ConflictsCovered : Type 0
@@ -41,16 +48,36 @@ abbrev pub CallsCovered : Type 0
 CallsCovered = (t : ProgramTree) (data_bytes : List ℕ) (a b : Access) (edges : List Edge) → IsValid t → ComeInRun t data_bytes a b → conflict a b ≡ true → 0 < a.reference → 0 < b.reference
     → share_a_loop a.place.turns b.place.turns ≡ true → AreEdges t edges → (is_in_block t a || is_in_block t b) ≡ true → (¬ AreInOneCall t a b) → IsCoveredFolded t edges a b
 
--- all three
+-- proven dependences occur where a run has left their outermost DO
+abbrev pub ProvenOccur : Type 0
+ProvenOccur = (t : ProgramTree) (data_bytes : List ℕ) (edges : List Edge) (e : Edge) (vector : List Direction) → IsValid t → AreEdges t edges → IsIn e edges → e.mark ≡ proven → IsIn vector e.vectors → IsUncopied t e
+    → ((r : Reference) → IsIn r (references t) → place_of r ≡ e.source → IsLeft t data_bytes (outermost r)) → Occurs t data_bytes e vector
+
+-- and where it ends by END
+abbrev pub ProvenOccurAtEnd : Type 0
+ProvenOccurAtEnd = (t : ProgramTree) (data_bytes : List ℕ) (edges : List Edge) (e : Edge) (vector : List Direction) (s : Store) → IsValid t → AreEdges t edges → IsIn e edges → e.mark ≡ proven → IsIn vector e.vectors → IsUncopied t e
+    → (run_of t data_bytes).ending ≡ going s → Occurs t data_bytes e vector
+
+-- all of these
 pub record Laws : Type 0 where
   pub conflicts : ConflictsCovered
   pub races : RacesCovered
   pub calls : CallsCovered
+  pub occur : ProvenOccur
+  pub occur_at_end : ProvenOccurAtEnd
+
+occurs : Laws → (t : ProgramTree) → IsValid t → (edges : List Edge) → AreEdges t edges → (e : Edge) → IsIn e edges → e.mark ≡ proven → OccursOnceLeft t e
+occurs laws t valid edges are e listed is = record {
+  left = λ d vector of uncopied left. laws.occur t d edges e vector valid are listed is of uncopied left;
+  ended = λ d vector s of uncopied ends. laws.occur_at_end t d edges e vector s valid are listed is of uncopied ends;
+}
 
 cover_runs : Laws → (t : ProgramTree) → IsValid t → (edges : List Edge) → AreEdges t edges → CoverRuns t edges
 cover_runs laws t valid edges are = record {
   conflicts = λ d a b m. laws.conflicts t d a b edges valid m.come m.conflicts m.first m.second m.share are;
+  all = λ d a b m. so_or_by_loop t d (IsCovered t edges a b) a b m.come (λ first second. laws.conflicts t d a b edges valid m.come m.conflicts first second m.share are);
   races = λ d a b m. laws.races t d a b edges valid m.come m.races are;
+  occur = occurs laws t valid edges are;
 }
 
 pane_covers : Laws → (t : ProgramTree) → IsValid t → (pane : List ℕ) → IsDependencePane t pane → IsCoveringPane t pane
@@ -75,6 +102,23 @@ in_filter p (y ∷ ys) x (inr i) h = by (in_filter p ys x i h) (p y) refl
     by more true q = subst (IsIn x) (sym (kept_first p y ys q)) (inr more)
     by more false q = subst (IsIn x) (sym (dropped_first p y ys q)) more
 
+left_or_first : {X : Type 0} (p : X → Bool) (y x : X) (ys : List X) → (IsIn x (filter p ys) → IsIn x ys) → IsIn x (y ∷ filter p ys) → IsIn x (y ∷ ys)
+left_or_first p y x ys rest (inl e) = inl e
+left_or_first p y x ys rest (inr j) = inr (rest j)
+
+-- an item that is left was there
+out_of_filter : {X : Type 0} (p : X → Bool) (xs : List X) (x : X) → IsIn x (filter p xs) → IsIn x xs
+out_of_filter p [] x i = absurd i
+out_of_filter p (y ∷ ys) x i = by (λ j. out_of_filter p ys x j) (p y) refl
+  where
+    by : (IsIn x (filter p ys) → IsIn x ys) → (b : Bool) → p y ≡ b → IsIn x (y ∷ ys)
+    by rest true q = left_or_first p y x ys rest (subst (IsIn x) (kept_first p y ys q) i)
+    by rest false q = inr (rest (subst (IsIn x) (dropped_first p y ys q) i))
+
+-- a dependence of the statement is one of all
+among_all : (t : ProgramTree) (number : ℕ) (edges : List Edge) (e : Edge) → IsIn e (edges_of t number edges) → IsIn e edges
+among_all t number edges e among = out_of_filter (λ (f : Edge). is_in number (extent_of t number) f.source.0 || is_in number (extent_of t number) f.sink.0) edges e among
+
 -- a dependence that touches the statement is among those of the statement
 among_rows : (t : ProgramTree) (number : ℕ) (edges : List Edge) (e : Edge) → IsIn e edges → (is_in number (extent_of t number) e.source.0 || is_in number (extent_of t number) e.sink.0) ≡ true → IsIn e (edges_of t number edges)
 among_rows t number edges e among is = in_filter (λ (f : Edge). is_in number (extent_of t number) f.source.0 || is_in number (extent_of t number) f.sink.0) edges e among is
@@ -85,19 +129,24 @@ touched : (t : ProgramTree) (number : ℕ) (e : Edge) (first second : ℕ) → e
 touched t number e first second source sink is =
     ap₂ (λ (m n : ℕ). is_in number (extent_of t number) m || is_in number (extent_of t number) n) source sink ∙ is
 
+-- what covers two accesses of which a statement makes one is among its dependences
+covered_at : (t : ProgramTree) (number : ℕ) (edges : List Edge) (a b : Access) → touches t number a b ≡ true → IsCovered t edges a b → IsCovered t (edges_of t number edges) a b
+covered_at t number edges a b is c = record {
+  edge = c.edge;
+  listed = among_rows t number edges c.edge c.listed (touched t number c.edge a.place.statement b.place.statement (ap (λ (p : ℕ × ℕ). p.0) c.source) (ap (λ (p : ℕ × ℕ). p.0) c.sink) is);
+  source = c.source;
+  sink = c.sink;
+  vector = c.vector;
+  contains = c.contains;
+  stands = c.stands;
+}
+
 rows_cover : Laws → (t : ProgramTree) → IsValid t → (number : ℕ) (edges : List Edge) → AreEdges t edges → CoverRunsAt t number (edges_of t number edges)
 rows_cover laws t valid number edges are = record {
-  conflicts = λ d a b m is.
-      let c = laws.conflicts t d a b edges valid m.come m.conflicts m.first m.second m.share are in
-      record {
-        edge = c.edge;
-        listed = among_rows t number edges c.edge c.listed (touched t number c.edge a.place.statement b.place.statement (ap (λ (p : ℕ × ℕ). p.0) c.source) (ap (λ (p : ℕ × ℕ). p.0) c.sink) is);
-        source = c.source;
-        sink = c.sink;
-        vector = c.vector;
-        contains = c.contains;
-        stands = c.stands;
-      };
+  conflicts = λ d a b m is. covered_at t number edges a b is (laws.conflicts t d a b edges valid m.come m.conflicts m.first m.second m.share are);
+  all = λ d a b m is.
+      so_or_by_loop t d (IsCovered t (edges_of t number edges) a b) a b m.come
+      (λ first second. covered_at t number edges a b is (laws.conflicts t d a b edges valid m.come m.conflicts first second m.share are));
   races = λ d a b m is.
       let c = laws.races t d a b edges valid m.come m.races are in
       record {
@@ -112,6 +161,7 @@ rows_cover laws t valid number edges are = record {
         carried = c.carried;
         parallel = c.parallel;
       };
+  occur = λ e listed. occurs laws t valid edges are e (among_all t number edges e listed);
 }
 
 pane_of_covers : Laws → (number : ℕ) (t : ProgramTree) → IsValid t → (pane : List ℕ) → IsDependencePaneOf t (Some number) pane → IsCoveringPaneOf number t pane
@@ -122,15 +172,19 @@ calls_cover laws t valid pane h =
     let edges = h.0 in
     let are = h.1 in
     let rows = h.2 in
-    let are_rows = h.3 in (
+    let are_rows = h.3 in
+    let has_row : (a b : Access) → IsCoveredFolded t edges a b → HasRow t edges rows a b = λ a b c. (c, are_rows.none_lost c.covered.edge c.covered.listed c.folded) in (
       edges,
       are,
       rows,
       are_rows,
       h.4,
-      λ d a b m in_block apart.
-          let c = laws.calls t d a b edges valid m.come m.conflicts m.first m.second m.share are in_block apart in
-          (c, are_rows.none_lost c.covered.edge c.covered.listed c.folded),
+      record {
+        conflicts = λ d a b m in_block apart. has_row a b (laws.calls t d a b edges valid m.come m.conflicts m.first m.second m.share are in_block apart);
+        all = λ d a b m in_block apart.
+            so_or_by_loop t d (HasRow t edges rows a b) a b m.come
+            (λ first second. has_row a b (laws.calls t d a b edges valid m.come m.conflicts first second m.share are in_block apart));
+      },
     )
 
 -- what comes of reading afresh is so of a valid program

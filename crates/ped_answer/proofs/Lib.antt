@@ -5,13 +5,17 @@ mod EachItems
 mod ExistenceLaws
 mod FreshPanes
 mod Inputs
+mod LoopAccesses
+mod LoopStores
 mod MadePrograms
+mod MadeRuns
 mod MadeScripts
 mod NoLists
 mod OneAnswer
 mod OneCount
 mod OneReport
 mod Outcomes
+mod ReadNames
 mod Reports
 mod SameEnds
 mod ScriptRuns

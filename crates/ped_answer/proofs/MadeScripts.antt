@@ -1,4 +1,4 @@
--- No line of a script that is made is `auto`.
+-- Each line of a script that is made is an `interchange` or a `parallel`, and none is `auto`.
 use Rattle.std.proofs.Common.{◌≡◌, ◌∙◌, refl, sym, ap, subst, ◌⊎◌, inl, inr, ℕ, zero, suc, ◌+◌, ◌*◌, ◌%◌, ◌-◌, ◌<◌, Bool, true, false, cond, List, [], ◌∷◌, ◌++◌, Option, Some, None, option_and_then, leb, codes, arith}
 use Rattle.std.specs.Prelude.{◌/◌, ◌==◌, if◌then◌else◌, nat_lt}
 use Rattle.std.specs.List.{AllByRecursion, list_all, flat_map, range_with_len}
@@ -41,9 +41,17 @@ pub decimal_printable : (n : ℕ) → list_all is_printable (decimal n) ≡ true
 unfolding digits
 decimal_printable n = onto_printable 64 n [] refl
 
--- words are one of both commands that are made, or none
+-- a command is one of both that are made, or none
+abbrev pub IsMadeCommand : Option Command → Type 0
+IsMadeCommand o = (o ≡ None) ⊎ ((k : ℕ) × (o ≡ Some (Interchange k))) ⊎ ((k : ℕ) × (o ≡ Some (Parallel k)))
+
+-- and so is the command of an item
+abbrev pub IsMadeItem : Item → Type 0
+IsMadeItem item = IsMadeCommand item.command
+
+-- words are such a command
 abbrev IsMade : List Text → Type 0
-IsMade words = (command_of words ≡ None) ⊎ ((k : ℕ) × (command_of words ≡ Some (Interchange k))) ⊎ ((k : ℕ) × (command_of words ≡ Some (Parallel k)))
+IsMade words = IsMadeCommand (command_of words)
 
 -- a row of one number gives its command or none
 one_number : (of : ℕ → Command) (words : List Text) → (number (λ s. done (of s)) words ≡ None) ⊎ ((k : ℕ) × (number (λ s. done (of s)) words ≡ Some (of k)))
@@ -117,27 +125,40 @@ not_interchange k is = cc
 not_parallel : (k : ℕ) → Some (Parallel k) ≡ Some Auto → ⊥
 not_parallel k is = cc
 
-made_command : (words following : List Text) → IsMade words → whole_command (command_of words) following ≡ Some Auto → ⊥
-made_command words following (inl e) is = not_none (ap (λ (o : Option Command). whole_command o following) (sym e) ∙ is)
-made_command words following (inr (inl (k, e))) is = not_interchange k (ap (λ (o : Option Command). whole_command o following) (sym e) ∙ is)
-made_command words following (inr (inr (k, e))) is = not_parallel k (ap (λ (o : Option Command). whole_command o following) (sym e) ∙ is)
+made_no_auto : (o : Option Command) → IsMadeCommand o → o ≡ Some Auto → ⊥
+made_no_auto o (inl e) is = not_none (sym e ∙ is)
+made_no_auto o (inr (inl (k, e))) is = not_interchange k (sym e ∙ is)
+made_no_auto o (inr (inr (k, e))) is = not_parallel k (sym e ∙ is)
 
-with_item : (n : ℕ) (words following : List Text) (items : List Item) → IsMade words → AllByRecursion IsNoAuto items → AllByRecursion IsNoAuto (item_at n words following ++ items)
+made_command : (words following : List Text) → IsMade words → IsMadeCommand (whole_command (command_of words) following)
+made_command words following (inl e) = inl (ap (λ (o : Option Command). whole_command o following) e)
+made_command words following (inr (inl (k, e))) = inr (inl (k, ap (λ (o : Option Command). whole_command o following) e))
+made_command words following (inr (inr (k, e))) = inr (inr (k, ap (λ (o : Option Command). whole_command o following) e))
+
+with_item : (n : ℕ) (words following : List Text) (items : List Item) → IsMade words → AllByRecursion IsMadeItem items → AllByRecursion IsMadeItem (item_at n words following ++ items)
 with_item n [] following items made all = all
 with_item n (w ∷ ws) following items made all = (made_command (w ∷ ws) following made, all)
 
-either : (b : Bool) (xs ys : List Item) → AllByRecursion IsNoAuto xs → AllByRecursion IsNoAuto ys → AllByRecursion IsNoAuto (if b then xs else ys)
+either : (b : Bool) (xs ys : List Item) → AllByRecursion IsMadeItem xs → AllByRecursion IsMadeItem ys → AllByRecursion IsMadeItem (if b then xs else ys)
 either true xs ys p q = p
 either false xs ys p q = q
 
-made_items : (n taken : ℕ) (ls : List Text) → AllByRecursion IsMadeLine ls → AllByRecursion IsNoAuto (items_from n taken ls)
+made_items : (n taken : ℕ) (ls : List Text) → AllByRecursion IsMadeLine ls → AllByRecursion IsMadeItem (items_from n taken ls)
 made_items n taken [] all = tt
 made_items n taken (l ∷ ls) all =
     let rest = items_from (n + 1) (taken_lines (command_of (words_of l)) ls) ls in
     either (nat_lt 0 taken) (items_from (n + 1) (taken - 1) ls) (item_at n (words_of l) ls ++ rest) (made_items (n + 1) (taken - 1) ls all.1)
     (with_item n (words_of l) ls rest all.0.made (made_items (n + 1) (taken_lines (command_of (words_of l)) ls) ls all.1))
 
--- no item of a script that is made is `auto`
-pub no_auto : (n : ℕ) → AllByRecursion IsNoAuto (commands_of (script n))
+-- each item of a script that is made has one of both commands, or none
+pub made_script : (n : ℕ) → AllByRecursion IsMadeItem (commands_of (script n))
 unfolding commands_of
-no_auto n = subst (λ (ls : List Text). AllByRecursion IsNoAuto (items_from 1 0 ls)) (sym (script_lines n)) (made_items 1 0 (flat_map commands (range_with_len 1 n)) (made_lines (range_with_len 1 n)))
+made_script n = subst (λ (ls : List Text). AllByRecursion IsMadeItem (items_from 1 0 ls)) (sym (script_lines n)) (made_items 1 0 (flat_map commands (range_with_len 1 n)) (made_lines (range_with_len 1 n)))
+
+none_auto : (items : List Item) → AllByRecursion IsMadeItem items → AllByRecursion IsNoAuto items
+none_auto [] all = tt
+none_auto (item ∷ items) all = (made_no_auto item.command all.0, none_auto items all.1)
+
+-- and none is `auto`
+pub no_auto : (n : ℕ) → AllByRecursion IsNoAuto (commands_of (script n))
+no_auto n = none_auto (commands_of (script n)) (made_script n)

@@ -12,6 +12,7 @@ use Rattle.ped_answer.specs.declared.answering.Status.{Status}
 use Rattle.ped_answer.specs.Answer.{IsWhole, Answers}
 use Rattle.ped_answer.specs.Headline.{AnswersEach, AgreesOnAllRuns, KeepsMeaning, RunsRequest}
 use Rattle.ped_answer.proofs.EachItems.{SoOfItems, session_items}
+use Rattle.ped_answer.proofs.MadeRuns.{Laws, generated_alike}
 
 -- whatever a script does, each transformation of the history keeps the meaning, and each `run` shows what the earlier programs show
 abbrev pub AsBefore : Type 0
@@ -44,8 +45,8 @@ items_keep : AsBefore → AgreeWhereKept → SoOfItems KeepsMeaning
 items_keep as_before agree d t valid items said last h = each_keeps agree items d (opened t) last said (as_before t items d said last h)
 
 -- the answer to a request
-pub request_runs : AsBefore → AgreeWhereKept → (request : Option Request) (files : Contents) (s : Status) (b : List ℕ) → IsWhole s → Answers request files s b → RunsRequest request files b
-request_runs as_before agree None files s b whole h = tt
-request_runs as_before agree (Some (show program)) files s b whole h = tt
-request_runs as_before agree (Some (session program script data_file)) files s b whole h = session_items KeepsMeaning (items_keep as_before agree) program script data_file files s b whole h
-request_runs as_before agree (Some (generate number)) files s b whole h = tt
+pub request_runs : AsBefore → AgreeWhereKept → Laws → (request : Option Request) (files : Contents) (s : Status) (b : List ℕ) → IsWhole s → Answers request files s b → RunsRequest request files b
+request_runs as_before agree laws None files s b whole h = tt
+request_runs as_before agree laws (Some (show program)) files s b whole h = tt
+request_runs as_before agree laws (Some (session program script data_file)) files s b whole h = session_items KeepsMeaning (items_keep as_before agree) program script data_file files s b whole h
+request_runs as_before agree laws (Some (generate number)) files s b whole h = generated_alike laws number s b whole h

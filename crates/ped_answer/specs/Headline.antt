@@ -8,10 +8,12 @@ use Rattle.ped_session.specs.ped_tree.specs.Tree.{ProgramTree}
 use Rattle.ped_session.specs.ped_tree.specs.Printing.{program_text}
 use Rattle.ped_session.specs.ped_tree.specs.Numbering.{statement_with}
 use Rattle.ped_session.specs.ped_valid.specs.Validity.{ReadsValid}
-use Rattle.ped_session.specs.ped_order.specs.ped_eval.specs.Outcomes.{Ends, Outcome, outcome, IsRaceFree}
+use Rattle.ped_session.specs.ped_order.specs.ped_eval.specs.Outcomes.{Ends, Outcome, Fault, outcome, IsRaceFree}
+use Rattle.ped_session.specs.ped_order.specs.ped_eval.specs.Runs.{failed}
 use Rattle.ped_call_runs.specs.ped_calls.specs.ped_units.specs.Units.{ProgramUnits}
 use Rattle.ped_call_runs.specs.ped_calls.specs.ped_units.specs.Verdicts.{IsExpansion}
 use Rattle.ped_call_runs.specs.UnitRuns.{run_units, outcome_of_units}
+use Rattle.ped_call_runs.specs.UnitFaults.{FaultsInOwn, expanded_number}
 use Rattle.ped_session.specs.ped_graph.specs.DependencePane.{IsDependencePane, IsDependencePaneOf}
 use Rattle.ped_session.specs.ped_transformations.specs.ped_inline.specs.CallsPane.{IsCallsPane}
 use Rattle.ped_session.specs.ped_transformations.specs.ped_script.specs.Items.{commands_of}
@@ -21,6 +23,8 @@ use Rattle.ped_session.specs.ped_transformations.specs.ped_script.specs.declared
 use Rattle.ped_session.specs.ped_transformations.specs.Table.{step_of}
 use Rattle.ped_session.specs.ped_transformations.specs.Advice.{IsAdvice}
 use Rattle.ped_session.specs.ped_transformations.specs.ped_auto.specs.SerialLoops.{serial_loops}
+use Rattle.ped_session.specs.ped_transformations.specs.ped_reduce.specs.Lowering.{Lowered}
+use Rattle.ped_session.specs.ped_transformations.specs.ped_reduce.specs.Reducing.{IsLowered}
 use Rattle.ped_session.specs.ped_transformations.specs.ped_reindex.specs.ped_loops.specs.Paralleling.{paralleling}
 use Rattle.ped_session.specs.ped_transformations.specs.ped_reindex.specs.ped_loops.specs.ped_scalar.specs.ped_rules.specs.Steps.{StepAt, MatchStep, transformation}
 use Rattle.ped_session.specs.ped_transformations.specs.ped_reindex.specs.ped_loops.specs.ped_scalar.specs.ped_rules.specs.ped_loop_runs.specs.Unrejected.{IsTrusted}
@@ -38,10 +42,12 @@ use Rattle.ped_session.specs.AutoAnswers.{auto_text, AcceptsAll}
 use Rattle.ped_session.specs.AutoScripts.{script_of, items_on}
 use Rattle.ped_session.specs.Scripts.{Said, nothing_said, said_both, AnswersItem}
 use Rattle.ped_session.specs.Blocks.{block}
-use Rattle.ped_session.specs.LoweredRuns.{HasNoList, IsLoweredRun}
+use Rattle.ped_session.specs.LoweredRuns.{IsLoweredRun}
 use Rattle.ped_session.specs.Meanings.{IsMeaningKept, ComesFrom}
 use Rattle.ped_session.specs.RunsAsBefore.{RunsAsBefore}
+use Rattle.ped_gen.specs.Generated as made
 use Rattle.ped_answer.specs.Answer.{AreData}
+use Rattle.ped_answer.specs.Generated.{Figures, report}
 use Rattle.ped_answer.specs.Covered.{IsCoveringPane, AreCoveringPanes, IsCoveringPaneOf, IsCoveringCalls}
 use Rattle.ped_answer.specs.StepCauses.{Forbids}
 
@@ -217,19 +223,28 @@ pub record KeepsMeaning (line : ℕ) (command : Option Command) (data_bytes : Li
   pub all_here : AgreesOnAllRuns s
   pub all_there : AgreesOnAllRuns next
 
--- the runs in a session's answer
+-- where the program that is made is tidy and without C$PED REJECT, and runs to its end without a race, the report says that the program behind the script's steps ends alike (this project)
+abbrev pub ReportsAlike : ℕ → List ℕ → Type 0
+ReportsAlike number bytes =
+    (t : ProgramTree) → ReadsValid (made.program number) t → IsTrusted t → IsRaceFree t [] → (f : Figures) × (bytes ≡ report number f (codes "equal"))
+
+-- the runs in a session's answer, and in a report
 abbrev pub RunsRequest : Option Request → Contents → List ℕ → Type 0
 RunsRequest None files bytes = ⊤
 RunsRequest (Some (show program)) files bytes = ⊤
 RunsRequest (Some (session program script data_file)) files bytes = EachItem KeepsMeaning program script data_file files bytes
-RunsRequest (Some (generate number)) files bytes = ⊤
+RunsRequest (Some (generate number)) files bytes = ReportsAlike number bytes
 
 -- Program units.
 
--- where program units run on the data without a fault, the program that they expand to has their outcome; and so a `run` with these choices shows it: without choices where the present source is the one on which the session opened, and no DO of it has a list of sums; and with any where the present source has come from that one by transformations alone, if that one is tidy and without C$PED REJECT and runs without a race (ANSI X3.9-1978, section 15.6; ParaScope; this project)
+-- no list of sums in a program is live (Allen and Kennedy, section 5.6; this project)
+abbrev pub HasNoLiveList : ProgramTree → Type 0
+HasNoLiveList t = (q : Lowered) → IsLowered t q → q.live ≡ []
+
+-- where program units run on the data without a fault, the program that they expand to has their outcome; and so a `run` with these choices shows it: without choices where the present source is the one on which the session opened, and no list of sums in it is live; and with any where the present source has come from that one by transformations alone, if that one is tidy and without C$PED REJECT and runs without a race (ANSI X3.9-1978, section 15.6; ParaScope; this project)
 pub record ShowsUnits (units : ProgramUnits) (first : ProgramTree) (choices data_bytes : List ℕ) (s : State) (shown : List ℕ) : Type 0 where
   pub alike : outcome first data_bytes ≡ outcome_of_units units data_bytes
-  pub in_order : choices ≡ [] → s.present ≡ program_text first → HasNoList first → shown ≡ block (outcome_of_units units data_bytes)
+  pub in_order : choices ≡ [] → s.present ≡ program_text first → HasNoLiveList first → shown ≡ block (outcome_of_units units data_bytes)
   pub behind : ComesFrom s.present s.past (program_text first) → IsTrusted first → IsRaceFree first data_bytes → shown ≡ block (outcome_of_units units data_bytes)
 
 -- so it is of each `run`, by the program units of the file (this project)
@@ -237,9 +252,11 @@ abbrev pub RunsUnits : List ℕ → ProgramTree → ItemFact
 RunsUnits text first line command data_bytes s said next =
     (choices : List ℕ) → command ≡ Some (Run choices) → (e : IsExpansion text first) → Ends (run_units e.units data_bytes).ending → ShowsUnits e.units first choices data_bytes s said.bytes
 
--- on all data on which the units of this text run without a fault, the program to which they expand has their outcome (ANSI X3.9-1978, section 15.6; this project)
-abbrev pub IsExpandedAlike : List ℕ → ProgramTree → Type 0
-IsExpandedAlike text t = (e : IsExpansion text t) (data_bytes : List ℕ) → Ends (run_units e.units data_bytes).ending → outcome t data_bytes ≡ outcome_of_units e.units data_bytes
+-- on all data the program to which the units of this text expand does what they do: where they run without a fault, it has their outcome; where they meet one, it meets the same at what the statement has become, unless a CALL reads a variable of its own that is undefined (ANSI X3.9-1978, sections 15.6, 17.3; this project)
+pub record IsExpandedAlike (text : List ℕ) (t : ProgramTree) : Type 0 where
+  pub ends : (e : IsExpansion text t) (data_bytes : List ℕ) → Ends (run_units e.units data_bytes).ending → outcome t data_bytes ≡ outcome_of_units e.units data_bytes
+  pub faults : (e : IsExpansion text t) (data_bytes : List ℕ) (fault statement : ℕ) → (run_units e.units data_bytes).ending ≡ failed fault statement → (FaultsInOwn (run_units e.units data_bytes) → ⊥)
+      → outcome t data_bytes ≡ Fault fault (expanded_number e.units statement)
 
 -- the program that is shown or opened, by the program units of its file, and the runs in a session's answer
 abbrev pub UnitsRequest : Option Request → Contents → List ℕ → Type 0

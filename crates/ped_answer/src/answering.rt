@@ -1,7 +1,7 @@
 //! The top call: words and files to an answer and a status.
 
 ghost use Rattle.std.specs.Prelude.{◌≡◌, ◌≢◌, ◌⊎◌, ◌++◌, ◌≤◌, ℕ, List, Option, Some, None, map, string_bytes};
-ghost use Rattle.ped_io.specs.Outside.{Contents, IsHeld, Rose};
+ghost use Rattle.ped_io.specs.Outside.{Contents, AddsOnly, IsHeld, Rose};
 ghost use Rattle.ped_io.specs.Shelves.{all_names};
 ghost use Rattle.ped_words.specs.Requests as plain;
 ghost use Rattle.ped_words.specs.Requests.{request_of};
@@ -127,14 +127,16 @@ pub fn ped_main<F: Shelf, K: Sink, L: Ledger>(
     // in a PARALLEL DO writes the variable of it or of a DO in it, and each path from that PARALLEL DO's exit to the end
     // overwrites such a variable that is saved. And in each state, each transformation of the history keeps the meaning of
     // such a program, and leaves it tidy and without C$PED REJECT; and on all data and with all choices, also those of no
-    // `run`, the present program has the outcome of each such program from which it has come by transformations alone.
+    // `run`, the present program has the outcome of each such program from which it has come by transformations alone. The
+    // report of `generate` says that the program behind the script's steps ends as the one that was made, if that one is
+    // tidy and without C$PED REJECT and runs without a fault and without a race.
     ensures runs { (files : Contents) → F.may_hold shelf.new files → IsWhole result →
         (bytes : List ℕ) × (K.sent out.new ≡ K.sent out.old ++ bytes)
         × RunsRequest (request_of (map string_bytes words.now)) files bytes }
 
     // On all data on which the program units of a file run without a fault, the program that they expand to, which is shown or
     // on which the session opens, has the same outcome. So in a session on whose data they do, each `run` shows it: without
-    // choices where the present source is that program's and no DO of it has a list of sums, and with whatever choices where
+    // choices where the present source is that program's and no list of sums in it is live, and with whatever choices where
     // the present source has come from that one by transformations alone, if it is tidy and without C$PED REJECT and runs
     // without a race.
     ensures units { (files : Contents) → F.may_hold shelf.new files → IsWhole result →
@@ -158,7 +160,8 @@ pub fn ped_main<F: Shelf, K: Sink, L: Ledger>(
     // Each pane of dependences covers the run in order of its program, on whatever data: two accesses that references make
     // to one cell, one of them a write, in one execution of a DO round both have a row, and for two that race a PARALLEL DO
     // carries one. In the pane of calls such two have a row where one is made in the block of a CALL, but not both in one
-    // execution of it. No reference makes what a DO stores in its own variable, nor what a CALL stores so.
+    // execution of it. Where two accesses conflict so and have no row, a DO makes one of them itself: it reads its variable in
+    // its body, or stores it when it is left.
     ensures covered { (files : Contents) → F.may_hold shelf.new files → IsWhole result →
         (bytes : List ℕ) × (K.sent out.new ≡ K.sent out.old ++ bytes)
         × CoveredRequest (request_of (map string_bytes words.now)) files bytes }
@@ -171,6 +174,9 @@ pub fn ped_main<F: Shelf, K: Sink, L: Ledger>(
         F.count shelf.new name ≡ F.count shelf.old name }
     ensures faults { K.faults out.old ≤ K.faults out.new }
     ensures untold { K.taken out.old ≡ None → K.taken out.new ≡ None }
+
+    // No name is read but those of the words, as far as the shelf notes names.
+    ensures names { AddsOnly (IsOneOf (inputs_of (request_of (map string_bytes words.now)))) (F.read_names shelf.old) (F.read_names shelf.new) }
 
     // Files that the shelf may hold at the end it might hold before; and a sink that says what it has taken says what was sent.
     ensures less { (files : Contents) → F.may_hold shelf.new files → F.may_hold shelf.old files }
@@ -261,6 +267,7 @@ fn serve<F: Shelf, K: Sink, L: Ledger>(
     }) }
     ensures same { F.told shelf.new ≡ F.told shelf.old }
     ensures less { (files : Contents) → F.may_hold shelf.new files → F.may_hold shelf.old files }
+    ensures names { AddsOnly (IsOneOf (inputs_of (Some (request_view asked.entry)))) (F.read_names shelf.old) (F.read_names shelf.new) }
 {
     match asked {
         Request::Show { program } => show_file(alloc, program, shelf, out, steps),

@@ -8,6 +8,7 @@ ghost use Rattle.ped_answer.specs.declared.answering.Status.{Status};
 ghost use Rattle.ped_answer.specs.Answer.{IsWhole, Answers};
 ghost use Rattle.ped_answer.specs.Headline.{PanesRequest, HistoryRequest, RunsRequest, UnitsRequest, CausesRequest, AutoRequest, CoveredRequest};
 
+use crate::generating::made_programs_have_no_list;
 use std::sync::ledger::Ledger;
 
 /// In each answer to `show`, and in each to a session at each `source`, `deps`, `deps S` and `show`, the panes are those
@@ -23,8 +24,9 @@ pub fn panes_are_afresh()
 /// in order of the present program, on whatever data. Two accesses that references make to one cell, one of them a write, in
 /// one execution of a DO round both have a row with the directions in which they stand; two that race have one that a
 /// PARALLEL DO carries. In the pane of calls two such accesses have a row with their level where one is made in the block of
-/// a CALL, but not both in one execution of it; of races it isn't said there. No reference makes what a DO stores in its own
-/// variable, nor what a CALL stores so.
+/// a CALL, but not both in one execution of it; of races it isn't said there. Where two accesses conflict so and have no row, a
+/// DO makes one of them itself: it reads its variable in its body, or stores it when it is left. And what a row marked proven
+/// says occurs, in each of its directions, once the run has left the outermost DO, but for variables that are copied.
 pub fn panes_cover_runs()
     ensures { (request : Option plain.Request) (files : Contents) (s : Status) (bytes : List ℕ) → IsWhole s →
         Answers request files s bytes → CoveredRequest request files bytes }
@@ -33,6 +35,7 @@ pub fn panes_cover_runs()
     ped_session::conflicts_are_covered();
     ped_session::races_are_covered();
     ped_session::calls_are_covered();
+    ped_rows::proven_dependences_occur();
 }
 
 /// In each answer to a session the sources stand one behind another: `undo` and `redo` go along them, byte for byte, and are
@@ -51,26 +54,34 @@ pub fn refusals_have_causes()
 
 /// In each answer to a session each `run` of its script shows what the programs show from which the present one has come
 /// by transformations alone, if they are tidy and without C$PED REJECT and run on the data without a fault and without a
-/// race. And so it is on all data and with all choices, whether a `run` shows it or not.
+/// race. And so it is on all data and with all choices, whether a `run` shows it or not. The report of `generate` says that
+/// its programs end alike, if the first one is tidy and runs so.
 pub fn runs_are_as_before()
     ensures { (request : Option plain.Request) (files : Contents) (s : Status) (bytes : List ℕ) → IsWhole s →
         Answers request files s bytes → RunsRequest request files bytes }
 {
     ped_session::runs_are_as_before();
     ped_session::interleavings_keep_the_meaning();
+    ped_session::transformations_keep_the_meaning();
+    ped_session::without_choices();
+    made_programs_have_no_list();
 }
 
-/// In each answer on a file, the program that is shown, or on which the session opens, has the outcome of the file's program
-/// units on all data on which these run without a fault. In a session on whose data they do, each `run` of its script shows
-/// it: without choices before the first change, where no DO has a list of sums; and with whatever choices behind
-/// transformations alone, where the opened program is tidy and without C$PED REJECT and runs without a race.
+/// In each answer on a file, the program that is shown, or on which the session opens, does what the file's program units do.
+/// On all data on which these run without a fault it has their outcome. On all data on which they meet a fault it meets the
+/// same, unless a CALL reads a variable of its own that is undefined. In a session on whose data they run without a fault,
+/// each `run` of its script shows their outcome: without choices before the first change, where no list of sums is live; and
+/// with whatever choices behind transformations alone, where the opened program is tidy and without C$PED REJECT and runs
+/// without a race.
 pub fn units_run_as_expanded()
     ensures { (request : Option plain.Request) (files : Contents) (s : Status) (bytes : List ℕ) → IsWhole s →
         Answers request files s bytes → UnitsRequest request files bytes }
 {
     ped_call_runs::expansions_run_alike();
+    ped_call_runs::expansions_fault_alike();
     ped_session::runs_are_as_before();
-    ped_session::runs_in_order();
+    ped_session::without_lists();
+    ped_session::without_choices();
 }
 
 /// In each answer to a session each `auto` tells steps that lead, one behind another, to its source, which has come from the

@@ -1,7 +1,7 @@
 //! Sessions: the files are read in order, and then the script is answered on the program that the first one's text expands to.
 
 ghost use Rattle.std.specs.Prelude.{◌≡◌, ◌⊎◌, ◌∷◌, [], ◌+◌, ◌≤◌, ℕ, Some, None, IfOk, option_map};
-ghost use Rattle.ped_io.specs.Outside.{Contents, Rose};
+ghost use Rattle.ped_io.specs.Outside.{Contents, AddsOnly, Rose};
 ghost use Rattle.ped_session.specs.ped_tree.specs.Views.{program_tree};
 ghost use Rattle.ped_session.specs.ped_symbols.specs.NameRefusals.{IsValid};
 ghost use Rattle.ped_session.specs.ped_symbols.specs.Kinds.{table_of};
@@ -10,7 +10,7 @@ ghost use Rattle.ped_session.specs.ped_transformations.specs.ped_script.specs.It
 ghost use Rattle.ped_session.specs.States.{State, opened};
 ghost use Rattle.ped_session.specs.Scripts.{Said, AnswersItems};
 ghost use Rattle.ped_words.specs.Requests.{session};
-ghost use Rattle.ped_answer.specs.Answer.{source_input, data_input, data_inputs, AnswersInput, AnswersData, IsSession, Sends};
+ghost use Rattle.ped_answer.specs.Answer.{source_input, data_input, data_inputs, inputs_of, IsOneOf, AnswersInput, AnswersData, IsSession, Sends};
 ghost use Rattle.ped_answer.specs.TestCounts.{TestsInput, TestsData, TestsSession, Ticks, IsUntested};
 ghost use Rattle.ped_answer.specs.Serving.{Served, ServedRequest, AnswersFrom, session_status};
 
@@ -54,6 +54,7 @@ pub fn answer_files<F: Shelf, K: Sink, L: Ledger>(
     }) }
     ensures same { F.told shelf.new ≡ F.told shelf.old }
     ensures less { (files : Contents) → F.may_hold shelf.new files → F.may_hold shelf.old files }
+    ensures names { AddsOnly (IsOneOf (inputs_of (Some (session program.now script.now (option_map (λ file. file.now) data_file.entry))))) (F.read_names shelf.old) (F.read_names shelf.new) }
 {
     match load(alloc, shelf, program, SOURCE_LIMIT) {
         Ok(text) => answer_script_file(
@@ -99,6 +100,7 @@ fn answer_script_file<F: Shelf, K: Sink, L: Ledger>(
         }) }
     ensures same { F.told shelf.new ≡ F.told shelf.old }
     ensures less { (files : Contents) → F.may_hold shelf.new files → F.may_hold shelf.old files }
+    ensures names { AddsOnly (IsOneOf (source_input script.now ∷ data_inputs (option_map (λ file. file.now) data_file.entry))) (F.read_names shelf.old) (F.read_names shelf.new) }
 {
     match load(alloc, shelf, script, SOURCE_LIMIT) {
         Ok(script) => answer_data(alloc, text, script.as_slice(), data_file, shelf, out, steps),
@@ -136,6 +138,7 @@ fn answer_data<F: Shelf, K: Sink, L: Ledger>(
         }) }
     ensures same { F.told shelf.new ≡ F.told shelf.old }
     ensures less { (files : Contents) → F.may_hold shelf.new files → F.may_hold shelf.old files }
+    ensures names { AddsOnly (IsOneOf (data_inputs (option_map (λ file. file.now) data_file.entry))) (F.read_names shelf.old) (F.read_names shelf.new) }
 {
     match data_file {
         Some(name) => answer_data_file(alloc, text, script, name, shelf, out, steps),
@@ -173,6 +176,7 @@ fn answer_data_file<F: Shelf, K: Sink, L: Ledger>(
         }) }
     ensures same { F.told shelf.new ≡ F.told shelf.old }
     ensures less { (files : Contents) → F.may_hold shelf.new files → F.may_hold shelf.old files }
+    ensures names { AddsOnly (IsOneOf (data_input name.now ∷ [])) (F.read_names shelf.old) (F.read_names shelf.new) }
 {
     match load(alloc, shelf, name, DATA_LIMIT) {
         Ok(input) => answer_texts(alloc, text, script, input.as_slice(), out, steps),

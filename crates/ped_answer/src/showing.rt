@@ -1,13 +1,13 @@
 //! Programs that are shown: both panes, or why the file's text is refused.
 
 ghost use Rattle.std.specs.Prelude.{◌≡◌, ◌⊎◌, ◌≤◌, ℕ, Some, None};
-ghost use Rattle.ped_io.specs.Outside.{Contents, Rose};
+ghost use Rattle.ped_io.specs.Outside.{Contents, AddsOnly, Rose};
 ghost use Rattle.ped_session.specs.ped_tree.specs.Views.{program_tree};
 ghost use Rattle.ped_session.specs.ped_symbols.specs.NameRefusals.{IsValid};
 ghost use Rattle.ped_session.specs.ped_symbols.specs.Kinds.{table_of};
 ghost use Rattle.ped_session.specs.ped_refs.specs.References.{references, pair_count};
 ghost use Rattle.ped_words.specs.Requests.{show};
-ghost use Rattle.ped_answer.specs.Answer.{Sends, IsShown, ShowsTree};
+ghost use Rattle.ped_answer.specs.Answer.{inputs_of, IsOneOf, Sends, IsShown, ShowsTree};
 ghost use Rattle.ped_answer.specs.TestCounts.{TestsText, Ticks, IsUntested};
 ghost use Rattle.ped_answer.specs.Serving.{ServedRequest};
 
@@ -50,6 +50,7 @@ pub fn show_file<F: Shelf, K: Sink, L: Ledger>(
     }) }
     ensures same { F.told shelf.new ≡ F.told shelf.old }
     ensures less { (files : Contents) → F.may_hold shelf.new files → F.may_hold shelf.old files }
+    ensures names { AddsOnly (IsOneOf (inputs_of (Some (show program.now)))) (F.read_names shelf.old) (F.read_names shelf.new) }
 {
     match load(alloc, shelf, program, SOURCE_LIMIT) {
         Ok(text) => show_text(alloc, text.as_slice(), out, steps),

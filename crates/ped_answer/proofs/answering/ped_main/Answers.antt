@@ -1,8 +1,8 @@
-use Rattle.std.proofs.Common.{◌≡◌, ◌++◌, ℕ, List, map, string_bytes, Option, Err, ap, subst, sym, arith}
-use Rattle.ped_io.specs.Outside.{Contents, Rose}
+use Rattle.std.proofs.Common.{◌≡◌, ◌++◌, ℕ, List, [], map, string_bytes, Option, Err, ap, refl, subst, sym, arith}
+use Rattle.ped_io.specs.Outside.{Contents, AddsOnly, Rose}
 use Rattle.ped_answer.specs.declared.answering.Status.TheVariants.{BadWords}
 use Rattle.ped_words.specs.Requests.{Request, request_of}
-use Rattle.ped_answer.specs.Answer.{IsWhole, inputs_of, MayAnswer, Answers, IsJust, usage_line}
+use Rattle.ped_answer.specs.Answer.{IsWhole, inputs_of, IsOneOf, MayAnswer, Answers, IsJust, usage_line}
 use Rattle.ped_answer.specs.TestCounts.{Tests}
 use Rattle.ped_answer.specs.Serving.{Call, Served}
 use Rattle.ped_answer.proofs.Counting.{idle_writing, read_nothing}
@@ -130,6 +130,16 @@ returns-in-Ok-clause-untold g c = (served g c).untold
 
 pub returns-in-Ok-clause-told_sent : goal.returns-in-Ok-clause-told_sent
 returns-in-Ok-clause-told_sent g c = (served g c).told_sent
+
+pub returns-in-Ok-clause-names : goal.returns-in-Ok-clause-names
+returns-in-Ok-clause-names g c =
+    subst (λ (r : Option Request). AddsOnly (IsOneOf (inputs_of r)) (g.F.Shelf.read_names c.args.shelf.now) (g.F.Shelf.read_names c.serve.new.shelf)) (sym c.in-Ok.ensures.ok) c.serve.ensures.names
+
+pub returns-in-Err-Bad-clause-names : goal.returns-in-Err-Bad-clause-names
+returns-in-Err-Bad-clause-names g c = ([], refl, tt)
+
+pub returns-in-Err-NoMemory-clause-names : goal.returns-in-Err-NoMemory-clause-names
+returns-in-Err-NoMemory-clause-names g c = ([], refl, tt)
 
 pub returns-in-Ok-clause-tests : goal.returns-in-Ok-clause-tests
 returns-in-Ok-clause-tests g c = (served g c).ticks

@@ -1,4 +1,4 @@
-use Rattle.std.proofs.Common.{refl, sym, subst}
+use Rattle.std.proofs.Common.{[], refl, sym, subst}
 use Rattle.ped_words.specs.declared.requests.Request.{Request}
 use Rattle.ped_words.specs.Views.{request_view}
 use Rattle.ped_answer.specs.Generated.{IsGenerated}
@@ -31,3 +31,6 @@ returns-in-Generate-clause-served g c =
     (λ files failed. generated_given size files failed)
     (shown_ends c.answer_size.result c.answer_size.ensures.ends) (λ name. refl) c.answer_size.ensures.answer c.answer_size.ensures.write_fault c.answer_size.ensures.faults c.answer_size.ensures.untold c.answer_size.ensures.told_sent
     c.answer_size.ensures.tests c.answer_size.ensures.untested c.answer_size.ensures.steps)
+
+pub returns-in-Generate-clause-names : goal.returns-in-Generate-clause-names
+returns-in-Generate-clause-names g c = ([], refl, tt)

@@ -1,5 +1,6 @@
 use Rattle.std.proofs.Common.{ℕ, List, [], Option, refl, ap, sym, subst, option_map, Bor}
-use Rattle.ped_answer.specs.Answer.{data_inputs, AnswersData, IsSession}
+use Rattle.ped_io.specs.Outside.{AddsOnly}
+use Rattle.ped_answer.specs.Answer.{data_inputs, IsOneOf, AnswersData, IsSession}
 use Rattle.ped_answer.specs.TestCounts.{TestsData, TestsSession}
 use Rattle.ped_answer.specs.Serving.{Call, Served}
 use Rattle.ped_answer.proofs.Inputs.{text_served, session_given, session_ends}
@@ -54,3 +55,11 @@ returns-in-None-clause-served g c =
     (λ files failed. session_given text script [] files failed)
     (session_ends c.answer_texts.result c.answer_texts.ensures.ends) (λ name. refl) c.answer_texts.ensures.answer c.answer_texts.ensures.write_fault c.answer_texts.ensures.faults c.answer_texts.ensures.untold c.answer_texts.ensures.told_sent
     c.answer_texts.ensures.tests c.answer_texts.ensures.untested c.answer_texts.ensures.steps)
+
+pub returns-in-Some-clause-names : goal.returns-in-Some-clause-names
+returns-in-Some-clause-names g c =
+    subst (λ (d : Option (List ℕ)). AddsOnly (IsOneOf (data_inputs d)) (g.F.Shelf.read_names c.args.shelf.now) (g.F.Shelf.read_names c.answer_data_file.new.shelf))
+    (sym (ap (option_map (λ (file : Bor (List ℕ)). file.now)) c.in-Some.is)) c.answer_data_file.ensures.names
+
+pub returns-in-None-clause-names : goal.returns-in-None-clause-names
+returns-in-None-clause-names g c = ([], refl, tt)

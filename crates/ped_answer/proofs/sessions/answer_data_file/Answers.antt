@@ -3,6 +3,7 @@ use Rattle.ped_answer.specs.Answer.{data_input, IsSession}
 use Rattle.ped_answer.specs.TestCounts.{TestsSession}
 use Rattle.ped_answer.specs.Serving.{Call}
 use Rattle.ped_answer.proofs.Inputs.{read_served, unread_served, text_served, session_given, session_ends}
+use Rattle.ped_answer.proofs.ReadNames.{first_read}
 use Rattle.ped_answer.proofs.sessions.answer_data_file.Goals as goal
 
 -- the file is read, and the rest is served on its bytes
@@ -56,3 +57,9 @@ returns-in-Err-clause-served g c =
     (λ e. c.in-Err.ensures.fault (ap Err e)) (λ e. c.in-Err.ensures.too_long (ap Err e))
     c.load.ensures.counts c.load.ensures.others
     c.say_unread.ensures.answer c.say_unread.ensures.ends c.say_unread.ensures.write_fault c.say_unread.ensures.faults c.say_unread.ensures.untold c.say_unread.ensures.told_sent refl
+
+pub returns-in-Ok-clause-names : goal.returns-in-Ok-clause-names
+returns-in-Ok-clause-names g c = first_read (data_input c.args.name.now) [] _ _ c.load.ensures.names
+
+pub returns-in-Err-clause-names : goal.returns-in-Err-clause-names
+returns-in-Err-clause-names g c = first_read (data_input c.args.name.now) [] _ _ c.load.ensures.names

@@ -4,6 +4,7 @@ use Rattle.ped_answer.specs.Answer.{source_input, data_inputs, AnswersInput, Ans
 use Rattle.ped_answer.specs.TestCounts.{TestsInput, TestsData, TestsSession}
 use Rattle.ped_answer.specs.Serving.{Call}
 use Rattle.ped_answer.proofs.Inputs.{read_served, unread_served}
+use Rattle.ped_answer.proofs.ReadNames.{first_read, then_read}
 use Rattle.ped_answer.proofs.sessions.answer_files.Goals as goal
 
 -- the file is read, and the rest is served on its bytes
@@ -56,3 +57,13 @@ returns-in-Err-clause-served g c =
     (λ e. c.in-Err.ensures.fault (ap Err e)) (λ e. c.in-Err.ensures.too_long (ap Err e))
     c.load.ensures.counts c.load.ensures.others
     c.say_unread.ensures.answer c.say_unread.ensures.ends c.say_unread.ensures.write_fault c.say_unread.ensures.faults c.say_unread.ensures.untold c.say_unread.ensures.told_sent refl
+
+pub returns-in-Ok-clause-names : goal.returns-in-Ok-clause-names
+returns-in-Ok-clause-names g c =
+    let data_file = option_map (λ (file : _). file.now) c.args.data_file in
+    then_read (source_input c.args.program.now) (source_input c.args.script.now ∷ data_inputs data_file) _ _ _ c.load.ensures.names c.answer_script_file.ensures.names
+
+pub returns-in-Err-clause-names : goal.returns-in-Err-clause-names
+returns-in-Err-clause-names g c =
+    let data_file = option_map (λ (file : _). file.now) c.args.data_file in
+    first_read (source_input c.args.program.now) (source_input c.args.script.now ∷ data_inputs data_file) _ _ c.load.ensures.names

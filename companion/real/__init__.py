@@ -11,9 +11,11 @@ The modules, from the text of a file up to its units:
 
 What the statements of a unit do, which `facts` brings together:
 
-- `accesses`, `intrinsics`: what a statement reads and writes; `roles`: what names are for it, by the symbols;
+- `accesses`, `intrinsics`, `transfers`: what a statement reads and writes; `roles`: what names are for it;
 - `flow`, `liveness`: where the run goes on, and which values are needed later;
-- `shape`: an iteration without its jumps;
+- `procedures`, `commons`: which procedure and which variable of a common block a name means;
+- `summaries`, `calls`: what procedures do, and what a call of one does in the names of the unit that calls;
+- `shape`, `conditions`: an iteration without its jumps, and IFs that depend on earlier ones;
 - `recurrences`: reductions and induction variables.
 
 From a loop to what is said about it:

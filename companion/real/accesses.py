@@ -4,6 +4,9 @@ An assignment reads its right side, then the subscripts of its target, and write
 and writes its variable. A function that isn't a pure intrinsic or a statement function, a CALL, input and output are
 `Trouble`: they may read and write more than is listed. `Effects` says what is missing.
 
+Where the body of a procedure was read, `Called` has what a CALL or a reference to it reads and writes, in the names of
+the unit that has it. Then there is no trouble.
+
 What a name is comes from `Names`, which the symbols of a unit satisfy.
 """
 
@@ -11,14 +14,18 @@ from __future__ import annotations
 
 from dataclasses import dataclass, replace
 from enum import Enum
-from typing import Callable, Dict, FrozenSet, List, Optional, Protocol, Sequence, Tuple, Type
+from typing import Callable, Dict, FrozenSet, List, Optional, Protocol, Sequence, Tuple, Type, Union
 
 from . import intrinsics, tree
+from .transfers import Internal, goes_on_after_errors, internal
 
 #: How deep statement functions may refer to each other. In a right program each refers to earlier ones alone.
 _DEEPEST = 20
 
 _NONE: FrozenSet[str] = frozenset()
+
+#: A subscript that may have any value within the bounds.
+ANYWHERE = tree.Section(None, None, tree.Star())
 
 
 class Kind(Enum):
@@ -96,6 +103,14 @@ class Names(Protocol):
     def may_share_storage(self, name: str) -> bool:
         """Whether another name of the unit may stand for the same storage: EQUIVALENCE, POINTER, TARGET."""
 
+    def called(
+        self, name: str, arguments: Sequence[tree.Expression], is_function: bool
+    ) -> Union[Called, Trouble, None]:
+        """What a procedure does that is called with these arguments; why that isn't known; none where nobody looks."""
+
+    def function_type(self, name: str) -> str:
+        """The type of the value of a function whose body was read, as `type_of` has it; empty for all other names."""
+
 
 @dataclass(frozen=True)
 class Access:
@@ -106,6 +121,10 @@ class Access:
     does so whenever the statement is carried out. `within` is the designator in whose subscripts the access is, none
     where it isn't in any. Names in `bound` are variables of a FORALL, a DO CONCURRENT or an implied DO around the
     access: in its subscripts they aren't the unit's variables.
+
+    With `by_call` a procedure reads or writes it. Then `designator` is the argument as it's written, and `subscripts`
+    are those of the elements that the procedure uses; `ANYWHERE` may be among them. `shared` is what the procedure has
+    under a name of its own (a `commons.Shared`), so that it knows nothing of a copy that a thread has.
     """
 
     name: str
@@ -115,6 +134,22 @@ class Access:
     covers: bool = False
     within: Optional[tree.Expression] = None
     bound: FrozenSet[str] = _NONE
+    by_call: bool = False
+    shared: Optional[object] = None
+
+
+@dataclass(frozen=True)
+class Called:
+    """What a procedure does that is called, in the names of the unit that calls it.
+
+    `accesses` are in the order of its run: what it may read of values from before the call, what it writes, and what it
+    reads only after it has written it. `assumes` are the assumptions that this rests on. With `reads_shared` it may read
+    all variables that procedures share.
+    """
+
+    accesses: Tuple[Access, ...] = ()
+    assumes: FrozenSet[str] = _NONE
+    reads_shared: bool = False
 
 
 @dataclass(frozen=True)
@@ -123,12 +158,18 @@ class Effects:
 
     `troubles` say why a loop with this statement gets no verdict. `calls` means that a procedure is called: it may read
     and write all variables that it reaches. `reads_all` means that any variable may be read.
+
+    `procedures` are those with bodies that were read; what these do is among the accesses. `assumes` and `reads_shared`
+    are as in `Called`.
     """
 
     accesses: Tuple[Access, ...] = ()
     troubles: Tuple[Trouble, ...] = ()
     calls: bool = False
     reads_all: bool = False
+    procedures: FrozenSet[str] = _NONE
+    assumes: FrozenSet[str] = _NONE
+    reads_shared: bool = False
 
     @property
     def reads(self) -> Tuple[Access, ...]:
@@ -140,19 +181,39 @@ class Effects:
         """The writes alone."""
         return tuple(access for access in self.accesses if access.writes)
 
+    @property
+    def side_writes(self) -> Tuple[Access, ...]:
+        """What procedures may write."""
+        return tuple(access for access in self.accesses if access.writes and access.by_call)
+
 
 def effects(statement: tree.Statement, names: Names, bound: FrozenSet[str] = _NONE) -> Effects:
     """What a statement reads and writes. Names in `bound` are variables of constructs round it."""
     run = _Run(names, bound)
     run.carry_out(statement)
-    return Effects(tuple(run.accesses), tuple(run.troubles), run.calls, run.reads_all)
+    return run.effects()
 
 
 def reads_of(expression: tree.Expression, names: Names, bound: FrozenSet[str] = _NONE) -> Effects:
     """What an expression reads."""
     run = _Run(names, bound)
     run.read(expression)
-    return Effects(tuple(run.accesses), tuple(run.troubles), run.calls, run.reads_all)
+    return run.effects()
+
+
+def is_variable(expression: tree.Expression, names: Names) -> bool:
+    """Whether an argument, without its keyword, is a variable or a part of one, which a procedure may assign."""
+    name = tree.root_of(expression)
+    kind = names.kind_of(name) if name else None
+    return kind is Kind.ARRAY or kind is Kind.SCALAR and not _is_function(expression, names)
+
+
+def _is_function(expression: tree.Expression, names: Names) -> bool:
+    """Whether a scalar's name has parentheses without being a substring, so that it is a function."""
+    if not isinstance(expression, tree.Reference) or not isinstance(expression.base, tree.Name):
+        return False
+    is_substring = len(expression.arguments) == 1 and isinstance(expression.arguments[0], tree.Section)
+    return names.type_of(expression.base.name) != "CHARACTER" or not is_substring
 
 
 def substituted(expression: tree.Expression, values: Dict[str, tree.Expression]) -> tree.Expression:
@@ -201,10 +262,20 @@ class _Run:
         self.troubles: List[Trouble] = []
         self.calls = False
         self.reads_all = False
+        self.procedures: List[str] = []
+        self.assumes: FrozenSet[str] = _NONE
+        self.reads_shared = False
         #: Whether the statement may be carried out without the part that is looked at.
         self._is_optional = False
         self._within: Optional[tree.Expression] = None
         self._depth = 0
+
+    def effects(self) -> Effects:
+        """All that was found."""
+        return Effects(
+            tuple(self.accesses), tuple(self.troubles), self.calls, self.reads_all, frozenset(self.procedures),
+            self.assumes, self.reads_shared,
+        )
 
     # --- Statements ---
 
@@ -275,32 +346,88 @@ class _Run:
         self.bound = before
 
     def call(self, statement: tree.Call) -> None:
-        """A CALL: each argument may be read and written."""
+        """A CALL: each argument may be read and written, where the procedure isn't known."""
+        found = None
+        if isinstance(statement.procedure, tree.Name):
+            found = self._called(statement.procedure.name, statement.arguments, False)
+        if isinstance(found, Called):
+            return
         self.calls = True
-        self.trouble("call", f"what {statement.procedure} does isn't known")
+        self.trouble("call", f"what {statement.procedure} does isn't known" if found is None else found.words)
         for expression in statement.expressions():
             self._touch(expression)
 
+    def _called(
+        self, name: str, arguments: Sequence[tree.Expression], is_function: bool
+    ) -> Union[Called, Trouble, None]:
+        """What a procedure does, which is noted where it's known."""
+        found = self.names.called(name, arguments, is_function)
+        if not isinstance(found, Called):
+            return found
+        self.procedures.append(name)
+        self.assumes |= found.assumes
+        self.reads_shared |= found.reads_shared
+        for argument in arguments:
+            value = value_of(argument)
+            if is_variable(value, self.names):
+                self._subscripts(value)
+            else:
+                self.read(value)
+        for access in found.accesses:
+            self._add(replace(access, covers=access.covers and not self._is_optional))
+        return found
+
     def transfer(self, statement: tree.InputOutput) -> None:
         """Input and output: each item and each control may be read, and written where it is a variable."""
-        self.trouble("io", statement.word)
-        for expression in statement.expressions():
-            self._transfer_item(expression)
-        # A name may be that of a group of NAMELIST.
-        self.calls |= any(isinstance(_value(one), tree.Name) for one in statement.controls)
-
-    def _transfer_item(self, item: tree.Expression) -> None:
-        """An item of input and output. The variable of an implied DO is the unit's here, and is assigned."""
-        if not isinstance(item, tree.ImpliedDo):
-            self._touch(item)
+        found = internal(statement, self.names)
+        if found is not None and self.names.kind_of(tree.root_of(found.unit)) in (Kind.SCALAR, Kind.ARRAY):
+            self._internal(found)
             return
-        for bound in item.parts()[len(item.items):]:
-            self.read(bound)
-        self._add(Access(item.variable, True, tree.Name(item.variable)))
-        before, self.bound = self.bound, self.bound | {item.variable}
-        for inner in item.items:
-            self._transfer_item(inner)
-        self.bound = before
+        self.trouble("io", statement.word)
+        for control in statement.controls:
+            self._touch(control)
+        self._optionally_where(goes_on_after_errors(statement), lambda: self._items(statement.items, self._touch))
+        # A name may be that of a group of NAMELIST.
+        self.calls |= any(isinstance(value_of(one), tree.Name) for one in statement.controls)
+
+    def _internal(self, found: Internal) -> None:
+        """READ and WRITE of an internal unit: the items or the unit are written, and the variables of its controls."""
+        unit = found.unit
+        if found.format is not None:
+            self.read(found.format)
+        if found.reads:
+            self.read(unit)
+            # A null value of a list-directed READ leaves its item as it was.
+            may_be_left = found.is_list_directed or not found.is_certain
+            self._optionally_where(may_be_left, lambda: self._items(found.items, self.write))
+        else:
+            self._items(found.items, self.read)
+            self._optionally_where(not found.is_certain, lambda: self.write(unit))
+        if found.status is not None:
+            self.write(found.status)
+        if found.message is not None:
+            self._write_maybe(found.message)
+
+    def _write_maybe(self, variable: tree.Expression) -> None:
+        self._optionally_where(True, lambda: self.write(variable))
+
+    def _items(self, items: Sequence[tree.Expression], take: Callable[[tree.Expression], None]) -> None:
+        """The items of input and output. The variable of an implied DO is the unit's here, and is assigned."""
+        for item in items:
+            if not isinstance(item, tree.ImpliedDo):
+                take(item)
+                continue
+            for bound in item.parts()[len(item.items):]:
+                self.read(bound)
+            is_scalar = self.names.kind_of(item.variable) is Kind.SCALAR
+            if not is_scalar or item.variable in self.bound:
+                self.trouble("index", f"{item.variable} counts an implied DO")
+            covers = is_scalar and not self._is_optional
+            self._add(Access(item.variable, True, tree.Name(item.variable), covers=covers))
+            before = self.bound, self._is_optional
+            self.bound, self._is_optional = self.bound | {item.variable}, True
+            self._items(item.items, take)
+            self.bound, self._is_optional = before
 
     def allocate(self, statement: tree.Allocation) -> None:
         """ALLOCATE and its like."""
@@ -345,8 +472,12 @@ class _Run:
         self.reads_all = True
 
     def _optionally(self, action: tree.Statement) -> None:
-        before, self._is_optional = self._is_optional, True
-        self.carry_out(action)
+        self._optionally_where(True, lambda: self.carry_out(action))
+
+    def _optionally_where(self, is_optional: bool, take: Callable[[], None]) -> None:
+        """Takes a part that may be left out where that is said, or where the whole may be."""
+        before, self._is_optional = self._is_optional, self._is_optional or is_optional
+        take()
         self._is_optional = before
 
     def _ranges(self, ranges: Sequence[tree.Range], mask: Optional[tree.Expression]) -> None:
@@ -382,14 +513,14 @@ class _Run:
 
     def _touch(self, expression: tree.Expression) -> None:
         """The reads of an expression, and a write that may be left out, where it is a variable."""
-        expression = _value(expression)
+        expression = value_of(expression)
         name = tree.root_of(expression)
         kind = self.names.kind_of(name) if name else None
         if kind is Kind.PROCEDURE and isinstance(expression, tree.Name):
             return
         self.read(expression)
         if kind in (Kind.SCALAR, Kind.ARRAY, Kind.UNKNOWN) and name not in self.bound:
-            self._add(Access(name, True, expression, _first_subscripts(expression)))
+            self._add(Access(name, True, expression, first_subscripts(expression)))
 
     # --- Expressions ---
 
@@ -439,6 +570,8 @@ class _Run:
         kind = self.names.kind_of(base.name)
         if self._is_pure_intrinsic(base.name, expression.arguments):
             self._intrinsic(base.name, expression.arguments)
+        elif kind is Kind.SCALAR and _is_function(expression, self.names):
+            self._function("function", f"{base.name} has parentheses and is no array", expression)
         elif kind in (Kind.ARRAY, Kind.SCALAR):
             self._designator(expression)
         elif kind is Kind.STATEMENT_FUNCTION:
@@ -456,8 +589,13 @@ class _Run:
         return name in intrinsics.PURE and not is_substring and self.names.is_intrinsic(name)
 
     def _function(self, reason: str, words: str, expression: tree.Reference) -> None:
-        """A function that may do anything."""
-        self.trouble(reason, words)
+        """A function that may do anything, where it isn't known."""
+        found = None
+        if isinstance(expression.base, tree.Name) and reason == "function":
+            found = self._called(expression.base.name, expression.arguments, True)
+        if isinstance(found, Called):
+            return
+        self.trouble(reason, words if found is None else found.words)
         self.calls = True
         for argument in expression.arguments:
             self._touch(argument)
@@ -465,7 +603,7 @@ class _Run:
     def _intrinsic(self, name: str, arguments: Sequence[tree.Expression]) -> None:
         """A pure intrinsic: its arguments' reads. An inquiry reads only a variable whose form may change."""
         for argument in arguments:
-            value = _value(argument)
+            value = value_of(argument)
             root = tree.root_of(value)
             if root and argument is arguments[0] and name in intrinsics.INQUIRIES and self._has_fixed_form(value):
                 self._subscripts(value)
@@ -475,7 +613,7 @@ class _Run:
     def _has_fixed_form(self, designator: tree.Expression) -> bool:
         """Whether no statement but ALLOCATE changes what an inquiry answers about a variable."""
         name = tree.root_of(designator)
-        if any(isinstance(part, tree.Component) for part in _chain(designator)):
+        if any(isinstance(part, tree.Component) for part in chain_of(designator)):
             return False
         if self.names.kind_of(name) not in (Kind.SCALAR, Kind.ARRAY, Kind.CONSTANT):
             return False
@@ -526,12 +664,12 @@ class _Run:
     def _subscripts(self, designator: tree.Expression) -> Optional[Tuple[tree.Expression, ...]]:
         """Reads all subscripts of a designator, from left to right. The answer are those of its first part."""
         before, self._within = self._within, designator
-        for part in _chain(designator):
+        for part in chain_of(designator):
             if isinstance(part, tree.Reference):
                 for argument in part.arguments:
                     self.read(argument)
         self._within = before
-        return _first_subscripts(designator)
+        return first_subscripts(designator)
 
     def _arguments(self, expression: tree.Reference) -> None:
         before, self._within = self._within, expression
@@ -542,7 +680,7 @@ class _Run:
     def _check_structure(self, designator: tree.Expression) -> None:
         """Notes what is wrong with a designator of a derived type."""
         name = tree.root_of(designator)
-        has_component = any(isinstance(part, tree.Component) for part in _chain(designator))
+        has_component = any(isinstance(part, tree.Component) for part in chain_of(designator))
         if has_component or self.names.type_of(name) in ("TYPE", "CLASS"):
             found = self.names.structure_trouble(designator)
             if found is not None:
@@ -550,18 +688,15 @@ class _Run:
 
     def _check_substring(self, designator: tree.Expression) -> None:
         """Notes a scalar with parentheses that is no substring: it must be a function."""
-        if not isinstance(designator, tree.Reference) or not isinstance(designator.base, tree.Name):
-            return
-        is_substring = len(designator.arguments) == 1 and isinstance(designator.arguments[0], tree.Section)
-        if self.names.type_of(designator.base.name) != "CHARACTER" or not is_substring:
-            self.trouble("function", f"{designator.base.name} has parentheses and is no array")
+        if _is_function(designator, self.names):
+            self.trouble("function", f"{tree.root_of(designator)} has parentheses and is no array")
             self.calls = True
 
     def _add(self, access: Access) -> None:
         self.accesses.append(replace(access, within=self._within, bound=self.bound))
 
 
-def _chain(designator: tree.Expression) -> List[tree.Expression]:
+def chain_of(designator: tree.Expression) -> List[tree.Expression]:
     """The parts of a designator that are built on one another, its first name first."""
     parts = [designator]
     while isinstance(parts[-1], (tree.Reference, tree.Component)):
@@ -569,14 +704,14 @@ def _chain(designator: tree.Expression) -> List[tree.Expression]:
     return parts[::-1]
 
 
-def _first_subscripts(designator: tree.Expression) -> Optional[Tuple[tree.Expression, ...]]:
+def first_subscripts(designator: tree.Expression) -> Optional[Tuple[tree.Expression, ...]]:
     """The subscripts of a designator's first name, none where it has no parentheses."""
-    chain = _chain(designator)
+    chain = chain_of(designator)
     first = chain[1] if len(chain) > 1 else None
     return first.arguments if isinstance(first, tree.Reference) else None
 
 
-def _value(argument: tree.Expression) -> tree.Expression:
+def value_of(argument: tree.Expression) -> tree.Expression:
     """An argument without its keyword."""
     return argument.value if isinstance(argument, tree.Keyword) else argument
 

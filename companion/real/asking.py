@@ -133,8 +133,9 @@ class _Asking:
         """Asks the model, and where something is needed after the loop, what each iteration assigns."""
         model = self._model
         final = first = self._session(model, model.live, model.candidates)
-        last = self._assigned_always(sorted(first.needed)) if first.needed else _NONE
-        unsaved = first.needed if self._conditional else last
+        needed = first.needed if model.has_last else _NONE
+        last = self._assigned_always(sorted(needed)) if needed else _NONE
+        unsaved = needed if self._conditional else last
         if unsaved:
             names = sorted(first.private | unsaved)
             final = self._session(model, model.live - unsaved, names)
@@ -144,7 +145,7 @@ class _Asking:
         user = model.names.key
         return Answer(
             private=tuple(sorted(map(user, first.private))), last=tuple(sorted(map(user, last))),
-            conditional=tuple(sorted(map(user, first.needed - last))),
+            conditional=tuple(sorted(map(user, needed - last))),
             carried=grouped(rows), is_parallel=is_parallel,
         )
 

@@ -33,12 +33,13 @@ _ALL = (
         "A1", "no other name for what is changed",
         "What the loop changes through a dummy argument or a global variable has no other name "
         f"({_STANDARD}, 15.5.2.13).",
-        True, "two dummy arguments, or one and a global variable, of which one is assigned",
+        True, "two dummy arguments, or one and a global variable, of which one is assigned; an array that a procedure "
+        "has by two names",
     ),
     Assumption(
         "A2", "subscripts within bounds",
         f"Each subscript is within the declared bounds of its dimension ({_STANDARD}, 9.5.3.1).",
-        True, "arrays of rank 2 or more",
+        True, "arrays of rank 2 or more; an array that is given to a procedure",
     ),
     Assumption(
         "A3", "32 bits",
@@ -49,13 +50,13 @@ _ALL = (
     Assumption(
         "A4", "DO variables change by their DO alone",
         "A DO variable is changed by its DO alone, also by procedures that are called.",
-        True, "a call that a DO variable is given to, or that may reach one",
+        True, "a procedure that may assign a DO variable that it's given",
     ),
     Assumption(
-        "A5", "included files are those that the compiler reads",
-        "INCLUDEd files and modules are those that the compiler reads. A statement outside the loop that can't be read "
-        "doesn't jump into the loop.",
-        True, "an INCLUDEd file or a module was read, or there is such a statement",
+        "A5", "included files, modules and procedures are those that the compiler reads",
+        "INCLUDEd files, modules and external procedures are those that the compiler reads. A statement outside the "
+        "loop that can't be read doesn't jump into the loop.",
+        True, "an INCLUDEd file, a module or an external procedure was read, or there is such a statement",
     ),
     Assumption(
         "A6", "intrinsics",

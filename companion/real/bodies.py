@@ -7,10 +7,11 @@ from typing import Dict, FrozenSet, Iterable, List, Mapping, Optional, Sequence,
 
 from . import tree
 from .accesses import Access, Effects, Kind, effects, reads_of
+from .conditions import Conditions
 from .indices import Indices, Pieces, Refused, Site, as_operand, joined
 from .naming import OPAQUE, Naming
 from .recurrences import Induction, Reduction
-from .shape import Choice, Maybe, Part, Single
+from .shape import BUSY, JUMPS, Action, Choice, Maybe, Part, Single, Tested
 from .survey import Scene, Survey
 from .units import Block, Written
 from .writer import Origin, Piece, Use, Writer, sum_of, sums
@@ -24,7 +25,6 @@ _READING = (
 )
 #: The most DOs of the profile in one another.
 MOST_LOOPS = 6
-_JUMPS = (tree.GoTo, tree.Cycle, tree.Exit, tree.Continue)
 _PLAIN = (
     tree.GoTo, tree.Cycle, tree.Exit, tree.Continue, tree.End, tree.Else, tree.Case, tree.Format, tree.Data,
 )
@@ -44,12 +44,13 @@ class Plan:
 
     `outside` are DO variables of inner loops that are read outside their DOs. `iteration` is the number of the loop's
     iteration, counted from 0, where there are induction variables. `downward` tells that inner DOs are counted from
-    their last values, where that can be.
+    their last values, where that can be. `own` has the variable of a DO CONCURRENT, which is none of the unit's.
     """
 
     def __init__(
         self, scene: Scene, survey: Survey, indices: Indices, names: Naming, reductions: Sequence[Reduction],
         inductions: Sequence[Induction], outside: FrozenSet[str], downward: bool = False,
+        own: FrozenSet[str] = frozenset(),
     ) -> None:
         self.scene = scene
         self.survey = survey
@@ -60,6 +61,7 @@ class Plan:
         self.inductions: Dict[int, Induction] = {one.number: one for one in inductions}
         self.outside = outside
         self.downward = downward
+        self.own = own
         self.iteration = ""
         #: Whether a DO might be counted from its last value.
         self.may_turn = False
@@ -163,6 +165,10 @@ class BodyWriter:
         self._indices = plan.indices
         self._survey = plan.survey
         self.writer = Writer()
+        self._conditions = Conditions(
+            plan.scene.roles, plan.scene.symbols.constant, plan.survey.effects,
+            plan.gathering | frozenset(plan.inductions),
+        )
         #: How many DOs are open in the model.
         self._loops = 1
 
@@ -171,9 +177,21 @@ class BodyWriter:
         """The number of dimensions of each array, by its name in the model."""
         return self._indices.ranks
 
+    def masked(self, loop: Block, parts: Sequence[Part]) -> None:
+        """Writes the parts of an iteration of the loop itself; a DO CONCURRENT may have a mask."""
+        statement = loop.head.statement
+        control = statement.control if isinstance(statement, tree.Do) else None
+        if not isinstance(control, tree.Concurrent) or control.mask is None:
+            self.parts(parts)
+            return
+        found = reads_of(control.mask, self._scene.roles, frozenset(one.variable for one in control.ranges))
+        self._test(found.reads, loop.head)
+        self.parts(parts)
+        self.writer.end("END IF")
+
     def parts(self, parts: Sequence[Part]) -> None:
         """Writes the parts of an iteration."""
-        for part in parts:
+        for part in self._conditions.joined(parts):
             if isinstance(part, Single):
                 if isinstance(part.node, Block):
                     self._block(part.node)
@@ -181,6 +199,10 @@ class BodyWriter:
                     self._statement(part.node)
             elif isinstance(part, Choice):
                 self._choice(part)
+            elif isinstance(part, Tested):
+                self._read(self._condition(part.head).reads, part.head)
+            elif isinstance(part, Action):
+                self._action(part.head)
             else:
                 assert isinstance(part, Maybe)
                 self.writer.begin(_OPEN)
@@ -215,29 +237,70 @@ class BodyWriter:
 
     def _logical_if(self, written: Written, statement: tree.LogicalIf) -> None:
         """A logical IF with an action; where the action is a jump, the shape says what is left out."""
-        condition = self._effects(statement.condition, written)
-        if isinstance(statement.action, _JUMPS):
+        condition = self._condition(written)
+        if isinstance(statement.action, JUMPS):
             self._read(condition.reads, written)
             return
         self._test(condition.reads, written)
+        self._action(written)
+        self.writer.end("END IF")
+
+    def _action(self, written: Written) -> None:
+        """The action of a logical IF."""
+        statement = written.statement
+        assert isinstance(statement, tree.LogicalIf)
         action = effects(statement.action, self._scene.roles, self._survey.bound[written.number])
         self._simple(statement.action, action, written)
-        self.writer.end("END IF")
+
+    def _condition(self, written: Written) -> Effects:
+        """What the condition of an IF reads."""
+        statement = written.statement
+        if not isinstance(statement, tree.LogicalIf):
+            return self._survey.effects[written.number]
+        return self._effects(statement.condition, written)
 
     def _simple(self, statement: tree.Statement, found: Effects, written: Written) -> None:
         line = written.item.first
         for trouble in found.troubles:
             raise Refused(trouble.reason, line, trouble.words)
-        if isinstance(statement, tree.Assignment) and len(found.writes) == 1:
+        if isinstance(statement, (tree.Call, tree.InputOutput)):
+            self._in_order(found.accesses, written)
+        elif isinstance(statement, tree.Assignment) and len(found.writes) == 1:
             self._assign(found.writes[0], self._terms(found.reads, written), written)
+        elif isinstance(statement, tree.Assignment) and found.side_writes:
+            # What its functions write may be any part of it, at any time before the assignment.
+            self._read(found.reads, written)
+            self._write_maybe(found.side_writes, written)
+            for access in found.writes:
+                if not access.by_call:
+                    self._assign(access, [], written)
         elif isinstance(statement, _READING):
             self._read(found.reads, written)
             self._write_maybe(found.writes, written)
         elif found.accesses or not isinstance(statement, _PLAIN):
             raise Refused("parse", line, f"{type(statement).__name__} has no model here")
 
+    def _in_order(self, accesses: Sequence[Access], written: Written) -> None:
+        """Reads and writes one after the other: as a CALL carries them out, and READ or WRITE of an internal unit.
+
+        There an item may be an index of the next.
+        """
+        reads: List[Access] = []
+        for access in accesses:
+            if not access.writes:
+                reads.append(access)
+                continue
+            self._read(reads, written)
+            reads = []
+            if access.covers:
+                self._assign(access, [], written)
+            else:
+                self._write_maybe([access], written)
+        self._read(reads, written)
+
     def _write_maybe(self, writes: Sequence[Access], written: Written) -> None:
-        """Writes that may be left out."""
+        """Writes that may be left out. No procedure writes a DO variable: A4."""
+        writes = [access for access in writes if not access.by_call or access.name not in self._indices.counters]
         if writes:
             self.writer.begin(_OPEN)
             for access in writes:
@@ -257,12 +320,11 @@ class BodyWriter:
         head = choice.head
         if head is None:
             self.writer.begin(_OPEN)
+        elif _chooses_alone(head.statement):
+            self._test(self._condition(head).reads, head)
         else:
-            statement = head.statement
-            found = self._survey.effects[head.number]
-            if isinstance(statement, tree.LogicalIf):
-                found = self._effects(statement.condition, head)
-            self._test(found.reads, head)
+            self._statement(head)
+            self.writer.begin(_OPEN)
         last = len(choice.branches) - 1
         for index, branch in enumerate(choice.branches):
             if 0 < index < last:
@@ -324,7 +386,7 @@ class BodyWriter:
     # --- References ----------------------------------------------------------------------------------------------
 
     def _site(self, written: Written, bound: FrozenSet[str] = frozenset()) -> Site:
-        return Site(self._scene.unit.path, written.item.first, written.item.file, bound)
+        return Site(self._scene.unit.path, written.item.first, written.item.file, bound - self._plan.own)
 
     def _effects(self, expression: tree.Expression, written: Written) -> Effects:
         return reads_of(expression, self._scene.roles, self._survey.bound[written.number])
@@ -390,3 +452,10 @@ class BodyWriter:
         for group in groups[:-1]:
             self.writer.reads(group)
         self.writer.begin("IF (", *sum_of(groups[-1]), ".NE.0) THEN")
+
+
+def _chooses_alone(statement: tree.Statement) -> bool:
+    """Whether a statement that chooses where the run goes on does nothing else; READ with ERR= assigns, too."""
+    return isinstance(statement, _READING) or isinstance(statement, tree.LogicalIf) and not isinstance(
+        statement.action, BUSY
+    )

@@ -199,7 +199,7 @@ def _do(text: _Text) -> tree.Statement:
         if after.letters.full:
             raise NotRead("there is something after its header that isn't known here")
         ranges, mask = _header(header)
-        return tree.Do(number, tree.Concurrent(ranges, mask))
+        return tree.Do(number, tree.Concurrent(ranges, mask, "::" in header.letters.masked))
     equals = rest.letters.outside("=")
     bounds = [part.expression() for part in rest.part(equals[0] + 1).split(",")] if equals else []
     if len(bounds) not in (2, 3):

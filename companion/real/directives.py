@@ -168,11 +168,18 @@ def _obstacle_of_text(loop: units.Block, unit: units.Unit) -> Optional[str]:
         is_here = not other.item.file and other.item.first <= item.last and item.first <= other.item.last
         if is_here and other is not loop.head:
             return "another statement is on its line"
+    if any(_is_concurrent(other) and (other is loop or _holds(other, loop)) for other in unit.loops()):
+        return "a DO CONCURRENT has no directive, and none in it"
     if item.label is not None:
         return f"a jump to its label {item.label} would lead past the directive"
     if loop.shares_end and any(outer.end is loop.end and _holds(outer, loop) for outer in unit.loops()):
         return "it ends with the same statement as a DO round it"
     return None
+
+
+def _is_concurrent(loop: units.Block) -> bool:
+    statement = loop.head.statement
+    return isinstance(statement, tree.Do) and isinstance(statement.control, tree.Concurrent)
 
 
 def _obstacle_of_unit(file: units.File, unit: units.Unit) -> Optional[str]:

@@ -3,7 +3,7 @@
 from __future__ import annotations
 
 from dataclasses import dataclass
-from typing import Dict, Iterator, List, Optional, Sequence, Tuple
+from typing import Dict, Iterator, List, Mapping, Optional, Sequence, Tuple
 
 from ..doubts import why_untested
 from ..messages import Mark, excerpt, listed
@@ -48,7 +48,7 @@ class Wanted:
 class Explainer:
     """Explains verdicts about the loops of a file. `included` has the lines of its INCLUDEd files."""
 
-    def __init__(self, name: str, file: File, columns: int, included: Dict[str, Sequence[str]]) -> None:
+    def __init__(self, name: str, file: File, columns: int, included: Mapping[str, Sequence[str]]) -> None:
         self._name = name
         self._file = file
         self._columns = columns

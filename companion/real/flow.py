@@ -41,8 +41,9 @@ class Graph:
 
     `statements` are those of all nodes; a step has the statement of its DO. `bound` are the variables of FORALL and DO
     CONCURRENT around a statement. `aliased` has an entry for each statement in ASSOCIATE, BLOCK and SELECT TYPE: the
-    names that have another name there. Such a statement may assign another variable than it seems. `is_open` means that
-    edges may be missing: an ENTRY, an assigned GO TO, a label that isn't there.
+    names that have another name there. Such a statement may assign another variable than it seems. The run of a unit
+    begins at `entry`, or at an ENTRY, which is among `further_entries`. `is_open` means that edges may be missing: an
+    assigned GO TO without labels, a label that isn't there.
     """
 
     entry: int = END
@@ -51,6 +52,12 @@ class Graph:
     bound: Dict[int, FrozenSet[str]] = field(default_factory=dict)
     aliased: Dict[int, FrozenSet[str]] = field(default_factory=dict)
     is_open: bool = False
+    further_entries: Tuple[int, ...] = ()
+
+    @property
+    def entries(self) -> Tuple[int, ...]:
+        """All nodes at which a run of the unit may begin."""
+        return (self.entry, *self.further_entries)
 
     def members(self, loop: Block) -> FrozenSet[int]:
         """The nodes of a DO: its head, its step, all its statements with their steps."""
@@ -90,8 +97,9 @@ class Flow:
         if self._graph is None:
             builder = _Builder(self._labels)
             builder.graph.entry = builder.sequence(self.unit.body, END)
-            # An ENTRY may be among the declarations as well.
-            builder.graph.is_open |= any(written.word == "ENTRY" for written in self.unit.statements())
+            builder.graph.further_entries = tuple(
+                number for number, written in builder.graph.statements.items() if written.word == "ENTRY"
+            )
             self._graph = builder.graph
         return self._graph
 
@@ -224,7 +232,8 @@ def _jumps(statement: tree.Statement) -> _Jumps:
     if isinstance(statement, tree.ArithmeticIf):
         return _Jumps(statement.labels, goes_on=False)
     if isinstance(statement, tree.AssignedGoTo):
-        return _Jumps(statement.labels, goes_on=False, anywhere=True)
+        # Its variable has one of the labels where they are written (ANSI X3.9-1978, 11.3).
+        return _Jumps(statement.labels, goes_on=False, anywhere=not statement.labels)
     if isinstance(statement, tree.Return) or isinstance(statement, tree.Stop) and statement.word != "PAUSE":
         return _Jumps(leaves=True, goes_on=False)
     if isinstance(statement, tree.LogicalIf):
@@ -265,14 +274,16 @@ def _jump_faults(loop: Block, labels: Mapping[int, int]) -> Iterator[Fault]:
         jumps = _jumps(written.statement)
         if jumps.leaves and not isinstance(written.statement, tree.Unreadable):
             yield Fault("exit", line, "the run may leave the loop")
+        if jumps.anywhere and not isinstance(written.statement, tree.Unreadable):
+            yield Fault("goto", line, "where the run goes on isn't known")
         for label in jumps.labels:
             target = labels.get(label, END)
             if target not in numbers:
-                yield Fault("exit", line, f"GO TO {label} leaves the loop")
+                yield Fault("exit", line, f"a jump to {label} leaves the loop")
             elif target <= written.number:
-                yield Fault("goto", line, f"GO TO {label} goes back")
+                yield Fault("goto", line, f"a jump to {label} goes back")
             elif not rounds[target] <= rounds[written.number]:
-                yield Fault("goto", line, f"GO TO {label} jumps into a DO")
+                yield Fault("goto", line, f"a jump to {label} goes into a DO")
         if _leaves_by_name(_action(written.statement), loop, rounds[written.number]):
             yield Fault("exit", line, f"{type(_action(written.statement)).__name__.upper()} leaves the loop")
 

@@ -107,7 +107,7 @@ class Indices:
         if not self._is_one_number(expression):
             return False
         effects = reads_of(expression, self._roles, site.bound)
-        if effects.troubles or effects.calls or site.bound.intersection(tree.names_in(expression)):
+        if effects.troubles or effects.calls or effects.procedures or site.bound.intersection(tree.names_in(expression)):
             return False
         return all(access.name not in self._written for access in effects.accesses)
 
@@ -172,10 +172,8 @@ class Indices:
         self.assumed.add("A7")
 
     def extent(self, name: str, position: int) -> Tuple[Optional[int], Optional[int]]:
-        """The bounds of a dimension, none where they aren't constants, or are what ALLOCATE or a pointer makes them."""
-        symbol = self._symbols.get(name)
-        is_deferred = symbol.bounds[position].upper is None and bool(symbol.attributes & {"ALLOCATABLE", "POINTER"})
-        return (None, None) if is_deferred else symbol.extents[position]
+        """The bounds of a dimension, none where they aren't known to be constants."""
+        return self._symbols.get(name).extents[position]
 
     def _check_bounds(self, name: str, position: int, argument: tree.Expression, site: Site) -> None:
         """Refuses a subscript that evidently leaves a dimension, so that it may be an element of another column."""
@@ -238,6 +236,9 @@ class Indices:
 
     def _operation(self, expression: tree.Operation, site: Site) -> Optional[Pieces]:
         operator = expression.operator
+        if operator == "/":
+            quotient = self._quotient(expression)
+            return None if quotient is None else self._plain(quotient, site)
         if operator not in ("+", "-", "*"):
             return None
         if operator == "*" and all(self._symbols.constant(one) is None for one in expression.operands):
@@ -255,6 +256,33 @@ class Indices:
             return ("(", operator, *last, ")")
         first = as_operand(operands[0]) if operator == "*" else operands[0]
         return (*first, operator, *last)
+
+    def _quotient(self, expression: tree.Operation) -> Optional[tree.Expression]:
+        """What an INTEGER division computes without a remainder whatever its variables are: I for `2*I/2`."""
+        divisor = self._symbols.constant(expression.operands[1])
+        if not divisor or not all(map(self._is_integer, expression.operands)):
+            return None
+        return self._divided(expression.operands[0], divisor)
+
+    def _divided(self, dividend: tree.Expression, divisor: int) -> Optional[tree.Expression]:
+        """A multiple of a number, divided by it; none where it isn't a multiple for certain."""
+        value = self._symbols.constant(dividend)
+        if value is not None:
+            return _constant(value // divisor) if value % divisor == 0 else None
+        if isinstance(dividend, tree.Parentheses):
+            inner = self._divided(dividend.inner, divisor)
+            return None if inner is None else tree.Parentheses(inner)
+        if not isinstance(dividend, tree.Operation) or dividend.operator not in ("+", "-", "*"):
+            return None
+        parts = [self._divided(operand, divisor) for operand in dividend.operands]
+        known = [part for part in parts if part is not None]
+        if dividend.operator != "*":
+            return tree.Operation(dividend.operator, tuple(known)) if len(known) == len(parts) else None
+        if not known:
+            return None
+        at = next(index for index, part in enumerate(parts) if part is not None)
+        factors = [tree.Parentheses(known[0]) if index == at else one for index, one in enumerate(dividend.operands)]
+        return tree.Operation("*", tuple(factors))
 
     def _function(self, expression: tree.Expression, site: Site) -> Optional[Pieces]:
         """MIN and MAX of such expressions."""
@@ -359,3 +387,9 @@ def _literal(value: int) -> Optional[Pieces]:
     if abs(value) > _GREATEST:
         return None
     return (str(value),) if value >= 0 else (f"({value})",)
+
+
+def _constant(value: int) -> tree.Expression:
+    """An INTEGER constant as it would be written."""
+    literal = tree.Literal("INTEGER", str(abs(value)))
+    return literal if value >= 0 else tree.Parentheses(tree.Operation("-", (literal,)))

@@ -7,6 +7,7 @@ storage, statements that can't be read. Only scalars stop being live; an array i
 
 from __future__ import annotations
 
+import re
 from dataclasses import dataclass
 from functools import cached_property
 from typing import Callable, Dict, FrozenSet, Iterable, Mapping, Optional, Set, Tuple
@@ -15,6 +16,9 @@ from . import tree
 from .accesses import Effects, Names, reads_of
 from .flow import END, Graph, is_plain_output, reversed_edges, step_of
 from .units import Block, Written
+
+#: What may be the variable of an implied DO in output: such a statement assigns it.
+_IMPLIED = re.compile(r", *(?!(?:FMT|REC|POS|UNIT|ADVANCE|DECIMAL|SIGN) *=)[A-Z]\w* *=[^=]", re.IGNORECASE)
 
 
 @dataclass(frozen=True)
@@ -94,7 +98,33 @@ class Liveness:
     @cached_property
     def live_at_entry(self) -> FrozenSet[str]:
         """The names whose values from before the unit's run may be wanted in it."""
-        return self._live_at([self._graph.entry])
+        return self._live_at(self._graph.entries)
+
+    @cached_property
+    def exposed_at_entry(self) -> FrozenSet[str]:
+        """The names that the unit may read before it has assigned them. An array is one of them if it's read at all."""
+        assigns = {node: self._mask(self.uses[node].assigns) for node in self._graph.successors}
+
+        def transfer(node: int, after: int) -> int:
+            return self._reads(node) | after & ~assigns[node]
+
+        found = _fixed_point(self._graph.successors, {END: 0}, transfer)
+        return self._named(_union(found, [self._graph.entry]))
+
+    @cached_property
+    def always_assigned(self) -> FrozenSet[str]:
+        """The scalars that each run of the unit assigns, whichever way it goes to its end."""
+        entry, start = self._graph.entry, min([END, *self._graph.statements]) - 1
+        before = {node: ones for node, ones in reversed_edges(self._graph.successors).items() if node != END}
+        ends = reversed_edges(self._graph.successors).get(END, ()) if entry != END else (start,)
+        before[entry] = (*before.get(entry, ()), start)
+        assigns = {node: self._mask(self.uses[node].assigns) for node in self._graph.successors}
+
+        def transfer(node: int, mask: int) -> int:
+            return mask & ~assigns.get(node, 0)
+
+        unassigned = _union(_fixed_point(before, {start: self._all}, transfer), ends)
+        return self._named(_union(assigns, assigns) & ~unassigned)
 
     def iteration(self, loop: Block) -> Iteration:
         """What an iteration reads and assigns."""
@@ -121,7 +151,7 @@ class Liveness:
         written = self._graph.statements[number]
         if number < END:
             return self._step_use(written, number)
-        if is_plain_output(written):
+        if is_plain_output(written) and not _IMPLIED.search(written.item.text):
             # A function among the items may read what other procedures reach, and an internal unit is written.
             return Use(written.names, may_assign=written.names, calls=True)
         control = written.statement.control if isinstance(written.statement, tree.Do) else None
@@ -148,14 +178,17 @@ class Liveness:
         aliased = self._graph.aliased.get(number)
         for access in found.accesses:
             if not access.writes:
-                # All that a statement reads it reads before it writes.
-                reads.add(access.name)
+                # A procedure may read what it has assigned. Any other statement is taken to read first: input may read an
+                # index after that.
+                if access.name not in assigns or not access.by_call:
+                    reads.add(access.name)
             elif access.covers and aliased is None:
                 assigns.add(access.name)
             else:
                 may_assign.add(access.name)
         reads |= aliased or frozenset()
-        return Use(frozenset(reads), frozenset(assigns), frozenset(may_assign), found.calls, found.reads_all)
+        calls = found.calls or found.reads_shared
+        return Use(frozenset(reads), frozenset(assigns), frozenset(may_assign), calls, found.reads_all)
 
     # --- Sets of names as bits ---
 
@@ -183,8 +216,8 @@ class Liveness:
         if self._live is None:
             self._live = self._found_live()
             # What a run may read of the one before it is needed at the end, which may make it read more.
-            while self._kept & ~self._needed & _union(self._live, [self._graph.entry]):
-                self._needed |= self._kept & _union(self._live, [self._graph.entry])
+            while self._kept & ~self._needed & _union(self._live, self._graph.entries):
+                self._needed |= self._kept & _union(self._live, self._graph.entries)
                 self._live = self._found_live()
         return self._named(self._always | _union(self._live, nodes))
 

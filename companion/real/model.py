@@ -19,13 +19,17 @@ from .flow import has_iteration
 from .indices import Indices, Pieces, Refused, Site
 from .naming import Naming
 from .recurrences import Induction, Reduction
-from .survey import Scene, Survey, assumptions_of, control_of, surveyed, variable_of
+from .survey import (
+    Scene, Survey, assumptions_of, control_of, counting, own_variable, surveyed, variable_of,
+)
 from .units import Block, Fault, Written, depth_of, loops_of
 from .writer import TooLong, Writer
 from .writer import Written as Sheet
 
 #: With more DOs in one another nothing is said about a unit.
 _DEEPEST_UNIT = 100
+#: The same of blocks of any kind: flow and shape of an iteration take a time that grows with the square of it.
+_DEEPEST_NESTING = 200
 #: Attributes with which a scalar has no copies.
 _NO_COPIES = frozenset(["ALLOCATABLE", "POINTER", "TARGET", "OPTIONAL", "ASYNCHRONOUS", "CRAY POINTER"])
 
@@ -54,6 +58,8 @@ class Model:
     last_variable: str = ""
     needed_value: str = ""
     heading: str = ""
+    #: Whether a scalar may have its value from the last iteration after the loop; not for a DO CONCURRENT.
+    has_last: bool = True
     #: Makes the model in which inner DOs are counted from their last values; none where that isn't another one.
     turned: Optional[Callable[[], Model]] = None
 
@@ -80,6 +86,8 @@ def model_of(scene: Scene, loop: Block, granted: FrozenSet[str]) -> Union[Model,
     """The model of a loop, or why there is none. `granted` are the assumptions that may be made."""
     if scene.depth > _DEEPEST_UNIT:
         return Fault("limit", loop.first_line, f"its unit has {scene.depth} DOs in one another")
+    if scene.nesting > _DEEPEST_NESTING:
+        return Fault("limit", loop.first_line, f"its unit has {scene.nesting} blocks in one another")
     if depth_of((loop,)) > MOST_LOOPS:
         return Fault("limit", loop.first_line, f"there are more than {MOST_LOOPS} DOs in one another")
     try:
@@ -106,29 +114,31 @@ class _Making:
         self._might_help: Set[str] = set()
         self._assumes: Set[str] = set(assumptions_of(scene, self._survey))
         self._parts = scene.facts.shape(loop)
-        self._indices = Indices(scene.roles, scene.symbols, self._names, self._survey.written, granted)
+        self._own = own_variable(loop)
+        written = self._survey.written | ({self._own} if self._own else set())
+        self._indices = Indices(scene.roles, scene.symbols, self._names, written, granted)
 
     def model(self) -> Model:
         """The model."""
         reductions, inductions = self._recurrences()
         plan = Plan(
             self._scene, self._survey, self._indices, self._names, reductions, inductions, self._outside(),
-            self._downward,
+            self._downward, frozenset([self._own] if self._own else []),
         )
         writer = BodyWriter(plan)
-        variable = variable_of(self._loop)
+        variable = self._own or variable_of(self._loop)
         header = self._header(plan, variable)
         self._start(plan, writer)
         writer.writer.begin(*header)
-        writer.parts(self._parts)
+        writer.masked(self._loop, self._parts)
         self._assumes |= self._indices.assumed
         candidates = self._candidates(reductions, inductions, plan.outside)
         live = frozenset(self._names.name(name) for name in self._live if name in self._survey.written)
-        last_variable, needed_value = self._variable_after(variable)
+        last_variable, needed_value = ("", "") if self._own else self._variable_after(variable)
         return Model(
             self._loop.first_line, writer.writer, tuple(sorted(writer.ranks.items())), self._names, candidates,
             live - {self._names.name(variable)}, frozenset(self._assumes), frozenset(self._might_help), reductions,
-            inductions, last_variable, needed_value,
+            inductions, last_variable, needed_value, has_last=not self._own,
             turned=self._turned if plan.may_turn and not self._downward else None,
             heading=f"DO {variable} OF LINE {self._loop.first_line}: A MODEL FOR PED. NOT TO BE RUN",
         )
@@ -141,6 +151,8 @@ class _Making:
     def _recurrences(self) -> Tuple[Tuple[Reduction, ...], Tuple[Induction, ...]]:
         """The reductions and induction variables for which all assumptions are granted."""
         facts = self._scene.facts
+        if self._own:
+            return (), ()
         reductions = tuple(one for one in facts.reductions(self._loop) if self._is_granted(one))
         gathered = {one.name for one in reductions}
         inductions = tuple(
@@ -189,7 +201,7 @@ class _Making:
     ) -> Tuple[str, ...]:
         """The scalars that may be private: those of which each iteration may have a copy of its own."""
         left_out = {one.name for one in reductions} | {one.name for one in inductions} | {variable_of(self._loop)}
-        left_out |= self._survey.inner_variables - outside
+        left_out |= self._survey.inner_variables - outside | self._survey.reached
         found = []
         for name in sorted(self._survey.written - left_out):
             symbol = self._scene.symbols.get(name)
@@ -215,8 +227,8 @@ class _Making:
 
     def _header(self, plan: Plan, variable: str) -> Pieces:
         """The DO of the loop itself; it is counted from 0 by 1 where induction variables are counted with it."""
-        control = control_of(self._loop)
-        assert isinstance(control, tree.Counted)
+        control = counting(self._loop)
+        assert control is not None
         site = Site(self._scene.unit.path, self._loop.head.item.first, self._loop.head.item.file)
         count = plan.count(control, site, normalised=bool(plan.inductions), is_inner=False)
         constant = self._scene.symbols.constant

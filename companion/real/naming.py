@@ -62,7 +62,7 @@ class Naming:
 
     def counted_by(self, name: str) -> str:
         """The user's variable of the DO that a name of the model counts; empty where the DO is the model's own."""
-        return self._counted.get(name) or (self._keys.get(name, ""))
+        return self._counted.get(name, "") or self._keys.get(name, "")
 
     def key(self, name: str) -> str:
         """What a name of the model stands for; the name itself where that is nothing of the user's."""

@@ -90,6 +90,10 @@ class Loop:
         #: Whether a statement calls a procedure, and whether one may read and write any name.
         self.calls = any(found.calls for found in self.effects.values())
         self.reads_all = any(found.reads_all for found in self.effects.values())
+        #: The names that procedures use which the loop calls, under names of their own.
+        self.reached = frozenset(
+            access.name for found in self.effects.values() for access in found.accesses if access.shared is not None
+        )
 
     def places(self, name: str) -> FrozenSet[int]:
         """The statements that read or write a name."""
@@ -105,7 +109,7 @@ class Loop:
 
     def is_plain_scalar(self, name: str) -> bool:
         """Whether a name is a scalar of the unit that no other name and no procedure in the loop reaches."""
-        if self.names.kind_of(name) is not Kind.SCALAR or self.names.may_share_storage(name):
+        if self.names.kind_of(name) is not Kind.SCALAR or self.names.may_share_storage(name) or name in self.reached:
             return False
         # An OPTIONAL dummy that isn't present has no storage that a clause could copy.
         if self.names.attributes_of(name) & {"VOLATILE", "ASYNCHRONOUS", "ALLOCATABLE", "OPTIONAL"}:
@@ -137,6 +141,8 @@ def _reduction(loop: Loop, name: str) -> Optional[Reduction]:
         if not all(_keeps_type(type_, value, loop.names) for value in gathering.values):
             return None
     if len(operators) != 1 or frozenset(numbers) != loop.places(name):
+        return None
+    if any(loop.effects[number].side_writes for number in numbers):
         return None
     return Reduction(name, operators.pop(), type_, frozenset(numbers))
 
@@ -286,6 +292,8 @@ def _operation_type(value: tree.Operation, names: Names) -> str:
 def _reference_type(name: str, arguments: Sequence[tree.Expression], names: Names) -> str:
     if names.kind_of(name) in (Kind.ARRAY, Kind.CONSTANT, Kind.STATEMENT_FUNCTION):
         return names.type_of(name)
+    if names.kind_of(name) in (Kind.SCALAR, Kind.PROCEDURE) and not names.is_intrinsic(name):
+        return names.function_type(name)
     if not names.is_intrinsic(name) or any(isinstance(argument, tree.Section) for argument in arguments):
         return ""
     for found, functions in _RESULTS:
@@ -361,7 +369,7 @@ def is_invariant(expression: tree.Expression, loop: Loop) -> bool:
     All its functions are pure intrinsics and statement functions. The loop's variable is assigned by the loop.
     """
     found = reads_of(expression, loop.names)
-    if found.troubles or found.calls or found.reads_all or loop.reads_all:
+    if found.troubles or found.calls or found.reads_all or loop.reads_all or found.procedures:
         return False
     for access in found.accesses:
         if access.name in loop.assigned:

@@ -2,10 +2,10 @@
 
 from __future__ import annotations
 
-from typing import FrozenSet, List, Optional, Union
+from typing import FrozenSet, List, Optional, Protocol, Sequence, Union
 
 from . import tree
-from .accesses import Kind, StatementFunction, Trouble
+from .accesses import Called, Kind, StatementFunction, Trouble
 from .symbols import Storage, Symbol, Symbols, TypeComponents
 
 #: What a name is by its storage, where it's no variable and no procedure.
@@ -15,11 +15,24 @@ _KINDS = {Storage.CONSTANT: Kind.CONSTANT, Storage.TYPE: Kind.TYPE, Storage.UNKN
 _PARTS = frozenset(["RE", "IM", "KIND", "LEN"])
 
 
-class Roles:
-    """What the names of a unit are for its statements: `accesses.Names`."""
+class Procedures(Protocol):
+    """What is known of the procedures of some files."""
 
-    def __init__(self, symbols: Symbols) -> None:
+    def called(
+        self, symbols: Symbols, name: str, arguments: Sequence[tree.Expression], is_function: bool
+    ) -> Union[Called, Trouble]:
+        """What a procedure does that a unit calls, in the unit's names; why that isn't known."""
+
+    def function_type(self, symbols: Symbols, name: str) -> str:
+        """The type of the value of a function that a unit refers to, empty where it isn't in the files."""
+
+
+class Roles:
+    """What the names of a unit are for its statements: `accesses.Names`. Without `procedures` nobody looks into them."""
+
+    def __init__(self, symbols: Symbols, procedures: Optional[Procedures] = None) -> None:
         self._symbols = symbols
+        self._procedures = procedures
 
     def kind_of(self, name: str) -> Kind:
         """What a name is."""
@@ -65,6 +78,16 @@ class Roles:
         """Whether another name of the unit may stand for the same storage."""
         symbol = self._symbols.get(name)
         return symbol.is_pointer or bool(symbol.group) or bool(symbol.attributes & {"VOLATILE", "ASYNCHRONOUS"})
+
+    def called(
+        self, name: str, arguments: Sequence[tree.Expression], is_function: bool
+    ) -> Union[Called, Trouble, None]:
+        """What a procedure does that is called with these arguments; none where nobody looks into procedures."""
+        return None if self._procedures is None else self._procedures.called(self._symbols, name, arguments, is_function)
+
+    def function_type(self, name: str) -> str:
+        """The type of the value of a function whose body was read; empty for all other names."""
+        return "" if self._procedures is None else self._procedures.function_type(self._symbols, name)
 
     def structure_trouble(self, designator: tree.Expression) -> Optional[Trouble]:
         """Why nothing is said about a designator of a derived type; none where it is plain data."""

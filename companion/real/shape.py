@@ -44,7 +44,26 @@ class Maybe:
     parts: Tuple[Part, ...]
 
 
-Part = Union[Single, Choice, Maybe]
+@dataclass(frozen=True)
+class Action:
+    """The action of a logical IF, where its condition is known to hold. `shape_of` makes none of these."""
+
+    head: Written
+
+
+@dataclass(frozen=True)
+class Tested:
+    """The condition of an IF alone, where it's known what comes of it. `shape_of` makes none of these."""
+
+    head: Written
+
+
+Part = Union[Single, Choice, Maybe, Action, Tested]
+
+#: Actions of a logical IF that are no parts: where the run goes on is in the shape.
+JUMPS = (tree.GoTo, tree.Cycle, tree.Exit, tree.Continue)
+#: Actions of a logical IF that do something and may jump: more than its condition chooses.
+BUSY = (tree.InputOutput, tree.Call)
 
 
 def shape_of(body: Body) -> Tuple[Part, ...]:
@@ -190,7 +209,7 @@ def inner_blocks(parts: Sequence[Part]) -> List[Block]:
         elif isinstance(part, Choice):
             for branch in part.branches:
                 found += inner_blocks(branch)
-        else:
+        elif isinstance(part, Maybe):
             found += inner_blocks(part.parts)
     return found
 

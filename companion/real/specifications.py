@@ -249,6 +249,7 @@ class _Reader:
     def take_namelist(self, statement: tree.Namelist) -> None:
         for group, names in statement.groups:
             self._found.namelists[group] = self._found.namelists.get(group, ()) + names
+            self._own(group, "GROUP")
             for name in names:
                 self._found.facts(name).attributes.add("NAMELIST")
 

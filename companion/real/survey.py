@@ -8,11 +8,11 @@ from functools import cached_property
 from typing import Dict, FrozenSet, Iterator, List, Optional, Set, Tuple
 
 from . import intrinsics, tree
-from .accesses import Access, Effects, Kind
+from .accesses import Access, Effects, Kind, reads_of
 from .facts import Facts
 from .indices import Refused
 from .keywords import words_of
-from .roles import Roles
+from .roles import Procedures, Roles
 from .source import Mark
 from .symbols import Storage, Symbol, Symbols
 from .units import Block, File, Node, Unit, Written, depth_of, loops_of
@@ -20,29 +20,32 @@ from .units import Block, File, Node, Unit, Written, depth_of, loops_of
 _DEFINE = re.compile(r" *# *(define|undef)", re.IGNORECASE)
 _END_DIRECTIVE = re.compile(r" *[!cC*]\$(omp|acc) *end", re.IGNORECASE)
 #: Statements in lines with `!$` that change nothing for other statements, in capitals, and names before parentheses.
-_HARMLESS = tuple(map(re.compile, [
+_HARMLESS = tuple(re.compile(pattern) for pattern in [
     r"USE *(, *INTRINSIC *:: *)?OMP_LIB( *, *ONLY *:.*)?", r"CALL +OMP_\w+ *(\(.*\))?", r"[A-Z]\w* *=[^=>].*",
     r"PRINT *\* *,.*",
-]))
+])
 _DECLARING = re.compile(r"(INTEGER|REAL|LOGICAL|DOUBLE PRECISION)( *:: *| )[\w, ]+")
 _TYPES = frozenset(["INTEGER", "REAL", "LOGICAL", "DOUBLE", "PRECISION"])
 _CONSTANT = re.compile("'[^']*'|\"[^\"]*\"")
 _CALLED = re.compile(r"([A-Z]\w*) *\(")
+#: The kinds of statements that may call a procedure and do no input or output, by their first words.
+_CALLING = frozenset(["CALL", "=", "IF", "IF THEN", "ELSE IF", "DO", "SELECT CASE", "WHERE"])
 _GLOBAL = frozenset([Storage.COMMON, Storage.HOST, Storage.MODULE])
 
 
 @dataclass(eq=False)
 class Scene:
-    """A unit with all that is known of it."""
+    """A unit with all that is known of it. Without `procedures` nobody looks into what it calls."""
 
     file: File
     unit: Unit
     symbols: Symbols
+    procedures: Optional[Procedures] = None
 
     @cached_property
     def roles(self) -> Roles:
         """What its names are."""
-        return Roles(self.symbols)
+        return Roles(self.symbols, self.procedures)
 
     @cached_property
     def facts(self) -> Facts:
@@ -53,6 +56,11 @@ class Scene:
     def depth(self) -> int:
         """How many DOs there are in one another."""
         return depth_of(self.unit.body)
+
+    @cached_property
+    def nesting(self) -> int:
+        """How many DOs, IFs and other blocks there are in one another."""
+        return depth_of(self.unit.body, of_all=True)
 
     @cached_property
     def has_unreadable(self) -> bool:
@@ -80,6 +88,11 @@ class Survey:
         return frozenset(access.name for _, access in self.accesses())
 
     @cached_property
+    def reached(self) -> FrozenSet[str]:
+        """The variables that procedures use under names of their own, so that they know nothing of a thread's copy."""
+        return frozenset(access.name for _, access in self.accesses() if access.shared is not None)
+
+    @cached_property
     def inner_variables(self) -> FrozenSet[str]:
         """The DO variables of the loops in this one."""
         return frozenset(filter(None, map(variable_of, loops_of(self.loop.body))))
@@ -103,6 +116,21 @@ def variable_of(loop: Block) -> str:
     return tree.root_of(control.variable) if isinstance(control, tree.Counted) else ""
 
 
+def counting(loop: Block) -> Optional[tree.Counted]:
+    """How a DO counts; a DO CONCURRENT over one range does as a DO over it would. None for others."""
+    control = control_of(loop)
+    if isinstance(control, tree.Concurrent) and len(control.ranges) == 1 and not control.has_type:
+        one = control.ranges[0]
+        return tree.Counted(tree.Name(one.variable), one.first, one.last, one.step)
+    return control if isinstance(control, tree.Counted) else None
+
+
+def own_variable(loop: Block) -> str:
+    """The variable of a DO CONCURRENT over one range, which is its own and none of the unit's; empty for others."""
+    control = counting(loop) if isinstance(control_of(loop), tree.Concurrent) else None
+    return "" if control is None else tree.root_of(control.variable)
+
+
 def surveyed(scene: Scene, loop: Block) -> Survey:
     """What a loop reads and writes; raises `Refused` where that isn't known."""
     _check_unit(scene, loop)
@@ -116,6 +144,7 @@ def surveyed(scene: Scene, loop: Block) -> Survey:
         for trouble in found.effects[written.number].troubles:
             raise Refused(trouble.reason, written.item.first, trouble.words)
     _check_variables(scene, found)
+    _check_procedures(scene, found)
     _check_storage(scene, found)
     _check_words(scene, found)
     for fault in scene.facts.body(loop).faults:
@@ -159,18 +188,28 @@ def _check_mark(scene: Scene, loop: Block, mark: Mark) -> None:
 def _check_words(scene: Scene, found: Survey) -> None:
     """Lines that only a compiler with -fopenmp reads, outside the loop, and directives that give threads copies.
 
-    No variable of the loop may occur there, since its value may be needed there, or clauses may not name it. Nor may
-    such a line declare anything, or change which statements are carried out.
+    Those of hosts and of modules count as well: they may declare what the loop's names are. No variable of the loop may
+    occur there, since its value may be needed there, or clauses may not name it. Nor may such a line declare anything,
+    or change which statements are carried out.
     """
     names = set(found.occurring) | {scene.symbols.get(name).block.strip("/") for name in found.occurring}
     for mark in scene.file.marks:
         words = words_of(mark.text[mark.text.find("$") + 1:])
-        is_here = bool(mark.file) or mark.first <= scene.unit.last_line and mark.last >= scene.unit.first_line
+        is_here = bool(mark.file) or any(_has_mark(scene, unit, mark) for unit in scene.symbols.seen_units())
         is_statement = mark.kind == "conditional" and is_here
         if is_statement or mark.kind == "directive" and "THREADPRIVATE" in words:
             common = sorted(words & (names - {""}))
             if common or is_statement and not _is_harmless(scene, mark.text):
                 raise Refused("directive", mark.first, mark.text.strip())
+
+
+def _has_mark(scene: Scene, unit: Unit, mark: Mark) -> bool:
+    """Whether a line is in the unit of a loop, or in a host or a module of it but in no procedure contained there."""
+    is_in = mark.first <= unit.last_line and mark.last >= unit.first_line
+    is_apart = unit is not scene.unit and any(
+        mark.first <= one.last_line and mark.last >= one.first_line for one in unit.contained
+    )
+    return is_in and not is_apart
 
 
 def _is_harmless(scene: Scene, line: str) -> bool:
@@ -189,7 +228,8 @@ def _is_harmless(scene: Scene, line: str) -> bool:
     if any(not match.group(1).startswith("OMP_") for match in _CALLED.finditer(text)):
         return False
     if _DECLARING.fullmatch(text):
-        return not any((words_of(text) - _TYPES) & one.names for one in scene.unit.statements())
+        own = [one for unit in scene.symbols.seen_units() for one in unit.statements()]
+        return not any((words_of(text) - _TYPES) & one.names for one in own)
     return any(pattern.fullmatch(text) for pattern in _HARMLESS)
 
 
@@ -221,16 +261,17 @@ def _check_header(loop: Block) -> None:
     line = loop.head.item.first
     if isinstance(loop.head.statement, tree.Unreadable):
         raise Refused(loop.head.statement.reason, line, loop.head.statement.words)
-    if isinstance(control, tree.Concurrent):
-        raise Refused("concurrent", line, "DO CONCURRENT is the user's promise that its iterations are independent")
-    if not isinstance(control, tree.Counted):
+    if isinstance(control, tree.Concurrent) and counting(loop) is None:
+        words = "a type in its header" if control.has_type else f"{len(control.ranges)} ranges"
+        raise Refused("concurrent", line, f"DO CONCURRENT with {words} is taken for the user's promise alone")
+    if counting(loop) is None:
         raise Refused("while", line, "nothing counts the iterations")
 
 
 def _check_variables(scene: Scene, found: Survey) -> None:
     """DO variables have to be INTEGER scalars that their bodies don't assign."""
     for loop in [found.loop, *loops_of(found.loop.body)]:
-        control = control_of(loop)
+        control = counting(loop) if loop is found.loop else control_of(loop)
         if not isinstance(control, tree.Counted):
             continue
         line = loop.head.item.first
@@ -250,8 +291,38 @@ def _check_body(found: Survey, node: Node, name: str) -> None:
     statements = [node] if isinstance(node, Written) else list(node.statements())
     for written in statements:
         known = found.effects.get(written.number)
-        if known is not None and any(access.name == name for access in known.writes):
+        # A procedure that may change it, on some condition, doesn't: A4.
+        writes = () if known is None else (access for access in known.writes if access.covers or not access.by_call)
+        if any(access.name == name for access in writes):
             raise Refused("index", written.item.first, f"{name} counts a DO, and is assigned in it")
+
+
+def _check_procedures(scene: Scene, found: Survey) -> None:
+    """What procedures do that are called: they may use no DO variable, and functions may write in assignments alone."""
+    for written, access in found.accesses():
+        if access.shared is not None and access.name in found.inner_variables | {variable_of(found.loop)}:
+            words = f"a procedure that is called uses {access.name} itself, which counts a DO"
+            raise Refused("call", written.item.first, words)
+    for written in found.statements:
+        side_writes = _misplaced_writes(scene, found, written)
+        if side_writes:
+            words = f"a function may assign {side_writes[0].name}, and isn't in an assignment"
+            raise Refused("function", written.item.first, words)
+        if found.effects[written.number].reads_shared:
+            shared = sorted(name for name in found.written if scene.symbols.get(name).is_reached_by_calls)
+            if shared:
+                words = f"a procedure whose body isn't in the files may read {shared[0]}, which the loop assigns"
+                raise Refused("call", written.item.first, words)
+
+
+def _misplaced_writes(scene: Scene, found: Survey, written: Written) -> Tuple[Access, ...]:
+    """What functions may write in a condition, a header or the like."""
+    statement = written.statement
+    if isinstance(statement, (tree.Assignment, tree.Call)):
+        return ()
+    if isinstance(statement, tree.LogicalIf) and isinstance(statement.action, (tree.Assignment, tree.Call)):
+        return reads_of(statement.condition, scene.roles, found.bound[written.number]).side_writes
+    return found.effects[written.number].side_writes
 
 
 def _check_storage(scene: Scene, found: Survey) -> None:
@@ -308,10 +379,25 @@ def assumptions_of(scene: Scene, found: Survey) -> FrozenSet[str]:
         assumed.add("A1")
     if scene.file.included or scene.symbols.uses_modules or scene.has_unreadable:
         assumed.add("A5")
+    if any("A5" in scene.facts.effects(one).assumes for one in scene.unit.statements() if one.word in _CALLING):
+        # What is needed after the loop rests on what is called there.
+        assumed.add("A5")
+    if _changes_counters(found):
+        assumed.add("A4")
     expressions = (expression for one in found.statements for expression in one.statement.expressions())
-    if scene.symbols.missing_modules or any(_has_intrinsic(scene, expression) for expression in expressions):
+    if scene.symbols.missing_modules or any(has_intrinsic(scene.roles, expression) for expression in expressions):
         assumed.add("A6")
-    return frozenset(assumed)
+    return frozenset(assumed).union(*(effects.assumes for effects in found.effects.values()))
+
+
+def _changes_counters(found: Survey) -> bool:
+    """Whether a procedure may change a DO variable that it's given."""
+    return any(
+        access.name == variable_of(loop)
+        for loop in (found.loop, *loops_of(found.loop.body)) for node in loop.body
+        for written in ([node] if isinstance(node, Written) else node.statements())
+        for access in found.effects[written.number].side_writes
+    )
 
 
 def _has_strangers(found: Survey, symbols: List[Symbol]) -> bool:
@@ -333,9 +419,10 @@ def _has_neighbours(found: Survey, symbols: List[Symbol]) -> bool:
     )
 
 
-def _has_intrinsic(scene: Scene, expression: tree.Expression) -> bool:
+def has_intrinsic(roles: Roles, expression: tree.Expression) -> bool:
+    """Whether an expression has an intrinsic function."""
     if isinstance(expression, tree.Reference) and isinstance(expression.base, tree.Name):
         name = expression.base.name
-        if name in intrinsics.PURE and scene.roles.is_intrinsic(name):
+        if name in intrinsics.PURE and roles.is_intrinsic(name):
             return True
-    return any(_has_intrinsic(scene, part) for part in expression.parts())
+    return any(has_intrinsic(roles, part) for part in expression.parts())

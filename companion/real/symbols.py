@@ -59,11 +59,11 @@ class Symbol:
     there, which a USE may change. `type` is
     `INTEGER`, `REAL`, `COMPLEX`, `LOGICAL`, `CHARACTER`, `TYPE`, `CLASS`, and empty where it isn't known; DOUBLE
     PRECISION is REAL. `kind` is none where it isn't known. `bounds` are as they are written, empty for a scalar;
-    `extents` are their values.
+    `extents` are their values; a lower bound that isn't written is 1, but for a deferred shape, where none is known.
 
     `attributes` are those of `tree.TypeDeclaration`, and `SAVE` also for a name with a value in DATA or after `=`,
-    which has `INITIAL`, too; `NAMELIST`; `CRAY POINTER` and `CRAY POINTEE`; `CODIMENSION`; `CAPTURED` for a name that
-    a contained procedure may use.
+    which has `INITIAL`, too; `NAMELIST`, and `GROUP` for the name of its group; `CRAY POINTER` and `CRAY POINTEE`;
+    `CODIMENSION`; `CAPTURED` for a name that a contained procedure may use.
 
     `group` is the same for names that may share storage, and empty where no other name does: by EQUIVALENCE, by two
     COMMON statements that are both in force, by ENTRY of a function, by two names of a USE. `block` is the common
@@ -268,10 +268,24 @@ class Symbols:
         """The names of another unit of the files."""
         return self._scopes.of(unit)
 
+    def from_elsewhere(self, name: str) -> Optional[Symbol]:
+        """What a name stands for that a host or a module has; none where none of them has it."""
+        facts = self.declarations.names.get(name)
+        return None if facts is not None and facts.is_own else self._foreign(name)
+
+    def home_of(self, symbol: Symbol) -> Optional[Symbols]:
+        """The names of the unit that declares a symbol; none where that isn't visible."""
+        return self._home(symbol)
+
     def get(self, name: str) -> Symbol:
-        """What a name stands for; it always answers."""
+        """What a name stands for; it always answers.
+
+        A name with a colon or a slash is that of a variable that only procedures see which the unit calls.
+        """
         if name in self._known:
             return self._known[name]
+        if ":" in name or "/" in name:
+            return Symbol(name, storage=Storage.MODULE, home=name, original=name)
         if ("get", name) in self._open:
             return Symbol(name, storage=Storage.UNKNOWN, home=self.unit.path, original=name)
         self._open.add(("get", name))
@@ -434,7 +448,7 @@ class Symbols:
             attributes=attributes,
             block=facts.block,
             derived="" if spec is None or spec.derived is None else spec.derived,
-            extents=tuple(self._extent(bound) for bound in facts.bounds),
+            extents=tuple(self._extent(bound, attributes) for bound in facts.bounds),
             value=facts.value,
             home=self.unit.path,
             original=name,
@@ -492,7 +506,10 @@ class Symbols:
         """Whether the unit is the body of an INTERFACE, which sees no names of its host but those of IMPORT."""
         return self.unit.host is not None and self.unit not in self.unit.host.contained
 
-    def _extent(self, bound: tree.Bound) -> Extent:
+    def _extent(self, bound: tree.Bound, attributes: FrozenSet[str]) -> Extent:
+        """The bounds of a dimension. Those of a deferred shape are what ALLOCATE or a pointer assignment makes them."""
+        if bound.upper is None and attributes & {"ALLOCATABLE", "POINTER"}:
+            return None, None
         lower = 1 if bound.lower is None else constants.value(bound.lower, self)
         return lower, None if bound.upper is None else constants.value(bound.upper, self)
 
@@ -649,6 +666,10 @@ class Symbols:
         if self._groups is None:
             self._groups = Sharing(self._visible()).groups()
         return self._groups.get((symbol.home, symbol.original), "")
+
+    def seen_units(self) -> List[units.Unit]:
+        """This unit, its hosts, and the modules of the files that they use, each once."""
+        return [one.unit for one in self._visible()]
 
     def _visible(self) -> List[Symbols]:
         """This unit, its hosts, and the modules that they use, each once."""

@@ -32,7 +32,7 @@ __all__ = [
     "Interface", "Keyword", "Literal", "LogicalIf", "ModuleProcedure", "Name", "Namelist", "OPERATORS", "Operation",
     "Parameter", "Parentheses", "PointerAssignment", "ProcedureDeclaration", "Range", "Reference", "Return",
     "Section", "SelectCase", "SelectType", "Star", "Statement", "Stop", "TypeDeclaration", "TypeGuard", "TypeSpec",
-    "Unreadable", "Use", "Where", "While", "Word", "names_in", "root_of",
+    "Unreadable", "Use", "Where", "While", "Word", "names_in", "root_of", "written",
 ]
 
 # --- Statements ----------------------------------------------------------------------------------------------------
@@ -150,10 +150,11 @@ class While:
 
 @dataclass(frozen=True)
 class Concurrent:
-    """The control `CONCURRENT (ranges, mask)`."""
+    """The control `CONCURRENT (ranges, mask)`; `has_type` says that a type is written before the ranges."""
 
     ranges: Tuple[Range, ...]
     mask: Optional[Expression]
+    has_type: bool = False
 
 
 @dataclass(frozen=True)

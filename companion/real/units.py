@@ -116,12 +116,16 @@ class Block:
 
     def statements(self) -> Iterator[Written]:
         """All statements of the block with its head, the heads of its branches and its end, in order of text."""
+        return statements_of((self,))
+
+    def parts(self) -> Iterator[Node]:
+        """What the block is directly made of, in order of text."""
         yield self.head
-        yield from statements_of(self.lead)
+        yield from self.lead
         for branch in self.branches:
             if branch.head is not self.head:
                 yield branch.head
-            yield from statements_of(branch.body)
+            yield from branch.body
         if self.end is not None and not _holds(self, self.end):
             yield self.end
 
@@ -131,10 +135,14 @@ Node = Union[Written, Block]
 
 
 def statements_of(nodes: Tuple[Node, ...]) -> Iterator[Written]:
-    """All statements of nodes, in order of text."""
-    for node in nodes:
-        if isinstance(node, Block):
-            yield from node.statements()
+    """All statements of nodes, in order of text. Blocks may be nested thousands deep, so nothing here calls itself."""
+    waiting: List[Iterator[Node]] = [iter(nodes)]
+    while waiting:
+        node = next(waiting[-1], None)
+        if node is None:
+            waiting.pop()
+        elif isinstance(node, Block):
+            waiting.append(node.parts())
         else:
             yield node
 
@@ -150,14 +158,14 @@ def loops_of(nodes: Tuple[Node, ...]) -> Iterator[Block]:
                 yield from loops_of(branch.body)
 
 
-def depth_of(nodes: Tuple[Node, ...]) -> int:
-    """How many DOs there are in one another, at most."""
+def depth_of(nodes: Tuple[Node, ...], of_all: bool = False) -> int:
+    """How many DOs there are in one another, at most; with `of_all` how many blocks of any kind."""
     deepest = 0
     waiting: List[Tuple[Node, int]] = [(node, 0) for node in nodes]
     while waiting:
         node, depth = waiting.pop()
         if isinstance(node, Block):
-            depth += node.kind == "DO"
+            depth += of_all or node.kind == "DO"
             deepest = max(deepest, depth)
             inside = [*node.lead, *(one for branch in node.branches for one in branch.body)]
             waiting.extend((one, depth) for one in inside)

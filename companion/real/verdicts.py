@@ -12,9 +12,10 @@ from ..ped import Ped
 from . import tree
 from .asking import Answer, Carried, Pair, answers
 from .assumptions import ASSUMPTIONS, in_order
+from .calls import Calls
 from .directives import Clauses
 from .model import Model, model_of
-from .survey import Scene, control_of, variable_of
+from .survey import Scene, control_of, own_variable, variable_of
 from .symbols import Scopes, Storage
 from .units import Block, Branch, Fault, File, Node
 from .writer import Origin
@@ -60,8 +61,8 @@ class Place:
 
     @property
     def variable(self) -> str:
-        """The DO variable; empty where there is none."""
-        return variable_of(self.block)
+        """The DO variable, also that of a DO CONCURRENT over one range; empty where there is none."""
+        return own_variable(self.block) or variable_of(self.block)
 
     @property
     def header(self) -> str:
@@ -96,11 +97,15 @@ class Verdict:
     answer: Optional[Answer] = None
 
 
-def places_of(file: File, scopes: Scopes) -> List[Place]:
-    """All DOs of a file, outer ones before inner ones, in order of text."""
+def places_of(file: File, scopes: Scopes, others: Sequence[File] = ()) -> List[Place]:
+    """All DOs of a file, outer ones before inner ones, in order of text.
+
+    `scopes` has the units of the file, and those of `others`, which have procedures that it calls.
+    """
     found: List[Place] = []
+    calls = Calls(scopes, [file, *others])
     for unit in file.all_units():
-        scene = Scene(file, unit, scopes.of(unit))
+        scene = Scene(file, unit, scopes.of(unit), calls)
         found.extend(Place(scene, block, level) for block, level in _nested(unit.body, 1))
     return found
 

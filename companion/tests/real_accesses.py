@@ -167,11 +167,44 @@ class OtherStatements(unittest.TestCase):
 
     def test_implied_do_of_input(self) -> None:
         """Its variable is the unit's own, and is assigned."""
-        self.assertEqual(one("READ *, (A(I), B(I), I = 1, N)"), "N =?I A(I) =?A(I) B(I) =?B(I)")
-        self.assertEqual(one("READ *, ((C(I,J), I = 1, 9), J = 1, M)", "REAL C(9,9)"), "M =?J =?I C(I,J) =?C(I,J)")
+        self.assertEqual(one("READ *, (A(I), B(I), I = 1, N)"), "N =I A(I) =?A(I) B(I) =?B(I)")
+        self.assertEqual(one("READ *, ((C(I,J), I = 1, 9), J = 1, M)", "REAL C(9,9)"), "M =J =?I C(I,J) =?C(I,J)")
 
     def test_read_may_leave_its_items_alone(self) -> None:
         self.assertEqual(one("READ (5, *, IOSTAT=K) X"), "K =?K X =?X")
+
+    def test_internal_units(self) -> None:
+        """They are variables. A list-directed READ may leave an item alone, and so may an error that ends no run."""
+        declared = "CHARACTER C*20, D(9)*8, F*9; REAL A(9)"
+        for statement, wanted in {
+            "WRITE (C, '(I5)') X, A(I)": "X I A(I) =C", "WRITE (D(J), F) X": "F X J =?D(J)", "WRITE (D, *) X": "X =?D",
+            "WRITE (C(1:K), '(A)') X": "X K C(1:K) =?C(1:K)", "WRITE (C, 10, ERR=20) X": "X =?C",
+            "WRITE (UNIT=C, FMT=*, IOSTAT=K) X": "X =?C =K", "WRITE (C, '(A)', IOMSG=F) X": "X =C =?F",
+            "WRITE (D(J)(2:3), '(I5)') (A(K), K = 1, N)": "N =K A(K) J =?D(J)(2:3)",
+            "READ (C, '(I5)') K, A(K)": "C =K K =?A(K)",
+            "READ (C, *) K": "C =?K", "READ (C, 10, END=20) K": "C =?K", "READ (C, 10, IOSTAT=L) K": "C =?K =L",
+            "READ (D(I), '(9F8.0)') (A(J), J = 1, K)": "I D(I) K =J =?A(J)", "WRITE (C, TRIM(F)//'X') X": "F X =C",
+            "READ (C(I:I), '(I1)') K": "I I C(I:I) =K", "IF (X > 0) WRITE (C, 10) X": "X X =?C",
+        }.items():
+            made = subroutine(statement, "10 FORMAT (I5)", "20 CONTINUE", declarations=declared)
+            with self.subTest(statement):
+                self.assertEqual(found(made, 3), wanted)
+                self.assertEqual(made.effects(3).troubles, ())
+
+    def test_other_units_and_formats(self) -> None:
+        declared = "CHARACTER C*20, F*9; NAMELIST /G/ X; INTEGER U; CHARACTER H; NAMELIST /H/ Y"
+        for statement in [
+            "WRITE (U, *) X", "WRITE (*, '(A)') C", "PRINT F, C", "READ F, C", "READ (C, G)", "WRITE (C, NML=G)",
+            "READ (C, FMT='(I5)', ADVANCE='NO') X", "WRITE (C, U) X", "WRITE (C) X", "READ (C, '(A)', REC=3) X",
+            "READ ('12', *) X", "WRITE (C//F, *) X", "READ (C, H)", "READ (C, '(A)', SIZE=K) X", "OPEN (U, FILE=C)",
+        ]:
+            with self.subTest(statement):
+                reasons_ = [one.reason for one in subroutine(statement, declarations=declared).effects(3).troubles]
+                self.assertIn(reasons_[:1], (["io"], ["parse"]))
+
+    def test_functions_among_items(self) -> None:
+        made = subroutine("WRITE (C, *) F(X)", declarations="CHARACTER C*20; EXTERNAL F")
+        self.assertEqual([one.reason for one in made.effects(3).troubles], ["function"])
 
 
 class Lists(unittest.TestCase):

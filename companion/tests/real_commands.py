@@ -44,8 +44,8 @@ class Tables(Calling):
 
     def test_a_file_in_free_form(self) -> None:
         rows = self.ends(Status.DONE, ["loops", HEAT]).splitlines()
-        self.assertEqual(rows[0], f"{HEAT}: 3 units, 6 loops: 3 parallel, 2 carry, 1 refused")
-        self.assertEqual(rows[5], "     25  DO J = 1, M       parallel: PRIVATE(D), REDUCTION(MAX:DIFF)")
+        self.assertEqual(rows[0], f"{HEAT}: 3 units, 6 loops: 3 parallel, 3 carry, 0 refused")
+        self.assertEqual(rows[7], "     25  DO J = 1, M       parallel: PRIVATE(D), REDUCTION(MAX:DIFF)")
         self.assertEqual(rows[-1][:18], "assumed: A1 no oth")
 
     def test_a_file_that_ped_refuses(self) -> None:
@@ -54,7 +54,7 @@ class Tables(Calling):
         self.assertEqual(rows[0], f"{DAXPY}: 1 unit, 3 loops: 2 parallel, 1 carries, 0 refused")
 
     def test_a_program_of_the_profile_as_fortran(self) -> None:
-        out = self.ends(Status.DONE, ["loops", "examples/recurrence.f", "--real"])
+        out = self.ends(Status.DONE, ["loops", "examples/panes/recurrence.f", "--real"])
         self.assertIn("     4  DO I = 2, 10      carries A\n", out)
 
     def test_what_is_no_program_at_all(self) -> None:
@@ -172,7 +172,7 @@ class Explanations(Calling):
 
     def test_all_loops(self) -> None:
         out = self.ends(Status.DONE, ["why", HEAT])
-        for line in (11, 25, 26, 32, 44):
+        for line in (12, 25, 26, 32, 44):
             self.assertIn(f"{HEAT}:{line}: ", out)
 
     def test_a_file_that_is_included(self) -> None:

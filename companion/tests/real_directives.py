@@ -8,7 +8,6 @@ import unittest
 from pathlib import Path
 from typing import Dict, List, Optional
 
-from ..real import units
 from ..real.blocks import read_file
 from ..real.directives import Clauses, directive_lines, indentation_of, obstacle, outermost, with_directives
 from ..real.symbols import Scopes
@@ -56,6 +55,15 @@ class Left(unittest.TestCase):
             free("goto 10", "10 do i = 1, 9", "x = 1", "end do", "end").obstacle(),
             "a jump to its label 10 would lead past the directive",
         )
+
+    def test_concurrent(self) -> None:
+        """OpenMP has no directive for a DO CONCURRENT, and a DO in one gets none either."""
+        for head in ("do concurrent (j = 1:9)", "do concurrent (j = 1:9, k = 1:9)"):
+            written = free("subroutine s(a)", "real a(9)", "do i = 1, 9", "a(i) = 1", "end do", head, "do i = 1, 9",
+                           "a(i) = 1", "end do", "end do", "end")
+            self.assertIsNone(written.obstacle())
+            for index in (1, 2):
+                self.assertIn("DO CONCURRENT", written.obstacle(number=index) or "")
 
     def test_shared_ends(self) -> None:
         written = fixed(

@@ -88,6 +88,9 @@ class Graphs(unittest.TestCase):
         made = subroutine("ASSIGN 10 TO K", "GO TO K", "10 X = 1", "20 Y = X")
         self.assertEqual(edges(made)["4"], ["5", "6"])
         self.assertTrue(made.facts.graph.is_open)
+        made = subroutine("ASSIGN 10 TO K", "GO TO K, (10, 30)", "10 X = 1", "20 Y = X", "30 Z = Y")
+        self.assertEqual(edges(made)["4"], ["5", "7"])
+        self.assertFalse(made.facts.graph.is_open)
 
     def test_input_and_calls(self) -> None:
         self.check(
@@ -275,7 +278,10 @@ class Live(unittest.TestCase):
         # A call may lead to a further run.
         self.assertEqual(live(*loop, "CALL Q"), "")
         self.assertEqual(live("X = I", *loop, "CALL Q", "I = 0"), "I")
-        self.assertEqual(live(*loop, "RETURN", "ENTRY Q"), "IST")
+        # So does an ENTRY, where it reads the variable before it assigns it.
+        self.assertEqual(live(*loop, "RETURN", "ENTRY Q"), "")
+        self.assertEqual(live(*loop, "RETURN", "ENTRY Q", "X = T"), "T")
+        self.assertEqual(live(*loop, "RETURN", "ENTRY Q", "T = 1", "X = T + S"), "S")
         made = program(
             "SUBROUTINE P", "REAL A(9)\nSAVE", *loop, "CALL Q", "CONTAINS", "SUBROUTINE Q", "A(1) = S", "END SUBROUTINE",
             "END", name="P",
@@ -294,9 +300,33 @@ class Live(unittest.TestCase):
         self.check("S", True, *loop, "ASSOCIATE (S => T)", "S = 1", "END ASSOCIATE", "X = S")
 
     def test_entry_and_assigned_go_to(self) -> None:
-        made = program("SUBROUTINE P", "REAL A(9)", "DO I = 1, N", "S = A(I)", "END DO", "RETURN", "ENTRY Q", "END")
+        head, loop = ["SUBROUTINE P", "REAL A(9)"], ["DO I = 1, N", "S = A(I)", "END DO"]
+        made = program(*head, *loop, "RETURN", "ENTRY Q", "X = S", "END")
+        self.assertNotIn("S", made.live_after())
+        self.assertIn("S", made.facts.liveness.live_at_entry)
+        made = program(*head, "SAVE S", *loop, "RETURN", "ENTRY Q", "X = S", "END")
         self.assertIn("S", made.live_after())
-        self.check("S", True, "DO I = 1, N", "S = A(I)", "END DO", "ASSIGN 10 TO K", "GO TO K", "10 CONTINUE")
+        made = program(*head, "SAVE S", *loop, "RETURN", "ENTRY Q", "S = 1", "X = S", "END")
+        self.assertNotIn("S", made.live_after())
+        made = program(*head, *loop, "ENTRY Q", "X = S", "END")
+        self.assertIn("S", made.live_after())
+        lines = ["DO I = 1, N", "S = A(I)", "END DO", "ASSIGN 10 TO K"]
+        self.check("S", True, *lines, "GO TO K", "10 CONTINUE")
+        self.check("S", False, *lines, "GO TO K, (10)", "10 CONTINUE")
+        self.check("S", True, *lines, "GO TO K, (10, 20)", "10 RETURN", "20 X = S")
+
+    def test_implied_do_of_output(self) -> None:
+        """It assigns its variable, whose value before isn't needed."""
+        loop = ["DO I = 1, N", "A(I) = 1", "END DO"]
+        for line, wanted in [
+            ("WRITE (*, *) (A(I), I = 1, 9)", False), ("PRINT *, I", True),
+            ("PRINT *, I, (A(I), I = 1, N)", True), ("WRITE (*, *) (A(I), I = I, 9)", True),
+            ("WRITE (*, *, IOSTAT=K) (A(I), I = 1, 9)", False), ("PRINT *, ((C(I,J), I = 1, 9), J = 1, M)", False),
+        ]:
+            with self.subTest(line):
+                self.check("I", wanted, *loop, line)
+        self.check("I", True, *loop, "WRITE (*, *, IOSTAT=K) (A(I), I = 1, 9)", "PRINT *, I")
+        self.check("I", True, *loop, "PRINT *, ((C(I,J), I = 1, 9), J = 1, M)", "X = I")
 
 
 class Iterations(unittest.TestCase):

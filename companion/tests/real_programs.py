@@ -76,6 +76,7 @@ def outline(program_: Program, parts: Tuple[shape.Part, ...]) -> str:
         elif isinstance(part, shape.Maybe):
             words.append(f"[{outline(program_, part.parts)}]")
         else:
+            assert isinstance(part, shape.Choice)
             head = "" if part.head is None else str(part.head.item.first)
             words.append(f"{head}?({'|'.join(outline(program_, branch) for branch in part.branches)})")
     return " ".join(words)

@@ -147,6 +147,7 @@ def _matched_part(part: Part, way: List[int], begins: Set[int]) -> Set[int]:
         return _matched_node(part.node, way, begins)
     if isinstance(part, Maybe):
         return begins | _matched(part.parts, way, begins)
+    assert isinstance(part, Choice)
     after = begins if part.head is None else _matched_node(part.head, way, begins)
     return set().union(*(_matched(branch, way, after) for branch in part.branches))
 

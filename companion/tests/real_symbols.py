@@ -24,6 +24,38 @@ def fixed(*statements: str) -> Symbols:
     return symbols("".join(f"      {statement}\n" for statement in statements), "p.f")[0]
 
 
+class LowerBounds(unittest.TestCase):
+    def test_shapes(self) -> None:
+        """A lower bound that isn't written is 1, but for a deferred shape: ALLOCATE and pointers choose it."""
+        found = symbols("""
+subroutine s(a, b, c, d)
+  real a(:), b(0:), c(*)
+  real, pointer :: d(:, :)
+  allocatable e(:)
+  pointer f
+  dimension f(:)
+  real, allocatable :: g(:)
+  real :: h(5)
+  target h
+  type t
+    real, allocatable :: x(:)
+    real :: y(3)
+  end type
+  type(t) :: v
+  d(1, 1) = a(1)
+end
+""")[0]
+        wanted = {
+            "A": ((1, None),), "B": ((0, None),), "C": ((1, None),), "D": ((None, None), (None, None)),
+            "E": ((None, None),), "F": ((None, None),), "G": ((None, None),), "H": ((1, 5),),
+        }
+        self.assertEqual({name: found.get(name).extents for name in wanted}, wanted)
+        known = found.components(found.get("V"))
+        assert known is not None
+        extents = [known.components[name].extents for name in "XY"]
+        self.assertEqual(extents, [((None, None),), ((1, 3),)])
+
+
 class FixedForm(unittest.TestCase):
     def test_declarations(self) -> None:
         found = fixed(

@@ -77,6 +77,36 @@ class Statements(unittest.TestCase):
             "END DO",
         ])
 
+    def test_internal_units(self) -> None:
+        """A WRITE assigns its unit; a READ its items in their order, each of which may be an index of the next."""
+        given = "CHARACTER W*20, D(9)*8"
+        lines = ["DO I = 1, N", "WRITE (W, '(F8.3)') A(I) + X", "D(I) = W", "END DO"]
+        body = subroutine(*lines, declarations=given).body()
+        self.assertEqual(body, ["DO I = 1, N", "IF (A(I)+X.NE.0) THEN", "END IF", "W = 1", "D(I) = W", "END DO"])
+        body = subroutine("DO I = 1, N", "READ (D(I), '(2I4)') K, IX(K)", "END DO", declarations=given).body()
+        self.assertEqual(body, [
+            "DO I = 1, N", "IF (D(I).NE.0) THEN", "END IF", "K = 1", "IF (K.NE.0) THEN", "END IF",
+            "IF (OPQ.NE.0) THEN", "IX(K) = 1", "END IF", "END DO",
+        ])
+        body = subroutine("DO I = 1, N", "READ (D(I), *) K", "A(I) = K", "END DO", declarations=given).body()
+        self.assertEqual(body[3:], ["IF (OPQ.NE.0) THEN", "K = 1", "END IF", "A(I) = K", "END DO"])
+
+    def test_internal_units_with_jumps(self) -> None:
+        """What a statement assigns is there whether it jumps or not."""
+        given = "CHARACTER W*20, D(9)*8"
+        lines = ["DO I = 1, N", "READ (D(I), '(I4)', ERR=10) IX(I)", "A(I) = 1", "10 B(I) = 2", "END DO"]
+        written = ["IF (D(I).NE.0) THEN", "END IF", "IF (OPQ.NE.0) THEN", "IX(I) = 1", "END IF"]
+        chosen = ["IF (OPQ.NE.0) THEN", "ELSE", "A(I) = 1", "END IF", "B(I) = 1", "END DO"]
+        self.assertEqual(subroutine(*lines, declarations=given).body(), [lines[0], *written, *chosen])
+        lines[1] = "IF (X > 0) " + lines[1]
+        self.assertEqual(subroutine(*lines, declarations=given).body(), [
+            lines[0], "IF (X.NE.0) THEN", *written, "END IF", *chosen,
+        ])
+        for label, reason in [("20", "exit"), ("10", None), ("30", "exit")]:
+            lines[1] = f"READ (D(I), '(I4)', END={label}) IX(I)"
+            loops = subroutine(*lines, "20 X = 1", declarations=given)
+            self.assertEqual(loops.reason(), reason)
+
     def test_a_component_is_an_element_of_its_first_part(self) -> None:
         loops = subroutine(
             "DO I = 1, N", "P(I)%Q = P(I+1)%R + O%Q", "END DO",
@@ -113,6 +143,17 @@ class Subscripts(unittest.TestCase):
     def test_other_products_are_open(self) -> None:
         self.assertEqual(self._body("A(I*M) = B(I/2)"), "A(OPQ*OPQ) = B(OPQ*OPQ)")
 
+    def test_a_division_without_a_remainder(self) -> None:
+        for subscript, wanted in [
+            ("2*I/2", "1*I"), ("(4*I-6+M*2)/2", "(2*I-3+(M*1))"), ("6*(I+1)/(-3)", "(-2)*((I+1))"), ("I*4/2", "I*2"),
+            ("IX(I)*2/2", "IX(I)*1"), ("(2*I+1)/2", "OPQ*OPQ"), ("3*I/2", "OPQ*OPQ"), ("2*X*I/2", "OPQ*OPQ"),
+            ("I/1", "OPQ*OPQ"), ("2*I/0", "OPQ*OPQ"), ("(2*I)**2/4", "OPQ*OPQ"), ("2/2*I", "1*I"),
+            ("2*(I/2)", "OPQ*OPQ"),
+        ]:
+            with self.subTest(subscript):
+                body = self._body(f"A({subscript}) = Y")
+                self.assertEqual(body.replace(" ", "")[:-2], f"A({wanted})", body)
+
     def test_elements_stay(self) -> None:
         self.assertEqual(self._body("A(IX(I)) = B(MIN(I, M))"), "A(IX(I)) = B(MIN(I,M))")
 
@@ -133,6 +174,20 @@ class Subscripts(unittest.TestCase):
             "DO I = 1, N", "D(:,I) = X", "END DO", declarations="REAL, ALLOCATABLE :: D(:,:)"
         ).body()
         self.assertEqual(body[1], "D(OPQ*OPQ,I) = X")
+
+    def test_the_lower_bound_of_an_assumed_shape_is_1_or_what_is_written(self) -> None:
+        for shape, target in [
+            (":,:", "1+K1X"), ("0:,:", "0+K1X"), ("3:,:", "3+K1X"), ("K:,:", "OPQ*OPQ"), ("-1:,:", "OPQ*OPQ"),
+        ]:
+            for attribute in ("", ", TARGET", ", POINTER", ", ALLOCATABLE"):
+                if shape != ":,:" and attribute in (", POINTER", ", ALLOCATABLE"):
+                    continue
+                with self.subTest(shape + attribute):
+                    lines = ["SUBROUTINE S(D, K, X)", f"REAL{attribute} :: D({shape})", "REAL X; INTEGER I, K",
+                             "DO I = 1, 9", "D(:,I) = X", "END DO", "END"]
+                    deferred = attribute in (", POINTER", ", ALLOCATABLE")
+                    wanted = f"D({'OPQ*OPQ' if deferred else target},I) = X"
+                    self.assertIn(wanted, Loops("\n".join(lines)).body())
 
     def test_integers_of_eight_bytes_are_refused(self) -> None:
         lines = ["DO I = 1, N", "A(I+W) = X", "END DO"]
@@ -189,10 +244,22 @@ class Headers(unittest.TestCase):
             "DO I = 1, N", "J = OPQ", "DO K1X = 0, M-1", "A((1+K1X)) = X", "END DO", "B(I-J) = X+J", "END DO",
         ])
 
+    def test_concurrent(self) -> None:
+        """It counts as a DO does, and its mask is a condition; its variable is none of the unit's."""
+        self.assertEqual(subroutine("DO CONCURRENT (I = 1:N)", "A(I) = B(I+1)", "END DO").body(), [
+            "DO I = 1, N", "A(I) = B(I+1)", "END DO",
+        ])
+        self.assertEqual(subroutine("DO CONCURRENT (I = K:N:2, A(I) > X)", "B(I*M) = I", "END DO").body(), [
+            "DO I = K, N, 2", "IF (A(I)+X.NE.0) THEN", "B(OPQ*OPQ) = 1", "END IF", "END DO",
+        ])
+        inner = ["DO CONCURRENT (I = 1:N)", "DO J = I, M", "C(I,J) = X", "END DO", "END DO"]
+        self.assertEqual(subroutine(*inner).body()[1:3], ["DO K1X = 0, M-I", "C(I,(I+K1X)) = X"])
+
     def test_no_model_of_other_loops(self) -> None:
         for lines, reason in [
             (["DO WHILE (X > 0)", "X = X - 1", "END DO"], "while"),
-            (["DO CONCURRENT (I=1:N)", "A(I) = X", "END DO"], "concurrent"),
+            (["DO CONCURRENT (I=1:N, J=1:M)", "A(I) = X", "END DO"], "concurrent"),
+            (["DO CONCURRENT (INTEGER(8) :: I=1:N)", "A(I) = X", "END DO"], "concurrent"),
             (["DO X = 1.0, 2.0", "A(1) = X", "END DO"], "index"),
             (["DO I = 1, N", "I = I + 1", "END DO"], "index"),
             (["DO I = 1, N", "DO I = 1, M", "A(I) = X", "END DO", "END DO"], "index"),
@@ -232,12 +299,18 @@ class Refusals(unittest.TestCase):
         self.assertEqual([verdict.word for verdict in loops.verdicts()], ["carried"])
 
     def test_very_deep_nests(self) -> None:
-        """Of the seven outermost of 13 DOs nothing is said; of a unit with 400 of them neither, and in short time."""
-        for count, wanted in ((13, 7), (400, 401)):
+        """Of the seven outermost of 13 DOs nothing is said; of a unit with 3000 of them neither, and in short time."""
+        for count, wanted in ((13, 7), (400, 401), (3000, 3001)):
             lines = [*(f"DO I{index} = 1, 2" for index in range(count)), "A(I0) = 1", *["END DO"] * count]
             loops = subroutine(*lines, "DO I = 1, N", "B(I) = 1", "END DO")
             reasons = [loops.reason(index) for index in range(count + 1)]
             self.assertEqual(reasons.count("limit"), wanted)
+
+    def test_very_deep_ifs(self) -> None:
+        """Of a unit with many IFs in one another nothing is said, and in short time."""
+        for count, wanted in ((40, None), (2000, "limit")):
+            lines = ["DO I = 1, N", *["IF (A(I) > 1) THEN"] * count, "B(I) = 1", *["END IF"] * count, "END DO"]
+            self.assertEqual(subroutine(*lines).reason(), wanted)
 
     def test_directives(self) -> None:
         loop = ["DO I = 1, N", "A(I) = X", "END DO"]
@@ -277,6 +350,21 @@ class Refusals(unittest.TestCase):
         )
         self.assertEqual(Loops(text, "s.f").reason(), "directive")
         self.assertIsNone(Loops(text.replace("!$   1 + F(2)\n", ""), "s.f").reason())
+
+    def test_lines_for_a_compiler_with_openmp_in_hosts_and_modules(self) -> None:
+        """They may declare the loop's names, but not those in other procedures."""
+        inner = ["SUBROUTINE S(A, N)", "REAL A(N)", "DO I = 1, N", "A(I) = 1", "END DO", "END SUBROUTINE"]
+        for line, reason in [
+            ("!$ INTEGER :: NT", None), ("!$ IMPLICIT REAL (I)", "directive"), ("!$ INTEGER :: I", "directive"),
+            ("!$ INTEGER, PARAMETER :: Q = 3", "directive"), ("!$ USE OMP_LIB", None),
+        ]:
+            with self.subTest(line):
+                text = "\n".join(["MODULE M", line, "CONTAINS", *inner, "END MODULE"])
+                self.assertEqual(Loops(text).reason(), reason)
+                text = "\n".join(["MODULE M", line, "END MODULE", inner[0], "USE M", *inner[1:]])
+                self.assertEqual(Loops(text).reason(), reason)
+        other = ["SUBROUTINE T", "!$ IMPLICIT REAL (I)", "END SUBROUTINE"]
+        self.assertIsNone(Loops("\n".join(["MODULE M", "CONTAINS", *inner, *other, "END MODULE"])).reason())
 
     def test_names_of_modules_that_are_not_there(self) -> None:
         head = ["SUBROUTINE S(A, N)", "USE ELSEWHERE", "REAL A(N); INTEGER I", "DO I = 1, N"]

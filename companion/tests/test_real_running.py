@@ -64,7 +64,7 @@ class Checked:
         wrong = [name for name in self.copies if any(reads_first(events, name) for events in times)]
         wrong += [name for name in clauses.private if reads_first(after, name)]
         for name in clauses.last:
-            wrong += [name for events in times if all(not one[0] or one[1] != (name, ()) for one in events)]
+            wrong += [name for events in times if all(not one.writes or one.cell != (name, ()) for one in events)]
         return wrong
 
 

@@ -207,6 +207,34 @@ class Scalars(unittest.TestCase):
         self.assertEqual(sorted(one.name for one in found.carried), ["B", "K"])
 
 
+class InternalUnits(unittest.TestCase):
+    """READ and WRITE of CHARACTER variables."""
+
+    def check(self, wanted: str, *lines: str) -> None:
+        """That a loop over I has a verdict, with the names that it carries or its private ones."""
+        given = "CHARACTER W*20, D(99)*8, F*9"
+        found = only(subroutine("DO I = 1, N", *lines, "END DO", declarations=given))
+        names = found.clauses.private if found.word == "parallel" else [one.name for one in found.carried]
+        self.assertEqual(" ".join([found.word, *names]), wanted, lines)
+
+    def test_verdicts(self) -> None:
+        self.check("parallel W", "WRITE (W, '(I5)') IX(I)", "D(I) = W(1:3)")
+        self.check("carried W", "D(I) = W", "WRITE (W, '(I5)') IX(I)")
+        self.check("carried W", "WRITE (W(1:5), '(I5)') IX(I)", "D(I) = W")
+        self.check("carried D", "WRITE (D(1), '(I5)') IX(I)")
+        self.check("carried D", "WRITE (D(I+1), '(I5)') I", "READ (D(I), '(I5)') IX(I)")
+        self.check("carried D", "WRITE (D, '(I5)') I")
+        self.check("parallel J", "WRITE (D(I), '(9I2)') (IX(J), J = 1, 4)")
+        self.check("carried IX", "READ (D(I), '(9I2)') (IX(J), J = 1, 4)")
+        self.check("parallel J", "READ (D(I), '(9F2.0)') (C(J,I), J = 1, 4)")
+        self.check("carried W", "WRITE (W, '(I5)', ERR=10) IX(I)", "10 D(I) = W")
+        self.check("parallel F W", "F = '(I5)'", "WRITE (W, F) IX(I)", "D(I) = W")
+
+    def test_other_units(self) -> None:
+        for line in ["WRITE (K, *) A(I)", "PRINT *, A(I)", "READ (5, *) A(I)", "WRITE (*, '(A)') D(I)"]:
+            self.assertEqual(subroutine("DO I = 1, N", line, "END DO", declarations="CHARACTER D(9)").reason(), "io")
+
+
 class Arrays(unittest.TestCase):
     """What is carried of arrays."""
 
@@ -215,6 +243,19 @@ class Arrays(unittest.TestCase):
             with self.subTest(statement):
                 found = only(subroutine("DO I = 1, N", statement, "END DO"))
                 self.assertEqual([one.kinds for one in found.carried], [kinds] if kinds else [])
+
+    def test_concurrent(self) -> None:
+        """A promise that is seen to be kept, or isn't; nothing is gathered, and no value is a last one."""
+        for lines, wanted in [
+            (["A(I) = B(I)"], "parallel"), (["A(I) = A(I+1)"], "carried A"), (["A(IX(I)) = 1"], "carried A"),
+            (["T = A(I)", "B(I) = T"], "parallel"), (["X = X + A(I)"], "carried X"), (["X = A(I)"], "carried X"),
+            (["K = K + 1", "A(K) = 1"], "carried A K"), (["A(I) = I", "IF (A(I) > 3) CYCLE", "B(I) = 2"], "parallel"),
+        ]:
+            with self.subTest(lines):
+                found = only(subroutine("DO CONCURRENT (I = 1:N)", *lines, "END DO", declarations="REAL T"))
+                self.assertEqual(" ".join([found.word, *(one.name for one in found.carried)]), wanted)
+        found = only(subroutine("I = 3", "DO CONCURRENT (I = 1:N)", "A(I) = 1", "END DO", "K = I"))
+        self.assertEqual((found.word, found.clauses.names), ("parallel", ()))
 
     def test_a_triangle_by_the_second_model(self) -> None:
         found = only(subroutine("DO J = 1, N", "DO K = 1, J-1", "C(J,K) = C(K,J)", "END DO", "END DO"))

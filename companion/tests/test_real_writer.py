@@ -1,7 +1,7 @@
 """The writer of models: fixed form within 72 columns, and each reference where `read_program` has it."""
 
 import unittest
-from typing import List, Tuple
+from typing import List
 
 from ..lines import Place, split_lines
 from ..program import read_program

@@ -1,4 +1,4 @@
-! Integrals: functions of the file aren't looked into yet; statement functions and intrinsic ones are.
+! Integrals, with statement functions, a function of the program, and intrinsic ones.
 program integrals
   implicit none
   integer, parameter :: n = 1000
@@ -12,7 +12,7 @@ program integrals
     x = (i - 0.5d0)*h
     s = s + 4/square(x)
   end do
-  do i = 0, n                              != refused function
+  do i = 0, n                              != parallel
     table(i) = outer(i*h)
   end do
   product = 1

@@ -49,7 +49,7 @@ program twogrids
     u(i) = 0
     f(i) = mod(i, 5) - 2
   end do
-  do cycles = 1, 6                         != refused call
+  do cycles = 1, 6                         != carries E, R, U
     call smooth(u, f, n, 3)
     call restricted(u, f, n, r)
     e = 0

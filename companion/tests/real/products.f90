@@ -17,7 +17,7 @@ program products
   end do
   call dots(a, b, c)
   call columns(a, b, d)
-  do concurrent (i = 1:n)                != refused concurrent
+  do concurrent (i = 1:n)                != parallel
     v(i) = i
   end do
   w = 0

@@ -52,7 +52,7 @@ contains
       p(i) = r(i)
       rr = rr + r(i)*r(i)
     end do
-    do step = 1, steps                     != refused call
+    do step = 1, steps                     != refused exit
       if (rr < 1.0e-10) exit
       call times(a%rows, a%first, a%column, a%value, p, q)
       alpha = rr/dot_product(p, q)

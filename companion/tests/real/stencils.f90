@@ -96,7 +96,7 @@ program steps
     end do
   end do
   v = u
-  do step = 1, 10                          != refused call
+  do step = 1, 10                          != carries U, V
     call five_points(u, v)
     call five_points(v, u)
     call relax(u, n, n, 1.2_wp)

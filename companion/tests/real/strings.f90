@@ -24,7 +24,7 @@ program strings
     if (code < 1 .or. code > 26) cycle
     places(code) = i
   end do
-  do i = 1, 20                             != refused io
+  do i = 1, 20                             != parallel
     write (words(i), '(a, i0)') 'word', mod(7*i, 20)
   end do
   found = words(1)

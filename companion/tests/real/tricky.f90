@@ -45,7 +45,7 @@ subroutine hosts(a, n)
     if (a(i) > 5) u = a(i)
     a(i) = a(i) + 1
   end do
-  do i = 1, n                              != carries V
+  do i = 1, n                              != parallel
     if (a(i) > 7) v = i
     if (a(i) > 8) a(i) = v
   end do
@@ -72,7 +72,7 @@ subroutine subscripts(a, b, c, n, m)
   do i = 1, n                              != parallel
     a(i) = a(i)*2/2
   end do
-  do i = 1, n                              != carries A
+  do i = 1, n                              != parallel
     a(2*i/2) = i
   end do
   do i = n, 2, -1                          != carries A

@@ -11,3 +11,6 @@ The modules, from the text of a program up to the commands:
 - `views`: a program with its dependences, as the commands look at it;
 - `commands`: a module for each command of pedx, with `command_line` in front of them.
 """
+
+#: The version of ped and pedx; CHANGELOG.md and the manual pages have it, too.
+VERSION = "0.9.0"

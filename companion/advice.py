@@ -270,7 +270,7 @@ def _about_reads(program: Program, outcome: Outcome) -> str:
         return f"statement {number} may read {name} before the iteration assigns it"
     if number == loop.number and name in program.saved:
         return f"{name} is in SAVE, and the step would lose its value"
-    return f"statement {number} may read {name} behind the loop, and the step would lose its value"
+    return f"statement {number} may read {name} after the loop, and the step would lose its value"
 
 
 def _about_variables(program: Program, loop: Loop) -> Iterator[str]:

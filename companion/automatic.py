@@ -43,7 +43,7 @@ class Rest:
             left = f"loop {self.number} of it"
         elif self.number != self.loop:
             left = f"it as loop {self.number}"
-        sums = f" behind `{self.sums}`" if self.sums is not None else ""
+        sums = f" after `{self.sums}`" if self.sums is not None else ""
         return f"`auto` leaves {left}{sums}: {refused(self.refusal)}"
 
 

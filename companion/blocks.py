@@ -65,4 +65,4 @@ def _call(text: str, following: Optional[SourceRow]) -> Optional[str]:
 def block_at(blocks: Dict[int, Block], line: int) -> Optional[Block]:
     """The innermost block on whose lines a line is."""
     round_it = [block for block in blocks.values() if block.first_line <= line <= block.last_line]
-    return max(round_it, key=lambda block: block.first_line, default=None)
+    return max(round_it, key=lambda block: block.first_line) if round_it else None

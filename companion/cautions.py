@@ -59,7 +59,7 @@ def untidy_loops(view: View) -> Iterator[Caution]:
                 words = f"statement {writers[0]} in it assigns {variable}, the variable of a loop"
                 yield place, f"this PARALLEL DO isn't tidy: {words}"
             elif variable in program.saved and not _may_overwrite(program, loop, variable):
-                words = f"{variable} is in SAVE, and nothing behind the loop assigns it"
+                words = f"{variable} is in SAVE, and nothing after the loop assigns it"
                 yield place, f"this PARALLEL DO isn't tidy: {words}"
 
 

@@ -73,7 +73,6 @@ class Induction:
         first, last = self.loop.form.first, self.loop.form.last
         if not self._is_invariant(first) or not self._is_invariant(last):
             return None
-        step = step_of(self.program, self.loop)
         count = iterations(self.program, self.loop)
         start, growth = self._start(), self.growth
         if count is None:

@@ -9,6 +9,7 @@ import traceback
 from contextlib import contextmanager
 from typing import IO, Callable, Dict, Iterator, List, Optional, Sequence, Tuple
 
+from . import VERSION
 from .commands.calls import calls
 from .commands.check import check, refusal_rows
 from .commands.export import export
@@ -183,6 +184,7 @@ class _Parser(argparse.ArgumentParser):
 def _parser() -> argparse.ArgumentParser:
     layout = argparse.RawDescriptionHelpFormatter
     parser = _Parser("pedx", description=_DESCRIPTION, epilog=_STATUSES, formatter_class=layout)
+    parser.add_argument("--version", action="version", version=f"pedx {VERSION}")
     commands = parser.add_subparsers(dest="command", metavar="COMMAND", required=True)
 
     def add(name: str, purpose: str) -> argparse.ArgumentParser:
@@ -201,7 +203,7 @@ def _parser() -> argparse.ArgumentParser:
     command = add("loops", "say which loops are parallel, what the others carry, and what to try there")
     command.add_argument("loops", metavar="S", type=int, nargs="*", help=_LOOPS)
     command.add_argument("--no-trials", dest="trials", action="store_false", help="ask for no advice, and try no steps")
-    command = add("tune", "say what stands in the way of each loop, and which single step removes it")
+    command = add("tune", "say what is in the way of each loop, and which single step removes it")
     command.add_argument("loops", metavar="S", type=int, nargs="*", help="the statement numbers of the wanted loops")
     add("calls", "say which CALLs there are, what depends on them, and which can be inlined")
     _add_filters(add("why", "say of each row of the dependence pane why it is there"))
@@ -229,7 +231,7 @@ def _add_common(command: argparse.ArgumentParser, is_editor: bool) -> None:
     script = "begin with this script, if it is there, and save to it"
     data = "the data for runs"
     if not is_editor:
-        script = "look at the program behind this script of a session"
+        script = "look at the program after this script of a session"
         data = "the data for the runs of the script, of check, or of the search for races of omp"
     command.add_argument("--script", metavar="SCRIPT", help=script)
     command.add_argument("--data", metavar="DATA", help=data)

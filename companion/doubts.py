@@ -27,7 +27,7 @@ def doubts(program: Program, dependence: Dependence) -> List[str]:
     for number in statements:
         ifs = program.statement(number).ifs
         if ifs:
-            causes.append(f"statement {number} stands in the IF of statement {ifs[-1]}")
+            causes.append(f"statement {number} is in the IF of statement {ifs[-1]}")
     both = positions(program, program.reference(dependence.source), program.reference(dependence.sink))
     for position in both:
         causes.extend(_about_position(position))

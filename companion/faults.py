@@ -9,7 +9,7 @@ FAULTS: Dict[int, str] = {
     2: "a subscript lies outside its bounds",
     3: "a division by zero, or a power of zero that is one",
     4: "a value leaves its range",
-    5: "data are missing, or what stands there is no number",
+    5: "data are missing, or what is there is no number",
 }
 
 #: The fault that comes where data are missing.

@@ -60,7 +60,7 @@ class Outline:
     def loop_at(self, line: int) -> Optional[LoopLines]:
         """The innermost loop on whose lines a line is."""
         round_it = [loop for loop in self.loops.values() if loop.first_line <= line <= loop.last_line]
-        return max(round_it, key=lambda loop: loop.level, default=None)
+        return max(round_it, key=lambda loop: loop.level) if round_it else None
 
     def carrier(self, row: Dependence) -> Optional[int]:
         """The loop that carries a dependence; none within one iteration."""

@@ -163,6 +163,13 @@ class _Block:
     chained: bool = False
 
 
+def _numbered(form: Form) -> Optional[Numbered]:
+    """A statement without a block that has a number; none where it has none."""
+    if isinstance(form, (Assignment, Print, Read)):
+        return form
+    return form if isinstance(form, Word) and form == Word("STOP") else None
+
+
 class _Reader:
     """Takes the statements of a program one after the other."""
 
@@ -220,8 +227,9 @@ class _Reader:
         if isinstance(form, LogicalIf):
             self._open(_Block(self._number(BlockIf(form.condition), written.text), is_loop=False))
             inner = read_form(form.text)
-            if isinstance(inner, (Assignment, Print, Read)) or inner == Word("STOP"):
-                self._number(inner, form.text)
+            numbered = _numbered(inner)
+            if numbered is not None:
+                self._number(numbered, form.text)
             self._close_if()
         elif isinstance(form, (BlockIf, ElseIf)):
             number = self._number(BlockIf(form.condition), written.text)
@@ -230,8 +238,10 @@ class _Reader:
             number = self._number(form, written.text)
             self._open(_Block(number, is_loop=True, label=form.label))
             self._program.loops[number] = Loop(number, form, self._loops, written.directives, last=number)
-        elif isinstance(form, (Assignment, Print, Read)) or form == Word("STOP"):
-            self._number(form, written.text)
+        else:
+            numbered = _numbered(form)
+            if numbered is not None:
+                self._number(numbered, written.text)
 
     def _number(self, form: Numbered, text: Text) -> int:
         """Gives a statement the next number."""

@@ -49,6 +49,8 @@ def add_words(command: argparse.ArgumentParser, name: str) -> None:
     group.add_argument(
         "-I", dest="folders", metavar="DIR", action="append", default=[], help="look here for INCLUDEd files, too"
     )
+    words = "look into the procedures and modules of SOURCE, too" + ("; --check compiles it" if name == "omp" else "")
+    group.add_argument("--with", dest="others", metavar="SOURCE", action="append", default=[], help=words)
     group.add_argument("--assume", metavar="A", action="append", default=[], help="grant an assumption, as A8")
     group.add_argument("--deny", metavar="A", action="append", default=[], help="withdraw an assumption, as A2")
     group.add_argument("--exact", action="store_true", help="withdraw A9: REAL sums stay in their order")
@@ -61,9 +63,6 @@ def add_words(command: argparse.ArgumentParser, name: str) -> None:
         )
         group.add_argument("--in-place", action="store_true", help="write over FILE")
         group.add_argument("--check", action="store_true", help="compile and run the result, and compare runs")
-        group.add_argument(
-            "--with", dest="others", metavar="SOURCE", action="append", default=[], help="--check: compile SOURCE, too"
-        )
 
 
 def view_or_none(options: argparse.Namespace, question: Question, ped: Ped) -> Optional[View]:
@@ -134,7 +133,7 @@ def _answer(
 
     reading = real.Reading(
         options.form, options.columns or 72, options.folders, options.assume, options.deny, options.exact,
-        options.openmp or real.OPENMP,
+        options.openmp or real.OPENMP, options.others,
     )
     one = real.opened(options.file, reading)
     if refusal is not None and not one.is_fortran:
@@ -150,7 +149,7 @@ def _answer(
     if options.command == "json":
         return real.json(one, ped, progress)
     writing = real.Writing(
-        [*lines, *options.at], options.output, options.in_place, options.check, options.others, options.data
+        [*lines, *options.at], options.output, options.in_place, options.check, options.data
     )
     return real.omp(one, ped, writing, progress)
 

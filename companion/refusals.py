@@ -20,7 +20,7 @@ class Refusal(NamedTuple):
 
 REFUSALS: Dict[int, Refusal] = {
     1: Refusal(
-        "Tab", "a tab stands in columns 1 to 72", "write blanks: columns 1 to 5 hold a label, 7 to 72 the statement"
+        "Tab", "a tab is in columns 1 to 72", "write blanks: columns 1 to 5 hold a label, 7 to 72 the statement"
     ),
     2: Refusal(
         "BadLabel", "columns 1 to 5 hold something else than a label, or a continuation line has a label",
@@ -31,20 +31,20 @@ REFUSALS: Dict[int, Refusal] = {
         "split the statement, by a scalar that holds a part of the expression",
     ),
     4: Refusal(
-        "ContinuationFirst", "a continuation line stands before the first statement",
+        "ContinuationFirst", "a continuation line comes before the first statement",
         "leave column 6 blank on the first line of a statement",
     ),
     5: Refusal(
-        "BadCharacter", "a character may not stand in a statement",
+        "BadCharacter", "a character isn't allowed in a statement",
         "letters, digits, blanks and = + - * / ( ) , . ' $ : may; a comment has a C in column 1",
     ),
     6: Refusal(
         "OpenConstant", "a character constant isn't closed",
-        "write an apostrophe behind it; one in the constant is written twice, as in 'ISN''T'",
+        "write an apostrophe after it; one in the constant is written twice, as in 'ISN''T'",
     ),
     7: Refusal(
         "Syntax", "the statement has no form of the language, or may not stand here",
-        "see docs/LANGUAGE.md, `Statements`; declarations come first, PRIVATE directly behind its DO, a directive "
+        "see docs/LANGUAGE.md, `Statements`; declarations come first, PRIVATE directly after its DO, a directive "
         "directly before it; END DO ends a DO without a label; write I*(-J) for I*-J",
     ),
     8: Refusal(
@@ -57,14 +57,14 @@ REFUSALS: Dict[int, Refusal] = {
         "end a DO by END DO, one with a label by a statement that has it, an IF by END IF, and the program by END",
     ),
     10: Refusal(
-        "BadTerminal", "the label of a DO stands on a statement that can't end it, or inside an open IF or loop",
-        "end the loop by an END DO or a CONTINUE with its label, behind the ends of all that began in it",
+        "BadTerminal", "the label of a DO is on a statement that can't end it, or inside an open IF or loop",
+        "end the loop by an END DO or a CONTINUE with its label, after the ends of all that began in it",
     ),
     11: Refusal(
         "IndexAssigned", "the variable of a loop is changed in its body, or named in PRIVATE",
         "use another variable in the body; the variable of a loop is counted by its DO alone, and is private by itself",
     ),
-    12: Refusal("StopPlace", "STOP stands in a loop", "leave the loop to its end, and stop behind it"),
+    12: Refusal("StopPlace", "STOP is in a loop", "leave the loop to its end, and stop after it"),
     13: Refusal(
         "Limit", "a limit of the language is passed",
         "see docs/LANGUAGE.md, `Limits`: 4,000 statements, 6 loops in one another, 64 references in a statement, "
@@ -84,7 +84,7 @@ REFUSALS: Dict[int, Refusal] = {
     ),
     17: Refusal(
         "RankDiffers", "a name has another number of subscripts than dimensions",
-        "write a subscript for each dimension, and none behind a scalar; loops and PRIVATE take scalars alone",
+        "write a subscript for each dimension, and none after a scalar; loops and PRIVATE take scalars alone",
     ),
     18: Refusal("BoundsEmpty", "a lower bound is above its upper bound", "write the lower bound first, as in A(0:9)"),
     19: Refusal(
@@ -94,7 +94,7 @@ REFUSALS: Dict[int, Refusal] = {
     ),
     20: Refusal(
         "NoUnit", "a CALL names no subroutine of the file, or two subroutines have one name",
-        "put the subroutine behind the main program's END; each has a name of its own",
+        "put the subroutine after the main program's END; each has a name of its own",
     ),
     21: Refusal(
         "Recursion", "CALLs lead from a subroutine back to it", "write a loop in the place of the CALL that leads back",
@@ -109,7 +109,7 @@ REFUSALS: Dict[int, Refusal] = {
         "copy the variable to another one, or pass K+0, which has its value",
     ),
     24: Refusal(
-        "CallPlace", "a CALL stands in a PARALLEL DO",
+        "CallPlace", "a CALL is in a PARALLEL DO",
         "write DO, and make the loop parallel in a session, where the CALL is a block: see docs/SUBROUTINES.md",
     ),
 }
@@ -118,16 +118,16 @@ REFUSALS: Dict[int, Refusal] = {
 RULES: Dict[int, str] = {
     1: "statement {S} is no DO",
     2: "the loop's body has to be one loop and nothing else",
-    3: "the step leaves loops alone that are PARALLEL DO or stand in one (`serial`: those that aren't PARALLEL DO)",
+    3: "the step leaves loops alone that are PARALLEL DO or are in one (`serial`: those that aren't PARALLEL DO)",
     4: "the loop has a PRIVATE list",
     5: "statement {S} reads the variable of a loop where the step would leave it without a value",
     6: "a bound of the loop at statement {S} isn't plain: its value might change",
     7: "the inner bound isn't of a form that can be exchanged",
     8: "the increment isn't one that the step allows",
     9: "a value of the loop's variable leaves the range of literals",
-    10: "no loop with the same header stands directly behind it",
+    10: "no loop with the same header comes directly after it",
     11: "the loop's statements depend on each other, or it has but one",
-    12: "an iteration may read the scalar before it assigns it, or it is wanted behind the loop: see statement {S}",
+    12: "an iteration may read the scalar before it assigns it, or it is wanted after the loop: see statement {S}",
     13: "the name isn't that of a scalar that the step can take",
     14: "a bound of the loop isn't constant, or the loop has no iteration",
     15: "the new program passes a limit of the language (`reduce`: or what `run` makes of it does)",
@@ -139,7 +139,7 @@ RULES: Dict[int, str] = {
 }
 
 OTHERS: Dict[str, str] = {
-    "BadCommand": "the line is no command, or the period behind the text of an edit is missing",
+    "BadCommand": "the line is no command, or the period after the text of an edit is missing",
     "NoSuchStatement": "the program has no statement with this number",
     "NoSuchLine": "the program has no such lines",
     "NothingToUndo": "there is no step back",

@@ -157,14 +157,15 @@ def _uses(form: Form) -> Iterator[_Use]:
         yield from _uses(read_form(form.text))
 
 
-def _parts(form: Form) -> List[Union[Expression, Name]]:
+def _parts(form: Form) -> Sequence[Union[Expression, Name]]:
     """The expressions and names of a statement, in the order in which they stand."""
     if isinstance(form, Assignment):
         return [form.target, form.value]
     if isinstance(form, (BlockIf, ElseIf, LogicalIf)):
         return [form.condition]
     if isinstance(form, Do):
-        return [form.variable, form.first, form.last] + ([form.step] if form.step is not None else [])
+        bounds = [form.first, form.last, form.step] if form.step is not None else [form.first, form.last]
+        return [form.variable, *bounds]
     if isinstance(form, (Print, Read)):
         return list(form.items)
     if isinstance(form, Private):

@@ -199,7 +199,7 @@ def _made_of_group(view: View, group: Sequence[LoopLines], source: Sequence[str]
     outline = outline_of([read_source_row(row) for row in source[max(first, 1):last + 1]])
     further = 0
     for loop in group:
-        numbers = []
+        numbers: List[int] = []
         number, left = loop.number + further, loop.last - loop.number
         while left > 0 or not numbers:
             numbers.append(number - further)

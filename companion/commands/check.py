@@ -177,7 +177,7 @@ def _about_fault(fault: Fault, program: Program) -> _Accident:
 
 def _about_race(race: Race, program: Program) -> _Accident:
     variable = race.cell if race.cell.startswith("(") else race.cell.partition("(")[0]
-    marks = []
+    marks: List[Mark] = []
     for number, sign in ((race.first, "^"), (race.second, "~")):
         statement = program.statement(number)
         spans = [reference.span for reference in statement.references if reference.name == variable]

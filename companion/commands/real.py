@@ -4,6 +4,7 @@ from __future__ import annotations
 
 import os
 from dataclasses import dataclass, field
+from pathlib import Path
 from typing import Dict, FrozenSet, Iterator, List, NamedTuple, Optional, Sequence, Tuple
 
 from .. import files
@@ -22,13 +23,15 @@ from ..statuses import CompanionError, Status
 
 #: So many loops are asked about before it is shown how far the call has come.
 _AT_A_TIME = 40
+#: The suffixes of sources that a compiler may need, and that aren't Fortran.
+_OTHER_LANGUAGES = (".c", ".cc", ".cpp", ".cxx", ".s", ".o", ".a", ".so")
 #: The version of OpenMP that directives are for.
 OPENMP = "4.5"
 
 
 @dataclass(frozen=True)
 class Reading:
-    """How a file is read, and what is granted."""
+    """How a file is read, and what is granted. `others` are further sources, with what it needs."""
 
     form: Optional[str] = None
     columns: int = 72
@@ -37,6 +40,7 @@ class Reading:
     deny: Sequence[str] = ()
     exact: bool = False
     openmp: str = OPENMP
+    others: Sequence[str] = ()
 
 
 class Answer(NamedTuple):
@@ -58,6 +62,7 @@ class Opened:
     scopes: Scopes
     places: List[Place]
     granted: FrozenSet[str]
+    others: Tuple[File, ...] = ()
     notes: List[str] = field(default_factory=list)
 
     @property
@@ -112,14 +117,30 @@ def opened(path: str, reading: Reading, text: Optional[str] = None) -> Opened:
     try:
         granted = assumptions.granted(reading.assume, reading.deny, reading.exact)
         file = blocks.read_file(path, text, reading.form, reading.columns, reading.folders)
+        others = tuple(_other(path, name, reading) for name in reading.others if _is_fortran(path, name))
         note = library.statement_classes().note
     except assumptions.NoAssumption as error:
         raise CompanionError(Status.BAD_WORDS, str(error)) from error
     except library.LibraryMissing as error:
         raise CompanionError(Status.NO_LIBRARY, str(error)) from error
-    scopes = Scopes(file.all_units())
+    scopes = Scopes([unit for one in (file, *others) for unit in one.all_units()])
     notes = [] if note is None else [f"pedx: {NOTE}: {note}"]
-    return Opened(path, text, reading, file, scopes, places_of(file, scopes), granted, notes)
+    return Opened(path, text, reading, file, scopes, places_of(file, scopes, others), granted, others, notes)
+
+
+def _other(path: str, name: str, reading: Reading) -> File:
+    """A further source. It has the form that is given for the file where its name ends as the file's."""
+    form = reading.form if Path(name).suffix == Path(path).suffix else None
+    return blocks.read_file(name, read_file(name), form, reading.columns, reading.folders)
+
+
+def _is_fortran(path: str, name: str) -> bool:
+    """Whether a further source may be read: it's no file of another language, and not the file itself."""
+    try:
+        is_same = os.path.samefile(path, name)
+    except OSError:
+        is_same = False
+    return not is_same and Path(name).suffix.lower() not in _OTHER_LANGUAGES
 
 
 # --- Commands --------------------------------------------------------------------------------------------------------
@@ -187,7 +208,6 @@ class Writing:
     output: Optional[str] = None
     in_place: bool = False
     checks: bool = False
-    others: Sequence[str] = ()
     data: Optional[str] = None
 
 
@@ -278,14 +298,21 @@ def _summary(one: Opened, found: Sequence[Verdict], chosen: exporting.Chosen, wr
     return f"{target}: {directives}, for {count} of {counted(len(found), 'loop')}{words}"
 
 
+def _has_main(one: Opened) -> bool:
+    """Whether there is a main program, which a source in another language may be as well."""
+    if any(Path(name).suffix.lower() in _OTHER_LANGUAGES for name in one.reading.others):
+        return True
+    return any(unit.kind == "PROGRAM" for file in (one.file, *one.others) for unit in file.units)
+
+
 def _checked(one: Opened, chosen: exporting.Chosen, text: str, writing: Writing) -> str:
     compiler = os.environ.get("FC") or "gfortran"
     job = Job(
         path=one.path, form=one.file.form, columns=one.reading.columns, text=one.text, written=text,
         running=exporting.exported(one.text, one.file, chosen.verdicts, exporting.RUNTIME),
-        has_main=bool(writing.others) or any(unit.kind == "PROGRAM" for unit in one.file.units),
+        has_main=_has_main(one),
         is_exact=not any("A9" in verdict.assumes for verdict in chosen.verdicts),
-        folders=one.reading.folders, others=writing.others,
+        folders=one.reading.folders, others=one.reading.others,
         data=read_file(writing.data) if writing.data is not None else None,
     )
     try:

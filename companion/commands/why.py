@@ -148,7 +148,7 @@ def _about_subscripts(view: View, row: Dependence, source: Reference, sink: Refe
         yield f"subscript {position.number}{decides}: {_about_position(view, position)}"
     if carrier is not None and all(_leaves_out(position, carrier) for position in both):
         variable = carrier.variable
-        yield f"{variable} stands in no subscript: all iterations of DO {variable} use the same elements"
+        yield f"{variable} occurs in no subscript: all iterations of DO {variable} use the same elements"
 
 
 def _leaves_out(position: Position, loop: Loop) -> bool:

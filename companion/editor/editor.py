@@ -214,7 +214,7 @@ class Editor:
     def _step(self, step: Step) -> None:
         loop = self._desk.loop
         if loop is None:
-            self._desk.say(f"{step.word} wants a loop, and the line stands in none; n goes to the next one")
+            self._desk.say(f"{step.word} wants a loop, and the line is in none; n goes to the next one")
             return
         answer: Optional[str] = ""
         if step.asks is not Asks.NOTHING:
@@ -225,7 +225,7 @@ class Editor:
     def _step_of_block(self, step: Step) -> None:
         block = block_at(blocks_of(self._desk.present.panes.source), self._desk.line)
         if block is None:
-            where = f"the line stands in none; {keys.CALLS} shows them"
+            where = f"the line is in none; {keys.CALLS} shows them"
             self._desk.say(f"{step.word} wants the block of a CALL, and {where}")
         else:
             self._carry_out(f"{step.word} {block.number}", block.number)

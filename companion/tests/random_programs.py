@@ -9,7 +9,7 @@ from __future__ import annotations
 
 from contextlib import contextmanager
 from random import Random
-from typing import Dict, Iterator, List, NamedTuple, Sequence, Set, Tuple
+from typing import Iterator, List, NamedTuple, Sequence, Set
 
 _FUNCTIONS = ["MAX", "MIN", "MOD", "ABS"]
 _ODD_SCALARS = [

@@ -48,7 +48,7 @@ def example_view(name: str) -> View:
 
 @lru_cache(maxsize=None)
 def examples() -> Tuple[str, ...]:
-    """The names of the examples that ped reads; those of the folder book are named `book/NAME`."""
+    """The names of the examples that ped reads; each is `FOLDER/NAME`."""
     names = sorted(str(path.relative_to(EXAMPLES).with_suffix("")) for path in EXAMPLES.glob("**/*.f"))
     return tuple(name for name in names if _is_read(name))
 

@@ -85,7 +85,7 @@ class Keys(Played):
     def test_inline(self) -> None:
         player = self.play(TWO)
         player.press("I")
-        player.wait("inline wants the block of a CALL, and the line stands in none; c shows them")
+        player.wait("inline wants the block of a CALL, and the line is in none; c shows them")
         player.press(DOWN, "I")
         player.wait("inline 2: ok; loop 1 carries A")
         player.press("u")

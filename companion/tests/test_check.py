@@ -162,7 +162,7 @@ class Programs(Check):
             "p.f:3:7: warning: this PARALLEL DO isn't tidy: statement 2 in it assigns J, the variable of a loop", rows
         )
         self.assertIn(
-            "p.f:3:7: warning: this PARALLEL DO isn't tidy: I is in SAVE, and nothing behind the loop assigns it", rows
+            "p.f:3:7: warning: this PARALLEL DO isn't tidy: I is in SAVE, and nothing after the loop assigns it", rows
         )
         rows, _ = self.check(fortran("SAVE I", "PARALLEL DO 10 I = 1, 9", "10 CONTINUE", "I = 5", "END"))
         self.assertEqual(rows, [])

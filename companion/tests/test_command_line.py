@@ -5,24 +5,26 @@ import shutil
 import subprocess
 import sys
 import unittest
+from typing import List
 from pathlib import Path
 
 from ..statuses import Status
 from .calling import Calling
 from .support import TOP
 
-RECURRENCE = "examples/recurrence.f"
+RECURRENCE = "examples/panes/recurrence.f"
 class Calls(Calling):
     def test_done(self) -> None:
         for command in ("loops", "why", "omp", "check", "graph", "json"):
             self.ends(Status.DONE, [command, RECURRENCE])
 
     def test_bad_words(self) -> None:
-        for words in (
-            [], ["show", RECURRENCE], ["loops"], ["loops", RECURRENCE, "x"], ["why", RECURRENCE, "--kind", "x"]
-        ):
+        calls: List[List[str]] = [
+            [], ["show", RECURRENCE], ["loops"], ["loops", RECURRENCE, "x"], ["why", RECURRENCE, "--kind", "x"],
+        ]
+        for words in calls:
             self.ends(Status.BAD_WORDS, words, "usage: pedx")
-        self.ends(Status.BAD_WORDS, ["loops", RECURRENCE, "2"], "statement 2 of examples/recurrence.f is no DO")
+        self.ends(Status.BAD_WORDS, ["loops", RECURRENCE, "2"], "statement 2 of examples/panes/recurrence.f is no DO")
         self.ends(Status.BAD_WORDS, ["loops", RECURRENCE, "--data", RECURRENCE], "--data wants --script")
 
     def test_help(self) -> None:
@@ -76,11 +78,11 @@ class Calls(Calling):
 
     def test_refused(self) -> None:
         for command in ("loops", "why", "omp", "json", "graph"):
-            words = [command, "examples/refused.f"] + ["--profile"] * (command != "graph")
-            out = self.ends(Status.PROGRAM_REFUSED, words, "examples/refused.f:4:7: error: 11 IndexAssig")
+            words = [command, "examples/panes/refused.f"] + ["--profile"] * (command != "graph")
+            out = self.ends(Status.PROGRAM_REFUSED, words, "examples/panes/refused.f:4:7: error: 11 IndexAssig")
             self.assertEqual(out, "")
-        out = self.ends(Status.PROGRAM_REFUSED, ["check", "examples/refused.f"])
-        self.assertTrue(out.startswith("examples/refused.f:4:7: "))
+        out = self.ends(Status.PROGRAM_REFUSED, ["check", "examples/panes/refused.f"])
+        self.assertTrue(out.startswith("examples/panes/refused.f:4:7: "))
 
     def test_refused_line_of_a_script(self) -> None:
         script = self.file("script", "undo\n")
@@ -89,16 +91,16 @@ class Calls(Calling):
         self.assertIn("carries A", out)
 
     def test_session(self) -> None:
-        words = ["--script", "examples/squares.script"]
-        self.assertEqual(self.ends(Status.DONE, ["loops", "examples/squares.f", *words]), self.ends(
-            Status.DONE, ["loops", "examples/squares.f", "--printed"]
+        words = ["--script", "examples/steps/squares.script"]
+        self.assertEqual(self.ends(Status.DONE, ["loops", "examples/steps/squares.f", *words]), self.ends(
+            Status.DONE, ["loops", "examples/steps/squares.f", "--printed"]
         ), "the script takes all its changes back")
         script = self.file("script", "privatise 3 T\n")
-        out = self.ends(Status.DONE, ["loops", "examples/squares.f", "--script", script, "--no-trials"])
+        out = self.ends(Status.DONE, ["loops", "examples/steps/squares.f", "--script", script, "--no-trials"])
         self.assertIn("   3     8  DO I = 1, 5  free: carries nothing\n", out)
 
     def test_check_statuses(self) -> None:
-        words = ["examples/means.f", "--script", "examples/means.script", "--data", "examples/means.data"]
+        words = ["examples/sessions/means.f", "--script", "examples/sessions/means.script", "--data", "examples/sessions/means.data"]
         self.ends(Status.FAULT, ["check", *words])
         racing = self.file("p.f", "      PARALLEL DO 10 I = 1, 2\n   10 K = I\n      END\n")
         self.ends(Status.RACE, ["check", "--run", racing])

@@ -10,6 +10,7 @@ import sys
 import unittest
 from typing import Iterator, List, Match
 
+from .. import VERSION
 from ..faults import FAULTS
 from ..real.library import LibraryMissing, statement_classes
 from ..refusals import OTHERS, REFUSALS, RULES
@@ -18,6 +19,7 @@ from .screens import HINT, NAMED_KEYS, Player, has_terminal
 from .support import EXAMPLES, TOP, ped_path
 
 MANUAL = TOP / "docs" / "COMPANION.md"
+FIRST_PAGE = TOP / "README.md"
 
 #: A block of the manual that begins with a call.
 _BLOCK = re.compile(r"^```\n(\$ .*?)^```$", re.MULTILINE | re.DOTALL)
@@ -89,6 +91,15 @@ class Manual(unittest.TestCase):
         for front, name, keys, block in blocks:
             self.assertEqual(screen(name, keys), block)
 
+    @unittest.skipUnless(has_terminal(), "the library curses is not there, or knows no VT100")
+    def test_screen_of_the_first_page(self) -> None:
+        """The first page shows the upper rows of the screen."""
+        blocks = _SCREEN.findall(FIRST_PAGE.read_text())
+        self.assertEqual(len(blocks), 1)
+        for _, name, keys, block in blocks:
+            shown = screen(name, keys).splitlines()
+            self.assertEqual(shown[:len(block.splitlines())], block.splitlines())
+
     def test_examples(self) -> None:
         blocks = _BLOCK.findall(MANUAL.read_text())
         self.assertGreater(len(blocks), 5)
@@ -103,11 +114,20 @@ class Manual(unittest.TestCase):
         self.assertEqual(named, [int(status) for status in Status])
 
 
+class Versions(unittest.TestCase):
+    def test_pages(self) -> None:
+        """The manual pages and the newest part of the list of changes have the version."""
+        for page in ("ped.1", "pedx.1"):
+            self.assertIn(f'"ped {VERSION}"', (TOP / "man" / page).read_text().splitlines()[0])
+        headings = re.findall(r"^## (\S+)", (TOP / "CHANGELOG.md").read_text(), re.MULTILINE)
+        self.assertEqual(headings[0], VERSION)
+
+
 class Book(unittest.TestCase):
     def test_programs(self) -> None:
         """The page of the book's patterns names each program once, with a row that its session shows."""
         named = []
-        for row in (TOP / "docs" / "BOOK.md").read_text().splitlines():
+        for row in (EXAMPLES / "book" / "README.md").read_text().splitlines():
             cells = [cell.strip() for cell in row.strip("|").split("|")]
             if len(cells) != 5 or not cells[1].startswith("`"):
                 continue

@@ -483,7 +483,7 @@ class Saving(Played):
 class Refused(Played):
     def test_no_terminal(self) -> None:
         done = subprocess.run(
-            [sys.executable, str(TOP / "pedx"), "edit", str(EXAMPLES / "order.f")], stdin=subprocess.DEVNULL,
+            [sys.executable, str(TOP / "pedx"), "edit", str(EXAMPLES / "steps" / "order.f")], stdin=subprocess.DEVNULL,
             stdout=subprocess.DEVNULL, stderr=subprocess.PIPE, check=False,
         )
         self.assertEqual(done.returncode, 2)

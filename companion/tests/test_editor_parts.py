@@ -179,7 +179,7 @@ class Pieces(unittest.TestCase):
     """Pieces of advice: what can be carried out comes first, the most wanted before the others."""
 
     def test_scalar(self) -> None:
-        view = example_view("squares")
+        view = example_view("steps/squares")
         advice = advised(ped(), view, view.program.loops[3])
         self.assertEqual([one.steps for one in advice if one.steps], [
             ("privatise 3 T",), ("expand 3 T",), ("peel 3 first",), ("peel 3 last",),
@@ -188,7 +188,7 @@ class Pieces(unittest.TestCase):
         self.assertEqual(advice[0], Advice(words, ("privatise 3 T",)))
 
     def test_free_loop(self) -> None:
-        view = example_view("squares")
+        view = example_view("steps/squares")
         self.assertEqual([one.steps for one in advised(ped(), view, view.program.loops[1]) if one.steps], [
             ("parallel 1",), ("fuse 1",), ("reverse 1",), ("peel 1 first",), ("peel 1 last",),
         ])
@@ -201,7 +201,7 @@ class Pieces(unittest.TestCase):
             "try `peel 1 first`: ped accepts it", "try `peel 1 last`: ped accepts it",
             "`interchange 1`: refused rule 2 NotPerfect at 1: the loop's body has to be one loop and nothing else",
             "`reverse 1` and `parallel 1`: refused edge 2.2 2.1 A flow 1 (<) (1) proven: this dependence forbids them",
-            "`fuse 1`: refused rule 10 NoNeighbour at 1: no loop with the same header stands directly behind it",
+            "`fuse 1`: refused rule 10 NoNeighbour at 1: no loop with the same header comes directly after it",
         ])
 
     def test_step_that_frees(self) -> None:
@@ -217,7 +217,7 @@ class Pieces(unittest.TestCase):
             "try `serial 1`: ped accepts it",
             "`interchange 1`: refused rule 2 NotPerfect at 1: the loop's body has to be one loop and nothing else",
             "`reverse 1`, `distribute 1`, `fuse 1`, `parallel 1`, `peel 1 first` and `peel 1 last`: refused rule 3 "
-            "ParallelState at 1: the step leaves loops alone that are PARALLEL DO or stand in one (`serial`: those "
+            "ParallelState at 1: the step leaves loops alone that are PARALLEL DO or are in one (`serial`: those "
             "that aren't PARALLEL DO)",
         ])
 
@@ -228,7 +228,7 @@ class Pieces(unittest.TestCase):
 
     def test_keys(self) -> None:
         """Each piece that can be carried out has a key of its own, and none closes the page."""
-        view = example_view("squares")
+        view = example_view("steps/squares")
         pieces = [Advice(f"try `privatise 3 T{number}`: ped accepts it", ("step",)) for number in range(30)]
         page = advice_page(view, view.program.loops[3], [*pieces, Advice("otherwise")])
         self.assertEqual([row[:5] for row in page[2:12]], [f"  {key}  " for key in "123456789a"])

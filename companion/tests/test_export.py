@@ -57,7 +57,7 @@ class Export(unittest.TestCase):
         page = (TOP / "docs" / "COMPANION.md").read_text()
         schema = page[page.index("### The schema"):]
         named = set(re.findall(r"^\| `(\w+)` \|", schema, re.MULTILINE))
-        said = json.loads(export(example_view("chains")))
+        said = json.loads(export(example_view("panes/chains")))
         keys = set(said)
         for value in said.values():
             if isinstance(value, list) and value and isinstance(value[0], dict):

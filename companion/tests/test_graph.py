@@ -29,9 +29,9 @@ class Graph(unittest.TestCase):
         self.assertIn('  4 -> 4 [label="K output 2", color=blue, style=solid];', outer)
 
     def test_rejected_and_many(self) -> None:
-        lines = graph(example_view("seidel"), 6, svg=False).splitlines()
+        lines = graph(example_view("panes/seidel"), 6, svg=False).splitlines()
         self.assertIn('  9 -> 9 [label="HEAT anti 1 x4", color=red, style=solid];', lines)
-        lines = graph(example_view("chains"), 11, svg=False).splitlines()
+        lines = graph(example_view("panes/chains"), 11, svg=False).splitlines()
         self.assertIn('  13 -> 13 [label="Z anti 1 x2", color=red, style=dotted];', lines)
 
     def test_whole_programs(self) -> None:
@@ -53,7 +53,7 @@ class Drawn(unittest.TestCase):
                 Path(folder, "dot").write_text(dot)
                 Path(folder, "dot").chmod(0o755)
             with patch.dict(os.environ, PATH=f"{folder}:/usr/bin:/bin" if dot else folder):
-                return graph(example_view("squares"), 3, svg=True)
+                return graph(example_view("steps/squares"), 3, svg=True)
 
     def test_drawn(self) -> None:
         answer = self.drawn('#!/bin/sh\necho "$@"\ncat\n')

@@ -17,7 +17,7 @@ from .support import TOP, ped_path
 
 _MATCHER = TOP / "editors" / "vscode" / "tasks.json"
 _VIM = TOP / "editors" / "vim"
-_MAN = TOP / "docs" / "man"
+_MAN = TOP / "man"
 
 #: A program with two warnings: text past column 72, and a PARALLEL DO that carries a dependence.
 _PROGRAM = "\n".join([

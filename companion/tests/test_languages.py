@@ -10,7 +10,7 @@ from ..statuses import Status
 from .calling import Calling
 from .support import fortran
 
-RECURRENCE = "examples/recurrence.f"
+RECURRENCE = "examples/panes/recurrence.f"
 
 
 class Languages(unittest.TestCase):

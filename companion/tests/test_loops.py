@@ -71,11 +71,11 @@ class FakePed(Ped):
 
 class Verdicts(unittest.TestCase):
     def test_words(self) -> None:
-        self.assertEqual(verdicts(example_view("private")), {
+        self.assertEqual(verdicts(example_view("panes/private")), {
             1: "carries (IN)", 3: "carries ISQ", 6: "parallel: carries nothing", 10: "carries ISUM",
         })
-        self.assertEqual(verdicts(example_view("chains"))[11], "free: carries nothing but what is rejected of Z")
-        self.assertEqual(verdicts(example_view("independent")), {1: "free: carries nothing"})
+        self.assertEqual(verdicts(example_view("panes/chains"))[11], "free: carries nothing but what is rejected of Z")
+        self.assertEqual(verdicts(example_view("panes/independent")), {1: "free: carries nothing"})
 
     def test_racing(self) -> None:
         view = view_of(fortran("INTEGER A(9)", "PARALLEL DO 10 I = 2, 9", "10 A(I) = A(I-1)", "END"))
@@ -93,10 +93,10 @@ class Verdicts(unittest.TestCase):
         ])
 
     def test_chosen(self) -> None:
-        rows = loops(example_view("private"), _NO_PED, [6], tries=False).splitlines()
+        rows = loops(example_view("panes/private"), _NO_PED, [6], tries=False).splitlines()
         self.assertEqual(len(rows), 2)
         with self.assertRaises(CompanionError) as caught:
-            find_loop(example_view("private"), 2)
+            find_loop(example_view("panes/private"), 2)
         self.assertIs(caught.exception.status, Status.BAD_WORDS)
 
     def test_asks_of_chosen_loops_alone(self) -> None:
@@ -124,20 +124,20 @@ class Verdicts(unittest.TestCase):
 
 class Advice(unittest.TestCase):
     def test_accepted_steps(self) -> None:
-        self.assertEqual(advice(example_view("squares"), 3), [
+        self.assertEqual(advice(example_view("steps/squares"), 3), [
             "try `privatise 3 T`: ped accepts it, and the loop then carries nothing",
             "try `expand 3 T`: ped accepts it, and the loop then carries nothing",
         ])
 
     def test_refused_steps(self) -> None:
-        self.assertEqual(advice(example_view("spread"), 4), [
+        self.assertEqual(advice(example_view("steps/spread"), 4), [
             "try `expand 4 ISPR`: ped accepts it, and the loop then carries nothing",
-            "`privatise 4 ISPR`: refused rule 12 ExposedOrLive at 7: statement 7 may read ISPR behind the loop, and "
+            "`privatise 4 ISPR`: refused rule 12 ExposedOrLive at 7: statement 7 may read ISPR after the loop, and "
             "the step would lose its value",
         ])
 
     def test_sum(self) -> None:
-        self.assertEqual(advice(example_view("private"), 10), [
+        self.assertEqual(advice(example_view("panes/private"), 10), [
             "`privatise 10 ISUM` and `expand 10 ISUM`: refused rule 12 ExposedOrLive at 11: statement 11 may read ISUM "
             "before the iteration assigns it",
             "try `reduce 10 ISUM`: ped accepts it, and the iterations may then be done in any order",
@@ -233,7 +233,7 @@ class Advice(unittest.TestCase):
             "PRINT keeps its lines in order: store the values in an array, and print them in a loop of their own",
             "try `distribute 1`: ped accepts it, and makes 2 loops of it",
         ])
-        self.assertEqual(advice(example_view("product"), 17), [
+        self.assertEqual(advice(example_view("panes/product"), 17), [
             "`interchange 17`: refused edge 19.2 19.2 (OUT) output 1 (<,*) (*,*) pending: this dependence forbids it",
         ])
 
@@ -265,7 +265,7 @@ class Advice(unittest.TestCase):
         self.assertEqual(fake.scripts, ["advise 1\n", "interchange 1\ndeps 1\nundo\n"])
 
     def test_parallel_refused(self) -> None:
-        """The variable is wanted behind the loop, where it would have no value."""
+        """The variable is wanted after the loop, where it would have no value."""
         wanted = view_of(fortran("INTEGER A(9)", "DO 10 I = 1, 9", "10 A(I) = I", "PRINT *, I", "END"))
         self.assertEqual(advice(wanted, 1), [
             "`parallel 1`: refused rule 5 IndexEscapes at 3: statement 3 reads the variable of a loop where the step "
@@ -308,17 +308,17 @@ class LeftLoops(unittest.TestCase):
     """What `pedx loops` says of the loops that `auto` leaves."""
 
     def test_recurrence(self) -> None:
-        self.assertEqual(left(example_view("recurrence")), [
+        self.assertEqual(left(example_view("panes/recurrence")), [
             "1: `auto` leaves it: refused edge 2.2 2.1 A flow 1 (<) (1) proven: this dependence forbids it",
         ])
 
     def test_nothing_left(self) -> None:
-        self.assertEqual(left(example_view("independent")), [])
+        self.assertEqual(left(example_view("panes/independent")), [])
 
     def test_sums(self) -> None:
         view = view_of(fortran("DO 10 I = 1, 9", "K = K+I", "10 L = L-I", "PRINT *, K, L", "END"))
         self.assertEqual(left(view), [
-            "1: `auto` leaves it behind `reduce 1 K L`: refused edge 2.1 2.2 K anti 1 (<) (*) proven: this dependence "
+            "1: `auto` leaves it after `reduce 1 K L`: refused edge 2.1 2.2 K anti 1 (<) (*) proven: this dependence "
             "forbids it",
         ])
 
@@ -353,7 +353,7 @@ class LeftLoops(unittest.TestCase):
 
     def test_marks(self) -> None:
         """The comments before the loops change nothing of what `auto` does, and all that are left are found again."""
-        for name in ("chains", "knapsack", "private", "relief", "seidel"):
+        for name in ("panes/chains", "panes/knapsack", "panes/private", "steps/relief", "panes/seidel"):
             view = example_view(name)
             with self.subTest(name):
                 texts = ["".join(line + "\n" for line in lines) for lines in (view.panes.lines, marked(view))]

@@ -45,15 +45,15 @@ class Notes(unittest.TestCase):
         return done.stderr.decode().splitlines()
 
     def test_it_comes_once(self) -> None:
-        messages = self._answer(["loops", str(TOP / "examples/squares.f")], {})
+        messages = self._answer(["loops", str(TOP / "examples/steps/squares.f")], {})
         self.assertGreater(len(self._calls.read_text().splitlines()), 1)
         self.assertEqual([line.startswith(_NOTE) for line in messages], [True])
 
     def test_it_comes_in_each_call_of_pedx(self) -> None:
-        words = ["json", str(TOP / "examples/recurrence.f")]
+        words = ["json", str(TOP / "examples/panes/recurrence.f")]
         for _ in range(2):
             self.assertEqual([line.startswith(_NOTE) for line in self._answer(words, {})], [True])
 
     def test_who_knows_it_is_not_told(self) -> None:
-        words = ["loops", str(TOP / "examples/squares.f")]
+        words = ["loops", str(TOP / "examples/steps/squares.f")]
         self.assertEqual(self._answer(words, {"PED_KNOWN_UNPROVED": "1"}), [])

@@ -494,7 +494,7 @@ class Lists(unittest.TestCase):
             with self.subTest(body):
                 self.assertEqual(live_lists("DO I = 1, 9", *body, "END DO", "PRINT *, K", "END"), {})
         for first, last in (("1, N", "PRINT *, K"), ("1, 9", "PRINT *, K, I")):
-            # The bounds are open; the variable is wanted behind the loop.
+            # The bounds are open; the variable is wanted after the loop.
             with self.subTest(first):
                 self.assertEqual(
                     live_lists("READ *, N", f"DO I = {first}", "C$REDUCE K", "K = K+I", "END DO", last, "END"), {}
@@ -522,11 +522,11 @@ def numbers(*values: int) -> str:
 
 #: Data for the examples that read some and have none of their own.
 DATA: Dict[str, str] = {
-    "chains": numbers(*range(1, 101)),
-    "knapsack": "1\n300 40\n",
-    "prefix": numbers(*(number * number % 17 for number in range(64))),
-    "private": numbers(*(number % 13 - 5 for number in range(100))),
-    "product": "2 3 2\n" + numbers(*range(1, 13)),
+    "panes/chains": numbers(*range(1, 101)),
+    "panes/knapsack": "1\n300 40\n",
+    "panes/prefix": numbers(*(number * number % 17 for number in range(64))),
+    "panes/private": numbers(*(number % 13 - 5 for number in range(100))),
+    "panes/product": "2 3 2\n" + numbers(*range(1, 13)),
 }
 
 #: Programs with what the examples don't have: nested parallel loops, names that clash, loops without iterations.

@@ -1,6 +1,7 @@
 """The panes, read row by row."""
 
 import unittest
+from typing import List
 
 from ..panes import NoPane, calls_length, read_dependence, read_panes
 
@@ -32,12 +33,15 @@ class Panes(unittest.TestCase):
         rows = ["calls 1 edges 2", "2 SWEEP(A,B)", "2 2 A flow 1", "2 3 A flow -"]
         self.assertEqual(calls_length(["ended", *rows, "ended"], 1), len(rows))
         self.assertEqual(calls_length(["calls 0 edges 0", "ended"], 0), 1)
-        for other in (rows[:-1], ["calls 1"], []):
+        others: List[List[str]] = [rows[:-1], ["calls 1"], []]
+        for other in others:
             with self.assertRaises(NoPane):
                 calls_length(other, 0)
 
     def test_other_rows(self) -> None:
-        for rows in ([], ["source 1"], PANES.splitlines()[:-1], PANES.splitlines() + ["more"], ["dependences 0"]):
+        pane = PANES.splitlines()
+        others: List[List[str]] = [[], ["source 1"], pane[:-1], pane + ["more"], ["dependences 0"]]
+        for rows in others:
             with self.assertRaises(NoPane):
                 read_panes(rows)
         for row in ("", "3.2 3.1 A flow 1 (<) (1)", "3 3.1 A flow 1 (<) (1) proven", "3.2 3.1 A new 1 (<) (1) proven"):

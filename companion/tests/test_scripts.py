@@ -1,6 +1,7 @@
 """Scripts and what sessions answer to them."""
 
 import unittest
+from typing import List
 
 from ..lines import split_lines
 from ..ped import read_file
@@ -94,7 +95,7 @@ class Replies(unittest.TestCase):
 
     def test_steps_as_a_script(self) -> None:
         """The example gives the steps of its `auto` one by one, and has the same program then."""
-        path = EXAMPLES / "relief.script"
+        path = EXAMPLES / "steps" / "relief.script"
         commands = read_script(read_file(str(path)))
         replies = read_replies(commands, split_lines(read_file(str(path.with_suffix(".out")))))
         automatic = next(reply for reply in replies if reply.taken)
@@ -104,7 +105,8 @@ class Replies(unittest.TestCase):
         self.assertEqual(automatic.rows[-len(printed.rows):], printed.rows)
 
     def test_other_answers(self) -> None:
-        for rows in ([], ["2: ok"], ["1: ok", "2: ok"], ["ped: cannot read x"]):
+        answers: List[List[str]] = [[], ["2: ok"], ["1: ok", "2: ok"], ["ped: cannot read x"]]
+        for rows in answers:
             with self.assertRaises(NoReply, msg=str(rows)):
                 read_replies(read_script("undo\n"), rows)
 

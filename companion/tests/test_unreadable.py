@@ -12,7 +12,7 @@ from ..ped import ENCODING, Ped, read_file
 from ..statuses import CompanionError, Status
 from .support import EXAMPLES, ped
 
-SQUARES = str(EXAMPLES / "squares.f")
+SQUARES = str(EXAMPLES / "steps" / "squares.f")
 
 #: Rows that are put in the place of one of an answer.
 _OTHER_ROWS = (

@@ -63,7 +63,7 @@ class Sessions(unittest.TestCase):
         with tempfile.TemporaryDirectory(prefix="pedx-test-") as folder:
             path = Path(folder, "script")
             path.write_text(script)
-            return open_view(ped(), Question(str(EXAMPLES / "squares.f"), str(path)))
+            return open_view(ped(), Question(str(EXAMPLES / "steps" / "squares.f"), str(path)))
 
     def test_last_program(self) -> None:
         view = self.view("show\nprivatise 3 T\nrun\nprint\nreplace 3 3\n      INTEGER A(5),T,B(5)\n.\nsource\n")

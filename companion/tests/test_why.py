@@ -8,14 +8,14 @@ from .support import example_view, examples, fortran, view_of
 
 class Sentences(unittest.TestCase):
     def test_whole(self) -> None:
-        self.assertEqual(why(example_view("recurrence"), Wanted()).splitlines()[1:], [
+        self.assertEqual(why(example_view("panes/recurrence"), Wanted()).splitlines()[1:], [
             "    5 |    10 A(I)=A(I-1)+1",
             "      |       ^^^^ 2.2 writes",
             "      |            ~~~~~~ 2.1 reads, 1 iteration of DO I later",
             "      subscript 1 decides: I against I-1, strong SIV, distance 1 in DO I",
             "      row: 2.2 2.1 A flow 1 (<) (1) proven",
         ])
-        headline = why(example_view("recurrence"), Wanted()).splitlines()[0]
+        headline = why(example_view("panes/recurrence"), Wanted()).splitlines()[0]
         self.assertTrue(headline.endswith(
             "recurrence.f:5:7: flow of A from 2.2 to 2.1, carried by loop 1 (DO I), proven"
         ), headline)
@@ -40,24 +40,24 @@ class Sentences(unittest.TestCase):
             "subscript 1: I against 1, weak-zero SIV: the same where I is 1",
             "subscript 1: I against 12-I, weak-crossing SIV: the same where the two values of I add up to 12",
             "pending: the limit N of loop 2 (DO I) isn't constant",
-            "pending: statement 5 stands in the IF of statement 4",
+            "pending: statement 5 is in the IF of statement 4",
             "pending: subscript 1: weak-zero SIV doesn't tell a distance",
         ):
             self.assertIn(f"      {reason}\n", text)
 
     def test_scalars_and_lines(self) -> None:
-        text = why(example_view("squares"), Wanted())
+        text = why(example_view("steps/squares"), Wanted())
         self.assertIn("      T is a scalar, and all iterations use the same one\n", text)
         self.assertIn(
             "      ISQ is private to an iteration of loop 6 (DO I): it has one copy\n",
-            why(example_view("private"), Wanted(statements=[8])),
+            why(example_view("panes/private"), Wanted(statements=[8])),
         )
-        self.assertIn("      lines are read and printed in their order\n", why(example_view("means"), Wanted()))
+        self.assertIn("      lines are read and printed in their order\n", why(example_view("sessions/means"), Wanted()))
 
     def test_rejected(self) -> None:
-        text = why(example_view("chains"), Wanted(loops=[11]))
+        text = why(example_view("panes/chains"), Wanted(loops=[11]))
         self.assertIn("      rejected by the directive of line 22; without it the row is pending\n", text)
-        self.assertIn("      K stands in no subscript: all iterations of DO K use the same elements\n", text)
+        self.assertIn("      K occurs in no subscript: all iterations of DO K use the same elements\n", text)
 
     def test_continued_lines(self) -> None:
         view = view_of("      INTEGER A(9)\n      DO 10 I = 2, 9\n   10 A(I) = A(I\n     &        -1)\n      END\n")
@@ -75,15 +75,15 @@ class Chosen(unittest.TestCase):
         return why(example_view(name), wanted).count("      row: ")
 
     def test_filters(self) -> None:
-        self.assertEqual(self.rows("squares", Wanted(loops=[3])), 3)
-        self.assertEqual(self.rows("squares", Wanted(statements=[5])), 3)
-        self.assertEqual(self.rows("squares", Wanted(kinds=["flow", "anti"])), 3)
-        self.assertEqual(self.rows("squares", Wanted(names=["t"], kinds=["output"])), 1)
-        self.assertEqual(self.rows("chains", Wanted(marks=["rejected"])), 5)
-        self.assertEqual(self.rows("squares", Wanted(marks=["pending"])), 0)
+        self.assertEqual(self.rows("steps/squares", Wanted(loops=[3])), 3)
+        self.assertEqual(self.rows("steps/squares", Wanted(statements=[5])), 3)
+        self.assertEqual(self.rows("steps/squares", Wanted(kinds=["flow", "anti"])), 3)
+        self.assertEqual(self.rows("steps/squares", Wanted(names=["t"], kinds=["output"])), 1)
+        self.assertEqual(self.rows("panes/chains", Wanted(marks=["rejected"])), 5)
+        self.assertEqual(self.rows("steps/squares", Wanted(marks=["pending"])), 0)
 
     def test_none(self) -> None:
-        self.assertTrue(why(example_view("squares"), Wanted(marks=["pending"])).endswith("no such row among 4\n"))
+        self.assertTrue(why(example_view("steps/squares"), Wanted(marks=["pending"])).endswith("no such row among 4\n"))
 
     def test_all_rows_of_all_examples(self) -> None:
         for name in examples():

@@ -277,7 +277,7 @@ for kib in 64 256 1024; do
     statements=$("$ped" show "$file" | awk 'substr($0, 6, 5) ~ /[0-9]/ { n++ } END { print n }')
     awk -v bytes="$bytes" -v statements="$statements" -v times="$times" \
         -v seconds="$(least_show '%U %S' "$file" "$times")" \
-        -v no_seconds="$(least_show '%U %S' examples/recurrence.f "$times")" \
+        -v no_seconds="$(least_show '%U %S' examples/panes/recurrence.f "$times")" \
         -v peak="$(least_show %M "$file" 1)" 'BEGIN {
             time = (seconds - no_seconds) * 1e9 / times / bytes
             printf "%10d %10d %10.2f %10.1f\n", bytes, statements, time, peak / 1024
@@ -294,7 +294,7 @@ while read -r nest statements pairs times; do
     "${nest}_deep" "$statements" >"$file"
     awk -v nest="$nest" -v statements="$statements" -v pairs="$pairs" -v times="$times" \
         -v seconds="$(least_show '%U %S' "$file" "$times")" \
-        -v no_seconds="$(least_show '%U %S' examples/recurrence.f "$times")" \
+        -v no_seconds="$(least_show '%U %S' examples/panes/recurrence.f "$times")" \
         -v peak="$(least_show %M "$file" 1)" 'BEGIN {
             time = (seconds - no_seconds) * 1e6 / times / pairs
             printf "%10s %10d %10d %12.2f %10.1f\n", nest, statements, pairs, time, peak / 1024
@@ -381,7 +381,7 @@ while read -r nest statements times steps; do
     awk -v nest="$nest" -v statements="$statements" -v times="$times" -v steps="$steps" \
         -v pairs="$(tested "$file" 0 "$number" "$line")" -v of_edit="$(tested "$file" 1 "$number" "$line")" \
         -v opening="$(least_session '%U %S' "$file" "$work/nothing")" \
-        -v nothing="$(least_session '%U %S' examples/recurrence.f "$work/nothing")" \
+        -v nothing="$(least_session '%U %S' examples/panes/recurrence.f "$work/nothing")" \
         -v one="$(least_session '%U %S' "$file" "$work/one")" \
         -v edits="$(least_session '%U %S' "$file" "$work/edits")" \
         -v moves="$(least_session '%U %S' "$file" "$work/moves")" \

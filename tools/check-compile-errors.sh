@@ -4,7 +4,7 @@
 # can't be written; private fields, and types without a copy, see to it. Each change is made to a small program over a copy
 # of ped_verdict and the crates below it. The program without a change must compile and run. Nothing is proved here. Code
 # which is generic in its ledger and makes a counter of its own is refused by proof, by what `Steps::new` requires: it stands
-# among the wrong bodies of ped_graph in docs/WRONG-BODIES.md.
+# among the wrong bodies of ped_graph.
 set -eu
 top=$(cd -- "$(dirname -- "${BASH_SOURCE[0]}")/.." && pwd)
 work=$(mktemp -d)

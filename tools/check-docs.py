@@ -1,5 +1,5 @@
 #!/usr/bin/env python3
-"""Runs what the documents show, and compares: README.md and the pages of docs/.
+"""Runs what the documents show, and compares: the pages at the top, those of docs/ and those of the crates.
 
     tools/check-docs.py [--unproved] [PAGE ..]
 
@@ -226,9 +226,9 @@ def why_not_started(takes_unproved):
 
 def main(words):
     takes_unproved = words[:1] == ["--unproved"]
-    # A `.head.md` is checked as a part of the page that is made of it.
-    pages_of_docs = sorted(str(path.relative_to(TOP)) for path in TOP.glob("docs/**/*.md") if ".head." not in path.name)
-    paths = words[takes_unproved:] or ["README.md"] + pages_of_docs
+    patterns = ("*.md", "docs/*.md", "cases/*.md", "examples/**/*.md", "companion/*.md", "crates/*/README.md")
+    pages_of_all = [str(path.relative_to(TOP)) for pattern in patterns for path in sorted(TOP.glob(pattern))]
+    paths = words[takes_unproved:] or pages_of_all
     reason = why_not_started(takes_unproved)
     if reason:
         print(f"docs: nothing was run, since {reason}")

@@ -2,13 +2,11 @@
 # Runs the examples, and compares what the program writes with the stored output, byte for byte, and its
 # exit status with the one that is wanted.
 #
-# An example NAME is the file examples/NAME.out, the output that is wanted; those of examples/book/ are named book/NAME,
-# and docs/BOOK.md tells of them. The program is called at the
-# repository's top with the words of examples/NAME.args, one a line. Where there is no such file, they are
-# `session examples/NAME.f examples/NAME.script` where NAME has a script, with `--data examples/NAME.data`
-# behind them where it has data, and else `show examples/NAME.f`. The status that is wanted stands in
-# examples/NAME.status, and is 0 where there is no such file. The program is the one that .ci/run or ./prove
-# has proved and built from the present sources; nothing is proved or built here.
+# An example is a file examples/FOLDER/NAME.out, the output that is wanted; examples/README.md lists them. The program is called at
+# the repository's top with the words of NAME.args, one a line. Where there is no such file, they are `session NAME.f NAME.script` where
+# there is a script, with `--data NAME.data` after them where there are data, and else `show NAME.f`. NAME.status has the status that is
+# wanted; it is 0 where there is no such file. The program is the one that .ci/run or ./prove has proved and built from the present
+# sources; nothing is proved or built here. The Fortran files of examples/real/ are those of other checks.
 set -eu
 cd -- "$(dirname -- "${BASH_SOURCE[0]}")/.."
 
@@ -38,17 +36,19 @@ if [ "$status" -ne 2 ]; then
     exit 1
 fi
 
-for program in examples/*.f examples/book/*.f; do
+for program in examples/{panes,steps,sessions,book}/*.f; do
     [ -f "${program%.f}.out" ] || differs "$program" "its output isn't stored beside it"
 done
-for file in examples/{,book/}*.{script,data}; do
+for file in examples/{panes,steps,sessions,book}/*.{script,data}; do
+    [ -e "$file" ] || continue
     [ -f "${file%.*}.f" ] || differs "$file" "its program isn't stored beside it"
 done
-for data in examples/{,book/}*.data; do
+for data in examples/{panes,steps,sessions,book}/*.data; do
+    [ -e "$data" ] || continue
     [ -f "${data%.data}.script" ] || differs "$data" "its script isn't stored beside it"
 done
 
-for wanted in examples/*.out examples/book/*.out; do
+for wanted in examples/{panes,steps,sessions,book}/*.out; do
     name=${wanted%.out}
     words=(show "$name.f")
     if [ -f "$name.args" ]; then

@@ -1,8 +1,7 @@
 #!/usr/bin/env bash
-# Checks that docs/DEFINITIONS.md with docs/definitions/ and docs/CONTRACTS.md with docs/contracts/ are what
-# tools/definitions.py and tools/contracts.py make of the present files, and says where they aren't. Those scripts say what
-# else is wrong: a definition without a comment or a source, a public item without a comment, or a name in the pages'
-# hand-written heads that nothing defines.
+# Checks the names in docs/DEFINITIONS.md and docs/CONTRACTS.md, and the comments of definitions and of public items.
+# tools/definitions.py and tools/contracts.py report what is wrong: a definition without a comment or a source, a public item without
+# a comment, or a name on one of these pages that nothing defines.
 set -eu
 cd -- "$(dirname -- "${BASH_SOURCE[0]}")/.."
 
@@ -11,12 +10,6 @@ trap 'rm -rf -- "$work"' EXIT
 status=0
 for script in tools/definitions.py tools/contracts.py; do
     "$script" --into "$work" || status=1
-done
-for page in DEFINITIONS.md definitions CONTRACTS.md contracts; do
-    if ! diff -urN --label "docs/$page" --label 'made anew' -- "docs/$page" "$work/$page"; then
-        echo "pages: docs/$page is stale; tools/definitions.py and tools/contracts.py write it anew"
-        status=1
-    fi
 done
 if [ "$status" -eq 0 ]; then
     echo 'pages: as the files say'

@@ -1,7 +1,6 @@
 #!/usr/bin/env bash
 # Checks that each wrong body of crates/*/wrong/ and each must-fail edit can be applied: that each text which it changes is in its
-# file exactly once. Checks that docs/WRONG-BODIES.md is what `tools/wrong-bodies --table` makes of them. And checks
-# tools/wrong-bodies itself, over a script that stands in for the toolchain. It tries no body: tools/wrong-bodies does, by hand, and
+# file exactly once, and that `tools/wrong-bodies --table` makes a page of them. And checks tools/wrong-bodies itself, over a script that stands in for the toolchain. It tries no body: tools/wrong-bodies does, by hand, and
 # the gate tries those of must-fail/.
 set -eu
 cd -- "$(dirname -- "${BASH_SOURCE[0]}")/.."
@@ -16,12 +15,9 @@ fail() {
 
 tools/wrong-bodies --applies || status=1
 tools/wrong-bodies --table --into "$work" || status=1
-if ! diff -u --label docs/WRONG-BODIES.md --label 'made anew' -- docs/WRONG-BODIES.md "$work/WRONG-BODIES.md"; then
-    fail 'docs/WRONG-BODIES.md is stale; tools/wrong-bodies --table writes it anew'
-fi
 
 # A repository with one crate. The toolchain's stand-in answers by the number that the body returns.
-mkdir -p "$work/bin" "$work/one/tools" "$work/one/docs" "$work/one/crates/low/src" "$work/one/crates/low/wrong"
+mkdir -p "$work/bin" "$work/one/tools" "$work/one/crates/low/src" "$work/one/crates/low/wrong"
 cp tools/wrong-bodies "$work/one/tools/"
 cat >"$work/bin/rt" <<'END'
 #!/usr/bin/env bash
@@ -58,7 +54,6 @@ body killed '{ 1 }' '{ 4 }'
 body twice one two
 body nowhere '{ 5 }' '{ 6 }'
 printf 'body: by a case\ncase: cases/some.cases\n' >crates/low/wrong/case.edit
-printf '# Wrong bodies\n\n<!-- by crates -->\n' >docs/wrong-bodies.head.md
 git init -q .
 export RT_WORDS="$work/words"
 if PATH="$work/bin:$PATH" tools/wrong-bodies >"$work/said" 2>&1; then
@@ -83,11 +78,11 @@ rm crates/low/wrong/{same,broken,killed,twice,nowhere}.edit
 PATH="$work/bin:$PATH" tools/wrong-bodies low/two low/case >/dev/null || fail 'bodies that are refused: the status should be 0'
 tools/wrong-bodies --table
 # shellcheck disable=SC2016
-grep -qF '| two | `one` | refused: it is not proved that `ensures one` holds (`one-ensures`) |' docs/WRONG-BODIES.md ||
+grep -qF '| two | `one` | refused: it is not proved that `ensures one` holds (`one-ensures`) |' out/pages/wrong-bodies.md ||
     fail 'the table should say what the last try found'
 printf '// More.\n' >>crates/low/src/lib.rt
 tools/wrong-bodies --table
-grep -qF '(before a later change)' docs/WRONG-BODIES.md || fail 'the table should say that the sources have changed'
+grep -qF '(before a later change)' out/pages/wrong-bodies.md || fail 'the table should say that the sources have changed'
 
 if [ "$status" -eq 0 ]; then
     echo 'wrong bodies: as wanted'

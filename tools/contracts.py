@@ -1,7 +1,7 @@
 #!/usr/bin/env python3
-"""Writes docs/CONTRACTS.md and docs/contracts/: docs/contracts.head.md with a list of the layers behind it, and for each layer a
-page with what other crates can call, by crate and module: each function, type and law with its `///` comment and the names of its
-contract's clauses. Only the crates that the program is made of have a place there.
+"""Writes out/pages/contracts/: a list of the layers, and for each layer a page with what other crates can call, by crate and module:
+each function, type and law with its `///` comment and the names of its contract's clauses. Only the crates that the program is made
+of have a place there. Checks the names in docs/CONTRACTS.md.
 
     tools/contracts.py [--into FOLDER]
 
@@ -10,20 +10,20 @@ src/main.rt, the public items of the files from which that takes something by `u
 `pub` functions too, wherever in the crate they stand. A comment `// ..` among the clauses of a contract is told with the clauses
 behind it, up to an empty line.
 
-In docs/contracts.head.md each name in backquotes with a `_` or a `::` in it must be that of a public item, a clause, a
+In docs/CONTRACTS.md each name in backquotes with a `_` or a `::` in it must be that of a public item, a clause, a
 definition, a file or a crate.
 
 What is wrong, a public item without a comment for one, is said on standard error, and the exit status is then 1.
-tools/check-pages.sh says where the pages are stale.
 """
 import functools
 import re
 import sys
 
-from pages import CRATES, TOP, Complaints, crate_head, module_head, read_layers, read_uses, to_cell, write_pages
+from pages import CRATES, TO_TOP, TOP, Complaints, crate_head, module_head, read_layers, read_uses, to_cell, write_pages
 
-HEAD_PAGE = TOP / "docs" / "contracts.head.md"
-LIST_HEAD = ["", "## All contracts, by layer", "", "The layers stand from the lowest up.", "", "| Layer | Is | Crates |", "|---|---|---|"]
+HEAD_PAGE = TOP / "docs" / "CONTRACTS.md"
+LIST_HEAD = ["<!-- Made by tools/contracts.py of crates/*/src. Change those, not this page. -->", "",
+             "# All contracts, by layer", "", "The lowest layer comes first.", "", "| Layer | Is | Crates |", "|---|---|---|"]
 TABLE_HEAD = ["", "| Item | Promise | Clauses |", "|---|---|---|"]
 ITEM = re.compile(r"^pub (?:const )?(fn|struct|enum|trait|type|const) ([A-Za-z_0-9]+)")
 PART = re.compile(r"^    (?:(pub) ([a-z_0-9]+):|([A-Z][A-Za-z0-9]*)(?:,|\(.*| = .*| \{.*)$)")
@@ -262,7 +262,7 @@ def section(crate, path, names):
 
 def item_rows(crate, module, name, prefix, own):
     """The row of an item of a module, and behind that of a type those of its functions, which stand in its own modules."""
-    place = f"../../crates/{module.path.relative_to(CRATES)}"
+    place = f"{TO_TOP}/crates/{module.path.relative_to(CRATES)}"
     if name in module.functions:
         return [function_row(crate, module.functions[name], prefix + name, place)]
     found = module.types[name]
@@ -348,21 +348,21 @@ def layer_page(layer, crates):
     return ["<!-- Made by tools/contracts.py of crates/*/src. Change those, not this page. -->", "",
             f"# Contracts: {layer.name}", "",
             f"{layer.says[:1].upper()}{layer.says[1:]}. The crates stand from the lowest up, in the order of crates.txt. "
-            "[CONTRACTS.md](../CONTRACTS.md) says how to read the tables."] + crates
+            f"[CONTRACTS.md]({TO_TOP}/docs/CONTRACTS.md) says how to read the tables."] + crates
 
 
 def main():
     layers = read_layers(complaints)
     below = crates_below("ped", read_uses())
-    pages = {"CONTRACTS.md": HEAD_PAGE.read_text().splitlines() + LIST_HEAD}
+    pages = {"contracts/README.md": LIST_HEAD[:]}
     for layer in layers:
         shown = {crate: crate_lines(crate) for crate in layer.crates if crate in below}
         lines = [line for of_crate in shown.values() for line in of_crate]
         if lines:
             pages[f"contracts/{layer.slug()}.md"] = layer_page(layer, lines)
             names = ", ".join(crate for crate, of_crate in shown.items() if of_crate)
-            pages["CONTRACTS.md"].append(f"| [{layer.name}](contracts/{layer.slug()}.md) | {to_cell(layer.says)} | {names} |")
-    check_head({path: lines for path, lines in pages.items() if path.startswith("contracts/")})
+            pages["contracts/README.md"].append(f"| [{layer.name}]({layer.slug()}.md) | {to_cell(layer.says)} | {names} |")
+    check_head(pages)
     write_pages(pages, __doc__)
     return 1 if complaints.count else 0
 

@@ -1,7 +1,6 @@
 #!/usr/bin/env python3
-"""Writes docs/DEFINITIONS.md and docs/definitions/: docs/definitions.head.md with a list of the layers behind it, and for each
-layer a page with the public definitions of crates/*/specs, crate by crate in the order of crates.txt, each with its comment and
-its source.
+"""Writes out/pages/definitions/: a list of the layers, and for each layer a page with the public definitions of crates/*/specs, crate
+by crate in the order of crates.txt, each with its comment and its source. Checks the names in docs/DEFINITIONS.md.
 
     tools/definitions.py [--into FOLDER]
 
@@ -21,18 +20,18 @@ A file whose first line says `Contracts of private functions alone speak of ..` 
 alone, and needs no sources. No definition outside such files names it, and no definition of another crate; private functions of another
 crate may speak of it.
 
-In docs/definitions.head.md, behind the line `<!-- names -->`, each name in backquotes must be a definition, a constructor or a
+In docs/DEFINITIONS.md, after the line `<!-- names -->`, each name in backquotes must be a definition, a constructor or a
 field of crates/*/specs, a function or a type of crates/*/src, or a name that a definition takes from the standard library. Where
 the last column of a table is called `Definition`, the names behind `File:` in it must be defined in a file of that name.
 
-What is wrong is said on standard error, and the exit status is then 1. tools/check-pages.sh says where the pages are stale.
+What is wrong is said on standard error, and the exit status is then 1.
 """
 import re
 import sys
 
-from pages import CRATES, TOP, Complaints, crate_head, read_layers, to_cell, write_pages
+from pages import CRATES, TO_TOP, TOP, Complaints, crate_head, read_layers, to_cell, write_pages
 
-HEAD_PAGE = TOP / "docs" / "definitions.head.md"
+HEAD_PAGE = TOP / "docs" / "DEFINITIONS.md"
 PRIVATE_WORDS = "Contracts of private functions alone speak of"
 NAMES_MARK = "<!-- names -->"
 
@@ -199,7 +198,7 @@ def layer_page(layer, files):
     lines = ["<!-- Made by tools/definitions.py of crates/*/specs. Change those, not this page. -->", "",
              f"# Definitions: {layer.name}", "",
              f"{layer.says[:1].upper()}{layer.says[1:]}. The crates stand from the lowest up, in the order of crates.txt. "
-             "[DEFINITIONS.md](../DEFINITIONS.md) says how to read definitions, and what the sources are."]
+             f"[DEFINITIONS.md]({TO_TOP}/docs/DEFINITIONS.md) says how to read definitions, and what the sources are."]
     for crate in layer.crates:
         shown = [file for file in files[crate] if not file.is_private]
         if any(file.rows for file in shown):
@@ -214,13 +213,14 @@ def layer_page(layer, files):
 
 
 def layer_list(layers, files):
-    """The list of the layers' pages behind the head page."""
-    lines = ["", "## 3. All definitions, by layer", "", "The layers stand from the lowest up.", "",
+    """The list of the layers' pages."""
+    lines = ["<!-- Made by tools/definitions.py of crates/*/specs. Change those, not this page. -->", "",
+             "# All definitions, by layer", "", "The lowest layer comes first.", "",
              "| Layer | Is | Crates with definitions |", "|---|---|---|"]
     for layer in layers:
         crates = [crate for crate in layer.crates if files[crate]]
         if crates:
-            lines.append(f"| [{layer.name}](definitions/{layer.slug()}.md) | {to_cell(layer.says)} | {', '.join(crates)} |")
+            lines.append(f"| [{layer.name}]({layer.slug()}.md) | {to_cell(layer.says)} | {', '.join(crates)} |")
     return lines
 
 
@@ -275,9 +275,8 @@ def main():
     files = {crate: definition_files(crate) for layer in layers for crate in layer.crates}
     read_code()
     check_private(files)
-    head = HEAD_PAGE.read_text().splitlines()
-    check_head(head)
-    pages = {"DEFINITIONS.md": [line for line in head if line != NAMES_MARK] + layer_list(layers, files)}
+    check_head(HEAD_PAGE.read_text().splitlines())
+    pages = {"definitions/README.md": layer_list(layers, files)}
     for layer in layers:
         if any(files[crate] for crate in layer.crates):
             pages[f"definitions/{layer.slug()}.md"] = layer_page(layer, files)

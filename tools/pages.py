@@ -1,5 +1,5 @@
-"""What the scripts that make pages of docs/ share: the layers of crates.txt, what the code says of its crates and modules, and
-the form of rows. Read by tools/definitions.py and tools/contracts.py."""
+"""What the scripts that make pages share: the layers of crates.txt, what the code says of its crates and modules, and the form of
+rows. Read by tools/definitions.py and tools/contracts.py."""
 import argparse
 import pathlib
 import re
@@ -7,6 +7,9 @@ import sys
 
 TOP = pathlib.Path(__file__).resolve().parent.parent
 CRATES = TOP / "crates"
+# The folder for pages that a script makes; links lead from a folder in it to the top of the repository by TO_TOP.
+PAGES = TOP / "out" / "pages"
+TO_TOP = "../../.."
 # With this each page begins that a script has made.
 MADE = "<!-- Made by "
 LAYER = re.compile(r"# == ([^:]+): (.+) ==$")
@@ -89,10 +92,10 @@ def to_cell(text):
 
 
 def write_pages(pages, doc):
-    """Writes pages, which are lists of lines by their paths below docs/, into the folder that the words name. In a folder of theirs
-    other pages that were made go."""
+    """Writes pages, which are lists of lines by their paths, into the folder that the words name. Removes other pages that a script has
+    made from their folders."""
     parser = argparse.ArgumentParser(description=doc.split("\n")[0])
-    parser.add_argument("--into", metavar="FOLDER", default=str(TOP / "docs"), help="instead of docs/")
+    parser.add_argument("--into", metavar="FOLDER", default=str(PAGES), help="instead of out/pages/")
     folder = pathlib.Path(parser.parse_args().into)
     for inner in {str(pathlib.Path(path).parent) for path in pages} - {"."}:
         for page in (folder / inner).glob("*.md"):

@@ -1,5 +1,6 @@
-//! The program `ped`: a source editor for loop parallelisation. `answered` carries what is proved of it: it is `ped_main` of
-//! ped_answer over the machine's files and standard output. `main` hands it the words, and ends with its status.
+//! The program `ped`: a source editor for loop parallelisation. What is proved is the contract of `answered`: it is
+//! `ped_main` of ped_answer over the machine's files and standard output. `main` passes it the words of the call, and
+//! exits with its status.
 #![tactic(auto)]
 
 ghost use Rattle.std.specs.Prelude.{◌≡◌, ◌<◌, ◌++◌, ℕ, List, map, string_bytes};

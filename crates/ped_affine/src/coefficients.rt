@@ -1,4 +1,4 @@
-//! Coefficients of affine forms, one by one. After an answer of false the coefficients are of no use.
+//! Coefficients of affine forms, one by one. After a result of false, the coefficients are meaningless.
 
 ghost use Rattle.std.specs.Prelude.{◌≡◌, ◌≤◌, ◌^◌, ◌+ℤ◌, ◌*ℤ◌, neg_ℤ, ◌++◌, pos, unsigned_abs, map, length, replicate, All, OnOk};
 ghost use Rattle.std.specs.Bool.{OnTrue};

@@ -1,4 +1,4 @@
-//! Constant parts of expressions: an operation on parts has a value where they have one and it doesn't fault
+//! Constant parts of expressions: an operation has a value where its operands have one and it doesn't fault
 //! (ANSI X3.9-1978, section 6.1.3).
 
 ghost use Rattle.std.specs.Prelude.{◌≡◌};

@@ -1,5 +1,5 @@
-//! Affine forms of subscripts: a coefficient for each unknown, and a constant, none of them beyond its limit (Allen
-//! and Kennedy, section 3.1; this project).
+//! Affine forms of subscripts: a coefficient for each unknown and a constant, all within their limits (Allen and
+//! Kennedy, section 3.1; this project).
 
 ghost use Rattle.std.specs.Prelude.{◌≡◌, ◌≤◌, ◌^◌, ◌+ℤ◌, ◌-ℤ◌, IfOk, IfSome, unsigned_abs, length};
 ghost use Rattle.std.specs.Option.{ForSome};

@@ -1,4 +1,4 @@
-//! Intervals of bounds and of their parts, where none leaves 2^62 (this project).
+//! Intervals of bounds and of their parts, all within 2^62 of zero (this project).
 
 ghost use Rattle.std.specs.Prelude.{◌≡◌, ◌≤◌, ◌≤ℤ◌, ◌^◌, IfSome};
 ghost use Rattle.std.specs.Option.{ForSome};

@@ -1,4 +1,4 @@
-//! Ranges of loops and views of pairs of references, of a program's tree. The definitions stand in `specs/`.
+//! Ranges of loops and views of pairs of references, in a program's tree. The definitions are in `specs/`.
 #![tactic(auto)]
 
 mod assigning;

@@ -1,5 +1,5 @@
-//! The variables of subscripts that are no loop's and that the outermost common loop doesn't assign (Allen and
-//! Kennedy, section 3.1).
+//! Variables in subscripts that are neither DO variables around a reference nor assigned by the outermost common loop
+//! (Allen and Kennedy, section 3.1).
 
 ghost use Rattle.std.specs.Prelude.{◌≡◌, ◌++◌, filter, IfOk, OnOk};
 ghost use Rattle.ped_tree.specs.Views.{expr_tree};

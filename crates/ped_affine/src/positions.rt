@@ -1,4 +1,4 @@
-//! The positions of a pair: two subscripts as rows of coefficients of the loops of both sides (Allen and Kennedy,
+//! The positions of a pair: two subscripts as rows of coefficients for the loops on both sides (Allen and Kennedy,
 //! section 3.1).
 
 ghost use Rattle.std.specs.Prelude.{◌≡◌, ◌+◌, ◌≤◌, pos, length, replicate, option_map, IfOk};

@@ -1,4 +1,4 @@
-//! Subscripts as affine forms (Allen and Kennedy, section 3.1). A subscript is looked at once, from its parts up.
+//! Subscripts as affine forms (Allen and Kennedy, section 3.1). A subscript is walked once, from its parts up.
 
 ghost use Rattle.std.specs.Prelude.{◌≡◌, ◌+ℤ◌, ◌-ℤ◌, IfOk, IfSome, Some, None, option_map};
 ghost use Rattle.std.specs.Option.{ForSome};

@@ -1,4 +1,4 @@
-//! Outcomes of runs side by side.
+//! Outcomes of two runs compared.
 
 ghost use Rattle.std.specs.Prelude.{◌≡◌, ◌↔◌, IsTrue, map};
 ghost use Rattle.ped_session.specs.ped_order.specs.ped_eval.specs.Outcomes.{Ended};

@@ -1,7 +1,7 @@
-//! That answers exist: what the definitions of the dependence tests ask is decided in every case, so each view has its
-//! direction vectors, each program its dependence pane, each command of a session its reply, each script its answer, and so
-//! have words and files. No function here does anything; its contract is the law. That there is one answer at most say laws
-//! of the crates below, and `one_answer`.
+//! Answers exist. Each question in the definitions of the dependence tests is decided in every case. So each view has
+//! its direction vectors, each program its dependence pane, each command of a session its reply, and each script its
+//! answer; words and files have theirs. No function here does anything; its contract is the law. Laws of the crates
+//! below, and `one_answer`, state that there is at most one answer.
 
 mod exclusions;
 mod panes;

@@ -1,4 +1,4 @@
-//! Answers that are written whole, with the status behind them.
+//! Answers that are written whole, and then the status.
 
 ghost use Rattle.std.specs.Prelude.{◌≡◌, ◌≢◌, ◌⊎◌, ◌≤◌, Some, None};
 ghost use Rattle.ped_io.specs.Outside.{Rose};

@@ -1,4 +1,4 @@
-//! Programs that are made: a session is opened on one, its script is applied, and the report is written.
+//! Generated programs: a session is opened on one, its script is applied, and the report is written.
 
 ghost use Rattle.std.specs.Prelude.{◌≡◌, ◌⊎◌, ◌↔◌, ◌≤◌, ℕ, List, Some, None};
 ghost use Rattle.ped_io.specs.Outside.{Rose};

@@ -1,5 +1,6 @@
-//! The headline: what is so of each answer to words and files, by the definitions of `specs/Headline.antt`. No function here
-//! does anything; its contract is the law. `runs_are_as_before` has the third part of the headline, on what programs mean.
+//! The headline: what holds for each answer to words and files, by the definitions of `specs/Headline.antt`. No
+//! function here does anything; its contract is the law. `runs_are_as_before` is the third part of the headline, on
+//! what programs mean.
 
 ghost use Rattle.std.specs.Prelude.{ℕ, List, Option};
 ghost use Rattle.ped_io.specs.Outside.{Contents};

@@ -1,6 +1,7 @@
-//! The answer to words and files: `ped_main` reads the files that the words name from a shelf, and writes what they ask
-//! for to a sink. What is proved of the whole program stands in its contract. The shelf and the sink are anything that
-//! meets their traits, so the program `ped` hands it the machine's, and `ped_faults` some in memory whose calls fail.
+//! The answer to words and files: `ped_main` reads from a shelf the files that the words name, and writes to a sink
+//! what they ask for. Its contract states what is proved about the whole program. The shelf and the sink may be
+//! anything that meets their traits. The program `ped` passes the machine's; `ped_faults` passes some in memory whose
+//! calls fail.
 #![tactic(auto)]
 
 mod answering;

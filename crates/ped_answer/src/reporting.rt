@@ -1,4 +1,4 @@
-//! What is reported of a program that was made: its script is applied, and the figures are told.
+//! The report on a generated program: its script is applied, and the figures are reported.
 
 ghost use Rattle.std.specs.Prelude.{◌≡◌, ◌+◌, ◌≤◌, [], ◌++◌, codes, List, ℕ, IfOk, OnOk};
 ghost use Rattle.ped_gen.specs.Generated as made;

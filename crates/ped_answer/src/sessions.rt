@@ -1,4 +1,4 @@
-//! Sessions: the files are read in order, and then the script is answered on the program that the first one's text expands to.
+//! Sessions: the files are read in order. Then the script is answered on the program to which the first file expands.
 
 ghost use Rattle.std.specs.Prelude.{◌≡◌, ◌⊎◌, ◌∷◌, [], ◌+◌, ◌≤◌, ℕ, Some, None, IfOk, option_map};
 ghost use Rattle.ped_io.specs.Outside.{Contents, AddsOnly, Rose};

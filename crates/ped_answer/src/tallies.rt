@@ -1,4 +1,4 @@
-//! What the items of a script come to in a session: how many changes are accepted, how many lines are refused, and how
+//! Tallies of the items of a script in a session: how many changes are accepted, how many lines are refused, and how
 //! many pairs of references are tested.
 
 ghost use Rattle.std.specs.Prelude.{◌≡◌, ◌≢◌, ◌+◌, ◌^◌, ◌<◌, ◌≤◌, Some, IfOk, OnOk};

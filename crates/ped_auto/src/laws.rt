@@ -1,4 +1,4 @@
-//! What holds of `auto` over every editor. Each function here does nothing; its contract is the law.
+//! What holds for `auto` over every editor. Each function here does nothing; its contract is the law.
 
 ghost use Rattle.std.specs.Prelude.{◌≡◌, ℕ};
 ghost use Rattle.std.specs.List.{AllByRecursion};

@@ -1,6 +1,6 @@
-//! `auto`: one command that parallelises the present program by accepted steps, and says why each DO that is left
-//! stays serial. It works over any editor (`Editor`), of which it knows no more than how its state reads as a program
-//! and what it makes of commands; the strategy is one definition over that (`IsAuto`).
+//! `auto`: one command that parallelises the present program by accepted steps, and says why each remaining DO stays
+//! serial. It works over any editor (`Editor`). It knows only how the editor's state reads as a program and what the
+//! editor makes of commands. The strategy is one definition over these (`IsAuto`).
 #![tactic(auto)]
 
 mod editor;

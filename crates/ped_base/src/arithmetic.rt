@@ -1,5 +1,5 @@
 //! The arithmetic of the language: whole numbers of 128 bits, computed exactly. Each operation gives its value or
-//! the fault that ends a run. No operation takes memory.
+//! the fault that ends a run. No operation allocates.
 
 mod faults;
 mod operations;

@@ -1,5 +1,5 @@
-//! The plain types that every other crate speaks of: bytes, names, lists, and the bounds of arrays. Contracts
-//! see them as plain data. Their definitions for contracts stand in `specs/`.
+//! The plain types that every other crate uses: bytes, names, lists, and the bounds of arrays. Contracts
+//! see them as plain data. Their definitions for contracts are in `specs/`.
 #![tactic(auto)]
 
 pub mod arithmetic;

@@ -1,4 +1,4 @@
-//! A list that owns its items. Contracts see it as the list of its items, whatever room it keeps.
+//! A list that owns its items. Contracts see it as the list of its items, whatever its capacity.
 
 ghost use Rattle.std.specs.Prelude.{◌≡◌, ◌+◌, [], ◌∷◌, ◌++◌, ◌↔◌, length, OnOk, OnErr, IsTrue};
 

@@ -1,4 +1,4 @@
-//! Out of memory: the one error that any call which allocates may answer.
+//! Out of memory: the one error that any allocating call may return.
 
 ghost use Rattle.std.specs.Prelude.{◌≡◌, IfOk, Ok};
 

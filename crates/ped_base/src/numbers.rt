@@ -1,4 +1,4 @@
-//! Numbers in decimal, each added at the end of a text. After want of memory the text ends somewhere in the number.
+//! Numbers in decimal, each appended to a text. When memory runs out, the text ends somewhere in the number.
 
 ghost use Rattle.std.specs.Prelude.{◌≡◌, ◌++◌, OnOk};
 ghost use Rattle.std.specs.Fmt.{decimal, signed_decimal};

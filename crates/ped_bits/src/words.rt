@@ -1,4 +1,4 @@
-//! Operations on slices of words of equal length: in groups of eight lanes, and word by word behind the last whole group.
+//! Operations on slices of words of equal length: in groups of eight lanes, and word by word after the last group.
 
 ghost use Rattle.std.specs.Prelude.{◌≡◌, ◌⊎◌, ℕ, ◌+◌, ◌*◌, ◌/◌, ◌<◌, ◌≤◌, ◌^◌, bit_and, bit_or, length, IsTrue, ◌↔◌};
 ghost use Rattle.std.specs.Int.{bit_not, w64};

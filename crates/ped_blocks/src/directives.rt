@@ -1,4 +1,4 @@
-//! Directives before a DO, which say that the user has rejected the dependences of a name.
+//! Directives before a DO, each for a name: the user has rejected the dependences on it.
 
 ghost use Rattle.std.specs.Prelude.{◌≡◌, map, drop, IfOk, MatchOption, false, true};
 ghost use Rattle.ped_tree.specs.Grammar.Occurrences as Spec;

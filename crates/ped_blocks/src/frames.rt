@@ -1,5 +1,5 @@
 //! Open blocks: block IFs and DO loops that have begun, each with the statements before it. A block
-//! ends in statements, to which it adds one at the end.
+//! that ends is added after these as one statement.
 
 ghost use Rattle.std.specs.Prelude.{◌≡◌, [], ◌∷◌, ◌++◌, map, IfOk, IfErr, Some, false};
 ghost use Rattle.ped_tree.specs.Tree;

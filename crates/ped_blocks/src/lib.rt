@@ -1,5 +1,5 @@
-//! Statements nested into a program: block IFs and DO loops, which end at statements of their own or at
-//! one that they share (ANSI X3.9-1978, sections 11.6 to 11.10).
+//! Statements nested into a program: block IFs and DO loops, which end at their own statements or at
+//! a shared one (ANSI X3.9-1978, sections 11.6 to 11.10).
 #![tactic(auto)]
 
 mod declarations;

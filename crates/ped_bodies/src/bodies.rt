@@ -1,5 +1,5 @@
-//! Bodies of loops that steps move to other iterations, or substitute in. Names, numbers and places of each step are in
-//! `specs/Moving.antt`.
+//! Loop bodies that steps move to other iterations, or in which they substitute. The names, numbers and places of each
+//! step are in `specs/Moving.antt`.
 
 ghost use Rattle.std.specs.Prelude.{◌≡◌, ℕ, ◌+◌, ◌-◌, ◌/◌, ◌%◌, ◌==◌, List, [], ◌∷◌, Bool, false, None, if◌then◌else◌};
 ghost use Rattle.ped_steps.specs.ped_flow.specs.ped_base.specs.Lists.{is_same_text, is_among};

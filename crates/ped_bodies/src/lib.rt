@@ -1,5 +1,5 @@
-//! Bodies of loops: laws by which statements do likewise at another place, with expressions rewritten, and by which a DO
-//! is made of its trips. Each function here does nothing; its contract is the law, and docs/MEANING.md tells what the
+//! Loop bodies: laws by which statements with rewritten expressions do likewise at another place, and by which a DO
+//! consists of its trips. Each function here does nothing; its contract is the law. docs/MEANING.md explains what the
 //! laws are for.
 #![tactic(auto)]
 

@@ -1,4 +1,4 @@
-//! Values of expressions at another place, and values that places tell.
+//! Values of expressions at another place, and values that places determine.
 
 ghost use Rattle.std.specs.Prelude.{◌≡◌, ℕ, ℤ, pos, neg_ℤ, ◌+ℤ◌, ◌-ℤ◌, ◌*ℤ◌, List, ◌++◌, Bool, true, false, Some, None, Ok};
 ghost use Rattle.ped_steps.specs.Runs.Pasting.{AgreeInBounds};

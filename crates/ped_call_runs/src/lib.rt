@@ -1,5 +1,5 @@
-//! Runs of program units, and what they have in common with runs of the program that the units expand to. No function here
-//! does anything; its contract is the law.
+//! Runs of program units, compared with runs of the program that the units expand to. Each function here does nothing;
+//! its contract is the law.
 #![tactic(auto)]
 
 mod laws;

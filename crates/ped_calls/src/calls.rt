@@ -1,4 +1,4 @@
-//! CALLs as they stand in trees: assignments to literals.
+//! CALLs as trees hold them: assignments to literals.
 
 ghost use Rattle.std.specs.Prelude.{◌≡◌, IfOk, MatchOption, map, None, Some, is_some};
 ghost use Rattle.ped_tree.specs.Views.{expr_tree, pack_exprs};

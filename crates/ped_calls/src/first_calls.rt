@@ -1,4 +1,4 @@
-//! Statements with the first of their CALLs, in text order, and without the others.
+//! Copies of statements that keep only their first CALLs, in text order.
 
 ghost use Rattle.std.specs.Prelude.{◌≡◌, ◌-◌, ◌==◌, ◌&&◌, if◌then◌else◌, IfOk, OnOk, map};
 ghost use Rattle.ped_tree.specs.Tree.{StmtTrees, more_stmts};

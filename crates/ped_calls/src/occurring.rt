@@ -1,4 +1,4 @@
-//! The names in the statements of a unit, in the order in which they occur first.
+//! The names in the statements of a unit, in the order of their first occurrence.
 
 ghost use Rattle.std.specs.Prelude.{◌≡◌, [], map, IfOk, OnOk};
 ghost use Rattle.std.specs.List.{flat_map};

@@ -1,4 +1,4 @@
-//! Expressions and heads of loops with what stands for each name. No sum is computed anew.
+//! Expressions and loop headers with each name replaced by its meaning. No constants are folded.
 
 ghost use Rattle.std.specs.Prelude.{◌≡◌, [], Ok, IfOk, OnOk, is_some, map};
 ghost use Rattle.ped_tree.specs.Tree as Tree;

@@ -1,5 +1,5 @@
-//! The expanded statements of a main program settled to a program: arrays that were given names are declared, and comments
-//! before the first statement belong to the declarations.
+//! The expanded statements of a main program made into a program: arrays with new names are declared, and comments
+//! before the first statement go to the declarations.
 
 ghost use Rattle.std.specs.Prelude.{◌≡◌, ◌++◌, ◌∷◌, [], true, IfOk, OnOk, map};
 ghost use Rattle.ped_tree.specs.Tree.{StmtTrees, more_stmts, Remark};

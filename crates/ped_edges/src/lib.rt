@@ -1,4 +1,4 @@
-//! Dependences as the editor shows them: their rows and the dependence pane. The definitions stand in `specs/`.
+//! Dependences as the editor shows them: their rows and the dependence pane. The definitions are in `specs/`.
 #![tactic(auto)]
 
 mod edges;

@@ -1,4 +1,4 @@
-//! Lists in parentheses, with a comma between two.
+//! Lists in parentheses, separated by commas.
 
 ghost use Rattle.std.specs.Prelude.{◌≡◌, ◌++◌, ℕ, List, codes, OnOk};
 ghost use Rattle.std.specs.List.{flat_map, join_by};

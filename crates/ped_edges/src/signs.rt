@@ -1,4 +1,4 @@
-//! The signs that direction vectors have place by place.
+//! The signs that direction vectors have at each place.
 
 ghost use Rattle.std.specs.Prelude.{◌≡◌, ◌≤◌, ◌++◌, take, map, OnOk};
 ghost use Rattle.std.specs.List.{list_any};

@@ -1,5 +1,5 @@
-//! The direction vectors of a dependence: one with the signs of each place where they are a product, else one
-//! behind the other.
+//! The direction vectors of a dependence: if they are a product, a single one with the signs of each place; else one
+//! after another.
 
 ghost use Rattle.std.specs.Prelude.{◌≡◌, ◌≤◌, ◌++◌, [], ◌∷◌, map, OnOk};
 ghost use Rattle.std.specs.List.{flat_map};

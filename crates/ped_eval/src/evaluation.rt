@@ -1,4 +1,4 @@
-//! Values of expressions and truth of conditions in a store. One walk gives the value and notes what it reads, up to its
+//! Values of expressions and truth of conditions in a store. One walk gives the value and notes what it reads, up to a
 //! fault.
 
 ghost use Rattle.std.specs.Prelude.{◌≡◌, ◌<◌, ◌≤◌, ◌-◌, pos, length, map, false, take, drop, replicate, IfOk, IfErr, Ok, Err};

@@ -1,5 +1,5 @@
 //! Runs of programs in order: values of expressions, truth of conditions, and what a program does, as a list of acts
-//! with an ending. The definitions stand in `specs/`, and `proofs/Examples.antt` works some of them out on small
+//! with an ending. The definitions are in `specs/`, and `proofs/Examples.antt` works some of them out on small
 //! programs.
 #![tactic(auto)]
 

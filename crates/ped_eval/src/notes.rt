@@ -1,4 +1,4 @@
-//! Notes of a statement: its accesses, of which the place isn't said.
+//! Notes of a statement: its accesses without their places.
 
 ghost use Rattle.std.specs.Prelude.{◌≡◌, [], true, false, not};
 ghost use Rattle.ped_store.specs.CellViews.{cell_view};

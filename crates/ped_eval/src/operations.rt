@@ -1,5 +1,4 @@
-//! Operations on the results of their operands: the first fault of an operand, from left to right, is that of the
-//! operation.
+//! Operations on the results of their operands: the leftmost fault of an operand is the fault of the operation.
 
 ghost use Rattle.std.specs.Prelude.{◌≡◌, ◌&&◌, ◌||◌, not, Ok};
 ghost use Rattle.ped_base.specs.Arithmetic.Arithmetic.{sum_of, difference_of, negation_of, product_of, quotient_of, power_of, remainder_of, absolute_value_of};

@@ -1,4 +1,4 @@
-//! The iterations of DO loops round a place of a run, and what scalars stand for there.
+//! The iterations of DO loops around a place of a run, and what scalars denote there.
 
 ghost use Rattle.std.specs.Prelude.{◌≡◌, ◌<◌, ◌≤◌, ◌+◌, ◌∷◌, [], length, map, true, false, MatchOption, IfOk, OnOk, OnErr};
 ghost use Rattle.ped_base.specs.Lists as Lists;

@@ -1,4 +1,4 @@
-//! What a run keeps, and how it goes on.
+//! What a run keeps, and how it continues.
 
 use crate::scopes::Scope;
 use ped_base::NoMemory;

@@ -1,4 +1,4 @@
-//! What evaluations look at.
+//! What evaluations depend on.
 
 use crate::scopes::Scope;
 use ped_store::Store;

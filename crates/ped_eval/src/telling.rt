@@ -1,4 +1,4 @@
-//! What a watch is told of statements.
+//! What a watch learns of statements.
 
 ghost use Rattle.std.specs.Prelude.{◌≡◌, List, map, true, OnOk, IfOk};
 ghost use Rattle.ped_tree.specs.Views.{cond_tree, stmt_trees};

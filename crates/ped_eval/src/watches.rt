@@ -1,4 +1,4 @@
-//! Watches: what is told the accesses of a run.
+//! Watches: they receive the accesses of a run.
 
 ghost use Rattle.std.specs.Prelude.{◌≡◌, Bool, true, OnOk};
 ghost use Rattle.ped_store.specs.Races as Races;

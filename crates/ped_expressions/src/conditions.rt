@@ -1,5 +1,5 @@
-//! Conditions (ANSI X3.9-1978, sections 6.3 and 6.4), read by recursive descent. A parenthesis opens
-//! an expression of a relation where one is there, and else a condition.
+//! Conditions (ANSI X3.9-1978, sections 6.3 and 6.4), read by recursive descent. A parenthesis opens an expression of a
+//! relation where one can be read, and otherwise a condition.
 
 ghost use Rattle.std.specs.Prelude.{◌<◌, ◌≤◌, IfOk, length};
 ghost use Rattle.ped_tree.specs.Views.{cond_tree};

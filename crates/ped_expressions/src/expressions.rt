@@ -1,5 +1,5 @@
-//! Arithmetic expressions (ANSI X3.9-1978, section 6.1), read by recursive descent. How deep they nest
-//! is limited by the length of a statement alone.
+//! Arithmetic expressions (ANSI X3.9-1978, section 6.1), read by recursive descent. Only the length of a statement
+//! limits how deep they nest.
 
 ghost use Rattle.std.specs.Prelude.{◌≡◌, ◌<◌, ◌≤◌, ◌+◌, IfOk, IfSome, IsTrue, Some, None, length, map, option_map};
 ghost use Rattle.ped_base.specs.Letters as Letters;

@@ -1,6 +1,6 @@
-//! Arithmetic expressions and conditions (ANSI X3.9-1978, section 6) read from texts without blanks. The
-//! readers of whole texts answer a tree exactly where some form of the grammar has the text; those of the
-//! front of a text answer what a reading from left to right finds there, and what follows it.
+//! Arithmetic expressions and conditions (ANSI X3.9-1978, section 6) read from texts without blanks. Readers of a whole
+//! text return a tree exactly where some form of the grammar has the text. Readers of the front of a text return what a
+//! reading from left to right finds there, and the rest.
 #![tactic(auto)]
 
 mod conditions;

@@ -1,5 +1,4 @@
-//! Operators of arithmetic expressions and conditions (ANSI X3.9-1978, sections 6.1.1, 6.3.2), as they
-//! stand first in a text.
+//! Operators of arithmetic expressions and conditions (ANSI X3.9-1978, sections 6.1.1, 6.3.2) at the front of a text.
 
 ghost use Rattle.std.specs.Prelude.{◌≡◌, ◌<◌, ◌≤◌, IfSome, IfOk, length};
 ghost use Rattle.ped_tree.specs.Views.{expr_tree};

@@ -1,4 +1,4 @@
-//! What a reader says of a text, and why a part of it can't be read.
+//! What a text is read as, and why a part of it can't be read.
 
 ghost use Rattle.std.specs.Prelude.{◌≡◌};
 ghost use Rattle.ped_expressions.specs.declared.readings.Failure.TheVariants.{OutOfMemory};

@@ -1,5 +1,5 @@
-//! What stands first in a text without blanks, and what follows it: characters, digits, words, and the
-//! names of variables and of intrinsic functions (ANSI X3.9-1978, sections 2.2, 4.3 and 15.10).
+//! The front of a text without blanks, and the rest of it: characters, digits, words, and the names of variables and of
+//! intrinsic functions (ANSI X3.9-1978, sections 2.2, 4.3 and 15.10).
 
 ghost use Rattle.std.specs.Prelude.{◌≡◌, ◌<◌, ◌≤◌, ◌+◌, IfSome, IsTrue, Some, None, length, if◌then◌else◌};
 ghost use Rattle.std.specs.List.{list_all};

@@ -1,4 +1,4 @@
-//! Calls of `ped_main` over shelves and sinks in memory.
+//! Calls of `ped_main` with shelves and sinks in memory.
 
 ghost use Rattle.std.specs.Prelude.{◌≤◌, IfSome};
 

@@ -1,4 +1,4 @@
-//! The machine's files that words name, in memory.
+//! Copies in memory of the machine's files that words name.
 
 use ped_base::{Bytes, NoMemory};
 use ped_io::Files;

@@ -1,6 +1,6 @@
-//! Answers words as `ped` does, over a shelf and a sink in memory of which some calls fail, or none ever. It shows for
-//! tables of faults what no file of the machine shows: a read or a write that fails in mid-stream, and pieces of a few
-//! bytes. `tools/check-faults.sh` runs it over cases by hand. Nothing is promised of it beyond what `ped_main` promises.
+//! Answers words as `ped` does, with a shelf and a sink in memory. Some of their calls fail, or none. Tables of faults
+//! use it for what no file of the machine shows: a read or a write that fails in mid-stream, and pieces of a few bytes.
+//! `tools/check-faults.sh` runs it on handwritten cases. It promises nothing beyond what `ped_main` promises.
 #![tactic(auto)]
 
 ghost use Rattle.std.specs.Prelude.{◌≡◌, ◌<◌};

@@ -1,5 +1,4 @@
-//! Texts of comments and of character constants, as lines can have them (ANSI X3.9-1978, sections 3.2.1,
-//! 4.8).
+//! Texts of comments and of character constants that lines can hold (ANSI X3.9-1978, sections 3.2.1, 4.8).
 
 ghost use Rattle.std.specs.Prelude.{◌≡◌, ◌∷◌, ◌==◌, slice_index_or};
 ghost use Rattle.std.specs.List.{list_all, list_any};

@@ -1,4 +1,4 @@
-//! Declarations that can be written, in the order that the standard wants (ANSI X3.9-1978, section 3.5), with
+//! Declarations that can be written, in the standard's order (ANSI X3.9-1978, section 3.5), with
 //! the comments among them.
 
 ghost use Rattle.std.specs.Prelude.{◌≡◌, ◌∷◌, List, ◌&&◌, not, nat_le, false, map, length, MatchOption};

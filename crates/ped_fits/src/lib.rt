@@ -1,5 +1,5 @@
-//! Which trees are programs of the profile: a tree fits exactly where some text reads as it, and its printed
-//! text then reads as it and as nothing else. Steps ask it of trees that no text was read as.
+//! Which trees are programs of the profile. A tree fits exactly where some text reads as it. Its printed
+//! text then reads as that tree only. Steps check trees that were not read from a text.
 #![tactic(auto)]
 
 mod comments;

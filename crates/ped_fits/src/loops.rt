@@ -1,5 +1,5 @@
-//! DO statements by themselves: their variable, their bounds, their PRIVATE statement and the names that
-//! directives reject before them (ANSI X3.9-1978, section 11.10).
+//! DO statements by themselves: their variable, bounds and PRIVATE statement, and the names that directives
+//! before them reject (ANSI X3.9-1978, section 11.10).
 
 ghost use Rattle.std.specs.Prelude.{◌≡◌, ◌<◌, ◌&&◌, not, nat_le, length};
 ghost use Rattle.ped_tree.specs.Tree as Tree;

@@ -1,4 +1,4 @@
-//! Names as the profile has them, and names among others.
+//! Names that the profile allows, and names among others.
 
 ghost use Rattle.std.specs.Prelude.{◌≡◌};
 ghost use Rattle.std.specs.List.{list_all};

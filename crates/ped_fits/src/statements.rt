@@ -1,4 +1,4 @@
-//! Executable statements that can be written where they stand, with the statements in their parts.
+//! Executable statements that can be written at their places, with the statements in their parts.
 
 ghost use Rattle.std.specs.Prelude.{◌≡◌, ◌+◌, ◌<◌, ◌≤◌, ◌&&◌, true, nat_lt, not, map, length};
 ghost use Rattle.std.specs.List.{flat_map};

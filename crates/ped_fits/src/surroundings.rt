@@ -1,4 +1,4 @@
-//! What stands round a statement: the declarations of its program, the DO loops round it, how deep it stands,
+//! What surrounds a statement: the declarations of its program, the enclosing DO loops, its nesting depth,
 //! and how many statements come before it.
 
 ghost use Rattle.std.specs.Prelude.{◌≡◌, ◌+◌, ◌<◌, ◌≤◌, ◌∷◌, ◌++◌, length, take};

@@ -1,4 +1,4 @@
-//! A scalar that is asked about, with what is known of the statements of its program.
+//! The scalar of a question, with what is known of the statements of its program.
 
 ghost use Rattle.std.specs.Prelude.{◌≡◌};
 ghost use Rattle.ped_flow.specs.RowPlaces.{place_of};

@@ -1,4 +1,4 @@
-//! What the paths to the outermost loop that is a loop or is round it do to one scalar.
+//! What the paths to the outermost loop that is or encloses a loop do to one scalar.
 
 ghost use Rattle.std.specs.Prelude.{◌≡◌, ◌+◌, ◌<◌, ◌^◌, IfSome};
 ghost use Rattle.ped_tree.specs.Views.{stmt_tree, stmt_trees};

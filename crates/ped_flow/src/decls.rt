@@ -1,4 +1,4 @@
-//! What the declarations of a program say of a name.
+//! What a program's declarations say about a name.
 
 ghost use Rattle.std.specs.Prelude.{◌≡◌, map};
 ghost use Rattle.std.specs.List.{flat_map};

@@ -1,4 +1,4 @@
-//! By which read of its variables, or of those of loops in it, a loop isn't contained.
+//! Reads of variables of a loop, or of inner loops, by which it isn't contained.
 
 ghost use Rattle.std.specs.Prelude.{◌≡◌, ◌+◌, ◌<◌, ◌^◌, ◌∷◌};
 ghost use Rattle.ped_tree.specs.Views.{stmt_tree, stmt_trees, program_tree};

@@ -1,5 +1,5 @@
-//! Questions about scalars and loops of one program. Each is answered by a walk over its statements, which takes no memory
-//! and passes over those in which nothing happens to the scalar, as a table of rows of bits says for all scalars at once.
+//! Questions about scalars and loops of one program. Each is answered by a walk over its statements, which allocates no
+//! memory. It skips statements in which nothing happens to the scalar, by a table of rows of bits for all scalars.
 
 ghost use Rattle.std.specs.Prelude.{◌≡◌, ◌+◌, ◌<◌, ◌^◌, ◌↔◌, ◌&&◌, true, length, IsTrue, IfOk, MatchOption};
 ghost use Rattle.std.specs.List.{flat_map};

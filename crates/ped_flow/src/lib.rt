@@ -1,6 +1,6 @@
-//! Scalar flow over all paths of a program. The definitions stand in `specs/`. `flow_of` keeps for each statement
-//! what its paths do to the first 4,096 scalars, by rows of bits, in one pass; a question is a walk for one scalar,
-//! which passes over the statements of which the rows say that they do nothing to it.
+//! Scalar flow over all paths of a program. The definitions are in `specs/`. In one pass, `flow_of` records in rows of
+//! bits what the paths of each statement do to the first 4,096 scalars. A question is a walk for one scalar. It skips
+//! the statements that do nothing to the scalar according to the rows.
 #![tactic(auto)]
 
 mod asked;

@@ -1,4 +1,4 @@
-//! The first statement that reads a scalar outside the bodies of all loops of it.
+//! The first statement that reads a scalar outside the bodies of loops over it.
 
 ghost use Rattle.std.specs.Prelude.{◌≡◌, ◌+◌, ◌<◌, ◌^◌, map};
 ghost use Rattle.std.specs.List.{flat_map};

@@ -1,4 +1,4 @@
-//! Rows that are made of other rows.
+//! Rows made from other rows.
 
 ghost use Rattle.std.specs.Prelude.{◌≡◌, ◌<◌, ℕ, true, length, IfOk};
 ghost use Rattle.ped_bits.specs.Places.{without};

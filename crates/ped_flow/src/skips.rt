@@ -1,4 +1,4 @@
-//! Statements in which there is nothing to look at for a scalar, by what is known of them.
+//! Statements that a walk for a scalar can skip, by what is known of them.
 
 ghost use Rattle.std.specs.Prelude.{◌≡◌, ◌+◌, ◌<◌, ◌≤◌, ◌⊎◌, None, Some, IfSome};
 ghost use Rattle.ped_tree.specs.Views.{stmt_tree};

@@ -1,4 +1,4 @@
-//! Programs and scripts of any size from 1 to 300, made for trying out tools on equal work. What they are says `specs/`.
+//! Programs and scripts of any size from 1 to 300, for trying out tools on equal work. `specs/` defines them.
 #![tactic(auto)]
 
 mod programs;

@@ -1,4 +1,4 @@
-//! References of which constants alone decide whether they are reached (ParaScope).
+//! References for which constants alone decide whether they are reached (ParaScope).
 
 ghost use Rattle.std.specs.Prelude.{◌≡◌, map, IfOk};
 ghost use Rattle.std.specs.List.{list_all};

@@ -1,5 +1,5 @@
-//! What a graph knows of a program without a test: its pairs of references, and how many statements stand in each
-//! statement.
+//! What a graph knows of a program without a test: its pairs of references, and how many statements each statement
+//! contains.
 
 ghost use Rattle.std.specs.Prelude.{◌≡◌, ◌↔◌, ◌<◌, ◌≤◌, ℕ, Some, map, length, slice_get, IsTrue, MatchOption};
 ghost use Rattle.ped_refs.specs.TextPlaces.{Key, IsBefore, IsKeyBefore};

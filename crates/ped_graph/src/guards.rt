@@ -1,4 +1,4 @@
-//! The statements that stand in an IF (ANSI X3.9-1978, section 11.6).
+//! The statements inside an IF (ANSI X3.9-1978, section 11.6).
 
 ghost use Rattle.std.specs.Prelude.{◌≡◌, [], ◌∷◌, ◌++◌, false, true, IfOk, OnOk};
 ghost use Rattle.ped_tree.specs.Views.{stmt_tree, stmt_trees};

@@ -1,5 +1,5 @@
-//! The dependence graph of a program: one verdict for each pair of references, and what the dependence pane needs
-//! of the tree beside them. The definitions stand in `specs/`.
+//! The dependence graph of a program: one verdict for each pair of references, and what else the dependence pane
+//! needs of the tree. The definitions are in `specs/`.
 #![tactic(auto)]
 
 mod edges;

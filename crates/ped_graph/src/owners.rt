@@ -1,4 +1,4 @@
-//! The DO loops whose private copies references mean (ParaScope).
+//! The DO loops whose private copies references access (ParaScope).
 
 ghost use Rattle.std.specs.Prelude.{◌≡◌, ◌≤◌, Option, length, option_map};
 ghost use Rattle.ped_base.specs.Lists.{is_among};

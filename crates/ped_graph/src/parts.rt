@@ -1,4 +1,4 @@
-//! What a graph exchanges for its own frame and verdicts: those of another program.
+//! The frame and verdicts of another program, for which a graph exchanges its own.
 
 ghost use Rattle.std.specs.Prelude.{◌≡◌, ◌<◌, map, length, Some, None, IfOk, is_some, true};
 ghost use Rattle.std.specs.List.{All};

@@ -1,4 +1,4 @@
-//! The outermost DO round a reference, and what it assigns.
+//! The outermost DO around a reference, and what it assigns.
 
 ghost use Rattle.std.specs.Prelude.{◌≡◌, [], IfOk, OnOk, IsTrue};
 ghost use Rattle.ped_tree.specs.Views.{program_tree};

@@ -1,4 +1,4 @@
-//! Which statements are there, and which dependences belong to one, and which to a level of a loop.
+//! Which statements exist, which dependences belong to one, and which to a level of a loop.
 
 ghost use Rattle.std.specs.Prelude.{◌≡◌, filter};
 ghost use Rattle.ped_edges.specs.CodeEdges.{edge_of};

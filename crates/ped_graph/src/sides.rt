@@ -1,4 +1,4 @@
-//! What is computed once of a reference for all its pairs, and the views that are told by it (Allen and Kennedy,
+//! What is computed once per reference for all its pairs, and the views that it determines (Allen and Kennedy,
 //! sections 3.1 and 3.2).
 
 ghost use Rattle.std.specs.Prelude.{◌≡◌, ◌≤◌, ◌<◌, IsTrue, Some, take, drop, map, length, slice_get, IfOk};

@@ -1,4 +1,4 @@
-//! Tests that tell a dependence.
+//! Tests that prove a dependence.
 
 ghost use Rattle.std.specs.Prelude.{◌≡◌};
 ghost use Rattle.std.specs.List.{list_all};

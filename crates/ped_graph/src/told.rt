@@ -1,5 +1,5 @@
-//! Views that are made of what is known of both references of a pair: a subscript is looked at once for each reference,
-//! and not for each pair.
+//! Views made from what is known of both references of a pair. So a subscript is examined once per reference, not once
+//! per pair.
 
 ghost use Rattle.std.specs.Prelude.{◌≡◌, ◌-◌, ◌≤◌, ◌<◌, All, length, IfOk, IfSome, IsTrue};
 ghost use Rattle.ped_views.specs.Limits.{FitsLoops};

@@ -1,4 +1,4 @@
-//! The dependence graph after a change of the program, and what takes it back. The definitions stand in `specs/`.
+//! The dependence graph after a change of the program, and what takes it back. The definitions are in `specs/`.
 
 mod deltas;
 mod laws;

@@ -1,5 +1,5 @@
 //! A history keeps its entries in one vector, the oldest first, with a place between past and future.
-//! So a step back or forward moves the place alone and takes no memory.
+//! So a step back or forward only moves the place and takes no memory.
 
 ghost use Rattle.std.specs.Prelude.{◌≡◌, ◌≤◌, [], length, slice_get, Some, IfOk, OnOk, OnErr};
 ghost use Rattle.ped_history.specs.Timeline.{timeline, pushed, gone_back, gone_forward};

@@ -1,5 +1,5 @@
-//! The past and the future of a session: what was changed, so that it can be taken back, and what was
-//! taken back, so that it can be done again. Contracts see both as lists.
+//! The past and the future of a session: changes that can be undone, and undone changes that can be
+//! redone. Contracts see both as lists.
 #![tactic(auto)]
 
 mod entries;

@@ -1,5 +1,5 @@
 //! The machine's files and standard output as a shelf and a sink. Each keeps a log of what it was asked and what it
-//! answered, which only clauses read: so they say which bytes were given and taken.
+//! answered. Only clauses read the log, and so they state which bytes were given and taken.
 #![tactic(auto)]
 
 mod disk;

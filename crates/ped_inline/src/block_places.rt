@@ -1,4 +1,4 @@
-//! Which marked block stands for each statement.
+//! The outermost marked block that each statement is, or is in.
 
 ghost use Rattle.std.specs.Prelude.{◌≡◌, ◌+◌, ◌<◌, ◌^◌, ◌++◌, [], ◌∷◌, None, Some, length, replicate, IfOk, OnOk};
 ghost use Rattle.ped_tree.specs.Numbering.{statement_count, statements_count};

@@ -1,4 +1,4 @@
-//! `inline`: the statements of a marked block come in the place of the block.
+//! `inline`: the statements of a marked block replace the block.
 
 ghost use Rattle.std.specs.Prelude.{◌≡◌, ◌+◌, ◌-◌, ◌<◌, ◌^◌, [], map, IfOk, MatchOption};
 ghost use Rattle.std.specs.List.{range_with_len};

@@ -1,5 +1,5 @@
-//! Blocks that CALLs were expanded to. `inline` puts the statements of such a block in its place; the pane of calls shows the
-//! dependences of the program with each block as one statement. The definitions stand in `specs/`.
+//! Blocks that CALLs were expanded to. `inline` replaces such a block by its statements. The pane of calls shows the
+//! dependences of the program with each block as one statement. The definitions are in `specs/`.
 #![tactic(auto)]
 
 mod block_places;

@@ -1,5 +1,5 @@
-//! Interleavings: what is left of a run whose PARALLEL DO loops go on in any order, its next step by a choice, and the
-//! outcomes that choices lead to. The definitions stand in `specs/`, and `proofs/Examples.antt` works some of them out
+//! Interleavings: the rest of a run whose PARALLEL DO loops continue in any order, its next step by a choice, and the
+//! outcomes that choices lead to. The definitions are in `specs/`, and `proofs/Examples.antt` works some of them out
 //! on small programs. No function here does anything; its contract is the law.
 #![tactic(auto)]
 

@@ -1,4 +1,4 @@
-//! A shelf in memory whose reads fail where they are told to.
+//! A shelf in memory on which chosen reads fail.
 
 ghost use Rattle.std.specs.Prelude.{◌≡◌, ◌≢◌, ◌<◌, ◌≤◌, ◌↔◌, ◌⊎◌, ℕ, List, Some, length, option_map, Contains, IsNone, IfSome, get_or, set, nat_lt, if◌then◌else◌, IfOk, IfErr, OnOk, OnErr, IsErrOf};
 ghost use Rattle.ped_io.specs.Counts.{one_more};

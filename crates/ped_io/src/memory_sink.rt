@@ -1,4 +1,4 @@
-//! A sink in memory whose writes fail where they are told to.
+//! A sink in memory on which chosen writes fail.
 
 ghost use Rattle.std.specs.Prelude.{◌≡◌, ◌≤◌, ◌↔◌, ◌++◌, Some, Ok, length, min, take, option_map, IfOk, OnErr, IsErrOf};
 ghost use Rattle.ped_io.specs.Outside.{Rose};

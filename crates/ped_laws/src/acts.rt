@@ -1,6 +1,6 @@
-//! Laws of lists of acts: when such a list may be changed, so that it still fits a store and leaves what it left. They
-//! speak of cells and contents alone, of no program. Each function here does nothing; its contract is the law, and
-//! docs/MEANING.md tells what the laws are for.
+//! Laws of lists of acts: when such a list may be changed so that it still fits a store and leaves what it left. They
+//! mention only cells and contents, no program. Each function here does nothing; its contract is the law.
+//! docs/MEANING.md says what the laws are for.
 
 mod agreeing;
 mod exchanges;

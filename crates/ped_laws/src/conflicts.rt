@@ -1,6 +1,6 @@
-//! Conflicts of a run and the dependences that cover them: what two accesses do to one cell in one execution of a loop
-//! round both stands among the dependences of the program. Each function here does nothing, or calls the laws that its
-//! own rests on; its contract is the law, and docs/MEANING.md tells what the laws are for.
+//! Conflicts of a run and the dependences that cover them: where two accesses conflict in one execution of a loop
+//! around both, the program has a dependence for it. Each function here does nothing, or calls the laws that its own
+//! rests on; its contract is the law. docs/MEANING.md says what the laws are for.
 
 mod covering;
 mod making;

@@ -1,5 +1,5 @@
-//! What dependences rest on: the laws by which an edge stands wherever two accesses of a run conflict. Each function
-//! here does nothing; its contract is the law, and docs/MEANING.md tells what the laws are for.
+//! What dependences rest on: the laws by which an edge exists wherever two accesses of a run conflict. Each function
+//! here does nothing; its contract is the law. docs/MEANING.md says what the laws are for.
 
 mod forms;
 mod intervals;

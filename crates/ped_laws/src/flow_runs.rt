@@ -1,7 +1,7 @@
-//! Laws between the paths of a program and the acts of its runs. Each function here does nothing; its contract is the
-//! law. A step that moves, drops or adds writes of a scalar asks paths whether it may; these laws tell what it
-//! learns. Most ask that the scalar is no named constant and that no STOP stands in a loop; those of exits, entries
-//! and whole programs also that each statement counts under a number of its own, and the first four that the run or
+//! Laws that relate paths of a program to the acts of its runs. Each function here does nothing; its contract is the
+//! law. A step that moves, drops or adds writes of a scalar asks paths whether it may; these laws state what it
+//! learns. Most require that the scalar is no named constant and that no loop contains a STOP. The laws of exits,
+//! entries and whole programs also require that statement numbers are distinct. The first four require that the run or
 //! the iteration ends without a fault.
 
 mod covering;

@@ -1,6 +1,6 @@
-//! Laws of runs: of lists of acts, of runs and the acts that they do, of paths and what they tell of runs, of conflicts
-//! and the dependences that cover them, and of bounds that may be evaluated anywhere. No function here does anything;
-//! its contract is the law, and docs/MEANING.md tells what the laws are for.
+//! Laws of lists of acts, of runs and their acts, of paths and what they imply for runs, of conflicts and the
+//! dependences that cover them, and of bounds that may be evaluated anywhere. No function here does anything; the
+//! contracts are the laws. docs/MEANING.md says what the laws are for.
 #![tactic(auto)]
 
 pub mod acts;

@@ -1,5 +1,5 @@
-//! Runs and their acts: laws of runs that stand on the definition of runs and on the laws of lists of acts. Each
-//! function here does nothing; its contract is the law, and docs/MEANING.md tells what the laws are for.
+//! Runs and their acts: laws of runs that rest on the definition of runs and on the laws of lists of acts. Each
+//! function here does nothing; its contract is the law. docs/MEANING.md says what the laws are for.
 
 mod evaluations;
 mod joining;

@@ -1,5 +1,5 @@
-//! The references in one statement, what it reads and what it writes, counted without a list of them. No
-//! count is above the greatest `usize`: where there are more, the answer is that.
+//! The references in one statement, its reads and its writes, counted without a list of them. Counts stop
+//! at the greatest `usize`.
 
 ghost use Rattle.std.specs.Prelude.{◌≡◌, ◌++◌, map, length, if◌then◌else◌};
 ghost use Rattle.std.specs.List.{flat_map};

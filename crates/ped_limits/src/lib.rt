@@ -1,5 +1,5 @@
-//! The limits of the language, asked of trees and of what statements say: whoever refuses a text and
-//! whoever looks whether a tree fits use these numbers and these calls.
+//! The limits of the language, checked on trees and on what statements say. Refusing a text and asking
+//! whether a tree fits both use these numbers and calls.
 #![tactic(auto)]
 
 mod constants;

@@ -1,4 +1,4 @@
-//! The limits of the language as numbers; passing one is refused.
+//! The limits of the language as numbers; exceeding one is refused.
 
 /// The most characters of a name.
 pub const MOST_NAME: usize = 31;

@@ -1,5 +1,5 @@
 //! Numbers that are too large in a tree: literals above 2147483647, the greatest integer of the profile,
-//! and dimensions of an array above seven (ANSI X3.9-1978, section 5.1.1).
+//! and more than seven dimensions of an array (ANSI X3.9-1978, section 5.1.1).
 
 ghost use Rattle.std.specs.Prelude.{◌≡◌, ◌||◌, map, length, nat_lt};
 ghost use Rattle.std.specs.List.{list_any};

@@ -1,5 +1,4 @@
-//! The number of statements, which is never above the greatest `usize`: where there are more, the answer
-//! is that.
+//! The number of statements. The count stops at the greatest `usize`.
 
 ghost use Rattle.std.specs.Prelude.{◌≡◌};
 ghost use Rattle.ped_tree.specs.Numbering as Spec;

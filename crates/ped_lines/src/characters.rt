@@ -1,6 +1,6 @@
-//! The characters of a statement: where each stands to constants, what is kept of it, and which may not
-//! stand where they stand. An apostrophe opens a constant and closes it; a doubled one in a constant
-//! does both, so that the constant goes on.
+//! The characters of a statement: where each lies with respect to constants, what is kept of it, and whether it may
+//! occur there. An apostrophe opens a constant and closes it. A doubled one in a constant does both, so the constant
+//! goes on.
 
 ghost use Rattle.std.specs.Prelude.{◌≡◌, ◌∷◌, [], ◌++◌, ◌||◌, ℕ, List, IfOk, OnOk};
 ghost use Rattle.ped_tree.specs.Grammar.Characters as Spec;

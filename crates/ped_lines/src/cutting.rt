@@ -1,6 +1,6 @@
-//! One pass over the lines of a text: each goes with the statement that it begins or continues, or is a
-//! note that goes with the statement behind it, or with the one that a later line continues. Refusals
-//! are looked for at the same time; the first may stand at a statement whose last line is still to come.
+//! One pass over the lines of a text. Each line begins or continues a statement, or is a note. A note goes with the
+//! statement after it, or with the one that a later line continues. The same pass looks for refusals; the first may be
+//! at a statement whose last line is still to come.
 
 ghost use Rattle.std.specs.Prelude.{◌≡◌, ◌-◌, ◌++◌, [], ℕ, List, None, map, true, false, IfOk, IfErr};
 ghost use Rattle.ped_tree.specs.Grammar.Columns as Columns;

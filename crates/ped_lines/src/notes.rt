@@ -1,4 +1,4 @@
-//! Comments and directives: what a line that is no part of a statement says.
+//! Comments and directives: the text of a line that isn't part of a statement.
 
 ghost use Rattle.std.specs.Prelude.{◌≡◌, ◌++◌, ◌==◌, ◌||◌, map, filter, not, IfOk, OnOk};
 ghost use Rattle.std.specs.Char.{to_ascii_uppercase};

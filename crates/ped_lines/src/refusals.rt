@@ -1,4 +1,4 @@
-//! Refusals of lines: which stand at a line, and which of those that were found is the first.
+//! Refusals of lines: which ones a line has, and which of those found is the first.
 
 ghost use Rattle.std.specs.Prelude.{◌≡◌, ℕ, List};
 ghost use Rattle.ped_tree.specs.Grammar.Characters as Characters;

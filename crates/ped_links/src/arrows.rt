@@ -1,4 +1,4 @@
-//! Arrows between numbers, of which there may be none.
+//! Arrows between numbers, either of which may be missing.
 
 ghost use Rattle.std.specs.Prelude.{◌≡◌, ◌↔◌, ◌⊎◌, ◌<◌, ℕ, Some, IfSome, OnOk, length};
 ghost use Rattle.ped_links.specs.ArrowViews.{ends_of};

@@ -1,4 +1,4 @@
-//! The variables that statements of a unit assign, and those that they have as DO variables.
+//! The variables that statements of a unit assign, and their DO variables.
 
 ghost use Rattle.std.specs.Prelude.{◌≡◌, map, IfOk, OnOk};
 ghost use Rattle.std.specs.List.{flat_map};

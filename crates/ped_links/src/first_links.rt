@@ -1,4 +1,4 @@
-//! The first of the refusals by CALLs, by line and then by number.
+//! The first refusal due to a CALL, by line and then by number.
 
 ghost use Rattle.std.specs.Prelude.{◌≡◌};
 ghost use Rattle.ped_links.specs.FirstLinks as Spec;

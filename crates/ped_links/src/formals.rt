@@ -1,4 +1,4 @@
-//! Dummy arguments by numbers, and those that are assigned or DO variables, in their units or where they are passed on.
+//! Dummy arguments by number, and which are assigned or DO variables, in their units or where they are passed on.
 
 ghost use Rattle.std.specs.Prelude.{◌≡◌, ◌↔◌, ◌⊎◌, ◌<◌, ◌≤◌, ◌+◌, ◌++◌, ◌∷◌, [], ℕ, List, Some, map, IfOk, IfSome, OnOk, IsTrue, length};
 ghost use Rattle.ped_base.specs.Lists as Lists;

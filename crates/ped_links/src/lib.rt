@@ -1,5 +1,5 @@
-//! CALLs between the units of a file: each has a unit to call, leads to no ring, has arguments that fit, and is in no PARALLEL DO; or
-//! the first that breaks such a rule (ANSI X3.9-1978, sections 15.6 to 15.9).
+//! CALLs between the units of a file: each has a unit to call, isn't recursive, has arguments that fit, and is in no
+//! PARALLEL DO. Otherwise the first violation is reported (ANSI X3.9-1978, sections 15.6 to 15.9).
 #![tactic(auto)]
 
 mod arguments;

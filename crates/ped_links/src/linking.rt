@@ -1,4 +1,4 @@
-//! The CALLs of a file looked at together: the rules 20 to 24 (ANSI X3.9-1978, sections 15.6 and 15.9).
+//! The CALLs of a file checked together: rules 20 to 24 (ANSI X3.9-1978, sections 15.6 and 15.9).
 
 ghost use Rattle.std.specs.Prelude.{◌≡◌, ◌↔◌, ◌<◌, List, map, IfOk, IfErr, OnOk, IsTrue, length};
 ghost use Rattle.ped_units.specs.ped_valid.specs.ped_symbols.specs.NameRefusals.{has_twice};

@@ -1,5 +1,5 @@
-//! Numbers to which arrows may lead back. Numbers are taken away, each with a rank, to which no arrow leads from one that
-//! is left; where ranks rise along arrows, none leads back to those.
+//! Numbers to which arrows may lead back. A number to which no remaining number has an arrow gets a rank and is
+//! removed. Where ranks rise along arrows, none leads back to a ranked number.
 
 ghost use Rattle.std.specs.Prelude.{◌≡◌, ◌↔◌, ◌<◌, ◌||◌, ◌==◌, [], ◌∷◌, ℕ, IfOk, OnOk, IsTrue, length, map, not, replicate};
 ghost use Rattle.ped_links.specs.ArrowViews.{ends_of};

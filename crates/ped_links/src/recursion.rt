@@ -1,4 +1,4 @@
-//! CALLs that lead back to the units in which they stand (ANSI X3.9-1978, section 15.6.3).
+//! CALLs that lead back to the units that contain them (ANSI X3.9-1978, section 15.6.3).
 
 ghost use Rattle.std.specs.Prelude.{◌≡◌, ◌↔◌, ◌⊎◌, ◌<◌, ℕ, Some, IfOk, OnOk, IsTrue, length};
 ghost use Rattle.ped_units.specs.Units.{ProgramUnits, all_units};

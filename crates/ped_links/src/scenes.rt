@@ -1,4 +1,4 @@
-//! The units of a file with what is known of them.
+//! The units of a file and what is known of them.
 
 ghost use Rattle.std.specs.Prelude.{◌≡◌, length};
 

@@ -1,4 +1,4 @@
-//! Executions of the statements that a step exchanges.
+//! Executions of the statements that a step replaces.
 
 ghost use Rattle.std.specs.Prelude.{◌≡◌, ◌<◌, ℕ, List, [], Bool};
 ghost use Rattle.ped_bodies.specs.ped_steps.specs.ped_flow.specs.ped_tree.specs.Tree.{StmtTrees, ProgramTree};

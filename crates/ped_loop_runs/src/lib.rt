@@ -1,10 +1,10 @@
-//! Laws of runs of programs in which statements have given way to others. Each function here does nothing; its contract is
-//! the law, and docs/MEANING.md tells what the laws are for.
+//! Laws of runs of programs in which statements have been replaced. Each function here does nothing; its contract is
+//! the law, and docs/MEANING.md says what the laws are for.
 //!
-//! Three rooms. Cut and paste: a program in which statements have been exchanged does what the old one did, with new acts in
-//! the place of each execution of the old ones (`PastingLaws`). Tidy programs, and programs without C$PED REJECT: what a step
-//! on DO loops keeps beside the meaning (`TidyLaws`). One loop: which dependences it carries, what a plain bound reads, and
-//! when one DO stands for another (`LoopLaws`).
+//! Three groups. Cut and paste: a program in which statements were replaced does what the old one did, with new acts in
+//! place of each execution of the old ones (`PastingLaws`). Tidy programs, and programs without C$PED REJECT: what a
+//! step on DO loops keeps in addition to the meaning (`TidyLaws`). One loop: which dependences it carries, what a plain
+//! bound reads, and when one DO may replace another (`LoopLaws`).
 #![tactic(auto)]
 
 mod bounds;

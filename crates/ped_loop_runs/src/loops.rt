@@ -1,4 +1,4 @@
-//! One loop in the place of another.
+//! One loop in place of another.
 
 ghost use Rattle.std.specs.Prelude.{ℕ, Bool};
 ghost use Rattle.ped_loop_runs.specs.ped_bodies.specs.ped_steps.specs.ped_laws.specs.ped_flow.specs.ped_tree.specs.Tree.{Head, ProgramTree};

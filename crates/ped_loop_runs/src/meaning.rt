@@ -1,4 +1,4 @@
-//! What a step shows, and the meaning that is kept.
+//! What a step shows, and the meaning that it keeps.
 
 ghost use Rattle.std.specs.Prelude.{Bool, ◌||◌, not};
 ghost use Rattle.ped_bodies.specs.ped_steps.specs.ped_laws.specs.Acts.Sets.{wants};

@@ -1,4 +1,4 @@
-//! Numbers under which the statements of a new program count.
+//! The numbers under which the statements of a new program are counted.
 
 ghost use Rattle.std.specs.Prelude.{◌≡◌, ℕ, List};
 ghost use Rattle.ped_bodies.specs.ped_steps.specs.ped_flow.specs.ped_tree.specs.Tree.{ProgramTree};

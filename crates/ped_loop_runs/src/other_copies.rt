@@ -1,4 +1,4 @@
-//! Cut and paste where names come into PARALLEL DO loops, or go.
+//! Cut and paste where names enter or leave PARALLEL DO loops.
 
 ghost use Rattle.std.specs.Prelude.{◌≡◌, ℕ, List, [], ◌++◌, Bool};
 ghost use Rattle.ped_bodies.specs.ped_steps.specs.ped_flow.specs.ped_tree.specs.Tree.{StmtTrees, ProgramTree};

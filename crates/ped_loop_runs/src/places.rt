@@ -1,4 +1,4 @@
-//! What the iterations round an execution tell.
+//! The values given by the iterations around an execution.
 
 ghost use Rattle.std.specs.Prelude.{◌≡◌, ℕ, List, [], ◌∷◌};
 ghost use Rattle.std.specs.Str.Lines.{lines};

@@ -1,4 +1,4 @@
-//! One statement that gives way.
+//! One statement that is replaced.
 
 ghost use Rattle.std.specs.Prelude.{◌≡◌, ℕ, Some};
 ghost use Rattle.ped_loop_runs.specs.Statements.{GivesWay};

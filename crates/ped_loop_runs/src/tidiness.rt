@@ -1,4 +1,4 @@
-//! Tidy programs in which statements are exchanged for others. The functions do nothing; their contracts are the laws.
+//! Tidy programs in which statements are replaced by others. The functions do nothing; their contracts are the laws.
 
 ghost use Rattle.std.specs.Prelude.{◌≡◌, ℕ, List, Bool, false, not, ◌⊎◌};
 ghost use Rattle.ped_loop_runs.specs.ped_bodies.specs.ped_steps.specs.ped_flow.specs.ped_base.specs.Lists.{is_among};

@@ -1,5 +1,5 @@
-//! Plain bounds: those that can be evaluated anywhere in the outermost DO, since they depend on the DO variables round them
-//! alone (this project).
+//! Plain bounds: those that can be evaluated anywhere in the outermost DO, since they depend only on the DO variables
+//! around them (this project).
 
 ghost use Rattle.std.specs.Prelude.{◌≡◌, ◌↔◌, ◌⊎◌, ◌≤◌, ◌&&◌, ◌||◌, not, [], length, map, IfOk, IsTrue};
 ghost use Rattle.ped_base.specs.Lists as Lists;

@@ -1,4 +1,4 @@
-//! `interchange`: a DO and the one DO in its body change places.
+//! `interchange`: a DO and the only DO in its body change places.
 
 ghost use Rattle.std.specs.Prelude.{◌≡◌, ◌||◌, ◌&&◌, ◌+◌, ◌<◌, ◌≤◌, ◌^◌, ℕ, [], length, true, false, Some, IfOk, MatchOption};
 ghost use Rattle.ped_base.specs.Lists.{has_some};

@@ -1,6 +1,6 @@
-//! Steps that keep one loop one loop: `parallel` and `serial` change whether the iterations of a DO may be done in any order,
-//! `reverse` does them from the last to the first, `interchange` lets a DO and the one in its body change places, and `reject`
-//! takes down what the user says of a dependence. The definitions stand in `specs/`.
+//! Steps that keep the number of loops. `parallel` and `serial` change whether the iterations of a DO may be done in
+//! any order. `reverse` does them from the last to the first. `interchange` swaps a DO and the only DO in its body.
+//! `reject` records what the user states about a dependence. The definitions are in `specs/`.
 #![tactic(auto)]
 
 mod bounds;

@@ -1,4 +1,4 @@
-//! `reject`: the user says that a name's pending dependences which a DO carries aren't there.
+//! `reject`: the user says that a name's pending dependences carried by a DO don't exist.
 
 ghost use Rattle.std.specs.Prelude.{◌≡◌, ◌+◌, ◌<◌, ◌^◌, ◌&&◌, List, [], IfOk};
 ghost use Rattle.std.specs.List.{list_any};

@@ -1,5 +1,5 @@
-//! Bounds of an inner DO by the variable of the outer one, and the bounds that come of them where the two change places
-//! (Allen and Kennedy, section 5.2).
+//! How bounds of an inner DO depend on the variable of the outer one, and the bounds that result where the two
+//! change places (Allen and Kennedy, section 5.2).
 
 ghost use Rattle.std.specs.Prelude.{◌≡◌, ◌++◌, ◌∷◌, [], map, true, false, Some, None, IfOk, OnOk, MatchOption};
 ghost use Rattle.ped_base.specs.Lists as Lists;

@@ -1,5 +1,5 @@
-//! A machine that runs a program whose PARALLEL DO loops go on in any order, one step by one choice. It keeps the
-//! iterations that have been started alone, so that a loop of any count opens at once.
+//! A machine that runs a program whose PARALLEL DO loops proceed in any order, one step per choice. It keeps only the
+//! iterations that have been started, so a loop of any count opens at once.
 #![tactic(auto)]
 
 mod acts;

@@ -1,4 +1,4 @@
-//! Open PARALLEL DO loops: what each of their iterations has left.
+//! Open PARALLEL DO loops: what remains of each of their iterations.
 
 ghost use Rattle.std.specs.Prelude.{◌≡◌, ◌≢◌, ◌<◌, ℕ, length, Bool, true, false, [], Some, None, IsSome, IfOk, OnErr};
 ghost use Rattle.std.specs.List.{list_all};

@@ -1,4 +1,4 @@
-//! What an iteration has left outside of open PARALLEL DO loops.
+//! What remains of an iteration outside open PARALLEL DO loops.
 
 ghost use Rattle.std.specs.Prelude.{◌≡◌, ◌<◌, ◌+◌, ◌^◌, [], ◌∷◌, length, true, is_none, Some, None, MatchOption, OnOk, OnErr};
 ghost use Rattle.ped_tree.specs.Views.{stmt_tree, stmt_trees};

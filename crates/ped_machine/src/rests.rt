@@ -1,4 +1,4 @@
-//! What is left of the whole run or of an iteration, with the PARALLEL DO that is open in it.
+//! The rest of the whole run or of an iteration, with the PARALLEL DO that is open in it.
 
 ghost use Rattle.std.specs.Prelude.{◌≡◌, ◌<◌, ◌^◌, ℕ, Bool, true, false, None, IsSome, MatchOption, IfOk, OnOk, OnErr};
 ghost use Rattle.ped_tree.specs.Views.{head_of, stmt_tree, stmt_trees, do_tree};

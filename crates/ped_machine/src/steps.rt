@@ -1,4 +1,4 @@
-//! What a step comes to.
+//! The results of steps.
 
 ghost use Rattle.std.specs.Prelude.{◌≡◌};
 ghost use Rattle.ped_machine.specs.Answers.{ends_run, is_last, step_by};

@@ -1,4 +1,4 @@
-//! What the iterations of an open PARALLEL DO have come to: which wait, which are running, which are done.
+//! The state of each iteration of an open PARALLEL DO: waiting, running or done.
 //! A loop of any count is opened in constant memory, and a stretch of finished iterations takes one entry.
 #![tactic(auto)]
 

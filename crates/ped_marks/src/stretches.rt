@@ -1,4 +1,4 @@
-//! The entries of the marks, by the places at which they begin: an iteration that is running, or a stretch
+//! The entries of the marks, by the places at which they begin. An entry is a running iteration or a stretch
 //! of finished ones.
 
 ghost use Rattle.std.specs.Prelude.{◌≡◌, ℕ, is_some, true, if◌then◌else◌, ◌==◌};

@@ -1,5 +1,5 @@
 //! The dependence tests for subscripts in any number of indices (Allen and Kennedy, section 3.3): the GCD test,
-//! and Banerjee's test with directions. They take no memory and go over loops, never over iterations.
+//! and Banerjee's test with directions. They allocate no memory and visit loops, never iterations.
 #![tactic(auto)]
 
 mod banerjee;

@@ -1,4 +1,4 @@
-//! The numbers of a position that the tests look at.
+//! The numbers of a position that the tests use.
 
 ghost use Rattle.std.specs.Prelude.{◌≡◌, ◌<◌, ◌^◌, ◌-ℤ◌, All, unsigned_abs};
 ghost use Rattle.ped_views.specs.Limits.{IsSmallCoefficient};

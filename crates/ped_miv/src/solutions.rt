@@ -1,4 +1,4 @@
-//! The GCD test: whether whole numbers whatever make two subscripts equal.
+//! The GCD test: whether any whole numbers make two subscripts equal.
 
 ghost use Rattle.std.specs.Prelude.{◌≡◌, ◌<ℤ◌, ◌≤ℤ◌, ◌^◌, ◌↔◌, ℤ, pos, neg_ℤ, length, IsTrue};
 ghost use Rattle.std.specs.Bool.{IsFalse};

@@ -1,4 +1,4 @@
-//! By what accesses are looked up: a cell, and one execution of a DO.
+//! The keys of accesses: a cell, and one execution of a DO.
 
 ghost use Rattle.std.specs.Prelude.{◌≡◌, ◌&&◌, fold, map, take, length, min, IfOk};
 ghost use Rattle.std.specs.Cmp.Lexicographic.{pointwise};

@@ -1,8 +1,8 @@
-//! The order of iterations of PARALLEL DO loops. Where a program runs without a fault and a race it doesn't show: that is a
-//! law, and docs/MEANING.md tells how it is proved. And the races of a program on its data: the first access of its run in
-//! order that races with an earlier one, or that there is none. A watch is told the accesses of the run one by one and
-//! remembers of each cell and each execution of a PARALLEL DO as much as later accesses ask for. The definitions of reports
-//! stand in `specs/`.
+//! The order of iterations of PARALLEL DO loops doesn't show where a program runs without a fault and without a race.
+//! This is a law; docs/MEANING.md describes its proof. And the races of a program on its data: the first access of its
+//! run in order that races with an earlier one, or that there is none. A watch gets the accesses of the run one by one.
+//! Of each cell and each execution of a PARALLEL DO it remembers as much as later accesses need. The definitions of
+//! reports are in `specs/`.
 #![tactic(auto)]
 
 mod agreeing;

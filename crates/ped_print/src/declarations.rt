@@ -1,4 +1,4 @@
-//! The text of declarations, added at the end of a text. After want of memory a text ends somewhere
+//! The text of declarations, added at the end of a text. If memory runs out, the text ends somewhere
 //! in what was to be added.
 
 ghost use Rattle.std.specs.Prelude.{◌≡◌, ◌++◌, map, codes, OnOk};

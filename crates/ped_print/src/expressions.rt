@@ -1,5 +1,5 @@
-//! Expressions, added at the end of a text: without blanks and with the fewest parentheses that read
-//! as the same tree. After want of memory a text ends somewhere in what was to be added.
+//! Expressions, added at the end of a text, without blanks and with the fewest parentheses that parse
+//! to the same tree. If memory runs out, the text ends somewhere in what was to be added.
 
 ghost use Rattle.std.specs.Prelude.{◌≡◌, ◌++◌, codes, map, OnOk};
 ghost use Rattle.std.specs.Fmt.{decimal};

@@ -1,6 +1,6 @@
-//! Printed lengths of statements by themselves, without their indentation and the statements in their
-//! parts, and of declarations. They take no memory; where a length is more than a `usize` holds, the
-//! answer is the greatest `usize`.
+//! Printed lengths of declarations, and of statements without their indentation and the statements in
+//! their parts. Computing them takes no memory. Where a length exceeds a `usize`, the result is the
+//! greatest `usize`.
 
 ghost use Rattle.std.specs.Prelude.{◌≡◌, ◌+◌, ◌-◌, ◌*◌, ◌^◌, [], ◌++◌, min, map, length, codes};
 ghost use Rattle.std.specs.List.{flat_map, join_by};

@@ -1,5 +1,5 @@
 //! Programs printed in normal form: the printed text, the source pane, the printed length of a
-//! statement, and how many statements begin on lines of it, each exactly its definition in `specs/` of ped_tree.
+//! statement, and how many statements begin on given lines. Each is exactly as defined in `specs/` of ped_tree.
 #![tactic(auto)]
 
 mod conditions;

@@ -1,5 +1,5 @@
 //! Printed lines: a statement's text cut into an initial line and continuation lines of fixed form
-//! (ANSI X3.9-1978, section 3.2). After want of memory some of what was to be added may be lines.
+//! (ANSI X3.9-1978, section 3.2). If memory runs out, some of the lines may have been added.
 
 ghost use Rattle.std.specs.Prelude.{◌≡◌, ◌<◌, ◌≤◌, ◌*◌, [], ◌∷◌, ◌++◌, map, length, codes, OnOk, IfOk};
 ghost use Rattle.ped_tree.specs.Printing as Spec;

@@ -1,5 +1,5 @@
-//! Statements as printed lines, those in the parts of an IF and in the body of a DO among them, with
-//! their numbers. After want of memory some of what was to be added may be lines.
+//! Statements as printed lines with their numbers, including those in the parts of an IF and in the
+//! body of a DO. If memory runs out, some of the lines may have been added.
 
 ghost use Rattle.std.specs.Prelude.{◌≡◌, ◌+◌, ◌<◌, ◌≤◌, ◌^◌, [], ◌∷◌, ◌++◌, map, length, codes, OnOk, IfOk, Some, None};
 ghost use Rattle.ped_tree.specs.Numbering.{statement_count, statements_count};

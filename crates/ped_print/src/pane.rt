@@ -1,5 +1,5 @@
-//! The source pane: the printed lines of a program, each behind its line number and the number of the
-//! statement that begins on it. After want of memory the pane ends somewhere in its text.
+//! The source pane: the printed lines of a program, each after its line number and the number of the
+//! statement that begins on it. If memory runs out, the pane ends somewhere in its text.
 
 ghost use Rattle.std.specs.Prelude.{◌≡◌, ◌++◌, map, OnOk};
 ghost use Rattle.std.specs.Fmt.{decimal};

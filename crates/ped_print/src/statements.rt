@@ -1,5 +1,5 @@
-//! The text of a statement by itself, added at the end of a text, without the statements in its parts.
-//! After want of memory a text ends somewhere in what was to be added.
+//! The text of a statement, without the statements in its parts, added at the end of a text.
+//! If memory runs out, the text ends somewhere in what was to be added.
 
 ghost use Rattle.std.specs.Prelude.{◌≡◌, ◌++◌, map, codes, OnOk};
 ghost use Rattle.std.specs.List.{flat_map};

@@ -1,4 +1,5 @@
-//! Laws of printing: what is printed of statements, declarations and whole programs reads as these, and as nothing else.
+//! Laws of printing: the printed text of statements, declarations and whole programs reads as these, and as nothing
+//! else.
 #![tactic(auto)]
 
 pub mod programs;

@@ -1,5 +1,4 @@
-//! The trees that fit are those that some text reads as, and the printed text of each reads as it and as no
-//! other.
+//! The trees that fit are those that some text reads as. The printed text of each reads as that tree, and as no other.
 
 mod laws;
 

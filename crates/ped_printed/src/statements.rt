@@ -1,4 +1,4 @@
-//! What is printed of single statements and declarations reads as they do, and as nothing else.
+//! The printed text of a single statement or declaration reads as it, and as nothing else.
 
 mod laws;
 

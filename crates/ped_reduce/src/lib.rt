@@ -1,6 +1,6 @@
-//! Reductions: the iterations of a DO may be done in any order though all add to some scalars. A list at the front of its body
-//! names these; `reduce` puts it there, and `lower` makes of each list that is live a PARALLEL DO and a DO that adds up. The
-//! definitions stand in `specs/`.
+//! Reductions: the iterations of a DO may run in any order although all of them add to some scalars. A list at the
+//! front of the body names these scalars; `reduce` puts it there. `lower` replaces each DO that has a live list by
+//! a PARALLEL DO and a DO that adds up. The definitions are in `specs/`.
 #![tactic(auto)]
 
 mod edges;

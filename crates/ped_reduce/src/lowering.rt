@@ -1,4 +1,4 @@
-//! What comes of a program when its live lists are lowered.
+//! The program that results when the live lists of a program are lowered.
 
 ghost use Rattle.std.specs.Prelude.{◌≡◌, ◌≤◌, ◌<◌, ◌+◌, ◌-◌, ◌^◌, ◌↔◌, [], length, map, true, IsTrue, IfOk, OnOk};
 ghost use Rattle.std.specs.List.{range_with_len};

@@ -1,4 +1,4 @@
-//! `reduce`: the iterations of a DO may be done in any order though all add to some scalars.
+//! `reduce`: the iterations of a DO may run in any order although all of them add to some scalars.
 
 ghost use Rattle.std.specs.Prelude.{◌≡◌, ◌+◌, ◌<◌, ◌^◌, ◌↔◌, [], false, IsTrue, IfOk, MatchOption};
 ghost use Rattle.ped_tree.specs.Numbering.{statements_count};

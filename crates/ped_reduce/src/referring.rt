@@ -1,4 +1,4 @@
-//! References to names in the body of a DO, and those that stand in no sum.
+//! References to names in the body of a DO, and those of them that are in no sum.
 
 ghost use Rattle.std.specs.Prelude.{◌≡◌, ◌+◌, ◌<◌, ◌^◌, ◌&&◌, nat_lt, is_none, is_some};
 ghost use Rattle.std.specs.List.{list_any};

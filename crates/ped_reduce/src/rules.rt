@@ -1,4 +1,4 @@
-//! The rules that stand against sums in any order.
+//! The rules that forbid sums in any order.
 
 ghost use Rattle.std.specs.Prelude.{◌≡◌, ◌<◌, ◌+◌, ◌^◌, not, false, IfOk};
 ghost use Rattle.std.specs.List.{list_any};

@@ -1,5 +1,5 @@
-//! The loops that come of a DO with a list: one in whose iterations all sums are kept apart, and one that adds them to the
-//! scalars.
+//! The two loops that replace a DO with a list. In the iterations of the first, all sums are kept apart. The second
+//! adds them to the scalars.
 
 ghost use Rattle.std.specs.Prelude.{◌≡◌, [], map, true, IfOk, OnOk};
 ghost use Rattle.ped_tree.specs.Tree;

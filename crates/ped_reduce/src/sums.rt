@@ -1,4 +1,4 @@
-//! Statements that add to a scalar, or take away from it.
+//! Statements that add to a scalar or subtract from it.
 
 ghost use Rattle.std.specs.Prelude.{◌≡◌, map, option_map};
 ghost use Rattle.ped_base.specs.Lists.{is_same_text};

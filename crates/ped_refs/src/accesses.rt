@@ -1,5 +1,5 @@
-//! What one statement by itself reads and writes, in order: the right side before the left, an element behind
-//! its subscripts, a DO's bounds before its private names. After want of memory the list has a front of what
+//! What one statement by itself reads and writes, in order: the right side before the left, subscripts before
+//! their element, a DO's bounds before its private names. If memory runs out, the list has a prefix of what
 //! was to be added.
 
 ghost use Rattle.std.specs.Prelude.{◌≡◌, [], ◌∷◌, ◌++◌, map, true, IfOk, OnOk};

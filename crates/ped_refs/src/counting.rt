@@ -1,5 +1,5 @@
-//! How many ordered pairs of references there are. To count them they aren't made: references can only pair with
-//! those of one name and the same outermost DO, so a table of these groups tells in one pass how many pairs each
+//! How many ordered pairs of references there are. They are counted without being made. Only references with the
+//! same name and the same outermost DO can pair. So a table of these groups gives in one pass how many pairs each
 //! reference adds.
 
 ghost use Rattle.std.specs.Prelude.{◌≡◌, ◌+◌, ◌^◌, ◌<◌, ◌≤◌, length, IfOk, OnOk, MatchOption, if◌then◌else◌};

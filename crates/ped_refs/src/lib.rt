@@ -1,5 +1,5 @@
-//! References: the occurrences of variables that read or write them, and the pairs that may depend on each
-//! other. The definitions stand in `specs/`.
+//! References: occurrences that read or write a variable, and the pairs of references that may depend on each
+//! other. The definitions are in `specs/`.
 #![tactic(auto)]
 
 mod accesses;

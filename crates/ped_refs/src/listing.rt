@@ -1,5 +1,4 @@
-//! The references of a program in a list that is short enough to be kept for itself, without what stands round
-//! them.
+//! The references of a program, without their surroundings, in a list that is short enough to be kept by itself.
 
 ghost use Rattle.std.specs.Prelude.{◌≡◌, ◌^◌, ◌<◌, map, length, IfOk};
 ghost use Rattle.ped_tree.specs.Numbering.{statements_count};

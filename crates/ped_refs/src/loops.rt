@@ -1,4 +1,4 @@
-//! The DO loops round a statement.
+//! The DO loops around a statement.
 
 ghost use Rattle.std.specs.Prelude.{◌≡◌};
 ghost use Rattle.ped_base.specs.Lists as Lists;

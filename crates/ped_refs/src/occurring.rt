@@ -1,5 +1,5 @@
-//! The references of a program with what stands round them, statement by statement. After want of memory a
-//! list has a front of what was to be added.
+//! The references of a program with their surroundings, statement by statement. If memory runs out, the list
+//! has a prefix of what was to be added.
 
 ghost use Rattle.std.specs.Prelude.{◌≡◌, [], ◌∷◌, ◌++◌, ◌+◌, ◌^◌, ◌<◌, length, IfOk, OnOk};
 ghost use Rattle.ped_tree.specs.Numbering.{statement_count, statements_count};

@@ -1,5 +1,5 @@
-//! All ordered pairs of references. References can only pair with those of one name and the same outermost DO,
-//! so a table of these groups gives the sinks of each source, and no pair without a write is looked at.
+//! All ordered pairs of references. Only references with the same name and the same outermost DO can pair.
+//! So a table of these groups gives the sinks of each source, and no pair without a write is visited.
 
 ghost use Rattle.std.specs.Prelude.{◌≡◌, ◌++◌, Some, map, length, IfOk, OnOk, if◌then◌else◌};
 ghost use Rattle.std.specs.List.{All};

@@ -1,4 +1,4 @@
-//! References in a list: the occurrences of variables that read or write them, and the data lines and the
+//! References in a list: occurrences that read or write a variable, and those of the data lines and the
 //! output, which READ and PRINT write.
 
 ghost use Rattle.std.specs.Prelude.{◌≡◌};

@@ -1,4 +1,4 @@
-//! How large a program of the profile is: its statements, its references and the DO loops round each of them.
+//! How large a program of the profile is: its statements, its references and the DO loops around each of them.
 
 mod laws;
 

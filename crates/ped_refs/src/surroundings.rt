@@ -1,4 +1,4 @@
-//! What stands round a statement, as far as its references depend on it.
+//! What surrounds a statement, as far as its references depend on it.
 
 use crate::loops::Loop;
 use ped_tree::names::NameSet;

@@ -1,5 +1,5 @@
-//! Open blocks: the IFs and the DO loops whose ends haven't come (ANSI X3.9-1978, sections 11.6 and
-//! 11.10). Lists of them have the innermost last.
+//! Open blocks: the IFs and the DO loops whose ends haven't been reached (ANSI X3.9-1978, sections 11.6
+//! and 11.10). Lists of them have the innermost last.
 
 ghost use Rattle.std.specs.Prelude.{◌≡◌, ◌+◌, ◌<◌, ◌≤◌, ◌^◌, List, [], ◌∷◌, ◌++◌, length, take, IfOk, OnOk, MatchOption, ◌||◌, if◌then◌else◌};
 ghost use Rattle.ped_tree.specs.Grammar.Contexts as Contexts;

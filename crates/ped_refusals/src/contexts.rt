@@ -1,5 +1,5 @@
 //! What is open at a statement, and what has come before it (ANSI X3.9-1978, sections 3.5 and 8). Each
-//! statement takes it on, whatever is refused there.
+//! statement updates it, whatever is refused there.
 
 ghost use Rattle.std.specs.Prelude.{◌≡◌, ◌+◌, ◌<◌, ◌^◌, ◌++◌, List, ℕ, IfOk, OnOk, false, map, ◌||◌};
 ghost use Rattle.ped_tree.specs.Grammar.Contexts as Spec;

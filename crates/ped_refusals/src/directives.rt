@@ -1,4 +1,4 @@
-//! Directives: `$PED REJECT` and a name, which stands directly before a DO.
+//! Directives: `$PED REJECT` and a name, directly before a DO.
 
 ghost use Rattle.std.specs.Prelude.{◌≡◌, ◌&&◌, ◌||◌, ℕ, Some, None, map, drop, length, nat_le, nat_lt, true, if◌then◌else◌};
 ghost use Rattle.std.specs.List.{flat_map};

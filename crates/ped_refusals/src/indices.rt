@@ -1,5 +1,5 @@
-//! The variable of a DO loop in its range, which nothing there may assign (ANSI X3.9-1978, section
-//! 11.10.5) and no PRIVATE statement may name.
+//! The variable of a DO loop: nothing in the range of the loop may assign it (ANSI X3.9-1978, section
+//! 11.10.5), and no PRIVATE statement may name it.
 
 ghost use Rattle.std.specs.Prelude.{◌≡◌, ◌∷◌, [], MatchOption, map};
 ghost use Rattle.std.specs.List.{flat_map};

@@ -1,5 +1,5 @@
 //! The refusals of statements (ANSI X3.9-1978, sections 3.5, 8 and 11; limits of the profile): which of
-//! those that stand at the statements of a text is the first.
+//! those at the statements of a text is the first.
 #![tactic(auto)]
 
 mod blocks;

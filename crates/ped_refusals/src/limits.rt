@@ -1,5 +1,5 @@
-//! Whether a statement passes a limit of the profile: by its literals and arrays, the number of statements,
-//! how deep they nest, its references, and its printed length.
+//! Whether a statement exceeds a limit of the profile: by its literals and arrays, the number of statements,
+//! their nesting depth, its references, and its printed length.
 
 ghost use Rattle.std.specs.Prelude.{◌≡◌, ◌<◌, ◌^◌, map, nat_lt, length};
 ghost use Rattle.ped_tree.specs.Printing.{own_text, do_text};

@@ -1,5 +1,5 @@
-//! The names that occur in statements, added to a set in text order. After want of memory the set has
-//! some of what was to be added.
+//! The names that occur in statements, added to a set in text order. After running out of memory the set
+//! has some of the names to be added.
 
 ghost use Rattle.std.specs.Prelude.{◌≡◌, ◌∷◌, ◌++◌, map, drop, Some, None, OnOk, if◌then◌else◌};
 ghost use Rattle.std.specs.List.{flat_map};

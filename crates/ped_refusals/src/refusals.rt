@@ -1,4 +1,4 @@
-//! The first refusal among those that stand at statements.
+//! The first refusal among those at statements.
 
 ghost use Rattle.std.specs.Prelude.{◌≡◌, ◌&&◌, ◌<◌, ◌^◌, ◌++◌, List, ℕ, nat_lt, true, IfOk, map};
 ghost use Rattle.std.specs.List.{list_all};

@@ -1,4 +1,4 @@
-//! Where a statement may stand: the order of statements (ANSI X3.9-1978, section 3.5), the blocks of an IF
+//! Where a statement may be: the order of statements (ANSI X3.9-1978, section 3.5), the blocks of an IF
 //! (section 11.6), the range of a DO and the statement that ends it (section 11.10).
 
 ghost use Rattle.std.specs.Prelude.{◌≡◌};

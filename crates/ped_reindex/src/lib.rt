@@ -1,6 +1,6 @@
-//! Steps that give the iterations of a DO other numbers and keep their order: `skew` lets the inner of two DO loops run
-//! further by a multiple of the outer one's variable, `strip` does the iterations in strips, and `peel` takes the first or the
-//! last one out of the DO. The definitions stand in `specs/`.
+//! Steps that renumber the iterations of a DO and keep their order. `skew` shifts the bounds of the inner of two DO
+//! loops by a multiple of the outer one's variable. `strip` does the iterations in strips. `peel` takes the first or
+//! the last iteration out of the DO. The definitions are in `specs/`.
 #![tactic(auto)]
 
 mod iterations;

@@ -1,4 +1,4 @@
-//! `skew`: the variable of the inner of two DO loops runs by a multiple of the outer one's variable further.
+//! `skew`: the bounds of the inner of two DO loops are shifted by a multiple of the outer one's variable.
 
 ghost use Rattle.std.specs.Prelude.{◌≡◌, ◌+◌, ◌<◌, ◌≤◌, ◌^◌, ℕ, [], ◌∷◌, ◌++◌, ◌||◌, true, false, Some, IfOk, MatchOption, length, unsigned_abs};
 ghost use Rattle.ped_tree.specs.Numbering.{statements_count};

@@ -1,6 +1,6 @@
 //! Laws of the rows of the dependence pane. What a row marked proven says occurs in each run that leaves the outermost
-//! loop round both references. A run has no more steps than the text says, and rows don't look at the bounds of arrays.
-//! No function here does anything; its contract is the law, and docs/ARCHITECTURE.md tells how the laws are proved.
+//! loop around both references. A run has no more steps than the text says. Rows ignore the bounds of arrays. Each
+//! function here does nothing; its contract is the law, and docs/ARCHITECTURE.md describes the proofs.
 #![tactic(auto)]
 
 mod bounded;

@@ -1,4 +1,4 @@
-//! Dependences don't look at the bounds of arrays.
+//! Dependences ignore the bounds of arrays.
 
 ghost use Rattle.std.specs.Prelude.{◌↔◌, List};
 ghost use Rattle.ped_laws.specs.ped_flow.specs.ped_tree.specs.Tree.{ProgramTree};

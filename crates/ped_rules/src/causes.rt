@@ -1,4 +1,4 @@
-//! Rules that stand against a step.
+//! Rules that refuse a step.
 
 ghost use Rattle.std.specs.Prelude.{◌≡◌};
 ghost use Rattle.ped_loop_runs.specs.ped_bodies.specs.ped_steps.specs.declared.causes.Refused.TheVariants as refused;

@@ -1,4 +1,4 @@
-//! Increments of DO loops that steps take (ANSI X3.9-1978, section 11.10.1).
+//! Increments that steps accept in a DO (ANSI X3.9-1978, section 11.10.1).
 
 ghost use Rattle.std.specs.Prelude.{◌≡◌, not, true, false, MatchOption, Some};
 ghost use Rattle.ped_tree.specs.Views.{head_of, stmt_trees};

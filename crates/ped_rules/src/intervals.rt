@@ -1,4 +1,4 @@
-//! New bounds that may leave 2^62 (this project).
+//! New bounds that may go beyond 2^62 (this project).
 
 ghost use Rattle.std.specs.Prelude.{ℕ, ◌≡◌, ◌≤◌, length, IfOk};
 ghost use Rattle.ped_tree.specs.Views.{expr_tree, program_tree};

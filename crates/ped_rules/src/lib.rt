@@ -1,5 +1,5 @@
-//! What the steps of the editor share: what a step answers and what is true of each, the rules by which steps are refused,
-//! the dependences that forbid one, and which statements one keeps. The definitions stand in `specs/`.
+//! What the steps of the editor share: what a step returns and what is true of every step, the rules that refuse steps,
+//! the dependences that forbid a step, and which statements it keeps. The definitions are in `specs/`.
 #![tactic(auto)]
 
 mod carried;

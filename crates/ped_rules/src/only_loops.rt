@@ -1,4 +1,4 @@
-//! The one DO in the body of another (Allen and Kennedy, section 5.2).
+//! The only DO in the body of another (Allen and Kennedy, section 5.2).
 
 ghost use Rattle.std.specs.Prelude.{◌≡◌, ◌==◌, MatchOption, Some, None, true, false};
 ghost use Rattle.ped_tree.specs.Views.{stmt_tree, stmt_trees, head_of};

@@ -1,5 +1,5 @@
-//! Steps on scalars: `privatise` gives each iteration of a DO its own copy of a scalar, and `expand` its own element of an
-//! array. Each step answers the new program, or the first cause against it. The definitions stand in `specs/`.
+//! Steps on scalars: `privatise` gives each iteration of a DO its own copy of a scalar, and `expand` its own element
+//! of an array. Each step returns the new program, or the first cause against it. The definitions are in `specs/`.
 #![tactic(auto)]
 
 mod elements;

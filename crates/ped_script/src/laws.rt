@@ -1,4 +1,4 @@
-//! What the table of commands keeps to. The function here does nothing; its contract is the law.
+//! Laws of the table of commands. Each function here does nothing; its contract is the law.
 
 ghost use Rattle.std.specs.Prelude.{◌≡◌, ◌↔◌, List, Some};
 ghost use Rattle.ped_script.specs.Words.{Text, words_of};

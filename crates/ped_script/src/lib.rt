@@ -1,5 +1,5 @@
-//! The commands of a script, each with its line. A command is a line of words by one row of a table, and an
-//! edit has the lines behind it for its text, up to a period alone.
+//! The commands of a script, each with its line. A command is a line of words that follows one row of a table. The text
+//! of an edit is the lines after it, up to a period alone.
 #![tactic(auto)]
 
 mod items;

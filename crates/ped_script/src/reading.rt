@@ -1,4 +1,4 @@
-//! A script from its first line to its last.
+//! A script read from its first line to its last.
 
 ghost use Rattle.std.specs.Prelude.{◌≡◌, ◌+◌, drop, IfOk, OnOk};
 ghost use Rattle.ped_script.specs.Items as Items;

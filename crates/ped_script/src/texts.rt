@@ -1,4 +1,4 @@
-//! The text of a command, as a line of a script has it.
+//! The text of a command, as it is written in a script.
 
 ghost use Rattle.std.specs.Prelude.{◌≡◌, ◌∷◌, ◌++◌, [], map, IfOk, OnOk};
 ghost use Rattle.std.specs.Fmt.{decimal, signed_decimal};

@@ -1,4 +1,4 @@
-//! The items of a script, answered one behind another.
+//! The items of a script, answered one after another.
 
 ghost use Rattle.std.specs.Prelude.{◌≡◌, ◌≢◌, ◌+◌, ◌≤◌, Some, IfOk, OnOk};
 ghost use Rattle.ped_session.specs.States.{State};

@@ -1,4 +1,4 @@
-//! What is printed of a report of `auto`.
+//! What is printed for a report of `auto`.
 
 ghost use Rattle.std.specs.Prelude.{◌≡◌, ◌++◌, codes, IfOk, OnOk};
 ghost use Rattle.std.specs.Fmt.{decimal};

@@ -1,4 +1,4 @@
-//! A session as the editor of `auto`: what it tells of its present program, and steps that it takes by itself.
+//! A session as the editor of `auto`: what it reports of its present program, and steps that it takes by itself.
 
 ghost use Rattle.std.specs.Prelude.{◌≡◌};
 ghost use Rattle.ped_session.specs.ped_tree.specs.Tree.{ProgramTree};

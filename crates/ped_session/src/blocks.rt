@@ -1,4 +1,4 @@
-//! What is printed of an outcome.
+//! What is printed for an outcome.
 
 ghost use Rattle.std.specs.Prelude.{◌≡◌, ◌++◌, map, IfOk, OnOk};
 ghost use Rattle.std.specs.List.{flat_map};

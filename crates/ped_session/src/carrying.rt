@@ -1,4 +1,4 @@
-//! The names of what a DO carries.
+//! The names in the dependences that a DO carries.
 
 ghost use Rattle.std.specs.Prelude.{◌≡◌, ◌++◌, [], map, filter, not, IfOk, OnOk};
 ghost use Rattle.std.specs.List.{list_any};

@@ -1,4 +1,4 @@
-//! Edits: lines of the present source go, others come, and what results is read afresh.
+//! Edits: lines of the present source are removed, others inserted, and the result is read afresh.
 
 ghost use Rattle.std.specs.Prelude.{◌≡◌, ◌+◌, ◌≤◌, IfOk, OnErr};
 ghost use Rattle.ped_session.specs.ped_tree.specs.Tree.{ProgramTree};

@@ -1,5 +1,5 @@
-//! The statements that an edit keeps: those of the lines in front of those that it touches, and those of the lines
-//! behind them.
+//! The statements that an edit keeps: those on the lines before the ones that it touches, and those on the lines
+//! after them.
 
 ghost use Rattle.std.specs.Prelude.{◌≡◌, ◌+◌, ◌-◌, ◌<◌, ◌≤◌, ◌^◌, ◌++◌, map, IfOk, OnOk};
 ghost use Rattle.std.specs.List.{range_with_len};

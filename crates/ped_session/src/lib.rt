@@ -1,5 +1,5 @@
-//! A session: a program that is edited step by step. It holds the present source beside its dependence graph, and the
-//! past and future sources with what changes between them. The definitions stand in `specs/`. Contracts see a session
+//! A session: a program that is edited step by step. It holds the present source with its dependence graph, and the
+//! past and future sources with what changes between them. The definitions are in `specs/`. Contracts see a session
 //! as texts: past sources, the present one, future ones, and between neighbours the kind of the change. What a
 //! command does is one sentence for each command (`IsStep`).
 #![tactic(auto)]

@@ -1,4 +1,4 @@
-//! What is printed of a report of races.
+//! What is printed for a report of races.
 
 ghost use Rattle.std.specs.Prelude.{◌≡◌, ◌++◌, take, IfOk, OnOk};
 ghost use Rattle.std.specs.List.{flat_map};

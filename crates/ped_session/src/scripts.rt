@@ -1,4 +1,4 @@
-//! What is printed of the items of a script.
+//! What is printed for the items of a script.
 
 ghost use Rattle.std.specs.Prelude.{◌≡◌, ◌++◌, codes, IfOk, OnOk};
 ghost use Rattle.ped_session.specs.ped_tree.specs.Grammar.RefusalViews.{finding_of};

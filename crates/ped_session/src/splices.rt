@@ -1,4 +1,4 @@
-//! Texts with lines put in the place of others.
+//! Texts in which lines are replaced by others.
 
 ghost use Rattle.std.specs.Prelude.{◌≡◌, ◌++◌, ◌∷◌, [], take, drop, IfOk, OnOk};
 ghost use Rattle.ped_session.specs.Splices as Spec;

@@ -1,6 +1,7 @@
 //! The dependence tests for subscripts in no index or in one common index (Allen and Kennedy, section 3.3). Each is a
-//! closed formula, and answers true exactly where its pair, or its group of pairs, excludes a direction. They hold for
-//! all coefficients of their forms and constants of 64 bits and all ranges, with steps of both signs, without memory.
+//! closed formula, and returns true exactly where its pair, or its group of pairs, excludes a direction. They hold for
+//! all coefficients of their forms and constants of 64 bits and all ranges, with steps of both signs. No test takes
+//! memory.
 #![tactic(auto)]
 
 mod strong;

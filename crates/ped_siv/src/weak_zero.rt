@@ -1,4 +1,4 @@
-//! The weak-zero SIV test: subscripts in one common index that occurs on one side alone.
+//! The weak-zero SIV test: subscripts in one common index that occurs on one side only.
 
 ghost use Rattle.std.specs.Prelude.{◌≡◌, ◌<◌, ◌^◌, ◌↔◌, ◌⊎◌, pos, unsigned_abs, IsTrue};
 ghost use Rattle.ped_views.specs.Excluded.{NeverMeets};

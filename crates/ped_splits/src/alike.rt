@@ -1,4 +1,4 @@
-//! Whether two DO loops are alike: the same bounds and the same increment, written alike, and a variable that serves both.
+//! Whether two DO loops are alike: the same bounds and increment, written alike, and a variable that serves both.
 
 ghost use Rattle.std.specs.Prelude.{◌≡◌, ◌↔◌, IsTrue, map};
 ghost use Rattle.std.specs.List.{flat_map};

@@ -1,4 +1,4 @@
-//! `distribute`: the body of a DO is taken apart into DO loops of their own.
+//! `distribute`: the body of a DO is split into several DO loops.
 
 ghost use Rattle.std.specs.Prelude.{◌≡◌, ◌<◌, ℕ, map, length, false, slice_index_or, All, IfOk, OnOk, MatchOption};
 ghost use Rattle.ped_tree.specs.Tree as Tree;

@@ -1,5 +1,5 @@
-//! Steps that take DO loops apart and put them together: `distribute` makes DO loops of their own of what needn't stay in one,
-//! and orders them. The definitions stand in `specs/`.
+//! Steps that take DO loops apart and put them together. `distribute` makes separate DO loops of what needn't stay in
+//! one, and orders them. The definitions are in `specs/`.
 #![tactic(auto)]
 
 mod alike;

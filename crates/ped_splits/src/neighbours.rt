@@ -1,4 +1,4 @@
-//! The DO that comes next behind a DO.
+//! The DO that comes next after a DO.
 
 ghost use Rattle.std.specs.Prelude.{◌≡◌, ◌+◌, ◌<◌, ◌^◌, MatchOption};
 ghost use Rattle.ped_tree.specs.Views.{program_tree, stmt_tree, stmt_trees, head_of};

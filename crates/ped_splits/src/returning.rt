@@ -1,4 +1,4 @@
-//! Dependences of the new program that lead from the second body to the first one. No verdict is made and no test counted.
+//! Dependences of the new program that lead from the second body to the first. No verdict is made and no test counted.
 
 ghost use Rattle.std.specs.Prelude.{◌≡◌, ◌+◌, ◌<◌, ◌^◌, ◌∷◌, ◌&&◌, List, [], Some, nat_le, nat_lt, map, filter, length, slice_get, All, IfOk, MatchOption};
 ghost use Rattle.ped_tree.specs.Tree.{ProgramTree};

@@ -1,4 +1,4 @@
-//! IF and ELSE IF statements (ANSI X3.9-1978, sections 11.5 to 11.7), each behind its parenthesis.
+//! IF and ELSE IF statements (ANSI X3.9-1978, sections 11.5 to 11.7), each after its parenthesis.
 
 ghost use Rattle.std.specs.Prelude.{◌≡◌};
 ghost use Rattle.ped_tree.specs.Grammar.Items as plain;

@@ -1,4 +1,4 @@
-//! Declarations (ANSI X3.9-1978, section 8): the names, bounds and values in them, each read at the front
+//! Declarations (ANSI X3.9-1978, section 8): the names, bounds and values in them, each read at the start
 //! of a text.
 
 ghost use Rattle.std.specs.Prelude.{◌≡◌, ◌<◌, IfOk, length};

@@ -1,5 +1,5 @@
-//! The words that begin statements other than simple ones. A statement that is neither an assignment nor
-//! another simple statement is known by them, since blanks mean nothing and no word is reserved
+//! The words that begin statements other than simple ones. They identify a statement that is neither an
+//! assignment nor another simple statement, since blanks mean nothing and no word is reserved
 //! (ANSI X3.9-1978, sections 3.1.6 and 18.1).
 
 ghost use Rattle.std.specs.Prelude.{◌≡◌, option_map};

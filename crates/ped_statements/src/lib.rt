@@ -1,5 +1,5 @@
-//! Statements read from texts without blanks, each by itself (ANSI X3.9-1978, sections 8 to 12): a
-//! statement says something exactly where some form of the grammar has its text.
+//! Statements read from texts without blanks, each by itself (ANSI X3.9-1978, sections 8 to 12). A
+//! text is read as a statement exactly where some form of the grammar has it.
 #![tactic(auto)]
 
 mod conditionals;

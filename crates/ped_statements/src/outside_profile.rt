@@ -1,5 +1,5 @@
-//! The test of statements of FORTRAN 77 that the profile leaves out: by the word that begins them, STOP with
-//! a code, and an IF with labels (ANSI X3.9-1978, sections 11.4 and 11.12).
+//! The test for FORTRAN 77 statements that the profile leaves out: by their first word, STOP with a code,
+//! and IF with labels (ANSI X3.9-1978, sections 11.4 and 11.12).
 
 ghost use Rattle.std.specs.Prelude.{◌≡◌, false, IfOk, map};
 ghost use Rattle.std.specs.List.{list_any};

@@ -1,4 +1,4 @@
-//! Statements that may stand behind a logical IF: assignments, PRINT, READ, STOP and CONTINUE
+//! Statements that a logical IF may contain: assignments, PRINT, READ, STOP and CONTINUE
 //! (ANSI X3.9-1978, sections 10.1, 11.11, 11.12 and 12.8).
 
 ghost use Rattle.std.specs.Prelude.{◌≡◌, ◌<◌, false, IfOk, length};

@@ -1,5 +1,4 @@
-//! The text of a statement taken for what it is: a statement of the profile, one that the profile leaves
-//! out, or none.
+//! What the text of a statement is: a statement of the profile, one that the profile leaves out, or none.
 
 ghost use Rattle.std.specs.Prelude.{◌≡◌, IfOk, Some, None};
 ghost use Rattle.ped_tree.specs.Grammar.Items as plain;

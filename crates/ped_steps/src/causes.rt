@@ -1,4 +1,4 @@
-//! Why a step is refused, and the words that say it.
+//! Why a step is refused, and the words for it.
 
 ghost use Rattle.std.specs.Prelude.{◌≡◌, IfOk};
 ghost use Rattle.ped_weaves.specs.ped_laws.specs.ped_graph.specs.ped_edges.specs.CodeEdges.{edge_of, HasAtMostSixLoops};

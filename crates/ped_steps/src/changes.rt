@@ -1,4 +1,4 @@
-//! What an accepted step answers.
+//! What an accepted step returns.
 
 ghost use Rattle.std.specs.Prelude.{◌≡◌, ◌^◌, ◌<◌, IfOk};
 ghost use Rattle.ped_tree.specs.Views.{program_tree};

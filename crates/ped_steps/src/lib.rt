@@ -1,5 +1,5 @@
-//! Steps: what a transformation of a program is given, what it answers, by which rules it is refused, and how a new
-//! program is made of an old one. The definitions stand in `specs/`.
+//! Steps: what a transformation of a program is given, what it returns, by which rules it is refused, and how a new
+//! program is made from an old one. The definitions are in `specs/`.
 #![tactic(auto)]
 
 mod causes;

@@ -1,4 +1,4 @@
-//! New programs by statements in the place of one statement.
+//! New programs in which statements replace one statement.
 
 ghost use Rattle.std.specs.Prelude.{◌≡◌, ◌+◌, ◌<◌, ◌^◌, [], IfOk, OnOk};
 ghost use Rattle.ped_tree.specs.Views.{stmt_tree, stmt_trees, program_tree};

@@ -1,4 +1,4 @@
-//! The DO loops round a statement.
+//! The DO loops around a statement.
 
 ghost use Rattle.std.specs.Prelude.{◌≡◌, ◌++◌, ◌+◌, ◌<◌, ◌^◌, IfOk, OnOk};
 ghost use Rattle.ped_tree.specs.Views.{stmt_tree, stmt_trees, program_tree};

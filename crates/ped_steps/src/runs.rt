@@ -1,6 +1,6 @@
-//! Runs before and behind a step: laws by which a new program does what the old one did, where scalars stand for other
-//! cells and statements stand in the place of others. Each function here does nothing; its contract is the law, and
-//! docs/MEANING.md tells what the laws are for.
+//! Runs before and after a step: laws by which a new program does what the old one did, where scalars mean other cells
+//! and statements replace others. Each function here does nothing; its contract is the law, and docs/MEANING.md says
+//! what the laws are for.
 
 mod bounds;
 mod exchanging;

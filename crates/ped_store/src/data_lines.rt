@@ -1,4 +1,4 @@
-//! The data of a run, and what its READs have left of them.
+//! The data of a run, and what its READs haven't yet taken.
 
 ghost use Rattle.std.specs.Prelude.{◌≡◌, ◌≤◌, ◌<◌, [], ◌∷◌, drop, length, Ok, Err, OnOk, IfOk, IfErr, IfSome, MatchOption};
 ghost use Rattle.std.specs.Str.Lines.{lines};

@@ -1,4 +1,4 @@
-//! The characters of the data: lines, blanks, words, and what stands between words. Nothing is copied.
+//! The characters of the data: lines, blanks, words, and what is between words. Nothing is copied.
 
 ghost use Rattle.std.specs.Prelude.{◌≡◌, ◌≤◌, ◌<◌, ◌==◌, not, [], ◌∷◌, take, drop, length, MatchOption, IfSome, position};
 ghost use Rattle.std.specs.Str.Lines.{lines, strip_carriage_return};

@@ -1,4 +1,4 @@
-//! The numbers that words of the data are.
+//! The numbers that words of the data denote.
 
 ghost use Rattle.std.specs.Prelude.{◌≡◌, min, pos, ◌-◌, IsTrue, drop};
 ghost use Rattle.std.specs.List.{list_all};

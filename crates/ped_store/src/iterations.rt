@@ -1,4 +1,4 @@
-//! Iterations of DO loops, in a room of a fixed size.
+//! Iterations of DO loops, in a fixed amount of space.
 
 ghost use Rattle.std.specs.Prelude.{◌≡◌, ◌<◌, ◌++◌, ◌∷◌, [], length};
 ghost use Rattle.ped_store.specs.Iterations as Spec;

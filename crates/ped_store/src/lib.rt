@@ -1,6 +1,6 @@
 //! The store of a running program: what its scalars, its arrays and the private copies of its scalars hold, the
-//! data lines that are left, and the lines that it has printed. The definitions of a store, of data lines and of the
-//! acts of a run stand in `specs/`.
+//! remaining data lines, and the lines that it has printed. The definitions of a store, of data lines and of the
+//! acts of a run are in `specs/`.
 #![tactic(auto)]
 
 mod cells;

@@ -1,4 +1,4 @@
-//! Where the cells of scalars and of arrays stand: each name has a slot, and the elements of an array stand densely, in
+//! Where the cells of scalars and of arrays are: each name has a slot, and the elements of an array are contiguous, in
 //! storage order.
 
 ghost use Rattle.std.specs.Prelude.{◌≡◌, ℕ, ◌+◌, ◌<◌, ◌^◌, min, List, [], length, IfOk, OnOk, IfSome, Some, None, MatchOption, if◌then◌else◌};

@@ -1,5 +1,5 @@
 //! Sums, differences and products of expressions, and an expression in place of a scalar. Each call makes a new
-//! tree and leaves the old ones as they are. `specs/` says which tree.
+//! tree and leaves the old ones as they are. `specs/` defines the new tree.
 #![tactic(auto)]
 
 mod literals;

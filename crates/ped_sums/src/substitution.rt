@@ -1,4 +1,4 @@
-//! An expression in place of a scalar, in a tree that is made anew.
+//! An expression in place of a scalar, in a new tree.
 
 mod conditions;
 mod expressions;

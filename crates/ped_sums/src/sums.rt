@@ -1,4 +1,4 @@
-//! Sums, differences and products that compute literals.
+//! Sums, differences and products, with literals computed.
 
 ghost use Rattle.std.specs.Prelude.{◌≡◌, ◌≤◌, IfOk};
 ghost use Rattle.ped_tree.specs.Views.{expr_tree};

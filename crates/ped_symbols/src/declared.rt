@@ -1,4 +1,4 @@
-//! What the declarations of a program say of its names, found by hash.
+//! What a program's declarations say about its names, found by hash.
 
 ghost use Rattle.std.specs.Prelude.{◌≡◌, [], ◌∷◌, ◌++◌, List, ℕ, map, OnOk, IfOk};
 ghost use Rattle.std.specs.List.{list_any, flat_map};

@@ -1,6 +1,6 @@
-//! What the names of a program stand for, or the first rule that its names break: kinds by declarations and
+//! What the names of a program mean, or the first rule that its names break: kinds by declarations and
 //! by first letters, bounds of arrays, values of constants (ANSI X3.9-1978, sections 4.1.2, 5, 8), and the
-//! limits of elements and of pairs of references.
+//! limits on elements and on pairs of references.
 #![tactic(auto)]
 
 mod arrays;

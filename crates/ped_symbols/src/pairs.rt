@@ -1,5 +1,5 @@
-//! The statements at which there are too many ordered pairs: those among the references up to such a statement
-//! are more than a program may have.
+//! The statements at which there are too many ordered pairs. The references up to such a statement have more
+//! pairs than a program may have.
 
 ghost use Rattle.std.specs.Prelude.{◌≡◌, ◌+◌, ◌^◌, ◌<◌, ℕ, length, IfOk};
 ghost use Rattle.ped_tree.specs.Numbering.{statements_count};

@@ -1,4 +1,4 @@
-//! What follows of a valid program for its statements: names stand where names of their kind may stand.
+//! What holds for the statements of a valid program: names are used only where their kinds may be used.
 
 mod laws;
 

@@ -1,5 +1,5 @@
-//! How many elements arrays have, and whether they have more than they may. No count is above the greatest
-//! `u64`: where there are more, it is that.
+//! How many elements arrays have, and whether they have more than they may. A count above the greatest `u64`
+//! is kept as the greatest `u64`.
 
 ghost use Rattle.std.specs.Prelude.{◌≡◌, [], ◌+◌, ◌||◌, nat_lt, map};
 ghost use Rattle.std.specs.List.{flat_map};

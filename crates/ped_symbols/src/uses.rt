@@ -1,4 +1,4 @@
-//! How the statements of a program use names. After want of memory a list has some of what was to be added.
+//! How the statements of a program use names. When out of memory, a list has some of what was to be added.
 
 ghost use Rattle.std.specs.Prelude.{◌≡◌, [], ◌∷◌, ◌++◌, map, OnOk};
 ghost use Rattle.std.specs.List.{flat_map};

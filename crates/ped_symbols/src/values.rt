@@ -1,4 +1,4 @@
-//! Values that have to be constant: of named constants, of bounds, of increments.
+//! Values that have to be constant, of named constants, bounds and increments.
 
 ghost use Rattle.std.specs.Prelude.{◌≡◌, map, IfOk, OnOk};
 ghost use Rattle.std.specs.List.{list_any};

@@ -1,5 +1,5 @@
-//! Calls that may find no memory and that no program makes so far, each once with memory enough: no contract says that
-//! there may be. They stand in a crate of their own, since a crate that has tests is proved once more with them.
+//! Calls that may run out of memory and that no program makes so far. Each runs once with enough memory: no contract
+//! states that this can happen. They have their own crate, since a crate with tests is proved again with them.
 #![tactic(auto)]
 
 #[cfg(test)]

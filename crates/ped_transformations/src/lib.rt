@@ -1,6 +1,6 @@
-//! The one table of the steps of the editor: which step a command takes, at which statement and of which kind, what it
-//! answers, and that each is lawful; and the advice that goes by it. A new step is a row of `step_of` and one of each function
-//! of the table.
+//! The only table of the editor's steps: which step a command takes, at which statement and of which kind, what it
+//! answers, and that each is lawful. Advice uses this table, too. A new step is a row of `step_of` and one of each
+//! other function of the table.
 #![tactic(auto)]
 
 mod advising;

@@ -1,5 +1,5 @@
-//! Copies of trees: each has the plain tree of its original, down to comments, PRIVATE and rejected
-//! names. A type that holds lists of its own kind is copied together with its lists.
+//! Copies of trees: each has the plain tree of its original, with comments, PRIVATE names and rejected names. A type
+//! that holds lists of its own kind is copied together with its lists.
 
 mod declarations;
 mod expressions;

@@ -1,5 +1,5 @@
-//! The grammar: what the statements of a text say one by one, why a text is refused, and in `specs/` what
-//! each text reads as and which of the refusals is its first.
+//! The grammar: what each statement of a text says, why a text is refused, and in `specs/` what each text reads as and
+//! which refusal is its first.
 
 mod items;
 mod laws;

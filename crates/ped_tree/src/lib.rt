@@ -1,6 +1,5 @@
-//! Trees of programs. Contracts see each tree as a plain tree of `specs/Tree.antt`, whatever room its
-//! lists keep. The definitions there say how statements are numbered, what each reads and writes, and how a
-//! tree is printed.
+//! Trees of programs. Contracts see each tree as a plain tree of `specs/Tree.antt`, whatever the capacity of its lists.
+//! The definitions there say how statements are numbered, what each reads and writes, and how a tree is printed.
 #![tactic(auto)]
 
 mod conditions;

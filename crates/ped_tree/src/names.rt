@@ -1,5 +1,5 @@
-//! Sets of names. A set is looked up by the bytes of a name. What a statement refers to
-//! depends only on which names are constants, so a set of them serves as well as the list of declarations.
+//! Sets of names. Names are looked up by their bytes. What a statement refers to depends only on which names are
+//! constants, so a set of these serves as well as the list of declarations.
 
 mod sets;
 

@@ -1,5 +1,5 @@
-//! Statement numbers: executable statements count from 1 in text order, those in the parts of an IF
-//! or a DO behind it; comments don't count. A search goes through each statement once at most.
+//! Statement numbers: executable statements count from 1 in text order, and those in the parts of an IF or a DO follow
+//! it. Comments don't count. A search visits each statement at most once.
 
 ghost use Rattle.std.specs.Prelude.{◌≡◌, ◌+◌, ◌<◌, ◌^◌, MatchOption};
 ghost use Rattle.ped_tree.specs.Views.{stmt_tree, stmt_trees, program_tree};

@@ -1,5 +1,5 @@
-//! The text of a statement taken for what it is in a file of program units: a statement of the profile where it is one,
-//! else CALL, SUBROUTINE or RETURN (ANSI X3.9-1978, sections 11.5, 15.6 to 15.8).
+//! What the text of a statement is in a file of program units: a statement of the profile if it is one, else CALL,
+//! SUBROUTINE or RETURN (ANSI X3.9-1978, sections 11.5, 15.6 to 15.8).
 
 ghost use Rattle.std.specs.Prelude.{◌≡◌, IfOk, if◌then◌else◌, Some, None, map, codes};
 ghost use Rattle.ped_base.specs.Lists.{is_same_text};

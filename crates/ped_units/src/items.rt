@@ -1,4 +1,4 @@
-//! What the statements of files of program units are, one by one.
+//! What the statements in files of program units are.
 
 use ped_base::{Name, Names};
 use ped_tree::grammar::{Statement, StatementReading};

@@ -1,6 +1,6 @@
-//! Files of program units, a main program and subroutines behind it, read or refused, each unit with what its names stand for (ANSI
-//! X3.9-1978, sections 2.4 and 15.6). The definitions in `specs/` say all that a file of units is: what it reads as, what is refused
-//! for its CALLs, and what it expands to.
+//! Files of program units, a main program followed by subroutines: read or refused, each unit with what its names mean
+//! (ANSI X3.9-1978, sections 2.4 and 15.6). The definitions in `specs/` say all that a file of units is: what it reads
+//! as, what is refused for its CALLs, and what it expands to.
 #![tactic(auto)]
 
 mod forms;

@@ -1,4 +1,4 @@
-//! The names of units: what they stand for, or the first of the rules 14 to 19 that they break.
+//! The names of units: what they mean, or the first of the rules 14 to 19 that they break.
 
 ghost use Rattle.std.specs.Prelude.{◌≡◌, ◌++◌, [], ◌∷◌, List, ℕ, IfOk, IfErr, OnOk, All, map};
 ghost use Rattle.std.specs.List.{flat_map};

@@ -1,4 +1,4 @@
-//! The statements of a unit as statements of the profile: something plain stands for each CALL.
+//! The statements of a unit as statements of the profile: something plain replaces each CALL.
 
 ghost use Rattle.std.specs.Prelude.{◌≡◌, ◌++◌, ◌∷◌, [], List, Bool, Option, Some, IfOk, OnOk, map, drop};
 ghost use Rattle.ped_tree.specs.Grammar.ItemViews.{reading_of, entry_of};

@@ -1,4 +1,4 @@
-//! What stands for CALLs where only statements of the profile may stand.
+//! What replaces CALLs where only statements of the profile are allowed.
 
 ghost use Rattle.std.specs.Prelude.{◌≡◌, ◌++◌, IfOk, OnOk, map};
 ghost use Rattle.ped_tree.specs.Tree.{Int, Assign};

@@ -1,4 +1,4 @@
-//! The refusals 7 to 13 that stand in a unit beside those of its statements with something plain for each CALL.
+//! The refusals 7 to 13 of a unit, in addition to those of its statements with something plain for each CALL.
 
 ghost use Rattle.std.specs.Prelude.{◌≡◌, IfOk, Some, map, true};
 ghost use Rattle.std.specs.List.{flat_map};

@@ -1,4 +1,4 @@
-//! Program units: a main program and the subroutines behind it (ANSI X3.9-1978, sections 2.4 and 15.6).
+//! Program units: a main program and the subroutines after it (ANSI X3.9-1978, sections 2.4 and 15.6).
 
 use ped_base::{Name, Names};
 use ped_tree::Program;

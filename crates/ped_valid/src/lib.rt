@@ -1,6 +1,6 @@
-//! Valid programs: what a text reads as where its names are right, too, with what they stand for; or the first rule
-//! that the text breaks. Whether a tree is valid is a matter of the tree alone: the lines at which its statements
-//! begin decide which of its refusals is the first, and never whether one stands.
+//! Valid programs: what a text reads as if its names are right, too, with what they mean; or else the first rule that
+//! the text breaks. Whether a tree is valid depends only on the tree. The lines at which its statements begin decide
+//! which of its refusals is the first, and never whether there is one.
 #![tactic(auto)]
 
 mod laws;

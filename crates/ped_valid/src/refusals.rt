@@ -1,4 +1,4 @@
-//! Why a text is no valid program.
+//! Why a text isn't a valid program.
 
 ghost use Rattle.std.specs.Prelude.{◌≡◌};
 ghost use Rattle.ped_valid.specs.Refusals.{of_reading, of_names};

@@ -1,5 +1,5 @@
-//! Whether the positions of a view exclude a direction vector, each by the test of its form, and those that are strong
-//! SIV in one loop together.
+//! Whether the positions of a view exclude a direction vector. Each is tested by its form, and those that are strong
+//! SIV in one loop are tested together.
 
 ghost use Rattle.std.specs.Prelude.{◌≡◌, ◌↔◌, ◌<◌, pos, neg_ℤ, length, slice_get, IfSome, IsTrue};
 ghost use Rattle.ped_views.specs.Forms as plain;

@@ -1,5 +1,5 @@
-//! Whether a front of a vector still leaves vectors possible. A position is asked once the directions of all loops that
-//! occur in it are there, since the others don't matter to it.
+//! Whether vectors that begin with a given front may be possible. A position is tested once the front has the
+//! directions of all loops that occur in it, since the other loops don't matter to it.
 
 ghost use Rattle.std.specs.Prelude.{◌≡◌, ◌≤◌, ◌<◌, pos, length, drop, slice_get, slice_index_or, IfSome, IsTrue};
 ghost use Rattle.std.specs.Bool.{IsFalse};

@@ -1,6 +1,6 @@
-//! What the dependence tests say of a pair of references: the direction vectors that no position and no
-//! group of its view excludes, and the distances. A pair is tested by `test` alone, which counts each call. Only `test` makes a verdict
-//! and moves a counter, and neither can be copied: that is visibility, and no clause.
+//! What the dependence tests report for a pair of references: the direction vectors that no position and no
+//! group of its view excludes, and the distances. Only `test` tests a pair, and it counts each call. Only `test`
+//! makes a verdict or moves a counter, and neither can be copied. Visibility ensures this, not a contract.
 #![tactic(auto)]
 
 mod distances;

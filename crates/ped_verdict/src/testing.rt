@@ -1,4 +1,4 @@
-//! The one call that tests a pair of references, and what it answers.
+//! The only call that tests a pair of references, and its result.
 
 ghost use Rattle.std.specs.Prelude.{◌≡◌, ◌+◌, ◌-◌, ◌≤◌, ◌↔◌, length, IfOk, IsTrue};
 ghost use Rattle.ped_views.specs.Vectors as Spec;

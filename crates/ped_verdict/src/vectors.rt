@@ -1,4 +1,4 @@
-//! Direction vectors that take no memory of their own.
+//! Direction vectors that allocate no memory.
 
 ghost use Rattle.std.specs.Prelude.{◌≡◌, ◌<◌, ◌≤◌, ◌-◌, length, replicate, [], ◌∷◌, ◌++◌};
 ghost use Rattle.ped_views.specs.declared.directions.Direction.TheVariants.{Same};

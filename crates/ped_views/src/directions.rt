@@ -1,4 +1,4 @@
-//! How two values of one loop's index stand to each other.
+//! The order of two values of one loop's index.
 
 /// The direction of a dependence in one loop: how the index at the source stands to the index at the
 /// sink in the order of iterations (Allen and Kennedy, direction vectors).

@@ -1,6 +1,6 @@
 //! What dependence tests look at: ranges of loops, subscripts as affine forms, and the views of pairs of
-//! references, without names. Contracts see them as plain data; when a position of a view excludes a
-//! direction vector, and which vectors and distances a view has, is defined in `specs/`.
+//! references, without names. Contracts see them as plain data. `specs/` defines when a position of a view
+//! excludes a direction vector, and which vectors and distances a view has.
 #![tactic(auto)]
 
 mod directions;

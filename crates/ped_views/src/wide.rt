@@ -1,4 +1,4 @@
-//! Differences and products of numbers of 64 bits, which are exact in 128.
+//! Differences and products of 64-bit numbers, exact in 128 bits.
 
 ghost use Rattle.std.specs.Prelude.{◌≡◌, ◌<◌, ◌≤◌, ◌^◌, ◌-ℤ◌, ◌*ℤ◌, unsigned_abs};
 

@@ -1,6 +1,6 @@
-//! Laws of lists of acts for steps that rewrite loops: parts exchanged where stores may differ on some cells, lists woven
-//! anew of blocks and controls, and where accesses come from. No function here does anything; its contract is the law,
-//! and docs/MEANING.md tells what the laws are for.
+//! Laws of lists of acts, for steps that rewrite loops: parts exchanged where stores may differ on some cells, lists
+//! woven anew from blocks and controls, and where accesses come from. The functions do nothing; their contracts
+//! are the laws. docs/MEANING.md says what the laws are for.
 #![tactic(auto)]
 
 mod apart;

@@ -1,4 +1,4 @@
-//! Acts put for others, where some cells count for nothing.
+//! Acts put in place of others, where some cells don't count.
 
 ghost use Rattle.std.specs.Prelude.{List, [], ◌∷◌, Bool};
 ghost use Rattle.ped_laws.specs.ped_store.specs.Cells.{Cell};

@@ -1,4 +1,4 @@
-//! Lists woven anew of blocks and of controls.
+//! Lists woven anew from blocks and controls.
 
 ghost use Rattle.std.specs.Prelude.{◌≡◌, ◌≤◌, ◌<◌, ℕ, List, ◌++◌, Bool, true, false};
 ghost use Rattle.std.specs.List.{flat_map};

@@ -1,4 +1,4 @@
-//! The commands of the modes, as clap is told of them. None has a flag for help or for a version.
+//! The commands of the modes, as given to clap. None has a flag for help or for a version.
 
 ghost use Rattle.std.specs.Prelude.{◌≡◌, codes, IfOk};
 ghost use Rattle.clap.specs.Words.{app_of};

@@ -1,4 +1,4 @@
-//! Why words ask for nothing.
+//! Why words make no request.
 
 ghost use Rattle.std.specs.Prelude.{◌≡◌};
 

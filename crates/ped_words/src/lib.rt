@@ -1,4 +1,4 @@
-//! The words of a call: the mode, which is read by hand, and behind it what the mode's command takes.
+//! The words of a call: the mode, which is read by hand, and then what the mode's command takes.
 #![tactic(auto)]
 
 mod commands;

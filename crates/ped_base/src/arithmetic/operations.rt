@@ -1,5 +1,5 @@
 //! Sums, products, quotients and the intrinsic functions of numbers (ANSI X3.9-1978, sections 6.1 and 15.10).
-//! Each is a fault exactly where its definition says so.
+//! Each faults exactly where its definition says so.
 
 ghost use Rattle.std.specs.Prelude.{◌≡◌};
 ghost use Rattle.ped_base.specs.Arithmetic.Arithmetic.{sum_of, difference_of, negation_of, product_of, quotient_of, remainder_of, absolute_value_of, greatest_of, least_of};

@@ -1,4 +1,4 @@
-//! What takes a changed graph back to its former state, and forth again.
+//! What takes a changed graph back to its former state, and forward again.
 
 ghost use Rattle.std.specs.Prelude.{◌≡◌};
 ghost use Rattle.ped_graph.specs.Held.{Held};

@@ -1,4 +1,4 @@
-//! Which pairs of a changed program keep the verdicts that a graph has, and the verdicts of the others, which are
+//! Which pairs of a changed program keep the verdicts of a graph, and the verdicts of the other pairs, which are
 //! tested.
 
 ghost use Rattle.std.specs.Prelude.{◌≡◌, ◌+◌, ◌≤◌, ◌<◌, ◌∷◌, ◌++◌, [], ℕ, List, All, IsTrue, Some, None, map, length, nat_eq, option_map, slice_get, IfOk, IfSome, OnOk};

@@ -1,4 +1,4 @@
-//! The graph of a program in place of that of the program before a change.
+//! The graph of a changed program in place of the graph before the change.
 
 ghost use Rattle.std.specs.Prelude.{◌≡◌, ◌+◌, ◌≤◌, IfOk, OnOk, OnErr};
 ghost use Rattle.ped_tree.specs.Views.{program_tree};

@@ -1,4 +1,4 @@
-//! Pieces: a list of acts of which some pieces are exchanged for others.
+//! Pieces: a list of acts in which some pieces are replaced by others.
 
 ghost use Rattle.std.specs.Prelude.{◌≡◌, List, ◌++◌, Bool, true, ◌⊎◌};
 ghost use Rattle.ped_eval.specs.ped_store.specs.Cells.{Cell};

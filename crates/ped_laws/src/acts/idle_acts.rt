@@ -1,4 +1,4 @@
-//! Leaving out and putting in: changes on a set of cells that the acts which stay don't read.
+//! Leaving out and putting in: changes to a set of cells that the remaining acts don't read.
 
 ghost use Rattle.std.specs.Prelude.{◌≡◌, List, ◌++◌, Bool, false};
 ghost use Rattle.ped_eval.specs.ped_store.specs.Cells.{Cell};

@@ -1,4 +1,4 @@
-//! Races: acts that conflict, accesses that do, and lists without a race.
+//! Races: acts that conflict, accesses that conflict, and lists without a race.
 
 ghost use Rattle.std.specs.Prelude.{◌≡◌, List, Bool, true, false, Option, ◌⊎◌};
 ghost use Rattle.ped_eval.specs.ped_store.specs.Cells.{Cell};

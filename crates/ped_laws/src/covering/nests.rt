@@ -1,4 +1,4 @@
-//! Nests of loops: in every iteration that a run comes to, each loop round the place stands at a value in its range.
+//! Nests of loops: in every iteration that a run reaches, the variable of each enclosing loop is in the loop's range.
 
 ghost use Rattle.std.specs.Prelude.{◌≡◌, ◌≤◌, ℕ, List, [], ◌∷◌, ◌++◌, true, None, Ok};
 ghost use Rattle.ped_flow.specs.ped_tree.specs.Tree.{Head, StmtTrees};

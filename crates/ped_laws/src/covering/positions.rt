@@ -1,4 +1,4 @@
-//! Equal subscripts exclude nothing: the vector of the values' directions is one of the view's.
+//! Equal subscripts exclude nothing: the direction vector of the values is one of the view's.
 
 ghost use Rattle.std.specs.Prelude.{◌≡◌, ℕ, ℤ, List, All, Ok, length, map, take, true};
 ghost use Rattle.ped_flow.specs.ped_base.specs.Lists.{is_among};

@@ -1,4 +1,4 @@
-//! What a run does behind an exit of a loop, and the paths from that exit.
+//! What a run does after an exit of a loop, and the paths from that exit.
 
 ghost use Rattle.std.specs.Prelude.{◌≡◌, ℕ, List, false, true, Bool};
 ghost use Rattle.std.specs.List.{flat_map};

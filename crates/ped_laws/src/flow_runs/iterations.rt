@@ -1,4 +1,4 @@
-//! What the iterations of a loop read, by the questions about paths.
+//! What the iterations of a loop read, derived from the questions about paths.
 
 ghost use Rattle.std.specs.Prelude.{◌≡◌, ℕ, List, ◌∷◌, false, true, ◌+◌};
 ghost use Rattle.ped_flow.specs.ped_base.specs.Lists.{is_among};

@@ -1,4 +1,4 @@
-//! Where a STOP stands.
+//! Where a STOP is.
 
 ghost use Rattle.std.specs.Prelude.{◌≡◌, ℕ, false, true};
 ghost use Rattle.ped_flow.specs.ped_tree.specs.Tree.{ProgramTree};

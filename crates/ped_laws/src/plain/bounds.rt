@@ -1,4 +1,4 @@
-//! What a plain bound is worth.
+//! The value of a plain bound.
 
 ghost use Rattle.std.specs.Prelude.{◌≡◌, ℕ, ℤ, List, ◌∷◌, false, true};
 ghost use Rattle.ped_flow.specs.ped_tree.specs.Tree.{ExprTree, Head, StmtTrees, Do, ProgramTree};

@@ -1,4 +1,4 @@
-//! Which scalars hold numbers of 32 bits alone.
+//! Which scalars hold only numbers of 32 bits.
 
 ghost use Rattle.std.specs.Prelude.{◌≡◌, ℕ, List, false, true};
 ghost use Rattle.ped_flow.specs.ped_base.specs.Lists.{is_among};

@@ -1,4 +1,4 @@
-//! Evaluations: what they see tells what they come to.
+//! Evaluations: what they see determines their result.
 
 ghost use Rattle.ped_flow.specs.ped_tree.specs.Tree.{ExprTree, ExprTrees, CondTree, Head};
 ghost use Rattle.ped_eval.specs.Scopes.{Names};

@@ -1,5 +1,5 @@
-//! Runs taken apart: a run is that of its first part, and then, where that goes on, that of the rest from the store that
-//! the acts of the first have left.
+//! Runs taken apart: first the first part runs. Where that goes on, the rest runs from the store that the acts of the
+//! first part have left.
 
 ghost use Rattle.std.specs.Prelude.{◌≡◌, ℕ, suc, ◌+◌, [], ◌∷◌, ◌++◌, Bool, true, false, Ok, Err, if◌then◌else◌};
 ghost use Rattle.ped_flow.specs.ped_tree.specs.Tree.{CondTree, Head, StmtTree, StmtTrees, If, Do, more_stmts};

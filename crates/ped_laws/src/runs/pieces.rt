@@ -1,4 +1,4 @@
-//! Pieces of runs: a statement, statements, or turns of a DO, each told by its acts.
+//! Pieces of runs: a statement, statements, or turns of a DO, each determined by its acts.
 
 ghost use Rattle.std.specs.Prelude.{◌≡◌, ℕ, List};
 ghost use Rattle.ped_flow.specs.ped_tree.specs.Tree.{StmtTree, StmtTrees};

@@ -1,4 +1,4 @@
-//! Places of acts: the numbers of statements, and the iterations round them.
+//! Places of acts: the numbers of statements, and the iterations around them.
 
 ghost use Rattle.std.specs.Prelude.{◌≡◌, ◌<◌, ℕ, ◌+◌, []};
 ghost use Rattle.ped_flow.specs.ped_tree.specs.Tree.{StmtTree, StmtTrees};

@@ -1,4 +1,4 @@
-//! What acts of a run touch: conflicts are of references, but for what a DO stores of itself.
+//! What acts of a run touch: conflicts are between references, except for what a DO stores itself.
 
 ghost use Rattle.std.specs.Prelude.{◌≡◌, ℕ, ℤ, Bool, true, false};
 ghost use Rattle.ped_flow.specs.ped_tree.specs.Tree.{StmtTrees};

@@ -1,4 +1,4 @@
-//! What follows of a program's size from its limits. The function does nothing; its contract is the law.
+//! What follows from a program's limits about its size. The function does nothing; its contract is the law.
 
 ghost use Rattle.std.specs.Prelude.{◌≡◌, true};
 ghost use Rattle.ped_tree.specs.Tree.{ProgramTree};

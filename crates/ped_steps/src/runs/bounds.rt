@@ -1,4 +1,4 @@
-//! Bounds of arrays: a run takes those of what its statements name.
+//! Bounds of arrays: a run uses only those of the arrays that its statements name.
 
 ghost use Rattle.std.specs.Prelude.{◌≡◌, ℕ, List};
 ghost use Rattle.ped_base.specs.Dimensions.{Dimensions};

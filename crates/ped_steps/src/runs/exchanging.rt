@@ -1,4 +1,4 @@
-//! Cells that have changed places.
+//! Cells that have been exchanged.
 
 ghost use Rattle.std.specs.Prelude.{◌≡◌, ℕ};
 ghost use Rattle.ped_tree.specs.Tree.{StmtTrees};

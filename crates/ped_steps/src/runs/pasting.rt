@@ -1,4 +1,4 @@
-//! Statements in the place of others: what the new program does.
+//! Statements in place of others: what the new program does.
 
 ghost use Rattle.std.specs.Prelude.{◌≡◌, ℕ, List, [], Bool};
 ghost use Rattle.ped_tree.specs.Tree.{StmtTree, StmtTrees, Do, ProgramTree};

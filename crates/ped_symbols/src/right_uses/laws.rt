@@ -1,4 +1,4 @@
-//! What follows of a valid program, and how its names with their kinds are looked up. The functions do nothing; their
+//! What holds for a valid program, and how its names with their kinds are looked up. The functions do nothing; their
 //! contracts are the laws.
 
 ghost use Rattle.std.specs.Prelude.{◌≡◌, ℕ, List, true, false, None, is_some};

@@ -1,5 +1,5 @@
-//! What statements say one by one, before they are nested: each text of a statement is read by itself,
-//! and the order, the blocks and the loops of the program are looked at over these items.
+//! What each statement says, before statements are nested. The text of each statement is read by itself. The order, the
+//! blocks and the loops of the program are checked on these items.
 
 use crate::grammar::statements::Statement;
 use crate::{Cond, Decl, Expr, Stmt};

@@ -1,4 +1,4 @@
-//! Why a text is refused: a rule with its number and its name, at a line; and the first of such refusals.
+//! Why a text is refused: a rule with its number and its name, at a line; and the first such refusal.
 
 ghost use Rattle.std.specs.Prelude.{◌≡◌};
 ghost use Rattle.ped_tree.specs.Grammar.Refusal as Plain;

@@ -1,4 +1,4 @@
-//! Statements as they are grouped from lines, and the comments and directives that go with them.
+//! Statements grouped from lines, and the comments and directives that go with them.
 
 use ped_base::{Bytes, Listed};
 

@@ -5,7 +5,7 @@ use Rattle.std.proofs.lemmas.List.{length-take-le, take-append-drop}
 use Rattle.ped_base.specs.Letters.{is_name}
 use Rattle.ped_base.specs.declared.identifiers.Name.TheInside.{Inside}
 
--- the bytes of a name stand at the front, and zeros fill the rest
+-- the bytes of a name are at the front, and zeros fill the rest
 pub record IsNameInside (a : Inside) : Type 0 where
   pub short : a.len ≤ 31
   pub long : length a.text ≡ 31

@@ -70,7 +70,7 @@ impl Name {
     ghost use Rattle.ped_base.specs.Letters.{is_name, name_of};
 
     /// The name of these bytes: none exactly where they are no letter with up to 30 letters and digits
-    /// behind it, all of them capitals.
+    /// after it, all of them capitals.
     pub fn from_bytes(bytes: &[u8]) -> Option<Name>
         ensures { result ≡ name_of bytes.now }
     {

@@ -71,7 +71,7 @@ impl<T> Listed<T> {
         self.items.is_empty()
     }
 
-    /// Adds an item at the end. After want of memory the list is as it was, and the item is gone.
+    /// Adds an item at the end. If memory runs out, the list is as it was, and the item is gone.
     pub fn push(&mut self, item: T) -> Result<(), NoMemory>
     where
         T: Drop,
@@ -84,7 +84,7 @@ impl<T> Listed<T> {
 }
 
 impl Listed<u8> {
-    /// Adds bytes at the end. After want of memory the list is as it was.
+    /// Adds bytes at the end. If memory runs out, the list is as it was.
     pub fn extend_from_slice(&mut self, bytes: &[u8]) -> Result<(), NoMemory>
         ensures ok { OnOk result (self.new ≡ self.old ++ bytes.now) }
         ensures err { OnErr result (self.new ≡ self.old) }

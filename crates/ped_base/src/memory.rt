@@ -22,7 +22,7 @@ impl<T: Drop> From<AllocFailed<T>> for NoMemory {
     }
 }
 
-/// Two values, where the second one was made, too. Else the first is let go, and the answer is the error.
+/// Two values, where the second one was made, too. Else the first is dropped, and the answer is the error.
 ///
 /// It is for a large value that is alive when a second one is asked for: `both(first, second)?` lets the first go
 /// by one call, where `let second = second?;` writes out all that its type may hold.

@@ -15,7 +15,7 @@ pub fn push_number(out: &mut Bytes, number: u64) -> Result<(), NoMemory>
     out.extend_from_slice(buffer.format(number).as_bytes())
 }
 
-/// Adds the digits of a number, behind a minus sign where it is negative.
+/// Adds the digits of a number, after a minus sign where it is negative.
 pub fn push_signed(out: &mut Bytes, number: i128) -> Result<(), NoMemory>
     ensures { OnOk result (out.new ≡ out.old ++ signed_decimal number) }
 {

@@ -1,4 +1,4 @@
--- How a set of places stands in words of 64 bits: place k is bit k % 64 of word k / 64 (this project).
+-- How a set of places is kept in words of 64 bits: place k is bit k % 64 of word k / 64 (this project).
 use Rattle.std.specs.Prelude.{◌≡◌, ℕ, zero, suc, ◌+◌, ◌/◌, ◌%◌, ◌≤◌, List, [], ◌∷◌, length, Bool, false, ◌==◌, slice_index_or}
 use Rattle.std.specs.Int.{bit_at}
 

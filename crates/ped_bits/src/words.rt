@@ -7,7 +7,7 @@ ghost use Rattle.ped_bits.specs.Words.{word};
 use crate::lanes::{and_not_lanes, is_subset_lanes, meets_lanes, or_lanes};
 use std::simd::prelude::*;
 
-/// How many words stand in whole groups of eight.
+/// How many words are in whole groups of eight.
 fn in_groups(words: usize) -> usize
     ensures value { result ≡ 8 * (words / 8) }
     ensures within { result ≤ words }

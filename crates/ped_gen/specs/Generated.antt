@@ -28,11 +28,11 @@ assignment k =
 abbrev pub front : List (List ℕ)
 front = codes "      INTEGER A(10,10), B(10,10)" ∷ codes "      SAVE A, B" ∷ nest (codes "1, 10") (codes "A(I,J) = I+J")
 
--- nest k behind it, over the inner elements; its statements are 3k+1, 3k+2 and 3k+3
+-- nest k after it, over the inner elements; its statements are 3k+1, 3k+2 and 3k+3
 abbrev pub later_nest : ℕ → List (List ℕ)
 later_nest k = nest (codes "2, 9") (assignment k)
 
--- the program with n nests behind the first
+-- the program with n nests after the first
 unfoldable pub program : ℕ → List ℕ
 program n = text_of (front ++ flat_map later_nest (range_with_len 1 n) ++ codes "      END" ∷ [])
 
@@ -40,6 +40,6 @@ program n = text_of (front ++ flat_map later_nest (range_with_len 1 n) ++ codes 
 abbrev pub commands : ℕ → List (List ℕ)
 commands k = (codes "interchange " ++ decimal (3 * k + 1)) ∷ (codes "parallel " ++ decimal (3 * k + 2)) ∷ []
 
--- the script for the program with n nests behind the first: the commands for each of these in order
+-- the script for the program with n nests after the first: the commands for each of these in order
 unfoldable pub script : ℕ → List ℕ
 script n = text_of (flat_map commands (range_with_len 1 n))

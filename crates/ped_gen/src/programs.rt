@@ -7,7 +7,7 @@ ghost use Rattle.ped_gen.specs.Generated as Spec;
 use ped_base::{Bytes, NoMemory, push_number};
 use std::alloc::Global;
 
-/// The program with so many nests behind the first, in printed form.
+/// The program with this many nests after the first, in printed form.
 pub fn program(alloc: Global, nests: u32) -> Result<Bytes, NoMemory>
     requires { (1 ≤ nests) × (nests ≤ 300) }
     ensures { IfOk result (λ text. text ≡ Spec.program nests) }

@@ -7,7 +7,7 @@ ghost use Rattle.ped_gen.specs.Generated as Spec;
 use ped_base::{Bytes, NoMemory, push_number};
 use std::alloc::Global;
 
-/// The script for the program with so many nests behind the first.
+/// The script for the program with this many nests after the first.
 pub fn script(alloc: Global, nests: u32) -> Result<Bytes, NoMemory>
     requires { (1 ≤ nests) × (nests ≤ 300) }
     ensures { IfOk result (λ text. text ≡ Spec.script nests) }

@@ -16,7 +16,7 @@ module _ {D : Type 0} where
   abbrev pub timeline_code : Coded D → Coded (Timeline D)
   timeline_code c = code_by (List D × (List D × ℕ)) (coded× (coded_list c) (coded× (coded_list c) coded_ℕ)) (λ h. (h.past, (h.future, h.spare))) (λ p. timeline p.0 p.1.0 p.1.1) (λ _. refl)
 
-  -- a new entry is the newest of the past, and there is no future any more
+  -- a new entry is the newest of the past, and there is no future
   abbrev pub pushed : D → Timeline D → Timeline D
   pushed d h = timeline (d ∷ h.past) [] (h.spare - 1)
 

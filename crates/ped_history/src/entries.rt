@@ -53,7 +53,7 @@ impl<D> History<D> {
     }
 
     /// Makes the room for one more entry, and for every later step. Memory is taken only where there is
-    /// no room; after want of it the history is as it was.
+    /// no room; if it runs out, the history is as it was.
     pub fn reserve(&mut self) -> Result<(), NoMemory>
         ensures past { self.new.past ≡ self.old.past }
         ensures future { self.new.future ≡ self.old.future }

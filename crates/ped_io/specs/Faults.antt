@@ -7,7 +7,7 @@ use Rattle.ped_io.specs.declared.loading.LoadError.TheVariants as load
 use Rattle.ped_io.specs.declared.writing.PutFault.{PutFault}
 use Rattle.ped_io.specs.declared.writing.PutFault.TheVariants as put
 
--- a failed read is a fault of the read, and want of memory stays what it is
+-- a failed read is a fault of the read, and out of memory stays out of memory
 abbrev pub load_fault : OutsideFault → LoadError
 load_fault outside.Failed = load.ReadFault
 load_fault outside.NoMemory = load.NoMemory

@@ -1,10 +1,10 @@
--- What stands outside: files by name, the bytes that a read gives, and counts of faults (this project).
+-- What is outside: files by name, the bytes that a read gives, and counts of faults (this project).
 use Rattle.std.specs.Prelude.{◌≡◌, ◌⊎◌, ◌<◌, ◌≤◌, ◌++◌, ℕ, List, Option, IsSome, length, take, drop, find, option_map}
 use Rattle.std.specs.List.{AllByRecursion}
 use Rattle.std.specs.Option.{option_or}
 use Rattle.ped_base.specs.Lists.{is_same_text}
 
--- a count of faults has risen, or it stands at the greatest number that 64 bits hold and can't rise
+-- a count of faults has risen, or it is the greatest number that 64 bits hold and can't rise
 abbrev pub Rose : ℕ → ℕ → Type 0
 Rose before now = (before < now) ⊎ (now ≡ 18446744073709551615)
 
@@ -12,7 +12,7 @@ Rose before now = (before < now) ⊎ (now ≡ 18446744073709551615)
 abbrev pub AddsOnly : (List ℕ → Type 0) → List (List ℕ) → List (List ℕ) → Type 0
 AddsOnly IsSuch before after = (since : List (List ℕ)) × (after ≡ since ++ before) × AllByRecursion IsSuch since
 
--- the files that a shelf tells: names with contents, and what every other name holds, if anything
+-- the files that a shelf reports: names with contents, and what every other name holds, if anything
 pub record Contents : Type 0 where
   pub held : List (List ℕ × List ℕ)
   pub other : Option (List ℕ)
@@ -25,7 +25,7 @@ file_named files name = find (λ file. is_same_text file.0 name) files
 abbrev pub held_content : Contents → List ℕ → Option (List ℕ)
 held_content contents name = option_map (λ file. file.1) (file_named contents.held name)
 
--- the name stands among the files
+-- the name is among the files
 abbrev pub IsHeld : Contents → List ℕ → Type 0
 IsHeld contents name = IsSome (held_content contents name)
 

@@ -27,11 +27,11 @@ new_shelf files fails most = record {
   other_faults = 0;
 }
 
--- it tells its files, and a name that isn't held holds nothing
+-- it reports its files, and a name that isn't held holds nothing
 abbrev pub told_of : MemoryShelf → Contents
 told_of shelf = record { held = shelf.files; other = None }
 
--- where the first file of a name stands, or the number of files where there is none
+-- the place of the first file of a name, or the number of files where there is none
 abbrev pub place_of : List (List ℕ × List ℕ) → List ℕ → ℕ
 place_of files name = position_or_len (λ file. is_same_text file.0 name) files
 

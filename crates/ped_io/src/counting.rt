@@ -18,7 +18,7 @@ pub(crate) fn one_more(count: u64) -> u64
     count.saturating_add(1)
 }
 
-/// Whether a call's number stands in the list.
+/// Whether a call's number is in the list.
 pub(crate) fn is_among(calls: &Calls, number: u64) -> bool
     ensures { IsTrue result ↔ Contains calls.now number }
 {

@@ -7,10 +7,10 @@ ghost use Rattle.ped_io.specs.Shelves.{place_of, Copies};
 
 use ped_base::{Bytes, Listed};
 
-/// Names with their contents. Where a name stands twice, the first counts.
+/// Names with their contents. If a name occurs twice, the first counts.
 pub type Files = Listed<(Bytes, Bytes)>;
 
-/// Where the first file of a name stands, or the number of files where there is none.
+/// The place of the first file of a name, or the number of files where there is none.
 pub(crate) fn place_of(files: &Files, name: &str) -> usize
     ensures { result ≡ place_of files.now name.now }
 {
@@ -36,7 +36,7 @@ fn file_named<'a>(files: &'a [(Bytes, Bytes)], name: &[u8]) -> Option<&'a (Bytes
     files.iter().find(|file| file.0.as_slice() == name)
 }
 
-/// Copies the bytes from `at` on into the piece's front, no more than `most`, and answers how many.
+/// Copies the bytes from `at` on into the piece's front, no more than `most`, and returns how many.
 pub(crate) fn copy_part(bytes: &[u8], at: u64, most: usize, piece: &mut [u8]) -> usize
     ensures { Copies bytes.now at most result piece.old piece.new }
 {

@@ -52,10 +52,11 @@ impl From<OutsideFault> for LoadError {
     }
 }
 
-/// Reads a whole file of at most `limit` bytes, in pieces of 4096 bytes. The bytes are the whole content of the name, and
-/// `TooLong` comes only where that is longer than `limit`: so it is in all files that the shelf may hold by what the reads
-/// gave, of which those that it tells are one. `ReadFault` comes only where the count of the name's faults rose. What the
-/// shelf tells stays, and so do the counts of other files it tells. It notes reads of this name alone.
+/// Reads a whole file of at most `limit` bytes, in pieces of 4096 bytes. The bytes are the whole content of the name,
+/// and `TooLong` comes only where that is longer than `limit`: so it is in all files that the shelf may hold by what
+/// the reads gave, among them the files that it reports. `ReadFault` comes only where the count of the name's faults
+/// rose. What the shelf reports stays, and so do the counts of the other files in it. It notes reads of this name
+/// alone.
 pub fn load<F: Shelf>(
     alloc: Global,
     shelf: &mut F,

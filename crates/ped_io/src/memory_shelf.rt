@@ -12,7 +12,7 @@ use ped_base::NoMemory;
 use std::alloc::Global;
 use std::marker::Model;
 
-/// Files in memory, of which some reads fail: those whose numbers stand in a list, and those for a
+/// Files in memory, of which some reads fail: those whose numbers are in a list, and those for a
 /// name that isn't held. Contracts see a plain record of all that it keeps.
 #[derive(Drop)]
 pub struct MemShelf {
@@ -77,7 +77,7 @@ impl Shelf for MemShelf {
     ghost read_names = { λ _. [] };
 
     fn read_at(&mut self, name: &str, at: u64, piece: &mut [u8]) -> Result<usize, OutsideFault>
-        // The exact behaviour: a call fails by its number or for want of the file, and only so.
+        // The exact behaviour: a call fails by its number or since there is no such file, and only so.
         ensures fails { IsErrOf result OutsideFault.Failed ↔ FailsNext self.old name.now }
         ensures sure { IfErr result (λ fault. fault ≡ OutsideFault.Failed) }
         ensures read { IfOk result (λ n. (bytes : List ℕ)

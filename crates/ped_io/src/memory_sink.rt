@@ -10,7 +10,7 @@ use ped_base::{Bytes, NoMemory};
 use std::alloc::Global;
 use std::marker::Model;
 
-/// A sink in memory, of which some writes fail: those whose numbers stand in a list. Contracts see
+/// A sink in memory, of which some writes fail: those whose numbers are in a list. Contracts see
 /// a plain record of all that it keeps.
 #[derive(Drop)]
 pub struct MemSink {

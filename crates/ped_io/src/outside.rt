@@ -30,7 +30,7 @@ impl From<NoMemory> for OutsideFault {
 /// Files that are read by name. What every shelf keeps to: how many bytes a read gives, and which; and that a fault
 /// has been counted.
 pub trait Shelf {
-    /// The files, where the shelf tells them.
+    /// The files, where the shelf reports them.
     ghost told: { Self → Option Contents };
 
     /// The files may hold this, by all that reads have given so far.
@@ -52,7 +52,7 @@ pub trait Shelf {
             (bytes : List ℕ) × (content files name.now ≡ Some bytes)
             × GivesPart bytes at n piece.old piece.new) }
 
-        // What the files may hold behind a read they might hold before it.
+        // What the files may hold after a read, they might hold before it, too.
         ensures less { (files : Contents) → may_hold self.new files → may_hold self.old files }
 
         ensures cause { IsErrOf result OutsideFault.Failed →
@@ -65,14 +65,14 @@ pub trait Shelf {
         // No other name is noted.
         ensures names { AddsOnly (λ m. m ≡ name.now) (read_names self.old) (read_names self.new) };
 
-    /// The files that are told may be held.
+    /// The files that are reported may be held.
     ghost told_held: { (s : Self) (files : Contents) → told s ≡ Some files → may_hold s files };
 }
 
 /// A place that takes bytes. What every sink keeps to: how many bytes it takes, and which; and that a fault has been
 /// counted.
 pub trait Sink {
-    /// All bytes taken so far, where the sink tells them.
+    /// All bytes taken so far, where the sink reports them.
     ghost taken: { Self → Option (List ℕ) };
 
     /// All bytes that writes have answered to have taken.
@@ -94,6 +94,6 @@ pub trait Sink {
             Rose (faults self.old) (faults self.new) }
         ensures counts { faults self.old ≤ faults self.new };
 
-    /// Where the bytes taken are told, they are those sent.
+    /// Where the bytes taken are reported, they are those sent.
     ghost taken_sent: { (s : Self) (bytes : List ℕ) → taken s ≡ Some bytes → sent s ≡ bytes };
 }

@@ -1,9 +1,9 @@
--- What the iterations of an open loop have come to, by their places, from 0 (this project).
+-- The states of the iterations of an open loop, by their places, from 0 (this project).
 use Rattle.std.specs.Prelude.{ℕ, List, Bool, true, false, slice_index_or}
 use Rattle.ped_marks.specs.declared.marks.Mark.{Mark}
 use Rattle.ped_marks.specs.declared.marks.Mark.TheVariants.{Waits, Running, Done}
 
--- what the iteration at a place has come to (plain words)
+-- the state of the iteration at a place (plain words)
 abbrev pub at : List Mark → ℕ → Mark
 at marks place = slice_index_or marks place Waits
 

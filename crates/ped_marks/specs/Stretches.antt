@@ -5,12 +5,12 @@ use Rattle.ped_marks.specs.declared.marks.Mark.TheVariants as mark
 use Rattle.ped_marks.specs.declared.stretches.Stretch.{Stretch}
 use Rattle.ped_marks.specs.declared.stretches.Stretch.TheVariants.{Running, Done}
 
--- the place behind the last one that an entry at a place covers
+-- the place after the last one that an entry at a place covers
 abbrev pub end_of : ℕ → Stretch → ℕ
 end_of start (Running key) = start + 1
 end_of start (Done end) = end
 
--- what an entry says of each place that it covers
+-- the state that an entry gives to each place that it covers
 abbrev pub meaning : Stretch → Mark
 meaning (Running key) = mark.Running key
 meaning (Done end) = mark.Done
@@ -24,17 +24,17 @@ abbrev pub said_last : ℕ → Option (ℕ × Stretch) → Mark
 said_last place (Some last) = said place last.0 last.1
 said_last place None = mark.Waits
 
--- the place behind an entry, if it is a stretch of finished iterations that covers a place, and else that place
+-- the place after an entry, if it is a stretch of finished iterations that covers a place, and else that place
 abbrev pub open_by : ℕ → Stretch → ℕ
 open_by place (Running key) = place
 open_by place (Done end) = if nat_lt place end then end else place
 
--- the place behind the stretch of finished iterations that covers a place, by the last entry at or before it; that place, where none does
+-- the place after the stretch of finished iterations that covers a place, by the last entry at or before it; that place, where none does
 abbrev pub first_open : ℕ → Option (ℕ × Stretch) → ℕ
 first_open place (Some last) = open_by place last.1
 first_open place None = place
 
--- what is known of a place by what may stand at another one, and else by what stands before
+-- what is known of a place by an entry at another one, if there is any, and else by what comes before
 abbrev pub said_or : ℕ → ℕ → Option Stretch → Mark → Mark
 said_or place start (Some x) before = said place start x
 said_or place start None before = before
@@ -48,16 +48,16 @@ mark_by entries place (suc n) = said_or place (suc n) (entries (suc n)) (mark_by
 abbrev pub mark_at : (ℕ → Option Stretch) → ℕ → Mark
 mark_at entries place = mark_by entries place place
 
--- the values of a function at 0, 1, 2 and so on, so many of them (plain words)
+-- the values of a function at 0, 1, 2 and so on, as many as given (plain words)
 abbrev pub values : (ℕ → Mark) → ℕ → List Mark
 values f zero = []
 values f (suc n) = f 0 ∷ values (λ k. f (suc k)) n
 
--- what is known of the first places, so many of them
+-- what is known of the first places, as many as given
 abbrev pub marks_of : ℕ → (ℕ → Option Stretch) → List Mark
 marks_of count entries = values (mark_at entries) count
 
--- the entries cover places of so many, no place twice, and no two stretches of finished iterations touch
+-- the entries cover only places below the count, no place twice, and no two stretches of finished iterations touch
 pub record IsLaidOut (count : ℕ) (entries : ℕ → Option Stretch) : Type 0 where
   pub within : (start : ℕ) (x : Stretch) → entries start ≡ Some x → (start < end_of start x) × (end_of start x ≤ count)
   pub apart : (first second : ℕ) (x y : Stretch) → entries first ≡ Some x → entries second ≡ Some y → first < second → end_of first x ≤ second

@@ -12,7 +12,7 @@ use std::alloc::Global;
 use std::collections::BTreeMap;
 use std::marker::Model;
 
-/// What an iteration has come to.
+/// The state of an iteration.
 #[derive(Clone, Copy, Drop)]
 pub enum Mark {
     /// It hasn't begun.
@@ -23,7 +23,7 @@ pub enum Mark {
     Done,
 }
 
-/// What each iteration of a loop has come to, by its place, from 0.
+/// The state of each iteration of a loop, by its place, from 0.
 #[derive(Drop)]
 pub struct Marks {
     map: BTreeMap<u64, Stretch>,
@@ -56,7 +56,7 @@ impl Marks {
         }
     }
 
-    /// What the iteration at a place has come to.
+    /// The state of the iteration at a place.
     pub fn at(&self, place: u64) -> Mark
         requires { place < length self.now }
         ensures { result ≡ at self.now place }
@@ -64,7 +64,7 @@ impl Marks {
         mark_by(last_up_to(&self.map, place), place)
     }
 
-    /// The first place from `place` on whose iteration isn't finished, not going round.
+    /// The first place from `place` on whose iteration isn't finished, without wrapping around.
     pub fn unfinished(&self, place: u64) -> Option<u64>
         ensures { MatchOption result ((k : ℕ) → place ≤ k → k < length self.now → at self.now k ≡ Done)
             (λ j. (place ≤ j) × (j < length self.now) × (is_done (at self.now j) ≡ false)
@@ -82,7 +82,7 @@ impl Marks {
     ///
     /// # Errors
     ///
-    /// Want of memory; then all is as it was.
+    /// Out of memory; then all is as it was.
     pub fn start(&mut self, place: u64, key: usize) -> Result<(), NoMemory>
         requires place { place < length self.old }
         requires waits { at self.old place ≡ Waits }
@@ -94,8 +94,8 @@ impl Marks {
         Ok(())
     }
 
-    /// Marks an iteration that is running as finished. It takes no memory: an entry that stands becomes a
-    /// stretch, and those that it touches are joined to it.
+    /// Marks an iteration that is running as finished. It takes no memory: an existing entry becomes
+    /// a stretch, and those that it touches are joined to it.
     pub fn finish(&mut self, place: u64)
         requires place { place < length self.old }
         requires running { is_running (at self.old place) ≡ true }

@@ -11,7 +11,7 @@ use crate::marks::Mark;
 use std::collections::BTreeMap;
 
 /// What begins at a place: an iteration that is running, with the key of its task, or a stretch of finished
-/// iterations, with the place behind it.
+/// iterations, with the place after it.
 #[derive(Clone, Copy, Drop)]
 pub enum Stretch {
     /// One iteration that is running.
@@ -41,7 +41,7 @@ pub fn mark_by(last: Option<(u64, Stretch)>, place: u64) -> Mark
     }
 }
 
-/// The place behind the stretch of finished iterations that covers a place, by the last entry at it or before
+/// The place after the stretch of finished iterations that covers a place, by the last entry at it or before
 /// it; that place, where none does.
 pub fn first_open(last: Option<(u64, Stretch)>, place: u64) -> u64
     ensures { result ≡ first_open place last }
@@ -84,7 +84,7 @@ pub fn take_out(map: &mut BTreeMap<u64, Stretch>, place: u64, unless: u64)
     }
 }
 
-/// Puts another entry in the place of one that stands, without memory.
+/// Replaces an existing entry by another one, without memory.
 pub fn replace(map: &mut BTreeMap<u64, Stretch>, place: u64, stretch: Stretch)
     requires { is_some (get nat_cmp map.old place) ≡ true }
     ensures { (k : ℕ) → get nat_cmp map.new k ≡ with_entry (get nat_cmp map.old) place (Some stretch) k }

@@ -20,7 +20,7 @@ reduce_words s names = codes "reduce" ∷ decimal s ∷ names
 abbrev pub run_words : List ℕ → List Text
 run_words choices = codes "run" ∷ map decimal choices
 
--- the words of a command; the text of an edit is on the lines behind them
+-- the words of a command; the text of an edit is on the lines after them
 abbrev pub command_words : Command → List Text
 command_words Source = codes "source" ∷ []
 command_words (Deps None) = codes "deps" ∷ []
@@ -53,7 +53,7 @@ command_words (Run choices) = run_words choices
 command_words Races = codes "races" ∷ []
 command_words Tested = codes "tested" ∷ []
 
--- words, each behind a blank
+-- words, each after a blank
 abbrev pub behind : List Text → Text
 behind words = flat_map (λ word. codes " " ++ word) words
 

@@ -1,4 +1,4 @@
--- The items of a script: each line with a word that isn't in the text of an edit, with the command that stands there (this project).
+-- The items of a script: each line with a word that isn't in the text of an edit, with its command (this project).
 use Rattle.std.specs.Prelude.{ℕ, ◌+◌, ◌-◌, List, [], ◌∷◌, ◌++◌, Bool, nat_lt, codes, Option, Some, None, option_map, if◌then◌else◌}
 use Rattle.std.specs.Str.Lines.{lines}
 use Rattle.ped_base.specs.Lists.{is_same_text}
@@ -44,7 +44,7 @@ abbrev pub item_at : ℕ → List Text → List Text → List Item
 item_at n [] following = []
 item_at n (w ∷ ws) following = record { line = n; command = whole_command (command_of (w ∷ ws)) following } ∷ []
 
--- the items of lines from line n on, of which so many at the front still belong to the command before
+-- the items of lines from line n on, of which as many as given at the front still belong to the command before
 abbrev pub items_from : ℕ → ℕ → List Text → List Item
 items_from n taken [] = []
 items_from n taken (l ∷ ls) =

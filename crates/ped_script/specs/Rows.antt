@@ -15,7 +15,7 @@ abbrev pub done : Command → Row
 done c [] = Some c
 done c (w ∷ ws) = None
 
--- this word, and behind it what the row goes on with
+-- this word, and after it what the row goes on with
 abbrev pub word : Text → Row → Row
 word expected next [] = None
 word expected next (w ∷ ws) = if is_same_text w expected then next ws else None
@@ -47,7 +47,7 @@ few_names to_command ws = option_and_then (on_few to_command) (names_of ws)
 abbrev pub choices : (List ℕ → Command) → Row
 choices to_command ws = option_map to_command (numbers_of 18 ws)
 
--- all commands; the text of an edit stands on the lines behind its words, and is empty here
+-- all commands; the text of an edit is on the lines after its words, and is empty here
 abbrev pub rows : List Row
 rows =
     word (codes "source") (done Source)

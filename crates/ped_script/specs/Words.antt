@@ -15,11 +15,11 @@ Text = List ℕ
 abbrev pub is_blank : ℕ → Bool
 is_blank c = c == 32 || c == 9
 
--- the words of a line: what stands between its blanks
+-- the words of a line: what is between its blanks
 abbrev pub words_of : Text → List Text
 words_of line = filter has_some (slice_split is_blank line)
 
--- 0 stands first, and not alone
+-- 0 is first, and not alone
 abbrev pub has_leading_zero : Text → Bool
 has_leading_zero [] = false
 has_leading_zero (c ∷ cs) = c == 48 && has_some cs
@@ -28,7 +28,7 @@ has_leading_zero (c ∷ cs) = c == 48 && has_some cs
 abbrev pub is_number : Text → Bool
 is_number word = has_some word && list_all is_digit word && not (has_leading_zero word)
 
--- the number that a word of at most so many digits writes
+-- the number that a word of at most this many digits writes
 abbrev pub number_of : ℕ → Text → Option ℕ
 number_of most word = if is_number word && nat_le (length word) most then Some (digits_value 10 word) else None
 
@@ -37,7 +37,7 @@ abbrev pub all_of : {A : Type 0} → (Text → Option A) → List Text → Optio
 all_of read [] = Some []
 all_of read (w ∷ ws) = option_and_then (λ x. option_map (λ xs. x ∷ xs) (all_of read ws)) (read w)
 
--- the numbers that the words write, each of at most so many digits
+-- the numbers that the words write, each of at most this many digits
 abbrev pub numbers_of : ℕ → List Text → Option (List ℕ)
 numbers_of most words = all_of (number_of most) words
 
@@ -46,7 +46,7 @@ abbrev pub factor_of : Text → Option ℤ
 factor_of [] = None
 factor_of (c ∷ cs) = if c == 45 then option_map (λ n. neg_ℤ (pos n)) (number_of 9 cs) else option_map pos (number_of 9 (c ∷ cs))
 
--- the name that a word writes, in capitals: a letter, and at most thirty letters and digits behind it (ANSI X3.9-1978, section 2.2; this project)
+-- the name that a word writes, in capitals: a letter, and at most thirty letters and digits after it (ANSI X3.9-1978, section 2.2; this project)
 abbrev pub name_of : Text → Option Text
 name_of word =
     let capitals = map to_ascii_uppercase word in

@@ -8,7 +8,7 @@ pub enum Command {
     /// Prints the source pane.
     Source,
     /// Prints the dependence pane; where a statement is given, only the rows whose source or sink is that
-    /// statement or stands inside it.
+    /// statement or is inside it.
     Deps(Option<u32>),
     /// Prints the source pane and the dependence pane.
     Show,
@@ -27,7 +27,7 @@ pub enum Command {
         /// The lines that come.
         lines: Listed<Bytes>,
     },
-    /// Puts lines behind another.
+    /// Puts lines after another line.
     Insert {
         /// The number of the line before them, 0 for the front.
         after: u64,

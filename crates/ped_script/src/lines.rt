@@ -6,7 +6,7 @@ ghost use Rattle.std.specs.Str.Lines.{lines, strip_carriage_return};
 
 use std::marker::Model;
 
-/// The lines of a text that are left. Contracts see them, and how many stood before them.
+/// The remaining lines of a text. Contracts see them, and how many were before them.
 #[derive(Drop)]
 pub struct TextLines<'a> {
     rest: &'a [u8],

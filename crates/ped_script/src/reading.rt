@@ -13,7 +13,7 @@ use std::alloc::Global;
 
 /// The items of a script in their order, one for each line that has a word and isn't in the text of an edit.
 /// A line of other words than those of a command is an item without a command, and so is an edit whose text
-/// no line with a period alone ends; that text takes all lines that are left. The one error is want of memory.
+/// no line with a period alone ends; that text takes all remaining lines. The only error is running out of memory.
 pub fn commands(alloc: Global, script: &[u8]) -> Result<Script, NoMemory>
     ensures { IfOk result (λ items. items ≡ commands_of script.now) }
 {
@@ -56,7 +56,7 @@ fn whole(
     }
 }
 
-/// Takes the text of an edit, with the period behind it; none where there is no such line, and then all lines
+/// Takes the text of an edit, with the period after it; none where there is no such line, and then all lines
 /// are taken.
 fn text(alloc: Global, lines: &mut TextLines<'_>) -> Result<Option<Listed<Bytes>>, NoMemory>
     ensures text { IfOk result (λ text. text ≡ text_of lines.old.lines) }

@@ -15,7 +15,7 @@ use std::alloc::Global;
 /// The most scalars that one reduction takes.
 const MOST_SUMS: usize = 8;
 
-/// The command of a line, where its words are one. The text of an edit stands on other lines, and is empty
+/// The command of a line, where its words are one. The text of an edit is on other lines, and is empty
 /// here.
 pub fn command(alloc: Global, line: &[u8]) -> Result<Option<Command>, NoMemory>
     ensures { IfOk result (λ c. c ≡ command_of (words_of line.now)) }

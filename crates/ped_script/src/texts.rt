@@ -11,7 +11,7 @@ use ped_base::{Bytes, Name, NoMemory, push_number, push_signed};
 use std::alloc::Global;
 
 /// The text of a command: its words with a blank between two, as the table of commands has them. The lines of an edit
-/// aren't part of it. The one error is want of memory.
+/// aren't part of it. The only error is running out of memory.
 pub fn command_text(alloc: Global, command: &Command) -> Result<Bytes, NoMemory>
     ensures { IfOk result (λ text. text ≡ Spec.command_text command.now) }
 {
@@ -137,7 +137,7 @@ fn run(alloc: Global, choices: &[u64]) -> Result<Bytes, NoMemory>
     Ok(text)
 }
 
-/// Adds names, each behind a blank.
+/// Adds names, each after a blank.
 fn push_names(text: &mut Bytes, names: &[Name]) -> Result<(), NoMemory>
     ensures { OnOk result (text.new ≡ text.old ++ behind names.now) }
 {
@@ -148,7 +148,7 @@ fn push_names(text: &mut Bytes, names: &[Name]) -> Result<(), NoMemory>
     Ok(())
 }
 
-/// Adds numbers, each behind a blank.
+/// Adds numbers, each after a blank.
 fn push_choices(text: &mut Bytes, choices: &[u64]) -> Result<(), NoMemory>
     ensures { OnOk result (text.new ≡ text.old ++ behind (map decimal choices.now)) }
 {
@@ -159,7 +159,7 @@ fn push_choices(text: &mut Bytes, choices: &[u64]) -> Result<(), NoMemory>
     Ok(())
 }
 
-/// Adds a word behind a blank.
+/// Adds a word after a blank.
 fn push_word(text: &mut Bytes, word: &[u8]) -> Result<(), NoMemory>
     ensures { OnOk result (text.new ≡ text.old ++ behind (word.now ∷ [])) }
 {
@@ -167,7 +167,7 @@ fn push_word(text: &mut Bytes, word: &[u8]) -> Result<(), NoMemory>
     text.extend_from_slice(word)
 }
 
-/// Adds a number behind a blank.
+/// Adds a number after a blank.
 fn push_choice(text: &mut Bytes, number: u64) -> Result<(), NoMemory>
     ensures { OnOk result (text.new ≡ text.old ++ behind (decimal number ∷ [])) }
 {

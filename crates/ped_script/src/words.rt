@@ -41,14 +41,14 @@ pub fn has_word(line: &[u8]) -> bool
     first_word(line).is_some()
 }
 
-/// Where the first character stands that is no blank.
+/// The place of the first character that is no blank.
 fn first_character(line: &[u8]) -> Option<usize>
     ensures { result ≡ position (λ c. not (Spec.is_blank c)) line.now }
 {
     line.iter().position(|c| !is_blank(*c))
 }
 
-/// Where the first blank stands.
+/// The place of the first blank.
 fn first_blank(text: &[u8]) -> Option<usize>
     ensures { result ≡ position Spec.is_blank text.now }
 {
@@ -120,7 +120,7 @@ fn make_capital(text: &mut [u8])
     }
 }
 
-/// The number that a word of at most so many digits writes.
+/// The number that a word of at most this many digits writes.
 fn number_within(word: &[u8], most: usize) -> Option<u64>
     requires { most ≤ 18 }
     ensures value { result ≡ Spec.number_of most word.now }
@@ -135,7 +135,7 @@ fn number_within(word: &[u8], most: usize) -> Option<u64>
     }
 }
 
-/// Whether a word is digits, of which the first is 0 only where it stands alone.
+/// Whether a word is digits, of which the first is 0 only where it is alone.
 fn is_number(word: &[u8]) -> bool
     ensures { result ≡ Spec.is_number word.now }
 {

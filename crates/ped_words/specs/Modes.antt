@@ -14,7 +14,7 @@ mode name = on_top (λ s. record s { disable_help_flag = true }) (new_app name)
 abbrev pub needed : Text → Rule
 needed name = record (new_rule name) { action = Some Set; required = true }
 
--- an argument behind two hyphens and its name, which need not be there
+-- an argument after two hyphens and its name, which need not be given
 abbrev pub named : Text → Rule
 named name = record (new_rule name) { long = Some name }
 

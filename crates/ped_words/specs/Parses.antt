@@ -14,7 +14,7 @@ use Rattle.ped_words.specs.Modes.{mode, needed}
 use Rattle.ped_words.specs.declared.errors.WordsError.{WordsError}
 use Rattle.ped_words.specs.declared.errors.WordsError.TheVariants.{Bad, NoMemory}
 
--- the command of this name, and nothing else is told of it
+-- the command of this name, without further settings
 pub record IsMode (name : Text) (c : Command) : Type 0 where
   pub app : app_of c ≡ mode name
   pub args : args_of c ≡ []
@@ -22,7 +22,7 @@ pub record IsMode (name : Text) (c : Command) : Type 0 where
   pub local : (out-Command c).has_globals ≡ false
   pub negates : (out-Command c).subcommand_negates_reqs ≡ false
 
--- the argument of this name must be there, and nothing else is told of it
+-- the argument of this name, which must be there, without further settings
 pub record IsNeeded (name : Text) (a : Arg) : Type 0 where
   pub id : a.id.now ≡ name
   pub rule : rule_of a ≡ needed name
@@ -39,7 +39,7 @@ HasValue name c = (m : ArgMatches) → IsParsedFrom c m → is_some (first_value
 abbrev pub HasSize : Text → Command → Type 0
 HasSize name c = (m : ArgMatches) → IsParsedFrom c m → (t : Text) × (one_text (found_of m) name ≡ Some (without_minus t)) × IsSignedIn (pos 1) (pos 300) t
 
--- want of memory stays want of memory, and words that are refused for anything else are bad
+-- out of memory stays out of memory, and words that are refused for anything else are bad
 pub record IsErrorOf (error : Error) (said : WordsError) : Type 0 where
   pub memory : kind_of error ≡ OutOfMemory → said ≡ NoMemory
   pub other : kind_of error ≢ OutOfMemory → said ≡ Bad

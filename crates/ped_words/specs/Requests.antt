@@ -45,7 +45,7 @@ request_in mode words =
     else if is_same_text mode (codes "generate") then generate_request words
     else None
 
--- what words ask for, which are those behind the program's name: the first is the mode, which clap passes over as the name of the mode's command
+-- what words ask for, which are those after the program's name: the first is the mode, which clap passes over as the name of the mode's command
 unfoldable pub request_of : List Text → Option Request
 request_of [] = None
 request_of (mode ∷ rest) = request_in mode (mode ∷ rest)

@@ -9,7 +9,7 @@ use thiserror::Error;
 /// Why words ask for nothing.
 #[derive(Clone, Copy, Debug, PartialEq, Eq, Error)]
 pub enum WordsError {
-    /// There is no word, the first is no mode, or the mode's command doesn't take the words behind it.
+    /// There is no word, the first is no mode, or the mode's command doesn't take the words after it.
     #[error("the words are not of the form")]
     Bad,
     /// There was not enough memory.

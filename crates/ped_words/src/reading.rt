@@ -10,8 +10,8 @@ use crate::errors::WordsError;
 use crate::requests::Request;
 use std::alloc::Global;
 
-/// What the words ask for, which are those behind the program's name. The first is the mode, and the mode's
-/// command reads those behind it. `Bad` comes exactly where there is no word, the first is no mode, or the
+/// What the words ask for, which are those after the program's name. The first is the mode, and the mode's
+/// command reads those after it. `Bad` comes exactly where there is no word, the first is no mode, or the
 /// mode's command doesn't take the rest.
 pub fn request<'a>(alloc: Global, words: &'a [String]) -> Result<Request<'a>, WordsError>
     ensures ok { IfOk result (λ r. request_of (map string_bytes words.now) ≡ Some (request_view r)) }

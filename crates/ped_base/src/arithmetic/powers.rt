@@ -12,7 +12,7 @@ const GREATEST_EXPONENT: u128 = 127;
 
 /// `base ** exponent`, where `0**0` is 1. With a negative exponent it is 1 divided by the power with the opposite
 /// exponent: a division by zero where `base` is 0. It is out of range exactly where 128 bits don't hold the power
-/// with the exponent's size. It takes no more than some 150 multiplications, whatever the exponent.
+/// with the exponent's size. It takes at most some 150 multiplications, whatever the exponent.
 pub fn power(base: i128, exponent: i128) -> Result<i128, Fault>
     ensures { result ≡ power_of base exponent }
 {

@@ -9,7 +9,7 @@ use Rattle.ped_blocks.specs.declared.frames.Frame.TheVariants as frame
 use Rattle.ped_blocks.specs.declared.nesting.Nesting.{Nesting}
 use Rattle.ped_blocks.specs.declared.programs.Built.{Built}
 
--- a condition with the THEN part that stands behind it
+-- a condition with the THEN part that follows it
 abbrev pub arm_of : Arm → plain.Arm
 arm_of a = record { condition = cond_tree a.condition; then_part = map stmt_tree a.then_part.items }
 

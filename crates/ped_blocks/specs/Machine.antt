@@ -8,12 +8,12 @@ use Rattle.ped_tree.specs.Grammar.Occurrences.{rejected_names}
 use Rattle.ped_tree.specs.Grammar.BlockForms.{comments_of, whole_head, has_label}
 use Rattle.ped_tree.specs.Grammar.ProgramForms.{remarks_of, save_of, front_remarks, behind_front}
 
--- a condition with the THEN part that stands behind it
+-- a condition with the THEN part that follows it
 pub record Arm : Type 0 where
   pub condition : CondTree
   pub then_part : List StmtTree
 
--- an open block with the statements before it: the THEN part behind a condition, or the ELSE part, each with the conditions before it, the last first; or a DO with its label, where it has one, and its head
+-- an open block with the statements before it: the THEN part after a condition, or the ELSE part, each with the conditions before it, the last first; or a DO with its label, where it has one, and its head
 pub data Frame : Type 0 where
   then_frame : List StmtTree → List Arm → CondTree → Frame
   else_frame : List StmtTree → List Arm → Frame
@@ -107,7 +107,7 @@ nest_item s ends_do frames current = take_end_do s.label frames current
 nest_item s (keeps_private names) frames current = take_private names frames current
 nest_item s ends_program frames current = nest frames current
 
--- an executable statement is taken behind the comments before it
+-- an executable statement is taken after the comments before it
 abbrev pub with_nested : Built → Statement → Item → Built
 with_nested b s i = record b { nesting = nest_item s i b.nesting.frames (b.nesting.current ++ comments_of s) }
 
@@ -137,7 +137,7 @@ take_reading saved b s no_form = b
 abbrev pub take_entry : List (List ℕ) → Built → Entry → Built
 take_entry saved b e = take_reading saved b e.statement e.reading
 
--- statements are taken, one behind the other
+-- statements are taken, one after another
 abbrev pub take_entries : List (List ℕ) → Built → List Entry → Built
 take_entries saved b [] = b
 take_entries saved b (e ∷ rest) = take_entries saved (take_entry saved b e) rest

@@ -25,7 +25,7 @@ fn push_remarks(decls: &mut Vec<Decl>, comments: Listed<NoteLine>) -> Result<(),
     Ok(())
 }
 
-/// Adds a declaration behind the comments before it.
+/// Adds a declaration after the comments before it.
 pub fn push_declaration(
     decls: &mut Vec<Decl>,
     comments: Listed<NoteLine>,
@@ -42,7 +42,7 @@ pub fn push_declaration(
     Ok(())
 }
 
-/// Adds SAVE of these names, where there is one, behind the comments before it.
+/// Adds SAVE of these names, where there is one, after the comments before it.
 pub fn push_save(
     alloc: Global,
     decls: &mut Vec<Decl>,

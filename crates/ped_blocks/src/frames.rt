@@ -15,7 +15,7 @@ use ped_tree::grammar::DoStatement;
 use ped_tree::{Cond, Do, Stmt};
 use std::alloc::Global;
 
-/// A condition with the THEN part that stands behind it.
+/// A condition with the THEN part that follows it.
 #[derive(Drop)]
 pub struct Arm {
     /// The condition.
@@ -24,7 +24,7 @@ pub struct Arm {
     pub then_part: Vec<Stmt>,
 }
 
-/// The THEN part behind the condition of an IF or of an ELSE IF.
+/// The THEN part after the condition of an IF or of an ELSE IF.
 #[derive(Drop)]
 pub struct ThenBlock {
     /// The statements before the IF.
@@ -88,7 +88,7 @@ impl Frame {
 }
 
 impl LoopBlock {
-    /// The loop that a DO statement begins behind these statements, with its rejected names.
+    /// The loop that a DO statement begins after these statements, with its rejected names.
     pub fn new(
         alloc: Global,
         before: Vec<Stmt>,
@@ -122,7 +122,7 @@ impl LoopBlock {
         }
     }
 
-    /// The statements with the loop behind them, which has this body.
+    /// The statements with the loop after them, which has this body.
     pub fn ended(self, body: Vec<Stmt>) -> Result<Vec<Stmt>, NoMemory>
         ensures { IfOk result (λ all. map stmt_tree all.items
             ≡ map stmt_tree self.before.items ++ Tree.Do (head_of self.head) (stmt_trees body.items) ∷ []) }
@@ -158,7 +158,7 @@ impl LoopBlock {
 }
 
 impl ThenBlock {
-    /// The THEN part of an IF with this condition, behind these statements.
+    /// The THEN part of an IF with this condition, after these statements.
     #[tactic(auto, using(crate::proofs::OpenBlocks::no_arms))]
     pub fn new(alloc: Global, before: Vec<Stmt>, condition: Cond) -> ThenBlock
         ensures { frame_of (Frame.Then result) ≡ Machine.then_frame (map stmt_tree before.items) [] (cond_tree condition) }
@@ -170,7 +170,7 @@ impl ThenBlock {
         }
     }
 
-    /// The conditions so far with this THEN part behind the last, and the statements before the IF.
+    /// The conditions so far with this THEN part after the last, and the statements before the IF.
     #[tactic(auto, using(crate::proofs::OpenBlocks::last_arm))]
     pub fn ended_part(self, then_part: Vec<Stmt>) -> Result<ElseBlock, NoMemory>
         ensures { IfOk result (λ b. frame_of (Frame.Else b)
@@ -203,7 +203,7 @@ impl ElseBlock {
         })
     }
 
-    /// The statements with the IF behind them, which has this ELSE part.
+    /// The statements with the IF after them, which has this ELSE part.
     pub fn ended(self, alloc: Global, else_part: Vec<Stmt>) -> Result<Vec<Stmt>, NoMemory>
         ensures { IfOk result (λ all. map stmt_tree all.items
             ≡ map stmt_tree self.before.items ++ Machine.chained (arms_of self.arms.items) (map stmt_tree else_part.items)) }

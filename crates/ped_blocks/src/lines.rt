@@ -62,7 +62,7 @@ fn push_item(lines: &mut Vec<u64>, line: u64, item: &Item, saved: &Names) -> Res
     }
 }
 
-/// The same for the statement behind a logical IF.
+/// The same for the statement after a logical IF.
 fn push_behind(lines: &mut Vec<u64>, line: u64, behind: &Option<Stmt>) -> Result<(), NoMemory>
     ensures { OnOk result (lines.new.items ≡ lines.old.items ++ replicate (statements_count (behind_logical behind.now)) line) }
 {

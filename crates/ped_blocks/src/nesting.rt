@@ -38,7 +38,7 @@ impl Nesting {
         }
     }
 
-    /// The nesting behind an executable statement that says this, with the comments before it.
+    /// The nesting after an executable statement that says this, with the comments before it.
     #[tactic(auto, using(crate::proofs::OpenBlocks::no_blocks))]
     pub fn with_item(
         self,
@@ -81,7 +81,7 @@ impl Nesting {
         }
     }
 
-    /// The comments stand behind the statements so far of the innermost block.
+    /// The comments come after the statements so far of the innermost block.
     fn with_comments(self, comments: Listed<NoteLine>) -> Result<Nesting, NoMemory>
         ensures { IfOk result (λ n. nesting_of n ≡ Machine.nest (blocks_of self.frames.items)
             (map stmt_tree self.current.items ++ map (λ n. Tree.Comment n.text) (map note_of comments))) }
@@ -94,7 +94,7 @@ impl Nesting {
         Ok(Nesting { frames, current })
     }
 
-    /// The statement stands behind the others, and the loops end that end at its label.
+    /// The statement comes after the others, and the loops end that end at its label.
     fn with_statement(self, label: Option<u32>, stmt: Stmt) -> Result<Nesting, NoMemory>
         ensures { IfOk result (λ n. nesting_of n ≡ Machine.close_labelled label (blocks_of self.frames.items) (map stmt_tree self.current.items ++ stmt_tree stmt ∷ [])) }
     {
@@ -106,7 +106,7 @@ impl Nesting {
         Nesting { frames, current }.with_label(label)
     }
 
-    /// A logical IF stands behind the others, and the loops end that end at its label.
+    /// A logical IF comes after the others, and the loops end that end at its label.
     fn with_logical_if(
         self,
         alloc: Global,
@@ -373,7 +373,7 @@ fn logical_if(alloc: Global, condition: Cond, behind: Option<Stmt>) -> Result<St
     Ok(Stmt::block_if(condition, then_part, Vec::new(alloc)))
 }
 
-/// The statement behind a logical IF, where there is one, as a THEN part.
+/// The statement after a logical IF, where there is one, as a THEN part.
 fn then_part(alloc: Global, behind: Option<Stmt>) -> Result<Vec<Stmt>, NoMemory>
     ensures { IfOk result (λ all. stmt_trees all.items ≡ behind_logical behind) }
 {

@@ -32,7 +32,7 @@ abbrev mutual
   cond_at v zero text = None
   cond_at v (suc n) text = logical_term_at v n text >>= λ x. ors_at v n x.0 x.1
 
-  -- what follows a condition behind .OR.
+  -- what follows a condition after .OR.
   pub ors_at : (ℕ → ℕ) → ℕ → CondTree → List ℕ → Answer CondTree
   ors_at v zero a text = None
   ors_at v (suc n) a text = go_on (after (codes ".OR.") text) (Some (a, text)) (λ r. logical_term_at v n r >>= λ x. ors_at v n (Or a x.0) x.1)
@@ -42,7 +42,7 @@ abbrev mutual
   logical_term_at v zero text = None
   logical_term_at v (suc n) text = logical_factor_at v n text >>= λ x. ands_at v n x.0 x.1
 
-  -- what follows a logical term behind .AND.
+  -- what follows a logical term after .AND.
   pub ands_at : (ℕ → ℕ) → ℕ → CondTree → List ℕ → Answer CondTree
   ands_at v zero a text = None
   ands_at v (suc n) a text = go_on (after (codes ".AND.") text) (Some (a, text)) (λ r. logical_factor_at v n r >>= λ x. ands_at v n (And a x.0) x.1)
@@ -61,7 +61,7 @@ abbrev mutual
 unfoldable pub cond_of : (ℕ → ℕ) → List ℕ → Answer CondTree
 cond_of v text = cond_at v (enough text) text
 
--- what follows a condition behind .OR., with steps enough
+-- what follows a condition after .OR., with steps enough
 unfoldable pub ors_of : (ℕ → ℕ) → CondTree → List ℕ → Answer CondTree
 ors_of v a text = ors_at v (enough text) a text
 
@@ -69,7 +69,7 @@ ors_of v a text = ors_at v (enough text) a text
 unfoldable pub logical_term_of : (ℕ → ℕ) → List ℕ → Answer CondTree
 logical_term_of v text = logical_term_at v (enough text) text
 
--- what follows a logical term behind .AND., with steps enough
+-- what follows a logical term after .AND., with steps enough
 unfoldable pub ands_of : (ℕ → ℕ) → CondTree → List ℕ → Answer CondTree
 ands_of v a text = ands_at v (enough text) a text
 

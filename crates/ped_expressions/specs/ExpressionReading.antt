@@ -36,14 +36,14 @@ abbrev pub expr_count : ExprTrees → ℕ
 expr_count no_exprs = 0
 expr_count (more_exprs e rest) = suc (expr_count rest)
 
--- the intrinsic function takes so many arguments
+-- the intrinsic function takes this many arguments
 abbrev pub takes : Intrinsic → ℕ → Bool
 takes Mod n = n == 2
 takes Abs n = n == 1
 takes Max n = nat_le 2 n
 takes Min n = nat_le 2 n
 
--- a name before a list in parentheses: an intrinsic function, where it takes so many arguments, or else an element
+-- a name before a list in parentheses: an intrinsic function, where it takes this many arguments, or else an element
 abbrev pub applied : List ℕ → ExprTrees → Option ExprTree
 applied x es = go_on (intrinsic_of x) (Some (Element x es)) (λ f. if takes f (expr_count es) then Some (Call f es) else None)
 

@@ -1,4 +1,4 @@
--- What a reader says of a text (this project).
+-- What the result of a reader says about a text (this project).
 use Rattle.std.specs.Prelude.{Bool, IsTrue, IsFalse}
 use Rattle.ped_expressions.specs.declared.readings.Reading.{Reading}
 use Rattle.ped_expressions.specs.declared.readings.Reading.TheVariants.{Tree, TooLarge, NoForm}

@@ -1,8 +1,8 @@
--- What stands first in a text, and what follows it (this project).
+-- What is first in a text, and what follows it (this project).
 use Rattle.std.specs.Prelude.{ℕ, List, [], ◌∷◌, codes, Option, Some, None, Bool, false, ◌==◌, if◌then◌else◌}
 use Rattle.ped_tree.specs.Grammar.ExpressionForms.{Sign, unsigned, positive, negative, Adding, add, subtract, Scaling, multiply, divide}
 
--- a value and the characters behind it, where there is one
+-- a value and the characters after it, where there is one
 abbrev pub Answer : Type 0 → Type 0
 Answer A = Option (A × List ℕ)
 

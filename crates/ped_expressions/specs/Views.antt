@@ -29,15 +29,15 @@ abbrev pub lent : Option (Bor (List ℕ)) → Option (List ℕ)
 lent None = None
 lent (Some x) = Some x.now
 
--- an expression and the text behind it
+-- an expression and the text after it
 abbrev pub expr_and_rest : Expr × Bor (List ℕ) → ExprTree × List ℕ
 expr_and_rest x = (expr_tree x.0, x.1.now)
 
--- expressions and the text behind them
+-- expressions and the text after them
 abbrev pub exprs_and_rest : Vec Expr × Bor (List ℕ) → ExprTrees × List ℕ
 exprs_and_rest x = (pack_exprs (map expr_tree x.0.items), x.1.now)
 
--- a condition and the text behind it
+-- a condition and the text after it
 abbrev pub cond_and_rest : Cond × Bor (List ℕ) → CondTree × List ℕ
 cond_and_rest x = (cond_tree x.0, x.1.now)
 
@@ -57,17 +57,17 @@ abbrev pub scaling_of : Scaling → forms.Scaling
 scaling_of scaling.Multiply = forms.multiply
 scaling_of scaling.Divide = forms.divide
 
--- an operator and the text behind it, where there is one
+-- an operator and the text after it, where there is one
 abbrev pub adding_and_rest : Option (Adding × Bor (List ℕ)) → Answer forms.Adding
 adding_and_rest None = None
 adding_and_rest (Some x) = Some (adding_of x.0, x.1.now)
 
--- the operator * or / and the text behind it, where there is one
+-- the operator * or / and the text after it, where there is one
 abbrev pub scaling_and_rest : Option (Scaling × Bor (List ℕ)) → Answer forms.Scaling
 scaling_and_rest None = None
 scaling_and_rest (Some x) = Some (scaling_of x.0, x.1.now)
 
--- a relational operator and the text behind it, where there is one
+-- a relational operator and the text after it, where there is one
 abbrev pub relation_and_rest : Option (Relation × Bor (List ℕ)) → Answer Relation
 relation_and_rest None = None
 relation_and_rest (Some x) = Some (x.0, x.1.now)

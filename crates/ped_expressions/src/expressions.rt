@@ -249,7 +249,7 @@ fn applied(name: Name, arguments: Vec<Expr>) -> Option<Expr>
     }
 }
 
-/// Whether the function takes so many arguments.
+/// Whether the function takes this many arguments.
 fn takes(function: Intrinsic, count: usize) -> bool
     ensures { result ≡ Spec.takes function count }
 {

@@ -12,7 +12,7 @@ use ped_base::NoMemory;
 use ped_tree::{Expr, Relation};
 use std::alloc::Global;
 
-/// What stands before the first term.
+/// What is before the first term.
 #[derive(Clone, Copy, PartialEq, Eq)]
 pub enum Sign {
     /// Nothing.
@@ -109,7 +109,7 @@ pub fn take_relation(text: &[u8]) -> Option<(Relation, &[u8])>
     None
 }
 
-/// The term behind its sign.
+/// The term after its sign.
 pub fn signed(alloc: Global, sign: Sign, term: Expr) -> Result<Expr, NoMemory>
     ensures { IfOk result (λ e. expr_tree e ≡ Forms.signed (sign_of sign) (expr_tree term)) }
 {

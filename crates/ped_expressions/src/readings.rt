@@ -11,7 +11,7 @@ use std::alloc::AllocFailed;
 pub enum Reading<T> {
     /// The text has this tree.
     Tree(T),
-    /// The text has a form, and a literal above 2147483647 stands in it.
+    /// The text has a form, and a literal above 2147483647 is in it.
     TooLarge,
     /// The text has no form.
     NoForm,

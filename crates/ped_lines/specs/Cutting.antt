@@ -16,24 +16,24 @@ use Rattle.ped_lines.specs.declared.refusals.Role.TheVariants as role
 use Rattle.ped_lines.specs.declared.cutting.OpenStatement.{OpenStatement}
 use Rattle.ped_lines.specs.declared.cutting.Cutting.{Cutting}
 
--- how a line stands to statements
+-- the role of a line in statements
 abbrev pub role_of : Role → lines.Role
 role_of role.Initial = lines.Initial
 role_of (role.Continuation left) = lines.Continuation left
 role_of role.Orphan = lines.Orphan
 
--- the text with the columns of one more line, whatever stands before them
+-- the text with the columns of one more line, whatever is before them
 pub record WithColumns (old : OpenText) (columns : List ℕ) (new : OpenText) : Type 0 where
   pub text : (before : List ℕ) → quoting_of before ≡ old.quoting → new.bytes.items ≡ old.bytes.items ++ text_behind before columns
   pub quoting : (before : List ℕ) → quoting_of before ≡ old.quoting → quoting_of (before ++ columns) ≡ new.quoting
   pub bad : (before : List ℕ) → quoting_of before ≡ old.quoting → has_bad before columns ≡ new.bad
 
--- what stands where the statement that was begun before has no further line
+-- the refusals where the statement that was begun before has no further line
 abbrev pub left_open : Option OpenStatement → List Finding
 left_open None = []
 left_open (Some o) = refused_if (is_inside o.text.quoting) OpenConstant o.line
 
--- what stands from line n on, where a statement may have begun before
+-- the refusals from line n on, where a statement may have begun before
 abbrev pub refusals_left : Option OpenStatement → ℕ → List (List ℕ) → List Finding
 refusals_left None n rest = at_orphans (further_lines n rest) ++ in_statements n rest
 refusals_left (Some o) n rest = in_rest o.line o.left (front_of o.text.quoting) (further_lines n rest) ++ in_statements n rest
@@ -53,7 +53,7 @@ abbrev pub ended : Option OpenStatement → List whole.Statement
 ended None = []
 ended (Some o) = ended_statement o ∷ []
 
--- the statement that was begun, with the lines from line n on, where these comments and directives stand before line n
+-- the statement that was begun, with the lines from line n on, where these comments and directives are before line n
 abbrev pub begun : Option OpenStatement → List Note → List Note → ℕ → List (List ℕ) → List whole.Statement
 begun None comments directives n rest = []
 begun (Some o) comments directives n rest = record {
@@ -71,7 +71,7 @@ statements_with c n rest =
     let directives = map note_of c.directives.items in
     map statement_of c.done.items ++ begun c.current comments directives n rest ++ statements_from comments directives n rest
 
--- the statements and the notes behind the last, where the text goes on so and has so many lines
+-- the statements and the notes after the last, where these lines follow and the text has this many lines in all
 abbrev pub cut_with : Cutting → ℕ → List (List ℕ) → ℕ → whole.Statements
 cut_with c n rest count = record {
   statements = statements_with c n rest;
@@ -80,7 +80,7 @@ cut_with c n rest count = record {
   lines = count;
 }
 
--- the line n has been read: whatever follows, what stands and what is cut stay the same
+-- the line n has been read: whatever follows, the first refusal and what is cut stay the same
 pub record WithLine (old : Cutting) (n : ℕ) (line : List ℕ) (new : Cutting) : Type 0 where
   pub refusals : (rest : List (List ℕ)) → earliest (found_of new.found) (refusals_left new.current (n + 1) rest) ≡ earliest (found_of old.found) (refusals_left old.current n (line ∷ rest))
   pub cut : (rest : List (List ℕ)) (count : ℕ) → cut_with new (n + 1) rest count ≡ cut_with old n (line ∷ rest) count

@@ -10,14 +10,14 @@ ghost use Rattle.ped_lines.specs.Quoting.{is_inside, quoting_of};
 use ped_base::NoMemory;
 use std::alloc::Global;
 
-/// Where the next character of a statement stands to its constants.
+/// The place of a statement's next character relative to its constants.
 #[derive(Clone, Copy)]
 pub enum Quoting {
     /// In a constant.
     Inside,
-    /// Directly behind the apostrophe that closed a constant.
+    /// Directly after the apostrophe that closed a constant.
     Closed,
-    /// Behind a constant, with blanks alone between.
+    /// After a constant, with blanks alone between.
     Apart,
     /// Anywhere else.
     Outside,
@@ -28,9 +28,9 @@ pub enum Quoting {
 pub struct OpenText {
     /// What is kept of its characters.
     pub bytes: Vec<u8>,
-    /// Where the next character stands.
+    /// The place of the next character.
     pub quoting: Quoting,
-    /// Whether some character of the line that was added last may not stand where it stands.
+    /// Whether the line that was added last has a character at a place where it may not occur.
     pub bad: bool,
 }
 
@@ -55,7 +55,7 @@ impl OpenText {
         matches!(self.quoting, Quoting::Inside)
     }
 
-    /// The text with the columns of one more line, whatever stands before them.
+    /// The text with the columns of one more line, whatever is before them.
     pub fn with_columns(self, columns: &[u8]) -> Result<OpenText, NoMemory>
         ensures { IfOk result (WithColumns self columns.now) }
     {
@@ -75,7 +75,7 @@ impl OpenText {
     }
 }
 
-/// Where the character behind `c` stands.
+/// The place of the character after `c`.
 #[tactic(auto, using(crate::proofs::Constants::quoting_more))]
 fn quoting_behind(quoting: Quoting, c: u8) -> Quoting
     ensures { (before : List ℕ) → quoting_of before ≡ quoting → quoting_of (before ++ c ∷ []) ≡ result }
@@ -89,7 +89,7 @@ fn quoting_behind(quoting: Quoting, c: u8) -> Quoting
     }
 }
 
-/// Adds what is kept of a character: one blank stands before a constant that is apart from another.
+/// Adds what is kept of a character: one blank comes before a constant that only blanks separate from another.
 #[tactic(auto, using(crate::proofs::Constants::kept_is))]
 fn push_kept(text: &mut Vec<u8>, quoting: Quoting, c: u8) -> Result<(), NoMemory>
     ensures { OnOk result ((before : List ℕ) → quoting_of before ≡ quoting → text.new.items ≡ text.old.items ++ Spec.kept before c) }

@@ -119,7 +119,7 @@ pub fn statement_columns(line: &[u8]) -> [u8; 66]
     filled(front(behind(line, 6), 66))
 }
 
-/// The bytes with blanks behind them.
+/// The bytes with blanks after them.
 fn filled(text: &[u8]) -> [u8; 66]
     requires { length text.now ≤ 66 }
     ensures { result ≡ text.now ++ replicate (66 - length text.now) 32 }
@@ -129,7 +129,7 @@ fn filled(text: &[u8]) -> [u8; 66]
     columns
 }
 
-/// The first columns, so many or all that the line has.
+/// The first `count` columns, or all that the line has.
 pub fn front(line: &[u8], count: usize) -> &[u8]
     ensures columns { result.now ≡ take count line.now }
     ensures short { length result.now ≤ count }
@@ -137,7 +137,7 @@ pub fn front(line: &[u8], count: usize) -> &[u8]
     line.split_at(line.len().min(count)).0
 }
 
-/// The columns behind the first so many.
+/// The columns after the first `count`.
 pub fn behind(line: &[u8], count: usize) -> &[u8]
     ensures { result.now ≡ drop count line.now }
 {

@@ -51,9 +51,9 @@ pub struct Cutting {
     pub done: Vec<Statement>,
     /// The statement that was begun last.
     pub current: Option<OpenStatement>,
-    /// The comments behind the last line of a statement.
+    /// The comments after the last line of a statement.
     pub comments: Vec<NoteLine>,
-    /// The directives behind the last line of a statement.
+    /// The directives after the last line of a statement.
     pub directives: Vec<NoteLine>,
 }
 

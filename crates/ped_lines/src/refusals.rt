@@ -11,19 +11,19 @@ ghost use Rattle.ped_lines.specs.Cutting.{role_of};
 use crate::columns::{has_bad_label, has_label_field, has_tab};
 use ped_tree::grammar::{Refusal, RefusalKind, standing};
 
-/// How a line that is no comment stands to statements.
+/// The role that a line that is no comment has in statements.
 #[derive(Clone, Copy)]
 pub enum Role {
     /// It begins a statement.
     Initial,
-    /// It continues a statement that so many lines may still continue.
+    /// It continues a statement that this many lines may still continue.
     Continuation(u64),
     /// It continues none, since none has begun.
     Orphan,
 }
 
-/// The first of what was found and what stands at a line, of whose characters it is known whether some
-/// may not stand there.
+/// The first of what was found and the refusals at a line, where `bad` says whether it has a character
+/// at a place where it may not occur.
 #[tactic(auto, unfolding(ped_tree::specs::Grammar::LineRefusals::at_line), using(ped_tree::proofs::GrammarLaws::First::earliest_append))]
 pub fn at_line(
     found: Option<Refusal>,

@@ -10,7 +10,7 @@ use crate::expressions::push_value;
 use ped_base::{Bytes, NoMemory};
 use ped_tree::{Cond, Relation};
 
-/// Where a condition stands (ANSI X3.9-1978, section 6.4.2).
+/// The place of a condition (ANSI X3.9-1978, section 6.4.2).
 #[derive(Clone, Copy, PartialEq, Eq)]
 pub enum Standing {
     /// As a whole, or as the left part of `.OR.`.
@@ -19,7 +19,7 @@ pub enum Standing {
     InOr,
     /// As the right part of `.AND.`.
     InAnd,
-    /// Behind `.NOT.`.
+    /// After `.NOT.`.
     InNot,
 }
 
@@ -36,7 +36,7 @@ pub fn push_cond(out: &mut Bytes, standing: Standing, condition: &Cond) -> Resul
     out.push(b')')
 }
 
-/// Adds a condition without parentheses round it.
+/// Adds a condition without parentheses around it.
 #[cycle(conditions)]
 fn push_bare(out: &mut Bytes, condition: &Cond) -> Result<(), NoMemory>
     ensures { OnOk result (out.new ≡ out.old ++ cond_text whole (cond_tree condition.now)) }
@@ -59,7 +59,7 @@ fn push_bare(out: &mut Bytes, condition: &Cond) -> Result<(), NoMemory>
     }
 }
 
-/// Adds a logical operator, and the operand behind it.
+/// Adds a logical operator, and the operand after it.
 #[cycle(conditions)]
 fn push_operand(
     out: &mut Bytes,
@@ -73,7 +73,7 @@ fn push_operand(
     push_cond(out, standing, condition)
 }
 
-/// Whether a condition needs parentheses where it stands.
+/// Whether a condition needs parentheses where it is.
 pub fn is_enclosed(standing: Standing, condition: &Cond) -> bool
     ensures { result ≡ encloses (standing_of standing) (cond_tree condition.now) }
 {

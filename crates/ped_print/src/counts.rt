@@ -19,11 +19,11 @@ use std::alloc::Global;
 pub struct BegunStatements {
     /// How many begin before these lines.
     pub front: u32,
-    /// How many begin behind them.
+    /// How many begin after them.
     pub back: u32,
 }
 
-/// How many numbered statements begin on the first `kept` printed lines of a program, and how many behind these and
+/// How many numbered statements begin on the first `kept` printed lines of a program, and how many after these and
 /// the `gone` lines that come next.
 pub fn begun(
     alloc: Global,

@@ -42,7 +42,7 @@ pub fn push_decl(out: &mut Bytes, decl: &Decl) -> Result<(), NoMemory>
     }
 }
 
-/// Whether a declaration is a comment, which stands from column 1 on.
+/// Whether a declaration is a comment, which begins in column 1.
 pub fn is_remark(decl: &Decl) -> bool
     ensures { result ≡ Spec.is_remark (decl_tree decl.now) }
 {

@@ -11,12 +11,12 @@ ghost use Rattle.ped_print.specs.Places.{place_of, encloses};
 use ped_base::{Bytes, NoMemory, push_number};
 use ped_tree::{Expr, Intrinsic};
 
-/// Where an expression stands (ANSI X3.9-1978, section 6.1.2).
+/// The place of an expression (ANSI X3.9-1978, section 6.1.2).
 #[derive(Clone, Copy, PartialEq, Eq)]
 pub enum Place {
     /// As a whole, or at the front of a sum.
     Alone,
-    /// As a term of a sum or behind a sign.
+    /// As a term of a sum or after a sign.
     AsTerm,
     /// As a factor of a product or as an exponent.
     AsFactor,
@@ -24,7 +24,7 @@ pub enum Place {
     AsBase,
 }
 
-/// Adds an expression that stands alone.
+/// Adds an expression that is alone.
 pub fn push_value(out: &mut Bytes, e: &Expr) -> Result<(), NoMemory>
     ensures { OnOk result (out.new ≡ out.old ++ value_text (expr_tree e.now)) }
 {
@@ -44,7 +44,7 @@ fn push_expr(out: &mut Bytes, place: Place, e: &Expr) -> Result<(), NoMemory>
     out.push(b')')
 }
 
-/// Adds an expression without parentheses round it.
+/// Adds an expression without parentheses around it.
 #[cycle(expressions)]
 fn push_bare(out: &mut Bytes, e: &Expr) -> Result<(), NoMemory>
     ensures { OnOk result (out.new ≡ out.old ++ expr_text alone (expr_tree e.now)) }
@@ -84,7 +84,7 @@ fn push_bare(out: &mut Bytes, e: &Expr) -> Result<(), NoMemory>
     }
 }
 
-/// Adds an operator, and the operand behind it.
+/// Adds an operator, and the operand after it.
 #[cycle(expressions)]
 fn push_operand(out: &mut Bytes, operator: &[u8], place: Place, e: &Expr) -> Result<(), NoMemory>
     ensures { OnOk result (out.new ≡ out.old ++ operator.now ++ expr_text (place_of place) (expr_tree e.now)) }
@@ -119,7 +119,7 @@ fn push_exprs(out: &mut Bytes, all: &[Expr]) -> Result<(), NoMemory>
     Ok(())
 }
 
-/// Whether an expression needs parentheses where it stands.
+/// Whether an expression needs parentheses where it is.
 pub fn is_enclosed(place: Place, e: &Expr) -> bool
     ensures { result ≡ encloses (place_of place) (expr_tree e.now) }
 {

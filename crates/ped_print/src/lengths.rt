@@ -104,7 +104,7 @@ fn sum(first: usize, second: usize, third: usize) -> usize
     first.saturating_add(second).saturating_add(third)
 }
 
-/// The length of DO or PARALLEL DO with the blank behind it.
+/// The length of DO or PARALLEL DO with the blank after it.
 fn do_word_length(parallel: bool) -> usize
     ensures { result ≡ length (do_word parallel) }
 {
@@ -125,7 +125,7 @@ fn step_length(step: &Expr) -> usize
     value_length(step).saturating_add(b", ".len())
 }
 
-/// The length of the items of a PRINT, each behind a comma.
+/// The length of the items of a PRINT, each after a comma.
 fn items_length(all: &[PrintItem]) -> usize
     ensures { result ≡ limited (length (flat_map (λ i. codes ", " ++ item_text i) (map item_tree all.now))) }
 {
@@ -158,7 +158,7 @@ fn constant_length(text: &[u8]) -> usize
     total
 }
 
-/// The length of the items of a READ, each behind a comma.
+/// The length of the items of a READ, each after a comma.
 fn targets_length(all: &[Expr]) -> usize
     ensures { result ≡ limited (length (flat_map (λ e. codes ", " ++ value_text e) (map expr_tree all.now))) }
 {
@@ -182,7 +182,7 @@ fn cond_length(standing: Standing, condition: &Cond) -> usize
     }
 }
 
-/// The length of a condition without parentheses round it.
+/// The length of a condition without parentheses around it.
 #[cycle(condition_lengths)]
 fn bare_cond_length(condition: &Cond) -> usize
     ensures { result ≡ limited (length (cond_text whole (cond_tree condition.now))) }
@@ -207,7 +207,7 @@ fn bare_cond_length(condition: &Cond) -> usize
     }
 }
 
-/// The length of an expression that stands alone.
+/// The length of an expression that is alone.
 fn value_length(e: &Expr) -> usize
     ensures { result ≡ limited (length (value_text (expr_tree e.now))) }
 {
@@ -227,7 +227,7 @@ fn expr_length(place: Place, e: &Expr) -> usize
     }
 }
 
-/// The length of an expression without parentheses round it.
+/// The length of an expression without parentheses around it.
 #[cycle(expression_lengths)]
 fn bare_length(e: &Expr) -> usize
     ensures { result ≡ limited (length (expr_text alone (expr_tree e.now))) }

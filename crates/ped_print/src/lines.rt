@@ -9,7 +9,7 @@ ghost use Rattle.ped_print.specs.PrintedLines.{line_of, cut};
 use ped_base::{Bytes, NoMemory};
 use std::alloc::Global;
 
-/// How many characters of a statement stand on a line, in columns 7 to 72.
+/// How many characters of a statement are on a line, in columns 7 to 72.
 const PIECE: usize = 66;
 
 /// A printed line.
@@ -87,7 +87,7 @@ fn piece(text: &[u8], number: usize) -> &[u8]
     &rest[..PIECE.min(rest.len())]
 }
 
-/// Two texts, one behind the other.
+/// Two texts, one after the other.
 fn joined(alloc: Global, front: &[u8], rest: &[u8]) -> Result<Bytes, NoMemory>
     ensures { IfOk result (λ text. text ≡ front.now ++ rest.now) }
 {
@@ -107,7 +107,7 @@ pub fn push_blanks(out: &mut Bytes, count: usize) -> Result<(), NoMemory>
     Ok(())
 }
 
-/// Adds two blanks for each DO loop and IF round a statement, at most 20.
+/// Adds two blanks for each DO loop and IF around a statement, at most 20.
 pub fn push_indentation(out: &mut Bytes, depth: usize) -> Result<(), NoMemory>
     ensures { OnOk result (out.new ≡ out.old ++ indentation depth) }
 {

@@ -13,8 +13,8 @@ use ped_base::{Bytes, Name, NoMemory};
 use ped_tree::{Do, Stmt};
 use std::alloc::Global;
 
-/// Adds the lines of statements with so many DO loops and IFs round them and so many numbered statements
-/// before them, and answers how many begin before what is behind them. Each of these and each level has a
+/// Adds the lines of statements with this many DO loops and IFs around them and this many numbered statements
+/// before them, and returns how many begin before what comes after them. Each of these and each level has a
 /// line of its own, so no number is too large.
 #[cycle(nesting)]
 pub fn push_statements(
@@ -42,8 +42,8 @@ pub fn push_statements(
     Ok(begun)
 }
 
-/// Adds the lines of a statement with so many DO loops and IFs round it and so many numbered statements
-/// before it, and answers how many begin before what is behind it.
+/// Adds the lines of a statement with this many DO loops and IFs around it and this many numbered statements
+/// before it, and returns how many begin before what comes after it.
 #[cycle(nesting)]
 fn push_statement(
     alloc: Global,
@@ -90,8 +90,8 @@ fn push_statement(
     }
 }
 
-/// Adds the lines of the ELSE part of an IF with so many DO loops and IFs round it, and END IF, and
-/// answers how many numbered statements begin before what is behind them.
+/// Adds the lines of the ELSE part of an IF with this many DO loops and IFs around it, and END IF, and
+/// returns how many numbered statements begin before what comes after them.
 #[cycle(nesting)]
 fn push_else_and_end(
     alloc: Global,
@@ -117,8 +117,8 @@ fn push_else_and_end(
     Ok(behind)
 }
 
-/// Adds ELSE and the lines of its part with so many DO loops and IFs round the IF, nothing where the
-/// part is empty, and answers how many numbered statements begin before what is behind it.
+/// Adds ELSE and the lines of its part with this many DO loops and IFs around the IF, nothing where the
+/// part is empty, and returns how many numbered statements begin before what comes after it.
 #[cycle(nesting)]
 fn push_else(
     alloc: Global,

@@ -59,7 +59,7 @@ pub fn push_statement_number(out: &mut Bytes, number: Option<u64>) -> Result<(),
     }
 }
 
-/// Adds the digits of a number behind as many blanks as make it so many places, none where it has more.
+/// Adds the digits of a number after as many blanks as make it this many places, none where it has more.
 fn push_right_aligned(out: &mut Bytes, places: usize, number: u64) -> Result<(), NoMemory>
     ensures { OnOk result (out.new ≡ out.old ++ Spec.right_aligned places (decimal number)) }
 {

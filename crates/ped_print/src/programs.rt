@@ -17,7 +17,7 @@ use ped_tree::{Decl, Program};
 use std::alloc::Global;
 
 /// The printed text of a program, in the fixed form of ANSI X3.9-1978, section 3: one statement a
-/// line with its continuation lines, two blanks of indentation for each DO and IF round it, each DO
+/// line with its continuation lines, two blanks of indentation for each DO and IF around it, each DO
 /// ended by an END DO of its own.
 pub fn print(alloc: Global, program: &Program) -> Result<Bytes, NoMemory>
     ensures { IfOk result (λ text. text ≡ program_text (program_tree program.now)) }

@@ -39,7 +39,7 @@ pub fn push_own(out: &mut Bytes, statement: &Stmt) -> Result<(), NoMemory>
     }
 }
 
-/// Adds words, and an expression behind them.
+/// Adds words, and an expression after them.
 fn push_behind(out: &mut Bytes, words: &[u8], e: &Expr) -> Result<(), NoMemory>
     ensures { OnOk result (out.new ≡ out.old ++ words.now ++ value_text (expr_tree e.now)) }
 {
@@ -69,7 +69,7 @@ fn push_do(out: &mut Bytes, d: &Do) -> Result<(), NoMemory>
     push_step(out, &d.step)
 }
 
-/// Adds DO or PARALLEL DO, with a blank behind it.
+/// Adds DO or PARALLEL DO, with a blank after it.
 fn push_do_word(out: &mut Bytes, parallel: bool) -> Result<(), NoMemory>
     ensures { OnOk result (out.new ≡ out.old ++ do_word parallel) }
 {
@@ -80,7 +80,7 @@ fn push_do_word(out: &mut Bytes, parallel: bool) -> Result<(), NoMemory>
     }
 }
 
-/// Adds an increment other than 1, behind a comma.
+/// Adds an increment other than 1, after a comma.
 fn push_step(out: &mut Bytes, step: &Expr) -> Result<(), NoMemory>
     ensures { OnOk result (out.new ≡ out.old ++ step_text (expr_tree step.now)) }
 {
@@ -90,7 +90,7 @@ fn push_step(out: &mut Bytes, step: &Expr) -> Result<(), NoMemory>
     push_behind(out, b", ", step)
 }
 
-/// Adds the items of a PRINT, each behind a comma.
+/// Adds the items of a PRINT, each after a comma.
 fn push_items(out: &mut Bytes, all: &[PrintItem]) -> Result<(), NoMemory>
     ensures { OnOk result (out.new
         ≡ out.old ++ flat_map (λ i. codes ", " ++ item_text i) (map item_tree all.now)) }
@@ -134,7 +134,7 @@ fn push_doubled(out: &mut Bytes, text: &[u8]) -> Result<(), NoMemory>
     Ok(())
 }
 
-/// Adds the items of a READ, each behind a comma.
+/// Adds the items of a READ, each after a comma.
 fn push_targets(out: &mut Bytes, all: &[Expr]) -> Result<(), NoMemory>
     ensures { OnOk result (out.new
         ≡ out.old ++ flat_map (λ e. codes ", " ++ value_text e) (map expr_tree all.now)) }

@@ -20,6 +20,6 @@ several_at item (suc n) text = item text >>= λ x. go_on (after (codes ",") x.1)
 unfoldable pub several : {A : Type 0} → (List ℕ → Answer A) → List ℕ → Answer (List A)
 several item text = several_at item (suc (length text)) text
 
--- items to the end of the text, each behind a comma, or none
+-- items to the end of the text, each after a comma, or none
 unfoldable pub each_behind_comma : {A : Type 0} → (List ℕ → Answer A) → List ℕ → Option (List A)
 each_behind_comma item text = if is_end text then Some [] else after (codes ",") text >>= λ r. whole (several item r)

@@ -26,7 +26,7 @@ is_constant text = is_some (after (codes "'") text >>= λ q. whole (quoted_at fa
 unfoldable pub stops_with_code : List ℕ → Bool
 stops_with_code text = go_on (after (codes "STOP") text) false (λ r. is_numeral r || is_constant r)
 
--- what follows the parenthesis that closes the innermost of those that are open, where so many are open and a constant may be open
+-- what follows the parenthesis that closes the innermost of those that are open, where this many are open and a constant may be open
 abbrev pub closing_at : Bool → ℕ → List ℕ → Option (List ℕ)
 closing_at quoted depth [] = None
 closing_at quoted depth (c ∷ cs) =

@@ -48,7 +48,7 @@ bound_of v text = expr_of v text >>= λ x. go_on (after (codes ":") x.1) (Some (
 abbrev pub declarator : List ℕ → List BoundTree → DeclaratorTree
 declarator x bounds = record { name = x; bounds = bounds }
 
--- the dimensions of an array behind its opening parenthesis
+-- the dimensions of an array after its opening parenthesis
 unfoldable pub dimensions_of : (ℕ → ℕ) → List ℕ → List ℕ → Answer DeclaratorTree
 dimensions_of v x text = several (bound_of v) text >>= λ y. after (codes ")") y.1 >>= λ r. Some (declarator x y.0, r)
 
@@ -64,7 +64,7 @@ is_array d = has_some d.bounds
 unfoldable pub value_of : (ℕ → ℕ) → List ℕ → Answer (List ℕ × ExprTree)
 value_of v text = name_at text >>= λ x. after (codes "=") x.1 >>= λ q. expr_of v q >>= λ y. Some ((x.0, y.0), y.1)
 
--- the characters of a constant before the apostrophe that closes it, two apostrophes as one; whether an apostrophe stands directly before them
+-- the characters of a constant before the apostrophe that closes it, two apostrophes as one; whether an apostrophe is directly before them
 abbrev pub quoted_at : Bool → List ℕ → Answer (List ℕ)
 quoted_at false [] = None
 quoted_at true [] = Some ([], [])
@@ -88,11 +88,11 @@ worded_of v text =
     (after (codes "READ*") text >>= λ q. each_behind_comma (reference_of v) q >>= λ items. Some (Some (Read items)))
     (λ q. each_behind_comma (print_item_of v) q >>= λ items. Some (Some (Print items)))
 
--- a statement that may stand behind a logical IF
+-- a statement that may follow a logical IF
 unfoldable pub simple_of : (ℕ → ℕ) → List ℕ → Option (Option StmtTree)
 simple_of v text = go_on (assignment_of v text) (worded_of v text) (λ s. Some (Some s))
 
--- the statement behind a logical IF
+-- the statement after a logical IF
 abbrev pub behind_logical : Option StmtTree → StmtTrees
 behind_logical None = no_stmts
 behind_logical (Some s) = more_stmts s no_stmts
@@ -129,7 +129,7 @@ control_of v parallel text =
     name_at text >>= λ x. after (codes "=") x.1 >>= λ q. expr_of v q >>= λ a. after (codes ",") a.1 >>= λ r. expr_of v r >>= λ b. step_of v b.1 >>= λ s.
     Some (head parallel x.0 a.0 b.0 s.0, s.1)
 
--- what follows DO or PARALLEL DO: a label with or without a comma behind it, or none
+-- what follows DO or PARALLEL DO: a label with or without a comma after it, or none
 unfoldable pub do_of : (ℕ → ℕ) → Bool → List ℕ → Option Item
 do_of v parallel text =
     if is_end (front is_digit text) then (whole (control_of v parallel text) >>= λ h. Some (begins_do None h))

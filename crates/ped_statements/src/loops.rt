@@ -34,7 +34,7 @@ struct Control {
     step: Expr,
 }
 
-/// What a DO or a PARALLEL DO says, by what follows that word. A comma is read behind a label alone.
+/// What a DO or a PARALLEL DO says, by what follows that word. A comma is read after a label alone.
 #[tactic(auto, using(ped_expressions::proofs::Basics::front_all), unfolding(crate::specs::StatementReading::do_of))]
 pub fn do_statement(alloc: Global, parallel: bool, text: &[u8]) -> Result<Item, Failure>
     ensures { Gives item_of result (do_of saturated parallel text.now) }

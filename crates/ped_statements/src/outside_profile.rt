@@ -91,7 +91,7 @@ fn begins_with(text: &[u8], word: &[u8]) -> bool
     text.starts_with(word)
 }
 
-/// Whether the text is STOP with digits or a character constant behind it.
+/// Whether the text is STOP with digits or a character constant after it.
 #[tactic(auto, unfolding(crate::specs::ProfileReading::stops_with_code))]
 fn stops_with_code(alloc: Global, text: &[u8]) -> Result<bool, NoMemory>
     ensures { IfOk result (λ b. b ≡ Spec.stops_with_code text.now) }
@@ -128,7 +128,7 @@ fn is_constant(alloc: Global, text: &[u8]) -> Result<bool, NoMemory>
     }
 }
 
-/// Whether the text is an arithmetic IF: labels with a comma between two stand behind the parenthesis that
+/// Whether the text is an arithmetic IF: labels with commas between them follow the parenthesis that
 /// closes its first one.
 #[tactic(auto, unfolding(crate::specs::ProfileReading::branches_to_labels))]
 fn branches_to_labels(text: &[u8]) -> bool

@@ -112,7 +112,7 @@ pub fn is_word(text: &[u8], word: &[u8]) -> bool
     text == word
 }
 
-/// The items of a PRINT, each behind a comma, that the whole text is.
+/// The items of a PRINT, each after a comma, that the whole text is.
 #[tactic(auto, using(crate::proofs::SimpleSteps::items_step))]
 fn items(alloc: Global, text: &[u8]) -> Result<Vec<PrintItem>, Failure>
     ensures { Gives item_trees result (each_behind_comma (print_item_of saturated) text.now) }
@@ -130,7 +130,7 @@ fn items(alloc: Global, text: &[u8]) -> Result<Vec<PrintItem>, Failure>
     Ok(items)
 }
 
-/// The items of a READ, each behind a comma, that the whole text is.
+/// The items of a READ, each after a comma, that the whole text is.
 #[tactic(auto, using(crate::proofs::SimpleSteps::references_step))]
 fn references(alloc: Global, text: &[u8]) -> Result<Vec<Expr>, Failure>
     ensures { Gives reference_trees result (each_behind_comma (reference_of saturated) text.now) }
@@ -166,7 +166,7 @@ fn item(alloc: Global, text: &[u8]) -> Result<(PrintItem, &[u8]), Failure>
     }
 }
 
-/// The characters of the constant whose opening apostrophe stands before the text, and what follows its
+/// The characters of the constant whose opening apostrophe is before the text, and what follows its
 /// closing one. Two apostrophes in it stand for one.
 pub fn characters(alloc: Global, text: &[u8]) -> Result<(Bytes, &[u8]), Failure>
     ensures gives { Gives value_and_rest result (quoted_at false text.now) }

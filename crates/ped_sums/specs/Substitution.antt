@@ -4,7 +4,7 @@ use Rattle.ped_base.specs.Lists.{is_same_text}
 use Rattle.ped_tree.specs.Tree.{ExprTree, ExprTrees, Int, Var, Element, Neg, Add, Sub, Mul, Div, Pow, Call, no_exprs, more_exprs, CondTree, Rel, Not, And, Or, ItemTree, Value, Text, Head, StmtTree, StmtTrees, Assign, If, Do, Print, Read, Stop, Comment, no_stmts, more_stmts}
 use Rattle.ped_sums.specs.Sums.{plus_of, minus_of}
 
--- the scalar stands in the expression
+-- the scalar occurs in the expression
 abbrev mutual
   pub has_scalar : List ℕ → ExprTree → Bool
   has_scalar x (Int n) = false
@@ -18,7 +18,7 @@ abbrev mutual
   has_scalar x (Pow a b) = has_scalar x a || has_scalar x b
   has_scalar x (Call f arguments) = have_scalar x arguments
 
-  -- the scalar stands in one of the expressions
+  -- the scalar occurs in one of the expressions
   pub have_scalar : List ℕ → ExprTrees → Bool
   have_scalar x no_exprs = false
   have_scalar x (more_exprs e rest) = has_scalar x e || have_scalar x rest
@@ -28,7 +28,7 @@ abbrev pub is_scalar : List ℕ → ExprTree → Bool
 is_scalar x (Var y) = is_same_text x y
 is_scalar x e = false
 
--- an operand is changed where the scalar stands in it and isn't replaced by itself
+-- an operand is changed where the scalar occurs in it and isn't replaced by itself
 abbrev pub changes : List ℕ → ExprTree → ExprTree → ExprTree → Bool
 changes x by a b = (has_scalar x a || has_scalar x b) && not (is_scalar x by)
 
@@ -75,7 +75,7 @@ head_substituted x by h = record {
   rejected = h.rejected;
 }
 
--- the expression in place of the scalar in a statement, also where the scalar or a subscript stands on the left side of an assignment or in a READ
+-- the expression in place of the scalar in a statement, also where the scalar or a subscript is on the left side of an assignment or in a READ
 abbrev mutual
   pub statement_substituted : List ℕ → ExprTree → StmtTree → StmtTree
   statement_substituted x by (Assign left right) = Assign (substituted x by left) (substituted x by right)

@@ -23,11 +23,11 @@ read_of x subscripts = record { name = x; writes = false; subscripts = subscript
 abbrev pub write_of : List ℕ → List ExprTree → Access
 write_of x subscripts = record { name = x; writes = true; subscripts = subscripts }
 
--- a named constant is no variable, wherever it stands (ANSI X3.9-1978, section 8.6)
+-- a named constant is no variable, wherever it is (ANSI X3.9-1978, section 8.6)
 abbrev pub unless_constant : List (List ℕ) → Access → List Access
 unless_constant constants a = if is_among a.name constants then [] else a ∷ []
 
--- what an expression reads, left to right, an element behind its subscripts, by the named constants and the variables of the DO loops round it; in the body of a DO a read of its variable is no reference (Allen and Kennedy, section 2.2.1; this project)
+-- what an expression reads, left to right, an element after its subscripts, by the named constants and the variables of the DO loops around it; in the body of a DO a read of its variable is no reference (Allen and Kennedy, section 2.2.1; this project)
 abbrev mutual
   pub expr_reads : List (List ℕ) → List (List ℕ) → ExprTree → List Access
   expr_reads constants indices (Int n) = []
@@ -41,7 +41,7 @@ abbrev mutual
   expr_reads constants indices (Pow a b) = expr_reads constants indices a ++ expr_reads constants indices b
   expr_reads constants indices (Call f arguments) = exprs_reads constants indices arguments
 
-  -- what expressions read, one behind the other (Allen and Kennedy, section 2.2.1; this project)
+  -- what expressions read, one after another (Allen and Kennedy, section 2.2.1; this project)
   pub exprs_reads : List (List ℕ) → List (List ℕ) → ExprTrees → List Access
   exprs_reads constants indices no_exprs = []
   exprs_reads constants indices (more_exprs e rest) = expr_reads constants indices e ++ exprs_reads constants indices rest

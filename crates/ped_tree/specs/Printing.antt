@@ -1,4 +1,4 @@
--- The printed form of a program: one statement a line with its continuation lines, indented by the loops and IFs round it, each DO ended by an END DO of its own (this project).
+-- The printed form of a program: one statement a line with its continuation lines, indented by the loops and IFs around it, each DO ended by an END DO of its own (this project).
 use Rattle.std.specs.Prelude.{ℕ, suc, ◌+◌, ◌-◌, ◌*◌, ◌/◌, min, List, [], ◌∷◌, ◌++◌, map, take, drop, length, replicate, codes, Bool, true, false, ◌==◌, Option, Some, None, is_some, if◌then◌else◌}
 use Rattle.std.specs.List.{count_by, join_by, flat_map, range_with_len}
 use Rattle.std.specs.Fmt.{decimal}
@@ -9,7 +9,7 @@ use Rattle.ped_tree.specs.declared.conditions.Relation.TheVariants as relation
 use Rattle.ped_tree.specs.Tree.{ExprTree, ExprTrees, Int, Var, Element, Neg, Add, Sub, Mul, Div, Pow, Call, no_exprs, more_exprs, CondTree, Rel, Not, And, Or, ItemTree, Value, Text, Head, StmtTree, StmtTrees, Assign, If, Do, Print, Read, Stop, Comment, no_stmts, more_stmts, BoundTree, DeclaratorTree, DeclTree, Program, Implicit, Integer, Dimension, Parameter, Save, Remark, ProgramTree}
 use Rattle.ped_tree.specs.Numbering.{statement_count, statements_count}
 
--- where an expression stands: alone, as a term of a sum or behind a sign, as a factor, as the base of a power (ANSI X3.9-1978, section 6.1.2)
+-- the place of an expression: alone, as a term of a sum or after a sign, as a factor, as the base of a power (ANSI X3.9-1978, section 6.1.2)
 pub data Place : Type 0 where
   alone : Place
   as_term : Place
@@ -71,7 +71,7 @@ abbrev mutual
   further_text no_exprs = []
   further_text (more_exprs e rest) = codes "," ++ expr_text alone e ++ further_text rest
 
--- an expression that stands alone (ANSI X3.9-1978, sections 6.1, 15.10)
+-- an expression that is alone (ANSI X3.9-1978, sections 6.1, 15.10)
 abbrev pub value_text : ExprTree → List ℕ
 value_text e = expr_text alone e
 
@@ -84,7 +84,7 @@ relation_text relation.Ne = codes ".NE."
 relation_text relation.Gt = codes ".GT."
 relation_text relation.Ge = codes ".GE."
 
--- where a condition stands: as a whole, as a part of .OR., as the right part of .AND., behind .NOT. (ANSI X3.9-1978, sections 6.4, 6.5)
+-- the place of a condition: as a whole, as a part of .OR., as the right part of .AND., after .NOT. (ANSI X3.9-1978, sections 6.4, 6.5)
 pub data Standing : Type 0 where
   whole : Standing
   in_or : Standing
@@ -149,11 +149,11 @@ item_text (Text t) = constant_text t
 abbrev pub names_text : List (List ℕ) → List ℕ
 names_text names = join_by (λ x. x) (codes ", ") names
 
--- so many blanks
+-- as many blanks as given
 abbrev pub blanks : ℕ → List ℕ
 blanks n = replicate n 32
 
--- two blanks for each loop and IF round a statement, at most 20
+-- two blanks for each loop and IF around a statement, at most 20
 abbrev pub indentation : ℕ → List ℕ
 indentation depth = blanks (min (2 * depth) 20)
 
@@ -204,7 +204,7 @@ piece_count text = (length text + 65) / 66
 abbrev pub continuation_lines : List ℕ → List Line
 continuation_lines text = map (λ k. plain_line (codes "     &" ++ piece text k)) (range_with_len 1 (piece_count text - 1))
 
--- a statement's lines: its text begins in column 7 behind the indentation, and is cut into pieces of 66 characters (ANSI X3.9-1978, sections 3.2.2, 3.2.3; this project)
+-- a statement's lines: its text begins in column 7 after the indentation, and is cut into pieces of 66 characters (ANSI X3.9-1978, sections 3.2.2, 3.2.3; this project)
 abbrev pub text_lines : Option ℕ → ℕ → List ℕ → List Line
 text_lines number depth text =
     (record { statement = number; text = blanks 6 ++ piece (indentation depth ++ text) 0 })
@@ -219,7 +219,7 @@ abbrev pub private_lines : ℕ → List (List ℕ) → List Line
 private_lines depth [] = []
 private_lines depth (x ∷ xs) = text_lines None depth (private_text (x ∷ xs))
 
--- the lines of a statement, by the loops and IFs round it and its number (ANSI X3.9-1978, sections 3.3, 11.6)
+-- the lines of a statement, by the loops and IFs around it and its number (ANSI X3.9-1978, sections 3.3, 11.6)
 abbrev mutual
   pub statement_lines : ℕ → ℕ → StmtTree → List Line
   statement_lines depth number (Assign left right) = text_lines (Some number) depth (own_text (Assign left right))
@@ -279,7 +279,7 @@ decl_text (Parameter values) = codes "PARAMETER (" ++ join_by parameter_text (co
 decl_text (Save names) = codes "SAVE " ++ names_text names
 decl_text (Remark text) = codes "C" ++ text
 
--- a comment stands from column 1 on (ANSI X3.9-1978, section 3.2.1)
+-- a comment begins in column 1 (ANSI X3.9-1978, section 3.2.1)
 abbrev pub is_remark : DeclTree → Bool
 is_remark (Program x) = false
 is_remark Implicit = false

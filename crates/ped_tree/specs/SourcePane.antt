@@ -1,10 +1,10 @@
--- The source pane: the printed lines, each behind its line number and the number of the statement that begins on it (ParaScope; this project).
+-- The source pane: the printed lines, each after its line number and the number of the statement that begins on it (ParaScope; this project).
 use Rattle.std.specs.Prelude.{ℕ, suc, ◌-◌, List, [], ◌∷◌, ◌++◌, length, codes, Option, Some, None}
 use Rattle.std.specs.Fmt.{decimal}
 use Rattle.ped_tree.specs.Tree.{ProgramTree}
 use Rattle.ped_tree.specs.Printing.{Line, blanks, program_lines}
 
--- a number in so many places, or as many as it has digits (plain words)
+-- a number in this many places, or as many as it has digits (plain words)
 abbrev pub right_aligned : ℕ → List ℕ → List ℕ
 right_aligned places digits = blanks (places - length digits) ++ digits
 

@@ -39,7 +39,7 @@ pub enum Decl {
     Parameter(Vec<(Name, Expr)>),
     /// `SAVE` and its names.
     Save(Names),
-    /// A comment by its text, which stands from column 2 on (section 3.2.1).
+    /// A comment by its text, which begins in column 2 (section 3.2.1).
     Comment(Bytes),
 }
 

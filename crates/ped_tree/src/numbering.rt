@@ -61,8 +61,8 @@ pub fn count_statements(statements: &[Stmt]) -> u32
     total
 }
 
-/// The statement at a place within this one, where it stands at place 0. If there is none, the place
-/// becomes one among the statements behind it.
+/// The statement at a place within this one, where it is at place 0. If there is none, the place
+/// becomes one among the statements after it.
 #[cycle(find)]
 #[tactic(auto, using(crate::proofs::Numbers::placing))]
 fn find<'a>(stmt: &'a Stmt, place: &mut u32) -> Option<&'a Stmt>
@@ -89,8 +89,8 @@ fn find<'a>(stmt: &'a Stmt, place: &mut u32) -> Option<&'a Stmt>
     }
 }
 
-/// The statement at a place among these, where the first numbered one stands at place 0. If there is
-/// none, the place becomes one among the statements behind them.
+/// The statement at a place among these, where the first numbered one is at place 0. If there is
+/// none, the place becomes one among the statements after them.
 #[cycle(find)]
 #[tactic(auto, using(crate::proofs::Numbers::placing))]
 fn find_among<'a>(stmts: &'a [Stmt], place: &mut u32) -> Option<&'a Stmt>

@@ -38,7 +38,7 @@ pub enum Stmt {
     Read(Vec<Expr>),
     /// STOP (section 11.12).
     Stop,
-    /// A comment by its text, which stands from column 2 on (section 3.2.1).
+    /// A comment by its text, which begins in column 2 (section 3.2.1).
     Comment(Bytes),
 }
 

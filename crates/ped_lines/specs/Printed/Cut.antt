@@ -4,7 +4,7 @@ use Rattle.ped_tree.specs.Grammar.Characters.{text_of}
 use Rattle.ped_tree.specs.Grammar.Statement.{Note, Statement, Statements}
 use Rattle.ped_lines.specs.Printed.Printed.{PrintedNote, a_comment, a_rejection, PrintedStatement, printed_lines, all_printed_lines}
 
--- the comments among notes that stand from line n on
+-- the comments among notes that are from line n on
 abbrev pub comments_at : ℕ → List PrintedNote → List Note
 comments_at n [] = []
 comments_at n (a_comment text ∷ more) = record { line = n; text = text } ∷ comments_at (n + 1) more
@@ -31,7 +31,7 @@ abbrev pub cut_from : ℕ → List PrintedStatement → List Statement
 cut_from n [] = []
 cut_from n (s ∷ ss) = cut_at n s ∷ cut_from (n + length (printed_lines s)) ss
 
--- what a text of these statements is cut into: nothing stands behind the last one
+-- what a text of these statements is cut into: nothing follows the last one
 abbrev pub cut : List PrintedStatement → Statements
 cut ss = record {
   statements = cut_from 1 ss;

@@ -19,7 +19,7 @@ pub record IsRejectedName (name : List ℕ) : Type 0 where
   pub short : length name ≤ 31
   pub letters : list_all is_alphanumeric name ≡ true
 
--- what stands before a statement can be read back
+-- what is before a statement can be read back
 abbrev pub NoteFits : PrintedNote → Type 0
 NoteFits (a_comment text) = IsCommentText text
 NoteFits (a_rejection name) = IsRejectedName name
@@ -29,7 +29,7 @@ abbrev pub begins_at_once : List ℕ → Bool
 begins_at_once [] = false
 begins_at_once (c ∷ cs) = not (is_blank c)
 
--- a statement's text begins at once, has no character where it may not stand and no open constant, and fits with its indentation on an initial line and 19 continuation lines
+-- a statement's text begins at once, has no character at a place where it may not occur and no open constant, and fits with its indentation on an initial line and 19 continuation lines
 pub record TextFits (depth : ℕ) (text : List ℕ) : Type 0 where
   pub begins : begins_at_once text ≡ true
   pub allowed : has_bad [] text ≡ false

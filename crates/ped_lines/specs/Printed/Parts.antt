@@ -14,7 +14,7 @@ abbrev pub private_parts : ℕ → List (List ℕ) → List Part
 private_parts depth [] = []
 private_parts depth (x ∷ xs) = a_statement depth (private_text (x ∷ xs)) ∷ []
 
--- what is printed for a statement, by the loops and IFs round it
+-- what is printed for a statement, by the loops and IFs around it
 abbrev mutual
   pub statement_parts : ℕ → StmtTree → List Part
   statement_parts depth (Assign left right) = a_statement depth (own_text (Assign left right)) ∷ []
@@ -60,13 +60,13 @@ decl_part (Remark text) = a_note (a_comment text)
 abbrev pub program_parts : ProgramTree → List Part
 program_parts t = map decl_part t.decls ++ statements_parts 0 t.body ++ a_statement 0 (codes "END") ∷ []
 
--- the statements among parts, where these notes stand before the first part; each takes the notes before it
+-- the statements among parts, where these notes are before the first part; each takes the notes before it
 abbrev pub with_notes : List PrintedNote → List Part → List PrintedStatement
 with_notes before [] = []
 with_notes before (a_note n ∷ rest) = with_notes (before ++ n ∷ []) rest
 with_notes before (a_statement depth text ∷ rest) = record { notes = before; depth = depth; text = text } ∷ with_notes [] rest
 
--- the notes behind the last statement
+-- the notes after the last statement
 abbrev pub notes_left : List PrintedNote → List Part → List PrintedNote
 notes_left before [] = before
 notes_left before (a_note n ∷ rest) = notes_left (before ++ n ∷ []) rest

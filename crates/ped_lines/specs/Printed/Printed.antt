@@ -35,6 +35,6 @@ printed_lines s = map note_line s.notes ++ cut_lines (characters s.depth s.text)
 abbrev pub all_printed_lines : List PrintedStatement → List (List ℕ)
 all_printed_lines ss = flat_map printed_lines ss
 
--- the text of statements: each line with a newline behind it
+-- the text of statements: each line with a newline after it
 abbrev pub printed_text : List PrintedStatement → List ℕ
 printed_text ss = flat_map (λ line. line ++ 10 ∷ []) (all_printed_lines ss)

@@ -18,7 +18,7 @@ fn is_same(a: &Name, b: &Name) -> bool
     a.as_bytes() == b.as_bytes()
 }
 
-/// The scalar stands in the expression.
+/// The scalar occurs in the expression.
 #[cycle(has_scalar)]
 fn has_scalar(e: &Expr, name: &Name) -> bool
     ensures { result ≡ Spec.has_scalar name.now (expr_tree e.now) }
@@ -33,7 +33,7 @@ fn has_scalar(e: &Expr, name: &Name) -> bool
     }
 }
 
-/// The scalar stands in one of the expressions.
+/// The scalar occurs in one of the expressions.
 #[cycle(has_scalar)]
 fn have_scalar(exprs: &[Expr], name: &Name) -> bool
     ensures { result ≡ Spec.have_scalar name.now (pack_exprs (map expr_tree exprs.now)) }
@@ -115,7 +115,7 @@ pub fn substitute(alloc: Global, e: &Expr, name: &Name, by: &Expr) -> Result<Exp
     }
 }
 
-/// The sum of two expressions, which are let go.
+/// The sum of two expressions, which are dropped.
 fn sum_of(alloc: Global, a: Expr, b: Expr) -> Result<Expr, NoMemory>
     ensures { IfOk result (λ e. expr_tree e ≡ Sums.plus_of (expr_tree a) (expr_tree b)) }
 {
@@ -125,7 +125,7 @@ fn sum_of(alloc: Global, a: Expr, b: Expr) -> Result<Expr, NoMemory>
     sum
 }
 
-/// The difference of two expressions, which are let go.
+/// The difference of two expressions, which are dropped.
 fn difference_of(alloc: Global, a: Expr, b: Expr) -> Result<Expr, NoMemory>
     ensures { IfOk result (λ e. expr_tree e ≡ Sums.minus_of (expr_tree a) (expr_tree b)) }
 {

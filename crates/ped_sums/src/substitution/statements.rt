@@ -40,7 +40,7 @@ fn substitute_in_items(
     Ok(new)
 }
 
-/// The statement with `by` in place of the scalar `name`, also where this stands on the left side of an assignment or
+/// The statement with `by` in place of the scalar `name`, also where the scalar is on the left side of an assignment or
 /// in a READ: what the new statement assigns is then `by`, and it is the caller's to see that this is a variable.
 #[cycle(substitute_in_statement)]
 pub fn substitute_in_statement(

@@ -25,7 +25,7 @@ onto (Some a) (Some rest) = Some (a ∷ rest)
 onto (Some a) None = None
 onto None rest = None
 
--- an intrinsic function of these arguments, by its value or its fault; none where it doesn't take so many: MOD two, ABS one, MAX and MIN two or more (ANSI X3.9-1978, table 5)
+-- an intrinsic function of these arguments, by its value or its fault; none where it takes another number of arguments: MOD two, ABS one, MAX and MIN two or more (ANSI X3.9-1978, table 5)
 abbrev pub intrinsic_result : Intrinsic → List ℤ → Option (Result ℤ Fault)
 intrinsic_result Mod (a ∷ b ∷ []) = Some (remainder_of a b)
 intrinsic_result Abs (a ∷ []) = Some (absolute_value_of a)

@@ -19,7 +19,7 @@ pub data PrivateForm : Type 0 where
   private_list : Statement → List (List ℕ) → PrivateForm
 
 mutual
-  -- statements one behind the other
+  -- statements one after another
   pub data BodyForm : Type 0 where
     nothing : BodyForm
     and_then : BodyForm → PartForm → BodyForm
@@ -151,7 +151,7 @@ has_label (Some l) (Some m) = m == l
 has_label (Some l) None = false
 has_label None m = false
 
--- the statement has none of these labels, those of the loops round it (ANSI X3.9-1978, section 11.10.1)
+-- the statement has none of these labels, those of the loops around it (ANSI X3.9-1978, section 11.10.1)
 abbrev pub is_free : List (Option ℕ) → Statement → Bool
 is_free labels s = not (list_any (λ l. has_label l s.label) labels)
 
@@ -160,7 +160,7 @@ abbrev pub private_keeps_labels : List (Option ℕ) → PrivateForm → Bool
 private_keeps_labels labels no_private = true
 private_keeps_labels labels (private_list s names) = is_free labels s
 
--- the first statement behind a DO that has its label ends it: within loops with these labels none of them stands but at an ending; END DO ends a DO without a label (ANSI X3.9-1978, section 11.10.1; this project)
+-- the first statement after a DO that has its label ends it: within loops with these labels none of them occurs but at an ending; END DO ends a DO without a label (ANSI X3.9-1978, section 11.10.1; this project)
 abbrev mutual
   pub body_keeps_labels : List (Option ℕ) → BodyForm → Bool
   body_keeps_labels labels nothing = true

@@ -28,7 +28,7 @@ is_directive line = column 2 line == 36 && to_ascii_uppercase (column 3 line) ==
 unfoldable pub is_continuation : List ℕ → Bool
 is_continuation line = not (column 6 line == 32 || column 6 line == 48 || column 6 line == 9)
 
--- the number n with the digit c behind it; any other byte means nothing (ANSI X3.9-1978, section 3.4)
+-- the number n with the digit c after it; any other byte means nothing (ANSI X3.9-1978, section 3.4)
 unfoldable pub with_digit : ℕ → ℕ → ℕ
 with_digit n c = if is_digit c then n * 10 + (c - 48) else n
 

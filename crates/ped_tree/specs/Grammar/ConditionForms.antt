@@ -16,7 +16,7 @@ mutual
     one_factor : LogicalFactorForm → LogicalTermForm
     and : LogicalTermForm → LogicalFactorForm → LogicalTermForm
 
-  -- a logical factor: a logical primary, alone or behind .NOT.
+  -- a logical factor: a logical primary, alone or after .NOT.
   pub data LogicalFactorForm : Type 0 where
     affirmed : LogicalPrimaryForm → LogicalFactorForm
     negated : LogicalPrimaryForm → LogicalFactorForm

@@ -125,12 +125,12 @@ abbrev pub is_loop_with : ℕ → Block → Bool
 is_loop_with l (in_do d) = has_label d.label (Some l)
 is_loop_with l b = false
 
--- the first statement behind a DO that has its label ends the loop, and all that was begun in it; loops with one label end together (ANSI X3.9-1978, section 11.10.1)
+-- the first statement after a DO that has its label ends the loop, and all that was begun in it; loops with one label end together (ANSI X3.9-1978, section 11.10.1)
 abbrev pub left_by_label : ℕ → List Block → List Block
 left_by_label l [] = []
 left_by_label l (b ∷ c) = if has_do l c then left_by_label l c else if is_loop_with l b then c else b ∷ c
 
--- what is left open by a statement's label, where it has one (ANSI X3.9-1978, section 11.10.1)
+-- what a statement's label leaves open, where it has one (ANSI X3.9-1978, section 11.10.1)
 abbrev pub left_by : Option ℕ → List Block → List Block
 left_by None c = c
 left_by (Some l) c = left_by_label l c
@@ -182,7 +182,7 @@ abbrev pub with_private : ℕ → List (List ℕ) → List Block → List Block
 with_private line names (in_do d ∷ c) = in_do (record d { private = names; private_line = line }) ∷ c
 with_private line names c = c
 
--- the blocks that are open behind a statement, by whether the one before it is a DO; END ends them all
+-- the blocks that are open after a statement, by whether the one before it is a DO; END ends them all
 abbrev pub blocks_behind : Bool → Statement → Item → List Block → List Block
 blocks_behind behind_do s (block_if e) c = in_then 1 ∷ left_by s.label c
 blocks_behind behind_do s (else_if e) c = left_by s.label (with_else_if (left_in_if c))
@@ -194,7 +194,7 @@ blocks_behind behind_do s (keeps_private names) c = left_by s.label (if behind_d
 blocks_behind behind_do s ends_program c = []
 blocks_behind behind_do s i c = left_by s.label c
 
--- behind a statement that says this
+-- after a statement that says this
 abbrev pub behind_item : Context → Statement → Item → Context
 behind_item c s i = record {
   phase = max c.phase (rank i);
@@ -206,16 +206,16 @@ behind_item c s i = record {
   behind_do = is_do i;
 }
 
--- behind a statement; of one that has no form the label counts alone
+-- after a statement; of one that has no form the label counts alone
 abbrev pub behind_reading : Context → Statement → Reading → Context
 behind_reading c s (says i) = behind_item c s i
 behind_reading c s r = record c { blocks = left_by s.label c.blocks; behind_do = false }
 
--- behind a statement
+-- after a statement
 abbrev pub behind : Context → Entry → Context
 behind c e = behind_reading c e.statement e.reading
 
--- behind statements
+-- after statements
 abbrev pub behind_all : Context → List Entry → Context
 behind_all c [] = c
 behind_all c (e ∷ rest) = behind_all (behind c e) rest

@@ -4,7 +4,7 @@ use Rattle.ped_tree.specs.declared.expressions.Intrinsic.TheVariants.{Mod, Abs, 
 use Rattle.ped_tree.specs.Tree.{ExprTree, ExprTrees, Int, Var, Element, Neg, Add, Sub, Mul, Div, Pow, Call, no_exprs, more_exprs}
 use Rattle.ped_tree.specs.Grammar.Words.{is_name, is_numeral, numeral_value, intrinsic_of}
 
--- what stands before the first term: nothing, + or - (ANSI X3.9-1978, section 6.1.1)
+-- what is before the first term: nothing, + or - (ANSI X3.9-1978, section 6.1.1)
 pub data Sign : Type 0 where
   unsigned : Sign
   positive : Sign
@@ -108,7 +108,7 @@ abbrev mutual
   exprs_form_text (one e) = expr_form_text e
   exprs_form_text (more e rest) = expr_form_text e ++ codes "," ++ exprs_form_text rest
 
--- a term behind a sign: + leaves no trace
+-- a term after a sign: + leaves no trace
 abbrev pub signed : Sign → ExprTree → ExprTree
 signed unsigned a = a
 signed positive a = a

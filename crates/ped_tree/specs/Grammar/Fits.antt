@@ -1,4 +1,4 @@
--- Which trees are programs of the profile: those whose names, literals, comments and order can be written, in which no loop changes its variable and no STOP stands in a loop, and that pass no limit at any place. A tree fits exactly where some text reads as it (this project).
+-- Which trees are programs of the profile: those whose names, literals, comments and order can be written, in which no loop changes its variable and no STOP is in a loop, and that pass no limit at any place. A tree fits exactly where some text reads as it (this project).
 use Rattle.std.specs.Prelude.{ℕ, ◌+◌, List, [], ◌∷◌, ◌++◌, length, Bool, true, false, not, ◌&&◌, ◌||◌, ◌==◌, nat_lt, nat_le, Option, Some, None}
 use Rattle.std.specs.List.{list_all, list_any}
 use Rattle.ped_base.specs.Lists.{has_some, is_same_text, is_among}
@@ -22,7 +22,7 @@ abbrev pub is_no_intrinsic : Option Intrinsic → Bool
 is_no_intrinsic None = true
 is_no_intrinsic (Some f) = false
 
--- so many arguments: two for MOD, one for ABS, two or more for MAX and MIN (ANSI X3.9-1978, table 5)
+-- the right number of arguments: two for MOD, one for ABS, two or more for MAX and MIN (ANSI X3.9-1978, table 5)
 abbrev pub takes_arguments : Intrinsic → ExprTrees → Bool
 takes_arguments Mod (more_exprs a (more_exprs b no_exprs)) = true
 takes_arguments Abs (more_exprs a no_exprs) = true
@@ -76,7 +76,7 @@ item_fits (Text text) = list_all is_printable text
 abbrev pub comment_fits : List ℕ → Bool
 comment_fits text = nat_le (length text) 71 && not (list_any (λ c. c == 10) text) && is_same_text (trimmed text) text && not (is_directive (67 ∷ text))
 
--- round a statement: the named constants, the variables and the PRIVATE names of the DO loops, how many loops and IFs, and how many numbered statements stand before it
+-- around a statement: the named constants, the variables and the PRIVATE names of the DO loops, how many loops and IFs, and how many numbered statements are before it
 pub record Surroundings : Type 0 where
   pub constants : List (List ℕ)
   pub variables : List (List ℕ)
@@ -84,11 +84,11 @@ pub record Surroundings : Type 0 where
   pub depth : ℕ
   pub statements : ℕ
 
--- behind so many statements
+-- after this many statements
 abbrev pub moved : Surroundings → ℕ → Surroundings
 moved p n = record p { statements = p.statements + n }
 
--- in a part of an IF, behind so many statements
+-- in a part of an IF, after this many statements
 abbrev pub in_if : Surroundings → ℕ → Surroundings
 in_if p n = record p { depth = p.depth + 1; statements = p.statements + n }
 
@@ -108,15 +108,15 @@ is_within p s =
     && nat_le (length (own_accesses p.constants p.variables s)) most_references
     && nat_le (length (own_text s)) most_characters
 
--- an assignment, PRINT, READ or STOP: it changes the variable of no loop round it, and STOP stands in no loop
+-- an assignment, PRINT, READ or STOP: it changes the variable of no loop around it, and STOP is in no loop
 abbrev pub simple_fits : Surroundings → StmtTree → Bool
 simple_fits p s = is_within p s && not (meets (assigned_by s) p.variables) && not (is_stop s && has_some p.variables)
 
--- the PRIVATE statement of a DO, where there is one: names, none of them the variable of its loop or of one round it
+-- the PRIVATE statement of a DO, where there is one: names, none of them the variable of its loop or of one around it
 abbrev pub private_fits : Surroundings → Head → Bool
 private_fits p h = not (has_some h.private) || (are_names h.private && nat_le (length (private_text h.private)) most_characters && not (meets h.private (h.variable ∷ p.variables)))
 
--- a DO by itself: its variable is that of no loop round it, and private to none
+-- a DO by itself: its variable is that of no loop around it, and private to none
 abbrev pub loop_fits : Surroundings → Head → StmtTrees → Bool
 loop_fits p h body =
     is_within p (Do h body)
@@ -140,7 +140,7 @@ abbrev mutual
   stmt_fits p Stop = simple_fits p Stop
   stmt_fits p (Comment text) = comment_fits text
 
-  -- statements one behind the other
+  -- statements one after another
   pub stmts_fit : Surroundings → StmtTrees → Bool
   stmts_fit p no_stmts = true
   stmts_fit p (more_stmts s rest) = stmt_fits p s && stmts_fit (moved p (statement_count s)) rest
@@ -171,13 +171,13 @@ decl_fits (Parameter values) = has_some values && list_all constant_fits values
 decl_fits (Save names) = are_names names
 decl_fits (Remark text) = comment_fits text
 
--- declarations one behind the other, where the order of statements has come so far (ANSI X3.9-1978, section 3.5)
+-- declarations one after another, where the order of statements has reached this point (ANSI X3.9-1978, section 3.5)
 abbrev pub decls_fit : ℕ → List DeclTree → Bool
 decls_fit phase [] = true
 decls_fit phase (Remark text ∷ ds) = comment_fits text && decls_fit phase ds
 decls_fit phase (d ∷ ds) = decl_fits d && nat_le (length (decl_text d)) most_characters && not (is_out_of_order phase (decl_rank d)) && decls_fit (decl_rank d) ds
 
--- no comment stands before the first executable statement: it would belong to the declarations
+-- no comment comes before the first executable statement: it would belong to the declarations
 abbrev pub begins_with_statement : StmtTrees → Bool
 begins_with_statement (more_stmts (Comment text) rest) = false
 begins_with_statement ss = true

@@ -24,7 +24,7 @@ further_lines n (line ∷ more) =
 abbrev pub joined_columns : List NumberedLine → List ℕ
 joined_columns further = flat_map (λ l. statement_columns l.bytes) further
 
--- a byte and what is left of the bytes behind it: nothing where it is a blank or a carriage return with nothing behind it (this project)
+-- a byte and what is kept of the bytes after it: nothing where it is a blank or a carriage return with nothing after it (this project)
 abbrev pub with_rest : ℕ → List ℕ → List ℕ
 with_rest c [] = if c == 32 || c == 13 then [] else c ∷ []
 with_rest c (x ∷ xs) = c ∷ x ∷ xs
@@ -50,7 +50,7 @@ comment_at n line = if is_directive line then [] else record { line = n; text = 
 unfoldable pub directive_at : ℕ → List ℕ → List Note
 directive_at n line = if is_directive line then record { line = n; text = directive_text line } ∷ [] else []
 
--- the notes between the lines of a statement, from line n on, where these stand before line n and behind the statement's line before (this project)
+-- the notes between the lines of a statement, from line n on, where these are between the statement's line before and line n (this project)
 abbrev pub notes_within : (ℕ → List ℕ → List Note) → List Note → ℕ → List (List ℕ) → List Note
 notes_within at before n [] = []
 notes_within at before n (line ∷ more) =
@@ -58,7 +58,7 @@ notes_within at before n (line ∷ more) =
     else if is_continuation line then (before ++ notes_within at [] (n + 1) more)
     else []
 
--- the notes behind the last statement, from line n on, where these stand directly before line n (this project)
+-- the notes after the last statement, from line n on, where these are directly before line n (this project)
 abbrev pub notes_behind : (ℕ → List ℕ → List Note) → List Note → ℕ → List (List ℕ) → List Note
 notes_behind at before n [] = before
 notes_behind at before n (line ∷ more) =
@@ -75,7 +75,7 @@ statement_at comments directives n line more = record {
   directives = directives ++ notes_within directive_at [] (n + 1) more;
 }
 
--- the statements that begin on line n or behind it, where these notes stand directly before line n
+-- the statements that begin on line n or after it, where these notes are directly before line n
 abbrev pub statements_from : List Note → List Note → ℕ → List (List ℕ) → List Statement
 statements_from comments directives n [] = []
 statements_from comments directives n (line ∷ more) =
@@ -83,7 +83,7 @@ statements_from comments directives n (line ∷ more) =
     else if is_continuation line then statements_from [] [] (n + 1) more
     else statement_at comments directives n line more ∷ statements_from [] [] (n + 1) more
 
--- the statements of a text, with the notes behind the last
+-- the statements of a text, with the notes after the last
 abbrev pub statements_of : List ℕ → Statements
 statements_of text = record {
   statements = statements_from [] [] 1 (lines text);

@@ -24,7 +24,7 @@ do_head d = record {
   rejected = [];
 }
 
--- the statement behind a logical IF
+-- the statement after a logical IF
 abbrev pub behind_logical : Option Stmt → StmtTrees
 behind_logical None = no_stmts
 behind_logical (Some s) = more_stmts (stmt_tree s) no_stmts

@@ -1,4 +1,4 @@
--- Which refusals stand at the lines of a text, and which of them is the first. Lines count from 1 (this project).
+-- The refusals at the lines of a text, and which of them is the first. Lines count from 1 (this project).
 use Rattle.std.specs.Prelude.{ℕ, ◌+◌, ◌-◌, List, [], ◌∷◌, ◌++◌, Option, Bool, true, false, ◌||◌, ◌==◌, if◌then◌else◌}
 use Rattle.std.specs.List.{flat_map}
 use Rattle.std.specs.Str.Lines.{lines}
@@ -8,7 +8,7 @@ use Rattle.ped_tree.specs.Grammar.Grouping.{NumberedLine, further_lines, joined_
 use Rattle.ped_tree.specs.Grammar.LimitNumbers.{most_continuations}
 use Rattle.ped_tree.specs.Grammar.Refusal.{Finding, Tab, BadLabel, TooManyContinuations, ContinuationFirst, BadCharacter, OpenConstant, refused_if, first_of}
 
--- a line that is no comment begins a statement, or continues one that so many lines may still continue, or continues none (ANSI X3.9-1978, section 3.2)
+-- a line that is no comment begins a statement, or continues one that this many lines may still continue, or continues none (ANSI X3.9-1978, section 3.2)
 pub data Role : Type 0 where
   Initial : Role
   Continuation : ℕ → Role
@@ -30,7 +30,7 @@ abbrev pub is_orphan : Role → Bool
 is_orphan Orphan = true
 is_orphan role = false
 
--- what stands at line n, where these characters of its statement stand before it
+-- the refusals at line n, where these characters of its statement are before it
 unfoldable pub at_line : ℕ → Role → List ℕ → List ℕ → List Finding
 at_line n role before line =
     refused_if (has_tab line) Tab n
@@ -39,27 +39,27 @@ at_line n role before line =
     ++ refused_if (is_orphan role) ContinuationFirst n
     ++ refused_if (has_bad before (statement_columns line)) BadCharacter n
 
--- what stands at the further lines of a statement, where so many may still come and these characters stand before them
+-- the refusals at the further lines of a statement, where this many may still come and these characters are before them
 abbrev pub at_further : ℕ → List ℕ → List NumberedLine → List Finding
 at_further left before [] = []
 at_further left before (l ∷ ls) = at_line l.number (Continuation left) before l.bytes ++ at_further (left - 1) (before ++ statement_columns l.bytes) ls
 
--- what stands in the rest of the statement that begins on line first, and at its end: a constant is open where the statement has an odd number of apostrophes
+-- the refusals in the rest of the statement that begins on line first, and at its end: a constant is open where the statement has an odd number of apostrophes
 abbrev pub in_rest : ℕ → ℕ → List ℕ → List NumberedLine → List Finding
 in_rest first left before further = at_further left before further ++ refused_if (is_quoted (before ++ joined_columns further)) OpenConstant first
 
--- what stands in the statements that begin on line n or behind it; a statement has at most 19 continuation lines
+-- the refusals in the statements that begin on line n or after it; a statement has at most 19 continuation lines
 abbrev pub in_statements : ℕ → List (List ℕ) → List Finding
 in_statements n [] = []
 in_statements n (line ∷ more) =
     if is_comment line || is_continuation line then in_statements (n + 1) more
     else at_line n Initial [] line ++ in_rest n most_continuations (statement_columns line) (further_lines (n + 1) more) ++ in_statements (n + 1) more
 
--- what stands at continuation lines before any initial line
+-- the refusals at continuation lines before any initial line
 abbrev pub at_orphans : List NumberedLine → List Finding
 at_orphans orphans = flat_map (λ l. at_line l.number Orphan [] l.bytes) orphans
 
--- all that stand in a text
+-- all refusals of the lines of a text
 abbrev pub line_refusals : List ℕ → List Finding
 line_refusals text = at_orphans (further_lines 1 (lines text)) ++ in_statements 1 (lines text)
 

@@ -52,25 +52,25 @@ abbrev pub lacks_do : List Block → Option ℕ → Item → Bool
 lacks_do c label ends_do = not (carries_open label c) && not (is_in_bare_do c)
 lacks_do c label i = false
 
--- PRIVATE that isn't the first statement behind a DO (this project)
+-- PRIVATE that isn't the first statement after a DO (this project)
 abbrev pub is_late_private : Bool → Item → Bool
 is_late_private behind_do (keeps_private names) = not behind_do
 is_late_private behind_do i = false
 
--- a SAVE behind another, at least one of the two without a list (ANSI X3.9-1978, section 8.9; this project)
+-- a SAVE after another, at least one of the two without a list (ANSI X3.9-1978, section 8.9; this project)
 abbrev pub saves_again : Context → Item → Bool
 saves_again c i = (saves_list i && c.saves_everything) || (saves_without i && (c.saves_names || c.saves_everything))
 
--- a form at a place where it can't stand, by the statement's label (this project)
+-- a form at a place where it can't occur, by the statement's label (this project)
 abbrev pub is_misplaced : Context → Option ℕ → Item → Bool
 is_misplaced c label i =
     is_out_of_order c.phase (rank i) || lacks_if c.blocks i || is_late_private c.behind_do i || saves_again c i || lacks_do c.blocks label i
 
--- the statement stands behind END (ANSI X3.9-1978, section 11.14)
+-- the statement follows END (ANSI X3.9-1978, section 11.14)
 abbrev pub is_behind_end : Context → Bool
 is_behind_end c = nat_le 5 c.phase
 
--- no form, or a form that can't stand there; a form that the profile leaves out is refused as that (this project)
+-- no form, or a form that can't occur there; a form that the profile leaves out is refused as that (this project)
 abbrev pub breaks_syntax : Context → Option ℕ → Reading → Bool
 breaks_syntax c label r = not (is_left_out r) && (is_behind_end c || is_formless r || where_it_says (is_misplaced c label) r)
 
@@ -108,7 +108,7 @@ assigned_by (Assign left right) = scalar_of left
 assigned_by (Read items) = flat_map scalar_of items
 assigned_by s = []
 
--- the statements that are behind a logical IF (ANSI X3.9-1978, section 11.5)
+-- the statements after a logical IF (ANSI X3.9-1978, section 11.5)
 abbrev pub listed_stmts : StmtTrees → List StmtTree
 listed_stmts no_stmts = []
 listed_stmts (more_stmts s rest) = s ∷ listed_stmts rest
@@ -129,15 +129,15 @@ private_in i = []
 abbrev pub meets : List (List ℕ) → List (List ℕ) → Bool
 meets names others = list_any (λ x. is_among x others) names
 
--- the variable of a loop round the statement is assigned, read into or a DO variable again, or named in PRIVATE (ANSI X3.9-1978, section 11.10.5; this project)
+-- the variable of a loop around the statement is assigned, read into or a DO variable again, or named in PRIVATE (ANSI X3.9-1978, section 11.10.5; this project)
 abbrev pub assigns_index : Context → Reading → Bool
 assigns_index c r = meets (of_reading assigned_in r ++ of_reading private_in r) (open_variables c.blocks)
 
--- a DO whose variable the PRIVATE statement of a loop round it names, which is refused at that statement (this project)
+-- a DO whose variable the PRIVATE statement of a loop around it names, which is refused at that statement (this project)
 abbrev pub at_private : Context → Reading → List Finding
 at_private c r = flat_map (λ d. refused_if (meets (of_reading do_variables r) d.private) IndexAssigned d.private_line) (open_loops c.blocks)
 
--- STOP, also behind a logical IF (this project)
+-- STOP, also after a logical IF (this project)
 abbrev pub stops : Item → Bool
 stops (does s) = is_stop s
 stops (logical_if e s) = list_any is_stop (listed_stmts s)
@@ -175,7 +175,7 @@ block_depth (in_then n ∷ c) = block_depth c + n
 block_depth (in_else n ∷ c) = block_depth c + n
 block_depth (in_do d ∷ c) = block_depth c + 1
 
--- a statement that is nested one deeper than the blocks round it: a DO or an IF (this project)
+-- a statement that is nested one deeper than the blocks around it: a DO or an IF (this project)
 abbrev pub is_block : Item → Bool
 is_block (logical_if e s) = true
 is_block (block_if e) = true
@@ -203,11 +203,11 @@ is_too_large i = false
 abbrev pub are_too_many : ℕ → Item → Bool
 are_too_many before i = nat_lt 0 (numbered_in i) && nat_lt most_statements (before + numbered_in i)
 
--- too many DO loops, or too many loops and IFs, stand in one another (this project)
+-- too many DO loops, or too many loops and IFs, are nested in one another (this project)
 abbrev pub is_too_deep : List Block → Item → Bool
 is_too_deep c i = (is_do i && nat_le most_loops_nested (loop_depth c)) || (is_block i && nat_le most_blocks_nested (block_depth c))
 
--- too many references in one statement, those of the private names of a DO among them, by the named constants and the variables of the loops round it (this project)
+-- too many references in one statement, those of the private names of a DO among them, by the named constants and the variables of the loops around it (this project)
 abbrev pub has_many_references : List (List ℕ) → List (List ℕ) → List (List ℕ) → Item → Bool
 has_many_references constants indices private i = list_any (λ s. nat_lt most_references (length (own_accesses constants indices s))) (statements_of_item private i)
 
@@ -224,11 +224,11 @@ passes_limit saved c rest i =
     || has_many_references c.constants (open_variables c.blocks) (private_behind rest) i
     || is_too_long saved i
 
--- a comment stands between a directive and its statement (ParaScope; this project)
+-- a comment is between a directive and its statement (ParaScope; this project)
 abbrev pub is_parted : Note → Statement → Bool
 is_parted d s = list_any (λ n. nat_lt d.line n.line && nat_lt n.line s.line) s.comments
 
--- a directive is REJECT and a name, and stands directly before a DO, with directives alone between (ParaScope; this project)
+-- a directive is REJECT and a name, and is directly before a DO, with directives alone between (ParaScope; this project)
 abbrev pub is_bad_directive : Context → Entry → Note → Bool
 is_bad_directive c e d =
     is_behind_end c
@@ -237,11 +237,11 @@ is_bad_directive c e d =
     || nat_lt e.statement.line d.line
     || is_parted d e.statement
 
--- what stands at the directives of a statement, each at its own line (ParaScope; this project)
+-- the refusals at the directives of a statement, each at its own line (ParaScope; this project)
 abbrev pub at_directives : Context → Entry → List Finding
 at_directives c e = flat_map (λ d. refused_if (is_bad_directive c e d) Syntax d.line) e.statement.directives
 
--- what is refused at a statement, by what is open before it and by the statement behind it
+-- what is refused at a statement, by what is open before it and by the statement after it
 abbrev pub at_statement : List (List ℕ) → Context → Entry → List Entry → List Finding
 at_statement saved c e rest =
     at_directives c e
@@ -254,12 +254,12 @@ at_statement saved c e rest =
     ++ refused_if (where_it_says stops e.reading && nat_lt 0 (loop_depth c.blocks)) StopPlace e.statement.line
     ++ refused_if (where_it_says (passes_limit saved c rest) e.reading) Limit e.statement.line
 
--- what is refused at statements, one behind the other
+-- what is refused at statements, one after another
 abbrev pub at_statements : List (List ℕ) → Context → List Entry → List Finding
 at_statements saved c [] = []
 at_statements saved c (e ∷ rest) = at_statement saved c e rest ++ at_statements saved (behind c e) rest
 
--- what is refused at the end: no END has come; a directive stands behind the last statement (this project)
+-- what is refused at the end: no END has come; a directive follows the last statement (this project)
 abbrev pub at_end : Context → Statements → List Finding
 at_end c all = refused_if (not (is_behind_end c)) OpenBlock all.lines ++ flat_map (λ d. refused_if true Syntax d.line) all.directives
 

@@ -34,7 +34,7 @@ AreEntries (s ∷ ss) (e ∷ es) = (e.statement ≡ s) × IsReading s.text e.rea
 AreEntries [] (e ∷ es) = ⊥
 AreEntries (s ∷ ss) [] = ⊥
 
--- no refusal of a line stands, and these are the statements of the text
+-- no line is refused, and these are the statements of the text
 pub record IsCutInto (text : List ℕ) (entries : List Entry) : Type 0 where
   pub accepted : first_line_refusal text ≡ None
   pub readings : AreEntries (statements_of text).statements entries

@@ -1,4 +1,4 @@
--- Refusals of a text, and which of those that stand is the first (this project).
+-- Refusals of a text, and which of those found is the first (this project).
 use Rattle.std.specs.Prelude.{◌≡◌, ◌⊎◌, codes, ℕ, List, [], ◌∷◌, Option, Some, None, Bool, ◌&&◌, ◌||◌, ◌==◌, nat_lt, if◌then◌else◌}
 
 -- why a text isn't read

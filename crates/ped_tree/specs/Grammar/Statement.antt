@@ -14,7 +14,7 @@ pub record Statement : Type 0 where
   pub comments : List Note
   pub directives : List Note
 
--- the statements of a text, the comments and directives behind the last, and the number of lines
+-- the statements of a text, the comments and directives after the last, and the number of lines
 pub record Statements : Type 0 where
   pub statements : List Statement
   pub comments : List Note

@@ -44,7 +44,7 @@ pub data ItemForm : Type 0 where
   a_value : ExprForm → ItemForm
   a_text : List ℕ → ItemForm
 
--- a statement that may stand behind a logical IF: assignment, PRINT, READ, STOP, CONTINUE (ANSI X3.9-1978, sections 10.1, 11.11, 11.12, 12.8)
+-- a statement that may follow a logical IF: assignment, PRINT, READ, STOP, CONTINUE (ANSI X3.9-1978, sections 10.1, 11.11, 11.12, 12.8)
 pub data SimpleForm : Type 0 where
   assignment : ReferenceForm → ExprForm → SimpleForm
   print : List ItemForm → SimpleForm
@@ -52,7 +52,7 @@ pub data SimpleForm : Type 0 where
   stop : SimpleForm
   continue : SimpleForm
 
--- the label behind DO, with or without a comma behind it; or none (ANSI X3.9-1978, section 11.10; this project)
+-- the label after DO, with or without a comma after it; or none (ANSI X3.9-1978, section 11.10; this project)
 pub data LabelForm : Type 0 where
   no_label : LabelForm
   a_label : (digits : List ℕ) → IsTrue (is_label digits) → (comma : Bool) → LabelForm
@@ -121,7 +121,7 @@ abbrev pub label_form_text : LabelForm → List ℕ
 label_form_text no_label = []
 label_form_text (a_label digits is comma) = digits ++ comma_text comma
 
--- a further expression behind a comma, or none (ANSI X3.9-1978, section 11.10)
+-- a further expression after a comma, or none (ANSI X3.9-1978, section 11.10)
 abbrev pub further_form_text : Option ExprForm → List ℕ
 further_form_text None = []
 further_form_text (Some e) = codes "," ++ expr_form_text e
@@ -186,7 +186,7 @@ simple_item (read items) = does (Read (map reference_form_tree items))
 simple_item stop = does Stop
 simple_item continue = continues
 
--- the statement behind a logical IF, none for CONTINUE (ANSI X3.9-1978, section 11.5; this project)
+-- the statement after a logical IF, none for CONTINUE (ANSI X3.9-1978, section 11.5; this project)
 abbrev pub behind_if : SimpleForm → StmtTrees
 behind_if (assignment r e) = more_stmts (Assign (reference_form_tree r) (expr_form_tree e)) no_stmts
 behind_if (print items) = more_stmts (Print (map item_form_tree items)) no_stmts

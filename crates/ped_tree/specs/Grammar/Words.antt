@@ -9,7 +9,7 @@ use Rattle.ped_tree.specs.declared.expressions.Intrinsic.{Intrinsic}
 use Rattle.ped_tree.specs.declared.expressions.Intrinsic.TheVariants.{Mod, Abs, Max, Min}
 use Rattle.ped_tree.specs.Grammar.LimitNumbers.{most_name}
 
--- a name: a letter and letters and digits behind it, 31 characters at most (ANSI X3.9-1978, section 2.2; this project)
+-- a name: a letter and letters and digits after it, 31 characters at most (ANSI X3.9-1978, section 2.2; this project)
 abbrev pub is_name : List ℕ → Bool
 is_name x = Letters.is_name x && nat_le (length x) most_name
 

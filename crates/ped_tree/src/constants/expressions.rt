@@ -14,7 +14,7 @@ use ped_base::arithmetic::{
 };
 
 /// The value of an expression of literals, these named constants, operators and intrinsic functions, evaluated from
-/// left to right: none exactly where something else stands in it, an intrinsic function has another number of
+/// left to right: none exactly where it contains something else, an intrinsic function has another number of
 /// arguments than it takes, or an operation faults. It takes no memory.
 #[cycle(constant)]
 pub fn constant(e: &Expr, consts: &Consts) -> Option<i128>

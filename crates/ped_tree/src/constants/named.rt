@@ -41,7 +41,7 @@ impl Consts {
     }
 
     /// Adds a constant at the end, where none has its name; else the constants stay, so that the first value of a
-    /// name counts. After want of memory they are as they were.
+    /// name counts. If memory runs out, they are as they were.
     pub fn insert(&mut self, name: &Name, value: i64) -> Result<(), NoMemory>
         ensures ok { OnOk result (self.new ≡ with_constant self.old name.now value) }
         ensures err { OnErr result (self.new ≡ self.old) }

@@ -33,7 +33,7 @@ pub enum Item {
     Simple(Stmt),
     /// CONTINUE.
     Continue,
-    /// A logical IF with the statement behind it, none for CONTINUE (section 11.5).
+    /// A logical IF with the statement after it, none for CONTINUE (section 11.5).
     LogicalIf(Cond, Option<Stmt>),
     /// `IF (..) THEN`
     BlockIf(Cond),

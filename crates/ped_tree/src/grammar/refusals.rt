@@ -17,11 +17,11 @@ pub enum RefusalKind {
     TooManyContinuations,
     /// A continuation line before any statement has begun.
     ContinuationFirst,
-    /// A character in columns 7 to 72 that may not stand there.
+    /// A character in columns 7 to 72 that may not occur there.
     BadCharacter,
     /// A constant that isn't closed in its statement.
     OpenConstant,
-    /// A statement's text has no form, or it stands at a place where it may not.
+    /// A statement's text has no form, or it is at a place where it may not be.
     Syntax,
     /// A statement of FORTRAN 77 that the profile leaves out.
     NotInProfile,
@@ -114,7 +114,7 @@ pub struct Refusal {
     pub line: u64,
 }
 
-/// The earlier one of what was found and the refusal of this kind and line, where it stands.
+/// The earlier one of what was found and the refusal of this kind and line, where the test holds.
 #[tactic(auto, unfolding(crate::specs::Grammar::Refusal::refused_if))]
 pub fn standing(found: Option<Refusal>, test: bool, kind: RefusalKind, line: u64) -> Option<Refusal>
     ensures { found_of result ≡ earliest (found_of found) (refused_if test (kind_of kind) line) }

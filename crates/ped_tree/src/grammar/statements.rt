@@ -20,8 +20,8 @@ pub struct Statement {
     /// Its label, 1 to 99999, where it has one.
     pub label: Option<u32>,
     /// Its columns 7 to 72, joined over its lines: outside constants without blanks and in capitals, and
-    /// constants as they are written, with their apostrophes; one blank stands between two constants that
-    /// blanks alone part.
+    /// constants as they are written, with their apostrophes; one blank separates two constants with
+    /// only blanks between them.
     pub text: Bytes,
     /// The comments before it and between its lines.
     pub comments: Listed<NoteLine>,
@@ -34,9 +34,9 @@ pub struct Statement {
 pub struct Statements {
     /// The statements in their order.
     pub statements: Listed<Statement>,
-    /// The comments behind the last statement.
+    /// The comments after the last statement.
     pub comments: Listed<NoteLine>,
-    /// The directives behind the last statement.
+    /// The directives after the last statement.
     pub directives: Listed<NoteLine>,
     /// The number of lines.
     pub lines: u64,

@@ -34,7 +34,7 @@ impl NameSet {
         }
     }
 
-    /// Adds a name, where the set hasn't got it. After want of memory the set is as it was.
+    /// Adds a name, where the set hasn't got it. If memory runs out, the set is as it was.
     pub fn insert(&mut self, name: &Name) -> Result<(), NoMemory>
         ensures ok { OnOk result (self.new ≡ with_name self.old name.now) }
         ensures err { OnErr result (self.new ≡ self.old) }

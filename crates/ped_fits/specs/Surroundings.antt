@@ -9,11 +9,11 @@ use Rattle.ped_tree.specs.declared.declarations.Decl.{Decl}
 use Rattle.ped_tree.specs.Grammar.Fits as plain
 use Rattle.ped_fits.specs.declared.surroundings.Surroundings.{Surroundings}
 
--- the names of lists that are lent, one behind the other
+-- the names of lists that are lent, one after another
 abbrev pub all_names : List (Bor (List (List ℕ))) → List (List ℕ)
 all_names lists = flat_map (λ l. l.now) lists
 
--- the plain surroundings of a statement with so many before it
+-- the plain surroundings of a statement with this many before it
 abbrev pub place : Surroundings → ℕ → plain.Surroundings
 place a n = record {
   constants = constant_names (map decl_tree a.decls.now);
@@ -23,17 +23,17 @@ place a n = record {
   statements = n;
 }
 
--- as many lists of private names as variables, and no more loops and IFs than may stand in one another
+-- as many lists of private names as variables, and no more loops and IFs than may be nested in one another
 pub record IsAround (a : Surroundings) : Type 0 where
   pub same : length a.private.now ≡ length a.variables.now
   pub shallow : a.depth ≤ 100
 
--- behind so many statements, and no more than a program may have
+-- after this many statements, and no more than a program may have
 pub record IsBehind (before statements n : ℕ) : Type 0 where
   pub statements_are : n ≡ before + statements
   pub few : n ≤ 4000
 
--- how many numbered statements come before what is behind what fits, none where it doesn't fit
+-- how many numbered statements come before what follows what fits, none where it doesn't fit
 abbrev pub Follows : Bool → ℕ → ℕ → Option ℕ → Type 0
 Follows fits before statements result = MatchOption result (fits ≡ false) (λ n. (fits ≡ true) × IsBehind before statements n)
 
@@ -47,7 +47,7 @@ simple_parts_fit (Read items) = list_all plain.target_fits items
 simple_parts_fit Stop = true
 simple_parts_fit (Comment text) = false
 
--- before the first executable statement behind these declarations
+-- before the first executable statement after these declarations
 abbrev pub at_first : List Decl → plain.Surroundings
 at_first decls = record { constants = constant_names (map decl_tree decls); variables = []; private = []; depth = 0; statements = 0 }
 

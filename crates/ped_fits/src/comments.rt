@@ -16,7 +16,7 @@ pub fn comment_fits(text: &[u8]) -> bool
     text.len() <= 71 && !has_line_end(text) && is_trimmed(text) && !is_directive(text)
 }
 
-/// Whether each character may stand in a character constant.
+/// Whether each character may occur in a character constant.
 pub fn is_printable(text: &[u8]) -> bool
     ensures { result ≡ list_all Characters.is_printable text.now }
 {

@@ -17,7 +17,7 @@ use ped_base::Name;
 use ped_limits::{MOST_CHARACTERS, MOST_DIMENSIONS, decl_length};
 use ped_tree::{Bound, Decl, Declarator, Expr};
 
-/// Whether declarations can be written one behind the other.
+/// Whether declarations can be written one after another.
 pub fn decls_fit(decls: &[Decl]) -> bool
     ensures { result ≡ Spec.decls_fit 0 (map decl_tree decls.now) }
 {
@@ -31,7 +31,7 @@ pub fn decls_fit(decls: &[Decl]) -> bool
     true
 }
 
-/// How far the order of statements has come behind a declaration; none where it doesn't fit there.
+/// How far the order of statements has come after a declaration; none where it doesn't fit there.
 fn next_phase(phase: u8, decl: &Decl) -> Option<u8>
     ensures { MatchOption result ((more : List DeclTree) → Spec.decls_fit phase (decl_tree decl.now ∷ more) ≡ false)
         (λ next. (more : List DeclTree) → Spec.decls_fit phase (decl_tree decl.now ∷ more) ≡ Spec.decls_fit next more) }

@@ -68,7 +68,7 @@ fn has_expr(exprs: &[Expr]) -> bool
     !exprs.is_empty()
 }
 
-/// Whether the intrinsic function takes so many arguments.
+/// Whether the intrinsic function takes this many arguments.
 fn takes_arguments(intrinsic: Intrinsic, arguments: &[Expr]) -> bool
     ensures { result ≡ Spec.takes_arguments intrinsic (pack_exprs (map expr_tree arguments.now)) }
 {

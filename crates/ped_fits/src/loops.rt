@@ -18,7 +18,7 @@ use ped_base::{Name, is_among};
 use ped_limits::{MOST_BLOCKS_NESTED, MOST_CHARACTERS, MOST_LOOPS_NESTED, private_length};
 use ped_tree::{Do, Stmt};
 
-/// Whether a DO, which is this statement, can be written where it stands, whatever its body is.
+/// Whether a DO, which is this statement, can be written where it is, whatever its body is.
 pub fn loop_fits(around: &Surroundings, before: u64, statement: &Stmt, d: &Do) -> bool
     requires { stmt_tree statement.now ≡ Tree.Do (head_of d.now) (stmt_trees d.now.body.items) }
     ensures { result ≡ Spec.loop_fits (place around.now before) (head_of d.now) (stmt_trees d.now.body.items) }

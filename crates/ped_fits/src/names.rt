@@ -9,7 +9,7 @@ ghost use Rattle.ped_tree.specs.Grammar.ProgramRefusals as Refusals;
 use ped_base::{Name, is_among};
 use ped_limits::MOST_NAME;
 
-/// Whether a name has at most so many characters as the profile allows; a `Name` holds no more.
+/// Whether a name has at most as many characters as the profile allows; a `Name` holds no more.
 pub fn name_fits(name: &Name) -> bool
     ensures { result ≡ Words.is_name name.now }
 {

@@ -11,7 +11,7 @@ use crate::surroundings::Surroundings;
 use ped_tree::{Decl, Program, Stmt};
 
 /// Whether a tree is a program of the profile, which is whether some text reads as it: its names, literals,
-/// constants and comments can be written, its statements stand where they may, and no limit is passed. It
+/// constants and comments can be written, its statements are where they may be, and no limit is passed. It
 /// takes no memory, and looks a named constant up among the declarations.
 pub fn fits(program: &Program) -> bool
     ensures { result ≡ Spec.fits (program_tree program.now) }
@@ -21,7 +21,7 @@ pub fn fits(program: &Program) -> bool
         && begins_with_statement(&program.body)
 }
 
-/// Whether the executable statements fit behind these declarations.
+/// Whether the executable statements fit after these declarations.
 fn body_fits(decls: &[Decl], body: &[Stmt]) -> bool
     ensures { result ≡ Spec.stmts_fit (at_first decls.now) (stmt_trees body.now) }
 {
@@ -34,7 +34,7 @@ fn body_fits(decls: &[Decl], body: &[Stmt]) -> bool
     statements_fit(&around, 0, body).is_some()
 }
 
-/// Whether no comment stands before the first executable statement.
+/// Whether no comment comes before the first executable statement.
 fn begins_with_statement(body: &[Stmt]) -> bool
     ensures { result ≡ Spec.begins_with_statement (stmt_trees body.now) }
 {

@@ -19,8 +19,8 @@ use ped_base::{Name, is_among};
 use ped_limits::MOST_BLOCKS_NESTED;
 use ped_tree::{Cond, Do, Expr, Stmt};
 
-/// How many numbered statements come before what is behind statements that stand one behind the other, of which
-/// so many come before them; none where one of them doesn't fit.
+/// How many numbered statements come before what follows these statements, where `before` of them come
+/// before the first; none where one of them doesn't fit.
 #[cycle(statements)]
 pub fn statements_fit(around: &Surroundings, before: u64, all: &[Stmt]) -> Option<u64>
     requires around { IsAround around.now }
@@ -38,7 +38,7 @@ pub fn statements_fit(around: &Surroundings, before: u64, all: &[Stmt]) -> Optio
     Some(next)
 }
 
-/// How many numbered statements come before what is behind a statement; none where it doesn't fit.
+/// How many numbered statements come before what follows a statement; none where it doesn't fit.
 #[cycle(statements)]
 fn statement_fits(around: &Surroundings, before: u64, statement: &Stmt) -> Option<u64>
     requires around { IsAround around.now }
@@ -83,7 +83,7 @@ fn statement_fits(around: &Surroundings, before: u64, statement: &Stmt) -> Optio
     }
 }
 
-/// How many numbered statements come before what is behind the body of a DO that fits by itself; none where the
+/// How many numbered statements come before what follows the body of a DO that fits by itself; none where the
 /// body doesn't fit.
 #[cycle(statements)]
 fn body_fits(around: &Surroundings, before: u64, d: &Do) -> Option<u64>
@@ -105,7 +105,7 @@ fn body_fits(around: &Surroundings, before: u64, d: &Do) -> Option<u64>
     statements_fit(&inner, before + 1, &d.body)
 }
 
-/// Whether an IF can be written where it stands, whatever its parts are.
+/// Whether an IF can be written where it is, whatever its parts are.
 fn branch_fits(around: &Surroundings, before: u64, statement: &Stmt, condition: &Cond) -> bool
     ensures { result ≡ (Spec.is_within (place around.now before) (stmt_tree statement.now)
         && nat_lt around.now.depth 100 && Spec.cond_fits (cond_tree condition.now)) }
@@ -115,7 +115,7 @@ fn branch_fits(around: &Surroundings, before: u64, statement: &Stmt, condition: 
         && cond_fits(condition)
 }
 
-/// How many numbered statements come before what is behind an assignment, PRINT, READ or STOP; none where it doesn't fit.
+/// How many numbered statements come before what follows an assignment, PRINT, READ or STOP; none where it doesn't fit.
 fn simple_fits(around: &Surroundings, before: u64, statement: &Stmt) -> Option<u64>
     requires simple { is_simple (stmt_tree statement.now) ≡ true }
     requires counted { before ≤ 4000 }
@@ -131,8 +131,8 @@ fn simple_fits(around: &Surroundings, before: u64, statement: &Stmt) -> Option<u
     None
 }
 
-/// Whether an assignment, PRINT, READ or STOP leaves the variables of the loops round it alone, and STOP
-/// stands in none.
+/// Whether an assignment, PRINT, READ or STOP doesn't change the variables of the loops around it, and STOP
+/// is in no loop.
 fn keeps_loops(around: &Surroundings, statement: &Stmt) -> bool
     ensures { result ≡ (not (Refusals.meets (Refusals.assigned_by (stmt_tree statement.now)) around.now.variables.now)
         && not (is_stop (stmt_tree statement.now) && has_some around.now.variables.now)) }

@@ -14,20 +14,20 @@ use ped_limits::{
 };
 use ped_tree::{Decl, Stmt};
 
-/// What stands round a statement.
+/// What is around a statement.
 #[derive(Clone, Copy)]
 pub struct Surroundings<'a> {
     /// The declarations of the program, which name its constants.
     pub decls: &'a [Decl],
-    /// The variables of the DO loops round it, the innermost first.
+    /// The variables of the DO loops around it, the innermost first.
     pub variables: &'a [Name],
     /// The private names of these loops.
     pub private: &'a [&'a [Name]],
-    /// How many DO loops and IFs stand round it.
+    /// How many DO loops and IFs are around it.
     pub depth: usize,
 }
 
-/// Whether a numbered statement by itself passes no limit where it stands behind so many: the number of
+/// Whether a numbered statement by itself passes no limit where it follows this many: the number of
 /// statements, its references, its printed length.
 pub fn is_within(around: &Surroundings, before: u64, statement: &Stmt) -> bool
     ensures { result ≡ Spec.is_within (place around.now before) (stmt_tree statement.now) }
@@ -37,7 +37,7 @@ pub fn is_within(around: &Surroundings, before: u64, statement: &Stmt) -> bool
         && length(statement) <= MOST_CHARACTERS
 }
 
-/// A variable before the variables of the loops round its loop; what is behind these is anything.
+/// A variable before the variables of the loops around its loop; what follows these is arbitrary.
 pub fn with_variable(first: Name, rest: &[Name]) -> [Name; MOST_LOOPS_NESTED]
     requires { length rest.now < 6 }
     ensures { take (length rest.now + 1) result ≡ first ∷ rest.now }
@@ -48,7 +48,7 @@ pub fn with_variable(first: Name, rest: &[Name]) -> [Name; MOST_LOOPS_NESTED]
     names
 }
 
-/// Private names before those of the loops round their loop; what is behind these is anything.
+/// Private names before those of the loops around their loop; what follows these is arbitrary.
 pub fn with_private<'a>(first: &'a [Name], rest: &[&'a [Name]]) -> [&'a [Name]; MOST_LOOPS_NESTED]
     requires { length rest.now < 6 }
     ensures { all_names (take (length rest.now + 1) result) ≡ first.now ++ all_names rest.now }

@@ -17,7 +17,7 @@ use ped_tree::names::NameSet;
 use ped_tree::{Cond, Decl, Expr, PrintItem, Stmt};
 
 /// How many references a statement by itself has, where these are the named constants and the variables of
-/// the DO loops round it; `usize::MAX` where it has more.
+/// the DO loops around it; `usize::MAX` where it has more.
 pub fn references(constants: &NameSet, variables: &[Name], statement: &Stmt) -> usize
     ensures { result ≡ limited (length (own_accesses constants.now variables.now (stmt_tree statement.now))) }
 {
@@ -25,7 +25,7 @@ pub fn references(constants: &NameSet, variables: &[Name], statement: &Stmt) -> 
 }
 
 /// How many references a statement by itself has, where these are the declarations of its program and the
-/// variables of the DO loops round it; `usize::MAX` where it has more. It takes no memory.
+/// variables of the DO loops around it; `usize::MAX` where it has more. It takes no memory.
 pub fn references_declared(decls: &[Decl], variables: &[Name], statement: &Stmt) -> usize
     ensures { result ≡ limited (length (own_accesses (constant_names (map decl_tree decls.now)) variables.now (stmt_tree statement.now))) }
 {

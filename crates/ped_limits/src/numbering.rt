@@ -27,7 +27,7 @@ pub fn statement_count(statement: &Stmt) -> usize
     }
 }
 
-/// How many numbered statements stand among these and in their parts.
+/// How many numbered statements are among these and in their parts.
 #[cycle(statement_count)]
 fn statements_count(statements: &[Stmt]) -> usize
     ensures { result ≡ limited (Spec.statements_count (stmt_trees statements.now)) }

@@ -9,7 +9,7 @@ use Rattle.ped_tree.specs.Grammar.RefusalViews.{finding_of}
 use Rattle.ped_parse.specs.declared.refusals.ReadRefusal.{ReadRefusal}
 use Rattle.ped_parse.specs.declared.refusals.ReadRefusal.TheVariants.{At, NoMemory}
 
--- the text's first refusal, or want of memory
+-- the text's first refusal, or out of memory
 abbrev pub IsRefusalOf : List ℕ → ReadRefusal → Type 0
 IsRefusalOf text NoMemory = Unit {0}
 IsRefusalOf text (At r) = Refuses text (finding_of r)
@@ -19,7 +19,7 @@ pub data RefusesExpression (text : List ℕ) (f : Finding) : Type 0 where
   no_expression : f ≡ record { refusal = Syntax; line = 0 } → ((e : ExprTree) → ReadsExpr text e → ⊥) → RefusesExpression text f
   large_literal : f ≡ record { refusal = Limit; line = 0 } → (e : ExprTree) → ReadsExpr text e → IsTrue (has_large_literal e) → RefusesExpression text f
 
--- why it isn't, or want of memory
+-- why it isn't, or out of memory
 abbrev pub IsRefusalOfExpression : List ℕ → ReadRefusal → Type 0
 IsRefusalOfExpression text NoMemory = Unit {0}
 IsRefusalOfExpression text (At r) = RefusesExpression text (finding_of r)

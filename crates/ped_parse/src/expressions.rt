@@ -12,13 +12,13 @@ use ped_tree::Expr;
 use ped_tree::grammar::{Refusal, RefusalKind};
 use std::alloc::Global;
 
-/// The arithmetic expression that the text reads as (ANSI X3.9-1978, section 6.1). The text stands as those of statements
-/// do: in capitals and without blanks.
+/// The arithmetic expression that the text reads as (ANSI X3.9-1978, section 6.1). The text is written as that of a
+/// statement: in capitals and without blanks.
 ///
 /// # Errors
 ///
-/// `At` on line 0 with `Syntax` exactly where the text is no expression, and with `Limit` exactly where it is one with a
-/// literal above 2147483647. `NoMemory` where memory runs out.
+/// `At` on line 0 with `Syntax` exactly where the text is no expression, and with `Limit` exactly where it is one with
+/// a literal above 2147483647. `NoMemory` where memory runs out.
 pub fn expression(alloc: Global, text: &[u8]) -> Result<Expr, ReadRefusal>
     ensures reads { IfOk result (λ e. ReadsExpr text.now (expr_tree e)) }
     ensures small { IfOk result (λ e. IsFalse (Literals.has_large_literal (expr_tree e))) }

@@ -29,8 +29,8 @@ use std::alloc::Global;
 ///
 /// # Errors
 ///
-/// `At` exactly where the text is refused, with its first refusal: one of 1 to 6, which are of lines, where any
-/// stands, and else one of 7 to 13, which are of statements; among these the least line and then the least number.
+/// `At` exactly where the text is refused, with its first refusal: one of 1 to 6, which are of lines, where there
+/// is any, and else one of 7 to 13, which are of statements; among these the least line and then the least number.
 /// `NoMemory` where memory runs out.
 pub fn read(alloc: Global, text: &[u8]) -> Result<Program, ReadRefusal>
     ensures tree { IfOk result (λ p. Reads text.now (program_tree p)) }

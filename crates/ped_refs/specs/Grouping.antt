@@ -35,7 +35,7 @@ places_or_none None = record { all = []; writes = [] }
 abbrev pub places_at : Table → Group → Places
 places_at groups g = places_or_none (get is_same_group groups g)
 
--- the places with one more behind them
+-- the places with one more at the end
 abbrev pub with_place : Places → ℕ → Bool → Places
 with_place p place writes = record { all = p.all ++ place ∷ []; writes = if writes then p.writes ++ place ∷ [] else p.writes }
 

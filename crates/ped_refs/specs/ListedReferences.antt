@@ -8,7 +8,7 @@ use Rattle.ped_refs.specs.declared.references.RefName.TheVariants.{Named, In, Ou
 use Rattle.ped_refs.specs.declared.references.Ref.{Ref}
 use Rattle.ped_refs.specs.declared.references.Refs.{Refs}
 
--- a name in the list: the data lines and the output stand apart from the variables
+-- a name in the list: the data lines and the output are no variables
 abbrev pub ref_name : List ℕ → RefName
 ref_name x = if is_same_text x (codes "(IN)") then In else (if is_same_text x (codes "(OUT)") then Out else Named x)
 
@@ -16,7 +16,7 @@ ref_name x = if is_same_text x (codes "(IN)") then In else (if is_same_text x (c
 abbrev pub ref_of : Reference → Ref
 ref_of r = record { statement = r.statement; number = r.number; name = ref_name r.access.name; writes = r.access.writes }
 
--- the list has exactly the references of the program, in text order, and for each the outermost DO loop round it
+-- the list has exactly the references of the program, in text order, and for each the outermost DO loop around it
 pub record AreInOrder (t : ProgramTree) (refs : Refs) : Type 0 where
   pub items : refs.items ≡ map ref_of (references t)
   pub outer : refs.outer ≡ map outermost (references t)

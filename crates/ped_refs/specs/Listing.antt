@@ -22,11 +22,11 @@ accesses_of accesses = map access_of accesses
 abbrev pub constants_round : Surroundings → List (List ℕ)
 constants_round around = around.constants.now
 
--- the DO loops round a statement
+-- the DO loops around a statement
 abbrev pub nest_round : Surroundings → List Loop
 nest_round around = nest_of around.loops.now
 
--- the variables of the DO loops round a statement
+-- the variables of the DO loops around a statement
 abbrev pub indices_round : Surroundings → List (List ℕ)
 indices_round around = indices_of (nest_round around)
 

@@ -4,10 +4,10 @@ use Rattle.ped_tree.specs.Views.{head_of}
 use Rattle.ped_tree.specs.Nests.{Loop}
 use Rattle.ped_refs.specs.declared.loops.Loop.{Loop as CodeLoop}
 
--- a DO round a statement
+-- a DO around a statement
 abbrev pub loop_of : CodeLoop → Loop
 loop_of l = record { number = l.number; head = head_of l.statement.now }
 
--- the DO loops round a statement, the outermost first
+-- the DO loops around a statement, the outermost first
 abbrev pub nest_of : List CodeLoop → List Loop
 nest_of loops = map loop_of loops

@@ -1,4 +1,4 @@
--- References with what stands round them, as the code keeps them, and the places of pairs among them (this project).
+-- References with what is around them, as the code keeps them, and the places of pairs among them (this project).
 use Rattle.std.specs.Prelude.{ℕ, ◌<◌, List, map, codes, Option, Some, None, slice_get}
 use Rattle.ped_tree.specs.Views.{expr_tree}
 use Rattle.ped_refs.specs.References.{Reference}
@@ -37,7 +37,7 @@ both None sink = None
 abbrev pub pair_at : List Reference → Pair → Option (Reference × Reference)
 pair_at refs p = both (slice_get refs p.source) (slice_get refs p.sink)
 
--- both places of a pair are among so many places
+-- both places of a pair are below this number of places
 pub record IsWithin (count : ℕ) (p : Pair) : Type 0 where
   pub source : p.source < count
   pub sink : p.sink < count

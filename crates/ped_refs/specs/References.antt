@@ -8,7 +8,7 @@ use Rattle.ped_tree.specs.Numbering.{statement_count, statements_count}
 use Rattle.ped_tree.specs.Accesses.{Access, own_accesses, constant_names}
 use Rattle.ped_tree.specs.Nests.{Loop, indices_of, common_nest}
 
--- a reference: its statement, its number in the statement from 1, and the DO loops round it, the outermost first (Allen and Kennedy, section 3.1)
+-- a reference: its statement, its number in the statement from 1, and the DO loops around it, the outermost first (Allen and Kennedy, section 3.1)
 pub record Reference : Type 0 where
   pub statement : ℕ
   pub number : ℕ
@@ -20,7 +20,7 @@ abbrev pub numbered_accesses : ℕ → ℕ → List Loop → List Access → Lis
 numbered_accesses statement number nest [] = []
 numbered_accesses statement number nest (a ∷ rest) = (record { statement = statement; number = number; access = a; nest = nest }) ∷ numbered_accesses statement (suc number) nest rest
 
--- the references of a statement and of its parts, where these are the named constants; what a DO's header reads stands outside it (ANSI X3.9-1978, section 11.10.3; this project)
+-- the references of a statement and of its parts, where these are the named constants; what a DO's header reads is outside it (ANSI X3.9-1978, section 11.10.3; this project)
 abbrev mutual
   pub statement_references : List (List ℕ) → List Loop → ℕ → StmtTree → List Reference
   statement_references constants nest n (Assign left right) = numbered_accesses n 1 nest (own_accesses constants (indices_of nest) (Assign left right))
@@ -49,7 +49,7 @@ abbrev pub outermost_number : List Loop → ℕ
 outermost_number [] = 0
 outermost_number (l ∷ ls) = l.number
 
--- the statement number of the outermost DO loop round a reference, 0 where there is none (this project)
+-- the statement number of the outermost DO loop around a reference, 0 where there is none (this project)
 abbrev pub outermost : Reference → ℕ
 outermost r = outermost_number r.nest
 
@@ -58,11 +58,11 @@ abbrev pub innermost_private : List ℕ → List Loop → Option Loop
 innermost_private x [] = None
 innermost_private x (l ∷ ls) = option_or (innermost_private x ls) (if is_among x l.head.private then Some l else None)
 
--- the DO loop to which a reference belongs: the innermost round it that names its scalar in PRIVATE, None where none does; what stands in a DO's header stands outside that DO (this project)
+-- the DO loop to which a reference belongs: the innermost around it that names its scalar in PRIVATE, None where none does; what is in a DO's header is outside that DO (this project)
 abbrev pub private_loop : Reference → Option Loop
 private_loop r = innermost_private r.access.name r.nest
 
--- a pair: of one name, with a write, and in a DO loop round both
+-- a pair: of one name, with a write, and in a DO loop around both
 abbrev pub is_pair : Reference → Reference → Bool
 is_pair source sink =
     is_same_text source.access.name sink.access.name

@@ -38,7 +38,7 @@ tally_with r refs = record {
   writes = count_by (λ s. is_together r s && s.access.writes) refs;
 }
 
--- where DO loops stand round a reference, the outermost has a number that isn't 0
+-- where DO loops are around a reference, the outermost has a number that isn't 0
 abbrev pub AreNumbered : List Reference → Type 0
 AreNumbered [] = Unit {0}
 AreNumbered (r ∷ rs) = (has_some r.nest ≡ not (outermost r == 0)) × AreNumbered rs
@@ -54,6 +54,6 @@ pub record IsCounted (refs : List Reference) (groups : Tallies) (total : ℕ) : 
   pub pairs : total ≡ pair_count refs
   pub tallies : (r : Reference) → outermost r == 0 ≡ false → tally_at groups (group_of r) ≡ tally_with r refs
 
--- the table has the tallies of so many references of the list, and the number is that of their pairs
+-- the table has the tallies of the first references of the list, as many as given, and the number is that of their pairs
 abbrev pub AreCounted : Refs → ℕ → Tallies → ℕ → Type 0
 AreCounted refs count groups total = (listed : List Reference) → AreListed listed refs → IsCounted (take count listed) groups total

@@ -36,7 +36,7 @@ fn add_constants(names: &mut NameSet, decl: &Decl) -> Result<(), NoMemory>
     }
 }
 
-/// Adds the names of constants that stand with their values.
+/// Adds the names of constants, which come with their values.
 fn add_first_parts(names: &mut NameSet, values: &[(Name, Expr)]) -> Result<(), NoMemory>
     ensures { OnOk result (names.new ≡ with_names names.old (map (λ v. v.0) (map value_tree values.now))) }
 {

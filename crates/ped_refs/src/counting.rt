@@ -28,7 +28,7 @@ struct Tally {
 }
 
 /// How many ordered pairs of references the program has whose references these are. A pair has one name, a write among
-/// its two, and a DO round both. They were counted when the references were listed.
+/// its two, and a DO around both. They were counted when the references were listed.
 pub fn pairs(refs: &Refs) -> u64
     ensures { (tree : ProgramTree) → AreReferences tree refs.now → result ≡ pair_count (references tree) }
 {
@@ -57,7 +57,7 @@ pub fn within_limit(refs: &Refs) -> bool
 }
 
 /// The first statement at which the ordered pairs among the references so far are more than a program may
-/// have, none where there are never so many. Where there is one, the time is linear in the number of references.
+/// have, none where there are never too many. Where there is one, the time is linear in the number of references.
 pub fn first_beyond_limit(alloc: Global, refs: &Refs) -> Result<Option<u32>, NoMemory>
     requires { AreOfProgram refs.now }
     ensures { IfOk result (λ first. (tree : ProgramTree) → AreReferences tree refs.now
@@ -77,8 +77,8 @@ pub fn first_beyond_limit(alloc: Global, refs: &Refs) -> Result<Option<u32>, NoM
     Ok(None)
 }
 
-/// Counts the reference at a place, where those before it are counted and make so many pairs: how many they
-/// make with it.
+/// Counts the reference at a place, where those before it are counted and make `total` pairs: the number of
+/// pairs with it.
 fn count_next(
     groups: &mut IndexMap<Group, Tally>,
     total: u64,

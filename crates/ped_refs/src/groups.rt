@@ -12,7 +12,7 @@ use crate::references::RefName;
 pub struct Group {
     /// What they read or write.
     pub name: RefName,
-    /// The statement number of the outermost DO round them.
+    /// The statement number of the outermost DO around them.
     pub outer: u32,
 }
 

@@ -15,7 +15,7 @@ use ped_tree::Program;
 use std::alloc::Global;
 
 /// The references of a program, in text order. Each has its statement, its number there, its name, whether it writes,
-/// and the number of the outermost DO round it. Their pairs are counted.
+/// and the number of the outermost DO around it. Their pairs are counted.
 pub fn refs(alloc: Global, program: &Program) -> Result<Refs, NoMemory>
     requires statements { statements_count (program_tree program.now).body < 2 ^ 32 }
     requires references { length (references (program_tree program.now)) < 2 ^ 32 }
@@ -27,7 +27,7 @@ pub fn refs(alloc: Global, program: &Program) -> Result<Refs, NoMemory>
     Ok(refs)
 }
 
-/// The references without what stands round them, whose pairs aren't counted yet.
+/// The references without what is around them, whose pairs aren't counted yet.
 fn in_list(alloc: Global, found: &[Occurrence]) -> Result<Refs, NoMemory>
     ensures items { IfOk result (λ refs. refs.items ≡ map ref_of (references_of found.now)) }
     ensures outer { IfOk result (λ refs. refs.outer ≡ map outermost (references_of found.now)) }
@@ -44,7 +44,7 @@ fn in_list(alloc: Global, found: &[Occurrence]) -> Result<Refs, NoMemory>
     Ok(refs)
 }
 
-/// The reference without what stands round it.
+/// The reference without what is around it.
 fn without_surroundings(occurrence: &Occurrence) -> Ref
     ensures { result ≡ ref_of (reference_of occurrence.now) }
 {
@@ -56,7 +56,7 @@ fn without_surroundings(occurrence: &Occurrence) -> Ref
     }
 }
 
-/// The statement number of the outermost DO loop round the reference, 0 where there is none.
+/// The statement number of the outermost DO loop around the reference, 0 where there is none.
 fn outermost_number(occurrence: &Occurrence) -> u32
     ensures { result ≡ outermost (reference_of occurrence.now) }
 {

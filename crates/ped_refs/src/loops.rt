@@ -8,7 +8,7 @@ ghost use Rattle.ped_refs.specs.Loops.{nest_of};
 use ped_base::Name;
 use ped_tree::Do;
 
-/// A DO loop round a statement: its statement number and the DO itself (ANSI X3.9-1978, section 11.10).
+/// A DO loop around a statement: its statement number and the DO itself (ANSI X3.9-1978, section 11.10).
 #[derive(Clone, Copy)]
 pub struct Loop<'a> {
     /// The statement number of the DO.

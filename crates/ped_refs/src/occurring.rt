@@ -19,7 +19,7 @@ use ped_base::NoMemory;
 use ped_tree::{Do, Expr, Program, Stmt};
 use std::alloc::Global;
 
-/// A reference of a program with what stands round it.
+/// A reference of a program with what is around it.
 #[derive(Drop)]
 pub struct Occurrence<'a> {
     /// The number of its statement.
@@ -32,12 +32,12 @@ pub struct Occurrence<'a> {
     pub writes: bool,
     /// Its subscripts, none for a scalar.
     pub subscripts: &'a [Expr],
-    /// The DO loops round it, the outermost first. What a DO's header reads stands outside that DO.
+    /// The DO loops around it, the outermost first. What a DO's header reads is outside that DO.
     pub nest: Vec<Loop<'a>>,
 }
 
 /// The references of a program, in text order. The time is linear in the size of the program and the number of loops
-/// round its references. Each has its subscripts and the DO loops round it.
+/// around its references. Each has its subscripts and the DO loops around it.
 pub fn occurrences<'a>(alloc: Global, program: &'a Program) -> Result<Vec<Occurrence<'a>>, NoMemory>
     requires statements { statements_count (program_tree program.now).body < 2 ^ 32 }
     requires references { length (references (program_tree program.now)) < 2 ^ 32 }
@@ -54,7 +54,7 @@ pub fn occurrences<'a>(alloc: Global, program: &'a Program) -> Result<Vec<Occurr
     Ok(found)
 }
 
-/// Adds the references of statements that stand one behind the other, where so many numbered statements come
+/// Adds the references of these statements, where this many numbered statements come
 /// before them.
 #[cycle(statements)]
 fn add_statements<'a>(
@@ -112,8 +112,8 @@ fn add_statement<'a>(
     }
 }
 
-/// Adds the references of the body of a DO, where so many numbered statements come before its body: the DO
-/// has that number.
+/// Adds the references of the body of a DO, where this many numbered statements come before its body: that is
+/// the DO's number.
 #[cycle(statements)]
 fn add_body<'a>(
     alloc: Global,
@@ -136,7 +136,7 @@ fn add_body<'a>(
     add_statements(alloc, found, &inner, before, &d.body)
 }
 
-/// The loops with one more behind them.
+/// The loops with one more at the end.
 fn with_loop<'a>(
     alloc: Global,
     loops: &[Loop<'a>],

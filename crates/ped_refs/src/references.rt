@@ -52,7 +52,7 @@ pub struct Ref {
 pub struct Refs {
     /// The references.
     pub items: Listed<Ref>,
-    /// For each reference the number of the outermost DO round it, 0 where there is none.
+    /// For each reference the number of the outermost DO around it, 0 where there is none.
     pub outer: Listed<u32>,
     /// How many ordered pairs of them may depend on each other.
     pub pairs: u64,

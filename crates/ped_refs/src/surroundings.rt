@@ -3,11 +3,11 @@
 use crate::loops::Loop;
 use ped_tree::names::NameSet;
 
-/// What stands round a statement.
+/// What is around a statement.
 #[derive(Clone, Copy)]
 pub struct Surroundings<'s, 'a> {
     /// The named constants of the program.
     pub constants: &'s NameSet,
-    /// The DO loops round the statement, the outermost first.
+    /// The DO loops around the statement, the outermost first.
     pub loops: &'s [Loop<'a>],
 }

@@ -16,7 +16,7 @@ block_of (block.Then n) = in_then n
 block_of (block.Else n) = in_else n
 block_of (block.Loop d) = in_do (loop_of d)
 
--- blocks that stand in one another within these, the outermost first, with the innermost first
+-- blocks that are nested in one another within these, the outermost first, with the innermost first
 abbrev pub opened_in : List plain.Block → List Block → List plain.Block
 opened_in outer [] = outer
 opened_in outer (b ∷ inner) = opened_in (block_of b ∷ outer) inner

@@ -40,7 +40,7 @@ pub enum Block {
     Loop(OpenLoop),
 }
 
-/// The innermost block and those round it.
+/// The innermost block and those around it.
 #[tactic(auto, using(crate::proofs::Opening::blocks_push))]
 pub fn split_innermost(blocks: &[Block]) -> Option<(&Block, &[Block])>
     ensures is { MatchOption result (blocks_of blocks.now ≡ []) (λ p. blocks_of blocks.now ≡ block_of p.0.now ∷ blocks_of p.1.now) }
@@ -231,7 +231,7 @@ fn closes(block: &Block, label: u32) -> bool
     }
 }
 
-/// Takes the blocks on behind a statement that says this, where `behind_do` is whether the statement
+/// Takes the blocks on after a statement that says this, where `behind_do` is whether the statement
 /// before it is a DO.
 pub fn take_on(
     alloc: Global,
@@ -293,7 +293,7 @@ pub fn leave_by(blocks: &mut Vec<Block>, label: Option<u32>)
     }
 }
 
-/// The blocks round the outermost loop with this label, all blocks where there is none.
+/// The blocks around the outermost loop with this label, all blocks where there is none.
 fn outside_all(blocks: &[Block], label: u32) -> &[Block]
     ensures is { blocks_of result.now ≡ Contexts.left_by_label label (blocks_of blocks.now) }
     ensures front { result.now ≡ take (length result.now) blocks.now }

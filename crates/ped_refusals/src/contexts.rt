@@ -55,7 +55,7 @@ impl Context {
         }
     }
 
-    /// The context behind a statement.
+    /// The context after a statement.
     pub fn behind(self, alloc: Global, entry: &Entry) -> Result<Context, NoMemory>
         requires { block_depth (blocks_of self.blocks.items) + 1 < 2 ^ 64 }
         ensures { IfOk result (λ c. IsLike (Spec.behind (context_of self) (entry_of entry.now)) (context_of c)) }
@@ -68,7 +68,7 @@ impl Context {
         }
     }
 
-    /// The context behind a statement whose text says nothing.
+    /// The context after a statement whose text says nothing.
     fn behind_other(self, statement: &Statement) -> Context
         ensures { context_of result ≡ record (context_of self) { blocks = Spec.left_by (statement_of statement.now).label (blocks_of self.blocks.items); behind_do = false } }
     {

@@ -21,7 +21,7 @@ use ped_tree::grammar::{
     Entry, NoteLine, Refusal, RefusalKind, Statement, StatementReading, standing,
 };
 
-/// The first of what was found and what stands at the directives of a statement, each at its own line.
+/// The first of what was found and the refusals at the directives of a statement, each at its own line.
 #[tactic(auto, using(ped_tree::proofs::GrammarLaws::First::earliest_append))]
 pub fn at_directives(found: Option<Refusal>, context: &Context, entry: &Entry) -> Option<Refusal>
     ensures { found_of result ≡ earliest (found_of found) (Spec.at_directives (context_of context.now) (entry_of entry.now)) }
@@ -35,7 +35,7 @@ pub fn at_directives(found: Option<Refusal>, context: &Context, entry: &Entry) -
     found
 }
 
-/// The first of what was found and the directives behind the last statement.
+/// The first of what was found and the directives after the last statement.
 #[tactic(auto, using(ped_tree::proofs::GrammarLaws::First::earliest_append))]
 pub fn at_last_directives(found: Option<Refusal>, directives: &[NoteLine]) -> Option<Refusal>
     ensures { found_of result ≡ earliest (found_of found) (flat_map (λ d. refused_if true Syntax d.line) (map note_of directives.now)) }
@@ -58,14 +58,14 @@ fn last_comment_before(statement: &Statement) -> u64
     last
 }
 
-/// The later of two lines, where the second one stands before the end.
+/// The later of two lines, where the second one is before the end.
 fn later(last: u64, line: u64, end: u64) -> u64
     ensures { (d : ℕ) → nat_lt d result ≡ (nat_lt d last || (nat_lt d line && nat_lt line end)) }
 {
     if line < end { last.max(line) } else { last }
 }
 
-/// Whether a directive isn't REJECT and a name, or doesn't stand directly before a DO, with directives
+/// Whether a directive isn't REJECT and a name, or isn't directly before a DO, with directives
 /// alone between.
 fn is_bad_directive(
     context: &Context,

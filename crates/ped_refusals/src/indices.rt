@@ -20,7 +20,7 @@ use ped_base::{Name, is_among};
 use ped_tree::grammar::{Item, Refusal, RefusalKind, StatementReading, standing};
 use ped_tree::{Expr, Stmt};
 
-/// Whether the variable of a loop round the statement is assigned, read into, a DO variable again or named
+/// Whether the variable of a loop around the statement is assigned, read into, a DO variable again or named
 /// in PRIVATE. `variables` are those of the open loops.
 pub fn assigns_index(context: &Context, variables: &[Name], reading: &StatementReading) -> bool
     requires { variables.now ≡ open_variables (blocks_of context.now.blocks.items) }
@@ -80,7 +80,7 @@ fn any_is_among(names: &[Name], variables: &[Name]) -> bool
     false
 }
 
-/// The first of what was found and what a DO is refused for whose variable is private to loops round it:
+/// The first of what was found and what a DO is refused for whose variable is private to loops around it:
 /// each at the line of its PRIVATE statement.
 pub fn at_private(
     found: Option<Refusal>,

@@ -29,7 +29,7 @@ use ped_tree::grammar::{DoStatement, Entry, Item, StatementReading};
 use ped_tree::names::NameSet;
 
 /// Whether a statement passes a limit, where `variables` are those of the open DO loops, `rest` are the
-/// statements behind it, and SAVE without a list is read as `saved`.
+/// statements after it, and SAVE without a list is read as `saved`.
 pub fn passes_limit(
     context: &Context,
     variables: &[Name],
@@ -118,7 +118,7 @@ pub fn numbered_in(item: &Item) -> usize
     }
 }
 
-/// Whether too many blocks stand in one another with this one.
+/// Whether too many blocks are nested in one another with this one.
 fn is_too_deep(blocks: &[Block], item: &Item) -> bool
     requires { block_depth (blocks_of blocks.now) < 2 ^ 64 }
     ensures { result ≡ Spec.is_too_deep (blocks_of blocks.now) (item_of item.now) }

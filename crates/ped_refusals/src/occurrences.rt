@@ -104,7 +104,7 @@ fn add_item(names: &mut NameSet, item: &Item) -> Result<(), NoMemory>
     }
 }
 
-/// Adds names as they stand.
+/// Adds names without a change.
 fn add_names(names: &mut NameSet, all: &[Name]) -> Result<(), NoMemory>
     ensures { OnOk result (names.new ≡ with_names names.old all.now) }
 {

@@ -25,9 +25,9 @@ use ped_base::{Name, Names, NoMemory};
 use ped_tree::grammar::{Entry, NoteLine, Refusal, RefusalKind, StatementReading, standing};
 use std::alloc::Global;
 
-/// The first of the refusals that stand at the statements of a text, by line and then by number, where `directives`
-/// stand behind the last statement, the text has so many lines, and SAVE without a list is read as `saved`. These are
-/// the refusals 7 to 13; none exactly where none stands.
+/// The first refusal of the statements of a text, by line and then by number, where `directives`
+/// follow the last statement, the text has this many lines, and SAVE without a list is read as `saved`. These are
+/// the refusals 7 to 13; none exactly where there is none.
 pub fn first_refusal(
     alloc: Global,
     entries: &[Entry],
@@ -50,7 +50,7 @@ pub fn first_refusal(
     Ok(at_end(found, &context, directives, lines))
 }
 
-/// The first of what was found and what stands at a statement. Where something was found before all its
+/// The first of what was found and the refusals at a statement. Where something was found before all its
 /// lines, only what is refused at an earlier one is looked at.
 fn with_statement(
     found: Option<Refusal>,
@@ -115,7 +115,7 @@ fn at_statement(
     Ok(standing(found, passes, RefusalKind::Limit, entry.statement.line))
 }
 
-/// The first of what was found and what stands at a statement by its form and its place.
+/// The first of what was found and the refusals of a statement by its form and its place.
 #[tactic(auto, using(ped_tree::proofs::GrammarLaws::First::earliest_append))]
 fn at_places(found: Option<Refusal>, context: &Context, entry: &Entry) -> Option<Refusal>
     ensures { let c = context_of context.now in let e = entry_of entry.now in
@@ -152,7 +152,7 @@ fn at_places(found: Option<Refusal>, context: &Context, entry: &Entry) -> Option
     )
 }
 
-/// The first of what was found and what stands at a statement by the loops round it, whose variables these
+/// The first of what was found and the refusals of a statement by the loops around it, whose variables these
 /// are.
 #[tactic(auto, using(ped_tree::proofs::GrammarLaws::First::earliest_append))]
 fn at_loops(
@@ -203,7 +203,7 @@ fn is_past_limit(
     }
 }
 
-/// The first of what was found and what stands behind the last statement.
+/// The first of what was found and the refusals after the last statement.
 #[tactic(auto, using(ped_tree::proofs::GrammarLaws::First::earliest_append))]
 fn at_end(
     found: Option<Refusal>,

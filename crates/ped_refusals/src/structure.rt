@@ -17,7 +17,7 @@ use crate::blocks::{
 use crate::contexts::{Context, rank, saves_list, saves_without};
 use ped_tree::grammar::{Item, StatementReading};
 
-/// Whether the text has no form, or one that may not stand there, with the label of its statement. A form
+/// Whether the text has no form, or one that may not occur there, with the label of its statement. A form
 /// that the profile leaves out is refused as that.
 pub fn breaks_syntax(context: &Context, label: Option<u32>, reading: &StatementReading) -> bool
     ensures { result ≡ Spec.breaks_syntax (context_of context.now) label (reading_of reading.now) }
@@ -79,7 +79,7 @@ fn lacks_do(blocks: &[Block], label: Option<u32>, item: &Item) -> bool
     }
 }
 
-/// PRIVATE that isn't the first statement behind a DO.
+/// PRIVATE that isn't the first statement after a DO.
 fn is_late_private(behind_do: bool, item: &Item) -> bool
     ensures { result ≡ Spec.is_late_private behind_do (item_of item.now) }
 {
@@ -89,7 +89,7 @@ fn is_late_private(behind_do: bool, item: &Item) -> bool
     }
 }
 
-/// A SAVE behind another, at least one of the two without a list (section 8.9).
+/// A SAVE after another, at least one of the two without a list (section 8.9).
 fn saves_again(context: &Context, item: &Item) -> bool
     ensures { result ≡ Spec.saves_again (context_of context.now) (item_of item.now) }
 {
@@ -118,7 +118,7 @@ pub fn leaves_open(blocks: &[Block], reading: &StatementReading) -> bool
     }
 }
 
-/// Whether the label of an open DO stands on a statement that can't end one, or while a block is open in
+/// Whether the label of an open DO is on a statement that can't end one, or while a block is open in
 /// it that isn't a DO with that label.
 pub fn ends_badly(blocks: &[Block], label: Option<u32>, reading: &StatementReading) -> bool
     ensures { result ≡ Spec.ends_badly (blocks_of blocks.now) label (reading_of reading.now) }
@@ -141,7 +141,7 @@ fn may_end(reading: &StatementReading) -> bool
     }
 }
 
-/// Whether a statement is STOP, also behind a logical IF.
+/// Whether a statement is STOP, also after a logical IF.
 pub fn stops(reading: &StatementReading) -> bool
     ensures { result ≡ where_it_says Spec.stops (reading_of reading.now) }
 {

@@ -1,4 +1,4 @@
--- What the declarations of a program say of its names, wherever they stand among them (ANSI X3.9-1978, sections 4.1.2, 5.1, 8).
+-- What the declarations of a program say about its names, wherever they are among them (ANSI X3.9-1978, sections 4.1.2, 5.1, 8).
 use Rattle.std.specs.Prelude.{ℕ, List, [], ◌∷◌, map, filter, Bool, true, false, not, ◌&&◌, nat_le, Option, Some, None, if◌then◌else◌}
 use Rattle.std.specs.List.{list_any, flat_map}
 use Rattle.ped_base.specs.Lists.{is_among}
@@ -9,7 +9,7 @@ use Rattle.ped_symbols.specs.declared.uses.Use.{Use}
 use Rattle.ped_symbols.specs.Entries.{entry_of}
 use Rattle.ped_symbols.specs.Uses.{decl_uses}
 
--- whether IMPLICIT INTEGER (A-Z) stands, the program's name, where it has one, and the uses of names in the declarations
+-- whether IMPLICIT INTEGER (A-Z) is there, the program's name, where it has one, and the uses of names in the declarations
 pub record Declared : Type 0 where
   pub implicit : Bool
   pub program : List (List ℕ)
@@ -53,11 +53,11 @@ is_saving role = false
 abbrev pub names_with : (Role → Bool) → List Use → List (List ℕ)
 names_with test uses = map (λ u. u.name) (filter (λ u. test u.role) uses)
 
--- named in INTEGER, wherever that stands (ANSI X3.9-1978, section 8.4.1; this project)
+-- named in INTEGER, wherever that is (ANSI X3.9-1978, section 8.4.1; this project)
 abbrev pub is_typed : Declared → List ℕ → Bool
 is_typed d x = is_among x (names_with is_typing d.uses)
 
--- a named constant, wherever its PARAMETER stands
+-- a named constant, wherever its PARAMETER is
 abbrev pub is_constant : Declared → List ℕ → Bool
 is_constant d x = is_among x (names_with is_naming d.uses)
 
@@ -92,6 +92,6 @@ or_zero (Some n) = n
 abbrev pub given_rank : List Use → List ℕ → ℕ
 given_rank uses x = or_zero (entry_of (ranks_in uses) x)
 
--- how many dimensions a name has: those that declarations give it; a named constant has none, wherever its PARAMETER stands (ANSI X3.9-1978, sections 5.1.1, 8.6; this project)
+-- how many dimensions a name has: those that declarations give it; a named constant has none, wherever its PARAMETER is (ANSI X3.9-1978, sections 5.1.1, 8.6; this project)
 abbrev pub rank_of : Declared → List ℕ → ℕ
 rank_of d x = if is_constant d x then 0 else given_rank d.uses x

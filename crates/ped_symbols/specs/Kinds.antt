@@ -52,6 +52,6 @@ pub record Table : Type 0 where
   pub kinds : List (List ℕ × Kind)
   pub constants : Values
 
--- the table of a program; its constants stand in the order of their PARAMETER items (ANSI X3.9-1978, section 8.6; this project)
+-- the table of a program; its constants are in the order of their PARAMETER items (ANSI X3.9-1978, section 8.6; this project)
 abbrev pub table_of : ProgramTree → Table
 table_of t = record { kinds = kinds_of t; constants = (at_last t).values }

@@ -53,22 +53,22 @@ is_again before u =
     || (is_naming u.role && is_among u.name (names_with is_naming before))
     || (is_saving u.role && is_among u.name (names_with is_saving before))
 
--- one of these uses, behind those before it, declares again (ANSI X3.9-1978, section 8)
+-- one of these uses, after those before it, declares again (ANSI X3.9-1978, section 8)
 abbrev pub declares_again : List Use → List Use → Bool
 declares_again before [] = false
 declares_again before (u ∷ us) = is_again before u || declares_again (before ++ u ∷ []) us
 
--- a name stands twice in the list (plain words)
+-- a name occurs twice in the list (plain words)
 abbrev pub has_twice : List (List ℕ) → Bool
 has_twice [] = false
 has_twice (x ∷ xs) = is_among x xs || has_twice xs
 
--- a name stands twice among the rejected names of a DO (ParaScope; this project)
+-- a name occurs twice among the rejected names of a DO (ParaScope; this project)
 abbrev pub rejects_twice : StmtTree → Bool
 rejects_twice (Do h body) = has_twice h.rejected
 rejects_twice s = false
 
--- a site repeats what may be said once: a declaration says again what uses before it say; a name stands twice among the rejected names of a DO or in a PRIVATE (ANSI X3.9-1978, section 8; this project)
+-- a site repeats what may be said once: a declaration says again what uses before it say; a name occurs twice among the rejected names of a DO or in a PRIVATE (ANSI X3.9-1978, section 8; this project)
 abbrev pub repeats : List Use → Site → Bool
 repeats before (declaration d) = declares_again before (decl_uses d)
 repeats before (statement s) = rejects_twice s
@@ -82,7 +82,7 @@ is_declared_twice d before s =
     || list_any dimensions_intrinsic (site_uses s)
     || repeats before s
 
--- how many subscripts a use has, where it tells: none for a PRIVATE name and the variable of a DO (ANSI X3.9-1978, sections 5.4, 11.10)
+-- how many subscripts a use has, where it determines that: none for a PRIVATE name and the variable of a DO (ANSI X3.9-1978, sections 5.4, 11.10)
 abbrev pub subscripts_of : Role → Option ℕ
 subscripts_of Typed = None
 subscripts_of (Dimensioned n) = None
@@ -103,7 +103,7 @@ differs rank (Some n) = not (n == rank)
 abbrev pub uses_other_rank : Declared → Use → Bool
 uses_other_rank d u = differs (rank_of d u.name) (subscripts_of u.role)
 
--- what stands before a site: the uses of names in declarations, the named constants that hold, the arrays, and how many numbered statements
+-- what comes before a site: the uses of names in declarations, the named constants that hold, the arrays, and how many numbered statements
 pub record Before : Type 0 where
   pub uses : List Use
   pub values : Values
@@ -114,7 +114,7 @@ pub record Before : Type 0 where
 abbrev pub at_first : Before
 at_first = record { uses = []; values = []; arrays = []; statements = 0 }
 
--- behind a site (ANSI X3.9-1978, section 8)
+-- after a site (ANSI X3.9-1978, section 8)
 abbrev pub behind_site : Before → Site → Before
 behind_site b (declaration d) = record {
   uses = b.uses ++ decl_uses d;
@@ -125,7 +125,7 @@ behind_site b (declaration d) = record {
 behind_site b (statement s) = record b { statements = b.statements + 1 }
 behind_site b (private_names names) = b
 
--- behind sites, one behind the other
+-- after sites, one after another
 abbrev pub behind_sites : Before → List Site → Before
 behind_sites b [] = b
 behind_sites b (s ∷ rest) = behind_sites (behind_site b s) rest
@@ -136,7 +136,7 @@ passes_limit refs b (declaration d) = have_many_elements (b.arrays ++ arrays_in 
 passes_limit refs b (statement s) = has_many_pairs refs (b.statements + 1)
 passes_limit refs b (private_names names) = false
 
--- what is refused at a site on this line, in a program with these references; that a name would be REAL comes first, also where it stands in a value or a bound
+-- what is refused at a site on this line, in a program with these references; that a name would be REAL comes first, also where it is in a value or a bound
 abbrev pub at_site : Declared → List Reference → Before → ℕ → Site → List Finding
 at_site d refs b line s =
     refused_if (list_any (uses_real d) (site_uses s)) RealName line
@@ -151,7 +151,7 @@ abbrev pub next_line : List ℕ → ℕ
 next_line [] = 0
 next_line (line ∷ lines) = line
 
--- what is refused at sites, one behind the other, on these lines
+-- what is refused at sites, one after another, on these lines
 abbrev pub at_sites : Declared → List Reference → Before → List ℕ → List Site → List Finding
 at_sites d refs b lines [] = []
 at_sites d refs b lines (s ∷ rest) = at_site d refs b (next_line lines) s ++ at_sites d refs (behind_site b s) (drop 1 lines) rest

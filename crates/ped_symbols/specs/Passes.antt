@@ -75,19 +75,19 @@ pub record Counts (c : Elements) (arrays : Arrays) : Type 0 where
   pub together : c.together ≡ capped (elements_of arrays)
   pub large : c.has_large ≡ has_large arrays
 
--- what is held says the same as what stands before a site
+-- what is held says the same as what comes before a site
 pub record Holds (held : Held) (b : Before) : Type 0 where
   pub seen : HasSeen held.seen b.uses
   pub values : held.consts ≡ b.values
   pub arrays : KnowsArrays held.arrays b.arrays
   pub elements : Counts held.elements b.arrays
 
--- a statement behind so many others doesn't come before one that so many statements precede
+-- a statement with this many others before it has reached the one that has the first number of statements before it
 abbrev pub is_reached : Option ℕ → ℕ → Bool
 is_reached None others = false
 is_reached (Some n) others = nat_le n others
 
--- behind so many statements, these are the ones to come before the pairs are too many
+-- after this many statements, this many more come before the pairs are too many
 abbrev pub CountsTo : List Reference → ℕ → Option ℕ → Type 0
 CountsTo refs before until = (others : ℕ) → has_many_pairs refs (before + others + 1) ≡ is_reached until others
 
@@ -95,7 +95,7 @@ CountsTo refs before until = (others : ℕ) → has_many_pairs refs (before + ot
 abbrev pub kind_with : Known → List ℕ → Kind
 kind_with known x = kind_by (entry_of known.consts.now x) (entry_of known.arrays.now.entries.entries x)
 
--- the kinds with those of more names behind them, where they aren't there
+-- the kinds with those of more names after them, where they aren't there
 abbrev pub with_kinds : (List ℕ → Kind) → List (List ℕ × Kind) → List (List ℕ) → List (List ℕ × Kind)
 with_kinds kind es [] = es
 with_kinds kind es (x ∷ xs) = with_kinds kind (with_entry es x (kind x)) xs
@@ -107,7 +107,7 @@ pub record At (known : Known) (kinds new : NameTable Kind) (found next : Found) 
   pub until : next.until_many_pairs ≡ found.until_many_pairs
   pub names : new.entries.entries ≡ with_kinds (kind_with known) kinds.entries.entries (map (λ u. u.name) uses)
 
--- what is known and found says the same as what stands before a site
+-- what is known and found says the same as what comes before a site
 pub record Stands (known : Known) (refs : List Reference) (found : Found) (b : Before) : Type 0 where
   pub values : b.values ≡ known.consts.now
   pub until : CountsTo refs b.statements found.until_many_pairs

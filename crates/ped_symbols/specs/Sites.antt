@@ -28,7 +28,7 @@ abbrev mutual
   stmt_sites Stop = statement Stop ∷ []
   stmt_sites (Comment text) = []
 
-  -- the sites of statements, one behind the other (this project)
+  -- the sites of statements, one after another (this project)
   pub stmts_sites : StmtTrees → List Site
   stmts_sites no_stmts = []
   stmts_sites (more_stmts s rest) = stmt_sites s ++ stmts_sites rest

@@ -16,7 +16,7 @@ abbrev pub expr_count : ExprTrees → ℕ
 expr_count no_exprs = 0
 expr_count (more_exprs e rest) = suc (expr_count rest)
 
--- the uses in an expression from left to right, an element before its subscripts: an operand without subscripts, or with so many (ANSI X3.9-1978, sections 5.4, 6.1)
+-- the uses in an expression from left to right, an element before its subscripts: an operand without subscripts, or with this many (ANSI X3.9-1978, sections 5.4, 6.1)
 abbrev mutual
   pub expr_uses : ExprTree → List Use
   expr_uses (Int n) = []
@@ -30,7 +30,7 @@ abbrev mutual
   expr_uses (Pow a b) = expr_uses a ++ expr_uses b
   expr_uses (Call f arguments) = exprs_uses arguments
 
-  -- the uses in expressions, one behind the other (ANSI X3.9-1978, sections 5.4, 6.1)
+  -- the uses in expressions, one after another (ANSI X3.9-1978, sections 5.4, 6.1)
   pub exprs_uses : ExprTrees → List Use
   exprs_uses no_exprs = []
   exprs_uses (more_exprs e rest) = expr_uses e ++ exprs_uses rest

@@ -1,4 +1,4 @@
--- The values of named constants, and of bounds and increments, by the PARAMETER items that stand before (ANSI X3.9-1978, sections 5.1.1, 8.6, 11.10.3).
+-- The values of named constants, and of bounds and increments, by the PARAMETER items before them (ANSI X3.9-1978, sections 5.1.1, 8.6, 11.10.3).
 use Rattle.std.specs.Prelude.{ℕ, ℤ, pos, List, [], ◌∷◌, unsigned_abs, nat_le, int_lt, Bool, true, false, ◌||◌, Option, Some, None, if◌then◌else◌}
 use Rattle.std.specs.List.{list_any}
 use Rattle.std.specs.Ordering.{int_eq}
@@ -26,12 +26,12 @@ abbrev pub is_missing : Option ℤ → Bool
 is_missing None = true
 is_missing (Some n) = false
 
--- the constants with one more behind them, where it has a value; of a name that has one already the first counts (ANSI X3.9-1978, section 8.6)
+-- the constants with one more at the end, where it has a value; of a name that has one already the first counts (ANSI X3.9-1978, section 8.6)
 abbrev pub with_value : Values → List ℕ → Option ℤ → Values
 with_value values x None = values
 with_value values x (Some n) = with_entry values x n
 
--- behind the items of a PARAMETER, each of which holds from its own place on (ANSI X3.9-1978, section 8.6)
+-- after the items of a PARAMETER, each of which holds from its own place on (ANSI X3.9-1978, section 8.6)
 abbrev pub behind_items : Values → List (List ℕ × ExprTree) → Values
 behind_items values [] = values
 behind_items values (v ∷ vs) = behind_items (with_value values v.0 (fixed_value values v.1)) vs
@@ -47,7 +47,7 @@ abbrev pub items : DeclTree → List (List ℕ × ExprTree)
 items (Parameter values) = values
 items d = []
 
--- behind a declaration (ANSI X3.9-1978, section 8.6)
+-- after a declaration (ANSI X3.9-1978, section 8.6)
 abbrev pub behind_decl : Values → DeclTree → Values
 behind_decl values d = behind_items values (items d)
 

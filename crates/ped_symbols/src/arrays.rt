@@ -102,7 +102,7 @@ fn no_dimensions() -> Bounds
     }
 }
 
-/// The bounds with one more dimension behind them.
+/// The bounds with one more dimension at the end.
 fn with_dimension(bounds: Bounds, lower: i64, upper: i64) -> Bounds
     requires { length bounds.lower < 7 }
     ensures lower { result.lower ≡ bounds.lower ++ lower ∷ [] }

@@ -26,7 +26,7 @@ use std::alloc::Global;
 /// What declarations have said so far.
 #[derive(Drop)]
 pub struct Held {
-    /// The names that they have declared, by what they have said of them.
+    /// The names that they have declared, by what they have declared them as.
     pub seen: Seen,
     /// The named constants that hold.
     pub consts: Consts,

@@ -17,10 +17,10 @@ use ped_tree::Decl;
 use ped_tree::names::NameSet;
 use std::alloc::Global;
 
-/// What declarations say of names.
+/// What declarations say about names.
 #[derive(Drop)]
 pub struct Declared {
-    /// IMPLICIT INTEGER (A-Z) stands.
+    /// Whether IMPLICIT INTEGER (A-Z) is there.
     pub implicit: bool,
     /// The program's name, where it has one.
     pub program: NameSet,
@@ -57,7 +57,7 @@ impl Declared {
         })
     }
 
-    /// Adds what uses say, one behind the other.
+    /// Adds what uses say, one after another.
     fn note_all(&mut self, uses: &[Use]) -> Result<(), NoMemory>
         ensures implicit { OnOk result (self.new.implicit ≡ self.old.implicit) }
         ensures program { OnOk result (self.new.program ≡ self.old.program) }

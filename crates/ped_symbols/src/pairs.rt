@@ -24,7 +24,7 @@ pub fn until_many_pairs(alloc: Global, program: &Program) -> Result<Option<u32>,
     Ok(one_less(first))
 }
 
-/// How many are left behind one statement more; 0 stays.
+/// How many remain after one more statement; 0 stays.
 pub fn one_less(until: Option<u32>) -> Option<u32>
     ensures { (others : ℕ) → is_reached result others ≡ is_reached until (others + 1) }
 {

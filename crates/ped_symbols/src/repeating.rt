@@ -104,7 +104,7 @@ pub fn rejects_twice(alloc: Global, statement: &Stmt) -> Result<bool, NoMemory>
     }
 }
 
-/// Whether a name stands twice among these.
+/// Whether a name occurs twice among these.
 pub fn stands_twice(alloc: Global, names: &[Name]) -> Result<bool, NoMemory>
     ensures { IfOk result (λ twice. twice ≡ has_twice names.now) }
 {

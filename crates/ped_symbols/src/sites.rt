@@ -14,7 +14,7 @@ use crate::uses::{Role, Use};
 use ped_limits::intrinsic_of;
 use ped_tree::grammar::{Refusal, RefusalKind, standing};
 
-/// What is wrong at a site beside single uses of names.
+/// What is wrong at a site apart from single uses of names.
 #[derive(Clone, Copy, PartialEq, Eq)]
 pub struct Faults {
     /// It repeats what may be said once.
@@ -35,12 +35,12 @@ pub struct Found<'l> {
     /// The lines of the sites to come.
     pub lines: &'l [u64],
     /// How many numbered statements come before the first at which there are too many pairs of references, 0
-    /// at it and behind it; none where there never are.
+    /// at it and after it; none where there never are.
     pub until_many_pairs: Option<u32>,
 }
 
 impl<'l> Found<'l> {
-    /// Behind a site with these uses of names, where it has these faults.
+    /// After a site with these uses of names, where it has these faults.
     pub fn behind(self, declared: &Declared, uses: &[Use], faults: Faults) -> Found<'l>
         ensures first { (d : Plain.Declared) → Knows declared.now d →
             found_of result.first ≡ earliest (found_of self.entry.first) (refused_at d (Spec.next_line self.entry.lines.now) uses.now faults) }
@@ -69,7 +69,7 @@ impl<'l> Found<'l> {
     }
 }
 
-/// The next line, 0 where there is none, and those behind it.
+/// The next line, 0 where there is none, and those after it.
 fn next_line(lines: &[u64]) -> (u64, &[u64])
     ensures line { result.0 ≡ Spec.next_line lines.now }
     ensures lines { result.1.now ≡ drop 1 lines.now }
@@ -223,7 +223,7 @@ fn uses_other_rank(declared: &Declared, u: &Use) -> bool
     }
 }
 
-/// How many subscripts a name has in a role, where the role tells.
+/// How many subscripts a name has in a role, where the role determines it.
 fn subscripts_of(role: Role) -> Option<usize>
     ensures { result ≡ Spec.subscripts_of role }
 {

@@ -63,7 +63,7 @@ impl Known<'_> {
     }
 }
 
-/// Goes over statements one behind the other.
+/// Goes over statements one after another.
 #[cycle(statements)]
 pub fn statements<'l>(
     alloc: Global,

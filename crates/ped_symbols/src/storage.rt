@@ -83,7 +83,7 @@ impl Elements {
         }
     }
 
-    /// With an array of so many.
+    /// With an array of this many elements.
     fn with_array(self, count: u64) -> Elements
         ensures together { result.together ≡ capped (self.together + count) }
         ensures large { result.has_large ≡ (self.has_large || nat_lt Spec.most_elements count) }

@@ -38,7 +38,7 @@ impl<V: Copy + Drop> NameTable<V> {
         self.entries.contains_key(name)
     }
 
-    /// Adds a name with what is known of it, where it isn't there. After want of memory the table is as it
+    /// Adds a name with what is known of it, where it isn't there. If memory runs out, the table is as it
     /// was.
     pub fn keep(&mut self, name: &Name, value: V) -> Result<(), NoMemory>
         ensures ok { OnOk result (self.new.entries.entries ≡ with_entry self.old.entries.entries name.now value) }

@@ -9,7 +9,7 @@ use Rattle.ped_valid.specs.declared.refusals.OpenRefusal.{OpenRefusal}
 use Rattle.ped_valid.specs.declared.refusals.OpenRefusal.TheVariants.{At, NoMemory}
 use Rattle.ped_valid.specs.Validity.{RefusesText}
 
--- the text's first refusal, or want of memory
+-- the text's first refusal, or out of memory
 abbrev pub IsRefusalOf : List ℕ → OpenRefusal → Type 0
 IsRefusalOf text NoMemory = Unit {0}
 IsRefusalOf text (At r) = RefusesText text (finding_of r)

@@ -9,12 +9,12 @@ use Rattle.ped_lines.specs.ped_tree.specs.Grammar.BlockForms.{whole_head}
 use Rattle.ped_lines.specs.ped_tree.specs.Grammar.ProgramRefusals.{is_too_large}
 use Rattle.ped_lines.specs.ped_tree.specs.Printing.{blanks, own_text, private_text, decl_text}
 
--- the characters of a statement read as this item alone, and blanks before and behind them change nothing (ANSI X3.9-1978, section 3.1.6)
+-- the characters of a statement read as this item alone, and blanks before and after them change nothing (ANSI X3.9-1978, section 3.1.6)
 pub record ReadsOnly (characters : List ℕ) (i : Item) : Type 0 where
   pub only : (j : Item) → ReadsItem (text_of characters) j ↔ (j ≡ i)
   pub among_blanks : (before behind : ℕ) → text_of (blanks before ++ characters ++ blanks behind) ≡ text_of characters
 
--- an item says the statement, or its first line where it has parts: the IF of a block IF, of an ELSE IF or of a logical IF, the statement behind a logical IF, a DO with or without a label and with whatever private and rejected names (ANSI X3.9-1978, section 3.4; this project)
+-- an item says the statement, or its first line where it has parts: the IF of a block IF, of an ELSE IF or of a logical IF, the statement after a logical IF, a DO with or without a label and with whatever private and rejected names (ANSI X3.9-1978, section 3.4; this project)
 pub data SaysFirstLine (i : Item) (s : StmtTree) : Type 0 where
   itself : i ≡ does s → SaysFirstLine i s
   of_block_if : (c : CondTree) (then_part else_part : StmtTrees) → i ≡ block_if c → s ≡ If c then_part else_part → SaysFirstLine i s
@@ -49,7 +49,7 @@ StatementPrints = (text : List ℕ) (i : Item) (s : StmtTree) → ReadsItem text
 abbrev pub PrivatePrints : Type 0
 PrivatePrints = (text : List ℕ) (names : List (List ℕ)) → ReadsItem text (keeps_private names) → ReadsOnly (private_text names) (keeps_private names)
 
--- the lines that are printed alike wherever they stand read as they say
+-- the lines that are printed alike at each place read as they say
 pub record WordsPrint : Type 0 where
   pub of_else : ReadsOnly (codes "ELSE") else_line
   pub of_end_if : ReadsOnly (codes "END IF") end_if

@@ -4,7 +4,7 @@
 ghost use Rattle.ped_printed.specs.Statements.Printed.{DeclarationPrints, SavePrints, StatementPrints, PrivatePrints, WordsPrint};
 
 /// The printed text of a declaration that some text reads as, with no literal above 2147483647, reads
-/// as it and as nothing else, with any number of blanks before and behind it.
+/// as it and as nothing else, with any number of blanks before and after it.
 pub fn printed_declaration()
     ensures { DeclarationPrints }
 {}

@@ -5,7 +5,7 @@ ghost use Rattle.ped_tree.specs.Tree.{ProgramTree};
 ghost use Rattle.ped_tree.specs.Grammar.Fits.{fits};
 ghost use Rattle.ped_refs.specs.Sizes.Sizes.{IsSmall};
 
-/// A tree that fits has at most 4,000 statements, 64 references in each, and six DO loops round each.
+/// A tree that fits has at most 4,000 statements, 64 references in each, and six DO loops around each.
 pub fn small_where_it_fits()
     ensures { (t : ProgramTree) → fits t ≡ true → IsSmall t }
 {}

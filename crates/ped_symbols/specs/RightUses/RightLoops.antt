@@ -1,4 +1,4 @@
--- DO loops: how deep they stand in one another, and their increments (ANSI X3.9-1978, section 11.10).
+-- DO loops: how deep they are nested in one another, and their increments (ANSI X3.9-1978, section 11.10).
 use Rattle.std.specs.Prelude.{ℕ, suc, ℤ, pos, max, List, Bool, true, false, not, ◌&&◌, nat_le, unsigned_abs, Option, Some, None}
 use Rattle.std.specs.Ordering.{int_eq}
 use Rattle.ped_tree.specs.Tree.{ExprTree, StmtTree, StmtTrees, Assign, If, Do, Print, Read, Stop, Comment, no_stmts, more_stmts}

@@ -1,4 +1,4 @@
--- What a valid program tells of its statements, its loops and its arrays (this project).
+-- What is known of a valid program: its statements, its loops and its arrays (this project).
 use Rattle.std.specs.Prelude.{◌≡◌, ◌≤◌, true}
 use Rattle.ped_tree.specs.Tree.{ProgramTree}
 use Rattle.ped_tree.specs.Numbering.{statements_count}
@@ -9,7 +9,7 @@ use Rattle.ped_symbols.specs.RightUses.RightUses.{stmts_are_right, saves_are_rig
 use Rattle.ped_symbols.specs.RightUses.RightLoops.{loops_deep, steps_are_right}
 use Rattle.ped_symbols.specs.RightUses.RightArrays.{arrays_are_right, kinds_are_right, kinds_elements}
 
--- names stand where names of their kind may stand, in statements and in SAVE; increments have values that they may have; there aren't too many statements, nor loops in one another; arrays have right bounds and not too many elements, whether they are counted by declarations or by names
+-- names occur where names of their kind may occur, in statements and in SAVE; increments have values that they may have; there aren't too many statements, nor loops in one another; arrays have right bounds and not too many elements, whether they are counted by declarations or by names
 pub record IsRight (t : ProgramTree) : Type 0 where
   pub statements : stmts_are_right (kind_in t) t.body ≡ true
   pub steps : steps_are_right (at_last t).values t.body ≡ true

@@ -1,4 +1,4 @@
--- Where names of which kind stand in expressions and statements, by the kinds of names: those of names that don't occur are none (ANSI X3.9-1978, sections 2.12, 5.4, 8.6, 10.1, 11.10, 12.8; this project).
+-- Where names of which kind occur in expressions and statements, by the kinds of names: those of names that don't occur are none (ANSI X3.9-1978, sections 2.12, 5.4, 8.6, 10.1, 11.10, 12.8; this project).
 use Rattle.std.specs.Prelude.{ℕ, List, length, Bool, true, false, ◌&&◌, ◌==◌, nat_le, Option, Some, None}
 use Rattle.std.specs.List.{list_all}
 use Rattle.ped_tree.specs.Tree.{ExprTree, ExprTrees, Int, Var, Element, Neg, Add, Sub, Mul, Div, Pow, Call, no_exprs, more_exprs, CondTree, Rel, Not, And, Or, ItemTree, Value, Text, Head, StmtTree, StmtTrees, Assign, If, Do, Print, Read, Stop, Comment, no_stmts, more_stmts, DeclTree, Program, Implicit, Integer, Dimension, Parameter, Save, Remark}
@@ -33,7 +33,7 @@ is_variable_kind (Some Scalar) = true
 is_variable_kind (Some (Array d)) = true
 is_variable_kind (Some (Constant n)) = false
 
--- the kind of an array with so many dimensions (ANSI X3.9-1978, section 5.1.1)
+-- the kind of an array with this many dimensions (ANSI X3.9-1978, section 5.1.1)
 abbrev pub is_array_kind : ℕ → Option Kind → Bool
 is_array_kind rank None = false
 is_array_kind rank (Some Scalar) = false
@@ -52,11 +52,11 @@ is_value k x = is_value_kind (k x)
 abbrev pub is_variable : NameKinds → List ℕ → Bool
 is_variable k x = is_variable_kind (k x)
 
--- the name is that of an array with so many dimensions (ANSI X3.9-1978, section 5.1.1)
+-- the name is that of an array with this many dimensions (ANSI X3.9-1978, section 5.1.1)
 abbrev pub has_rank : NameKinds → ℕ → List ℕ → Bool
 has_rank k rank x = is_array_kind rank (k x)
 
--- so many subscripts as an array may have: one to seven (ANSI X3.9-1978, section 5.1.1)
+-- as many subscripts as an array may have: one to seven (ANSI X3.9-1978, section 5.1.1)
 abbrev pub is_rank : ℕ → Bool
 is_rank n = nat_le 1 n && nat_le n most_dimensions
 

@@ -12,11 +12,11 @@ ghost use Rattle.ped_symbols.specs.Sites.{program_sites};
 ghost use Rattle.ped_symbols.specs.NameRefusals.{IsValid};
 ghost use Rattle.ped_symbols.specs.RightUses.RightPrograms.{IsRight};
 
-/// In a valid program each name stands where names of its kind may stand: left sides, items of READ, DO variables,
+/// In a valid program each name occurs where names of its kind may occur: left sides, items of READ, DO variables,
 /// PRIVATE names, and names in expressions, elements with as many subscripts as their array has dimensions. Each
-/// increment is a constant within 2147483647 of zero and not 0. At most six DO loops stand in one another, and there
-/// are at most 4,000 statements. Names in SAVE are scalars or arrays. Arrays have bounds in order, and at most 2^23
-/// elements together.
+/// increment is a constant within 2147483647 of zero and not 0. At most six DO loops are nested in one another, and
+/// there are at most 4,000 statements. Names in SAVE are scalars or arrays. Arrays have bounds in order, and at most
+/// 2^23 elements together.
 pub fn right_where_valid()
     ensures { (t : ProgramTree) → IsValid t → IsRight t }
 {}
@@ -32,8 +32,8 @@ pub fn constants_have_values()
     ensures others { (t : ProgramTree) (x : List ℕ) → is_among x (constant_names t.decls) ≡ false → value_named (at_last t).values x ≡ None }
 {}
 
-/// What names stand for is told by the declarations and by which names occur: programs with the same declarations, in
-/// which the same names occur, have the same constants, and in both each name stands for the same.
+/// What names stand for depends only on the declarations and on which names occur: programs with the same declarations,
+/// in which the same names occur, have the same constants, and in both each name stands for the same.
 pub fn kinds_told_by_names()
     ensures values { (t u : ProgramTree) → t.decls ≡ u.decls → (at_last u).values ≡ (at_last t).values }
     ensures kinds { (t u : ProgramTree) → t.decls ≡ u.decls → ((y : List ℕ) → is_among y (names_of u) ≡ is_among y (names_of t)) → (y : List ℕ) → kind_in u y ≡ kind_in t y }

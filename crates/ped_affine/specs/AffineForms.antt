@@ -1,4 +1,4 @@
--- Subscripts as affine forms in the variables of the DO loops round them and in variables that the outermost of these loops doesn't assign (Allen and Kennedy, section 3.1).
+-- Subscripts as affine forms in the variables of the DO loops around them and in variables that the outermost of these loops doesn't assign (Allen and Kennedy, section 3.1).
 use Rattle.std.specs.Prelude.{ℕ, ℤ, pos, neg_ℤ, ◌+ℤ◌, ◌-ℤ◌, ◌*ℤ◌, ◌^◌, List, [], ◌∷◌, ◌++◌, map, unsigned_abs, nat_le, Bool, ◌&&◌, Option, Some, None, if◌then◌else◌}
 use Rattle.std.specs.List.{list_all}
 use Rattle.ped_base.specs.Lists.{is_same_text, is_among}
@@ -7,7 +7,7 @@ use Rattle.ped_tree.specs.Tree.{ExprTree, Int, Var, Element, Neg, Add, Sub, Mul,
 use Rattle.ped_tree.specs.Constants.ConstantExpressions.{constant_value}
 use Rattle.ped_affine.specs.Ranges.{is_near}
 
--- the names that a form may have: the named constants with their values, and the unknowns, which are the variables of the loops round the subscript, the outermost first, and other variables behind them
+-- the names that a form may have: the named constants with their values, and the unknowns, which are the variables of the loops around the subscript, the outermost first, and other variables after them
 pub record Terms : Type 0 where
   pub constants : List (List ℕ × ℤ)
   pub unknowns : List (List ℕ)
@@ -65,7 +65,7 @@ combination f (Some a) (Some b) = within_limits (combined_form f a b)
 combination f (Some a) None = None
 combination f None b = None
 
--- so many times a form
+-- a form multiplied by a number
 abbrev pub times : ℤ → AffineForm → AffineForm
 times n f = form (map (λ a. n *ℤ a) f.coefficients) (n *ℤ f.constant)
 

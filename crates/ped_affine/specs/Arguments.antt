@@ -11,6 +11,6 @@ use Rattle.ped_affine.specs.PairViews.{Site}
 abbrev pub setting_of : CodeSetting → Setting
 setting_of s = record { constants = s.constants.now; loop_variables = s.loop_variables.now; assigned = s.assigned.now }
 
--- the loops round a reference, and its subscripts
+-- the loops around a reference, and its subscripts
 abbrev pub site : Place → Site
 site p = record { nest = nest_of p.nest.now; subscripts = map expr_tree p.subscripts.now }

@@ -27,7 +27,7 @@ abbrev mutual
   assigned_in Stop = []
   assigned_in (Comment text) = []
 
-  -- what statements assign, one behind the other (this project)
+  -- what statements assign, one after another (this project)
   pub assigned_in_all : StmtTrees → List (List ℕ)
   assigned_in_all no_stmts = []
   assigned_in_all (more_stmts s rest) = assigned_in s ++ assigned_in_all rest

@@ -9,7 +9,7 @@ use Rattle.ped_tree.specs.Nests.{Loop, indices_of, common_nest}
 use Rattle.ped_affine.specs.Ranges.{Setting, nest_ranges}
 use Rattle.ped_affine.specs.AffineForms.{Terms, AffineForm, affine_of, form_variables}
 
--- where a reference stands: the DO loops round it, the outermost first, and its subscripts, none for a scalar
+-- the place of a reference: the DO loops around it, the outermost first, and its subscripts, none for a scalar
 pub record Site : Type 0 where
   pub nest : List Loop
   pub subscripts : List ExprTree
@@ -26,7 +26,7 @@ depths_of source sink =
     let common = length (common_nest source.nest sink.nest) in
     record { common = common; source = length source.nest - common; sink = length sink.nest - common }
 
--- a variable that no loop round either reference has, and that the outermost common loop doesn't assign (Allen and Kennedy, section 3.1)
+-- a variable that no loop around either reference has, and that the outermost common loop doesn't assign (Allen and Kennedy, section 3.1)
 abbrev pub is_other : Setting → Site → Site → List ℕ → Bool
 is_other s source sink x = not (is_among x (indices_of source.nest)) && not (is_among x (indices_of sink.nest)) && not (is_among x s.assigned)
 
@@ -38,11 +38,11 @@ other_variables s source sink e g = filter (is_other s source sink) (form_variab
 abbrev pub terms_of : Setting → List Loop → List (List ℕ) → Terms
 terms_of s nest others = record { constants = s.constants; unknowns = indices_of nest ++ others }
 
--- a form by the coefficients of the common loops, and those of so many further loops
+-- a form by the coefficients of the common loops, and those of this many further loops
 abbrev pub row_of : ℕ → ℕ → AffineForm → Row
 row_of common further f = record { common = take common f.coefficients; inner = take further (drop common f.coefficients); constant = f.constant }
 
--- the coefficients of the other variables, behind those of the loops of the side
+-- the coefficients of the other variables, after those of the loops of the side
 abbrev pub other_coefficients : ℕ → ℕ → AffineForm → List ℤ
 other_coefficients common further f = drop further (drop common f.coefficients)
 

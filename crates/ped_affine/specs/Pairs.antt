@@ -11,13 +11,13 @@ use Rattle.ped_affine.specs.Arguments.{site}
 abbrev pub depths_kept : CodeDepths → Depths
 depths_kept d = record { common = d.common; source = d.source; sink = d.sink }
 
--- the loops that are kept for a pair are those round its places
+-- the loops that are kept for a pair are those around its places
 pub record IsPair (p : Pair) : Type 0 where
   pub depths : depths_kept p.depths ≡ depths_of (site p.source) (site p.sink)
   pub source : p.depths.common + p.depths.source ≡ length p.source.nest.now
   pub sink : p.depths.common + p.depths.sink ≡ length p.sink.nest.now
 
--- a form has a coefficient for each of so many loops, and its numbers are within the limits
+-- a form has a coefficient for each of this many loops, and its numbers are within the limits
 pub record Covers (loops : ℕ) (f : Form) : Type 0 where
   pub long : loops ≤ length f.coefficients.items
   pub coefficients : All IsSmallCoefficient f.coefficients.items

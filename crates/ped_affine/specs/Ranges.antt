@@ -12,13 +12,13 @@ use Rattle.ped_tree.specs.Tree.{ExprTree, ExprTrees, Int, Var, Element, Neg, Add
 use Rattle.ped_tree.specs.Constants.ConstantExpressions.{constant_value}
 use Rattle.ped_affine.specs.IntervalArithmetic.{interval, point, interval_sum, interval_difference, interval_negation, interval_product, interval_max, interval_min}
 
--- what ranges and subscripts depend on beside the loops round a statement: the named constants with their values, the variables of all DO loops of the program, and what the outermost DO round the statement assigns
+-- what ranges and subscripts depend on in addition to the loops around a statement: the named constants with their values, the variables of all DO loops of the program, and what the outermost DO around the statement assigns
 pub record Setting : Type 0 where
   pub constants : List (List ℕ × ℤ)
   pub loop_variables : List (List ℕ)
   pub assigned : List (List ℕ)
 
--- the loops round a bound by their variables, each with the values from the lesser to the greater end of its range, the outermost first
+-- the loops around a bound by their variables, each with the values from the lesser to the greater end of its range, the outermost first
 abbrev pub Around : Type 0
 Around = List (List ℕ × Interval)
 
@@ -50,7 +50,7 @@ of_two f None b = None
 abbrev pub any_value : Interval
 any_value = interval (neg_ℤ (pos (2 ^ 31))) (pos (2 ^ 31) -ℤ pos 1)
 
--- a variable by its loop round the bound; another one holds any value, but the variable of a DO of the program may lie beyond (this project)
+-- a variable by its loop around the bound; another one holds any value, but the variable of a DO of the program may lie beyond (this project)
 abbrev pub variable_by : Option Interval → Bool → Option Interval
 variable_by (Some r) of_some_loop = Some r
 variable_by None true = None

@@ -1,4 +1,4 @@
--- The loops round a bound as the code keeps them, with the ranges found for them. Contracts of private functions alone speak of these definitions.
+-- The loops around a bound as the code keeps them, with the ranges found for them. Contracts of private functions alone speak of these definitions.
 use Rattle.std.specs.Prelude.{List, [], ◌∷◌}
 use Rattle.ped_views.specs.Views.{Range}
 use Rattle.ped_tree.specs.Tree.{Head}
@@ -13,6 +13,6 @@ with_ranges (h ∷ hs) (r ∷ rs) = (h.variable, between_ends r) ∷ with_ranges
 with_ranges [] rs = []
 with_ranges (h ∷ hs) [] = []
 
--- the loops round a bound
+-- the loops around a bound
 abbrev pub around_of : Enclosing → Around
 around_of e = with_ranges (heads_of (nest_of e.loops.now)) e.ranges.now

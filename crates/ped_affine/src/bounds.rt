@@ -28,7 +28,7 @@ use ped_tree::constants::constant;
 use ped_tree::{Expr, Intrinsic};
 use ped_views::{Interval, LoopRange};
 
-/// The loops round a bound, the outermost first, with their ranges.
+/// The loops around a bound, the outermost first, with their ranges.
 #[derive(Clone, Copy)]
 pub(crate) struct Enclosing<'a> {
     /// The loops.

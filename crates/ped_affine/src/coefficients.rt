@@ -111,7 +111,7 @@ pub(crate) fn add_of_names(
     Ok(())
 }
 
-/// Adds so many zeros.
+/// Adds this many zeros.
 pub(crate) fn add_zeros(coefficients: &mut Vec<i64>, count: usize) -> Result<(), NoMemory>
     ensures { OnOk result (coefficients.new.items ≡ coefficients.old.items ++ replicate count (pos 0)) }
 {

@@ -15,13 +15,13 @@ use ped_tree::constants::Consts;
 use ped_views::product;
 use std::alloc::Global;
 
-/// What a form is over: named constants with their values, and unknowns, which are the variables of the loops round a
-/// subscript, the outermost first, and other variables behind them.
+/// What a form is over: named constants with their values, and unknowns, which are the variables of the loops around a
+/// subscript, the outermost first, and other variables after them.
 #[derive(Clone, Copy)]
 pub(crate) struct Terms<'a, 'b, 'c> {
     /// The named constants.
     pub constants: &'a Consts,
-    /// The loops round the subscript.
+    /// The loops around the subscript.
     pub nest: &'b [Loop<'b>],
     /// The other variables.
     pub others: &'c [Name],
@@ -140,7 +140,7 @@ impl Terms<'_, '_, '_> {
         }
     }
 
-    /// A form with so much more as its constant.
+    /// A form with this number added to its constant.
     fn with_constant(&self, mut f: Form, n: i64) -> Option<Form>
         requires form { IsOver (unknowns_of self.now) f }
         requires more { IsSmallConstant n }
@@ -171,7 +171,7 @@ impl Terms<'_, '_, '_> {
         }
     }
 
-    /// So many times a form.
+    /// A form multiplied by a number.
     fn multiple(&self, n: i64, mut f: Form) -> Option<Form>
         requires factor { IsSmallConstant n }
         requires form { IsOver (unknowns_of self.now) f }

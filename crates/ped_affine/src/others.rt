@@ -13,7 +13,7 @@ use ped_refs::is_index;
 use ped_tree::Expr;
 use std::alloc::Global;
 
-/// Those variables of two subscripts, as often as they stand there. Where there are none, they take no memory.
+/// Those variables of two subscripts, as often as they occur there. Where there are none, they take no memory.
 pub(crate) fn other_variables(
     alloc: Global,
     setting: &Setting,
@@ -66,7 +66,7 @@ fn add_others(
     }
 }
 
-/// Whether a variable is no loop's round either reference, and the outermost common loop doesn't assign it.
+/// Whether a variable is no loop's around either reference, and the outermost common loop doesn't assign it.
 fn is_other(setting: &Setting, source: &Place, sink: &Place, name: &Name) -> bool
     ensures { result ≡ Spec.is_other (setting_of setting.now) (site source.now) (site sink.now) name.now }
 {

@@ -144,7 +144,7 @@ fn unusable(alloc: Global, depths: &Depths) -> Result<Position, NoMemory>
     })
 }
 
-/// A form by its coefficients of the common loops and of so many further ones.
+/// A form by its coefficients of the common loops and of this many further ones.
 fn row(alloc: Global, common: usize, further: usize, f: Form) -> Result<AffRow, NoMemory>
     requires { Covers (common + further) f }
     ensures value { IfOk result (λ r. r ≡ Spec.row_of common further (plain_form f)) }
@@ -177,7 +177,7 @@ fn zero_row(alloc: Global, common: usize, further: usize) -> Result<AffRow, NoMe
     })
 }
 
-/// So many zeros.
+/// A list of this many zeros.
 fn zeros(alloc: Global, count: usize) -> Result<Vec<i64>, NoMemory>
     ensures { IfOk result (λ v. v.items ≡ replicate count (pos 0)) }
 {

@@ -26,7 +26,7 @@ pub(crate) const NO_RANGE: LoopRange = LoopRange {
 };
 
 /// The range of the loop at a level of a nest, 1 for the outermost: the values that its index takes. It takes no
-/// memory. At most six loops stand in a nest.
+/// memory. At most six loops are in a nest.
 pub fn range(setting: &Setting, nest: &[Loop], level: usize) -> LoopRange
     requires nest { length nest.now ≤ 6 }
     requires from { 0 < level }
@@ -38,8 +38,9 @@ pub fn range(setting: &Setting, nest: &[Loop], level: usize) -> LoopRange
     ranges[level - 1]
 }
 
-/// The values that an expression of bounds may have inside the loops of a nest, the outermost first; none where a part of
-/// it leaves 2^62 or has no interval, as a quotient that isn't constant. It takes no memory. At most six loops stand in a nest.
+/// The values that an expression of bounds may have inside the loops of a nest, the outermost first; none where a part
+/// of it leaves 2^62 or has no interval, as a quotient that isn't constant. It takes no memory. At most six loops are
+/// in a nest.
 pub fn interval(setting: &Setting, nest: &[Loop], e: &Expr) -> Option<Interval>
     requires { length nest.now ≤ 6 }
     ensures { result ≡ Spec.interval_of (setting_of setting.now) (Spec.around_with (setting_of setting.now) [] (heads_of (nest_of nest.now))) (expr_tree e.now) }
@@ -111,7 +112,7 @@ fn increment(constants: &Consts, step: &Expr) -> i64
     }
 }
 
-/// Whether an initial value has one value for all entries of its loop: no element stands in it, and no variable
+/// Whether an initial value has one value for all entries of its loop: no element occurs in it, and no variable
 /// that the outermost DO assigns.
 #[cycle(steadiness)]
 fn is_steady(setting: &Setting, e: &Expr) -> bool

@@ -18,8 +18,8 @@ use ped_refs::Loop;
 use ped_views::{LoopRange, PairView, Position};
 use std::alloc::Global;
 
-/// The view of the ordered pair of the references at two places of one program: the ranges of the loops round
-/// them, and their subscripts as affine forms, position by position. At most six loops stand round each.
+/// The view of the ordered pair of the references at two places of one program: the ranges of the loops around
+/// them, and their subscripts as affine forms, position by position. At most six loops are around each.
 pub fn view(
     alloc: Global,
     setting: &Setting,
@@ -69,7 +69,7 @@ fn common_depth(source: &[Loop], sink: &[Loop]) -> usize
     source.len()
 }
 
-/// The ranges of the loops of a nest behind its common loops.
+/// The ranges of the loops of a nest after its common loops.
 fn further_ranges(
     alloc: Global,
     setting: &Setting,

@@ -1,4 +1,4 @@
--- What the names of a subroutine stand for, as the code tells. Contracts of private functions alone speak of it.
+-- What the names of a subroutine stand for, as the code reports. Contracts of private functions alone speak of it.
 use Rattle.std.specs.Prelude.{◌≡◌, ◌++◌, ℕ, ℤ, List, drop, Option, is_some, All, if◌then◌else◌}
 use Rattle.ped_tree.specs.Tree.{ExprTree, StmtTree}
 use Rattle.ped_links.specs.ped_valid.specs.ped_symbols.specs.declared.symbols.Kind.{Kind}
@@ -20,7 +20,7 @@ renamed_one x kind r = if is_some (entry_of r.meanings x) then r else with_renam
 abbrev pub local_meanings : ProgramUnit → Meanings → Given → Renamed
 local_meanings u m g = renamed u (body_names u) (record { meanings = with_constants m (constants_of u); given = g })
 
--- these arguments, bound from a place on, and what was done before come to what all arguments come to from the start
+-- these arguments, bound from a place on, together with what was done before, give what all arguments give from the start
 pub record BindsOn (constants : Values) (formals : List (List ℕ)) (all : List ExprTree) (m : Meanings) (front : List StmtTree) (g : Given)
     (left : List ExprTree) (place : ℕ) (now : Meanings) (done : List StmtTree) (behind : Given) : Type 0 where
   pub meanings : with_formals now (drop place formals) (bound_arguments constants left behind).meant ≡ with_formals m formals (bound_arguments constants all g).meant

@@ -1,4 +1,4 @@
--- CALLs as they stand in trees, as the code tells them. Contracts of private functions alone speak of it.
+-- CALLs as trees have them, by what the code keeps of them. Contracts of private functions alone speak of it.
 use Rattle.std.specs.Prelude.{Bool, true, false}
 use Rattle.ped_tree.specs.Tree.{ExprTree, ExprTrees, Int, Var, Element, Neg, Add, Sub, Mul, Div, Pow, Call, no_exprs}
 

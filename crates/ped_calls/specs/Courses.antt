@@ -45,18 +45,18 @@ pub record IsUnderWay (c : Course) : Type 0 where
   pub few : c.room ≤ most_statements
   pub next : HasNext c.given
 
--- so many statements are expanded to so many, for which there was room, and this is given then
+-- the first number of statements is expanded to the second number, for which there was room, and this is given then
 pub record GoesOn (old new : Course) (before after : ℕ) (g : plain.Given) : Type 0 where
   pub given : given_of new.given ≡ g
   pub room : new.room + after ≡ old.room + before
   pub underway : IsUnderWay new
 
--- so many statements are expanded to more than there is room for, or too many blocks stand in one another
+-- the first number of statements is expanded to more than there is room for, or too many blocks are nested in one another
 pub data Passes (room before after : ℕ) (deep : Type 0) : Type 0 where
   too_many : room + before < after → Passes room before after deep
   too_deep : deep → Passes room before after deep
 
--- a statement fits nowhere where so many blocks are round it, or more
+-- a statement fits nowhere where this many blocks are around it, or more
 abbrev pub IsTooDeep : ℕ → StmtTree → Type 0
 IsTooDeep depth s = (p : Surroundings) → depth ≤ p.depth → stmt_fits p s ≡ false
 
@@ -93,11 +93,11 @@ inside_at f w s formals g =
     all_expanded_in (local_meanings (program_unit_of s.unit.now) formals g).meanings (call_expanded (w.deeper - 1) (units_of f.units.now) [])
     (program_unit_of s.unit.now).tree.body (local_meanings (program_unit_of s.unit.now) formals g).given
 
--- CALLs can't stand deeper in one another there, or no subroutine has the name
+-- CALLs can't be nested deeper there, or no subroutine has the name
 abbrev pub IsMissing : File → Within → List ℕ → Type 0
 IsMissing f w x = (w.deeper ≡ 0) ⊎ (unit_of (units_of f.units.now) x ≡ None)
 
--- the subroutine has the name, and CALLs may stand deeper in one another there
+-- the subroutine has the name, and CALLs may be nested deeper there
 pub record IsFound (f : File) (w : Within) (x : List ℕ) (s : Subroutine) : Type 0 where
   pub deeper : 0 < w.deeper
   pub unit : unit_of (units_of f.units.now) x ≡ Some (program_unit_of s.unit.now)
@@ -105,7 +105,7 @@ pub record IsFound (f : File) (w : Within) (x : List ℕ) (s : Subroutine) : Typ
   pub number : ℕ
   pub is_number : slice_get f.units.now number ≡ Some s.unit.now
 
--- these statements, expanded from here on, and what was expanded before come to what all statements come to from the start, and there was room for it so far
+-- these statements, expanded from here on, together with what was expanded before, give what all statements give from the start, and there was room for it so far
 pub record ExpandsOn (m : Meanings) (f : Called → plain.Given → Expanded plain.Given) (all : StmtTrees) (old : Course) (left : StmtTrees) (done : List StmtTree) (new : Course) : Type 0 where
   pub statements : behind_stmts done (all_expanded_in m f left (given_of new.given)).statements ≡ (all_expanded_in m f all (given_of old.given)).statements
   pub state : (all_expanded_in m f left (given_of new.given)).state ≡ (all_expanded_in m f all (given_of old.given)).state

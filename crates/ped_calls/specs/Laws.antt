@@ -9,7 +9,7 @@ use Rattle.ped_links.specs.ped_valid.specs.Validity.{RefusesText}
 use Rattle.ped_links.specs.ped_units.specs.Forms.{UnitItem, plain, calls, calls_if, begins_unit, returns, IsUnitItem}
 use Rattle.ped_links.specs.ped_units.specs.Verdicts.{UnitFinding, found_in_text, RefusesUnits, IsExpansion}
 
--- a statement is no CALL, has none behind a logical IF, and is no SUBROUTINE statement (ANSI X3.9-1978, sections 11.5, 15.6)
+-- a statement is no CALL, has none after a logical IF, and is no SUBROUTINE statement (ANSI X3.9-1978, sections 11.5, 15.6)
 abbrev pub is_plain : UnitItem → Bool
 is_plain (plain r) = true
 is_plain (calls c) = false

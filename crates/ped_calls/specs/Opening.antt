@@ -1,4 +1,4 @@
--- What expanding the first CALLs of a main program comes to, as the code tells. Contracts of private functions alone speak of it.
+-- The result of expanding the first CALLs of a main program, as the code reports it. Contracts of private functions alone speak of it.
 use Rattle.std.specs.Prelude.{◌≡◌, ◌+◌, ◌++◌, ℕ, List, [], ◌∷◌, Option, Some, None, Bool, true, false, not, ◌||◌, nat_lt}
 use Rattle.ped_tree.specs.Tree.{StmtTree, StmtTrees, Assign, If, Do, Print, Read, Stop, Comment, DeclTree, ProgramTree}
 use Rattle.ped_tree.specs.Views.{program_tree}
@@ -23,11 +23,11 @@ use Rattle.ped_calls.specs.declared.opening.Judgement.TheVariants.{Valid, PastSt
 abbrev pub expanded_program : ProgramUnits → StmtTrees → ProgramTree
 expanded_program us ss = settled (with_statements us (main_expanded us ss))
 
--- it has too many statements with so many later CALLs, each counted as one; or it is no program of the profile
+-- it has too many statements with this many later CALLs, each counted as one; or it is no program of the profile
 abbrev pub has_many : ProgramUnits → StmtTrees → ℕ → Bool
 has_many us ss later = nat_lt most_statements (statements_count (expanded_program us ss).body + later) || not (fits (expanded_program us ss))
 
--- what expanding these statements comes to, where so many CALLs come later
+-- the result of expanding these statements, where this many CALLs come later
 abbrev pub Judges : ProgramUnits → StmtTrees → ℕ → Judgement → Type 0
 Judges us ss later (Valid o) = (has_many us ss later ≡ false) × IsValid (expanded_program us ss) × (program_tree o.program ≡ expanded_program us ss) × (o.symbols ≡ table_of (expanded_program us ss))
 Judges us ss later PastStatements = has_many us ss later ≡ true
@@ -39,7 +39,7 @@ JudgesProgram t (Valid o) = IsValid t × (program_tree o.program ≡ t) × (o.sy
 JudgesProgram t PastStatements = fits t ≡ false
 JudgesProgram t PastStorage = (fits t ≡ true) × (name_refusals [] t ≡ [] → ⊥)
 
--- statements placed behind declarations: comments before the first statement belong to these
+-- statements placed after declarations: comments before the first statement belong to these
 abbrev pub placed : List DeclTree → List StmtTree → StmtTrees → ProgramTree
 placed ds [] left = record { decls = ds ++ front_comments left; body = behind_comments left }
 placed ds (s ∷ ss) left = record { decls = ds; body = behind_stmts (s ∷ ss) left }
@@ -54,17 +54,17 @@ is_comment (Read items) = false
 is_comment Stop = false
 is_comment (Comment text) = true
 
--- no comment stands before the first statement of a main program, which is valid where it has no CALL
+-- no comment comes before the first statement of a main program, which is valid where it has no CALL
 pub record StartsWell (us : ProgramUnits) : Type 0 where
   pub begins : begins_with_statement us.main.tree.body ≡ true
   pub valid : calls_count us.main.tree.body ≡ 0 → IsValid us.main.tree
 
--- the first limit that expanding passes, or want of memory
+-- the first limit that expanding passes, or out of memory
 abbrev pub IsPastAt : ProgramUnits → UnitRefusal → Type 0
 IsPastAt us NoMemory = Unit {0}
 IsPastAt us (At f) = (r : Refusal) × ((unit_finding_of f).rule ≡ of_text r) × IsFirstPast us r (unit_finding_of f).line
 
--- no limit is passed where so many CALLs are expanded, and the program is valid; or this one is
+-- no limit is passed where this many CALLs are expanded, and the program is valid; or this one is
 abbrev pub FindsPast : ProgramUnits → ℕ → Option RefusalKind → Type 0
 FindsPast us m None = ((r : Refusal) → IsPast us m r → ⊥) × IsValid (partial us m)
 FindsPast us m (Some kind) = IsPast us m (kind_of kind)

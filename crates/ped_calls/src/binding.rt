@@ -25,7 +25,7 @@ use ped_tree::{Expr, Stmt};
 use std::alloc::Global;
 
 /// Has dummy arguments stand for what arguments are bound to, from left to right. Assignments of arguments to new names
-/// go behind other statements.
+/// are added after other statements.
 pub fn bind(
     alloc: Global,
     given: &mut Given,
@@ -205,8 +205,8 @@ fn add_constant(
     meanings.keep(&constant.0, e)
 }
 
-/// Has new names stand for all names in the statements of a unit for which nothing stands yet, in the order in which they
-/// occur first.
+/// Has new names stand for all names in the statements of a unit that nothing stands for yet, in the order in which
+/// they occur first.
 fn add_locals(
     alloc: Global,
     meanings: &mut Meanings,

@@ -27,7 +27,7 @@ pub fn begun(alloc: Global, name: &Name, arguments: &[Expr]) -> Result<Vec<Stmt>
     Ok(all)
 }
 
-/// Statements and others behind them.
+/// Statements and others after them.
 pub fn joined(first: Vec<Stmt>, rest: Vec<Stmt>) -> Result<Vec<Stmt>, NoMemory>
     ensures { IfOk result (λ all. map stmt_tree all.items ≡ map stmt_tree first.items ++ map stmt_tree rest.items) }
 {
@@ -61,7 +61,7 @@ fn call_comment(alloc: Global, name: &Name, arguments: &[Expr]) -> Result<Stmt, 
     Ok(Stmt::comment(cut))
 }
 
-/// The first bytes of a text, so many where it has as many.
+/// The first `count` bytes of a text, or all of a shorter one.
 fn first_bytes(text: &[u8], count: usize) -> &[u8]
     ensures { result.now ≡ take count text.now }
 {

@@ -94,8 +94,8 @@ pub struct Subroutine<'u> {
 }
 
 impl<'u> File<'u> {
-    /// Statements of the main program with their CALLs expanded. Without recursion CALLs stand in one another no deeper than
-    /// there are subroutines.
+    /// Statements of the main program with their CALLs expanded. Without recursion CALLs are nested in one another no
+    /// deeper than there are subroutines.
     pub fn main(
         &self,
         alloc: Global,
@@ -265,7 +265,7 @@ impl<'u> File<'u> {
         }
     }
 
-    /// The subroutine of a name, where CALLs may stand deeper in one another and there is one.
+    /// The subroutine of a name, where CALLs may be nested deeper and there is one.
     fn found(&self, within: &Within, name: &Name) -> Option<Subroutine<'u>>
         requires { KnowsFile self.now }
         ensures { MatchOption result (IsMissing self.now within.now name.now) (λ s. IsFound self.now within.now name.now s) }
@@ -334,8 +334,8 @@ impl<'u> File<'u> {
         Ok(block(alloc, joined(front, statements)?))
     }
 
-    /// The expanded statements of a subroutine, where these stand for its dummy arguments and so many assignments stand
-    /// before.
+    /// The expanded statements of a subroutine, where these stand for its dummy arguments and this many assignments
+    /// come before.
     #[cycle(expand)]
     fn inside(
         &self,
@@ -379,7 +379,8 @@ impl<'u> File<'u> {
     }
 }
 
-/// Takes room for the block of a CALL that stands in so many others, with so many assignments and these statements.
+/// Takes room for the block of a CALL that is nested in this many others, with this many assignments and these
+/// statements.
 fn take_room(
     course: &mut Course,
     depth: usize,
@@ -400,7 +401,7 @@ fn take_room(
     Ok(())
 }
 
-/// How many statements these are and so many others; `usize::MAX` where there are more.
+/// How many statements these are with this many others; `usize::MAX` where there are more.
 pub fn count_from(others: usize, statements: &[Stmt]) -> usize
     ensures { result ≡ limited (others + Numbering.statements_count (stmt_trees statements.now)) }
 {

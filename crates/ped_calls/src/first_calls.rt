@@ -12,7 +12,7 @@ use ped_links::with_condition;
 use ped_tree::Stmt;
 use std::alloc::Global;
 
-/// Copies of statements with so many of their CALLs, the first in text order, and without the others.
+/// Copies of statements with only the first of their CALLs in text order, as many as given, and without the others.
 #[cycle(first_calls)]
 pub fn first_calls(
     alloc: Global,
@@ -29,7 +29,7 @@ pub fn first_calls(
     Ok(copies)
 }
 
-/// Adds a copy of a statement with the first of its CALLs, where it isn't a CALL itself behind these.
+/// Adds a copy of a statement with the first of its CALLs, unless it is itself a CALL after these.
 #[cycle(first_calls)]
 fn add_first_calls(
     alloc: Global,

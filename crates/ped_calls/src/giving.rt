@@ -71,7 +71,7 @@ impl Given {
     }
 }
 
-/// KX with a number behind it.
+/// KX with a number after it.
 fn numbered(alloc: Global, n: u64) -> Result<Name, NoMemory>
     ensures { IfOk result (λ name. name ≡ numbered_name n) }
 {

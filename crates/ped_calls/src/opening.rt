@@ -127,7 +127,7 @@ fn judged(alloc: Global, file: &File, statements: &[Stmt]) -> Result<Judgement, 
     }
 }
 
-/// The same, where there is room for so many more statements.
+/// The same, where there is room for this many more statements.
 fn judged_within(
     alloc: Global,
     file: &File,
@@ -159,7 +159,7 @@ fn arrays_given(course: Course) -> Vec<Decl>
     given.arrays
 }
 
-/// How many statements may still come to these; none where there are too many already.
+/// How many statements may still be added to these; none where there are too many already.
 fn room(statements: &[Stmt]) -> Option<usize>
     ensures { MatchOption result (most_statements < statements_count (stmt_trees statements.now)) (λ n. n + statements_count (stmt_trees statements.now) ≡ most_statements) }
 {
@@ -171,7 +171,7 @@ fn room(statements: &[Stmt]) -> Option<usize>
     }
 }
 
-/// Before the first CALL is expanded, where there is room for so many more statements.
+/// The state before the first CALL is expanded, where there is room for this many more statements.
 fn start(alloc: Global, file: &File, room: usize) -> Result<Course, NoMemory>
     requires file { KnowsFile file.now }
     requires few { room ≤ most_statements }
@@ -264,7 +264,7 @@ fn first_past(alloc: Global, file: &File) -> Result<UnitRefusal, NoMemory>
     unreachable!()
 }
 
-/// The limit that is passed where so many CALLs are expanded.
+/// The limit that is passed where this many CALLs are expanded.
 fn past_at(alloc: Global, file: &File, count: usize) -> Result<Option<RefusalKind>, NoMemory>
     requires { KnowsFile file.now }
     ensures { IfOk result (FindsPast (units_of file.now.units.now) count) }

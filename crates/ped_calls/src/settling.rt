@@ -11,7 +11,7 @@ use ped_base::{Bytes, NoMemory};
 use ped_tree::{Decl, Program, Stmt, copy_decls};
 use std::alloc::Global;
 
-/// The program with these arrays behind the declarations, and with these statements.
+/// The program with these arrays after the declarations, and with these statements.
 pub fn settled(
     alloc: Global,
     decls: &[Decl],
@@ -30,7 +30,7 @@ pub fn settled(
     }
 }
 
-/// Declarations and these arrays behind them.
+/// Declarations and these arrays after them.
 fn declared(alloc: Global, decls: &[Decl], arrays: Vec<Decl>) -> Result<Vec<Decl>, NoMemory>
     ensures { IfOk result (λ all. map decl_tree all.items ≡ map decl_tree decls.now ++ map decl_tree arrays.items) }
 {

@@ -39,7 +39,7 @@ abbrev mutual
   scalars_in constants (Pow a b) = scalars_in constants a ++ scalars_in constants b
   scalars_in constants (Call f arguments) = all_scalars_in constants arguments
 
-  -- the scalars that expressions read, one behind the other (ANSI X3.9-1978, section 6.1)
+  -- the scalars that expressions read, one after another (ANSI X3.9-1978, section 6.1)
   pub all_scalars_in : List (List ℕ) → ExprTrees → List (List ℕ)
   all_scalars_in constants no_exprs = []
   all_scalars_in constants (more_exprs e rest) = scalars_in constants e ++ all_scalars_in constants rest
@@ -83,7 +83,7 @@ own_events constants n (Read items) = flat_map (left_events constants n) items
 own_events constants n Stop = []
 own_events constants n (Comment text) = []
 
--- the scalars of which each iteration has copies beside the DO's variable: the private names, and of a PARALLEL DO the variables of the DO loops in it (ParaScope; this project)
+-- the scalars of which each iteration has copies in addition to the DO's variable: the private names, and of a PARALLEL DO the variables of the DO loops in it (ParaScope; this project)
 abbrev pub copied : Head → StmtTrees → List (List ℕ)
 copied h body = h.private ++ (if h.parallel then all_loop_variables body else [])
 

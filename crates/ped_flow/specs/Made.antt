@@ -7,7 +7,7 @@ use Rattle.ped_flow.specs.declared.summaries.Summary.{Summary}
 use Rattle.ped_flow.specs.declared.parts.Part.{Part}
 use Rattle.ped_flow.specs.declared.entries.Entry.{Entry}
 
--- an entry has this part and this number behind it; at a place that isn't touched the part does nothing
+-- an entry has this part and this number after it; at a place that isn't touched the part does nothing
 pub record IsMade (given : Part) (number : ℕ) (e : Entry) : Type 0 where
   pub part : e.part ≡ given
   pub behind : e.behind ≡ number

@@ -9,7 +9,7 @@ use Rattle.ped_flow.specs.Rows.{Holds}
 use Rattle.ped_flow.specs.declared.summaries.Summary.{Summary}
 use Rattle.ped_flow.specs.declared.parts.Part.{Part}
 
--- rows say of each scalar that has a place what its paths do to it, whether a statement reads it outside the bodies of all loops of it, and whether it is the variable of a loop
+-- rows say for each scalar that has a place what its paths do to it, whether a statement reads it outside the bodies of all loops of it, and whether it is the variable of a loop
 pub record IsPart (names : List (List ℕ)) (p : Part) (sum : List ℕ → Summary) (outside : List ℕ → Option ℕ) (variables : List (List ℕ)) : Type 0 where
   pub width : p.sums.width ≡ length names
   pub sums : (x : List ℕ) (i : ℕ) → place_of names x ≡ Some i → Holds p.sums i (sum x)

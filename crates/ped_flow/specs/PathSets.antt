@@ -18,20 +18,20 @@ Just events path = path ≡ events
 abbrev pub Either : Kind → Kind → Kind
 Either P Q path = P path ⊎ Q path
 
--- a path of one kind and, behind it, one of the other
+-- a path of one kind and, after it, one of the other
 abbrev pub InTurn : Kind → Kind → Kind
 InTurn P Q path = (front : List Event) × (back : List Event) × (path ≡ front ++ back) × P front × Q back
 
--- so many paths of this kind, one behind the other
+-- this number of paths of this kind, one after another
 abbrev pub Times : ℕ → Kind → Kind
 Times zero P = Just []
 Times (suc n) P = InTurn P (Times n P)
 
--- any number of paths of this kind, one behind the other; none is a number
+-- any number of paths of this kind, one after another; none is a number
 abbrev pub AnyTimes : Kind → Kind
 AnyTimes P path = (n : ℕ) × Times n P path
 
--- the paths of a part of a program: those that go on behind it, and those that end in it, at a STOP
+-- the paths of a part of a program: those that go on after it, and those that end in it, at a STOP
 pub record Paths : Type 1 where
   pub onward : Kind
   pub ending : Kind

@@ -35,7 +35,7 @@ abbrev pub at_once : Bool → Paths
 at_once true = going []
 at_once false = nowhere
 
--- the paths from the exit of a DO, whether or not a path leads to it: what can come behind it in a statement with this number; in a DO round it, the rest of this iteration, and then any number of further ones and the exit (this project)
+-- the paths from the exit of a DO, whether or not a path leads to it: what can come after it in a statement with this number; in a DO around it, the rest of this iteration, and then any number of further ones and the exit (this project)
 abbrev mutual
   pub paths_behind : List (List ℕ) → ℕ → StmtTree → ℕ → Paths
   paths_behind constants l (Assign left right) n = nowhere
@@ -57,7 +57,7 @@ abbrev mutual
       either (in_turn (paths_behind constants l s n) (all_paths constants rest (n + statement_count s)))
       (all_paths_behind constants l rest (n + statement_count s))
 
--- the path to a DO from where it stands: it has this number, or it has the statement with this number in its body
+-- the path to a DO from its own place: it has this number, or it has the statement with this number in its body
 abbrev pub ToEntry : ℕ → ℕ → ℕ → Kind
 ToEntry l n count_in_body path = (n ≤ l) × (l ≤ n + count_in_body) × (path ≡ [])
 
@@ -89,6 +89,6 @@ program_paths t = all_paths (constant_names t.decls) t.body 1
 abbrev pub paths_from_exit : ProgramTree → ℕ → Paths
 paths_from_exit t l = all_paths_behind (constant_names t.decls) l t.body 1
 
--- the paths of a program to the outermost DO that is the DO with this number or is round it
+-- the paths of a program to the outermost DO that is the DO with this number or is around it
 abbrev pub paths_to_outermost : ProgramTree → ℕ → Kind
 paths_to_outermost t l = all_paths_before (constant_names t.decls) l t.body 1

@@ -1,4 +1,4 @@
--- Plain bounds: those that can be evaluated anywhere in the outermost DO, since they depend on the DO variables round them alone (this project).
+-- Plain bounds: those that can be evaluated anywhere in the outermost DO, since they depend on the DO variables around them alone (this project).
 use Rattle.std.specs.Prelude.{◌≡◌, ℕ, ℤ, ◌+◌, List, [], ◌∷◌, ◌++◌, nat_le, nat_lt, false, ◌&&◌, ◌⊎◌, IsTrue, Option, Some, None, if◌then◌else◌}
 use Rattle.ped_base.specs.Lists.{is_among}
 use Rattle.ped_tree.specs.declared.expressions.Intrinsic.{Intrinsic}
@@ -12,7 +12,7 @@ use Rattle.ped_tree.specs.NamesIn.{all_loop_variables}
 use Rattle.ped_affine.specs.Ranges.{Setting, Around, interval_of, loop_range, inside}
 use Rattle.ped_flow.specs.Questions.{IsAssignedBefore}
 
--- the DO loops of a statement that are round the statement with a number, the outermost first; the statement has number n
+-- the DO loops of a statement that are around the statement with a number, the outermost first; the statement has number n
 abbrev mutual
   pub loops_round : ℕ → StmtTree → ℕ → List Loop
   loops_round number (Assign left right) n = []
@@ -28,7 +28,7 @@ abbrev mutual
   all_loops_round number no_stmts n = []
   all_loops_round number (more_stmts s rest) n = loops_round number s n ++ all_loops_round number rest (n + statement_count s)
 
--- the DO loops of a program round the statement with a number, the outermost first
+-- the DO loops of a program around the statement with a number, the outermost first
 abbrev pub nest_round : ProgramTree → ℕ → List Loop
 nest_round t number = all_loops_round number t.body 1
 
@@ -46,7 +46,7 @@ assigned_by None = []
 abbrev pub Values : Type 0
 Values = List (List ℕ × ℤ)
 
--- what ranges depend on in the outermost DO that is the DO with this number or is round it
+-- what ranges depend on in the outermost DO that is the DO with this number or is around it
 abbrev pub setting_round : Values → ProgramTree → ℕ → Setting
 setting_round constants t l = record {
   constants = constants;
@@ -73,7 +73,7 @@ pub record IsFixed (constants : Values) (t : ProgramTree) (l : ℕ) (x : List �
 abbrev pub IsExtreme : Intrinsic → Type 0
 IsExtreme f = (f ≡ Max) ⊎ (f ≡ Min)
 
--- an expression is built as a plain bound of a DO is: of constants, variables of DO loops round it and fixed scalars, by sign, sum, difference, product with a constant, MAX and MIN
+-- an expression is built as a plain bound of a DO is: of constants, variables of DO loops around it and fixed scalars, by sign, sum, difference, product with a constant, MAX and MIN
 abbrev mutual
   pub IsPlainlyBuilt : Values → ProgramTree → ℕ → ExprTree → Type 0
   IsPlainlyBuilt constants t l (Int n) = Unit {0}

@@ -57,7 +57,7 @@ IsAssignedOn P x = (path : List Event) → P path → IsTrue (has_value x false 
 abbrev pub IsAssignedThrough : ProgramTree → ℕ → List ℕ → Type 0
 IsAssignedThrough t l x = (h : LoopOf t l) → IsAssignedOn (all_paths (constant_names t.decls) h.body (l + 1)).onward x
 
--- the scalar is assigned on each path to the outermost DO that is this DO or is round it (this project)
+-- the scalar is assigned on each path to the outermost DO that is this DO or is around it (this project)
 abbrev pub IsAssignedBefore : ProgramTree → ℕ → List ℕ → Type 0
 IsAssignedBefore t l x = IsAssignedOn (paths_to_outermost t l) x
 

@@ -10,7 +10,7 @@ place_of names x = position (is_same_text x) names
 abbrev pub bit : List Bool → ℕ → Bool
 bit row i = slice_index_or row i false
 
--- a row, with the places of these names that have one beside those that it had
+-- a row, with the places of these names that have one in addition to those that it had
 pub record AreMarked (names : List (List ℕ)) (old new : List Bool) (xs : List (List ℕ)) : Type 0 where
   pub width : length new ≡ length old
   pub marked : (x : List ℕ) (i : ℕ) → place_of names x ≡ Some i → bit new i ≡ (bit old i || is_among x xs)

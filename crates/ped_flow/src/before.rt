@@ -15,7 +15,7 @@ use crate::summaries::Summary;
 use crate::walks::statement;
 use ped_tree::{Stmt, count_statements};
 
-/// What the paths to the outermost loop do in statements. The number of the first becomes that of the statement behind
+/// What the paths to the outermost loop do in statements. The number of the first becomes that of the statement after
 /// them.
 #[cycle(before)]
 pub(crate) fn before_all(scalar: &Scalar, l: u32, body: &[Stmt], number: &mut u32) -> Summary
@@ -35,8 +35,8 @@ pub(crate) fn before_all(scalar: &Scalar, l: u32, body: &[Stmt], number: &mut u3
     summary.or(way.then(Summary::unreached()))
 }
 
-/// What the paths to the outermost loop do in a statement. Its number becomes that of the statement behind it. Statements
-/// off the way are passed over.
+/// What the paths to the outermost loop do in a statement. Its number becomes that of the statement after it.
+/// Statements off the way are passed over.
 #[cycle(before)]
 fn before(scalar: &Scalar, l: u32, s: &Stmt, number: &mut u32) -> Summary
     requires few { number.old + statement_count (stmt_tree s.now) < 2 ^ 32 }
@@ -55,7 +55,7 @@ fn before(scalar: &Scalar, l: u32, s: &Stmt, number: &mut u32) -> Summary
     }
 }
 
-/// The number behind a statement through which no way leads to the outermost loop, and in which nothing happens to the
+/// The number after a statement through which no way leads to the outermost loop, and in which nothing happens to the
 /// scalar, or which is another loop.
 fn off_way(scalar: &Scalar, l: u32, s: &Stmt, number: u32) -> Option<u32>
     requires { IsKnown scalar.now (stmt_tree s.now) number }

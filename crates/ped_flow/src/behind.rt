@@ -15,7 +15,7 @@ use crate::walks::{statement, statements, trips};
 use ped_tree::{Do, Stmt};
 
 /// What the paths from the exit of the loop `l` do in statements. The number of the first becomes that of the statement
-/// behind them.
+/// after them.
 #[cycle(behind)]
 pub(crate) fn behind_all(scalar: &Scalar, l: u32, body: &[Stmt], number: &mut u32) -> Summary
     requires few { number.old + statements_count (stmt_trees body.now) < 2 ^ 32 }
@@ -45,8 +45,8 @@ fn through(scalar: &Scalar, before: Summary, s: &Stmt, number: u32) -> Summary
     before.then(statement(scalar, s, &mut place))
 }
 
-/// What the paths from the exit of the loop `l` do in a statement. Its number becomes that of the statement behind it. A
-/// statement in which the loop doesn't stand is passed over.
+/// What the paths from the exit of the loop `l` do in a statement. Its number becomes that of the statement after it. A
+/// statement without the loop is passed over.
 #[cycle(behind)]
 fn behind(scalar: &Scalar, l: u32, s: &Stmt, number: &mut u32) -> Summary
     requires few { number.old + statement_count (stmt_tree s.now) < 2 ^ 32 }
@@ -122,8 +122,8 @@ pub(crate) fn at_once(test: bool) -> Summary
     Summary::unreached()
 }
 
-/// Paths that go on behind an iteration of a DO: further trips and its exit. Where none goes on, there is nothing to look
-/// at.
+/// Paths that go on after an iteration of a DO: further trips and its exit. Where none goes on, there is nothing to
+/// look at.
 fn further(scalar: &Scalar, before: Summary, d: &Do, number: u32) -> Summary
     requires few { number + 1 + statements_count (stmt_trees d.now.body.items) < 2 ^ 32 }
     requires known { AreKnown scalar.now (stmt_trees d.now.body.items) (number + 1) }

@@ -38,7 +38,7 @@ fn is_constant_of(name: &Name, decl: &Decl) -> bool
     }
 }
 
-/// Whether the name stands among constants with their values.
+/// Whether the name is among constants with their values.
 fn has_value(name: &Name, values: &[(Name, Expr)]) -> bool
     ensures { result ≡ Lists.is_among name.now (map (λ v. v.0) (map value_tree values.now)) }
 {

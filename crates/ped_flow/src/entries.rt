@@ -15,7 +15,7 @@ pub(crate) struct Entry {
     pub(crate) part: Part,
     /// The scalars to which something happens on its paths.
     pub(crate) touched: Row,
-    /// The number of the statement behind it.
+    /// The number of the statement after it.
     pub(crate) behind: u32,
     ghost touched_wide: { length touched ≡ part.sums.width },
 }
@@ -24,7 +24,7 @@ impl Entry {
     ghost use Rattle.std.specs.Prelude.{IfOk};
     ghost use Rattle.ped_flow.specs.Made.{IsMade};
 
-    /// What is known of a statement with this number behind it.
+    /// What is known of a statement with this number after it.
     pub(crate) fn new(alloc: Global, part: Part, behind: u32) -> Result<Entry, NoMemory>
         ensures { IfOk result (IsMade part behind) }
     {

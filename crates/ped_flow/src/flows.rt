@@ -91,7 +91,7 @@ fn table_of(alloc: Global, places: &Places, body: &[Stmt]) -> Result<Vec<Option<
     Ok(table)
 }
 
-/// A table of so many statements of which nothing is known.
+/// A table of this many statements of which nothing is known.
 fn empty_table(alloc: Global, count: u32) -> Result<Vec<Option<Entry>>, NoMemory>
     ensures { IfOk result (λ table. length table.items ≡ count) }
 {
@@ -142,7 +142,8 @@ impl<'a> Flow<'a> {
         reader_of(summary.first, both(summary.leaves(), saved))
     }
 
-    /// Whether the scalar has a value on each path to the outermost loop that is the loop with this number or is round it.
+    /// Whether the scalar has a value on each path to the outermost loop that is the loop with this number or is around
+    /// it.
     pub fn assigned_before(&self, loop_number: u32, name: &Name) -> bool
         requires { statements_count (program_tree self.now.program.now).body + 1 < 2 ^ 32 }
         ensures { IsTrue result ↔ IsAssignedBefore (program_tree self.now.program.now) loop_number name.now }
@@ -166,11 +167,11 @@ impl<'a> Flow<'a> {
         }
     }
 
-    /// By whom the loop with this number isn't contained: the first statement in text order that reads a variable of the
-    /// loop, or of a loop in it, outside the bodies of the loops of that variable there, or behind the loop before it is
-    /// overwritten; where there is none, the program's end, if such a variable is in SAVE and some path from the loop's exit
-    /// to the end doesn't overwrite it. The statement can be the loop itself: its own header may read what its exit
-    /// leaves, in a loop round it.
+    /// By whom the loop with this number isn't contained: the first statement in text order that reads a variable of
+    /// the loop, or of a loop in it, outside the bodies of the loops of that variable there, or after the loop before
+    /// it is overwritten; where there is none, the program's end, if such a variable is in SAVE and some path from the
+    /// loop's exit to the end doesn't overwrite it. The statement can be the loop itself: its own header may read what
+    /// its exit leaves, in a loop around it.
     pub fn escapes(&self, loop_number: u32) -> Option<Reader>
         requires { statements_count (program_tree self.now.program.now).body + 1 < 2 ^ 32 }
         ensures { IsEscape (program_tree self.now.program.now) loop_number result }

@@ -13,7 +13,7 @@ use ped_tree::names::NameSet;
 use std::alloc::Global;
 use std::marker::Model;
 
-/// So many scalars have a place at most, so that rows take little memory. Others are asked about without rows.
+/// At most this many scalars have a place, so that rows take little memory. Others are asked about without rows.
 const MOST_PLACES: usize = 4_096;
 
 /// Names, each once. Contracts see them in the order in which they came.
@@ -68,7 +68,7 @@ impl PlacedNames {
         self.names.get_index_of(name)
     }
 
-    /// Adds a name, where it isn't one of them. After want of memory they are as they were.
+    /// Adds a name, where it isn't one of them. If memory runs out, they are as they were.
     pub(crate) fn insert(&mut self, name: &Name) -> Result<(), NoMemory>
         ensures ok { OnOk result (self.new ≡ with_name self.old name.now) }
         ensures err { OnErr result (self.new ≡ self.old) }

@@ -91,7 +91,7 @@ pub(crate) fn reading(alloc: Global, places: &Places, lefts: &[Expr]) -> Result<
     Ok(part)
 }
 
-/// An item of a READ behind those before it.
+/// An item of a READ after those before it.
 fn add_item(alloc: Global, places: &Places, part: &mut Part, left: &Expr) -> Result<(), NoMemory>
     requires { part.old.sums.width ≡ length (names_in places.now) }
     ensures width { part.new.sums.width ≡ part.old.sums.width }

@@ -63,7 +63,7 @@ fn all_trips(alloc: Global, places: &Places, d: &Do, body: &Part) -> Result<Part
     part
 }
 
-/// The scalars of which each iteration of a DO has copies beside its variable.
+/// The scalars of which each iteration of a DO has copies in addition to its variable.
 fn copies(alloc: Global, places: &Places, d: &Do, indices: &Row) -> Result<Row, NoMemory>
     requires { length indices.now ≡ length (names_in places.now) }
     ensures width { IfOk result (λ r. length r ≡ length (names_in places.now)) }

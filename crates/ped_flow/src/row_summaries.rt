@@ -7,8 +7,8 @@ use ped_base::NoMemory;
 use ped_bits::Row;
 use std::alloc::Global;
 
-/// What the paths of a part of a program do to each of many scalars: each place says of its scalar what a `Summary` says
-/// of one, but for which statement reads it first.
+/// What the paths of a part of a program do to each of many scalars: each place gives for its scalar what a `Summary`
+/// gives for one, except which statement reads it first.
 #[derive(Drop)]
 pub(crate) struct RowSummary {
     /// How many scalars there are.

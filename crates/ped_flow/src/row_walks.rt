@@ -27,8 +27,8 @@ use ped_tree::{Cond, Do, Stmt};
 use std::alloc::Global;
 use std::mem;
 
-/// What statements do to the scalars that have places. The number of the first becomes that of the statement behind them.
-/// The table gets to know each of them.
+/// What statements do to the scalars that have places. The number of the first becomes that of the statement after
+/// them. The table gets to know each of them.
 #[cycle(rows)]
 pub(crate) fn all_parts(
     alloc: Global,
@@ -54,7 +54,7 @@ pub(crate) fn all_parts(
     Ok(part)
 }
 
-/// What a statement does behind what others do. Its number becomes that of the statement behind it.
+/// What a statement does after what others do. Its number becomes that of the statement after it.
 #[cycle(rows)]
 fn add_part(
     alloc: Global,
@@ -131,7 +131,7 @@ pub(crate) fn is_numbered(s: &Stmt) -> bool
     }
 }
 
-/// What is known of a statement. Its number becomes that of the statement behind it.
+/// What is known of a statement. Its number becomes that of the statement after it.
 #[cycle(rows)]
 fn entry_of(
     alloc: Global,
@@ -186,7 +186,7 @@ fn entry_of(
     }
 }
 
-/// What is known of a statement with this number behind it, from what it does, where that was found.
+/// What is known of a statement with this number after it, from what it does, where that was found.
 fn entry_with(alloc: Global, part: Result<Part, NoMemory>, behind: u32) -> Result<Entry, NoMemory>
     ensures { IfOk result (λ e. (p : Part) × (part ≡ Ok p) × IsMade p behind e) }
 {

@@ -80,7 +80,7 @@ pub(crate) fn expression(scalar: &Scalar, e: &Expr, number: u32) -> Summary
     }
 }
 
-/// The statement with this number reads expressions, one behind the other.
+/// The statement with this number reads expressions, one after another.
 #[cycle(expressions)]
 #[tactic(auto, using(crate::proofs::SumLaws::summing))]
 pub(crate) fn expressions(scalar: &Scalar, es: &[Expr], number: u32) -> Summary

@@ -12,7 +12,7 @@ use crate::entries::Entry;
 use crate::row_walks::is_numbered;
 use ped_tree::Stmt;
 
-/// The number behind a statement in which nothing happens to the scalar.
+/// The number after a statement in which nothing happens to the scalar.
 pub(crate) fn past(scalar: &Scalar, s: &Stmt, number: u32) -> Option<u32>
     requires { IsKnown scalar.now (stmt_tree s.now) number }
     ensures passing { IfSome result (λ next. Spec.sum_of (constants_of scalar.now) (name_of scalar.now) (stmt_tree s.now) number ≡ Spec.passing) }
@@ -36,7 +36,7 @@ pub(crate) fn past(scalar: &Scalar, s: &Stmt, number: u32) -> Option<u32>
     }
 }
 
-/// The number behind a statement in which nothing reads the scalar outside the loops of it.
+/// The number after a statement in which nothing reads the scalar outside the loops of it.
 pub(crate) fn shut(scalar: &Scalar, s: &Stmt, number: u32) -> Option<u32>
     requires { IsKnown scalar.now (stmt_tree s.now) number }
     ensures none { IfSome result (λ next. first_outside (constants_of scalar.now) (name_of scalar.now) (stmt_tree s.now) number ≡ None) }
@@ -60,7 +60,7 @@ pub(crate) fn shut(scalar: &Scalar, s: &Stmt, number: u32) -> Option<u32>
     }
 }
 
-/// The number behind a statement that neither is the statement `l` nor has it in it.
+/// The number after a statement that neither is the statement `l` nor has it in it.
 pub(crate) fn elsewhere(scalar: &Scalar, l: u32, s: &Stmt, number: u32) -> Option<u32>
     requires { IsKnown scalar.now (stmt_tree s.now) number }
     ensures away { IfSome result (λ next. (l < number) ⊎ (number + statement_count (stmt_tree s.now) ≤ l)) }

@@ -14,7 +14,7 @@ use crate::skips::past;
 use crate::summaries::Summary;
 use ped_tree::{Do, Stmt};
 
-/// What the paths of statements do to the scalar. The number of the first becomes that of the statement behind them.
+/// What the paths of statements do to the scalar. The number of the first becomes that of the statement after them.
 #[cycle(walk)]
 pub(crate) fn statements(scalar: &Scalar, body: &[Stmt], number: &mut u32) -> Summary
     requires few { number.old + statements_count (stmt_trees body.now) < 2 ^ 32 }
@@ -29,7 +29,7 @@ pub(crate) fn statements(scalar: &Scalar, body: &[Stmt], number: &mut u32) -> Su
     summary
 }
 
-/// What the paths of a statement do to the scalar. Its number becomes that of the statement behind it. Where nothing
+/// What the paths of a statement do to the scalar. Its number becomes that of the statement after it. Where nothing
 /// happens to the scalar, the statement is passed over.
 #[cycle(walk)]
 pub(crate) fn statement(scalar: &Scalar, s: &Stmt, number: &mut u32) -> Summary

@@ -32,7 +32,7 @@ used_names true u = indexes u
 abbrev pub formal_count : List ProgramUnit → ℕ
 formal_count us = length (flat_map (λ (u : ProgramUnit). u.formals) us)
 
--- the number of a dummy argument by its place, where its unit has the first of so many
+-- the number of a dummy argument by its place, where this many come before those of its unit
 abbrev pub number_behind : ℕ → Option ℕ → Option ℕ
 number_behind base None = None
 number_behind base (Some place) = Some (base + place)
@@ -47,7 +47,7 @@ formals_at (u ∷ us) (suc k) = formals_at us k
 abbrev pub formal_number : List ProgramUnit → ℕ → List ℕ → Option ℕ
 formal_number us k x = number_behind (formal_count (take k us)) (place_among (formals_at us k) 0 x)
 
--- the numbers of the first dummy arguments of units, where so many come before
+-- the numbers of the first dummy arguments of units, where this many come before
 abbrev pub bases_from : ℕ → List ProgramUnit → List ℕ
 bases_from n [] = []
 bases_from n (u ∷ us) = n ∷ bases_from (n + length u.formals) us
@@ -96,7 +96,7 @@ abbrev pub passed_number : List ProgramUnit → ℕ → Option (List ℕ) → Op
 passed_number us i None = None
 passed_number us i (Some x) = formal_number us i x
 
--- something holds for one of these dummy arguments with the argument at its place, and with those behind both
+-- something holds for one of these dummy arguments with the argument at its place, and with those after both
 abbrev pub ForSome : (List ℕ → Option (List ℕ) → List (List ℕ) → List (Option (List ℕ)) → Type 0) → List (List ℕ) → List (Option (List ℕ)) → Type 0
 ForSome holds (f ∷ fs) (a ∷ rest) = holds f a fs rest ⊎ ForSome holds fs rest
 ForSome holds [] arguments = ⊥
@@ -132,7 +132,7 @@ abbrev pub kind_of_name : ProgramUnit → Option (List ℕ) → Option Kind
 kind_of_name u None = None
 kind_of_name u (Some x) = kind_there u x
 
--- an argument, by the name that it is, doesn't fit its dummy argument, at a CALL with these loops round it
+-- an argument, by the name that it is, doesn't fit its dummy argument, at a CALL with these loops around it
 abbrev pub IsMisfit : ProgramUnits → ProgramUnit → ProgramUnit → Around → List ℕ → Option (List ℕ) → Type 0
 IsMisfit us u v around formal argument =
     IsOtherKind (kind_there v formal) (kind_of_name u argument) (IsAssigned us v formal)
@@ -153,7 +153,7 @@ HasMisfit us u v c =
 abbrev pub IsAgain : ProgramUnits → ProgramUnit → List ℕ → List ℕ → List (List ℕ) → List (Option (List ℕ)) → Type 0
 IsAgain us v formal name formals arguments = ForSome (λ f a fs rest. (a ≡ Some name) × (IsAssigned us v formal ⊎ IsAssigned us v f)) formals arguments
 
--- an argument is a variable's name that stands again behind it, and one of both dummy arguments is assigned
+-- an argument is a variable's name that occurs again after it, and one of both dummy arguments is assigned
 abbrev pub IsAliasedFirst : ProgramUnits → ProgramUnit → ProgramUnit → List ℕ → Option (List ℕ) → List (List ℕ) → List (Option (List ℕ)) → Type 0
 IsAliasedFirst us u v formal None fs rest = ⊥
 IsAliasedFirst us u v formal (Some x) fs rest = (is_constant (kind_there u x) ≡ false) × IsAgain us v formal x fs rest
@@ -170,7 +170,7 @@ pub record IsAt (us : ProgramUnits) (i : ℕ) (at : At) : Type 0 where
   pub callee : at.callee_table.now ≡ table_of (for_names (unit_at us at.callee))
   pub marks : AreMarks us at.marks.now
 
--- what stands at a CALL that is looked at so
+-- the rules that are broken at a CALL that is looked at like this
 abbrev pub StandsHere : ProgramUnits → ℕ → At → LinkRefusal → ℕ → Type 0
 StandsHere us i at =
     EitherStands (StandsIf Arguments at.call.now.line (HasMisfit us (unit_at us i) (unit_at us at.callee) at.call.now))
@@ -184,7 +184,7 @@ MisfitsAt us i c = (k : ℕ) × (number_of_unit (all_units us) c.name ≡ Some k
 abbrev pub AliasedAt : ProgramUnits → ℕ → PlacedCall → Type 0
 AliasedAt us i c = (k : ℕ) × (number_of_unit (all_units us) c.name ≡ Some k) × SomeAliased us (unit_at us i) (unit_at us k) (unit_at us k).formals c.arguments
 
--- what stands at these CALLs of the unit with this number for their arguments
+-- the rules of arguments that are broken at these CALLs of the unit with this number
 abbrev pub StandsForArguments : ProgramUnits → ℕ → List PlacedCall → LinkRefusal → ℕ → Type 0
 StandsForArguments us i calls = EitherStands (StandsAtCalls calls Arguments (MisfitsAt us i)) (StandsAtCalls calls Aliased (AliasedAt us i))
 

@@ -19,7 +19,7 @@ comes_first f (Some g) = is_before_finding f g
 abbrev pub earlier_link : Option UnitFinding → UnitFinding → Option UnitFinding
 earlier_link found f = if comes_first f found then Some f else found
 
--- the earlier one of what was found and this rule at this line, where it stands there
+-- the earlier one of what was found and this rule at this line, where the test holds
 abbrev pub standing_link : Option UnitFinding → Bool → UnitRule → ℕ → Option UnitFinding
 standing_link found test rule line = if test then earlier_link found (record { rule = rule; line = line }) else found
 
@@ -28,26 +28,26 @@ abbrev pub first_link_of : Option UnitFinding → Option UnitFinding → Option 
 first_link_of found None = found
 first_link_of found (Some f) = earlier_link found f
 
--- a finding is the first of those that stand so
+-- a finding is the first of these
 pub record IsFirstAmong (stands : LinkRefusal → ℕ → Type 0) (f : UnitFinding) : Type 0 where
   pub rule : LinkRefusal
   pub is_rule : rule_of f.rule ≡ of_links rule
   pub stands_there : stands rule f.line
   pub least : (q : LinkRefusal) (other : ℕ) → stands q other → is_before q other rule f.line ≡ false
 
--- the first of those that stand so, or none where none does
+-- the first of these, or none where there is none
 abbrev pub IsFirstOf : (LinkRefusal → ℕ → Type 0) → Option UnitFinding → Type 0
 IsFirstOf stands None = (r : LinkRefusal) (line : ℕ) → stands r line → ⊥
 IsFirstOf stands (Some f) = IsFirstAmong stands f
 
--- none stands
+-- there is none
 abbrev pub NoneStands : LinkRefusal → ℕ → Type 0
 NoneStands r line = ⊥
 
--- one or the other stands
+-- it is one of these or one of the others
 abbrev pub EitherStands : (LinkRefusal → ℕ → Type 0) → (LinkRefusal → ℕ → Type 0) → LinkRefusal → ℕ → Type 0
 EitherStands one other r line = one r line ⊎ other r line
 
--- a rule stands at a line where something holds
+-- a rule is broken at a line where something holds
 abbrev pub StandsIf : LinkRefusal → ℕ → Type 0 → LinkRefusal → ℕ → Type 0
 StandsIf rule line holds r other = (r ≡ rule) × (other ≡ line) × holds

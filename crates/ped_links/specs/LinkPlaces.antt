@@ -18,7 +18,7 @@ abbrev pub HasEarlier : List ProgramUnit → Option (List ℕ) → ℕ → Type 
 HasEarlier us None n = ⊥
 HasEarlier us (Some x) n = IsBelow (number_of_unit us x) n
 
--- a rule of arguments stands at one of these lines
+-- the rule of arguments is broken at one of these lines
 abbrev pub StandsAtLines : List ℕ → LinkRefusal → ℕ → Type 0
 StandsAtLines lines r line = (r ≡ Arguments) × IsIn line lines
 
@@ -26,15 +26,15 @@ StandsAtLines lines r line = (r ≡ Arguments) × IsIn line lines
 abbrev pub CallsNone : List ProgramUnit → PlacedCall → Type 0
 CallsNone us c = number_of_unit us c.name ≡ None
 
--- a CALL stands in a PARALLEL DO
+-- a CALL is in a PARALLEL DO
 abbrev pub IsParallel : PlacedCall → Type 0
 IsParallel c = c.around.parallel ≡ true
 
--- one of these CALLs names no unit, or stands in a PARALLEL DO
+-- one of these CALLs names no unit, or is in a PARALLEL DO
 abbrev pub StandsAtPlaces : List ProgramUnit → List PlacedCall → LinkRefusal → ℕ → Type 0
 StandsAtPlaces us calls = EitherStands (StandsAtCalls calls NoUnit (CallsNone us)) (StandsAtCalls calls CallPlace IsParallel)
 
--- what stands at the CALLs and PRIVATE statements that some walks found
+-- the rules that are broken at the CALLs and PRIVATE statements that some walks found
 pub record PlacesFound (us : ProgramUnits) (walks : List Found) (r : LinkRefusal) (line : ℕ) : Type 0 where
   pub walk : Found
   pub is_walk : IsIn walk walks

@@ -1,4 +1,4 @@
--- The units of a file with what their names stand for, and the first of their refusals by CALLs, as the code tells (this project).
+-- The units of a file with what their names stand for, and the first of their refusals by CALLs, as the code reports (this project).
 use Rattle.std.specs.Prelude.{◌≡◌, List, [], map}
 use Rattle.ped_units.specs.Units.{ProgramUnit, ProgramUnits, all_units}
 use Rattle.ped_units.specs.Linking.{IsIn, LinkRefusal, IsFirstLink}
@@ -20,7 +20,7 @@ pub record AreUnitsWith (us : ProgramUnits) (given : List code.ProgramUnit) (kno
   pub named : AreNamed us
   pub tables : AreTables (all_units us) known
 
--- the first of the refusals by CALLs, or want of memory
+-- the first of the refusals by CALLs, or out of memory
 abbrev pub IsLinkRefusal : ProgramUnits → UnitRefusal → Type 0
 IsLinkRefusal us refusal.NoMemory = Unit {0}
 IsLinkRefusal us (refusal.At f) = (r : LinkRefusal) × (rule_of f.rule ≡ of_links r) × IsFirstLink us r f.line

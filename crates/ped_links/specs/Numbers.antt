@@ -17,7 +17,7 @@ number_of_unit us x = number_among (drop 1 us) 1 x
 abbrev pub AreNumbers : List ProgramUnit → List (List ℕ × ℕ) → Type 0
 AreNumbers us entries = (x : List ℕ) → (x ≡ [] → ⊥) → entry_of entries x ≡ number_of_unit us x
 
--- the place of a name in a list, where the first has this place; the first where it stands there twice
+-- the place of a name in a list, where the first has this place; the first where it occurs there twice
 abbrev pub place_among : List (List ℕ) → ℕ → List ℕ → Option ℕ
 place_among [] n x = None
 place_among (y ∷ ys) n x = if is_same_text x y then Some n else place_among ys (n + 1) x

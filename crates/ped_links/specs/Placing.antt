@@ -12,7 +12,7 @@ use Rattle.ped_links.specs.declared.placing.Around.{Around}
 use Rattle.ped_links.specs.declared.placing.PlacedCall.{PlacedCall}
 use Rattle.ped_links.specs.declared.placing.Found.{Found}
 
--- what loops round a statement say, the outermost first
+-- what is known of the loops around a statement, the outermost first
 abbrev pub around_of : List Head → Around
 around_of loops = record {
   variables = map (λ (h : Head). h.variable) loops;
@@ -25,7 +25,7 @@ abbrev pub argument_name : ExprTree → Option (List ℕ)
 argument_name (Var x) = Some x
 argument_name e = None
 
--- the CALL, where there is one, at this line and with these loops round it
+-- the CALL, where there is one, at this line and with these loops around it
 abbrev pub call_here : Around → ℕ → Option Called → List PlacedCall
 call_here around line None = []
 call_here around line (Some c) = (record { line = line; name = c.name; arguments = map argument_name (listed c.arguments); around = around }) ∷ []
@@ -45,7 +45,7 @@ abbrev pub private_lines : List (List ℕ) → List ℕ → List Site → List �
 private_lines formals lines [] = []
 private_lines formals lines (s ∷ rest) = private_line formals (next_line lines) s ++ private_lines formals (drop 1 lines) rest
 
--- a walk goes over these sites, and finds these CALLs: from what was found and the lines to come before it to what is found and the lines to come behind it
+-- a walk goes over these sites, and finds these CALLs: from what was found and the lines to come before it to what is found and the lines to come after it
 pub record Passes (formals : List (List ℕ)) (sites : List Site) (more : List PlacedCall) (found : Found) (lines : List ℕ) (found_now : Found) (lines_now : List ℕ) : Type 0 where
   pub over : lines_now ≡ drop (length sites) lines
   pub calls : found_now.calls.items ≡ found.calls.items ++ more

@@ -27,7 +27,7 @@ CallMayComeFirst us marks found c = CallsMarked us marks c × (comes_first (reco
 abbrev pub MayComeFirst : List ProgramUnit → List Bool → Option UnitFinding → List PlacedCall → Type 0
 MayComeFirst us marks found calls = (c : PlacedCall) × IsIn c calls × CallMayComeFirst us marks found c
 
--- the first CALL of a unit that calls a unit from which arrows lead from this one; or none of its CALLs calls a unit that is marked and comes before what was found, and none is told
+-- the first CALL of a unit that calls a unit from which arrows lead from this one; or none of its CALLs calls a unit that is marked and comes before what was found, and none is reported
 abbrev pub IsFoundIn : ProgramUnits → List (List ℕ) → List Bool → Option UnitFinding → ℕ → Option UnitFinding → Type 0
 IsFoundIn us ends marks found i more =
     IsFirstOf (StandsAtCalls (map placed_call (calls_of (unit_at us i))) Recursion (IsLeading (all_units us) ends i)) more

@@ -39,7 +39,7 @@ pub record IsScene (us : ProgramUnits) (scene : Scene) : Type 0 where
 abbrev pub CallsAt : ProgramUnits → ℕ → ℕ → Type 0
 CallsAt us i k = (i < length (all_units us)) × ((p : Placed) × IsIn p (calls_of (unit_at us i)) × (number_of_unit (all_units us) p.called.name ≡ Some k))
 
--- a rule stands at the lines of those of these CALLs for which something holds
+-- a rule is broken at the lines of those of these CALLs for which something holds
 pub record StandsAtCalls (calls : List PlacedCall) (rule : LinkRefusal) (holds : PlacedCall → Type 0) (r : LinkRefusal) (line : ℕ) : Type 0 where
   pub is_rule : r ≡ rule
   pub call : PlacedCall
@@ -51,7 +51,7 @@ pub record StandsAtCalls (calls : List PlacedCall) (rule : LinkRefusal) (holds :
 abbrev pub CallsMarked : List ProgramUnit → List Bool → PlacedCall → Type 0
 CallsMarked us marks c = IsMarkedNumber marks (number_of_unit us c.name)
 
--- what stands at SUBROUTINE statements
+-- the rules that are broken at SUBROUTINE statements
 abbrev pub AtHeads : ProgramUnits → LinkRefusal → ℕ → Type 0
 AtHeads us NoUnit line = RepeatsUnit us line
 AtHeads us Recursion line = ⊥
@@ -59,7 +59,7 @@ AtHeads us Arguments line = ListsTwice us line
 AtHeads us Aliased line = ⊥
 AtHeads us CallPlace line = ⊥
 
--- what stands at CALLs and PRIVATE statements without a look at the units that are called
+-- the rules that are broken at CALLs and PRIVATE statements without a look at the units that are called
 abbrev pub AtPlaces : ProgramUnits → LinkRefusal → ℕ → Type 0
 AtPlaces us NoUnit line = IsAtCall us line (CallsNoUnit us)
 AtPlaces us Recursion line = ⊥
@@ -67,7 +67,7 @@ AtPlaces us Arguments line = HasPrivateFormal us line
 AtPlaces us Aliased line = ⊥
 AtPlaces us CallPlace line = IsAtCall us line IsInParallel
 
--- what stands at CALLs that lead back to their units
+-- the rules that are broken at CALLs that lead back to their units
 abbrev pub AtRecursions : ProgramUnits → LinkRefusal → ℕ → Type 0
 AtRecursions us NoUnit line = ⊥
 AtRecursions us Recursion line = IsAtCall us line (OfCalled us (IsRecursive us))
@@ -75,7 +75,7 @@ AtRecursions us Arguments line = ⊥
 AtRecursions us Aliased line = ⊥
 AtRecursions us CallPlace line = ⊥
 
--- what stands at CALLs for their arguments
+-- the rules that are broken at CALLs for their arguments
 abbrev pub AtArguments : ProgramUnits → LinkRefusal → ℕ → Type 0
 AtArguments us NoUnit line = ⊥
 AtArguments us Recursion line = ⊥

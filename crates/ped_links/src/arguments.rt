@@ -140,7 +140,7 @@ impl<'l> At<'l> {
         lesser(self.call.arguments.len(), self.formals.len())
     }
 
-    /// Whether the variable's name at a place stands again behind it, and one of the two is assigned.
+    /// Whether the variable's name at a place occurs again after it, and one of the two is assigned.
     fn is_aliased_at(&self, place: usize) -> bool
         requires arguments { place < length self.now.call.now.arguments }
         requires formals { place < length self.now.formals.now }
@@ -154,7 +154,7 @@ impl<'l> At<'l> {
         }
     }
 
-    /// Whether a name that stands at a place is a variable's, stands again behind it, and one of the two is assigned.
+    /// Whether the name at a place is a variable's, occurs again after it, and one of the two is assigned.
     fn is_name_aliased(&self, place: usize, name: &Name) -> bool
         requires arguments { place < length self.now.call.now.arguments }
         requires formals { place < length self.now.formals.now }
@@ -168,7 +168,7 @@ impl<'l> At<'l> {
         self.is_aliased_behind(place, name)
     }
 
-    /// Whether a variable's name stands behind a place, where it stands too, and one of the two is assigned.
+    /// Whether a variable's name at a place also occurs after it, and one of the two is assigned.
     fn is_aliased_behind(&self, place: usize, name: &Name) -> bool
         requires arguments { place < length self.now.call.now.arguments }
         requires formals { place < length self.now.formals.now }
@@ -184,7 +184,7 @@ impl<'l> At<'l> {
         false
     }
 
-    /// Whether a name stands at a place, where its dummy argument is assigned, or another is.
+    /// Whether a name is at a place, and its dummy argument there or the other one is assigned.
     fn is_again_at(&self, place: usize, name: &Name, other_assigned: bool) -> bool
         requires arguments { place < length self.now.call.now.arguments }
         requires formals { place < length self.now.formals.now }
@@ -228,7 +228,7 @@ fn is_other_kind(formal: &Option<Kind>, argument: &Option<Kind>, assigned: bool)
     }
 }
 
-/// Whether an argument that stands for this is an array, or no scalar where that is assigned for which it stands.
+/// Whether an argument for a dummy scalar is an array, or no scalar where the dummy is assigned.
 fn isnt_scalar(argument: &Option<Kind>, assigned: bool) -> bool
     ensures { result ≡ (is_some (Rules.bounds_by argument.now) || (assigned && not (Rules.is_scalar argument.now))) }
 {

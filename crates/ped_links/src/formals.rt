@@ -28,7 +28,7 @@ use std::alloc::Global;
 pub struct Formals {
     /// For each unit the number of its first dummy argument.
     bases: Vec<usize>,
-    /// For each unit the place of each name among its dummy arguments, the first where it stands twice.
+    /// For each unit the place of each name among its dummy arguments, the first where it occurs twice.
     places: Vec<IndexMap<Name, usize>>,
     /// How many there are.
     count: usize,

@@ -90,7 +90,7 @@ fn walks(alloc: Global, units: &[ProgramUnit]) -> Result<Vec<Found>, NoMemory>
     Ok(walks)
 }
 
-/// The first of what is refused at SUBROUTINE statements: names of units and dummy arguments that stand twice.
+/// The first of what is refused at SUBROUTINE statements: names of units and dummy arguments that occur twice.
 fn first_at_heads(alloc: Global, scene: &Scene) -> Result<Option<UnitFinding>, NoMemory>
     ensures { IfOk result (λ found. (us : ProgramUnits) → IsScene us scene.now → Spec.AreNamed us → IsFirstOf (AtHeads us) found) }
 {
@@ -125,7 +125,7 @@ fn is_below(first: Option<usize>, number: usize) -> bool
     }
 }
 
-/// Whether a name stands twice among these.
+/// Whether a name occurs twice among these.
 fn stands_twice(alloc: Global, names: &[Name]) -> Result<bool, NoMemory>
     ensures { IfOk result (λ twice. twice ≡ has_twice names.now) }
 {
@@ -162,7 +162,7 @@ fn at_private(lines: &[u64]) -> Option<UnitFinding>
     found
 }
 
-/// The first of these CALLs that names no unit, or stands in a PARALLEL DO.
+/// The first of these CALLs that names no unit, or is in a PARALLEL DO.
 fn at_calls(scene: &Scene, calls: &[PlacedCall]) -> Option<UnitFinding>
     ensures { (us : ProgramUnits) → IsScene us scene.now → IsFirstOf (StandsAtPlaces (all_units us) calls.now) result }
 {

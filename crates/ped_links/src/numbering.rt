@@ -23,7 +23,7 @@ pub fn unit_numbers(alloc: Global, units: &[ProgramUnit]) -> Result<IndexMap<Nam
     Ok(numbers)
 }
 
-/// Keeps the number of a unit under its name, where none stands under it.
+/// Keeps the number of a unit under its name, where it has none.
 fn keep_unit(
     numbers: &mut IndexMap<Name, usize>,
     unit: &ProgramUnit,
@@ -37,7 +37,7 @@ fn keep_unit(
     }
 }
 
-/// Keeps a number under a name, where none stands under it.
+/// Keeps a number under a name, where it has none.
 fn keep(numbers: &mut IndexMap<Name, usize>, name: &Name, number: usize) -> Result<(), NoMemory>
     ensures { OnOk result (numbers.new.entries ≡ with_entry numbers.old.entries name.now number) }
 {
@@ -56,7 +56,7 @@ pub fn number_of(numbers: &IndexMap<Name, usize>, name: &Name) -> Option<usize>
     numbers.get(name).copied()
 }
 
-/// The place of each name in a list, the first where it stands there twice.
+/// The place of each name in a list, the first where it occurs there twice.
 pub fn places(alloc: Global, names: &[Name]) -> Result<IndexMap<Name, usize>, NoMemory>
     ensures { IfOk result (λ places. Spec.ArePlaces names.now places.entries) }
 {

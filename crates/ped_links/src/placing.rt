@@ -26,11 +26,11 @@ pub struct PlacedCall {
     pub name: Name,
     /// For each argument the name that it is, where it is one.
     pub arguments: Listed<Option<Name>>,
-    /// The loops round it.
+    /// The loops around it.
     pub around: Around,
 }
 
-/// What DO loops round a statement say.
+/// What is known of the DO loops around a statement.
 #[derive(Drop)]
 pub struct Around {
     /// Their variables.
@@ -42,7 +42,7 @@ pub struct Around {
 }
 
 impl Around {
-    /// Round a statement outside of loops.
+    /// Around a statement outside of loops.
     fn nothing(alloc: Global) -> Around
         ensures { result ≡ around_of [] }
     {
@@ -264,7 +264,7 @@ impl<'l> Walk<'l> {
     }
 }
 
-/// Goes over statements with these loops round them.
+/// Goes over statements with these loops around them.
 #[cycle(pass)]
 fn pass_all(
     alloc: Global,

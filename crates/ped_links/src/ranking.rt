@@ -159,7 +159,7 @@ fn count_one_less(
     Ok(())
 }
 
-/// So many zeros.
+/// A list of `count` zeros.
 fn zeros(alloc: Global, count: usize) -> Result<Vec<usize>, NoMemory>
     ensures { IfOk result (λ zeros. zeros.items ≡ replicate count 0) }
 {
@@ -170,7 +170,7 @@ fn zeros(alloc: Global, count: usize) -> Result<Vec<usize>, NoMemory>
     Ok(zeros)
 }
 
-/// The places at which zeros stand.
+/// The places of the zeros.
 fn places_of_zeros(alloc: Global, numbers: &[usize]) -> Result<Vec<usize>, NoMemory>
     ensures { IfOk result (λ places. AreBelow (length numbers.now) places.items) }
 {

@@ -89,7 +89,7 @@ fn add_end(ends: &mut [Vec<usize>], from: usize, to: usize) -> Result<(), NoMemo
     Ok(())
 }
 
-/// So many times `false`.
+/// A list of `false` that is this long.
 fn falses(alloc: Global, count: usize) -> Result<Vec<bool>, NoMemory>
     ensures { IfOk result (λ falses. falses.items ≡ replicate count false) }
 {

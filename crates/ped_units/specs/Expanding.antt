@@ -20,16 +20,16 @@ use Rattle.ped_units.specs.Forms.{Called}
 use Rattle.ped_units.specs.Units.{ProgramUnit, ProgramUnits, unit_of, call_of, all_with_calls, called_text}
 use Rattle.ped_units.specs.Refusals.{for_names}
 
--- KX with a number behind it (this project)
+-- KX with a number after it (this project)
 abbrev pub numbered_name : ℕ → List ℕ
 numbered_name n = codes "KX" ++ decimal n
 
--- the first of the names KXn that isn't taken, from this number on, with so many tries (this project)
+-- the first of the names KXn that isn't taken, from this number on, with this many tries (this project)
 abbrev pub free_from : ℕ → List (List ℕ) → ℕ → List ℕ
 free_from zero taken n = numbered_name n
 free_from (suc tries) taken n = if is_among (numbered_name n) taken then free_from tries taken (n + 1) else numbered_name n
 
--- the first of the names KX1, KX2 and so on that isn't taken: so many names are taken that one more try finds it (this project)
+-- the first of the names KX1, KX2 and so on that isn't taken: as many tries as there are names that are taken, and one more, find it (this project)
 abbrev pub free_name : List (List ℕ) → List ℕ
 free_name taken = free_from (length taken) taken 1
 
@@ -38,7 +38,7 @@ pub record Given : Type 0 where
   pub taken : List (List ℕ)
   pub arrays : List DeclTree
 
--- behind the next new name (this project)
+-- after the next new name (this project)
 abbrev pub with_new : Given → Given
 with_new g = record g { taken = g.taken ++ free_name g.taken ∷ [] }
 
@@ -59,7 +59,7 @@ declared_as x (Some Scalar) = []
 declared_as x (Some (Array d)) = array_declaration x d ∷ []
 declared_as x (Some (Constant n)) = []
 
--- behind the next new name, which is given to something of this kind (this project)
+-- after the next new name, which is given to something of this kind (this project)
 abbrev pub with_local : Given → Option Kind → Given
 with_local g kind = record { taken = g.taken ++ free_name g.taken ∷ []; arrays = g.arrays ++ declared_as (free_name g.taken) kind }
 
@@ -151,19 +151,19 @@ standing e b = record b { meant = e ∷ b.meant }
 abbrev pub assigned_to : List ℕ → ExprTree → Bound → Bound
 assigned_to x e b = record b { meant = Var x ∷ b.meant; assignments = Assign (Var x) e ∷ b.assignments }
 
--- an argument that is no variable's name, by its value, before others: a constant of at most 2147483647 in size stands as a literal, any other is assigned to the next new name (this project)
+-- an argument that is no variable's name, by its value, before others: a constant of at most 2147483647 in size is written as a literal, any other is assigned to the next new name (this project)
 abbrev pub bound_by : Option ℤ → ExprTree → Given → (Given → Bound) → Bound
 bound_by (Some n) e g others = standing (literal n) (others g)
 bound_by None e g others = assigned_to (free_name g.taken) e (others (with_new g))
 
--- the arguments of a CALL, from left to right, where these are the named constants: a variable's name stands itself (ANSI X3.9-1978, section 15.9.3; this project)
+-- the arguments of a CALL, from left to right, where these are the named constants: a variable's name stands for itself (ANSI X3.9-1978, section 15.9.3; this project)
 abbrev pub bound_arguments : Values → List ExprTree → Given → Bound
 bound_arguments constants [] g = record { meant = []; assignments = []; given = g }
 bound_arguments constants (e ∷ rest) g =
     if is_variable_name constants e then standing e (bound_arguments constants rest g)
     else bound_by (fixed_value constants e) e g (bound_arguments constants rest)
 
--- a statement in which exactly the names of a CALL's arguments stand, in their order (this project)
+-- a statement with exactly the names of a CALL's arguments, in their order (this project)
 abbrev pub naming_arguments : Called → StmtTree
 naming_arguments c = Print (map Value (listed c.arguments))
 
@@ -175,13 +175,13 @@ body_names u = first_occurrences [] (stmts_names (all_with_calls naming_argument
 abbrev pub constants_of : ProgramUnit → Values
 constants_of u = (at_last (for_names u)).values
 
--- dummy arguments with what stands for them, by their places, as far as there are both, behind other names; of a name that something stands for already the first counts
+-- dummy arguments with what stands for them, by their places, as far as there are both, after other names; of a name that something stands for already the first counts
 abbrev pub with_formals : Meanings → List (List ℕ) → List ExprTree → Meanings
 with_formals m (f ∷ fs) (e ∷ es) = with_formals (with_entry m f e) fs es
 with_formals m [] es = m
 with_formals m (f ∷ fs) [] = m
 
--- named constants with their literals, behind other names (ANSI X3.9-1978, section 8.6)
+-- named constants with their literals, after other names (ANSI X3.9-1978, section 8.6)
 abbrev pub with_constants : Meanings → Values → Meanings
 with_constants m [] = m
 with_constants m (v ∷ vs) = with_constants (with_entry m v.0 (literal v.1)) vs
@@ -217,12 +217,12 @@ call_comment c = Comment (take 71 (codes "$CALL " ++ called_text c))
 abbrev pub block_of : Called → List StmtTree → StmtTrees → StmtTree
 block_of c assignments body = If (Rel Eq (Int 0) (Int 0)) (more_stmts (call_comment c) (behind_stmts assignments body)) no_stmts
 
--- a statement and the state behind it
+-- a statement and the state after it
 pub record Expanded (S : Type 0) : Type 0 where
   pub statement : StmtTree
   pub state : S
 
--- statements and the state behind them
+-- statements and the state after them
 pub record AllExpanded (S : Type 0) : Type 0 where
   pub statements : StmtTrees
   pub state : S
@@ -232,7 +232,7 @@ abbrev pub expanded_or : {S : Type 0} → Meanings → (Called → S → Expande
 expanded_or m f s state None = record { statement = s; state = state }
 expanded_or m f s state (Some c) = f (called_replaced m c) state
 
--- an IF with an expanded THEN part and an ELSE part that is expanded behind it
+-- an IF with an expanded THEN part and an ELSE part that is expanded after it
 abbrev pub if_expanded : {S : Type 0} → CondTree → AllExpanded S → (S → AllExpanded S) → Expanded S
 if_expanded condition t rest = record { statement = If condition t.statements (rest t.state).statements; state = (rest t.state).state }
 
@@ -240,7 +240,7 @@ if_expanded condition t rest = record { statement = If condition t.statements (r
 abbrev pub do_expanded : {S : Type 0} → Head → AllExpanded S → Expanded S
 do_expanded h b = record { statement = Do h b.statements; state = b.state }
 
--- an expanded statement and those that are expanded behind it
+-- an expanded statement and those that are expanded after it
 abbrev pub then_expanded : {S : Type 0} → Expanded S → (S → AllExpanded S) → AllExpanded S
 then_expanded e rest = record { statements = more_stmts e.statement (rest e.state).statements; state = (rest e.state).state }
 
@@ -264,7 +264,7 @@ abbrev mutual
 abbrev pub block_with : Called → Bound → AllExpanded Given → Expanded Given
 block_with c b e = record { statement = block_of c b.assignments e.statements; state = e.state }
 
--- the block of a CALL of this subroutine, whose arguments were bound and whose names have these meanings, where a function expands its own CALLs: these know no named constants any more
+-- the block of a CALL of this subroutine, whose arguments were bound and whose names have these meanings, where a function expands its own CALLs: these know no named constants
 abbrev pub body_expanded : (Called → Given → Expanded Given) → ProgramUnit → Called → Bound → Renamed → Expanded Given
 body_expanded inner v c b r = block_with c b (all_expanded_in r.meanings inner v.tree.body r.given)
 
@@ -277,7 +277,7 @@ abbrev pub unit_expanded : (Called → Given → Expanded Given) → Values → 
 unit_expanded inner constants c g None = record { statement = block_of c [] no_stmts; state = g }
 unit_expanded inner constants c g (Some v) = bound_expanded inner v c (bound_arguments constants (listed c.arguments) g)
 
--- the block of a CALL in a unit with these named constants, in which CALLs stand so deep in one another at most; first its own new names are given, and then those of its CALLs (this project)
+-- the block of a CALL in a unit with these named constants, in which CALLs are nested at most this deep; first its own new names are given, and then those of its CALLs (this project)
 abbrev pub call_expanded : ℕ → ProgramUnits → Values → Called → Given → Expanded Given
 call_expanded zero us constants c g = record { statement = block_of c [] no_stmts; state = g }
 call_expanded (suc depth) us constants c g = unit_expanded (call_expanded depth us []) constants c g (unit_of us c.name)
@@ -286,7 +286,7 @@ call_expanded (suc depth) us constants c g = unit_expanded (call_expanded depth 
 abbrev pub nothing_given : ProgramUnits → Given
 nothing_given us = record { taken = first_occurrences [] (names_of (for_names us.main) ++ flat_map program_name us.main.tree.decls); arrays = [] }
 
--- a CALL of the main program: without recursion CALLs stand in one another no deeper than there are subroutines
+-- a CALL of the main program: without recursion CALLs are nested in one another no deeper than there are subroutines
 abbrev pub main_call_expanded : ProgramUnits → Called → Given → Expanded Given
 main_call_expanded us c g = call_expanded (length us.others) us (constants_of us.main) c g
 
@@ -294,7 +294,7 @@ main_call_expanded us c g = call_expanded (length us.others) us (constants_of us
 abbrev pub main_expanded : ProgramUnits → StmtTrees → AllExpanded Given
 main_expanded us body = all_expanded_in [] (main_call_expanded us) body (nothing_given us)
 
--- the main program with other statements, behind whose declarations these arrays are declared
+-- the main program with other statements, and with these arrays declared after its declarations
 abbrev pub with_statements : ProgramUnits → AllExpanded Given → ProgramTree
 with_statements us e = record { decls = us.main.tree.decls ++ e.state.arrays; body = e.statements }
 

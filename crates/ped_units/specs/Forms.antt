@@ -1,4 +1,4 @@
--- Statements of files of program units as they are written, without blanks: CALL, also behind a logical IF, SUBROUTINE and RETURN (ANSI X3.9-1978, sections 11.5, 15.6 to 15.8). A form of the profile comes first: CALL=1 is an assignment.
+-- Statements of files of program units as they are written, without blanks: CALL, also after a logical IF, SUBROUTINE and RETURN (ANSI X3.9-1978, sections 11.5, 15.6 to 15.8). A form of the profile comes first: CALL=1 is an assignment.
 use Rattle.std.specs.Prelude.{◌≡◌, ℕ, List, [], ◌∷◌, ◌++◌, codes, IsTrue}
 use Rattle.std.specs.List.{list_all}
 use Rattle.ped_tree.specs.Tree.{ExprTrees, no_exprs, CondTree}

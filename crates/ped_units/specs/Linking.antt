@@ -21,7 +21,7 @@ abbrev pub IsIn : {X : Type 0} → X → List X → Type 0
 IsIn x [] = ⊥
 IsIn x (y ∷ ys) = (x ≡ y) ⊎ IsIn x ys
 
--- a CALL at its place: the line of its statement, and the DO loops round it in its unit, the outermost first (ANSI X3.9-1978, sections 11.10, 15.6.2)
+-- a CALL at its place: the line of its statement, and the DO loops around it in its unit, the outermost first (ANSI X3.9-1978, sections 11.10, 15.6.2)
 pub record Placed : Type 0 where
   pub line : ℕ
   pub called : Called
@@ -33,7 +33,7 @@ placed loops lines None = []
 placed loops lines (Some c) = (record { line = next_line lines; called = c; loops = loops }) ∷ []
 
 abbrev mutual
-  -- the CALLs in a statement, in text order, with these loops round it and these lines from its own on
+  -- the CALLs in a statement, in text order, with these loops around it and these lines from its own on
   pub calls_in : List Head → List ℕ → StmtTree → List Placed
   calls_in loops lines (Assign left right) = placed loops lines (call_of left right)
   calls_in loops lines (If condition then_part else_part) =
@@ -212,7 +212,7 @@ name_of_link Arguments = codes "Arguments"
 name_of_link Aliased = codes "Aliased"
 name_of_link CallPlace = codes "CallPlace"
 
--- an argument doesn't fit its dummy argument, at a CALL in a unit with these loops round it (ANSI X3.9-1978, section 15.9.3; this project)
+-- an argument doesn't fit its dummy argument, at a CALL in a unit with these loops around it (ANSI X3.9-1978, section 15.9.3; this project)
 pub data Misfits (us : ProgramUnits) (u v : ProgramUnit) (loops : List Head) (a : Association) : Type 0 where
   -- the dummy argument is an array, and the argument isn't the name of one with the same bounds
   other_bounds : (d : Dimensions) → array_bounds v a.formal ≡ Some d → argument_bounds u a.argument ≢ Some d → Misfits us u v loops a
@@ -220,9 +220,9 @@ pub data Misfits (us : ProgramUnits) (u v : ProgramUnit) (loops : List Head) (a 
   array_for_scalar : (d : Dimensions) → array_bounds v a.formal ≡ None → argument_bounds u a.argument ≡ Some d → Misfits us u v loops a
   -- the dummy argument is a scalar that is assigned, and the argument isn't the name of a scalar variable
   no_scalar : array_bounds v a.formal ≡ None → IsAssigned us v a.formal → is_scalar_name u a.argument ≡ false → Misfits us u v loops a
-  -- the dummy argument is assigned, and the argument is the variable of a loop round the CALL
+  -- the dummy argument is assigned, and the argument is the variable of a loop around the CALL
   loop_variable : (x : List ℕ) (h : Head) → IsAssigned us v a.formal → a.argument ≡ Var x → IsIn h loops → h.variable ≡ x → Misfits us u v loops a
-  -- the dummy argument is a DO variable, and the argument is private to a loop round the CALL
+  -- the dummy argument is a DO variable, and the argument is private to a loop around the CALL
   private_index : (x : List ℕ) (h : Head) → IsIndex us v a.formal → a.argument ≡ Var x → IsIn h loops → IsTrue (is_among x h.private) → Misfits us u v loops a
 
 -- one variable's name stands for two dummy arguments of which one is assigned (ANSI X3.9-1978, section 15.9.3.6)
@@ -311,11 +311,11 @@ HasBadArguments us u v p =
     (HasAllArguments v p.called → ⊥)
     ⊎ (HasAllArguments v p.called × (a : Association) × IsIn a (associated v p.called) × Misfits us u v p.loops a)
 
--- a CALL stands in a PARALLEL DO (this project)
+-- a CALL is in a PARALLEL DO (this project)
 abbrev pub IsInParallel : ProgramUnit → Placed → Type 0
 IsInParallel u p = (h : Head) × IsIn h p.loops × IsTrue h.parallel
 
--- which rule stands at which line (ANSI X3.9-1978, sections 15.6, 15.9, 18; this project)
+-- which rule is broken at which line (ANSI X3.9-1978, sections 15.6, 15.9, 18; this project)
 abbrev pub Stands : ProgramUnits → LinkRefusal → ℕ → Type 0
 Stands us NoUnit line = RepeatsUnit us line ⊎ IsAtCall us line (CallsNoUnit us)
 Stands us Recursion line = IsAtCall us line (OfCalled us (IsRecursive us))
@@ -327,11 +327,11 @@ Stands us CallPlace line = IsAtCall us line IsInParallel
 abbrev pub is_before : LinkRefusal → ℕ → LinkRefusal → ℕ → Bool
 is_before r line q other = nat_lt line other || (line == other && nat_lt (number_of_link r) (number_of_link q))
 
--- the rule stands at the line, and none comes before it (this project)
+-- the rule is broken at the line, and none is broken before that (this project)
 pub record IsFirstLink (us : ProgramUnits) (r : LinkRefusal) (line : ℕ) : Type 0 where
   pub stands : Stands us r line
   pub least : (q : LinkRefusal) (other : ℕ) → Stands us q other → is_before q other r line ≡ false
 
--- none of the rules stands (this project)
+-- none of the rules is broken (this project)
 abbrev pub IsLinked : ProgramUnits → Type 0
 IsLinked us = (r : LinkRefusal) (line : ℕ) → Stands us r line → ⊥

@@ -1,4 +1,4 @@
--- What the names of units stand for, or which of their refusals is the first, as the code tells (this project).
+-- What the names of units stand for, or which of their refusals is the first, as the code reports (this project).
 use Rattle.std.specs.Prelude.{◌≡◌, ◌<◌, ◌^◌, ℕ, List, [], map, length, Option, Some, None, Result, Ok, Err}
 use Rattle.std.specs.Global.{Vec}
 use Rattle.std.specs.List.{flat_map}
@@ -56,7 +56,7 @@ abbrev pub IsFound : Finding → UnitRefusal → Type 0
 IsFound f NoMemory = ⊥
 IsFound f (At g) = unit_finding_of g ≡ found_in_text f
 
--- the first of the refusals of the names of units, or want of memory
+-- the first of the refusals of the names of units, or out of memory
 abbrev pub IsFirstNameRefusal : List ProgramUnit → UnitRefusal → Type 0
 IsFirstNameRefusal us NoMemory = Unit {0}
 IsFirstNameRefusal us (At f) = (r : Refusal) × (first_of (units_name_refusals us) ≡ Some (finding_of r)) × IsFound (finding_of r) (At f)

@@ -24,7 +24,7 @@ AreUnitEntries (s ∷ ss) (e ∷ es) = (e.statement ≡ s) × IsUnitItem s.text 
 AreUnitEntries [] (e ∷ es) = ⊥
 AreUnitEntries (s ∷ ss) [] = ⊥
 
--- no refusal of a line stands, and these are the statements of the text
+-- no line is refused, and these are the statements of the text
 pub record IsCutIntoUnits (text : List ℕ) (entries : List UnitEntry) : Type 0 where
   pub accepted : first_line_refusal text ≡ None
   pub items : AreUnitEntries (statements_of text).statements entries
@@ -50,19 +50,19 @@ pub record Segment : Type 0 where
   pub head : Option UnitEntry
   pub entries : List UnitEntry
 
--- the statements before the first SUBROUTINE that stands behind an END, where an END has come already or not: a unit goes on up to there (this project)
+-- the statements before the first SUBROUTINE that follows an END, where an END has come already or not: a unit goes on up to there (this project)
 abbrev pub own_entries : Bool → List UnitEntry → List UnitEntry
 own_entries ended [] = []
 own_entries ended (e ∷ es) = if ended && begins e.item then [] else e ∷ own_entries (ended || ends e.item) es
 
--- the units from the first SUBROUTINE on that stands behind an END, where an END has come already or not (this project)
+-- the units from the first SUBROUTINE on that follows an END, where an END has come already or not (this project)
 abbrev pub further_segments : Bool → List UnitEntry → List Segment
 further_segments ended [] = []
 further_segments ended (e ∷ es) =
     if ended && begins e.item then record { head = Some e; entries = own_entries false es } ∷ further_segments false es
     else further_segments (ended || ends e.item) es
 
--- the units of a file: the main program, and a subroutine from each SUBROUTINE on that stands behind the END of the unit before (ANSI X3.9-1978, sections 2.4, 3.5; this project)
+-- the units of a file: the main program, and a subroutine from each SUBROUTINE on that follows the END of the unit before (ANSI X3.9-1978, sections 2.4, 3.5; this project)
 abbrev pub segments_of : List UnitEntry → List Segment
 segments_of entries = record { head = None; entries = own_entries false entries } ∷ further_segments false entries
 
@@ -104,7 +104,7 @@ abbrev pub difference_of : List (List ℕ) → ExprTree
 difference_of [] = Int 0
 difference_of (x ∷ xs) = minus_names (Var x) xs
 
--- a statement with the names of a CALL's arguments, in their order, and as many references: an assignment to a literal, which assigns nothing and is shorter than the CALL. It stands for the CALL where statements are refused, since it may stand wherever a CALL may (this project)
+-- a statement with the names of a CALL's arguments, in their order, and as many references: an assignment to a literal, which assigns nothing and is shorter than the CALL. It stands for the CALL where statements are refused, since it may occur wherever a CALL may (this project)
 abbrev pub stand_in : Called → StmtTree
 stand_in c = Assign (Int 0) (difference_of (exprs_names c.arguments))
 
@@ -112,7 +112,7 @@ stand_in c = Assign (Int 0) (difference_of (exprs_names c.arguments))
 abbrev pub seen_entries : Segment → List Entry
 seen_entries s = as_entries stand_in (is_subroutine s.head) s.entries
 
--- the statements of a unit as they nest: each CALL stands as it stands in trees (this project)
+-- the statements of a unit as they nest: each CALL has its form of trees (this project)
 abbrev pub kept_entries : Segment → List Entry
 kept_entries s = as_entries call_statement (is_subroutine s.head) s.entries
 

@@ -19,7 +19,7 @@ use Rattle.ped_units.specs.Forms.{Called, UnitItem, plain, calls, calls_if, begi
 use Rattle.ped_units.specs.Units.{ProgramUnit, ProgramUnits, all_units, all_with_calls, called_text}
 use Rattle.ped_units.specs.Reading.{UnitEntry, IsCutIntoUnits, Segment, segments_of, is_subroutine, seen_entries, AreUnitsOf}
 
--- the CALL that a statement is, or that stands behind a logical IF (ANSI X3.9-1978, sections 11.5, 15.6.2)
+-- the CALL that a statement is, or that follows a logical IF (ANSI X3.9-1978, sections 11.5, 15.6.2)
 abbrev pub call_in : UnitItem → Option Called
 call_in (plain r) = None
 call_in (calls c) = Some c
@@ -42,7 +42,7 @@ is_main_declaration (Program x) = true
 is_main_declaration (Save names) = true
 is_main_declaration d = false
 
--- a statement that stands in a main program alone: PROGRAM and SAVE (this project)
+-- a statement that may be only in a main program: PROGRAM and SAVE (this project)
 abbrev pub is_of_main : Item → Bool
 is_of_main (declares d) = is_main_declaration d
 is_of_main saves_all = true
@@ -53,11 +53,11 @@ abbrev pub where_plain : (Item → Bool) → UnitItem → Bool
 where_plain test (plain r) = where_it_says test r
 where_plain test i = false
 
--- what stands at the directives of a statement, none of which may stand there (this project)
+-- the refusals at the directives of a statement, none of which may occur there (this project)
 abbrev pub at_all_directives : Statement → List Finding
 at_all_directives s = flat_map (λ d. refused_if true Syntax d.line) s.directives
 
--- what is refused at a statement of a subroutine beside what is refused in a main program: PROGRAM, SAVE, directives, STOP (this project)
+-- what is refused at a statement of a subroutine in addition to what is refused in a main program: PROGRAM, SAVE, directives, STOP (this project)
 abbrev pub at_subroutine_entry : UnitEntry → List Finding
 at_subroutine_entry e =
     at_all_directives e.statement
@@ -81,11 +81,11 @@ other_refusals s = flat_map at_call s.entries ++ (if is_subroutine s.head then a
 abbrev pub segment_refusals : Statements → Segment → List Finding
 segment_refusals all s = other_refusals s ++ program_refusals all (seen_entries s)
 
--- the text without what stands behind its last statement: so a unit ends behind which another begins (this project)
+-- the text without what follows its last statement: this is how a unit ends that is followed by another (this project)
 abbrev pub before_another : Statements → Statements
 before_another all = record all { comments = []; directives = [] }
 
--- what is refused in units, one behind the other (this project)
+-- what is refused in units, one after another (this project)
 abbrev pub segments_refusals : Statements → List Segment → List Finding
 segments_refusals all [] = []
 segments_refusals all (s ∷ []) = segment_refusals all s
@@ -125,7 +125,7 @@ abbrev pub and_zeros : CondTree → List ExprTree → CondTree
 and_zeros c [] = c
 and_zeros c (a ∷ rest) = and_zeros (And c (is_zero a)) rest
 
--- a condition in which exactly these expressions stand, and literals
+-- a condition with exactly these expressions, and literals
 abbrev pub condition_of : List ExprTree → CondTree
 condition_of [] = is_zero (Int 0)
 condition_of (a ∷ rest) = and_zeros (is_zero a) rest
@@ -149,6 +149,6 @@ for_names u = record {
 abbrev pub lines_for_names : ProgramUnit → List ℕ
 lines_for_names u = if has_some u.formals then u.line ∷ u.lines else u.lines
 
--- what is refused for the names of units, one behind the other (ANSI X3.9-1978, sections 4.1.2, 5, 8, 15.9; this project)
+-- what is refused for the names of units, one after another (ANSI X3.9-1978, sections 4.1.2, 5, 8, 15.9; this project)
 abbrev pub units_name_refusals : List ProgramUnit → List Finding
 units_name_refusals us = flat_map (λ u. name_refusals (lines_for_names u) (for_names u)) us

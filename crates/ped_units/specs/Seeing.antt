@@ -38,11 +38,11 @@ ends_next (e ∷ es) = is_end_next es ∷ ends_next es
 abbrev pub seen_as : Bool → Bool → UnitEntry → Entry
 seen_as in_subroutine before_end e = record { statement = e.statement; reading = as_reading stand_in in_subroutine before_end e.item }
 
--- a statement with its CALL as it stands in trees
+-- a statement with its CALL as trees have it
 abbrev pub kept_as : Bool → Bool → UnitEntry → Entry
 kept_as in_subroutine before_end e = record { statement = e.statement; reading = as_reading units.call_statement in_subroutine before_end e.item }
 
--- a unit that was begun, where an END has come in it or not, goes on with statements, and further units behind it
+-- a unit that was begun, where an END has come in it or not, goes on with statements, and further units follow it
 abbrev pub segments_onto : Segment → Bool → List UnitEntry → List Segment
 segments_onto s ended es = record s { entries = s.entries ++ own_entries ended es } ∷ further_segments ended es
 
@@ -71,14 +71,14 @@ pub record IsReadUnit (all : Statements) (s : Segment) (r : ReadUnit) : Type 0 w
   pub saved : r.saved ≡ saved_names (seen_entries s)
   pub first : found_of r.first ≡ first_of (segment_refusals all s)
 
--- units are read, one behind the other, behind each of which another begins
+-- units are read, one after another, each of which is followed by another
 abbrev pub AreReadEach : Statements → List Segment → List ReadUnit → Type 0
 AreReadEach all [] [] = Unit {0}
 AreReadEach all (s ∷ ss) (r ∷ rs) = IsReadUnit (before_another all) s r × AreReadEach all ss rs
 AreReadEach all [] (r ∷ rs) = ⊥
 AreReadEach all (s ∷ ss) [] = ⊥
 
--- units are read, one behind the other
+-- units are read, one after another
 abbrev pub AreReadUnits : Statements → List Segment → List ReadUnit → Type 0
 AreReadUnits all [] [] = Unit {0}
 AreReadUnits all (s ∷ []) (r ∷ rs) = IsReadUnit all s r × AreReadUnits all [] rs

@@ -1,4 +1,4 @@
--- Program units: a main program and the subroutines behind it, each with the tree of its statements (ANSI X3.9-1978, sections 2.4, 3.5, 15.6). A CALL stands in the tree as an assignment to a literal, which no text reads as (this project).
+-- Program units: a main program and the subroutines after it, each with the tree of its statements (ANSI X3.9-1978, sections 2.4, 3.5, 15.6). In the tree a CALL is an assignment to a literal, which no text reads as (this project).
 use Rattle.std.specs.Prelude.{ℕ, List, [], ◌∷◌, ◌++◌, codes, Option, Some, None, if◌then◌else◌}
 use Rattle.ped_base.specs.Lists.{is_same_text}
 use Rattle.ped_tree.specs.Tree.{ExprTree, ExprTrees, Int, Var, Element, no_exprs, more_exprs, StmtTree, StmtTrees, Assign, If, Do, Print, Read, Stop, Comment, no_stmts, more_stmts, ProgramTree}

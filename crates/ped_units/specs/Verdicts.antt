@@ -40,13 +40,13 @@ abbrev mutual
   calls_count no_stmts = 0
   calls_count (more_stmts s rest) = call_count s + calls_count rest
 
--- a statement before others, or these alone where it is a CALL and none may come any more
+-- a statement before others, or these alone where it is a CALL and no further one may come
 abbrev pub while_calls : ℕ → Option Called → StmtTree → StmtTrees → StmtTrees
 while_calls m None s rest = more_stmts s rest
 while_calls m (Some c) s rest = if m == 0 then rest else more_stmts s rest
 
 abbrev mutual
-  -- a statement with so many of the CALLs in its parts, the first in text order, and without the others
+  -- a statement with only the first of the CALLs in its parts in text order, as many as given, and without the others
   pub with_first_calls : ℕ → StmtTree → StmtTree
   with_first_calls m (Assign left right) = Assign left right
   with_first_calls m (If condition then_part else_part) = If condition (first_calls m then_part) (first_calls (m - calls_count then_part) else_part)
@@ -56,7 +56,7 @@ abbrev mutual
   with_first_calls m Stop = Stop
   with_first_calls m (Comment text) = Comment text
 
-  -- statements with so many of their CALLs, the first in text order, and without the others
+  -- statements with only the first of their CALLs in text order, as many as given, and without the others
   pub first_calls : ℕ → StmtTrees → StmtTrees
   first_calls m no_stmts = no_stmts
   first_calls m (more_stmts s rest) = while_calls m (call_here s) (with_first_calls m s) (first_calls (m - call_count s) rest)
@@ -75,21 +75,21 @@ behind_comments ss = ss
 abbrev pub settled : ProgramTree → ProgramTree
 settled t = record { decls = t.decls ++ front_comments t.body; body = behind_comments t.body }
 
--- the main program with so many of its CALLs expanded, the first in text order, and without the others (this project)
+-- the main program with the first of its CALLs in text order expanded, as many as given, and without the others (this project)
 abbrev pub partial : ProgramUnits → ℕ → ProgramTree
 partial us m = settled (with_statements us (main_expanded us (first_calls m us.main.tree.body)))
 
--- with so many CALLs expanded the main program has too many statements, each later CALL counted as one; or it is no program of the profile, since it passes a limit (this project)
+-- with this many CALLs expanded the main program has too many statements, each later CALL counted as one; or it is no program of the profile, since it passes a limit (this project)
 abbrev pub passes_limit : ProgramUnits → ℕ → Bool
 passes_limit us m = nat_lt most_statements (statements_count (partial us m).body + (calls_count us.main.tree.body - m)) || not (fits (partial us m))
 
--- with so many CALLs expanded the main program passes a limit: one of statements; or one of storage and references and none of statements (this project)
+-- with this many CALLs expanded the main program passes a limit: one of statements; or one of storage and references and none of statements (this project)
 abbrev pub IsPast : ProgramUnits → ℕ → Refusal → Type 0
 IsPast us m Limit = passes_limit us m ≡ true
 IsPast us m StorageLimit = (passes_limit us m ≡ false) × (name_refusals [] (partial us m) ≡ [] → ⊥)
 IsPast us m r = ⊥
 
--- no limit is passed up to so many expanded CALLs (this project)
+-- no limit is passed up to this many expanded CALLs (this project)
 abbrev pub IsWithin : ProgramUnits → ℕ → Type 0
 IsWithin us most = (m : ℕ) (r : Refusal) → 1 ≤ m → m ≤ most → IsPast us m r → ⊥
 

@@ -74,7 +74,7 @@ rule_of rule.CallPlace = verdicts.of_links linking.CallPlace
 abbrev pub unit_finding_of : UnitFinding → verdicts.UnitFinding
 unit_finding_of f = record { rule = rule_of f.rule; line = f.line }
 
--- the file's first refusal, or want of memory
+-- the file's first refusal, or out of memory
 abbrev pub IsUnitRefusalOf : List ℕ → UnitRefusal → Type 0
 IsUnitRefusalOf text refusal.NoMemory = Unit {0}
 IsUnitRefusalOf text (refusal.At f) = verdicts.RefusesUnits text (unit_finding_of f)

@@ -20,7 +20,7 @@ pub enum UnitItem {
     Plain(StatementReading),
     /// A CALL.
     Call(Called),
-    /// A logical IF with a CALL behind it (section 11.5).
+    /// A logical IF with a CALL after it (section 11.5).
     LogicalIfCall(Cond, Called),
     /// SUBROUTINE with the subroutine's name and its dummy arguments (section 15.6.1).
     Subroutine(Name, Names),

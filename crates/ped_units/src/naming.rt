@@ -103,7 +103,7 @@ fn with_statements(alloc: Global, unit: &ProgramUnit, body: Vec<Stmt>) -> Result
     }
 }
 
-/// The declarations of a unit behind a SAVE of its dummy arguments, where there are some, with their lines and those of
+/// The declarations of a unit after a SAVE of its dummy arguments, where there are some, with their lines and those of
 /// its statements.
 fn declared(alloc: Global, unit: &ProgramUnit) -> Result<(Vec<Decl>, Vec<u64>), NoMemory>
     ensures decls { IfOk result (λ r. map decl_tree r.0.items ≡ Spec.save_of_formals unit.now.formals ++ map decl_tree unit.now.program.decls.items) }
@@ -259,7 +259,7 @@ fn using(alloc: Global, arrays: &NameSet, arguments: &[Expr]) -> Result<Stmt, No
     Ok(Stmt::block_if(condition, Vec::new(alloc), Vec::new(alloc)))
 }
 
-/// A condition in which exactly the arguments stand that are no arrays as a whole.
+/// A condition with exactly the arguments that are no arrays as a whole.
 fn condition(alloc: Global, arrays: &NameSet, arguments: &[Expr]) -> Result<Cond, NoMemory>
     ensures { IfOk result (λ c. cond_tree c ≡ Spec.condition_of (Spec.plain_arguments arrays.now (listed (pack_exprs (map expr_tree arguments.now))))) }
 {

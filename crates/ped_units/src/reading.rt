@@ -118,7 +118,7 @@ fn entry(alloc: Global, statement: Statement) -> Result<UnitEntry, NoMemory>
     Ok(UnitEntry { statement, item })
 }
 
-/// The units of a file with their first refusals, where these directives stand behind its last statement and it has so
+/// The units of a file with their first refusals, where these directives follow its last statement and it has this
 /// many lines.
 fn read_all(
     alloc: Global,
@@ -136,7 +136,7 @@ fn read_all(
     }
 }
 
-/// Units with their first refusals, and one behind them with which the text ends.
+/// Units with their first refusals, and after them one with which the text ends.
 fn read_last(
     alloc: Global,
     segments: Vec<Segment>,
@@ -158,7 +158,7 @@ fn read_last(
     Ok(units)
 }
 
-/// Units with their first refusals, behind each of which another begins.
+/// Units with their first refusals, after each of which another begins.
 fn read_earlier(
     alloc: Global,
     segments: Vec<Segment>,

@@ -22,7 +22,7 @@ use std::alloc::Global;
 pub struct Seen {
     /// The statements.
     pub entries: Vec<Entry>,
-    /// For each of them the CALL for which something plain stands there, where there is one.
+    /// For each of them the CALL that something plain stands for, where there is one.
     pub calls: Vec<Option<Called>>,
 }
 
@@ -96,7 +96,7 @@ impl Seen {
     }
 }
 
-/// What a statement is as one of the profile, and the CALL for which something plain stands in it.
+/// What a statement is as one of the profile, and the CALL that something plain in it stands for.
 fn as_reading(
     alloc: Global,
     item: UnitItem,
@@ -143,7 +143,7 @@ fn return_reading(in_subroutine: bool, before_end: bool) -> StatementReading
 }
 
 impl Seen {
-    /// The statements with the CALLs as they stand in trees.
+    /// The statements with the CALLs as trees have them.
     pub fn kept(self, alloc: Global) -> Result<Vec<Entry>, NoMemory>
         ensures { IfOk result (λ kept. (in_subroutine : Bool) (es : List PlainEntry) → AreSeen in_subroutine es self → map entry_of kept.items ≡ Spec.as_entries call_statement_tree in_subroutine es) }
     {

@@ -22,7 +22,7 @@ pub struct Segment {
     pub entries: Vec<UnitEntry>,
 }
 
-/// The units of a file: the main program, and a subroutine from each SUBROUTINE statement on that stands behind the END
+/// The units of a file: the main program, and a subroutine from each SUBROUTINE statement on that follows the END
 /// of the unit before.
 pub fn segments(alloc: Global, entries: Vec<UnitEntry>) -> Result<Vec<Segment>, NoMemory>
     ensures { IfOk result (λ segments. map segment_of segments.items ≡ segments_of (map unit_entry_of entries.items)) }

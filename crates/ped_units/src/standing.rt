@@ -79,7 +79,7 @@ fn add_names(names: &mut Vec<Name>, e: &Expr) -> Result<(), NoMemory>
     }
 }
 
-/// The CALL as it stands in trees: an assignment to the literal 0, which no text reads as.
+/// The CALL as trees have it: an assignment to the literal 0, which no text reads as.
 pub fn call_statement(alloc: Global, called: &Called) -> Result<Stmt, NoMemory>
     ensures { IfOk result (λ s. stmt_tree s ≡ Units.call_statement (called_of called.now)) }
 {

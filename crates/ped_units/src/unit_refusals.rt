@@ -60,7 +60,7 @@ fn call_passes_limit(alloc: Global, item: &UnitItem) -> Result<bool, NoMemory>
 }
 
 /// Whether a CALL has a literal that is too large, or too many characters: it is printed with one more than the
-/// assignment as which it stands in trees.
+/// assignment that represents it in trees.
 fn passes_limit(alloc: Global, called: &Called) -> Result<bool, NoMemory>
     ensures { IfOk result (λ passes. passes ≡ Spec.call_passes_limit (Some (called_of called.now))) }
 {
@@ -70,7 +70,7 @@ fn passes_limit(alloc: Global, called: &Called) -> Result<bool, NoMemory>
     Ok(passes)
 }
 
-/// The first of what was found and what is refused at the directives of a statement, none of which may stand there.
+/// The first of what was found and what is refused at the directives of a statement, none of which may occur there.
 fn at_directives(found: Option<Refusal>, statement: &Statement) -> Option<Refusal>
     ensures { found_of result ≡ earliest (found_of found) (Spec.at_all_directives (statement_of statement.now)) }
 {
@@ -141,7 +141,7 @@ fn is_main_declaration(decl: &Decl) -> bool
     }
 }
 
-/// Whether the statement is STOP, also behind a logical IF.
+/// Whether the statement is STOP, also after a logical IF.
 fn stops(item: &UnitItem) -> bool
     ensures { result ≡ Spec.where_plain ProgramRefusals.stops (unit_item_of item.now) }
 {

@@ -12,6 +12,6 @@ pub struct ProgramUnit {
     pub formals: Names,
     /// The line of the SUBROUTINE statement; 0 of a main program.
     pub line: u64,
-    /// The declarations and statements with their first lines. A CALL stands as an assignment to a literal.
+    /// The declarations and statements with their first lines. A CALL is represented by an assignment to a literal.
     pub program: Program,
 }

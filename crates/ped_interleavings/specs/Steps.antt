@@ -11,7 +11,7 @@ use Rattle.ped_eval.specs.Loops.{limits, entered_with, exit_touches, exit_when_n
 use Rattle.ped_eval.specs.Runs.{Ending, going, stopped, failed, Run, run}
 use Rattle.ped_interleavings.specs.Lefts.{Left, finished, begins, ends_turn, open_loop, Lefts, no_lefts, more_lefts, left_of_all, turns_left, entered_left, many, pick, with_left}
 
--- what the next step comes to: nothing is left; a fault with its number and its statement; an act, and what is left behind it; an act by which a STOP ends the program
+-- the result of the next step: nothing is left; a fault with its number and its statement; an act, and the rest after it; an act by which a STOP ends the program
 pub data Next : Type 0 where
   over : Next
   met : ℕ → ℕ → Next
@@ -70,7 +70,7 @@ opened_step (Some j) step close = step j
 opened_step None step close = close
 
 abbrev mutual
-  -- the next step of what is left, with the choice c: in an open PARALLEL DO with N iterations c mod N picks an iteration, and c div N picks on in that; the end of an iteration of a DO, the last of which leaves the DO, and the close of a PARALLEL DO take no choice of their own (this project)
+  -- the next step of the rest, with the choice c: in an open PARALLEL DO with N iterations c mod N picks an iteration, and c div N picks on in that; the end of an iteration of a DO, the last of which leaves the DO, and the close of a PARALLEL DO take no choice of their own (this project)
   pub step : Setting → Left → ℕ → Store → Next
   step p finished c s = over
   step p (begins t n scope rest) c s = begun p t n scope rest s

@@ -1,4 +1,4 @@
--- Weights: a number for what is left of a run, which each step lowers. It counts the steps that may still be done, where each DO that hasn't been entered counts as many iterations as a DO may have (this project).
+-- Weights: a number for the rest of a run, which each step lowers. It counts the steps that may still be done, where each DO that hasn't been entered counts as many iterations as a DO may have (this project).
 use Rattle.std.specs.Prelude.{ℕ, ◌+◌, ◌*◌, ◌^◌}
 use Rattle.ped_tree.specs.Tree.{StmtTree, StmtTrees, Assign, If, Do, Print, Read, Stop, Comment, no_stmts, more_stmts}
 use Rattle.ped_interleavings.specs.Lefts.{Left, finished, begins, ends_turn, open_loop, Lefts, no_lefts, more_lefts}

@@ -12,7 +12,7 @@ ends_run done.Ended = false
 ends_run done.Halted = true
 ends_run (done.Fault number n) = true
 
--- the step of a run, by that of what is left of it: a STOP is an act as others are
+-- the step of a run, by that of the rest: a STOP is an act as others are
 abbrev pub step_by : Done → Step
 step_by done.Went = step.Went
 step_by done.Ended = step.Ended

@@ -1,4 +1,4 @@
--- The iterations that a part of a machine stands in from its beginning to its end, its base, and the copies that it may drop: those of its base, and of the iterations inside (this project).
+-- The iterations that a part of a machine is in from its beginning to its end, its base, and the copies that it may drop: those of its base, and of the iterations inside (this project).
 use Rattle.std.specs.Prelude.{◌≡◌, ℕ, List, [], ◌∷◌, ◌++◌, Bool, true, false, ◌⊎◌}
 use Rattle.ped_base.specs.Lists.{is_among}
 use Rattle.ped_store.specs.Cells.{Cell, Scalar, Element, Private, In, Out, Iteration, same_cell}
@@ -18,7 +18,7 @@ IsInside base (Element x subscripts) = ⊥
 IsInside base In = ⊥
 IsInside base Out = ⊥
 
--- the cell may be needed in these iterations: it is no copy, or one of theirs, of some round them or of some inside of them
+-- the cell may be needed in these iterations: it is no copy, or one of theirs, of some around them or of some inside of them
 abbrev pub IsNear : Scope → Cell → Type 0
 IsNear base (Private x path) = IsLonger (path_of base) path ⊎ IsLonger path (path_of base)
 IsNear base (Scalar x) = Unit {0}
@@ -31,11 +31,11 @@ abbrev pub is_own : Scope → List ℕ → Bool
 is_own [] x = false
 is_own (f ∷ fs) x = is_among x f.private
 
--- some iterations stand inside of these
+-- some iterations are inside of these
 abbrev pub IsWithin : Scope → Scope → Type 0
 IsWithin base scope = (inner : Scope) × (scope ≡ inner ++ base)
 
--- arrays have the same bounds, and all cells that stood stand still, but for copies of these iterations and of others inside of them
+-- arrays have the same bounds, and all cells that existed still exist, but for copies of these iterations and of others inside of them
 pub record HasKept (base : Scope) (old new : Memory) : Type 0 where
   pub bounds : new.bounds ≡ old.bounds
   pub stands : (c : Cell) → (IsInside base c → ⊥) → old.stands c ≡ true → new.stands c ≡ true

@@ -1,4 +1,4 @@
--- What can be done where some cells stand can be done where those of them stand that it needs (plain words).
+-- What can be done where some cells exist can be done where those that it needs exist (plain words).
 use Rattle.std.specs.Prelude.{◌≡◌, ◌⊎◌, List, [], ◌∷◌, ◌++◌, Bool, true, Option, Some, None, map}
 use Rattle.std.proofs.Common.{inl, inr, refl, sym, ap, ◌∙◌, append-nil, append_assoc}
 use Rattle.std.proofs.lemmas.List.{map-append}
@@ -19,7 +19,7 @@ use Rattle.ped_machine.specs.declared.rests.Rest.{Rest}
 use Rattle.ped_machine.specs.declared.levels.Level.{Level}
 use Rattle.ped_machine.specs.declared.works.Never.{Never}
 
--- of the cells that may be needed in these iterations all that stands stands among more
+-- of the cells that may be needed in these iterations each that exists is among the others, too
 abbrev pub MoreNear : Scope → (Cell → Bool) → (Cell → Bool) → Type 0
 MoreNear base stands more = (c : Cell) → IsNear base c → stands c ≡ true → more c ≡ true
 
@@ -68,15 +68,15 @@ near_within base scope (Element x js) w h = tt
 near_within base scope In w h = tt
 near_within base scope Out w h = tt
 
--- so what stands still there stands still here
+-- so the same exists for these iterations
 pub more_within : (base scope : Scope) (stands more : Cell → Bool) → IsWithin base scope → MoreNear base stands more → MoreNear scope stands more
 more_within base scope stands more w g c h = g c (near_within base scope c w h)
 
--- an iteration has a longer path than those round it
+-- an iteration has a longer path than those around it
 own_longer : (f : Frame) (fs : Scope) → IsLonger (path_of fs) (path_of (f ∷ fs))
 own_longer f fs = longer_within fs (f ∷ fs) (f ∷ [], refl)
 
--- the copies of iterations round these stand still
+-- the copies of iterations around these still exist
 copies_round : (whole scope : Scope) (stands more : Cell → Bool) → IsLonger (path_of scope) (path_of whole) → MoreNear whole stands more → DoCopiesStand scope stands → DoCopiesStand scope more
 copies_round whole [] stands more l g h = tt
 copies_round whole (f ∷ fs) stands more l g h = (
@@ -84,11 +84,11 @@ copies_round whole (f ∷ fs) stands more l g h = (
   copies_round whole fs stands more (longer_twice (path_of fs) (path_of (f ∷ fs)) (path_of whole) (own_longer f fs) l) g h.1,
 )
 
--- the copies of iterations stand still
+-- the copies of iterations still exist
 pub copies_near : (scope : Scope) (stands more : Cell → Bool) → MoreNear scope stands more → DoCopiesStand scope stands → DoCopiesStand scope more
 copies_near scope stands more g h = copies_round scope scope stands more ([], sym (append-nil (path_of scope))) g h
 
--- what is left of parts stands in their base
+-- the rest of parts is in their base
 pub parts_within : (ps : List Part) (scope : Scope) → IsWithin (base_of ps scope) scope
 parts_within [] scope = ([], refl)
 parts_within (p ∷ ps) scope = by p.turn (λ inner. parts_within ps inner)
@@ -101,11 +101,11 @@ parts_within (p ∷ ps) scope = by p.turn (λ inner. parts_within ps inner)
         one [] h = h []
         one (f ∷ fs) h = let w = h fs in (f ∷ w.0, λ i. f ∷ w.1 i)
 
--- all that stands stands among more
+-- all cells that exist are among the others, too
 abbrev pub More : (Cell → Bool) → (Cell → Bool) → Type 0
 More stands more = (c : Cell) → stands c ≡ true → more c ≡ true
 
--- the copies of iterations stand still
+-- the copies of iterations still exist
 pub copies_grow : (scope : Scope) (stands more : Cell → Bool) → More stands more → DoCopiesStand scope stands → DoCopiesStand scope more
 copies_grow [] stands more g h = tt
 copies_grow (f ∷ fs) stands more g h = (λ x k. g (Private x (path_of (f ∷ fs))) (h.0 x k), copies_grow fs stands more g h.1)

@@ -19,7 +19,7 @@ pub record IsSoundLevel {C : Type 0} (left : C → Left) (base : C → Scope) (s
   pub rest : IsSound left base sound l.scope l.rest table stands
   pub copies : DoCopiesStand l.scope stands
 
--- the iterations that it stands in from its beginning to its end
+-- the iterations that it is in from its beginning to its end
 abbrev pub level_base : {C : Type 0} → Level C → Scope
 level_base l = base_of (parts_of l.rest.parts) l.scope
 

@@ -11,7 +11,7 @@ use Rattle.ped_interleavings.specs.Interleavings.{Standing, IsReached}
 use Rattle.ped_machine.specs.declared.steps.Step.{Step}
 use Rattle.ped_machine.specs.declared.steps.Step.TheVariants as step
 
--- a run as it stands: the program, what is left of it, and its store
+-- a run with its state: the program, the rest of it, and its store
 pub record Held : Type 0 where
   pub tree : ProgramTree
   pub left : Left
@@ -27,12 +27,12 @@ pub record IsSameRun (old new : Held) : Type 0 where
   pub left : new.left ≡ old.left
   pub store : new.store ≡ old.store
 
--- behind an act this is left
+-- after an act this is the rest
 pub record IsBehind (a : Act) (rest : Left) (old new : Held) : Type 0 where
   pub left : new.left ≡ rest
   pub store : new.store ≡ store_behind a.touches old.store
 
--- the answer of a step tells what the step has come to, and the run stands behind it; behind a fault nothing is said of it
+-- the answer of a step says what its result is, and the run is in the state after it; after a fault nothing is said about the run
 abbrev pub IsStepBy : Next → Held → Step → Held → Type 0
 IsStepBy over old step.Ended new = IsSameRun old new
 IsStepBy (met fault statement) old (step.Fault number n) new = (number ≡ fault) × (n ≡ statement)
@@ -40,14 +40,14 @@ IsStepBy (went a rest) old step.Went new = IsBehind a rest old new
 IsStepBy (halted a) old step.Went new = IsBehind a finished old new
 IsStepBy next old answer new = ⊥
 
--- something holds but behind a fault
+-- something holds but after a fault
 abbrev pub IfFaultless : {E : Type 0} → Result Step E → Type 0 → Type 0
 IfFaultless (Ok step.Went) P = P
 IfFaultless (Ok step.Ended) P = P
 IfFaultless (Ok (step.Fault number n)) P = Unit {0}
 IfFaultless (Err e) P = P
 
--- a run with these choices comes to stand so, with some choices left
+-- a run with these choices reaches this state, with some choices left
 abbrev pub ReachesSome : Held → List ℕ → Held → Type 0
 ReachesSome old choices new = (left : List ℕ) × IsReached (setting_of old.tree) (standing old choices) (standing new left)
 

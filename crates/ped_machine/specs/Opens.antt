@@ -15,7 +15,7 @@ use Rattle.ped_interleavings.specs.ped_eval.specs.Readiness.{CanDo}
 use Rattle.ped_interleavings.specs.Lefts.{Left, finished, open_loop, Lefts, no_lefts, more_lefts, is_finished, left_of_all, body_left}
 use Rattle.ped_machine.specs.declared.opens.Open.{Open}
 
--- what is left of a task, where one is kept
+-- the rest of a task, where one is kept
 abbrev pub kept_left : {C : Type 0} → (C → Left) → Option C → Left
 kept_left left None = finished
 kept_left left (Some task) = left task
@@ -26,7 +26,7 @@ mark_left left tasks Waits body = body
 mark_left left tasks (Running key) body = kept_left left (get tasks key)
 mark_left left tasks Done body = finished
 
--- so many items by their places, from 0
+-- this number of items by their places, from 0
 abbrev pub lefts_of : ℕ → (ℕ → Left) → Lefts
 lefts_of zero item = no_lefts
 lefts_of (suc n) item = more_lefts (item 0) (lefts_of n (λ j. item (suc j)))
@@ -65,12 +65,12 @@ module _ {C : Type 0} (left : C → Left) where
   abbrev pub IsSameElsewhere : Scope → ℕ → Open C → Open C → Type 0
   IsSameElsewhere scope place old new = (j : ℕ) → j < old.plan.count → j ≢ place → place_left scope new j ≡ place_left scope old j
 
-  -- what is left of a loop and behind it
+  -- the rest of a loop and what follows it
   abbrev pub open_left : Scope → Open C → Left → Left
   open_left scope o rest = open_loop (open_entered o) o.plan.number scope (lefts_of o.plan.count (place_left scope o)) rest
 
   module _ (base : C → Scope) (sound : C → Table → (Cell → Bool) → Type 0) (table : Table) (stands : Cell → Bool) where
-    -- a task that runs: it stands in these iterations, something is left of it, and all of that can be done
+    -- a task that runs: it is in these iterations, something is left of it, and all of that can be done
     pub record IsRunning (tasks : Slab C) (inner : Scope) (key : ℕ) : Type 0 where
       pub task : C
       pub kept : get tasks key ≡ Some task

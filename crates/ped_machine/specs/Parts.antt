@@ -25,7 +25,7 @@ pub record Turn : Type 0 where
   pub plan : Plan
   pub earlier : ℕ
 
--- statements, the number of the first, and the iteration that ends behind them
+-- statements, the number of the first, and the iteration that ends after them
 pub record Part : Type 0 where
   pub stmts : StmtTrees
   pub first : ℕ
@@ -56,40 +56,40 @@ parts_of ps = parts_view ps.items.items
 abbrev pub turn_entered : Turn → Entered
 turn_entered t = entered_by t.head t.plan t.plan.behind
 
--- what is left from the end of an iteration on, or else what is left there
+-- the rest from the end of an iteration on, or else the rest there
 abbrev pub turn_left : Scope → Option Turn → (Scope → Left) → Left
 turn_left scope None rest = rest scope
 turn_left scope (Some t) rest =
     ends_turn (turn_entered t) t.body t.plan.number (outside scope) (t.earlier + 1) (t.plan.count - (t.earlier + 1)) (rest (outside scope))
 
--- what is left of parts, where these iterations stand round the first
+-- the rest of parts, where these iterations are around the first
 abbrev pub parts_left : List Part → Scope → Left
 parts_left [] scope = finished
 parts_left (p ∷ ps) scope = left_of_all p.stmts p.first scope (turn_left scope p.turn (parts_left ps))
 
--- the end of this iteration can be done, where these iterations stand round it
+-- the end of this iteration can be done, where these iterations are around it
 pub record CanEnd (table : Table) (scope : Scope) (t : Turn) : Type 0 where
   pub plan : IsPlan t.head t.body t.plan
   pub inside : scope ≡ frame (entered_by t.head t.plan 0) (t.earlier + 1) ∷ outside scope
   pub earlier : t.earlier < t.plan.count
   pub can : CanDo table (outside scope) t.plan.number (Do t.head t.body)
 
--- an iteration can be ended, and then what is behind it can be done; or else that can be
+-- an iteration can be ended, and then what follows it can be done; or else that can be
 abbrev pub CanEndAnd : Table → Scope → Option Turn → (Scope → Type 0) → Type 0
 CanEndAnd table scope None rest = rest scope
 CanEndAnd table scope (Some t) rest = CanEnd table scope t × rest (outside scope)
 
--- parts can be done, where these iterations stand round the first
+-- parts can be done, where these iterations are around the first
 abbrev pub CanGo : Table → List Part → Scope → Type 0
 CanGo table [] scope = Unit {0}
 CanGo table (p ∷ ps) scope = CanRun table scope p.first p.stmts × CanEndAnd table scope p.turn (CanGo table ps)
 
--- the iterations round what is left behind a part whose end is this
+-- the iterations around the rest after a part whose end is this
 abbrev pub behind_turn : Option Turn → Scope → Scope
 behind_turn None scope = scope
 behind_turn (Some t) scope = outside scope
 
--- the iterations round what is left behind parts, where these stand round the first
+-- the iterations around the rest after parts, where these are around the first
 abbrev pub base_of : List Part → Scope → Scope
 base_of [] scope = scope
 base_of (p ∷ ps) scope = base_of ps (behind_turn p.turn scope)
@@ -143,7 +143,7 @@ abbrev pub behind_first : List Part → List Part
 behind_first [] = []
 behind_first (p ∷ ps) = ps
 
--- the iteration that ends behind the first part (plain words)
+-- the iteration that ends after the first part (plain words)
 abbrev pub first_turn : List Part → Option Turn
 first_turn [] = None
 first_turn (p ∷ ps) = p.turn
@@ -184,7 +184,7 @@ abbrev pub begins_with_comment : StmtTrees → Bool
 begins_with_comment no_stmts = false
 begins_with_comment (more_stmts t ts) = is_comment t
 
--- these statements are those behind the comments that come before the first of those
+-- the new statements are the old ones after the comments at their front
 pub record IsWithoutComments (old new : StmtTrees) : Type 0 where
   pub left : (n : ℕ) (scope : Scope) (rest : Left) → left_of_all new n scope rest ≡ left_of_all old n scope rest
   pub can : (table : Table) (scope : Scope) (n : ℕ) → CanRun table scope n old → CanRun table scope n new
@@ -206,7 +206,7 @@ abbrev pub IsFirstSpent : List Part → Type 0
 IsFirstSpent [] = ⊥
 IsFirstSpent (p ∷ ps) = (p.stmts ≡ no_stmts) × (p.turn ≡ None)
 
--- the answer tells whether nothing is left of the first part
+-- the answer says whether nothing is left of the first part
 abbrev pub IsSpent : Bool → List Part → Type 0
 IsSpent true parts = IsFirstSpent parts
 IsSpent false parts = FirstGoesOn parts
@@ -230,7 +230,7 @@ pub record Ends (parts : List Part) : Type 0 where
   pub stmts_are : part.stmts ≡ no_stmts
   pub turn_is : part.turn ≡ Some turn
 
--- the answer tells what is to be done next
+-- the answer says what is to be done next
 abbrev pub IsNext : Next → List Part → Type 0
 IsNext next.Nothing parts = parts ≡ []
 IsNext next.EndsTurn parts = Ends parts

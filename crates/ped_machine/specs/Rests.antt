@@ -1,4 +1,4 @@
--- What is left of the whole run or of an iteration, with the PARALLEL DO that is open in it (this project).
+-- The rest of the whole run or of an iteration, with the PARALLEL DO that is open in it (this project).
 use Rattle.std.specs.Prelude.{Bool, Option, Some, None}
 use Rattle.ped_symbols.specs.Kinds.{Table}
 use Rattle.ped_store.specs.Cells.{Cell}
@@ -10,12 +10,12 @@ use Rattle.ped_machine.specs.declared.opens.Open.{Open}
 use Rattle.ped_machine.specs.declared.rests.Rest.{Rest}
 
 module _ {C : Type 0} (left : C → Left) where
-  -- what is left of the loop that is open, and behind it
+  -- the rest of the loop that is open, and what follows it
   abbrev pub opened_left : Scope → Option (Open C) → Left → Left
   opened_left scope None rest = rest
   opened_left scope (Some o) rest = open_left left scope o rest
 
-  -- what is left, with these iterations round it
+  -- the rest, with these iterations around it
   abbrev pub rest_left : Scope → Rest C → Left
   rest_left scope r = opened_left scope r.inner (parts_left (parts_of r.parts) scope)
 

@@ -1,4 +1,4 @@
--- What is left of a whole run, by the levels of a machine: DO loops stand at most six deep in one another (this project).
+-- The rest of a whole run, by the levels of a machine: DO loops are nested at most six deep (this project).
 use Rattle.std.specs.Prelude.{◌≡◌, Bool, true, false}
 use Rattle.ped_symbols.specs.Kinds.{Table}
 use Rattle.ped_store.specs.Memories.{Memory}
@@ -69,17 +69,17 @@ IsSound5 = IsSoundLevel left_4 level_base IsSound4
 abbrev pub IsOutermostSound : Outermost → Table → (Cell → Bool) → Type 0
 IsOutermostSound = IsSoundLevel left_5 level_base IsSound5
 
--- all that is left of the whole run can be done, with these iterations round it
+-- all that is left of the whole run can be done, with these iterations around it
 pub record IsRootSound (scope : Scope) (r : Rest Outermost) (table : Table) (m : Memory) : Type 0 where
   pub ready : IsReady table scope m
   pub sound : IsSound outermost_left level_base IsOutermostSound scope r table m.stands
 
--- what is left of a run, which a STOP or a fault may have ended
+-- the rest of a run, which a STOP or a fault may have ended
 abbrev pub root_left : Bool → Scope → Rest Outermost → Left
 root_left false scope r = rest_left outermost_left scope r
 root_left true scope r = finished
 
--- what is kept of it is right: while it goes on all that is left can be done, and behind its end arrays have their bounds still
+-- what is kept of it is right: while it goes on all that is left can be done, and after its end arrays still have their bounds
 abbrev pub IsRight : Bool → Scope → Rest Outermost → Table → Memory → Type 0
 IsRight false scope r table m = IsRootSound scope r table m
 IsRight true scope r table m = m.bounds ≡ (setting_by table).bounds

@@ -28,7 +28,7 @@ module _ {C : Type 0} (left : C → Left) (base : C → Scope) (sound : C → Ta
     pub inside : IfSafe r (base behind ≡ base task)
     pub safe : IfOpen r (sound behind table after.stands)
 
-  -- an iteration is told to be over or not, and has left what it had
+  -- an iteration is reported to be over or not, and has the same rest as before
   pub record IsLookedAt (key : ℕ) (old new : Slab C) (over : Bool) : Type 0 where
     pub task : C
     pub behind : C

@@ -22,7 +22,7 @@ use ped_symbols::Symbols;
 use ped_tree::{Cond, Expr, PrintItem, Stmt, count_statements};
 use std::alloc::Global;
 
-/// Begins a statement other than a DO, of which the parts are what is left behind it.
+/// Begins a statement other than a DO, where the parts are the rest after it.
 pub(crate) fn begin<'a>(
     alloc: Global,
     symbols: &Symbols,
@@ -70,7 +70,7 @@ pub(crate) fn begin<'a>(
     }
 }
 
-/// Puts statements before what is left.
+/// Puts statements before the rest.
 fn push_block<'a>(parts: &mut Parts<'a>, stmts: &'a [Stmt], first: u32) -> Result<Done, NoMemory>
     ensures done { IfOk result (λ d. d ≡ done.Went) }
     ensures ok { OnOk result ((parts_of parts.new) ≡ record { stmts = stmt_trees stmts.now; first = first; turn = None } ∷ (parts_of parts.old)) }

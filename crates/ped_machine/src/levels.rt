@@ -21,9 +21,9 @@ use std::alloc::Global;
 /// An iteration of a PARALLEL DO that has been started.
 #[derive(Drop)]
 pub struct Level<'a, C> {
-    /// The iterations round the place where it stands.
+    /// The iterations around its place.
     pub scope: Scope,
-    /// What is left of it.
+    /// The rest of it.
     pub rest: Rest<'a, C>,
 }
 
@@ -75,7 +75,7 @@ impl<'a, C: Work<'a>> Work<'a> for Level<'a, C> {
     }
 }
 
-/// The iterations round a place, and an iteration of a DO there.
+/// The iterations around a place, and an iteration of a DO there.
 fn inner_scope(
     alloc: Global,
     outer: &Scope,
@@ -94,7 +94,7 @@ fn inner_scope(
     }
 }
 
-/// The iterations round a place, and one more.
+/// The iterations around a place, and one more.
 fn entered(alloc: Global, outer: &Scope, frame: Frame) -> Result<Scope, NoMemory>
     requires { length outer.now < 6 }
     ensures { IfOk result (λ scope. scope ≡ frame_view frame ∷ outer.now) }

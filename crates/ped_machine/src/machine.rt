@@ -29,12 +29,12 @@ use ped_symbols::right_uses::right_where_valid;
 use ped_tree::Program;
 use std::alloc::Global;
 
-/// An iteration of an outermost PARALLEL DO: DO loops stand at most six deep in one another.
+/// An iteration of an outermost PARALLEL DO: DO loops are nested at most six deep.
 type Outermost<'a> = Level<'a, Level<'a, Level<'a, Level<'a, Level<'a, Level<'a, Never>>>>>>;
 
-/// A run of a program whose PARALLEL DO loops go on in any order, as choices pick it. Contracts see the program, what is left
-/// of the run, and its store. Iterations that wait or are finished take no memory, but private copies that hold something stay
-/// until the run ends.
+/// A run of a program whose PARALLEL DO loops go on in any order, as choices pick it. Contracts see the program, the
+/// rest of the run, and its store. Iterations that wait or are finished take no memory, but private copies that hold
+/// something stay until the run ends.
 #[derive(Drop)]
 pub struct Machine<'a> {
     alloc: Global,
@@ -46,12 +46,12 @@ pub struct Machine<'a> {
 }
 
 impl<'a> Machine<'a> {
-    /// A machine before the first step of a valid program, whose names these are, on the lines of its data (ANSI X3.9-1978,
-    /// section 2.4.1; this project).
+    /// A machine before the first step of a valid program, whose names these are, on the lines of its data (ANSI
+    /// X3.9-1978, section 2.4.1; this project).
     ///
     /// # Errors
     ///
-    /// Want of memory.
+    /// Out of memory.
     pub fn new(
         alloc: Global,
         program: &'a Program,
@@ -88,12 +88,13 @@ impl<'a> Machine<'a> {
         self.rest.wants_choice()
     }
 
-    /// Does the next step: of an open PARALLEL DO with N iterations, the choice c picks the iteration c mod N or the first
-    /// behind it that isn't finished, going round, and c div N picks on inside of it. Behind a fault nothing is left.
+    /// Does the next step: of an open PARALLEL DO with N iterations, the choice c picks the iteration c mod N or the
+    /// first after it that isn't finished, wrapping around, and c div N picks on inside of it. After a fault nothing is
+    /// left.
     ///
     /// # Errors
     ///
-    /// Want of memory. Then the same is left, and the store is the same.
+    /// Out of memory. Then the rest is the same, and the store is the same.
     pub fn step(&mut self, choice: u64) -> Result<Step, NoMemory>
         requires { IsSafe self.old }
         ensures does { IfOk result (λ r. IsStepBy (Steps.step (setting_of (held self.old).tree) (held self.old).left choice (held self.old).store) (held self.old) r (held self.new)) }
@@ -122,8 +123,8 @@ impl<'a> Machine<'a> {
     ///
     /// # Errors
     ///
-    /// Want of memory. Then the run stands where steps with these choices have brought it, or with all of them and zeros
-    /// behind them.
+    /// Out of memory. Then the run is where steps with these choices have brought it, or with all of them and zeros
+    /// after them.
     pub fn run(&mut self, choices: &[u64]) -> Result<Outcome, NoMemory>
         requires { IsSafe self.old }
         ensures outcome { IfOk result (λ o. IsInterleavedFrom (held self.old).tree (standing (held self.old) choices.now) (outcome_view o)) }
@@ -189,7 +190,7 @@ fn first_of(choices: &[u64]) -> u64
     }
 }
 
-/// The choices behind a step that takes one or none.
+/// The choices after a step that takes one or none.
 fn choices_behind(takes: bool, choices: &[u64]) -> &[u64]
     ensures { result.now ≡ (if takes then drop 1 choices.now else choices.now) }
 {
@@ -199,7 +200,7 @@ fn choices_behind(takes: bool, choices: &[u64]) -> &[u64]
     choices
 }
 
-/// The choices behind the first.
+/// The choices after the first.
 fn behind_first(choices: &[u64]) -> &[u64]
     ensures { result.now ≡ drop 1 choices.now }
 {

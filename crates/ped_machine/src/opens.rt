@@ -43,7 +43,7 @@ pub struct Open<'a, C> {
 }
 
 impl<'a, C: Work<'a>> Open<'a, C> {
-    /// The place of the first iteration at this place or behind it that isn't finished, going round.
+    /// The place of the first iteration at this place or after it that isn't finished, wrapping around.
     pub fn pick(&self, place: u64) -> Option<u64>
         ensures { (scope : Scope) (table : Table) (stands : Cell → Bool) → IsOpen C.left C.base C.sound table stands scope self.now
             → result ≡ or_else (unfinished place (lefts_of self.now.plan.count (place_left C.left scope self.now))) (unfinished 0 (lefts_of self.now.plan.count (place_left C.left scope self.now))) }

@@ -23,14 +23,14 @@ pub struct Turn<'a> {
     pub earlier: u64,
 }
 
-/// Statements that are left, and the end of an iteration of a DO behind them, where they are its body.
+/// The statements that remain, and the end of an iteration of a DO after them, where they are its body.
 #[derive(Drop)]
 pub struct Part<'a> {
     /// The statements.
     pub stmts: &'a [Stmt],
     /// The number of the first.
     pub first: u32,
-    /// The iteration that ends behind them.
+    /// The iteration that ends after them.
     pub turn: Option<Turn<'a>>,
 }
 
@@ -75,7 +75,7 @@ impl<'a> Parts<'a> {
         }
     }
 
-    /// Puts a part before the others. After want of memory they are as they were.
+    /// Puts a part before the others. If memory runs out, they are as they were.
     pub fn push(&mut self, part: Part<'a>) -> Result<(), NoMemory>
         ensures ok { OnOk result (parts_of self.new ≡ part_view part.entry ∷ (parts_of self.old)) }
         ensures err { OnErr result (parts_of self.new ≡ parts_of self.old) }
@@ -114,7 +114,7 @@ impl<'a> Parts<'a> {
         }
     }
 
-    /// The iteration that ends behind the first part.
+    /// The iteration that ends after the first part.
     pub fn turn(&self) -> Option<&Turn<'a>>
         ensures { MatchOption result (first_turn (parts_of self.now) ≡ None) (λ t. first_turn (parts_of self.now) ≡ Some (turn_view t.now)) }
     {
@@ -127,7 +127,7 @@ impl<'a> Parts<'a> {
         }
     }
 
-    /// Whether no iteration ends behind the first part.
+    /// Whether no iteration ends after the first part.
     fn has_no_turn(&self) -> bool
         ensures { result ≡ is_none (first_turn (parts_of self.now)) }
     {
@@ -137,7 +137,7 @@ impl<'a> Parts<'a> {
         }
     }
 
-    /// Counts one iteration more before that which ends behind the first part.
+    /// Counts one iteration more before the one that ends after the first part.
     fn count_turn(&mut self)
         requires { CanTurnOn (first_turn (parts_of self.old)) }
         ensures { parts_of self.new ≡ counted (parts_of self.old) }
@@ -186,7 +186,7 @@ impl<'a> Parts<'a> {
         }
     }
 
-    /// Passes over the comments before the first statement, and tells whether nothing is left of the first part.
+    /// Passes over the comments before the first statement, and says whether nothing is left of the first part.
     fn is_spent(&mut self) -> bool
         ensures settled { IsSettled (parts_of self.old) (parts_of self.new) }
         ensures spent { IsSpent result (parts_of self.new) }
@@ -245,7 +245,7 @@ impl<'a> Parts<'a> {
     }
 }
 
-/// The statements behind the first one, with their number.
+/// The statements after the first one, with their number.
 fn behind_statement<'a>(block: &Block<'a>) -> Block<'a>
     requires { block.now.first + statements_count (stmt_trees block.now.stmts.now) < 2 ^ 31 }
     ensures stmts { stmt_trees result.stmts.now ≡ statements_behind (stmt_trees block.now.stmts.now) }
@@ -260,7 +260,7 @@ fn behind_statement<'a>(block: &Block<'a>) -> Block<'a>
     }
 }
 
-/// The statements behind the comments before them.
+/// The statements after the comments at the front.
 pub fn without_comments(stmts: &[Stmt]) -> &[Stmt]
     ensures { IsWithoutComments (stmt_trees stmts.now) (stmt_trees result.now) }
 {
@@ -271,7 +271,7 @@ pub fn without_comments(stmts: &[Stmt]) -> &[Stmt]
     left
 }
 
-/// The statements behind the first one.
+/// The statements after the first one.
 fn behind_first_one(stmts: &[Stmt]) -> &[Stmt]
     ensures stmts { stmt_trees result.now ≡ statements_behind (stmt_trees stmts.now) }
     ensures less { begins_with_comment (stmt_trees stmts.now) ≡ true → length result.now < length stmts.now }

@@ -34,10 +34,10 @@ use ped_tree::{Do, Stmt};
 use slab::Slab;
 use std::alloc::Global;
 
-/// What is left of the whole run or of an iteration. The iterations round it are those of the state.
+/// The rest of the whole run or of an iteration. The iterations around it are those of the state.
 #[derive(Drop)]
 pub struct Rest<'a, C> {
-    /// What is left outside of the open loop.
+    /// The rest outside of the open loop.
     pub parts: Parts<'a>,
     /// The loop that is open.
     pub inner: Option<Open<'a, C>>,
@@ -71,7 +71,7 @@ impl<'a, C: Work<'a>> Rest<'a, C> {
     ///
     /// # Errors
     ///
-    /// Want of memory. Then the same is left.
+    /// Out of memory. Then the rest is the same.
     pub fn step(
         &mut self,
         alloc: Global,
@@ -165,7 +165,7 @@ impl<'a, C: Work<'a>> Rest<'a, C> {
         }
     }
 
-    /// Begins a statement, where what is behind it is left.
+    /// Begins a statement, where the rest is what follows it.
     fn step_advanced(
         &mut self,
         alloc: Global,
@@ -193,7 +193,7 @@ impl<'a, C: Work<'a>> Rest<'a, C> {
         }
     }
 
-    /// Enters a DO, where what is behind it is left (ANSI X3.9-1978, section 11.10.3).
+    /// Enters a DO, where the rest is what follows it (ANSI X3.9-1978, section 11.10.3).
     fn enter(
         &mut self,
         alloc: Global,

@@ -5,7 +5,7 @@ ghost use Rattle.ped_machine.specs.Answers.{ends_run, is_last, step_by};
 
 use ped_store::RunFault;
 
-/// What a step of a machine comes to.
+/// The result of a step of a machine.
 #[derive(Clone, Copy)]
 pub enum Step {
     /// An act has been done.
@@ -21,7 +21,7 @@ pub enum Step {
     },
 }
 
-/// What a step of a part of a machine comes to.
+/// The result of a step of a part of a machine.
 #[derive(Clone, Copy)]
 pub enum Done {
     /// An act has been done.
@@ -53,7 +53,7 @@ pub(crate) fn ends_run(done: &Done) -> bool
     }
 }
 
-/// The step of a run, by that of what is left of it: a STOP is an act as others are.
+/// The step of a run, by that of the rest: a STOP is an act as others are.
 pub(crate) fn step_by(done: &Done) -> Step
     ensures { result ≡ step_by done.now }
 {

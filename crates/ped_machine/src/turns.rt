@@ -28,7 +28,7 @@ use ped_store::{Cell, Store};
 use ped_tree::{Do, copy_names};
 use std::alloc::Global;
 
-/// What stands for the iteration of a DO before which there are so many.
+/// What stands for the iteration of a DO that this many others precede.
 pub(crate) fn frame_of(alloc: Global, d: &Do, plan: &Plan, earlier: u64) -> Result<Frame, NoMemory>
     requires plan { IsPlan (head_of d.now) (stmt_trees d.now.body.items) plan.now }
     requires earlier { earlier < plan.now.count }
@@ -48,7 +48,7 @@ pub(crate) fn frame_of(alloc: Global, d: &Do, plan: &Plan, earlier: u64) -> Resu
     })
 }
 
-/// Makes the copies of these names, which are private to these iterations. One that stands keeps what it holds.
+/// Makes the copies of these names, which are private to these iterations. An existing one keeps what it holds.
 pub(crate) fn open_copies(
     alloc: Global,
     store: &mut Store,
@@ -66,7 +66,7 @@ pub(crate) fn open_copies(
     Ok(())
 }
 
-/// Makes a private copy. One that stands keeps what it holds.
+/// Makes a private copy. An existing one keeps what it holds.
 fn open_copy(alloc: Global, store: &mut Store, cell: &Cell) -> Result<(), NoMemory>
     requires cell { IsCell cell.now }
     requires copy { is_copy (cell_view cell.now) ≡ true }
@@ -125,7 +125,7 @@ fn is_copy(cell: &Cell) -> bool
     }
 }
 
-/// Goes into a DO: its first iteration is left before what is left behind the DO.
+/// Goes into a DO: its first iteration comes before the rest after the DO.
 pub(crate) fn enter_do<'a>(
     alloc: Global,
     state: &mut State,
@@ -156,7 +156,7 @@ pub(crate) fn enter_do<'a>(
     }
 }
 
-/// Makes the copies of the first iteration of a DO, and puts its body before what is left.
+/// Makes the copies of the first iteration of a DO, and puts its body before the rest.
 fn open_body<'a>(
     alloc: Global,
     state: &mut State,
@@ -235,7 +235,8 @@ fn is_followed(turn: &Turn) -> bool
     turn.earlier + 1 < count
 }
 
-/// Goes on from an iteration of a DO to the next one, and makes its copies. After want of memory the iteration is the same.
+/// Goes on from an iteration of a DO to the next one, and makes its copies. If memory runs out, the iteration is the
+/// same.
 fn next_turn(alloc: Global, state: &mut State, turn: &Turn) -> Result<(), NoMemory>
     requires plan { IsPlan (head_of turn.now.d.now) (stmt_trees turn.now.d.now.body.items) turn.now.plan }
     requires more { turn.now.earlier + 1 < turn.now.plan.count }

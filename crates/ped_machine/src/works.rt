@@ -28,17 +28,17 @@ pub trait Work<'a>: Drop {
     /// What it has left.
     ghost left: { Self → Left };
 
-    /// All that it has left can be done, where these cells stand.
+    /// All that it has left can be done, where these cells exist.
     ghost sound: { Self → Table → (Cell → Bool) → Type 0 };
 
-    /// The iterations that it stands in from its beginning to its end: itself and those round the loop.
+    /// The iterations that it is in from its beginning to its end: itself and those around the loop.
     ghost base: { Self → Scope };
 
-    /// Starts the iteration before which there are so many.
+    /// Starts the iteration that this many others precede.
     ///
     /// # Errors
     ///
-    /// Want of memory.
+    /// Out of memory.
     fn start(
         alloc: Global,
         state: &mut State,
@@ -67,7 +67,7 @@ pub trait Work<'a>: Drop {
     ///
     /// # Errors
     ///
-    /// Want of memory. Then the same is left.
+    /// Out of memory. Then the rest is the same.
     fn step(
         &mut self,
         alloc: Global,
@@ -90,11 +90,11 @@ pub trait Work<'a>: Drop {
         ensures kept { list_all (is_own (base self.now)) names.now ≡ true → HasKept (base self.now) (memory_of state.old.store) (memory_of state.new.store) }
         ensures scope { state.new.scope ≡ state.old.scope };
 
-    /// It can be done where more stands of the cells that it may need, too.
+    /// It can also be done where more of the cells that it may need exist.
     ghost grows: { (w : Self) (table : Table) (stands more : Cell → Bool) → ((c : Cell) → IsNear (base w) c → stands c ≡ true → more c ≡ true) → sound w table stands → sound w table more };
 }
 
-/// What stands for iterations deeper than loops stand in one another: none is ever started, and nothing is left of one.
+/// What stands for iterations deeper than loops are nested: none is ever started, and nothing is left of one.
 #[derive(Drop)]
 pub struct Never;
 

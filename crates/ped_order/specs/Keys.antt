@@ -21,7 +21,7 @@ same_key k l = (k.statement == l.statement) && (same_cell k.cell l.cell && point
 abbrev pub iteration_of : Turn → Iteration
 iteration_of t = record { statement = t.statement; number = t.number }
 
--- a cell at the execution of the DO of a turn, in the turns round it
+-- a cell at the execution of the DO of a turn, in the turns around it
 abbrev pub key_of : Cell → List Turn → Turn → Key
 key_of c around t = record { cell = c; statement = t.statement; around = map iteration_of around }
 

@@ -19,11 +19,11 @@ SawWith (Some r) table seen = IsRaceAt seen (cell_view r.cell) r.first r.second
 abbrev pub Saw : RaceWatch → List Access → Type 0
 Saw w seen = SawWith w.found w.table seen
 
--- what a watch may be behind an access: whatever it had seen, it has now seen this access behind
+-- what a watch may be after an access: whatever it had seen, it has now seen this access after that
 abbrev pub SeesMore : RaceWatch → Access → RaceWatch → Type 0
 SeesMore old a new = (seen : List Access) → Saw old seen → Saw new (seen ++ a ∷ [])
 
--- the first race stays the first, whatever comes behind
+-- the first race stays the first, whatever comes after it
 pub race_stays : (seen more : List Access) (c : Cell) (earlier later : ℕ) → IsRaceAt seen c earlier later → IsRaceAt (seen ++ more) c earlier later
 race_stays seen more c earlier later h = record {
   first = h.first;

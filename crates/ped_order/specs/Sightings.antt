@@ -35,11 +35,11 @@ earlier_of None o = o
 earlier_of (Some a) None = Some a
 earlier_of (Some a) (Some b) = if ltb b.before a.before then Some b else Some a
 
--- an access with so many before it
+-- an access with this many before it
 abbrev pub sighting_of : ℕ → Access → Sighting
 sighting_of before a = record { before = before; statement = a.place.statement }
 
--- the first of these accesses for which the test holds, where so many stand before them
+-- the first of these accesses for which the test holds, where this many come before them
 abbrev pub first_sighting : (Access → Bool) → ℕ → List Access → Option Sighting
 first_sighting test before [] = None
 first_sighting test before (a ∷ more) = if test a then Some (sighting_of before a) else first_sighting test (suc before) more

@@ -16,8 +16,8 @@ use std::alloc::Global;
 use std::hash::{Hash, Hasher};
 use std::marker::Model;
 
-/// A cell at one execution of a DO. A DO runs once at most in each iteration of the DO loops round it, so those iterations
-/// tell the execution.
+/// A cell at one execution of a DO. A DO runs once at most in each iteration of the DO loops around it, so those
+/// iterations identify the execution.
 #[derive(Drop)]
 pub(crate) struct Key {
     cell: Cell,
@@ -35,7 +35,7 @@ impl Model for Key {
 }
 
 impl Key {
-    /// A cell at the execution of the DO of this turn, in the turns round it.
+    /// A cell at the execution of the DO of this turn, in the turns around it.
     pub(crate) fn new(
         alloc: Global,
         cell: &Cell,

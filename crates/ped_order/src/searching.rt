@@ -28,7 +28,7 @@ use std::alloc::Global;
 ///
 /// # Errors
 ///
-/// Want of memory alone; a fault of the program is a report.
+/// Only running out of memory; a fault of the program is a report.
 pub fn races(
     alloc: Global,
     program: &Program,

@@ -3,10 +3,10 @@
 ghost use Rattle.std.specs.Prelude.{◌≡◌, ◌==◌, ◌||◌, ◌&&◌, not, ℕ, Bool, Some, None, if◌then◌else◌};
 ghost use Rattle.ped_order.specs.Sightings as Spec;
 
-/// An access that has been told.
+/// An access that has been reported.
 #[derive(Clone, Copy)]
 pub(crate) struct Sighting {
-    /// How many accesses have been told before it.
+    /// How many accesses have been reported before it.
     pub before: u64,
     /// Its statement.
     pub statement: u32,
@@ -23,7 +23,7 @@ pub(crate) struct Earliest {
     other: Option<Sighting>,
 }
 
-/// What is remembered of the accesses at a key. So many tell all that later accesses ask for: the earliest in another
+/// What is remembered of the accesses at a key. These give all that later accesses ask for: the earliest in another
 /// iteration than their own is one of two.
 #[derive(Clone, Copy)]
 pub(crate) struct Entry {

@@ -63,7 +63,7 @@ impl Table {
         Ok(rival_in(&entry, turn.number, access.writes))
     }
 
-    /// Adds an access. After want of memory the table is of no use.
+    /// Adds an access. If memory runs out, the table is useless.
     pub(crate) fn add(&mut self, alloc: Global, access: &Access) -> Result<(), NoMemory>
         ensures { OnOk result ((seen : List Races.Access) → Remembers self.old seen → Remembers self.new (seen ++ access_view access.now ∷ [])) }
     {

@@ -20,7 +20,7 @@ pub(crate) struct FoundRace {
     pub second: u32,
 }
 
-/// What is told the accesses of a run, and keeps the first race once there is one.
+/// Receives the accesses of a run, and keeps the first race once there is one.
 #[derive(Drop)]
 pub(crate) struct RaceWatch {
     alloc: Global,
@@ -30,7 +30,7 @@ pub(crate) struct RaceWatch {
 }
 
 impl RaceWatch {
-    /// A watch that has been told nothing.
+    /// A watch that has received nothing.
     pub(crate) fn new(alloc: Global) -> RaceWatch
         ensures { Saw result [] }
     {

@@ -21,7 +21,7 @@ acts_before (stays a b ∷ w) = a ∷ acts_before w
 acts_before (goes a ∷ w) = a ∷ acts_before w
 acts_before (comes b ∷ w) = acts_before w
 
--- the acts behind the changes (plain words)
+-- the acts after the changes (plain words)
 abbrev pub acts_behind : List Change → List Act
 acts_behind [] = []
 acts_behind (stays a b ∷ w) = b ∷ acts_behind w
@@ -32,7 +32,7 @@ acts_behind (comes b ∷ w) = b ∷ acts_behind w
 abbrev pub stay_all : List Act → List Change
 stay_all acts = map (λ a. stays a a) acts
 
--- an act that stays: where the old one finds what it reads, the new one does, and the stores agree behind them as before (this project)
+-- an act that stays: where the old one finds what it reads, the new one does, and the stores agree after them as before (this project)
 abbrev pub StaysWithin : (Cell → Bool) → List Touch → List Touch → Store → Store → Type 0
 StaysWithin d xs ys s t = Find xs s → AgreeOutside d s t → Find ys t × AgreeOutside d (store_behind xs s) (store_behind ys t)
 
@@ -47,7 +47,7 @@ ChangeWithin d (comes b ∷ w) s t = WriteWithin d b.touches × (AgreeOutside d 
 abbrev pub AreSameOutside : (Cell → Bool) → List Touch → List Touch → Type 0
 AreSameOutside d xs ys = LeaveUnread d xs × AreRenamed own_name (of_cells (touches_without d xs)) (of_cells (touches_without d ys))
 
--- what is read stands outside the set, and the store holds it (plain words)
+-- what is read is outside the set, and the store holds it (plain words)
 abbrev pub IsHeldOutside : (Cell → Bool) → (Cell → Bool) → Store → Manner → Cell → Content → Type 0
 IsHeldOutside d changing s reads c content = (d c ≡ false) × (changing c ≡ false) × (s c ≡ content)
 IsHeldOutside d changing s writes c content = Unit {0}

@@ -6,7 +6,7 @@ use Rattle.ped_eval.specs.ped_store.specs.Acts.{Manner, reads, writes, is_told, 
 use Rattle.ped_eval.specs.ped_store.specs.Races.{is_write}
 use Rattle.ped_laws.specs.Acts.Fitting.{touches_of}
 
--- one of two touches of a cell writes it, and the other isn't a value that the place tells (Allen and Kennedy, section 2.2.1; this project)
+-- one of two touches of a cell writes it, and the other isn't a value that the place gives (Allen and Kennedy, section 2.2.1; this project)
 abbrev pub manners_clash : Manner → Manner → Bool
 manners_clash writes writes = true
 manners_clash writes reads = true

@@ -19,7 +19,7 @@ pub record Exchange : Type 0 where
   pub order : List Block
   pub coming : List Change
 
--- the exchange is allowed for these acts, done from the store s, where the stores agree on the one set before it and shall agree on the other behind it (this project)
+-- the exchange is allowed for these acts, done from the store s, where the stores agree on the one set before it and shall agree on the other after it (this project)
 pub record IsAllowed (e : Exchange) (acts : List Act) (before behind : Cell → Bool) (s : Store) : Type 0 where
   pub renamed : Renamed e.names acts (acts_before e.going)
   pub one_to_one : IsOneToOne e.names acts

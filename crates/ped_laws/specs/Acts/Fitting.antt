@@ -4,13 +4,13 @@ use Rattle.ped_eval.specs.ped_store.specs.Cells.{Cell}
 use Rattle.ped_eval.specs.ped_store.specs.Stores.{Content, Store}
 use Rattle.ped_eval.specs.ped_store.specs.Acts.{Manner, reads, writes, is_told, Touch, Act, touched, store_behind}
 
--- what is read in a cell is what the store holds there; a write, or a value that the place tells, asks nothing (this project)
+-- what is read in a cell is what the store holds there; a write, or a value that the place gives, asks nothing (this project)
 abbrev pub IsFound : Manner → Cell → Content → Store → Type 0
 IsFound reads c content s = s c ≡ content
 IsFound writes c content s = Unit {0}
 IsFound is_told c content s = Unit {0}
 
--- touches, one after the other, find what they read, also behind writes of their own (this project)
+-- touches, one after the other, find what they read, also after writes of their own (this project)
 abbrev pub Find : List Touch → Store → Type 0
 Find [] s = Unit {0}
 Find (t ∷ ts) s = IsFound t.manner t.cell t.content s × Find ts (touched t.manner t.cell t.content s)
@@ -30,12 +30,12 @@ abbrev pub touches_of : List Act → List Touch
 touches_of [] = []
 touches_of (a ∷ acts) = a.touches ++ touches_of acts
 
--- a read or a write of a cell, and no value that the place tells (plain words)
+-- a read or a write of a cell, and no value that the place gives (plain words)
 abbrev pub has_cell : Manner → Bool
 has_cell reads = true
 has_cell writes = true
 has_cell is_told = false
 
--- touches without the values that the place tells (this project)
+-- touches without the values that the place gives (this project)
 abbrev pub of_cells : List Touch → List Touch
 of_cells ts = filter (λ t. has_cell t.manner) ts

@@ -9,12 +9,12 @@ abbrev pub IsIn : {X : Type 0} → X → List X → Type 0
 IsIn x [] = ⊥
 IsIn x (y ∷ ys) = (x ≡ y) ⊎ IsIn x ys
 
--- x stands somewhere before y in the list (plain words)
+-- x is somewhere before y in the list (plain words)
 abbrev pub StandsBefore : {X : Type 0} → X → X → List X → Type 0
 StandsBefore x y [] = ⊥
 StandsBefore x y (z ∷ zs) = ((x ≡ z) × IsIn y zs) ⊎ StandsBefore x y zs
 
--- no item stands in the list twice (plain words)
+-- no item is in the list twice (plain words)
 abbrev pub EachOnce : {X : Type 0} → List X → Type 0
 EachOnce xs = (x : _) → StandsBefore x x xs → ⊥
 
@@ -28,7 +28,7 @@ pub record IsReordered {X : Type 0} (xs ys : List X) : Type 0 where
   pub once : EachOnce ys
   pub same : HaveSameItems xs ys
 
--- two items that clash stand in the same order in both lists: each dependence is kept (Allen and Kennedy, section 2.2.3)
+-- two items that clash are in the same order in both lists: each dependence is kept (Allen and Kennedy, section 2.2.3)
 abbrev pub KeepsOrder : {X : Type 0} → (X → X → Bool) → List X → List X → Type 0
 KeepsOrder clash xs ys = (x y : _) → StandsBefore x y xs → clash x y ≡ true → StandsBefore x y ys
 
@@ -50,7 +50,7 @@ acts_in xs = map (λ x. x.act) xs
 abbrev pub numbered_conflict : (Cell → Bool) → Numbered → Numbered → Bool
 numbered_conflict d x y = acts_conflict_outside d x.act y.act
 
--- a list stands in the order of a key, and where the key is the same in the order of the numbers (plain words)
+-- a list is in the order of a key, and where the key is the same in the order of the numbers (plain words)
 abbrev pub IsSortedBy : (Numbered → ℕ) → List Numbered → Type 0
 IsSortedBy key xs = (x y : Numbered) → StandsBefore x y xs → (key x < key y) ⊎ ((key x ≡ key y) × (x.number < y.number))
 
@@ -78,11 +78,11 @@ acts_in_blocks (b ∷ bs) = b.acts ++ acts_in_blocks bs
 abbrev pub block_conflict : (Cell → Bool) → Block → Block → Bool
 block_conflict d x y = blocks_conflict_outside d x.acts y.acts
 
--- blocks stand by the outer number, and those of one outer number by the inner (plain words)
+-- blocks are ordered by the outer number, and those of one outer number by the inner (plain words)
 abbrev pub IsByRows : List Block → Type 0
 IsByRows bs = (x y : Block) → StandsBefore x y bs → (x.outer < y.outer) ⊎ ((x.outer ≡ y.outer) × (x.inner < y.inner))
 
--- blocks stand by the inner number, and those of one inner number by the outer (plain words)
+-- blocks are ordered by the inner number, and those of one inner number by the outer (plain words)
 abbrev pub IsByColumns : List Block → Type 0
 IsByColumns bs = (x y : Block) → StandsBefore x y bs → (x.inner < y.inner) ⊎ ((x.inner ≡ y.inner) × (x.outer < y.outer))
 

@@ -1,4 +1,4 @@
--- Acts and the accesses that races are told by: which accesses conflict where acts do, and where the accesses of a new list come from (this project).
+-- Acts and the accesses that make races: which accesses conflict where acts do, and where the accesses of a new list come from (this project).
 use Rattle.std.specs.Prelude.{◌≡◌, List, Bool, true, false, ◌&&◌, Option, Some, None}
 use Rattle.std.specs.List.{list_any}
 use Rattle.ped_eval.specs.ped_store.specs.Cells.{Cell, same_cell}
@@ -6,13 +6,13 @@ use Rattle.ped_eval.specs.ped_store.specs.Acts.{Manner, reads, writes, is_told, 
 use Rattle.ped_eval.specs.ped_store.specs.Races.{Access, accesses, is_lines, is_write, conflict, are_apart}
 use Rattle.ped_laws.specs.Acts.Orders.{IsIn}
 
--- the place tells the value (plain words)
+-- the place gives the value (plain words)
 abbrev pub is_told_value : Manner → Bool
 is_told_value is_told = true
 is_told_value reads = false
 is_told_value writes = false
 
--- an act that is told the value of the variable with this cell (this project)
+-- an act that gets the value of the variable with this cell from its place (this project)
 abbrev pub told_to : Act → Cell → Bool
 told_to a c = list_any (λ t. is_told_value t.manner && same_cell t.cell c) a.touches
 
@@ -24,7 +24,7 @@ WritesItsLines a = (t : Touch) → IsIn t a.touches → is_lines t.cell ≡ true
 abbrev pub AreOfOneKind : List Turn → List Turn → Type 0
 AreOfOneKind ts us = (t u : Turn) → IsIn t ts → IsIn u us → t.statement ≡ u.statement → t.parallel ≡ u.parallel
 
--- two accesses stand in two iterations of one execution of a PARALLEL DO, whichever is the earlier (this project)
+-- two accesses are in two iterations of one execution of a PARALLEL DO, whichever is the earlier (this project)
 abbrev pub StandApart : Access → Access → Type 0
 StandApart a b = (are_apart a.place.turns b.place.turns ≡ true) × (are_apart b.place.turns a.place.turns ≡ true)
 

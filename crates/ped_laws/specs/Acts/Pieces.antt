@@ -6,7 +6,7 @@ use Rattle.ped_eval.specs.ped_store.specs.Acts.{Act}
 use Rattle.ped_laws.specs.Acts.Fitting.{Fits, store_after}
 use Rattle.ped_laws.specs.Acts.Sets.{AgreeIn, wants}
 
--- a piece of a list: its acts before and behind the change, and the cells on which the stores in front of it agree (this project)
+-- a piece of a list: its acts before and after the change, and the cells on which the stores in front of it agree (this project)
 pub record Piece : Type 0 where
   pub agreed : Cell → Bool
   pub old : List Act
@@ -17,12 +17,12 @@ abbrev pub old_acts : List Piece → List Act
 old_acts [] = []
 old_acts (p ∷ ps) = p.old ++ old_acts ps
 
--- the acts behind the change (plain words)
+-- the acts after the change (plain words)
 abbrev pub new_acts : List Piece → List Act
 new_acts [] = []
 new_acts (p ∷ ps) = p.new ++ new_acts ps
 
--- the cells on which the stores in front of the pieces agree; behind the last it is the last set (plain words)
+-- the cells on which the stores in front of the pieces agree; after the last it is the last set (plain words)
 abbrev pub agreed_before : List Piece → (Cell → Bool) → Cell → Bool
 agreed_before [] last = last
 agreed_before (p ∷ ps) last = p.agreed
@@ -47,7 +47,7 @@ old_parts [] = []
 old_parts (same acts ∷ ps) = acts ++ old_parts ps
 old_parts (changed old new ∷ ps) = old ++ old_parts ps
 
--- the acts behind the change (plain words)
+-- the acts after the change (plain words)
 abbrev pub new_parts : List Part → List Act
 new_parts [] = []
 new_parts (same acts ∷ ps) = acts ++ new_parts ps

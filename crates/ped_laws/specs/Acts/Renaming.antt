@@ -13,7 +13,7 @@ AreRenamed g [] (y ∷ ys) = ⊥
 AreRenamed g (x ∷ xs) [] = ⊥
 AreRenamed g (x ∷ xs) (y ∷ ys) = (x.manner ≡ y.manner) × (x.content ≡ y.content) × (y.cell ≡ g x.cell) × AreRenamed g xs ys
 
--- the touches of the new acts, one after the other, are those of the old acts on renamed cells, whatever the steps and places of the acts are and what their places tell (this project)
+-- the touches of the new acts, one after the other, are those of the old acts on renamed cells, whatever the steps and places of the acts are and whatever values their places give (this project)
 abbrev pub Renamed : (Cell → Cell) → List Act → List Act → Type 0
 Renamed g acts others = AreRenamed g (of_cells (touches_of acts)) (of_cells (touches_of others))
 

@@ -1,4 +1,4 @@
--- Sets of cells: where stores agree, and what acts need, write and want. A set is a test of cells and no predicate: so a law may speak of all sets, lists are filtered by a set, and a cell lies in it or doesn't (this project).
+-- Sets of cells: where stores agree, and what acts need, write and want. A set is a test of cells and no predicate: so a law may be about all sets, lists are filtered by a set, and a cell lies in it or doesn't (this project).
 use Rattle.std.specs.Prelude.{◌≡◌, List, [], ◌∷◌, Bool, true, false, ◌&&◌, ◌||◌, not, if◌then◌else◌}
 use Rattle.std.specs.List.{list_any}
 use Rattle.ped_eval.specs.ped_store.specs.Cells.{Cell, same_cell}
@@ -31,7 +31,7 @@ written_by ts c = list_any (λ t. writes_to t c) ts
 abbrev pub written : List Act → Cell → Bool
 written acts c = written_by (touches_of acts) c
 
--- whether a cell is read before it is written, by the first touch of it, and by those behind: a value that the place tells is no read of a cell (Allen and Kennedy, section 5.3; this project)
+-- whether a cell is read before it is written, by the first touch of it, and by those after: a value that the place gives is no read of a cell (Allen and Kennedy, section 5.3; this project)
 abbrev pub read_first : Manner → Bool → Bool
 read_first reads behind = true
 read_first writes behind = false

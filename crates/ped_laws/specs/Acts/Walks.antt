@@ -34,14 +34,14 @@ in_step [] (y ∷ ys) = new_alone y ∷ in_step [] ys
 in_step (x ∷ xs) [] = old_alone x ∷ in_step xs []
 in_step (x ∷ xs) (y ∷ ys) = both x y ∷ in_step xs ys
 
--- what c holds in the old list and what d holds in the new one come from one source: their last writes have met, or neither is written and both held one content at the start. The strides so far stand with the last first (this project)
+-- what c holds in the old list and what d holds in the new one come from one source: their last writes have met, or neither is written and both held one content at the start. The strides so far are listed with the last first (this project)
 abbrev pub SameSource : List Stride → Store → Store → Cell → Cell → Type 0
 SameSource [] s t c d = s c ≡ t d
 SameSource (both x y ∷ before) s t c d = MatchBool (writes_to x c) (writes_to y d ≡ true) ((writes_to y d ≡ false) × SameSource before s t c d)
 SameSource (old_alone x ∷ before) s t c d = (writes_to x c ≡ false) × SameSource before s t c d
 SameSource (new_alone y ∷ before) s t c d = (writes_to y d ≡ false) × SameSource before s t c d
 
--- the store of the new list behind the strides so far, which stand with the last first (plain words)
+-- the store of the new list after the strides so far, which are listed with the last first (plain words)
 abbrev pub new_store : List Stride → Store → Store
 new_store [] t = t
 new_store (both x y ∷ before) t = touched y.manner y.cell y.content (new_store before t)
@@ -60,7 +60,7 @@ MayBeMade before s t (both x y) = (x.manner ≡ y.manner) × (x.content ≡ y.co
 MayBeMade before s t (old_alone x) = Unit {0}
 MayBeMade before s t (new_alone y) = IsFound y.manner y.cell y.content (new_store before t)
 
--- the lists go side by side: each stride may be made, behind those before it (this project)
+-- the lists go side by side: each stride may be made, after those before it (this project)
 abbrev pub SideBySide : List Stride → List Stride → Store → Store → Type 0
 SideBySide before [] s t = Unit {0}
 SideBySide before (x ∷ w) s t = MayBeMade before s t x × SideBySide (x ∷ before) w s t

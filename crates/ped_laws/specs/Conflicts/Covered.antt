@@ -17,7 +17,7 @@ pub record ComeInRun (t : ProgramTree) (data_bytes : List ℕ) (a b : Access) : 
   pub behind : List Access
   pub is : accesses (run_of t data_bytes).acts ≡ before ++ a ∷ (between ++ b ∷ behind)
 
--- among the dependences there is one from the reference of the first access to that of the second, and one of its vectors holds the directions in which the two stand in the loops round both (Allen and Kennedy, sections 2.2.1, 2.2.4)
+-- among the dependences there is one from the reference of the first access to that of the second, and one of its vectors holds the directions in which the two are in the loops around both (Allen and Kennedy, sections 2.2.1, 2.2.4)
 pub record IsCovered (t : ProgramTree) (edges : List Edge) (a b : Access) : Type 0 where
   pub edge : Edge
   pub listed : IsIn edge edges

@@ -1,4 +1,4 @@
--- The directions in which two accesses of a run stand in the loops round both (Allen and Kennedy, section 2.2.4).
+-- The directions in which two accesses of a run are in the loops around both (Allen and Kennedy, section 2.2.4).
 use Rattle.std.specs.Prelude.{◌≡◌, ℕ, ℤ, List, [], ◌∷◌, pos, Bool, false, ◌==◌, Option, Some, None}
 use Rattle.std.specs.Bool.{MatchBool}
 use Rattle.ped_graph.specs.ped_views.specs.declared.directions.Direction.{Direction}
@@ -20,7 +20,7 @@ step_in constants (Some s) = pos 1
 abbrev pub step_at : ProgramTree → ℕ → ℤ
 step_at t n = step_in (setting_of t).constants (statement_with n t)
 
--- at each loop round both, the outermost first, the values of its variable at the source and at the sink stand in this direction (Allen and Kennedy, section 2.2.4)
+-- at each loop around both, the outermost first, the values of its variable at the source and at the sink are in this direction (Allen and Kennedy, section 2.2.4)
 abbrev pub StandInDirections : ProgramTree → List Turn → List Turn → List Direction → Type 0
 StandInDirections t (i ∷ is) (j ∷ js) vector =
     MatchBool (i.statement == j.statement)
@@ -29,7 +29,7 @@ StandInDirections t (i ∷ is) (j ∷ js) vector =
 StandInDirections t [] js vector = vector ≡ []
 StandInDirections t (i ∷ is) [] vector = vector ≡ []
 
--- the two stand in one execution of their outermost common loop: a DO that is in no other is executed once at most (ANSI X3.9-1978, section 11.10)
+-- the two are in one execution of their outermost common loop: a DO that is in no other is executed once at most (ANSI X3.9-1978, section 11.10)
 abbrev pub share_a_loop : List Turn → List Turn → Bool
 share_a_loop (i ∷ is) (j ∷ js) = i.statement == j.statement
 share_a_loop [] js = false

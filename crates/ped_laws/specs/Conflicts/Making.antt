@@ -16,7 +16,7 @@ use Rattle.ped_eval.specs.Outcomes.{setting_of, run_of}
 use Rattle.ped_graph.specs.Dependences.{setting_in}
 use Rattle.ped_laws.specs.Conflicts.Reaching.{IsStoreIn, Reached}
 
--- in a store the expressions come to these numbers, one each (ANSI X3.9-1978, section 6.6)
+-- in a store the expressions evaluate to these numbers, one each (ANSI X3.9-1978, section 6.6)
 abbrev pub ComeTo : Names → Store → List ExprTree → List ℤ → Type 0
 ComeTo g u (e ∷ es) (n ∷ ns) = ((value g e u).result ≡ Ok n) × ComeTo g u es ns
 ComeTo g u [] [] = Unit {0}
@@ -43,7 +43,7 @@ pub record IsMade (t : ProgramTree) (first : Store) (a : Access) (r : Reference)
   pub within : IsStoreIn (setting_in t (outermost r)) first u
   pub cell : StandsFor t (names_in (setting_of t) scope) u r.access.name r.access.subscripts a.cell
 
--- each access of a run that a reference makes in a DO is made by a reference of the program, in the execution of an outermost DO that begins with the store that is told for it (Allen and Kennedy, section 2.2.1; this project)
+-- each access of a run that a reference makes in a DO is made by a reference of the program, in the execution of an outermost DO that begins with the store that is given for it (Allen and Kennedy, section 2.2.1; this project)
 abbrev pub AreMade : ProgramTree → List ℕ → (ℕ → Store) → Type 0
 AreMade t data_bytes first =
     (a : Access) (turn : Turn) (inner : List Turn) → IsIn a (accesses (run_of t data_bytes).acts) → 0 < a.reference → a.place.turns ≡ turn ∷ inner

@@ -1,4 +1,4 @@
--- Iterations that a run of a program comes to, and the stores of an execution of an outermost DO (ANSI X3.9-1978, section 11.10; this project).
+-- Iterations that a run of a program reaches, and the stores of an execution of an outermost DO (ANSI X3.9-1978, section 11.10; this project).
 use Rattle.std.specs.Prelude.{◌≡◌, ◌≤◌, ℕ, List, [], ◌∷◌, ◌++◌, true, false, None, Some, Ok}
 use Rattle.std.specs.List.{list_all}
 use Rattle.ped_flow.specs.ped_base.specs.Lists.{is_among}
@@ -23,7 +23,7 @@ pub record IsStoreIn (s : Setting) (first u : Store) : Type 0 where
   pub storable : HoldsStorable s.loop_variables u
   pub constant : (x : List ℕ) → is_among x s.assigned ≡ false → u (Scalar x) ≡ first (Scalar x)
 
--- an iteration of a DO of the program that a run has entered in these iterations round it: its bounds were evaluated in a store of the execution, and it is one of its iterations (ANSI X3.9-1978, sections 11.10.3 to 11.10.7; this project)
+-- an iteration of a DO of the program that a run has entered in these iterations around it: its bounds were evaluated in a store of the execution, and it is one of its iterations (ANSI X3.9-1978, sections 11.10.3 to 11.10.7; this project)
 pub record IsEntered (t : ProgramTree) (s : Setting) (first : Store) (outer : Scope) (l : Loop) (f : Frame) : Type 0 where
   pub body : StmtTrees
   pub stands : statement_with l.number t ≡ Some (Do l.head body)
@@ -41,7 +41,7 @@ pub record IsEntered (t : ProgramTree) (s : Setting) (first : Store) (outer : Sc
   pub to : turn ≤ (entered_with (setting_of t) l.number l.head body seen bounds).count
   pub is : f ≡ frame (entered_with (setting_of t) l.number l.head body seen bounds) turn
 
--- a run has come to these iterations, the innermost first, one in the other; they are of the DO loops of this nest, the outermost first (ANSI X3.9-1978, section 11.10; this project)
+-- a run has reached these iterations, the innermost first, one in the other; they are of the DO loops of this nest, the outermost first (ANSI X3.9-1978, section 11.10; this project)
 abbrev pub Reached : ProgramTree → Setting → Store → List Loop → Scope → Type 0
 Reached t s first nest [] = nest ≡ []
 Reached t s first nest (f ∷ outer) = (around : List Loop) × (l : Loop) × (nest ≡ around ++ l ∷ []) × IsEntered t s first outer l f × Reached t s first around outer

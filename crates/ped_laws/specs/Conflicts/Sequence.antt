@@ -1,4 +1,4 @@
--- In which order a run comes to accesses: by the iterations of the loops round both, and in the same iterations by the program's text (ANSI X3.9-1978, section 11.10; this project).
+-- The order in which a run makes accesses: by the iterations of the loops around both, and in the same iterations by the program's text (ANSI X3.9-1978, section 11.10; this project).
 use Rattle.std.specs.Prelude.{◌≡◌, ◌⊎◌, ◌<◌, ℤ, pos, ◌-◌, ◌+ℤ◌, ◌*ℤ◌, List, [], ◌∷◌, true, Some}
 use Rattle.ped_flow.specs.ped_tree.specs.Tree.{Head, StmtTrees, Do, ProgramTree}
 use Rattle.ped_flow.specs.ped_tree.specs.Numbering.{statement_with}
@@ -7,7 +7,7 @@ use Rattle.ped_eval.specs.ped_store.specs.Races.{Access}
 use Rattle.ped_eval.specs.Loops.{increment}
 use Rattle.ped_eval.specs.Outcomes.{setting_of}
 
--- the reference of the first access stands before that of the second in the text (this project)
+-- the reference of the first access is before that of the second in the text (this project)
 abbrev pub IsBeforeInText : Access → Access → Type 0
 IsBeforeInText a b = (a.place.statement < b.place.statement) ⊎ ((a.place.statement ≡ b.place.statement) × (a.reference < b.reference))
 
@@ -23,7 +23,7 @@ pub record AreSuccessive (t : ProgramTree) (i j : Turn) : Type 0 where
   pub at_first : i.value ≡ initial +ℤ pos (i.number - 1) *ℤ increment (setting_of t).constants head
   pub at_second : j.value ≡ initial +ℤ pos (j.number - 1) *ℤ increment (setting_of t).constants head
 
--- the first access comes before the second, which stand in these iterations: where their iterations differ first, those of one DO are successive, and else they stand so in the text; but what a DO writes when it is left comes behind what was done in its iterations (ANSI X3.9-1978, section 11.10; this project)
+-- the first access comes before the second, which are in these iterations: where their iterations differ first, those of one DO are successive, and else the first comes before the second in the text; but what a DO writes when it is left comes after what was done in its iterations (ANSI X3.9-1978, section 11.10; this project)
 abbrev pub ComesBefore : ProgramTree → Access → Access → List Turn → List Turn → Type 0
 ComesBefore t a b (i ∷ is) (j ∷ js) = ((i ≡ j) × ComesBefore t a b is js) ⊎ AreSuccessive t i j ⊎ ((¬ (i.statement ≡ j.statement)) × IsBeforeInText a b)
 ComesBefore t a b [] js = IsBeforeInText a b

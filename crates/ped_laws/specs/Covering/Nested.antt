@@ -23,7 +23,7 @@ AreIterations number [] (r ∷ rs) ts = ⊥
 AreIterations number (l ∷ ls) [] ts = ⊥
 AreIterations number (l ∷ ls) (r ∷ rs) [] = ⊥
 
--- in a place with these iterations, each of the loops of this nest, outermost first, stands at a value in its range (ANSI X3.9-1978, section 11.10.3; this project)
+-- in a place with these iterations, each of the loops of this nest, outermost first, is at a value in its range (ANSI X3.9-1978, section 11.10.3; this project)
 abbrev pub StandsIn : Setting → (ℕ → ℕ) → List Loop → List Turn → Type 0
 StandsIn s number nest turns = AreIterations number nest (nest_ranges s (heads_of nest)) turns
 
@@ -38,7 +38,7 @@ Match None (Some r) = ⊥
 abbrev pub Surround : Around → Scope → Type 0
 Surround around scope = (x : List ℕ) → Match (index_value scope x) (lookup (is_same_text x) around)
 
--- a place of a run in a nest: its iterations are those of the nest's loops, outermost first, each at a value in its range; and they tell the values of the variables of these loops, and of no other (ANSI X3.9-1978, section 11.10; this project)
+-- a place of a run in a nest: its iterations are those of the nest's loops, outermost first, each at a value in its range; and they give the values of the variables of these loops, and of no other (ANSI X3.9-1978, section 11.10; this project)
 pub record IsInNest (s : Setting) (p : run.Setting) (nest : List Loop) (scope : Scope) : Type 0 where
   pub iterations : StandsIn s p.number nest (turns_of scope)
   pub variables : Surround (around_with s [] (heads_of nest)) scope

@@ -1,4 +1,4 @@
--- Values of the loops' variables at two accesses: in their ranges, and standing in directions (Allen and Kennedy, section 3.3; this project).
+-- Values of the loops' variables at two accesses: in their ranges, and in directions (Allen and Kennedy, section 3.3; this project).
 use Rattle.std.specs.Prelude.{◌≡◌, ℕ, ℤ, pos, ◌-ℤ◌, List, [], ◌∷◌, ◌++◌, take, drop, false, IsTrue}
 use Rattle.ped_flow.specs.ped_base.specs.Lists.{is_among}
 use Rattle.ped_flow.specs.ped_tree.specs.Nests.{indices_of}
@@ -9,7 +9,7 @@ use Rattle.ped_graph.specs.ped_views.specs.Whole.{Divides}
 use Rattle.ped_graph.specs.ped_views.specs.Views.{Range, SubscriptPair, View}
 use Rattle.ped_graph.specs.ped_views.specs.Excluded.{InRange, Stands, Indices, difference}
 
--- the values i at the source and j at the sink lie in the loop's range, stand in the direction, and in a steady loop stand a whole number of steps apart (Allen and Kennedy, sections 2.2.4, 3.3.2)
+-- the values i at the source and j at the sink lie in the loop's range, are in the direction, and in a steady loop are a whole number of steps apart (Allen and Kennedy, sections 2.2.4, 3.3.2)
 pub record AreValues (r : Range) (d : Direction) (i j : ℤ) : Type 0 where
   pub source : InRange r i
   pub sink : InRange r j
@@ -28,7 +28,7 @@ ValuesInRange (r ∷ rs) (i ∷ is) = InRange r i × ValuesInRange rs is
 ValuesInRange [] [] = Unit {0}
 ValuesInRange rs is = ⊥
 
--- values of all loops round both sides, which stand in the directions of this vector (Allen and Kennedy, section 3.3)
+-- values of all loops around both sides, which are in the directions of this vector (Allen and Kennedy, section 3.3)
 pub record StandTogether (v : View) (vector : List Direction) (at : Indices) : Type 0 where
   pub common : CommonValues v.loops vector at.source at.sink
   pub source_inner : ValuesInRange v.source_inner at.source_inner
@@ -38,7 +38,7 @@ pub record StandTogether (v : View) (vector : List Direction) (at : Indices) : T
 abbrev pub IsSolvedBy : Indices → SubscriptPair → Type 0
 IsSolvedBy at p = IsTrue p.usable → difference p at ≡ pos 0
 
--- the values of the loops round both sides among those of all unknowns of each side, of which the loops come first (Allen and Kennedy, section 3.1)
+-- the values of the loops around both sides among those of all unknowns of each side, of which the loops come first (Allen and Kennedy, section 3.1)
 abbrev pub indices_among : Depths → List ℤ → List ℤ → Indices
 indices_among n from to = record {
   source = take n.common from;
@@ -47,7 +47,7 @@ indices_among n from to = record {
   sink_inner = take n.sink (drop n.common to);
 }
 
--- the values of the unknowns of one side: those of the loops round it, and of these other variables (Allen and Kennedy, section 3.1)
+-- the values of the unknowns of one side: those of the loops around it, and of these other variables (Allen and Kennedy, section 3.1)
 abbrev pub side_values : (List ℕ → ℤ) → Site → List (List ℕ) → List ℤ
 side_values values side others = first_values values [] (indices_of side.nest ++ others)
 
@@ -55,7 +55,7 @@ side_values values side others = first_values values [] (indices_of side.nest ++
 abbrev pub AgreeOnOthers : Depths → List ℤ → List ℤ → Type 0
 AgreeOnOthers n from to = drop n.source (drop n.common from) ≡ drop n.sink (drop n.common to)
 
--- no name stands in the list twice (plain words)
+-- no name is in the list twice (plain words)
 abbrev pub AreDistinct : List (List ℕ) → Type 0
 AreDistinct [] = Unit {0}
 AreDistinct (x ∷ xs) = (is_among x xs ≡ false) × AreDistinct xs

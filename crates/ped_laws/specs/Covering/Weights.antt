@@ -7,7 +7,7 @@ use Rattle.ped_eval.specs.Scopes.{Names}
 use Rattle.ped_eval.specs.Values.{variable_value}
 use Rattle.ped_flow.specs.ped_affine.specs.AffineForms.{Terms, AffineForm}
 
--- the values of unknowns, of which each name counts where it comes first, and behind others no more: a form has a coefficient at each place of a name (this project)
+-- the values of unknowns, of which each name counts only where it comes first: a form has a coefficient at each place of a name (this project)
 abbrev pub first_values : (List ℕ → ℤ) → List (List ℕ) → List (List ℕ) → List ℤ
 first_values values before [] = []
 first_values values before (x ∷ xs) = (if is_among x before then pos 0 else values x) ∷ first_values values (x ∷ before) xs
@@ -16,7 +16,7 @@ first_values values before (x ∷ xs) = (if is_among x before then pos 0 else va
 abbrev pub form_value : List (List ℕ) → (List ℕ → ℤ) → AffineForm → ℤ
 form_value unknowns values f = dot f.coefficients (first_values values [] unknowns) +ℤ f.constant
 
--- at this place and in this store the unknowns have these values, where they have one; and both sides speak of the same constants (this project)
+-- at this place and in this store the unknowns have these values, where they have one; and both sides have the same constants (this project)
 pub record HaveValues (t : Terms) (values : List ℕ → ℤ) (g : Names) (u : Store) : Type 0 where
   pub constants : g.constants ≡ t.constants
   pub unknowns : (x : List ℕ) (n : ℤ) → is_among x t.unknowns ≡ true → (variable_value (g.index x) u (g.cell x)).result ≡ Ok n → n ≡ values x

@@ -8,7 +8,7 @@ use Rattle.ped_eval.specs.ped_store.specs.Stores.{Store, Number, is_storable}
 use Rattle.ped_eval.specs.Scopes.{Names}
 use Rattle.ped_flow.specs.ped_affine.specs.Ranges.{Setting, Around, variable_interval}
 
--- what can be read lies in its interval: the value of a DO variable that the place tells, the number that another scalar holds, and that of an element; and both sides speak of the same constants (this project)
+-- what can be read lies in its interval: the value of a DO variable that the place gives, the number that another scalar holds, and that of an element; and both sides have the same constants (this project)
 pub record AreWithin (s : Setting) (around : Around) (g : Names) (u : Store) : Type 0 where
   pub constants : g.constants ≡ s.constants
   pub indices : (x : List ℕ) (n : ℤ) (r : Interval) → g.index x ≡ Some n → variable_interval s around x ≡ Some r → Lies n r

@@ -24,7 +24,7 @@ is_number Undefined = false
 is_number (Number n) = true
 is_number (Lines lines) = false
 
--- whether a cell holds a number behind touches, where it held one before them or not: what writes it last decides (this project)
+-- whether a cell holds a number after touches, where it held one before them or not: what writes it last decides (this project)
 abbrev pub holds_number : Cell → Bool → List Touch → Bool
 holds_number c before [] = before
 holds_number c before (t ∷ ts) = holds_number c (if writes_to t c then is_number t.content else before) ts
@@ -33,7 +33,7 @@ holds_number c before (t ∷ ts) = holds_number c (if writes_to t c then is_numb
 abbrev pub IsReadOn : List ℕ → List Event → Type 0
 IsReadOn x path = (n : ℕ) × IsTrue (reads_first x n path)
 
--- a path covers touches, as to a scalar and its cell: where they read the cell before they write it, the path reads the scalar before it overwrites it; where the path overwrites the scalar, they write the cell; and where the scalar has a value at the path's end, the cell holds a number behind them (Allen and Kennedy, section 4.4; this project)
+-- a path covers touches, as to a scalar and its cell: where they read the cell before they write it, the path reads the scalar before it overwrites it; where the path overwrites the scalar, they write the cell; and where the scalar has a value at the path's end, the cell holds a number after them (Allen and Kennedy, section 4.4; this project)
 pub record Covers (x : List ℕ) (c : Cell) (path : List Event) (ts : List Touch) : Type 0 where
   pub read : needed_by ts c ≡ true → IsReadOn x path
   pub written : overwrites x path ≡ true → written_by ts c ≡ true
@@ -45,7 +45,7 @@ AreCovered ps x c ts (going s) = (path : List Event) × ps.onward path × Covers
 AreCovered ps x c ts (stopped s) = (path : List Event) × ps.ending path × Covers x c path ts
 AreCovered ps x c ts (failed fault statement) = Unit {0}
 
--- a STOP stands in a statement or in a part of it (ANSI X3.9-1978, section 11.12)
+-- a STOP is in a statement or in a part of it (ANSI X3.9-1978, section 11.12)
 abbrev mutual
   pub has_stop : StmtTree → Bool
   has_stop (Assign left right) = false
@@ -56,12 +56,12 @@ abbrev mutual
   has_stop Stop = true
   has_stop (Comment text) = false
 
-  -- a STOP stands in statements or in a part of one (ANSI X3.9-1978, section 11.12)
+  -- a STOP is in statements or in a part of one (ANSI X3.9-1978, section 11.12)
   pub some_stop : StmtTrees → Bool
   some_stop no_stmts = false
   some_stop (more_stmts s rest) = has_stop s || some_stop rest
 
--- a STOP stands in a DO of a statement; the profile has none there (ANSI X3.9-1978, section 11.12; this project)
+-- a STOP is in a DO of a statement; the profile has none there (ANSI X3.9-1978, section 11.12; this project)
 abbrev mutual
   pub stops_in_loop : StmtTree → Bool
   stops_in_loop (Assign left right) = false
@@ -72,7 +72,7 @@ abbrev mutual
   stops_in_loop Stop = false
   stops_in_loop (Comment text) = false
 
-  -- a STOP stands in a DO of statements (ANSI X3.9-1978, section 11.12; this project)
+  -- a STOP is in a DO of statements (ANSI X3.9-1978, section 11.12; this project)
   pub some_stops_in_loop : StmtTrees → Bool
   some_stops_in_loop no_stmts = false
   some_stops_in_loop (more_stmts s rest) = stops_in_loop s || some_stops_in_loop rest

@@ -1,4 +1,4 @@
--- What a run does behind an exit of a DO, and the paths from that exit (Allen and Kennedy, section 4.4; this project).
+-- What a run does after an exit of a DO, and the paths from that exit (Allen and Kennedy, section 4.4; this project).
 use Rattle.std.specs.Prelude.{◌≡◌, ℕ, List, [], ◌∷◌, ◌++◌, Bool, true, false, ◌&&◌, ◌==◌, if◌then◌else◌}
 use Rattle.ped_flow.specs.ped_tree.specs.Tree.{ProgramTree}
 use Rattle.ped_eval.specs.ped_store.specs.Cells.{Cell}
@@ -47,7 +47,7 @@ pub record Follows (x : List ℕ) (own c : Cell) (path : List Event) (ts : List 
   pub read : needed_by ts c ≡ true → IsReadOn x path
   pub written : c ≡ own → overwrites x path ≡ true → written_by ts c ≡ true
 
--- in a run of a program, which ends without a fault, this DO is left in these iterations, and these acts come behind that (ANSI X3.9-1978, section 11.10.4; this project)
+-- in a run of a program, which ends without a fault, this DO is left in these iterations, and these acts come after that (ANSI X3.9-1978, section 11.10.4; this project)
 pub record IsExit (p : Setting) (t : ProgramTree) (s : Store) (l : ℕ) (scope : Scope) (behind : List Act) : Type 0 where
   pub ends : Ends (run_all p t.body 1 [] s).ending
   pub front : List Act

@@ -1,4 +1,4 @@
--- Places and stores of an execution of an outermost DO, and the values that stand there (ANSI X3.9-1978, section 11.10; this project).
+-- Places and stores of an execution of an outermost DO, and the values that are there (ANSI X3.9-1978, section 11.10; this project).
 use Rattle.std.specs.Prelude.{◌≡◌, ℕ, ℤ, pos, List, [], ◌∷◌, ◌++◌, Bool, true, false, Some, None, Ok, IsTrue, ◌⊎◌, if◌then◌else◌}
 use Rattle.std.specs.Map.{lookup}
 use Rattle.ped_flow.specs.ped_base.specs.Lists.{is_same_text, is_among}
@@ -43,12 +43,12 @@ abbrev pub AreInside : ranges.Setting → Scope → Type 0
 AreInside s [] = Unit {0}
 AreInside s (f ∷ fs) = IsInside s f × AreInside s fs
 
--- a place in the outermost DO that is a DO or is round it: it tells these values for the DO loops round that DO, as where the DO's bounds are evaluated, also where no run comes there (ANSI X3.9-1978, section 11.10; this project)
+-- a place in the outermost DO that is a DO or is around it: it gives these values for the DO loops around that DO, as where the DO's bounds are evaluated, also where no run comes there (ANSI X3.9-1978, section 11.10; this project)
 pub record IsPlaceWith (constants : Values) (t : ProgramTree) (l : ℕ) (told : List ℕ → ℤ) (scope : Scope) : Type 0 where
   pub inside : AreInside (setting_round constants t l) scope
   pub tells : (x : List ℕ) → IsTrue (is_among x (indices_of (nest_round t l))) → index_value scope x ≡ Some (told x)
 
--- these values of DO variables lie in the ranges of the DO loops round a DO (ANSI X3.9-1978, section 11.10.3; this project)
+-- these values of DO variables lie in the ranges of the DO loops around a DO (ANSI X3.9-1978, section 11.10.3; this project)
 abbrev pub LieInRanges : Values → ProgramTree → ℕ → (List ℕ → ℤ) → Type 0
 LieInRanges constants t l told = (x : List ℕ) (r : Interval) → lookup (is_same_text x) (around_loop constants t l) ≡ Some r → Lies (told x) r
 
@@ -58,11 +58,11 @@ number_or_zero (Number n) = n
 number_or_zero Undefined = pos 0
 number_or_zero (Lines lines) = pos 0
 
--- the values of names in an execution of an outermost DO: those that are told for DO variables, and for other scalars what their own cells hold in the store at its entry (ANSI X3.9-1978, section 11.10.3; this project)
+-- the values of names in an execution of an outermost DO: those that are given for DO variables, and for other scalars what their own cells hold in the store at its entry (ANSI X3.9-1978, section 11.10.3; this project)
 abbrev pub values_with : ProgramTree → (List ℕ → ℤ) → Store → List ℕ → ℤ
 values_with t told s x = if is_among x (all_loop_variables t.body) then told x else number_or_zero (s (Scalar x))
 
--- a store in an execution of the outermost DO that is a DO or is round it, which begins with a store: some acts of it have been done (ANSI X3.9-1978, section 11.10; this project)
+-- a store in an execution of the outermost DO that is a DO or is around it, which begins with a store: some acts of it have been done (ANSI X3.9-1978, section 11.10; this project)
 pub record IsDuring (p : Setting) (t : ProgramTree) (l : ℕ) (s u : Store) : Type 0 where
   pub loop : LoopOf t (outermost_or l (nest_round t l))
   pub done : List Act
@@ -70,7 +70,7 @@ pub record IsDuring (p : Setting) (t : ProgramTree) (l : ℕ) (s u : Store) : Ty
   pub whole : (run p (Do loop.head loop.body) (outermost_or l (nest_round t l)) [] s).acts ≡ done ++ left
   pub after : u ≡ store_after done s
 
--- acts that come behind others in a run begin with the acts of the outermost DO that is a DO or is round it, done from the store that those have left (ANSI X3.9-1978, section 11.10; this project)
+-- acts that come after others in a run begin with the acts of the outermost DO that is a DO or is around it, done from the store that those have left (ANSI X3.9-1978, section 11.10; this project)
 pub record IsExecution (p : Setting) (t : ProgramTree) (l : ℕ) (s : Store) (front acts : List Act) : Type 0 where
   pub loop : LoopOf t (outermost_or l (nest_round t l))
   pub left : List Act
@@ -87,7 +87,7 @@ abbrev pub WriteSmall : Cell → List Touch → Type 0
 WriteSmall c [] = Unit {0}
 WriteSmall c (t ∷ ts) = (writes_to t c ≡ true → is_small t.content ≡ true) × WriteSmall c ts
 
--- an expression has one value at all places in the outermost DO that tell these values for the DO loops round a DO, in all stores of an execution that begins with this store: it lies in the expression's interval, and a DO may have it as a bound (ANSI X3.9-1978, section 11.10.3; this project)
+-- an expression has one value at all places in the outermost DO that give these values for the DO loops around a DO, in all stores of an execution that begins with this store: it lies in the expression's interval, and a DO may have it as a bound (ANSI X3.9-1978, section 11.10.3; this project)
 pub record HasValueDuring (p : Setting) (t : ProgramTree) (l : ℕ) (told : List ℕ → ℤ) (s : Store) (e : ExprTree) : Type 0 where
   pub worth : ℤ
   pub lies : Lies worth (bound_interval (setting_round p.constants t l) (around_loop p.constants t l) e)

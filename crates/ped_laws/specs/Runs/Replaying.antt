@@ -52,7 +52,7 @@ behind acts r = record { acts = acts ++ r.acts; ending = r.ending }
 abbrev pub Replays : (Store → Run) → List Act → Finish → Type 0
 Replays piece acts finish = (s : Store) → Fits acts s → piece s ≡ record { acts = acts; ending = ending_with finish (store_after acts s) }
 
--- the acts of a piece of a run tell it: they fit the store that it starts from, and from each store that they fit it does them again and ends alike (this project)
+-- the acts of a piece of a run determine it: they fit the store that it starts from, and from each store that they fit it does them again and ends alike (this project)
 pub record IsToldByActs (piece : Store → Run) : Type 0 where
   pub fits : (s : Store) → Fits (piece s).acts s
   pub replays : (s : Store) → Replays piece (piece s).acts (finish_of (piece s).ending)

@@ -15,7 +15,7 @@ is_own_store t = is_write t.manner && (t.reference == 0)
 abbrev pub StoresWithin : (Cell → Bool) → Act → Type 0
 StoresWithin d a = (t : Touch) → IsIn t a.touches → is_own_store t ≡ true → d t.cell ≡ true
 
--- each iteration of a PARALLEL DO round the place has a copy of the name (ParaScope; this project)
+-- each iteration of a PARALLEL DO around the place has a copy of the name (ParaScope; this project)
 abbrev pub HasCopies : Scope → List ℕ → Type 0
 HasCopies [] x = Unit {0}
 HasCopies (f ∷ fs) x = (f.turn.parallel ≡ true → is_among x f.private ≡ true) × HasCopies fs x

@@ -9,7 +9,8 @@ ghost use Rattle.ped_laws.specs.Acts.Sets.{AgreeIn, needs, written};
 ghost use Rattle.ped_laws.specs.Acts.Renaming.{Renamed, own_name};
 
 /// Acts that fit a store fit each store that agrees with it where they read before they write, and the stores left
-/// agree where the acts write and where they agreed before; a cell that they don't write keeps its content. For all that stands round a changed piece of a program.
+/// agree where the acts write and where they agreed before; a cell that they don't write keeps its content. For all
+/// that is around a changed piece of a program.
 pub fn agreement()
     ensures fits { (acts : List Act) (s t : Store) → AgreeIn (needs acts) s t → Fits acts s → Fits acts t }
     ensures leaves { (acts : List Act) (s t : Store) (c : Cell) → (written acts c ≡ true) ⊎ (s c ≡ t c) → store_after acts s c ≡ store_after acts t c }
@@ -17,7 +18,7 @@ pub fn agreement()
 {}
 
 /// The same holds of other acts with the same reads and writes: at other places, by other steps and references, and
-/// with other values that their places tell. For the bodies of loops whose entries alone change: skewing, strips,
+/// with other values that their places give. For the bodies of loops whose entries alone change: skewing, strips,
 /// peeling.
 pub fn other_places()
     ensures fits { (acts others : List Act) (s t : Store) → Renamed own_name acts others → AgreeIn (needs acts) s t → Fits acts s → Fits others t }

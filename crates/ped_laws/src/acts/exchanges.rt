@@ -28,7 +28,7 @@ pub fn pieces()
     ensures leaves { (ps : List Piece) (last : Cell → Bool) (s t : Store) → AllStand ps last s → AgreeIn (agreed_before ps last) s t → AgreeIn last (store_after (old_acts ps) s) (store_after (new_acts ps) t) }
 {}
 
-/// A piece with the same reads and writes may stand for a piece where the sets have what it needs before it, and behind
+/// A piece with the same reads and writes may stand for a piece where the sets have what it needs before it, and after
 /// it no more than before and what it writes. For the pieces that don't change: they make stores agree again.
 pub fn equal_piece()
     ensures { (acts others : List Act) (before behind : Cell → Bool) (s : Store) → Renamed own_name acts others → Fits acts s → ((c : Cell) → needs acts c ≡ true → before c ≡ true) → ((c : Cell) → behind c ≡ true → (before c ≡ true) ⊎ (written acts c ≡ true)) → StandsFor (record { agreed = before; old = acts; new = others }) behind s }
@@ -39,15 +39,15 @@ pub fn in_two_steps()
     ensures { (acts middle others : List Act) (before behind : Cell → Bool) (s : Store) → StandsFor (record { agreed = before; old = acts; new = middle }) behind s → StandsFor (record { agreed = before; old = middle; new = others }) behind s → StandsFor (record { agreed = before; old = acts; new = others }) behind s }
 {}
 
-/// Where each changed part may stand for the old one from stores that agree on what the old acts want from there on, the
-/// new list fits where the old one does, and the stores agree on what is shown at the end. For scalars that aren't live
-/// behind the loop that changes.
+/// Where each changed part may stand for the old one from stores that agree on what the old acts want from there on,
+/// the new list fits where the old one does, and the stores agree on what is shown at the end. For scalars that aren't
+/// live after the loop that changes.
 pub fn wanted_parts()
     ensures fits { (shown : Cell → Bool) (ps : List Part) (s t : Store) → PartsStand shown ps s → AgreeIn (wants shown (old_parts ps)) s t → Fits (old_parts ps) s → Fits (new_parts ps) t }
     ensures leaves { (shown : Cell → Bool) (ps : List Part) (s t : Store) → PartsStand shown ps s → AgreeIn (wants shown (old_parts ps)) s t → Fits (old_parts ps) s → AgreeIn shown (store_after (old_parts ps) s) (store_after (new_parts ps) t) }
 {}
 
-/// Acts may be exchanged for others where cells get new names, acts that write idle cells alone go, what is left keeps
+/// Acts may be exchanged for others where cells get new names, acts that write idle cells alone go, the rest keeps
 /// the order of blocks which conflict on other cells, and acts that write idle cells alone come. For the executions of
 /// a loop that is reversed, interchanged, skewed, cut in strips, peeled, distributed, fused, made parallel or serial.
 pub fn exchange()

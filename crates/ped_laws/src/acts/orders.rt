@@ -47,7 +47,7 @@ pub fn blocks_reversed()
     ensures leaves { (d : Cell → Bool) (bs : List (List Act)) (s t : Store) → AreApart d bs → AgreeOutside d s t → AgreeOutside d (store_after (acts_in_all bs) s) (store_after (acts_in_all (reverse bs)) t) }
 {}
 
-/// Acts sorted by a key that acts which conflict outside the set respect. For any change that is told by a schedule.
+/// Acts sorted by a key that acts which conflict outside the set respect. For any change that is given by a schedule.
 pub fn sorted_by_key()
     ensures fits { (d : Cell → Bool) (key : Numbered → ℕ) (acts : List Act) (order : List Numbered) (s t : Store) → IsReordered (number_from 0 acts) order → IsSortedBy key order → ((x y : Numbered) → StandsBefore x y (number_from 0 acts) → numbered_conflict d x y ≡ true → key x ≤ key y) → ReadNone d acts → AgreeOutside d s t → Fits acts s → Fits (acts_in order) t }
     ensures leaves { (d : Cell → Bool) (key : Numbered → ℕ) (acts : List Act) (order : List Numbered) (s t : Store) → IsReordered (number_from 0 acts) order → IsSortedBy key order → ((x y : Numbered) → StandsBefore x y (number_from 0 acts) → numbered_conflict d x y ≡ true → key x ≤ key y) → AgreeOutside d s t → AgreeOutside d (store_after acts s) (store_after (acts_in order) t) }
@@ -61,7 +61,7 @@ pub fn rows_to_columns()
     ensures leaves { (d : Cell → Bool) (rows columns : List Block) (s t : Store) → IsByRows rows → IsByColumns columns → HaveSameItems rows columns → NoneCrosses d rows → AgreeOutside d s t → AgreeOutside d (store_after (acts_in_blocks rows) s) (store_after (acts_in_blocks columns) t) }
 {}
 
-/// Orders of blocks that keep what conflicts: each block once by rows; as they stand; in reverse, where no two conflict;
+/// Orders of blocks that keep what conflicts: each block once by rows; as they are; in reverse, where no two conflict;
 /// by columns, where none crosses. For what an exchange asks of its blocks.
 pub fn orders_kept()
     ensures once { (blocks : List Block) → IsByRows blocks → EachOnce blocks }

@@ -8,7 +8,7 @@ ghost use Rattle.ped_laws.specs.Acts.Conflicts.{acts_conflict, acts_conflict_out
 ghost use Rattle.ped_laws.specs.Acts.Orders.{IsIn, StandsBefore};
 ghost use Rattle.ped_laws.specs.Acts.Origins.{told_to, WritesItsLines, AreOfOneKind, HaveOrigins};
 
-/// Acts with accesses that conflict do conflict, or one of them is told the value of the cell by its place. For turning
+/// Acts with accesses that conflict do conflict, or one of them gets the value of the cell from its place. For turning
 /// a dependence into an order that must be kept.
 pub fn conflicting_accesses()
     ensures { (a b : Act) (p q : Access) → IsIn p (accesses_of a) → IsIn q (accesses_of b) → conflict p q ≡ true → (acts_conflict a b ≡ true) ⊎ ((told_to a p.cell ≡ true) ⊎ (told_to b q.cell ≡ true)) }
@@ -26,19 +26,19 @@ pub fn blocks_that_conflict()
     ensures { (d : Cell → Bool) (xs ys : List Act) → blocks_conflict_outside d xs ys ≡ true → (a b : Act) × IsIn a xs × IsIn b ys × (acts_conflict_outside d a b ≡ true) }
 {}
 
-/// A list of accesses has no race exactly where none races with one behind it.
+/// A list of accesses has no race exactly where none races with one after it.
 pub fn no_race_by_pairs()
     ensures pairs { (xs : List Access) (p q : Access) → HasNoRace xs → StandsBefore p q xs → race p q ≡ false }
     ensures none { (xs : List Access) → ((p q : Access) → StandsBefore p q xs → race p q ≡ false) → HasNoRace xs }
 {}
 
-/// In a list without a race no two acts conflict that stand in two iterations of one execution of a PARALLEL DO. For
+/// In a list without a race no two acts conflict that are in two iterations of one execution of a PARALLEL DO. For
 /// interleavings.
 pub fn race_free_acts()
     ensures { (acts : List Act) (a b : Act) → HasNoRace (accesses acts) → StandsBefore a b acts → are_apart a.place.turns b.place.turns ≡ true → WritesItsLines a → WritesItsLines b → acts_conflict a b ≡ false }
 {}
 
-/// Two places stand in two iterations of one execution of a PARALLEL DO whichever is named first. For origins, whose
+/// Two places are in two iterations of one execution of a PARALLEL DO whichever is named first. For origins, whose
 /// order may be another one.
 pub fn apart_either_way()
     ensures { (ts us : List Turn) → AreOfOneKind ts us → are_apart ts us ≡ true → are_apart us ts ≡ true }

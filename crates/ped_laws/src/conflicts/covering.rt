@@ -15,7 +15,7 @@ use crate::conflicts::sequence::accesses_in_sequence;
 
 /// Where two accesses of a run that references make conflict in one execution of their outermost common loop, the
 /// program has a dependence from the reference of the earlier to that of the later, and its vectors contain the
-/// directions in which they stand (Allen and Kennedy, section 2.2.1). So a dependence that isn't shown doesn't happen.
+/// directions in which they are (Allen and Kennedy, section 2.2.1). So a dependence that isn't shown doesn't happen.
 pub fn conflicts_are_covered()
     ensures { (t : ProgramTree) (data_bytes : List ℕ) (a b : Access) (edges : List Edge) → IsValid t → ComeInRun t data_bytes a b → conflict a b ≡ true → 0 < a.reference → 0 < b.reference → share_a_loop a.place.turns b.place.turns ≡ true → AreEdges t edges → IsCovered t edges a b }
 {

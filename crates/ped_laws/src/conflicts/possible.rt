@@ -15,7 +15,7 @@ ghost use Rattle.ped_laws.specs.Conflicts.Making.{IsMade};
 ghost use Rattle.ped_laws.specs.Conflicts.Directions.{StandInDirections, share_a_loop};
 
 /// Where two references touch one cell in one execution of their outermost common loop, the vector of the directions in
-/// which they stand is one of those of their view: no position excludes it, and it has a direction for each common loop.
+/// which they are is one of those of their view: no position excludes it, and it has a direction for each common loop.
 pub fn directions_are_possible()
     ensures { (t : ProgramTree) (first : Store) (a b : Access) (source sink : Reference) (at_source at_sink : Scope) (u v : Store) (vector : List Direction) → IsValid t → IsMade t first a source at_source u → IsMade t first b sink at_sink v → share_a_loop a.place.turns b.place.turns ≡ true → same_cell a.cell b.cell ≡ true → StandInDirections t a.place.turns b.place.turns vector
         → IsPossible (view_of t source sink) vector × (length vector ≡ length (view_of t source sink).loops) }

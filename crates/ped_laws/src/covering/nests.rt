@@ -22,7 +22,7 @@ pub fn within_around()
 {}
 
 /// Outside all loops a place is in the empty nest. In each iteration of a DO that is entered in a nest, and whose
-/// variable is that of no DO round it, the place is in the nest with that loop.
+/// variable is that of no DO around it, the place is in the nest with that loop.
 pub fn nests_in_ranges()
     ensures outside { (s : Setting) (p : run.Setting) → IsInNest s p [] [] }
     ensures inside { (s : Setting) (p : run.Setting) (nest : List Loop) (scope : Scope) (u : Store) (n : ℕ) (h : Head) (body : StmtTrees) (seen : List Seen) (l : Limits) (k : ℕ) → p.constants ≡ s.constants → HoldsStorable s.loop_variables u → IsInNest s p nest scope → index_value scope h.variable ≡ None → step_is_right p.constants h.step ≡ true → (limits (names_in p scope) h u).result ≡ Ok l → 1 ≤ k → k ≤ (entered_with p n h body seen l).count → IsInNest s p (nest ++ loop n h ∷ []) (frame (entered_with p n h body seen l) k ∷ scope) }

@@ -17,14 +17,14 @@ ghost use Rattle.ped_flow.specs.ped_affine.specs.PairViews.{Site, depths_of, ter
 ghost use Rattle.ped_laws.specs.Covering.Weights.{HaveValues};
 ghost use Rattle.ped_laws.specs.Covering.Together.{StandTogether, IsSolvedBy, indices_among, side_values, AgreeOnOthers, AreDistinct};
 
-/// Where values of the loops make both subscripts of each position equal, no position and no group excludes the vector in
-/// whose directions they stand: it is one of those of the view.
+/// Where values of the loops make both subscripts of each position equal, no position and no group excludes the vector
+/// of their directions: it is one of those of the view.
 pub fn equal_subscripts()
     ensures { (v : View) (vector : List Direction) (at : Indices) → IsView v → StandTogether v vector at → All (IsSolvedBy at) v.positions → IsPossible v vector }
 {}
 
-/// Where both subscripts of a position come to one number, and the variables that belong to no loop have one value on
-/// both sides, the values of the loops' variables make the position's subscripts equal: what the other variables add
+/// Where both subscripts of a position evaluate to one number, and the variables that belong to no loop have one value
+/// on both sides, the values of the loops' variables make the position's subscripts equal: what the other variables add
 /// cancels.
 pub fn equal_values()
     ensures { (s : Setting) (source sink : Site) (e g : ExprTree) (from to : List ℕ → ℤ) (at_source at_sink : Names) (before behind : Store) (n : ℤ)

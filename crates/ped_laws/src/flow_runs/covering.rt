@@ -12,10 +12,10 @@ ghost use Rattle.ped_laws.specs.FlowRuns.Covering.{AreCovered, stops_in_loop, so
 
 /// Where statements run without a fault, some path of them covers their acts, as to a scalar and the cell that it
 /// stands for at their place: what they read before they write it, the path reads before it overwrites it; what the
-/// path overwrites, they write; and where the scalar has a value at the path's end, the cell holds a number behind
+/// path overwrites, they write; and where the scalar has a value at the path's end, the cell holds a number after
 /// them. A path overwrites the variable of a DO at its entry and a private name at each iteration's start, while the
 /// cell is written at the exit; between them nothing reads it. The run's statements may count under other numbers,
-/// and its constants may be any; the scalar is no named constant, and no STOP stands in a DO.
+/// and its constants may be any; the scalar is no named constant, and no STOP is in a DO.
 pub fn paths_cover_runs()
     ensures statement { (p : Setting) (constants : List (List ℕ)) (x : List ℕ) (t : StmtTree) (n : ℕ) (scope : Scope) (s : Store) → is_among x constants ≡ false → stops_in_loop t ≡ false → AreCovered (paths constants t n) x (cell_of scope x) (touches_of (run p t n scope s).acts) (run p t n scope s).ending }
     ensures statements { (p : Setting) (constants : List (List ℕ)) (x : List ℕ) (ts : StmtTrees) (n : ℕ) (scope : Scope) (s : Store) → is_among x constants ≡ false → some_stops_in_loop ts ≡ false → AreCovered (all_paths constants ts n) x (cell_of scope x) (touches_of (run_all p ts n scope s).acts) (run_all p ts n scope s).ending }

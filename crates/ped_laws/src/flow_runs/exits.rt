@@ -19,17 +19,17 @@ ghost use Rattle.ped_flow.specs.ped_tree.specs.NamesIn.{saved_in};
 ghost use Rattle.ped_laws.specs.FlowRuns.Covering.{some_stops_in_loop};
 ghost use Rattle.ped_laws.specs.FlowRuns.Exits.{IsOneToOne, Follows, IsExit};
 
-/// Behind each exit of a DO in a run that ends without a fault, some path from the DO's exit follows the acts, as to a
-/// scalar and the cell that it stands for where the DO stands: what they read before they write it, the path reads
+/// After each exit of a DO in a run that ends without a fault, some path from the DO's exit follows the acts, as to a
+/// scalar and the cell that it stands for where the DO is: what they read before they write it, the path reads
 /// before it overwrites it; and where the cell is the scalar's own, what the path overwrites they write. A copy that
-/// belongs to an iteration of a loop round the DO isn't written again where the path begins another iteration. The
-/// scalar is no named constant, no STOP stands in a DO, and each statement counts under a number of its own.
+/// belongs to an iteration of a loop around the DO isn't written again where the path begins another iteration. The
+/// scalar is no named constant, no STOP is in a DO, and each statement counts under a number of its own.
 pub fn exits_are_followed()
     ensures { (p : Setting) (t : ProgramTree) → IsOneToOne p.number → some_stops_in_loop t.body ≡ false → (x : List ℕ) → is_among x (constant_names t.decls) ≡ false → (s : Store) (l : ℕ) (scope : Scope) (behind : List Act) → IsExit p t s l scope behind → (path : List Event) × Whole (paths_from_exit t l) path × Follows x (Scalar x) (cell_of scope x) path (touches_of behind) }
 {}
 
-/// Where a scalar isn't live after a DO, the acts behind each exit of the DO don't want the cell that the scalar stands
-/// for there: an act that reads it stands behind one that writes it, and where the cell is the scalar's own and the
+/// Where a scalar isn't live after a DO, the acts after each exit of the DO don't want the cell that the scalar stands
+/// for there: an act that reads it follows one that writes it, and where the cell is the scalar's own and the
 /// scalar is in SAVE, some act writes it before the end. So what the cell holds at the exit doesn't count. `shown` are
 /// the cells that count at the end.
 pub fn dead_exits()

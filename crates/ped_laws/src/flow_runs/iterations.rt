@@ -16,14 +16,14 @@ ghost use Rattle.ped_eval.specs.Outcomes.{Ends};
 ghost use Rattle.ped_flow.specs.Questions.{LoopOf, IsExposed, IsContained};
 ghost use Rattle.ped_laws.specs.FlowRuns.Covering.{is_cell_of, some_stop};
 
-/// A scalar that isn't exposed in a DO: no iteration that runs without a fault reads the cell, for which the scalar
-/// stands at the DO, before it writes it there. The iteration may be any that some limits give, and the store any.
+/// A scalar that isn't exposed in a DO: no iteration that runs without a fault reads the cell that the scalar stands
+/// for at the DO before it writes it there. The iteration may be any that some limits give, and the store any.
 pub fn unexposed_unneeded()
     ensures { (t : ProgramTree) (l : ℕ) (loop : LoopOf t l) (x : List ℕ) → is_among x (constant_names t.decls) ≡ false → some_stop loop.body ≡ false → ((n : ℕ) → IsExposed t l x n → ⊥) → (p : Setting) (scope : Scope) (seen : List Seen) (m : Limits) (k : ℕ) (s : Store) → Ends (run_all p loop.body (l + 1) (frame (entered_with p l loop.head loop.body seen m) k ∷ scope) s).ending → needs (run_all p loop.body (l + 1) (frame (entered_with p l loop.head loop.body seen m) k ∷ scope) s).acts (cell_of scope x) ≡ false }
 {}
 
 /// In a contained DO no act of an iteration reads a cell of the DO's variable or of the variable of a DO in it, its own
-/// cells and its copies, also in a run that faults: where such a variable is read, the place tells its value.
+/// cells and its copies, also in a run that faults: where such a variable is read, the place gives its value.
 pub fn contained_unread()
     ensures { (t : ProgramTree) (l : ℕ) (loop : LoopOf t l) (x : List ℕ) → is_among x (constant_names t.decls) ≡ false → IsContained t l → is_among x (loop_variables (Do loop.head loop.body)) ≡ true → (p : Setting) (scope : Scope) (f : Frame) (s : Store) → f.variable ≡ loop.head.variable → ReadNone (is_cell_of x) (run_all p loop.body (l + 1) (f ∷ scope) s).acts }
 {}

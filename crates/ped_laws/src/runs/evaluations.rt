@@ -6,7 +6,7 @@ ghost use Rattle.ped_eval.specs.Values.{value, values, truth, target};
 ghost use Rattle.ped_eval.specs.Loops.{limits};
 ghost use Rattle.ped_laws.specs.Runs.Seeing.{IsToldBySight};
 
-/// What an evaluation sees tells what it comes to: from each store that holds the same, it comes to the same value or
+/// What an evaluation sees determines its result: from each store that holds the same, it gives the same value or
 /// fault. For reads that come into a program, as those of bounds that are evaluated more often.
 pub fn seen_values()
     ensures value { (g : Names) (e : ExprTree) → IsToldBySight (value g e) }

@@ -37,7 +37,7 @@ pub fn parallel_turns_joined()
     ensures ended { (left k : ℕ) (e : Entered) (body : Frame → Store → Run) (acts : List Act) (finish : Finish) → is_going finish ≡ false → Replays (body (frame e k)) acts finish → Replays (parallel_turns (suc left) k e body) acts finish }
 {}
 
-/// A DO does its entry and its turns; a PARALLEL DO is closed behind its turns, where they go on and there are some.
+/// A DO does its entry and its turns; a PARALLEL DO is closed after its turns, where they go on and there are some.
 pub fn loops_joined()
     ensures in_order { (p : Setting) (h : Head) (body : StmtTrees) (n : ℕ) (scope : Scope) (seen : List Seen) (e : Entered) (acts : List Act) (finish : Finish) → IsEntered p n scope h body seen e → h.parallel ≡ false → Replays (turns e.count 1 e scope (place_of p n scope) (body_run p body n scope)) acts finish → Replays (run p (Do h body) n scope) (act (entered e.count) (place_of p n scope) (entry_touches seen e scope) ∷ acts) finish }
     ensures empty { (p : Setting) (h : Head) (body : StmtTrees) (n : ℕ) (scope : Scope) (seen : List Seen) (e : Entered) → IsEntered p n scope h body seen e → e.count ≡ 0 → Replays (run p (Do h body) n scope) (act (entered e.count) (place_of p n scope) (entry_touches seen e scope) ∷ []) goes_on }

@@ -34,7 +34,7 @@ pub fn parallel_turns_parted()
     ensures ended { (p : Setting) (body : StmtTrees) (n left k : ℕ) (scope : Scope) (e : Entered) (s : Store) → is_going (finish_of (body_run p body n scope (frame e k) s).ending) ≡ false → parallel_turns (suc left) k e (body_run p body n scope) s ≡ body_run p body n scope (frame e k) s }
 {}
 
-/// A run of a DO is its entry, and then its turns; that of a PARALLEL DO is closed behind its turns, where they go on.
+/// A run of a DO is its entry, and then its turns; that of a PARALLEL DO is closed after its turns, where they go on.
 pub fn loops_parted()
     ensures entry { (p : Setting) (h : Head) (body : StmtTrees) (n : ℕ) (scope : Scope) (s : Store) (l : Limits) → (limits (names_in p scope) h s).result ≡ Ok l
         → let e = entered_with p n h body (limits (names_in p scope) h s).seen l in let entry = act (entered e.count) (place_of p n scope) (entry_touches (limits (names_in p scope) h s).seen e scope) in run p (Do h body) n scope s ≡ behind (entry ∷ []) (run_entered h.parallel e.count e scope (place_of p n scope) (body_run p body n scope) (store_after (entry ∷ []) s)) }

@@ -11,9 +11,9 @@ ghost use Rattle.ped_eval.specs.Runs.{Run, turns, parallel_turns, run, run_all};
 ghost use Rattle.ped_eval.specs.Turns.{body_run};
 ghost use Rattle.ped_laws.specs.Runs.Replaying.{Finish, finish_of, ending_with, Replays, IsToldByActs};
 
-/// The acts of a piece of a run tell it: they fit the store that it starts from, and from each store that they fit it
-/// does the same acts, ends alike, and leaves the store that they leave. A piece is a statement, or statements, or what
-/// is left of the turns of a DO, at any place of a program. For turning laws of lists into laws of programs.
+/// The acts of a piece of a run determine it: they fit the store that it starts from, and from each store that they fit
+/// it does the same acts, ends alike, and leaves the store that they leave. A piece is a statement, or statements, or
+/// the rest of the turns of a DO, at any place of a program. For turning laws of lists into laws of programs.
 pub fn told_by_acts()
     ensures statement { (p : Setting) (t : StmtTree) (n : ℕ) (scope : Scope) → IsToldByActs (run p t n scope) }
     ensures statements { (p : Setting) (ts : StmtTrees) (n : ℕ) (scope : Scope) → IsToldByActs (run_all p ts n scope) }
@@ -21,7 +21,7 @@ pub fn told_by_acts()
     ensures parallel_turns { (p : Setting) (body : StmtTrees) (n left k : ℕ) (scope : Scope) (e : Entered) → IsToldByActs (parallel_turns left k e (body_run p body n scope)) }
 {}
 
-/// A piece that its acts tell ends with the store that they leave.
+/// A piece that its acts determine ends with the store that they leave.
 pub fn own_store()
     ensures { (piece : Store → Run) (s : Store) → IsToldByActs piece → (piece s).ending ≡ ending_with (finish_of (piece s).ending) (store_after (piece s).acts s) }
 {}

@@ -28,7 +28,7 @@ pub fn own_stores()
     ensures accesses { (p : Setting) (ts : StmtTrees) (n : ℕ) (scope : Scope) (s : Store) (a b : Act) (x y : Access) → HaveCopies scope (all_loop_variables ts) → IsIn a (run_all p ts n scope s).acts → IsIn b (run_all p ts n scope s).acts → are_apart a.place.turns b.place.turns ≡ true → IsIn x (accesses_of a) → IsIn y (accesses_of b) → x.writes ≡ true → x.reference ≡ 0 → conflict x y ≡ false }
 {}
 
-/// Acts of a run that conflict have references that do: where they stand in two iterations of a PARALLEL DO, and where
+/// Acts of a run that conflict have references that do: where they are in two iterations of a PARALLEL DO, and where
 /// what DO loops store of themselves lies in a set of cells that don't count. For finding the dependence that forbids
 /// another order.
 pub fn references_meet()
@@ -41,7 +41,7 @@ pub fn references_conflict()
     ensures { (p : Setting) (ts : StmtTrees) (n : ℕ) (scope : Scope) (s : Store) (a b : Act) → IsIn a (run_all p ts n scope s).acts → IsIn b (run_all p ts n scope s).acts → Meeting a b → acts_conflict a b ≡ true }
 {}
 
-/// In a run without a fault each read of a cell finds a number, so what is undefined isn't needed behind. For cells that
+/// In a run without a fault each read of a cell finds a number, so what is undefined isn't needed after. For cells that
 /// a step leaves undefined.
 pub fn reads_find_numbers()
     ensures read { (p : Setting) (ts : StmtTrees) (n : ℕ) (scope : Scope) (s : Store) (a : Act) (t : Touch) → has_fault (finish_of (run_all p ts n scope s).ending) ≡ false → IsIn a (run_all p ts n scope s).acts → IsIn t a.touches → t.manner ≡ reads → is_lines t.cell ≡ false → (v : ℤ) × (t.content ≡ Number v) }

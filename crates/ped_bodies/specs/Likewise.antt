@@ -18,7 +18,7 @@ pub record NamesScalars (name : Cell → Cell) : Type 0 where
   pub input : name In ≡ In
   pub output : name Out ≡ Out
 
--- this holds of each cell that is seen, and of the cells of DO variables whose values places tell (plain words)
+-- this holds of each cell that is seen, and of the cells of DO variables whose values places give (plain words)
 abbrev pub OfSeen : (Cell → Type 0) → List Seen → Type 0
 OfSeen P [] = Unit {0}
 OfSeen P (cell_seen c content ∷ more) = P c × OfSeen P more
@@ -42,19 +42,19 @@ AllMeet name idle [] (y ∷ ys) = ⊥
 AllMeet name idle (x ∷ xs) [] = ⊥
 AllMeet name idle (x ∷ xs) (y ∷ ys) = Meets name idle x y × AllMeet name idle xs ys
 
--- evaluations have seen alike: cells that correspond, in order, with the same contents; so references count alike. What places tell may differ (this project)
+-- evaluations have seen alike: cells that correspond, in order, with the same contents; so references count alike. What places give may differ (this project)
 pub record AreSeenAlike (name : Cell → Cell) (idle : Cell → Bool) (xs ys : List Seen) : Type 0 where
   pub touches : (n : ℕ) → AllMeet name idle (of_cells (numbered n xs)) (of_cells (numbered n ys))
   pub behind : (n : ℕ) → number_behind n ys ≡ number_behind n xs
 
--- from each store that holds what it sees, an evaluation comes to this value, and it sees alike what was seen before; neither the data nor the output are among that (this project)
+-- from each store that holds what it sees, an evaluation gives this value, and it sees alike what was seen before; neither the data nor the output are among that (this project)
 pub record ComesLikewise {X : Type 0} (name : Cell → Cell) (idle : Cell → Bool) (before : List Seen) (e : Store → Evaluated X) (x : X) : Type 0 where
   pub seen : List Seen
   pub comes : ComesTo e seen (Ok x)
   pub alike : AreSeenAlike name idle before seen
   pub apart : OfSeen (λ c. is_lines c ≡ false) seen
 
--- an act is done likewise: the same step of the statement with the new number, in the other iterations and, further inside, in the same ones under new numbers; it touches cells that correspond. What places tell may differ (this project)
+-- an act is done likewise: the same step of the statement with the new number, in the other iterations and, further inside, in the same ones under new numbers; it touches cells that correspond. What places give may differ (this project)
 pub record IsLikewise (name : Cell → Cell) (idle : Cell → Bool) (f : ℕ → ℕ) (turns others : List Turn) (a b : Act) : Type 0 where
   pub step : b.step ≡ a.step
   pub statement : b.place.statement ≡ f a.place.statement
@@ -86,7 +86,7 @@ pub record IsMadeLikewise (name : Cell → Cell) (idle : Cell → Bool) (f : ℕ
   pub old : x.place.turns ≡ turns ++ more
   pub new : y.place.turns ≡ others ++ map (renumbered_turn f) more
 
--- an access among those of acts is no more than the value of a DO variable, which a place tells (this project)
+-- an access among those of acts is no more than the value of a DO variable, which a place gives (this project)
 pub record IsOnlyTold (acts : List Act) (y : Access) : Type 0 where
   pub by : Act
   pub found : IsIn by acts

@@ -23,13 +23,13 @@ is_cell_among names (Element x subscripts) = false
 is_cell_among names In = false
 is_cell_among names Out = false
 
--- what stands behind some iterations in a path that begins with them (plain words)
+-- what follows some iterations in a path that begins with them (plain words)
 abbrev pub behind_front : List Iteration → List Iteration → Option (List Iteration)
 behind_front [] path = Some path
 behind_front (i ∷ front) [] = None
 behind_front (i ∷ front) (j ∷ path) = if same_iteration i j then behind_front front path else None
 
--- a path, where something stands behind its front, and that is exchanged (plain words)
+-- a path, where something follows its front, and that is exchanged (plain words)
 abbrev pub with_rest : List Iteration → (List Iteration → List Iteration) → List Iteration → Option (List Iteration) → List Iteration
 with_rest front g path None = path
 with_rest front g path (Some rest) = front ++ g rest
@@ -54,7 +54,7 @@ transposed outer inner column row (i ∷ []) = i ∷ []
 transposed outer inner column row (i ∷ (j ∷ more)) =
     if i.statement == outer then record { statement = outer; number = column i.number j.number } ∷ (record { statement = inner; number = row i.number j.number } ∷ more) else i ∷ (j ∷ more)
 
--- iterations of a loop in strips of so many: the number of the strip, and the number in it (this project)
+-- iterations of a loop in strips of this many: the number of the strip, and the number in it (this project)
 abbrev pub in_strips : (l inner size : ℕ) → List Iteration → List Iteration
 in_strips l inner size [] = []
 in_strips l inner size (i ∷ more) =
@@ -72,7 +72,7 @@ abbrev pub in_loop : (l other : ℕ) → List Iteration → List Iteration
 in_loop l other [] = []
 in_loop l other (i ∷ more) = if i.statement == l then record { statement = other; number = i.number } ∷ more else i ∷ more
 
--- what stands behind a front, where anything does, begins with one of so many iterations of this loop (this project)
+-- what follows a front, where anything does, begins with one of this many iterations of this loop (this project)
 abbrev pub IsOfTrips : (l n : ℕ) → Option (List Iteration) → Type 0
 IsOfTrips l n None = Unit {0}
 IsOfTrips l n (Some []) = Unit {0}
@@ -85,14 +85,14 @@ IsInsideTrips l n (Some []) = Unit {0}
 IsInsideTrips l n (Some (i ∷ [])) = ⊥
 IsInsideTrips l n (Some (i ∷ (j ∷ more))) = (i.statement ≡ l) × (1 ≤ i.number) × (i.number ≤ n)
 
--- what stands behind a front, where anything does, begins with an iteration of an outer loop and one of an inner loop that are done (this project)
+-- what follows a front, where anything does, begins with an iteration of an outer loop and one of an inner loop that are done (this project)
 abbrev pub IsOfPairs : (outer inner : ℕ) → (ℕ → ℕ → Bool) → Option (List Iteration) → Type 0
 IsOfPairs outer inner done None = Unit {0}
 IsOfPairs outer inner done (Some []) = Unit {0}
 IsOfPairs outer inner done (Some (i ∷ [])) = ⊥
 IsOfPairs outer inner done (Some (i ∷ (j ∷ more))) = (i.statement ≡ outer) × (j.statement ≡ inner) × (done i.number j.number ≡ true)
 
--- a cell that is no copy, or one of whose path this holds: of what stands behind the front (this project)
+-- a cell that is no copy, or one of whose path this holds: of what follows the front (this project)
 abbrev pub LiesBehind : (Option (List Iteration) → Type 0) → List Iteration → Cell → Type 0
 LiesBehind P front (Scalar x) = Unit {0}
 LiesBehind P front (Private x path) = P (behind_front front path)
@@ -104,7 +104,7 @@ LiesBehind P front Out = Unit {0}
 abbrev pub NamesApart : (Option (List Iteration) → Type 0) → List Iteration → (Cell → Cell) → Type 0
 NamesApart P front name = (c d : Cell) → LiesBehind P front c → LiesBehind P front d → name c ≡ name d → c ≡ d
 
--- new numbers of two iterations tell the old ones, of those that are done (this project)
+-- new numbers of two iterations determine the old ones, of those that are done (this project)
 abbrev pub TellNumbers : (ℕ → ℕ → Bool) → (column row : ℕ → ℕ → ℕ) → Type 0
 TellNumbers done column row = (i j m n : ℕ) → done i j ≡ true → done m n ≡ true → column i j ≡ column m n → row i j ≡ row m n → (i ≡ m) × (j ≡ n)
 
@@ -113,15 +113,15 @@ abbrev pub HaveNoCopies : Scope → Type 0
 HaveNoCopies [] = Unit {0}
 HaveNoCopies (f ∷ fs) = (f.private ≡ []) × HaveNoCopies fs
 
--- iterations inside a place, old ones and new ones: a path behind the front goes where the names lead (this project)
+-- iterations inside a place, old ones and new ones: a path after the front goes where the names lead (this project)
 abbrev pub LeadTo : (List Iteration → List Iteration) → (ℕ → ℕ) → (fs gs : Scope) → Type 0
 LeadTo g f fs gs = (more : List Iteration) → g (iterations_of (turns_of fs) ++ more) ≡ iterations_of (turns_of gs) ++ map (renumbered_iteration f) more
 
--- two iterations tell the same: the same variable has the same value (this project)
+-- two iterations give the same: the same variable has the same value (this project)
 abbrev pub TellAlike : Frame → Frame → Type 0
 TellAlike r z = (z.variable ≡ r.variable) × (z.turn.value ≡ r.turn.value)
 
--- both places tell the same of the DO variables among these names (this project)
+-- both places give the same values to the DO variables among these names (this project)
 abbrev pub TellTheSame : List (List ℕ) → (scope other : Scope) → Type 0
 TellTheSame names scope other = (x : List ℕ) → is_among x names ≡ true → index_value other x ≡ index_value scope x
 
@@ -132,11 +132,11 @@ HaveSameCopies names [] (g ∷ gs) = ⊥
 HaveSameCopies names (f ∷ fs) [] = ⊥
 HaveSameCopies names (f ∷ fs) (g ∷ gs) = (g.turn.statement ≡ f.turn.statement) × (g.turn.number ≡ f.turn.number) × ((x : List ℕ) → is_among x names ≡ false → is_among x g.private ≡ is_among x f.private) × HaveSameCopies names fs gs
 
--- an expression has this value at a place, and further inside DO loops with variables among these, but not with this one: places and constants tell it (this project)
+-- an expression has this value at a place, and further inside DO loops with variables among these, but not with this one: places and constants determine it (this project)
 abbrev pub ToldInside : Setting → List (List ℕ) → List ℕ → Scope → ExprTree → ℤ → Type 0
 ToldInside q loops x other e v = (fs : Scope) → HaveVariablesIn loops fs → index_value fs x ≡ None → IsTold (value (names_in q (fs ++ other)) e) v
 
--- the variable of a DO gives way to an expression at another place: it has the variable's value there, and both places tell the same of the other names (this project)
+-- the variable of a DO gives way to an expression at another place: it has the variable's value there, and both places give the same values to the other names (this project)
 pub record GivesWayTo (q : Setting) (names loops : List (List ℕ)) (x : List ℕ) (by : ExprTree) (scope other : Scope) : Type 0 where
   pub value : ℤ
   pub index : index_value scope x ≡ Some value

@@ -1,4 +1,4 @@
--- Two places at which statements do likewise, one before and one behind a step: what names stand for at the second corresponds to what they stand for at the first (this project).
+-- Two places at which statements do likewise, one before and one after a step: what names stand for at the second corresponds to what they stand for at the first (this project).
 use Rattle.std.specs.Prelude.{◌≡◌, ℕ, ◌+◌, ◌<◌, ℤ, List, [], ◌∷◌, ◌++◌, map, Bool, true, Some, None, Ok}
 use Rattle.ped_steps.specs.ped_flow.specs.ped_base.specs.Lists.{is_among}
 use Rattle.ped_steps.specs.ped_flow.specs.ped_tree.specs.Tree.{ExprTree, Var, StmtTrees}
@@ -25,7 +25,7 @@ SeesNoCell [] = Unit {0}
 SeesNoCell (cell_seen c content ∷ more) = ⊥
 SeesNoCell (index_seen c v ∷ more) = SeesNoCell more
 
--- an evaluation comes to this value whatever the store holds: places and constants tell it (this project)
+-- an evaluation gives this value whatever the store holds: places and constants determine it (this project)
 pub record IsTold (e : Store → Evaluated ℤ) (v : ℤ) : Type 0 where
   pub comes : (s : Store) → (e s).result ≡ Ok v
   pub unseen : (s : Store) → SeesNoCell (e s).seen
@@ -35,14 +35,14 @@ abbrev pub HaveVariablesIn : List (List ℕ) → Scope → Type 0
 HaveVariablesIn names [] = Unit {0}
 HaveVariablesIn names (f ∷ fs) = (is_among f.variable names ≡ true) × HaveVariablesIn names fs
 
--- for the rewriting and these names, expressions evaluate likewise at the second place: what the first tells of a DO variable, the rewritten variable comes to there; what the first doesn't tell, the second doesn't tell, and it isn't rewritten, nor are constants; cells of scalars correspond (this project)
+-- for the rewriting and these names, expressions evaluate likewise at the second place: where the first gives a DO variable a value, the rewritten variable evaluates to it there; a name to which the first gives no value gets none from the second, and isn't rewritten, nor are constants; cells of scalars correspond (this project)
 pub record EvaluateLikewise (h : ExprTree → ExprTree) (name : Cell → Cell) (idle : Cell → Bool) (q : Setting) (names : List (List ℕ)) (scope other : Scope) : Type 0 where
   pub told : (x : List ℕ) (v : ℤ) → is_among x names ≡ true → value_named q.constants x ≡ None → index_value scope x ≡ Some v → IsTold (value (names_in q other) (h (Var x))) v
   pub untold : (x : List ℕ) → is_among x names ≡ true → index_value scope x ≡ None → (h (Var x) ≡ Var x) × (index_value other x ≡ None)
   pub constant : (x : List ℕ) (n : ℤ) → value_named q.constants x ≡ Some n → h (Var x) ≡ Var x
   pub cell : (x : List ℕ) → is_among x names ≡ true → Meet name idle (cell_of scope x) (cell_of other x)
 
--- for the rewriting and these names, the second place stands for the first: what the first tells of a DO variable, the rewritten variable comes to at the second, and further inside DO loops of other variables; what the first doesn't tell, the second doesn't tell, and it isn't rewritten, nor are constants; cells of scalars correspond, and copies of iterations further inside (this project)
+-- for the rewriting and these names, the second place stands for the first: where the first gives a DO variable a value, the rewritten variable evaluates to it at the second, and further inside DO loops of other variables; a name to which the first gives no value gets none from the second, and isn't rewritten, nor are constants; cells of scalars correspond, and copies of iterations further inside (this project)
 pub record StandLikewise (h : ExprTree → ExprTree) (name : Cell → Cell) (idle : Cell → Bool) (f : ℕ → ℕ) (q : Setting) (names loops : List (List ℕ)) (scope other : Scope) : Type 0 where
   pub told : (x : List ℕ) (v : ℤ) (fs : Scope) → is_among x names ≡ true → value_named q.constants x ≡ None → index_value scope x ≡ Some v → HaveVariablesIn loops fs → index_value fs x ≡ None → IsTold (value (names_in q (fs ++ other)) (h (Var x))) v
   pub untold : (x : List ℕ) → is_among x names ≡ true → index_value scope x ≡ None → (h (Var x) ≡ Var x) × (index_value other x ≡ None)
@@ -50,17 +50,17 @@ pub record StandLikewise (h : ExprTree → ExprTree) (name : Cell → Cell) (idl
   pub cell : (x : List ℕ) → is_among x names ≡ true → Meet name idle (cell_of scope x) (cell_of other x)
   pub inside : (x : List ℕ) (i : Iteration) (more : List Iteration) → is_among x names ≡ true → Meet name idle (Private x (iterations_of (turns_of scope) ++ i ∷ more)) (Private x (iterations_of (turns_of other) ++ map (renumbered_iteration f) (i ∷ more)))
 
--- statements count as the old ones by the new numbers: so many, the first of which has one number in the old program and another in the new one (this project)
+-- statements count as the old ones by the new numbers: this many, the first of which has one number in the old program and another in the new one (this project)
 abbrev pub CountBy : (ℕ → ℕ) → Setting → Setting → ℕ → ℕ → ℕ → Type 0
 CountBy f p q n m count = (k : ℕ) → k < count → q.number (m + k) ≡ f (p.number (n + k))
 
--- two settings agree on statements, of which the first has one number in the old program and another in the new one: on constants, on the bounds of arrays named there, and on numbers, the new ones being told from the old ones (this project)
+-- two settings agree on statements, of which the first has one number in the old program and another in the new one: on constants, on the bounds of arrays named there, and on numbers, the new ones being computed from the old ones (this project)
 pub record SettingsAgree (f : ℕ → ℕ) (p q : Setting) (ts : StmtTrees) (n m : ℕ) : Type 0 where
   pub constants : p.constants ≡ q.constants
   pub bounds : AgreeInBounds p.bounds q.bounds (stmts_names ts)
   pub numbers : CountBy f p q n m (statements_count ts)
 
--- statements stand rewritten at another place so that they do likewise (this project)
+-- statements are rewritten at another place so that they do likewise (this project)
 pub record StandRewritten (h : ExprTree → ExprTree) (name : Cell → Cell) (idle : Cell → Bool) (f : ℕ → ℕ) (p q : Setting) (ts : StmtTrees) (n m : ℕ) (scope other : Scope) : Type 0 where
   pub may : MayBeRewritten h p.constants ts
   pub agree : SettingsAgree f p q ts n m

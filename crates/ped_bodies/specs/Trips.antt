@@ -16,7 +16,7 @@ use Rattle.ped_steps.specs.ped_laws.specs.Runs.Replaying.{goes_on, finish_of, ac
 use Rattle.ped_bodies.specs.Likewise.{AreLikewise}
 use Rattle.ped_bodies.specs.Standing.{GoLikewise}
 
--- the bounds of a DO have values with this store, within their range: what is read for the terminal value comes behind what is read for the initial one (ANSI X3.9-1978, section 11.10.3; this project)
+-- the bounds of a DO have values with this store, within their range: what is read for the terminal value comes after what is read for the initial one (ANSI X3.9-1978, section 11.10.3; this project)
 pub record HasLimits (g : Names) (d : Head) (s : Store) (l : Limits) : Type 0 where
   pub first : (value g d.first s).result ≡ Ok l.first
   pub last : (value g d.last s).result ≡ Ok l.last
@@ -32,7 +32,7 @@ loop_entry seen e scope at = act (entered e.count) at (entry_touches seen e scop
 abbrev pub trip_end : Entered → Scope → Place → ℕ → List Act
 trip_end e scope at k = if e.head.parallel then [] else act (ended_turn (e.count - k)) at (exit_when_none (e.count - k) e scope) ∷ []
 
--- so many trips with their ends, the first of which has number k (ANSI X3.9-1978, sections 11.10.4 to 11.10.7)
+-- this many trips with their ends, the first of which has number k (ANSI X3.9-1978, sections 11.10.4 to 11.10.7)
 abbrev pub trips : Entered → Scope → Place → (ℕ → List Act) → (k count : ℕ) → List Act
 trips e scope at trip k count = flat_map (λ j. trip j ++ trip_end e scope at j) (range_with_len k count)
 

@@ -13,10 +13,10 @@ ghost use Rattle.ped_steps.specs.Runs.Substituting.{AreSameOn};
 ghost use Rattle.ped_bodies.specs.Likewise.{NamesScalars, AreLikewise, IsMadeLikewise, IsOnlyTold};
 ghost use Rattle.ped_bodies.specs.Moving.{own_number};
 
-/// What comes of acts that are done likewise. Where no cell is idle they are acts on renamed cells; else they are without
-/// what they write to idle cells, if they read none and names lead idle cells to idle cells. In the same iterations under
-/// the same numbers each stands at its old place. What is done likewise in an iteration is done likewise round it; and
-/// lists are put together. For leading bodies to the laws of lists.
+/// What comes of acts that are done likewise. Where no cell is idle they are acts on renamed cells; else they are
+/// without what they write to idle cells, if they read none and names lead idle cells to idle cells. In the same
+/// iterations under the same numbers each is at its old place. What is done likewise in an iteration is done likewise
+/// around it; and lists are put together. For leading bodies to the laws of lists.
 pub fn likewise_acts()
     ensures renamed { (name : Cell → Cell) (f : ℕ → ℕ) (turns others : List Turn) (acts fresh : List Act) → AreLikewise name nothing f turns others acts fresh → Renamed name acts fresh }
     ensures stripped { (name : Cell → Cell) (idle : Cell → Bool) (f : ℕ → ℕ) (turns others : List Turn) (acts fresh : List Act) → ((c : Cell) → idle (name c) ≡ idle c) → ReadNone idle acts → AreLikewise name idle f turns others acts fresh → Renamed name (without idle acts) (without idle fresh) × ReadNone idle fresh }
@@ -25,8 +25,8 @@ pub fn likewise_acts()
     ensures joined { (name : Cell → Cell) (idle : Cell → Bool) (f : ℕ → ℕ) (turns others : List Turn) (acts fresh more further : List Act) → AreLikewise name idle f turns others acts fresh → AreLikewise name idle f turns others more further → AreLikewise name idle f turns others (acts ++ more) (fresh ++ further) }
 {}
 
-/// Each access of acts that are done likewise is made likewise by one of the old acts, or it is no more than the value of
-/// a DO variable, which its place tells. For races: what is put in place of a piece has its accesses from there.
+/// Each access of acts that are done likewise is made likewise by one of the old acts, or it is no more than the value
+/// of a DO variable, which its place gives. For races: what is put in place of a piece has its accesses from there.
 pub fn likewise_accesses()
     ensures { (name : Cell → Cell) (idle : Cell → Bool) (f : ℕ → ℕ) (turns others : List Turn) (acts fresh : List Act) → NamesScalars name → ((c : Cell) → idle c ≡ true → is_lines c ≡ false) → AreLikewise name idle f turns others acts fresh → (y : Access) → IsIn y (accesses fresh)
         → ((x : Access) × IsIn x (accesses acts) × IsMadeLikewise name idle f turns others x y) ⊎ IsOnlyTold fresh y }

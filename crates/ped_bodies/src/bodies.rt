@@ -19,7 +19,7 @@ ghost use Rattle.ped_bodies.specs.Rewriting.{MayBeRewritten};
 ghost use Rattle.ped_bodies.specs.Standing.{SettingsAgree, GoLikewise};
 
 /// A body does likewise in another iteration: of the same loop, where that is reversed; of another loop, as where it is
-/// distributed; of a strip; of what is left of a loop behind a peeled iteration; and of two loops that are
+/// distributed; of a strip; of the rest of a loop after a peeled iteration; and of two loops that are
 /// interchanged. In the order of the clauses.
 pub fn bodies_in_other_iterations()
     ensures reversed { (p q : Setting) (ts : StmtTrees) (n m : ℕ) (scope : Scope) (l k : ℕ) (r z : Frame) → SettingsAgree own_number p q ts n m → r.turn.statement ≡ l → z.turn.statement ≡ l → z.turn.number ≡ k + 1 - r.turn.number → TellAlike r z → z.private ≡ r.private
@@ -36,10 +36,10 @@ pub fn bodies_in_other_iterations()
         → GoLikewise (moved_behind (iterations_of (turns_of scope)) (transposed outer inner column row)) nothing own_number p q ts ts n m (j ∷ (i ∷ scope)) (r ∷ (z ∷ scope)) }
 {}
 
-/// Statements do likewise in the same iterations where some names have other copies; which DO is parallel doesn't count.
-/// The cells of these names are idle. For the body of a loop that becomes parallel or serial, and for what stands round a
-/// loop in which a step brings or takes a name. And they do likewise where cells have changed places, as where a scalar
-/// becomes private.
+/// Statements do likewise in the same iterations where some names have other copies; which DO is parallel doesn't
+/// count. The cells of these names are idle. For the body of a loop that becomes parallel or serial, and for what is
+/// around a loop in which a step brings or takes a name. And they do likewise where cells have changed places, as where
+/// a scalar becomes private.
 pub fn bodies_with_other_copies()
     ensures idle { (p q : Setting) (ts : StmtTrees) (n m : ℕ) (apart : List (List ℕ)) (scope other : Scope) → SettingsAgree own_number p q ts n m → HaveSameCopies apart scope other → TellTheSame (stmts_names ts) scope other → GoLikewise own_name (is_cell_among apart) own_number p q ts ts n m scope other }
     ensures exchanged { (p q : Setting) (ts : StmtTrees) (n m : ℕ) (name : Cell → Cell) (scope other : Scope) → SettingsAgree own_number p q ts n m → IsExchange name → AreExchanged name scope other → GoLikewise name nothing own_number p q ts ts n m scope other }
@@ -60,10 +60,10 @@ pub fn bodies_substituted()
         → GoLikewise (moved_behind (iterations_of (turns_of scope)) (in_loop l k)) nothing own_number p q ts (statements_substituted r.variable (Var z.variable) ts) n m (r ∷ scope) (z ∷ scope) }
 {}
 
-/// The names that steps give the copies of a loop's trips are different: where the loop is reversed, where its iterations
-/// become those of another loop, where it is cut into strips, where an iteration is peeled off, whose copies count by
-/// numbers that tell the old ones and are not the loop's, and where two loops are interchanged. For exchanging lists,
-/// which asks that names are one to one on the cells that the acts touch.
+/// The names that steps give the copies of a loop's trips are different: where the loop is reversed, where its
+/// iterations become those of another loop, where it is cut into strips, where an iteration is peeled off, whose copies
+/// count by numbers that determine the old ones and are not the loop's, and where two loops are interchanged. For
+/// exchanging lists, which asks that names are one to one on the cells that the acts touch.
 pub fn names_of_trips_apart()
     ensures reversed { (front : List Iteration) (l n : ℕ) → NamesApart (IsOfTrips l n) front (moved_behind front (turned l n)) }
     ensures in_another_loop { (front : List Iteration) (l k n : ℕ) → NamesApart (IsOfTrips l n) front (moved_behind front (in_loop l k)) }

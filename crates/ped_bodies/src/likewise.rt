@@ -15,7 +15,7 @@ ghost use Rattle.ped_bodies.specs.Moving.{TellTheSame, GivesWayTo, CellsCorrespo
 ghost use Rattle.ped_bodies.specs.Rewriting.{IsRewriting, statements_rewritten, MayBeRewritten};
 ghost use Rattle.ped_bodies.specs.Standing.{SettingsAgree, StandRewritten, GoLikewise};
 
-/// Statements that stand rewritten at another place do there likewise what they did: from each store that the new acts
+/// Statements that are rewritten at another place do there likewise what they did: from each store that the new acts
 /// fit, the same steps on cells that correspond, in iterations that correspond; and they end alike, if they met no
 /// fault before. For each step that moves the body of a loop to other iterations, or substitutes in it.
 pub fn statements_likewise()
@@ -25,8 +25,8 @@ pub fn statements_likewise()
         → GoLikewise name idle f p q ts (statements_rewritten h ts) n m scope other }
 {}
 
-/// The same of statements that aren't rewritten, where both places tell the same of DO variables; and of statements in
-/// which the variable of a DO gives way to an expression that has its value at the other place.
+/// The same of statements that aren't rewritten, where both places give the same values to DO variables; and of
+/// statements in which the variable of a DO gives way to an expression that has its value at the other place.
 pub fn bodies_likewise()
     ensures moved { (f : ℕ → ℕ) (p q : Setting) (ts : StmtTrees) (n m : ℕ) (name : Cell → Cell) (idle : Cell → Bool) (scope other : Scope) → SettingsAgree f p q ts n m → NamesScalars name → TellTheSame (stmts_names ts) scope other → CellsCorrespond name idle f (stmts_names ts) scope other
         → GoLikewise name idle f p q ts ts n m scope other }

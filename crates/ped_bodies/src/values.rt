@@ -19,8 +19,8 @@ ghost use Rattle.ped_bodies.specs.Rewriting.{IsRewriting, unchanged, head_rewrit
 ghost use Rattle.ped_bodies.specs.Standing.{EvaluateLikewise};
 
 /// An expression that has a value comes, rewritten and at another place, to the same value, from each store that holds
-/// what it sees there; so do the bounds of a DO. An expression that isn't rewritten evaluates likewise where both places
-/// tell the same. For bounds that a new loop reads, as that of an inner loop one loop further out.
+/// what it sees there; so do the bounds of a DO. An expression that isn't rewritten evaluates likewise where both
+/// places give the same. For bounds that a new loop reads, as that of an inner loop one loop further out.
 pub fn values_likewise()
     ensures value { (h : ExprTree → ExprTree) (hs : ExprTrees → ExprTrees) (name : Cell → Cell) (idle : Cell → Bool) (p q : Setting) (scope other : Scope) → IsRewriting h hs → NamesScalars name → p.constants ≡ q.constants → (e : ExprTree) → AgreeInBounds p.bounds q.bounds (expr_names e) → EvaluateLikewise h name idle q (expr_names e) scope other
         → (s : Store) (v : ℤ) → (value (names_in p scope) e s).result ≡ Ok v → ComesLikewise name idle (value (names_in p scope) e s).seen (value (names_in q other) (h e)) v }
@@ -29,9 +29,9 @@ pub fn values_likewise()
     ensures moved { (name : Cell → Cell) (idle : Cell → Bool) (q : Setting) (names : List (List ℕ)) (scope other : Scope) → TellTheSame names scope other → ((x : List ℕ) → is_among x names ≡ true → Meet name idle (cell_of scope x) (cell_of other x)) → EvaluateLikewise unchanged name idle q names scope other }
 {}
 
-/// What stands for the variable of a DO has a value that places tell, also further inside: literals; the variable itself,
-/// by its value at the new place; another variable of a DO round the place that no DO inside has; multiples of these; and sums, differences,
-/// products and negations of such expressions, where they don't overflow.
+/// What stands for the variable of a DO has a value that places give, also further inside: literals; the variable
+/// itself, by its value at the new place; another variable of a DO around the place that no DO inside has; multiples of
+/// these; and sums, differences, products and negations of such expressions, where they don't overflow.
 pub fn values_told_inside()
     ensures number { (q : Setting) (loops : List (List ℕ)) (x : List ℕ) (other : Scope) (n : ℕ) → ToldInside q loops x other (Int n) (pos n) }
     ensures literal { (q : Setting) (loops : List (List ℕ)) (x : List ℕ) (other : Scope) (n : ℤ) → is_in_range n ≡ true → ToldInside q loops x other (literal n) n }

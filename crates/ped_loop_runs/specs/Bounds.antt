@@ -5,11 +5,11 @@ use Rattle.ped_loop_runs.specs.ped_bodies.specs.ped_steps.specs.ped_laws.specs.p
 use Rattle.ped_loop_runs.specs.ped_bodies.specs.ped_steps.specs.ped_laws.specs.ped_store.specs.Cells.{Cell, Scalar}
 use Rattle.ped_loop_runs.specs.ped_bodies.specs.ped_steps.specs.ped_laws.specs.ped_eval.specs.Evaluation.{Seen, cell_seen, index_seen, Evaluated}
 
--- the own cell of a scalar that keeps its value in the outermost DO that is a DO or is round it (this project)
+-- the own cell of a scalar that keeps its value in the outermost DO that is a DO or is around it (this project)
 abbrev pub IsOfFixed : Values → ProgramTree → ℕ → Cell → Type 0
 IsOfFixed constants t l c = (x : List ℕ) × (c ≡ Scalar x) × IsFixed constants t l x
 
--- two evaluations read the same: the same cells, of this kind all of them, with the same contents; and places tell the same values of DO variables (this project)
+-- two evaluations read the same: the same cells, of this kind all of them, with the same contents; and places give the same values of DO variables (this project)
 abbrev pub ReadTheSame : (Cell → Type 0) → List Seen → List Seen → Type 0
 ReadTheSame P [] [] = Unit {0}
 ReadTheSame P [] (y ∷ ys) = ⊥
@@ -20,7 +20,7 @@ ReadTheSame P (index_seen c m ∷ xs) [] = ⊥
 ReadTheSame P (index_seen c m ∷ xs) (cell_seen d other ∷ ys) = ⊥
 ReadTheSame P (index_seen c m ∷ xs) (index_seen d n ∷ ys) = (n ≡ m) × ReadTheSame P xs ys
 
--- two evaluations come to the same value or fault, and read the same (this project)
+-- two evaluations give the same value or fault, and read the same (this project)
 pub record ComeToTheSame {X : Type 0} (P : Cell → Type 0) (a b : Evaluated X) : Type 0 where
   pub result : b.result ≡ a.result
   pub seen : ReadTheSame P a.seen b.seen

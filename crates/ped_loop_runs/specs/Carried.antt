@@ -33,7 +33,7 @@ pub record MakeConflict (t : ProgramTree) (first : Store) (a b : Access) (source
 abbrev pub IsCoveredAt : ProgramTree → List Edge → Option ℕ → Access → Access → Type 0
 IsCoveredAt t edges level a b = (covered : IsCovered t edges a b) × (covered.edge.level ≡ level)
 
--- a dependence covers two accesses, and the loop inside these iterations carries it: one of its vectors has `=` for these, `<` for that loop, and then the directions in which the accesses stand in the loops in it (Allen and Kennedy, section 2.2.5)
+-- a dependence covers two accesses, and the loop inside these iterations carries it: one of its vectors has `=` for these, `<` for that loop, and then the directions in which the accesses are in the loops in it (Allen and Kennedy, section 2.2.5)
 pub record IsCarriedInside (t : ProgramTree) (edges : List Edge) (outer is js : List Turn) (a b : Access) : Type 0 where
   pub covered : IsCovered t edges a b
   pub level : covered.edge.level ≡ Some (length outer + 1)
@@ -41,7 +41,7 @@ pub record IsCarriedInside (t : ProgramTree) (edges : List Edge) (outer is js : 
   pub vector : covered.vector ≡ map (λ (i : Turn). Same) outer ++ Before ∷ rest
   pub inside : StandInDirections t is js rest
 
--- the statement with a number stands in the body of the DO with number l (plain words)
+-- the statement with a number is in the body of the DO with number l (plain words)
 abbrev pub is_in_body : (l : ℕ) → StmtTrees → ℕ → Bool
 is_in_body l body n = nat_lt l n && nat_le n (l + statements_count body)
 
@@ -54,7 +54,7 @@ is_level n (Some level) = level == n
 abbrev pub is_carried_by : ProgramTree → (l : ℕ) → StmtTrees → Edge → Bool
 is_carried_by t l body e = is_level (length (nest_round t l) + 1) e.level && (is_in_body l body e.source.0 && is_in_body l body e.sink.0)
 
--- two accesses stand in two iterations of one execution of the DO with number l, the first in the earlier one (ANSI X3.9-1978, section 11.10)
+-- two accesses are in two iterations of one execution of the DO with number l, the first in the earlier one (ANSI X3.9-1978, section 11.10)
 pub record AreInTrips (l : ℕ) (outer : List Turn) (i j : Turn) (is js : List Turn) (a b : Access) : Type 0 where
   pub at_first : a.place.turns ≡ outer ++ i ∷ is
   pub at_second : b.place.turns ≡ outer ++ j ∷ js
@@ -70,7 +70,7 @@ IsCarriedByLoop t edges l body outer is js a b = (c : IsCarriedInside t edges ou
 abbrev pub StandIn : List Turn → Turn → List Act → Type 0
 StandIn outer i acts = (a : Act) → IsIn a acts → (inner : List Turn) × (a.place.turns ≡ outer ++ i ∷ inner)
 
--- in a run of a program these acts are done in one iteration of the DO with number l, and those behind them in a later iteration of the same execution (ANSI X3.9-1978, section 11.10)
+-- in a run of a program these acts are done in one iteration of the DO with number l, and those after them in a later iteration of the same execution (ANSI X3.9-1978, section 11.10)
 pub record AreTrips (t : ProgramTree) (data_bytes : List ℕ) (l : ℕ) (earlier later : List Act) : Type 0 where
   pub front : List Act
   pub between : List Act

@@ -6,7 +6,7 @@ use Rattle.ped_bodies.specs.ped_steps.specs.ped_laws.specs.ped_store.specs.Acts.
 use Rattle.ped_bodies.specs.ped_steps.specs.ped_laws.specs.Acts.Renaming.{touch}
 use Rattle.ped_bodies.specs.ped_steps.specs.ped_laws.specs.Acts.Sets.{wants}
 
--- a cell belongs to these acts alone, which are done from this store behind the front and before what is behind: it is undefined when they begin, no other act reads or writes it, and what is behind doesn't want it, unless it is shown at the end (ParaScope; this project)
+-- a cell belongs to these acts alone, which are done from this store after the front and before what follows: it is undefined when they begin, no other act reads or writes it, and what follows doesn't want it, unless it is shown at the end (ParaScope; this project)
 pub record IsTheirs (front behind : List Act) (u : Store) (c : Cell) : Type 0 where
   pub undefined : u c ≡ Undefined
   pub untouched_before : touch front c ≡ false

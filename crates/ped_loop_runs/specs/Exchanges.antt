@@ -34,7 +34,7 @@ start_of x = number_at x.gap 1
 abbrev pub loop_of : Exchange → ℕ
 loop_of x = start_of x + statements_count x.front
 
--- the second program has the new statements where the first has the old ones, the same named constants and the same SAVE; no STOP stands in the new ones. Comments that have come to the front of the program stand among its declarations (ParaScope; this project)
+-- the second program has the new statements where the first has the old ones, the same named constants and the same SAVE; no STOP is in the new ones. Comments that have come to the front of the program are among its declarations (ParaScope; this project)
 pub record IsExchanged (x : Exchange) (t u : ProgramTree) : Type 0 where
   pub old_body : t.body ≡ filled x.gap (old_of x)
   pub comments : StmtTrees
@@ -44,7 +44,7 @@ pub record IsExchanged (x : Exchange) (t u : ProgramTree) : Type 0 where
   pub saved : flat_map saved_in u.decls ≡ flat_map saved_in t.decls
   pub unstopped : some_stop x.new ≡ false
 
--- the statement with number k stays and has number m now: before the gap it keeps its number, behind it counts on from the new statements (plain words)
+-- the statement with number k stays and has number m now: before the gap it keeps its number, after it counts on from the new statements (plain words)
 abbrev pub IsStaying : Exchange → ℕ → ℕ → Type 0
 IsStaying x k m = ((k < start_of x) × (m ≡ k)) ⊎ ((i : ℕ) × (k ≡ start_of x + statements_count (old_of x) + i) × (m ≡ start_of x + statements_count x.new + i))
 
@@ -61,7 +61,7 @@ pub record IsUnused (t : ProgramTree) (w : List ℕ) : Type 0 where
   pub unwritten : all_write (constant_names t.decls) w t.body ≡ false
   pub unsaved : is_among w (flat_map saved_in t.decls) ≡ false
 
--- the new statements leave alone what a tidy program leaves alone. The variables of the old DO loops are those of new ones, and what further variables these have, the old program doesn't use; none of the old ones may be shown behind the old DO. The new statements write no name that the old ones don't, and no PARALLEL DO among them writes its variables where none of the old ones does; and where some path through them leaves a name as it is that is no variable of theirs, so does one through the old ones (ParaScope; this project)
+-- the new statements leave alone what a tidy program leaves alone. The variables of the old DO loops are those of new ones, and what further variables these have, the old program doesn't use; none of the old ones may be shown after the old DO. The new statements write no name that the old ones don't, and no PARALLEL DO among them writes its variables where none of the old ones does; and where some path through them leaves a name as it is that is no variable of theirs, so does one through the old ones (ParaScope; this project)
 pub record LeavesAlone (x : Exchange) (t : ProgramTree) : Type 0 where
   pub variables : (w : List ℕ) → KeepsVariable x w
   pub further : (w : List ℕ) → is_among w (all_loop_variables x.new) ≡ true → is_among w (all_loop_variables (old_of x)) ≡ false → IsUnused t w

@@ -14,7 +14,7 @@ use Rattle.ped_bodies.specs.ped_steps.specs.ped_laws.specs.ped_flow.specs.PlainB
 use Rattle.ped_bodies.specs.ped_steps.specs.ped_laws.specs.ped_flow.specs.Questions.{LoopOf}
 use Rattle.ped_bodies.specs.ped_steps.specs.Runs.Pasting.{IsPlaceOf, IsInOutermost, IsDone}
 
--- a copy that belongs to an iteration of a DO with one of these numbers, so many from n on, or of one in such a DO; the DO stands in these iterations (ParaScope; this project)
+-- a copy that belongs to an iteration of a DO with one of these numbers, this many from n on, or of one in such a DO; the DO is in these iterations (ParaScope; this project)
 pub record IsCopyInside (p : Setting) (scope : Scope) (n count : ℕ) (c : Cell) : Type 0 where
   pub name : List ℕ
   pub statement : ℕ
@@ -24,7 +24,7 @@ pub record IsCopyInside (p : Setting) (scope : Scope) (n count : ℕ) (c : Cell)
   pub rest : List Iteration
   pub is : c ≡ Private name (iterations_of (turns_of scope) ++ (record { statement = p.number statement; number = number }) ∷ rest)
 
--- a place stands in such an iteration (ANSI X3.9-1978, section 11.10; this project)
+-- a place is in such an iteration (ANSI X3.9-1978, section 11.10; this project)
 pub record StandsInside (p : Setting) (scope : Scope) (n count : ℕ) (turns : List Turn) : Type 0 where
   pub statement : ℕ
   pub from : n ≤ statement
@@ -33,11 +33,11 @@ pub record StandsInside (p : Setting) (scope : Scope) (n count : ℕ) (turns : L
   pub rest : List Iteration
   pub is : iterations_of turns ≡ iterations_of (turns_of scope) ++ (record { statement = p.number statement; number = number }) ∷ rest
 
--- no act touches such a copy, nor does its place tell the value of one; and none stands in such an iteration (this project)
+-- no act touches such a copy, nor does its place give the value of one; and none is in such an iteration (this project)
 abbrev pub LeaveCopies : Setting → Scope → ℕ → ℕ → List Act → Type 0
 LeaveCopies p scope n count acts = (a : Act) → IsIn a acts → ((t : Touch) → IsIn t a.touches → IsCopyInside p scope n count t.cell → ⊥) × (StandsInside p scope n count a.place.turns → ⊥)
 
--- an act of one of so many statements from number n on, done in these iterations or further inside (this project)
+-- an act of one of this many statements from number n on, done in these iterations or further inside (this project)
 pub record IsActInside (p : Setting) (scope : Scope) (n count : ℕ) (a : Act) : Type 0 where
   pub number : ℕ
   pub from : n ≤ number
@@ -46,11 +46,11 @@ pub record IsActInside (p : Setting) (scope : Scope) (n count : ℕ) (a : Act) :
   pub more : List Turn
   pub turns : a.place.turns ≡ turns_of scope ++ more
 
--- none of these acts is one of so many statements from number n on in these iterations, or further inside (this project)
+-- none of these acts is one of this many statements from number n on in these iterations, or further inside (this project)
 abbrev pub LeavePlaces : Setting → Scope → ℕ → ℕ → List Act → Type 0
 LeavePlaces p scope n count acts = (a : Act) → IsIn a acts → IsActInside p scope n count a → ⊥
 
--- an iteration of a DO of the program that has been entered in these iterations round it: its limits came with the store that the first ones of these acts have left, and it is one of the DO's iterations (ANSI X3.9-1978, sections 11.10.3 to 11.10.7)
+-- an iteration of a DO of the program that has been entered in these iterations around it: its limits came with the store that the first ones of these acts have left, and it is one of the DO's iterations (ANSI X3.9-1978, sections 11.10.3 to 11.10.7)
 pub record IsEntered (p : Setting) (t : ProgramTree) (acts : List Act) (first : Store) (outer : Scope) (f : Frame) : Type 0 where
   pub number : ℕ
   pub loop : LoopOf t number
@@ -67,17 +67,17 @@ pub record IsEntered (p : Setting) (t : ProgramTree) (acts : List Act) (first : 
   pub to : turn ≤ (entered_with p number loop.head loop.body seen bounds).count
   pub is : f ≡ frame (entered_with p number loop.head loop.body seen bounds) turn
 
--- each of these iterations has been entered in those round it (ANSI X3.9-1978, section 11.10.3)
+-- each of these iterations has been entered in those around it (ANSI X3.9-1978, section 11.10.3)
 abbrev pub AreEntered : Setting → ProgramTree → List Act → Store → Scope → Type 0
 AreEntered p t acts first [] = Unit {0}
 AreEntered p t acts first (f ∷ outer) = IsEntered p t acts first outer f × AreEntered p t acts first outer
 
--- the iterations round these acts have been entered in the execution of the outermost DO, where one is round them (ANSI X3.9-1978, section 11.10.3; this project)
+-- the iterations around these acts have been entered in the execution of the outermost DO, where one is around them (ANSI X3.9-1978, section 11.10.3; this project)
 abbrev pub AreEnteredIn : (p : Setting) (t : ProgramTree) (start : Store) (l : ℕ) (scope : Scope) (acts : List Act) (u : Store) → IsInOutermost p t start l scope acts u → Type 0
 AreEnteredIn p t start l [] acts u x = Unit {0}
 AreEnteredIn p t start l (f ∷ fs) acts u x = AreEntered p t (run p (Do x.loop.head x.loop.body) (outermost_or l (nest_round t l)) [] x.first).acts x.first (f ∷ fs)
 
--- in a run of a program, which begins with a store, these acts of so many statements from number l on are done in these iterations, from this store, behind the front and before what is behind: the iterations have been entered, no other act touches the copies that belong to iterations inside the statements, or stands in such an iteration, and none is one of theirs in these iterations (ANSI X3.9-1978, section 11.10; this project)
+-- in a run of a program, which begins with a store, these acts of this many statements from number l on are done in these iterations, from this store, after the front and before what follows: the iterations have been entered, no other act touches the copies that belong to iterations inside the statements, or is in such an iteration, and none is one of theirs in these iterations (ANSI X3.9-1978, section 11.10; this project)
 pub record IsExecuted (p : Setting) (t : ProgramTree) (start : Store) (l count : ℕ) (scope : Scope) (front acts behind : List Act) (u : Store) : Type 0 where
   pub place : IsPlaceOf p t l scope
   pub whole : (run_all p t.body 1 [] start).acts ≡ front ++ (acts ++ behind)

@@ -21,7 +21,7 @@ use Rattle.ped_bodies.specs.ped_steps.specs.Runs.Gaps.{Gap, number_at}
 use Rattle.ped_bodies.specs.ped_steps.specs.Runs.Renumbering.{IsToldBack, renumbered}
 use Rattle.ped_loop_runs.specs.Pasting.{IsPasted, DoInstead, StandInstead, AreExchanged}
 
--- a set of cells is told for all acts that are left to do, so that acts which stay may stand for themselves: it has what they need, and what is in the set for the acts behind them is in it, or they write it; and at the end it has what is shown (Allen and Kennedy, section 4.4; this project)
+-- a set of cells is given for all acts that are left to do, so that acts which stay may stand for themselves: it has what they need, and what is in the set for the acts after them is in it, or they write it; and at the end it has what is shown (Allen and Kennedy, section 4.4; this project)
 pub record SuitEnds (shown : Cell → Bool) (agreed : List Act → Cell → Bool) : Type 0 where
   pub needed : (acts rest : List Act) (c : Cell) → needs acts c ≡ true → agreed (acts ++ rest) c ≡ true
   pub kept : (acts rest : List Act) (c : Cell) → agreed rest c ≡ true → (agreed (acts ++ rest) c ≡ true) ⊎ (written acts c ≡ true)
@@ -32,7 +32,7 @@ abbrev pub RaceFreeInstead : (p : Setting) (t : ProgramTree) (start : Store) (l 
 RaceFreeInstead p t start l count piece fresh program =
     (parts : List Part) → old_parts parts ≡ (run_all p t.body 1 [] start).acts → new_parts parts ≡ (program start).acts → AreExchanged p t start l count piece fresh [] parts [] start → HasNoRace (accesses (old_parts parts)) → HasNoRace (accesses (new_parts parts))
 
--- a program in which statements are exchanged for others, and what a step shows of it: the same names are saved, and are of the same kinds; statements of the new one count under numbers that tell them, those that stay under their old ones; and on all data on which the old program runs without a fault and without a race, the new statements do the new acts in each execution, these may stand for the old ones, and they make no race (ParaScope; this project)
+-- a program in which statements are exchanged for others, and what a step shows of it: the same names are saved, and are of the same kinds; statements of the new one count under numbers that determine them, those that stay under their old ones; and on all data on which the old program runs without a fault and without a race, the new statements do the new acts in each execution, these may stand for the old ones, and they make no race (ParaScope; this project)
 pub record IsExchange (gap : Gap) (old new : StmtTrees) (t u : ProgramTree) : Type 0 where
   pub saved : flat_map saved_in u.decls ≡ flat_map saved_in t.decls
   pub kinds : (x : List ℕ) → is_among x (live_names t) ≡ true → kind_in u x ≡ kind_in t x

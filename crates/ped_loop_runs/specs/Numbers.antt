@@ -21,12 +21,12 @@ abbrev pub AreApart : List (ℕ × ℕ) → Type 0
 AreApart [] = Unit {0}
 AreApart (x ∷ xs) = ((y : ℕ × ℕ) → IsIn y xs → (y.0 ≡ x.0 → ⊥) × (y.1 ≡ x.1 → ⊥)) × AreApart xs
 
--- so many numbers in a row, each with one of another row (plain words)
+-- this many numbers in a row, each with one of another row (plain words)
 abbrev pub in_a_row : (from to count : ℕ) → List (ℕ × ℕ)
 in_a_row from to zero = []
 in_a_row from to (suc count) = (from, to) ∷ in_a_row (from + 1) (to + 1) count
 
--- the statements of a program with so many in all, where so many from number l on have given way to so many others: those before them and behind them keep their numbers, and others count as these pairs say (this project)
+-- the statements of a program, where old ones from number l on have given way to new ones, by the counts of the old ones, of the new ones and of all statements: those before them and after them keep their numbers, and others count as these pairs say (this project)
 abbrev pub kept_numbers : (l old new all : ℕ) → List (ℕ × ℕ) → List (ℕ × ℕ)
 kept_numbers l old new all inside = in_a_row 0 0 l ++ (in_a_row (l + new) (l + old) (all + 1 - (l + old)) ++ inside)
 

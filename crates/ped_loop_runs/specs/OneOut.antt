@@ -5,7 +5,7 @@ use Rattle.ped_loop_runs.specs.ped_bodies.specs.ped_steps.specs.ped_laws.specs.p
 use Rattle.ped_loop_runs.specs.ped_bodies.specs.ped_steps.specs.ped_laws.specs.ped_flow.specs.PlainBounds.{nest_round}
 use Rattle.ped_loop_runs.specs.ped_bodies.specs.ped_steps.specs.ped_laws.specs.ped_flow.specs.Questions.{LoopOf}
 
--- the statement with number m stands in the DO with number l, and the loops round it are those round that DO, and it (ANSI X3.9-1978, section 11.10.1)
+-- the statement with number m is in the DO with number l, and the loops around it are those around that DO, and it (ANSI X3.9-1978, section 11.10.1)
 pub record IsNextIn (t : ProgramTree) (l : ℕ) (outer : LoopOf t l) (m : ℕ) : Type 0 where
   pub from : l < m
   pub to : m ≤ l + statements_count outer.body

@@ -1,4 +1,4 @@
--- Cut and paste where a step brings a name into PARALLEL DO loops round the statements, or takes it away: their iterations have other copies then (ParaScope; this project).
+-- Cut and paste where a step brings a name into PARALLEL DO loops around the statements, or takes it away: their iterations have other copies then (ParaScope; this project).
 use Rattle.std.specs.Prelude.{◌≡◌, ℕ, ◌+◌, ◌<◌, ◌≤◌, List, [], ◌∷◌, ◌++◌, Bool, true, false, ◌⊎◌}
 use Rattle.std.specs.Str.Lines.{lines}
 use Rattle.std.specs.List.{flat_map}
@@ -32,7 +32,7 @@ use Rattle.ped_loop_runs.specs.Executions.{IsExecuted}
 use Rattle.ped_loop_runs.specs.Meaning.{SuitEnds}
 use Rattle.ped_loop_runs.specs.Pasting.{CountAlike, AreChangedBy}
 
--- two places in the same iterations, which tell the same values of DO variables: a scalar stands for the same cell at both, but for these names, and what one of them stands for at the first place stands apart where it is another cell at the second (ParaScope; this project)
+-- two places in the same iterations, which give the same values of DO variables: a scalar stands for the same cell at both, but for these names, and what one of them stands for at the first place is apart where it is another cell at the second (ParaScope; this project)
 pub record AreNear (names : List (List ℕ)) (apart : Cell → Bool) (scope other : Scope) : Type 0 where
   pub turns : turns_of other ≡ turns_of scope
   pub index : (x : List ℕ) → index_value other x ≡ index_value scope x
@@ -42,7 +42,7 @@ pub record AreNear (names : List (List ℕ)) (apart : Cell → Bool) (scope othe
 abbrev pub HaveSameIndicesBut : List (List ℕ) → StmtTrees → StmtTrees → Type 0
 HaveSameIndicesBut names old new = (x : List ℕ) → is_among x names ≡ false → is_among x (all_loop_variables new) ≡ is_among x (all_loop_variables old)
 
--- this holds of each PARALLEL DO round a gap, by its number, its head and the gap in its body; the first statement of all has number n (plain words)
+-- this holds of each PARALLEL DO around a gap, by its number, its head and the gap in its body; the first statement of all has number n (plain words)
 abbrev pub OfParallelRound : (ℕ → Head → Gap → Type 0) → Gap → ℕ → Type 0
 OfParallelRound P (at_front rest) n = Unit {0}
 OfParallelRound P (past s gap) n = OfParallelRound P gap (n + statement_count s)
@@ -50,7 +50,7 @@ OfParallelRound P (in_then condition gap else_part rest) n = OfParallelRound P g
 OfParallelRound P (in_else condition then_part gap rest) n = OfParallelRound P gap (n + 1 + statements_count then_part)
 OfParallelRound P (in_body h gap rest) n = (h.parallel ≡ true → P n h gap) × OfParallelRound P gap (n + 1)
 
--- in a PARALLEL DO with these statements in the gap, and with others there, the iterations have copies of the same names; where they have one of one of these names, which its head doesn't name, with some statements alone, what that name stands for there stands apart; and where it does so and was there with the old ones, it isn't there with the new ones (ParaScope; this project)
+-- in a PARALLEL DO with these statements in the gap, and with others there, the iterations have copies of the same names; where they have one of one of these names, which its head doesn't name, with some statements alone, what that name stands for there is apart; and where it does so and was there with the old ones, it isn't there with the new ones (ParaScope; this project)
 pub record HasOtherCopies (names : List (List ℕ)) (apart : Cell → Bool) (p : Setting) (old new : StmtTrees) (n : ℕ) (h : Head) (gap : Gap) : Type 0 where
   pub variable : is_among h.variable names ≡ false
   pub private : (x : List ℕ) → is_among x h.private ≡ true → is_among x names ≡ false
@@ -58,7 +58,7 @@ pub record HasOtherCopies (names : List (List ℕ)) (apart : Cell → Bool) (p :
       ⊎ ((scope : Scope) (seen : List Seen) (m : Limits) (k : ℕ) → apart (cell_of (frame (entered_with p n h (filled gap old) seen m) k ∷ scope) x) ≡ true)
   pub went : (x : List ℕ) → is_among x names ≡ true → is_among x (all_loop_variables (filled gap old)) ≡ true → ((scope : Scope) (seen : List Seen) (m : Limits) (k : ℕ) → apart (cell_of (frame (entered_with p n h (filled gap old) seen m) k ∷ scope) x) ≡ true) → is_among x (all_loop_variables (filled gap new)) ≡ false
 
--- the same as of statements that are exchanged, where a PARALLEL DO round them finds other variables of DO loops in it among these names (ParaScope; this project)
+-- the same as of statements that are exchanged, where a PARALLEL DO around them finds other variables of DO loops in it among these names (ParaScope; this project)
 pub record IsPastedBut (names : List (List ℕ)) (apart : Cell → Bool) (p q : Setting) (gap : Gap) (old new : StmtTrees) (t u : ProgramTree) : Type 0 where
   pub old_body : t.body ≡ filled gap old
   pub new_body : u.body ≡ filled gap new
@@ -71,26 +71,26 @@ pub record IsPastedBut (names : List (List ℕ)) (apart : Cell → Bool) (p q : 
   pub indices : is_in_parallel t (number_at gap 1) ≡ true → HaveSameIndicesBut names old new
   pub round : OfParallelRound (HasOtherCopies names apart p old new) gap 1
 
--- an act is one of the statements with these numbers, so many from l on (plain words)
+-- an act is one of the statements with these numbers, this many from l on (plain words)
 abbrev pub IsOfThese : Setting → (l count : ℕ) → Act → Type 0
 IsOfThese p l count a = (k : ℕ) × (l ≤ k) × (k < l + count) × (a.place.statement ≡ p.number k)
 
--- a PARALLEL DO round the statement with number l (ParaScope)
+-- a PARALLEL DO around the statement with number l (ParaScope)
 pub record IsParallelRound (t : ProgramTree) (l number : ℕ) : Type 0 where
   pub loop : LoopOf t number
   pub parallel : loop.head.parallel ≡ true
   pub from : number < l
   pub to : l ≤ number + statements_count loop.body
 
--- the act leaves a PARALLEL DO round the statement with number l (ParaScope)
+-- the act leaves a PARALLEL DO around the statement with number l (ParaScope)
 abbrev pub LeavesParallel : Setting → ProgramTree → (l : ℕ) → Act → Type 0
 LeavesParallel p t l a = (number : ℕ) × IsParallelRound t l number × (a.place.statement ≡ p.number number) × (is_exit a.step ≡ true)
 
--- of these acts, those of other statements touch no cell that stands apart, but for what a PARALLEL DO round the statements stores of itself when it is left (ParaScope; this project)
+-- of these acts, those of other statements touch no cell that is apart, but for what a PARALLEL DO around the statements stores of itself when it is left (ParaScope; this project)
 abbrev pub LeaveApart : (apart : Cell → Bool) → Setting → ProgramTree → (l count : ℕ) → List Act → Type 0
 LeaveApart apart p t l count acts = (a : Act) → IsIn a acts → (x : Touch) → IsIn x a.touches → apart x.cell ≡ true → IsOfThese p l count a ⊎ (LeavesParallel p t l a × (is_own_store x ≡ true))
 
--- the exit of a PARALLEL DO round the statements, and what it is in the new program: the one makes these names undefined at its place, and the other those at a place near it; both are the same, but for the names, of which one that stands apart in its iterations has gone (ParaScope; this project)
+-- the exit of a PARALLEL DO around the statements, and what it is in the new program: the one makes these names undefined at its place, and the other those at a place near it; both are the same, but for the names, of which one that is apart in its iterations has gone (ParaScope; this project)
 pub record IsOtherExit (names : List (List ℕ)) (apart : Cell → Bool) (p : Setting) (t : ProgramTree) (start : Store) (l : ℕ) (front behind : List Act) (u : Store) (old new : List Act) : Type 0 where
   pub number : ℕ
   pub round : IsParallelRound t l number
@@ -111,7 +111,7 @@ pub record IsOtherExit (names : List (List ℕ)) (apart : Cell → Bool) (p : Se
   pub whole : (run_all p t.body 1 [] start).acts ≡ front ++ (old ++ behind)
   pub from : u ≡ store_after front start
 
--- an execution that goes on of so many statements from number l on, and what is done in its place at a place near it (this project)
+-- an execution that goes on of this many statements from number l on, and what is done in its place at a place near it (this project)
 pub record IsExchangedNear (names : List (List ℕ)) (apart : Cell → Bool) (p : Setting) (t : ProgramTree) (start : Store) (l count : ℕ) (piece : Scope → Store → Run) (fresh : (scope other : Scope) → Store → List Act) (front behind : List Act) (u : Store) (old new : List Act) : Type 0 where
   pub scope : Scope
   pub other : Scope
@@ -121,12 +121,12 @@ pub record IsExchangedNear (names : List (List ℕ)) (apart : Cell → Bool) (p 
   pub old_is : old ≡ (piece scope u).acts
   pub new_is : new ≡ fresh scope other u
 
--- the changed parts of a list of acts, which is done from this store behind the front and before what is behind, are executions of what stands at the number, and exits of PARALLEL DO loops round it (ParaScope; this project)
+-- the changed parts of a list of acts, which is done from this store after the front and before what follows, are executions of the statements at the number, and exits of PARALLEL DO loops around it (ParaScope; this project)
 abbrev pub AreExchangedNear : (names : List (List ℕ)) (apart : Cell → Bool) (p : Setting) (t : ProgramTree) (start : Store) (l count : ℕ) (piece : Scope → Store → Run) (fresh : (scope other : Scope) → Store → List Act) → List Act → List Part → List Act → Store → Type 0
 AreExchangedNear names apart p t start l count piece fresh =
     AreChangedBy (λ front behind u old new. IsExchangedNear names apart p t start l count piece fresh front behind u old new ⊎ IsOtherExit names apart p t start l front behind u old new)
 
--- this holds of each execution that goes on of so many statements from number l on, and of each place near it (plain words)
+-- this holds of each execution that goes on of this many statements from number l on, and of each place near it (plain words)
 abbrev pub OfExecutionsNear : (names : List (List ℕ)) (apart : Cell → Bool) (p : Setting) (t : ProgramTree) (start : Store) (l count : ℕ) (piece : Scope → Store → Run) → (Scope → Scope → List Act → Store → Type 0) → Type 0
 OfExecutionsNear names apart p t start l count piece P = (scope other : Scope) (front behind : List Act) (u : Store) → AreNear names apart scope other → IsExecuted p t start l count scope front (piece scope u).acts behind u → finish_of (piece scope u).ending ≡ goes_on → P scope other behind u
 
@@ -134,7 +134,7 @@ OfExecutionsNear names apart p t start l count piece P = (scope other : Scope) (
 abbrev pub DoNear : (names : List (List ℕ)) (apart : Cell → Bool) (p q : Setting) (t : ProgramTree) (start : Store) (l count : ℕ) (piece : Scope → Store → Run) (others : StmtTrees) (fresh : (scope other : Scope) → Store → List Act) → Type 0
 DoNear names apart p q t start l count piece others fresh = OfExecutionsNear names apart p t start l count piece λ scope other behind u. Replays (run_all q others l other) (fresh scope other u) goes_on
 
--- for each execution, the new acts may stand for the old ones, where a set of cells is told for the acts from there on on which the stores agree (this project)
+-- for each execution, the new acts may stand for the old ones, where for the acts from there on a set of cells is given on which the stores agree (this project)
 abbrev pub StandNear : (agreed : List Act → Cell → Bool) (names : List (List ℕ)) (apart : Cell → Bool) (p : Setting) (t : ProgramTree) (start : Store) (l count : ℕ) (piece : Scope → Store → Run) (fresh : (scope other : Scope) → Store → List Act) → Type 0
 StandNear agreed names apart p t start l count piece fresh = OfExecutionsNear names apart p t start l count piece λ scope other behind u.
     StandsFor (record { agreed = agreed ((piece scope u).acts ++ behind); old = (piece scope u).acts; new = fresh scope other u }) (agreed behind) u
@@ -143,7 +143,7 @@ StandNear agreed names apart p t start l count piece fresh = OfExecutionsNear na
 abbrev pub IsUndefinedInBoth : {names : List (List ℕ)} {apart : Cell → Bool} {p : Setting} {t : ProgramTree} {start : Store} {l : ℕ} {front behind : List Act} {u : Store} {old new : List Act} → IsOtherExit names apart p t start l front behind u old new → List ℕ → Type 0
 IsUndefinedInBoth e x = (is_among x e.undefined ≡ true) × (is_among x e.undefined_now ≡ true) × (cell_of e.other x ≡ cell_of e.scope x)
 
--- behind each exit of a PARALLEL DO round the statements nothing is asked of what one of these names stands for there, where the exit makes it undefined in one of the two programs alone (ParaScope; this project)
+-- after each exit of a PARALLEL DO around the statements nothing is asked of what one of these names stands for there, where the exit makes it undefined in one of the two programs alone (ParaScope; this project)
 abbrev pub AskNothing : (agreed : List Act → Cell → Bool) (names : List (List ℕ)) (apart : Cell → Bool) (p : Setting) (t : ProgramTree) (start : Store) (l : ℕ) → Type 0
 AskNothing agreed names apart p t start l =
     (front behind : List Act) (u : Store) (old new : List Act) → (e : IsOtherExit names apart p t start l front behind u old new) → (x : List ℕ) → is_among x names ≡ true
@@ -154,7 +154,7 @@ abbrev pub RaceFreeNear : (names : List (List ℕ)) (apart : Cell → Bool) (p :
 RaceFreeNear names apart p t start l count piece fresh =
     (parts : List Part) → old_parts parts ≡ (run_all p t.body 1 [] start).acts → AreExchangedNear names apart p t start l count piece fresh [] parts [] start → HasNoRace (accesses (old_parts parts)) → HasNoRace (accesses (new_parts parts))
 
--- a program in which statements are exchanged for others, where names come into PARALLEL DO loops round them, or go, and what a step shows of it: the same as where none does; and that other statements leave alone what stands apart, and nobody asks for it behind the exits of these loops (ParaScope; this project)
+-- a program in which statements are exchanged for others, where names come into PARALLEL DO loops around them, or go, and what a step shows of it: the same as where none does; and that other statements leave alone what is apart, and nobody asks for it after the exits of these loops (ParaScope; this project)
 pub record IsExchangeNear (names : List (List ℕ)) (apart : Cell → Bool) (gap : Gap) (old new : StmtTrees) (t u : ProgramTree) : Type 0 where
   pub saved : flat_map saved_in u.decls ≡ flat_map saved_in t.decls
   pub kinds : (x : List ℕ) → is_among x (live_names t) ≡ true → kind_in u x ≡ kind_in t x

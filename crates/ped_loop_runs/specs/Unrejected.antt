@@ -4,7 +4,7 @@ use Rattle.ped_loop_runs.specs.ped_bodies.specs.ped_steps.specs.ped_flow.specs.p
 use Rattle.ped_loop_runs.specs.ped_bodies.specs.ped_steps.specs.ped_flow.specs.ped_tree.specs.Tree.{StmtTree, StmtTrees, Assign, If, Do, Print, Read, Stop, Comment, no_stmts, more_stmts, ProgramTree}
 use Rattle.ped_loop_runs.specs.ped_bodies.specs.ped_steps.specs.Tidy.{IsTidy}
 
--- a C$PED REJECT line stands before a DO, the statement itself or one in its parts (ParaScope)
+-- a C$PED REJECT line is before a DO, the statement itself or one in its parts (ParaScope)
 abbrev mutual
   pub has_rejection : StmtTree → Bool
   has_rejection (Assign left right) = false
@@ -15,7 +15,7 @@ abbrev mutual
   has_rejection Stop = false
   has_rejection (Comment text) = false
 
-  -- a C$PED REJECT line stands before a DO among statements or in one of them (ParaScope)
+  -- a C$PED REJECT line is before a DO among statements or in one of them (ParaScope)
   pub some_rejection : StmtTrees → Bool
   some_rejection no_stmts = false
   some_rejection (more_stmts s rest) = has_rejection s || some_rejection rest

@@ -1,4 +1,4 @@
--- Which names statements write, told by their shape alone: so it doesn't count which numbers they have, nor which DO loops stand round them (this project).
+-- Which names statements write, known by their shape alone: so it doesn't count which numbers they have, nor which DO loops are around them (this project).
 use Rattle.std.specs.Prelude.{ℕ, List, ◌∷◌, codes, Bool, false, ◌&&◌, ◌||◌, if◌then◌else◌}
 use Rattle.std.specs.List.{list_any}
 use Rattle.ped_loop_runs.specs.ped_bodies.specs.ped_steps.specs.ped_flow.specs.ped_base.specs.Lists.{is_same_text, is_among}

@@ -14,8 +14,8 @@ ghost use Rattle.ped_loop_runs.specs.ped_bodies.specs.ped_steps.specs.ped_laws.s
 ghost use Rattle.ped_loop_runs.specs.Bounds.{IsOfFixed, ComeToTheSame};
 
 /// A bound that is built as a plain one reads only own cells of scalars that keep their values in the outermost DO: no
-/// act of it writes such a cell. So in an execution it comes to the same value or fault, and reads the same, in each
-/// store and at each place that tells the same values of the DO variables round it, also where names of other statements
+/// act of it writes such a cell. So in an execution it gives the same value or fault, and reads the same, in each store
+/// and at each place that gives the same values of the DO variables around it, also where names of other statements
 /// count otherwise. Nothing is asked of intervals. For entries of loops that a step makes.
 pub fn plain_reads_unwritten()
     ensures again { (p q : Setting) → q.constants ≡ p.constants → (t : ProgramTree) (l : ℕ) (e : ExprTree) → IsPlainlyBuilt p.constants t l e → (told : List ℕ → ℤ) (scope other : Scope) → IsPlaceWith p.constants t l told scope → IsPlaceWith p.constants t l told other → (s u w : Store) → IsDuring p t l s u → IsDuring p t l s w → ComeToTheSame (IsOfFixed p.constants t l) (value (names_in p scope) e u) (value (names_in q other) e w) }

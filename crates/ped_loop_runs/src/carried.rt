@@ -21,19 +21,20 @@ ghost use Rattle.ped_loop_runs.specs.Carried.{MakeConflict, IsCoveredAt, IsCarri
 
 use ped_bodies::{accesses_are_made, accesses_in_sequence};
 
-/// Two references that make conflicting accesses: in two iterations of one loop, inside the same iterations of the loops
-/// round it, a dependence between them is carried by that loop, among the dependences of any pairs of which theirs is
-/// one; and in the same iterations of all loops round both, where the first stands before the second in the text, one is
-/// independent of loops (Allen and Kennedy, section 2.2.5). Nothing is asked of the run in which the accesses come.
+/// Two references that make conflicting accesses: in two iterations of one loop, inside the same iterations of the
+/// loops around it, a dependence between them is carried by that loop, among the dependences of any pairs of which
+/// theirs is one; and in the same iterations of all loops around both, where the first is before the second in the
+/// text, one is independent of loops (Allen and Kennedy, section 2.2.5). Nothing is asked of the run in which the
+/// accesses come.
 pub fn meetings_are_carried()
     ensures carried { (t : ProgramTree) (first : Store) (a b : Access) (source sink : Reference) → MakeConflict t first a b source sink → (ps : List (Reference × Reference)) (edges : List Edge) → IsIn (source, sink) ps → EdgesOfPairs t ps edges → (outer is js : List Turn) (i j : Turn) → a.place.turns ≡ outer ++ i ∷ is → b.place.turns ≡ outer ++ j ∷ js → AreSuccessive t i j → IsCarriedInside t edges outer is js a b }
     ensures independent { (t : ProgramTree) (first : Store) (a b : Access) (source sink : Reference) → MakeConflict t first a b source sink → (ps : List (Reference × Reference)) (edges : List Edge) → IsIn (source, sink) ps → EdgesOfPairs t ps edges → (outer is js : List Turn) → 0 < length outer → a.place.turns ≡ outer ++ is → b.place.turns ≡ outer ++ js → share_a_loop is js ≡ false → IsBeforeInText a b → IsCoveredAt t edges None a b }
 {}
 
 /// Where two accesses of a run that references make conflict in two iterations of one execution of a DO, a dependence
-/// between them is carried by that DO: its level is that of the DO, both its statements stand in the body, and one of its
-/// vectors has `=` for the loops round the DO, `<` for the DO, and then the directions in which the two stand in the loops
-/// in it (Allen and Kennedy, section 2.2.5). For finding the dependence that forbids another order of iterations.
+/// between them is carried by that DO: its level is that of the DO, both its statements are in the body, and one of its
+/// vectors has `=` for the loops around the DO, `<` for the DO, and then the directions in which the two are in the
+/// loops in it (Allen and Kennedy, section 2.2.5). For finding the dependence that forbids another order of iterations.
 pub fn trips_are_carried()
     ensures { (t : ProgramTree) (data_bytes : List ℕ) → IsValid t → (edges : List Edge) → AreEdges t edges → (l : ℕ) (loop : LoopOf t l) (a b : Access) (outer : List Turn) (i j : Turn) (is js : List Turn) → ComeInRun t data_bytes a b → conflict a b ≡ true → 0 < a.reference → 0 < b.reference → AreInTrips l outer i j is js a b → IsCarriedByLoop t edges l loop.body outer is js a b }
 {
@@ -51,10 +52,10 @@ pub fn trips_dont_conflict()
 }
 
 /// Where a DO carries no dependence, no reference in its body writes its variable, nor that of a DO in it. For such a
-/// write belongs to no DO, as no DO may have the variable of a DO round it or in it among its PRIVATE names, or else the
-/// DO that has it there writes it in its own header; and a write of a scalar that belongs to no DO depends on itself, from
-/// each iteration to the next (Allen and Kennedy, section 2.2.1). So a loop may become a PARALLEL DO, whose iterations have
-/// copies of these variables.
+/// write belongs to no DO, as no DO may have the variable of a DO around it or in it among its PRIVATE names, or else
+/// the DO that has it there writes it in its own header; and a write of a scalar that belongs to no DO depends on
+/// itself, from each iteration to the next (Allen and Kennedy, section 2.2.1). So a loop may become a PARALLEL DO,
+/// whose iterations have copies of these variables.
 pub fn indices_unwritten()
     ensures { (t : ProgramTree) → IsValid t → (edges : List Edge) → AreEdges t edges → (l : ℕ) (loop : LoopOf t l) → NoneCarriedBy t edges l loop.body → (w : List ℕ) → IsIndexIn t l w → is_written_in t l loop.body w ≡ false }
 {}

@@ -25,15 +25,15 @@ pub fn executions_pasted()
 {}
 
 /// Where the new acts may stand for the old ones in each execution, each changed part of the run may stand for its old
-/// one. On which cells the stores agree is told by the acts from there on: what these want, or all but cells that stand
-/// apart.
+/// one. The cells on which the stores agree are determined by the acts from there on: what these want, or all but cells
+/// that are apart.
 pub fn parts_stand()
     ensures { (agreed : List Act → Cell → Bool) (p : Setting) (t : ProgramTree) (start : Store) (l count : ℕ) (piece : Scope → Store → Run) (fresh : Scope → Store → List Act) → StandInstead agreed p t start l count piece fresh → (parts : List Part) → AreExchanged p t start l count piece fresh [] parts [] start → PartsStandBy agreed parts start }
 {}
 
-/// Statements are executed once in the same iterations round them: two executions there come behind the same acts and
-/// begin with the same store, and at one place they come before the same acts, too. For accesses of a new program that come
-/// from those of an execution: where two of them stand in one iteration, they come from one execution.
+/// Statements are executed once in the same iterations around them: two executions there come after the same acts and
+/// begin with the same store, and at one place they come before the same acts, too. For accesses of a new program that
+/// come from those of an execution: where two of them are in one iteration, they come from one execution.
 pub fn executed_once()
     ensures turns { (p : Setting) (t : ProgramTree) (start : Store) (l : ℕ) (ts : StmtTrees) → 0 < statements_count ts → (scope other : Scope) (front others behind rest : List Act) (u v : Store) → turns_of other ≡ turns_of scope
         → IsExecuted p t start l (statements_count ts) scope front (run_all p ts l scope u).acts behind u → IsExecuted p t start l (statements_count ts) other others (run_all p ts l other v).acts rest v → (front ≡ others) × (u ≡ v) }

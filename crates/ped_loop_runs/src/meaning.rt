@@ -9,14 +9,14 @@ ghost use Rattle.ped_bodies.specs.ped_steps.specs.Runs.Meaning.{Keeps};
 ghost use Rattle.ped_loop_runs.specs.Meaning.{SuitEnds, IsExchange};
 
 /// A program in which statements are exchanged for others keeps its meaning, where in each execution the new statements
-/// do new acts which may stand for the old ones and make no race (ParaScope). The one end of every proof of a step that
-/// rewrites a loop: it speaks of one execution, its iterations and its store.
+/// do new acts which may stand for the old ones and make no race (ParaScope). The only end of every proof of a step
+/// that rewrites a loop: it is about one execution, its iterations and its store.
 pub fn exchanged_keeps()
     ensures { (gap : Gap) (old new : StmtTrees) (t u : ProgramTree) → IsExchange gap old new t u → Keeps t u }
 {}
 
 /// Two choices of the cells on which the stores of the old and of the new run agree: those that the old acts want from
-/// there on; and all cells but those that stand apart, and of these again the ones that are wanted. The second one is for
+/// there on; and all cells but those that are apart, and of these again the ones that are wanted. The second one is for
 /// steps that put in reads, as of bounds that nobody may have read before.
 pub fn suiting_sets()
     ensures wanted { (shown : Cell → Bool) → SuitEnds shown (wants shown) }

@@ -8,9 +8,10 @@ ghost use Rattle.ped_bodies.specs.ped_steps.specs.Runs.Renumbering.{IsToldBack, 
 ghost use Rattle.ped_loop_runs.specs.Numbers.{counted_by, told_by, AreApart, kept_numbers, FitInGap};
 ghost use Rattle.ped_loop_runs.specs.Pasting.{CountAlike};
 
-/// Numbers that are told by pairs count each under one and are told by that; of each pair the first counts under the
-/// second. So the statements of a program that stay count under their old numbers, whatever comes in the place of the
-/// others, and the new statements count as a step likes. For new programs that are run under the numbers of the old one.
+/// Numbers that count as pairs say are determined by the numbers under which they count; of each pair the first counts
+/// under the second. So the statements of a program that stay count under their old numbers, whatever comes in the
+/// place of the others, and the new statements count as a step likes. For new programs that are run under the numbers
+/// of the old one.
 pub fn numbers_kept()
     ensures back { (pairs : List (ℕ × ℕ)) → IsToldBack (counted_by pairs) (told_by pairs) }
     ensures each { (pairs : List (ℕ × ℕ)) → AreApart pairs → (y : ℕ × ℕ) → IsIn y pairs → counted_by pairs y.0 ≡ y.1 }

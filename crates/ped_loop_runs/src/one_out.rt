@@ -23,11 +23,12 @@ ghost use Rattle.ped_loop_runs.specs.ped_bodies.specs.ped_steps.specs.ped_laws.s
 ghost use Rattle.ped_loop_runs.specs.ped_bodies.specs.ped_steps.specs.ped_laws.specs.Plain.Executions.{IsInside, IsPlaceWith, LieInRanges, HasValueDuring};
 ghost use Rattle.ped_loop_runs.specs.OneOut.{IsNextIn};
 
-/// A plain bound of a DO that stands in another one is a plain bound of that one, too, where it doesn't name its variable:
-/// it has the same interval there, and so, one loop further out, it evaluates without a fault to the value that it has in
-/// each iteration of the outer loop, also where there is none. The first statement in a DO stands so; the sides of a sum
-/// or a difference that is plain are plain; and an iteration further in tells what places round it tell. For the bounds of
-/// loops that are interchanged, whose inner bounds may name the outer variable beside something else.
+/// A plain bound of a DO that is in another one is a plain bound of that one, too, where it doesn't name its variable:
+/// it has the same interval there, and so, one loop further out, it evaluates without a fault to the value that it has
+/// in each iteration of the outer loop, also where there is none. This is so for the first statement in a DO; the sides
+/// of a sum or a difference that is plain are plain; and an iteration further in gives the values that places around it
+/// give. For the bounds of loops that are interchanged, whose inner bounds may name the outer variable next to
+/// something else.
 pub fn plain_one_out()
     ensures next { (t : ProgramTree) (l : ℕ) (outer : LoopOf t l) → 0 < statements_count outer.body → IsNextIn t l outer (l + 1) }
     ensures plain { (constants : Values) (t : ProgramTree) (l : ℕ) (outer : LoopOf t l) (m : ℕ) (e : ExprTree) → IsNextIn t l outer m → IsPlain constants t m e → is_among outer.head.variable (expr_names e) ≡ false → IsPlain constants t l e }

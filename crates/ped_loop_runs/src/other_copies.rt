@@ -17,11 +17,12 @@ ghost use Rattle.ped_loop_runs.specs.Meaning.{SuitEnds};
 ghost use Rattle.ped_loop_runs.specs.Pasting.{PartsStandBy};
 ghost use Rattle.ped_loop_runs.specs.OtherCopies.{IsPastedBut, LeaveApart, IsOtherExit, AreExchangedNear, DoNear, StandNear, AskNothing, IsExchangeNear};
 
-/// A run of a program that ends is made of parts, of which some are the executions of statements that a step exchanges, and
-/// some are exits of PARALLEL DO loops round them. Where a name comes into these loops, or goes, their iterations have
-/// other copies, and their exits make other names undefined; what else stands round the statements does the same acts as
-/// before, if it leaves such copies alone. The new program does the same parts, the new acts and the new exits in turn,
-/// from each store that these fit, and ends alike. For the variable that strips bring, and for one that fusion takes away.
+/// A run of a program that ends is made of parts, of which some are the executions of statements that a step exchanges,
+/// and some are exits of PARALLEL DO loops around them. Where a name comes into these loops, or goes, their iterations
+/// have other copies, and their exits make other names undefined; what else is around the statements does the same acts
+/// as before, if it leaves such copies alone. The new program does the same parts, the new acts and the new exits in
+/// turn, from each store that these fit, and ends alike. For the variable that strips bring, and for one that fusion
+/// takes away.
 pub fn executions_pasted_near()
     ensures { (names : List (List ℕ)) (apart : Cell → Bool) (p q : Setting) (gap : Gap) (old new : StmtTrees) (t u : ProgramTree) (start : Store) (fresh : (scope other : Scope) → Store → List Act) → IsPastedBut names apart p q gap old new t u → LeaveApart apart p t (number_at gap 1) (statements_count old) (run_all p t.body 1 [] start).acts
         → DoNear names apart p q t start (number_at gap 1) (statements_count old) (run_all p old (number_at gap 1)) new fresh → Ends (run_all p t.body 1 [] start).ending
@@ -29,8 +30,8 @@ pub fn executions_pasted_near()
 {}
 
 /// The exit of a PARALLEL DO that makes other names undefined stands for the old one, where nobody asks for what these
-/// names stand for there; and where besides the new acts may stand for the old ones in each execution, each changed part
-/// of the run may stand for its old one.
+/// names stand for there; and where, in addition, the new acts may stand for the old ones in each execution, each
+/// changed part of the run may stand for its old one.
 pub fn parts_stand_near()
     ensures exit { (shown : Cell → Bool) (agreed : List Act → Cell → Bool) (names : List (List ℕ)) (apart : Cell → Bool) (p : Setting) (t : ProgramTree) (start : Store) (l : ℕ) → SuitEnds shown agreed → AskNothing agreed names apart p t start l → (front behind : List Act) (u : Store) (old new : List Act)
         → IsOtherExit names apart p t start l front behind u old new → StandsFor (record { agreed = agreed (old ++ behind); old = old; new = new }) (agreed behind) u }
@@ -39,7 +40,7 @@ pub fn parts_stand_near()
 {}
 
 /// A program in which statements are exchanged for others keeps its meaning also where names come into the PARALLEL DO
-/// loops round them, or go (ParaScope): the end of the proof of such a step.
+/// loops around them, or go (ParaScope): the end of the proof of such a step.
 pub fn exchanged_near_keeps()
     ensures { (names : List (List ℕ)) (apart : Cell → Bool) (gap : Gap) (old new : StmtTrees) (t u : ProgramTree) → IsExchangeNear names apart gap old new t u → Keeps t u }
 {}

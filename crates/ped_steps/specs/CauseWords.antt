@@ -1,4 +1,4 @@
--- The words by which a refused step is told (this project).
+-- The words by which a refused step is reported (this project).
 use Rattle.std.specs.Prelude.{ℕ, List, ◌++◌, codes}
 use Rattle.std.specs.Fmt.{decimal}
 use Rattle.ped_weaves.specs.ped_laws.specs.ped_graph.specs.ped_edges.specs.Edges.{Edge}

@@ -9,7 +9,7 @@ abbrev pub cause_of : Refused → Cause
 cause_of (variant.Rule r n) = rule r n
 cause_of (variant.Dependence e) = dependence (edge_of e)
 
--- a dependence among causes stands in at most six loops (this project)
+-- a dependence among causes is in at most six loops (this project)
 abbrev pub IsShort : Refused → Type 0
 IsShort (variant.Rule r n) = Unit {0}
 IsShort (variant.Dependence e) = HasAtMostSixLoops e

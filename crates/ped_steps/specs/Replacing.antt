@@ -4,7 +4,7 @@ use Rattle.std.specs.List.{range_with_len}
 use Rattle.ped_tree.specs.Tree.{StmtTree, StmtTrees, Assign, If, Do, Print, Read, Stop, Comment, no_stmts, more_stmts, ProgramTree}
 use Rattle.ped_tree.specs.Numbering.{statement_count, statements_count}
 
--- statements, and others behind them (plain words)
+-- statements, and others after them (plain words)
 abbrev pub followed : StmtTrees → StmtTrees → StmtTrees
 followed no_stmts others = others
 followed (more_stmts s rest) others = more_stmts s (followed rest others)

@@ -7,7 +7,7 @@ use Rattle.ped_tree.specs.Numbering.{statements_count}
 use Rattle.ped_weaves.specs.ped_laws.specs.ped_graph.specs.ped_refs.specs.References.{Reference, references}
 use Rattle.ped_weaves.specs.ped_laws.specs.ped_flow.specs.Questions.{LoopOf, IsIndexIn, IsShownBehind}
 
--- a reference in the body of the DO with number l, which with those in it is so many statements, writes the name; what the DO's header refers to stands outside (this project)
+-- a reference in the body of the DO with number l, which with those in it is this many statements, writes the name; what the DO's header refers to is outside (this project)
 abbrev pub is_write_in : ℕ → ℕ → List ℕ → Reference → Bool
 is_write_in l count x r = nat_lt l r.statement && nat_lt r.statement (l + count) && is_same_text x r.access.name && r.access.writes
 

@@ -13,7 +13,7 @@ use std::alloc::Global;
 /// Why a step is refused.
 #[derive(Drop)]
 pub enum Refused {
-    /// A rule stands against it.
+    /// A rule forbids it.
     Rule {
         /// The rule.
         rule: Rule,

@@ -17,11 +17,11 @@ pub struct Change {
     pub tree: Program,
     /// What the names of the new program stand for.
     pub symbols: Symbols,
-    /// The statements that the step keeps: the number of each before the step, and its number behind it.
+    /// The statements that the step keeps: the number of each before the step, and its number after it.
     pub keep: Keep,
 }
 
-/// Each statement of a program with the same number behind the step.
+/// Each statement of a program with the same number after the step.
 pub fn all_kept(alloc: Global, program: &Program) -> Result<Keep, NoMemory>
     requires { statements_count (program_tree program.now).body < 2 ^ 32 }
     ensures { IfOk result (λ keep. keep ≡ Spec.all_kept (program_tree program.now)) }

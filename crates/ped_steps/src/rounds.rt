@@ -11,7 +11,7 @@ use ped_refs::Loop;
 use ped_tree::{Do, Program, Stmt, count_statement, count_statements};
 use std::alloc::Global;
 
-/// The DO loops of a program round the statement with a number, the outermost first.
+/// The DO loops of a program around the statement with a number, the outermost first.
 pub fn loops_round<'a>(
     alloc: Global,
     program: &'a Program,
@@ -25,7 +25,8 @@ pub fn loops_round<'a>(
     Ok(loops)
 }
 
-/// Adds the DO loops of statements that are round the statement with a number; the first of them has the number `place`.
+/// Adds the DO loops of statements that are around the statement with a number; the first of them has the number
+/// `place`.
 #[cycle(round)]
 #[tactic(auto, using(crate::proofs::Followed::following))]
 fn add_all<'a>(
@@ -45,7 +46,7 @@ fn add_all<'a>(
     Ok(())
 }
 
-/// Adds the DO loops of a statement that are round the statement with a number; it has the number `place`.
+/// Adds the DO loops of a statement that are around the statement with a number; it has the number `place`.
 #[cycle(round)]
 #[tactic(auto, using(crate::proofs::Followed::following))]
 fn add<'a>(

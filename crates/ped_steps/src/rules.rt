@@ -3,14 +3,14 @@
 ghost use Rattle.std.specs.Prelude.{◌≡◌};
 ghost use Rattle.ped_steps.specs.RuleNames.{number_of, name_of};
 
-/// A rule that stands against a step, in the order of the numbers 1 to 20 (ParaScope; this project).
+/// A rule that forbids a step, in the order of the numbers 1 to 20 (ParaScope; this project).
 #[derive(Clone, Copy, PartialEq, Eq)]
 pub enum Rule {
     /// The statement is no DO.
     NoLoop,
     /// The body of the DO is more or less than one DO.
     NotPerfect,
-    /// A DO is parallel that mustn't be, or the other way round.
+    /// A DO is parallel that mustn't be, or the other way around.
     ParallelState,
     /// A DO has a PRIVATE list.
     HasPrivate,
@@ -24,11 +24,11 @@ pub enum Rule {
     StepShape,
     /// A new bound or value lies too far from zero.
     Range,
-    /// No DO that goes with the first stands behind it.
+    /// No DO that goes with the first follows it.
     NoNeighbour,
     /// The statements of the body all depend on each other.
     OneBlock,
-    /// A scalar is read before it is assigned in an iteration, or behind the DO.
+    /// A scalar is read before it is assigned in an iteration, or after the DO.
     ExposedOrLive,
     /// The name isn't that of a scalar that the step can take.
     NotScalar,
@@ -49,7 +49,7 @@ pub enum Rule {
 }
 
 impl Rule {
-    /// The number of this rule, 1 to 20: of the rules that stand against a step the least counts.
+    /// The number of this rule, 1 to 20: of the rules that forbid a step the least counts.
     pub fn number(self) -> u8
         ensures { result ≡ number_of self }
     {

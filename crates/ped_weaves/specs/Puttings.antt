@@ -7,7 +7,7 @@ use Rattle.ped_laws.specs.Acts.Conflicts.{WriteWithin}
 use Rattle.ped_laws.specs.Acts.Changes.{AreSameOutside}
 use Rattle.ped_laws.specs.Acts.Orders.{IsIn}
 
--- the sets of cells on which the stores agree before and behind these acts suit them: what they need is agreed on before them; what shall be agreed on behind them isn't idle, and they write it, or it was agreed on before (this project)
+-- the sets of cells on which the stores agree before and after these acts suit them: what they need is agreed on before them; what shall be agreed on after them isn't idle, and they write it, or it was agreed on before (this project)
 pub record Suit (idle before behind : Cell → Bool) (acts : List Act) : Type 0 where
   pub needed : (c : Cell) → needs acts c ≡ true → before c ≡ true
   pub wanted : (c : Cell) → behind c ≡ true → (idle c ≡ false) × ((before c ≡ true) ⊎ (written acts c ≡ true))

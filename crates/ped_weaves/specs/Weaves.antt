@@ -1,4 +1,4 @@
--- Lists of acts woven of blocks and of acts of control, as the bodies of loops and the entries and ends of these loops: blocks stand in another order on other cells, and other controls stand between them (this project).
+-- Lists of acts woven of blocks and of acts of control, as the bodies of loops and the entries and ends of these loops: blocks are in another order on other cells, and other controls are between them (this project).
 use Rattle.std.specs.Prelude.{◌≡◌, ℕ, ◌≤◌, List, [], ◌∷◌, ◌++◌, map, Bool, true, false}
 use Rattle.std.specs.List.{range_with_len}
 use Rattle.ped_laws.specs.ped_store.specs.Cells.{Cell}
@@ -61,7 +61,7 @@ pub record IsSteady (w : Weave) (before : Cell → Bool) (s : Store) (x : Touch)
   pub counts : w.idle x.cell ≡ false
   pub unwritten : (c : Cell) → written (counted w) c ≡ true → w.names c ≡ x.cell → ⊥
 
--- a list may be woven anew so, which is done from the store s, where the stores agree on the one set before it and shall agree on the other behind it: controls write idle cells alone, and new ones read what is steady; blocks read no idle cell, and the new ones do the same on renamed cells, but for writes to idle cells; names of cells that count are one to one, and none is that of an idle cell; blocks that conflict on cells which count keep their order; and what is needed before the list, or wanted behind it, keeps its name (this project)
+-- a list may be woven anew so, which is done from the store s, where the stores agree on the one set before it and shall agree on the other after it: controls write idle cells alone, and new ones read what is steady; blocks read no idle cell, and the new ones do the same on renamed cells, but for writes to idle cells; names of cells that count are one to one, and none is that of an idle cell; blocks that conflict on cells which count keep their order; and what is needed before the list, or wanted after it, keeps its name (this project)
 pub record IsWoven (w : Weave) (before behind : Cell → Bool) (s : Store) : Type 0 where
   pub controls : ControlWithin w.idle w.old
   pub new_controls : ControlWithin w.idle w.new

@@ -10,7 +10,7 @@ ghost use Rattle.ped_laws.specs.Acts.Pieces.{StandsFor};
 ghost use Rattle.ped_laws.specs.Acts.Renaming.{Renamed, own_name};
 ghost use Rattle.ped_weaves.specs.Puttings.{Suit, IsPutFor};
 
-/// Acts that read no idle cell stand for such with the same reads and writes of all other cells. For what stands round a
+/// Acts that read no idle cell stand for such with the same reads and writes of all other cells. For what is around a
 /// loop in which a name comes or goes: there the exits of a PARALLEL DO change on copies that nobody wants.
 pub fn kept_part()
     ensures { (idle before behind : Cell → Bool) (acts others : List Act) (s : Store) → Fits acts s → Suit idle before behind acts → ReadNone idle acts → Renamed own_name (without idle acts) (without idle others) → StandsFor (record { agreed = before; old = acts; new = others }) behind s }

@@ -33,8 +33,8 @@ pub fn counted_acts()
     ensures kept { (w : Weave) (c : Cell) → w.names c ≡ c → IsFree w.names (counted w) c → written (old_list w) c ≡ false → (e : Cell) → written (counted w) e ≡ true → w.names e ≡ c → ⊥ }
 {}
 
-/// A list that is woven of rows, one for each of some numbers, has the acts and the blocks of these rows, and each knot stands
-/// in one of them; and so with two lists, one behind the other. For the trips of loops.
+/// A list that is woven of rows, one for each of some numbers, has the acts and the blocks of these rows, and each knot
+/// is in one of them; and so with two lists, one after the other. For the trips of loops.
 pub fn woven_rows()
     ensures acts { (acts : ℕ → ℕ → List Act) (row : ℕ → List Knot) (ns : List ℕ) → knotted acts (flat_map row ns) ≡ flat_map (λ n. knotted acts (row n)) ns }
     ensures blocks { (acts : ℕ → ℕ → List Act) (row : ℕ → List Knot) (ns : List ℕ) → blocks_in acts (flat_map row ns) ≡ flat_map (λ n. blocks_in acts (row n)) ns }
@@ -42,9 +42,9 @@ pub fn woven_rows()
     ensures joined { (acts : ℕ → ℕ → List Act) (ks ls : List Knot) → (knotted acts (ks ++ ls) ≡ knotted acts ks ++ knotted acts ls) × (blocks_in acts (ks ++ ls) ≡ blocks_in acts ks ++ blocks_in acts ls) }
 {}
 
-/// Trips of a loop that get new numbers, each a block with its old and its new one, stand by the old numbers in the old list
-/// and by the new ones in the new list; and where no two that conflict outside the set change places, the order of blocks
-/// that conflict is kept. For a loop whose trips are done in reverse, or in the same order.
+/// Trips of a loop that get new numbers, each a block with its old and its new one, are ordered by the old numbers in
+/// the old list and by the new ones in the new list; and where no two that conflict outside the set change places, the
+/// order of blocks that conflict is kept. For a loop whose trips are done in reverse, or in the same order.
 pub fn trips_reordered()
     ensures { (idle : Cell → Bool) (acts : ℕ → ℕ → List Act) (n : ℕ) (to of : ℕ → ℕ) → AreInverse n to of → ((k l : ℕ) → 1 ≤ k → k < l → l ≤ n → to l < to k → blocks_conflict_outside idle (acts k (to k)) (acts l (to l)) ≡ false)
         → EachOnce (old_trips acts n to) × IsReordered (old_trips acts n to) (new_trips acts n of) × KeepsOrder (block_conflict idle) (old_trips acts n to) (new_trips acts n of) }

@@ -27,12 +27,12 @@ element_expr array n = Element array (more_exprs (literal n) no_exprs)
 abbrev pub body_with : List ℕ → List ℕ → Head → StmtTrees → StmtTrees
 body_with x array h body = statements_substituted x (element_at array h.variable) body
 
--- what stands behind the DO: where the scalar is live there, it gets what its last element holds (Allen and Kennedy, section 5.3)
+-- what follows the DO: where the scalar is live there, it gets what its last element holds (Allen and Kennedy, section 5.3)
 abbrev pub kept_value : Bool → List ℕ → List ℕ → ℤ → StmtTrees
 kept_value true x array last = more_stmts (Assign (Var x) (element_expr array last)) no_stmts
 kept_value false x array last = no_stmts
 
--- the DO with the element in the place of the scalar, and what stands behind it (Allen and Kennedy, section 5.3)
+-- the DO with the element in the place of the scalar, and what follows it (Allen and Kennedy, section 5.3)
 abbrev pub new_statements : List ℕ → List ℕ → Bool → ℤ → Head → StmtTrees → StmtTrees
 new_statements x array live last h body = more_stmts (Do h (body_with x array h body)) (kept_value live x array last)
 
@@ -44,7 +44,7 @@ array_decl array lo hi = Integer ((record { name = array; bounds = (record { low
 abbrev pub array_bounds : ℤ → ℤ → Dimensions
 array_bounds lo hi = record { lower = lo ∷ []; upper = hi ∷ [] }
 
--- a program with other statements, and the declaration of an array behind its others (this project)
+-- a program with other statements, and the declaration of an array after its others (this project)
 abbrev pub with_array : ProgramTree → StmtTrees → List ℕ → ℤ → ℤ → ProgramTree
 with_array t body array lo hi = record { decls = t.decls ++ array_decl array lo hi ∷ []; body = body }
 
@@ -60,11 +60,11 @@ last_value m1 m2 m3 = m2 -ℤ int_rem (m2 -ℤ m1) m3
 abbrev pub expanded_by : ProgramTree → ℕ → (StmtTree → StmtTrees) → List ℕ → ℤ → ℤ → ℤ → ProgramTree
 expanded_by t l by array m1 m2 m3 = with_array t (all_replaced by l t.body 1) array (int_min m1 (last_value m1 m2 m3)) (int_max m1 (last_value m1 m2 m3))
 
--- a DO with this number stands round the statement with number l (ANSI X3.9-1978, section 11.10)
+-- a DO with this number is around the statement with number l (ANSI X3.9-1978, section 11.10)
 abbrev pub IsRound : ProgramTree → ℕ → ℕ → Type 0
 IsRound t l n = (m : Loop) × IsIn m (nest_round t l) × (m.number ≡ n)
 
--- an array of this name may come for a scalar in a DO: the DO is no PARALLEL DO; its bounds are constant, and it has an iteration; its first and its last value are literals; the scalar is no variable of the DO, of one round it or in it, private to none of these, and in no PARALLEL DO round it the variable of a DO; it isn't exposed, and where it is live it is assigned on each path through the body; the array's name doesn't occur (Allen and Kennedy, section 5.3; this project)
+-- an array of this name may come for a scalar in a DO: the DO is no PARALLEL DO; its bounds are constant, and it has an iteration; its first and its last value are literals; the scalar is no variable of the DO, of one around it or in it, private to none of these, and in no PARALLEL DO around it the variable of a DO; it isn't exposed, and where it is live it is assigned on each path through the body; the array's name doesn't occur (Allen and Kennedy, section 5.3; this project)
 pub record MayExpand (t : ProgramTree) (l : ℕ) (loop : LoopOf t l) (x array : List ℕ) (live : Bool) (m1 m2 m3 : ℤ) : Type 0 where
   pub in_order : loop.head.parallel ≡ false
   pub scalar : is_scalar (kind_in t) x ≡ true

@@ -1,10 +1,10 @@
--- Programs with a gap, into which statements are put: so two programs are told that differ in one place (this project).
+-- Programs with a gap, into which statements are put: this gives two programs that differ in one place (this project).
 use Rattle.std.specs.Prelude.{ℕ, ◌+◌}
 use Rattle.ped_tree.specs.Tree.{CondTree, Head, StmtTree, StmtTrees, If, Do, more_stmts}
 use Rattle.ped_tree.specs.Numbering.{statement_count, statements_count}
 use Rattle.ped_steps.specs.Replacing.{followed}
 
--- statements with a gap: before others; behind a statement; or in a part of the first statement, an IF or a DO, with others behind it (this project)
+-- statements with a gap: before others; after a statement; or in a part of the first statement, an IF or a DO, with others after it (this project)
 pub data Gap : Type 0 where
   at_front : StmtTrees → Gap
   past : StmtTree → Gap → Gap

@@ -32,19 +32,19 @@ AreTurnsOf number [] (t ∷ ts) = ⊥
 AreTurnsOf number (l ∷ ls) [] = ⊥
 AreTurnsOf number (l ∷ ls) (t ∷ ts) = (t.statement ≡ number l.number) × (t.parallel ≡ l.head.parallel) × AreTurnsOf number ls ts
 
--- a place at which a run may come to the statement with a number: in iterations of the DO loops round it (ANSI X3.9-1978, section 11.10; this project)
+-- a place at which a run may reach the statement with a number: in iterations of the DO loops around it (ANSI X3.9-1978, section 11.10; this project)
 pub record IsPlaceOf (p : Setting) (t : ProgramTree) (l : ℕ) (scope : Scope) : Type 0 where
   pub iterations : AreIterationsOf p t scope
   pub turns : AreTurnsOf p.number (nest_round t l) (turns_of scope)
 
--- acts stand together among others, which are done from the first store, and are done from the second: the acts before them have left it (this project)
+-- acts are consecutive among others, which are done from the first store, and are themselves done from the second: the acts before them have left it (this project)
 pub record IsPartOf (whole : List Act) (start : Store) (acts : List Act) (u : Store) : Type 0 where
   pub front : List Act
   pub behind : List Act
   pub is : whole ≡ front ++ (acts ++ behind)
   pub from : u ≡ store_after front start
 
--- acts are done in the execution, in a run of a program that begins with a store, of the outermost DO round the statement with number l; it ends without a fault (ANSI X3.9-1978, section 11.10; this project)
+-- acts are done in the execution, in a run of a program that begins with a store, of the outermost DO around the statement with number l; it ends without a fault (ANSI X3.9-1978, section 11.10; this project)
 pub record IsInExecution (p : Setting) (t : ProgramTree) (start : Store) (l : ℕ) (acts : List Act) (u : Store) : Type 0 where
   pub loop : LoopOf t (outermost_or l (nest_round t l))
   pub from : outermost_or l (nest_round t l) ≤ l
@@ -54,7 +54,7 @@ pub record IsInExecution (p : Setting) (t : ProgramTree) (start : Store) (l : �
   pub ends : Ends (run p (Do loop.head loop.body) (outermost_or l (nest_round t l)) [] first).ending
   pub part : IsPartOf (run p (Do loop.head loop.body) (outermost_or l (nest_round t l)) [] first).acts first acts u
 
--- the same where a DO is round the place (this project)
+-- the same where a DO is around the place (this project)
 abbrev pub IsInOutermost : Setting → ProgramTree → Store → ℕ → Scope → List Act → Store → Type 0
 IsInOutermost p t start l [] acts u = Unit {0}
 IsInOutermost p t start l (f ∷ fs) acts u = IsInExecution p t start l acts u
@@ -64,7 +64,7 @@ pub record IsDone (p : Setting) (t : ProgramTree) (start : Store) (l : ℕ) (sco
   pub part : IsPartOf (run_all p t.body 1 [] start).acts start acts u
   pub outer : IsInOutermost p t start l scope acts u
 
--- an execution that goes on of what stands at a number, a statement or more, and what is done in its place: the old acts are those that it does here and from this store, and the new ones are told by the place and the store (this project)
+-- an execution that goes on of the statement or statements at a number, and what is done in its place: the old acts are those that it does here and from this store, and the new ones are given by the place and the store (this project)
 pub record IsExecution (p : Setting) (t : ProgramTree) (start : Store) (l : ℕ) (piece : Scope → Store → Run) (fresh : Scope → Store → List Act) (u : Store) (old new : List Act) : Type 0 where
   pub scope : Scope
   pub place : IsPlaceOf p t l scope
@@ -73,13 +73,13 @@ pub record IsExecution (p : Setting) (t : ProgramTree) (start : Store) (l : ℕ)
   pub new_is : new ≡ fresh scope u
   pub outer : IsInOutermost p t start l scope (piece scope u).acts u
 
--- the changed parts of a list of acts, which is done from this store, are executions of what stands at the number (this project)
+-- the changed parts of a list of acts, which is done from this store, are executions of the statements at the number (this project)
 abbrev pub AreExecutions : Setting → ProgramTree → Store → ℕ → (Scope → Store → Run) → (Scope → Store → List Act) → List Part → Store → Type 0
 AreExecutions p t start l piece fresh [] u = Unit {0}
 AreExecutions p t start l piece fresh (same acts ∷ parts) u = AreExecutions p t start l piece fresh parts (store_after acts u)
 AreExecutions p t start l piece fresh (changed old new ∷ parts) u = IsExecution p t start l piece fresh u old new × AreExecutions p t start l piece fresh parts (store_after old u)
 
--- statements count under the same numbers before and behind: those before the statement with number l as they do, those behind it, where so many statements have come in the place of so many, under their old ones (this project)
+-- statements count under the same numbers before and after: those before the statement with number l as they do, those after it, where old statements have given way to new ones, as many as given of each, under their old numbers (this project)
 pub record CountAlike (p q : Setting) (l old new : ℕ) : Type 0 where
   pub before : (k : ℕ) → k < l → q.number k ≡ p.number k
   pub behind : (k : ℕ) → q.number (l + new + k) ≡ p.number (l + old + k)
@@ -88,7 +88,7 @@ pub record CountAlike (p q : Setting) (l old new : ℕ) : Type 0 where
 abbrev pub AgreeInBounds : (bounds others : List ℕ → Dimensions) → List (List ℕ) → Type 0
 AgreeInBounds bounds others names = (x : List ℕ) → is_among x names ≡ true → bounds x ≡ others x
 
--- a PARALLEL DO is round the statement with this number (ParaScope)
+-- a PARALLEL DO is around the statement with this number (ParaScope)
 abbrev pub is_in_parallel : ProgramTree → ℕ → Bool
 is_in_parallel t l = list_any (λ loop. loop.head.parallel) (nest_round t l)
 
@@ -96,7 +96,7 @@ is_in_parallel t l = list_any (λ loop. loop.head.parallel) (nest_round t l)
 abbrev pub HaveSameIndices : StmtTrees → StmtTrees → Type 0
 HaveSameIndices old new = (x : List ℕ) → is_among x (all_loop_variables new) ≡ is_among x (all_loop_variables old)
 
--- statements of a program are exchanged for others: the two programs fill one gap, and their runs take the same bounds for what the old program names, and the same constants, and count alike the statements that stay. The old statements are some and no STOP stands in them, and a PARALLEL DO round them finds the same variables of DO loops in it, of which its iterations have copies (ParaScope; this project)
+-- statements of a program are exchanged for others: the two programs fill one gap, and their runs take the same bounds for what the old program names, and the same constants, and count alike the statements that stay. There are some old statements, with no STOP in them, and a PARALLEL DO around them finds the same variables of DO loops in it, of which its iterations have copies (ParaScope; this project)
 pub record IsPasting (p q : Setting) (gap : Gap) (old new : StmtTrees) (t u : ProgramTree) : Type 0 where
   pub old_body : t.body ≡ filled gap old
   pub new_body : u.body ≡ filled gap new
@@ -116,7 +116,7 @@ pub record IsPastingOf (p q : Setting) (t : ProgramTree) (l : ℕ) (s : StmtTree
   pub unstopped : has_stop s ≡ false
   pub indices : is_in_parallel t l ≡ true → HaveSameIndices (alone s) (by s)
 
--- this holds of each execution, in a run of a program that begins with a store, of what stands at a number (plain words)
+-- this holds of each execution, in a run of a program that begins with a store, of the statements at a number (plain words)
 abbrev pub OfExecutions : (p : Setting) (t : ProgramTree) (start : Store) (l : ℕ) (piece : Scope → Store → Run) → ((scope : Scope) (u : Store) → IsDone p t start l scope (piece scope u).acts u → Type 0) → Type 0
 OfExecutions p t start l piece P = (scope : Scope) (u : Store) → IsPlaceOf p t l scope → (done : IsDone p t start l scope (piece scope u).acts u) → finish_of (piece scope u).ending ≡ goes_on → P scope u done
 

@@ -22,11 +22,11 @@ renumbered_cell f Out = Out
 abbrev pub old_store : (ℕ → ℕ) → Store → Store
 old_store f s c = s (renumbered_cell f c)
 
--- a touch, an iteration that a place stands in, a place and an act under new numbers (this project)
+-- a touch, an iteration that a place is in, a place and an act under new numbers (this project)
 abbrev pub renumbered_touch : (ℕ → ℕ) → Touch → Touch
 renumbered_touch f t = record t { cell = renumbered_cell f t.cell }
 
--- an iteration that a place stands in, under the DO's new number (this project)
+-- an iteration that a place is in, under the DO's new number (this project)
 abbrev pub renumbered_turn : (ℕ → ℕ) → Turn → Turn
 renumbered_turn f t = record t { statement = f t.statement }
 
@@ -55,7 +55,7 @@ pub record IsRenumbered (f : ℕ → ℕ) (new old : Run) : Type 0 where
   pub acts : new.acts ≡ map (renumbered_act f) old.acts
   pub ending : EndsAs f new.ending old.ending
 
--- new numbers, from which the old ones are told (plain words)
+-- new numbers, that determine the old ones (plain words)
 pub record IsToldBack (f g : ℕ → ℕ) : Type 0 where
   pub back : (n : ℕ) → g (f n) ≡ n
 

@@ -13,7 +13,7 @@ use Rattle.ped_weaves.specs.ped_laws.specs.Acts.Fitting.{of_cells}
 use Rattle.ped_weaves.specs.ped_laws.specs.Acts.Renaming.{AreRenamed}
 use Rattle.ped_weaves.specs.ped_laws.specs.ped_eval.specs.Scopes.{Setting, Scope, index_value}
 
--- two acts do the same on renamed cells: one step at one place, and the same reads and writes in the same order; what their places tell may differ (this project)
+-- two acts do the same on renamed cells: one step at one place, and the same reads and writes in the same order; what their places give may differ (this project)
 pub record IsSameOn (name : Cell → Cell) (a b : Act) : Type 0 where
   pub step : b.step ≡ a.step
   pub place : b.place ≡ a.place
@@ -30,7 +30,7 @@ AreSameOn name (a ∷ others) (b ∷ bs) = IsSameOn name a b × AreSameOn name o
 abbrev pub element_at : List ℕ → List ℕ → ExprTree
 element_at array v = Element array (more_exprs (Var v) no_exprs)
 
--- an element of an array may stand in the place of a scalar in statements: the array doesn't occur there; the scalar is no constant, no variable of a DO there or round them, and private to no DO there; the element's subscript is the variable of a DO round them, of no DO in them, and lies within the array's bounds (Allen and Kennedy, section 5.3; this project)
+-- an element of an array may occur in the place of a scalar in statements: the array doesn't occur there; the scalar is no constant, no variable of a DO there or around them, and private to no DO there; the element's subscript is the variable of a DO around them, of no DO in them, and lies within the array's bounds (Allen and Kennedy, section 5.3; this project)
 pub record MayStandFor (p : Setting) (S : Scope) (ts : StmtTrees) (x array v : List ℕ) (k : ℤ) : Type 0 where
   pub new : is_among array (names_at (stmts_sites ts)) ≡ false
   pub variable : value_named p.constants x ≡ None

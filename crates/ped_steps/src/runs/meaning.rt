@@ -19,8 +19,8 @@ pub fn keeping()
     ensures further { (t u v : ProgramTree) → Keeps t u → Keeps u v → Keeps t v }
 {}
 
-/// A scalar that becomes private to the iterations of a DO: where the DO and those round it aren't PARALLEL DOs, the
-/// scalar isn't exposed in an iteration and isn't live behind the DO, the program keeps its meaning (Allen and Kennedy,
+/// A scalar that becomes private to the iterations of a DO: where the DO and those around it aren't PARALLEL DOs, the
+/// scalar isn't exposed in an iteration and isn't live after the DO, the program keeps its meaning (Allen and Kennedy,
 /// section 5.2).
 pub fn privatising_keeps_meaning()
     ensures { (t : ProgramTree) (l : ℕ) (loop : LoopOf t l) (x : List ℕ) (by : StmtTree → StmtTrees) → IsValid t → loop.head.parallel ≡ false → is_in_parallel t l ≡ false → is_among x loop.head.private ≡ false → is_scalar (kind_in t) x ≡ true → ((n : ℕ) → IsExposed t l x n → ⊥) → (IsLiveAfter t l x → ⊥) → by (Do loop.head loop.body) ≡ alone (Do (privately x loop.head) loop.body)
@@ -28,8 +28,9 @@ pub fn privatising_keeps_meaning()
 {}
 
 /// An array in the place of a scalar in a DO, with an element for each value of the DO's variable: where the array may
-/// come and the new program is valid, the program keeps its meaning (Allen and Kennedy, section 5.3). Where a PARALLEL DO
-/// is round the DO, the scalar mustn't be the variable of another DO in it: that one's iterations would have copies of it.
+/// come and the new program is valid, the program keeps its meaning (Allen and Kennedy, section 5.3). Where a PARALLEL
+/// DO is around the DO, the scalar mustn't be the variable of another DO in it: that one's iterations would have copies
+/// of it.
 pub fn expanding_keeps_meaning()
     ensures { (t : ProgramTree) (l : ℕ) (loop : LoopOf t l) (x array : List ℕ) (live : Bool) (m1 m2 m3 : ℤ) (by : StmtTree → StmtTrees) → IsValid t → MayExpand t l loop x array live m1 m2 m3 → by (Do loop.head loop.body) ≡ new_statements x array live (last_value m1 m2 m3) loop.head loop.body → IsValid (expanded_by t l by array m1 m2 m3)
         → Keeps t (expanded_by t l by array m1 m2 m3) }

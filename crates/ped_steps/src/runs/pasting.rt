@@ -31,8 +31,9 @@ pub fn executions_exchanged()
         → (parts : List Part) × (old_parts parts ≡ (run_all p t.body 1 [] start).acts) × AreExecutions p t start (number_at gap 1) (run_all p old (number_at gap 1)) fresh parts start × Replays (run_all q u.body 1 []) (new_parts parts) (finish_of (run_all p t.body 1 [] start).ending) }
 {}
 
-/// Where the new acts may stand for the old ones in each execution in a run, as far as the acts behind want it, each
-/// changed part of the run may stand for its old one. For turning what is known of one execution into what holds of all.
+/// Where the new acts may stand for the old ones in each execution in a run, as far as the later acts want it, each
+/// changed part of the run may stand for its old one. For turning what is known of one execution into what holds of
+/// all.
 pub fn executions_stand()
     ensures { (shown : Cell → Bool) (p : Setting) (t : ProgramTree) (start : Store) (l : ℕ) (piece : Scope → Store → Run) (fresh : Scope → Store → List Act) → StandInstead shown p t start l piece fresh → (parts : List Part) → old_parts parts ≡ (run_all p t.body 1 [] start).acts → AreExecutions p t start l piece fresh parts start → PartsStand shown parts start }
 {}
@@ -50,14 +51,14 @@ pub fn program_exchanged()
         × AgreeIn shown (store_after (run_all p t.body 1 [] start).acts start) (store_after (new_parts parts) start) }
 {}
 
-/// The last act of an execution of a DO leaves it, and the acts behind the execution are those behind this exit. For the
+/// The last act of an execution of a DO leaves it, and the acts after the execution are those after this exit. For the
 /// laws of scalars that aren't live after a DO.
 pub fn executions_leave()
     ensures { (p : Setting) (t : ProgramTree) (start : Store) (l : ℕ) (loop : LoopOf t l) (scope : Scope) (u : Store) → Ends (run_all p t.body 1 [] start).ending → IsPlaceOf p t l scope → (done : IsDone p t start l scope (run p (Do loop.head loop.body) l scope u).acts u) → finish_of (run p (Do loop.head loop.body) l scope u).ending ≡ goes_on → IsExit p t start l scope done.part.behind }
 {}
 
-/// The outermost DO round an execution, or that DO itself which is executed, is executed once; its entry comes behind the
-/// acts before that. For plain bounds, which have one value from there on.
+/// The outermost DO around an execution, or that DO itself which is executed, is executed once; its entry comes after
+/// the acts before that. For plain bounds, which have one value from there on.
 pub fn executions_enter()
     ensures entry { (p : Setting) (t : ProgramTree) (start : Store) (l : ℕ) (acts : List Act) (u : Store) → (x : IsInExecution p t start l acts u) → IsEntry p t start l x.execution.front }
     ensures of_loop { (p : Setting) (t : ProgramTree) (start : Store) (l : ℕ) (loop : LoopOf t l) (scope : Scope) (u : Store) → IsPlaceOf p t l scope → IsDone p t start l scope (run p (Do loop.head loop.body) l scope u).acts u → finish_of (run p (Do loop.head loop.body) l scope u).ending ≡ goes_on → IsInExecution p t start l (run p (Do loop.head loop.body) l scope u).acts u }

@@ -5,7 +5,7 @@ use Rattle.ped_scalar.specs.ped_rules.specs.ped_loop_runs.specs.ped_bodies.specs
 use Rattle.ped_scalar.specs.ped_rules.specs.ped_loop_runs.specs.ped_bodies.specs.ped_steps.specs.RuleNames.{number_of}
 use Rattle.ped_scalar.specs.ped_rules.specs.ped_loop_runs.specs.ped_bodies.specs.ped_steps.specs.Causes.{Rules}
 
--- no rule with a number up to this one stands
+-- no rule with a number up to this one forbids the step
 abbrev pub NoneUpTo : ℕ → Rules → Type 0
 NoneUpTo k stands = (r : Rule) (n : ℕ) → number_of r ≤ k → stands r n → ⊥
 

@@ -1,4 +1,4 @@
--- Where a bound stands, as the code has it. Contracts of private functions alone speak of it (this project).
+-- The place of a bound, as the code has it. Contracts of private functions alone speak of it (this project).
 use Rattle.std.specs.Prelude.{◌≡◌, ℕ, ◌+◌, ◌<◌, ◌^◌, List, [], Bool, true, false, None}
 use Rattle.ped_base.specs.Lists.{is_among}
 use Rattle.ped_tree.specs.Tree.{ExprTree, Head, ProgramTree}
@@ -13,7 +13,7 @@ use Rattle.ped_scalar.specs.ped_rules.specs.ped_loop_runs.specs.ped_bodies.specs
 use Rattle.ped_loops.specs.Interchanging.{IsBoundOf}
 use Rattle.ped_loops.specs.declared.bounds.Place.{Place}
 
--- the program in which the bound stands
+-- the program in which the bound is
 abbrev pub tree_at : Place → ProgramTree
 tree_at p = program_tree p.flow.now.program.now
 
@@ -21,7 +21,7 @@ tree_at p = program_tree p.flow.now.program.now
 abbrev pub values_at : Place → Values
 values_at p = p.setting.now.constants.now
 
--- the place has the DO loops round the DO, the variables of all DO loops, and what the outermost DO assigns
+-- the place has the DO loops around the DO, the variables of all DO loops, and what the outermost DO assigns
 pub record IsPlaced (p : Place) : Type 0 where
   pub few : statements_count (tree_at p).body + 1 < 2 ^ 32
   pub round : nest_of p.round.now ≡ nest_round (tree_at p) p.number

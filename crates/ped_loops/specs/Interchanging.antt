@@ -21,11 +21,11 @@ abbrev pub exchanged_loops : Head → (body : StmtTrees) → Option (Head × Stm
 exchanged_loops outer body None = alone (Do outer body)
 exchanged_loops outer body (Some l) = alone (Do (new_outer outer l.0) (change_only (λ h inside. Do (new_inner outer l.0) inside) body))
 
--- the same of a DO, where one DO stands in its body, comments apart (Allen and Kennedy, section 5.2)
+-- the same of a DO, where one DO is in its body, comments apart (Allen and Kennedy, section 5.2)
 abbrev pub with_exchanged : Head → StmtTrees → StmtTrees
 with_exchanged outer body = exchanged_loops outer body (only_loop body)
 
--- the program behind the step (ParaScope)
+-- the program after the step (ParaScope)
 abbrev pub interchanged : ProgramTree → ℕ → ProgramTree
 interchanged t s = program_with (on_loop with_exchanged) s t
 
@@ -58,7 +58,7 @@ leaves_either setting heads outer inner =
 abbrev pub makes_far : Setting → List Head → Head → StmtTrees → Bool
 makes_far setting heads outer body = inner (λ g inside. leaves_either setting heads (new_outer outer g) (new_inner outer g)) body
 
--- which rules stand against the step: the statement is no DO; its body isn't one DO; one of the two is a PARALLEL DO, or has PRIVATE names; a variable of the DO or of one in it is read outside it; a bound of one isn't plain; one of the inner DO names the outer variable and has no shape, or names it where an increment isn't 1; a new bound may leave 2^62; the new program isn't valid (this project)
+-- which rules forbid the step: the statement is no DO; its body isn't one DO; one of the two is a PARALLEL DO, or has PRIVATE names; a variable of the DO or of one in it is read outside it; a bound of one isn't plain; one of the inner DO names the outer variable and has no shape, or names it where an increment isn't 1; a new bound may leave 2^62; the new program isn't valid (this project)
 abbrev pub StandsAgainstInterchange : (s : ℕ) → ProgramTree → Rules
 StandsAgainstInterchange s t =
     also NoLoop (WhereNoLoop t s)
@@ -72,7 +72,7 @@ StandsAgainstInterchange s t =
     (also Range (WhereLoop t s (makes_far (setting_at t s) (heads_round t s)))
     (also Limit (WhereLimit (MakesInterchanged s) t s) no_rules)))))))))
 
--- `interchange s`: a dependence that the DO carries forbids it where its sink stands in an earlier iteration of the inner DO, since it would be turned round (Allen and Kennedy, section 5.2)
+-- `interchange s`: a dependence that the DO carries forbids it where its sink is in an earlier iteration of the inner DO, since it would be turned around (Allen and Kennedy, section 5.2)
 abbrev pub interchanging : ℕ → StepAt
 interchanging s = record {
   statement = s;

@@ -10,11 +10,11 @@ use Rattle.ped_scalar.specs.ped_rules.specs.ped_loop_runs.specs.ped_bodies.specs
 use Rattle.ped_scalar.specs.ped_rules.specs.ped_loop_runs.specs.ped_bodies.specs.ped_steps.specs.Replacing.{all_kept}
 use Rattle.ped_loops.specs.Flags.{flagged}
 
--- the program behind the step, which keeps each statement with its number (ParaScope)
+-- the program after the step, which keeps each statement with its number (ParaScope)
 abbrev pub MakesParallel : (s : ℕ) → ProgramTree → ProgramTree → List (ℕ × ℕ) → Type 0
 MakesParallel s t new keep = (new ≡ flagged t s true) × (keep ≡ all_kept t)
 
--- which rules stand against the step: the statement is no DO, or a PARALLEL DO; the DO reads its variable, or that of a DO in it, elsewhere than in the body of that DO, or one of these is live after it; the new program isn't valid (this project)
+-- which rules forbid the step: the statement is no DO, or a PARALLEL DO; the DO reads its variable, or that of a DO in it, elsewhere than in the body of that DO, or one of these is live after it; the new program isn't valid (this project)
 abbrev pub StandsAgainstParallel : (s : ℕ) → ProgramTree → Rules
 StandsAgainstParallel s t =
     also NoLoop (WhereNoLoop t s)

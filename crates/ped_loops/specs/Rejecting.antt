@@ -19,11 +19,11 @@ use Rattle.ped_scalar.specs.ped_rules.specs.ped_loop_runs.specs.ped_bodies.specs
 abbrev pub with_rejection : List ℕ → Head → StmtTrees → StmtTrees
 with_rejection x h body = alone (Do (record h { rejected = h.rejected ++ x ∷ [] }) body)
 
--- the program behind the step (ParaScope)
+-- the program after the step (ParaScope)
 abbrev pub with_directive : ProgramTree → ℕ → List ℕ → ProgramTree
 with_directive t s x = program_with (on_loop (with_rejection x)) s t
 
--- the tests don't tell whether the dependence is there, nor does the user (ParaScope)
+-- neither the tests nor the user say whether the dependence is there (ParaScope)
 abbrev pub is_pending : Mark → Bool
 is_pending proven = false
 is_pending pending = true
@@ -49,13 +49,13 @@ WhereNothing t s x n = LoopOf t s × NothingPending t s x × (n ≡ s)
 abbrev pub MakesRejection : (s : ℕ) → List ℕ → ProgramTree → ProgramTree → List (ℕ × ℕ) → Type 0
 MakesRejection s x t new keep = (new ≡ with_directive t s x) × (keep ≡ all_kept t)
 
--- which rules stand against the step: the statement is no DO; the DO carries no pending dependence on the name. Where neither stands, the new program is valid if this one is (ParaScope)
+-- which rules forbid the step: the statement is no DO; the DO carries no pending dependence on the name. Where neither forbids it, the new program is valid if this one is (ParaScope)
 abbrev pub StandsAgainstRejection : (s : ℕ) → List ℕ → ProgramTree → Rules
 StandsAgainstRejection s x t =
     also NoLoop (WhereNoLoop t s)
     (also NothingToReject (WhereNothing t s x) no_rules)
 
--- `reject s x`: it promises nothing of the meaning, since it takes the user's word for what the steps behind it keep (ParaScope)
+-- `reject s x`: it promises nothing about the meaning, since it takes the user's word for what the steps after it keep (ParaScope)
 abbrev pub rejecting : ℕ → List ℕ → StepAt
 rejecting s x = record {
   statement = s;

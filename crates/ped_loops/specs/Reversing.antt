@@ -22,7 +22,7 @@ turned_head constants h = record h { first = h.last; last = h.first; step = lite
 abbrev pub with_turned : Values → Head → StmtTrees → StmtTrees
 with_turned constants h body = alone (Do (turned_head constants h) body)
 
--- the program behind the step (ParaScope)
+-- the program after the step (ParaScope)
 abbrev pub reversed : ProgramTree → ℕ → ProgramTree
 reversed t s = program_with (on_loop (with_turned (table_of t).constants)) s t
 
@@ -30,7 +30,7 @@ reversed t s = program_with (on_loop (with_turned (table_of t).constants)) s t
 abbrev pub MakesReversed : (s : ℕ) → ProgramTree → ProgramTree → List (ℕ × ℕ) → Type 0
 MakesReversed s t new keep = (new ≡ reversed t s) × (keep ≡ all_kept t)
 
--- which rules stand against the step: the statement is no DO, or a PARALLEL DO; the DO reads its variable, or that of a DO in it, elsewhere than in the body of that DO, or one of these is live after it; its increment isn't 1 or -1; the new program isn't valid (this project)
+-- which rules forbid the step: the statement is no DO, or a PARALLEL DO; the DO reads its variable, or that of a DO in it, elsewhere than in the body of that DO, or one of these is live after it; its increment isn't 1 or -1; the new program isn't valid (this project)
 abbrev pub StandsAgainstReversal : (s : ℕ) → ProgramTree → Rules
 StandsAgainstReversal s t =
     also NoLoop (WhereNoLoop t s)
@@ -39,7 +39,7 @@ StandsAgainstReversal s t =
     (also StepShape (WhereLoop t s (has_other_step (table_of t).constants is_unit))
     (also Limit (WhereLimit (MakesReversed s) t s) no_rules))))
 
--- `reverse s`: a dependence that the DO carries and that the user hasn't rejected forbids it, since it would be turned round (Allen and Kennedy, sections 2.2.5, 5.2; ParaScope)
+-- `reverse s`: a dependence that the DO carries and that the user hasn't rejected forbids it, since it would be turned around (Allen and Kennedy, sections 2.2.5, 5.2; ParaScope)
 abbrev pub reversing : ℕ → StepAt
 reversing s = record {
   statement = s;

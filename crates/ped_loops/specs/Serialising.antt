@@ -9,11 +9,11 @@ use Rattle.ped_scalar.specs.ped_rules.specs.ped_loop_runs.specs.ped_bodies.specs
 use Rattle.ped_scalar.specs.ped_rules.specs.ped_loop_runs.specs.ped_bodies.specs.ped_steps.specs.Replacing.{all_kept}
 use Rattle.ped_loops.specs.Flags.{flagged}
 
--- the program behind the step, which keeps each statement with its number (ParaScope)
+-- the program after the step, which keeps each statement with its number (ParaScope)
 abbrev pub MakesSerial : (s : ℕ) → ProgramTree → ProgramTree → List (ℕ × ℕ) → Type 0
 MakesSerial s t new keep = (new ≡ flagged t s false) × (keep ≡ all_kept t)
 
--- which rules stand against the step: the statement is no DO, or no PARALLEL DO; the DO reads its variable, or that of a DO in it, elsewhere than in the body of that DO, or one of these is live after it; the new program isn't valid (this project)
+-- which rules forbid the step: the statement is no DO, or no PARALLEL DO; the DO reads its variable, or that of a DO in it, elsewhere than in the body of that DO, or one of these is live after it; the new program isn't valid (this project)
 abbrev pub StandsAgainstSerial : (s : ℕ) → ProgramTree → Rules
 StandsAgainstSerial s t =
     also NoLoop (WhereNoLoop t s)

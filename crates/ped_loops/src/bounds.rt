@@ -25,7 +25,7 @@ use ped_tree::{Do, Expr, Intrinsic, Program};
 use std::alloc::Global;
 use std::sync::ledger::Ledger;
 
-/// Where a bound of a DO stands, and what it may depend on.
+/// The place of a bound of a DO, and what the bound may depend on.
 #[derive(Clone, Copy)]
 pub(crate) struct Place<'a> {
     /// The flow of the scalars of the program.
@@ -34,7 +34,7 @@ pub(crate) struct Place<'a> {
     pub(crate) setting: &'a Setting<'a>,
     /// The number of the DO.
     pub(crate) number: u32,
-    /// The DO loops round it, the outermost first.
+    /// The DO loops around it, the outermost first.
     pub(crate) round: &'a [Loop<'a>],
 }
 
@@ -54,9 +54,9 @@ pub(crate) fn are_plain<L: Ledger>(
     Ok(both(first, last))
 }
 
-/// Whether a bound of the DO with this number is plain: built of constants, variables of DO loops round it and scalars that
-/// keep their value in the outermost DO, by sign, sum, difference, product with a constant, MAX and MIN, where no part may
-/// leave 2^62 (this project).
+/// Whether a bound of the DO with this number is plain: built of constants, variables of DO loops around it and scalars
+/// that keep their value in the outermost DO, by sign, sum, difference, product with a constant, MAX and MIN, where no
+/// part may leave 2^62 (this project).
 pub fn is_plain<L: Ledger>(
     alloc: Global,
     scene: &Scene<L>,
@@ -84,7 +84,7 @@ pub fn is_plain<L: Ledger>(
     Ok(is_plain_there(&place, bound))
 }
 
-/// Whether a bound at this place is plain. At most six loops stand in a nest.
+/// Whether a bound at this place is plain. At most six loops are in a nest.
 fn is_plain_there(place: &Place, e: &Expr) -> bool
     requires placed { IsPlaced place.now }
     requires short { length place.now.round.now ≤ 6 }
@@ -181,7 +181,7 @@ fn is_constant(place: &Place, e: &Expr) -> bool
     constant(e, place.setting.constants).is_some()
 }
 
-/// Whether the name is the variable of a DO round the bound, or a scalar that keeps its value in the outermost DO.
+/// Whether the name is the variable of a DO around the bound, or a scalar that keeps its value in the outermost DO.
 #[tactic(auto, using(crate::proofs::PlainAnswers::of_either, crate::proofs::PlainAnswers::of_both))]
 fn is_told(place: &Place, name: &Name) -> bool
     requires { IsPlaced place.now }

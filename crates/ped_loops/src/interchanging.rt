@@ -40,10 +40,10 @@ use std::sync::ledger::Ledger;
 ///
 /// # Errors
 ///
-/// `Refused` exactly where a rule stands, with the rule of the least number: NoLoop, NotPerfect, ParallelState, HasPrivate,
-/// IndexEscapes, BoundNotPlain, BoundsShape, StepShape, Range or Limit; and else where the DO carries a dependence that the
-/// user hasn't rejected and of which the sink stands in an earlier iteration of the inner DO, with the first one in the order
-/// of the pane.
+/// `Refused` exactly where a rule forbids the step, with the rule of the least number: NoLoop, NotPerfect,
+/// ParallelState, HasPrivate, IndexEscapes, BoundNotPlain, BoundsShape, StepShape, Range or Limit; and else where the
+/// DO carries a dependence that the user hasn't rejected and of which the sink is in an earlier iteration of the inner
+/// DO, with the first one in the order of the pane.
 pub fn interchange<L: Ledger>(
     alloc: Global,
     scene: &Scene<L>,
@@ -133,7 +133,7 @@ fn has_private(d: &Do) -> bool
     !d.private.is_empty()
 }
 
-/// The same, where no rule up to the fifth stands.
+/// The same, where no rule up to the fifth forbids it.
 fn unless_unplain<L: Ledger>(
     alloc: Global,
     scene: &Scene<L>,
@@ -180,7 +180,7 @@ fn first_unplain<L: Ledger>(
     Ok(None)
 }
 
-/// The same, where no rule up to the sixth stands.
+/// The same, where no rule up to the sixth forbids it.
 fn unless_tied<L: Ledger>(
     alloc: Global,
     scene: &Scene<L>,
@@ -204,7 +204,7 @@ fn unless_tied<L: Ledger>(
     }
 }
 
-/// The same, where no rule up to the seventh stands, and the bounds of the inner DO have these shapes.
+/// The same, where no rule up to the seventh forbids it, and the bounds of the inner DO have these shapes.
 fn unless_stepping<L: Ledger>(
     alloc: Global,
     scene: &Scene<L>,
@@ -246,7 +246,7 @@ fn steps_otherwise(consts: &Consts, d: &Do) -> bool
     !has_step_one(consts, d)
 }
 
-/// The same, where no rule up to the eighth stands, and these are the new loops.
+/// The same, where no rule up to the eighth forbids it, and these are the new loops.
 fn unless_far<L: Ledger>(
     alloc: Global,
     scene: &Scene<L>,
@@ -326,7 +326,7 @@ fn leaves_bound<L: Ledger>(
     leaves(alloc, scene, round, &new.last)
 }
 
-/// The change, against which no rule stands, unless the step would turn a dependence round.
+/// The change, which no rule forbids, unless the step would turn a dependence around.
 fn unless_crossing<L: Ledger>(
     alloc: Global,
     scene: &Scene<L>,

@@ -18,12 +18,14 @@ use ped_tree::Do;
 use std::alloc::Global;
 use std::sync::ledger::Ledger;
 
-/// Makes the DO with this number a PARALLEL DO (Allen and Kennedy, section 2.4.1; ParaScope). Each statement keeps its number.
+/// Makes the DO with this number a PARALLEL DO (Allen and Kennedy, section 2.4.1; ParaScope). Each statement keeps its
+/// number.
 ///
 /// # Errors
 ///
-/// `Refused` exactly where a rule stands, with the rule of the least number: NoLoop, ParallelState, IndexEscapes or Limit;
-/// and else where the DO carries a dependence that the user hasn't rejected, with the first one in the order of the pane.
+/// `Refused` exactly where a rule forbids the step, with the rule of the least number: NoLoop, ParallelState,
+/// IndexEscapes or Limit; and else where the DO carries a dependence that the user hasn't rejected, with the first one
+/// in the order of the pane.
 pub fn make_parallel<L: Ledger>(
     alloc: Global,
     scene: &Scene<L>,
@@ -69,7 +71,7 @@ fn make_parallel_in<L: Ledger>(
     }
 }
 
-/// The change, against which no rule stands, unless the DO with this number carries a dependence.
+/// The change, which no rule forbids, unless the DO with this number carries a dependence.
 fn unless_carried<L: Ledger>(
     alloc: Global,
     scene: &Scene<L>,

@@ -27,13 +27,13 @@ use ped_tree::{Do, Program, Stmt};
 use std::alloc::Global;
 use std::sync::ledger::Ledger;
 
-/// Puts a name last in the directives of the DO with this number: the user says that the name's pending dependences which
-/// the DO carries aren't there (ParaScope). Each statement keeps its number.
+/// Puts a name last in the directives of the DO with this number: the user says that the name's pending dependences
+/// which the DO carries aren't there (ParaScope). Each statement keeps its number.
 ///
 /// # Errors
 ///
-/// `Refused` exactly where a rule stands: NoLoop, or NothingToReject where the DO carries no pending dependence on the name.
-/// No dependence forbids the step.
+/// `Refused` exactly where a rule forbids the step: NoLoop, or NothingToReject where the DO carries no pending
+/// dependence on the name. No dependence forbids the step.
 pub fn reject<L: Ledger>(
     alloc: Global,
     scene: &Scene<L>,

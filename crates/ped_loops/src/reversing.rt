@@ -26,14 +26,14 @@ use ped_tree::{Do, Program, Stmt};
 use std::alloc::Global;
 use std::sync::ledger::Ledger;
 
-/// Exchanges the bounds of the DO with this number and negates its increment (Allen and Kennedy, section 5.2; ParaScope).
-/// Each statement keeps its number.
+/// Exchanges the bounds of the DO with this number and negates its increment (Allen and Kennedy, section 5.2;
+/// ParaScope). Each statement keeps its number.
 ///
 /// # Errors
 ///
-/// `Refused` exactly where a rule stands, with the rule of the least number: NoLoop, ParallelState, IndexEscapes,
-/// StepShape or Limit; and else where the DO carries a dependence that the user hasn't rejected, with the first one in the
-/// order of the pane.
+/// `Refused` exactly where a rule forbids the step, with the rule of the least number: NoLoop, ParallelState,
+/// IndexEscapes, StepShape or Limit; and else where the DO carries a dependence that the user hasn't rejected, with the
+/// first one in the order of the pane.
 pub fn reverse<L: Ledger>(
     alloc: Global,
     scene: &Scene<L>,
@@ -105,7 +105,7 @@ fn reverse_by<L: Ledger>(
     }
 }
 
-/// The change, against which no rule stands, unless the DO with this number carries a dependence.
+/// The change, which no rule forbids, unless the DO with this number carries a dependence.
 fn unless_carried<L: Ledger>(
     alloc: Global,
     scene: &Scene<L>,

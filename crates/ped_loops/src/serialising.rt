@@ -19,8 +19,8 @@ use std::sync::ledger::Ledger;
 ///
 /// # Errors
 ///
-/// `Refused` exactly where a rule stands, with the rule of the least number: NoLoop, ParallelState, IndexEscapes or Limit.
-/// No dependence forbids the step.
+/// `Refused` exactly where a rule forbids the step, with the rule of the least number: NoLoop, ParallelState,
+/// IndexEscapes or Limit. No dependence forbids the step.
 pub fn make_serial<L: Ledger>(
     alloc: Global,
     scene: &Scene<L>,

@@ -278,7 +278,7 @@ fn all_around(alloc: Global, pair: &Pair, statements: &[Stmt]) -> Result<Vec<Stm
     Ok(body)
 }
 
-/// A copy of a comment beside the inner DO, or the new inner DO.
+/// A copy of a comment next to the inner DO, or the new inner DO.
 fn around(alloc: Global, pair: &Pair, statement: &Stmt) -> Result<Stmt, NoMemory>
     requires { HasShapes pair.now }
     ensures { IfOk result (λ new. stmt_tree new ≡ one_around (Spec.new_inner (outer_of pair.now) (inner_of pair.now)) (stmt_trees pair.now.inner.now.body.items) (stmt_tree statement.now)) }

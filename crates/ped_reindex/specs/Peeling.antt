@@ -1,4 +1,4 @@
--- `peel`: the first or the last iteration of a DO is taken out of it and done before or behind it (Allen and Kennedy, section 5.7.2; ParaScope).
+-- `peel`: the first or the last iteration of a DO is taken out of it and done before or after it (Allen and Kennedy, section 5.7.2; ParaScope).
 use Rattle.std.specs.Prelude.{◌≡◌, ℕ, ◌+◌, ◌-◌, ℤ, ◌+ℤ◌, ◌-ℤ◌, List, Bool, true, false, ◌||◌, Option, Some, None}
 use Rattle.ped_tree.specs.Tree.{Head, StmtTrees, Do, more_stmts, ProgramTree}
 use Rattle.ped_tree.specs.Numbering.{statements_count}
@@ -23,7 +23,7 @@ pub record Peeled : Type 0 where
   pub value : ℤ
   pub bound : ℤ
 
--- the first iteration, behind which the DO begins an increment later; or the last one, before which it ends an increment earlier (Allen and Kennedy, section 5.7.2)
+-- the first iteration, after which the DO begins an increment later; or the last one, before which it ends an increment earlier (Allen and Kennedy, section 5.7.2)
 abbrev pub taken_out : (last : Bool) → (step : ℤ) → Span → Peeled
 taken_out false step v = record { value = v.first; bound = v.first +ℤ step }
 taken_out true step v = record { value = v.last; bound = v.last -ℤ step }
@@ -50,21 +50,21 @@ peels_far last constants h body = has_far (peeled_of last constants h)
 abbrev pub iteration_of : ℤ → Head → StmtTrees → StmtTrees
 iteration_of value h body = statements_substituted h.variable (literal value) body
 
--- the iteration before the DO, which begins later; or behind the DO, which ends earlier. All else of the DO stays (Allen and Kennedy, section 5.7.2)
+-- the iteration before the DO, which begins later; or after the DO, which ends earlier. All else of the DO stays (Allen and Kennedy, section 5.7.2)
 abbrev pub with_peeled : (last : Bool) → Peeled → Head → StmtTrees → StmtTrees
 with_peeled false p h body = followed (iteration_of p.value h body) (alone (Do (record h { first = literal p.bound }) body))
 with_peeled true p h body = more_stmts (Do (record h { last = literal p.bound }) body) (iteration_of p.value h body)
 
--- the program behind the step. Comments of the body that come to the front of the program go to the declarations (ParaScope; this project)
+-- the program after the step. Comments of the body that come to the front of the program go to the declarations (ParaScope; this project)
 abbrev pub peeled : ProgramTree → ℕ → (last : Bool) → Peeled → ProgramTree
 peeled t s last p = settled (program_with (on_loop (with_peeled last p)) s t)
 
--- the statement behind which all go further, by as many as the body has: the one before the DO, or the last one in it (this project)
+-- the statement after which all numbers grow by the number of statements of the body: the one before the DO, or the last one in it (this project)
 abbrev pub moves_behind : (last : Bool) → ℕ → ℕ → ℕ
 moves_behind false s size = s - 1
 moves_behind true s size = s + size
 
--- the statements that the step keeps: all, those behind the iteration that is taken out so much further (this project)
+-- the statements that the step keeps: all, and the numbers after the iteration that is taken out grow by the number of statements of the body (this project)
 abbrev pub peel_kept : ProgramTree → ℕ → (last : Bool) → StmtTrees → List (ℕ × ℕ)
 peel_kept t s last body = moved_by (moves_behind last s (statements_count body)) (statements_count body) t
 
@@ -72,7 +72,7 @@ peel_kept t s last body = moved_by (moves_behind last s (statements_count body))
 abbrev pub MakesPeeled : (s : ℕ) → (last : Bool) → ProgramTree → ProgramTree → List (ℕ × ℕ) → Type 0
 MakesPeeled s last t new keep = (l : LoopOf t s) × (p : Peeled) × (peeled_of last (table_of t).constants l.head ≡ Some p) × (new ≡ peeled t s last p) × (keep ≡ peel_kept t s last l.body)
 
--- which rules stand against the step: the statement is no DO, or a PARALLEL DO; it has PRIVATE names; a variable of it is read outside its DO; the iteration's value or the new bound is one that no literal has; a bound isn't constant, or there is no iteration; the new program isn't valid (this project)
+-- which rules forbid the step: the statement is no DO, or a PARALLEL DO; it has PRIVATE names; a variable of it is read outside its DO; the iteration's value or the new bound is one that no literal has; a bound isn't constant, or there is no iteration; the new program isn't valid (this project)
 abbrev pub StandsAgainstPeeling : (s : ℕ) → (last : Bool) → ProgramTree → Rules
 StandsAgainstPeeling s last t =
     also NoLoop (WhereNoLoop t s)

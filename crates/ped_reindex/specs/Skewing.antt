@@ -41,11 +41,11 @@ skewed_head f i g = record g { first = skewed_bound f i g.first; last = skewed_b
 abbrev pub skewed_loop : ℤ → List ℕ → Head → StmtTrees → StmtTree
 skewed_loop f i g body = Do (skewed_head f i g) (statements_substituted g.variable (unskewed f i g.variable) body)
 
--- the outer DO with the inner one skewed; its own head stays, and so do comments beside the inner one (Allen and Kennedy, section 5.9)
+-- the outer DO with the inner one skewed; its own head stays, and so do comments next to the inner one (Allen and Kennedy, section 5.9)
 abbrev pub with_skewed : ℤ → Head → StmtTrees → StmtTrees
 with_skewed f h body = alone (Do h (change_only (skewed_loop f h.variable) body))
 
--- the program behind the step (ParaScope)
+-- the program after the step (ParaScope)
 abbrev pub skewed : ProgramTree → ℕ → ℤ → ProgramTree
 skewed t s f = program_with (on_loop (with_skewed f)) s t
 
@@ -59,7 +59,7 @@ skew_leaves t s f h body =
     let heads = heads_round t s ++ h ∷ [] in
     inner (λ g b. leaves (setting_at t s) heads (skewed_bound f h.variable g.first) || leaves (setting_at t s) heads (skewed_bound f h.variable g.last)) body
 
--- which rules stand against the step: the statement is no DO; the body isn't one DO; one of both is a PARALLEL DO; a variable of theirs is read outside its DO; a new bound may leave 2^62; the new program isn't valid; the factor isn't allowed, and then the two rules before aren't asked (this project)
+-- which rules forbid the step: the statement is no DO; the body isn't one DO; one of both is a PARALLEL DO; a variable of theirs is read outside its DO; a new bound may leave 2^62; the new program isn't valid; the factor isn't allowed, and then the two rules before aren't asked (this project)
 abbrev pub StandsAgainstSkewing : (s : ℕ) → (f : ℤ) → ProgramTree → Rules
 StandsAgainstSkewing s f t =
     also NoLoop (WhereNoLoop t s)

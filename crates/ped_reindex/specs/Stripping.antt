@@ -43,11 +43,11 @@ strip_head k w h = record h { first = Var w; last = Call Min (more_exprs (strip_
 abbrev pub with_strips : ℤ → List ℕ → Head → StmtTrees → StmtTrees
 with_strips k w h body = alone (Do (strips_head k w h) (alone (Do (strip_head k w h) body)))
 
--- the program behind the step, with this variable (ParaScope)
+-- the program after the step, with this variable (ParaScope)
 abbrev pub stripped : ProgramTree → ℕ → ℤ → List ℕ → ProgramTree
 stripped t s k w = program_with (on_loop (with_strips k w)) s t
 
--- what the step makes: the DO over the strips takes the old DO's number, and statements behind it go one further (ParaScope)
+-- what the step makes: the DO over the strips takes the old DO's number, and the numbers of statements after it grow by one (ParaScope)
 abbrev pub MakesStripped : (s : ℕ) → (k : ℤ) → ProgramTree → ProgramTree → List (ℕ × ℕ) → Type 0
 MakesStripped s k t new keep = (w : List ℕ) × (strip_variable t ≡ Some w) × (new ≡ stripped t s k w) × (keep ≡ moved_by s 1 t)
 
@@ -64,7 +64,7 @@ of_name test (Some w) = test w
 abbrev pub strip_leaves : ProgramTree → (s : ℕ) → ℤ → Head → StmtTrees → Bool
 strip_leaves t s k h body = of_name (λ w. leaves (setting_at t s) (heads_round t s ++ strips_head k w h ∷ []) (strip_end k w)) (strip_variable t)
 
--- which rules stand against the step: the statement is no DO, or a PARALLEL DO; it has PRIVATE names; a variable of it is read outside its DO; its limit isn't plain; its increment isn't 1; the last value of a strip may leave 2^62; the new program isn't valid, or the new name would be too long; the size isn't allowed, and then the two rules before aren't asked (this project)
+-- which rules forbid the step: the statement is no DO, or a PARALLEL DO; it has PRIVATE names; a variable of it is read outside its DO; its limit isn't plain; its increment isn't 1; the last value of a strip may leave 2^62; the new program isn't valid, or the new name would be too long; the size isn't allowed, and then the two rules before aren't asked (this project)
 abbrev pub StandsAgainstStripping : (s : ℕ) → (k : ℤ) → ProgramTree → Rules
 StandsAgainstStripping s k t =
     also NoLoop (WhereNoLoop t s)

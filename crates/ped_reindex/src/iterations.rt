@@ -115,7 +115,7 @@ fn taken_out(value: i128, bound: i128) -> Iteration
     })
 }
 
-/// What is left of the way from the first value to the limit, in steps of the increment. The way itself may have more than
+/// The rest of the way from the first value to the limit, in steps of the increment. The way itself may have more than
 /// 128 bits.
 fn left(first: i128, end: i128, step: i128) -> i128
     requires step { IsTrue (is_step (Some step)) }

@@ -28,14 +28,14 @@ use ped_tree::{Do, Expr, Program, Stmt, copy_decls, count_statements};
 use std::alloc::Global;
 use std::sync::ledger::Ledger;
 
-/// Takes the first or the last iteration out of the DO with this number: it is done before or behind the DO, with the literal
-/// of its value for the variable (Allen and Kennedy, section 5.7.2; ParaScope). The statements behind it go further, by as
-/// many as the body has.
+/// Takes the first or the last iteration out of the DO with this number: it is done before or after the DO, with the
+/// literal of its value for the variable (Allen and Kennedy, section 5.7.2; ParaScope). The numbers of the statements
+/// after it grow by the number of statements of the body.
 ///
 /// # Errors
 ///
-/// `Refused` exactly where a rule stands, with the rule of the least number: NoLoop, ParallelState, HasPrivate, IndexEscapes,
-/// Range, NotConstant or Limit. No dependence forbids the step.
+/// `Refused` exactly where a rule forbids the step, with the rule of the least number: NoLoop, ParallelState,
+/// HasPrivate, IndexEscapes, Range, NotConstant or Limit. No dependence forbids the step.
 pub fn peel<L: Ledger>(
     alloc: Global,
     scene: &Scene<L>,
@@ -107,7 +107,7 @@ fn peel_contained<L: Ledger>(
     }
 }
 
-/// The same, where this iteration is taken out and only the rule Limit may stand.
+/// The same, where this iteration is taken out and only the rule Limit may forbid the step.
 fn peel_off<L: Ledger>(
     alloc: Global,
     scene: &Scene<L>,
@@ -182,7 +182,7 @@ fn with_peeled(
     })
 }
 
-/// The iteration before or behind the DO, which begins later or ends earlier.
+/// The iteration before or after the DO, which begins later or ends earlier.
 fn new_statements(alloc: Global, d: &Do, last: bool, taken: TakenOut) -> Result<Vec<Stmt>, NoMemory>
     requires near { IsNear taken }
     ensures { IfOk result (λ new. stmt_trees new.items ≡ Spec.with_peeled last (peeled_in taken) (head_of d.now) (stmt_trees d.now.body.items)) }
@@ -194,7 +194,7 @@ fn new_statements(alloc: Global, d: &Do, last: bool, taken: TakenOut) -> Result<
     }
 }
 
-/// The iteration, and behind it the DO, which begins later.
+/// The iteration, and after it the DO, which begins later.
 fn loop_last(alloc: Global, d: &Do, taken: TakenOut) -> Result<Vec<Stmt>, NoMemory>
     requires near { IsNear taken }
     ensures { IfOk result (λ new. stmt_trees new.items ≡ Spec.with_peeled false (peeled_in taken) (head_of d.now) (stmt_trees d.now.body.items)) }
@@ -204,7 +204,7 @@ fn loop_last(alloc: Global, d: &Do, taken: TakenOut) -> Result<Vec<Stmt>, NoMemo
     Ok(new)
 }
 
-/// The DO, which ends earlier, and behind it the iteration.
+/// The DO, which ends earlier, and after it the iteration.
 fn loop_first(alloc: Global, d: &Do, taken: TakenOut) -> Result<Vec<Stmt>, NoMemory>
     requires near { IsNear taken }
     ensures { IfOk result (λ new. stmt_trees new.items ≡ Spec.with_peeled true (peeled_in taken) (head_of d.now) (stmt_trees d.now.body.items)) }

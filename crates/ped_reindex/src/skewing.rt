@@ -30,13 +30,14 @@ use ped_tree::{Do, Expr, Program, Stmt};
 use std::alloc::Global;
 use std::sync::ledger::Ledger;
 
-/// Adds a multiple of the variable of the DO with this number to the bounds of the one DO in its body, and takes it from the
-/// inner variable in the inner body (Allen and Kennedy, section 5.9; ParaScope). Each statement keeps its number.
+/// Adds a multiple of the variable of the DO with this number to the bounds of the one DO in its body, and takes it
+/// from the inner variable in the inner body (Allen and Kennedy, section 5.9; ParaScope). Each statement keeps its
+/// number.
 ///
 /// # Errors
 ///
-/// `Refused` exactly where a rule stands, with the rule of the least number: NoLoop, NotPerfect, ParallelState, IndexEscapes,
-/// Range, Limit or BadFactor. No dependence forbids the step.
+/// `Refused` exactly where a rule forbids the step, with the rule of the least number: NoLoop, NotPerfect,
+/// ParallelState, IndexEscapes, Range, Limit or BadFactor. No dependence forbids the step.
 pub fn skew<L: Ledger>(
     alloc: Global,
     scene: &Scene<L>,
@@ -118,7 +119,7 @@ fn is_bad_factor(factor: i64) -> bool
     factor == 0 || factor.unsigned_abs() > 1000
 }
 
-/// The same, where only the rules Range and Limit may stand.
+/// The same, where only the rules Range and Limit may forbid the step.
 fn skew_by<L: Ledger>(
     alloc: Global,
     scene: &Scene<L>,

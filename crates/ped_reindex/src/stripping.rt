@@ -31,13 +31,14 @@ use ped_tree::{Do, Expr, Intrinsic, Program, Stmt};
 use std::alloc::Global;
 use std::sync::ledger::Ledger;
 
-/// Puts a DO over strips of so many iterations round the DO with this number, which then does one strip (strip mining: Allen
-/// and Kennedy, section 6.6.1; ParaScope). The new DO takes its number, and the statements behind go one further.
+/// Puts a DO over strips of this many iterations around the DO with this number, which then does one strip (strip
+/// mining: Allen and Kennedy, section 6.6.1; ParaScope). The new DO takes its number, and the numbers of the statements
+/// after it grow by one.
 ///
 /// # Errors
 ///
-/// `Refused` exactly where a rule stands, with the rule of the least number: NoLoop, ParallelState, HasPrivate, IndexEscapes,
-/// BoundNotPlain, StepShape, Range, Limit or BadFactor. No dependence forbids the step.
+/// `Refused` exactly where a rule forbids the step, with the rule of the least number: NoLoop, ParallelState,
+/// HasPrivate, IndexEscapes, BoundNotPlain, StepShape, Range, Limit or BadFactor. No dependence forbids the step.
 pub fn strip<L: Ledger>(
     alloc: Global,
     scene: &Scene<L>,
@@ -115,7 +116,7 @@ fn is_bad_size(size: i64) -> bool
     size < 2 || size > 1000
 }
 
-/// The same, where only the rules Range and Limit may stand.
+/// The same, where only the rules Range and Limit may forbid the step.
 fn strip_by<L: Ledger>(
     alloc: Global,
     scene: &Scene<L>,

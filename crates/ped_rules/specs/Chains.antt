@@ -1,15 +1,15 @@
--- The rules of a step as a chain: each rule with what stands against the step by it, and then the others (this project).
+-- The rules of a step as a chain: each rule with the condition under which it forbids the step, and then the others (this project).
 use Rattle.std.specs.Prelude.{◌≡◌, ◌⊎◌, ℕ, Bool, true, false}
 use Rattle.ped_tree.specs.Tree.{Head, StmtTrees, ProgramTree}
 use Rattle.ped_loop_runs.specs.ped_bodies.specs.ped_steps.specs.ped_flow.specs.Questions.{LoopOf}
 use Rattle.ped_loop_runs.specs.ped_bodies.specs.ped_steps.specs.declared.rules.Rule.{Rule}
 use Rattle.ped_loop_runs.specs.ped_bodies.specs.ped_steps.specs.Causes.{Rules}
 
--- no rule stands
+-- no rule forbids the step
 abbrev pub no_rules : Rules
 no_rules q n = ⊥
 
--- this rule stands with the statements of which this holds, and so do others
+-- this rule forbids the step at the statements for which this holds, and others may do so
 abbrev pub also : Rule → (ℕ → Type 0) → Rules → Rules
 also r P others q n = ((q ≡ r) × P n) ⊎ others q n
 

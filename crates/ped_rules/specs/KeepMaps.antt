@@ -1,4 +1,4 @@
--- Which statements a step keeps, each with its number before and behind the step (this project).
+-- Which statements a step keeps, each with its number before and after the step (this project).
 use Rattle.std.specs.Prelude.{ℕ, ◌+◌, nat_le, nat_lt, List, map, filter, Bool, not, ◌&&◌, if◌then◌else◌}
 use Rattle.std.specs.List.{range_with_len}
 use Rattle.ped_tree.specs.Tree.{ProgramTree}
@@ -13,10 +13,10 @@ is_between first last n = nat_le first n && nat_le n last
 abbrev pub all_but : (first last : ℕ) → ProgramTree → List (ℕ × ℕ)
 all_but first last t = filter (λ p. not (is_between first last p.0)) (all_kept t)
 
--- statements up to this number keep theirs, and those behind it go so much further
+-- statements up to this number keep theirs, and the numbers after it grow by the other number
 abbrev pub moved : ℕ → ℕ → ℕ → ℕ
 moved end further n = if nat_lt end n then n + further else n
 
--- all statements stay, those behind this number so much further
+-- all statements stay, and the numbers after this one grow by the other number
 abbrev pub moved_by : (end further : ℕ) → ProgramTree → List (ℕ × ℕ)
 moved_by end further t = map (λ n. (n, moved end further n)) (range_with_len 1 (statements_count t.body))

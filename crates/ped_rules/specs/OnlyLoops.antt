@@ -4,7 +4,7 @@ use Rattle.ped_tree.specs.Tree.{Head, StmtTree, StmtTrees, Assign, If, Do, Print
 use Rattle.ped_tree.specs.Numbering.{statements_count}
 use Rattle.ped_loop_runs.specs.ped_bodies.specs.ped_steps.specs.Replacing.{alone}
 
--- the head and the body of the one DO that these statements are, where nothing but comments stands beside it
+-- the head and the body of the only DO among these statements, where nothing but comments is next to it
 abbrev pub only_loop : StmtTrees → Option (Head × StmtTrees)
 only_loop no_stmts = None
 only_loop (more_stmts (Comment text) rest) = only_loop rest
@@ -38,7 +38,7 @@ on_loop new (Read items) = alone (Read items)
 on_loop new Stop = alone Stop
 on_loop new (Comment text) = alone (Comment text)
 
--- another statement in the place of the first DO, where nothing but comments stands before it; all else stays
+-- another statement in the place of the first DO, where nothing but comments is before it; all else stays
 abbrev pub change_only : (Head → StmtTrees → StmtTree) → StmtTrees → StmtTrees
 change_only new no_stmts = no_stmts
 change_only new (more_stmts (Do h body) rest) = more_stmts (new h body) rest

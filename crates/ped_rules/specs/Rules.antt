@@ -1,4 +1,4 @@
--- The rules that several steps share: what stands against a step by each, and which statement it names (ParaScope; this project).
+-- The rules that several steps share: the condition under which each forbids a step, and the statement that it names (ParaScope; this project).
 use Rattle.std.specs.Prelude.{◌≡◌, ◌⊎◌, ℕ, ℤ, pos, neg_ℤ, List, [], Bool, true, not, ◌||◌, is_none, Option, Some, None}
 use Rattle.std.specs.Ordering.{int_eq}
 use Rattle.ped_base.specs.Lists.{has_some}
@@ -76,7 +76,7 @@ leaves setting heads e = is_none (interval_of setting (around_with setting [] he
 abbrev pub setting_at : ProgramTree → ℕ → Setting
 setting_at t s = setting_round (table_of t).constants t s
 
--- the heads of the DO loops round a statement, the outermost first
+-- the heads of the DO loops around a statement, the outermost first
 abbrev pub heads_round : ProgramTree → ℕ → List Head
 heads_round t s = heads_of (nest_round t s)
 

@@ -16,7 +16,7 @@ pub record Span : Type 0 where
 abbrev pub has_iteration : ℤ → ℤ → ℤ → Bool
 has_iteration m1 m2 m3 = if int_lt (pos 0) m3 then int_le m1 m2 else int_le m2 m1
 
--- the value in the last iteration: the limit less what is left of the way there in steps of the increment (ANSI X3.9-1978, section 11.10.3)
+-- the value in the last iteration: the limit less the rest of the way there in steps of the increment (ANSI X3.9-1978, section 11.10.3)
 abbrev pub last_value : ℤ → ℤ → ℤ → ℤ
 last_value m1 m2 m3 = m2 -ℤ int_rem (m2 -ℤ m1) m3
 

@@ -7,12 +7,12 @@ use Rattle.ped_loop_runs.specs.ped_bodies.specs.ped_steps.specs.Causes.{Cause}
 use Rattle.ped_loop_runs.specs.ped_bodies.specs.ped_steps.specs.CodeCauses.{cause_of, IsShort}
 use Rattle.ped_loop_runs.specs.ped_bodies.specs.ped_steps.specs.Changes.{IsChange}
 
--- a step transforms the program, so that it means the same; or it takes down what the user says of a dependence (ParaScope)
+-- a step transforms the program, so that it means the same; or it takes down what the user says about a dependence (ParaScope)
 pub data StepKind : Type 0 where
   transformation : StepKind
   rejection : StepKind
 
--- a step at a statement: its kind; the first cause against it in a program, or that there is none; and what it makes of a program: a new one, and the statements that it keeps, each with its number before and behind it. So it may ask the dependences of another program than the old one (ParaScope; this project)
+-- a step at a statement: its kind; the first cause against it in a program, or that there is none; and what it makes of a program: a new one, and the statements that it keeps, each with its number before and after the step. So it may ask the dependences of another program than the old one (ParaScope; this project)
 pub record StepAt : Type 1 where
   pub statement : ℕ
   pub kind : StepKind

@@ -33,8 +33,8 @@ pub fn first_carried<L: Ledger>(
     Ok(first_of(edges))
 }
 
-/// The first dependence, in the order of the pane, that the interchange of the DO with this number and the next one in it
-/// turns round, and that the user hasn't rejected (Allen and Kennedy, section 5.2; ParaScope).
+/// The first dependence, in the order of the pane, that the interchange of the DO with this number and the next one in
+/// it turns around, and that the user hasn't rejected (Allen and Kennedy, section 5.2; ParaScope).
 pub fn first_crossing<L: Ledger>(
     alloc: Global,
     scene: &Scene<L>,
@@ -73,14 +73,14 @@ pub fn level_at<L: Ledger>(alloc: Global, scene: &Scene<L>, number: u32) -> Resu
     Ok(round.len() as u8 + 1)
 }
 
-/// Keeps the dependences with a vector that has `>` behind this level.
+/// Keeps the dependences with a vector that has `>` after this level.
 fn keep_crossing(edges: &mut Vec<Edge>, level: u8)
     ensures { edges.new.items ≡ filter (λ e. Spec.has_after level (edge_of e)) edges.old.items }
 {
     edges.retain(|edge| has_after(level, &edge.vectors));
 }
 
-/// Whether one of these vectors has `>` behind this level.
+/// Whether one of these vectors has `>` after this level.
 fn has_after(level: u8, vectors: &[Vector]) -> bool
     ensures { result ≡ list_any (λ v. Spec.is_after (slice_get v level)) vectors.now }
 {
@@ -92,7 +92,7 @@ fn has_after(level: u8, vectors: &[Vector]) -> bool
     false
 }
 
-/// Whether the vector has `>` behind this level.
+/// Whether the vector has `>` after this level.
 fn is_after(level: u8, directions: &[Direction]) -> bool
     ensures { result ≡ Spec.is_after (slice_get directions.now level) }
 {

@@ -5,7 +5,7 @@ ghost use Rattle.ped_loop_runs.specs.ped_bodies.specs.ped_steps.specs.declared.c
 
 use ped_loop_runs::{Refused, Rule};
 
-/// A rule that stands, with the statement that it names.
+/// A rule that forbids the step, with the statement that it names.
 pub fn against(rule: Rule, statement: u32) -> Refused
     ensures { result ≡ refused.Rule rule statement }
 {

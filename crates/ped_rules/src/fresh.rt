@@ -37,7 +37,7 @@ impl NewName {
     }
 }
 
-/// The greatest number behind two letters in a name of 31 characters.
+/// The greatest number after two letters in a name of 31 characters.
 const MOST_NUMBERED: u128 = 99_999_999_999_999_999_999_999_999_999;
 
 /// The first of the names KX1, KX2 and so on, or IS1, IS2 and so on, that doesn't occur in the program, which has these
@@ -62,7 +62,7 @@ pub fn fresh_name(
     Ok(None)
 }
 
-/// The name with a number of at most 29 digits behind its letters.
+/// The name with a number of at most 29 digits after its letters.
 fn numbered(alloc: Global, kind: NewName, n: u128) -> Result<Name, NoMemory>
     requires { n < 10 ^ 29 }
     ensures { IfOk result (λ name. name ≡ letters_of kind ++ decimal n) }

@@ -16,9 +16,9 @@ use ped_tree::names::NameSet;
 use std::alloc::Global;
 use std::sync::ledger::Ledger;
 
-/// Whether a new bound in these DO loops, the outermost first, has a part whose values may leave 2^62, or one that has no
-/// interval. At most six loops stand in a nest. What the outermost DO assigns plays no part in it, so it is the same for
-/// each statement.
+/// Whether a new bound in these DO loops, the outermost first, has a part whose values may leave 2^62, or one that has
+/// no interval. At most six loops are in a nest. What the outermost DO assigns plays no part in it, so it is the same
+/// for each statement.
 pub fn leaves<L: Ledger>(
     alloc: Global,
     scene: &Scene<L>,

@@ -11,7 +11,7 @@ use ped_loop_runs::Keep;
 use ped_tree::{Program, count_statements};
 use std::alloc::Global;
 
-/// Each statement of a program with its number behind a step: those behind the number `end` go so much further.
+/// Each statement of a program with its number after a step: the numbers after `end` grow by `further`.
 pub fn moved_by(alloc: Global, program: &Program, end: u32, further: u32) -> Result<Keep, NoMemory>
     requires { statements_count (program_tree program.now).body + further < 2 ^ 32 }
     ensures { IfOk result (λ keep. keep ≡ Spec.moved_by end further (program_tree program.now)) }
@@ -19,7 +19,7 @@ pub fn moved_by(alloc: Global, program: &Program, end: u32, further: u32) -> Res
     moved_all(alloc, count_statements(&program.body), end, further)
 }
 
-/// So many statements, those behind this number so much further.
+/// This many statements, where the numbers after `end` grow by `further`.
 fn moved_all(alloc: Global, count: u32, end: u32, further: u32) -> Result<Keep, NoMemory>
     requires { count + further < 2 ^ 32 }
     ensures { IfOk result (λ keep. keep ≡ map (λ n. (n, Spec.moved end further n)) (range_with_len 1 count)) }
@@ -32,7 +32,7 @@ fn moved_all(alloc: Global, count: u32, end: u32, further: u32) -> Result<Keep, 
     Ok(keep)
 }
 
-/// The number of a statement behind a step.
+/// The number of a statement after a step.
 fn moved(end: u32, further: u32, number: u32) -> u32
     requires { number + further < 2 ^ 32 }
     ensures { result ≡ Spec.moved end further number }
@@ -44,7 +44,7 @@ fn moved(end: u32, further: u32, number: u32) -> u32
     }
 }
 
-/// Each statement of a program with the same number behind a step, without those with numbers from `first` to `last`.
+/// Each statement of a program with the same number after a step, without those with numbers from `first` to `last`.
 pub fn all_but(alloc: Global, program: &Program, first: u32, last: u32) -> Result<Keep, NoMemory>
     requires { statements_count (program_tree program.now).body < 2 ^ 32 }
     ensures { IfOk result (λ keep. keep ≡ Spec.all_but first last (program_tree program.now)) }
@@ -52,7 +52,7 @@ pub fn all_but(alloc: Global, program: &Program, first: u32, last: u32) -> Resul
     kept_but(alloc, count_statements(&program.body), first, last)
 }
 
-/// So many statements, without those with numbers from `first` to `last`.
+/// This many statements, without those with numbers from `first` to `last`.
 fn kept_but(alloc: Global, count: u32, first: u32, last: u32) -> Result<Keep, NoMemory>
     ensures { IfOk result (λ keep. keep ≡ filter (λ p. not (Spec.is_between first last p.0)) (map (λ n. (n, n)) (range_with_len 1 count))) }
 {

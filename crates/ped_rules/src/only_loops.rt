@@ -7,7 +7,7 @@ ghost use Rattle.ped_rules.specs.OnlyLoops as Spec;
 
 use ped_tree::{Do, Stmt};
 
-/// The one DO that these statements are, where nothing but comments stands beside it.
+/// The only DO among these statements, where nothing but comments is next to it.
 pub fn only_loop<'a>(statements: &'a [Stmt]) -> Option<&'a Do>
     ensures { MatchOption result (Spec.only_loop (stmt_trees statements.now) ≡ None) (λ d. Spec.only_loop (stmt_trees statements.now) ≡ Some (head_of d.now, stmt_trees d.now.body.items)) }
 {
@@ -33,7 +33,7 @@ pub fn only_loop<'a>(statements: &'a [Stmt]) -> Option<&'a Do>
     None
 }
 
-/// The DO, where nothing but comments stands behind it.
+/// The DO, where nothing but comments follows it.
 fn alone<'a>(d: &'a Do, behind: &[Stmt]) -> Option<&'a Do>
     ensures { MatchOption result ((statements_count (stmt_trees behind.now) == 0) ≡ false) (λ other. (other.now ≡ d.now) × ((statements_count (stmt_trees behind.now) == 0) ≡ true)) }
 {

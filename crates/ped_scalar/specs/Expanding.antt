@@ -1,4 +1,4 @@
--- `expand`: a scalar becomes an array with an element for each value of a DO's variable. The new program, and the rules that stand against it (Allen and Kennedy, section 5.3; ParaScope).
+-- `expand`: a scalar becomes an array with an element for each value of a DO's variable. The new program, and the rules that forbid it (Allen and Kennedy, section 5.3; ParaScope).
 use Rattle.std.specs.Prelude.{◌≡◌, ◌⊎◌, ◌↔◌, ℕ, ◌+◌, ℤ, nat_lt, List, [], ◌∷◌, ◌++◌, map, codes, Bool, true, false, ◌&&◌, ◌||◌, IsTrue, Option, Some, None, if◌then◌else◌}
 use Rattle.std.specs.List.{list_any, range_with_len}
 use Rattle.std.specs.Int.{int_min, int_max}
@@ -35,7 +35,7 @@ abbrev pub kept_value : Bool → List ℕ → List ℕ → ℤ → StmtTrees
 kept_value true x array last = alone (Assign (Var x) (element array (literal last)))
 kept_value false x array last = no_stmts
 
--- a DO with elements of the array in place of the scalar in its body, and behind it, where the scalar is live, the assignment of the last element to it (Allen and Kennedy, section 5.3)
+-- a DO with elements of the array in place of the scalar in its body, and after it, where the scalar is live, the assignment of the last element to it (Allen and Kennedy, section 5.3)
 abbrev pub with_elements : List ℕ → List ℕ → Bool → ℤ → StmtTree → StmtTrees
 with_elements x array live last (Do h body) = more_stmts (Do h (statements_substituted x (element array (Var h.variable)) body)) (kept_value live x array last)
 with_elements x array live last (Assign left right) = alone (Assign left right)
@@ -49,15 +49,15 @@ with_elements x array live last (Comment text) = alone (Comment text)
 abbrev pub declaration : List ℕ → Span → DeclTree
 declaration array v = Integer ((record { name = array; bounds = (record { lower = literal (int_min v.first v.last); upper = literal (int_max v.first v.last) }) ∷ [] }) ∷ [])
 
--- the program behind the step, with this array over these values (Allen and Kennedy, section 5.3)
+-- the program after the step, with this array over these values (Allen and Kennedy, section 5.3)
 abbrev pub expanded : ProgramTree → ℕ → List ℕ → Bool → List ℕ → Span → ProgramTree
 expanded t s x live array v = record { decls = t.decls ++ declaration array v ∷ []; body = all_replaced (with_elements x array live v.last) s t.body 1 }
 
--- the name is in the PRIVATE list of the DO, of one in it or of one round it (ParaScope)
+-- the name is in the PRIVATE list of the DO, of one in it or of one around it (ParaScope)
 abbrev pub is_private_near : ProgramTree → ℕ → Head → StmtTrees → List ℕ → Bool
 is_private_near t s h body x = is_among x (private_names_in (Do h body)) || list_any (λ l. is_among x l.head.private) (nest_round t s)
 
--- the scalar is exposed in the DO by this statement, or else live behind it by this statement and not assigned on each path through the body (Allen and Kennedy, section 5.3; this project)
+-- the scalar is exposed in the DO by this statement, or else live after it by this statement and not assigned on each path through the body (Allen and Kennedy, section 5.3; this project)
 abbrev pub IsLostBy : ProgramTree → ℕ → List ℕ → ℕ → Type 0
 IsLostBy t s x n = IsExposedBy t s x n ⊎ (IsUnexposed t s x × IsLiveBy t s x n × (IsAssignedThrough t s x → ⊥))
 
@@ -79,11 +79,11 @@ pub record IsExpanded (t : ProgramTree) (s : ℕ) (x : List ℕ) (h : Head) (new
   pub says : SaysLive t s x live
   pub made : new ≡ expanded t s x live array span
 
--- statements up to this number keep their numbers, and those behind it go one further where the truth value says so (this project)
+-- statements up to this number keep their numbers, and the numbers after it grow by one where the truth value says so (this project)
 abbrev pub moved_behind : ℕ → Bool → ℕ → ℕ
 moved_behind end further n = if nat_lt end n && further then n + 1 else n
 
--- the statements that the step keeps: all, those behind the DO one further where an assignment stands behind it now (this project)
+-- the statements that the step keeps: all, and the numbers after the DO grow by one if an assignment follows it now (this project)
 abbrev pub expand_kept : ProgramTree → ℕ → StmtTrees → Bool → List (ℕ × ℕ)
 expand_kept t s body live = map (λ n. (n, moved_behind (s + statements_count body) live n)) (range_with_len 1 (statements_count t.body))
 
@@ -100,7 +100,7 @@ of_span test (Some v) = test v
 abbrev pub has_far_value : Values → Head → StmtTrees → Bool
 has_far_value constants h body = of_span spans_far (span_of constants h)
 
--- rule 12: a scalar is exposed in the DO, or live behind it and not assigned on each path through the body. What is asked of a scalar isn't asked of another name (ParaScope; this project)
+-- rule 12: a scalar is exposed in the DO, or live after it and not assigned on each path through the body. What is asked of a scalar isn't asked of another name (ParaScope; this project)
 abbrev pub WhereLost : ProgramTree → (s : ℕ) → List ℕ → ℕ → Type 0
 WhereLost t s x n = LoopOf t s × IsScalarLostBy t s x n
 
@@ -108,11 +108,11 @@ WhereLost t s x n = LoopOf t s × IsScalarLostBy t s x n
 abbrev pub WhereArrayLimit : ProgramTree → (s : ℕ) → List ℕ → ℕ → Type 0
 WhereArrayLimit t s x n = (l : LoopOf t s) × ((array_name t ≡ None) ⊎ ((new : ProgramTree) × IsExpanded t s x l.head new × (IsValid new → ⊥))) × (n ≡ s)
 
--- rule 17: a scalar is in the PRIVATE list of the DO, of one in it or of one round it (ParaScope)
+-- rule 17: a scalar is in the PRIVATE list of the DO, of one in it or of one around it (ParaScope)
 abbrev pub is_scalar_private_near : ProgramTree → ℕ → List ℕ → Head → StmtTrees → Bool
 is_scalar_private_near t s x h body = is_scalar t x && is_private_near t s h body x
 
--- which rules stand against the step: the statement is no DO; it is a PARALLEL DO; a value of its variable is one that no literal has; the scalar is exposed, or live and not assigned on each path through the body; the name is no such scalar; a bound isn't constant, or there is no iteration; the new array's name would be too long, or the new program isn't valid; the name is in the PRIVATE list of the DO, of one in it or of one round it (ParaScope; this project)
+-- which rules forbid the step: the statement is no DO; it is a PARALLEL DO; a value of its variable is one that no literal has; the scalar is exposed, or live and not assigned on each path through the body; the name is no such scalar; a bound isn't constant, or there is no iteration; the new array's name would be too long, or the new program isn't valid; the name is in the PRIVATE list of the DO, of one in it or of one around it (ParaScope; this project)
 abbrev pub StandsAgainstExpanding : (s : ℕ) → List ℕ → ProgramTree → Rules
 StandsAgainstExpanding s x t =
     also NoLoop (WhereNoLoop t s)

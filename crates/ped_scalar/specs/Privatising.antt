@@ -1,4 +1,4 @@
--- `privatise`: a scalar becomes private to the iterations of a DO. The new program, and the rules that stand against it (Allen and Kennedy, section 5.2; ParaScope).
+-- `privatise`: a scalar becomes private to the iterations of a DO. The new program, and the rules that forbid it (Allen and Kennedy, section 5.2; ParaScope).
 use Rattle.std.specs.Prelude.{◌≡◌, ◌⊎◌, ℕ, List, [], ◌∷◌, ◌++◌, Bool, not, ◌&&◌, ◌||◌, IsTrue}
 use Rattle.std.specs.List.{list_any}
 use Rattle.ped_base.specs.Lists.{is_among}
@@ -23,23 +23,23 @@ with_private x (Read items) = alone (Read items)
 with_private x Stop = alone Stop
 with_private x (Comment text) = alone (Comment text)
 
--- the program behind the step (ParaScope)
+-- the program after the step (ParaScope)
 abbrev pub privatised : ProgramTree → ℕ → List ℕ → ProgramTree
 privatised t s x = program_with (with_private x) s t
 
--- the scalar is exposed in the DO or live behind it, by this statement: the first with an exposed read, and else the first that may read it behind the DO, and else the DO itself (Allen and Kennedy, sections 4.4, 5.2; this project)
+-- the scalar is exposed in the DO or live after it, by this statement: the first with an exposed read, and else the first that may read it after the DO, and else the DO itself (Allen and Kennedy, sections 4.4, 5.2; this project)
 abbrev pub IsExposedOrLiveBy : ProgramTree → ℕ → List ℕ → ℕ → Type 0
 IsExposedOrLiveBy t s x n = IsExposedBy t s x n ⊎ (IsUnexposed t s x × IsLiveBy t s x n)
 
--- the name is that of a scalar variable, which is exposed in the DO or live behind it by this statement (ParaScope; this project)
+-- the name is that of a scalar variable, which is exposed in the DO or live after it by this statement (ParaScope; this project)
 abbrev pub IsScalarExposedOrLiveBy : ProgramTree → ℕ → List ℕ → ℕ → Type 0
 IsScalarExposedOrLiveBy t s x n = IsTrue (is_scalar t x) × IsExposedOrLiveBy t s x n
 
--- rule 3: the DO or one round it is a PARALLEL DO (ParaScope)
+-- rule 3: the DO or one around it is a PARALLEL DO (ParaScope)
 abbrev pub is_in_parallel : ProgramTree → ℕ → Head → StmtTrees → Bool
 is_in_parallel t s h body = h.parallel || list_any (λ m. m.head.parallel) (nest_round t s)
 
--- rule 12: a scalar is exposed in the DO or live behind it. What is asked of a scalar isn't asked of another name (ParaScope; this project)
+-- rule 12: a scalar is exposed in the DO or live after it. What is asked of a scalar isn't asked of another name (ParaScope; this project)
 abbrev pub WhereExposedOrLive : ProgramTree → (s : ℕ) → List ℕ → ℕ → Type 0
 WhereExposedOrLive t s x n = LoopOf t s × IsScalarExposedOrLiveBy t s x n
 
@@ -59,7 +59,7 @@ WhereUnlistedLimit t s x n = WhereLoop t s (isnt_listed x) n × WhereLimit (Make
 abbrev pub is_scalar_listed : ProgramTree → List ℕ → Head → StmtTrees → Bool
 is_scalar_listed t x h body = is_scalar t x && is_among x h.private
 
--- which rules stand against the step: the statement is no DO; the DO or one round it is a PARALLEL DO; the scalar is exposed or live; the name is no such scalar; the new program isn't valid; the name is in the DO's PRIVATE list (ParaScope; this project)
+-- which rules forbid the step: the statement is no DO; the DO or one around it is a PARALLEL DO; the scalar is exposed or live; the name is no such scalar; the new program isn't valid; the name is in the DO's PRIVATE list (ParaScope; this project)
 abbrev pub StandsAgainstPrivatising : (s : ℕ) → List ℕ → ProgramTree → Rules
 StandsAgainstPrivatising s x t =
     also NoLoop (WhereNoLoop t s)

@@ -16,11 +16,11 @@ use Rattle.ped_rules.specs.ped_loop_runs.specs.ped_bodies.specs.ped_steps.specs.
 abbrev pub is_scalar : ProgramTree → List ℕ → Bool
 is_scalar t x = uses.is_scalar (kind_in t) x
 
--- a reference in the body of the DO with number s refers to the name, where the DO and those in it are so many statements; what the DO's header reads stands outside (this project)
+-- a reference in the body of the DO with number s refers to the name, where the DO and those in it are this many statements; what the DO's header reads is outside (this project)
 abbrev pub is_reference_in : ℕ → ℕ → List ℕ → Reference → Bool
 is_reference_in s count x r = nat_lt s r.statement && nat_lt r.statement (s + count) && is_same_text x r.access.name
 
--- the scalar is the variable of the DO with this head and body, of one round it or of one in it (ANSI X3.9-1978, section 11.10)
+-- the scalar is the variable of the DO with this head and body, of one around it or of one in it (ANSI X3.9-1978, section 11.10)
 abbrev pub is_index_near : ProgramTree → ℕ → Head → StmtTrees → List ℕ → Bool
 is_index_near t s h body x = is_among x (indices_of (nest_round t s)) || is_among x (loop_variables (Do h body))
 
@@ -28,11 +28,11 @@ is_index_near t s h body x = is_among x (indices_of (nest_round t s)) || is_amon
 abbrev pub is_referred : ProgramTree → ℕ → StmtTrees → List ℕ → Bool
 is_referred t s body x = list_any (is_reference_in s (statements_count body + 1) x) (references t)
 
--- rule 13: no step can give each iteration of the DO its own copy of the name: it is no scalar variable, or the variable of the DO, of one round it or of one in it, or the body doesn't refer to it (this project)
+-- rule 13: no step can give each iteration of the DO its own copy of the name: it is no scalar variable, or the variable of the DO, of one around it or of one in it, or the body doesn't refer to it (this project)
 abbrev pub is_unfit : ProgramTree → ℕ → List ℕ → Head → StmtTrees → Bool
 is_unfit t s x h body = not (is_scalar t x) || is_index_near t s h body x || not (is_referred t s body x)
 
--- the scalar is live behind the DO by this statement: the first that may read it, or the DO itself where none may and the program's end may show it (Allen and Kennedy, section 4.4; this project)
+-- the scalar is live after the DO by this statement: the first that may read it, or the DO itself where none may and the program's end may show it (Allen and Kennedy, section 4.4; this project)
 abbrev pub IsLiveBy : ProgramTree → ℕ → List ℕ → ℕ → Type 0
 IsLiveBy t s x n = IsFirst (IsReadBehind t s x) (Some n) ⊎ (IsFirst (IsReadBehind t s x) None × IsShownBehind t s x × (n ≡ s))
 

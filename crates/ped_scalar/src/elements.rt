@@ -75,7 +75,8 @@ impl Elements {
         Ok(Decl::Integer(declarators))
     }
 
-    /// The DO with the elements in place of the scalar, and behind it the assignment of the last one, where the scalar is live.
+    /// The DO with the elements in place of the scalar, and after it the assignment of the last one, where the scalar
+    /// is live.
     fn statements(&self, alloc: Global, d: &Do) -> Result<Vec<Stmt>, NoMemory>
         requires near { IsNear self.now.span }
         ensures { IfOk result (λ new. stmt_trees new.items ≡ Spec.with_elements self.now.scalar self.now.array self.now.live self.now.span.last (do_tree d.now)) }

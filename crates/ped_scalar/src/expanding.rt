@@ -32,13 +32,13 @@ use ped_tree::Do;
 use std::alloc::Global;
 use std::sync::ledger::Ledger;
 
-/// Makes a scalar an array with an element for each value of the variable of the DO with this number (Allen and Kennedy,
-/// section 5.3). The statements behind the DO go one further where the scalar is live after it.
+/// Makes a scalar an array with an element for each value of the variable of the DO with this number (Allen and
+/// Kennedy, section 5.3). The numbers of the statements after the DO grow by one where the scalar is live after it.
 ///
 /// # Errors
 ///
-/// `Refused` exactly where a rule stands, with the rule of the least number: NoLoop, ParallelState, Range, ExposedOrLive,
-/// NotScalar, NotConstant, Limit or AlreadyPrivate. No dependence forbids the step.
+/// `Refused` exactly where a rule forbids the step, with the rule of the least number: NoLoop, ParallelState, Range,
+/// ExposedOrLive, NotScalar, NotConstant, Limit or AlreadyPrivate. No dependence forbids the step.
 pub fn expand<L: Ledger>(
     alloc: Global,
     scene: &Scene<L>,
@@ -119,8 +119,8 @@ fn expand_known<L: Ledger>(
     }
 }
 
-/// The same, where the scalar wouldn't be lost and each iteration can have its own copy of it; these are the values of the
-/// DO's variable and the DO loops round it.
+/// The same, where the scalar wouldn't be lost and each iteration can have its own copy of it; these are the values of
+/// the DO's variable and the DO loops around it.
 fn expand_over<L: Ledger>(
     alloc: Global,
     scene: &Scene<L>,
@@ -188,7 +188,7 @@ fn expand_to<L: Ledger>(
     }
 }
 
-/// Whether the name is in the PRIVATE list of the DO, of one in it or of one of these round it.
+/// Whether the name is in the PRIVATE list of the DO, of one in it or of one of these around it.
 fn is_private_near(name: &Name, d: &Do, round: &[Loop]) -> bool
     ensures { result ≡ (is_among name.now (Names.private_names_in (Tree.Do (head_of d.now) (stmt_trees d.now.body.items))) || list_any (λ l. is_among name.now l.head.private) (nest_of round.now)) }
 {
@@ -210,8 +210,8 @@ fn is_live<L: Ledger>(scene: &Scene<L>, number: u32, name: &Name) -> bool
     }
 }
 
-/// The statement by which the name, where it is that of a scalar variable, is exposed in the DO with this number, or live
-/// behind it and not assigned on each path through the body.
+/// The statement by which the name, where it is that of a scalar variable, is exposed in the DO with this number, or
+/// live after it and not assigned on each path through the body.
 fn lost_by<L: Ledger>(scene: &Scene<L>, number: u32, name: &Name) -> Option<u32>
     requires { IsSceneOf (program_tree scene.now.tree.now) scene.now }
     ensures { MatchOption result ((n : ℕ) → Spec.IsScalarLostBy (program_tree scene.now.tree.now) number name.now n → ⊥) (Spec.IsScalarLostBy (program_tree scene.now.tree.now) number name.now) }

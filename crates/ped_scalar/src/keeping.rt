@@ -11,7 +11,7 @@ use ped_rules::Keep;
 use ped_tree::{Do, Program, count_statements};
 use std::alloc::Global;
 
-/// Each statement of a program with its number behind the step: those behind the DO with this number go one further where
+/// Each statement of a program with its number after the step: those after the DO with this number grow by one where
 /// `further` says so.
 pub(crate) fn expand_kept(
     alloc: Global,
@@ -28,7 +28,7 @@ pub(crate) fn expand_kept(
     kept(alloc, count_statements(&program.body), end, further)
 }
 
-/// So many statements, those behind this number one further where `further` says so.
+/// This many statements, where the numbers after `end` grow by one if `further` says so.
 fn kept(alloc: Global, count: u32, end: u32, further: bool) -> Result<Keep, NoMemory>
     requires { count + 1 < 2 ^ 32 }
     ensures { IfOk result (λ keep. keep ≡ map (λ n. (n, Spec.moved_behind end further n)) (range_with_len 1 count)) }
@@ -41,7 +41,7 @@ fn kept(alloc: Global, count: u32, end: u32, further: bool) -> Result<Keep, NoMe
     Ok(keep)
 }
 
-/// The number of a statement behind the step.
+/// The number of a statement after the step.
 fn moved_behind(end: u32, further: bool, number: u32) -> u32
     requires { number + 1 < 2 ^ 32 }
     ensures { result ≡ Spec.moved_behind end further number }

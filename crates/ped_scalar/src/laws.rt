@@ -17,7 +17,7 @@ pub fn one_cause_against_privatising()
     ensures { (t : ProgramTree) (s : ℕ) (x : List ℕ) (c d : Option Cause) → IsFirstCause t (StandsAgainstPrivatising s x t) none_forbids c → IsFirstCause t (StandsAgainstPrivatising s x t) none_forbids d → c ≡ d }
 {}
 
-/// Where nothing stands against `privatise`, the new program keeps the meaning of a valid old one: on all data on
+/// Where nothing forbids `privatise`, the new program keeps the meaning of a valid old one: on all data on
 /// which that runs without a fault and without a race it has the same outcome, and no race (Allen and Kennedy,
 /// section 5.2). The same names are saved.
 pub fn privatising_keeps()
@@ -29,20 +29,20 @@ pub fn one_cause_against_expanding()
     ensures { (t : ProgramTree) (s : ℕ) (x : List ℕ) (c d : Option Cause) → IsFirstCause t (StandsAgainstExpanding s x t) none_forbids c → IsFirstCause t (StandsAgainstExpanding s x t) none_forbids d → c ≡ d }
 {}
 
-/// Where nothing stands against `expand`, the new program keeps the meaning of a valid and tidy old one: on all data
+/// Where nothing forbids `expand`, the new program keeps the meaning of a valid and tidy old one: on all data
 /// on which that runs without a fault and without a race it has the same outcome, and no race (Allen and Kennedy,
-/// section 5.3). In a program that isn't tidy the scalar may be the variable of another DO in a PARALLEL DO round
+/// section 5.3). In a program that isn't tidy the scalar may be the variable of another DO in a PARALLEL DO around
 /// both: that one's iterations have copies of the scalar, and not of the array. The same names are saved.
 pub fn expanding_keeps()
     ensures { (t new : ProgramTree) (s : ℕ) (l : LoopOf t s) (x : List ℕ) → IsValid t → IsTidy t → IsFirstCause t (StandsAgainstExpanding s x t) none_forbids None → IsExpanded t s x l.head new → Keeps t new }
 {}
 
-/// Where nothing stands against `privatise`, a tidy program stays tidy (ParaScope).
+/// Where nothing forbids `privatise`, a tidy program stays tidy (ParaScope).
 pub fn privatising_stays_tidy()
     ensures { (t : ProgramTree) (s : ℕ) (x : List ℕ) → IsValid t → IsFirstCause t (StandsAgainstPrivatising s x t) none_forbids None → IsTidy t → IsTidy (privatised t s x) }
 {}
 
-/// Where nothing stands against `expand`, a tidy program stays tidy (ParaScope).
+/// Where nothing forbids `expand`, a tidy program stays tidy (ParaScope).
 pub fn expanding_stays_tidy()
     ensures { (t new : ProgramTree) (s : ℕ) (l : LoopOf t s) (x : List ℕ) → IsValid t → IsFirstCause t (StandsAgainstExpanding s x t) none_forbids None → IsExpanded t s x l.head new → IsTidy t → IsTidy new }
 {}

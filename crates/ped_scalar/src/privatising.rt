@@ -30,8 +30,8 @@ use std::sync::ledger::Ledger;
 ///
 /// # Errors
 ///
-/// `Refused` exactly where a rule stands, with the rule of the least number: NoLoop, ParallelState, ExposedOrLive,
-/// NotScalar, Limit or AlreadyPrivate. No dependence forbids the step.
+/// `Refused` exactly where a rule forbids the step, with the rule of the least number: NoLoop, ParallelState,
+/// ExposedOrLive, NotScalar, Limit or AlreadyPrivate. No dependence forbids the step.
 pub fn privatise<L: Ledger>(
     alloc: Global,
     scene: &Scene<L>,
@@ -86,15 +86,15 @@ fn privatise_in<L: Ledger>(
     }
 }
 
-/// Whether the DO or one round it is a PARALLEL DO.
+/// Whether the DO or one around it is a PARALLEL DO.
 fn is_parallel(d: &Do, round: &[Loop]) -> bool
     ensures { result ≡ ((head_of d.now).parallel || list_any (λ m. m.head.parallel) (nest_of round.now)) }
 {
     d.parallel || is_some_parallel(round)
 }
 
-/// The statement by which the name, where it is that of a scalar variable, is exposed in the DO with this number or live
-/// behind it.
+/// The statement by which the name, where it is that of a scalar variable, is exposed in the DO with this number or
+/// live after it.
 fn exposed_or_live<L: Ledger>(scene: &Scene<L>, number: u32, name: &Name) -> Option<u32>
     requires { IsSceneOf (program_tree scene.now.tree.now) scene.now }
     ensures { MatchOption result ((n : ℕ) → Spec.IsScalarExposedOrLiveBy (program_tree scene.now.tree.now) number name.now n → ⊥) (Spec.IsScalarExposedOrLiveBy (program_tree scene.now.tree.now) number name.now) }

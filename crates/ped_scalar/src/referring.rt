@@ -32,7 +32,7 @@ pub(crate) fn is_referred(
     Ok(is_some_in(&found, number, extent, name))
 }
 
-/// Whether one of these references refers to the name and stands in the body of the DO with this number and so many
+/// Whether one of these references refers to the name and is in the body of the DO with this number and this many
 /// statements.
 fn is_some_in(found: &[Occurrence], number: u32, extent: u32, name: &Name) -> bool
     requires { number + extent < 2 ^ 32 }
@@ -46,7 +46,7 @@ fn is_some_in(found: &[Occurrence], number: u32, extent: u32, name: &Name) -> bo
     false
 }
 
-/// Whether a reference refers to the name and stands in the body of the DO with this number and so many statements.
+/// Whether a reference refers to the name and is in the body of the DO with this number and this many statements.
 fn is_in(occurrence: &Occurrence, number: u32, extent: u32, name: &Name) -> bool
     requires { number + extent < 2 ^ 32 }
     ensures { result ≡ Spec.is_reference_in number extent name.now (reference_of occurrence.now) }

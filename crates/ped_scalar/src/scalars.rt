@@ -19,7 +19,7 @@ use ped_tree::Do;
 use std::alloc::Global;
 use std::sync::ledger::Ledger;
 
-/// The statement by which a scalar is live behind the DO with this number: the first that may read it there, or the DO
+/// The statement by which a scalar is live after the DO with this number: the first that may read it there, or the DO
 /// itself where only the program's end may show it.
 pub(crate) fn live_by(flow: &Flow, number: u32, name: &Name) -> Option<u32>
     requires few { statements_count (program_tree flow.now.program.now).body + 1 < 2 ^ 32 }
@@ -39,7 +39,7 @@ pub(crate) fn live_by(flow: &Flow, number: u32, name: &Name) -> Option<u32>
 }
 
 /// Whether no step can give each iteration of the DO with this number its own copy of the name; these are the DO loops
-/// round it.
+/// around it.
 pub(crate) fn is_unfit<L: Ledger>(
     alloc: Global,
     scene: &Scene<L>,

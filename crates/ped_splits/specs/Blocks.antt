@@ -19,12 +19,12 @@ are_together reach i j = (i == j) || (reaches reach i j && reaches reach j i)
 abbrev pub is_free : List (List Bool) → (left : List ℕ) → ℕ → Bool
 is_free reach left i = list_all (λ k. not (reaches reach k i) || reaches reach i k) left
 
--- the block of the first of these free units, and behind it the blocks of the units that are left then
+-- the block of the first of these free units, and after it the blocks of the units that remain then
 abbrev pub block_then : List (List Bool) → (others : List ℕ → List (List ℕ)) → (left free : List ℕ) → List (List ℕ)
 block_then reach others left [] = []
 block_then reach others left (i ∷ free) = filter (are_together reach i) left ∷ others (filter (λ k. not (are_together reach i k)) left)
 
--- the blocks of the units that are left, in order, at most so many: of the blocks to which none that is left leads always the one whose first unit comes first in the text; in a block the order of the text stays (Allen and Kennedy, section 2.4; this project)
+-- the blocks of the remaining units, in order, at most as many as given: of the blocks to which no remaining unit leads always the one whose first unit comes first in the text; in a block the order of the text stays (Allen and Kennedy, section 2.4; this project)
 abbrev pub ordered : List (List Bool) → ℕ → (left : List ℕ) → List (List ℕ)
 ordered reach zero left = []
 ordered reach (suc n) left = block_then reach (ordered reach n) left (filter (is_free reach left) left)

@@ -21,7 +21,7 @@ use Rattle.ped_splits.specs.declared.returning.Bodies.{Bodies}
 use Rattle.ped_splits.specs.Neighbours.{opened_at}
 use Rattle.ped_splits.specs.Fusing.{with_present_numbers}
 
--- the source of the pair stands in the second body, and the sink in the first one
+-- the source of the pair is in the second body, and the sink in the first one
 abbrev pub is_back : Bodies → Reference × Reference → Bool
 is_back b p = (nat_le b.second p.0.statement && nat_lt p.0.statement b.behind) && (nat_lt b.number p.1.statement && nat_lt p.1.statement b.second)
 
@@ -38,7 +38,7 @@ bodies_of p level = record {
 abbrev pub key_is_back : Bodies → PairKey → Bool
 key_is_back b k = (nat_le b.second k.source.0 && nat_lt k.source.0 b.behind) && (nat_le (b.number + 1) k.sink.0 && nat_lt k.sink.0 b.second)
 
--- a dependence stands before the end of the bodies
+-- a dependence is before the end of the bodies
 pub record StandsInside (b : Bodies) (e : CodeEdge) : Type 0 where
   pub source : e.source.0 < b.behind
   pub sink : e.sink.0 < b.second

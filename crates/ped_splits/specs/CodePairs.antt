@@ -1,4 +1,4 @@
--- How the code keeps two DO loops that stand one behind the other, and puts one in their place. Contracts of private functions and lemmas alone speak of it (this project).
+-- How the code keeps two DO loops that follow one another, and puts one in their place. Contracts of private functions and lemmas alone speak of it (this project).
 use Rattle.std.specs.Prelude.{◌≡◌, ℕ, ◌+◌, ◌==◌, nat_lt, Bool, not, ◌&&◌, Option, Some, None, if◌then◌else◌}
 use Rattle.ped_tree.specs.Tree.{Head, StmtTree, StmtTrees, Assign, If, Do, Print, Read, Stop, Comment, no_stmts, more_stmts, ProgramTree}
 use Rattle.ped_tree.specs.Numbering.{statement_count, statements_count}
@@ -16,7 +16,7 @@ pub record IsPair (t : ProgramTree) (p : Pair) : Type 0 where
   pub next : neighbour.next ≡ head_of p.next.now
   pub next_body : neighbour.next_body ≡ stmt_trees p.next.now.body.items
 
--- a DO with this number, the statements behind it, and the DO that comes next
+-- a DO with this number, the statements after it, and the DO that comes next
 pub record TwoLoops : Type 0 where
   pub number : ℕ
   pub own : Head
@@ -78,7 +78,7 @@ two_to k h body between (Read items) = None
 two_to k h body between Stop = None
 two_to k h body between (Comment text) = None
 
--- the statement with number k and the next DO among those behind it, where it is a DO, too
+-- the statement with number k and the next DO among those after it, where it is a DO, too
 abbrev pub two_from : ℕ → StmtTree → StmtTrees → Option TwoLoops
 two_from k (Do h body) others = two_with k h body (next_in others)
 two_from k (Assign left right) others = None
@@ -106,12 +106,12 @@ abbrev mutual
   two_under Stop n k = None
   two_under (Comment text) n k = None
 
--- what is behind the first of these statements that is no comment
+-- what follows the first of these statements that is no comment
 abbrev pub behind_next : StmtTrees → StmtTrees
 behind_next no_stmts = no_stmts
 behind_next (more_stmts s rest) = if statement_count s == 0 then behind_next rest else rest
 
--- statements, of which the first has number n, with a new one in the place of that with number k and of what is behind that up to the next that is no comment
+-- statements, of which the first has number n, with a new one in the place of that with number k and of what follows that up to the next that is no comment
 abbrev mutual
   pub all_joined : (new : StmtTree) → (k : ℕ) → StmtTrees → (n : ℕ) → StmtTrees
   all_joined new k no_stmts n = no_stmts

@@ -25,7 +25,7 @@ unit_trees us = map unit_tree us
 abbrev pub AreShort : List StmtTrees → Type 0
 AreShort us = All (λ u. statements_count u < 2 ^ 32) us
 
--- these are numbers of so many units
+-- these are numbers of this many units
 abbrev pub AreBelow : ℕ → List ℕ → Type 0
 AreBelow n is = All (λ i. i < n) is
 
@@ -33,7 +33,7 @@ AreBelow n is = All (λ i. i < n) is
 abbrev pub body_of : Parted → StmtTrees
 body_of p = stmt_trees p.statement.now.body.items
 
--- the unit of the statement with number k, by the units of the statements behind the one with number s
+-- the unit of the statement with number k, by the units of the statements after the one with number s
 abbrev pub home_of : (s : ℕ) → List ℕ → (k : ℕ) → Option ℕ
 home_of s found k = if nat_lt s k then slice_get found (k - (s + 1)) else None
 

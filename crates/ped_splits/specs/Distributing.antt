@@ -15,12 +15,12 @@ use Rattle.ped_reindex.specs.ped_loops.specs.ped_scalar.specs.ped_rules.specs.pe
 use Rattle.ped_splits.specs.Units.{units, stands_in}
 use Rattle.ped_splits.specs.Blocks.{AreBlocks}
 
--- the statements of units, one unit behind another
+-- the statements of units, one unit after another
 abbrev pub joined : List StmtTrees → StmtTrees
 joined [] = no_stmts
 joined (u ∷ us) = followed u (joined us)
 
--- these units of a body, one behind another
+-- these units of a body, one after another
 abbrev pub units_at : StmtTrees → List ℕ → StmtTrees
 units_at body block = joined (map (λ i. slice_index_or (units body) i no_stmts) block)
 
@@ -29,7 +29,7 @@ abbrev pub loops_of : List (List ℕ) → Head → StmtTrees → StmtTrees
 loops_of [] h body = no_stmts
 loops_of (block ∷ blocks) h body = more_stmts (Do h (units_at body block)) (loops_of blocks h body)
 
--- the program behind the step (ParaScope)
+-- the program after the step (ParaScope)
 abbrev pub distributed : ProgramTree → (s : ℕ) → List (List ℕ) → ProgramTree
 distributed t s blocks = program_with (on_loop (loops_of blocks)) s t
 
@@ -46,7 +46,7 @@ abbrev pub loop_sources : (s : ℕ) → StmtTrees → List (List ℕ) → List (
 loop_sources s body [] = []
 loop_sources s body (block ∷ blocks) = block_sources s body (Some s) block ++ flat_map (block_sources s body None) blocks
 
--- the statements with numbers from this one on, so many, as what statements come from
+-- the statements with numbers from this one on, as many as given, as what statements come from
 abbrev pub unmoved : (first count : ℕ) → List (Option ℕ)
 unmoved first count = map Some (range_with_len first count)
 
@@ -60,7 +60,7 @@ kept_from n [] = []
 kept_from n (None ∷ rest) = kept_from (suc n) rest
 kept_from n (Some k ∷ rest) = (k, n) ∷ kept_from (suc n) rest
 
--- what the step makes: the first of the new DO loops takes the old one's number, statements in the body go to their places, and those behind it as much further as there are new heads (ParaScope)
+-- what the step makes: the first of the new DO loops takes the old one's number, statements in the body go to their places, and the numbers after it grow by the number of new heads (ParaScope)
 abbrev pub MakesDistributed : (s : ℕ) → ProgramTree → ProgramTree → List (ℕ × ℕ) → Type 0
 MakesDistributed s t new keep =
     (l : LoopOf t s) × (blocks : List (List ℕ)) × AreBlocks t s l.head l.body blocks
@@ -74,7 +74,7 @@ IsItsBound t s n e = (n ≡ s) × (l : LoopOf t s) × IsBoundOf l.head e
 abbrev pub WhereOneBlock : ProgramTree → (s : ℕ) → ℕ → Type 0
 WhereOneBlock t s n = (l : LoopOf t s) × (blocks : List (List ℕ)) × AreBlocks t s l.head l.body blocks × (length blocks < 2) × (n ≡ s)
 
--- which rules stand against the step: the statement is no DO, or a PARALLEL DO; a variable of it is read outside its DO; one of its bounds isn't plain; the units of its body are fewer than two blocks; the new program isn't valid (this project)
+-- which rules forbid the step: the statement is no DO, or a PARALLEL DO; a variable of it is read outside its DO; one of its bounds isn't plain; the units of its body are fewer than two blocks; the new program isn't valid (this project)
 abbrev pub StandsAgainstDistribution : (s : ℕ) → ProgramTree → Rules
 StandsAgainstDistribution s t =
     also NoLoop (WhereNoLoop t s)

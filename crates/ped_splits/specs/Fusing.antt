@@ -20,7 +20,7 @@ pub record Match (t : ProgramTree) (s : ℕ) : Type 0 where
   pub neighbour : Neighbour t s
   pub alike : AreAlike neighbour.own neighbour.next neighbour.next_body
 
--- what the step makes: the second DO goes, and each statement behind it comes one nearer (ParaScope; this project)
+-- what the step makes: the second DO goes, and the number of each statement after it decreases by one (ParaScope; this project)
 abbrev pub MakesFused : (s : ℕ) → ProgramTree → ProgramTree → List (ℕ × ℕ) → Type 0
 MakesFused s t new keep = (m : Match t s) × (new ≡ fused m.neighbour) × (keep ≡ kept_without (next_number m.neighbour) t)
 
@@ -56,7 +56,7 @@ WhereNoMatch t s n = LoopOf t s × (Match t s → ⊥) × (n ≡ s)
 abbrev pub WhereFusedLimit : ProgramTree → (s : ℕ) → ℕ → Type 0
 WhereFusedLimit t s n = Match t s × WhereLimit (MakesFused s) t s n
 
--- which rules stand against the step: the statement is no DO; it or the next DO is a PARALLEL DO, or has PRIVATE names; a variable of one of them, or of the one DO that they would become, or of a DO in it is read outside that DO, or SAVE alone may show it at the program's end; a bound of the DO isn't plain (that of the next one is equal); no DO comes next that is alike; the new program isn't valid (ParaScope; this project)
+-- which rules forbid the step: the statement is no DO; it or the next DO is a PARALLEL DO, or has PRIVATE names; a variable of one of them, or of the one DO that they would become, or of a DO in it is read outside that DO, or SAVE alone may show it at the program's end; a bound of the DO isn't plain (that of the next one is equal); no DO comes next that is alike; the new program isn't valid (ParaScope; this project)
 abbrev pub StandsAgainstFusion : (s : ℕ) → ProgramTree → Rules
 StandsAgainstFusion s t =
     also NoLoop (WhereNoLoop t s)
@@ -67,7 +67,7 @@ StandsAgainstFusion s t =
     (also NoNeighbour (WhereNoMatch t s)
     (also Limit (WhereFusedLimit t s) no_rules))))))
 
--- in the new program the source of the pair stands in what was the second body, and the sink in what was the first one (Allen and Kennedy, section 6.2.5)
+-- in the new program the source of the pair is in what was the second body, and the sink in what was the first one (Allen and Kennedy, section 6.2.5)
 abbrev pub goes_back : {t : ProgramTree} {s : ℕ} → Neighbour t s → Reference × Reference → Bool
 goes_back {t} {s} x p =
     let m = next_number x in
@@ -85,7 +85,7 @@ forbids_fusion {t} {s} x e = carried (fused x) s e
 abbrev pub with_present_numbers : (m : ℕ) → Edge → Edge
 with_present_numbers m e = record e { source = (opened_at m e.source.0, e.source.1); sink = (opened_at m e.sink.0, e.sink.1) }
 
--- the first cause that forbids the step: of the rules that stand that with the least number, and else the first dependence of the new program that forbids it, with the present numbers; none where there is neither (Allen and Kennedy, section 6.2.5; this project)
+-- the first cause that forbids the step: of the rules the one with the least number, and else the first dependence of the new program that forbids it, with the present numbers; none where there is neither (Allen and Kennedy, section 6.2.5; this project)
 abbrev pub IsFusionCause : (s : ℕ) → ProgramTree → Option Cause → Type 0
 IsFusionCause s t (Some (rule r n)) = IsFirstRule (StandsAgainstFusion s t) r n
 IsFusionCause s t (Some (dependence e)) =
@@ -94,7 +94,7 @@ IsFusionCause s t (Some (dependence e)) =
 IsFusionCause s t None =
     NoRule (StandsAgainstFusion s t) × ((m : Match t s) (edges : List Edge) → AreBack m.neighbour edges → All (λ e. forbids_fusion m.neighbour e ≡ false) edges)
 
--- `fuse s`: the DO with this number and the next one behind it become one (Allen and Kennedy, section 6.2.5; ParaScope)
+-- `fuse s`: the DO with this number and the next one after it become one (Allen and Kennedy, section 6.2.5; ParaScope)
 abbrev pub fusing : ℕ → StepAt
 fusing s = record {
   statement = s;

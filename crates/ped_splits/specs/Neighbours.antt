@@ -1,4 +1,4 @@
--- The DO that comes next behind a DO, and the two as one (Allen and Kennedy, section 6.2.5; ParaScope).
+-- The DO that comes next after a DO, and the two as one (Allen and Kennedy, section 6.2.5; ParaScope).
 use Rattle.std.specs.Prelude.{◌≡◌, ◌⊎◌, ℕ, suc, ◌+◌, ◌-◌, ◌==◌, nat_lt, List, [], ◌++◌, map, filter, Bool, false, not, if◌then◌else◌}
 use Rattle.std.specs.List.{range_with_len}
 use Rattle.ped_base.specs.Lists.{is_same_text, is_among}
@@ -22,7 +22,7 @@ pub record Neighbour (t : ProgramTree) (s : ℕ) : Type 0 where
   pub numbered : number_at gap 1 ≡ s
   pub comments : statements_count between ≡ 0
 
--- the bounds and the increment of the two are equal trees; and they have one variable, or the variable of the first stands nowhere in the body of the second (ParaScope; this project)
+-- the bounds and the increment of the two are equal trees; and they have one variable, or the variable of the first is nowhere in the body of the second (ParaScope; this project)
 pub record AreAlike (h k : Head) (body : StmtTrees) : Type 0 where
   pub first : h.first ≡ k.first
   pub last : h.last ≡ k.last
@@ -49,7 +49,7 @@ fused {t} x = record { decls = t.decls; body = filled x.gap (joined_loop x) }
 abbrev pub next_number : {t : ProgramTree} {s : ℕ} → Neighbour t s → ℕ
 next_number {t} {s} x = s + 1 + statements_count x.own_body
 
--- the number behind the step of the statement with number k, where the second DO has number m (this project)
+-- the number after the step of the statement with number k, where the second DO has number m (this project)
 abbrev pub closed_up : (m k : ℕ) → ℕ
 closed_up m k = if nat_lt k m then k else k - 1
 
@@ -57,6 +57,6 @@ closed_up m k = if nat_lt k m then k else k - 1
 abbrev pub opened_at : (m k : ℕ) → ℕ
 opened_at m k = if nat_lt k m then k else suc k
 
--- each statement but the second DO, with its number behind the step (this project)
+-- each statement but the second DO, with its number after the step (this project)
 abbrev pub kept_without : (m : ℕ) → ProgramTree → List (ℕ × ℕ)
 kept_without m t = map (λ k. (k, closed_up m k)) (filter (λ k. not (k == m)) (range_with_len 1 (statements_count t.body)))

@@ -30,7 +30,7 @@ number_in_one {t} {s} x k = if k == next_number x then s else closed_up (next_nu
 abbrev pub in_one : {t : ProgramTree} {s : ℕ} → Neighbour t s → Access → Access
 in_one x a = record a { place = renumbered_place (number_in_one x) a.place }
 
--- in a run of the program two accesses conflict that references make: one in an iteration of the second DO, and one in a later iteration of the first, both in the same iterations of the DO loops round the two (Allen and Kennedy, section 6.2.5)
+-- in a run of the program two accesses conflict that references make: one in an iteration of the second DO, and one in a later iteration of the first, both in the same iterations of the DO loops around the two (Allen and Kennedy, section 6.2.5)
 pub record Cross {t : ProgramTree} {s : ℕ} (x : Neighbour t s) (data_bytes : List ℕ) (a b : Access) : Type 0 where
   pub source : IsIn a (accesses (run_of t data_bytes).acts)
   pub sink : IsIn b (accesses (run_of t data_bytes).acts)

@@ -15,7 +15,7 @@ abbrev pub before_first : StmtTree → List StmtTrees → List StmtTrees
 before_first comment [] = []
 before_first comment (u ∷ us) = more_stmts comment u ∷ us
 
--- the units of a body, in text order: each statement with the comments before it, the last one also with those behind it (ParaScope; this project)
+-- the units of a body, in text order: each statement with the comments before it, the last one also with those after it (ParaScope; this project)
 abbrev pub units : StmtTrees → List StmtTrees
 units no_stmts = []
 units (more_stmts s rest) =
@@ -28,7 +28,7 @@ abbrev pub homes : ℕ → List StmtTrees → List ℕ
 homes i [] = []
 homes i (u ∷ us) = replicate (statements_count u) i ++ homes (suc i) us
 
--- the unit of the statement with number k in the body of the DO with number s; none where it doesn't stand there
+-- the unit of the statement with number k in the body of the DO with number s; none where it isn't there
 abbrev pub unit_of : (s : ℕ) → StmtTrees → (k : ℕ) → Option ℕ
 unit_of s body k = if nat_lt s k then slice_get (homes 0 (units body)) (k - (s + 1)) else None
 
@@ -37,7 +37,7 @@ abbrev pub is_unit : ℕ → Option ℕ → Bool
 is_unit i None = false
 is_unit i (Some j) = j == i
 
--- the statement with number k stands in unit i of the body of the DO with number s
+-- the statement with number k is in unit i of the body of the DO with number s
 abbrev pub stands_in : (s : ℕ) → StmtTrees → (i k : ℕ) → Bool
 stands_in s body i k = is_unit i (unit_of s body k)
 
@@ -46,7 +46,7 @@ abbrev pub is_within : ℕ → Option ℕ → Bool
 is_within level None = true
 is_within level (Some k) = nat_le level k
 
--- the dependence has to be kept in each iteration of the loops round the DO: the DO or one in it carries it, or none does; and the user hasn't rejected it (Allen and Kennedy, sections 2.4, 6.2.2; ParaScope)
+-- the dependence has to be kept in each iteration of the loops around the DO: the DO or one in it carries it, or none does; and the user hasn't rejected it (Allen and Kennedy, sections 2.4, 6.2.2; ParaScope)
 abbrev pub is_to_keep : ProgramTree → (s : ℕ) → Edge → Bool
 is_to_keep t s e = is_within (level_at t s) e.level && not (is_rejected e.mark)
 
@@ -66,7 +66,7 @@ arrows t s h body edges =
     let all = range_with_len 0 (length (units body)) in
     map (λ i. map (is_arrow t s h body edges i) all) all
 
--- the second rows tell where the arrows of the first lead, one behind another (plain words)
+-- the second rows say where the arrows of the first lead, one after another (plain words)
 pub record IsClosure (rows reach : List (List Bool)) : Type 0 where
   pub width : length reach ≡ length rows
   pub square : IsSquare reach

@@ -150,7 +150,7 @@ fn function_number(f: Intrinsic) -> u32
     }
 }
 
-/// Whether the name stands in an expression.
+/// Whether the name occurs in an expression.
 #[cycle(naming)]
 #[tactic(auto, using(crate::proofs::NamedTrees::among_both))]
 fn name_in(x: &Name, e: &Expr) -> bool
@@ -170,7 +170,7 @@ fn name_in(x: &Name, e: &Expr) -> bool
     }
 }
 
-/// Whether the name stands in one of these expressions.
+/// Whether the name occurs in one of these expressions.
 #[cycle(naming)]
 #[tactic(auto, using(crate::proofs::NamedTrees::among_both))]
 fn name_in_exprs(x: &Name, all: &[Expr]) -> bool
@@ -184,7 +184,7 @@ fn name_in_exprs(x: &Name, all: &[Expr]) -> bool
     false
 }
 
-/// Whether the name stands in a condition.
+/// Whether the name occurs in a condition.
 #[tactic(auto, using(crate::proofs::NamedTrees::among_both))]
 fn name_in_condition(x: &Name, c: &Cond) -> bool
     ensures { result ≡ Lists.is_among x.now (Names.cond_names (cond_tree c.now)) }
@@ -197,7 +197,7 @@ fn name_in_condition(x: &Name, c: &Cond) -> bool
     }
 }
 
-/// Whether the name stands in one of these items.
+/// Whether the name occurs in one of these items.
 #[tactic(auto, using(crate::proofs::NamedTrees::among_both))]
 fn name_in_items(x: &Name, items: &[PrintItem]) -> bool
     ensures { result ≡ Lists.is_among x.now (flat_map Names.item_names (map item_tree items.now)) }
@@ -210,7 +210,7 @@ fn name_in_items(x: &Name, items: &[PrintItem]) -> bool
     false
 }
 
-/// Whether the name stands in an item.
+/// Whether the name occurs in an item.
 fn name_in_item(x: &Name, item: &PrintItem) -> bool
     ensures { result ≡ Lists.is_among x.now (Names.item_names (item_tree item.now)) }
 {
@@ -220,7 +220,7 @@ fn name_in_item(x: &Name, item: &PrintItem) -> bool
     }
 }
 
-/// Whether the name stands in one of the items of a READ.
+/// Whether the name occurs in one of the items of a READ.
 #[tactic(auto, using(crate::proofs::NamedTrees::among_both))]
 fn name_in_read(x: &Name, items: &[Expr]) -> bool
     ensures { result ≡ Lists.is_among x.now (flat_map Names.expr_names (map expr_tree items.now)) }
@@ -233,7 +233,7 @@ fn name_in_read(x: &Name, items: &[Expr]) -> bool
     false
 }
 
-/// Whether the name stands in a statement, in lists of names, too.
+/// Whether the name occurs in a statement, in lists of names, too.
 #[cycle(standing)]
 #[tactic(auto, using(crate::proofs::NamedTrees::among_both))]
 fn name_in_one(x: &Name, statement: &Stmt) -> bool
@@ -257,7 +257,7 @@ fn name_in_one(x: &Name, statement: &Stmt) -> bool
     }
 }
 
-/// Whether the name stands in the head of a DO.
+/// Whether the name occurs in the head of a DO.
 #[tactic(auto, using(crate::proofs::NamedTrees::among_both, crate::proofs::NamedTrees::among_more))]
 fn name_in_head(x: &Name, d: &Do) -> bool
     ensures { result ≡ Lists.is_among x.now (Names.head_names (head_of d.now)) }
@@ -270,7 +270,7 @@ fn name_in_head(x: &Name, d: &Do) -> bool
         || is_among(x, d.private.as_slice())
 }
 
-/// Whether the name stands in statements.
+/// Whether the name occurs in statements.
 #[cycle(standing)]
 #[tactic(auto, using(crate::proofs::NamedTrees::among_both))]
 fn name_in_all(x: &Name, statements: &[Stmt]) -> bool

@@ -24,7 +24,7 @@ use ped_reindex::{Scene, level_at};
 use std::alloc::Global;
 use std::sync::ledger::Ledger;
 
-/// Which unit of the DO arrows lead to from which, one behind another.
+/// Which units of the DO the arrows lead to from which, one after another.
 pub(crate) fn reaching<L: Ledger>(
     alloc: Global,
     scene: &Scene<L>,
@@ -131,7 +131,7 @@ fn add_links(
     Ok(())
 }
 
-/// The units, of so many, that refer to this name.
+/// Those of the units that refer to this name.
 fn units_with(
     alloc: Global,
     parted: &Parted,

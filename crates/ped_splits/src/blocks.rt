@@ -55,7 +55,7 @@ fn all_leaders(alloc: Global, reach: &Matrix, left: &[usize]) -> Result<Vec<usiz
     Ok(all)
 }
 
-/// For each unit how many still lead to it where these don't any more.
+/// For each unit how many still lead to it where these no longer do.
 fn without(
     alloc: Global,
     reach: &Matrix,

@@ -30,13 +30,13 @@ use ped_tree::{Do, Stmt};
 use std::alloc::Global;
 use std::sync::ledger::Ledger;
 
-/// Takes the body of the DO with this number apart into DO loops of their own, as far as its dependences allow, in an order
-/// that keeps them (loop distribution: Allen and Kennedy, section 6.2.2; ParaScope).
+/// Takes the body of the DO with this number apart into DO loops of their own, as far as its dependences allow, in an
+/// order that keeps them (loop distribution: Allen and Kennedy, section 6.2.2; ParaScope).
 ///
 /// # Errors
 ///
-/// `Refused` exactly where a rule stands, with the rule of the least number: NoLoop, ParallelState, IndexEscapes,
-/// BoundNotPlain, OneBlock or Limit. No dependence forbids the step.
+/// `Refused` exactly where a rule forbids the step, with the rule of the least number: NoLoop, ParallelState,
+/// IndexEscapes, BoundNotPlain, OneBlock or Limit. No dependence forbids the step.
 pub fn distribute<L: Ledger>(
     alloc: Global,
     scene: &Scene<L>,
@@ -99,7 +99,7 @@ fn distribute_contained<L: Ledger>(
     distribute_plain(alloc, scene, number, d)
 }
 
-/// The same, where only the rules OneBlock and Limit may stand.
+/// The same, where only the rules OneBlock and Limit may forbid the step.
 fn distribute_plain<L: Ledger>(
     alloc: Global,
     scene: &Scene<L>,

@@ -31,14 +31,15 @@ use ped_tree::{Do, Program};
 use std::alloc::Global;
 use std::sync::ledger::Ledger;
 
-/// Makes one DO of the DO with this number and the next one in its list, with nothing but comments between (loop fusion:
-/// Allen and Kennedy, section 6.2.5; ParaScope). The second one's number goes.
+/// Makes one DO of the DO with this number and the next one in its list, with nothing but comments between (loop
+/// fusion: Allen and Kennedy, section 6.2.5; ParaScope). The second one's number goes.
 ///
 /// # Errors
 ///
-/// `Refused` exactly where a rule stands, with the rule of the least number: NoLoop, ParallelState, HasPrivate, IndexEscapes,
-/// BoundNotPlain, NoNeighbour or Limit; and else where the new DO would carry a dependence from the second body to the first
-/// one that the user hasn't rejected, with the first one in the order of the pane, under the present numbers.
+/// `Refused` exactly where a rule forbids the step, with the rule of the least number: NoLoop, ParallelState,
+/// HasPrivate, IndexEscapes, BoundNotPlain, NoNeighbour or Limit; and else where the new DO would carry a dependence
+/// from the second body to the first one that the user hasn't rejected, with the first one in the order of the pane,
+/// under the present numbers.
 pub fn fuse<L: Ledger>(
     alloc: Global,
     scene: &Scene<L>,
@@ -78,7 +79,7 @@ fn fuse_in<L: Ledger>(
     }
 }
 
-/// The rule that stands where no DO comes next.
+/// The rule that forbids the step where no DO comes next.
 fn refused_alone<L: Ledger>(
     alloc: Global,
     scene: &Scene<L>,
@@ -102,7 +103,7 @@ fn refused_alone<L: Ledger>(
     no_neighbour(alloc, scene, number, own)
 }
 
-/// The rule that stands where none before BoundNotPlain does, and no DO comes next that is alike.
+/// The rule that forbids the step where none before BoundNotPlain does, and no DO comes next that is alike.
 fn no_neighbour<L: Ledger>(
     alloc: Global,
     scene: &Scene<L>,
@@ -172,7 +173,7 @@ fn has_list(d: &Do) -> bool
     !d.private.is_empty()
 }
 
-/// The rule that stands where the two aren't alike.
+/// The rule that forbids the step where the two aren't alike.
 fn refused_unlike<L: Ledger>(
     alloc: Global,
     scene: &Scene<L>,

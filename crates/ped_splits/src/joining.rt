@@ -186,7 +186,7 @@ fn is_there(statement: &Stmt, number: u32, sought: u32) -> bool
     number == sought && !is_comment(statement)
 }
 
-/// What is behind the first of these statements that is no comment.
+/// What follows the first of these statements that is no comment.
 fn behind_next(statements: &[Stmt]) -> &[Stmt]
     ensures { stmt_trees result.now ≡ Code.behind_next (stmt_trees statements.now) }
 {
@@ -218,7 +218,7 @@ fn add_copies(alloc: Global, all: &mut Vec<Stmt>, statements: &[Stmt]) -> Result
     Ok(())
 }
 
-/// Each statement but the second DO, which has this number, with its number behind the step.
+/// Each statement but the second DO, which has this number, with its number after the step.
 pub(crate) fn kept_without(alloc: Global, program: &Program, number: u32) -> Result<Keep, NoMemory>
     requires { statements_count (program_tree program.now).body + 1 < 2 ^ 32 }
     ensures { IfOk result (λ keep. keep ≡ Spec.kept_without number (program_tree program.now)) }
@@ -226,7 +226,7 @@ pub(crate) fn kept_without(alloc: Global, program: &Program, number: u32) -> Res
     kept_up_to(alloc, count_statements(&program.body), number)
 }
 
-/// The same of so many statements.
+/// The same of this many statements.
 fn kept_up_to(alloc: Global, count: u32, number: u32) -> Result<Keep, NoMemory>
     requires { count + 1 < 2 ^ 32 }
     ensures { IfOk result (λ keep. keep ≡ filter (λ p. not (p.0 == number)) (map (λ k. (k, Spec.closed_up number k)) (range_with_len 1 count))) }
@@ -238,7 +238,7 @@ fn kept_up_to(alloc: Global, count: u32, number: u32) -> Result<Keep, NoMemory>
     Ok(keep)
 }
 
-/// Adds a statement with its number behind the step, where it isn't the second DO.
+/// Adds a statement with its number after the step, where it isn't the second DO.
 fn add_unless(keep: &mut Keep, number: u32, k: u32) -> Result<(), NoMemory>
     requires { 1 ≤ k }
     ensures { OnOk result (keep.new ≡ keep.old ++ (if k == number then [] else (k, Spec.closed_up number k) ∷ [])) }
@@ -250,7 +250,7 @@ fn add_unless(keep: &mut Keep, number: u32, k: u32) -> Result<(), NoMemory>
     Ok(())
 }
 
-/// The number behind the step of a statement.
+/// The number after the step of a statement.
 fn closed_up(number: u32, k: u32) -> u32
     requires { 1 ≤ k }
     ensures { result ≡ Spec.closed_up number k }

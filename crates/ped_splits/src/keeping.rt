@@ -13,7 +13,7 @@ use ped_reindex::Keep;
 use ped_tree::{Program, count_statements};
 use std::alloc::Global;
 
-/// Each statement that the step keeps, with its number behind it.
+/// Each statement that the step keeps, with its number after it.
 pub(crate) fn kept(
     alloc: Global,
     program: &Program,
@@ -68,7 +68,7 @@ fn sources(
     Ok(sources)
 }
 
-/// Adds statements with the numbers from this one on, so many.
+/// Adds statements with the numbers from this one on, as many as given.
 fn add_unmoved(sources: &mut Vec<Option<u32>>, first: u32, count: u32) -> Result<(), NoMemory>
     requires { first + count < 2 ^ 32 }
     ensures { OnOk result (sources.new.items ≡ sources.old.items ++ Spec.unmoved first count) }

@@ -40,11 +40,11 @@ pub fn fusion_is_lawful()
     accesses_are_made();
 }
 
-/// In a run that ends of a tidy program in which no rule stands against `fuse`: where two references make conflicting
-/// accesses, one in an iteration of the second DO and one in a later iteration of the first, in the same iterations round the
-/// two, the dependences of the program with the one DO have one from the first of them to the second, which the one DO
-/// carries, with the directions of the values that the variables of the loops round both have at the accesses. It may forbid
-/// the step (Allen and Kennedy, section 6.2.5).
+/// In a run that ends of a tidy program in which no rule forbids `fuse`: where two references make conflicting
+/// accesses, one in an iteration of the second DO and one in a later iteration of the first, in the same iterations
+/// around the two, the dependences of the program with the one DO have one from the first of them to the second, which
+/// the one DO carries, with the directions of the values that the variables of the loops around both have at the
+/// accesses. It may forbid the step (Allen and Kennedy, section 6.2.5).
 pub fn fused_conflicts_are_covered()
     ensures { (t : ProgramTree) (s : ℕ) (m : Match t s) → IsValid t → IsTidy t → NoRule (StandsAgainstFusion s t) → (data_bytes : List ℕ) → Ends (run_of t data_bytes).ending → (a b : Access) → (x : Cross m.neighbour data_bytes a b) → (edges : List Edge) → AreEdges (fused m.neighbour) edges
         → IsCoveredAt (fused m.neighbour) edges (Some (length x.round + 1)) (in_one m.neighbour a) b }

@@ -9,7 +9,7 @@ ghost use Rattle.ped_splits.specs.Neighbours.{Neighbour};
 use ped_reindex::is_comment;
 use ped_tree::{Do, Program, Stmt, count_statement, count_statements};
 
-/// Two DO loops, one behind the other in the same list.
+/// Two DO loops, one after the other in the same list.
 #[derive(Clone, Copy)]
 pub(crate) struct Pair<'a> {
     /// The number of the first.
@@ -32,7 +32,7 @@ impl<'a> Pair<'a> {
     }
 }
 
-/// The DO with this number and the next one in its list, where nothing but comments stands between.
+/// The DO with this number and the next one in its list, where nothing but comments is between.
 pub(crate) fn pair_at<'a>(program: &'a Program, number: u32) -> Option<Pair<'a>>
     requires { statements_count (program_tree program.now).body + 1 < 2 ^ 32 }
     ensures { MatchOption result (Neighbour (program_tree program.now) number → ⊥) (λ p. (p.number ≡ number) × IsPair (program_tree program.now) p) }
@@ -91,7 +91,7 @@ fn pair_under<'a>(statement: &'a Stmt, first: u32, number: u32) -> Option<Pair<'
     }
 }
 
-/// A statement, which has this number, and the next DO among those behind it, where it is a DO, too.
+/// A statement, which has this number, and the next DO among those after it, where it is a DO, too.
 fn pair_from<'a>(number: u32, statement: &'a Stmt, others: &'a [Stmt]) -> Option<Pair<'a>>
     ensures { two_in result ≡ two_from number (stmt_tree statement.now) (stmt_trees others.now) }
 {
@@ -114,7 +114,7 @@ fn pair_from<'a>(number: u32, statement: &'a Stmt, others: &'a [Stmt]) -> Option
     }
 }
 
-/// The DO and the next one among the statements behind it, where nothing but comments stands before that.
+/// The DO and the next one among the statements after it, where nothing but comments is before that.
 fn pair_of<'a>(number: u32, own: &'a Do, others: &'a [Stmt]) -> Option<Pair<'a>>
     ensures { two_in result ≡ two_with number (head_of own.now) (stmt_trees own.now.body.items) (next_in (stmt_trees others.now)) }
 {
@@ -126,7 +126,7 @@ fn pair_of<'a>(number: u32, own: &'a Do, others: &'a [Stmt]) -> Option<Pair<'a>>
     None
 }
 
-/// The DO and this statement behind it, where that is a DO, too, with the comments between.
+/// The DO and this statement after it, where that is a DO, too, with the comments between.
 fn pair_with<'a>(
     number: u32,
     own: &'a Do,

@@ -22,14 +22,14 @@ use ped_tree::constants::Consts;
 use ped_tree::{Program, count_statements};
 use std::alloc::Global;
 
-/// Where the two bodies stand in the new program.
+/// The places of the two bodies in the new program.
 #[derive(Clone, Copy)]
 pub(crate) struct Bodies {
     /// The number of the new DO.
     pub(crate) number: u32,
-    /// The number of the second DO before the step, and that of the first statement of the second body behind it.
+    /// The number of the second DO before the step, and that of the first statement of the second body after it.
     pub(crate) second: u32,
-    /// The number behind the second body.
+    /// The number after the second body.
     pub(crate) behind: u32,
     /// The level of the new DO.
     pub(crate) level: u8,
@@ -105,7 +105,7 @@ fn first_at(
     Ok(first_of(edges, bodies))
 }
 
-/// Whether the source stands in the second body, and the sink in the first one.
+/// Whether the source is in the second body, and the sink in the first one.
 fn goes_back(key: &PairKey, bodies: &Bodies) -> bool
     requires { bodies.now.number < bodies.now.second }
     ensures { result ≡ key_is_back bodies.now key.now }

@@ -11,7 +11,7 @@ use ped_reindex::{are_comments, is_comment};
 use ped_tree::{Do, Stmt, count_statements};
 use std::alloc::Global;
 
-/// A unit: a statement with the comments before it, the last one also with those behind it.
+/// A unit: a statement with the comments before it, the last one also with those after it.
 #[derive(Clone, Copy)]
 pub(crate) struct Unit<'a> {
     /// Its statements.
@@ -58,7 +58,7 @@ fn part(body: &[Stmt], from: usize, behind: usize) -> &[Stmt]
     &body[from..behind]
 }
 
-/// The place behind the unit of the statement at this place.
+/// The place after the unit of the statement at this place.
 fn end_of_unit(body: &[Stmt], place: usize) -> usize
     requires { place < length body.now }
     ensures { result ≡ (if statements_count (stmt_trees (drop (place + 1) body.now)) == 0 then length body.now else place + 1) }
@@ -82,7 +82,7 @@ pub(crate) fn homes_of(alloc: Global, units: &[Unit]) -> Result<Vec<usize>, NoMe
     Ok(homes)
 }
 
-/// Adds a number so many times.
+/// Adds a number this many times.
 fn add_times(numbers: &mut Vec<usize>, number: usize, times: u32) -> Result<(), NoMemory>
     ensures { OnOk result (numbers.new.items ≡ numbers.old.items ++ replicate times number) }
 {
@@ -92,7 +92,7 @@ fn add_times(numbers: &mut Vec<usize>, number: usize, times: u32) -> Result<(), 
     Ok(())
 }
 
-/// The unit of the statement with this number, where it stands behind the one with the number `first` and has a unit.
+/// The unit of the statement with this number, where it follows the one with the number `first` and has a unit.
 pub(crate) fn home_at(first: u32, homes: &[usize], statement: u32) -> Option<usize>
     ensures { result ≡ home_of first homes.now statement }
 {

@@ -45,8 +45,8 @@ fn called<L: Ledger, R: Env + Files + Print + AllocGlobal>(rt: &R, blank: Blank)
     }
 }
 
-/// Answers the words by the machine's files and standard output. What is said of it is said of all files that may hold what
-/// the reads have given, and of the bytes that writes have answered to have taken.
+/// Answers the words by the machine's files and standard output. What is said about it is said about all files that may
+/// hold what the reads have given, and of the bytes that writes have answered to have taken.
 fn answered<L: Ledger, R: Files + Print>(
     alloc: Global,
     words: &[String],

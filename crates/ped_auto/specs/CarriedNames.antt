@@ -13,7 +13,7 @@ use Rattle.ped_reduce.specs.ped_splits.specs.ped_reindex.specs.ped_loops.specs.p
 abbrev pub is_file : List ℕ → Bool
 is_file x = is_same_text x (codes "(IN)") || is_same_text x (codes "(OUT)")
 
--- the names with the data lines and the output behind the others
+-- the names with the data lines and the output after the others
 abbrev pub files_last : List (List ℕ) → List (List ℕ)
 files_last names = filter (λ x. not (is_file x)) names ++ filter is_file names
 

@@ -12,11 +12,11 @@ use Rattle.ped_auto.specs.Editing.{Editing}
 use Rattle.ped_auto.specs.Replay.{Replays}
 use Rattle.ped_auto.specs.Strategy.{Stage, Takes}
 
--- the stage of an editor in a state, with these commands accepted and so many tests made
+-- the stage of an editor in a state, with these commands accepted and this many tests made
 abbrev pub stage : {S : Type 0} → S → List Command → ℕ → Stage S
 stage s accepted tests = record { now = s; accepted = accepted; tests = tests }
 
--- one stage leads to another: by accepted commands, one behind another, and the program has no fewer statements behind them
+-- one stage leads to another: by accepted commands, one after another, and the program has no fewer statements after them
 pub record Leads {S : Type 0} (e : Editing S) (p q : Stage S) : Type 0 where
   pub commands : List Command
   pub tests : ℕ
@@ -25,7 +25,7 @@ pub record Leads {S : Type 0} (e : Editing S) (p q : Stage S) : Type 0 where
   pub counted : q.tests ≡ p.tests + tests
   pub grown : (t : ProgramTree) → e.Reads p.now t → (u : ProgramTree) × e.Reads q.now u × (count_of t ≤ count_of u)
 
--- what the strategy does from a stage is cut off: the editor stands at a stage on its way, and no more pairs were tested than it tests
+-- what the strategy does from a stage is cut off: the editor is at a stage on its way, and no more pairs were tested than it tests
 pub record IsCut {S : Type 0} (e : Editing S) (Does : Stage S → Stage S → Type 0) (p : Stage S) (now : S) (tests : ℕ) : Type 0 where
   pub at : Stage S
   pub here : at.now ≡ now
@@ -33,12 +33,12 @@ pub record IsCut {S : Type 0} (e : Editing S) (Does : Stage S → Stage S → Ty
   pub made : at.tests ≤ tests
   pub way : (q : Stage S) → Does p q → Leads e at q × (tests ≤ q.tests)
 
--- whatever the counter of tests stood at when `auto` began, the code has gone from stage to stage
+-- whatever the counter of tests was when `auto` began, the code has gone from stage to stage
 abbrev pub Goes : {S : Type 0} → (Stage S → Stage S → Type 0) → S → List Command → ℕ → S → List Command → ℕ → Type 0
 Goes Does s accepted steps next more later =
     (before : ℕ) → before ≤ steps → Does (stage s accepted (steps - before)) (stage next more (later - before))
 
--- whatever the counter of tests stood at when `auto` began, what the code does from a stage is cut off
+-- whatever the counter of tests was when `auto` began, what the code does from a stage is cut off
 abbrev pub CutsOff : {S : Type 0} → Editing S → (Stage S → Stage S → Type 0) → S → List Command → ℕ → S → ℕ → Type 0
 CutsOff e Does s accepted steps next later =
     (before : ℕ) → before ≤ steps → IsCut e Does (stage s accepted (steps - before)) next (later - before)
@@ -75,7 +75,7 @@ abbrev pub AreScalarNames : {S : Type 0} → Editing S → S → ℕ → Option 
 AreScalarNames e s number found =
     (t : ProgramTree) × e.Reads s t × (names : List (List ℕ)) × AreCarried t number names × IsScalarChoice t names found
 
--- what a further round does at a DO to the causes told so far: nothing where `parallel` is accepted; else its cause comes behind them, and nothing changes
+-- what a further round does at a DO to the causes reported so far: nothing where `parallel` is accepted; else its cause comes after them, and nothing changes
 abbrev pub TellsCause : {S : Type 0} → Editing S → ℕ → S → List Command → List (ℕ × Refused) → S → List Command → List (ℕ × Refused) → Type 0
 TellsCause e number s accepted left next more told =
     ((length accepted < length more) × (told ≡ left))

@@ -1,4 +1,4 @@
--- What `auto` leaves where it is cut off by want of memory (this project).
+-- What `auto` leaves where it is cut off since memory runs out (this project).
 use Rattle.std.specs.Prelude.{◌≡◌, ℕ, ◌≤◌, List, ◌++◌}
 use Rattle.ped_script.specs.declared.items.Command.{Command}
 use Rattle.ped_auto.specs.Editing.{Editing}

@@ -1,4 +1,4 @@
--- A script of accepted commands, one behind another (this project).
+-- A script of accepted commands, one after another (this project).
 use Rattle.std.specs.Prelude.{◌≡◌, ℕ, ◌+◌, List, [], ◌∷◌, true}
 use Rattle.ped_script.specs.declared.items.Command.{Command}
 use Rattle.ped_script.specs.CommandTexts.{IsShortName}
@@ -6,7 +6,7 @@ use Rattle.ped_reduce.specs.ped_splits.specs.ped_reindex.specs.ped_loops.specs.p
 use Rattle.ped_auto.specs.CarriedNames.{is_scalar_name}
 use Rattle.ped_auto.specs.Editing.{Editing}
 
--- an editor accepts the commands one behind another; this is the last state, and so many pairs of references are tested on the way
+-- an editor accepts the commands one after another; this is the last state, and this many pairs of references are tested on the way
 abbrev pub Replays : {S : Type 0} → Editing S → S → List Command → S → ℕ → Type 0
 Replays e s [] last tests = (last ≡ s) × (tests ≡ 0)
 Replays {S} e s (c ∷ cs) last tests =

@@ -81,18 +81,18 @@ Visits {S} e number p q =
 abbrev pub VisitsAgain : {S : Type 0} → Editing S → ℕ → Stage S → Stage S → Type 0
 VisitsAgain e number p q = (done : Bool) × Tries e (Parallel number) p done q
 
--- a round comes to the statement with this number, which the present program has: there it does something where that is a DO and no PARALLEL DO
+-- a round reaches the statement with this number, which the present program has: there it does something where that is a DO and no PARALLEL DO
 pub record Meets {S : Type 0} (e : Editing S) (Visit : ℕ → Stage S → Stage S → Type 0) (number : ℕ) (p q : Stage S) : Type 0 where
   pub program : ProgramTree
   pub reads : e.Reads p.now program
   pub within : number ≤ count_of program
   pub met : MatchBool (is_serial_loop program number) (Visit number p q) (q ≡ p)
 
--- a round has come past the last statement of the present program
+-- a round has passed the last statement of the present program
 abbrev pub IsOver : {S : Type 0} → Editing S → ℕ → Stage S → Type 0
 IsOver e number p = (t : ProgramTree) × e.Reads p.now t × (count_of t < number)
 
--- a round over so many statements, of which this is the first, to the last statement of the program that is present then
+-- a round over this many statements, of which this is the first, to the last statement of the program that is present then
 abbrev pub RoundFrom : {S : Type 0} → Editing S → (ℕ → Stage S → Stage S → Type 0) → ℕ → ℕ → Stage S → Stage S → Type 0
 RoundFrom e Visit zero number p q = IsOver e number p × (q ≡ p)
 RoundFrom {S} e Visit (suc n) number p q = (r : Stage S) × Meets e Visit number p r × RoundFrom e Visit n (number + 1) r q
@@ -105,7 +105,7 @@ Round e Visit p q = (n : ℕ) × RoundFrom e Visit n 1 p q
 abbrev pub AcceptsNothing : {S : Type 0} → Stage S → Stage S → Type 0
 AcceptsNothing p q = length q.accepted ≡ length p.accepted
 
--- so many further rounds in which something is accepted, and then one in which nothing is
+-- this many further rounds in which something is accepted, and then one in which nothing is
 abbrev pub FurtherRounds : {S : Type 0} → Editing S → ℕ → Stage S → Stage S → Type 0
 FurtherRounds e zero p q = Round e (VisitsAgain e) p q × AcceptsNothing p q
 FurtherRounds {S} e (suc n) p q = (r : Stage S) × Round e (VisitsAgain e) p r × ¬ (AcceptsNothing p r) × FurtherRounds e n r q

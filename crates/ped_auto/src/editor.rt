@@ -33,8 +33,8 @@ pub trait Editor<L: Ledger> {
         requires { (t : ProgramTree) × editing.Reads self.now t × IsNumber t number }
         ensures { (t : ProgramTree) × editing.Reads self.now t × (result ≡ Loops.is_serial_loop t number) };
 
-    /// The names of the dependences that the DO with this number carries and the user hasn't rejected: each once, in the
-    /// order of the pane, the data lines and the output last. The one error is want of memory.
+    /// The names of the dependences that the DO with this number carries and the user hasn't rejected: each once, in
+    /// the order of the pane, the data lines and the output last. The only error is running out of memory.
     fn carried(&self, alloc: Global, number: u32) -> Result<Vec<RefName>, NoMemory>
         requires { (t : ProgramTree) × editing.Reads self.now t × IsNumber t number }
         ensures { IfOk result (λ names. (t : ProgramTree) × editing.Reads self.now t × AreCarried t number (map name_text names.items)) };
@@ -44,7 +44,7 @@ pub trait Editor<L: Ledger> {
         ensures { (t : ProgramTree) × editing.Reads self.now t × (result ≡ Scalars.is_scalar t name.now) };
 
     /// Takes a transformation of a statement of the present program: nothing where it is accepted, and else the first
-    /// cause against it, which leaves the editor as it was and tests no pair. After want of memory the editor is as it
+    /// cause against it, which leaves the editor as it was and tests no pair. If memory runs out, the editor is as it
     /// was, and no more pairs were tested than the command tests.
     fn step(
         &mut self,

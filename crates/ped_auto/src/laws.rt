@@ -16,7 +16,8 @@ pub fn one_auto<L: Ledger, E: Editor<L>>()
         IsAuto E.editing start a end m → IsAuto E.editing start b last n → (a ≡ b) × (end ≡ last) × (m ≡ n) }
 {}
 
-/// The accepted commands, one behind another, lead from the state before `auto` to the one behind it, with the same tests.
+/// The accepted commands, one after another, lead from the state before `auto` to the one after it, with the same
+/// tests.
 pub fn auto_replays<L: Ledger, E: Editor<L>>()
     ensures { (start last : E) (report : Report) (tests : ℕ) →
         IsAuto E.editing start report last tests → Replays E.editing start report.accepted last tests }

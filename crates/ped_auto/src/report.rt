@@ -4,7 +4,7 @@ use ped_base::Listed;
 use ped_reduce::Refused;
 use ped_script::Command;
 
-/// What `auto` has done, and what is left.
+/// What `auto` has done, and what remains.
 #[derive(Drop)]
 pub struct AutoReport {
     /// The accepted commands in their order, as a script that does the same.

@@ -234,7 +234,7 @@ fn first_round<L: Ledger, E: Editor<L>>(
     Ok(())
 }
 
-/// What a further round does at this loop: it makes it parallel as it is, or tells the first cause against that.
+/// What a further round does at this loop: it makes it parallel as it is, or reports the first cause against that.
 fn visit_again<L: Ledger, E: Editor<L>>(
     alloc: Global,
     editor: &mut E,
@@ -257,7 +257,8 @@ fn visit_again<L: Ledger, E: Editor<L>>(
     Ok(())
 }
 
-/// A further round, over all statements. The loops that it leaves are told with their causes where it accepts nothing.
+/// A further round, over all statements. The loops that it leaves are reported with their causes where it accepts
+/// nothing.
 fn further_round<L: Ledger, E: Editor<L>>(
     alloc: Global,
     editor: &mut E,
@@ -303,14 +304,14 @@ fn further_rounds<L: Ledger, E: Editor<L>>(
     }
 }
 
-/// Parallelises the present program: makes each DO parallel that it can, by steps that the editor accepts, and tells of
-/// each DO that is left the first cause against `parallel` (ParaScope). In a first round over the statements it tries at
-/// each DO that isn't a PARALLEL DO: `parallel`; where the DO carries dependences on scalars alone, `privatise` for each of
-/// these and `parallel` again; where these are one to eight scalars, `reduce` with them; and `distribute` once, with all
-/// of that again. Further rounds try `parallel` at each such DO, until one accepts nothing.
+/// Parallelises the present program: makes each DO parallel that it can, by steps that the editor accepts, and reports
+/// for each remaining DO the first cause against `parallel` (ParaScope). In a first round over the statements it tries
+/// at each DO that isn't a PARALLEL DO: `parallel`; where the DO carries dependences on scalars alone, `privatise` for
+/// each of these and `parallel` again; where these are one to eight scalars, `reduce` with them; and `distribute` once,
+/// with all of that again. Further rounds try `parallel` at each such DO, until one accepts nothing.
 ///
-/// Each accepted step is a step of its own of the editor, and tests pairs of references as it says. The one error is want
-/// of memory: then the editor stands behind some of the steps that the strategy takes, each of them whole.
+/// Each accepted step is a step of its own of the editor, and tests pairs of references as it says. The only error is
+/// running out of memory: then the editor has taken some of the steps of the strategy, each of them whole.
 pub fn auto<L: Ledger, E: Editor<L>>(
     alloc: Global,
     editor: &mut E,

@@ -56,14 +56,14 @@ fn into_sink<L: Ledger>(
     with_taken(alloc, status, sink.taken())
 }
 
-/// A shelf whose reads give at most so many bytes, and of which these calls fail.
+/// A shelf whose reads give at most this many bytes, and of which these calls fail.
 fn failing_shelf(alloc: Global, files: Files, most: &str, fails: &str) -> Option<MemShelf> {
     let most = positive(most)?;
     let fails = calls(alloc, fails)?;
     MemShelf::new(alloc, files, fails, most).ok()
 }
 
-/// A sink whose writes take at most so many bytes, and of which these calls fail.
+/// A sink whose writes take at most this many bytes, and of which these calls fail.
 fn failing_sink(alloc: Global, most: &str, fails: &str) -> Option<MemSink> {
     let most = positive(most)?;
     let fails = calls(alloc, fails)?;

@@ -8,7 +8,7 @@ use std::marker::{Model, PhantomData};
 
 /// What the outside was asked and what it answered, the newest first. It takes no memory. The proofs of its two
 /// functions are written by hand, and nothing in them keeps another one from writing anything into a log: so both
-/// functions are of this crate alone, and no other proof by hand may speak of a log.
+/// functions are of this crate alone, and no other proof by hand may be about a log.
 #[derive(Drop)]
 pub struct Log {
     marker: PhantomData<u8>,

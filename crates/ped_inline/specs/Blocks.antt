@@ -49,7 +49,7 @@ is_mark (Print items) = false
 is_mark (Read items) = false
 is_mark Stop = false
 
--- the statements behind a comment that names a CALL, where such a comment comes first (this project)
+-- the statements after a comment that names a CALL, where such a comment comes first (this project)
 abbrev pub behind_call : StmtTrees → Option StmtTrees
 behind_call no_stmts = None
 behind_call (more_stmts s rest) = if is_mark s then Some rest else None

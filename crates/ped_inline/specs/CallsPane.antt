@@ -14,7 +14,7 @@ pub record Called : Type 0 where
   pub number : ℕ
   pub text : List ℕ
 
--- what a comment says behind `$CALL ` (this project)
+-- what a comment says after `$CALL ` (this project)
 abbrev pub behind_mark : StmtTree → List ℕ
 behind_mark (Comment text) = drop 6 text
 behind_mark (Assign left right) = []

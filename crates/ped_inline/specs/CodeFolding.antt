@@ -8,7 +8,7 @@ use Rattle.ped_inline.specs.declared.block_places.Block as code_blocks
 use Rattle.ped_inline.specs.declared.called.Called as code_calls
 use Rattle.ped_inline.specs.declared.rows.FoldedRow.{FoldedRow}
 
--- the marked block with this number, in so many DO loops (this project)
+-- the marked block with this number, in this many DO loops (this project)
 abbrev pub numbered_block : (number loops : ℕ) → Block
 numbered_block number loops = record { number = number; loops = loops }
 

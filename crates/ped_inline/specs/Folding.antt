@@ -1,4 +1,4 @@
--- Folded dependences: those of a program in which each marked block stands as one statement (ParaScope; this project).
+-- Folded dependences: those of a program in which each marked block counts as one statement (ParaScope; this project).
 use Rattle.std.specs.Prelude.{◌≡◌, ℕ, ◌+◌, ◌-◌, ◌==◌, List, [], ◌∷◌, ◌++◌, slice_index_or, replicate, nat_lt, Bool, true, false, not, ◌&&◌, is_some, Option, Some, None, if◌then◌else◌}
 use Rattle.std.specs.Ordering.{nat_cmp, ordering_then}
 use Rattle.std.specs.declared.cmp.Ordering.{Ordering}
@@ -11,7 +11,7 @@ use Rattle.ped_splits.specs.ped_reindex.specs.ped_loops.specs.ped_scalar.specs.p
 use Rattle.ped_splits.specs.ped_reindex.specs.ped_loops.specs.ped_scalar.specs.ped_rules.specs.ped_loop_runs.specs.ped_bodies.specs.ped_steps.specs.ped_laws.specs.Acts.Orders.{IsIn}
 use Rattle.ped_inline.specs.Blocks.{block_body}
 
--- a marked block: its number, and how many DO loops stand round it (this project)
+-- a marked block: its number, and how many DO loops are around it (this project)
 pub record Block : Type 0 where
   pub number : ℕ
   pub loops : ℕ
@@ -21,7 +21,7 @@ abbrev pub is_block : StmtTree → Bool
 is_block s = is_some (block_body s)
 
 abbrev mutual
-  -- for each numbered statement of a statement and its parts, in text order, the outermost marked block that it is or stands in; the statement has number n, stands in no marked block, and in so many DO loops (this project)
+  -- for each numbered statement of a statement and its parts, in text order, the outermost marked block that it is or is in; the statement has number n, is in no marked block, and in this many DO loops (this project)
   pub blocks_in : (loops n : ℕ) → StmtTree → List (Option Block)
   blocks_in loops n (If condition then_part else_part) =
       if is_block (If condition then_part else_part) then replicate (statement_count (If condition then_part else_part)) (Some (record { number = n; loops = loops }))
@@ -33,20 +33,20 @@ abbrev mutual
   blocks_in loops n Stop = None ∷ []
   blocks_in loops n (Comment text) = []
 
-  -- the same of statements, one behind the other (this project)
+  -- the same of statements, one after another (this project)
   pub all_blocks_in : (loops n : ℕ) → StmtTrees → List (Option Block)
   all_blocks_in loops n no_stmts = []
   all_blocks_in loops n (more_stmts s rest) = blocks_in loops n s ++ all_blocks_in loops (n + statement_count s) rest
 
--- for each statement of a program, by its number, the outermost marked block that it is or stands in (this project)
+-- for each statement of a program, by its number, the outermost marked block that it is or is in (this project)
 abbrev pub blocks : ProgramTree → List (Option Block)
 blocks t = all_blocks_in 0 1 t.body
 
--- the block that stands for the statement with this number; None where it stands in none (this project)
+-- the block that stands for the statement with this number; None where it is in none (this project)
 abbrev pub block_at : List (Option Block) → ℕ → Option Block
 block_at bs number = slice_index_or bs (number - 1) None
 
--- no loop carries the dependence, or one that stands in the block: those round it have lesser levels (Allen and Kennedy, section 2.2.5; this project)
+-- no loop carries the dependence, or one that is in the block: those around it have lesser levels (Allen and Kennedy, section 2.2.5; this project)
 abbrev pub stays_inside : Block → Option ℕ → Bool
 stays_inside b None = true
 stays_inside b (Some level) = nat_lt b.loops level
@@ -62,7 +62,7 @@ is_folded_by (Some b) (Some c) level = not (b.number == c.number && stays_inside
 abbrev pub is_folded : List (Option Block) → Edge → Bool
 is_folded bs e = is_folded_by (block_at bs e.source.0) (block_at bs e.sink.0) e.level
 
--- the number of a block, or of the statement that stands in none (this project)
+-- the number of a block, or of the statement that is in none (this project)
 abbrev pub number_by : ℕ → Option Block → ℕ
 number_by number None = number
 number_by number (Some b) = b.number

@@ -13,7 +13,7 @@ use Rattle.ped_splits.specs.ped_reindex.specs.ped_loops.specs.ped_scalar.specs.p
 use Rattle.ped_splits.specs.Neighbours.{opened_at}
 use Rattle.ped_inline.specs.Blocks.{block_body, IsBlock}
 
--- these statements, or the one that stands there (plain words)
+-- these statements, or the one that is there (plain words)
 abbrev pub given_or : StmtTree → Option StmtTrees → StmtTrees
 given_or s None = alone s
 given_or s (Some body) = body
@@ -26,7 +26,7 @@ opened s = given_or s (block_body s)
 abbrev pub inlined : ProgramTree → ℕ → ProgramTree
 inlined t s = settled (program_with opened s t)
 
--- each statement but the block, with its number behind the step: those behind the block come one nearer (this project)
+-- each statement but the block, with its number after the step: the numbers after the block decrease by one (this project)
 abbrev pub inline_kept : ProgramTree → ℕ → List (ℕ × ℕ)
 inline_kept t s = map (λ k. (opened_at s k, k)) (range_with_len 1 (statements_count t.body - 1))
 
@@ -42,7 +42,7 @@ WhereBlockLimit t s n = ((body : StmtTrees) × IsBlock t s body) × (IsValid (in
 abbrev pub WhereNoCall : ProgramTree → ℕ → ℕ → Type 0
 WhereNoCall t s n = ((body : StmtTrees) → IsBlock t s body → ⊥) × (n ≡ s)
 
--- which rules stand against the step: the new program isn't valid; the statement is no marked block (this project)
+-- which rules forbid the step: the new program isn't valid; the statement is no marked block (this project)
 abbrev pub StandsAgainstInlining : (s : ℕ) → ProgramTree → Rules
 StandsAgainstInlining s t = also Limit (WhereBlockLimit t s) (also NoCall (WhereNoCall t s) no_rules)
 

@@ -1,4 +1,4 @@
--- The order of rows is one: each two rows stand in it in one way, and those that it can't tell apart are the same (plain words).
+-- The order of rows is one: each two rows are in it in one way, and those that it can't distinguish are the same (plain words).
 use Rattle.std.specs.Prelude.{◌≡◌, ℕ, Option, Some, None, refl}
 use Rattle.std.specs.Ordering.{ordering_reverse}
 use Rattle.std.specs.declared.cmp.Ordering.TheVariants.{Less, Equal}

@@ -11,16 +11,16 @@ use ped_base::NoMemory;
 use ped_tree::{Stmt, count_statement};
 use std::alloc::Global;
 
-/// A marked block that stands in no other.
+/// A marked block that is in no other.
 #[derive(Clone, Copy)]
 pub(crate) struct Block {
     /// The number of its statement.
     pub(crate) number: u32,
-    /// How many DO loops stand round it.
+    /// How many DO loops are around it.
     pub(crate) loops: u32,
 }
 
-/// For each numbered statement, in text order, the outermost marked block that it is or stands in.
+/// For each numbered statement, in text order, the outermost marked block that it is or is in.
 pub(crate) fn block_places(alloc: Global, body: &[Stmt]) -> Result<Vec<Option<Block>>, NoMemory>
     requires { statements_count (stmt_trees body.now) + 1 < 2 ^ 32 }
     ensures { IfOk result (λ places. places_seen places.items ≡ Spec.all_blocks_in 0 1 (stmt_trees body.now)) }
@@ -30,7 +30,7 @@ pub(crate) fn block_places(alloc: Global, body: &[Stmt]) -> Result<Vec<Option<Bl
     Ok(places)
 }
 
-/// Adds the blocks of statements, one behind the other, which stand in no block and in so many DO loops.
+/// Adds the blocks of statements that follow one another, are in no block and in this many DO loops.
 #[cycle(places)]
 fn push_all(
     places: &mut Vec<Option<Block>>,
@@ -94,7 +94,7 @@ fn push_one(places: &mut Vec<Option<Block>>) -> Result<(), NoMemory>
     Ok(())
 }
 
-/// Adds a marked block for itself and the statements in it, so many together.
+/// Adds a marked block once for itself and once for each statement in it, `count` times in all.
 fn push_block(places: &mut Vec<Option<Block>>, loops: u32, count: u32) -> Result<(), NoMemory>
     requires { length places.old.items + 1 < 2 ^ 32 }
     ensures places { OnOk result (places_seen places.new.items ≡ places_seen places.old.items ++ replicate count (Some (numbered_block (length places.old.items + 1) loops))) }

@@ -75,7 +75,7 @@ fn body_between<'a>(
     behind_call(then_part)
 }
 
-/// The statements behind a comment that names a CALL, where such a comment comes first.
+/// The statements after a comment that names a CALL, where such a comment comes first.
 fn behind_call(statements: &[Stmt]) -> Option<&[Stmt]>
     ensures { MatchOption result (Spec.behind_call (stmt_trees statements.now) ≡ None) (λ rest. Spec.behind_call (stmt_trees statements.now) ≡ Some (stmt_trees rest.now)) }
 {

@@ -31,7 +31,7 @@ pub(crate) fn calls<'a>(alloc: Global, body: &'a [Stmt]) -> Result<Vec<Called<'a
     Ok(found)
 }
 
-/// Adds the CALLs of statements, one behind the other, of which the first has this number.
+/// Adds the CALLs of statements, one after another, of which the first has this number.
 #[cycle(called)]
 fn push_all<'a>(
     found: &mut Vec<Called<'a>>,
@@ -118,7 +118,7 @@ fn call_text(statement: &Stmt) -> &[u8]
     }
 }
 
-/// What the first of statements says behind `$CALL `, where that is a comment.
+/// What the first of statements says after `$CALL `, where that is a comment.
 fn first_mark(statements: &[Stmt]) -> &[u8]
     ensures { result.now ≡ Spec.first_mark (stmt_trees statements.now) }
 {
@@ -128,7 +128,7 @@ fn first_mark(statements: &[Stmt]) -> &[u8]
     }
 }
 
-/// What a comment says behind `$CALL `.
+/// What a comment says after `$CALL `.
 fn behind_mark(statement: &Stmt) -> &[u8]
     ensures { result.now ≡ Spec.behind_mark (stmt_tree statement.now) }
 {

@@ -22,11 +22,12 @@ use std::alloc::Global;
 use std::sync::ledger::Ledger;
 
 /// Puts the statements of the marked block with this number in its place (ParaScope). The block's number goes, and the
-/// statements behind it come one nearer.
+/// numbers of the statements after it decrease by one.
 ///
 /// # Errors
 ///
-/// `Refused` exactly where a rule stands, with the rule of the least number: Limit or NoCall. No dependence forbids the step.
+/// `Refused` exactly where a rule forbids the step, with the rule of the least number: Limit or NoCall. No dependence
+/// forbids the step.
 pub fn inline<L: Ledger>(
     alloc: Global,
     scene: &Scene<L>,
@@ -105,7 +106,7 @@ fn with_body(
     })
 }
 
-/// Each statement but the block, with its number behind the step.
+/// Each statement but the block, with its number after the step.
 fn inline_kept(alloc: Global, program: &Program, number: u32) -> Result<Keep, NoMemory>
     requires { statements_count (program_tree program.now).body + 1 < 2 ^ 32 }
     ensures { IfOk result (λ keep. keep ≡ Spec.inline_kept (program_tree program.now) number) }
@@ -113,7 +114,7 @@ fn inline_kept(alloc: Global, program: &Program, number: u32) -> Result<Keep, No
     kept_up_to(alloc, one_less(count_statements(&program.body)), number)
 }
 
-/// The statements of the new program, so many, each with its number before the step.
+/// The `count` statements of the new program, each with its number before the step.
 fn kept_up_to(alloc: Global, count: u32, number: u32) -> Result<Keep, NoMemory>
     requires { count + 1 < 2 ^ 32 }
     ensures { IfOk result (λ keep. keep ≡ map (λ k. (Neighbours.opened_at number k, k)) (range_with_len 1 count)) }

@@ -19,9 +19,9 @@ use std::alloc::Global;
 use std::collections::BTreeSet;
 use std::sync::ledger::Ledger;
 
-/// The pane of calls (ParaScope): a line for each marked block, with the CALL that it was made from, and then one for each
-/// dependence of which a reference stands in a block. There a block stands for all that is in it, and what is between two
-/// references inside one execution of a block isn't shown.
+/// The pane of calls (ParaScope): a line for each marked block, with the CALL that it was made from, and then one for
+/// each dependence of which a reference is in a block. There a block stands for all that is in it, and what is between
+/// two references inside one execution of a block isn't shown.
 pub fn calls_pane<L: Ledger>(alloc: Global, scene: &Scene<L>) -> Result<Bytes, NoMemory>
     requires { IsSceneOf (program_tree scene.now.tree.now) scene.now }
     ensures { IfOk result (IsCallsPane (program_tree scene.now.tree.now)) }

@@ -24,7 +24,7 @@ use std::collections::BTreeSet;
 /// What is shown of a folded dependence.
 #[derive(Clone, Copy)]
 pub(crate) struct FoldedRow {
-    /// The number of the source's block, or of the source's statement, where that stands in none.
+    /// The number of the source's block, or of the source's statement, where that is in none.
     pub(crate) source: u32,
     /// The same of the sink.
     pub(crate) sink: u32,
@@ -176,7 +176,7 @@ fn is_folded(source: Option<Block>, sink: Option<Block>, level: Option<u8>) -> b
     }
 }
 
-/// Whether no loop carries the dependence, or one that stands in the block.
+/// Whether no loop carries the dependence, or one that is in the block.
 fn stays_inside(block: Block, level: Option<u8>) -> bool
     ensures { result ≡ Spec.stays_inside (block_seen block) level }
 {
@@ -186,7 +186,7 @@ fn stays_inside(block: Block, level: Option<u8>) -> bool
     }
 }
 
-/// The number of a block, or of the statement that stands in none.
+/// The number of a block, or of the statement that is in none.
 fn number_by(number: u32, place: Option<Block>) -> u32
     ensures { result ≡ Spec.number_by number (place_seen place) }
 {

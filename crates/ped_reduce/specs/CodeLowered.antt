@@ -15,7 +15,7 @@ use Rattle.ped_reduce.specs.Reducing.{StandsAgainstSumming, carried_beside, IsLi
 abbrev pub lowered_view : CodeLowered → Lowered
 lowered_view l = record { tree = program_tree l.tree; origin = l.origin.items; live = l.live.items; more = l.more }
 
--- the program is valid and has no lines, and these are its names; it has at most so many statements more as 10000 for each statement that was looked at
+-- the program is valid and has no lines, and these are its names; it has at most 10000 further statements for each statement that was looked at
 pub record IsKept (looked : ℕ) (l : CodeLowered) : Type 0 where
   pub valid : IsValid (program_tree l.tree)
   pub lines : l.tree.lines.items ≡ []

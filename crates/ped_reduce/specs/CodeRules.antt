@@ -17,11 +17,11 @@ also_from_range s names t others =
     (also NotScalar (WhereLoop t s (has_unsummable t s names))
     (also NotConstant (WhereLoop t s (isnt_constant (table_of t).constants)) others))
 
--- the first of these rules that stands, with the statement that it names; or none stands
+-- the first of these rules that forbids the step, with the statement that it names; or none forbids it
 abbrev pub IsFirstOf : Rules → Option Standing → Type 0
 IsFirstOf stands None = NoRule stands
 IsFirstOf stands (Some found) = IsFirstRule stands found.rule found.statement
 
--- the rules behind Limit
+-- the rules after Limit
 abbrev pub behind_limit : (s : ℕ) → List (List ℕ) → ProgramTree → Rules
 behind_limit s names t = also AlreadyPrivate (WhereLoop t s (has_private_or_twice t s names)) (also NotSum (WhereNoSum t s names) no_rules)

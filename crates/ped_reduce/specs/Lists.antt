@@ -10,7 +10,7 @@ use Rattle.ped_tree.specs.Tree.{Head, StmtTrees, Assign, If, Do, Print, Read, St
 abbrev pub folded : List ℕ → List ℕ
 folded text = map to_ascii_uppercase (filter (λ c. not (is_blank c)) text)
 
--- the name behind $REDUCE, where these are that word and a name
+-- the name after $REDUCE, where these are that word and a name
 abbrev pub name_behind_word : List ℕ → Option (List ℕ)
 name_behind_word text = if is_same_text (take 7 text) (codes "$REDUCE") then name_of (drop 7 text) else None
 

@@ -1,4 +1,4 @@
--- A DO with a list, lowered: each iteration keeps what it adds to a scalar in elements of its own, and a DO behind it adds these to the scalar in order (Allen and Kennedy, section 5.6; this project).
+-- A DO with a list, lowered: each iteration keeps what it adds to a scalar in elements of its own, and a DO after it adds these to the scalar in order (Allen and Kennedy, section 5.6; this project).
 use Rattle.std.specs.Prelude.{ℕ, ◌+◌, ◌*◌, List, [], ◌∷◌, ◌++◌, length, filter, take, drop, replicate, codes, Bool, true, false, not, Option, Some, None, is_some, option_map, if◌then◌else◌}
 use Rattle.std.specs.List.{list_any, range_with_len}
 use Rattle.ped_tree.specs.declared.conditions.Relation.TheVariants.{Eq}
@@ -102,7 +102,7 @@ exits v (p ∷ ps) = more_stmts (exit v p) (exits v ps)
 abbrev pub bare : Head → Head
 bare h = record { variable = h.variable; first = h.first; last = h.last; step = h.step; parallel = false; private = []; rejected = [] }
 
--- a DO with a list, in whose iterations all sums are kept apart, as a PARALLEL DO or not; behind it a DO that adds them to the scalars
+-- a DO with a list, in whose iterations all sums are kept apart, as a PARALLEL DO or not; after it a DO that adds them to the scalars
 abbrev pub lowered_loop : Bool → List Partials → Head → StmtTrees → StmtTrees
 lowered_loop parallel ps h body =
     more_stmts (Do (record h { parallel = parallel }) (followed (zeros h.variable ps) (all_summed h.variable ps (without_list body))))
@@ -171,6 +171,6 @@ lowered_statement parallel p s names (Do h body) =
     and_then (near_only (span_of (table_of p.tree).constants h)) (λ v. option_map (lowered_with parallel p s body v) (partials_of names (fresh_arrays p.tree)))
 lowered_statement parallel p s names x = None
 
--- a program in which the DO with number s is lowered for these scalars, behind those before it, as a PARALLEL DO or not; none where it isn't a DO, where the values of its variable aren't known or no literal has them, or where too few names are left
+-- a program in which the DO with number s is lowered for these scalars, after those before it, as a PARALLEL DO or not; none where it isn't a DO, where the values of its variable aren't known or no literal has them, or where too few names are left
 abbrev pub lowered_at : Bool → Lowered → (s : ℕ) → List (List ℕ) → Option Lowered
 lowered_at parallel p s names = and_then (statement_with (s + p.more) p.tree) (lowered_statement parallel p s names)

@@ -31,11 +31,11 @@ use Rattle.ped_reduce.specs.Lowering.{and_then, Lowered, not_lowered, lowered_at
 abbrev pub is_unsummable : ProgramTree → (s : ℕ) → StmtTrees → List ℕ → Bool
 is_unsummable t s body x = not (is_scalar t x) || is_among x (all_loop_variables t.body) || not (is_referred t s body x)
 
--- rule 13 stands by one of these names
+-- rule 13 holds by one of these names
 abbrev pub has_unsummable : ProgramTree → (s : ℕ) → List (List ℕ) → Head → StmtTrees → Bool
 has_unsummable t s names h body = list_any (is_unsummable t s body) names
 
--- rule 17: one of these names is in the PRIVATE list of the DO, of one in it or of one round it, or it is given twice (this project)
+-- rule 17: one of these names is in the PRIVATE list of the DO, of one in it or of one around it, or it is given twice (this project)
 abbrev pub has_private_or_twice : ProgramTree → (s : ℕ) → List (List ℕ) → Head → StmtTrees → Bool
 has_private_or_twice t s names h body = list_any (is_private_near t s h body) names || has_twice names
 
@@ -43,12 +43,12 @@ has_private_or_twice t s names h body = list_any (is_private_near t s h body) na
 abbrev pub sum_at : ProgramTree → List ℕ → (n : ℕ) → Option Sum
 sum_at t x n = and_then (statement_with n t) (sum_to x)
 
--- a reference, in the body of the DO with number s, which is so many statements with it, refers to one of these names, and its statement is no sum of that name (Allen and Kennedy, section 5.6; this project)
+-- a reference, in the body of the DO with number s, which with it is this many statements, refers to one of these names, and its statement is no sum of that name (Allen and Kennedy, section 5.6; this project)
 abbrev pub is_beside_sums : ProgramTree → (s count : ℕ) → List (List ℕ) → Reference → Bool
 is_beside_sums t s count names r =
     nat_lt s r.statement && nat_lt r.statement (s + count) && is_among r.access.name names && is_none (sum_at t r.access.name r.statement)
 
--- the first statement in the body of the DO with number s, which is so many statements with it, that refers to one of these names and is no sum of it; references stand in text order (this project)
+-- the first statement in the body of the DO with number s, which with it is this many statements, that refers to one of these names and is no sum of it; references are in text order (this project)
 abbrev pub first_beside_sums : ProgramTree → (s count : ℕ) → List (List ℕ) → Option ℕ
 first_beside_sums t s count names = option_map (λ r. r.statement) (find (is_beside_sums t s count names) (references t))
 
@@ -56,7 +56,7 @@ first_beside_sums t s count names = option_map (λ r. r.statement) (find (is_bes
 abbrev pub WhereNoSum : ProgramTree → (s : ℕ) → List (List ℕ) → ℕ → Type 0
 WhereNoSum t s names n = (l : LoopOf t s) × (first_beside_sums t s (statements_count l.body + 1) names ≡ Some n)
 
--- which rules with numbers below 15 stand against sums in any order, and others behind them: the statement is no DO; it is a PARALLEL DO or in one; the DO reads its variable, or that of a DO in it, elsewhere than in the body of that DO, or one of these is live after it; a value of its variable is one that no literal has; it can't add to one of these names; a bound isn't constant, or there is no iteration (Allen and Kennedy, section 5.6; this project)
+-- which rules with numbers below 15 forbid sums in any order, and others after them: the statement is no DO; it is a PARALLEL DO or in one; the DO reads its variable, or that of a DO in it, elsewhere than in the body of that DO, or one of these is live after it; a value of its variable is one that no literal has; it can't add to one of these names; a bound isn't constant, or there is no iteration (Allen and Kennedy, section 5.6; this project)
 abbrev pub also_against_sums : (s : ℕ) → List (List ℕ) → ProgramTree → Rules → Rules
 also_against_sums s names t others =
     also NoLoop (WhereNoLoop t s)
@@ -66,7 +66,7 @@ also_against_sums s names t others =
     (also NotScalar (WhereLoop t s (has_unsummable t s names))
     (also NotConstant (WhereLoop t s (isnt_constant (table_of t).constants)) others)))))
 
--- which rules stand against sums in any order: those with numbers below 15; a name is private near the DO, or given twice; a statement refers to a name and is no sum of it (Allen and Kennedy, section 5.6; this project)
+-- which rules forbid sums in any order: those with numbers below 15; a name is private near the DO, or given twice; a statement refers to a name and is no sum of it (Allen and Kennedy, section 5.6; this project)
 abbrev pub StandsAgainstSumming : (s : ℕ) → List (List ℕ) → ProgramTree → Rules
 StandsAgainstSumming s names t =
     also_against_sums s names t
@@ -81,11 +81,11 @@ carried_beside t s names e = carried t s e && not (is_among e.name names)
 abbrev pub is_live : Lowered → Loop → Bool
 is_live p l = list_any (λ n. n == l.number) p.live
 
--- a DO round the statement with this number is lowered
+-- a DO around the statement with this number is lowered
 abbrev pub is_in_live : ProgramTree → Lowered → ℕ → Bool
 is_in_live t p s = list_any (is_live p) (nest_round t s)
 
--- a list is live: the DO with number s has one, of at most eight names; no DO round it is lowered; nothing forbids sums of these names in any order; and the program in which it is lowered behind those before it is valid (this project)
+-- a list is live: the DO with number s has one, of at most eight names; no DO around it is lowered; nothing forbids sums of these names in any order; and the program in which it is lowered after those before it is valid (this project)
 pub record IsLive (t : ProgramTree) (s : ℕ) (p q : Lowered) : Type 0 where
   pub loop : LoopOf t s
   pub some : has_list loop.head loop.body ≡ true
@@ -112,7 +112,7 @@ IsLowered t q = Lowers t (range_with_len 1 (statements_count t.body)) (not_lower
 abbrev pub with_listed : List (List ℕ) → Head → StmtTrees → StmtTrees
 with_listed names h body = alone (Do h (with_list names body))
 
--- the program behind the step
+-- the program after the step
 abbrev pub with_reduction : ProgramTree → (s : ℕ) → List (List ℕ) → ProgramTree
 with_reduction t s names = program_with (on_loop (with_listed names)) s t
 
@@ -120,7 +120,7 @@ with_reduction t s names = program_with (on_loop (with_listed names)) s t
 abbrev pub MakesReduction : (s : ℕ) → List (List ℕ) → ProgramTree → ProgramTree → List (ℕ × ℕ) → Type 0
 MakesReduction s names t new keep = (new ≡ with_reduction t s names) × (keep ≡ all_kept t)
 
--- rule 15, its second case: the DO has no list yet and stands in none that is lowered; and the program in which it is lowered for these names, behind the live lists before it, isn't valid (this project)
+-- rule 15, its second case: the DO has no list yet and is in none that is lowered; and the program in which it is lowered for these names, after the live lists before it, isn't valid (this project)
 pub record IsUnlowerable (t : ProgramTree) (s : ℕ) (names : List (List ℕ)) : Type 0 where
   pub loop : LoopOf t s
   pub new : has_list loop.head loop.body ≡ false
@@ -137,7 +137,7 @@ WhereReductionLimit t s names n = WhereLimit (MakesReduction s names) t s n ⊎ 
 abbrev pub is_unlistable : ProgramTree → (s : ℕ) → List (List ℕ) → Head → StmtTrees → Bool
 is_unlistable t s names h body = has_private_or_twice t s names h body || has_list h body
 
--- which rules stand against the step: those against sums in any order; the new program, or what it is lowered to, isn't valid; the DO has a list already (this project)
+-- which rules forbid the step: those against sums in any order; the new program, or what it is lowered to, isn't valid; the DO has a list already (this project)
 abbrev pub StandsAgainstReducing : (s : ℕ) → List (List ℕ) → ProgramTree → Rules
 StandsAgainstReducing s names t =
     also_against_sums s names t

@@ -8,7 +8,7 @@ pub data Sum : Type 0 where
   plus : ExprTree → Sum
   minus : ExprTree → Sum
 
--- what is added to the scalar or taken away where an expression is the scalar's new value: the one operand of a sum whose other is the scalar, or what is taken from the scalar; the scalar doesn't stand in it
+-- what is added to the scalar or taken away where an expression is the scalar's new value: the one operand of a sum whose other is the scalar, or what is taken from the scalar; the scalar doesn't occur in it
 abbrev pub sum_of : List ℕ → ExprTree → Option Sum
 sum_of x (Add a b) =
     if is_scalar x a && not (has_scalar x b) then Some (plus b)

@@ -26,7 +26,7 @@ pub(crate) fn list_of(alloc: Global, body: &[Stmt]) -> Result<Vec<Name>, NoMemor
     Ok(names)
 }
 
-/// The statements of a body behind its list.
+/// The statements of a body after its list.
 pub(crate) fn without_list<'a>(alloc: Global, body: &'a [Stmt]) -> Result<&'a [Stmt], NoMemory>
     ensures { IfOk result (λ rest. stmt_trees rest.now ≡ Spec.without_list (stmt_trees body.now)) }
 {
@@ -64,7 +64,7 @@ fn listed_name(alloc: Global, text: &[u8]) -> Result<Option<Name>, NoMemory>
     Ok(name_behind_word(&folded))
 }
 
-/// The name behind the word $REDUCE.
+/// The name after the word $REDUCE.
 fn name_behind_word(text: &[u8]) -> Option<Name>
     ensures { result ≡ Spec.name_behind_word text.now }
 {

@@ -43,9 +43,9 @@ pub struct Lowered {
     pub more: u32,
 }
 
-/// What comes of a program when all its live lists are lowered, in text order (Allen and Kennedy, section 5.6). A list is live
-/// where the DO stands in none that is lowered, the list has at most eight names, nothing forbids that its iterations add to
-/// these in any order, and the program in which it is lowered is valid.
+/// What comes of a program when all its live lists are lowered, in text order (Allen and Kennedy, section 5.6). A list
+/// is live where the DO is in none that is lowered, the list has at most eight names, nothing forbids that its
+/// iterations add to these in any order, and the program in which it is lowered is valid.
 pub fn lower<L: Ledger>(alloc: Global, scene: &Scene<L>) -> Result<Lowered, NoMemory>
     requires { IsSceneOf (program_tree scene.now.tree.now) scene.now }
     ensures lowered { IfOk result (λ l. Spec.IsLowered (program_tree scene.now.tree.now) (lowered_view l)) }
@@ -115,7 +115,8 @@ fn copy_of(alloc: Global, program: &Program) -> Result<Program, NoMemory>
     })
 }
 
-/// Lowers the statement with this number, where it is a DO with a list that is live; what stands before it is lowered already.
+/// Lowers the statement with this number, where it is a DO with a list that is live; what comes before it is lowered
+/// already.
 fn lower_at<L: Ledger>(
     alloc: Global,
     scene: &Scene<L>,
@@ -194,7 +195,7 @@ fn lowered_in<L: Ledger>(
     lowered_with(alloc, lowered, number, &names)
 }
 
-/// Whether a DO round the statement with this number is lowered.
+/// Whether a DO around the statement with this number is lowered.
 pub(crate) fn is_in_live(
     alloc: Global,
     program: &Program,

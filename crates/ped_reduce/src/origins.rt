@@ -36,21 +36,21 @@ pub(crate) fn origins_behind(
     Ok(all)
 }
 
-/// The first numbers, so many where there are so many.
+/// The first `count` numbers, or all where there are fewer.
 fn front(numbers: &[u32], count: u32) -> &[u32]
     ensures { result.now ≡ take count numbers.now }
 {
     numbers.split_at(numbers.len().min(count as usize)).0
 }
 
-/// The numbers behind the first, of which there are so many.
+/// The numbers after the first `count`.
 fn behind(numbers: &[u32], count: u32) -> &[u32]
     ensures { result.now ≡ drop count numbers.now }
 {
     numbers.split_at(numbers.len().min(count as usize)).1
 }
 
-/// Adds a number so many times.
+/// Adds a number this many times.
 fn add_times(all: &mut Vec<u32>, number: u32, times: u32) -> Result<(), NoMemory>
     ensures { OnOk result (all.new.items ≡ all.old.items ++ replicate times number) }
 {

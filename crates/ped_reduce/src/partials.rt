@@ -28,7 +28,7 @@ pub(crate) struct Partials {
     pub(crate) flag: Name,
 }
 
-/// The greatest number behind two letters in a name of 31 characters.
+/// The greatest number after two letters in a name of 31 characters.
 const MOST_NUMBERED: u128 = 99_999_999_999_999_999_999_999_999_999;
 
 /// Three arrays with fresh names for each of these scalars: none where there are too few names.
@@ -54,7 +54,7 @@ pub(crate) fn partials_of(
     Ok(Some(all))
 }
 
-/// Three arrays for a scalar, whose names have numbers from `next` on, which goes behind them.
+/// Three arrays for a scalar, whose names have numbers from `next` on, which goes after them.
 fn three_arrays(
     alloc: Global,
     program: &Program,
@@ -84,7 +84,7 @@ fn three_arrays(
     }))
 }
 
-/// The first of the names KX with a number from `next` on that doesn't occur in the program; `next` goes behind it.
+/// The first of the names KX with a number from `next` on that doesn't occur in the program; `next` goes after it.
 fn fresh_array(
     alloc: Global,
     program: &Program,
@@ -106,7 +106,7 @@ fn fresh_array(
     Ok(None)
 }
 
-/// KX with a number of at most 29 digits behind it.
+/// KX with a number of at most 29 digits after it.
 fn numbered(alloc: Global, n: u128) -> Result<Name, NoMemory>
     requires { n < 10 ^ 29 }
     ensures { IfOk result (λ name. name ≡ codes "KX" ++ decimal n) }

@@ -14,14 +14,14 @@ use ped_refs::Loop;
 use ped_splits::{is_private_in, is_private_round, is_some_parallel};
 use ped_tree::Do;
 
-/// Whether the DO or one of these round it is a PARALLEL DO.
+/// Whether the DO or one of these around it is a PARALLEL DO.
 pub(crate) fn is_in_parallel(d: &Do, round: &[Loop]) -> bool
     ensures { result ≡ ((head_of d.now).parallel || list_any (λ m. m.head.parallel) (nest_of round.now)) }
 {
     d.parallel || is_some_parallel(round)
 }
 
-/// Whether a name stands twice in the list.
+/// Whether a name occurs twice in the list.
 pub(crate) fn has_twice(names: &[Name]) -> bool
     ensures { result ≡ Refusals.has_twice names.now }
 {
@@ -33,7 +33,7 @@ pub(crate) fn has_twice(names: &[Name]) -> bool
     false
 }
 
-/// Whether one of these names is in the PRIVATE list of the DO, of one in it or of one of these round it.
+/// Whether one of these names is in the PRIVATE list of the DO, of one in it or of one of these around it.
 pub(crate) fn is_some_private(names: &[Name], d: &Do, round: &[Loop]) -> bool
     ensures { result ≡ list_any (λ x. Lists.is_among x (Names.private_names_in (Tree.Do (head_of d.now) (stmt_trees d.now.body.items))) || list_any (λ l. Lists.is_among x l.head.private) (nest_of round.now)) names.now }
 {

@@ -27,14 +27,14 @@ use ped_tree::{Do, Program, Stmt};
 use std::alloc::Global;
 use std::sync::ledger::Ledger;
 
-/// Puts a list of these names at the front of the body of the DO with this number, whose iterations may then add to them in any
-/// order (Allen and Kennedy, section 5.6; ParaScope). Each statement keeps its number.
+/// Puts a list of these names at the front of the body of the DO with this number, whose iterations may then add to
+/// them in any order (Allen and Kennedy, section 5.6; ParaScope). Each statement keeps its number.
 ///
 /// # Errors
 ///
-/// `Refused` exactly where a rule stands, with the rule of the least number: NoLoop, ParallelState, IndexEscapes, Range,
-/// NotScalar, NotConstant, Limit, AlreadyPrivate or NotSum; and else where the DO carries a dependence on another name that the
-/// user hasn't rejected, with the first one in the order of the pane.
+/// `Refused` exactly where a rule forbids the step, with the rule of the least number: NoLoop, ParallelState,
+/// IndexEscapes, Range, NotScalar, NotConstant, Limit, AlreadyPrivate or NotSum; and else where the DO carries a
+/// dependence on another name that the user hasn't rejected, with the first one in the order of the pane.
 pub fn reduce<L: Ledger>(
     alloc: Global,
     scene: &Scene<L>,
@@ -79,8 +79,8 @@ fn reduce_in<L: Ledger>(
     }
 }
 
-/// The change, unless the program in which the DO with this number is lowered for these names isn't valid, or what comes behind
-/// that forbids the step.
+/// The change, unless the program in which the DO with this number is lowered for these names isn't valid, or what
+/// comes after that forbids the step.
 fn unless_unlowerable<L: Ledger>(
     alloc: Global,
     scene: &Scene<L>,
@@ -108,7 +108,7 @@ fn unless_unlowerable<L: Ledger>(
     }
 }
 
-/// The first cause against the step, where no rule below Limit stands and the new program is valid.
+/// The first cause against the step, where no rule below Limit forbids it and the new program is valid.
 fn behind_limit<L: Ledger>(
     alloc: Global,
     scene: &Scene<L>,
@@ -141,8 +141,8 @@ fn behind_limit<L: Ledger>(
     }
 }
 
-/// Whether the DO with this number stands in none that is lowered, and the program in which it is lowered for these names isn't
-/// valid.
+/// Whether the DO with this number is in none that is lowered, and the program in which it is lowered for these names
+/// isn't valid.
 fn is_unlowerable<L: Ledger>(
     alloc: Global,
     scene: &Scene<L>,

@@ -36,7 +36,7 @@ pub(crate) fn is_referred(found: &[Occurrence], extent: Extent, name: &Name) -> 
     false
 }
 
-/// Whether a reference stands in the body of the DO.
+/// Whether a reference is in the body of the DO.
 fn is_in(occurrence: &Occurrence, extent: Extent) -> bool
     requires { extent.number + extent.count < 2 ^ 32 }
     ensures { result ≡ (nat_lt extent.number (reference_of occurrence.now).statement && nat_lt (reference_of occurrence.now).statement (extent.number + extent.count)) }

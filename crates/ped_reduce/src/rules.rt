@@ -26,7 +26,7 @@ use ped_tree::{Do, count_statements};
 use std::alloc::Global;
 use std::sync::ledger::Ledger;
 
-/// A rule that stands, with the statement that it names.
+/// A rule that forbids the step, with the statement that it names.
 #[derive(Clone, Copy)]
 pub(crate) struct Standing {
     /// The rule.
@@ -35,7 +35,7 @@ pub(crate) struct Standing {
     pub(crate) statement: u32,
 }
 
-/// The first rule with a number below Limit's that stands against sums of these names in any order in the DO with this number.
+/// The first rule with a number below Limit's that forbids sums of these names in any order in the DO with this number.
 pub(crate) fn early<L: Ledger>(
     alloc: Global,
     scene: &Scene<L>,
@@ -70,7 +70,7 @@ pub(crate) fn early<L: Ledger>(
     )
 }
 
-/// The same, where neither ParallelState nor IndexEscapes stands; so the DO goes through its iterations.
+/// The same, where neither ParallelState nor IndexEscapes forbids it; so the DO goes through its iterations.
 fn early_by_course<L: Ledger>(
     alloc: Global,
     scene: &Scene<L>,
@@ -100,7 +100,8 @@ fn early_by_course<L: Ledger>(
     }
 }
 
-/// The same, where Range doesn't stand either; `known` says whether the bounds are constant and there is an iteration.
+/// The same, where Range doesn't forbid it either; `known` says whether the bounds are constant and there is an
+/// iteration.
 fn early_by_names<L: Ledger>(
     alloc: Global,
     scene: &Scene<L>,
@@ -189,7 +190,7 @@ fn is_unsummable<L: Ledger>(
     !is_referred(found, extent_of(number, d), name)
 }
 
-/// Where the DO with this number stands.
+/// The place of the DO with this number.
 fn extent_of(number: u32, d: &Do) -> Extent
     requires { statements_count (stmt_trees d.now.body.items) + 1 < 2 ^ 32 }
     ensures { result ≡ record { number = number; count = statements_count (stmt_trees d.now.body.items) + 1 } }
@@ -235,7 +236,7 @@ pub(crate) fn first_no_sum<L: Ledger>(
     Ok(first_beside_sums(scene.tree, &found, extent, names))
 }
 
-/// The first rule behind Limit that stands against sums of these names in any order in the DO with this number.
+/// The first rule after Limit that forbids sums of these names in any order in the DO with this number.
 pub(crate) fn late<L: Ledger>(
     alloc: Global,
     scene: &Scene<L>,

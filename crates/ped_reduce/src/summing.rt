@@ -19,7 +19,7 @@ use ped_base::{Listed, Name, NoMemory, both};
 use ped_tree::{Cond, Do, Expr, Intrinsic, Relation, Stmt};
 use std::alloc::Global;
 
-/// The DO with all sums kept apart as a PARALLEL DO, and behind it the DO that adds them to the scalars.
+/// The DO with all sums kept apart as a PARALLEL DO, and after it the DO that adds them to the scalars.
 pub(crate) fn lowered_loop(
     alloc: Global,
     partials: &[Partials],

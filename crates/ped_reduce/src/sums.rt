@@ -70,7 +70,7 @@ fn is_scalar(name: &Name, e: &Expr) -> bool
     }
 }
 
-/// Whether the scalar stands in the expression.
+/// Whether the scalar occurs in the expression.
 #[cycle(has_scalar)]
 fn has_scalar(name: &Name, e: &Expr) -> bool
     ensures { result ≡ Substitution.has_scalar name.now (expr_tree e.now) }
@@ -85,7 +85,7 @@ fn has_scalar(name: &Name, e: &Expr) -> bool
     }
 }
 
-/// Whether the scalar stands in one of the expressions.
+/// Whether the scalar occurs in one of the expressions.
 #[cycle(has_scalar)]
 fn have_scalar(name: &Name, exprs: &[Expr]) -> bool
     ensures { result ≡ Substitution.have_scalar name.now (pack_exprs (map expr_tree exprs.now)) }

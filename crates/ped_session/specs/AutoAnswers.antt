@@ -17,7 +17,7 @@ use Rattle.ped_session.specs.AutoEditing.{session_editing}
 abbrev pub script_row : Command → List ℕ
 script_row command = command_text command ++ 10 ∷ []
 
--- an accepted step, as a script has it, behind a plus sign
+-- an accepted step, as a script has it, after a plus sign
 abbrev pub accepted_row : Command → List ℕ
 accepted_row command = codes "+ " ++ script_row command
 
@@ -30,13 +30,13 @@ abbrev pub auto_text : ℕ → Report → List ℕ → List ℕ
 auto_text line report source =
     answer_row line (codes "auto " ++ decimal (length report.accepted)) ++ flat_map accepted_row report.accepted ++ flat_map left_row report.left ++ source
 
--- `auto` on this line does to a session what its strategy does, tests so many pairs for the accepted steps, and prints this
+-- `auto` on this line does to a session what its strategy does, tests this many pairs for the accepted steps, and prints this
 pub record AnswersAuto (line : ℕ) (s : State) (bytes : List ℕ) (tests : ℕ) (next : State) : Type 0 where
   pub report : Report
   pub does : IsAuto session_editing s report next tests
   pub says : bytes ≡ auto_text line report next.present
 
--- the commands are accepted one behind another, whatever the data are, and lead to the last state
+-- the commands are accepted one after another, whatever the data are, and lead to the last state
 abbrev pub AcceptsAll : List Command → State → State → Type 0
 AcceptsAll [] s last = last ≡ s
 AcceptsAll (command ∷ commands) s last = (next : State) × ((data_bytes : List ℕ) → IsStep command data_bytes s Changed next) × AcceptsAll commands next last

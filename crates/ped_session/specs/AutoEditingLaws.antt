@@ -68,7 +68,7 @@ taken at s next (transformed t new keep reads some free makes valid changed afte
   next_is = after;
 }
 
--- the cause is that which the reply tells
+-- the cause is the one that the reply reports
 one_step_cause : (a b : Cause) → ◌≡◌ {A = Reply} (Refused (Step a)) (Refused (Step b)) → b ≡ a
 one_step_cause a b e = cc
 
@@ -113,7 +113,7 @@ either_by : (step : MaybeStep) → MatchStep step ⊤ IsDetermined → (s next :
 either_by no_step one s next c a b = a
 either_by (some_step at) one s next c a b = taken_or_refused at one s next c (taken at s next a.1) (refused_for at s s c b.1)
 
--- the source behind an accepted step reads as the program that the step makes
+-- the source after an accepted step reads as the program that the step makes
 reads_new : (at : StepAt) (s next : State) (a : IsTaken at s next) → ReadsValid next.present a.new
 reads_new at s next a =
     subst (λ (text : List ℕ). ReadsValid text a.new) (sym (ap (λ (n : State). n.present) a.next_is)) ((valid_prints a.new a.valid a.new).1 refl)
@@ -129,7 +129,7 @@ grows_by (some_step at) grow s next t h reads =
       subst (λ (v : ProgramTree). count_of v ≤ count_of a.new) (one_program s.present a.tree t a.reads reads) (grow a.tree a.new a.keep a.there a.free a.makes),
     )
 
--- behind `parallel` it has fewer DOs that aren't PARALLEL DOs
+-- after `parallel` it has fewer DOs that aren't PARALLEL DOs
 falls : (number : ℕ) (s next : State) (t u : ProgramTree) → TakesStep (Parallel number) s Changed next → ReadsValid s.present t → ReadsValid next.present u → length (serial_loops u) < length (serial_loops t)
 falls number s next t u h reads after =
     let a = taken _ s next h.1 in

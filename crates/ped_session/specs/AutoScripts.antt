@@ -17,6 +17,6 @@ abbrev pub items_on : ℕ → List Command → List Item
 items_on line [] = []
 items_on line (command ∷ commands) = record { line = line; command = Some command } ∷ items_on (line + 1) commands
 
--- what items say each of which is an accepted change, where so many pairs of references are tested for all of them
+-- what items say each of which is an accepted change, where this many pairs of references are tested for all of them
 abbrev pub all_accepted : List Item → ℕ → Said
 all_accepted items tests = record { bytes = flat_map (λ item. reply_text item.line Changed) items; refused = false; tests = tests }

@@ -6,11 +6,11 @@ use Rattle.ped_session.specs.ped_tree.specs.Tree.{ProgramTree}
 use Rattle.ped_order.specs.ped_eval.specs.Outcomes.{LiveRow, Outcome, Ended, Fault}
 use Rattle.ped_session.specs.LoweredRuns.{IsLoweredRun}
 
--- a line that the program has printed, behind a bar and a blank
+-- a line that the program has printed, after a bar and a blank
 abbrev pub output_row : List ℕ → List ℕ
 output_row line = codes "| " ++ line ++ 10 ∷ []
 
--- a value behind a blank; an undefined one is a question mark
+-- a value after a blank; an undefined one is a question mark
 abbrev pub value_text : Option ℤ → List ℕ
 value_text None = codes " ?"
 value_text (Some n) = codes " " ++ signed_decimal n
@@ -28,6 +28,6 @@ abbrev pub block : Outcome → List ℕ
 block (Ended output live) = flat_map output_row output ++ codes "ended" ++ 10 ∷ flat_map live_row live
 block (Fault number statement) = fault_row number statement
 
--- the block of the outcome to which a program comes on its data, where these choices, and 0 behind their end, pick which iteration of an open PARALLEL DO does the next step; where it has live lists of sums, what it is lowered to runs (this project)
+-- the block of the outcome with which a program ends on its data, where these choices, and 0 after their end, pick which iteration of an open PARALLEL DO does the next step; where it has live lists of sums, what it is lowered to runs (this project)
 abbrev pub IsRunBlock : (choices data_bytes : List ℕ) → ProgramTree → List ℕ → Type 0
 IsRunBlock choices data_bytes t bytes = (o : Outcome) × IsLoweredRun choices data_bytes t o × (bytes ≡ block o)

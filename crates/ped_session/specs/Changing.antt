@@ -28,7 +28,7 @@ abbrev pub Changes : ProgramTree → List (ℕ × ℕ) → Change → State → 
 Changes new keep change s reply next =
     (reply ≡ Changed) × (old : ProgramTree) × ReadsValid s.present old × (next ≡ changed_to (program_text new) change (tested_pairs old new keep) s)
 
--- the printed text of a program has become the present source by an edit that keeps so many lines of the former one at the front and lets so many go
+-- the printed text of a program has become the present source by an edit that keeps this many lines of the former one at the front and drops this many
 abbrev pub EditChanges : ProgramTree → ℕ → ℕ → State → Reply → State → Type 0
 EditChanges new kept gone s reply next =
     (reply ≡ Changed) × (old : ProgramTree) × ReadsValid s.present old × (next ≡ changed_to (program_text new) Edit (tested_pairs old new (edit_keep old new kept gone)) s)

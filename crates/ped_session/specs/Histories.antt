@@ -24,7 +24,7 @@ pub record HaveSameSources (s u : State) : Type 0 where
   pub present : s.present ≡ u.present
   pub future : s.future ≡ u.future
 
--- a command is accepted so many times one behind another
+-- a command is accepted this many times one after another
 abbrev pub Times : ℕ → Command → List ℕ → State → State → Type 0
 Times zero command data_bytes s last = last ≡ s
 Times (suc n) command data_bytes s last = (next : State) × IsStep command data_bytes s Changed next × Times n command data_bytes next last

@@ -26,7 +26,7 @@ pub record IsVersion (v : Version) : Type 0 where
 abbrev pub other_of : {L : _} → Entry L → Other
 other_of e = (e.other.text, e.change)
 
--- one behind another the entries take a graph that holds this to the graphs of their programs
+-- one after another the entries take a graph that holds this to the graphs of their programs
 abbrev pub Leads : {L : _} → Held → List (Entry L) → Type 0
 Leads graph [] = Unit {0}
 Leads graph (e ∷ es) = IsVersion e.other × TakesTo e.delta graph (held_of (tree_of e.other)) × Leads (held_of (tree_of e.other)) es

@@ -3,7 +3,7 @@ use Rattle.std.specs.Prelude.{Bool, false, ◌||◌}
 use Rattle.ped_session.specs.ped_tree.specs.Tree.{StmtTree, StmtTrees, Assign, If, Do, Print, Read, Stop, Comment, no_stmts, more_stmts}
 use Rattle.ped_transformations.specs.ped_reduce.specs.Lists.{has_list}
 
--- a statement is a DO with a list, or one stands in it
+-- a statement is a DO with a list, or one is in it
 abbrev mutual
   pub holds_list : StmtTree → Bool
   holds_list (Assign left right) = false

@@ -16,16 +16,16 @@ HasNoList t = (s : ℕ) (l : LoopOf t s) → has_list l.head l.body ≡ false
 abbrev pub origin_at : List ℕ → ℕ → ℕ
 origin_at origin number = slice_index_or (0 ∷ origin) number number
 
--- how an outcome of a lowered program is told: a fault with the statement from which the one comes that met it, and what is printed and shown as it is (this project)
+-- how an outcome of a lowered program is reported: a fault with the statement from which the one that met it comes, and what is printed and shown as it is (this project)
 abbrev pub told_by : Lowered → Outcome → Outcome
 told_by q (Ended output live) = Ended output live
 told_by q (Fault number statement) = Fault number (origin_at q.origin statement)
 
--- with these choices, and 0 behind their end, a lowered program comes on its data to an outcome that is told so (this project)
+-- with these choices, and 0 after their end, a lowered program ends on its data with an outcome that is reported so (this project)
 abbrev pub TellsRun : (choices data_bytes : List ℕ) → Lowered → Outcome → Type 0
 TellsRun choices data_bytes q o = (ended : Outcome) × IsInterleaved q.tree data_bytes choices ended × (o ≡ told_by q ended)
 
--- an outcome of a program with these choices on its data: what the program is lowered to runs, and a fault is told of the program itself (Allen and Kennedy, section 5.6; this project)
+-- an outcome of a program with these choices on its data: what the program is lowered to runs, and a fault is reported for the program itself (Allen and Kennedy, section 5.6; this project)
 pub record IsLoweredRun (choices data_bytes : List ℕ) (t : ProgramTree) (o : Outcome) : Type 0 where
   pub lowered : Lowered
   pub lowers : IsLowered t lowered

@@ -9,7 +9,7 @@ use Rattle.ped_session.specs.ped_graph.specs.DependencePane.{IsDependencePane}
 abbrev pub IsSourcePane : ProgramTree → List ℕ → Type 0
 IsSourcePane t pane = pane ≡ source_pane t
 
--- both panes of a program: the source pane, and behind it the dependence pane
+-- both panes of a program: the source pane, and after it the dependence pane
 abbrev pub ArePanes : ProgramTree → List ℕ → Type 0
 ArePanes t bytes = (pane : List ℕ) × IsDependencePane t pane × (bytes ≡ source_pane t ++ pane)
 

@@ -7,7 +7,7 @@ use Rattle.ped_order.specs.ped_store.specs.Cells.{Cell, Scalar, Element, Private
 use Rattle.ped_order.specs.Reports.{Report, NoRace, Race, Fault, IsReport}
 use Rattle.ped_session.specs.Blocks.{fault_row}
 
--- a subscript behind another one
+-- a subscript after another one
 abbrev pub next_subscript : ℤ → List ℕ
 next_subscript n = codes "," ++ signed_decimal n
 

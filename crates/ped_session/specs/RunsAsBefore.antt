@@ -11,7 +11,7 @@ use Rattle.ped_session.specs.Scripts.{Said, nothing_said, said_both, AnswersItem
 abbrev pub RunsAsBefore : Option Command → List ℕ → State → Said → Type 0
 RunsAsBefore command data_bytes s said = (choices : List ℕ) → command ≡ Some (Run choices) → ShowsAsBefore s data_bytes said.bytes
 
--- items answer one behind another; each transformation in the history keeps the meaning, and each run shows what the earlier programs show (ParaScope; this project)
+-- items answer one after another; each transformation in the history keeps the meaning, and each run shows what the earlier programs show (ParaScope; this project)
 abbrev pub AnswersAsBefore : List Item → List ℕ → State → Said → State → Type 0
 AnswersAsBefore [] data_bytes s said last = IsMeaningKept s × (said ≡ nothing_said) × (last ≡ s)
 AnswersAsBefore (item ∷ items) data_bytes s said last =

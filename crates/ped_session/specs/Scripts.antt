@@ -34,15 +34,15 @@ bad_command_said line = record { bytes = bad_command_row line; refused = true; t
 abbrev pub nothing_said : Said
 nothing_said = record { bytes = []; refused = false; tests = 0 }
 
--- something is said, and more behind it
+-- something is said, and more after it
 abbrev pub said_both : Said → Said → Said
 said_both first rest = record { bytes = first.bytes ++ rest.bytes; refused = first.refused || rest.refused; tests = first.tests + rest.tests }
 
--- what the reply to the command on this line says, and the state behind it
+-- what the reply to the command on this line says, and the state after it
 abbrev pub AnswersReply : ℕ → Command → List ℕ → State → Said → State → Type 0
 AnswersReply line command data_bytes s said next = (reply : Reply) × IsStep command data_bytes s reply next × (said ≡ said_by line reply next)
 
--- what `auto` on this line says, which is never refused, and the state behind it
+-- what `auto` on this line says, which is never refused, and the state after it
 abbrev pub SaysAuto : ℕ → State → Said → State → Type 0
 SaysAuto line s said next = AnswersAuto line s said.bytes said.tests next × (said.refused ≡ false)
 
@@ -55,7 +55,7 @@ AnswersCommand line (Some command) data_bytes s said next = AnswersReply line co
 abbrev pub AnswersItem : Item → List ℕ → State → Said → State → Type 0
 AnswersItem item data_bytes s said next = AnswersCommand item.line item.command data_bytes s said next
 
--- what items answer one behind another, each in the state that the one before has left
+-- what items answer one after another, each in the state that the one before has left
 abbrev pub AnswersItems : List Item → List ℕ → State → Said → State → Type 0
 AnswersItems [] data_bytes s said last = (said ≡ nothing_said) × (last ≡ s)
 AnswersItems (item ∷ items) data_bytes s said last =

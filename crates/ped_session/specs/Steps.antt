@@ -1,4 +1,4 @@
--- What a command does: its reply, and the state of the session behind it (ParaScope; this project).
+-- What a command does: its reply, and the state of the session after it (ParaScope; this project).
 use Rattle.std.specs.Prelude.{◌≡◌, ◌⊎◌, ℕ, ◌-◌, ◌+◌, List, [], ◌∷◌, true, false, Option, Some, None, MatchBool, is_some}
 use Rattle.ped_session.specs.ped_tree.specs.Tree.{StmtTree, ProgramTree}
 use Rattle.ped_session.specs.ped_tree.specs.Printing.{program_text}
@@ -55,7 +55,7 @@ pub record ShowsStatement (IsSo : ProgramTree → List ℕ → Type 0) (number :
   pub reads : ReadsValid s.present tree
   pub shows : ShowsOf IsSo (statement_with number tree) s reply next
 
--- the text of an edit, which keeps so many lines at the front and lets so many go, is read afresh, and the printed text of what was read is the new source; or it is refused, and the session is as it was
+-- the text of an edit, which keeps as many lines as given at the front and drops as many as given, is read afresh, and the printed text of what was read is the new source; or it is refused, and the session is as it was
 pub data Edits (kept gone : ℕ) (text : List ℕ) (s : State) (reply : Reply) (next : State) : Type 0 where
   accepted : (old new : ProgramTree) → ReadsValid s.present old → ReadsValid text new
       → reply ≡ Changed → next ≡ changed_to (program_text new) Edit (tested_pairs old new (edit_keep old new kept gone)) s → Edits kept gone text s reply next
@@ -66,7 +66,7 @@ abbrev pub Replaces : ℕ → ℕ → List (List ℕ) → State → Reply → St
 Replaces first last new s reply next =
     MatchBool (are_lines s.present first last) (Edits (first - 1) (last + 1 - first) (spliced s.present (first - 1) (last + 1 - first) new) s reply next) (Refuses NoSuchLine s reply next)
 
--- lines come behind a line of the present source, or before its first line for 0
+-- lines come after a line of the present source, or before its first line for 0
 abbrev pub Inserts : ℕ → List (List ℕ) → State → Reply → State → Type 0
 Inserts after new s reply next =
     MatchBool (is_place s.present after) (Edits after 0 (spliced s.present after 0 new) s reply next) (Refuses NoSuchLine s reply next)
@@ -76,7 +76,7 @@ abbrev pub change_by : StepKind → Change
 change_by transformation = Transformation
 change_by rejection = Rejection
 
--- a step: the present program has no statement of that number, or a cause forbids the step and the first is told, and the session is as it was; or the printed text of the program that the step makes, which is valid, is the new source (ParaScope; this project)
+-- a step: the present program has no statement of that number, or a cause forbids the step and the first is reported, and the session is as it was; or the printed text of the program that the step makes, which is valid, is the new source (ParaScope; this project)
 pub data Transforms (at : StepAt) (s : State) (reply : Reply) (next : State) : Type 0 where
   missing : (t : ProgramTree) → ReadsValid s.present t → is_some (statement_with at.statement t) ≡ false → Refuses NoSuchStatement s reply next → Transforms at s reply next
   forbidden : (t : ProgramTree) → ReadsValid s.present t → is_some (statement_with at.statement t) ≡ true → (c : Cause) → at.IsCause t (Some c) → Refuses (Step c) s reply next → Transforms at s reply next

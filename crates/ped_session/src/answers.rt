@@ -30,12 +30,12 @@ pub struct Answered {
     pub refused: bool,
 }
 
-/// Answers the items of a script one behind another; programs are run on these data. It answers what they say, and
-/// whether one was refused; it tests the pairs that they test, and after want of memory at most as many. Each `run`,
+/// Answers the items of a script one after another; programs are run on these data. It answers what they say, and
+/// whether one was refused; it tests the pairs that they test, and if memory runs out, at most as many. Each `run`,
 /// whatever its choices, shows what the programs show from which the present one has come by transformations alone,
 /// where these are tidy and without C$PED REJECT and run without a fault and without a race.
 ///
-/// Where memory is wanting, nothing is said of the session but how many pairs were tested.
+/// Where memory runs out, nothing is said about the session but how many pairs were tested.
 pub fn answer_items<L: Ledger>(
     alloc: Global,
     session: &mut Session<L>,
@@ -104,7 +104,7 @@ fn answer_command<L: Ledger>(
     }
 }
 
-/// Answers `auto` on this line: parallelises the present program, and says by which steps, what is left and why.
+/// Answers `auto` on this line: parallelises the present program, and says by which steps, what remains and why.
 fn answer_auto<L: Ledger>(
     alloc: Global,
     session: &mut Session<L>,

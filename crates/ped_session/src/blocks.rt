@@ -26,7 +26,7 @@ pub(crate) fn block(alloc: Global, outcome: &Outcome) -> Result<Bytes, NoMemory>
     Ok(out)
 }
 
-/// Adds the printed lines, each behind a bar.
+/// Adds the printed lines, each after a bar.
 fn push_output(out: &mut Bytes, lines: &[Bytes]) -> Result<(), NoMemory>
     ensures { OnOk result (out.new ≡ out.old ++ flat_map Spec.output_row lines.now) }
 {
@@ -51,7 +51,7 @@ fn push_live(out: &mut Bytes, rows: &[LiveRow]) -> Result<(), NoMemory>
     Ok(())
 }
 
-/// Adds values, each behind a blank.
+/// Adds values, each after a blank.
 fn push_values(out: &mut Bytes, values: &[Option<i128>]) -> Result<(), NoMemory>
     ensures { OnOk result (out.new ≡ out.old ++ flat_map Spec.value_text values.now) }
 {
@@ -61,7 +61,7 @@ fn push_values(out: &mut Bytes, values: &[Option<i128>]) -> Result<(), NoMemory>
     Ok(())
 }
 
-/// Adds a value behind a blank, a question mark where it is undefined.
+/// Adds a value after a blank, a question mark where it is undefined.
 fn push_value(out: &mut Bytes, value: Option<i128>) -> Result<(), NoMemory>
     ensures { OnOk result (out.new ≡ out.old ++ Spec.value_text value) }
 {

@@ -132,7 +132,7 @@ fn is_text(name: &RefName, expected: &[u8]) -> bool
     text_of(name) == expected
 }
 
-/// The names with the data lines and the output behind the others.
+/// The names with the data lines and the output after the others.
 #[tactic(auto, using(crate::proofs::CarriedTexts::last_by_text))]
 fn files_last(alloc: Global, names: &[RefName]) -> Result<Vec<RefName>, NoMemory>
     ensures { IfOk result (λ all. map name_text all.items ≡ Spec.files_last (map name_text names.now)) }

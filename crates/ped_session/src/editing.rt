@@ -47,7 +47,7 @@ impl<L: Ledger> Session<L> {
         self.splice(alloc, first - 1, last - first + 1, lines, steps)
     }
 
-    /// Puts lines behind a line, or before the first for 0.
+    /// Puts lines after a line, or before the first for 0.
     pub(crate) fn insert(
         &mut self,
         alloc: Global,
@@ -67,7 +67,8 @@ impl<L: Ledger> Session<L> {
         self.splice(alloc, after, 0, lines, steps)
     }
 
-    /// Keeps so many lines at the front, puts the lines behind them in the place of so many, and reads what results.
+    /// Keeps `kept` lines at the front, puts the given lines in the place of the next `gone` ones, and reads what
+    /// results.
     fn splice(
         &mut self,
         alloc: Global,
@@ -90,8 +91,8 @@ impl<L: Ledger> Session<L> {
         }
     }
 
-    /// Makes what an edit reads as the present program; so many lines of the former source were kept at the front, and
-    /// so many went.
+    /// Makes what an edit reads as the present program; `kept` lines of the former source were kept at the front, and
+    /// `gone` lines went.
     fn edit(
         &mut self,
         alloc: Global,

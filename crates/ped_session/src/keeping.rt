@@ -13,8 +13,8 @@ use ped_print::begun;
 use ped_tree::Program;
 use std::alloc::Global;
 
-/// The statements that an edit of the first program keeps in the second, where so many lines of the first are kept at
-/// the front and so many go.
+/// The statements that an edit of the first program keeps in the second, where `kept` lines of the first are kept at
+/// the front and `gone` lines go.
 pub(crate) fn edit_keep(
     alloc: Global,
     old: &Program,
@@ -33,7 +33,7 @@ pub(crate) fn edit_keep(
     kept_ends(alloc, old.count(), behind, front, back)
 }
 
-/// Of two programs with so many statements, so many at the front and so many at the back.
+/// Of two programs with `before` and `behind` statements, `front` ones at the front and `back` ones at the back.
 fn kept_ends(
     alloc: Global,
     before: u32,
@@ -51,7 +51,7 @@ fn kept_ends(
     Ok(keep)
 }
 
-/// Adds so many statements, behind so many before the edit and behind so many after it.
+/// Adds `count` statements, which follow `before` others before the edit and `behind` others after it.
 fn push_kept(keep: &mut Keep, before: u32, behind: u32, count: u32) -> Result<(), NoMemory>
     requires before { before + count < 2 ^ 32 }
     requires behind { behind + count < 2 ^ 32 }

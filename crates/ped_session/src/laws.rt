@@ -63,13 +63,13 @@ pub fn sources_are_printed()
         AnswersItems items data_bytes (opened t) said last → ArePrinted last }
 {}
 
-/// `undo` behind an accepted change is accepted, and gives the former source, byte for byte, and the former past.
+/// `undo` after an accepted change is accepted, and gives the former source, byte for byte, and the former past.
 pub fn undo_restores()
     ensures { (c : Command) (data_bytes : List ℕ) (s next : State) → ¬ (IsMove c) → IsStep c data_bytes s Changed next →
         (back : State) × IsStep Undo data_bytes next Changed back × (back.present ≡ s.present) × (back.past ≡ s.past) }
 {}
 
-/// Behind several `undo` as many `redo` are accepted and give all sources again, and the other way round.
+/// After several `undo` as many `redo` are accepted and give all sources again, and the other way around.
 pub fn moves_restore_each_other()
     ensures redone { (n : ℕ) (data_bytes : List ℕ) (s back : State) → Times n Undo data_bytes s back →
         (again : State) × Times n Redo data_bytes back again × HaveSameSources again s }
@@ -128,15 +128,15 @@ pub fn without_lists()
     one_lowering();
 }
 
-/// The steps that `auto` takes are accepted one behind another, and lead from the state before it to the one behind it: so
-/// its script, replayed, gives the source that it shows.
+/// The steps that `auto` takes are accepted one after another, and lead from the state before it to the one after it:
+/// so its script, replayed, gives the source that it shows.
 pub fn auto_replays()
     ensures { (s last : State) (report : Report) (tests : ℕ) → IsAuto session_editing s report last tests → AcceptsAll report.accepted s last }
 {}
 
-/// The steps that `auto` takes, each on a line of its own as it is printed behind a plus sign, are a script that is read as
-/// these commands. From the state before `auto` it leads to the one behind it, whatever the data are: each line is answered
-/// by an accepted change, and as many pairs are tested.
+/// The steps that `auto` takes, each on a line of its own as it is printed after a plus sign, are a script that is read
+/// as these commands. From the state before `auto` it leads to the one after it, whatever the data are: each line is
+/// answered by an accepted change, and as many pairs are tested.
 pub fn auto_is_a_script<L: Ledger>()
     ensures read { (s last : State) (report : Report) (tests : ℕ) → IsAuto session_editing s report last tests →
         commands_of (script_of report.accepted) ≡ items_on 1 report.accepted }
@@ -147,8 +147,8 @@ pub fn auto_is_a_script<L: Ledger>()
     rows_are_commands();
 }
 
-/// Each step that `auto` takes is a change of its own in the history: behind it as many `undo` are accepted as there were
-/// steps, and give the source before `auto`, byte for byte, and its past.
+/// Each step that `auto` takes is a change of its own in the history: after it as many `undo` are accepted as there
+/// were steps, and give the source before `auto`, byte for byte, and its past.
 pub fn auto_is_undone()
     ensures { (s last : State) (report : Report) (tests : ℕ) (data_bytes : List ℕ) → IsAuto session_editing s report last tests →
         (back : State) × Times (length report.accepted) Undo data_bytes last back × (back.present ≡ s.present) × (back.past ≡ s.past) }

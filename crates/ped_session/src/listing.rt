@@ -9,7 +9,7 @@ use ped_transformations::has_list;
 use ped_tree::Stmt;
 use std::alloc::Global;
 
-/// Whether one of these statements is a DO with a list, or one stands in it.
+/// Whether one of these statements is a DO with a list, or one is in it.
 #[cycle(lists)]
 pub(crate) fn some_holds_list(alloc: Global, statements: &[Stmt]) -> Result<bool, NoMemory>
     ensures { IfOk result (λ holds. holds ≡ Spec.some_holds_list (stmt_trees statements.now)) }
@@ -22,7 +22,7 @@ pub(crate) fn some_holds_list(alloc: Global, statements: &[Stmt]) -> Result<bool
     Ok(false)
 }
 
-/// Whether a statement is a DO with a list, or one stands in it.
+/// Whether a statement is a DO with a list, or one is in it.
 #[cycle(lists)]
 fn holds_list(alloc: Global, statement: &Stmt) -> Result<bool, NoMemory>
     ensures { IfOk result (λ holds. holds ≡ Spec.holds_list (stmt_tree statement.now)) }

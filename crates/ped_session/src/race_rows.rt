@@ -87,7 +87,7 @@ fn push_subscripts(out: &mut Bytes, subscripts: &[i128]) -> Result<(), NoMemory>
     }
 }
 
-/// Adds subscripts, each behind a comma.
+/// Adds subscripts, each after a comma.
 fn push_others(out: &mut Bytes, subscripts: &[i128]) -> Result<(), NoMemory>
     ensures { OnOk result (out.new ≡ out.old ++ flat_map Spec.next_subscript subscripts.now) }
 {

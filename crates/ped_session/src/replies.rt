@@ -34,7 +34,7 @@ impl FirstCause {
         FirstCause { refused }
     }
 
-    /// The cause as the step has told it.
+    /// The cause as the step has reported it.
     pub fn refused(&self) -> &Refused
         ensures cause { cause_of result.now ≡ self.now }
         ensures short { IsShort result.now }
@@ -56,7 +56,7 @@ impl FirstCause {
 pub enum Refusal {
     /// The text of an edit isn't read: its first refusal, whose line counts in the text with the edit in it.
     BadEdit(TextRefusal),
-    /// A rule stands against the step, or a dependence forbids it: the first cause.
+    /// A rule forbids the step, or a dependence does: the first cause.
     Step(FirstCause),
     /// There is no past source.
     NothingToUndo,
@@ -64,7 +64,7 @@ pub enum Refusal {
     NothingToRedo,
     /// The present program has no statement of this number.
     NoSuchStatement,
-    /// The present source has no such lines, or the first stands behind the last.
+    /// The present source has no such lines, or the first follows the last.
     NoSuchLine,
 }
 

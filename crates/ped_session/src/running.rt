@@ -26,8 +26,8 @@ use std::alloc::Global;
 use std::sync::ledger::Ledger;
 
 /// Runs what a program, whose graph this is, is lowered to, on these data. The choices pick which iteration of an open
-/// PARALLEL DO does the next step, and behind their end 0 does. A fault is told with the statement of the program itself.
-/// Where no DO has a list of sums, the program runs as it is.
+/// PARALLEL DO does the next step, and after their end 0 does. A fault is reported with the statement of the program
+/// itself. Where no DO has a list of sums, the program runs as it is.
 pub(crate) fn run_version<L: Ledger>(
     alloc: Global,
     version: &Version,
@@ -68,7 +68,7 @@ fn lower_version<L: Ledger>(
     lower(alloc, &scene)
 }
 
-/// Runs what a program is lowered to, and tells the outcome of the program itself.
+/// Runs what a program is lowered to, and reports the outcome of the program itself.
 fn run_lowered(
     alloc: Global,
     lowered: &Lowered,
@@ -83,7 +83,7 @@ fn run_lowered(
     Ok(told_by(lowered, outcome))
 }
 
-/// An outcome of what a program is lowered to, as it is told of the program itself.
+/// An outcome of what a program is lowered to, as it is reported for the program itself.
 fn told_by(lowered: &Lowered, outcome: Outcome) -> Outcome
     ensures { outcome_view result ≡ Spec.told_by (lowered_view lowered.now) (outcome_view outcome) }
 {

@@ -63,7 +63,7 @@ impl<L: Ledger> Model for Session<L> {
 
 impl<L: Ledger> Session<L> {
     /// A session on the program of a text. Its present source is the program's printed text, and each pair of
-    /// references is tested once. After want of memory no more pairs were tested.
+    /// references is tested once. If memory runs out, no more pairs were tested.
     ///
     /// # Errors
     ///
@@ -85,8 +85,8 @@ impl<L: Ledger> Session<L> {
         }
     }
 
-    /// A session on a valid program that is opened already. Its present source is the program's printed text, and each pair of
-    /// references is tested once. After want of memory no more pairs were tested.
+    /// A session on a valid program that is opened already. Its present source is the program's printed text, and each
+    /// pair of references is tested once. If memory runs out, no more pairs were tested.
     pub fn begin(alloc: Global, new: Opened, steps: &mut Steps<L>) -> Result<Session<L>, NoMemory>
         requires valid { IsValid (program_tree new.program) }
         requires symbols { new.symbols ≡ table_of (program_tree new.program) }
@@ -147,11 +147,11 @@ impl<L: Ledger> Session<L> {
         self.tested
     }
 
-    /// Runs the present program on the lines of its data: what it is lowered to, so that sums of a list that is live may be
-    /// done in any order; a fault is told with the statement of the present program. The choices pick which iteration of an
-    /// open PARALLEL DO does the next step, and behind their end 0 does. Whatever they are, the outcome is also that of the
-    /// run in order of each program from which the present one has come by transformations alone, where that one is tidy and
-    /// without C$PED REJECT and runs in order without a fault and without a race.
+    /// Runs the present program on the lines of its data: what it is lowered to, so that sums of a list that is live
+    /// may be done in any order; a fault is reported with the statement of the present program. The choices pick which
+    /// iteration of an open PARALLEL DO does the next step, and after their end 0 does. Whatever they are, the outcome
+    /// is also that of the run in order of each program from which the present one has come by transformations alone,
+    /// where that one is tidy and without C$PED REJECT and runs in order without a fault and without a race.
     pub fn run(&self, alloc: Global, input: &[u8], choices: &[u64]) -> Result<Outcome, NoMemory>
         ensures outcome { IfOk result (λ o. (t : ProgramTree) → ReadsValid self.now.present t → IsLoweredRun choices.now input.now t (outcome_view o)) }
         ensures before { IfOk result (λ o. IsAsBefore self.now input.now (outcome_view o)) }
@@ -162,9 +162,9 @@ impl<L: Ledger> Session<L> {
     }
 
     /// Answers a command; programs are run on these data. A refused command leaves the session as it was, and so does
-    /// want of memory, which never comes at `undo` and `redo`. An accepted edit or step tests pairs of the new
-    /// program, and no other command tests any. The reply and the state behind it are those of the command, by the
-    /// one definition of each command. After want of memory no more pairs were tested than the command tests.
+    /// running out of memory, which never happens at `undo` and `redo`. An accepted edit or step tests pairs of the new
+    /// program, and no other command tests any. The reply and the state after it are those of the command, by the
+    /// one definition of each command. If memory runs out, no more pairs were tested than the command tests.
     ///
     /// `auto` is several steps, and none itself: it is for `ped_auto::auto`, over this session as its editor.
     pub fn apply(

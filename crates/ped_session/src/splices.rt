@@ -16,7 +16,7 @@ pub(crate) fn line_count(text: &[u8]) -> u64
     lines.read()
 }
 
-/// A text with new lines behind its first lines, so many of which are kept, in the place of so many lines that go.
+/// A text with new lines after its first `kept` lines, in the place of the `gone` lines that go.
 pub(crate) fn spliced(
     alloc: Global,
     text: &[u8],
@@ -35,7 +35,7 @@ pub(crate) fn spliced(
     Ok(all)
 }
 
-/// Adds so many lines, or all where there are fewer.
+/// Adds `count` lines, or all where there are fewer.
 fn push_some(all: &mut Bytes, lines: &mut TextLines<'_>, count: u64) -> Result<(), NoMemory>
     ensures added { OnOk result (all.new ≡ all.old ++ Spec.text_of_lines (take count lines.old.lines)) }
     ensures left { OnOk result (lines.new.lines ≡ drop count lines.old.lines) }
@@ -59,7 +59,7 @@ fn push_new(all: &mut Bytes, new: &[Bytes]) -> Result<(), NoMemory>
     Ok(())
 }
 
-/// Passes over so many lines, or all where there are fewer.
+/// Passes over `count` lines, or all where there are fewer.
 fn pass_over(lines: &mut TextLines<'_>, count: u64)
     ensures { lines.new.lines ≡ drop count lines.old.lines }
 {

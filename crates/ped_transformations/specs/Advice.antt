@@ -8,11 +8,11 @@ use Rattle.ped_auto.specs.ped_reduce.specs.ped_splits.specs.ped_reindex.specs.pe
 use Rattle.ped_auto.specs.ped_reduce.specs.ped_splits.specs.ped_reindex.specs.ped_loops.specs.ped_scalar.specs.ped_rules.specs.Steps.{MatchStep}
 use Rattle.ped_transformations.specs.Table.{step_of}
 
--- a step of which advice tells: its words, and the command that takes it (this project)
+-- a step in advice: its words, and the command that takes it (this project)
 abbrev pub Advised : Type 0
 Advised = List ℕ × Command
 
--- the steps of which advice on a statement tells, one behind another: those that ask for nothing but the statement, and both peels (this project)
+-- the steps in advice on a statement, one after another: those that ask for nothing but the statement, and both peels (this project)
 abbrev pub advised_at : ℕ → List Advised
 advised_at s =
     (codes "interchange", Interchange s)
@@ -38,7 +38,7 @@ advice_line words cause = words ++ verdict_words cause ++ 10 ∷ []
 abbrev pub IsLineOf : ProgramTree → Advised → List ℕ → Type 0
 IsLineOf t step line = MatchStep (step_of step.1) ⊥ (λ at. (c : Option Cause) × at.IsCause t c × (line ≡ advice_line step.0 c))
 
--- the lines of steps in a program, one behind another (plain words)
+-- the lines of steps in a program, one after another (plain words)
 abbrev pub AreLinesOf : ProgramTree → List Advised → List ℕ → Type 0
 AreLinesOf t [] bytes = bytes ≡ []
 AreLinesOf t (step ∷ steps) bytes = (line : List ℕ) × IsLineOf t step line × (rest : List ℕ) × AreLinesOf t steps rest × (bytes ≡ line ++ rest)

@@ -21,7 +21,7 @@ IsTellable (Some refused) = IsShort refused
 abbrev pub IsAgainst : MaybeStep → ProgramTree → Option Refused → Type 0
 IsAgainst step t found = MatchStep step ⊥ (λ at. at.IsCause t (option_map cause_of found)) × IsTellable found
 
--- the line of a step stands behind what was there
+-- the line of a step follows what was there
 pub record Tells (t : ProgramTree) (step : Advised) (before behind : List ℕ) : Type 0 where
   pub line : List ℕ
   pub is_line : IsLineOf t step line

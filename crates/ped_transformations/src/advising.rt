@@ -65,7 +65,7 @@ fn tell_all<L: Ledger>(
     Ok(())
 }
 
-/// Adds the line of the step that a command takes, behind the words by which it is told. The command is let go.
+/// Adds the line of the step that a command takes, after the words that name it. The command is dropped.
 fn tell<L: Ledger>(
     alloc: Global,
     scene: &Scene<L>,
@@ -82,7 +82,7 @@ fn tell<L: Ledger>(
     told
 }
 
-/// Adds the line of the step that a command takes, behind the words by which it is told.
+/// Adds the line of the step that a command takes, after the words that name it.
 fn push_line<L: Ledger>(
     alloc: Global,
     scene: &Scene<L>,

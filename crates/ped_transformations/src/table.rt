@@ -22,7 +22,7 @@ use std::sync::ledger::Ledger;
 pub enum Kind {
     /// It keeps the meaning.
     Transformation,
-    /// It takes down what the user says of a dependence.
+    /// It takes down what the user says about a dependence.
     Rejection,
 }
 

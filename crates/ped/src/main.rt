@@ -27,8 +27,8 @@ fn main(rt: HostRuntime) -> ExitCode {
     ExitCode::from(called::<Brand, _>(&rt, Blank::new(1)).number())
 }
 
-/// Answers the words of the call, with the one counter of dependence tests. Where one of them is no text, none are answered;
-/// where memory runs out before that, nothing is written.
+/// Answers the words of the call, with the only counter of dependence tests. Where one of them is no text, none are
+/// answered; where memory runs out before that, nothing is written.
 fn called<L: Ledger, R: Env + Files + Print + AllocGlobal>(rt: &R, blank: Blank) -> Status
     requires name { blank.name ≡ L.name }
     requires parts { blank.parts ≡ L.parts }

@@ -42,7 +42,7 @@ pub trait Shelf {
     /// The names of which reads were asked, the newest first, as far as the shelf notes them.
     ghost read_names: { Self → List (List ℕ) };
 
-    /// Reads bytes of a file from `at` on into the piece's front, and answers how many. No byte is
+    /// Reads bytes of a file from `at` on into the piece's front, and returns how many. No byte is
     /// given only where the piece has no room or the file has no byte there.
     fn read_at(&mut self, name: &str, at: u64, piece: &mut [u8]) -> Result<usize, OutsideFault>
         ensures within { IfOk result (λ n. n ≤ length piece.old) }
@@ -81,7 +81,7 @@ pub trait Sink {
     /// How many faults the writes have met.
     ghost faults: { Self → ℕ };
 
-    /// Takes bytes from the piece's front, and answers how many: at least one, where there is one.
+    /// Takes bytes from the piece's front, and returns how many: at least one, where there is one.
     fn write(&mut self, piece: &[u8]) -> Result<usize, OutsideFault>
         ensures within { IfOk result (λ n. n ≤ length piece.now) }
         ensures some { IfOk result (λ n. n ≡ 0 → length piece.now ≡ 0) }

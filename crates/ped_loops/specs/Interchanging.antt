@@ -1,4 +1,4 @@
--- `interchange`: a DO and the one DO in its body change places (Allen and Kennedy, section 5.2; ParaScope).
+-- `interchange`: a DO and the only DO in its body change places (Allen and Kennedy, section 5.2; ParaScope).
 use Rattle.std.specs.Prelude.{◌≡◌, ◌⊎◌, ℕ, ◌+◌, List, [], ◌∷◌, ◌++◌, Bool, ◌&&◌, ◌||◌, MatchOption, Option, Some, None}
 use Rattle.ped_tree.specs.Tree.{ExprTree, Head, StmtTrees, Do, ProgramTree}
 use Rattle.ped_scalar.specs.ped_rules.specs.ped_loop_runs.specs.ped_bodies.specs.ped_steps.specs.ped_affine.specs.Ranges.{Setting}
@@ -37,7 +37,7 @@ MakesInterchanged s t new keep = (new ≡ interchanged t s) × (keep ≡ all_but
 abbrev pub IsBoundOf : Head → ExprTree → Type 0
 IsBoundOf h e = (e ≡ h.first) ⊎ (e ≡ h.last)
 
--- rule 6: the bounds that are asked for are those of the DO, and those of the one DO in its body under the next number (this project)
+-- rule 6: the bounds that are asked for are those of the DO, and those of the only DO in its body under the next number (this project)
 abbrev pub IsBoundOfEither : ProgramTree → (s : ℕ) → ℕ → ExprTree → Type 0
 IsBoundOfEither t s n e = (l : LoopOf t s) × (((n ≡ s) × IsBoundOf l.head e) ⊎ ((n ≡ s + 1) × MatchOption (only_loop l.body) ⊥ (λ g. IsBoundOf g.0 e)))
 

@@ -35,8 +35,8 @@ use ped_tree::{Do, Program, Stmt};
 use std::alloc::Global;
 use std::sync::ledger::Ledger;
 
-/// Exchanges the DO with this number and the one DO in its body (Allen and Kennedy, section 5.2; ParaScope). Each other
-/// statement keeps its number.
+/// Exchanges the DO with this number and the only DO in its body (Allen and Kennedy, section 5.2; ParaScope). Each
+/// other statement keeps its number.
 ///
 /// # Errors
 ///

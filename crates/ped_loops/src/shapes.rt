@@ -33,7 +33,7 @@ pub(crate) enum Shape<'a> {
     Turned(&'a Expr),
 }
 
-/// A DO and the one DO in its body, with the shapes of the bounds of that one.
+/// A DO and the only DO in its body, with the shapes of the bounds of that one.
 #[derive(Clone, Copy)]
 pub(crate) struct Pair<'a> {
     /// The outer DO.
@@ -46,7 +46,7 @@ pub(crate) struct Pair<'a> {
     pub(crate) last: Shape<'a>,
 }
 
-/// A DO and the one DO in its body, where the bounds of that one have shapes.
+/// A DO and the only DO in its body, where the bounds of that one have shapes.
 pub(crate) fn pair_of<'a>(outer: &'a Do, inner: &'a Do) -> Option<Pair<'a>>
     ensures { MatchOption result (Spec.isnt_shaped (head_of outer.now) (head_of inner.now) ≡ true) (λ p. (p.outer.now ≡ outer.now) × (p.inner.now ≡ inner.now) × HasShapes p) }
 {

@@ -20,9 +20,9 @@ use ped_tree::Program;
 use std::alloc::Global;
 
 /// Looks for a race of a valid program, whose names these are, on the lines of its data, with the iterations of
-/// PARALLEL DOs in order (Allen and Kennedy, section 2.2.1; this project). Where it answers a race, a PARALLEL DO
+/// PARALLEL DOs in order (Allen and Kennedy, section 2.2.1; this project). Where it reports a race, a PARALLEL DO
 /// carries a dependence of the program from the statement of the earlier access to that of the later (Allen and
-/// Kennedy, section 2.2.5). It answers that there is no race exactly where the program runs without a fault and
+/// Kennedy, section 2.2.5). It reports that there is no race exactly where the program runs without a fault and
 /// without a race; else the first access that races with an earlier one, with the earliest such, their cell
 /// and both statements, or the fault that comes before any race.
 ///

@@ -30,7 +30,7 @@ use ped_tree::{Do, Expr, Program, Stmt};
 use std::alloc::Global;
 use std::sync::ledger::Ledger;
 
-/// Adds a multiple of the variable of the DO with this number to the bounds of the one DO in its body, and takes it
+/// Adds a multiple of the variable of the DO with this number to the bounds of the only DO in its body, and takes it
 /// from the inner variable in the inner body (Allen and Kennedy, section 5.9; ParaScope). Each statement keeps its
 /// number.
 ///

@@ -20,11 +20,11 @@ abbrev pub of_loop : (Head → StmtTrees → Bool) → Option (Head × StmtTrees
 of_loop test None = false
 of_loop test (Some l) = test l.0 l.1
 
--- the test of the one DO in the body of another
+-- the test of the only DO in the body of another
 abbrev pub inner : (Head → StmtTrees → Bool) → StmtTrees → Bool
 inner test body = of_loop test (only_loop body)
 
--- the test of a DO, or of the one DO in its body
+-- the test of a DO, or of the only DO in its body
 abbrev pub either : (Head → StmtTrees → Bool) → Head → StmtTrees → Bool
 either test h body = test h body || inner test body
 

@@ -16,7 +16,7 @@ pub enum Command {
     Calls,
     /// Prints the source lines alone.
     Print,
-    /// Says of each step that needs no more than this statement whether it is refused, and why.
+    /// Reports for each step that needs only this statement whether it is refused, and why.
     Advise(u32),
     /// Puts lines in the place of others.
     Replace {

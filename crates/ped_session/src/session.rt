@@ -164,7 +164,7 @@ impl<L: Ledger> Session<L> {
     /// Answers a command; programs are run on these data. A refused command leaves the session as it was, and so does
     /// running out of memory, which never happens at `undo` and `redo`. An accepted edit or step tests pairs of the new
     /// program, and no other command tests any. The reply and the state after it are those of the command, by the
-    /// one definition of each command. If memory runs out, no more pairs were tested than the command tests.
+    /// only definition of each command. If memory runs out, no more pairs were tested than the command tests.
     ///
     /// `auto` is several steps, and none itself: it is for `ped_auto::auto`, over this session as its editor.
     pub fn apply(

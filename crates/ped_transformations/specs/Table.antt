@@ -1,4 +1,4 @@
--- The one table of the steps: which one each command takes (ParaScope; this project).
+-- The only table of the steps: which one each command takes (ParaScope; this project).
 use Rattle.ped_auto.specs.ped_script.specs.declared.items.Command.{Command}
 use Rattle.ped_auto.specs.ped_script.specs.declared.items.Command.TheVariants.{Interchange, Reverse, Skew, Strip, Peel, Distribute, Fuse, Inline, Expand, Privatise, Reduce, Parallel, Serial, Reject}
 use Rattle.ped_auto.specs.ped_reduce.specs.ped_splits.specs.ped_reindex.specs.ped_loops.specs.ped_scalar.specs.ped_rules.specs.Steps.{MaybeStep, no_step, some_step}

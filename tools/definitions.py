@@ -16,7 +16,7 @@ has that of its file. A source is one of these, or several with `; ` between:
     (this project)                              this project's own
     (plain words)                               plain words about lists and numbers
 
-A file whose first line says `Contracts of private functions alone speak of ..` stands at the end of its layer's page by that line
+A file whose first line says `Only contracts of private functions use ..` comes at the end of its layer's page, as that line
 alone, and needs no sources. No definition outside such files names it, and no definition of another crate; private functions of another
 crate may speak of it.
 
@@ -32,7 +32,7 @@ import sys
 from pages import CRATES, TO_TOP, TOP, Complaints, crate_head, read_layers, to_cell, write_pages
 
 HEAD_PAGE = TOP / "docs" / "DEFINITIONS.md"
-PRIVATE_WORDS = "Contracts of private functions alone speak of"
+PRIVATE_WORDS = "Only contracts of private functions use"
 NAMES_MARK = "<!-- names -->"
 
 SOURCE = re.compile(r"^(.*) \(((?:ANSI X3\.9-1978|Allen and Kennedy|ParaScope|this project|plain words|sections? [0-9])[^()]*)\)(.*)$")

@@ -1,4 +1,4 @@
--- Affine forms as the code keeps them, and the names that they are over. Contracts of private functions alone speak of these definitions.
+-- Affine forms as the code keeps them, and the names that they are over. Only contracts of private functions use these definitions.
 use Rattle.std.specs.Prelude.{◌≡◌, ℕ, ℤ, pos, List, [], ◌∷◌, ◌++◌, map, length, All, Option, option_map}
 use Rattle.ped_views.specs.Limits.{IsSmallConstant, IsSmallCoefficient}
 use Rattle.ped_tree.specs.Nests.{indices_of}

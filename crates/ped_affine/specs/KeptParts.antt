@@ -1,4 +1,4 @@
--- What the code knows of a part of a subscript. Contracts of private functions alone speak of it.
+-- What the code knows of a part of a subscript. Only contracts of private functions use it.
 use Rattle.std.specs.Prelude.{◌≡◌, IfSome}
 use Rattle.ped_tree.specs.Tree.{ExprTree}
 use Rattle.ped_tree.specs.Constants.ConstantExpressions.{constant_value}

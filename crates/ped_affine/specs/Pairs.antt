@@ -1,4 +1,4 @@
--- A pair of places as the code looks at it. Contracts of private functions alone speak of these definitions.
+-- A pair of places as the code looks at it. Only contracts of private functions use these definitions.
 use Rattle.std.specs.Prelude.{◌≡◌, ℕ, ◌+◌, ◌≤◌, All, length}
 use Rattle.ped_views.specs.Limits.{IsSmallConstant, IsSmallCoefficient}
 use Rattle.ped_affine.specs.declared.forms.Form.{Form}

@@ -1,4 +1,4 @@
--- The loops around a bound as the code keeps them, with the ranges found for them. Contracts of private functions alone speak of these definitions.
+-- The loops around a bound as the code keeps them, with the ranges found for them. Only contracts of private functions use these definitions.
 use Rattle.std.specs.Prelude.{List, [], ◌∷◌}
 use Rattle.ped_views.specs.Views.{Range}
 use Rattle.ped_tree.specs.Tree.{Head}

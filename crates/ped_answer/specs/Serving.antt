@@ -1,4 +1,4 @@
--- What a call reads, gives and counts where files are read in order. Contracts of private functions alone speak of it (this project).
+-- What a call reads, gives and counts where files are read in order. Only contracts of private functions use it (this project).
 use Rattle.std.specs.Prelude.{◌≡◌, ◌≢◌, ◌≤◌, ℕ, List, Bool, true, false, Option, Some, None}
 use Rattle.ped_io.specs.Outside.{Contents, IsHeld, Rose}
 use Rattle.ped_io.specs.declared.loading.LoadError.{LoadError}

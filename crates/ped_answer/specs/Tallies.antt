@@ -1,4 +1,4 @@
--- Counts of the code, and what lines of a script add to them. Contracts of private functions alone speak of it (this project).
+-- Counts of the code, and what lines of a script add to them. Only contracts of private functions use it (this project).
 use Rattle.std.specs.Prelude.{◌≡◌, ◌≢◌, ℕ, ◌+◌, List, [], length, Some}
 use Rattle.ped_gen.specs.Generated.{program, script}
 use Rattle.ped_session.specs.ped_tree.specs.Tree.{ProgramTree}

@@ -1,4 +1,4 @@
--- How far the code of the strategy has come. Contracts of private functions alone speak of it (this project).
+-- How far the code of the strategy has come. Only contracts of private functions use it (this project).
 use Rattle.std.specs.Prelude.{◌≡◌, ◌⊎◌, ℕ, ◌+◌, ◌-◌, ◌≤◌, ◌<◌, List, [], ◌∷◌, ◌++◌, length, Bool, true, false, Option, Some, None}
 use Rattle.ped_script.specs.declared.items.Command.{Command}
 use Rattle.ped_script.specs.declared.items.Command.TheVariants.{Parallel}

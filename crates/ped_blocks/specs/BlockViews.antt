@@ -1,4 +1,4 @@
--- What the open blocks of the code stand for. Contracts of private functions alone speak of this.
+-- What the open blocks of the code stand for. Only contracts of private functions use this.
 use Rattle.std.specs.Prelude.{ℕ, List, map, reverse, Bool, false, Some}
 use Rattle.ped_tree.specs.Views.{cond_tree, head_of, stmt_tree, decl_tree}
 use Rattle.ped_tree.specs.Grammar.BlockForms.{has_label}

@@ -1,4 +1,4 @@
--- Comments before the first executable statement, as statements are taken one by one. Contracts of private functions alone speak of this.
+-- Comments before the first executable statement, as statements are taken one by one. Only contracts of private functions use this.
 use Rattle.std.specs.Prelude.{List, [], ◌∷◌, ◌++◌}
 use Rattle.ped_tree.specs.Tree.{StmtTree, DeclTree}
 use Rattle.ped_tree.specs.Grammar.ProgramForms.{front_remarks, behind_front}

@@ -1,4 +1,4 @@
--- What the names of a subroutine stand for, as the code reports. Contracts of private functions alone speak of it.
+-- What the names of a subroutine stand for, as the code reports. Only contracts of private functions use it.
 use Rattle.std.specs.Prelude.{◌≡◌, ◌++◌, ℕ, ℤ, List, drop, Option, is_some, All, if◌then◌else◌}
 use Rattle.ped_tree.specs.Tree.{ExprTree, StmtTree}
 use Rattle.ped_links.specs.ped_valid.specs.ped_symbols.specs.declared.symbols.Kind.{Kind}

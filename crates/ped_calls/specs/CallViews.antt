@@ -1,4 +1,4 @@
--- CALLs as trees have them, by what the code keeps of them. Contracts of private functions alone speak of it.
+-- CALLs as trees have them, by what the code keeps of them. Only contracts of private functions use it.
 use Rattle.std.specs.Prelude.{Bool, true, false}
 use Rattle.ped_tree.specs.Tree.{ExprTree, ExprTrees, Int, Var, Element, Neg, Add, Sub, Mul, Div, Pow, Call, no_exprs}
 

@@ -1,4 +1,4 @@
--- What goes along while CALLs are expanded, as the code keeps it. Contracts of private functions alone speak of it.
+-- What goes along while CALLs are expanded, as the code keeps it. Only contracts of private functions use it.
 use Rattle.std.specs.Prelude.{◌≡◌, ◌≤◌, ◌<◌, ◌+◌, ◌-◌, ◌⊎◌, ℕ, List, [], ◌∷◌, map, drop, length, slice_get, false, Some, None}
 use Rattle.ped_tree.specs.Tree.{ExprTree, StmtTree, StmtTrees, no_stmts}
 use Rattle.ped_tree.specs.Views.{pack_exprs}

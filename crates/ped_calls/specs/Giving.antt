@@ -1,4 +1,4 @@
--- What has been given new names, as the code keeps it. Contracts of private functions alone speak of it.
+-- What has been given new names, as the code keeps it. Only contracts of private functions use it.
 use Rattle.std.specs.Prelude.{◌≡◌, ◌≤◌, ◌<◌, ◌+◌, ℕ, ℤ, true, map, length, unsigned_abs, All, List, [], ◌∷◌, Option, Some, None}
 use Rattle.ped_base.specs.Dimensions.{Dimensions}
 use Rattle.ped_base.specs.Lists.{is_among}

@@ -1,4 +1,4 @@
--- What stands for names, as the code keeps it. Contracts of private functions alone speak of it.
+-- What stands for names, as the code keeps it. Only contracts of private functions use it.
 use Rattle.std.specs.Prelude.{map}
 use Rattle.ped_tree.specs.Tree.{ExprTree, Add, Sub, Mul, Div, Pow, Head}
 use Rattle.ped_tree.specs.Views.{value_tree}

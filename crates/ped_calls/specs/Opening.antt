@@ -1,4 +1,4 @@
--- The result of expanding the first CALLs of a main program, as the code reports it. Contracts of private functions alone speak of it.
+-- The result of expanding the first CALLs of a main program, as the code reports it. Only contracts of private functions use it.
 use Rattle.std.specs.Prelude.{◌≡◌, ◌+◌, ◌++◌, ℕ, List, [], ◌∷◌, Option, Some, None, Bool, true, false, not, ◌||◌, nat_lt}
 use Rattle.ped_tree.specs.Tree.{StmtTree, StmtTrees, Assign, If, Do, Print, Read, Stop, Comment, DeclTree, ProgramTree}
 use Rattle.ped_tree.specs.Views.{program_tree}

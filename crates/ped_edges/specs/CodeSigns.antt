@@ -1,4 +1,4 @@
--- Contracts of private functions alone speak of how the code keeps the signs of a place and the front of a vector (this project).
+-- Only contracts of private functions use how the code keeps the signs of a place and the front of a vector (this project).
 use Rattle.std.specs.Prelude.{◌≡◌, ◌++◌, List, [], ◌∷◌, map, take, if◌then◌else◌}
 use Rattle.ped_views.specs.declared.directions.Direction.{Direction}
 use Rattle.ped_views.specs.declared.directions.Direction.TheVariants.{Before, Same, After}

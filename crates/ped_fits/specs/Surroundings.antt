@@ -1,4 +1,4 @@
--- What the surroundings of the code stand for. Contracts of private functions alone speak of it.
+-- What the surroundings of the code stand for. Only contracts of private functions use it.
 use Rattle.std.specs.Prelude.{◌≡◌, ℕ, ◌+◌, ◌≤◌, List, [], map, length, Bool, true, false, ◌&&◌, Option, MatchOption}
 use Rattle.std.specs.List.{list_all, flat_map}
 use Rattle.std.specs.Borrow.{Bor}

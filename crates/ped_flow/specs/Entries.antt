@@ -1,4 +1,4 @@
--- What is known of each statement of a program, by its number, for the scalars that have places. Contracts of private functions alone speak of these definitions.
+-- What is known of each statement of a program, by its number, for the scalars that have places. Only contracts of private functions use these definitions.
 use Rattle.std.specs.Prelude.{◌≡◌, ℕ, ◌+◌, ◌<◌, ◌≤◌, ◌⊎◌, List, Bool, true, false, Option, Some, None, is_some, slice_index_or}
 use Rattle.ped_tree.specs.Tree.{StmtTree, StmtTrees, Assign, If, Do, Print, Read, Stop, Comment, no_stmts, more_stmts}
 use Rattle.ped_tree.specs.Numbering.{all_numbered, at_place, statement_count, statements_count}

@@ -1,4 +1,4 @@
--- By which read, or by the program's end, a DO isn't contained, variable by variable. Contracts of private functions alone speak of these definitions.
+-- By which read, or by the program's end, a DO isn't contained, variable by variable. Only contracts of private functions use these definitions.
 use Rattle.std.specs.Prelude.{ℕ, ◌+◌, List, [], ◌∷◌, ◌&&◌, ◌||◌, false, Option, None}
 use Rattle.std.specs.List.{flat_map}
 use Rattle.ped_base.specs.Lists.{is_same_text, is_among}

@@ -1,4 +1,4 @@
--- What the code is asked about, and what it keeps. Contracts of private functions alone speak of these definitions.
+-- What the code is asked about, and what it keeps. Only contracts of private functions use these definitions.
 use Rattle.std.specs.Prelude.{ℕ, ◌+◌, List, [], ◌∷◌, map, ◌&&◌, not, Bool, Option, Some, None, true, false, if◌then◌else◌}
 use Rattle.ped_base.specs.Lists.{is_same_text}
 use Rattle.ped_tree.specs.Tree.{StmtTree, StmtTrees, Assign, If, Do, Print, Read, Stop, Comment, no_stmts, more_stmts}

@@ -1,4 +1,4 @@
--- How an entry is made of a part. Contracts of private functions alone speak of this definition.
+-- How an entry is made of a part. Only contracts of private functions use this definition.
 use Rattle.std.specs.Prelude.{◌≡◌, ℕ, false}
 use Rattle.ped_flow.specs.Summaries.{passing}
 use Rattle.ped_flow.specs.RowPlaces.{bit}

@@ -1,4 +1,4 @@
--- What a part of a program does to the scalars that have places. Contracts of private functions alone speak of these definitions.
+-- What a part of a program does to the scalars that have places. Only contracts of private functions use these definitions.
 use Rattle.std.specs.Prelude.{◌≡◌, ℕ, List, [], length, false, not, Option, Some, is_some}
 use Rattle.ped_base.specs.Lists.{is_among}
 use Rattle.ped_flow.specs.Events.{Event}

@@ -1,4 +1,4 @@
--- What is marked in rows. Contracts of private functions alone speak of these definitions.
+-- What is marked in rows. Only contracts of private functions use these definitions.
 use Rattle.std.specs.Prelude.{ℕ, List, [], map}
 use Rattle.ped_tree.specs.Tree.{ExprTree, Int, Var, Element, Neg, Add, Sub, Mul, Div, Pow, Call}
 use Rattle.ped_tree.specs.Accesses.{constant_names}

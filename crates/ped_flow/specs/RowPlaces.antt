@@ -1,4 +1,4 @@
--- The places of scalars in rows of bits. Contracts of private functions alone speak of these definitions.
+-- The places of scalars in rows of bits. Only contracts of private functions use these definitions.
 use Rattle.std.specs.Prelude.{◌≡◌, ℕ, List, length, Bool, false, ◌||◌, Option, Some, position, slice_index_or}
 use Rattle.ped_base.specs.Lists.{is_same_text, is_among}
 

@@ -1,4 +1,4 @@
--- How wide rows are. Contracts of private functions alone speak of this definition.
+-- How wide rows are. Only contracts of private functions use this definition.
 use Rattle.std.specs.Prelude.{◌≡◌, ℕ, List, length, Bool}
 
 -- each of five rows has this many places

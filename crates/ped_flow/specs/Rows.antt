@@ -1,4 +1,4 @@
--- Rows of bits that give for each of many scalars what a summary gives for one. Contracts of private functions alone speak of these definitions.
+-- Rows of bits that give for each of many scalars what a summary gives for one. Only contracts of private functions use these definitions.
 use Rattle.std.specs.Prelude.{◌≡◌, ℕ, not, is_some}
 use Rattle.ped_flow.specs.RowPlaces.{bit}
 use Rattle.ped_flow.specs.declared.summaries.Summary.{Summary}

@@ -1,4 +1,4 @@
--- What the paths of a part of a program do to one scalar, in short. Contracts of private functions and laws alone speak of these definitions (this project).
+-- What the paths of a part of a program do to one scalar, in short. Only contracts of private functions and laws use these definitions (this project).
 use Rattle.std.specs.Prelude.{◌≡◌, ℕ, ◌+◌, min, nat_le, List, [], ◌∷◌, Bool, true, false, ◌&&◌, ◌||◌, ◌==◌, ◌↔◌, IsTrue, Option, Some, None, if◌then◌else◌}
 use Rattle.ped_base.specs.Lists.{is_same_text}
 use Rattle.ped_tree.specs.Tree.{Head, StmtTree, StmtTrees, Assign, If, Do, Print, Read, Stop, Comment, no_stmts, more_stmts}

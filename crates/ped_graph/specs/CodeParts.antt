@@ -1,4 +1,4 @@
--- How kept verdicts are exchanged. Contracts of private functions alone speak of this definition (this project).
+-- How kept verdicts are exchanged. Only contracts of private functions use this definition (this project).
 use Rattle.std.specs.Prelude.{List, [], ◌∷◌, Option, None, slice_set, slice_index_or}
 use Rattle.ped_views.specs.Views.{View}
 use Rattle.ped_graph.specs.declared.parts.Kept.{Kept}

@@ -1,4 +1,4 @@
--- Contracts of private functions alone speak of the dependences of the pairs that a graph holds (this project).
+-- Only contracts of private functions use the dependences of the pairs that a graph holds (this project).
 use Rattle.std.specs.Prelude.{◌≡◌, ℕ, ◌≤◌, List, [], ◌∷◌, ◌++◌, length, filter, Some}
 use Rattle.std.specs.List.{flat_map, range_with_len}
 use Rattle.ped_views.specs.declared.directions.Direction.{Direction}

@@ -1,4 +1,4 @@
--- Contracts of private functions alone speak of which statements are there and how dependences are selected, by what a graph holds of statements (this project).
+-- Only contracts of private functions use which statements are there and how dependences are selected, by what a graph holds of statements (this project).
 use Rattle.std.specs.Prelude.{ℕ, ◌-◌, List, length, slice_index_or, nat_lt, Bool, false, ◌&&◌, ◌||◌, ◌==◌, if◌then◌else◌}
 use Rattle.ped_edges.specs.Edges.{Edge}
 use Rattle.ped_graph.specs.DependencePane.{is_in, is_level, is_in_body}

@@ -1,4 +1,4 @@
--- The names that are looked up as named constants (ANSI X3.9-1978, section 8.6). Contracts of private functions alone speak of it.
+-- The names that are looked up as named constants (ANSI X3.9-1978, section 8.6). Only contracts of private functions use it.
 use Rattle.std.specs.Prelude.{ℕ, List, map}
 use Rattle.ped_tree.specs.Accesses.{constant_names}
 use Rattle.ped_tree.specs.Views.{decl_tree}

@@ -1,4 +1,4 @@
--- What is still to come from a text that has been read up to a line. Contracts of private functions alone speak of it.
+-- What is still to come from a text that has been read up to a line. Only contracts of private functions use it.
 use Rattle.std.specs.Prelude.{◌≡◌, ℕ, ◌+◌, List, [], ◌∷◌, ◌++◌, Option, Some, None, map}
 use Rattle.ped_tree.specs.Grammar.Statement as whole
 use Rattle.ped_tree.specs.Grammar.Statement.{Note}

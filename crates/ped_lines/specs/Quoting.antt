@@ -1,4 +1,4 @@
--- The place of a statement's next character relative to its constants. Contracts of private functions alone speak of it.
+-- The place of a statement's next character relative to its constants. Only contracts of private functions use it.
 use Rattle.std.specs.Prelude.{ℕ, List, [], ◌∷◌, ◌++◌, Bool, true, false, if◌then◌else◌}
 use Rattle.ped_tree.specs.Grammar.Characters.{is_quoted, ends_apart}
 use Rattle.ped_lines.specs.declared.characters.Quoting.{Quoting}

@@ -1,4 +1,4 @@
--- Dummy arguments by numbers, and how they are used, as the code looks at the arguments of CALLs. Contracts of private functions alone speak of it.
+-- Dummy arguments by numbers, and how they are used, as the code looks at the arguments of CALLs. Only contracts of private functions use it.
 use Rattle.std.specs.Prelude.{◌≡◌, ◌<◌, ◌↔◌, ◌⊎◌, ℕ, zero, suc, ◌+◌, List, [], ◌∷◌, ◌++◌, length, take, map, Bool, true, false, Option, Some, None, IsTrue}
 use Rattle.std.specs.List.{flat_map}
 use Rattle.std.specs.declared.hash.FoldHasher.{FoldHasher}

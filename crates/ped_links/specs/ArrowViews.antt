@@ -1,4 +1,4 @@
--- Arrows of the code as lists of numbers. Contracts of private functions alone speak of it.
+-- Arrows of the code as lists of numbers. Only contracts of private functions use it.
 use Rattle.std.specs.Prelude.{ℕ, List}
 use Rattle.ped_links.specs.Reaching.{ends_in}
 use Rattle.ped_links.specs.declared.reaching.Arrows.{Arrows}

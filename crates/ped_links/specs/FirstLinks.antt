@@ -1,4 +1,4 @@
--- The first of the refusals by CALLs, as the code finds it. Contracts of private functions alone speak of it.
+-- The first of the refusals by CALLs, as the code finds it. Only contracts of private functions use it.
 use Rattle.std.specs.Prelude.{◌≡◌, ℕ, Option, Some, None, Bool, true, false, ◌&&◌, ◌||◌, ◌==◌, nat_lt, ◌⊎◌, if◌then◌else◌}
 use Rattle.ped_units.specs.Linking.{LinkRefusal, is_before}
 use Rattle.ped_units.specs.Verdicts.{number_of_rule, of_links}

@@ -1,4 +1,4 @@
--- What is refused at the CALLs of units and before them, as the code looks at it. Contracts of private functions alone speak of it.
+-- What is refused at the CALLs of units and before them, as the code looks at it. Only contracts of private functions use it.
 use Rattle.std.specs.Prelude.{◌≡◌, ◌<◌, ℕ, List, [], true, Option, Some, None}
 use Rattle.ped_units.specs.Units.{ProgramUnit, ProgramUnits, all_units}
 use Rattle.ped_units.specs.Linking.{IsIn, LinkRefusal, NoUnit, Arguments, CallPlace}

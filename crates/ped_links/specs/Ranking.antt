@@ -1,4 +1,4 @@
--- Ranks that rise along arrows. Contracts of private functions alone speak of it.
+-- Ranks that rise along arrows. Only contracts of private functions use it.
 use Rattle.std.specs.Prelude.{◌<◌, ℕ, List, [], ◌∷◌, get_or}
 use Rattle.ped_links.specs.Reaching.{Leads}
 

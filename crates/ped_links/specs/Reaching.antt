@@ -1,4 +1,4 @@
--- What arrows between numbers lead to. Contracts of private functions alone speak of it.
+-- What arrows between numbers lead to. Only contracts of private functions use it.
 use Rattle.std.specs.Prelude.{◌≡◌, ◌<◌, ◌+◌, ◌⊎◌, ℕ, List, [], ◌∷◌, length, get_or, map, Bool, false, true, Option, Some, None}
 use Rattle.std.specs.Global.{Vec}
 use Rattle.ped_units.specs.Linking.{IsIn}

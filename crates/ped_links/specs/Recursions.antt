@@ -1,4 +1,4 @@
--- CALLs that lead back, by the numbers of units. Contracts of private functions alone speak of it.
+-- CALLs that lead back, by the numbers of units. Only contracts of private functions use it.
 use Rattle.std.specs.Prelude.{◌≡◌, ◌⊎◌, ℕ, List, [], ◌∷◌, map, Bool, true, Option, Some, None}
 use Rattle.ped_units.specs.Units.{ProgramUnit, ProgramUnits, all_units}
 use Rattle.ped_units.specs.Linking.{IsIn, calls_of, Recursion}

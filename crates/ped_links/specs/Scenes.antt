@@ -1,4 +1,4 @@
--- The units of a file with what is known of them, as the code looks at their CALLs. Contracts of private functions alone speak of it.
+-- The units of a file with what is known of them, as the code looks at their CALLs. Only contracts of private functions use it.
 use Rattle.std.specs.Prelude.{◌≡◌, ◌<◌, ℕ, List, [], ◌∷◌, length, map, get_or, Bool, Some}
 use Rattle.ped_units.specs.ped_valid.specs.ped_symbols.specs.Sites.{program_sites}
 use Rattle.ped_units.specs.Units.{ProgramUnit, ProgramUnits, all_units}

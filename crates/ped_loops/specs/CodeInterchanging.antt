@@ -1,4 +1,4 @@
--- How far the code of `interchange` has come, and the loops that it makes. Contracts of private functions alone speak of it (this project).
+-- How far the code of `interchange` has come, and the loops that it makes. Only contracts of private functions use it (this project).
 use Rattle.std.specs.Prelude.{◌≤◌, ℕ}
 use Rattle.ped_tree.specs.Tree.{Head, StmtTree, StmtTrees, Assign, If, Do, Print, Read, Stop, Comment, no_stmts, more_stmts}
 use Rattle.ped_scalar.specs.ped_rules.specs.ped_loop_runs.specs.ped_bodies.specs.ped_steps.specs.declared.rules.Rule.{Rule}

@@ -1,4 +1,4 @@
--- The place of a bound, as the code has it. Contracts of private functions alone speak of it (this project).
+-- The place of a bound, as the code has it. Only contracts of private functions use it (this project).
 use Rattle.std.specs.Prelude.{◌≡◌, ℕ, ◌+◌, ◌<◌, ◌^◌, List, [], Bool, true, false, None}
 use Rattle.ped_base.specs.Lists.{is_among}
 use Rattle.ped_tree.specs.Tree.{ExprTree, Head, ProgramTree}

@@ -1,4 +1,4 @@
--- Shapes of bounds, and the heads of two loops that change places, as the code has them. Contracts of private functions alone speak of it (this project).
+-- Shapes of bounds, and the heads of two loops that change places, as the code has them. Only contracts of private functions use it (this project).
 use Rattle.std.specs.Prelude.{◌≡◌, Some}
 use Rattle.ped_tree.specs.Tree.{Head}
 use Rattle.ped_tree.specs.Views.{expr_tree, head_of}

@@ -1,4 +1,4 @@
--- What is read of the statements of a text. Contracts of private functions alone speak of it.
+-- What is read of the statements of a text. Only contracts of private functions use it.
 use Rattle.std.specs.Prelude.{◌≡◌, List, map}
 use Rattle.ped_tree.specs.Grammar.Statement.{Statement}
 use Rattle.ped_tree.specs.Grammar.Items.{Entry}

@@ -1,4 +1,4 @@
--- The printed lines that lines of the code stand for. Contracts of private functions alone speak of it.
+-- The printed lines that lines of the code stand for. Only contracts of private functions use it.
 use Rattle.std.specs.Prelude.{ℕ, List, ◌∷◌, ◌++◌, Option}
 use Rattle.ped_tree.specs.Printing as plain
 use Rattle.ped_tree.specs.Printing.{blanks, piece, continuation_lines}

@@ -1,4 +1,4 @@
--- The places where a condition may occur, as the definitions of printing name them. Contracts of private functions alone speak of it.
+-- The places where a condition may occur, as the definitions of printing name them. Only contracts of private functions use it.
 use Rattle.std.specs.Prelude.{Bool, false}
 use Rattle.ped_tree.specs.Tree.{CondTree, Rel, Not, And, Or}
 use Rattle.ped_tree.specs.Printing as plain

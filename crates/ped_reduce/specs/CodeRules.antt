@@ -1,4 +1,4 @@
--- The rules against sums, as the code finds the first of them. Contracts of private functions alone speak of it (this project).
+-- The rules against sums, as the code finds the first of them. Only contracts of private functions use it (this project).
 use Rattle.std.specs.Prelude.{ℕ, List, Option, Some, None}
 use Rattle.ped_tree.specs.Tree.{ProgramTree}
 use Rattle.ped_splits.specs.ped_reindex.specs.ped_loops.specs.ped_scalar.specs.ped_rules.specs.ped_loop_runs.specs.ped_bodies.specs.ped_steps.specs.declared.rules.Rule.TheVariants.{Range, NotScalar, NotConstant, AlreadyPrivate, NotSum}

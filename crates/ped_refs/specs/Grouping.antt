@@ -1,4 +1,4 @@
--- How pairs are found by groups of references that can pair with each other. Contracts of private functions alone speak of these definitions.
+-- How pairs are found by groups of references that can pair with each other. Only contracts of private functions use these definitions.
 use Rattle.std.specs.Prelude.{◌≡◌, ℕ, suc, List, [], ◌∷◌, ◌++◌, map, Bool, false, ◌&&◌, Option, Some, None, if◌then◌else◌}
 use Rattle.std.specs.declared.hash.FoldHasher.{FoldHasher}
 use Rattle.std.specs.declared.hash.BuildHasherDefault.{BuildHasherDefault}

@@ -1,4 +1,4 @@
--- Groups of references that can pair with each other: those of one name in DO loops with one outermost DO. Contracts of private functions alone speak of these definitions.
+-- Groups of references that can pair with each other: those of one name in DO loops with one outermost DO. Only contracts of private functions use these definitions.
 use Rattle.std.specs.Prelude.{ℕ, List, [], ◌∷◌, Bool, true, false, ◌==◌, ◌&&◌, Option, Some, None}
 use Rattle.ped_base.specs.Lists.{is_same_text}
 use Rattle.ped_tree.specs.Nests.{Loop}

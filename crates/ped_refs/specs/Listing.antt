@@ -1,4 +1,4 @@
--- What the code keeps while it lists references. Contracts of private functions alone speak of these definitions.
+-- What the code keeps while it lists references. Only contracts of private functions use these definitions.
 use Rattle.std.specs.Prelude.{ℕ, List, map}
 use Rattle.ped_tree.specs.Views.{expr_tree}
 use Rattle.ped_tree.specs.Tree.{StmtTree}

@@ -1,4 +1,4 @@
--- How pairs of references are counted by groups of references that can pair with each other. Contracts of private functions alone speak of these definitions.
+-- How pairs of references are counted by groups of references that can pair with each other. Only contracts of private functions use these definitions.
 use Rattle.std.specs.Prelude.{◌≡◌, ℕ, ◌+◌, ◌*◌, List, [], ◌∷◌, map, take, Bool, false, ◌==◌, ◌&&◌, not, count_by, unwrap_or, if◌then◌else◌}
 use Rattle.std.specs.declared.hash.FoldHasher.{FoldHasher}
 use Rattle.std.specs.declared.hash.BuildHasherDefault.{BuildHasherDefault}

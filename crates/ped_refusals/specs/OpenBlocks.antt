@@ -1,4 +1,4 @@
--- What the code keeps of the statements before one, as a plain context. Contracts of private functions alone speak of it.
+-- What the code keeps of the statements before one, as a plain context. Only contracts of private functions use it.
 use Rattle.std.specs.Prelude.{List, [], ◌∷◌}
 use Rattle.ped_tree.specs.Grammar.Contexts as plain
 use Rattle.ped_tree.specs.Grammar.Contexts.{in_then, in_else, in_do}

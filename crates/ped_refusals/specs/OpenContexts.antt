@@ -1,4 +1,4 @@
--- What the code keeps of the statements before one, as a plain context. Contracts of private functions alone speak of it.
+-- What the code keeps of the statements before one, as a plain context. Only contracts of private functions use it.
 use Rattle.std.specs.Prelude.{◌≡◌, ℕ, List}
 use Rattle.ped_print.specs.Lengths.{limited}
 use Rattle.ped_base.specs.Lists.{is_among}

@@ -1,4 +1,4 @@
--- Comments before the first executable statement, as statements are taken one by one. Contracts of private functions alone speak of it (this project).
+-- Comments before the first executable statement, as statements are taken one by one. Only contracts of private functions use it (this project).
 use Rattle.std.specs.Prelude.{List, ◌++◌}
 use Rattle.ped_tree.specs.Tree.{StmtTrees, no_stmts, more_stmts, DeclTree}
 use Rattle.ped_loops.specs.ped_scalar.specs.ped_rules.specs.ped_loop_runs.specs.ped_bodies.specs.ped_steps.specs.Replacing.{followed}

@@ -1,4 +1,4 @@
--- The statements that the code of `skew` makes. Contracts of private functions alone speak of it (this project).
+-- The statements that the code of `skew` makes. Only contracts of private functions use it (this project).
 use Rattle.std.specs.Prelude.{ℕ, ℤ, List}
 use Rattle.ped_tree.specs.Tree.{StmtTree, StmtTrees, Assign, If, Do, Print, Read, Stop, Comment, no_stmts, more_stmts}
 use Rattle.ped_reindex.specs.Skewing.{skewed_loop}

@@ -1,4 +1,4 @@
--- The dependences that the code finds. Contracts of private functions alone speak of it (this project).
+-- The dependences that the code finds. Only contracts of private functions use it (this project).
 use Rattle.std.specs.Prelude.{◌≡◌, List, map, filter, Bool, All}
 use Rattle.ped_tree.specs.Tree.{ProgramTree}
 use Rattle.ped_loop_runs.specs.ped_bodies.specs.ped_steps.specs.ped_laws.specs.ped_graph.specs.ped_edges.specs.Edges.{Edge}

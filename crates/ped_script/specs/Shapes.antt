@@ -1,4 +1,4 @@
--- The commands by the number of their words. Contracts of private functions alone speak of it.
+-- The commands by the number of their words. Only contracts of private functions use it.
 use Rattle.std.specs.Prelude.{ℕ, pos, [], true, false, codes, Option, Some, None, option_map, if◌then◌else◌}
 use Rattle.ped_base.specs.Lists.{is_same_text}
 use Rattle.ped_script.specs.Words.{Text, number_of, factor_of, name_of}

@@ -1,4 +1,4 @@
--- What answers add to those before them. Contracts of private functions alone speak of it (this project).
+-- What answers add to those before them. Only contracts of private functions use it (this project).
 use Rattle.std.specs.Prelude.{◌≡◌, ◌++◌, ◌+◌, ℕ, ◌||◌}
 use Rattle.ped_session.specs.declared.answers.Answered.{Answered}
 use Rattle.ped_session.specs.Scripts.{Said}

@@ -1,4 +1,4 @@
--- Accepted changes and answers of steps, as the code has them. Contracts of private functions alone speak of it (this project).
+-- Accepted changes and answers of steps, as the code has them. Only contracts of private functions use it (this project).
 use Rattle.std.specs.Prelude.{◌≡◌, ℕ, List, Some, None, Result, Ok, Err}
 use Rattle.ped_session.specs.ped_tree.specs.Tree.{ProgramTree}
 use Rattle.ped_session.specs.ped_tree.specs.Printing.{program_text}

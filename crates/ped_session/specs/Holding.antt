@@ -1,4 +1,4 @@
--- What a session holds of its programs. Contracts of private functions alone speak of it (this project).
+-- What a session holds of its programs. Only contracts of private functions use it (this project).
 use Rattle.std.specs.Prelude.{◌≡◌, List, [], ◌∷◌, map}
 use Rattle.ped_session.specs.ped_tree.specs.Tree.{ProgramTree}
 use Rattle.ped_session.specs.ped_tree.specs.Views.{program_tree}

@@ -1,4 +1,4 @@
--- How the code finds out whether two DO loops are alike. Contracts of private functions and lemmas alone speak of it (this project).
+-- How the code finds out whether two DO loops are alike. Only contracts of private functions and lemmas use it (this project).
 use Rattle.std.specs.Prelude.{ℕ, ◌==◌, List, [], Bool, true, false, not, ◌&&◌, ◌||◌}
 use Rattle.ped_base.specs.Lists.{is_same_text, is_among}
 use Rattle.ped_tree.specs.Tree.{ExprTree, ExprTrees, Int, Var, Element, Neg, Add, Sub, Mul, Div, Pow, Call, no_exprs, more_exprs, Head, StmtTrees}

@@ -1,4 +1,4 @@
--- How the code of `fuse` keeps what it asks of two DO loops and of the one that they would become. Contracts of private functions and lemmas alone speak of it (this project).
+-- How the code of `fuse` keeps what it asks of two DO loops and of the one that they would become. Only contracts of private functions and lemmas use it (this project).
 use Rattle.std.specs.Prelude.{◌≡◌, ◌<◌, ◌⊎◌, ℕ, ◌+◌, nat_le, nat_lt, List, filter, Bool, true, false, not, ◌&&◌, All, Option, Some, None, if◌then◌else◌}
 use Rattle.ped_tree.specs.Tree.{Head, ProgramTree}
 use Rattle.ped_tree.specs.Numbering.{statements_count}

@@ -1,4 +1,4 @@
--- How the code keeps two DO loops that follow one another, and puts one in their place. Contracts of private functions and lemmas alone speak of it (this project).
+-- How the code keeps two DO loops that follow one another, and puts one in their place. Only contracts of private functions and lemmas use it (this project).
 use Rattle.std.specs.Prelude.{◌≡◌, ℕ, ◌+◌, ◌==◌, nat_lt, Bool, not, ◌&&◌, Option, Some, None, if◌then◌else◌}
 use Rattle.ped_tree.specs.Tree.{Head, StmtTree, StmtTrees, Assign, If, Do, Print, Read, Stop, Comment, no_stmts, more_stmts, ProgramTree}
 use Rattle.ped_tree.specs.Numbering.{statement_count, statements_count}

@@ -1,4 +1,4 @@
--- How the code keeps units and what is known of the DO that is taken apart. Contracts of private functions and lemmas alone speak of it (this project).
+-- How the code keeps units and what is known of the DO that is taken apart. Only contracts of private functions and lemmas use it (this project).
 use Rattle.std.specs.Prelude.{◌≡◌, ◌<◌, ◌^◌, ℕ, ◌+◌, ◌-◌, nat_lt, List, map, length, slice_get, slice_index_or, Bool, false, not, ◌&&◌, All, Option, Some, None, if◌then◌else◌}
 use Rattle.std.specs.List.{list_any, count_by}
 use Rattle.ped_base.specs.Lists.{is_same_text}

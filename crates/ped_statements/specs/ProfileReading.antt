@@ -1,4 +1,4 @@
--- Reading the text of a statement that the profile leaves out. Contracts of private functions alone speak of it.
+-- Reading the text of a statement that the profile leaves out. Only contracts of private functions use it.
 use Rattle.std.specs.Prelude.{ℕ, ◌+◌, ◌-◌, List, [], ◌∷◌, codes, Option, Some, None, Bool, true, false, not, ◌||◌, ◌==◌, if◌then◌else◌}
 use Rattle.std.specs.List.{list_any}
 use Rattle.ped_base.specs.Letters.{is_digit}

@@ -1,4 +1,4 @@
--- What the values of the readers of statements stand for. Contracts of private functions alone speak of it.
+-- What the values of the readers of statements stand for. Only contracts of private functions use it.
 use Rattle.std.specs.Prelude.{ℕ, List, Option, Some, None, Bool, map}
 use Rattle.std.specs.Borrow.{Bor}
 use Rattle.std.specs.Global.{Vec}

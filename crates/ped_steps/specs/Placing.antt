@@ -1,4 +1,4 @@
--- New statements in their place, as the code has it. Contracts of private functions alone speak of it (this project).
+-- New statements in their place, as the code has it. Only contracts of private functions use it (this project).
 use Rattle.std.specs.Prelude.{ℕ}
 use Rattle.ped_tree.specs.Tree.{StmtTree, StmtTrees}
 use Rattle.ped_tree.specs.Views.{stmt_trees}

@@ -1,4 +1,4 @@
--- What both passes over a program have found. Contracts of private functions alone speak of it.
+-- What both passes over a program have found. Only contracts of private functions use it.
 use Rattle.std.specs.Prelude.{◌≡◌, ℕ, List, [], ◌++◌, map, Option}
 use Rattle.ped_tree.specs.Tree.{ProgramTree}
 use Rattle.ped_tree.specs.Grammar.Refusal.{first_of}

@@ -1,4 +1,4 @@
--- What the passes over a program have found on their way. Contracts of private functions alone speak of it.
+-- What the passes over a program have found on their way. Only contracts of private functions use it.
 use Rattle.std.specs.Prelude.{◌≡◌, ℕ, ◌+◌, ◌-◌, ◌^◌, min, List, [], ◌∷◌, ◌++◌, map, drop, ◌||◌, Bool, false, nat_le, Option, Some, None}
 use Rattle.std.specs.List.{list_any}
 use Rattle.ped_base.specs.Lists.{is_among}

@@ -1,4 +1,4 @@
--- What is read of the statements of a file, and units as their statements are read. Contracts of private functions alone speak of it.
+-- What is read of the statements of a file, and units as their statements are read. Only contracts of private functions use it.
 use Rattle.std.specs.Prelude.{◌≡◌, ℕ, List, [], ◌∷◌, ◌++◌, map, Option, Some, None, Bool}
 use Rattle.ped_tree.specs.Grammar.Statement.{Statement, Statements}
 use Rattle.ped_tree.specs.Grammar.Items.{Entry}

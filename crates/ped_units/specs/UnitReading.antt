@@ -1,4 +1,4 @@
--- Reading the text of a CALL, of a SUBROUTINE statement and of RETURN from left to right. Contracts of private functions alone speak of it.
+-- Reading the text of a CALL, of a SUBROUTINE statement and of RETURN from left to right. Only contracts of private functions use it.
 use Rattle.std.specs.Prelude.{◌≡◌, ℕ, List, [], codes, Option, Some, None, if◌then◌else◌}
 use Rattle.ped_base.specs.Lists.{is_same_text}
 use Rattle.ped_tree.specs.Tree.{ExprTree}

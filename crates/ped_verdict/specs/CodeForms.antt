@@ -1,4 +1,4 @@
--- How the code keeps forms of subscript pairs. Contracts of private functions alone speak of it.
+-- How the code keeps forms of subscript pairs. Only contracts of private functions use it.
 use Rattle.std.specs.Prelude.{◌≡◌, ◌⊎◌, ℕ, ◌<◌, ℤ, pos, neg_ℤ, false, ◌&&◌, IsTrue}
 use Rattle.ped_views.specs.Views.{SubscriptPair}
 use Rattle.ped_views.specs.Forms.{Occurrence, Form, ziv, strong_siv, weak_zero_siv, weak_crossing_siv, other_form, form_of, is_strong_in}

@@ -1,4 +1,4 @@
--- When a position has been asked about the vectors that begin with a front. Contracts of private functions alone speak of it.
+-- When a position has been asked about the vectors that begin with a front. Only contracts of private functions use it.
 use Rattle.std.specs.Prelude.{◌≡◌, ◌⊎◌, ℕ, ◌-◌, ◌<◌, List, [], ◌∷◌, ◌++◌, length, drop, Some, slice_get, Bool, ◌&&◌, IsTrue}
 use Rattle.std.specs.List.{list_all}
 use Rattle.ped_views.specs.declared.directions.Direction.{Direction}

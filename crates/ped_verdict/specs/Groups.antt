@@ -1,4 +1,4 @@
--- How the code keeps the groups of a view. Contracts of private functions alone speak of it.
+-- How the code keeps the groups of a view. Only contracts of private functions use it.
 use Rattle.std.specs.Prelude.{◌≡◌, ℕ, List, length, Some, slice_get}
 use Rattle.std.specs.Global.{Vec}
 use Rattle.ped_views.specs.declared.strong_rows.StrongRow.{StrongRow}

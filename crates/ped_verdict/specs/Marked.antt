@@ -1,4 +1,4 @@
--- How the possible vectors of a view are marked in a row of 3^n places. Contracts of private functions alone speak of it.
+-- How the possible vectors of a view are marked in a row of 3^n places. Only contracts of private functions use it.
 use Rattle.std.specs.Prelude.{◌≡◌, ◌⊎◌, ◌↔◌, ℕ, ◌+◌, ◌*◌, ◌^◌, ◌≤◌, List, [], ◌∷◌, ◌++◌, length, Bool}
 use Rattle.ped_views.specs.declared.directions.Direction.{Direction}
 use Rattle.ped_views.specs.declared.directions.Direction.TheVariants.{Before, Same, After}

@@ -1,4 +1,4 @@
--- What holds of each parse that succeeds, and what an error of one means. Contracts of private functions alone speak of it.
+-- What holds of each parse that succeeds, and what an error of one means. Only contracts of private functions use it.
 use Rattle.std.specs.Prelude.{◌≡◌, ◌≢◌, pos, [], true, false, is_some, Some}
 use Rattle.clap.specs.Built.{IsPlainArg, TakesValue}
 use Rattle.clap.specs.Values.{IsSignedIn}

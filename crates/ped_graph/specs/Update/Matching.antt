@@ -1,4 +1,4 @@
--- How the code matches the pairs of a changed program with those that a graph holds. Contracts of private functions alone speak of these definitions (this project).
+-- How the code matches the pairs of a changed program with those that a graph holds. Only contracts of private functions use these definitions (this project).
 use Rattle.std.specs.Prelude.{ℕ, suc, List, [], ◌∷◌, ◌++◌, map, ◌≡◌, length, nat_eq, slice_get, Bool, cond, ◌==◌, Option, Some, None, if◌then◌else◌}
 use Rattle.std.specs.Option.{option_or}
 use Rattle.indexmap.specs.IndexMap.{IndexMap, get}

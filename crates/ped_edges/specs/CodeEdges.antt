@@ -33,6 +33,6 @@ edge_of e = record {
   mark = mark_of e.mark;
 }
 
--- at most six loops stand round both references (this project)
+-- at most six loops enclose both references (this project)
 abbrev pub HasAtMostSixLoops : Edge → Type 0
 HasAtMostSixLoops e = length e.distances.items ≤ 6

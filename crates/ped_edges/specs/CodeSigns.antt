@@ -17,7 +17,7 @@ signs_of s =
 abbrev pub front_of : Front → List Direction
 front_of f = take f.len f.directions
 
--- all vectors that begin with the front and go on with one of the signs of each further place (Allen and Kennedy, section 2.2.4)
+-- all vectors that begin with the front and continue with one of the signs of each further place (Allen and Kennedy, section 2.2.4)
 abbrev pub begun_with : List Direction → List (List Direction) → List (List Direction)
 begun_with front places = map (λ v. front ++ v) (product places)
 

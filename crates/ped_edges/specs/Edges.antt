@@ -8,7 +8,7 @@ pub data Kind : Type 0 where
   anti : Kind
   output : Kind
 
--- the tests leave no doubt, the tests don't tell, the user has said that it isn't there (ParaScope)
+-- the tests leave no doubt, the tests don't decide, the user has said that it isn't there (ParaScope)
 pub data Mark : Type 0 where
   proven : Mark
   pending : Mark

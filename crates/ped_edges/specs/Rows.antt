@@ -79,7 +79,7 @@ signs_text signs =
 abbrev pub vector_text : List (List Direction) → List ℕ
 vector_text places = codes "(" ++ join_by signs_text (codes ",") places ++ codes ")"
 
--- vectors over n loops: one vector where they are a product, else one behind the other (this project)
+-- vectors over n loops: one vector where they are a product, else one after the other (this project)
 abbrev pub vectors_text : ℕ → List (List Direction) → List ℕ
 vectors_text n vectors =
     if is_product n vectors then vector_text (all_signs n vectors)

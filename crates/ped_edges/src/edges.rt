@@ -54,7 +54,7 @@ pub struct Edge {
     pub kind: Kind,
     /// The level of the loop that carries it, 1 for the outermost, and none where it is independent of loops.
     pub level: Option<u8>,
-    /// The direction vectors that it may have over the loops round both references, in the order `<`, `=`, `>`.
+    /// The direction vectors that it may have over the loops around both references, in the order `<`, `=`, `>`.
     pub vectors: Vec<Vector>,
     /// The distance in iterations of each of these loops, none where it is unknown.
     pub distances: Vec<Option<i128>>,

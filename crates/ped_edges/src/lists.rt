@@ -5,7 +5,7 @@ ghost use Rattle.std.specs.List.{flat_map, join_by};
 
 use ped_base::{Bytes, NoMemory};
 
-/// What stands between two commas.
+/// What is between two commas.
 pub(crate) trait Shown {
     ghost text: { Self → List ℕ };
 
@@ -36,7 +36,7 @@ fn push_joined<T: Shown>(out: &mut Bytes, items: &[T]) -> Result<(), NoMemory>
     }
 }
 
-/// Adds the items, each behind a comma.
+/// Adds the items, each after a comma.
 fn push_further<T: Shown>(out: &mut Bytes, items: &[T]) -> Result<(), NoMemory>
     ensures { OnOk result (out.new ≡ out.old ++ flat_map (λ item. codes "," ++ T.text item) items.now) }
 {

@@ -19,7 +19,7 @@ pub fn edges_pane(alloc: Global, edges: &[Edge]) -> Result<Bytes, NoMemory>
     Ok(pane)
 }
 
-/// Adds the dependence pane of these dependences. After want of memory the text ends somewhere in the pane.
+/// Adds the dependence pane of these dependences. If memory runs out, the text ends somewhere in the pane.
 pub fn push_edges_pane(out: &mut Bytes, edges: &[Edge]) -> Result<(), NoMemory>
     requires { All HasAtMostSixLoops edges.now }
     ensures { OnOk result (out.new ≡ out.old ++ shown.edges_pane (map edge_of edges.now)) }

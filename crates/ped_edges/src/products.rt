@@ -53,8 +53,8 @@ pub(crate) fn are_product(places: &[Signs], vectors: &[Vector]) -> bool
     }
 }
 
-/// The vectors behind those that begin with the front and go on with one of the signs of each place; none where
-/// these don't stand first.
+/// The vectors after those that begin with the front and continue with one of the signs of each place; none where
+/// these don't come first.
 #[cycle(strip)]
 fn strip_product<'a>(front: Front, places: &[Signs], vectors: &'a [Vector]) -> Option<&'a [Vector]>
     requires { front.len + length places.now ≤ 6 }
@@ -74,7 +74,7 @@ fn strip_product<'a>(front: Front, places: &[Signs], vectors: &'a [Vector]) -> O
     strip_where(first.after, front.with(Direction::After), further, rest)
 }
 
-/// The vectors behind such a product where its sign stands at all, else all vectors.
+/// The vectors after such a product where its sign occurs at all, else all vectors.
 #[cycle(strip)]
 fn strip_where<'a>(
     stands: bool,
@@ -93,7 +93,7 @@ fn strip_where<'a>(
     }
 }
 
-/// The vectors behind the one that is the whole front; none where another or none stands first.
+/// The vectors after the one that is the whole front; none where another or none comes first.
 fn strip_vector<'a>(front: &Front, vectors: &'a [Vector]) -> Option<&'a [Vector]>
     requires { front.now.len ≤ 6 }
     ensures { let these = front_of front.now ∷ [] in

@@ -24,7 +24,7 @@ impl Edge {
         Ok(row)
     }
 
-    /// Adds the row. After want of memory the text ends somewhere in the row.
+    /// Adds the row. If memory runs out, the text ends somewhere in the row.
     pub fn push_row(&self, out: &mut Bytes) -> Result<(), NoMemory>
         requires { HasAtMostSixLoops self.now }
         ensures { OnOk result (out.new ≡ out.old ++ shown.edge_row (edge_of self.now)) }
@@ -66,7 +66,7 @@ fn push_name(out: &mut Bytes, name: &RefName) -> Result<(), NoMemory>
     }
 }
 
-/// Adds the word for the kind of a dependence. After want of memory the text ends somewhere in the word.
+/// Adds the word for the kind of a dependence. If memory runs out, the text ends somewhere in the word.
 pub fn push_kind(out: &mut Bytes, kind: Kind) -> Result<(), NoMemory>
     ensures { OnOk result (out.new ≡ out.old ++ shown.kind_text (kind_of kind)) }
 {
@@ -77,7 +77,7 @@ pub fn push_kind(out: &mut Bytes, kind: Kind) -> Result<(), NoMemory>
     }
 }
 
-/// Adds the level of the loop that carries a dependence, and a dash where none does. After want of memory the text ends
+/// Adds the level of the loop that carries a dependence, and a dash where none does. If memory runs out, the text ends
 /// somewhere in the level.
 pub fn push_level(out: &mut Bytes, level: Option<u8>) -> Result<(), NoMemory>
     ensures { OnOk result (out.new ≡ out.old ++ shown.level_text level) }

@@ -11,7 +11,7 @@ use ped_base::{Bytes, NoMemory};
 use ped_verdict::Vector;
 use ped_views::Direction;
 
-/// Which of the three signs stand at a place (Allen and Kennedy, section 2.2.4).
+/// Which of the three signs are at a place (Allen and Kennedy, section 2.2.4).
 #[derive(Clone, Copy)]
 pub(crate) struct Signs {
     pub(crate) before: bool,
@@ -32,7 +32,7 @@ impl Signs {
     }
 }
 
-/// The signs of so many places, at the front of six.
+/// The signs of this many places, at the front of six.
 pub(crate) fn place_signs(places: usize, vectors: &[Vector]) -> [Signs; 6]
     requires { places ≤ 6 }
     ensures { map signs_of (take places result) ≡ all_signs places vectors.now }
@@ -66,7 +66,7 @@ fn is_same(a: Direction, b: Direction) -> bool
     a == b
 }
 
-/// The direction of a vector at a place, `=` behind its end.
+/// The direction of a vector at a place, `=` after its end.
 fn direction_at(vector: &Vector, place: usize) -> Direction
     ensures { result ≡ excluded.direction_at vector.now place }
 {

@@ -12,7 +12,7 @@ use ped_base::{Bytes, NoMemory};
 use ped_verdict::Vector;
 use ped_views::Direction;
 
-/// Adds vectors over so many loops.
+/// Adds vectors over this many loops.
 pub(crate) fn push_vectors(
     out: &mut Bytes,
     loops: usize,
@@ -30,7 +30,7 @@ pub(crate) fn push_vectors(
     }
 }
 
-/// Adds vectors one behind the other.
+/// Adds vectors one after the other.
 fn push_each(out: &mut Bytes, vectors: &[Vector]) -> Result<(), NoMemory>
     ensures { OnOk result (out.new ≡ out.old ++ flat_map (λ v. vector_text (map (λ d. d ∷ []) v)) vectors.now) }
 {

@@ -14,7 +14,8 @@ use ped_views::{Direction, LoopRange, StrongRow, difference, divides, exact_quot
 /// The subscripts of a row are equal exactly where `j - i = (c1 - c2) / a`, one distance for all iterations. So the
 /// direction is excluded exactly where this isn't whole or isn't the same for all rows, is longer than the range, points
 /// elsewhere, or isn't a whole number of steps of a steady loop. No distance fits an empty range. Otherwise the test can't
-/// tell which values of its range the index takes: where a loop that isn't steady starts, and whether it runs at all.
+/// determine which values of its range the index takes: where a loop that isn't steady starts, and whether it runs at
+/// all.
 pub fn group_excludes(rows: &[StrongRow], range: &LoopRange, d: Direction) -> bool
     requires some { 0 < length rows.now }
     requires coefficients { All (λ s. ¬ (s.a ≡ pos 0)) rows.now }
@@ -86,7 +87,7 @@ pub fn strong_distance(a: i64, c1: i64, c2: i64, step: i64) -> Option<i128>
     exact_quotient(difference(c1, c2), product(a, step))
 }
 
-/// Whether values of the range that stand in the direction of its loop may lie at this distance.
+/// Whether values of the range that are in the direction of its loop may lie at this distance.
 fn fits_range(distance: i128, range: &LoopRange, d: Direction) -> bool
     requires { neg_ℤ (pos (2 ^ 127)) <ℤ distance }
     ensures { IsTrue result ↔ FitsRange range.now d distance }
@@ -95,7 +96,7 @@ fn fits_range(distance: i128, range: &LoopRange, d: Direction) -> bool
     fits_span(distance, span, d.by_value(range.step)) && in_step(distance, range.step, range.steady)
 }
 
-/// Whether two values at this distance stand so in a range that ends this far above its start.
+/// Whether two values at this distance are so ordered in a range that ends this far above its start.
 fn fits_span(distance: i128, span: i128, d: Direction) -> bool
     requires { neg_ℤ (pos (2 ^ 127)) <ℤ distance }
     ensures { IsTrue result ↔ FitsSpan d distance span }

@@ -41,7 +41,7 @@ fn twice(x: i64) -> i128
     i128::from(x) + i128::from(x)
 }
 
-/// Whether two numbers that stand so have this sum, and lie in a range whose ends have these doubles.
+/// Whether two numbers so ordered have this sum, and lie in a range whose ends have these doubles.
 fn fits_sum(sum: i128, least: i128, greatest: i128, d: Direction) -> bool
     requires { unsigned_abs sum < 2 ^ 64 }
     ensures { IsTrue result ↔ FitsSum d sum least greatest }

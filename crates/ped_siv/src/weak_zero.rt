@@ -10,7 +10,7 @@ use ped_views::{Direction, LoopRange, difference, exact_quotient};
 /// 0 and the other isn't, exclude a direction of the loop (Allen and Kennedy, section 3.3, weak-zero SIV).
 ///
 /// One side's subscript is a constant, so the other side's index is one value. The direction is excluded
-/// exactly where this isn't whole, lies outside the range, or has no value of the range before or behind it.
+/// exactly where this isn't whole, lies outside the range, or has no value of the range before or after it.
 pub fn weak_zero_excludes(a: i64, b: i64, c1: i64, c2: i64, range: &LoopRange, d: Direction) -> bool
     requires form { ((a ≡ pos 0) × ¬ (b ≡ pos 0)) ⊎ (¬ (a ≡ pos 0) × (b ≡ pos 0)) }
     ensures { IsTrue result ↔ NeverMeets a b c1 c2 range.now d }
@@ -23,7 +23,7 @@ pub fn weak_zero_excludes(a: i64, b: i64, c1: i64, c2: i64, range: &LoopRange, d
     }
 }
 
-/// Whether no value i of the range with `a * i = n` stands so to a value of the range.
+/// Whether no value i of the range with `a * i = n` is so ordered with a value of the range.
 fn has_no_point(a: i64, n: i128, range: &LoopRange, d: Direction) -> bool
     requires coefficient { ¬ (a ≡ pos 0) }
     requires small { unsigned_abs n < 2 ^ 64 }
@@ -35,7 +35,7 @@ fn has_no_point(a: i64, n: i128, range: &LoopRange, d: Direction) -> bool
     }
 }
 
-/// Whether `i` lies from `lo` to `hi` and stands so to a number there.
+/// Whether `i` lies from `lo` to `hi` and is so ordered with a number there.
 fn has_partner(i: i128, lo: i128, hi: i128, d: Direction) -> bool
     ensures { IsTrue result ↔ HasPartner d i lo hi }
 {

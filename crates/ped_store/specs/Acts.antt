@@ -3,7 +3,7 @@ use Rattle.std.specs.Prelude.{ℕ, ℤ, List, [], ◌∷◌, map, Bool}
 use Rattle.ped_store.specs.Cells.{Cell, Iteration}
 use Rattle.ped_store.specs.Stores.{Content, Store, put}
 
--- how a step touches a cell: it reads it; it writes it; or it reads the variable of a DO in the DO's body, whose value the place tells and no cell
+-- how a step touches a cell: it reads it; it writes it; or it reads the variable of a DO in the DO's body, whose value the place gives and no cell
 pub data Manner : Type 0 where
   reads : Manner
   writes : Manner
@@ -16,14 +16,14 @@ pub record Touch : Type 0 where
   pub content : Content
   pub reference : ℕ
 
--- an iteration of a DO that a step stands in: the DO's statement number, whether it is a PARALLEL DO, the iteration's number, from 1, and the value of the DO's variable
+-- an iteration of a DO that a step is in: the DO's statement number, whether it is a PARALLEL DO, the iteration's number, from 1, and the value of the DO's variable
 pub record Turn : Type 0 where
   pub statement : ℕ
   pub parallel : Bool
   pub number : ℕ
   pub value : ℤ
 
--- where a step is done: its statement, and the iterations round it, the outermost DO's first. Entries, ends of iterations and exits of a DO stand outside that DO
+-- where a step is done: its statement, and the iterations around it, the outermost DO's first. Entries, ends of iterations and exits of a DO are outside that DO
 pub record Place : Type 0 where
   pub statement : ℕ
   pub turns : List Turn
@@ -42,17 +42,17 @@ pub record Act : Type 0 where
   pub place : Place
   pub touches : List Touch
 
--- the store behind a touch: a write puts its content into the cell
+-- the store after a touch: a write puts its content into the cell
 abbrev pub touched : Manner → Cell → Content → Store → Store
 touched writes c content s = put c content s
 touched reads c content s = s
 touched is_told c content s = s
 
--- the store behind touches, one after the other
+-- the store after touches, one after the other
 abbrev pub store_behind : List Touch → Store → Store
 store_behind [] s = s
 store_behind (t ∷ ts) s = store_behind ts (touched t.manner t.cell t.content s)
 
--- the iterations that a place stands in
+-- the iterations that a place is in
 abbrev pub iterations_of : List Turn → List Iteration
 iterations_of turns = map (λ t. record { statement = t.statement; number = t.number }) turns

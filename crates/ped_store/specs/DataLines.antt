@@ -1,4 +1,4 @@
--- Data lines, and the values that READ takes from them. This form of input stands in place of the list-directed input of ANSI X3.9-1978, section 13.6: it has no repeat counts, no null values and no slash (this project).
+-- Data lines, and the values that READ takes from them. This form of input replaces the list-directed input of ANSI X3.9-1978, section 13.6: it has no repeat counts, no null values and no slash (this project).
 use Rattle.std.specs.Prelude.{ℕ, ℤ, List, [], ◌∷◌, Bool, ◌==◌, ◌&&◌, ◌||◌, Result, Ok, Err, if◌then◌else◌}
 use Rattle.std.specs.List.{list_all}
 use Rattle.std.specs.Str.Parse.{without_leading_sign, signed_digits_value}
@@ -25,7 +25,7 @@ abbrev pub word_of : List ℕ → List ℕ
 word_of [] = []
 word_of (c ∷ cs) = if ends_value c then [] else c ∷ word_of cs
 
--- what stands from the next blank or comma on (this project)
+-- the part from the next blank or comma on (this project)
 abbrev pub behind_word : List ℕ → List ℕ
 behind_word [] = []
 behind_word (c ∷ cs) = if ends_value c then c ∷ cs else behind_word cs
@@ -35,7 +35,7 @@ abbrev pub behind_comma : List ℕ → List ℕ
 behind_comma [] = []
 behind_comma (c ∷ cs) = if c == 44 then cs else c ∷ cs
 
--- what is left of a line behind a value: the blanks go with it, and one comma where one comes; a comma that no value follows is thereby ignored (this project)
+-- what is left of a line after a value: the blanks go with it, and one comma where one comes; a comma that no value follows is thereby ignored (this project)
 abbrev pub behind_value : List ℕ → List ℕ
 behind_value text = behind_comma (behind_blanks (behind_word text))
 
@@ -47,7 +47,7 @@ is_value word = has_some (without_leading_sign word) && list_all is_digit (witho
 abbrev pub number_of : List ℕ → Result ℤ ℕ
 number_of word = if is_value word then storable (signed_digits_value 10 word) else Err bad_data
 
--- data while a READ takes values: what is left of its present line, and the lines behind that (this project)
+-- data while a READ takes values: what is left of its present line, and the lines after that (this project)
 pub record Data : Type 0 where
   pub rest : List ℕ
   pub lines : List (List ℕ)
@@ -61,12 +61,12 @@ abbrev pub begun : List (List ℕ) → Result Data ℕ
 begun [] = Err bad_data
 begun (line ∷ more) = Ok (record { rest = line; lines = more })
 
--- a value, and the data behind it
+-- a value, and the data after it
 pub record Taken : Type 0 where
   pub value : ℤ
   pub behind : Data
 
--- the value at the front of a text, behind which these lines stand (this project)
+-- the value at the front of a text that these lines follow (this project)
 abbrev pub taken_from : List ℕ → List (List ℕ) → Result Taken ℕ
 taken_from text lines = number_of (word_of text) >>= λ n. Ok (record { value = n; behind = record { rest = behind_value text; lines = lines } })
 

@@ -4,7 +4,7 @@ use Rattle.std.specs.Str.Lines.{lines}
 use Rattle.ped_store.specs.declared.data_lines.Place.{Place}
 use Rattle.ped_store.specs.DataLines.{Data}
 
--- what is left of the data at a place: of its line, and the lines behind that
+-- what is left of the data at a place: of its line, and the lines after that
 abbrev pub data_at : List ℕ → Place → Data
 data_at input place = record { rest = take (place.to - place.from) (drop place.from input); lines = lines (drop place.next input) }
 

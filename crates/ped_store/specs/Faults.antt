@@ -23,6 +23,6 @@ kind_back DivisionByZero = refl
 kind_back OutOfRange = refl
 kind_back BadData = refl
 
--- a fault's number tells the fault
+-- a fault's number determines the fault
 pub fault_back : (a : Inside) → Unit {0} → record { kind = kind_of (kind_number a.kind) } ≡ a
 fault_back a h = λ i. record { kind = kind_back a.kind i }

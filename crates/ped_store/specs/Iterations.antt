@@ -6,11 +6,11 @@ use Rattle.std.proofs.lemmas.List.{length-take-le, take-append-drop}
 use Rattle.ped_store.specs.Cells.{Iteration}
 use Rattle.ped_store.specs.declared.iterations.Iterations.TheInside.{Inside}
 
--- what stands where no iteration is
+-- what is where no iteration is
 abbrev pub no_iteration : Iteration
 no_iteration = record { statement = 0; number = 0 }
 
--- at most six iterations at the front, and none behind them
+-- at most six iterations at the front, and none after them
 pub record IsIterations (a : Inside) : Type 0 where
   pub few : a.depth ≤ 6
   pub long : length a.items ≡ 6

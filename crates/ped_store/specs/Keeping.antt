@@ -46,12 +46,12 @@ abbrev pub bounds_in : Option Slot → Dimensions
 bounds_in None = record { lower = []; upper = [] }
 bounds_in (Some slot) = slot.bounds
 
--- a slot has so many dimensions
+-- a slot has this many dimensions
 abbrev pub has_rank : ℕ → Option Slot → Bool
 has_rank n None = false
 has_rank n (Some slot) = length slot.bounds.lower == n
 
--- which cells stand
+-- which cells exist
 abbrev pub stands_in : Kept → Cell → Bool
 stands_in s (Scalar x) = has_rank 0 (slot_of s.slots x)
 stands_in s (Element x js) = has_some js && has_rank (length js) (slot_of s.slots x)

@@ -10,7 +10,7 @@ use Rattle.ped_store.specs.Storage.{is_within}
 use Rattle.ped_store.specs.DataLines.{Data, not_begun}
 use Rattle.ped_store.specs.Variables.{no_dimensions}
 
--- the store, the cells that stand in it, the bounds of the arrays, and the data with what is left of the line that a READ has begun (this project)
+-- the store, the cells that exist in it, the bounds of the arrays, and the data with what is left of the line that a READ has begun (this project)
 pub record Memory : Type 0 where
   pub cells : Store
   pub stands : Cell → Bool
@@ -26,7 +26,7 @@ bounds_among (shape ∷ more) x = if is_same_text x shape.name then shape.bounds
 abbrev pub is_shape : List Shape → List ℕ → Bool
 is_shape shapes x = is_among x (map (λ shape. shape.name) shapes)
 
--- the scalars of the shapes and the elements of their arrays stand; an element of an array stands within its bounds or not (ANSI X3.9-1978, section 5.1.1)
+-- the scalars of the shapes and the elements of their arrays exist; an element of an array lies within its bounds or not (ANSI X3.9-1978, section 5.1.1)
 abbrev pub stands_among : List Shape → Cell → Bool
 stands_among shapes (Scalar x) = is_shape shapes x && (length (bounds_among shapes x).lower == 0)
 stands_among shapes (Element x subscripts) = is_shape shapes x && has_some subscripts && (length (bounds_among shapes x).lower == length subscripts)
@@ -59,7 +59,7 @@ with_content c content m = record m { cells = put c content m.cells }
 abbrev pub with_number : Cell → ℤ → Memory → Result Memory ℕ
 with_number c n m = storable n >>= λ k. Ok (with_content c (Number k) m)
 
--- what is kept behind a store of a number: a subscript outside its bounds is a fault, and then a number out of its range (this project)
+-- what is kept after a store of a number: a subscript outside its bounds is a fault, and then a number out of its range (this project)
 abbrev pub stored : Cell → ℤ → Memory → Result Memory ℕ
 stored (Element x subscripts) n m = if is_within (m.bounds x) subscripts then with_number (Element x subscripts) n m else Err outside_bounds
 stored (Scalar x) n m = with_number (Scalar x) n m
@@ -67,7 +67,7 @@ stored (Private x iterations) n m = with_number (Private x iterations) n m
 stored In n m = with_number In n m
 stored Out n m = with_number Out n m
 
--- the cell stands, or does so no more (plain words)
+-- the cell exists, or no longer does (plain words)
 abbrev pub standing : Cell → Bool → (Cell → Bool) → Cell → Bool
 standing c b stands d = if same_cell c d then b else stands d
 

@@ -41,7 +41,7 @@ accesses acts = flat_map accesses_of acts
 abbrev pub conflict : Access → Access → Bool
 conflict a b = same_cell a.cell b.cell && (a.writes || b.writes)
 
--- the places stand in two iterations of one execution of a PARALLEL DO: where their iterations differ first, those are of one PARALLEL DO
+-- the places are in two iterations of one execution of a PARALLEL DO: where their iterations differ first, those are of one PARALLEL DO
 abbrev pub are_apart : List Turn → List Turn → Bool
 are_apart (t ∷ ts) (u ∷ us) = (t.statement == u.statement) && (if t.number == u.number then are_apart ts us else t.parallel)
 are_apart [] us = false

@@ -57,7 +57,7 @@ place_in bounds js = if has_some js then place_within bounds.lower bounds.upper 
 abbrev pub element_in : List ℤ → Slot → Option ℕ
 element_in js slot = option_map (λ p. slot.start + p) (place_in slot.bounds js)
 
--- where a scalar or an element stands
+-- where a scalar or an element is
 abbrev pub index_of : List (List ℕ × Slot) → Cell → Option ℕ
 index_of slots (Scalar x) = option_and_then scalar_in (slot_of slots x)
 index_of slots (Element x js) = option_and_then (element_in js) (slot_of slots x)
@@ -65,7 +65,7 @@ index_of slots (Private x iterations) = None
 index_of slots In = None
 index_of slots Out = None
 
--- slots one behind the other, from this place on to the end
+-- slots one after the other, from this place on to the end
 abbrev pub IsLaid : ℕ → List (List ℕ × Slot) → ℕ → Type 0
 IsLaid at [] end = at ≡ end
 IsLaid at (e ∷ es) end = ((e.1).start ≡ at) × IsLaid (at + slot_count e.1) es end

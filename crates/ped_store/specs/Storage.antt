@@ -1,4 +1,4 @@
--- The scalars and arrays of a program, and the order in which an array's elements stand (ANSI X3.9-1978, sections 5.2.4, 5.4; this project).
+-- The scalars and arrays of a program, and the order of an array's elements (ANSI X3.9-1978, sections 5.2.4, 5.4; this project).
 use Rattle.std.specs.Prelude.{ℕ, zero, suc, ℤ, pos, negsuc, ◌+ℤ◌, ◌-ℤ◌, int_le, List, [], ◌∷◌, map, Bool, true, false, ◌&&◌}
 use Rattle.std.specs.List.{flat_map}
 use Rattle.ped_base.specs.Dimensions.{Dimensions}

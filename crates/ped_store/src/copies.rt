@@ -8,6 +8,6 @@ use ped_base::Name;
 pub struct PrivateCopy {
     /// The scalar.
     pub name: Name,
-    /// The iteration that the copy belongs to, behind those round it.
+    /// The iteration that the copy belongs to, after those around it.
     pub iterations: Iterations,
 }

@@ -13,7 +13,7 @@ use ped_base::NoMemory;
 use std::alloc::Global;
 use std::marker::Model;
 
-/// Data lines. Contracts see what is left of the line that a READ has begun, and the lines behind it.
+/// Data lines. Contracts see what is left of the line that a READ has begun, and the lines after it.
 #[derive(Drop)]
 pub struct DataLines {
     input: Vec<u8>,
@@ -31,7 +31,7 @@ struct Place {
     next: usize,
 }
 
-/// A value, and the place behind it.
+/// A value, and the place after it.
 #[derive(Clone, Copy)]
 struct Taken {
     value: i64,
@@ -83,11 +83,11 @@ impl DataLines {
         }
     }
 
-    /// Takes the next value, from the present line or from those behind it.
+    /// Takes the next value, from the present line or from those after it.
     ///
     /// # Errors
     ///
-    /// 5 where no value is left or what stands there is none, and 4 where it isn't from -2^31 to 2^31-1. Nothing has
+    /// 5 where no value is left or what is there is none, and 4 where it isn't from -2^31 to 2^31-1. Nothing has
     /// changed then.
     pub fn next_value(&mut self) -> Result<i64, RunFault>
         ensures ok { IfOk result (λ n. next_value_of self.old ≡ Ok (record { value = n; behind = self.new })) }
@@ -117,7 +117,7 @@ fn next_place(input: &[u8], next: usize) -> Option<Place>
     })
 }
 
-/// The value that comes next, and the place behind it.
+/// The value that comes next, and the place after it.
 fn take_next_value(input: &[u8], place: &Place) -> Result<Taken, RunFault>
     requires { IsPlaceIn input.now place.now }
     ensures ok { IfOk result (λ t. next_value_of (data_at input.now place.now) ≡ Ok (record { value = t.value; behind = data_at input.now t.behind })) }
@@ -153,7 +153,7 @@ fn value_place(input: &[u8], start: Place) -> Option<Place>
     }
 }
 
-/// The value that begins at a place, and the place behind it.
+/// The value that begins at a place, and the place after it.
 fn take_value(input: &[u8], place: &Place) -> Result<Taken, RunFault>
     requires { IsPlaceIn input.now place.now }
     ensures ok { IfOk result (λ t. taken_from (data_at input.now place.now).rest (data_at input.now place.now).lines ≡ Ok (record { value = t.value; behind = data_at input.now t.behind })) }

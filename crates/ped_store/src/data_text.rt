@@ -50,7 +50,7 @@ fn len_without_carriage_return(line: &[u8]) -> usize
     }
 }
 
-/// How many blanks stand at the front.
+/// How many blanks are at the front.
 pub fn blank_count(text: &[u8]) -> usize
     ensures behind { drop result text.now ≡ behind_blanks text.now }
     ensures within { result ≤ length text.now }
@@ -64,7 +64,7 @@ fn first_of_value(text: &[u8]) -> Option<usize>
     text.iter().position(|c| !is_data_blank(*c))
 }
 
-/// How many characters stand in front of the next blank or comma.
+/// How many characters are in front of the next blank or comma.
 pub fn word_len(text: &[u8]) -> usize
     ensures word { take result text.now ≡ word_of text.now }
     ensures behind { drop result text.now ≡ behind_word text.now }
@@ -79,7 +79,7 @@ fn first_behind_word(text: &[u8]) -> Option<usize>
     text.iter().position(|c| ends_value(*c))
 }
 
-/// How many blanks stand at the front, with the comma behind them where one comes.
+/// How many blanks are at the front, with the comma after them where one comes.
 pub fn separator_len(text: &[u8]) -> usize
     ensures behind { drop result text.now ≡ behind_comma (behind_blanks text.now) }
     ensures within { result ≤ length text.now }

@@ -15,7 +15,7 @@ pub struct Iteration {
     pub number: u64,
 }
 
-/// What stands in the places that hold no iteration.
+/// What is in the places that hold no iteration.
 const NO_ITERATION: Iteration = Iteration {
     statement: 0,
     number: 0,
@@ -57,7 +57,7 @@ impl Iterations {
         }
     }
 
-    /// Adds an iteration behind the others.
+    /// Adds an iteration after the others.
     pub fn push(&mut self, iteration: Iteration)
         requires { length self.old < 6 }
         ensures { self.new ≡ self.old ++ iteration ∷ [] }

@@ -19,12 +19,12 @@ use std::alloc::Global;
 pub struct Slot {
     /// The bounds of its dimensions.
     pub bounds: Bounds,
-    /// Where its first cell stands.
+    /// Where its first cell is.
     pub start: usize,
 }
 
 impl Slot {
-    /// Where a scalar stands; none where this is an array.
+    /// Where a scalar is; none where this is an array.
     pub fn scalar(&self) -> Option<usize>
         ensures { result ≡ scalar_in self.now }
     {
@@ -35,7 +35,7 @@ impl Slot {
         }
     }
 
-    /// Where the element with these subscripts stands; none where they don't lie within the bounds.
+    /// Where the element with these subscripts is; none where they don't lie within the bounds.
     pub fn element(&self, subscripts: &[i128]) -> Option<usize>
         requires { self.now.start + slot_count self.now < 2 ^ 63 }
         ensures { result ≡ element_in subscripts.now self.now }
@@ -70,7 +70,7 @@ fn place_in(bounds: &Bounds, subscripts: &[i128]) -> Option<usize>
 /// The slots of names.
 pub type SlotTable = IndexMap<Name, Slot>;
 
-/// The slots of scalars and arrays, one behind the other.
+/// The slots of scalars and arrays, one after the other.
 #[derive(Drop)]
 pub struct Layout {
     /// The slot of each name.
@@ -79,8 +79,8 @@ pub struct Layout {
     pub cells: usize,
 }
 
-/// Gives each scalar and each array a slot. Where a name stands twice, its first shape counts. More cells than the machine
-/// can number are want of memory.
+/// Gives each scalar and each array a slot. Where a name occurs twice, its first shape counts. More cells than the
+/// machine can number count as out of memory.
 pub fn lay_out(alloc: Global, shapes: &[Shape]) -> Result<Layout, NoMemory>
     ensures laid { IfOk result (λ l. IsLaid 0 l.slots.entries l.cells) }
     ensures first { IfOk result (λ l. (x : List ℕ) → slot_bounds l.slots.entries x ≡ first_bounds shapes.now x) }
@@ -96,7 +96,7 @@ pub fn lay_out(alloc: Global, shapes: &[Shape]) -> Result<Layout, NoMemory>
 }
 
 impl Layout {
-    /// Adds a slot behind the others, where the name has none.
+    /// Adds a slot after the others, where the name has none.
     fn add(&mut self, shape: &Shape) -> Result<(), NoMemory>
         requires { IsLaid 0 self.old.slots.entries self.old.cells }
         ensures laid { OnOk result (IsLaid 0 self.new.slots.entries self.new.cells) }
@@ -151,14 +151,14 @@ fn saturated_extent(lower: &i64, upper: &i64) -> usize
     ((i128::from(*upper) - i128::from(*lower)) as usize).saturating_add(1)
 }
 
-/// Where the slots of names probably stand: for each number that a name may have, the place of the last name that has it.
+/// Where the slots of names probably are: for each number that a name may have, the place of the last name that has it.
 /// No answer rests on it, since the name at the place is compared; without it each look-up would hash.
 #[derive(Drop)]
 pub struct NearPlaces {
     places: Vec<usize>,
 }
 
-/// Where the slots of the names of these shapes probably stand, each behind those of the shapes before it.
+/// Where the slots of the names of these shapes probably are, each after those of the shapes before it.
 pub fn near_places(alloc: Global, shapes: &[Shape]) -> Result<NearPlaces, NoMemory> {
     let mut places = Vec::from_elem(alloc, 0, 256)?;
     for place in 0..shapes.len() {
@@ -190,7 +190,7 @@ pub fn find_slot<'a>(slots: &'a SlotTable, near: &NearPlaces, name: &Name) -> Op
     }
 }
 
-/// The slot of a name, where it stands at its probable place.
+/// The slot of a name, where it is at its probable place.
 fn near_slot<'a>(slots: &'a SlotTable, near: &NearPlaces, name: &Name) -> Option<&'a Slot>
     ensures { IfSome result (λ slot. Some slot.now ≡ slot_of slots.now.entries name.now) }
 {
@@ -202,14 +202,14 @@ fn near_slot<'a>(slots: &'a SlotTable, near: &NearPlaces, name: &Name) -> Option
     None
 }
 
-/// Where a scalar stands; none where the name isn't one.
+/// Where a scalar is; none where the name isn't one.
 pub fn scalar_index(slots: &SlotTable, near: &NearPlaces, name: &Name) -> Option<usize>
     ensures { result ≡ Slots.index_of slots.now.entries (Scalar name.now) }
 {
     find_slot(slots, near, name)?.scalar()
 }
 
-/// Where an element stands; none where the name is no array, or the subscripts don't lie within its bounds.
+/// Where an element is; none where the name is no array, or the subscripts don't lie within its bounds.
 pub fn element_index(
     slots: &SlotTable,
     near: &NearPlaces,

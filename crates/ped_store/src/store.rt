@@ -54,7 +54,7 @@ impl Model for Store {
 
 impl Store {
     /// A store before the first statement of a program with these scalars and arrays, on the lines of this input. Where a
-    /// name stands twice, its first shape counts.
+    /// name occurs twice, its first shape counts.
     pub fn new(alloc: Global, shapes: &[Shape], input: &[u8]) -> Result<Store, NoMemory>
         ensures { IfOk result (λ s. memory_of s ≡ memory_at_start shapes.now (lines input.now)) }
     {
@@ -70,8 +70,8 @@ impl Store {
         })
     }
 
-    /// Makes a private copy that is undefined; a copy that stands already becomes undefined. After want of memory the store
-    /// is as it was.
+    /// Makes a private copy that is undefined; a copy that exists already becomes undefined. If memory runs out, the
+    /// store is as it was.
     pub fn open_copy(&mut self, alloc: Global, cell: &Cell) -> Result<(), NoMemory>
         requires cell { IsCell cell.now }
         requires copy { IsPrivate cell.now }
@@ -91,7 +91,7 @@ impl Store {
         }
     }
 
-    /// Drops a private copy, where it stands.
+    /// Drops a private copy, where there is one.
     pub fn close_copy(&mut self, cell: &Cell)
         requires cell { IsCell cell.now }
         requires copy { IsPrivate cell.now }
@@ -125,11 +125,11 @@ impl Store {
         self.input.next_line()
     }
 
-    /// Takes the next value of the data, from the line that has been begun or from those behind it.
+    /// Takes the next value of the data, from the line that has been begun or from those after it.
     ///
     /// # Errors
     ///
-    /// 5 where no value is left or what stands there is none, and 4 where it isn't from -2^31 to 2^31-1. The store is as it
+    /// 5 where no value is left or what is there is none, and 4 where it isn't from -2^31 to 2^31-1. The store is as it
     /// was then.
     pub fn next_value(&mut self) -> Result<i64, RunFault>
         ensures ok { IfOk result (λ n. (behind : Data) × (next_value_of (memory_of self.old).input ≡ Ok (record { value = n; behind = behind })) × (memory_of self.new ≡ with_data behind (memory_of self.old))) }
@@ -177,7 +177,7 @@ impl Store {
         }
     }
 
-    /// Adds a line to the output. After want of memory the store is as it was.
+    /// Adds a line to the output. If memory runs out, the store is as it was.
     pub fn put_line(&mut self, alloc: Global, line: &[u8]) -> Result<(), NoMemory>
         ensures ok { OnOk result (memory_of self.new ≡ with_printed line.now (memory_of self.old)) }
         ensures err { OnErr result (self.new ≡ self.old) }
@@ -370,7 +370,7 @@ impl Store {
         self.held[index] = content;
     }
 
-    /// The number that a scalar holds, as `get` tells it.
+    /// The number that a scalar holds, as `get` reports it.
     ///
     /// # Errors
     ///
@@ -384,7 +384,7 @@ impl Store {
         }
     }
 
-    /// The number that an element holds, as `get` tells it.
+    /// The number that an element holds, as `get` reports it.
     ///
     /// # Errors
     ///

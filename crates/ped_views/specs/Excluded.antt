@@ -8,7 +8,7 @@ use Rattle.ped_views.specs.Whole.{Divides, is_zero}
 use Rattle.ped_views.specs.Views.{Range, range, Row, SubscriptPair, View}
 use Rattle.ped_views.specs.Forms.{Form, ziv, strong_siv, weak_zero_siv, weak_crossing_siv, other_form, form_of}
 
--- the index i at the source and j at the sink stand so by their values: lesser first, equal, greater first (Allen and Kennedy, section 2.2.4)
+-- the index i at the source and j at the sink are so ordered by their values: lesser first, equal, greater first (Allen and Kennedy, section 2.2.4)
 abbrev pub StandsByValue : Direction → ℤ → ℤ → Type 0
 StandsByValue Before i j = i <ℤ j
 StandsByValue Same i j = i ≡ j
@@ -25,7 +25,7 @@ abbrev pub by_value : ℤ → Direction → Direction
 by_value (pos n) d = d
 by_value (negsuc n) d = turned d
 
--- i at the source and j at the sink stand in this direction of the loop's iterations (Allen and Kennedy, section 2.2.4)
+-- i at the source and j at the sink are in this direction of the loop's iterations (Allen and Kennedy, section 2.2.4)
 abbrev pub Stands : Range → Direction → ℤ → ℤ → Type 0
 Stands r d i j = StandsByValue (by_value r.step d) i j
 
@@ -34,7 +34,7 @@ pub record InRange (r : Range) (i : ℤ) : Type 0 where
   pub from : r.lo ≤ℤ i
   pub to : i ≤ℤ r.hi
 
--- i at the source and j at the sink lie in the range, stand in the direction, and make both subscripts equal (Allen and Kennedy, section 3.3.2)
+-- i at the source and j at the sink lie in the range, are in the direction, and make both subscripts equal (Allen and Kennedy, section 3.3.2)
 pub record Meets (a b c1 c2 : ℤ) (r : Range) (d : Direction) (i j : ℤ) : Type 0 where
   pub source : InRange r i
   pub sink : InRange r j
@@ -57,7 +57,7 @@ rows_in k other_form p = []
 abbrev pub group_of : ℕ → List SubscriptPair → List StrongRow
 group_of k positions = flat_map (λ p. rows_in k (form_of p) p) positions
 
--- i at the source and j at the sink lie in the range, stand in the direction, in a steady loop a whole number of steps apart, and make both sides of every row equal (Allen and Kennedy, sections 3.1, 3.3.2)
+-- i at the source and j at the sink lie in the range, are in the direction, in a steady loop a whole number of steps apart, and make both sides of every row equal (Allen and Kennedy, sections 3.1, 3.3.2)
 pub record MeetTogether (rows : List StrongRow) (r : Range) (d : Direction) (i j : ℤ) : Type 0 where
   pub source : InRange r i
   pub sink : InRange r j
@@ -110,7 +110,7 @@ SharesIndices (d ∷ ds) (i ∷ is) [] = Unit {0}
 abbrev pub HasNoSolution : SubscriptPair → List Direction → Type 0
 HasNoSolution p vector = (at : Indices) → HasIndices p at → SharesIndices vector at.source at.sink → ¬ (difference p at ≡ pos 0)
 
--- the indices of the common loops that occur lie in their ranges and stand in their directions: behind the last direction, in any (Allen and Kennedy, section 3.3.3)
+-- the indices of the common loops that occur lie in their ranges and are in their directions: after the last direction, in any (Allen and Kennedy, section 3.3.3)
 abbrev pub CommonInRange : List Range → List Direction → List ℤ → List ℤ → List ℤ → List ℤ → Type 0
 CommonInRange (r ∷ loops) (d ∷ vector) (a ∷ source) (b ∷ sink) (i ∷ is) (j ∷ js) =
     (IsTrue (is_zero a && is_zero b) ⊎ (InRange r i × InRange r j × Stands r d i j)) × CommonInRange loops vector source sink is js
@@ -125,7 +125,7 @@ InnerInRange [] row indices = Unit {0}
 InnerInRange (r ∷ loops) [] indices = Unit {0}
 InnerInRange (r ∷ loops) (a ∷ row) [] = Unit {0}
 
--- a point of the ranges of the loops that occur, under the vector, or under a front of one and any directions behind it (Allen and Kennedy, section 3.3.3)
+-- a point of the ranges of the loops that occur, under the vector, or under a front of one and any directions after it (Allen and Kennedy, section 3.3.3)
 pub record IsPoint (v : View) (p : SubscriptPair) (vector : List Direction) (at : Indices) : Type 0 where
   pub indices : HasIndices p at
   pub common : CommonInRange v.loops vector p.source.common p.sink.common at.source at.sink
@@ -158,6 +158,6 @@ FormExcludes other_form v p vector = HasNoSolution p vector ⊎ IsBeyondExtremes
 abbrev pub Excludes : View → SubscriptPair → List Direction → Type 0
 Excludes v p vector = IsTrue p.usable × FormExcludes (form_of p) v p vector
 
--- a usable subscript pair of the view can't be zero under this front of a vector, whatever directions stand behind it
+-- a usable subscript pair of the view can't be zero under this front of a vector, whatever directions follow
 abbrev pub IsDeadEnd : View → List Direction → Type 0
 IsDeadEnd v front = Any (λ p. IsTrue p.usable × IsBeyondExtremes v p front) v.positions

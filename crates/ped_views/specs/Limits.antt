@@ -27,14 +27,14 @@ pub record IsRow (row : Row) : Type 0 where
 abbrev pub IsPosition : SubscriptPair → Type 0
 IsPosition p = length p.source.common ≡ length p.sink.common
 
--- each subscript has one coefficient for each loop round its side (Allen and Kennedy, section 3.1)
+-- each subscript has one coefficient for each loop around its side (Allen and Kennedy, section 3.1)
 pub record FitsLoops (common at_source at_sink : ℕ) (p : SubscriptPair) : Type 0 where
   pub source_common : length p.source.common ≡ common
   pub sink_common : length p.sink.common ≡ common
   pub source_inner : length p.source.inner ≡ at_source
   pub sink_inner : length p.sink.inner ≡ at_sink
 
--- at most six loops stand round each side, and the positions fit them
+-- at most six loops enclose each side, and the positions fit them
 pub record IsView (v : View) : Type 0 where
   pub source_depth : length v.loops + length v.source_inner ≤ 6
   pub sink_depth : length v.loops + length v.sink_inner ≤ 6

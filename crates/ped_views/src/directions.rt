@@ -1,6 +1,6 @@
 //! The order of two values of one loop's index.
 
-/// The direction of a dependence in one loop: how the index at the source stands to the index at the
+/// The direction of a dependence in one loop: how the index at the source compares with the index at the
 /// sink in the order of iterations (Allen and Kennedy, direction vectors).
 #[derive(Clone, Copy, PartialEq, Eq)]
 pub enum Direction {

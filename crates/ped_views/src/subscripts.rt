@@ -54,7 +54,7 @@ impl Model for Position {
 }
 
 /// What the dependence tests look at of an ordered pair of references: ranges and affine forms, and no
-/// names. At most six loops stand round each side.
+/// names. At most six loops enclose each side.
 #[derive(Drop)]
 pub struct PairView {
     /// The ranges of the common loops, the outermost first.

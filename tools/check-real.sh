@@ -63,4 +63,4 @@ else
     exit 1
 fi
 # What the pages show of it was passed over by the checks before this one.
-[ -z "${was_missing-}" ] || tools/check-docs.py README.md docs/COMPANION.md docs/REAL.md
+[ -z "${was_missing-}" ] || tools/check-docs.py README.md docs/COMPANION.md docs/REAL.md examples/real/README.md

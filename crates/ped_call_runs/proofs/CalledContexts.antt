@@ -47,7 +47,7 @@ use Rattle.ped_call_runs.proofs.Contexts.{IsOld, IsWritten, IsNameOrLiteral, Con
 use Rattle.ped_call_runs.proofs.ArgumentsStand.{Facts, own_loose, KeepsBonds, bound_kept, held_kept, fixed_constant, EachFormal, FormalAlike, variable, known, made, FormalStands}
 
 -- the entry of a name is what stands for it
-meant_by : (m : Meanings) (x : List ℕ) (e : ExprTree) → entry_of m x ≡ Some e → meaning m x ≡ e
+pub meant_by : (m : Meanings) (x : List ℕ) (e : ExprTree) → entry_of m x ≡ Some e → meaning m x ≡ e
 meant_by m x e h = ap (or_itself x) h
 
 -- what was found of a dummy argument
@@ -59,7 +59,7 @@ pub record FoundFormal (P : List ℕ → ExprTree → ExprTree → ExprTree → 
   pub in_left : entry_of m x ≡ Some left
   pub in_right : entry_of w x ≡ Some right
 
-formals_found : (P : List ℕ → ExprTree → ExprTree → ExprTree → Type 0) (xs : List (List ℕ)) (arguments ls rs : List ExprTree) → EachFormal P xs arguments ls rs → has_twice xs ≡ false → (m w : Meanings)
+pub formals_found : (P : List ℕ → ExprTree → ExprTree → ExprTree → Type 0) (xs : List (List ℕ)) (arguments ls rs : List ExprTree) → EachFormal P xs arguments ls rs → has_twice xs ≡ false → (m w : Meanings)
     → ((z : List ℕ) → is_among z xs ≡ true → entry_of m z ≡ None) → ((z : List ℕ) → is_among z xs ≡ true → entry_of w z ≡ None) → (x : List ℕ) → is_among x xs ≡ true → FoundFormal P x (with_formals m xs ls) (with_formals w xs rs)
 formals_found P [] arguments ls rs h once m w none absent x k = absurd cc
 formals_found P (y ∷ ys) [] ls rs h once m w none absent x k = absurd h
@@ -176,7 +176,7 @@ other_unvalued n [] y h = refl
 other_unvalued n (v ∷ vs) y h = λ i. if (same_flip y (own n v.0) ∙ h v.0) i then Some v.1 else other_unvalued n vs y h i
 
 -- a name with a value is neither an array nor a scalar
-valued_kind : (t : ProgramTree) (x : List ℕ) (w : ℤ) → value_named (at_last t).values x ≡ Some w → (bounds_by (kind_in t x) ≡ None) × (is_scalar (kind_in t x) ≡ false)
+pub valued_kind : (t : ProgramTree) (x : List ℕ) (w : ℤ) → value_named (at_last t).values x ≡ Some w → (bounds_by (kind_in t x) ≡ None) × (is_scalar (kind_in t x) ≡ false)
 valued_kind t x w h = go (is_among x (names_of t))
   where
     go : (b : Bool) → (bounds_by (if b then Some (kind_of t x) else None) ≡ None) × (is_scalar (if b then Some (kind_of t x) else None) ≡ false)

@@ -86,7 +86,7 @@ small_literal values n h = literal_fixed values n (go (nat_lt 2147483647 (unsign
     go false e = refl
     go true e = absurd (grind (arith, h, e))
 
-is_small : (values : Values) (e : ExprTree) (n : ℤ) → fixed_value values e ≡ Some n → IsSmall n
+pub is_small : (values : Values) (e : ExprTree) (n : ℤ) → fixed_value values e ≡ Some n → IsSmall n
 is_small values e n h = subst (λ (o : Option ℤ). IfSome o IsSmall) h (small_fixed values e)
 
 record IsGivenBy (values : Values) (bs : List BoundTree) (d : Dimensions) : Type 0 where
@@ -94,11 +94,11 @@ record IsGivenBy (values : Values) (bs : List BoundTree) (d : Dimensions) : Type
   some : has_some (literal_bounds d.lower d.upper) ≡ has_some bs
   same : (others : Values) → bounds_values others (literal_bounds d.lower d.upper) ≡ Some d
 
-abbrev or_that : Dimensions → Option Dimensions → Dimensions
+abbrev pub or_that : Dimensions → Option Dimensions → Dimensions
 or_that a None = a
 or_that a (Some d) = d
 
-one : (a d : Dimensions) → Some a ≡ Some d → a ≡ d
+pub one : (a d : Dimensions) → Some a ≡ Some d → a ≡ d
 one a d e = ap (or_that a) e
 
 given_by : (values : Values) (bs : List BoundTree) (d : Dimensions) → bounds_values values bs ≡ Some d → IsGivenBy values bs d

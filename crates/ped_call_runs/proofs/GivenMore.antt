@@ -37,13 +37,18 @@ pub record GivesMore (g h : Given) : Type 0 where
   pub says : (y : List ℕ) → is_among y more ≡ false → SaysNothingOf y decls
   pub spares : AreNames (all_declared decls) → (y : List ℕ) → is_among y g.taken ≡ true → SaysNothingOf y decls
   pub values : (b : Before) → (behind_decls b decls).values ≡ b.values
+  pub inside : (y : List ℕ) → is_among y more ≡ false → is_among y (all_declared decls) ≡ false
+  pub apart : AreNames (all_declared decls) → (y : List ℕ) → is_among y g.taken ≡ true → is_among y (all_declared decls) ≡ false
 
 pub gives_same : (g : Given) → GivesMore g g
-gives_same g = record { more = []; taken = sym (append-nil g.taken); decls = []; arrays = sym (append-nil g.arrays); says = λ y h b. refl; spares = λ n y m b. refl; values = λ b. refl }
+gives_same g = record { more = []; taken = sym (append-nil g.taken); decls = []; arrays = sym (append-nil g.arrays); says = λ y h b. refl; spares = λ n y m b. refl; values = λ b. refl; inside = λ y h. refl; apart = λ n y m. refl }
 
 -- names in neither of two lists
 neither : (y : List ℕ) (xs ys : List (List ℕ)) → is_among y (xs ++ ys) ≡ false → (is_among y xs ≡ false) × (is_among y ys ≡ false)
 neither y xs ys h = or_parts (is_among y xs) (is_among y ys) (sym (among_append y xs ys) ∙ h)
+
+undeclared_both : (y : List ℕ) (ds es : List DeclTree) → is_among y (all_declared ds) ≡ false → is_among y (all_declared es) ≡ false → is_among y (all_declared (ds ++ es)) ≡ false
+undeclared_both y ds es h k = ap (is_among y) (flat_map-append declared_names ds es) ∙ among_append y (all_declared ds) (all_declared es) ∙ (λ i. h i || k i)
 
 pub gives_then : (f g h : Given) → GivesMore f g → GivesMore g h → GivesMore f h
 gives_then f g h a b = record {
@@ -58,11 +63,17 @@ gives_then f g h a b = record {
       ∙ b.spares (each_behind IsName (all_declared a.decls) (all_declared b.decls) names) y (ap (is_among y) a.taken ∙ among_append y f.taken a.more ∙ ap (λ (t : Bool). t || is_among y a.more) m) (behind_decls c a.decls)
       ∙ a.spares (each_front IsName (all_declared a.decls) (all_declared b.decls) names) y m c;
   values = λ c. ap (λ (z : Before). z.values) (behind_both c a.decls b.decls) ∙ b.values (behind_decls c a.decls) ∙ a.values c;
+  inside = λ y k. undeclared_both y a.decls b.decls (a.inside y (neither y a.more b.more k).0) (b.inside y (neither y a.more b.more k).1);
+  apart = λ n y m.
+      let names = subst AreNames (flat_map-append declared_names a.decls b.decls) n in
+      undeclared_both y a.decls b.decls
+      (a.apart (each_front IsName (all_declared a.decls) (all_declared b.decls) names) y m)
+      (b.apart (each_behind IsName (all_declared a.decls) (all_declared b.decls) names) y (ap (is_among y) a.taken ∙ among_append y f.taken a.more ∙ ap (λ (t : Bool). t || is_among y a.more) m));
 }
 
 -- a name that is given to a scalar
 pub gives_new : (g : Given) → GivesMore g (with_new g)
-gives_new g = record { more = free_name g.taken ∷ []; taken = refl; decls = []; arrays = sym (append-nil g.arrays); says = λ y h b. refl; spares = λ n y m b. refl; values = λ b. refl }
+gives_new g = record { more = free_name g.taken ∷ []; taken = refl; decls = []; arrays = sym (append-nil g.arrays); says = λ y h b. refl; spares = λ n y m b. refl; values = λ b. refl; inside = λ y h. refl; apart = λ n y m. refl }
 
 -- the bounds of another name
 other_bounds : (values : Values) (x : List ℕ) (bounds : List BoundTree) (y : List ℕ) → is_same_text y x ≡ false → entry_of (by_bounds values x bounds ++ []) y ≡ None
@@ -85,16 +96,33 @@ declared_values x (Some Scalar) b = refl
 declared_values x (Some (Array d)) b = refl
 declared_values x (Some (Constant n)) b = refl
 
--- a new name that is a name isn't taken
+-- a new name that is a name is none that is taken
+pub new_differs : (taken : List (List ℕ)) → IsName (free_name taken) → (y : List ℕ) → is_among y taken ≡ true → is_same_text y (free_name taken) ≡ false
+new_differs taken n y m = apart (is_same_text y (free_name taken)) refl
+  where
+    apart : (t : Bool) → is_same_text y (free_name taken) ≡ t → t ≡ false
+    apart false e = refl
+    apart true e = absurd (both_ways (is_among (free_name taken) taken) (free_named taken n) (ap (λ (z : List ℕ). is_among z taken) (sym (same_is y (free_name taken) e)) ∙ m))
+
+-- so what is declared of it says nothing of these
 declared_spares : (taken : List (List ℕ)) (kind : Option Kind) → AreNames (all_declared (declared_as (free_name taken) kind)) → (y : List ℕ) → is_among y taken ≡ true → SaysNothingOf y (declared_as (free_name taken) kind)
 declared_spares taken None n y m b = refl
 declared_spares taken (Some Scalar) n y m b = refl
 declared_spares taken (Some (Constant w)) n y m b = refl
-declared_spares taken (Some (Array d)) n y m b = declared_says (free_name taken) (Some (Array d)) y (apart (is_same_text y (free_name taken)) refl) b
-  where
-    apart : (t : Bool) → is_same_text y (free_name taken) ≡ t → t ≡ false
-    apart false e = refl
-    apart true e = absurd (both_ways (is_among (free_name taken) taken) (free_named taken n.0) (ap (λ (z : List ℕ). is_among z taken) (sym (same_is y (free_name taken) e)) ∙ m))
+declared_spares taken (Some (Array d)) n y m b = declared_says (free_name taken) (Some (Array d)) y (new_differs taken n.0 y m) b
+
+-- and declares none of them
+declared_apart : (taken : List (List ℕ)) (kind : Option Kind) → AreNames (all_declared (declared_as (free_name taken) kind)) → (y : List ℕ) → is_among y taken ≡ true → is_among y (all_declared (declared_as (free_name taken) kind)) ≡ false
+declared_apart taken None n y m = refl
+declared_apart taken (Some Scalar) n y m = refl
+declared_apart taken (Some (Constant w)) n y m = refl
+declared_apart taken (Some (Array d)) n y m = ap (λ (t : Bool). t || false) (new_differs taken n.0 y m)
+
+declared_inside : (x : List ℕ) (kind : Option Kind) (y : List ℕ) → is_among y (x ∷ []) ≡ false → is_among y (all_declared (declared_as x kind)) ≡ false
+declared_inside x None y h = refl
+declared_inside x (Some Scalar) y h = refl
+declared_inside x (Some (Constant n)) y h = refl
+declared_inside x (Some (Array d)) y h = h
 
 -- and one that is given to a variable of any kind
 pub gives_local : (g : Given) (kind : Option Kind) → GivesMore g (with_local g kind)
@@ -106,6 +134,8 @@ gives_local g kind = record {
   says = λ y h. declared_says (free_name g.taken) kind y (or_parts (is_same_text y (free_name g.taken)) false h).0;
   spares = λ n y m. declared_spares g.taken kind n y m;
   values = declared_values (free_name g.taken) kind;
+  inside = λ y h. declared_inside (free_name g.taken) kind y h;
+  apart = λ n y m. declared_apart g.taken kind n y m;
 }
 
 -- what is given grows through all that is expanded

@@ -44,3 +44,13 @@ mod CalledContexts
 mod Walks
 mod LeftOut
 mod UnitsStand
+mod ProperSites
+mod UnitForms
+mod RightUnits
+mod NewArrays
+mod NewNames
+mod ProperStatements
+mod RenamedApart
+mod ProperCalls
+mod FairStatements
+mod LimitsAlone

@@ -3,7 +3,7 @@ use Rattle.std.proofs.Common.{◌≡◌, ℕ, List, [], ◌∷◌, ◌++◌, map
 use Rattle.std.specs.List.{flat_map}
 use Rattle.ped_base.specs.Lists.{is_same_text, is_among}
 use Rattle.ped_tree.specs.Accesses.{listed}
-use Rattle.ped_tree.specs.NamesIn.{expr_names, cond_names, item_names, head_names, stmt_names, stmts_names}
+use Rattle.ped_tree.specs.NamesIn.{expr_names, cond_names, item_names, head_names, stmt_names, stmts_names, first_occurrences}
 use Rattle.ped_tree.specs.Tree.{ExprTree, Int, Var, Element, Neg, Add, Sub, Mul, Div, Pow, Call, CondTree, And, Value, StmtTree, StmtTrees, Assign, If, Do, Print, Read, Stop, Comment, no_stmts, more_stmts, DeclTree, Program, Implicit, Integer, Dimension, Parameter, Save, Remark, ProgramTree}
 use Rattle.ped_calls.specs.ped_valid.specs.ped_symbols.specs.declared.uses.Role.{Role}
 use Rattle.ped_calls.specs.ped_valid.specs.ped_symbols.specs.declared.uses.Use.{Use}
@@ -93,7 +93,7 @@ module _ (P : List ℕ → Type 0) (arrays : List (List ℕ)) (of_array : (x : L
         each_joined P (stmt_names (with_calls naming_arguments s)) (stmts_names (all_with_calls naming_arguments rest)) (in_stmt s (each_front P first others h)) (in_stmts rest (each_behind P first others h))
 
 -- what declarations use, site by site
-decls_uses : (ds : List DeclTree) → flat_map site_uses (flat_map decl_sites ds) ≡ flat_map decl_uses ds
+pub decls_uses : (ds : List DeclTree) → flat_map site_uses (flat_map decl_sites ds) ≡ flat_map decl_uses ds
 decls_uses [] = refl
 decls_uses (Program x ∷ ds) = decls_uses ds
 decls_uses (Implicit ∷ ds) = decls_uses ds
@@ -104,7 +104,7 @@ decls_uses (Save names ∷ ds) = ap (λ (us : List Use). decl_uses (Save names) 
 decls_uses (Remark text ∷ ds) = decls_uses ds
 
 -- names that are used in a role are used
-role_used : (test : Role → Bool) (uses : List Use) (x : List ℕ) → is_among x (names_with test uses) ≡ true → is_among x (map (λ u. u.name) uses) ≡ true
+pub role_used : (test : Role → Bool) (uses : List Use) (x : List ℕ) → is_among x (names_with test uses) ≡ true → is_among x (map (λ u. u.name) uses) ≡ true
 role_used test [] x h = absurd cc
 role_used test (u ∷ us) x h = go (role_used test us x) (test u.role) h
   where
@@ -123,9 +123,9 @@ role_used test (u ∷ us) x h = go (role_used test us x) (test u.role) h
     go more true k = by_name more (is_same_text x u.name) refl k
     go more false k = later more k
 
--- the names of a main program's statements occur in the program that its names are looked at in
-pub body_named : (u : ProgramUnit) → u.formals ≡ [] → (x : List ℕ) → is_among x (body_names u) ≡ true → is_among x (names_of (for_names u)) ≡ true
-body_named u none x h = each_of There (stmts_names (all_with_calls naming_arguments u.tree.body)) all x (first_among [] (stmts_names (all_with_calls naming_arguments u.tree.body)) x h)
+-- the names of a unit's statements occur in the program that its names are looked at in
+pub body_named : (u : ProgramUnit) → (x : List ℕ) → is_among x (body_names u) ≡ true → is_among x (names_of (for_names u)) ≡ true
+body_named u x h = each_of There (stmts_names (all_with_calls naming_arguments u.tree.body)) all x (first_among [] (stmts_names (all_with_calls naming_arguments u.tree.body)) x h)
   where
     t : ProgramTree
     t = for_names u
@@ -142,13 +142,19 @@ body_named u none x h = each_of There (stmts_names (all_with_calls naming_argume
         names_occur t y ∙ occurs_append y (flat_map decl_sites t.decls) (stmts_sites t.body)
         ∙ ap (λ (b : Bool). occurs y (flat_map decl_sites t.decls) || b) (ap (is_among y) (stmts_at t.body) ∙ m) ∙ either (occurs y (flat_map decl_sites t.decls))
 
+    in_own : (y : List ℕ) → is_among y (dimensioned u.tree.decls) ≡ true → occurs y (flat_map decl_sites u.tree.decls) ≡ true
+    in_own y m = ap (λ (uses : List Use). is_among y (map (λ v. v.name) uses)) (decls_uses u.tree.decls) ∙ role_used is_dimensioning (flat_map decl_uses u.tree.decls) y m
+
+    behind_formals : (y : List ℕ) (fs : List (List ℕ)) → is_among y (dimensioned u.tree.decls) ≡ true → occurs y (flat_map decl_sites (save_of_formals fs ++ u.tree.decls)) ≡ true
+    behind_formals y [] m = in_own y m
+    behind_formals y (f ∷ fs) m =
+        let saved = Save (first_occurrences [] (f ∷ fs)) in
+        occurs_append y (decl_sites saved) (flat_map decl_sites u.tree.decls) ∙ ap (λ (b : Bool). occurs y (decl_sites saved) || b) (in_own y m) ∙ either (occurs y (decl_sites saved))
+
     in_decls : (y : List ℕ) → is_among y (dimensioned u.tree.decls) ≡ true → There y
     in_decls y m =
         names_occur t y ∙ occurs_append y (flat_map decl_sites t.decls) (stmts_sites t.body)
-        ∙ ap (λ (b : Bool). b || occurs y (stmts_sites t.body))
-        (ap (λ (ds : List DeclTree). occurs y (flat_map decl_sites ds)) (λ i. save_of_formals (none i) ++ u.tree.decls)
-        ∙ ap (λ (uses : List Use). is_among y (map (λ v. v.name) uses)) (decls_uses u.tree.decls)
-        ∙ role_used is_dimensioning (flat_map decl_uses u.tree.decls) y m)
+        ∙ ap (λ (b : Bool). b || occurs y (stmts_sites t.body)) (behind_formals y u.formals m)
 
     all : Each There (stmts_names (all_with_calls naming_arguments u.tree.body))
     all = in_stmts There (dimensioned u.tree.decls) in_decls u.tree.body (of_each There (stmts_names t.body) in_body)

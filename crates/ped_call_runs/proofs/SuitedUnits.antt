@@ -403,6 +403,26 @@ found_site lines [] s h = absurd h
 found_site lines (z ∷ zs) s (inl e) = (record { site = z; line = next_line lines }, inl refl, sym e)
 found_site lines (z ∷ zs) s (inr h) = let r = found_site (drop 1 lines) zs s h in (r.0, inr r.1, r.2)
 
+-- no dummy argument is private
+pub private_no_formals : (us : ProgramUnits) → IsLinked us → (u : ProgramUnit) → IsIn u (all_units us) → Each (λ x. is_among x u.formals ≡ false) (all_private_names_in u.tree.body)
+private_no_formals us linked u is = all_privates_in us u NoFormal each u.tree.body (λ z i. in_behind z (flat_map decl_sites u.tree.decls) (stmts_sites u.tree.body) i)
+  where
+    NoFormal : List ℕ → Type 0
+    NoFormal x = is_among x u.formals ≡ false
+
+    none_meets : (names : List (List ℕ)) → meets names u.formals ≡ false → Each NoFormal names
+    none_meets [] h = tt
+    none_meets (x ∷ xs) h = let p = or_parts (is_among x u.formals) (meets xs u.formals) h in (p.0, none_meets xs p.1)
+
+    each : (names : List (List ℕ)) → IsIn (private_names names) (program_sites u.tree) → Each NoFormal names
+    each names i = none_meets names (go (meets names u.formals) refl)
+      where
+        go : (t : Bool) → meets names u.formals ≡ t → t ≡ false
+        go false e = refl
+        go true e =
+            let q = found_site u.lines (program_sites u.tree) (private_names names) i in
+            absurd (linked Arguments q.0.line (inr (inl (record { unit = u; is_unit = is; site = q.0; is_site = q.1; names = names; is_private = q.2; formal = e; there = refl }))))
+
 -- the units of a file whose names and CALLs are right
 pub unit_suits : (us : ProgramUnits) → IsLinked us → (u : ProgramUnit) → IsIn u (all_units us) → HasPlainNames u → AllSuit us u u.tree.body
 unit_suits us linked u is plain =
@@ -413,25 +433,6 @@ unit_suits us linked u is plain =
     (of_each (MayBeWritten us u) (assigns u) (λ x m. record { plain = each_of (IsPlain u) (assigns u) plain.assigned x m; assigned = λ formal. ([], record { is_formal = formal; uses = m }) }))
     (of_each (MayBeWritten us u) (all_private_names_in u.tree.body) (λ x m. record {
       plain = each_of (IsPlain u) (all_private_names_in u.tree.body) plain.private x m;
-      assigned = λ formal. absurd (both_ways (is_among x u.formals) (each_of NoFormal (all_private_names_in u.tree.body) no_formals x m) formal);
+      assigned = λ formal. absurd (both_ways (is_among x u.formals) (each_of (λ y. is_among y u.formals ≡ false) (all_private_names_in u.tree.body) (private_no_formals us linked u is) x m) formal);
     }))
     plain.steps (λ p call. call)
-  where
-    NoFormal : List ℕ → Type 0
-    NoFormal x = is_among x u.formals ≡ false
-
-    none_meets : (names : List (List ℕ)) → meets names u.formals ≡ false → Each NoFormal names
-    none_meets [] h = tt
-    none_meets (x ∷ xs) h = let p = or_parts (is_among x u.formals) (meets xs u.formals) h in (p.0, none_meets xs p.1)
-
-    no_formals : Each NoFormal (all_private_names_in u.tree.body)
-    no_formals = all_privates_in us u NoFormal each u.tree.body (λ z i. in_behind z (flat_map decl_sites u.tree.decls) (stmts_sites u.tree.body) i)
-      where
-        each : (names : List (List ℕ)) → IsIn (private_names names) (program_sites u.tree) → Each NoFormal names
-        each names i = none_meets names (go (meets names u.formals) refl)
-          where
-            go : (t : Bool) → meets names u.formals ≡ t → t ≡ false
-            go false e = refl
-            go true e =
-                let q = found_site u.lines (program_sites u.tree) (private_names names) i in
-                absurd (linked Arguments q.0.line (inr (inl (record { unit = u; is_unit = is; site = q.0; is_site = q.1; names = names; is_private = q.2; formal = e; there = refl }))))

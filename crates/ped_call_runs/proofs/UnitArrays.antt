@@ -59,15 +59,15 @@ mutual
   all_no_ranks no_exprs = refl
   all_no_ranks (more_exprs e rest) = no_ranks_both (expr_uses e) (exprs_uses rest) (no_ranks e) (all_no_ranks rest)
 
-bounds_no_ranks : (bounds : List BoundTree) → ranks_in (bounds_uses bounds) ≡ []
+pub bounds_no_ranks : (bounds : List BoundTree) → ranks_in (bounds_uses bounds) ≡ []
 bounds_no_ranks [] = refl
 bounds_no_ranks (b ∷ bs) = no_ranks_both (expr_uses b.lower ++ expr_uses b.upper) (bounds_uses bs) (no_ranks_both (expr_uses b.lower) (expr_uses b.upper) (no_ranks b.lower) (no_ranks b.upper)) (bounds_no_ranks bs)
 
-items_no_ranks : (vs : List (List ℕ × ExprTree)) → ranks_in (flat_map (λ v. used_as Named v.0 ∷ expr_uses v.1) vs) ≡ []
+pub items_no_ranks : (vs : List (List ℕ × ExprTree)) → ranks_in (flat_map (λ v. used_as Named v.0 ∷ expr_uses v.1) vs) ≡ []
 items_no_ranks [] = refl
 items_no_ranks (v ∷ vs) = no_ranks_both (expr_uses v.1) (flat_map (λ v. used_as Named v.0 ∷ expr_uses v.1) vs) (no_ranks v.1) (items_no_ranks vs)
 
-saved_no_ranks : (xs : List (List ℕ)) → ranks_in (map (used_as Saved) xs) ≡ []
+pub saved_no_ranks : (xs : List (List ℕ)) → ranks_in (map (used_as Saved) xs) ≡ []
 saved_no_ranks [] = refl
 saved_no_ranks (x ∷ xs) = saved_no_ranks xs
 

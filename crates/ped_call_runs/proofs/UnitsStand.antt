@@ -83,7 +83,7 @@ module _ (us : ProgramUnits) (u : ProgramUnit) where
 
 module _ (us : ProgramUnits) (linked : IsLinked us) (plain : (u : ProgramUnit) → IsIn u (all_units us) → HasPlainNames u) where
   -- a CALL has as many arguments as there are dummy arguments
-  as_many : (u : ProgramUnit) → IsIn u (all_units us) → (c : Called) → CallSuits us u c → (v : ProgramUnit) → unit_of us c.name ≡ Some v → length (listed c.arguments) ≡ length v.formals
+  pub as_many : (u : ProgramUnit) → IsIn u (all_units us) → (c : Called) → CallSuits us u c → (v : ProgramUnit) → unit_of us c.name ≡ Some v → length (listed c.arguments) ≡ length v.formals
   as_many u is c suits v found = go (eqb (length (listed c.arguments)) (length v.formals)) refl
     where
       itself : (n : ℕ) → eqb n n ≡ true
@@ -108,7 +108,7 @@ module _ (us : ProgramUnits) (linked : IsLinked us) (plain : (u : ProgramUnit) �
           }))))
 
   -- dummy arguments are different
-  once : (v : ProgramUnit) → IsIn v (all_units us) → has_twice v.formals ≡ false
+  pub once : (v : ProgramUnit) → IsIn v (all_units us) → has_twice v.formals ≡ false
   once v is = go (has_twice v.formals) refl
     where
       go : (t : Bool) → has_twice v.formals ≡ t → t ≡ false
@@ -234,7 +234,7 @@ module _ (text : List ℕ) (us : ProgramUnits) (reads : ReadsLinkedUnits text us
   stays x m h = taken_stays 1 (1 + size) before.taken pairs owned_named.own new x m h
 
   read_taken : (x : List ℕ) → Reads us us.main x → is_among x before.taken ≡ true
-  read_taken x r = named_taken x (body_named us.main none x r)
+  read_taken x r = named_taken x (body_named us.main x r)
 
   same_value : (x : List ℕ) → value_named q.constants x ≡ value_named (constants_of us.main) x
   same_value x = ap (λ (cs : Values). value_named cs x) (constants_alike us none)

@@ -85,7 +85,7 @@ in_item : (i : ItemTree) → item_fits i ≡ true → AreNames (item_names i)
 in_item (Value e) h = in_expr e h
 in_item (Text t) h = tt
 
-in_private : (p : Surroundings) (h : Head) → private_fits p h ≡ true → AreNames h.private
+pub in_private : (p : Surroundings) (h : Head) → private_fits p h ≡ true → AreNames h.private
 in_private p h fits = go (has_some h.private) refl
   where
     none : (xs : List (List ℕ)) → has_some xs ≡ false → AreNames xs

@@ -1,10 +1,12 @@
 //! What runs of program units and of their expansion have in common.
 
-ghost use Rattle.std.specs.Prelude.{◌≡◌, ℕ, List};
-ghost use Rattle.ped_calls.specs.ped_valid.specs.ped_symbols.specs.NameRefusals.{IsValid};
+ghost use Rattle.std.specs.Prelude.{◌≡◌, ℕ, List, [], Some, IsTrue};
+ghost use Rattle.ped_tree.specs.Grammar.Fits.{fits};
+ghost use Rattle.ped_tree.specs.Grammar.Refusal.{Finding, StorageLimit, first_of, IsAmong};
+ghost use Rattle.ped_calls.specs.ped_valid.specs.ped_symbols.specs.NameRefusals.{name_refusals, IsValid};
 ghost use Rattle.ped_calls.specs.ped_units.specs.Units.{ProgramUnits};
 ghost use Rattle.ped_calls.specs.ped_units.specs.Expanding.{expansion};
-ghost use Rattle.ped_calls.specs.ped_units.specs.Verdicts.{ReadsLinkedUnits};
+ghost use Rattle.ped_calls.specs.ped_units.specs.Verdicts.{partial, IsPast, ReadsLinkedUnits};
 ghost use Rattle.ped_steps.specs.ped_eval.specs.Runs.{failed};
 ghost use Rattle.ped_steps.specs.ped_eval.specs.Outcomes.{Ends, Fault, outcome};
 ghost use Rattle.ped_call_runs.specs.UnitRuns.{run_units, outcome_of_units};
@@ -21,4 +23,12 @@ pub fn expansions_run_alike()
 /// In the expansion it may hold what the CALL before has left in it.
 pub fn expansions_fault_alike()
     ensures { (text : List ℕ) (us : ProgramUnits) (data_bytes : List ℕ) (fault statement : ℕ) → ReadsLinkedUnits text us → IsValid (expansion us) → (run_units us data_bytes).ending ≡ failed fault statement → (FaultsInOwn (run_units us data_bytes) → ⊥) → outcome (expansion us) data_bytes ≡ Fault fault (expanded_number us statement) }
+{}
+
+/// With some of its CALLs expanded, the first in text order, a main program breaks no rule on names but the limit of
+/// storage and references, where it is a program of the profile. So that limit is what is refused first, where it is
+/// said to be passed in expanding. The premise is needed: of more than 10^64 new names some would be the same.
+pub fn expansions_pass_limits_alone()
+    ensures names { (text : List ℕ) (us : ProgramUnits) (m : ℕ) → ReadsLinkedUnits text us → IsTrue (fits (partial us m)) → (f : Finding) → IsAmong f (name_refusals [] (partial us m)) → f.refusal ≡ StorageLimit }
+    ensures storage { (text : List ℕ) (us : ProgramUnits) (m : ℕ) → ReadsLinkedUnits text us → IsPast us m StorageLimit → (f : Finding) × (first_of (name_refusals [] (partial us m)) ≡ Some f) × (f.refusal ≡ StorageLimit) }
 {}

@@ -4,5 +4,5 @@
 
 mod laws;
 
-pub use laws::{expansions_fault_alike, expansions_run_alike};
+pub use laws::{expansions_fault_alike, expansions_pass_limits_alone, expansions_run_alike};
 pub use ped_calls::{OpenRefusal, Opened, UnitFinding, UnitRefusal, UnitRule, expansion};

@@ -73,7 +73,7 @@ left_out_of inner values c None = false ∷ []
 left_out_of inner values c (Some v) =
     false ∷ (map (is_left_out values) (listed c.arguments) ++ all_left_out (inner (formal_values values v.formals (listed c.arguments) ++ constants_of v)) v.tree.body)
 
--- the same, where CALLs stand so deep in one another at most
+-- the same, where CALLs are nested at most this deep
 abbrev pub left_out_in : ℕ → ProgramUnits → Values → Called → List Bool
 left_out_in zero us values c = false ∷ []
 left_out_in (suc depth) us values c = left_out_of (left_out_in depth us) values c (unit_of us c.name)

@@ -49,7 +49,7 @@ pub record Instance : Type 0 where
 abbrev pub main_instance : ProgramUnits → Instance
 main_instance us = record { setting = setting_of (for_names us.main); stands = []; constants = constants_of us.main }
 
--- the number behind the CALL's own and those of its arguments: under it counts the first statement of its subroutine (this project)
+-- the number after the CALL's own and those of its arguments: under it counts the first statement of its subroutine (this project)
 abbrev pub number_inside : Called → ℕ → ℕ
 number_inside c n = n + 1 + length (listed c.arguments)
 
@@ -59,7 +59,7 @@ formals_stand i n (f ∷ fs) (a ∷ rest) = (if is_variable_name i.constants a t
 formals_stand i n [] arguments = []
 formals_stand i n (f ∷ fs) [] = []
 
--- names of a unit for which nothing stands yet, each with a variable of the CALL's own (ANSI X3.9-1978, section 15.9.2)
+-- names of a unit that stand for nothing yet, each with a variable of the CALL's own (ANSI X3.9-1978, section 15.9.2)
 abbrev pub with_own : ℕ → Meanings → List (List ℕ) → Meanings
 with_own n m [] = m
 with_own n m (x ∷ xs) = with_own n (with_entry m x (Var (own n x))) xs
@@ -94,7 +94,7 @@ run_arguments i n (f ∷ fs) [] k scope s = nothing_done s
 abbrev pub CallRun : Type 0
 CallRun = Instance → Called → ℕ → Scope → Store → Run
 
--- a CALL stays where it stands
+-- a CALL stays where it is
 abbrev pub call_stays : Called → Unit {0} → Expanded (Unit {0})
 call_stays c state = record { statement = call_statement c; state = state }
 
@@ -132,7 +132,7 @@ abbrev pub size_in : (Called → ℕ) → Called → Option ProgramUnit → ℕ
 size_in size c None = 1
 size_in size c (Some v) = number_inside c 0 + all_sized size v.tree.body
 
--- the same, where CALLs stand so deep in one another at most (this project)
+-- the same, where CALLs are nested at most this deep (this project)
 abbrev pub call_size : ℕ → ProgramUnits → Called → ℕ
 call_size zero us c = 1
 call_size (suc depth) us c = size_in (call_size depth us) c (unit_of us c.name)
@@ -168,12 +168,12 @@ run_called call size i c n scope s (Some v) =
     then_run (run_arguments i n v.formals (listed c.arguments) (n + 1) scope (without_own n s))
     (unit_run_all call size (called_instance i n v c) v.tree.body (number_inside c n) scope)
 
--- the run of a CALL, where CALLs stand so deep in one another at most (ANSI X3.9-1978, section 15.6.3; this project)
+-- the run of a CALL, where CALLs are nested at most this deep (ANSI X3.9-1978, section 15.6.3; this project)
 abbrev pub call_run : ℕ → ProgramUnits → CallRun
 call_run zero us i c n scope s = nothing_done s
 call_run (suc depth) us i c n scope s = run_called (call_run depth us) (call_size depth us) i c n scope s (unit_of us c.name)
 
--- the run of program units on the lines of their data: without recursion CALLs stand in one another no deeper than there are subroutines (ANSI X3.9-1978, section 15.6; this project)
+-- the run of program units on the lines of their data: without recursion CALLs are nested no deeper than there are subroutines (ANSI X3.9-1978, section 15.6; this project)
 abbrev pub run_units : ProgramUnits → List ℕ → Run
 run_units us data_bytes =
     unit_run_all (call_run (length us.others) us) (call_size (length us.others) us) (main_instance us) us.main.tree.body 1 [] (store_at_start (lines data_bytes))

@@ -4,6 +4,7 @@ mod Corners
 mod Extremal
 mod InOneLoop
 mod Multiples
+mod Parted
 mod Points
 mod Steps
 mod Unknowns

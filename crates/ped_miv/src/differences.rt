@@ -49,7 +49,7 @@ fn common_part(view: &PairView, position: &Position, directions: &[Direction]) -
 }
 
 /// What the further loops of the source add to its subscript.
-fn source_part(view: &PairView, position: &Position) -> Option<Interval>
+pub(crate) fn source_part(view: &PairView, position: &Position) -> Option<Interval>
     requires { length position.now.source.inner ≡ length view.now.source_inner }
     ensures extremes { AreExtremes (InnerValue view.now.source_inner position.now.source.inner) result }
     ensures small { IfSome result (λ x. IsWithin (2 ^ 97) x) }
@@ -58,7 +58,7 @@ fn source_part(view: &PairView, position: &Position) -> Option<Interval>
 }
 
 /// What the further loops of the sink add to its subscript.
-fn sink_part(view: &PairView, position: &Position) -> Option<Interval>
+pub(crate) fn sink_part(view: &PairView, position: &Position) -> Option<Interval>
     requires { length position.now.sink.inner ≡ length view.now.sink_inner }
     ensures extremes { AreExtremes (InnerValue view.now.sink_inner position.now.sink.inner) result }
     ensures small { IfSome result (λ x. IsWithin (2 ^ 97) x) }
@@ -67,7 +67,12 @@ fn sink_part(view: &PairView, position: &Position) -> Option<Interval>
 }
 
 /// The extremes of the difference, from those of its parts.
-fn combined(common: Interval, source: Interval, sink: Interval, constant: i128) -> Interval
+pub(crate) fn combined(
+    common: Interval,
+    source: Interval,
+    sink: Interval,
+    constant: i128,
+) -> Interval
     requires common { IsWithin (2 ^ 97) common }
     requires source { IsWithin (2 ^ 97) source }
     requires sink { IsWithin (2 ^ 97) sink }

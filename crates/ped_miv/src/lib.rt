@@ -5,8 +5,10 @@
 mod banerjee;
 mod differences;
 mod extremes;
+mod parts;
 mod rows;
 mod solutions;
 
 pub use banerjee::{banerjee_excludes, may_refine};
+pub use parts::{LoopParts, loop_parts, parts_exclude};
 pub use solutions::gcd_excludes;

@@ -1,5 +1,5 @@
 -- What the tests of the forms answer for a position of a view: `v` is the view as the code reads it.
-use Rattle.std.proofs.Common.{◌≡◌, ◌⊎◌, ◌↔◌, ℕ, ◌<◌, pos, List, length, get_or, slice_get, Bool, false, IsTrue, Option, IfSome, refl, sym, ap, subst, ◌∙◌, inl, inr, arith}
+use Rattle.std.proofs.Common.{◌≡◌, ◌⊎◌, ◌↔◌, ℕ, ◌<◌, ◌≤◌, pos, List, length, get_or, slice_get, Bool, false, IsTrue, Option, IfSome, refl, sym, ap, subst, ◌∙◌, arith}
 use Rattle.std.proofs.lemmas.List.{get_or_default}
 use Rattle.std.proofs.lemmas.Option.{slice_get_read}
 use Rattle.ped_views.specs.declared.directions.Direction.{Direction}
@@ -16,7 +16,7 @@ read : {X : Type 0} (items all : List X) (k : ℕ) (x d : X) → items ≡ all �
 read items all k x d e h r = r ∙ ap (λ ys. get_or ys k x) e ∙ get_or_default all k x d h
 
 module _ (v now : View) (shown : v ≡ now) (view : IsView v) (k : ℕ) (p : SubscriptPair) (below : k < length now.positions) (is : p ≡ get_or v.positions k p) where
-  is_now : p ≡ get_or now.positions k p
+  pub is_now : p ≡ get_or now.positions k p
   is_now = is ∙ ap (λ (w : View). get_or w.positions k p) shown
 
   -- what holds of the position that was read holds of the one at its place, and the other way round
@@ -26,8 +26,11 @@ module _ (v now : View) (shown : v ≡ now) (view : IsView v) (k : ℕ) (p : Sub
   pub of_place : (P : SubscriptPair → Type 0) → IfSome (slice_get now.positions k) P → P p
   of_place P held = subst (λ (o : Option SubscriptPair). IfSome o P) (slice_get_read now.positions (length now.positions) k p refl below is_now) held
 
-  fits : FitsLoops (length now.loops) (length now.source_inner) (length now.sink_inner) p
+  pub fits : FitsLoops (length now.loops) (length now.source_inner) (length now.sink_inner) p
   fits = subst (FitsLoops (length now.loops) (length now.source_inner) (length now.sink_inner)) (sym is_now) ((subst IsView shown view).positions k p below)
+
+  pub few : length now.loops ≤ 6
+  few = let d = (subst IsView shown view).source_depth in omega arith
 
   -- a loop that the position has is one of the view's
   pub is_common : (j : ℕ) → j < length p.source.common → j < length now.loops
@@ -83,17 +86,9 @@ module _ (v now : View) (shown : v ≡ now) (view : IsView v) (k : ℕ) (p : Sub
       pub says_weak_crossing : weak_crossing_siv o ≡ form_of p → (IsTrue t ↔ NeverMeets o.at_source o.at_sink p.source.constant p.sink.constant r (get_or vector o.place Before)) → Answers
       says_weak_crossing e h = says (weak_crossing_siv o) e (met h)
 
-    -- Banerjee's test excludes
-    pub says_beyond : other_form ≡ form_of p → IsTrue t → IfSome (slice_get now.positions k) (λ q. IsTrue t ↔ IsBeyondExtremes now q vector) → Answers
-    says_beyond e holds h = says other_form e (λ x. inr ((of_place (λ q. IsTrue t ↔ IsBeyondExtremes now q vector) h).0 holds), λ x. holds)
-
-    -- it doesn't, and the GCD test decides
-    pub says_solved : (b : Bool) → other_form ≡ form_of p → b ≡ false → IfSome (slice_get now.positions k) (λ q. IsTrue b ↔ IsBeyondExtremes now q vector) → (IsTrue t ↔ HasNoSolution p vector) → Answers
-    says_solved b e fails h solved = says other_form e (λ x. inl (solved.0 x), back)
-      where
-        back : HasNoSolution p vector ⊎ IsBeyondExtremes now p vector → IsTrue t
-        back (inl s) = solved.1 s
-        back (inr x) = let y = (of_place (λ q. IsTrue b ↔ IsBeyondExtremes now q vector) h).1 x in absurd (cc)
+    -- Banerjee's test and the GCD test decide
+    pub says_other : other_form ≡ form_of p → (IsTrue t ↔ (HasNoSolution p vector ⊎ IsBeyondExtremes now p vector)) → Answers
+    says_other e h = says other_form e h
 
     -- a usable position excludes as its form does, and any other nothing
     pub excludes_usable : (usable : Bool) → usable ≡ p.usable → IsTrue usable → IfSome (slice_get now.positions k) Says → IfSome (slice_get now.positions k) (λ q. IsTrue t ↔ Excludes now q vector)

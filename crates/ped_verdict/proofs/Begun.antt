@@ -1,5 +1,5 @@
 -- Once all loops that occur in a position have their directions in a front, it excludes all vectors that begin with the front, or none.
-use Rattle.std.proofs.Common.{◌≡◌, ◌⊎◌, ℕ, zero, suc, ◌+◌, ◌-◌, ◌<◌, ◌≤◌, ℤ, pos, ◌+ℤ◌, ◌-ℤ◌, ◌*ℤ◌, List, [], ◌∷◌, ◌++◌, length, take, drop, replicate, get_or, slice_get, Option, Some, IfSome, Bool, true, false, ◌&&◌, not, IsTrue, ◌↔◌, refl, sym, ap, subst, ◌∙◌, inl, inr, arith}
+use Rattle.std.proofs.Common.{◌≡◌, ℕ, zero, suc, ◌+◌, ◌-◌, ◌<◌, ◌≤◌, ℤ, pos, ◌+ℤ◌, ◌-ℤ◌, ◌*ℤ◌, List, [], ◌∷◌, ◌++◌, length, take, drop, replicate, get_or, slice_get, Option, Some, IfSome, Bool, true, false, ◌&&◌, not, IsTrue, ◌↔◌, refl, sym, ap, subst, ◌∙◌, inl, inr, arith}
 use Rattle.std.specs.List.{All, list_all}
 use Rattle.std.proofs.lemmas.Bool.{cases_Bool, cases_lt, false≢true}
 use Rattle.std.proofs.lemmas.Bool.Decides.{Decides-int_eq}
@@ -15,7 +15,6 @@ use Rattle.ped_views.specs.Limits.{IsPosition, FitsLoops, IsView}
 use Rattle.ped_views.specs.Excluded.{NeverMeets, NeverMeetTogether, group_of, dot, subscript_value, SharesIndices, HasNoSolution, CommonInRange, IsPoint, IsBeyondExtremes, FormExcludes, Excludes, loop_at, direction_at}
 use Rattle.ped_views.specs.Vectors.{IsPossible}
 use Rattle.ped_views.proofs.Products.{linear}
-use Rattle.ped_verdict.specs.Marked.{BeginsWith}
 use Rattle.ped_verdict.specs.Fronts.{is_done, IsUnasked, IsFree, IsFine, AreFine, IsOpen, IsReady, IsShut}
 use Rattle.ped_verdict.proofs.Answering.{at_place, of_place}
 use Rattle.ped_verdict.proofs.FormFacts.{both, occurring-none, occurring-some, IsOne, Facts, facts}
@@ -253,18 +252,8 @@ module _ (v now : View) (shown : v ≡ now) (view : IsView v) (k : ℕ) (p : Sub
   pub fine_undone : is_done (length front) p ≡ false → IfSome (slice_get now.positions k) (IsFine now front)
   fine_undone n = at_place v now shown view k p below is (IsFine now front) (inr (λ done rest. absurd (false≢true (sym n ∙ done))))
 
-  pub shut_there : (t : Bool) → IsTrue t → IfSome (slice_get now.positions k) (λ q. IsTrue t → IsTrue q.usable × IsBeyondExtremes now q front) → IsShut now front
-  shut_there t holds h =
-      let s = of_place v now shown view k p below is (λ q. IsTrue t → IsTrue q.usable × IsBeyondExtremes now q front) h holds in
-      shut_beyond now fit front k p below there s.0 s.1
-
-  pub dead_usable : (usable : Bool) → usable ≡ p.usable → IsTrue usable → (t : Bool) → IfSome (slice_get now.positions k) (λ q. IsTrue t ↔ IsBeyondExtremes now q front) → IfSome (slice_get now.positions k) (λ q. IsTrue t → IsTrue q.usable × IsBeyondExtremes now q front)
-  dead_usable usable e holds t h =
-      let s = of_place v now shown view k p below is (λ q. IsTrue t ↔ IsBeyondExtremes now q front) h in
-      at_place v now shown view k p below is (λ q. IsTrue t → IsTrue q.usable × IsBeyondExtremes now q front) (λ x. (sym e ∙ holds, s.0 x))
-
-  pub dead_nothing : (t : Bool) → t ≡ false → IfSome (slice_get now.positions k) (λ q. IsTrue t → IsTrue q.usable × IsBeyondExtremes now q front)
-  dead_nothing t n = at_place v now shown view k p below is (λ q. IsTrue t → IsTrue q.usable × IsBeyondExtremes now q front) (λ x. absurd (false≢true (sym n ∙ x)))
+  pub shut_there : (t : Bool) → IsTrue t → (IsTrue t → IsTrue p.usable) → (IsTrue t → IsBeyondExtremes now p front) → IsShut now front
+  shut_there t holds usable beyond = shut_beyond now fit front k p below there (usable holds) (beyond holds)
 
   module _ (done : IsTrue (is_done (length front) p)) (w pad : List Direction) (e : w ≡ front ++ pad) (t : Bool) (h : IfSome (slice_get now.positions k) (λ q. IsTrue t ↔ Excludes now q w)) where
     own : IsTrue t ↔ Excludes now p w

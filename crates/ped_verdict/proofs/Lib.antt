@@ -8,3 +8,4 @@ mod Grouping
 mod Ordered
 mod Points
 mod Possible
+mod Sighted

@@ -5,3 +5,4 @@ pub mod Fronts
 pub mod Groups
 pub mod Kept
 pub mod Marked
+pub mod Sights

@@ -1,14 +1,18 @@
 //! Whether the positions of a view exclude a direction vector. Each is tested by its form, and those that are strong
 //! SIV in one loop are tested together.
 
-ghost use Rattle.std.specs.Prelude.{◌≡◌, ◌↔◌, ◌<◌, pos, neg_ℤ, length, slice_get, IfSome, IsTrue};
+ghost use Rattle.std.specs.Prelude.{◌≡◌, ◌↔◌, ◌⊎◌, ◌<◌, ◌≤◌, pos, neg_ℤ, length, slice_get, IfSome, IsTrue};
 ghost use Rattle.ped_views.specs.Forms as plain;
-ghost use Rattle.ped_views.specs.Excluded.{NeverMeets, FormExcludes, Excludes};
+ghost use Rattle.ped_views.specs.Forms.{other_form};
+ghost use Rattle.ped_views.specs.Limits.{FitsLoops};
+ghost use Rattle.ped_views.specs.Excluded.{NeverMeets, HasNoSolution, IsBeyondExtremes, FormExcludes, Excludes};
 ghost use Rattle.ped_verdict.specs.CodeForms.{HasOneZero};
 ghost use Rattle.ped_verdict.specs.Groups.{AreGroups};
+ghost use Rattle.ped_verdict.specs.Sights.{IsSight, AreSights};
 
 use crate::forms::{Form, Occurrence, form_of};
-use ped_miv::{banerjee_excludes, gcd_excludes};
+use crate::sights::Sight;
+use ped_miv::{gcd_excludes, parts_exclude};
 use ped_siv::{
     StrongRow, group_excludes, weak_crossing_excludes, weak_zero_excludes, ziv_excludes,
 };
@@ -18,27 +22,31 @@ use ped_views::{Direction, LoopRange, PairView, Position};
 pub(crate) fn excludes(
     view: &PairView,
     groups: &[Vec<StrongRow>],
+    sights: &[Sight],
     position: usize,
     vector: &[Direction],
 ) -> bool
     requires groups { AreGroups view.now groups.now }
+    requires sights { AreSights view.now sights.now }
     requires place { position < length view.now.positions }
     requires vector { length vector.now ≡ length view.now.loops }
     ensures { IfSome
         (slice_get view.now.positions position)
         (λ p. IsTrue result ↔ Excludes view.now p vector.now) }
 {
-    view.positions[position].usable && form_excludes(view, groups, position, vector)
+    view.positions[position].usable && form_excludes(view, groups, sights, position, vector)
 }
 
 /// Whether the subscripts at this place, which are usable, exclude the vector, by the test of their form.
 fn form_excludes(
     view: &PairView,
     groups: &[Vec<StrongRow>],
+    sights: &[Sight],
     position: usize,
     vector: &[Direction],
 ) -> bool
     requires groups { AreGroups view.now groups.now }
+    requires sights { AreSights view.now sights.now }
     requires place { position < length view.now.positions }
     requires usable { IfSome (slice_get view.now.positions position) (λ p. IsTrue p.usable) }
     requires vector { length vector.now ≡ length view.now.loops }
@@ -60,8 +68,26 @@ fn form_excludes(
         Form::WeakCrossing(one) => {
             weak_crossing(pair, one, &view.loops[one.place], vector[one.place])
         }
-        Form::Other => banerjee_excludes(view, position, vector) || gcd_excludes(pair, vector),
+        Form::Other => other_excludes(view, pair, &sights[position], vector),
     }
+}
+
+/// Whether subscripts in several indices exclude the vector, by Banerjee's test or the GCD test.
+fn other_excludes(view: &PairView, pair: &Position, sight: &Sight, vector: &[Direction]) -> bool
+    requires fits { FitsLoops
+        (length view.now.loops)
+        (length view.now.source_inner)
+        (length view.now.sink_inner)
+        pair.now }
+    requires sight { IsSight view.now pair.now sight.now }
+    requires other { other_form ≡ plain.form_of pair.now }
+    requires vector { length vector.now ≤ 6 }
+    ensures { IsTrue result ↔ (HasNoSolution pair.now vector.now ⊎ IsBeyondExtremes view.now pair.now vector.now) }
+{
+    if parts_exclude(view, pair, &sight.parts, vector) {
+        return true;
+    }
+    !sight.is_solved && gcd_excludes(pair, vector)
 }
 
 /// Whether subscripts without an index exclude every vector.

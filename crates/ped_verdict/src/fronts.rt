@@ -5,27 +5,36 @@ ghost use Rattle.std.specs.Prelude.{◌≡◌, ◌≤◌, ◌<◌, pos, length, 
 ghost use Rattle.std.specs.Bool.{IsFalse};
 ghost use Rattle.std.specs.List.{list_all};
 ghost use Rattle.ped_views.specs.Whole.{is_zero};
+ghost use Rattle.ped_views.specs.Limits.{FitsLoops};
 ghost use Rattle.ped_views.specs.Excluded.{IsBeyondExtremes};
 ghost use Rattle.ped_verdict.specs.Groups.{AreGroups};
+ghost use Rattle.ped_verdict.specs.Sights.{IsSight, AreSights};
 ghost use Rattle.ped_verdict.specs.Fronts as Spec;
 ghost use Rattle.ped_verdict.specs.Fronts.{IsUnasked, IsFine, AreFine, IsShut};
 
 use crate::exclusion::excludes;
+use crate::sights::Sight;
 use crate::vectors::Vector;
-use ped_miv::banerjee_excludes;
+use ped_miv::parts_exclude;
 use ped_siv::StrongRow;
 use ped_views::{Direction, PairView, Position};
 
 /// Whether vectors that begin with this front may be possible. Where they may, no position excludes one that has all its
 /// directions in the front, unless it had them one loop before.
-pub(crate) fn is_open(view: &PairView, groups: &[Vec<StrongRow>], front: &Vector) -> bool
+pub(crate) fn is_open(
+    view: &PairView,
+    groups: &[Vec<StrongRow>],
+    sights: &[Sight],
+    front: &Vector,
+) -> bool
     requires groups { AreGroups view.now groups.now }
+    requires sights { AreSights view.now sights.now }
     requires front { length front.now ≤ length view.now.loops }
     ensures fine { IsTrue result → AreFine view.now front.now }
     ensures shut { IsFalse result → IsShut view.now front.now }
 {
     for position in 0..view.positions.len() {
-        if !leaves_open(view, groups, position, front) {
+        if !leaves_open(view, groups, sights, position, front) {
             return false;
         }
     }
@@ -33,8 +42,15 @@ pub(crate) fn is_open(view: &PairView, groups: &[Vec<StrongRow>], front: &Vector
 }
 
 /// Whether the position at this place leaves it open.
-fn leaves_open(view: &PairView, groups: &[Vec<StrongRow>], position: usize, front: &Vector) -> bool
+fn leaves_open(
+    view: &PairView,
+    groups: &[Vec<StrongRow>],
+    sights: &[Sight],
+    position: usize,
+    front: &Vector,
+) -> bool
     requires groups { AreGroups view.now groups.now }
+    requires sights { AreSights view.now sights.now }
     requires place { position < length view.now.positions }
     requires front { length front.now ≤ length view.now.loops }
     ensures fine { IsTrue result → IfSome (slice_get view.now.positions position) (IsFine view.now front.now) }
@@ -46,19 +62,30 @@ fn leaves_open(view: &PairView, groups: &[Vec<StrongRow>], position: usize, fron
         return true;
     }
     if is_done(pair, loops) {
-        return !excludes(view, groups, position, front.padded(view.loops.len()));
+        return !excludes(
+            view,
+            groups,
+            sights,
+            position,
+            front.padded(view.loops.len()),
+        );
     }
-    !is_dead_end(view, position, front.directions())
+    !is_dead_end(view, pair, &sights[position], front.directions())
 }
 
-/// Whether the extremes at a usable position rule the front out, whatever directions stand behind it.
-fn is_dead_end(view: &PairView, position: usize, front: &[Direction]) -> bool
-    requires { position < length view.now.positions }
-    ensures { IfSome
-        (slice_get view.now.positions position)
-        (λ p. IsTrue result → IsTrue p.usable × IsBeyondExtremes view.now p front.now) }
+/// Whether the extremes at a usable position rule the front out, whatever directions stand behind it. They are asked
+/// where the form of the position is none of a single index.
+fn is_dead_end(view: &PairView, pair: &Position, sight: &Sight, front: &[Direction]) -> bool
+    requires fits { FitsLoops
+        (length view.now.loops)
+        (length view.now.source_inner)
+        (length view.now.sink_inner)
+        pair.now }
+    requires sight { IsSight view.now pair.now sight.now }
+    ensures usable { IsTrue result → IsTrue pair.now.usable }
+    ensures beyond { IsTrue result → IsBeyondExtremes view.now pair.now front.now }
 {
-    view.positions[position].usable && banerjee_excludes(view, position, front)
+    pair.usable && sight.is_other && parts_exclude(view, pair, &sight.parts, front)
 }
 
 /// Whether the last of so many common loops occurs in a position. Where there are none: whether none of all does.

@@ -12,6 +12,7 @@ mod groups;
 mod listing;
 mod places;
 mod refining;
+mod sights;
 mod steps;
 mod testing;
 mod vectors;

@@ -1,8 +1,8 @@
-use Rattle.std.proofs.Common.{◌≡◌, All, pos, List, sym, subst, ◌∙◌}
+use Rattle.std.proofs.Common.{◌≡◌, All, pos, List, sym, subst, ◌∙◌, arith}
 use Rattle.ped_views.specs.declared.strong_rows.StrongRow.{StrongRow}
 use Rattle.ped_views.specs.Excluded.{group_of}
 use Rattle.ped_verdict.specs.CodeForms.{occurrence_shown}
-use Rattle.ped_verdict.proofs.Answering.{is_common, group_there, says_ziv, says_strong, says_weak_zero, says_weak_crossing, says_beyond, says_solved}
+use Rattle.ped_verdict.proofs.Answering.{is_common, group_there, says_ziv, says_strong, says_weak_zero, says_weak_crossing, says_other, fits, is_now, few}
 use Rattle.ped_verdict.proofs.Grouping.{group_read, all_some}
 use Rattle.ped_verdict.proofs.exclusion.form_excludes.Goals as goal
 
@@ -36,8 +36,14 @@ returns-in-WeakZero c = says_weak_zero _ c.args.view.now c.view.view_is c.view.i
 pub returns-in-WeakCrossing : goal.returns-in-WeakCrossing
 returns-in-WeakCrossing c = says_weak_crossing _ c.args.view.now c.view.view_is c.view.invariant c.args.position c.index-pair.result.now c.requires.place c.index-pair.ensures c.args.vector.now c.requires.vector c.weak_crossing.result (occurrence_shown c.in-WeakCrossing.one) c.index-in-WeakCrossing.result.now c.in-WeakCrossing.ensures.sound.0 c.index-in-WeakCrossing.ensures c.in-WeakCrossing.ensures.form c.weak_crossing.ensures
 
-pub returns-then-banerjee_excludes : goal.returns-then-banerjee_excludes
-returns-then-banerjee_excludes c = says_beyond _ c.args.view.now c.view.view_is c.view.invariant c.args.position c.index-pair.result.now c.requires.place c.index-pair.ensures c.args.vector.now c.requires.vector c.banerjee_excludes.result c.in-Other.ensures.form c.if-banerjee_excludes.true c.banerjee_excludes.ensures
+pub other_excludes-requires-clause-fits : goal.other_excludes-requires-clause-fits
+other_excludes-requires-clause-fits c = fits _ c.args.view.now c.view.view_is c.view.invariant c.args.position c.index-pair.result.now c.requires.place c.index-pair.ensures
 
-pub returns-else-banerjee_excludes : goal.returns-else-banerjee_excludes
-returns-else-banerjee_excludes c = says_solved _ c.args.view.now c.view.view_is c.view.invariant c.args.position c.index-pair.result.now c.requires.place c.index-pair.ensures c.args.vector.now c.requires.vector c.gcd_excludes.result c.banerjee_excludes.result c.in-Other.ensures.form c.if-banerjee_excludes.false c.banerjee_excludes.ensures c.gcd_excludes.ensures
+pub other_excludes-requires-clause-sight : goal.other_excludes-requires-clause-sight
+other_excludes-requires-clause-sight c = c.requires.sights.each c.args.position c.index-pair.result.now c.index-sights-position.result c.requires.place (is_now _ c.args.view.now c.view.view_is c.view.invariant c.args.position c.index-pair.result.now c.requires.place c.index-pair.ensures) c.index-sights-position.is
+
+pub other_excludes-requires-clause-vector : goal.other_excludes-requires-clause-vector
+other_excludes-requires-clause-vector c = let l = c.requires.vector in let f = few _ c.args.view.now c.view.view_is c.view.invariant c.args.position c.index-pair.result.now c.requires.place c.index-pair.ensures in omega arith
+
+pub returns-in-Other : goal.returns-in-Other
+returns-in-Other c = says_other _ c.args.view.now c.view.view_is c.view.invariant c.args.position c.index-pair.result.now c.requires.place c.index-pair.ensures c.args.vector.now c.requires.vector c.other_excludes.result c.in-Other.ensures.form c.other_excludes.ensures

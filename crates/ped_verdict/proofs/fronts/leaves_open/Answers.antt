@@ -1,7 +1,7 @@
-use Rattle.std.proofs.Common.{◌∙◌, ℕ, List, ap, sym, subst, slice_get, IfSome, IsTrue}
-use Rattle.ped_views.specs.declared.directions.Direction.{Direction}
+use Rattle.std.proofs.Common.{◌∙◌, ℕ, ap, sym, subst}
 use Rattle.ped_views.specs.Excluded.{IsBeyondExtremes}
 use Rattle.ped_verdict.specs.Fronts.{IsUnasked, is_done}
+use Rattle.ped_verdict.proofs.Answering.{fits, is_now}
 use Rattle.ped_verdict.proofs.Begun.{not_held, not_failed, fine_unasked, fine_undone, fine_asked, shut_there, shut_asked}
 use Rattle.ped_verdict.proofs.fronts.leaves_open.Goals as goal
 
@@ -27,7 +27,14 @@ returns-clause-fine c = λ t.
     let undone = ap (λ (m : ℕ). is_done m c.index-pair.result.now) (sym c.len-loops.ensures) ∙ sym c.is_done.ensures ∙ c.if-is_done.false in
     fine_undone _ c.args.view.now c.view.view_is c.view.invariant c.args.position c.index-pair.result.now c.requires.place c.index-pair.ensures c.args.front.now undone
 
+pub is_dead_end-requires-clause-fits : goal.is_dead_end-requires-clause-fits
+is_dead_end-requires-clause-fits c = fits _ c.args.view.now c.view.view_is c.view.invariant c.args.position c.index-pair.result.now c.requires.place c.index-pair.ensures
+
+pub is_dead_end-requires-clause-sight : goal.is_dead_end-requires-clause-sight
+is_dead_end-requires-clause-sight c = c.requires.sights.each c.args.position c.index-pair.result.now c.index-sights-position.result c.requires.place (is_now _ c.args.view.now c.view.view_is c.view.invariant c.args.position c.index-pair.result.now c.requires.place c.index-pair.ensures) c.index-sights-position.is
+
 pub returns-clause-shut : goal.returns-clause-shut
 returns-clause-shut c = λ f.
     shut_there _ c.args.view.now c.view.view_is c.view.invariant c.args.position c.index-pair.result.now c.requires.place c.index-pair.ensures c.args.front.now
-    c.is_dead_end.result (not_failed c.is_dead_end.result f) (subst (λ (front : List Direction). IfSome (slice_get c.args.view.now.positions c.args.position) (λ q. IsTrue c.is_dead_end.result → IsTrue q.usable × IsBeyondExtremes c.args.view.now q front)) c.directions.ensures.value c.is_dead_end.ensures)
+    c.is_dead_end.result (not_failed c.is_dead_end.result f) c.is_dead_end.ensures.usable
+    (λ t. subst (IsBeyondExtremes c.args.view.now c.index-pair.result.now) c.directions.ensures.value (c.is_dead_end.ensures.beyond t))

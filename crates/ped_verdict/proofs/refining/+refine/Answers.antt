@@ -1,4 +1,4 @@
-use Rattle.std.proofs.Common.{◌≡◌, ◌^◌, ◌<◌, ◌≤◌, ◌∙◌, true, slice_set, ap, sym, subst, length, inr, rules, arith}
+use Rattle.std.proofs.Common.{◌≡◌, ◌<◌, ◌≤◌, ◌∙◌, true, slice_set, ap, subst, length, inr, rules, arith}
 use Rattle.std.proofs.lemmas.Grind.{common_steps}
 use Rattle.std.proofs.lemmas.List.{length_push}
 use Rattle.ped_views.specs.declared.directions.Direction.TheVariants.{Before, Same, After}
@@ -18,7 +18,7 @@ refine-requires t c =
     let long = ap length c.with.ensures in
     let within : length c.with.result ≤ length c.args.view.now.loops = omega arith in
     let ready : IsReady c.args.view.now c.with.result = inr (c.args.front, Before, c.with.ensures, opened c.args.view.now c.args.front c.requires.ready (c.is_open.ensures.fine c.if-not-is_open.false)) in
-    (search rules, (c.requires.groups, (within, (ready, c.requires.wide))))
+    (search rules, (c.requires.groups, (c.requires.sights, (within, (ready, c.requires.wide)))))
 
 pub refine-requires-else-len : goal.refine-requires-else-len
 refine-requires-else-len t c =
@@ -28,7 +28,7 @@ refine-requires-else-len t c =
     let long = ap length c.with-else-len.ensures in
     let within : length c.with-else-len.result ≤ length c.args.view.now.loops = omega arith in
     let ready : IsReady c.args.view.now c.with-else-len.result = inr (c.args.front, Same, c.with-else-len.ensures, opened c.args.view.now c.args.front c.requires.ready (c.is_open.ensures.fine c.if-not-is_open.false)) in
-    (search rules, (c.requires.groups, (within, (ready, c.refine.ensures.wide ∙ c.requires.wide))))
+    (search rules, (c.requires.groups, (c.requires.sights, (within, (ready, c.refine.ensures.wide ∙ c.requires.wide)))))
 
 pub refine-requires-else-len-2 : goal.refine-requires-else-len-2
 refine-requires-else-len-2 t c =
@@ -38,7 +38,7 @@ refine-requires-else-len-2 t c =
     let long = ap length c.with-else-len-2.ensures in
     let within : length c.with-else-len-2.result ≤ length c.args.view.now.loops = omega arith in
     let ready : IsReady c.args.view.now c.with-else-len-2.result = inr (c.args.front, After, c.with-else-len-2.ensures, opened c.args.view.now c.args.front c.requires.ready (c.is_open.ensures.fine c.if-not-is_open.false)) in
-    (search rules, (c.requires.groups, (within, (ready, c.refine-else-len.ensures.wide ∙ c.refine.ensures.wide ∙ c.requires.wide))))
+    (search rules, (c.requires.groups, (c.requires.sights, (within, (ready, c.refine-else-len.ensures.wide ∙ c.refine.ensures.wide ∙ c.requires.wide)))))
 
 pub returns-then-not-is_open : goal.returns-then-not-is_open
 returns-then-not-is_open t c = added_none c.args.view.now c.args.front c.args.possible.now (c.is_open.ensures.shut c.if-not-is_open.true)

@@ -1,6 +1,8 @@
+mod CommonLoops
 mod Exchanging
 mod FormLengths
 mod HeldEdges
+mod EdgesTouching
 mod EdgesWithin
 mod InOrder
 mod Known
@@ -9,10 +11,12 @@ mod Matching
 mod OneMore
 pub mod OnePane
 mod Places
+mod PrintedRows
 mod Selecting
 mod SideLaws
 mod KnownSides
 mod NamedUnknowns
+mod NumberedStatements
 mod Slices
 mod Standing
 mod ToldViews

@@ -1,5 +1,5 @@
 -- The references at the places of a pair.
-use Rattle.std.proofs.Common.{◌≡◌, ℕ, zero, suc, ◌<◌, ◌≤◌, List, [], ◌∷◌, ◌++◌, length, map, drop, Bool, false, Option, Some, None, refl, ap, sym, ◌∙◌, append_assoc, append-nil, arith}
+use Rattle.std.proofs.Common.{◌≡◌, ℕ, zero, suc, ◌<◌, ◌≤◌, List, [], ◌∷◌, ◌++◌, length, map, drop, Option, Some, None, refl, ap, sym, ◌∙◌, append_assoc, append-nil, arith}
 use Rattle.std.specs.Prelude.{slice_get, slice_index_or}
 use Rattle.ped_refs.specs.References.{Reference}
 use Rattle.ped_refs.specs.Occurrences.{both, pair_at}
@@ -23,11 +23,15 @@ places_there refs pair p e = both_there (slice_get refs pair.source) (slice_get 
 pub one_there : (refs : List Reference) (n : ℕ) (a b : Reference) → slice_get refs n ≡ Some a → slice_get refs n ≡ Some b → a ≡ b
 one_there refs n a b e f = cc
 
--- what is computed of each item, at the place of one
-pub index_mapped : {A B : Type 0} (f : A → B) (g : B → Bool) (xs : List A) (k : ℕ) (r : B) → slice_get (map f xs) k ≡ Some r → slice_index_or (map (λ x. g (f x)) xs) k false ≡ g r
-index_mapped f g [] k r e = cc
-index_mapped f g (x ∷ xs) zero r e = ap g (some_is (f x) r e)
-index_mapped f g (x ∷ xs) (suc k) r e = index_mapped f g xs k r e
+-- what is made of each item, at the place of one
+pub item_mapped : {A B C : Type 0} (f : A → B) (g : B → C) (xs : List A) (ys : List C) (k : ℕ) (r : B) (y : C) → ys ≡ map (λ x. g (f x)) xs
+    → slice_get (map f xs) k ≡ Some r → slice_get ys k ≡ Some y → y ≡ g r
+item_mapped f g xs ys k r y are e there = some_is y (g r) (sym there ∙ ap (λ (zs : List _). slice_get zs k) are ∙ made f g xs k r e)
+  where
+    made : {A B C : Type 0} (f : A → B) (g : B → C) (xs : List A) (k : ℕ) (r : B) → slice_get (map f xs) k ≡ Some r → slice_get (map (λ x. g (f x)) xs) k ≡ Some (g r)
+    made f g [] k r e = cc
+    made f g (x ∷ xs) zero r e = ap (λ z. Some (g z)) (some_is (f x) r e)
+    made f g (x ∷ xs) (suc k) r e = made f g xs k r e
 
 none_is_some : {A : Type 0} (x : A) → None ≡ Some x → ⊥
 none_is_some x e = cc

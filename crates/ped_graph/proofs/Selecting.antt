@@ -41,11 +41,12 @@ extent_by_test t number false = extent_at (all_numbered t.body) (number - 1)
 pub extent_is : (t : ProgramTree) (h : Held) (number : ℕ) → h ≡ held_of t → extent_held h.frame.extents number ≡ extent_of t number
 extent_is t h number is = ap (λ (k : Held). extent_held k.frame.extents number) is ∙ extent_by_test t number (number == 0)
 
--- the dependences of a statement
-pub touching : (t : ProgramTree) (number extent : ℕ) (all kept : List CodeEdge) → extent ≡ extent_of t number
-    → kept ≡ filter (λ e. touches number extent (edge_of e)) all → map edge_of kept ≡ edges_of t number (map edge_of all)
-touching t number extent all kept size is =
-    ap (λ (es : List CodeEdge). map edge_of es) is ∙ filter_mapped edge_of (touches number extent) all ∙ ap (λ (k : ℕ). filter (touches number k) (map edge_of all)) size
+-- the dependences of a statement, where others than these have the same of it
+pub same_touching : (t : ProgramTree) (number extent : ℕ) (found : List CodeEdge) (all : List Edge) (kept : List CodeEdge) → extent ≡ extent_of t number
+    → kept ≡ filter (λ e. touches number extent (edge_of e)) found
+    → filter (λ e. touches number extent e) (map edge_of found) ≡ filter (λ e. touches number extent e) all → map edge_of kept ≡ edges_of t number all
+same_touching t number extent found all kept size is same =
+    ap (λ (es : List CodeEdge). map edge_of es) is ∙ filter_mapped edge_of (touches number extent) found ∙ same ∙ ap (λ (k : ℕ). filter (touches number k) all) size
 
 -- the dependences of a level in a DO
 pub carried_in : (t : ProgramTree) (number extent level : ℕ) (all kept : List CodeEdge) → extent ≡ extent_of t number

@@ -4,9 +4,10 @@ use Rattle.std.specs.List.{flat_map, range_with_len}
 use Rattle.ped_views.specs.declared.directions.Direction.{Direction}
 use Rattle.ped_views.specs.Vectors.{AreVectors}
 use Rattle.ped_edges.specs.Edges.{Edge}
+use Rattle.ped_edges.specs.Rows.{edge_row}
 use Rattle.ped_graph.specs.Dependences.{vectors_of}
 use Rattle.ped_graph.specs.Held.{Pair, held_edge, held_edges}
-use Rattle.ped_graph.specs.HeldSelections.{is_carried_in}
+use Rattle.ped_graph.specs.HeldSelections.{touches, is_carried_in}
 
 -- the dependences of a pair with these vectors that so many loops carry (Allen and Kennedy, section 2.2.5)
 abbrev pub held_carried : Pair → List (List Direction) → ℕ → List Edge
@@ -35,3 +36,19 @@ IsHeldWithin number extent p found = (all : List Edge) × HeldPairEdges p all ×
 -- in the body of the DO, these are the dependences of pairs (this project)
 abbrev pub AreHeldWithin : (number extent : ℕ) → List Pair → List Edge → Type 0
 AreHeldWithin number extent ps found = (all : List Edge) × AreHeldEdges ps all × HaveSameWithin number extent found all
+
+-- the same dependences whose source or sink stands in the statement with this number, which has so many statements (this project)
+abbrev pub HaveSameTouching : (number extent : ℕ) → List Edge → List Edge → Type 0
+HaveSameTouching number extent found all = filter (λ e. touches number extent e) found ≡ filter (λ e. touches number extent e) all
+
+-- as to the statement, these are the dependences of a pair (this project)
+abbrev pub IsHeldTouching : (number extent : ℕ) → Pair → List Edge → Type 0
+IsHeldTouching number extent p found = (all : List Edge) × HeldPairEdges p all × HaveSameTouching number extent found all
+
+-- as to the statement, these are the dependences of pairs (this project)
+abbrev pub AreHeldTouching : (number extent : ℕ) → List Pair → List Edge → Type 0
+AreHeldTouching number extent ps found = (all : List Edge) × AreHeldEdges ps all × HaveSameTouching number extent found all
+
+-- the rows of dependences, each with a line feed behind it (this project)
+abbrev pub rows_of : List Edge → List ℕ
+rows_of edges = flat_map (λ e. edge_row e ++ 10 ∷ []) edges

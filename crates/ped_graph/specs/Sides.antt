@@ -24,11 +24,16 @@ is_alone s nest (Div a b) = true
 is_alone s nest (Pow a b) = true
 is_alone s nest (Call f arguments) = true
 
--- a reference with its loops, its view with itself, and whether all its subscripts are alone
+-- both subscripts of a position are affine forms
+abbrev pub is_usable : SubscriptPair → Bool
+is_usable p = p.usable
+
+-- a reference with its loops, its view with itself, whether all its subscripts are alone, and whether all are affine forms
 pub record IsSide (s : Setting) (p : Site) (w : Side) : Type 0 where
   pub nest : nest_of w.nest.now ≡ p.nest
   pub own : w.own ≡ view_at s p p
   pub alone : w.alone ≡ list_all (is_alone s p.nest) p.subscripts
+  pub usable : w.usable ≡ list_all is_usable w.own.positions
 
 -- a row, of which so many loops are common, of a subscript whose own row has them all so
 pub record IsOwnRow (depth : ℕ) (own row : Row) : Type 0 where
@@ -60,3 +65,9 @@ pub record IsLike (depth : ℕ) (source sink : Side) (v : View) : Type 0 where
   pub source_inner : v.source_inner ≡ drop depth source.own.loops
   pub sink_inner : v.sink_inner ≡ drop depth sink.own.loops
   pub positions : AreOwnPositions depth source.own.positions sink.own.positions v.positions
+
+-- a side whose subscripts are alone and affine forms, with so many loops at least
+pub record IsPlain (depth : ℕ) (w : Side) : Type 0 where
+  pub alone : w.alone ≡ true
+  pub usable : w.usable ≡ true
+  pub deep : depth ≤ length w.own.loops

@@ -1,6 +1,6 @@
 //! The dependences of pairs by their views.
 
-ghost use Rattle.std.specs.Prelude.{◌≡◌, ◌++◌, ◌&&◌, ◌≤◌, ◌<◌, List, Some, map, take, length, slice_get, All, IfOk, OnOk};
+ghost use Rattle.std.specs.Prelude.{◌≡◌, ◌++◌, ◌&&◌, ◌||◌, ◌≤◌, ◌<◌, List, Some, map, take, length, slice_get, All, IfOk, OnOk};
 ghost use Rattle.std.specs.List.{list_all};
 ghost use Rattle.ped_edges.specs.CodeEdges.{edge_of, mark_of, HasAtMostSixLoops};
 ghost use Rattle.ped_edges.specs.Edges as plain;
@@ -8,14 +8,14 @@ ghost use Rattle.ped_graph.specs.Owners as Owners;
 ghost use Rattle.ped_graph.specs.Marks.{mark_by};
 ghost use Rattle.ped_graph.specs.Dependences as Spec;
 ghost use Rattle.ped_graph.specs.Held as Held;
-ghost use Rattle.ped_graph.specs.HeldPairs.{HeldPairEdges, AreHeldEdges, IsHeldWithin, AreHeldWithin, held_carried};
+ghost use Rattle.ped_graph.specs.HeldPairs.{HeldPairEdges, AreHeldEdges, IsHeldWithin, AreHeldWithin, IsHeldTouching, AreHeldTouching, held_carried};
 ghost use Rattle.ped_graph.specs.Held.{pair_by, pairs_by};
-ghost use Rattle.ped_graph.specs.DependencePane.{is_in_body};
+ghost use Rattle.ped_graph.specs.DependencePane.{is_in, is_in_body};
 ghost use Rattle.ped_graph.specs.CodeFacts.{framed_of, pair_seen, views_in};
 
 use crate::facts::Facts;
 use crate::parts::Slot;
-use crate::selections::is_in_body;
+use crate::selections::{is_in, is_in_body};
 use crate::telling::is_telling;
 use ped_base::NoMemory;
 use ped_edges::{Edge, Mark};
@@ -93,6 +93,55 @@ fn push_within<L: Ledger>(
     Ok(())
 }
 
+/// The dependences of pairs, pair by pair, of those pairs alone of which a reference stands in the statement with this number,
+/// which has so many statements.
+pub fn edges_touching<L: Ledger>(
+    alloc: Global,
+    pairs: &[Facts],
+    verdicts: &[Slot<L>],
+    number: u32,
+    extent: u32,
+) -> Result<Vec<Edge>, NoMemory>
+    requires there { verdicts.now ≡ map Some (views_in verdicts.now) }
+    requires paired { length verdicts.now ≡ length pairs.now }
+    ensures edges { IfOk result (λ edges. AreHeldTouching number extent (pairs_by (map framed_of pairs.now) (views_in verdicts.now)) (map edge_of edges.items)) }
+    ensures short { IfOk result (λ edges. All HasAtMostSixLoops edges.items) }
+{
+    let mut edges = Vec::new(alloc);
+    for (place, facts) in pairs.iter().enumerate() {
+        let verdict = verdict_at(verdicts, place);
+        push_touching(alloc, &mut edges, facts, verdict, number, extent)?;
+    }
+    Ok(edges)
+}
+
+/// Adds the dependences of a pair that was tested, where a reference stands in the statement with this number.
+fn push_touching<L: Ledger>(
+    alloc: Global,
+    edges: &mut Vec<Edge>,
+    facts: &Facts,
+    verdict: &Verdict<L>,
+    number: u32,
+    extent: u32,
+) -> Result<(), NoMemory>
+    ensures edges { OnOk result ((added : List plain.Edge) × (map edge_of edges.new.items ≡ map edge_of edges.old.items ++ added)
+        × IsHeldTouching number extent (pair_by (framed_of facts.now) verdict.now) added) }
+    ensures short { OnOk result (All HasAtMostSixLoops edges.old.items → All HasAtMostSixLoops edges.new.items) }
+{
+    if has_one_in(facts, number, extent) {
+        return push_tested(alloc, edges, facts, verdict);
+    }
+    verdict.has_list();
+    Ok(())
+}
+
+/// Whether a reference of a pair stands in the statement with this number, which has so many statements.
+fn has_one_in(facts: &Facts, number: u32, extent: u32) -> bool
+    ensures { result ≡ (is_in number extent facts.now.source.0 || is_in number extent facts.now.sink.0) }
+{
+    is_in(number, extent, facts.source.0) || is_in(number, extent, facts.sink.0)
+}
+
 /// Whether both references of a pair stand in the body of the DO with this number, which has so many statements.
 fn stand_in(facts: &Facts, number: u32, extent: u32) -> bool
     ensures { result ≡ (is_in_body number extent facts.now.source.0 && is_in_body number extent facts.now.sink.0) }
@@ -101,7 +150,7 @@ fn stand_in(facts: &Facts, number: u32, extent: u32) -> bool
 }
 
 /// Adds the dependences of a pair that was tested.
-fn push_tested<L: Ledger>(
+pub(crate) fn push_tested<L: Ledger>(
     alloc: Global,
     edges: &mut Vec<Edge>,
     facts: &Facts,
@@ -116,7 +165,7 @@ fn push_tested<L: Ledger>(
         facts,
         view: verdict.view(),
     };
-    push_shared(alloc, edges, &pair, loop_count(pair.view), &vectors)
+    push_shared(alloc, edges, &pair, loop_count(pair.view), vectors)
 }
 
 /// The dependences of a pair with this view, which isn't tested: no verdict is made and no test counted.
@@ -127,12 +176,12 @@ pub fn edges_of_pair(alloc: Global, facts: &Facts, view: &PairView) -> Result<Ve
     let mut edges = Vec::new(alloc);
     let vectors = possible_vectors_of(alloc, view)?;
     let pair = SeenPair { facts, view };
-    push_shared(alloc, &mut edges, &pair, loop_count(view), &vectors)?;
+    push_shared(alloc, &mut edges, &pair, loop_count(view), vectors)?;
     Ok(edges)
 }
 
 /// The verdict at a place of verdicts that are all there.
-fn verdict_at<L: Ledger>(verdicts: &[Slot<L>], place: usize) -> &Verdict<L>
+pub(crate) fn verdict_at<L: Ledger>(verdicts: &[Slot<L>], place: usize) -> &Verdict<L>
     requires there { verdicts.now ≡ map Some (views_in verdicts.now) }
     requires within { place < length verdicts.now }
     ensures { slice_get (views_in verdicts.now) place ≡ Some result.now }
@@ -146,16 +195,16 @@ fn push_shared(
     edges: &mut Vec<Edge>,
     pair: &SeenPair<'_>,
     loops: u8,
-    vectors: &[Vector],
+    vectors: Vec<Vector>,
 ) -> Result<(), NoMemory>
     requires loops { loops ≡ length pair.now.view.now.loops }
     requires few { loops ≤ 6 }
-    ensures edges { OnOk result (map edge_of edges.new.items ≡ map edge_of edges.old.items ++ Held.held_edges (pair_seen pair.now) vectors.now) }
+    ensures edges { OnOk result (map edge_of edges.new.items ≡ map edge_of edges.old.items ++ Held.held_edges (pair_seen pair.now) vectors.items) }
     ensures short { OnOk result (All HasAtMostSixLoops edges.old.items → All HasAtMostSixLoops edges.new.items) }
 {
     match pair.facts.owner {
         Some(level) => {
-            let within = within_iteration(alloc, level, vectors)?;
+            let within = within_iteration(level, vectors);
             push_divided(alloc, edges, pair, loops, &within)
         }
         None => Ok(()),
@@ -210,16 +259,12 @@ fn loop_count(view: &PairView) -> u8
 }
 
 /// The vectors with `=` at the first levels.
-fn within_iteration(alloc: Global, level: u8, vectors: &[Vector]) -> Result<Vec<Vector>, NoMemory>
-    ensures { IfOk result (λ kept. kept.items ≡ Owners.within_iteration level vectors.now) }
+fn within_iteration(level: u8, vectors: Vec<Vector>) -> Vec<Vector>
+    ensures { result.items ≡ Owners.within_iteration level vectors.items }
 {
-    let mut kept = Vec::new(alloc);
-    for vector in vectors {
-        if is_within(level, vector.directions()) {
-            kept.push(*vector)?;
-        }
-    }
-    Ok(kept)
+    let mut kept = vectors;
+    kept.retain(|vector| is_within(level, vector.directions()));
+    kept
 }
 
 /// Whether the first directions are all `=`.

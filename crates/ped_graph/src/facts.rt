@@ -1,16 +1,18 @@
 //! What is known of a pair of references without a test.
 
-ghost use Rattle.std.specs.Prelude.{◌≡◌, ◌≤◌, ◌&&◌, ◌++◌, ◌∷◌, [], map, length, OnOk};
+ghost use Rattle.std.specs.Prelude.{◌≡◌, ◌&&◌, ◌++◌, ◌∷◌, [], map, OnOk};
 ghost use Rattle.ped_refs.specs.References.{comes_before};
 ghost use Rattle.ped_refs.specs.Occurrences.{reference_of};
 ghost use Rattle.ped_edges.specs.CodeEdges.{kind_of};
-ghost use Rattle.ped_graph.specs.Marks.{is_firm};
 ghost use Rattle.ped_graph.specs.Held.{framed};
 ghost use Rattle.ped_graph.specs.Dependences as Spec;
 ghost use Rattle.ped_graph.specs.CodeFacts.{framed_of};
+ghost use Rattle.ped_graph.specs.KnownProgram.{own_of};
 
+use crate::own_facts::OwnFacts;
 use crate::owners::common_owner;
 use crate::rejections::rejecting_levels;
+use crate::sides::common_depth;
 use ped_base::NoMemory;
 use ped_edges::Kind;
 use ped_refs::{Occurrence, RefName};
@@ -36,30 +38,37 @@ pub struct Facts {
     pub rejecting: [bool; 6],
 }
 
-/// Adds the facts of a pair, of which it is known whether constants alone decide that both references are reached.
+/// Adds the facts of a pair, of whose references this is known by themselves.
 pub fn push_facts(
     all: &mut Vec<Facts>,
     source: &Occurrence,
     sink: &Occurrence,
-    firm: bool,
+    first: &OwnFacts,
+    second: &OwnFacts,
 ) -> Result<(), NoMemory>
-    requires source { length source.now.nest.items ≤ 6 }
-    requires sink { length sink.now.nest.items ≤ 6 }
     ensures { OnOk result ((facts : Spec.Facts)
-        → firm ≡ (is_firm facts.constants facts.guards (reference_of source.now) && is_firm facts.constants facts.guards (reference_of sink.now))
+        → first.now ≡ own_of facts.constants facts.guards (reference_of source.now)
+        → second.now ≡ own_of facts.constants facts.guards (reference_of sink.now)
         → map framed_of all.new.items ≡ map framed_of all.old.items ++ framed facts (reference_of source.now) (reference_of sink.now) ∷ []) }
 {
+    let common = common_depth(source.nest.as_slice(), sink.nest.as_slice());
     all.push(Facts {
         source: (source.statement, source.number),
         sink: (sink.statement, sink.number),
         name: source.name,
         kind: kind_of(source.writes, sink.writes),
         is_forward: comes_before(source, sink),
-        owner: common_owner(source, sink),
-        firm,
-        rejecting: rejecting_levels(source, sink),
+        owner: common_owner(first, second),
+        firm: both(first.firm, second.firm),
+        rejecting: rejecting_levels(&first.rejecting, common),
     })?;
     Ok(())
+}
+
+fn both(first: bool, second: bool) -> bool
+    ensures { result ≡ (first && second) }
+{
+    first && second
 }
 
 /// The kind of a dependence by who writes.

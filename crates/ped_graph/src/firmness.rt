@@ -1,35 +1,17 @@
 //! References for which constants alone decide whether they are reached (ParaScope).
 
-ghost use Rattle.std.specs.Prelude.{◌≡◌, map, IfOk};
+ghost use Rattle.std.specs.Prelude.{◌≡◌};
 ghost use Rattle.std.specs.List.{list_all};
 ghost use Rattle.ped_refs.specs.Loops.{loop_of, nest_of};
 ghost use Rattle.ped_refs.specs.Occurrences.{reference_of};
 ghost use Rattle.ped_graph.specs.Marks as Spec;
 ghost use Rattle.ped_graph.specs.Guards as Guards;
 
-use ped_base::NoMemory;
 use ped_refs::{Loop, Occurrence};
 use ped_tree::constants::{Consts, constant};
-use std::alloc::Global;
-
-/// For each reference whether its loops have constant bounds and no IF stands round it.
-pub fn all_firm(
-    alloc: Global,
-    consts: &Consts,
-    guards: &[bool],
-    found: &[Occurrence],
-) -> Result<Vec<bool>, NoMemory>
-    ensures { IfOk result (λ firm. firm.items ≡ map (λ o. Spec.is_firm consts.now guards.now (reference_of o)) found.now) }
-{
-    let mut firm = Vec::new(alloc);
-    for occurrence in found {
-        firm.push(is_firm(consts, guards, occurrence))?;
-    }
-    Ok(firm)
-}
 
 /// Whether the loops round a reference have constant bounds and no IF stands round it.
-fn is_firm(consts: &Consts, guards: &[bool], occurrence: &Occurrence) -> bool
+pub fn is_firm(consts: &Consts, guards: &[bool], occurrence: &Occurrence) -> bool
     ensures { result ≡ Spec.is_firm consts.now guards.now (reference_of occurrence.now) }
 {
     have_constant_bounds(consts, &occurrence.nest) && !is_guarded(guards, occurrence.statement)

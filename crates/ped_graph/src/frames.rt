@@ -70,7 +70,7 @@ impl Frame {
     }
 
     /// The pair whose references stand there, none where there is no such pair.
-    pub(crate) fn place_of(&self, key: &PairKey) -> Option<u64>
+    fn place_of(&self, key: &PairKey) -> Option<u64>
         ensures { MatchOption result ((n : ℕ) → slice_get (map key_of self.now.pairs) n ≡ Some (key_shown key.now) → ⊥)
             (λ n. IsOnlyAt (map key_of self.now.pairs) (key_shown key.now) n) }
     {
@@ -82,6 +82,21 @@ impl Frame {
             return Some(place as u64);
         }
         None
+    }
+
+    /// The same, which is quick where the pair is the one that is expected there.
+    pub(crate) fn place_near(&self, key: &PairKey, expected: u64) -> Option<u64>
+        ensures { MatchOption result ((n : ℕ) → slice_get (map key_of self.now.pairs) n ≡ Some (key_shown key.now) → ⊥)
+            (λ n. IsOnlyAt (map key_of self.now.pairs) (key_shown key.now) n) }
+    {
+        let place = expected as usize;
+        if place >= self.pairs.len() {
+            return self.place_of(key);
+        }
+        if is_at(&self.pairs[place], key) {
+            return Some(expected);
+        }
+        self.place_of(key)
     }
 }
 

@@ -14,16 +14,16 @@ ghost use Rattle.ped_graph.specs.DependencePane as Pane;
 ghost use Rattle.ped_graph.specs.Held.{Held, held_of};
 ghost use Rattle.ped_graph.specs.Parts.{Fit, turned};
 
-use crate::edges::{all_edges, edges_of_pair, edges_within};
+use crate::edges::{all_edges, edges_of_pair, edges_touching, edges_within};
 use crate::extents::extents;
 use crate::frames::Frame;
 use crate::parts::{Parts, Slot, exchange_kept, turn};
 use crate::preparing::all_pairs;
+use crate::printing::pane_of_pairs;
 use crate::selections::{extent_of, has_number, keep_carried_in, keep_touching};
 use crate::testing::test_all;
 use ped_base::{Bytes, NoMemory};
 use ped_edges::{Edge, edges_pane};
-use ped_refs::occurrences;
 use ped_tree::Program;
 use ped_tree::constants::Consts;
 use ped_verdict::{Steps, Verdict};
@@ -90,9 +90,8 @@ pub fn prepare(alloc: Global, program: &Program, consts: &Consts) -> Result<Prep
     requires constants { consts.now ≡ (table_of (program_tree program.now)).constants }
     ensures { IfOk result (λ prepared. prepared ≡ held_of (program_tree program.now)) }
 {
-    let found = occurrences(alloc, program)?;
     let extents = extents(alloc, &program.body)?;
-    let pairs = all_pairs(alloc, program, consts, &found)?;
+    let pairs = all_pairs(alloc, program, consts)?;
     Ok(Prepared {
         frame: Frame {
             pairs: pairs.facts,
@@ -211,16 +210,16 @@ impl<L: Ledger> Graph<L> {
     fn whole_pane(&self, alloc: Global) -> Result<Bytes, NoMemory>
         ensures { IfOk result (λ pane. (t : ProgramTree) → self.now ≡ held_of t → Pane.IsDependencePane t pane) }
     {
-        let edges = self.edges(alloc)?;
-        edges_pane(alloc, &edges)
+        pane_of_pairs(alloc, self.frame.pairs(), &self.verdicts)
     }
 
     /// The dependence pane with the rows of a statement alone.
     fn pane_of(&self, alloc: Global, number: u32) -> Result<Bytes, NoMemory>
         ensures { IfOk result (λ pane. (t : ProgramTree) → self.now ≡ held_of t → Pane.IsDependencePaneOf t (Some number) pane) }
     {
-        let mut edges = self.edges(alloc)?;
-        keep_touching(&mut edges, number, self.extent(number));
+        let extent = self.extent(number);
+        let mut edges = edges_touching(alloc, self.frame.pairs(), &self.verdicts, number, extent)?;
+        keep_touching(&mut edges, number, extent);
         edges_pane(alloc, &edges)
     }
 

@@ -4,31 +4,31 @@ ghost use Rattle.std.specs.Prelude.{◌≡◌, ◌≤◌, Option, length, option
 ghost use Rattle.ped_base.specs.Lists.{is_among};
 ghost use Rattle.ped_tree.specs.Nests as Nests;
 ghost use Rattle.ped_refs.specs.Loops.{loop_of, nest_of};
-ghost use Rattle.ped_refs.specs.References.{innermost_private};
-ghost use Rattle.ped_refs.specs.Occurrences.{name_text, reference_of};
+ghost use Rattle.ped_refs.specs.References.{Reference, innermost_private, private_loop};
+ghost use Rattle.ped_refs.specs.Occurrences.{name_text};
 ghost use Rattle.ped_graph.specs.Owners as Owners;
 ghost use Rattle.ped_graph.specs.Held as Held;
 
 use crate::names::has_name;
-use ped_refs::{Loop, Occurrence, RefName};
+use crate::own_facts::OwnFacts;
+use ped_refs::{Loop, RefName};
 
 /// The level of the DO whose private copies both references mean: 0 where neither is private, and none where they
-/// mean different ones. At most six loops stand round the source.
-pub fn common_owner(source: &Occurrence, sink: &Occurrence) -> Option<u8>
-    requires { length source.now.nest.items ≤ 6 }
-    ensures { result ≡ Held.common_owner (reference_of source.now) (reference_of sink.now) }
+/// mean different ones.
+pub fn common_owner(first: &OwnFacts, second: &OwnFacts) -> Option<u8>
+    ensures { (source sink : Reference) → first.now.owner ≡ option_map (λ l. l.number) (private_loop source)
+        → second.now.owner ≡ option_map (λ l. l.number) (private_loop sink)
+        → first.now.level ≡ Owners.owner_level source → result ≡ Held.common_owner source sink }
 {
-    let number = owner_number(&source.nest, &source.name);
-    let other = owner_number(&sink.nest, &sink.name);
-    if is_same_owner(number, other) {
-        Some(private_level(&source.nest, &source.name))
+    if is_same_owner(first.owner, second.owner) {
+        Some(first.level)
     } else {
         None
     }
 }
 
 /// The statement number of the innermost loop that names the variable in PRIVATE.
-fn owner_number(nest: &[Loop], name: &RefName) -> Option<u32>
+pub fn owner_number(nest: &[Loop], name: &RefName) -> Option<u32>
     ensures { result ≡ option_map (λ l. l.number) (innermost_private (name_text name.now) (nest_of nest.now)) }
 {
     let (l, others) = nest.split_first()?;
@@ -45,7 +45,7 @@ fn owner_number(nest: &[Loop], name: &RefName) -> Option<u32>
 }
 
 /// The level of the innermost loop that names the variable in PRIVATE, 0 where none does.
-fn private_level(nest: &[Loop], name: &RefName) -> u8
+pub fn private_level(nest: &[Loop], name: &RefName) -> u8
     requires { length nest.now ≤ 6 }
     ensures level { result ≡ Owners.private_level (name_text name.now) (nest_of nest.now) }
     ensures few { result ≤ length nest.now }

@@ -1,7 +1,8 @@
 //! What is known of the pairs of a program without a test, and the views that are to be tested.
 
-ghost use Rattle.std.specs.Prelude.{◌≡◌, ◌≤◌, ◌<◌, ◌&&◌, ◌++◌, ◌∷◌, [], Some, map, length, IfOk, IfSome, OnOk, All, slice_get};
+ghost use Rattle.std.specs.Prelude.{◌≡◌, ◌≤◌, ◌<◌, ◌++◌, ◌∷◌, [], Some, map, length, IfOk, IfSome, OnOk, All, slice_get};
 ghost use Rattle.ped_tree.specs.Views.{program_tree};
+ghost use Rattle.ped_symbols.specs.NameRefusals.{IsValid};
 ghost use Rattle.ped_symbols.specs.Kinds.{table_of};
 ghost use Rattle.ped_refs.specs.References.{Reference, outermost, references, pairs};
 ghost use Rattle.ped_refs.specs.Occurrences.{reference_of, references_of, pair_at, IsWithin};
@@ -9,25 +10,24 @@ ghost use Rattle.ped_affine.specs.Arguments.{setting_of, site};
 ghost use Rattle.ped_affine.specs.PairViews.{view_at};
 ghost use Rattle.ped_graph.specs.Sides.{IsSide};
 ghost use Rattle.ped_graph.specs.Guards as Guards;
-ghost use Rattle.ped_graph.specs.Marks.{is_firm};
 ghost use Rattle.ped_graph.specs.Held.{framed, frame_of, views_of};
 ghost use Rattle.ped_graph.specs.Dependences as Spec;
 ghost use Rattle.ped_graph.specs.Dependences.{facts_of, view_of};
 ghost use Rattle.ped_graph.specs.CodeFacts.{framed_of};
-ghost use Rattle.ped_graph.specs.KnownProgram.{IsKnown, IsRound, AreSides};
+ghost use Rattle.ped_graph.specs.KnownProgram.{own_of, IsKnown, IsRound, AreSides};
 
 use crate::facts::{Facts, push_facts};
-use crate::firmness::all_firm;
-use crate::guards::guards;
+use crate::numbered::numbered_statements;
+use crate::own_facts::{OwnFacts, all_own_facts};
 use crate::rounds::{assigned_by, have_same_outermost, outermost};
 use crate::sides::{Side, side_at, side_there};
 use crate::told::told_view;
 use ped_affine::{Place, Setting, loop_variables, view};
 use ped_base::NoMemory;
-use ped_refs::{Occurrence, Pair, listed_pairs};
-use ped_tree::Program;
+use ped_refs::{Occurrence, Pair, listed_pairs, occurrences};
 use ped_tree::constants::Consts;
 use ped_tree::names::NameSet;
+use ped_tree::{Program, Stmt};
 use ped_views::PairView;
 use std::alloc::Global;
 
@@ -42,7 +42,7 @@ pub struct Pairs {
 
 /// What is known of a program before its pairs are tested.
 #[derive(Clone, Copy)]
-pub struct Known<'a> {
+pub struct Known<'a, 's> {
     /// The program.
     pub program: &'a Program,
     /// Its named constants.
@@ -51,8 +51,10 @@ pub struct Known<'a> {
     pub loop_variables: &'a NameSet,
     /// Its references.
     pub found: &'a [Occurrence<'a>],
-    /// For each reference whether constants alone decide that it is reached.
-    pub firm: &'a [bool],
+    /// What is known of each reference by itself.
+    pub own: &'a [OwnFacts],
+    /// The numbered statements of the program.
+    pub statements: &'a [&'s Stmt],
 }
 
 /// The DO that is the outermost round some references, and what it assigns.
@@ -64,29 +66,25 @@ pub struct Round {
     pub assigned: NameSet,
 }
 
-/// All pairs of these references, which are those of the program, with their views.
-pub fn all_pairs(
-    alloc: Global,
-    program: &Program,
-    consts: &Consts,
-    found: &[Occurrence],
-) -> Result<Pairs, NoMemory>
+/// All pairs of references of a valid program, whose named constants these are, with their views.
+pub fn all_pairs(alloc: Global, program: &Program, consts: &Consts) -> Result<Pairs, NoMemory>
+    requires valid { IsValid (program_tree program.now) }
     requires constants { consts.now ≡ (table_of (program_tree program.now)).constants }
-    requires found { references_of found.now ≡ references (program_tree program.now) }
-    requires shallow { All (λ o. length o.nest.items ≤ 6) found.now }
     ensures facts { IfOk result (λ pairs. map framed_of pairs.facts.items ≡ (frame_of (program_tree program.now)).pairs) }
     ensures views { IfOk result (λ pairs. pairs.views.items ≡ views_of (program_tree program.now)) }
 {
-    let listed = listed_pairs(alloc, found)?;
-    let guards = guards(alloc, &program.body)?;
-    let firm = all_firm(alloc, consts, &guards, found)?;
+    let found = occurrences(alloc, program)?;
+    let listed = listed_pairs(alloc, &found)?;
+    let own = all_own_facts(alloc, program, consts, &found)?;
+    let statements = numbered_statements(alloc, &program.body)?;
     let loop_variables = loop_variables(alloc, &program.body)?;
     let known = Known {
         program,
         consts,
         loop_variables: &loop_variables,
-        found,
-        firm: &firm,
+        found: &found,
+        own: &own,
+        statements: &statements,
     };
     pairs_of(alloc, &known, &listed)
 }
@@ -133,7 +131,7 @@ fn views_of_pairs(alloc: Global, known: &Known, listed: &[Pair]) -> Result<Vec<P
     };
     for pair in listed {
         let number = outermost(occurrence_at(known, pair.source));
-        enter(alloc, &mut round, known.program, number)?;
+        enter(alloc, &mut round, known, number)?;
         add_view(alloc, &mut views, known, &sides, &round, pair)?;
     }
     Ok(views)
@@ -213,7 +211,7 @@ fn told_at<'a>(
 }
 
 /// The references of a program as sides of their pairs.
-pub fn sides_of<'a>(alloc: Global, known: &Known<'a>) -> Result<Vec<Side<'a>>, NoMemory>
+pub fn sides_of<'a>(alloc: Global, known: &Known<'a, '_>) -> Result<Vec<Side<'a>>, NoMemory>
     requires { IsKnown known.now }
     ensures { IfOk result (λ sides. AreSides (program_tree known.now.program.now) (references_of known.now.found.now) sides.items) }
 {
@@ -223,7 +221,7 @@ pub fn sides_of<'a>(alloc: Global, known: &Known<'a>) -> Result<Vec<Side<'a>>, N
         assigned: NameSet::new(alloc),
     };
     for occurrence in known.found {
-        enter(alloc, &mut round, known.program, outermost(occurrence))?;
+        enter(alloc, &mut round, known, outermost(occurrence))?;
         let side = side_of(alloc, known, &round, occurrence)?;
         sides.push(side)?;
     }
@@ -233,7 +231,7 @@ pub fn sides_of<'a>(alloc: Global, known: &Known<'a>) -> Result<Vec<Side<'a>>, N
 /// A reference as a side of its pairs.
 fn side_of<'a>(
     alloc: Global,
-    known: &Known<'a>,
+    known: &Known<'a, '_>,
     round: &Round,
     occurrence: &'a Occurrence<'a>,
 ) -> Result<Side<'a>, NoMemory>
@@ -252,20 +250,16 @@ fn side_of<'a>(
 }
 
 /// Goes on to the DO with this number, unless it is the same.
-pub fn enter(
-    alloc: Global,
-    round: &mut Round,
-    program: &Program,
-    number: u32,
-) -> Result<(), NoMemory>
-    requires { IsRound (program_tree program.now) round.old }
-    ensures round { OnOk result (IsRound (program_tree program.now) round.new) }
+pub fn enter(alloc: Global, round: &mut Round, known: &Known, number: u32) -> Result<(), NoMemory>
+    requires known { IsKnown known.now }
+    requires round { IsRound (program_tree known.now.program.now) round.old }
+    ensures round { OnOk result (IsRound (program_tree known.now.program.now) round.new) }
     ensures number { OnOk result (round.new.number ≡ number) }
 {
     if round.number == number {
         return Ok(());
     }
-    round.assigned = assigned_by(alloc, program, number)?;
+    round.assigned = assigned_by(alloc, known.statements, number)?;
     round.number = number;
     Ok(())
 }
@@ -277,12 +271,12 @@ fn add_facts(all: &mut Vec<Facts>, known: &Known, pair: &Pair) -> Result<(), NoM
     ensures { OnOk result ((p : Reference × Reference) → pair_at (references_of known.now.found.now) pair.now ≡ Some p
         → map framed_of all.new.items ≡ map framed_of all.old.items ++ framed (facts_of (program_tree known.now.program.now)) p.0 p.1 ∷ []) }
 {
-    let firm = both(firm_at(known, pair.source), firm_at(known, pair.sink));
     push_facts(
         all,
         occurrence_at(known, pair.source),
         occurrence_at(known, pair.sink),
-        firm,
+        own_at(known, pair.source),
+        own_at(known, pair.sink),
     )
 }
 
@@ -325,7 +319,7 @@ fn view_in(
 }
 
 /// The reference at a place.
-pub fn occurrence_at<'a>(known: &Known<'a>, place: usize) -> &'a Occurrence<'a>
+pub fn occurrence_at<'a>(known: &Known<'a, '_>, place: usize) -> &'a Occurrence<'a>
     requires known { IsKnown known.now }
     requires within { place < length known.now.found.now }
     ensures there { slice_get (references_of known.now.found.now) place ≡ Some (reference_of result.now) }
@@ -334,20 +328,21 @@ pub fn occurrence_at<'a>(known: &Known<'a>, place: usize) -> &'a Occurrence<'a>
     &known.found[place]
 }
 
-/// Whether constants alone decide that the reference at a place is reached.
-fn firm_at(known: &Known, place: usize) -> bool
+/// What is known of the reference at a place by itself.
+fn own_at<'a>(known: &Known<'a, '_>, place: usize) -> &'a OwnFacts
     requires known { IsKnown known.now }
     requires within { place < length known.now.found.now }
     ensures { (r : Reference) → slice_get (references_of known.now.found.now) place ≡ Some r
-        → result ≡ is_firm known.now.consts.now (Guards.guards (program_tree known.now.program.now)) r }
+        → result.now ≡ own_of known.now.consts.now (Guards.guards (program_tree known.now.program.now)) r }
 {
-    known.firm[place]
+    own_there(known.own, place)
 }
 
-fn both(first: bool, second: bool) -> bool
-    ensures { result ≡ (first && second) }
+fn own_there(own: &[OwnFacts], place: usize) -> &OwnFacts
+    requires { place < length own.now }
+    ensures { slice_get own.now place ≡ Some result.now }
 {
-    first && second
+    &own[place]
 }
 
 /// Where a reference stands.

@@ -1,50 +1,71 @@
 //! The loops that reject a variable's dependences (ParaScope).
 
-ghost use Rattle.std.specs.Prelude.{◌≡◌, slice_get};
+ghost use Rattle.std.specs.Prelude.{◌≡◌, ◌<◌, ℕ, List, length, slice_get};
 ghost use Rattle.ped_base.specs.Lists.{is_among};
-ghost use Rattle.ped_tree.specs.Nests.{common_nest};
+ghost use Rattle.ped_tree.specs.Nests as Nests;
+ghost use Rattle.ped_refs.specs.References.{Reference};
 ghost use Rattle.ped_refs.specs.Loops.{loop_of, nest_of};
-ghost use Rattle.ped_refs.specs.Occurrences.{name_text, reference_of};
+ghost use Rattle.ped_refs.specs.Occurrences.{name_text};
 ghost use Rattle.ped_graph.specs.Marks as Marks;
 ghost use Rattle.ped_graph.specs.Held as Held;
+ghost use Rattle.ped_graph.specs.KnownProgram.{rejecting_places};
 
 use crate::names::has_name;
-use ped_refs::{Loop, Occurrence, RefName};
+use ped_refs::{Loop, RefName};
 
-/// For each of the six levels that there may be, whether its loop rejects the variable of a pair.
-pub fn rejecting_levels(source: &Occurrence, sink: &Occurrence) -> [bool; 6]
-    ensures { result ≡ Held.rejecting_levels (reference_of source.now) (reference_of sink.now) }
+/// For each of six places whether the loop there rejects the variable.
+pub fn rejecting_places(nest: &[Loop], name: &RefName) -> [bool; 6]
+    ensures { result ≡ rejecting_places (name_text name.now) (nest_of nest.now) }
 {
-    let name = &source.name;
-    let source = source.nest.as_slice();
-    let sink = sink.nest.as_slice();
     [
-        rejects_at(source, sink, name, 0),
-        rejects_at(source, sink, name, 1),
-        rejects_at(source, sink, name, 2),
-        rejects_at(source, sink, name, 3),
-        rejects_at(source, sink, name, 4),
-        rejects_at(source, sink, name, 5),
+        rejects_at(nest, name, 0),
+        rejects_at(nest, name, 1),
+        rejects_at(nest, name, 2),
+        rejects_at(nest, name, 3),
+        rejects_at(nest, name, 4),
+        rejects_at(nest, name, 5),
     ]
 }
 
-/// Whether the common loop at a place, from 0, rejects the variable.
-fn rejects_at(source: &[Loop], sink: &[Loop], name: &RefName, place: usize) -> bool
-    ensures { result ≡ Marks.rejects (name_text name.now) (slice_get (common_nest (nest_of source.now) (nest_of sink.now)) place) }
+/// Whether the loop at a place, from 0, rejects the variable.
+fn rejects_at(nest: &[Loop], name: &RefName, place: usize) -> bool
+    ensures { result ≡ Marks.rejects (name_text name.now) (slice_get (nest_of nest.now) place) }
 {
-    let Some((l, source)) = source.split_first() else {
+    let Some((l, others)) = nest.split_first() else {
         return false;
     };
-    let Some((m, sink)) = sink.split_first() else {
-        return false;
-    };
-    if l.number != m.number {
-        return false;
-    }
     if place == 0 {
         return rejects(l, name);
     }
-    rejects_at(source, sink, name, place - 1)
+    rejects_at(others, name, place - 1)
+}
+
+/// For each of the six levels that there may be, whether its loop rejects the variable of a pair, by the places that
+/// do so round the source, of which so many loops are common.
+pub fn rejecting_levels(places: &[bool; 6], common: usize) -> [bool; 6]
+    ensures { (source sink : Reference) → places.now ≡ rejecting_places source.access.name source.nest
+        → common ≡ length (Nests.common_nest source.nest sink.nest) → result ≡ Held.rejecting_levels source sink }
+{
+    [
+        rejects_within(places, common, 0),
+        rejects_within(places, common, 1),
+        rejects_within(places, common, 2),
+        rejects_within(places, common, 3),
+        rejects_within(places, common, 4),
+        rejects_within(places, common, 5),
+    ]
+}
+
+/// Whether the loop at a place is common and rejects the variable.
+fn rejects_within(places: &[bool; 6], common: usize, place: usize) -> bool
+    requires { place < 6 }
+    ensures { (x : List ℕ) (source sink : List Nests.Loop) → places.now ≡ rejecting_places x source
+        → common ≡ length (Nests.common_nest source sink) → result ≡ Marks.rejects x (slice_get (Nests.common_nest source sink) place) }
+{
+    if place < common {
+        return places[place];
+    }
+    false
 }
 
 /// Whether a loop rejects the variable.

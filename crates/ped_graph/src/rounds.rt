@@ -1,18 +1,18 @@
 //! The outermost DO around a reference, and what it assigns.
 
 ghost use Rattle.std.specs.Prelude.{◌≡◌, [], IfOk, OnOk, IsTrue};
-ghost use Rattle.ped_tree.specs.Views.{program_tree};
-ghost use Rattle.ped_tree.specs.Numbering.{statement_with};
 ghost use Rattle.ped_tree.specs.Names.Collecting.{with_names};
 ghost use Rattle.ped_refs.specs.References.{outermost};
 ghost use Rattle.ped_refs.specs.Occurrences.{reference_of};
 ghost use Rattle.ped_graph.specs.Dependences as Spec;
+ghost use Rattle.ped_graph.specs.KnownProgram.{trees_of, found_with};
 
+use crate::numbered::statement_at;
 use ped_affine::assigned;
 use ped_base::NoMemory;
 use ped_refs::Occurrence;
+use ped_tree::Stmt;
 use ped_tree::names::NameSet;
-use ped_tree::{Program, Stmt};
 use std::alloc::Global;
 
 /// The statement number of the outermost DO round a reference, 0 where there is none.
@@ -25,11 +25,11 @@ pub fn outermost(occurrence: &Occurrence) -> u32
     }
 }
 
-/// What the DO with this number assigns, nothing where no DO has it.
-pub fn assigned_by(alloc: Global, program: &Program, number: u32) -> Result<NameSet, NoMemory>
-    ensures { IfOk result (λ names. names ≡ with_names [] (Spec.assigned_by (statement_with number (program_tree program.now)))) }
+/// What the DO with this number assigns, where these are the numbered statements; nothing where no DO has the number.
+pub fn assigned_by(alloc: Global, statements: &[&Stmt], number: u32) -> Result<NameSet, NoMemory>
+    ensures { IfOk result (λ names. names ≡ with_names [] (Spec.assigned_by (found_with number (trees_of statements.now)))) }
 {
-    match program.at(number) {
+    match statement_at(statements, number) {
         Some(Stmt::Do(d)) => assigned(alloc, d),
         _ => Ok(NameSet::new(alloc)),
     }

@@ -59,7 +59,7 @@ fn is_carried_in(edge: &Edge, number: u32, extent: u32, level: u8) -> bool
 }
 
 /// Whether the second statement is the first, which has so many statements, or stands in it.
-fn is_in(number: u32, extent: u32, other: u32) -> bool
+pub fn is_in(number: u32, extent: u32, other: u32) -> bool
     ensures { result ≡ Pane.is_in number extent other }
 {
     number <= other && u64::from(other) < u64::from(number) + u64::from(extent)

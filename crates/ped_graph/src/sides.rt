@@ -29,6 +29,8 @@ pub struct Side<'a> {
     /// Whether no subscript has a variable other than those of the loops, those that the outermost DO assigns, and named
     /// constants.
     pub alone: bool,
+    /// Whether all subscripts are affine forms.
+    pub usable: bool,
 }
 
 /// The side of the reference at a place. At most six loops stand round it.
@@ -42,11 +44,26 @@ pub fn side_at<'a>(
 {
     let same = *place;
     let own = view(alloc, setting, place, &same)?;
+    let usable = are_usable(&own.positions);
     Ok(Side {
         nest: place.nest,
         own,
         alone: are_alone(setting, place.nest, place.subscripts),
+        usable,
     })
+}
+
+/// Whether all subscripts are affine forms.
+fn are_usable(positions: &[Position]) -> bool
+    ensures { result ≡ list_all Spec.is_usable positions.now }
+{
+    positions.iter().all(|position| is_usable(position))
+}
+
+fn is_usable(position: &Position) -> bool
+    ensures { result ≡ Spec.is_usable position.now }
+{
+    position.usable
 }
 
 /// Whether no subscript has a variable other than those of these loops, those that the outermost DO assigns, and named

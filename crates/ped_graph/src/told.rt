@@ -1,13 +1,15 @@
 //! Views made from what is known of both references of a pair. So a subscript is examined once per reference, not once
 //! per pair.
 
-ghost use Rattle.std.specs.Prelude.{◌≡◌, ◌-◌, ◌≤◌, ◌<◌, All, length, IfOk, IfSome, IsTrue};
+ghost use Rattle.std.specs.Prelude.{◌≡◌, ◌-◌, ◌≤◌, ◌<◌, ◌⊎◌, ℕ, Some, All, take, drop, length, slice_get, IfOk, IfSome, IsTrue};
+ghost use Rattle.std.specs.List.{list_all};
+ghost use Rattle.ped_views.specs.Views.{SubscriptPair};
 ghost use Rattle.ped_views.specs.Limits.{FitsLoops};
 ghost use Rattle.ped_affine.specs.PairViews.{Site, view_at};
 ghost use Rattle.ped_affine.specs.Ranges.{Setting as PlainSetting};
-ghost use Rattle.ped_graph.specs.Sides.{IsSide};
+ghost use Rattle.ped_graph.specs.Sides.{is_usable, IsOwnRow, IsOwnPosition, AreOwnPositions, IsPlain, IsSide};
 
-use crate::sides::{Side, common_depth, tells_view};
+use crate::sides::{Side, common_depth};
 use ped_base::NoMemory;
 use ped_views::{AffRow, LoopRange, PairView, Position};
 use std::alloc::Global;
@@ -17,29 +19,21 @@ pub fn told_view(alloc: Global, source: &Side, sink: &Side) -> Result<Option<Pai
     ensures { IfOk result (λ told. IfSome told (λ view. (s : PlainSetting) (a b : Site) → IsSide s a source.now → IsSide s b sink.now → view ≡ view_at s a b)) }
 {
     let common = common_depth(source.nest, sink.nest);
-    if !have_loops(source, sink, common) {
+    if !is_plain(source, common) {
+        return Ok(None);
+    }
+    if !is_plain(sink, common) {
         return Ok(None);
     }
     let view = joined(alloc, common, &source.own, &sink.own)?;
-    Ok(kept(source, sink, view))
+    Ok(Some(view))
 }
 
-/// The view, where the sides tell it.
-fn kept(source: &Side, sink: &Side, view: PairView) -> Option<PairView>
-    ensures { IfSome result (λ view. (s : PlainSetting) (a b : Site) → IsSide s a source.now → IsSide s b sink.now → view ≡ view_at s a b) }
+/// Whether no subscript has other variables, all are affine forms, and there are so many loops.
+fn is_plain(side: &Side, common: usize) -> bool
+    ensures { IsTrue result → IsPlain common side.now }
 {
-    if tells_view(source, sink, &view) {
-        return Some(view);
-    }
-    None
-}
-
-/// Whether no subscript has other variables, and both references have so many loops.
-fn have_loops(source: &Side, sink: &Side, common: usize) -> bool
-    ensures source { IsTrue result → common ≤ length source.now.own.loops }
-    ensures sink { IsTrue result → common ≤ length sink.now.own.loops }
-{
-    source.alone && sink.alone && common <= source.own.loops.len() && common <= sink.own.loops.len()
+    side.alone && side.usable && common <= side.own.loops.len()
 }
 
 /// The ranges and the positions of two references, of which so many loops are common, by the view of each of them
@@ -52,6 +46,11 @@ fn joined(
 ) -> Result<PairView, NoMemory>
     requires source { common ≤ length source.now.loops }
     requires sink { common ≤ length sink.now.loops }
+    ensures loops { IfOk result (λ v. v.loops ≡ take common source.now.loops) }
+    ensures source_inner { IfOk result (λ v. v.source_inner ≡ drop common source.now.loops) }
+    ensures sink_inner { IfOk result (λ v. v.sink_inner ≡ drop common sink.now.loops) }
+    ensures positions { IfOk result (λ v. IsTrue (list_all is_usable source.now.positions) → IsTrue (list_all is_usable sink.now.positions)
+        → AreOwnPositions common source.now.positions sink.now.positions v.positions) }
 {
     let positions = positions(alloc, common, source, sink)?;
     let loops = first_ranges(alloc, &source.loops, common)?;
@@ -72,7 +71,7 @@ fn first_ranges(
     count: usize,
 ) -> Result<Vec<LoopRange>, NoMemory>
     requires { count ≤ length ranges.now }
-    ensures { IfOk result (λ found. length found.items ≡ count) }
+    ensures { IfOk result (λ found. found.items ≡ take count ranges.now) }
 {
     Ok(ranges[..count].to_vec(alloc)?)
 }
@@ -84,7 +83,7 @@ fn further_ranges(
     count: usize,
 ) -> Result<Vec<LoopRange>, NoMemory>
     requires { count ≤ length ranges.now }
-    ensures { IfOk result (λ found. length found.items ≡ length ranges.now - count) }
+    ensures { IfOk result (λ found. found.items ≡ drop count ranges.now) }
 {
     Ok(ranges[count..].to_vec(alloc)?)
 }
@@ -98,9 +97,11 @@ fn positions(
 ) -> Result<Vec<Position>, NoMemory>
     requires source { common ≤ length source.now.loops }
     requires sink { common ≤ length sink.now.loops }
-    ensures { IfOk result (λ found. All (FitsLoops common (length source.now.loops - common) (length sink.now.loops - common)) found.items) }
+    ensures fit { IfOk result (λ found. All (FitsLoops common (length source.now.loops - common) (length sink.now.loops - common)) found.items) }
+    ensures told { IfOk result (λ found. IsTrue (list_all is_usable source.now.positions) → IsTrue (list_all is_usable sink.now.positions)
+        → AreOwnPositions common source.now.positions sink.now.positions found.items) }
 {
-    let count = source.positions.len().min(sink.positions.len());
+    let count = shorter(position_count(source), position_count(sink));
     let mut found = Vec::with_capacity(alloc, count)?;
     for i in 0..count {
         let position = position(alloc, common, source, sink, i)?;
@@ -109,7 +110,26 @@ fn positions(
     Ok(found)
 }
 
-/// The position at a place.
+/// How many positions a view has.
+fn position_count(view: &PairView) -> usize
+    ensures { result ≡ length view.now.positions }
+{
+    view.positions.len()
+}
+
+/// The lesser of two numbers.
+fn shorter(first: usize, second: usize) -> usize
+    ensures first { result ≤ first }
+    ensures second { result ≤ second }
+    ensures one { (n : ℕ) → result ≤ n → (first ≤ n) ⊎ (second ≤ n) }
+{
+    if first < second {
+        return first;
+    }
+    second
+}
+
+/// The position at a place, of two subscripts that are affine forms.
 fn position(
     alloc: Global,
     common: usize,
@@ -121,13 +141,14 @@ fn position(
     requires sink { common ≤ length sink.now.loops }
     requires in_source { place < length source.now.positions }
     requires in_sink { place < length sink.now.positions }
-    ensures { IfOk result (FitsLoops common (length source.now.loops - common) (length sink.now.loops - common)) }
+    ensures fits { IfOk result (FitsLoops common (length source.now.loops - common) (length sink.now.loops - common)) }
+    ensures told { IfOk result (λ p. (a b : SubscriptPair) → slice_get source.now.positions place ≡ Some a → slice_get sink.now.positions place ≡ Some b
+        → IsTrue a.usable → IsTrue b.usable → IsOwnPosition common a b p) }
 {
-    let usable = source.positions[place].usable && sink.positions[place].usable;
     let first = divided(alloc, common, own_row(source, place))?;
     let second = divided(alloc, common, own_row(sink, place))?;
     Ok(Position {
-        usable,
+        usable: true,
         source: first,
         sink: second,
     })
@@ -136,7 +157,8 @@ fn position(
 /// The subscript at a place of a reference that is paired with itself.
 fn own_row(view: &PairView, place: usize) -> &AffRow
     requires { place < length view.now.positions }
-    ensures { length result.now.common ≡ length view.now.loops }
+    ensures long { length result.now.common ≡ length view.now.loops }
+    ensures row { (a : SubscriptPair) → slice_get view.now.positions place ≡ Some a → result.now ≡ a.source }
 {
     &view.positions[place].source
 }
@@ -144,8 +166,7 @@ fn own_row(view: &PairView, place: usize) -> &AffRow
 /// A row of which all loops are common, divided behind so many of them.
 fn divided(alloc: Global, common: usize, row: &AffRow) -> Result<AffRow, NoMemory>
     requires { common ≤ length row.now.common }
-    ensures common { IfOk result (λ r. length r.common ≡ common) }
-    ensures inner { IfOk result (λ r. length r.inner ≡ length row.now.common - common) }
+    ensures { IfOk result (IsOwnRow common row.now) }
 {
     let outer = row.common[..common].to_vec(alloc)?;
     let inner = row.common[common..].to_vec(alloc)?;

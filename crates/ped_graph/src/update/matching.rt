@@ -41,9 +41,9 @@ pub struct Former<'a, L: Ledger> {
 
 /// The program behind a change.
 #[derive(Clone, Copy)]
-pub struct Changed<'a> {
+pub struct Changed<'a, 's> {
     /// What is known of it.
-    pub known: Known<'a>,
+    pub known: Known<'a, 's>,
     /// Its references as sides of their pairs.
     pub sides: &'a [Side<'a>],
 }
@@ -117,7 +117,7 @@ fn match_pairs<L: Ledger>(
     };
     for pair in listed {
         let number = outermost(occurrence_at(&changed.known, pair.source));
-        enter(alloc, &mut round, changed.known.program, number)?;
+        enter(alloc, &mut round, &changed.known, number)?;
         match_pair(alloc, former, changed, &round, pair, parts, steps)?;
     }
     Ok(())
@@ -153,7 +153,8 @@ fn match_pair<L: Ledger>(
         → steps.new ≤ steps.old + Matching.tests former.now.graph.now keep (pair_by f (view_of (program_tree changed.now.known.program.now) p.0 p.1)) }
 {
     let key = parts.frame.key(parts.slots.len() as u64);
-    if let Some(here) = told_origin(former, changed, &key, pair) {
+    let expected = place_behind(&parts.kept);
+    if let Some(here) = told_origin(former, changed, &key, expected, pair) {
         return keep_verdict(parts, here);
     }
     let view = view_at(alloc, &changed.known, round, pair)?;
@@ -177,7 +178,7 @@ fn match_view<L: Ledger>(
         → (f.source, f.sink) ≡ key_shown key.now → steps.new ≡ steps.old + Matching.tests former.now.graph.now keep (pair_by f view) }
     ensures least { steps.old ≤ steps.new }
 {
-    if let Some(here) = origin(former, key, &view) {
+    if let Some(here) = origin(former, key, place_behind(&parts.kept), &view) {
         return keep_verdict(parts, here);
     }
     add_verdict(alloc, parts, view, steps)
@@ -200,6 +201,7 @@ fn told_origin<L: Ledger>(
     former: &Former<'_, L>,
     changed: &Changed,
     key: &PairKey,
+    expected: u64,
     pair: &Pair,
 ) -> Option<u64>
     requires known { IsKnown changed.now.known }
@@ -209,7 +211,7 @@ fn told_origin<L: Ledger>(
         → pair_at (references_of changed.now.known.found.now) pair.now ≡ Some p → (f.source, f.sink) ≡ key_shown key.now
         → Some here ≡ Matching.origin former.now.graph.now keep (pair_by f (view_of (program_tree changed.now.known.program.now) p.0 p.1))) }
 {
-    let Some(here) = former_place_of(former, key) else {
+    let Some(here) = former_place_of(former, key, expected) else {
         return None;
     };
     if is_told(changed, pair, former.graph.verdict(here).view()) {
@@ -243,11 +245,16 @@ fn is_told(changed: &Changed, pair: &Pair, view: &PairView) -> bool
 }
 
 /// The place of the pair of a graph from which a pair with this key and this view comes, none where it is fresh.
-fn origin<L: Ledger>(former: &Former<'_, L>, key: &PairKey, view: &PairView) -> Option<u64>
+fn origin<L: Ledger>(
+    former: &Former<'_, L>,
+    key: &PairKey,
+    expected: u64,
+    view: &PairView,
+) -> Option<u64>
     ensures { (keep : List (ℕ × ℕ)) (f : Framed) → IsOneToOne keep → Matching.IsTable keep former.now.statements.now
         → (f.source, f.sink) ≡ key_shown key.now → result ≡ Matching.origin former.now.graph.now keep (pair_by f view.now) }
 {
-    let Some(here) = former_place_of(former, key) else {
+    let Some(here) = former_place_of(former, key, expected) else {
         return None;
     };
     if former.graph.verdict(here).view().same(view) {
@@ -258,7 +265,7 @@ fn origin<L: Ledger>(former: &Former<'_, L>, key: &PairKey, view: &PairView) -> 
 
 /// The place of the pair of a graph whose references are those of a pair with this key, none where one of them isn't kept
 /// or the graph has no such pair.
-fn former_place_of<L: Ledger>(former: &Former<'_, L>, key: &PairKey) -> Option<u64>
+fn former_place_of<L: Ledger>(former: &Former<'_, L>, key: &PairKey, expected: u64) -> Option<u64>
     ensures within { IfSome result (λ here. here < length former.now.graph.now.frame.pairs) }
     ensures place { (keep : List (ℕ × ℕ)) (f : Framed) (v : View) → IsOneToOne keep → Matching.IsTable keep former.now.statements.now
         → (f.source, f.sink) ≡ key_shown key.now → Matching.IsPlace former.now.graph.now keep (pair_by f v) result }
@@ -266,7 +273,7 @@ fn former_place_of<L: Ledger>(former: &Former<'_, L>, key: &PairKey) -> Option<u
     let Some(key) = former_key(former.statements, key) else {
         return None;
     };
-    former.graph.frame().place_of(&key)
+    former.graph.frame().place_near(&key, expected)
 }
 
 /// Where the references of a pair stood before the change, none where one of them isn't kept.
@@ -286,6 +293,14 @@ fn former_place(former: &IndexMap<u32, u32>, place: (u32, u32)) -> Option<(u32, 
     match former.get(&place.0) {
         Some(statement) => Some((*statement, place.1)),
         None => None,
+    }
+}
+
+/// The place behind the pair that kept its verdict last: the next one is expected there. Most pairs keep their order.
+fn place_behind(kept: &[Kept]) -> u64 {
+    match kept.last() {
+        Some(pair) => pair.here.saturating_add(1),
+        None => 0,
     }
 }
 

@@ -11,8 +11,8 @@ ghost use Rattle.ped_graph.specs.Update.Matching.{parts_for};
 
 use crate::Graph;
 use crate::extents::extents;
-use crate::firmness::all_firm;
-use crate::guards::guards;
+use crate::numbered::numbered_statements;
+use crate::own_facts::all_own_facts;
 use crate::parts::Parts;
 use crate::preparing::Known;
 use crate::update::deltas::Delta;
@@ -77,15 +77,16 @@ fn parts_of<L: Ledger>(
     let found = occurrences(alloc, program)?;
     let extents = extents(alloc, &program.body)?;
     let listed = listed_pairs(alloc, &found)?;
-    let guards = guards(alloc, &program.body)?;
-    let firm = all_firm(alloc, consts, &guards, &found)?;
+    let own = all_own_facts(alloc, program, consts, &found)?;
+    let statements = numbered_statements(alloc, &program.body)?;
     let loop_variables = loop_variables(alloc, &program.body)?;
     let known = Known {
         program,
         consts,
         loop_variables: &loop_variables,
         found: &found,
-        firm: &firm,
+        own: &own,
+        statements: &statements,
     };
     matched(alloc, graph, &known, &listed, extents, keep, steps)
 }

@@ -1,6 +1,4 @@
-use Rattle.std.proofs.Common.{◌≤◌, ◌++◌, ◌∙◌, List, map, length, ap, sym, subst, arith}
-use Rattle.ped_views.specs.declared.directions.Direction.{Direction}
-use Rattle.ped_views.specs.Vectors.{AreVectors}
+use Rattle.std.proofs.Common.{◌≤◌, ◌++◌, ◌∙◌, List, map, length, ap, arith}
 use Rattle.ped_edges.specs.declared.edges.Edge.{Edge as CodeEdge}
 use Rattle.ped_edges.specs.CodeEdges.{edge_of}
 use Rattle.ped_graph.specs.Held.{pair_by, held_edges}
@@ -10,7 +8,6 @@ use Rattle.ped_graph.proofs.edges.edges_of_pair.Goals as goal
 pub returns-clause-edges : goal.returns-clause-edges
 returns-clause-edges c =
     let v = c.args.view.now in
-    let vectors = c.deref.result.now in
+    let vectors = c.in_ok-vectors.vectors.items in
     let few : length v.loops ≤ 6 = (let n = c.loop_count.ensures.count in let s = c.loop_count.ensures.few in omega (arith, n, s)) in
-    let possible = subst (λ (vs : List (List Direction)). AreVectors v vs) (sym c.deref.ensures.value) c.in_ok-vectors.ensures in
-    record { few = few; vectors = vectors; possible = possible; divided = c.in_ok-push_shared.ensures.edges ∙ ap (λ (es : List CodeEdge). map edge_of es ++ held_edges (pair_by (framed_of c.args.facts.now) v) vectors) c.new-edges.ensures.items }
+    record { few = few; vectors = vectors; possible = c.in_ok-vectors.ensures; divided = c.in_ok-push_shared.ensures.edges ∙ ap (λ (es : List CodeEdge). map edge_of es ++ held_edges (pair_by (framed_of c.args.facts.now) v) vectors) c.new-edges.ensures.items }

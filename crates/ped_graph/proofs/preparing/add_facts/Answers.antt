@@ -1,10 +1,9 @@
 use Rattle.std.proofs.Common.{◌∙◌, ◌++◌, ◌∷◌, [], ap, ℕ, ℤ, List, map}
-use Rattle.std.specs.Prelude.{◌&&◌}
 use Rattle.std.proofs.lemmas.Result.{on_ok_weaker}
 use Rattle.ped_tree.specs.Views.{program_tree}
 use Rattle.ped_refs.specs.Occurrences.{reference_of, references_of}
 use Rattle.ped_graph.specs.Guards.{guards}
-use Rattle.ped_graph.specs.Marks.{is_firm}
+use Rattle.ped_graph.specs.KnownProgram.{own_of}
 use Rattle.ped_graph.specs.Dependences.{facts_of}
 use Rattle.ped_graph.specs.Held.{framed}
 use Rattle.ped_graph.specs.CodeFacts.{framed_of}
@@ -21,8 +20,7 @@ returns c = on_ok_weaker c.push_facts.result (λ more p e.
     let source = one_there refs pair.source _ p.0 c.occurrence_at.ensures.there there.0 in
     let sink = one_there refs pair.sink _ p.1 c.occurrence_at-2.ensures.there there.1 in
     let constants = c.requires.known.constants in
-    let first = c.firm_at.ensures _ c.occurrence_at.ensures.there ∙ ap (λ (v : List (List ℕ × ℤ)). is_firm v (guards t) (reference_of c.occurrence_at.result.now)) constants in
-    let second = c.firm_at-2.ensures _ c.occurrence_at-2.ensures.there ∙ ap (λ (v : List (List ℕ × ℤ)). is_firm v (guards t) (reference_of c.occurrence_at-2.result.now)) constants in
-    let firm = c.both-firm.ensures ∙ (λ i. first i && second i) in
-    more (facts_of t) firm ∙ (λ i. map framed_of c.args.all.now.items ++ framed (facts_of t) (source i) (sink i) ∷ []))
+    let first = c.own_at.ensures _ c.occurrence_at.ensures.there ∙ ap (λ (v : List (List ℕ × ℤ)). own_of v (guards t) (reference_of c.occurrence_at.result.now)) constants in
+    let second = c.own_at-2.ensures _ c.occurrence_at-2.ensures.there ∙ ap (λ (v : List (List ℕ × ℤ)). own_of v (guards t) (reference_of c.occurrence_at-2.result.now)) constants in
+    more (facts_of t) first second ∙ (λ i. map framed_of c.args.all.now.items ++ framed (facts_of t) (source i) (sink i) ∷ []))
     c.push_facts.ensures

@@ -1,21 +1,48 @@
-use Rattle.std.proofs.Common.{◌∙◌, ap, List, [], map, Bool, false}
-use Rattle.ped_tree.specs.Views.{stmt_trees}
-use Rattle.ped_tree.specs.declared.statements.Stmt.{Stmt}
-use Rattle.ped_tree.specs.Names.Collecting.{with_names}
-use Rattle.ped_refs.specs.Occurrences.{reference_of}
-use Rattle.ped_refs.specs.declared.occurring.Occurrence.{Occurrence}
+use Rattle.std.proofs.Common.{◌∙◌, List, [], map, length, Some, All, ap, subst, sym}
+use Rattle.ped_tree.specs.Views.{program_tree, stmt_trees}
+use Rattle.ped_tree.specs.Numbering.{all_numbered}
 use Rattle.ped_tree.specs.NamesIn.{all_loop_variables}
-use Rattle.ped_graph.specs.Guards.{all_guards_in}
-use Rattle.ped_graph.specs.Marks.{is_firm}
+use Rattle.ped_tree.specs.Names.Collecting.{with_names}
+use Rattle.ped_tree.specs.declared.statements.Stmt.{Stmt}
+use Rattle.ped_refs.specs.References.{pairs}
+use Rattle.ped_refs.specs.Occurrences.{reference_of, references_of, pair_at, IsWithin}
+use Rattle.ped_refs.specs.declared.occurring.Occurrence.{Occurrence}
+use Rattle.ped_refs.specs.declared.pairing.Pair.{Pair}
+use Rattle.ped_graph.specs.Guards.{guards}
+use Rattle.ped_graph.specs.KnownProgram.{own_of, trees_of}
+use Rattle.ped_graph.proofs.Known.{few_statements, few_references, shallow_found}
 use Rattle.ped_graph.proofs.preparing.all_pairs.Goals as goal
+
+pub occurrences-requires-clause-statements : goal.occurrences-requires-clause-statements
+occurrences-requires-clause-statements c = few_statements (program_tree c.args.program.now) c.requires.valid
+
+pub occurrences-requires-clause-references : goal.occurrences-requires-clause-references
+occurrences-requires-clause-references c = few_references (program_tree c.args.program.now) c.requires.valid
+
+pub all_own_facts-requires : goal.all_own_facts-requires
+all_own_facts-requires c = shallow_found (program_tree c.args.program.now) c.deref-2.result.now c.requires.valid (ap references_of c.deref-2.ensures.value ∙ c.in_ok-found.ensures)
 
 pub pairs_of-requires-clause-known : goal.pairs_of-requires-clause-known
 pairs_of-requires-clause-known c =
-    let guards = c.deref-2.ensures.value ∙ c.in_ok-guards.ensures ∙ ap (λ (body : List Stmt). all_guards_in false (stmt_trees body)) c.deref.ensures.value in
+    let t = program_tree c.args.program.now in
+    let found = c.deref-2.ensures.value ∙ sym c.deref-5.ensures.value in
     record {
       constants = c.requires.constants;
-      loop_variables = c.in_ok-loop_variables.ensures ∙ ap (λ (body : List Stmt). with_names [] (all_loop_variables (stmt_trees body))) c.deref-3.ensures.value;
-      firm = c.deref-4.ensures.value ∙ c.in_ok-firm.ensures
-          ∙ ap (λ (gs : List Bool). map (λ (o : Occurrence). is_firm c.args.consts.now gs (reference_of o)) c.args.found.now) guards;
-      shallow = c.requires.shallow;
+      loop_variables = c.in_ok-loop_variables.ensures ∙ ap (λ (body : List Stmt). with_names [] (all_loop_variables (stmt_trees body))) c.deref-4.ensures.value;
+      statements = ap trees_of c.deref-7.ensures.value ∙ c.in_ok-statements.ensures ∙ ap (λ (body : List Stmt). all_numbered (stmt_trees body)) c.deref-3.ensures.value;
+      own = c.deref-6.ensures.value ∙ c.in_ok-own.ensures ∙ ap (λ (os : List Occurrence). map (λ (o : Occurrence). own_of c.args.consts.now (guards t) (reference_of o)) os) found;
+      shallow = shallow_found t c.deref-5.result.now c.requires.valid (ap references_of c.deref-5.ensures.value ∙ c.in_ok-found.ensures);
     }
+
+pub pairs_of-requires-clause-within : goal.pairs_of-requires-clause-within
+pairs_of-requires-clause-within c =
+    let found = c.deref.ensures.value ∙ sym c.deref-5.ensures.value in
+    subst (λ (listed : List Pair). All (IsWithin (length c.deref-5.result.now)) listed) (sym c.deref-8.ensures.value)
+    (subst (λ (os : List Occurrence). All (IsWithin (length os)) c.in_ok-listed.listed.items) found c.in_ok-listed.ensures.within)
+
+pub pairs_of-requires-clause-listed : goal.pairs_of-requires-clause-listed
+pairs_of-requires-clause-listed c =
+    let there = c.deref.ensures.value in
+    ap (λ (listed : List Pair). map (pair_at (references_of c.deref-5.result.now)) listed) c.deref-8.ensures.value
+    ∙ ap (λ (os : List Occurrence). map (pair_at (references_of os)) c.in_ok-listed.listed.items) (c.deref-5.ensures.value ∙ sym there)
+    ∙ c.in_ok-listed.ensures.pairs ∙ ap (λ (os : List Occurrence). map Some (pairs (references_of os))) there ∙ ap (λ (rs : _). map Some (pairs rs)) c.in_ok-found.ensures

@@ -1,13 +1,11 @@
-use Rattle.std.proofs.Common.{◌≡◌, ◌<◌, ◌∙◌, ℕ, List, map, length, Option, Some, slice_get, ap, subst, sym, arith}
+use Rattle.std.proofs.Common.{◌≡◌, ◌<◌, ◌∙◌, List, map, length, Some, slice_get, ap, subst, sym, arith}
 use Rattle.std.proofs.lemmas.Result.{IfOk-weaker}
 use Rattle.ped_views.specs.Views.{View}
-use Rattle.ped_tree.specs.Tree.{ProgramTree}
 use Rattle.ped_refs.specs.References.{Reference, references, pairs}
-use Rattle.ped_edges.specs.Edges.{Edge}
 use Rattle.ped_edges.specs.CodeEdges.{edge_of}
 use Rattle.ped_graph.specs.CodeFacts.{framed_of}
-use Rattle.ped_graph.specs.Dependences.{facts_of, view_of, PairEdges}
-use Rattle.ped_graph.specs.Held.{Framed, Held, framed, pair_by, held_of}
+use Rattle.ped_graph.specs.Dependences.{facts_of, view_of}
+use Rattle.ped_graph.specs.Held.{Framed, Held, framed, pair_by}
 use Rattle.ped_graph.specs.HeldPairs.{HeldPairEdges}
 use Rattle.ped_graph.proofs.HeldEdges.{pair_edges}
 use Rattle.ped_graph.proofs.Slices.{item_there, mapped_at, length_mapped}

@@ -21,11 +21,11 @@ returns-in_default-clause-place g c = λ keep f v once table key.
 
 pub returns-clause-within : goal.returns-clause-within
 returns-clause-within g c =
-    place_within c.args.former.now.graph.now (key_shown c.in-Some.key) c.place_of.result
-    (subst (λ (h : HeldFrame). MatchOption c.place_of.result ((n : ℕ) → slice_get (map key_of h.pairs) n ≡ Some (key_shown c.in-Some.key) → ⊥) (λ n. IsOnlyAt (map key_of h.pairs) (key_shown c.in-Some.key) n)) c.frame.ensures c.place_of.ensures)
+    place_within c.args.former.now.graph.now (key_shown c.in-Some.key) c.place_near.result
+    (subst (λ (h : HeldFrame). MatchOption c.place_near.result ((n : ℕ) → slice_get (map key_of h.pairs) n ≡ Some (key_shown c.in-Some.key) → ⊥) (λ n. IsOnlyAt (map key_of h.pairs) (key_shown c.in-Some.key) n)) c.frame.ensures c.place_near.ensures)
 
 pub returns-clause-place : goal.returns-clause-place
 returns-clause-place g c = λ keep f v once table key.
-    place_by c.args.former.now.graph.now keep (pair_by f v) once (key_shown c.in-Some.key) c.place_of.result
+    place_by c.args.former.now.graph.now keep (pair_by f v) once (key_shown c.in-Some.key) c.place_near.result
     (by_table (get nat_eq c.args.former.now.statements.now) (former_in keep) (f.source, f.sink) (key_shown c.args.key.now) table key ∙ sym c.former_key.ensures ∙ ap (λ o. option_map key_shown o) c.in-Some.is)
-    (subst (λ (h : HeldFrame). MatchOption c.place_of.result ((n : ℕ) → slice_get (map key_of h.pairs) n ≡ Some (key_shown c.in-Some.key) → ⊥) (λ n. IsOnlyAt (map key_of h.pairs) (key_shown c.in-Some.key) n)) c.frame.ensures c.place_of.ensures)
+    (subst (λ (h : HeldFrame). MatchOption c.place_near.result ((n : ℕ) → slice_get (map key_of h.pairs) n ≡ Some (key_shown c.in-Some.key) → ⊥) (λ n. IsOnlyAt (map key_of h.pairs) (key_shown c.in-Some.key) n)) c.frame.ensures c.place_near.ensures)

@@ -1,9 +1,11 @@
 -- Statements by their kinds: what their parts need, and how their runs end.
-use Rattle.std.proofs.Common.{◌≡◌, ℕ, suc, ◌+◌, ◌≤◌, ◌<◌, ◌^◌, max, List, ◌∷◌, length, map, Bool, true, false, ◌&&◌, Result, Ok, Err, if◌then◌else◌, refl, sym, ap, subst, ◌∙◌, arith, rules, drop, get_or, add-one, drop-cons}
+use Rattle.std.proofs.Common.{◌≡◌, ℕ, suc, ◌+◌, ◌≤◌, ◌<◌, ◌^◌, max, List, [], ◌∷◌, ◌==◌, length, map, Bool, true, false, ◌&&◌, Result, Ok, Err, if◌then◌else◌, refl, sym, ap, subst, ◌∙◌, arith, rules, drop, get_or, add-one, drop-cons, eqb-true}
 use Rattle.std.proofs.lemmas.Bool.{and_parts}
+use Rattle.std.proofs.lemmas.List.{append-nil, drop_all}
+use Rattle.ped_store.specs.Acts.{Act}
 use Rattle.std.specs.Global.{Vec}
 use Rattle.ped_tree.specs.Tree as plain
-use Rattle.ped_tree.specs.Tree.{CondTree, Head, StmtTree, StmtTrees, more_stmts}
+use Rattle.ped_tree.specs.Tree.{CondTree, Head, StmtTree, StmtTrees, no_stmts, more_stmts}
 use Rattle.ped_tree.specs.Views.{expr_tree, item_tree, stmt_tree, stmt_trees, do_tree, stmt_level, do_level}
 use Rattle.ped_tree.specs.Numbering.{statement_count, statements_count}
 use Rattle.ped_tree.specs.declared.expressions.Expr.{Expr}
@@ -16,14 +18,14 @@ use Rattle.ped_tree.specs.declared.statements.Stmt.TheFolds.{fold-roll-Stmt}
 use Rattle.ped_symbols.specs.Kinds.{Table}
 use Rattle.ped_store.specs.Stores.{Store}
 use Rattle.ped_store.specs.Memories.{Memory}
-use Rattle.ped_eval.specs.Scopes.{Frame, Scope, names_in, place_of}
+use Rattle.ped_eval.specs.Scopes.{Setting, Frame, Scope, names_in, place_of}
 use Rattle.ped_eval.specs.ScopeViews.{names_at}
 use Rattle.ped_eval.specs.Values.{truth}
 use Rattle.ped_symbols.specs.RightUses.RightUses.{cond_is_right, head_is_right, stmt_is_right, stmts_are_right}
 use Rattle.ped_symbols.specs.RightUses.RightLoops.{loop_depth, loops_deep, step_is_right, stmt_steps_are_right, steps_are_right}
 use Rattle.ped_eval.specs.Readiness.{kinds_by, setting_by, IsReady, CanDo, CanRun}
 use Rattle.ped_eval.specs.Agreement.{is_ahead, before, Agrees}
-use Rattle.ped_eval.specs.Runs.{Ending, going, stopped, failed, run, run_all}
+use Rattle.ped_eval.specs.Runs.{Ending, going, stopped, failed, nothing_done, followed_by, run, run_all}
 use Rattle.ped_eval.specs.Told.{Fails, Tells, Ran}
 use Rattle.ped_eval.specs.declared.states.Flow.{Flow}
 use Rattle.ped_eval.specs.declared.states.Flow.TheVariants as flow
@@ -191,3 +193,31 @@ pub stmts_left : (ss : List Stmt) (i : ℕ) (x : Stmt) → i < length ss → x �
 stmts_left ss i x h e =
     let next : drop i ss ≡ get_or ss i x ∷ drop (i + 1) ss = drop-cons ss i x h ∙ ap (λ (n : ℕ). get_or ss i x ∷ drop n ss) (sym (add-one i)) in
     ap stmt_trees next ∙ ap (λ (y : Stmt). more_stmts (stmt_tree y) (stmt_trees (drop (i + 1) ss))) (sym e)
+
+-- a block IF without an ELSE part, whose condition is false, does nothing
+pub none_run : (table : Table) (scope : Scope) (n : ℕ) (old : Memory) → IsReady table scope old → (condition : CondTree) (a : StmtTrees) → (truth (names_at old scope table.constants) condition old.cells).result ≡ Ok false
+    → HasRun table scope n old (Ok flow.Going) old (plain.If condition a no_stmts)
+none_run table scope n old ready condition a h =
+    let k : n + 1 + statements_count a ≡ n + 1 + statements_count a + 0 = omega arith in
+    else_run table scope n old ready condition a no_stmts (Ok flow.Going) old h (λ s g. subst (λ (j : ℕ). Agrees scope (before scope j) old.cells s) k g)
+
+-- there are none
+pub no_items : {X : Type 0} (xs : List X) → (length xs == 0) ≡ true → xs ≡ []
+no_items [] h = refl
+no_items (x ∷ xs) h = let e : suc (length xs) ≡ 0 = eqb-true (suc (length xs)) 0 h in absurd (omega (arith, e))
+
+-- statements of which there is one
+pub only_left : (stmts : List Stmt) (x : Stmt) → length stmts ≡ 1 → x ≡ get_or stmts 0 x → stmt_trees stmts ≡ more_stmts (stmt_tree x) no_stmts
+only_left stmts x h e =
+    let some : 0 < length stmts = omega (arith, h) in
+    let all : length stmts ≤ 1 = omega (arith, h) in
+    stmts_left stmts 0 x some e ∙ ap (λ (ss : List Stmt). more_stmts (stmt_tree x) (stmt_trees ss)) (drop_all 1 stmts all)
+
+-- one statement is run as the statements of which it is the only one
+pub only_run : (p : Setting) (t : StmtTree) (n : ℕ) (scope : Scope) → run_all p (more_stmts t no_stmts) n scope ≡ run p t n scope
+only_run p t n scope = λ i s. go (run p t n scope s).acts (run p t n scope s).ending i
+  where
+    go : (acts : List Act) (e : Ending) → followed_by acts e nothing_done ≡ record { acts = acts; ending = e }
+    go acts (going s) = ap (λ (done : List Act). record { acts = done; ending = going s }) (append-nil acts)
+    go acts (stopped s) = refl
+    go acts (failed fault statement) = refl

@@ -236,6 +236,42 @@ module _ (around : Surroundings) where
   pub named_by : (x : List ℕ) (es : List Expr) (js : List ℤ) → values_at around es ≡ Ok js → IsNamedBy around.scope.now (Element x (pack_exprs (map expr_tree es))) (cells.Element x js)
   named_by x es js h = (js, as_many around es js h ∙ sym (expr_count-is es), refl)
 
+  -- the value of an element whose subscripts are known
+  pub element_known : (x : List ℕ) (es : List Expr) (js : List ℤ) → values_at around es ≡ Ok js → is_rank (length es) ≡ true → value_at around (Element x (pack_exprs (map expr_tree es))) ≡ got (memory_of around.store.now) (cells.Element x js)
+  element_known x es js h r =
+      element_at around x (pack_exprs (map expr_tree es)) ∙ ap (of_one (λ c. number_read ((memory_of around.store.now).cells c))) (target_ranked x es js h r)
+      ∙ got_bounded (memory_of around.store.now) (cells.Element x js)
+
+  -- an element with a subscript that faults has no value
+  pub element_faulted : (x : List ℕ) (es : List Expr) (n : ℕ) → values_at around es ≡ Err n → value_at around (Element x (pack_exprs (map expr_tree es))) ≡ Err n
+  element_faulted x es n h =
+      element_at around x (pack_exprs (map expr_tree es)) ∙ ap (of_one (λ c. number_read ((memory_of around.store.now).cells c))) (target_faulted x es n h)
+
+  -- the values of one expression
+  pub values_one_known : (es : List Expr) (a : Expr) (u : ℤ) → length es ≡ 1 → a ≡ get_or es 0 a → value_at around (expr_tree a) ≡ Ok u → values_at around es ≡ Ok (u ∷ [])
+  values_one_known es a u h e v =
+      ap (values_at around) (first_of es 0 a (omega (arith, h)) e ∙ ap (λ (l : List Expr). a ∷ l) (none_behind es 1 (omega (arith, h))))
+      ∙ values_more around a [] ∙ (λ i. of_two (λ u us. Ok (u ∷ us)) (v i) (values_none around i))
+
+  -- the values of two expressions
+  pub values_two_known : (es : List Expr) (a b : Expr) (u w : ℤ) → length es ≡ 2 → a ≡ get_or es 0 a → b ≡ get_or es 1 b → value_at around (expr_tree a) ≡ Ok u → value_at around (expr_tree b) ≡ Ok w → values_at around es ≡ Ok (u ∷ w ∷ [])
+  values_two_known es a b u w h e f v z =
+      let second : values_at around (b ∷ []) ≡ Ok (w ∷ []) = values_more around b [] ∙ (λ i. of_two (λ u us. Ok (u ∷ us)) (z i) (values_none around i)) in
+      ap (values_at around) (first_of es 0 a (omega (arith, h)) e ∙ ap (λ (l : List Expr). a ∷ l) (first_of es 1 b (omega (arith, h)) f ∙ ap (λ (l : List Expr). b ∷ l) (none_behind es 2 (omega (arith, h)))))
+      ∙ values_more around a (b ∷ []) ∙ (λ i. of_two (λ u us. Ok (u ∷ us)) (v i) (second i))
+
+  -- the first of expressions faults
+  pub values_first_faulted : (es : List Expr) (a : Expr) (n : ℕ) → 0 < length es → a ≡ get_or es 0 a → value_at around (expr_tree a) ≡ Err n → values_at around es ≡ Err n
+  values_first_faulted es a n h e v =
+      ap (values_at around) (first_of es 0 a h e) ∙ values_more around a (drop 1 es) ∙ ap (λ (r : Result ℤ ℕ). of_two (λ u us. Ok (u ∷ us)) r (values_at around (drop 1 es))) v
+
+  -- the second of two expressions faults
+  pub values_second_faulted : (es : List Expr) (a b : Expr) (u : ℤ) (n : ℕ) → length es ≡ 2 → a ≡ get_or es 0 a → b ≡ get_or es 1 b → value_at around (expr_tree a) ≡ Ok u → value_at around (expr_tree b) ≡ Err n → values_at around es ≡ Err n
+  values_second_faulted es a b u n h e f v z =
+      let second : values_at around (b ∷ []) ≡ Err n = values_more around b [] ∙ ap (λ (r : Result ℤ ℕ). of_two (λ u us. Ok (u ∷ us)) r (values_at around [])) z in
+      ap (values_at around) (first_of es 0 a (omega (arith, h)) e ∙ ap (λ (l : List Expr). a ∷ l) (first_of es 1 b (omega (arith, h)) f ∙ ap (λ (l : List Expr). b ∷ l) (none_behind es 2 (omega (arith, h)))))
+      ∙ values_more around a (b ∷ []) ∙ (λ i. of_two (λ u us. Ok (u ∷ us)) (v i) (second i))
+
   -- one expression more is evaluated
   pub fault_next : (es : List Expr) (i : ℕ) (e : Expr) (u : ℤ) (fault : ℕ) → i < length es → e ≡ get_or es i e → Ok u ≡ value_at around (expr_tree e) → fault_or fault (values_at around (drop i es)) ≡ fault_or fault (values_at around (drop (i + 1) es))
   fault_next es i e u fault h g v =

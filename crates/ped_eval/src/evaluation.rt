@@ -1,7 +1,7 @@
 //! Values of expressions and truth of conditions in a store. One walk gives the value and notes what it reads, up to a
 //! fault.
 
-ghost use Rattle.std.specs.Prelude.{◌≡◌, ◌<◌, ◌≤◌, ◌-◌, pos, length, map, false, take, drop, replicate, IfOk, IfErr, Ok, Err};
+ghost use Rattle.std.specs.Prelude.{◌≡◌, ◌<◌, ◌≤◌, ◌-◌, pos, ℕ, List, length, map, true, false, take, drop, replicate, IfOk, IfErr, OnOk, Ok, Err};
 ghost use Rattle.ped_tree.specs.Tree as Tree;
 ghost use Rattle.ped_tree.specs.Views.{expr_tree, cond_tree, pack_exprs};
 ghost use Rattle.ped_base.specs.Arithmetic.Arithmetic.{greatest_of, least_of};
@@ -125,8 +125,16 @@ fn note_index(name: &Name, around: &Surroundings, notes: &mut Notes)
     ensures { HasTouched notes.old (Scopes.cell_of around.now.scope.now name.now) false notes.new }
 {
     if notes.kept {
-        notes.touch(&around.scope.cell(name), false);
+        touch_index(name, around, notes);
     }
+}
+
+/// Notes the read of the variable of a DO in its body, by no reference.
+#[inline(never)]
+fn touch_index(name: &Name, around: &Surroundings, notes: &mut Notes)
+    ensures { HasTouched notes.old (Scopes.cell_of around.now.scope.now name.now) false notes.new }
+{
+    notes.touch(&around.scope.cell(name), false);
 }
 
 /// The value of a scalar that is read from its cell. The cell is made for kept notes alone, and for private copies.
@@ -144,6 +152,7 @@ fn stored_value(name: &Name, around: &Surroundings, notes: &mut Notes) -> Valued
 }
 
 /// The value of the cell that a scalar stands for.
+#[inline(never)]
 fn cell_value(name: &Name, around: &Surroundings, notes: &mut Notes) -> Valued
     ensures value { result ≡ (Evaluation.read_cell (memory_of around.now.store.now).cells (Scopes.cell_of around.now.scope.now name.now)).result }
     ensures noted { HasReferred notes.old (Scopes.cell_of around.now.scope.now name.now) false notes.new }
@@ -173,6 +182,7 @@ fn element_value(
 
 /// The value of an element, of which notes are made.
 #[cycle(value_of)]
+#[inline(never)]
 fn noted_element(
     name: &Name,
     subscripts: &[Expr],
@@ -188,9 +198,58 @@ fn noted_element(
     }
 }
 
-/// The value of an element, of which no notes are kept.
+/// The value of an element, of which no notes are kept. One subscript or two need no room for seven.
 #[cycle(value_of)]
 fn unnoted_element(
+    name: &Name,
+    indices: &[Expr],
+    around: &Surroundings,
+    notes: &mut Notes,
+) -> Valued
+    requires { notes.old.kept ≡ false }
+    ensures value { result ≡ value_at around.now (Tree.Element name.now (pack_exprs (map expr_tree indices.now))) }
+    ensures noted { HasNoted notes.old (seen_at around.now (Tree.Element name.now (pack_exprs (map expr_tree indices.now)))) notes.new }
+{
+    let [index] = indices else {
+        return element_by_more(name, indices, around, notes);
+    };
+    match value_of(index, around, notes) {
+        Ok(place) => return around.store.get_element(name, &[place]),
+        Err(fault) => return Err(fault),
+    }
+}
+
+/// The value of an element that hasn't one subscript, of which no notes are kept.
+#[cycle(value_of)]
+#[inline(never)]
+fn element_by_more(
+    name: &Name,
+    indices: &[Expr],
+    around: &Surroundings,
+    notes: &mut Notes,
+) -> Valued
+    requires { notes.old.kept ≡ false }
+    ensures value { result ≡ value_at around.now (Tree.Element name.now (pack_exprs (map expr_tree indices.now))) }
+    ensures noted { HasNoted notes.old (seen_at around.now (Tree.Element name.now (pack_exprs (map expr_tree indices.now)))) notes.new }
+{
+    let [first, second] = indices else {
+        return element_by_many(name, indices, around, notes);
+    };
+    let row = value_of(first, around, notes);
+    let column = next_value(&row, second, around, notes);
+    match row {
+        Ok(row) => match column {
+            Ok(column) => return around.store.get_element(name, &[row, column]),
+            Err(fault) => return Err(fault),
+        },
+        Err(fault) => return Err(fault),
+    }
+}
+
+/// The value of an element with any number of subscripts, of which no notes are kept.
+#[cycle(value_of)]
+#[inline(never)]
+fn element_by_many(
     name: &Name,
     indices: &[Expr],
     around: &Surroundings,
@@ -292,8 +351,32 @@ fn element_cell(
     }
 }
 
+/// The values of the subscripts of an element, in order, and 0 in the places past them.
+///
+/// # Errors
+///
+/// The first fault in them; outside bounds where there are none, or more than seven.
+pub(crate) fn ranked_places(
+    subscripts: &[Expr],
+    around: &Surroundings,
+    notes: &mut Notes,
+) -> Result<[i128; 7], RunFault>
+    ensures rank { OnOk result (Values.is_rank (length subscripts.now) ≡ true) }
+    ensures places { IfOk result (λ places. values_at around.now subscripts.now ≡ Ok (take (length subscripts.now) places)) }
+    ensures err { IfErr result (λ n. (x : List ℕ) → target_at around.now (Tree.Element x (pack_exprs (map expr_tree subscripts.now))) ≡ Err n) }
+    ensures noted { HasNoted notes.old (all_seen_at around.now subscripts.now) notes.new }
+{
+    if !is_rank(subscripts.len()) {
+        return Err(fault_in(subscripts, RunFault::OUTSIDE_BOUNDS, around, notes));
+    }
+    match places_of(subscripts, around, notes) {
+        Ok(places) => return Ok(places),
+        Err(fault) => return Err(fault),
+    }
+}
+
 /// The first places.
-fn first_places(places: &[i128; 7], count: usize) -> &[i128]
+pub(crate) fn first_places(places: &[i128; 7], count: usize) -> &[i128]
     requires { count ≤ 7 }
     ensures { result.now ≡ take count places.now }
 {
@@ -348,6 +431,7 @@ fn fault_in(
 
 /// The value of an intrinsic function of its arguments; another number of them than it takes is out of range.
 #[cycle(value_of)]
+#[inline(never)]
 fn call_value(
     intrinsic: Intrinsic,
     arguments: &[Expr],

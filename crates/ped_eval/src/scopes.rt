@@ -217,7 +217,7 @@ fn cell_in(frames: &[Frame], name: &Name) -> Cell
 {
     let mut left = frames;
     while let Some((innermost, outer)) = split_innermost(left) {
-        if is_among(name, innermost.private.as_slice()) {
+        if is_private(name, innermost.private.as_slice()) {
             return copy_in(left, name);
         }
         left = outer;
@@ -252,12 +252,23 @@ fn has_copy_in(frames: &[Frame], name: &Name) -> bool
 {
     let mut left = frames;
     while let Some((innermost, outer)) = split_innermost(left) {
-        if is_among(name, innermost.private.as_slice()) {
+        if is_private(name, innermost.private.as_slice()) {
             return true;
         }
         left = outer;
     }
     false
+}
+
+/// Whether a name is one of these; most DO loops have none.
+#[inline(always)]
+fn is_private(name: &Name, names: &[Name]) -> bool
+    ensures { result ≡ Lists.is_among name.now names.now }
+{
+    if names.is_empty() {
+        return false;
+    }
+    is_among(name, names)
 }
 
 /// The copy of a scalar that belongs to the innermost of these iterations.

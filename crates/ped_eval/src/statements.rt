@@ -1,8 +1,8 @@
 //! Statements in order.
 
-ghost use Rattle.std.specs.Prelude.{◌≡◌, ◌<◌, ◌+◌, ◌∷◌, ℕ, true, false, Ok, Err, OnOk, IfErr, IfSome};
-ghost use Rattle.ped_tree.specs.Tree.{Var, Assign};
-ghost use Rattle.ped_tree.specs.Views.{expr_tree, stmt_tree, stmt_trees, do_tree};
+ghost use Rattle.std.specs.Prelude.{◌≡◌, ◌<◌, ◌+◌, ◌∷◌, ℕ, map, true, false, Ok, Err, OnOk, IfErr, IfSome};
+ghost use Rattle.ped_tree.specs.Tree.{Var, Element, Assign};
+ghost use Rattle.ped_tree.specs.Views.{expr_tree, pack_exprs, stmt_tree, stmt_trees, do_tree};
 ghost use Rattle.ped_tree.specs.Numbering.{statement_count, statements_count};
 ghost use Rattle.ped_store.specs.Cells.{Scalar};
 ghost use Rattle.ped_store.specs.Stores.{Number};
@@ -24,7 +24,7 @@ ghost use Rattle.ped_eval.specs.StatementNotes.{assignment_noted};
 ghost use Rattle.ped_eval.specs.Watched.{Watched, turns_run};
 ghost use Rattle.ped_eval.specs.Told.{Ran, TellsFrom, StaysReady, OnGoing, OnStopped};
 
-use crate::evaluation::{target_cell, value_of};
+use crate::evaluation::{first_places, ranked_places, target_cell, value_of};
 use crate::exits::leave_loop;
 use crate::notes::Notes;
 use crate::plans::{Plan, plan_of};
@@ -102,10 +102,13 @@ fn run_one<W: Watch>(
             then_part,
             else_part,
         } => match watched_truth(alloc, symbols, state, watch, condition, number) {
-            Ok(true) => return run_all(alloc, symbols, state, watch, then_part, number + 1),
+            Ok(true) => return run_part(alloc, symbols, state, watch, then_part, number + 1),
             Ok(false) => {
+                if else_part.is_empty() {
+                    return Ok(Flow::Going);
+                }
                 let behind = number + 1 + count_statements(then_part);
-                return run_all(alloc, symbols, state, watch, else_part, behind);
+                return run_part(alloc, symbols, state, watch, else_part, behind);
             }
             Err(error) => return Err(error),
         },
@@ -115,6 +118,31 @@ fn run_one<W: Watch>(
         Stmt::Stop => return Ok(Flow::Stopped),
         Stmt::Comment(_) => return Ok(Flow::Going),
     }
+}
+
+/// Runs a part of a block IF or the body of a DO, of which the first statement has this number. Of one statement, as each
+/// ELSE IF is, no count is needed.
+#[cycle(run)]
+fn run_part<W: Watch>(
+    alloc: Global,
+    symbols: &Symbols,
+    state: &mut State,
+    watch: &mut W,
+    stmts: &[Stmt],
+    first: u32,
+) -> Result<Flow, RunError>
+    requires can { CanRun symbols.now state.old.scope first (stmt_trees stmts.now) }
+    requires ready { IsReady symbols.now state.old.scope (memory_of state.old.store) }
+    ensures told { Ran state.old.scope first (memory_of state.old.store) (first + statements_count (stmt_trees stmts.now)) result (memory_of state.new.store)
+        (Runs.run_all (setting_by symbols.now) (stmt_trees stmts.now) first state.old.scope) }
+    ensures ready { StaysReady symbols.now result state.old.scope state.new.scope (memory_of state.new.store) }
+    ensures watched { Watched W.follows watch.old watch.new state.old.scope (before state.old.scope first) (memory_of state.old.store).cells result
+        (Runs.run_all (setting_by symbols.now) (stmt_trees stmts.now) first state.old.scope) }
+{
+    let [only] = stmts else {
+        return run_all(alloc, symbols, state, watch, stmts, first);
+    };
+    run_one(alloc, symbols, state, watch, only, first)
 }
 
 /// Runs the assignment with this number, and tells a watch what it reads and writes.
@@ -189,7 +217,7 @@ pub fn assign(
 {
     match unnoted_scalar(left, &state.scope, notes) {
         Some(name) => return assign_scalar(symbols, state, name, right, notes),
-        None => return assign_cell(symbols, state, left, right, notes),
+        None => return assign_other(symbols, state, left, right, notes),
     }
 }
 
@@ -253,7 +281,78 @@ fn assign_scalar(
     }
 }
 
+/// Stores the value of the right side in the cell of the left side. The cell is made for kept notes alone, and for private
+/// copies.
+fn assign_other(
+    symbols: &Symbols,
+    state: &mut State,
+    left: &Expr,
+    right: &Expr,
+    notes: &mut Notes,
+) -> Result<(), RunFault>
+    requires right { target_is_right (kinds_by symbols.now) (expr_tree left.now) ≡ true }
+    requires ready { IsReady symbols.now state.old.scope (memory_of state.old.store) }
+    ensures ok { OnOk result ((w : Stored) × ((assigned (names_at (memory_of state.old.store) state.old.scope symbols.now.constants) (expr_tree left.now) (expr_tree right.now) (memory_of state.old.store).cells).result ≡ Ok w)
+        × (memory_of state.new.store ≡ with_content w.cell (Number w.number) (memory_of state.old.store))) }
+    ensures err { IfErr result (λ n. (assigned (names_at (memory_of state.old.store) state.old.scope symbols.now.constants) (expr_tree left.now) (expr_tree right.now) (memory_of state.old.store).cells).result ≡ Err n) }
+    ensures scope { state.new.scope ≡ state.old.scope }
+    ensures noted { HasAdded notes.old (assignment_noted notes.old.next (assigned (names_at (memory_of state.old.store) state.old.scope symbols.now.constants) (expr_tree left.now) (expr_tree right.now) (memory_of state.old.store).cells)) notes.new }
+{
+    if notes.kept {
+        return assign_cell(symbols, state, left, right, notes);
+    }
+    match left {
+        Expr::Element(name, indices) => return assign_element(
+            symbols, state, name, indices, right, notes,
+        ),
+        Expr::Int(_)
+        | Expr::Var(_)
+        | Expr::Neg(_)
+        | Expr::Add(_, _)
+        | Expr::Sub(_, _)
+        | Expr::Mul(_, _)
+        | Expr::Div(_, _)
+        | Expr::Pow(_, _)
+        | Expr::Call(_, _) => return assign_cell(symbols, state, left, right, notes),
+    }
+}
+
+/// Stores the value of the right side in an element. No notes are kept.
+fn assign_element(
+    symbols: &Symbols,
+    state: &mut State,
+    name: &Name,
+    indices: &[Expr],
+    right: &Expr,
+    notes: &mut Notes,
+) -> Result<(), RunFault>
+    requires right { target_is_right (kinds_by symbols.now) (Element name.now (pack_exprs (map expr_tree indices.now))) ≡ true }
+    requires kept { notes.old.kept ≡ false }
+    requires ready { IsReady symbols.now state.old.scope (memory_of state.old.store) }
+    ensures ok { OnOk result ((w : Stored) × ((assigned (names_at (memory_of state.old.store) state.old.scope symbols.now.constants) (Element name.now (pack_exprs (map expr_tree indices.now))) (expr_tree right.now) (memory_of state.old.store).cells).result ≡ Ok w)
+        × (memory_of state.new.store ≡ with_content w.cell (Number w.number) (memory_of state.old.store))) }
+    ensures err { IfErr result (λ n. (assigned (names_at (memory_of state.old.store) state.old.scope symbols.now.constants) (Element name.now (pack_exprs (map expr_tree indices.now))) (expr_tree right.now) (memory_of state.old.store).cells).result ≡ Err n) }
+    ensures scope { state.new.scope ≡ state.old.scope }
+    ensures noted { HasAdded notes.old (assignment_noted notes.old.next (assigned (names_at (memory_of state.old.store) state.old.scope symbols.now.constants) (Element name.now (pack_exprs (map expr_tree indices.now))) (expr_tree right.now) (memory_of state.old.store).cells)) notes.new }
+{
+    let around = Surroundings {
+        store: &state.store,
+        scope: &state.scope,
+        consts: symbols.consts(),
+    };
+    match value_of(right, &around, notes) {
+        Ok(value) => match ranked_places(indices, &around, notes) {
+            Ok(places) => return state
+                .store
+                .set_element(name, first_places(&places, indices.len()), &value),
+            Err(fault) => return Err(fault),
+        },
+        Err(fault) => return Err(fault),
+    }
+}
+
 /// Stores the value of the right side in the cell of the left side; notes are made of what is read, and of the write.
+#[inline(never)]
 fn assign_cell(
     symbols: &Symbols,
     state: &mut State,
@@ -369,7 +468,7 @@ fn run_turn<W: Watch>(
         (body_run (setting_by symbols.now) (stmt_trees d.now.body.items) plan.now.number (outside state.old.scope) (frame (entered_by (head_of d.now) plan.now 0) (earlier + 1))) }
 {
     open_turn(alloc, state, d, plan, earlier)?;
-    match run_all(alloc, symbols, state, watch, &d.body, plan.number + 1) {
+    match run_part(alloc, symbols, state, watch, &d.body, plan.number + 1) {
         Ok(Flow::Going) => {
             close_copies(state, plan.copied.as_slice());
             return Ok(Flow::Going);

@@ -4,6 +4,7 @@ ghost use Rattle.std.specs.Prelude.{◌≡◌, ◌<◌, ◌+◌, ◌∷◌, leng
 ghost use Rattle.std.specs.List.{list_all};
 ghost use Rattle.ped_tree.specs.Views.{stmt_trees};
 ghost use Rattle.ped_store.specs.Keeping.{memory_of};
+ghost use Rattle.ped_store.specs.Memories.{with_copy, without_copy};
 ghost use Rattle.ped_eval.specs.Scopes.{cell_of};
 ghost use Rattle.ped_eval.specs.ScopeViews.{frame_view, outside};
 ghost use Rattle.ped_eval.specs.Loops as Loops;
@@ -71,10 +72,20 @@ fn open_copies(alloc: Global, state: &mut State, names: &[Name]) -> Result<(), N
     ensures scope { state.new.scope ≡ state.old.scope }
 {
     for place in 0..names.len() {
-        let cell = state.scope.cell_at(&names[place], place);
-        state.store.open_copy(alloc, &cell)?;
+        open_one(alloc, state, &names[place], place)?;
     }
     Ok(())
+}
+
+/// Makes the copy of this name, which probably stands at this place among those that are private to the innermost iteration.
+#[inline(never)]
+fn open_one(alloc: Global, state: &mut State, name: &Name, place: usize) -> Result<(), NoMemory>
+    requires { is_copy (cell_of state.old.scope name.now) ≡ true }
+    ensures copy { OnOk result (memory_of state.new.store ≡ with_copy (cell_of state.old.scope name.now) (memory_of state.old.store)) }
+    ensures scope { state.new.scope ≡ state.old.scope }
+{
+    let cell = state.scope.cell_at(name, place);
+    state.store.open_copy(alloc, &cell)
 }
 
 /// Drops the copies of these names, which are private to the iterations round the place.
@@ -84,7 +95,17 @@ pub fn close_copies(state: &mut State, names: &[Name])
     ensures scope { state.new.scope ≡ state.old.scope }
 {
     for place in 0..names.len() {
-        let cell = state.scope.cell_at(&names[place], place);
-        state.store.close_copy(&cell);
+        close_one(state, &names[place], place);
     }
+}
+
+/// Drops the copy of this name, which probably stands at this place among those that are private to the innermost iteration.
+#[inline(never)]
+fn close_one(state: &mut State, name: &Name, place: usize)
+    requires { is_copy (cell_of state.old.scope name.now) ≡ true }
+    ensures copy { memory_of state.new.store ≡ without_copy (cell_of state.old.scope name.now) (memory_of state.old.store) }
+    ensures scope { state.new.scope ≡ state.old.scope }
+{
+    let cell = state.scope.cell_at(name, place);
+    state.store.close_copy(&cell);
 }

@@ -1,4 +1,4 @@
-use Rattle.std.proofs.Common.{◌≡◌, ℕ, ℤ, List, ◌+◌, ◌-◌, ◌<◌, true≢false, length, take, drop, refl, sym, ap, subst, ◌∙◌, Ok, Err, pos, replicate, map, to_z, arith, rules}
+use Rattle.std.proofs.Common.{◌≡◌, ℕ, ℤ, List, ◌∷◌, [], ◌+◌, ◌-◌, ◌<◌, true≢false, length, take, drop, refl, sym, ap, subst, ◌∙◌, Ok, Err, pos, replicate, map, to_z, arith, rules}
 use Rattle.std.specs.Int.{w128}
 use Rattle.std.specs.Int.RustNames.{FitsSigned}
 use Rattle.std.proofs.lemmas.Int.{to_z-of_z}
@@ -16,10 +16,11 @@ use Rattle.ped_store.specs.Keeping.{memory_of}
 use Rattle.ped_store.specs.Memories.{got}
 use Rattle.ped_store.specs.Stores.{number_read}
 use Rattle.ped_eval.specs.Evaluation.{by_number}
+use Rattle.ped_eval.specs.Values.{is_rank}
 use Rattle.ped_eval.specs.Results.{value_at, values_at, of_one, of_two, next_result}
 use Rattle.ped_eval.specs.Noting.{HasNoted, seen_at, all_seen_at}
 use Rattle.ped_eval.proofs.Levels.{tree-Int, tree-Var, tree-Element, tree-Neg, tree-Add, tree-Sub, tree-Mul, tree-Div, tree-Pow, tree-Call}
-use Rattle.ped_eval.proofs.Steps.{int_at, neg_at, add_at, sub_at, mul_at, div_at, pow_at, element_at, seen_as, of_next, got_bounded, rank_is, target_ranked, target_unranked, target_faulted, named_by, fault_next, fault_here, fault_none, values_next, values_fault, values_all, with_front, front_none, rest_next}
+use Rattle.ped_eval.proofs.Steps.{int_at, neg_at, add_at, sub_at, mul_at, div_at, pow_at, element_at, seen_as, of_next, got_bounded, rank_is, target_ranked, target_unranked, target_faulted, named_by, fault_next, fault_here, fault_none, values_next, values_fault, values_all, with_front, front_none, rest_next, element_known, element_faulted, values_one_known, values_two_known, values_first_faulted, values_second_faulted}
 use Rattle.ped_eval.proofs.Seeing.{int_seen, neg_seen, add_seen, sub_seen, mul_seen, div_seen, pow_seen, call_seen}
 use Rattle.ped_eval.proofs.Notings.{none_noted, noted_as, outside_noted, next_noted, fault_noted, operands_noted, more_noted, last_noted, all_noted, element_noted, one_noted, pair_noted}
 use Rattle.ped_eval.proofs.Intrinsics.{abs_at, mod_at, go_on, go_on-next, go_on-fault, go_on-done, call-fault, max_begins, min_begins, others_of}
@@ -185,6 +186,50 @@ noted_element-returns-in-Err-clause-noted t c =
 
 pub unnoted_element-returns-in-Ok-clause-value : goal.unnoted_element-returns-in-Ok-clause-value
 unnoted_element-returns-in-Ok-clause-value t c =
+    let fits : FitsSigned w128 c.in-Ok.place = search rules in
+    let one : length c.args.indices.now ≡ 1 = omega arith in
+    c.get_element.ensures
+    ∙ ap (λ (u : ℤ). got (memory_of c.args.around.now.store.now) (cells.Element c.args.name.now (u ∷ []))) (to_z-of_z w128 c.in-Ok.place fits)
+    ∙ sym (element_known c.args.around.now c.args.name.now c.args.indices.now (c.in-Ok.place ∷ []) (values_one_known c.args.around.now c.args.indices.now c.index-item.result c.in-Ok.place one c.index-item.is (sym c.value_of.ensures.value ∙ c.in-Ok.is)) (ap is_rank one))
+
+pub unnoted_element-returns-in-Ok-clause-noted : goal.unnoted_element-returns-in-Ok-clause-noted
+unnoted_element-returns-in-Ok-clause-noted t c = λ k. absurd (true≢false (sym (c.value_of.ensures.noted k).kept ∙ c.requires))
+
+pub unnoted_element-returns-in-Err-clause-value : goal.unnoted_element-returns-in-Err-clause-value
+unnoted_element-returns-in-Err-clause-value t c =
+    sym (element_faulted c.args.around.now c.args.name.now c.args.indices.now c.in-Err.fault (values_first_faulted c.args.around.now c.args.indices.now c.index-item.result c.in-Err.fault (omega arith) c.index-item.is (sym c.value_of.ensures.value ∙ c.in-Err.is)))
+
+pub unnoted_element-returns-in-Err-clause-noted : goal.unnoted_element-returns-in-Err-clause-noted
+unnoted_element-returns-in-Err-clause-noted t c = λ k. absurd (true≢false (sym (c.value_of.ensures.noted k).kept ∙ c.requires))
+
+pub element_by_more-returns-in-Ok-column-clause-value : goal.element_by_more-returns-in-Ok-column-clause-value
+element_by_more-returns-in-Ok-column-clause-value t c =
+    let around = c.args.around.now in
+    let es = c.args.indices.now in
+    let two : length es ≡ 2 = omega arith in
+    let v : value_at around (expr_tree c.first-item.result) ≡ Ok c.in-Ok.row = sym c.value_of-row.ensures.value ∙ c.in-Ok.is in
+    let w : value_at around (expr_tree c.second-item.result) ≡ Ok c.in-Ok-column.column = ap (λ r. next_result r (value_at around (expr_tree c.second-item.result))) (sym c.in-Ok.is) ∙ sym c.next_value-column.ensures.value ∙ c.in-Ok-column.is in
+    let one_fits : FitsSigned w128 c.in-Ok.row = search rules in
+    let other_fits : FitsSigned w128 c.in-Ok-column.column = search rules in
+    c.get_element.ensures
+    ∙ (λ i. got (memory_of around.store.now) (cells.Element c.args.name.now (to_z-of_z w128 c.in-Ok.row one_fits i ∷ to_z-of_z w128 c.in-Ok-column.column other_fits i ∷ [])))
+    ∙ sym (element_known around c.args.name.now es (c.in-Ok.row ∷ c.in-Ok-column.column ∷ []) (values_two_known around es c.first-item.result c.second-item.result c.in-Ok.row c.in-Ok-column.column two c.first-item.is c.second-item.is v w) (ap is_rank two))
+
+pub element_by_more-returns-in-Err-column-clause-value : goal.element_by_more-returns-in-Err-column-clause-value
+element_by_more-returns-in-Err-column-clause-value t c =
+    let around = c.args.around.now in
+    let es = c.args.indices.now in
+    let two : length es ≡ 2 = omega arith in
+    let v : value_at around (expr_tree c.first-item.result) ≡ Ok c.in-Ok.row = sym c.value_of-row.ensures.value ∙ c.in-Ok.is in
+    let w : value_at around (expr_tree c.second-item.result) ≡ Err c.in-Err-column.fault = ap (λ r. next_result r (value_at around (expr_tree c.second-item.result))) (sym c.in-Ok.is) ∙ sym c.next_value-column.ensures.value ∙ c.in-Err-column.is in
+    sym (element_faulted around c.args.name.now es c.in-Err-column.fault (values_second_faulted around es c.first-item.result c.second-item.result c.in-Ok.row c.in-Err-column.fault two c.first-item.is c.second-item.is v w))
+
+pub element_by_more-returns-in-Err-clause-value : goal.element_by_more-returns-in-Err-clause-value
+element_by_more-returns-in-Err-clause-value t c =
+    sym (element_faulted c.args.around.now c.args.name.now c.args.indices.now c.in-Err.fault (values_first_faulted c.args.around.now c.args.indices.now c.first-item.result c.in-Err.fault (omega arith) c.first-item.is (sym c.value_of-row.ensures.value ∙ c.in-Err.is)))
+
+pub element_by_many-returns-in-Ok-clause-value : goal.element_by_many-returns-in-Ok-clause-value
+element_by_many-returns-in-Ok-clause-value t c =
     let m = memory_of c.args.around.now.store.now in
     let js = take (length c.args.indices.now) c.in-Ok.places in
     c.get_element.ensures ∙ ap (λ (ks : List ℤ). got m (cells.Element c.args.name.now ks)) c.first_places.ensures
@@ -194,30 +239,30 @@ unnoted_element-returns-in-Ok-clause-value t c =
     ∙ got_bounded m (cells.Element c.args.name.now js)
     )
 
-pub unnoted_element-returns-in-Ok-clause-noted : goal.unnoted_element-returns-in-Ok-clause-noted
-unnoted_element-returns-in-Ok-clause-noted t c = λ k. absurd (true≢false (sym (c.in-Ok.ensures.noted k).kept ∙ c.requires))
+pub element_by_many-returns-in-Ok-clause-noted : goal.element_by_many-returns-in-Ok-clause-noted
+element_by_many-returns-in-Ok-clause-noted t c = λ k. absurd (true≢false (sym (c.in-Ok.ensures.noted k).kept ∙ c.requires))
 
-pub unnoted_element-returns-in-Err-clause-value : goal.unnoted_element-returns-in-Err-clause-value
-unnoted_element-returns-in-Err-clause-value t c =
+pub element_by_many-returns-in-Err-clause-value : goal.element_by_many-returns-in-Err-clause-value
+element_by_many-returns-in-Err-clause-value t c =
     let m = memory_of c.args.around.now.store.now in
     sym (
     element_at c.args.around.now c.args.name.now (pack_exprs (map expr_tree c.args.indices.now))
     ∙ ap (of_one (λ d. number_read (m.cells d))) (target_faulted c.args.around.now c.args.name.now c.args.indices.now c.in-Err.fault c.in-Err.ensures.err)
     )
 
-pub unnoted_element-returns-in-Err-clause-noted : goal.unnoted_element-returns-in-Err-clause-noted
-unnoted_element-returns-in-Err-clause-noted t c = λ k. absurd (true≢false (sym (c.in-Err.ensures.noted k).kept ∙ c.requires))
+pub element_by_many-returns-in-Err-clause-noted : goal.element_by_many-returns-in-Err-clause-noted
+element_by_many-returns-in-Err-clause-noted t c = λ k. absurd (true≢false (sym (c.in-Err.ensures.noted k).kept ∙ c.requires))
 
-pub unnoted_element-returns-then-not-is_rank-clause-value : goal.unnoted_element-returns-then-not-is_rank-clause-value
-unnoted_element-returns-then-not-is_rank-clause-value t c =
+pub element_by_many-returns-then-not-is_rank-clause-value : goal.element_by_many-returns-then-not-is_rank-clause-value
+element_by_many-returns-then-not-is_rank-clause-value t c =
     let m = memory_of c.args.around.now.store.now in
     sym (
     element_at c.args.around.now c.args.name.now (pack_exprs (map expr_tree c.args.indices.now))
     ∙ ap (of_one (λ d. number_read (m.cells d))) (target_unranked c.args.around.now c.args.name.now c.args.indices.now (sym c.is_rank.ensures ∙ c.if-not-is_rank.true) ∙ ap Err (sym c.fault_in.ensures.fault))
     )
 
-pub unnoted_element-returns-then-not-is_rank-clause-noted : goal.unnoted_element-returns-then-not-is_rank-clause-noted
-unnoted_element-returns-then-not-is_rank-clause-noted t c = λ k. absurd (true≢false (sym (c.fault_in.ensures.noted k).kept ∙ c.requires))
+pub element_by_many-returns-then-not-is_rank-clause-noted : goal.element_by_many-returns-then-not-is_rank-clause-noted
+element_by_many-returns-then-not-is_rank-clause-noted t c = λ k. absurd (true≢false (sym (c.fault_in.ensures.noted k).kept ∙ c.requires))
 
 pub absolute_value_of_one-returns-clause-value : goal.absolute_value_of_one-returns-clause-value
 absolute_value_of_one-returns-clause-value t c =

@@ -1,4 +1,4 @@
-use Rattle.std.proofs.Common.{◌≡◌, ℕ, zero, suc, ◌+◌, ◌-◌, ◌<◌, ◌≤◌, List, [], ◌∷◌, length, drop, true, false, Result, Ok, Err, rules, refl, sym, ap, subst, ◌∙◌, arith}
+use Rattle.std.proofs.Common.{◌≡◌, ℕ, zero, suc, ◌+◌, ◌-◌, ◌<◌, ◌≤◌, List, [], ◌∷◌, ◌==◌, length, drop, true, false, Result, Ok, Err, rules, refl, sym, ap, subst, ◌∙◌, arith}
 use Rattle.std.proofs.lemmas.List.{drop_all}
 use Rattle.std.specs.List.{list_all}
 use Rattle.ped_tree.specs.Tree.{StmtTree, StmtTrees, If, no_stmts, more_stmts}
@@ -7,6 +7,7 @@ use Rattle.ped_tree.specs.Numbering.{statement_count, statements_count}
 use Rattle.ped_tree.specs.declared.statements.Stmt.{Stmt, the_lemmas}
 use Rattle.ped_tree.proofs.Levels.{stmt_tree-If}
 use Rattle.ped_store.specs.Memories.{Memory}
+use Rattle.ped_store.specs.Stores.{Store}
 use Rattle.ped_store.specs.Keeping.{Kept, memory_of}
 use Rattle.ped_eval.specs.Scopes.{Scope, cell_of}
 use Rattle.ped_eval.specs.ScopeViews.{names_at, outside}
@@ -17,7 +18,7 @@ use Rattle.ped_eval.specs.Plans.{entered_by, IsEntry}
 use Rattle.ped_tree.specs.Views.{head_of}
 use Rattle.ped_eval.specs.Readiness.{kinds_by, setting_by, IsReady, CanDo, CanRun}
 use Rattle.ped_eval.specs.Agreement.{before, before_turn, is_copy, Agrees}
-use Rattle.ped_eval.specs.Runs.{Ending, run, run_all}
+use Rattle.ped_eval.specs.Runs.{Ending, Run, run, run_all}
 use Rattle.ped_eval.specs.Turns.{turns_end, body_run, with_copies, without_copies, exited}
 use Rattle.ped_eval.specs.Told.{Goes, TellsFrom, Ran, StaysReady, OnGoing, Reaches}
 use Rattle.ped_eval.specs.declared.states.Flow.{Flow}
@@ -30,7 +31,7 @@ use Rattle.ped_eval.proofs.Copies.{all_among, all_copies}
 use Rattle.ped_eval.proofs.Assignments.{cell_stands}
 use Rattle.ped_eval.proofs.Entries.{plan_number, do_run, do_failed}
 use Rattle.ped_eval.proofs.Iterations.{exit_tells, exit_ready, scalars_stand, variable_scalar, private_scalars, inner_scalars, open_ready, close_ready, turn_part, turn_goes, turn_stops, turn_fails}
-use Rattle.ped_eval.proofs.Parts.{HasRun, first_can, rest_can, then_can, else_can, head_can, body_right, body_can, then_run, else_run, stop_run, tree-Assign, tree-Do, tree-Stop, stmts_left}
+use Rattle.ped_eval.proofs.Parts.{HasRun, first_can, rest_can, then_can, else_can, head_can, body_right, body_can, then_run, else_run, none_run, stop_run, tree-Assign, tree-Do, tree-Stop, stmts_left, only_left, only_run, no_items}
 use Rattle.ped_eval.proofs.Running.{statement_done, statement_broken, reaches_behind, tells_broken}
 use Rattle.ped_store.specs.Acts.{closed}
 use Rattle.ped_store.specs.Races.{Access, accesses}
@@ -82,8 +83,8 @@ run_one-returns-in-Assign-clause-told g t c =
     subst (λ (x : StmtTree). HasRun c.args.symbols.now c.args.state.now.scope c.args.number (memory_of c.args.state.now.store) c.watched_assignment.result (memory_of c.watched_assignment.new.state.store) x)
     (sym (ap stmt_tree c.in-Assign.is ∙ tree-Assign c.in-Assign.left c.in-Assign.right)) c.watched_assignment.ensures.told
 
-pub run_one-run_all-requires : goal.run_one-run_all-requires
-run_one-run_all-requires g t c =
+pub run_one-run_part-requires : goal.run_one-run_part-requires
+run_one-run_part-requires g t c =
     let is = ap stmt_tree c.in-If.is ∙ stmt_tree-If c.in-If.condition c.in-If.then_part c.in-If.else_part in
     let a = stmt_trees c.in-If.then_part.items in
     let b = stmt_trees c.in-If.else_part.items in
@@ -96,14 +97,14 @@ run_one-returns-in-Ok-true-clause-told g t c =
     let scope = c.args.state.now.scope in
     let n = c.args.number in
     let old = memory_of c.args.state.now.store in
-    let r = c.run_all.result in
-    let new = memory_of c.run_all.new.state.store in
+    let r = c.run_part.result in
+    let new = memory_of c.run_part.new.state.store in
     let is = ap stmt_tree c.in-If.is ∙ stmt_tree-If c.in-If.condition c.in-If.then_part c.in-If.else_part in
     let a = stmt_trees c.in-If.then_part.items in
     let holds : (truth (names_at old scope table.constants) (cond_tree c.in-If.condition) old.cells).result ≡ Ok true =
     c.in-Ok-true.ensures.0 ∙ ap Ok c.in-Ok-true.field-0-test in
     let told : Ran scope (n + 1) old (n + 1 + statements_count a) r new (run_all (setting_by table) a (n + 1) scope) =
-    subst (λ (ss : List Stmt). Ran scope (n + 1) old (n + 1 + statements_count (stmt_trees ss)) r new (run_all (setting_by table) (stmt_trees ss) (n + 1) scope)) c.deref.ensures.value c.run_all.ensures.told in
+    subst (λ (ss : List Stmt). Ran scope (n + 1) old (n + 1 + statements_count (stmt_trees ss)) r new (run_all (setting_by table) (stmt_trees ss) (n + 1) scope)) c.deref.ensures.value c.run_part.ensures.told in
     subst (λ (x : StmtTree). HasRun table scope n old r new x) (sym is) (then_run table scope n old c.requires.ready (cond_tree c.in-If.condition) a (stmt_trees c.in-If.else_part.items) r new holds told)
 
 pub run_one-returns-in-Ok-true-clause-watched : goal.run_one-returns-in-Ok-true-clause-watched
@@ -112,22 +113,22 @@ run_one-returns-in-Ok-true-clause-watched g t c =
     let scope = c.args.state.now.scope in
     let n = c.args.number in
     let old = memory_of c.args.state.now.store in
-    let r = c.run_all.result in
+    let r = c.run_part.result in
     let is = ap stmt_tree c.in-If.is ∙ stmt_tree-If c.in-If.condition c.in-If.then_part c.in-If.else_part in
     let a = stmt_trees c.in-If.then_part.items in
     let holds : (truth (names_at old scope table.constants) (cond_tree c.in-If.condition) old.cells).result ≡ Ok true =
     c.in-Ok-true.ensures.0 ∙ ap Ok c.in-Ok-true.field-0-test in
     let first = c.args.watch.now in
     let mid = c.watched_truth.new.watch in
-    let last = c.run_all.new.watch in
+    let last = c.run_part.new.watch in
     let follows = g.W.Watch.follows in
     let part : Watched follows mid last scope (before scope (n + 1)) old.cells r (run_all (setting_by table) a (n + 1) scope) =
-    subst (λ (ss : List Stmt). Watched follows mid last scope (before scope (n + 1)) old.cells r (run_all (setting_by table) (stmt_trees ss) (n + 1) scope)) c.deref.ensures.value c.run_all.ensures.watched in
+    subst (λ (ss : List Stmt). Watched follows mid last scope (before scope (n + 1)) old.cells r (run_all (setting_by table) (stmt_trees ss) (n + 1) scope)) c.deref.ensures.value c.run_part.ensures.watched in
     subst (λ (x : StmtTree). Watched follows first last scope (before scope n) old.cells r (run (setting_by table) x n scope)) (sym is)
     (then_watched follows table scope n old c.requires.ready (cond_tree c.in-If.condition) a (stmt_trees c.in-If.else_part.items) first mid last c.in-Ok-true.ensures.1 r holds part)
 
-pub run_one-run_all-requires-in-Ok-false : goal.run_one-run_all-requires-in-Ok-false
-run_one-run_all-requires-in-Ok-false g t c =
+pub run_one-run_part-requires-in-Ok-false : goal.run_one-run_part-requires-in-Ok-false
+run_one-run_part-requires-in-Ok-false g t c =
     let is = ap stmt_tree c.in-If.is ∙ stmt_tree-If c.in-If.condition c.in-If.then_part c.in-If.else_part in
     let a = stmt_trees c.in-If.then_part.items in
     let b = stmt_trees c.in-If.else_part.items in
@@ -142,8 +143,8 @@ run_one-returns-in-Ok-false-clause-told g t c =
     let scope = c.args.state.now.scope in
     let n = c.args.number in
     let old = memory_of c.args.state.now.store in
-    let r = c.run_all-in-Ok-false.result in
-    let new = memory_of c.run_all-in-Ok-false.new.state.store in
+    let r = c.run_part-in-Ok-false.result in
+    let new = memory_of c.run_part-in-Ok-false.new.state.store in
     let is = ap stmt_tree c.in-If.is ∙ stmt_tree-If c.in-If.condition c.in-If.then_part c.in-If.else_part in
     let a = stmt_trees c.in-If.then_part.items in
     let b = stmt_trees c.in-If.else_part.items in
@@ -152,7 +153,7 @@ run_one-returns-in-Ok-false-clause-told g t c =
     c.in-Ok-false.ensures.0 ∙ ap Ok c.in-Ok-false.field-0-test in
     let part : Ran scope (n + 1 + c.count_statements.result) old (n + 1 + c.count_statements.result + statements_count b) r new (run_all (setting_by table) b (n + 1 + c.count_statements.result) scope) =
     subst (λ (ss : List Stmt). Ran scope (n + 1 + c.count_statements.result) old (n + 1 + c.count_statements.result + statements_count (stmt_trees ss)) r new (run_all (setting_by table) (stmt_trees ss) (n + 1 + c.count_statements.result) scope))
-    c.deref-in-Ok-false-2.ensures.value c.run_all-in-Ok-false.ensures.told in
+    c.deref-in-Ok-false-2.ensures.value c.run_part-in-Ok-false.ensures.told in
     let told : Ran scope (n + 1 + statements_count a) old (n + 1 + statements_count a + statements_count b) r new (run_all (setting_by table) b (n + 1 + statements_count a) scope) =
     subst (λ (k : ℕ). Ran scope (n + 1 + k) old (n + 1 + k + statements_count b) r new (run_all (setting_by table) b (n + 1 + k) scope)) count part in
     subst (λ (x : StmtTree). HasRun table scope n old r new x) (sym is) (else_run table scope n old c.requires.ready (cond_tree c.in-If.condition) a b r new holds told)
@@ -163,7 +164,7 @@ run_one-returns-in-Ok-false-clause-watched g t c =
     let scope = c.args.state.now.scope in
     let n = c.args.number in
     let old = memory_of c.args.state.now.store in
-    let r = c.run_all-in-Ok-false.result in
+    let r = c.run_part-in-Ok-false.result in
     let is = ap stmt_tree c.in-If.is ∙ stmt_tree-If c.in-If.condition c.in-If.then_part c.in-If.else_part in
     let a = stmt_trees c.in-If.then_part.items in
     let b = stmt_trees c.in-If.else_part.items in
@@ -172,17 +173,78 @@ run_one-returns-in-Ok-false-clause-watched g t c =
     c.in-Ok-false.ensures.0 ∙ ap Ok c.in-Ok-false.field-0-test in
     let first = c.args.watch.now in
     let mid = c.watched_truth.new.watch in
-    let last = c.run_all-in-Ok-false.new.watch in
+    let last = c.run_part-in-Ok-false.new.watch in
     let follows = g.W.Watch.follows in
     let behind : n + 1 + statements_count a ≡ n + (1 + statements_count a) = omega arith in
     let there : Watched follows mid last scope (before scope (n + 1 + c.count_statements.result)) old.cells r (run_all (setting_by table) b (n + 1 + c.count_statements.result) scope) =
     subst (λ (ss : List Stmt). Watched follows mid last scope (before scope (n + 1 + c.count_statements.result)) old.cells r (run_all (setting_by table) (stmt_trees ss) (n + 1 + c.count_statements.result) scope))
-    c.deref-in-Ok-false-2.ensures.value c.run_all-in-Ok-false.ensures.watched in
+    c.deref-in-Ok-false-2.ensures.value c.run_part-in-Ok-false.ensures.watched in
     let part : Watched follows mid last scope (before scope (n + (1 + statements_count a))) old.cells r (run_all (setting_by table) b (n + 1 + statements_count a) scope) =
     subst (λ (k : ℕ). Watched follows mid last scope (before scope k) old.cells r (run_all (setting_by table) b (n + 1 + statements_count a) scope)) behind
     (subst (λ (k : ℕ). Watched follows mid last scope (before scope (n + 1 + k)) old.cells r (run_all (setting_by table) b (n + 1 + k) scope)) count there) in
     subst (λ (x : StmtTree). Watched follows first last scope (before scope n) old.cells r (run (setting_by table) x n scope)) (sym is)
     (else_watched follows table scope n old c.requires.ready (cond_tree c.in-If.condition) a b first mid last c.in-Ok-false.ensures.1 r holds part)
+
+pub run_one-returns-then-is_empty-clause-told : goal.run_one-returns-then-is_empty-clause-told
+run_one-returns-then-is_empty-clause-told g t c =
+    let table = c.args.symbols.now in
+    let scope = c.args.state.now.scope in
+    let n = c.args.number in
+    let old = memory_of c.args.state.now.store in
+    let is = ap stmt_tree c.in-If.is ∙ stmt_tree-If c.in-If.condition c.in-If.then_part c.in-If.else_part in
+    let a = stmt_trees c.in-If.then_part.items in
+    let none : stmt_trees c.in-If.else_part.items ≡ no_stmts = ap stmt_trees (no_items c.in-If.else_part.items (ap (λ (k : ℕ). k == 0) (sym c.in-If.else_part.ok.0) ∙ sym c.is_empty.ensures ∙ c.if-is_empty.true)) in
+    let holds : (truth (names_at old scope table.constants) (cond_tree c.in-If.condition) old.cells).result ≡ Ok false =
+    c.in-Ok-false.ensures.0 ∙ ap Ok c.in-Ok-false.field-0-test in
+    subst (λ (x : StmtTree). HasRun table scope n old (Ok flow.Going) old x) (sym (is ∙ ap (If (cond_tree c.in-If.condition) a) none)) (none_run table scope n old c.requires.ready (cond_tree c.in-If.condition) a holds)
+
+pub run_one-returns-then-is_empty-clause-watched : goal.run_one-returns-then-is_empty-clause-watched
+run_one-returns-then-is_empty-clause-watched g t c =
+    let table = c.args.symbols.now in
+    let scope = c.args.state.now.scope in
+    let n = c.args.number in
+    let old = memory_of c.args.state.now.store in
+    let is = ap stmt_tree c.in-If.is ∙ stmt_tree-If c.in-If.condition c.in-If.then_part c.in-If.else_part in
+    let a = stmt_trees c.in-If.then_part.items in
+    let none : stmt_trees c.in-If.else_part.items ≡ no_stmts = ap stmt_trees (no_items c.in-If.else_part.items (ap (λ (k : ℕ). k == 0) (sym c.in-If.else_part.ok.0) ∙ sym c.is_empty.ensures ∙ c.if-is_empty.true)) in
+    let holds : (truth (names_at old scope table.constants) (cond_tree c.in-If.condition) old.cells).result ≡ Ok false =
+    c.in-Ok-false.ensures.0 ∙ ap Ok c.in-Ok-false.field-0-test in
+    let first = c.args.watch.now in
+    let mid = c.watched_truth.new.watch in
+    let follows = g.W.Watch.follows in
+    subst (λ (x : StmtTree). Watched follows first mid scope (before scope n) old.cells (Ok flow.Going) (run (setting_by table) x n scope)) (sym (is ∙ ap (If (cond_tree c.in-If.condition) a) none))
+    (else_watched follows table scope n old c.requires.ready (cond_tree c.in-If.condition) a no_stmts first mid mid c.in-Ok-false.ensures.1 (Ok flow.Going) holds (λ s h. refl))
+
+pub run_part-run_one-requires : goal.run_part-run_one-requires
+run_part-run_one-requires g t c =
+    let one = only_left c.args.stmts.now c.only-item.result (omega arith) c.only-item.is in
+    let can = first_can c.args.symbols.now c.args.state.now.scope c.args.first (stmt_tree c.only-item.result) no_stmts (subst (λ (ts : StmtTrees). CanRun c.args.symbols.now c.args.state.now.scope c.args.first ts) one c.requires.can) in
+    λ κs h. (search (rules, the_lemmas), ((λ a b. h a b), (can, c.requires.ready)))
+
+pub run_part-returns-clause-told : goal.run_part-returns-clause-told
+run_part-returns-clause-told g t c =
+    let p = setting_by c.args.symbols.now in
+    let scope = c.args.state.now.scope in
+    let n = c.args.first in
+    let old = memory_of c.args.state.now.store in
+    let new = memory_of c.run_one.new.state.store in
+    let tree = stmt_tree c.only-item.result in
+    let one = only_left c.args.stmts.now c.only-item.result (omega arith) c.only-item.is in
+    let count : n + statement_count tree ≡ n + (statement_count tree + 0) = omega arith in
+    subst (λ (ts : StmtTrees). Ran scope n old (n + statements_count ts) c.run_one.result new (run_all p ts n scope)) (sym one)
+    (subst (λ (f : Store → Run). Ran scope n old (n + (statement_count tree + 0)) c.run_one.result new f) (sym (only_run p tree n scope))
+    (subst (λ (k : ℕ). Ran scope n old k c.run_one.result new (run p tree n scope)) count c.run_one.ensures.told))
+
+pub run_part-returns-clause-watched : goal.run_part-returns-clause-watched
+run_part-returns-clause-watched g t c =
+    let p = setting_by c.args.symbols.now in
+    let scope = c.args.state.now.scope in
+    let n = c.args.first in
+    let old = memory_of c.args.state.now.store in
+    let tree = stmt_tree c.only-item.result in
+    let one = only_left c.args.stmts.now c.only-item.result (omega arith) c.only-item.is in
+    subst (λ (ts : StmtTrees). Watched g.W.Watch.follows c.args.watch.now c.run_one.new.watch scope (before scope n) old.cells c.run_one.result (run_all p ts n scope)) (sym one)
+    (subst (λ (f : Store → Run). Watched g.W.Watch.follows c.args.watch.now c.run_one.new.watch scope (before scope n) old.cells c.run_one.result f) (sym (only_run p tree n scope)) c.run_one.ensures.watched)
 
 pub run_one-returns-in-Err-clause-told : goal.run_one-returns-in-Err-clause-told
 run_one-returns-in-Err-clause-told g t c =
@@ -643,8 +705,8 @@ run_turns-returns-clause-ready g t c =
     let same : c.leave_loop.new.state.scope ≡ scope = c.leave_loop.ensures.scope ∙ out in
     (same, subst (λ (o : Scope). IsReady table o new) (sym same) (subst (λ (m : Memory). IsReady table scope m) (sym memory) (exit_ready table e scope kept inv.ready)))
 
-pub run_turn-run_all-requires : goal.run_turn-run_all-requires
-run_turn-run_all-requires g t c =
+pub run_turn-run_part-requires : goal.run_turn-run_part-requires
+run_turn-run_part-requires g t c =
     let table = c.args.symbols.now in
     let n = c.args.plan.now.number in
     let old = memory_of c.args.state.now.store in
@@ -663,9 +725,9 @@ run_turn-close_copies-requires g t c =
     let e = entered_by (head_of c.args.d.now) c.args.plan.now 0 in
     let fs = outside c.args.state.now.scope in
     let f = frame e (c.args.earlier + 1) in
-    let ready_there : StaysReady c.args.symbols.now (Ok flow.Going) c.open_turn.new.state.scope c.run_all.new.state.scope (memory_of c.run_all.new.state.store) =
-    subst (λ (x : Flow). StaysReady c.args.symbols.now (Ok x) c.open_turn.new.state.scope c.run_all.new.state.scope (memory_of c.run_all.new.state.store)) c.in-Ok-Going.field-0-is c.in-Ok-Going.ensures.ready in
-    let same : c.run_all.new.state.scope ≡ f ∷ fs = ready_there.0 ∙ c.in_ok-open_turn.ensures.scope in
+    let ready_there : StaysReady c.args.symbols.now (Ok flow.Going) c.open_turn.new.state.scope c.run_part.new.state.scope (memory_of c.run_part.new.state.store) =
+    subst (λ (x : Flow). StaysReady c.args.symbols.now (Ok x) c.open_turn.new.state.scope c.run_part.new.state.scope (memory_of c.run_part.new.state.store)) c.in-Ok-Going.field-0-is c.in-Ok-Going.ensures.ready in
+    let same : c.run_part.new.state.scope ≡ f ∷ fs = ready_there.0 ∙ c.in_ok-open_turn.ensures.scope in
     (λ i. list_all (λ x. is_copy (cell_of (same i) x)) ((c.as_slice.ensures ∙ c.requires.plan.copied) i)) ∙ all_copies f fs (copied_names e) (all_among (copied_names e))
 
 pub run_turn-returns-in-Ok-Going-clause-told : goal.run_turn-returns-in-Ok-Going-clause-told
@@ -675,15 +737,15 @@ run_turn-returns-in-Ok-Going-clause-told g t c =
     let ts = stmt_trees c.args.d.now.body.items in
     let old = memory_of c.args.state.now.store in
     let mid = memory_of c.open_turn.new.state.store in
-    let ran = memory_of c.run_all.new.state.store in
+    let ran = memory_of c.run_part.new.state.store in
     let new = memory_of c.close_copies.new.state.store in
     let fs = outside c.args.state.now.scope in
     let f = frame (entered_by (head_of c.args.d.now) c.args.plan.now 0) (c.args.earlier + 1) in
     let scope : c.open_turn.new.state.scope ≡ f ∷ fs = c.in_ok-open_turn.ensures.scope in
     let memory : mid ≡ with_copies (f ∷ fs) f.private old = c.in_ok-open_turn.ensures.copies ∙ (λ i. with_copies (scope i) (c.requires.plan.copied i) old) in
-    let ready_there : StaysReady c.args.symbols.now (Ok flow.Going) c.open_turn.new.state.scope c.run_all.new.state.scope (memory_of c.run_all.new.state.store) =
-    subst (λ (x : Flow). StaysReady c.args.symbols.now (Ok x) c.open_turn.new.state.scope c.run_all.new.state.scope (memory_of c.run_all.new.state.store)) c.in-Ok-Going.field-0-is c.in-Ok-Going.ensures.ready in
-    let same : c.run_all.new.state.scope ≡ f ∷ fs = ready_there.0 ∙ scope in
+    let ready_there : StaysReady c.args.symbols.now (Ok flow.Going) c.open_turn.new.state.scope c.run_part.new.state.scope (memory_of c.run_part.new.state.store) =
+    subst (λ (x : Flow). StaysReady c.args.symbols.now (Ok x) c.open_turn.new.state.scope c.run_part.new.state.scope (memory_of c.run_part.new.state.store)) c.in-Ok-Going.field-0-is c.in-Ok-Going.ensures.ready in
+    let same : c.run_part.new.state.scope ≡ f ∷ fs = ready_there.0 ∙ scope in
     let closed : new ≡ without_copies (f ∷ fs) f.private ran = c.close_copies.ensures.copies ∙ (λ i. without_copies (same i) ((c.as_slice.ensures ∙ c.requires.plan.copied) i) ran) in
     let told_there : Ran c.open_turn.new.state.scope (n + 1) mid (n + 1 + statements_count (stmt_trees c.deref.result.now)) (Ok flow.Going) ran (run_all p (stmt_trees c.deref.result.now) (n + 1) c.open_turn.new.state.scope) =
     subst (λ (x : Flow). Ran c.open_turn.new.state.scope (n + 1) mid (n + 1 + statements_count (stmt_trees c.deref.result.now)) (Ok x) ran (run_all p (stmt_trees c.deref.result.now) (n + 1) c.open_turn.new.state.scope)) c.in-Ok-Going.field-0-is c.in-Ok-Going.ensures.told in
@@ -702,18 +764,18 @@ run_turn-returns-in-Ok-Going-clause-watched g t c =
     let f = frame (entered_by (head_of c.args.d.now) c.args.plan.now 0) (c.args.earlier + 1) in
     let scope : c.open_turn.new.state.scope ≡ f ∷ fs = c.in_ok-open_turn.ensures.scope in
     let memory : mid ≡ with_copies (f ∷ fs) f.private old = c.in_ok-open_turn.ensures.copies ∙ (λ i. with_copies (scope i) (c.requires.plan.copied i) old) in
-    turn_watched g.W.Watch.follows (setting_by c.args.symbols.now) f fs n c.open_turn.new.state.scope c.deref.result.now c.args.d.now.body.items old mid c.args.watch.now c.run_all.new.watch (Ok flow.Going) scope memory c.deref.ensures.value c.in-Ok-Going.ensures.watched
+    turn_watched g.W.Watch.follows (setting_by c.args.symbols.now) f fs n c.open_turn.new.state.scope c.deref.result.now c.args.d.now.body.items old mid c.args.watch.now c.run_part.new.watch (Ok flow.Going) scope memory c.deref.ensures.value c.in-Ok-Going.ensures.watched
 
 pub run_turn-returns-in-Ok-Going-clause-ready : goal.run_turn-returns-in-Ok-Going-clause-ready
 run_turn-returns-in-Ok-Going-clause-ready g t c =
     let table = c.args.symbols.now in
-    let ran = memory_of c.run_all.new.state.store in
+    let ran = memory_of c.run_part.new.state.store in
     let new = memory_of c.close_copies.new.state.store in
     let fs = outside c.args.state.now.scope in
     let f = frame (entered_by (head_of c.args.d.now) c.args.plan.now 0) (c.args.earlier + 1) in
-    let ready_there : StaysReady c.args.symbols.now (Ok flow.Going) c.open_turn.new.state.scope c.run_all.new.state.scope (memory_of c.run_all.new.state.store) =
-    subst (λ (x : Flow). StaysReady c.args.symbols.now (Ok x) c.open_turn.new.state.scope c.run_all.new.state.scope (memory_of c.run_all.new.state.store)) c.in-Ok-Going.field-0-is c.in-Ok-Going.ensures.ready in
-    let same : c.run_all.new.state.scope ≡ f ∷ fs = ready_there.0 ∙ c.in_ok-open_turn.ensures.scope in
+    let ready_there : StaysReady c.args.symbols.now (Ok flow.Going) c.open_turn.new.state.scope c.run_part.new.state.scope (memory_of c.run_part.new.state.store) =
+    subst (λ (x : Flow). StaysReady c.args.symbols.now (Ok x) c.open_turn.new.state.scope c.run_part.new.state.scope (memory_of c.run_part.new.state.store)) c.in-Ok-Going.field-0-is c.in-Ok-Going.ensures.ready in
+    let same : c.run_part.new.state.scope ≡ f ∷ fs = ready_there.0 ∙ c.in_ok-open_turn.ensures.scope in
     let closed : new ≡ without_copies (f ∷ fs) f.private ran = c.close_copies.ensures.copies ∙ (λ i. without_copies (same i) ((c.as_slice.ensures ∙ c.requires.plan.copied) i) ran) in
     let ready : IsReady table (f ∷ fs) ran = subst (λ (o : Scope). IsReady table o ran) same ready_there.1 in
     (c.close_copies.ensures.scope ∙ same, subst (λ (m : Memory). IsReady table fs m) (sym closed) (close_ready table f fs ran ready))
@@ -725,7 +787,7 @@ run_turn-returns-in-Ok-Stopped-clause-told g t c =
     let ts = stmt_trees c.args.d.now.body.items in
     let old = memory_of c.args.state.now.store in
     let mid = memory_of c.open_turn.new.state.store in
-    let ran = memory_of c.run_all.new.state.store in
+    let ran = memory_of c.run_part.new.state.store in
     let fs = outside c.args.state.now.scope in
     let f = frame (entered_by (head_of c.args.d.now) c.args.plan.now 0) (c.args.earlier + 1) in
     let scope : c.open_turn.new.state.scope ≡ f ∷ fs = c.in_ok-open_turn.ensures.scope in
@@ -744,7 +806,7 @@ run_turn-returns-in-Ok-Stopped-clause-watched g t c =
     let f = frame (entered_by (head_of c.args.d.now) c.args.plan.now 0) (c.args.earlier + 1) in
     let scope : c.open_turn.new.state.scope ≡ f ∷ fs = c.in_ok-open_turn.ensures.scope in
     let memory : mid ≡ with_copies (f ∷ fs) f.private old = c.in_ok-open_turn.ensures.copies ∙ (λ i. with_copies (scope i) (c.requires.plan.copied i) old) in
-    turn_watched g.W.Watch.follows (setting_by c.args.symbols.now) f fs n c.open_turn.new.state.scope c.deref.result.now c.args.d.now.body.items old mid c.args.watch.now c.run_all.new.watch (Ok flow.Stopped) scope memory c.deref.ensures.value c.in-Ok-Stopped.ensures.watched
+    turn_watched g.W.Watch.follows (setting_by c.args.symbols.now) f fs n c.open_turn.new.state.scope c.deref.result.now c.args.d.now.body.items old mid c.args.watch.now c.run_part.new.watch (Ok flow.Stopped) scope memory c.deref.ensures.value c.in-Ok-Stopped.ensures.watched
 
 pub run_turn-returns-in-Err-clause-told : goal.run_turn-returns-in-Err-clause-told
 run_turn-returns-in-Err-clause-told g t c =
@@ -753,7 +815,7 @@ run_turn-returns-in-Err-clause-told g t c =
     let ts = stmt_trees c.args.d.now.body.items in
     let old = memory_of c.args.state.now.store in
     let mid = memory_of c.open_turn.new.state.store in
-    let ran = memory_of c.run_all.new.state.store in
+    let ran = memory_of c.run_part.new.state.store in
     let fs = outside c.args.state.now.scope in
     let f = frame (entered_by (head_of c.args.d.now) c.args.plan.now 0) (c.args.earlier + 1) in
     let r : Result Flow RunError = Err c.in-Err.error in
@@ -773,4 +835,4 @@ run_turn-returns-in-Err-clause-watched g t c =
     let f = frame (entered_by (head_of c.args.d.now) c.args.plan.now 0) (c.args.earlier + 1) in
     let scope : c.open_turn.new.state.scope ≡ f ∷ fs = c.in_ok-open_turn.ensures.scope in
     let memory : mid ≡ with_copies (f ∷ fs) f.private old = c.in_ok-open_turn.ensures.copies ∙ (λ i. with_copies (scope i) (c.requires.plan.copied i) old) in
-    turn_watched g.W.Watch.follows (setting_by c.args.symbols.now) f fs n c.open_turn.new.state.scope c.deref.result.now c.args.d.now.body.items old mid c.args.watch.now c.run_all.new.watch (Err c.in-Err.error) scope memory c.deref.ensures.value c.in-Err.ensures.watched
+    turn_watched g.W.Watch.follows (setting_by c.args.symbols.now) f fs n c.open_turn.new.state.scope c.deref.result.now c.args.d.now.body.items old mid c.args.watch.now c.run_part.new.watch (Err c.in-Err.error) scope memory c.deref.ensures.value c.in-Err.ensures.watched

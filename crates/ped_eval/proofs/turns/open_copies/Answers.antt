@@ -1,5 +1,4 @@
 use Rattle.std.proofs.Common.{ℕ, List, refl, ap, ◌∙◌}
-use Rattle.ped_store.specs.Cells.{Cell}
 use Rattle.ped_store.specs.Memories.{with_copy}
 use Rattle.ped_store.specs.Keeping.{memory_of}
 use Rattle.ped_eval.specs.Scopes.{Scope, cell_of}
@@ -8,15 +7,20 @@ use Rattle.ped_eval.specs.Turns.{with_copies}
 use Rattle.ped_eval.proofs.Walks.{walked, one_of_all}
 use Rattle.ped_eval.proofs.turns.open_copies.Goals as goal
 
+pub open_one-requires : goal.open_one-requires
+open_one-requires c =
+    let r = c.loop-place.invariant in
+    let x : List ℕ = c.index-names-place.result in
+    ap (λ (k : Scope). is_copy (cell_of k x)) r.scope ∙ (one_of_all (λ y. is_copy (cell_of c.args.state.now.scope y)) c.args.names.now c.loop-place.place x c.loop-place-test.true c.index-names-place.is r.right).0
+
 pub loop-place-preserved : goal.loop-place-preserved
 loop-place-preserved c =
     let r = c.loop-place.invariant in
     let at = c.args.state.now.scope in
     let x : List ℕ = c.index-names-place.result in
-    let cell = c.cell_at-cell.ensures.view ∙ ap (λ (s : Scope). cell_of s x) r.scope in
     record {
       rest = walked (λ y m. with_copy (cell_of at y) m) (with_copies at) (λ y ys m. refl) c.args.names.now c.loop-place.place x (memory_of c.loop-place.state.store) _ _ c.loop-place-test.true c.index-names-place.is
-          (c.in_ok-open_copy.ensures.ok ∙ ap (λ (d : Cell). with_copy d (memory_of c.loop-place.state.store)) cell) r.rest;
+          (c.in_ok-open_one.ensures.copy ∙ ap (λ (k : Scope). with_copy (cell_of k x) (memory_of c.loop-place.state.store)) r.scope) r.rest;
       right = (one_of_all (λ y. is_copy (cell_of at y)) c.args.names.now c.loop-place.place x c.loop-place-test.true c.index-names-place.is r.right).1;
-      scope = r.scope;
+      scope = c.open_one.ensures.scope ∙ r.scope;
     }

@@ -6,7 +6,7 @@ use Rattle.ped_store.specs.Races.{Access}
 use Rattle.ped_eval.specs.declared.accesses.Turn as code_turn
 use Rattle.ped_eval.specs.declared.accesses.Access as code
 
--- an iteration that an access stands in (this project)
+-- an iteration that an access is in (this project)
 abbrev pub turn_view : code_turn.Turn → Turn
 turn_view t = record { statement = t.statement; parallel = t.parallel; number = t.number; value = t.value }
 

@@ -10,7 +10,7 @@ use Rattle.ped_eval.specs.declared.states.Flow.{Flow}
 use Rattle.ped_eval.specs.declared.states.RunError.{RunError}
 use Rattle.ped_eval.specs.declared.states.RunError.TheVariants as error
 
--- the outcome of a run with this answer, by what the code keeps then; want of memory has none
+-- the outcome of a run with this answer, by what the code keeps then; if memory ran out, there is none
 abbrev pub IsOutcomeBy : ProgramTree → Memory → Result Flow RunError → Outcome → Type 0
 IsOutcomeBy t m (Ok flow) o = o ≡ Ended (lines_in (m.cells Out)) (rows_in m (live_names t))
 IsOutcomeBy t m (Err (error.Fault number statement)) o = o ≡ Fault number statement

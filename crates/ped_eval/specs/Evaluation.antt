@@ -53,7 +53,7 @@ numbered n [] = []
 numbered n (cell_seen c content ∷ more) = record { cell = c; manner = reads; content = content; reference = n } ∷ numbered (suc n) more
 numbered n (index_seen c value ∷ more) = record { cell = c; manner = is_told; content = Number value; reference = 0 } ∷ numbered n more
 
--- the number of the reference behind them (this project)
+-- the number of the reference after them (this project)
 abbrev pub number_behind : ℕ → List Seen → ℕ
 number_behind n [] = n
 number_behind n (cell_seen c content ∷ more) = number_behind (suc n) more

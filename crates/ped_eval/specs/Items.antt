@@ -3,7 +3,7 @@ use Rattle.std.specs.Prelude.{◌≡◌, ℕ, List, [], ◌∷◌, ◌++◌, ◌
 use Rattle.ped_eval.specs.declared.printing.PrintError.{PrintError}
 use Rattle.ped_eval.specs.declared.printing.PrintError.TheVariants as error
 
--- a text, or the fault that comes in its place; want of memory tells nothing
+-- a text, or the fault that comes in its place; if memory ran out, it says nothing
 abbrev pub IsPrinted : Result (List ℕ) ℕ → Result (List ℕ) PrintError → Type 0
 IsPrinted text (Ok line) = text ≡ Ok line
 IsPrinted text (Err (error.Fault n)) = text ≡ Err n
@@ -19,7 +19,7 @@ IsAdded text old new (Err error.NoMemory) = Unit {0}
 abbrev pub blank_before : ℕ → List ℕ
 blank_before i = if i == 0 then [] else 32 ∷ []
 
--- something holds but after want of memory
+-- something holds unless memory has run out
 abbrev pub IfPrinted : {A : Type 0} → Result A PrintError → Type 0 → Type 0
 IfPrinted (Ok u) P = P
 IfPrinted (Err (error.Fault n)) P = P

@@ -57,7 +57,7 @@ abbrev pub sorted_once : List (List ℕ) → List (List ℕ)
 sorted_once [] = []
 sorted_once (x ∷ xs) = with_sorted x (sorted_once xs)
 
--- a DO that has been entered: its number, its head, its initial value, its increment and its iteration count; the number behind the references in its bounds; and, of a PARALLEL DO, the variables of the DO loops in it, each once, in byte order (ANSI X3.9-1978, section 11.10; this project)
+-- a DO that has been entered: its number, its head, its initial value, its increment and its iteration count; the number after the references in its bounds; and, of a PARALLEL DO, the variables of the DO loops in it, each once, in byte order (ANSI X3.9-1978, section 11.10; this project)
 pub record Entered : Type 0 where
   pub number : ℕ
   pub head : Head
@@ -109,7 +109,7 @@ undefined_by scope n (x ∷ xs) = write_touch (cell_of scope x) Undefined n ∷ 
 abbrev pub undefined_all : Scope → List (List ℕ) → List Touch
 undefined_all scope xs = map (λ x. write_touch (cell_of scope x) Undefined 0) xs
 
--- what the variable holds behind the DO: m1+count*m3, and behind a PARALLEL DO nothing (ANSI X3.9-1978, section 11.10.7; this project)
+-- what the variable holds after the DO: m1+count*m3, and after a PARALLEL DO nothing (ANSI X3.9-1978, section 11.10.7; this project)
 abbrev pub left_in_variable : Entered → Content
 left_in_variable e = if e.head.parallel then Undefined else Number (e.first +ℤ pos e.count *ℤ e.step)
 

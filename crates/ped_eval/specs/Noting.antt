@@ -51,13 +51,13 @@ noted_by notes = map noted_view notes.touches.items
 abbrev pub AreNoted : Notes → List Noted → Type 0
 AreNoted notes ns = notes.kept ≡ true → noted_by notes ≡ ns
 
--- notes that are kept, behind an evaluation that has read this: each read is noted, and those of cells are numbered on (this project)
+-- notes that are kept, after an evaluation that has read this: each read is noted, and those of cells are numbered on (this project)
 pub record Reading (old : Notes) (seen : List Seen) (new : Notes) : Type 0 where
   pub kept : old.kept ≡ true
   pub touches : noted_by new ≡ noted_by old ++ noted (numbered old.next seen)
   pub next : new.next ≡ number_behind old.next seen
 
--- the notes behind an evaluation that has read this; of notes that aren't kept nothing is said (this project)
+-- the notes after an evaluation that has read this; of notes that aren't kept nothing is said (this project)
 abbrev pub HasNoted : Notes → List Seen → Notes → Type 0
 HasNoted old seen new = new.kept ≡ true → Reading old seen new
 
@@ -81,7 +81,7 @@ pub record Touching (old : Notes) (cell : Cell) (writes : Bool) (new : Notes) : 
 abbrev pub HasTouched : Notes → Cell → Bool → Notes → Type 0
 HasTouched old cell writes new = new.kept ≡ true → Touching old cell writes new
 
--- these accesses are noted behind those before, where the notes are kept (this project)
+-- these accesses are noted after those before, where the notes are kept (this project)
 abbrev pub HasAdded : Notes → List Noted → Notes → Type 0
 HasAdded old ns new = new.kept ≡ true → (old.kept ≡ true) × (noted_by new ≡ noted_by old ++ ns)
 
@@ -101,7 +101,7 @@ target_seen_at around t = (target (names_at (memory_of around.store.now) around.
 unfoldable pub truth_seen_at : Surroundings → CondTree → List Seen
 truth_seen_at around t = (truth (names_at (memory_of around.store.now) around.scope.now around.consts.now) t (memory_of around.store.now).cells).seen
 
--- what an evaluation reads behind one that has come to this: nothing behind a fault (this project)
+-- what an evaluation reads after one that has come to this: nothing after a fault (this project)
 abbrev pub seen_next : {A : Type 0} → Result A ℕ → List Seen → List Seen
 seen_next (Ok u) seen = seen
 seen_next (Err fault) seen = []

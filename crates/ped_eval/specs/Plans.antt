@@ -13,7 +13,7 @@ use Rattle.ped_eval.specs.declared.plans.Limits as code
 use Rattle.ped_eval.specs.declared.states.RunError.{RunError}
 use Rattle.ped_eval.specs.declared.states.RunError.TheVariants as error
 
--- a DO that has been entered, by what the code keeps of it, and the number behind the references in its bounds
+-- a DO that has been entered, by what the code keeps of it, and the number after the references in its bounds
 abbrev pub entered_by : Head → Plan → ℕ → Entered
 entered_by h plan behind = record {
   number = plan.number;

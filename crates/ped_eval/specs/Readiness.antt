@@ -1,4 +1,4 @@
--- What the code needs to run statements: that names stand where they may, and that their cells stand in the store (this project).
+-- What the code needs to run statements: that names are where they may be, and that their cells exist in the store (this project).
 use Rattle.std.specs.Prelude.{◌≡◌, ◌≤◌, ◌<◌, ◌^◌, ℕ, ◌+◌, ℤ, List, length, true}
 use Rattle.ped_tree.specs.Tree.{StmtTree, StmtTrees}
 use Rattle.ped_tree.specs.Numbering.{statement_count, statements_count}
@@ -25,7 +25,7 @@ setting_by table = record { bounds = λ x. bounds_of (kinds_by table x); constan
 abbrev pub setting_with : List (List ℕ × ℤ) → Setting
 setting_with constants = record { bounds = λ x. no_dimensions; constants = constants; number = λ n. n }
 
--- all that can be written in these iterations stands, and arrays have their bounds
+-- all that can be written in these iterations exists, and arrays have their bounds
 pub record IsReady (table : Table) (scope : Scope) (m : Memory) : Type 0 where
   pub bounds : m.bounds ≡ (setting_by table).bounds
   pub scalars : (x : List ℕ) → is_scalar (kinds_by table) x ≡ true → m.stands (Scalar x) ≡ true

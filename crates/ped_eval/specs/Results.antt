@@ -20,7 +20,7 @@ of_two f (Ok u) (Ok v) = f u v
 of_two f (Ok u) (Err n) = Err n
 of_two f (Err n) b = Err n
 
--- the result of what is evaluated behind a value; the first fault stays
+-- the result of what is evaluated after a value; the first fault stays
 abbrev pub next_result : {A B : Type 0} → Result A ℕ → Result B ℕ → Result B ℕ
 next_result (Ok u) r = r
 next_result (Err n) r = Err n

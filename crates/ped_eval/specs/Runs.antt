@@ -1,4 +1,4 @@
--- Runs in order: the acts of statements, one after the other, and how they end. A run is a function of the statements, the number of the first, the iterations round them, and the store (ANSI X3.9-1978, sections 11, 12.8; this project).
+-- Runs in order: the acts of statements, one after the other, and how they end. A run is a function of the statements, the number of the first, the iterations around them, and the store (ANSI X3.9-1978, sections 11, 12.8; this project).
 use Rattle.std.specs.Prelude.{ℕ, zero, suc, ◌+◌, List, [], ◌∷◌, ◌++◌, Bool, true, false, Option, Some, None, Result, Ok, Err, if◌then◌else◌}
 use Rattle.ped_tree.specs.Tree.{ExprTree, CondTree, ItemTree, Head, StmtTree, StmtTrees, Assign, If, Do, Print, Read, Stop, Comment, no_stmts, more_stmts}
 use Rattle.ped_tree.specs.Numbering.{statement_count, statements_count}
@@ -35,7 +35,7 @@ followed_by acts (failed fault statement) next = record { acts = acts; ending = 
 abbrev pub then_run : Run → (Store → Run) → Run
 then_run r next = followed_by r.acts r.ending next
 
--- an act, and then a run from the store behind it
+-- an act, and then a run from the store after it
 abbrev pub does : Step → Place → List Touch → (Store → Run) → Store → Run
 does step at touches next s = followed_by (record { step = step; place = at; touches = touches } ∷ []) (going (store_behind touches s)) next
 
@@ -88,7 +88,7 @@ abbrev pub parallel_turns : ℕ → ℕ → Entered → (Frame → Store → Run
 parallel_turns zero k e body s = nothing_done s
 parallel_turns (suc n) k e body s = then_run (body (frame e k) s) (parallel_turns n (k + 1) e body)
 
--- what follows the entry of a DO; a PARALLEL DO is closed behind its iterations. With a count of 0 the entry has left it (ANSI X3.9-1978, section 11.10.4; this project)
+-- what follows the entry of a DO; a PARALLEL DO is closed after its iterations. With a count of 0 the entry has left it (ANSI X3.9-1978, section 11.10.4; this project)
 abbrev pub run_entered : Bool → ℕ → Entered → Scope → Place → (Frame → Store → Run) → Store → Run
 run_entered parallel zero e scope at body s = nothing_done s
 run_entered false (suc n) e scope at body s = turns (suc n) 1 e scope at body s

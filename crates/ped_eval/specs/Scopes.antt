@@ -11,13 +11,13 @@ pub record Setting : Type 0 where
   pub constants : List (List ℕ × ℤ)
   pub number : ℕ → ℕ
 
--- an iteration that a body stands in: the variable of its DO, and the names of which the iteration has its own copies (ANSI X3.9-1978, section 11.10; ParaScope; this project)
+-- an iteration that a body is in: the variable of its DO, and the names of which the iteration has its own copies (ANSI X3.9-1978, section 11.10; ParaScope; this project)
 pub record Frame : Type 0 where
   pub turn : Turn
   pub variable : List ℕ
   pub private : List (List ℕ)
 
--- the iterations round a place, the innermost first (this project)
+-- the iterations around a place, the innermost first (this project)
 abbrev pub Scope : Type 0
 Scope = List Frame
 
@@ -36,7 +36,7 @@ abbrev pub index_value : Scope → List ℕ → Option ℤ
 index_value [] x = None
 index_value (f ∷ fs) x = if is_same_text x f.variable then Some f.turn.value else index_value fs x
 
--- what names stand for at a place: constants their values, arrays their bounds, scalars their cells; and the variables of the DO loops round it their values (this project)
+-- what names stand for at a place: constants their values, arrays their bounds, scalars their cells; and the variables of the DO loops around it their values (this project)
 pub record Names : Type 0 where
   pub bounds : List ℕ → Dimensions
   pub constants : List (List ℕ × ℤ)

@@ -17,11 +17,11 @@ use Rattle.ped_eval.specs.declared.notes.Notes.{Notes}
 abbrev pub reads_noted : List Seen → List Noted
 reads_noted seen = noted (numbered 1 seen)
 
--- reads, whose references have numbers from this one on, and behind them a write by the next reference (this project)
+-- reads, whose references have numbers from this one on, and after them a write by the next reference (this project)
 abbrev pub write_noted : ℕ → List Seen → Cell → List Noted
 write_noted n seen c = noted (numbered n seen) ++ record { cell = c; writes = true; reference = number_behind n seen } ∷ []
 
--- what is read is noted, by references with numbers from this one on, and behind a result the write of a cell (this project)
+-- what is read is noted, by references with numbers from this one on, and after a result the write of a cell (this project)
 abbrev pub done_noted : {A : Type 0} → ℕ → (A → Cell) → List Seen → Result A ℕ → List Noted
 done_noted n cell seen (Ok x) = write_noted n seen (cell x)
 done_noted n cell seen (Err fault) = noted (numbered n seen)
@@ -53,7 +53,7 @@ items_noted constants scope (item ∷ rest) n m =
     (target (names_with (with_data t.behind m) scope constants) item (with_data t.behind m).cells).result
     λ k c. items_noted constants scope rest k (with_content c (Number t.value) (with_data t.behind m))
 
--- what the items note behind the line that a READ begins; without one there are none (this project)
+-- what the items note after the line that a READ begins; without one there are none (this project)
 abbrev pub line_noted : Result Data ℕ → (Data → List Noted) → List Noted
 line_noted (Ok d) next = next d
 line_noted (Err fault) next = []
@@ -63,12 +63,12 @@ abbrev pub read_noted : List (List ℕ × ℤ) → Scope → List ExprTree → �
 read_noted constants scope items n m =
     record { cell = In; writes = true; reference = n } ∷ line_noted (begun m.input.lines) λ d. items_noted constants scope items (suc n) (with_data d m)
 
--- what is kept behind a part of a READ, or the fault that ends it
+-- what is kept after a part of a READ, or the fault that ends it
 abbrev pub IsTaken : {A : Type 0} → Result Memory ℕ → Memory → Result A ℕ → Type 0
 IsTaken r new (Ok u) = r ≡ Ok new
 IsTaken r new (Err n) = r ≡ Err n
 
--- the notes behind an item of a READ, where they are kept: what is noted then, and what the items behind it note, is all; behind a fault nothing more is noted
+-- the notes after an item of a READ, where they are kept: what is noted then, and what the items after it note, is all; after a fault nothing more is noted
 abbrev pub IsItemNoted : {A : Type 0} → List (List ℕ × ℤ) → Scope → ExprTree → Notes → Memory → Notes → Memory → Result A ℕ → Type 0
 IsItemNoted constants scope item old m new after (Ok u) =
     new.kept ≡ true → (old.kept ≡ true) × ((rest : List ExprTree) → noted_by old ++ items_noted constants scope (item ∷ rest) old.next m ≡ noted_by new ++ items_noted constants scope rest new.next after)

@@ -32,7 +32,7 @@ assigned g left right s = value g right s >>> λ v. target g left s >>> λ c. gi
 abbrev pub assignment_touches : List Seen → Stored → List Touch
 assignment_touches seen w = numbered 1 seen ++ write_touch w.cell (Number w.number) (number_behind 1 seen) ∷ []
 
--- the text of an item of a PRINT: a number, or a character constant as it stands (ANSI X3.9-1978, section 12.8.2; this project)
+-- the text of an item of a PRINT: a number, or a character constant as written (ANSI X3.9-1978, section 12.8.2; this project)
 abbrev pub item_text : Names → ItemTree → Store → Evaluated (List ℕ)
 item_text g (Value e) s = value g e s >>> λ n. given (Ok (signed_decimal n))
 item_text g (Text text) s = given (Ok text)
@@ -90,6 +90,6 @@ taking_from g items (Err fault) s = record { touches = []; left = not_begun []; 
 abbrev pub reading : Names → List ExprTree → Store → Taking
 reading g items s = taking_from g items (begun (lines_in (s In))) s
 
--- the touches of a READ: the data, of which the lines behind the last line that it began are left, and then its items
+-- the touches of a READ: the data, of which the lines after the last line that it began are left, and then its items
 abbrev pub reading_touches : Taking → Store → List Touch
 reading_touches t s = read_touch In (s In) 0 ∷ write_touch In (Lines t.left.lines) 1 ∷ t.touches

@@ -1,4 +1,4 @@
--- What the code's answers tell of the ending of a run (this project).
+-- What the code's answers say of the ending of a run (this project).
 use Rattle.std.specs.Prelude.{◌≡◌, ℕ, List, Result, Ok, Err}
 use Rattle.ped_store.specs.Stores.{Store}
 use Rattle.ped_store.specs.Memories.{Memory}
@@ -30,14 +30,14 @@ Fails number n (going s) = ⊥
 Fails number n (stopped s) = ⊥
 Fails number n (failed fault statement) = (number ≡ fault) × (n ≡ statement)
 
--- the answer, with what is kept then, tells the ending; want of memory tells nothing
+-- the answer, with what is kept then, says the ending; if memory ran out, it says nothing
 abbrev pub Tells : Scope → List ℕ → Result Flow RunError → Store → Ending → Type 0
 Tells scope moment (Ok flow.Going) kept ending = Goes scope moment kept ending
 Tells scope moment (Ok flow.Stopped) kept ending = Stops kept ending
 Tells scope moment (Err (error.Fault number statement)) kept ending = Fails number statement ending
 Tells scope moment (Err error.NoMemory) kept ending = Unit {0}
 
--- of each run from a store that agrees with what was kept at the first moment the answer tells the ending, at the second moment
+-- of each run from a store that agrees with what was kept at the first moment the answer says the ending, at the second moment
 abbrev pub TellsFrom : Scope → List ℕ → Store → List ℕ → Result Flow RunError → Store → (Store → Ending) → Type 0
 TellsFrom scope first old second result new ending = (s : Store) → Agrees scope first old s → Tells scope second result new (ending s)
 
@@ -45,7 +45,7 @@ TellsFrom scope first old second result new ending = (s : Store) → Agrees scop
 abbrev pub Ran : Scope → ℕ → Memory → ℕ → Result Flow RunError → Memory → (Store → Run) → Type 0
 Ran scope n old next result new run = TellsFrom scope (before scope n) old.cells (before scope next) result new.cells (λ s. (run s).ending)
 
--- where the run goes on the iterations are the same, and all stands that can be written in them; where a STOP has ended it arrays have their bounds still
+-- where the run goes on the iterations are the same, and all that can be written in them exists; where a STOP has ended it arrays still have their bounds
 abbrev pub StaysReady : Table → Result Flow RunError → Scope → Scope → Memory → Type 0
 StaysReady table (Ok flow.Going) old new m = (new ≡ old) × IsReady table new m
 StaysReady table (Ok flow.Stopped) old new m = m.bounds ≡ (setting_by table).bounds

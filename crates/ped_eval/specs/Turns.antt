@@ -15,7 +15,7 @@ after (going s) next = next s
 after (stopped s) next = stopped s
 after (failed fault statement) next = failed fault statement
 
--- how n more iterations of a DO end, the first of them with number k, and its exit behind them (ANSI X3.9-1978, sections 11.10.4 to 11.10.7)
+-- how n more iterations of a DO end, the first of them with number k, and its exit after them (ANSI X3.9-1978, sections 11.10.4 to 11.10.7)
 abbrev pub turns_end : ℕ → ℕ → Entered → Scope → (Frame → Store → Run) → Store → Ending
 turns_end zero k e scope body s = going (store_behind (exit_touches e scope) s)
 turns_end (suc n) k e scope body s = after (body (frame e k) s).ending (turns_end n (k + 1) e scope body)

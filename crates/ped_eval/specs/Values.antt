@@ -28,7 +28,7 @@ abbrev pub of_intrinsic : Option (Result ℤ Fault) → Result ℤ ℕ
 of_intrinsic (Some r) = by_number r
 of_intrinsic None = Err out_of_range
 
--- the variable of a DO in its body has the value that the place tells; another scalar is read from its cell (ANSI X3.9-1978, section 11.10; this project)
+-- the variable of a DO in its body has the value that the place gives; another scalar is read from its cell (ANSI X3.9-1978, section 11.10; this project)
 abbrev pub variable_value : Option ℤ → Store → Cell → Evaluated ℤ
 variable_value (Some n) s c = read_index c n
 variable_value None s c = read_cell s c
@@ -81,7 +81,7 @@ truth g (Not a) s = truth g a s >>> λ u. given (Ok (not u))
 truth g (And a b) s = truth g a s >>> λ u. truth g b s >>> λ v. given (Ok (u && v))
 truth g (Or a b) s = truth g a s >>> λ u. truth g b s >>> λ v. given (Ok (u || v))
 
--- the cell of a left side or of an item of a READ; nothing else may stand there (ANSI X3.9-1978, sections 10.1, 12.8; this project)
+-- the cell of a left side or of an item of a READ; nothing else may be there (ANSI X3.9-1978, sections 10.1, 12.8; this project)
 abbrev pub target : Names → ExprTree → Store → Evaluated Cell
 target g (Var x) s = given (Ok (g.cell x))
 target g (Element x subscripts) s = values g subscripts s >>> λ js. given (element_cell g x js)

@@ -3,7 +3,7 @@
 use ped_base::Listed;
 use ped_store::Cell;
 
-/// An iteration of a DO loop that an access stands in (ANSI X3.9-1978, section 11.10).
+/// An iteration of a DO loop that an access is in (ANSI X3.9-1978, section 11.10).
 #[derive(Clone, Copy)]
 pub struct Turn {
     /// The statement number of the DO.
@@ -16,7 +16,8 @@ pub struct Turn {
     pub value: i128,
 }
 
-/// A read or a write of a cell (this project). The entry, the ends of iterations and the exit of a DO stand outside that DO.
+/// A read or a write of a cell (this project). The entry, the ends of iterations and the exit of a DO are outside that
+/// DO.
 #[derive(Drop)]
 pub struct Access {
     /// The cell.
@@ -28,6 +29,6 @@ pub struct Access {
     /// The number of the reference in the statement, from 1, and 0 where none makes the access: the variable of a DO read
     /// in its body, and what a DO stores on its own account.
     pub reference: u32,
-    /// The iterations round the statement, that of the outermost DO first.
+    /// The iterations around the statement, that of the outermost DO first.
     pub path: Listed<Turn>,
 }

@@ -85,7 +85,8 @@ fn next_value(first: &Valued, e: &Expr, around: &Surroundings, notes: &mut Notes
     }
 }
 
-/// The value of a scalar or of a named constant. A variable of a DO has in the DO's body the value that the place tells.
+/// The value of a scalar or of a named constant. A variable of a DO has in the DO's body the value that the place
+/// gives.
 fn scalar_value(name: &Name, around: &Surroundings, notes: &mut Notes) -> Valued
     ensures value { result ≡ value_at around.now (Tree.Var name.now) }
     ensures noted { HasNoted notes.old (seen_at around.now (Tree.Var name.now)) notes.new }
@@ -383,7 +384,7 @@ pub(crate) fn first_places(places: &[i128; 7], count: usize) -> &[i128]
     &places[..count]
 }
 
-/// Whether an element may have so many subscripts.
+/// Whether an element may have this many subscripts.
 fn is_rank(count: usize) -> bool
     ensures { result ≡ Values.is_rank count }
 {

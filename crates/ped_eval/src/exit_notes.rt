@@ -14,8 +14,8 @@ use ped_base::Name;
 use ped_tree::Do;
 use std::alloc::Global;
 
-/// The notes of the exit of a DO: its variable, its PRIVATE names by the references behind those in its bounds, and what else is
-/// private to its iterations.
+/// The notes of the exit of a DO: its variable, its PRIVATE names by the references after those in its bounds, and what
+/// else is private to its iterations.
 pub(crate) fn exit_notes(alloc: Global, scope: &Scope, d: &Do, plan: &Plan) -> Notes
     ensures { AreNoted result (noted (Loops.exit_touches (entered_by (head_of d.now) plan.now plan.now.behind) scope.now)) }
 {

@@ -18,7 +18,7 @@ use crate::states::State;
 use ped_base::Name;
 use ped_tree::Do;
 
-/// Leaves a DO behind its iterations: its variable gets its last value, or none behind a PARALLEL DO, and what is
+/// Leaves a DO after its iterations: its variable gets its last value, or none after a PARALLEL DO, and what is
 /// private to its iterations becomes undefined.
 pub fn leave_loop(state: &mut State, d: &Do, plan: &Plan)
     requires plan { IsPlan (head_of d.now) (stmt_trees d.now.body.items) plan.now }
@@ -47,7 +47,7 @@ pub fn write_exit(state: &mut State, d: &Do, plan: &Plan)
     undefine_all(state, plan.inner.as_slice());
 }
 
-/// Writes the variable of a DO behind its iterations.
+/// Writes the variable of a DO after its iterations.
 fn leave_variable(state: &mut State, d: &Do, plan: &Plan)
     requires plan { IsPlan (head_of d.now) (stmt_trees d.now.body.items) plan.now }
     requires variable { IsTrue ((memory_of state.old.store).stands (cell_of state.old.scope d.now.variable)) }

@@ -48,7 +48,7 @@ pub use surroundings::Surroundings;
 pub use turns::{close_copies, enter_loop, open_turn};
 pub use watches::{NoWatch, Watch};
 
-/// A program has one outcome on its data, and its list of acts and their ending tell it.
+/// A program has one outcome on its data, and its list of acts and their ending determine it.
 pub fn one_outcome()
     ensures { (t : ProgramTree) (data_bytes : List ℕ) (o p : Spec.Outcome) → o ≡ outcome t data_bytes → p ≡ outcome_of t (run_of t data_bytes).ending → o ≡ p }
 {}

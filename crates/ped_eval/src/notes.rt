@@ -27,7 +27,7 @@ pub struct Notes {
     pub(crate) touches: Vec<Noted>,
     /// The number of the next reference.
     pub(crate) next: u32,
-    /// Whether all accesses so far stand here.
+    /// Whether all accesses so far are here.
     pub(crate) kept: bool,
 }
 
@@ -56,7 +56,7 @@ impl Notes {
         }
     }
 
-    /// No accesses of a statement yet. They are kept unless the watch that is to be told keeps nothing.
+    /// No accesses of a statement yet. They are kept unless the watch keeps nothing.
     pub(crate) fn of_statement<W: Watch>(alloc: Global, watch: &W) -> Notes
         ensures touches { noted_by result ≡ [] }
         ensures next { result.next ≡ 1 }

@@ -45,7 +45,7 @@ pub struct Plan {
     pub copied: Names,
     /// Of a PARALLEL DO, the variables of the DO loops in it, each once, in byte order.
     pub inner: Names,
-    /// The number behind the references in the bounds.
+    /// The number after the references in the bounds.
     pub behind: u32,
 }
 
@@ -59,7 +59,7 @@ pub(crate) struct Limits {
 }
 
 impl Plan {
-    /// The value that the variable has behind so many iterations.
+    /// The value that the variable has after this many iterations.
     pub fn value_behind(&self, turns: u64) -> i128
         requires first { unsigned_abs self.now.first ≤ 2 ^ 62 }
         requires step { unsigned_abs self.now.step ≤ 2 ^ 31 }
@@ -69,7 +69,7 @@ impl Plan {
     }
 }
 
-/// Enters a DO with this number: its limits are evaluated and their ranges tested. A watch is told what they read.
+/// Enters a DO with this number: its limits are evaluated and their ranges tested. A watch gets what they read.
 ///
 /// # Errors
 ///
@@ -230,7 +230,7 @@ fn iteration_count(limits: &Limits, step: i128) -> u64
     natural(quotient(span(limits, step), step))
 }
 
-/// How far the terminal value of a DO stands behind the initial one, and an increment more.
+/// How far the terminal value of a DO lies beyond the initial one, and one increment further.
 fn span(limits: &Limits, step: i128) -> i128
     requires first { Loops.is_bound limits.now.first ≡ true }
     requires last { Loops.is_bound limits.now.last ≡ true }

@@ -48,7 +48,7 @@ impl From<NoMemory> for PrintError {
     }
 }
 
-/// Runs the PRINT with this number, and tells a watch what it reads and writes.
+/// Runs the PRINT with this number, and gives a watch what it reads and writes.
 pub(crate) fn watched_print<W: Watch>(
     alloc: Global,
     symbols: &Symbols,
@@ -108,7 +108,7 @@ fn run_print(
 ///
 /// # Errors
 ///
-/// The first fault of an item, or want of memory.
+/// The first fault of an item, or out of memory.
 pub fn line_of(
     alloc: Global,
     symbols: &Symbols,

@@ -26,7 +26,7 @@ use ped_symbols::Symbols;
 use ped_tree::Expr;
 use std::alloc::Global;
 
-/// Runs the READ with this number: it begins the next data line, and takes a value for each item. A watch is told what it
+/// Runs the READ with this number: it begins the next data line, and takes a value for each item. A watch gets what it
 /// reads and writes.
 pub(crate) fn run_read<W: Watch>(
     alloc: Global,

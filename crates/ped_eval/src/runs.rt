@@ -52,9 +52,9 @@ pub fn run_in_order(
     run_watched(alloc, program, symbols, input, &mut NoWatch)
 }
 
-/// Runs a valid program as `run_in_order` does, and tells a watch its accesses in order, those of a statement that faults
-/// too. The states of the watch follow one another by what each access may make of it (this project). Of an outcome that
-/// wants memory nothing is said of the watch.
+/// Runs a valid program as `run_in_order` does, and gives a watch its accesses in order, those of a statement that
+/// faults too. The states of the watch follow one another by what each access may make of it (this project). Of an
+/// outcome that wants memory nothing is said of the watch.
 ///
 /// # Errors
 ///

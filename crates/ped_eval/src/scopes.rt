@@ -16,7 +16,7 @@ use ped_tree::copy_names;
 use std::alloc::Global;
 use std::marker::Model;
 
-/// An iteration of a DO loop that a body stands in (ANSI X3.9-1978, section 11.10).
+/// An iteration of a DO loop that a body is in (ANSI X3.9-1978, section 11.10).
 #[derive(Drop)]
 pub struct Frame {
     /// The statement number of the DO.
@@ -33,7 +33,7 @@ pub struct Frame {
     pub private: Names,
 }
 
-/// The iterations round a place, at most six. Contracts see the innermost first.
+/// The iterations around a place, at most six. Contracts see the innermost first.
 #[derive(Drop)]
 pub struct Scope {
     frames: Vec<Frame>,
@@ -61,7 +61,7 @@ impl Scope {
         }
     }
 
-    /// Goes into an iteration. After want of memory the scope is as it was.
+    /// Goes into an iteration. If memory runs out, the scope is as it was.
     pub fn enter(&mut self, frame: Frame) -> Result<(), NoMemory>
         requires { length self.old < 6 }
         ensures ok { OnOk result (self.new ≡ frame_view frame ∷ self.old) }
@@ -108,7 +108,7 @@ impl Scope {
         cell_in(&self.frames, name)
     }
 
-    /// The same of a scalar that probably stands at this place among the names that are private to the innermost iteration,
+    /// The same of a scalar that probably is at this place among the names that are private to the innermost iteration,
     /// so that a walk along them looks for none.
     pub fn cell_at(&self, name: &Name, place: usize) -> Cell
         ensures cell { IsCell result }
@@ -134,7 +134,7 @@ impl Scope {
         path_of(alloc, &self.frames)
     }
 
-    /// The value of the variable of a DO round the place; none for any other name.
+    /// The value of the variable of a DO around the place; none for any other name.
     pub fn index(&self, name: &Name) -> Option<i128>
         ensures { result ≡ Scopes.index_value self.now name.now }
     {
@@ -198,7 +198,7 @@ fn turn_last(frames: &mut [Frame], number: u64, value: i128)
     }
 }
 
-/// The innermost iteration and those round it.
+/// The innermost iteration and those around it.
 fn split_innermost(frames: &[Frame]) -> Option<(&Frame, &[Frame])>
     ensures is { MatchOption result (frames.now ≡ []) (λ p. scope_view frames.now ≡ frame_view p.0.now ∷ scope_view p.1.now) }
     ensures less { MatchOption result (frames.now ≡ []) (λ p. length p.1.now + 1 ≡ length frames.now) }
@@ -225,7 +225,7 @@ fn cell_in(frames: &[Frame], name: &Name) -> Cell
     Cell::Scalar(*name)
 }
 
-/// Whether a scalar stands at this place among the names that are private to the innermost of these iterations.
+/// Whether a scalar is at this place among the names that are private to the innermost of these iterations.
 fn is_private_at(frames: &[Frame], name: &Name, place: usize) -> bool
     ensures some { result ≡ true → 0 < length frames.now }
     ensures view { result ≡ true → Scopes.cell_of (scope_view frames.now) name.now ≡ Private name.now (Acts.iterations_of (Scopes.turns_of (scope_view frames.now))) }
@@ -236,7 +236,7 @@ fn is_private_at(frames: &[Frame], name: &Name, place: usize) -> bool
     }
 }
 
-/// Whether a name stands at this place.
+/// Whether a name is at this place.
 fn is_at(names: &[Name], name: &Name, place: usize) -> bool
     ensures { result ≡ true → Lists.is_among name.now names.now ≡ true }
 {

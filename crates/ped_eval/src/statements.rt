@@ -145,7 +145,7 @@ fn run_part<W: Watch>(
     run_one(alloc, symbols, state, watch, only, first)
 }
 
-/// Runs the assignment with this number, and tells a watch what it reads and writes.
+/// Runs the assignment with this number, and gives a watch what it reads and writes.
 fn watched_assignment<W: Watch>(
     alloc: Global,
     symbols: &Symbols,
@@ -444,7 +444,7 @@ fn run_turns<W: Watch>(
     Ok(Flow::Going)
 }
 
-/// Runs the iteration of a DO before which there are so many.
+/// Runs the iteration of a DO before which there are this many.
 #[cycle(run)]
 fn run_turn<W: Watch>(
     alloc: Global,

@@ -9,14 +9,14 @@ use ped_store::{RunFault, Store};
 pub struct State {
     /// What the cells hold.
     pub store: Store,
-    /// The iterations round the place.
+    /// The iterations around the place.
     pub scope: Scope,
 }
 
 /// How statements that have been run end.
 #[derive(Clone, Copy)]
 pub enum Flow {
-    /// The run goes on behind them.
+    /// The run goes on after them.
     Going,
     /// A STOP has ended it.
     Stopped,
@@ -32,7 +32,7 @@ pub enum RunError {
         /// The statement that met it.
         statement: u32,
     },
-    /// For want of memory.
+    /// Out of memory.
     NoMemory,
 }
 

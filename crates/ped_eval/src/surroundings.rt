@@ -9,7 +9,7 @@ use ped_tree::constants::Consts;
 pub struct Surroundings<'a> {
     /// What the cells of the program hold.
     pub store: &'a Store,
-    /// The iterations of DO loops round the place.
+    /// The iterations of DO loops around the place.
     pub scope: &'a Scope,
     /// The named constants of the program with their values.
     pub consts: &'a Consts,

@@ -30,7 +30,7 @@ use ped_tree::{Cond, Do};
 use std::alloc::Global;
 
 /// Tells a watch the accesses of the statement with this number, unless the watch keeps nothing. Where there was no memory
-/// for one of them, there is none to tell them.
+/// for one of them, there is none to give them.
 pub(crate) fn tell<W: Watch>(
     alloc: Global,
     watch: &mut W,
@@ -75,7 +75,7 @@ fn tell_each<W: Watch>(
     Ok(())
 }
 
-/// Tells a watch what the bounds of a DO read, and answers the number behind the references in them.
+/// Gives a watch what the bounds of a DO read, and returns the number after the references in them.
 pub(crate) fn tell_bounds<W: Watch>(
     alloc: Global,
     watch: &mut W,
@@ -94,7 +94,7 @@ pub(crate) fn tell_bounds<W: Watch>(
     Ok(notes.next)
 }
 
-/// The truth of the condition of the statement with this number; a watch is told what it reads.
+/// The truth of the condition of the statement with this number; a watch gets what it reads.
 pub(crate) fn watched_truth<W: Watch>(
     alloc: Global,
     symbols: &Symbols,

@@ -47,7 +47,7 @@ fn frame_of(alloc: Global, d: &Do, plan: &Plan) -> Result<Frame, NoMemory>
     })
 }
 
-/// Goes on from an iteration of a DO to that before which there are so many, and makes its copies.
+/// Goes on from an iteration of a DO to that before which there are this many, and makes its copies.
 pub fn open_turn(
     alloc: Global,
     state: &mut State,
@@ -65,7 +65,7 @@ pub fn open_turn(
     open_copies(alloc, state, plan.copied.as_slice())
 }
 
-/// Makes the copies of these names, which are private to the iterations round the place.
+/// Makes the copies of these names, which are private to the iterations around the place.
 fn open_copies(alloc: Global, state: &mut State, names: &[Name]) -> Result<(), NoMemory>
     requires { list_all (λ x. is_copy (cell_of state.old.scope x)) names.now ≡ true }
     ensures copies { OnOk result (memory_of state.new.store ≡ with_copies state.old.scope names.now (memory_of state.old.store)) }
@@ -77,7 +77,8 @@ fn open_copies(alloc: Global, state: &mut State, names: &[Name]) -> Result<(), N
     Ok(())
 }
 
-/// Makes the copy of this name, which probably stands at this place among those that are private to the innermost iteration.
+/// Makes the copy of this name, which probably is at this place among those that are private to the innermost
+/// iteration.
 #[inline(never)]
 fn open_one(alloc: Global, state: &mut State, name: &Name, place: usize) -> Result<(), NoMemory>
     requires { is_copy (cell_of state.old.scope name.now) ≡ true }
@@ -88,7 +89,7 @@ fn open_one(alloc: Global, state: &mut State, name: &Name, place: usize) -> Resu
     state.store.open_copy(alloc, &cell)
 }
 
-/// Drops the copies of these names, which are private to the iterations round the place.
+/// Drops the copies of these names, which are private to the iterations around the place.
 pub fn close_copies(state: &mut State, names: &[Name])
     requires { list_all (λ x. is_copy (cell_of state.old.scope x)) names.now ≡ true }
     ensures copies { memory_of state.new.store ≡ without_copies state.old.scope names.now (memory_of state.old.store) }
@@ -99,7 +100,8 @@ pub fn close_copies(state: &mut State, names: &[Name])
     }
 }
 
-/// Drops the copy of this name, which probably stands at this place among those that are private to the innermost iteration.
+/// Drops the copy of this name, which probably is at this place among those that are private to the innermost
+/// iteration.
 #[inline(never)]
 fn close_one(state: &mut State, name: &Name, place: usize)
     requires { is_copy (cell_of state.old.scope name.now) ≡ true }

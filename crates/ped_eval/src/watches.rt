@@ -7,15 +7,15 @@ ghost use Rattle.ped_eval.specs.AccessViews.{access_view};
 use crate::accesses::Access;
 use ped_base::NoMemory;
 
-/// What is told each access of a run, in order (this project).
+/// What gets each access of a run, in order (this project).
 pub trait Watch {
-    /// What the watch may be behind an access, by what it was before.
+    /// What the watch may be after an access, by what it was before.
     ghost follows: { Self → Races.Access → Self → Type 0 };
 
     /// No access changes the watch.
     ghost is_idle: { Self → Bool };
 
-    /// Whether no access changes the watch, so that none need be told.
+    /// Whether no access changes the watch, so that it needs none.
     fn keeps_nothing(&self) -> bool
         ensures { result ≡ is_idle self.now };
 

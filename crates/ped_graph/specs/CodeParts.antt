@@ -3,7 +3,7 @@ use Rattle.std.specs.Prelude.{List, [], ◌∷◌, Option, None, slice_set, slic
 use Rattle.ped_views.specs.Views.{View}
 use Rattle.ped_graph.specs.declared.parts.Kept.{Kept}
 
--- verdicts and slots behind the exchanges of these pairs, one behind the other
+-- verdicts and slots after the exchanges of these pairs, one after the other
 abbrev pub exchanged : List Kept → List (Option View) → List (Option View) → List (Option View) × List (Option View)
 exchanged [] verdicts slots = (verdicts, slots)
 exchanged (k ∷ kept) verdicts slots =

@@ -65,7 +65,7 @@ distances_of v = map (distance v) (range_with_len 0 (length v.loops))
 abbrev pub place_of : Reference → ℕ × ℕ
 place_of r = (r.statement, r.number)
 
--- what edges depend on beside a pair of references and its view: the named constants with their values, and for each statement whether it stands in an IF
+-- what edges depend on in addition to a pair of references and its view: the named constants with their values, and for each statement whether it is in an IF
 pub record Facts : Type 0 where
   pub constants : List (List ℕ × ℤ)
   pub guards : List Bool
@@ -104,7 +104,7 @@ abbrev pub assigned_by : Option StmtTree → List (List ℕ)
 assigned_by (Some (Do h body)) = assigned_in (Do h body)
 assigned_by s = []
 
--- the setting of the references of a program in the DO with this number, the outermost round them; its names stand each once (this project)
+-- the setting of the references of a program in the DO with this number, the outermost around them; each of its names occurs once (this project)
 abbrev pub setting_in : ProgramTree → ℕ → Setting
 setting_in t number = record {
   constants = (table_of t).constants;
@@ -112,7 +112,7 @@ setting_in t number = record {
   assigned = with_names [] (assigned_by (statement_with number t));
 }
 
--- where a reference stands
+-- where a reference is
 abbrev pub site_of : Reference → Site
 site_of r = record { nest = r.nest; subscripts = r.access.subscripts }
 

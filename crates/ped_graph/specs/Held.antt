@@ -1,4 +1,4 @@
--- What a dependence graph holds of a program: for each pair of references its view and what else its dependences depend on, and how many statements stand in each statement (this project).
+-- What a dependence graph holds of a program: for each pair of references its view and what else its dependences depend on, and how many statements are in each statement (this project).
 use Rattle.std.specs.Prelude.{ℕ, List, [], ◌∷◌, ◌++◌, map, length, slice_index_or, ◌-◌, Bool, false, ◌&&◌, Option, Some, None, if◌then◌else◌}
 use Rattle.std.specs.List.{flat_map, range_with_len}
 use Rattle.ped_base.specs.Lists.{has_some}
@@ -13,7 +13,7 @@ use Rattle.ped_graph.specs.Owners.{have_same_owner, owner_level, within_iteratio
 use Rattle.ped_graph.specs.Marks.{mark_by, is_firm, is_telling, is_rejected}
 use Rattle.ped_graph.specs.Dependences.{Facts, facts_of, kind_of, place_of, view_of, vectors_of, distances_of}
 
--- what is known of a pair of references without a test: where they stand, the variable, the kind, whether the source comes first, the level of the DO whose private copies both mean (0 for none, None where they mean different ones), whether constants alone decide that both are reached, and for each level whether its loop rejects the variable
+-- what is known of a pair of references without a test: where they are, the variable, the kind, whether the source comes first, the level of the DO whose private copies both mean (0 for none, None where they mean different ones), whether constants alone decide that both are reached, and for each level whether its loop rejects the variable
 pub record Framed : Type 0 where
   pub source : ℕ × ℕ
   pub sink : ℕ × ℕ
@@ -57,7 +57,7 @@ framed facts source sink = record {
   rejecting = rejecting_levels source sink;
 }
 
--- what is held of a pair of which this is known, with this view: its dependences are proven where constants alone decide that both references are reached and the tests of the view tell them
+-- what is held of a pair of which this is known, with this view: its dependences are proven where constants alone decide that both references are reached and the tests of the view prove them
 abbrev pub pair_by : Framed → View → Pair
 pair_by f v = record {
   source = f.source;
@@ -79,7 +79,7 @@ pair_with facts source sink v = pair_by (framed facts source sink) v
 abbrev pub pair_of : ProgramTree → Reference × Reference → Pair
 pair_of t p = pair_with (facts_of t) p.0 p.1 (view_of t p.0 p.1)
 
--- what is known of a program without a test: its pairs, and how many statements stand in each statement
+-- what is known of a program without a test: its pairs, and how many statements are in each statement
 pub record HeldFrame : Type 0 where
   pub pairs : List Framed
   pub extents : List ℕ

@@ -11,10 +11,10 @@ extent_held extents number = if number == 0 then 0 else slice_index_or extents (
 abbrev pub has_number : List ℕ → ℕ → Bool
 has_number extents number = if number == 0 then false else nat_lt (number - 1) (length extents)
 
--- the source or the sink is the statement with this number, which has so many statements, or stands in it (this project)
+-- the source or the sink is the statement with this number, which has this many statements, or is in it (this project)
 abbrev pub touches : ℕ → ℕ → Edge → Bool
 touches number extent e = is_in number extent e.source.0 || is_in number extent e.sink.0
 
--- the dependence is of the level, with both references in the body of the DO with this number, which has so many statements (Allen and Kennedy, section 2.2.5; this project)
+-- the dependence is of the level, with both references in the body of the DO with this number, which has this many statements (Allen and Kennedy, section 2.2.5; this project)
 abbrev pub is_carried_in : ℕ → ℕ → ℕ → Edge → Bool
 is_carried_in number extent level e = is_level level e.level && (is_in_body number extent e.source.0 && is_in_body number extent e.sink.0)

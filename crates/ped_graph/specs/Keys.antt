@@ -1,4 +1,4 @@
--- The keys of the pairs that a graph holds: where their references stand (this project).
+-- The keys of the pairs that a graph holds: where their references are (this project).
 use Rattle.std.specs.Prelude.{◌≡◌, ℕ, List, Some, slice_get, AllPairs}
 use Rattle.ped_refs.specs.TextPlaces.{Key, IsKeyBefore}
 use Rattle.ped_graph.specs.Held.{Framed}
@@ -16,7 +16,7 @@ key_shown k = (k.source, k.sink)
 abbrev pub AreInOrder : List Framed → Type 0
 AreInOrder pairs = AllPairs (λ p q. IsKeyBefore (key_of p) (key_of q)) pairs
 
--- a key stands at this place and at no other
+-- a key is at this place and at no other
 pub record IsOnlyAt (keys : List Key) (k : Key) (n : ℕ) : Type 0 where
   pub found : slice_get keys n ≡ Some k
   pub only : (m : ℕ) → slice_get keys m ≡ Some k → m ≡ n

@@ -35,7 +35,7 @@ found_with number statements = if number == 0 then None else at_place statements
 abbrev pub rejecting_places : List ℕ → List Loop → List Bool
 rejecting_places x nest = map (λ n. rejects x (slice_get nest n)) (range_with_len 0 6)
 
--- what is known of a reference by itself: whether constants alone decide that it is reached, the DO to which it belongs, by its number and its level, and which loops round it reject its variable
+-- what is known of a reference by itself: whether constants alone decide that it is reached, the DO to which it belongs, by its number and its level, and which loops around it reject its variable
 abbrev pub own_of : List (List ℕ × ℤ) → List Bool → Reference → OwnFacts
 own_of constants guards r = record {
   firm = is_firm constants guards r;
@@ -44,7 +44,7 @@ own_of constants guards r = record {
   rejecting = rejecting_places r.access.name r.nest;
 }
 
--- the named constants, the variables of the DO loops, the numbered statements, and what is known of each reference, round which few loops stand
+-- the named constants, the variables of the DO loops, the numbered statements, and what is known of each reference, which few loops enclose
 pub record IsKnown (k : Known) : Type 0 where
   pub constants : k.consts.now ≡ (table_of (program_tree k.program.now)).constants
   pub loop_variables : k.loop_variables.now ≡ with_names [] (all_loop_variables (program_tree k.program.now).body)
@@ -56,6 +56,6 @@ pub record IsKnown (k : Known) : Type 0 where
 abbrev pub IsRound : ProgramTree → Round → Type 0
 IsRound t r = r.assigned ≡ with_names [] (assigned_by (statement_with r.number t))
 
--- the references of a program as sides of their pairs, one behind the other
+-- the references of a program as sides of their pairs, one after the other
 abbrev pub AreSides : ProgramTree → List Reference → List Side → Type 0
 AreSides t refs sides = (n : ℕ) (r : Reference) (w : Side) → slice_get refs n ≡ Some r → slice_get sides n ≡ Some w → IsSide (setting_in t (outermost r)) (site_of r) w

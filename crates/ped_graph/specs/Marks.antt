@@ -28,15 +28,15 @@ runs_twice r = int_le (r.lo +ℤ pos (unsigned_abs r.step)) r.hi
 abbrev pub all_run_twice : View → Bool
 all_run_twice v = list_all runs_twice v.loops && list_all runs_twice v.source_inner && list_all runs_twice v.sink_inner
 
--- nothing but constants decides whether the statement of a reference runs: the loops round it have constant bounds, and it stands in no IF (ParaScope; this project)
+-- nothing but constants decides whether the statement of a reference runs: the loops around it have constant bounds, and it is in no IF (ParaScope; this project)
 abbrev pub is_firm : List (List ℕ × ℤ) → List Bool → Reference → Bool
 is_firm constants guards r = list_all (has_constant_bounds constants) r.nest && not (is_guarded guards r.statement)
 
--- the tests of a view tell a dependence that they leave: its loops run at least twice, and each position is affine and ZIV or strong SIV; a ZIV position with different constants leaves none, and neither do positions that are strong SIV in one loop and tell different distances (Allen and Kennedy, sections 3.1, 3.3; this project)
+-- the tests of a view prove a dependence that they leave: its loops run at least twice, and each position is affine and ZIV or strong SIV; a ZIV position with different constants leaves none, and neither do positions that are strong SIV in one loop and tell different distances (Allen and Kennedy, sections 3.1, 3.3; this project)
 abbrev pub is_telling : View → Bool
 is_telling v = all_run_twice v && is_exact v
 
--- the tests leave no doubt where they leave a dependence: constants alone decide that both references are reached, and each position tells it (ParaScope; this project)
+-- the tests leave no doubt where they leave a dependence: constants alone decide that both references are reached, and each position proves it (ParaScope; this project)
 abbrev pub is_proven : List (List ℕ × ℤ) → List Bool → Reference → Reference → View → Bool
 is_proven constants guards source sink v = is_firm constants guards source && is_firm constants guards sink && is_telling v
 

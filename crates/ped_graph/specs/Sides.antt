@@ -11,7 +11,7 @@ use Rattle.ped_affine.specs.Ranges.{Setting}
 use Rattle.ped_affine.specs.PairViews.{Site, view_at}
 use Rattle.ped_graph.specs.declared.sides.Side.{Side}
 
--- each variable of which an affine form could be made is that of a loop round the subscript, or the outermost DO assigns it, or it is a named constant (Allen and Kennedy, section 3.1)
+-- each variable of which an affine form could be made is that of a loop around the subscript, or the outermost DO assigns it, or it is a named constant (Allen and Kennedy, section 3.1)
 abbrev pub is_alone : Setting → List Loop → ExprTree → Bool
 is_alone s nest (Int n) = true
 is_alone s nest (Var x) = is_among x (indices_of nest) || is_among x s.assigned || is_some (value_named s.constants x)
@@ -35,7 +35,7 @@ pub record IsSide (s : Setting) (p : Site) (w : Side) : Type 0 where
   pub alone : w.alone ≡ list_all (is_alone s p.nest) p.subscripts
   pub usable : w.usable ≡ list_all is_usable w.own.positions
 
--- a row, of which so many loops are common, of a subscript whose own row has them all so
+-- a row, of which this many loops are common, of a subscript whose own row has them all so
 pub record IsOwnRow (depth : ℕ) (own row : Row) : Type 0 where
   pub within : depth ≤ length own.common
   pub common : row.common ≡ take depth own.common
@@ -57,7 +57,7 @@ AreOwnPositions depth (a ∷ rest) [] ps = ps ≡ []
 AreOwnPositions depth (a ∷ rest) (b ∷ bs) [] = ⊥
 AreOwnPositions depth (a ∷ rest) (b ∷ bs) (p ∷ ps) = IsOwnPosition depth a b p × AreOwnPositions depth rest bs ps
 
--- a view with the ranges and the positions of two sides, of which so many loops are common
+-- a view with the ranges and the positions of two sides, of which this many loops are common
 pub record IsLike (depth : ℕ) (source sink : Side) (v : View) : Type 0 where
   pub source_alone : source.alone ≡ true
   pub sink_alone : sink.alone ≡ true
@@ -66,7 +66,7 @@ pub record IsLike (depth : ℕ) (source sink : Side) (v : View) : Type 0 where
   pub sink_inner : v.sink_inner ≡ drop depth sink.own.loops
   pub positions : AreOwnPositions depth source.own.positions sink.own.positions v.positions
 
--- a side whose subscripts are alone and affine forms, with so many loops at least
+-- a side whose subscripts are alone and affine forms, with this many loops at least
 pub record IsPlain (depth : ℕ) (w : Side) : Type 0 where
   pub alone : w.alone ≡ true
   pub usable : w.usable ≡ true

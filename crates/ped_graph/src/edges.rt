@@ -51,8 +51,8 @@ pub fn all_edges<L: Ledger>(
     Ok(edges)
 }
 
-/// The dependences of pairs, pair by pair, of those pairs alone of which both references stand in the body of the DO with this
-/// number, which has so many statements.
+/// The dependences of pairs, pair by pair, of those pairs alone of which both references are in the body of the DO with
+/// this number, which has this many statements.
 pub fn edges_within<L: Ledger>(
     alloc: Global,
     pairs: &[Facts],
@@ -73,7 +73,7 @@ pub fn edges_within<L: Ledger>(
     Ok(edges)
 }
 
-/// Adds the dependences of a pair that was tested, where both references stand in the body of the DO with this number.
+/// Adds the dependences of a pair that was tested, where both references are in the body of the DO with this number.
 fn push_within<L: Ledger>(
     alloc: Global,
     edges: &mut Vec<Edge>,
@@ -93,8 +93,8 @@ fn push_within<L: Ledger>(
     Ok(())
 }
 
-/// The dependences of pairs, pair by pair, of those pairs alone of which a reference stands in the statement with this number,
-/// which has so many statements.
+/// The dependences of pairs, pair by pair, of those pairs alone of which a reference is in the statement with this
+/// number, which has this many statements.
 pub fn edges_touching<L: Ledger>(
     alloc: Global,
     pairs: &[Facts],
@@ -115,7 +115,7 @@ pub fn edges_touching<L: Ledger>(
     Ok(edges)
 }
 
-/// Adds the dependences of a pair that was tested, where a reference stands in the statement with this number.
+/// Adds the dependences of a pair that was tested, where a reference is in the statement with this number.
 fn push_touching<L: Ledger>(
     alloc: Global,
     edges: &mut Vec<Edge>,
@@ -135,14 +135,14 @@ fn push_touching<L: Ledger>(
     Ok(())
 }
 
-/// Whether a reference of a pair stands in the statement with this number, which has so many statements.
+/// Whether a reference of a pair is in the statement with this number, which has this many statements.
 fn has_one_in(facts: &Facts, number: u32, extent: u32) -> bool
     ensures { result ≡ (is_in number extent facts.now.source.0 || is_in number extent facts.now.sink.0) }
 {
     is_in(number, extent, facts.source.0) || is_in(number, extent, facts.sink.0)
 }
 
-/// Whether both references of a pair stand in the body of the DO with this number, which has so many statements.
+/// Whether both references of a pair are in the body of the DO with this number, which has this many statements.
 fn stand_in(facts: &Facts, number: u32, extent: u32) -> bool
     ensures { result ≡ (is_in_body number extent facts.now.source.0 && is_in_body number extent facts.now.sink.0) }
 {
@@ -189,7 +189,8 @@ pub(crate) fn verdict_at<L: Ledger>(verdicts: &[Slot<L>], place: usize) -> &Verd
     verdicts[place].verdict()
 }
 
-/// Adds the dependences of a pair with so many common loops and these vectors, none where the references mean different private copies.
+/// Adds the dependences of a pair with this many common loops and these vectors, none where the references mean
+/// different private copies.
 fn push_shared(
     alloc: Global,
     edges: &mut Vec<Edge>,
@@ -211,7 +212,7 @@ fn push_shared(
     }
 }
 
-/// Adds the dependences of a pair with so many common loops and these vectors, divided by the loop that carries them.
+/// Adds the dependences of a pair with this many common loops and these vectors, divided by the loop that carries them.
 fn push_divided(
     alloc: Global,
     edges: &mut Vec<Edge>,
@@ -231,7 +232,7 @@ fn push_divided(
     Ok(())
 }
 
-/// Adds the dependences of a pair that so many common loops carry.
+/// Adds the dependences of a pair that this many common loops carry.
 fn push_carried(
     alloc: Global,
     edges: &mut Vec<Edge>,
@@ -338,7 +339,7 @@ fn vectors_of(alloc: Global, level: Option<u8>, vectors: &[Vector]) -> Result<Ve
     Ok(kept)
 }
 
-/// Whether a vector is of a level: its first direction other than `=` is `<` and stands there, or it has none.
+/// Whether a vector is of a level: its first direction other than `=` is `<` and is there, or it has none.
 fn is_of(level: Option<u8>, directions: &[Direction]) -> bool
     requires { length directions.now ≤ 6 }
     ensures { result ≡ Spec.is_of level (Spec.carriage_from 1 directions.now) }

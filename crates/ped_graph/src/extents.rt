@@ -18,7 +18,7 @@ pub fn extents(alloc: Global, body: &[Stmt]) -> Result<Vec<u32>, NoMemory>
     Ok(extents)
 }
 
-/// Adds the numbers for statements that stand one behind the other.
+/// Adds the numbers for statements that are one after the other.
 #[cycle(extents)]
 fn push_all(extents: &mut Vec<u32>, body: &[Stmt]) -> Result<(), NoMemory>
     requires { statements_count (stmt_trees body.now) < 2 ^ 32 }

@@ -10,14 +10,14 @@ ghost use Rattle.ped_graph.specs.Guards as Guards;
 use ped_refs::{Loop, Occurrence};
 use ped_tree::constants::{Consts, constant};
 
-/// Whether the loops round a reference have constant bounds and no IF stands round it.
+/// Whether the loops around a reference have constant bounds and no IF encloses it.
 pub fn is_firm(consts: &Consts, guards: &[bool], occurrence: &Occurrence) -> bool
     ensures { result ≡ Spec.is_firm consts.now guards.now (reference_of occurrence.now) }
 {
     have_constant_bounds(consts, &occurrence.nest) && !is_guarded(guards, occurrence.statement)
 }
 
-/// Whether the statement with this number stands in an IF.
+/// Whether the statement with this number is in an IF.
 fn is_guarded(guards: &[bool], number: u32) -> bool
     ensures { result ≡ Guards.is_guarded guards.now number }
 {

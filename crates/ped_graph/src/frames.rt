@@ -9,7 +9,7 @@ ghost use Rattle.ped_graph.specs.Keys.{key_of, key_shown, AreInOrder, IsOnlyAt};
 use crate::facts::Facts;
 use std::marker::Model;
 
-/// Where the references of a pair stand.
+/// Where the references of a pair are.
 #[derive(Clone, Copy, PartialEq, Eq, Hash)]
 pub struct PairKey {
     /// The source, by its statement and its number there.
@@ -19,7 +19,7 @@ pub struct PairKey {
 }
 
 /// What is known of a program without a test: its pairs of references in the order of the pane, each without its
-/// view and verdict, and how many statements stand in each statement.
+/// view and verdict, and how many statements are in each statement.
 #[derive(Drop)]
 pub struct Frame {
     pub(crate) pairs: Vec<Facts>,
@@ -47,7 +47,7 @@ impl Frame {
         self.pairs.len() as u64
     }
 
-    /// Where the references of a pair stand; pairs count from 0.
+    /// Where the references of a pair are; pairs count from 0.
     pub fn key(&self, n: u64) -> PairKey
         requires { n < length self.now.pairs }
         ensures { slice_get (map key_of self.now.pairs) n ≡ Some (key_shown result) }
@@ -62,14 +62,14 @@ impl Frame {
         &self.pairs
     }
 
-    /// How many statements stand in each statement.
+    /// How many statements are in each statement.
     pub(crate) fn extents(&self) -> &[u32]
         ensures { result.now ≡ self.now.extents }
     {
         &self.extents
     }
 
-    /// The pair whose references stand there, none where there is no such pair.
+    /// The pair whose references are there, none where there is no such pair.
     fn place_of(&self, key: &PairKey) -> Option<u64>
         ensures { MatchOption result ((n : ℕ) → slice_get (map key_of self.now.pairs) n ≡ Some (key_shown key.now) → ⊥)
             (λ n. IsOnlyAt (map key_of self.now.pairs) (key_shown key.now) n) }

@@ -102,7 +102,7 @@ pub fn prepare(alloc: Global, program: &Program, consts: &Consts) -> Result<Prep
 }
 
 impl<L: Ledger> Graph<L> {
-    /// The graph of a valid program, whose named constants these are. Each pair is tested once. After want of memory
+    /// The graph of a valid program, whose named constants these are. Each pair is tested once. If memory runs out,
     /// no more pairs were tested than there are.
     pub fn build(
         alloc: Global,
@@ -196,7 +196,7 @@ impl<L: Ledger> Graph<L> {
     }
 
     /// The dependence pane of the program; of a statement, the pane with the rows alone whose source or sink is the
-    /// statement or stands in it.
+    /// statement or is in it.
     pub fn dependence_pane(&self, alloc: Global, of: Option<u32>) -> Result<Bytes, NoMemory>
         ensures { IfOk result (λ pane. (t : ProgramTree) → self.now ≡ held_of t → Pane.IsDependencePaneOf t of pane) }
     {

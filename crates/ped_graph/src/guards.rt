@@ -8,7 +8,7 @@ use ped_base::NoMemory;
 use ped_tree::Stmt;
 use std::alloc::Global;
 
-/// For each numbered statement, in text order, whether it stands in an IF.
+/// For each numbered statement, in text order, whether it is in an IF.
 pub fn guards(alloc: Global, body: &[Stmt]) -> Result<Vec<bool>, NoMemory>
     ensures { IfOk result (λ guards. guards.items ≡ all_guards_in false (stmt_trees body.now)) }
 {
@@ -17,7 +17,7 @@ pub fn guards(alloc: Global, body: &[Stmt]) -> Result<Vec<bool>, NoMemory>
     Ok(guards)
 }
 
-/// Adds for each numbered statement whether it stands in an IF, where these statements do or not.
+/// Adds for each numbered statement whether it is in an IF, where these statements do or not.
 #[cycle(guards)]
 fn push_all(guards: &mut Vec<bool>, inside: bool, body: &[Stmt]) -> Result<(), NoMemory>
     ensures { OnOk result (guards.new.items ≡ guards.old.items ++ all_guards_in inside (stmt_trees body.now)) }

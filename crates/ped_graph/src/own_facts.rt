@@ -43,7 +43,7 @@ pub fn all_own_facts(
     own_facts_of_all(alloc, consts, &guards, found)
 }
 
-/// What is known of these references by themselves, where these statements stand in an IF.
+/// What is known of these references by themselves, where these statements are in an IF.
 fn own_facts_of_all(
     alloc: Global,
     consts: &Consts,

@@ -57,7 +57,7 @@ pub struct Known<'a, 's> {
     pub statements: &'a [&'s Stmt],
 }
 
-/// The DO that is the outermost round some references, and what it assigns.
+/// The DO that is the outermost around some references, and what it assigns.
 #[derive(Drop)]
 pub struct Round {
     /// Its statement number.
@@ -159,7 +159,7 @@ fn add_view<'a>(
     Ok(())
 }
 
-/// The view of a pair of the program's references, by their places: by their sides, where these tell it.
+/// The view of a pair of the program's references, by their places: by their sides, where these determine it.
 fn view_of_pair<'a>(
     alloc: Global,
     known: &Known,
@@ -181,7 +181,7 @@ fn view_of_pair<'a>(
     }
 }
 
-/// The view of a pair of the program's references, by their places, where their sides tell it.
+/// The view of a pair of the program's references, by their places, where their sides determine it.
 fn told_at<'a>(
     alloc: Global,
     known: &Known,
@@ -345,7 +345,7 @@ fn own_there(own: &[OwnFacts], place: usize) -> &OwnFacts
     &own[place]
 }
 
-/// Where a reference stands.
+/// Where a reference is.
 fn place_of<'a>(occurrence: &'a Occurrence<'a>) -> Place<'a>
     ensures site { site result ≡ Spec.site_of (reference_of occurrence.now) }
     ensures depth { length result.nest.now ≡ length occurrence.now.nest.items }

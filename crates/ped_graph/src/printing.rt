@@ -80,7 +80,7 @@ fn counted(count: u64, edges: &[Edge], rows: &[u8]) -> u64
     count + edges.len() as u64
 }
 
-/// The dependence pane by its rows, of which there are so many.
+/// The dependence pane by its rows, of which there are this many.
 fn pane_of_rows(alloc: Global, count: u64, rows: &Bytes) -> Result<Bytes, NoMemory>
     ensures { IfOk result (λ pane. (edges : List plain.Edge) → count ≡ length edges → rows.now ≡ rows_of edges → pane ≡ shown.edges_pane edges) }
 {

@@ -41,7 +41,7 @@ fn rejects_at(nest: &[Loop], name: &RefName, place: usize) -> bool
 }
 
 /// For each of the six levels that there may be, whether its loop rejects the variable of a pair, by the places that
-/// do so round the source, of which so many loops are common.
+/// do so around the source, of which this many loops are common.
 pub fn rejecting_levels(places: &[bool; 6], common: usize) -> [bool; 6]
     ensures { (source sink : Reference) → places.now ≡ rejecting_places source.access.name source.nest
         → common ≡ length (Nests.common_nest source.nest sink.nest) → result ≡ Held.rejecting_levels source sink }

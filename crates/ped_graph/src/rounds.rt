@@ -15,7 +15,7 @@ use ped_tree::Stmt;
 use ped_tree::names::NameSet;
 use std::alloc::Global;
 
-/// The statement number of the outermost DO round a reference, 0 where there is none.
+/// The statement number of the outermost DO around a reference, 0 where there is none.
 pub fn outermost(occurrence: &Occurrence) -> u32
     ensures { result ≡ outermost (reference_of occurrence.now) }
 {
@@ -35,7 +35,7 @@ pub fn assigned_by(alloc: Global, statements: &[&Stmt], number: u32) -> Result<N
     }
 }
 
-/// Whether the outermost DO round both references is the same.
+/// Whether the outermost DO around both references is the same.
 pub fn have_same_outermost(source: &Occurrence, sink: &Occurrence) -> bool
     ensures { IsTrue result → outermost (reference_of source.now) ≡ outermost (reference_of sink.now) }
 {

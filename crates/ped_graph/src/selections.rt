@@ -30,14 +30,14 @@ pub fn has_number(extents: &[u32], number: u32) -> bool
     number as usize - 1 < extents.len()
 }
 
-/// Keeps the dependences whose source or sink is a statement with so many statements, or stands in it.
+/// Keeps the dependences whose source or sink is a statement with this many statements, or is in it.
 pub fn keep_touching(edges: &mut Vec<Edge>, number: u32, extent: u32)
     ensures { edges.new.items ≡ filter (λ e. Held.touches number extent (edge_of e)) edges.old.items }
 {
     edges.retain(|edge| touches(edge, number, extent));
 }
 
-/// Keeps the dependences of a level with both references in the body of a DO with so many statements.
+/// Keeps the dependences of a level with both references in the body of a DO with this many statements.
 pub fn keep_carried_in(edges: &mut Vec<Edge>, number: u32, extent: u32, level: u8)
     ensures { edges.new.items ≡ filter (λ e. Held.is_carried_in number extent level (edge_of e)) edges.old.items }
 {
@@ -58,14 +58,14 @@ fn is_carried_in(edge: &Edge, number: u32, extent: u32, level: u8) -> bool
         && is_in_body(number, extent, edge.sink.0)
 }
 
-/// Whether the second statement is the first, which has so many statements, or stands in it.
+/// Whether the second statement is the first, which has this many statements, or is in it.
 pub fn is_in(number: u32, extent: u32, other: u32) -> bool
     ensures { result ≡ Pane.is_in number extent other }
 {
     number <= other && u64::from(other) < u64::from(number) + u64::from(extent)
 }
 
-/// Whether a statement stands in the body of a DO, which has so many statements.
+/// Whether a statement is in the body of a DO, which has this many statements.
 pub fn is_in_body(number: u32, extent: u32, other: u32) -> bool
     ensures { result ≡ Pane.is_in_body number extent other }
 {

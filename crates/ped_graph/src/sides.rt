@@ -22,7 +22,7 @@ use std::alloc::Global;
 /// A reference as one side of its pairs.
 #[derive(Drop)]
 pub struct Side<'a> {
-    /// The loops round it, the outermost first.
+    /// The loops around it, the outermost first.
     pub nest: &'a [Loop<'a>],
     /// The view of the reference paired with itself: all its loops are common.
     pub own: PairView,
@@ -33,7 +33,7 @@ pub struct Side<'a> {
     pub usable: bool,
 }
 
-/// The side of the reference at a place. At most six loops stand round it.
+/// The side of the reference at a place. At most six loops enclose it.
 pub fn side_at<'a>(
     alloc: Global,
     setting: &Setting,
@@ -97,7 +97,7 @@ fn is_alone(setting: &Setting, nest: &[Loop], e: &Expr) -> bool
     }
 }
 
-/// Whether a view is told to be that of the pair of these sides; where it isn't told, the view may be that of the pair
+/// Whether these sides determine that a view is that of their pair; where they don't, the view may be that of the pair
 /// all the same. It takes no memory.
 pub fn tells_view(source: &Side, sink: &Side, view: &PairView) -> bool
     ensures { IsTrue result → (s : PlainSetting) (a b : Site) → IsSide s a source.now → IsSide s b sink.now → view.now ≡ view_at s a b }
@@ -106,7 +106,7 @@ pub fn tells_view(source: &Side, sink: &Side, view: &PairView) -> bool
     is_like(common, source, sink, view)
 }
 
-/// Whether a view has the ranges and the positions of these sides, of which so many loops are common.
+/// Whether a view has the ranges and the positions of these sides, of which this many loops are common.
 fn is_like(common: usize, source: &Side, sink: &Side, view: &PairView) -> bool
     ensures { IsTrue result → IsLike common source.now sink.now view.now }
 {
@@ -192,7 +192,7 @@ fn is_told(common: usize, a: &Position, b: &Position, position: &Position) -> bo
         && is_row(common, &b.source, &position.sink)
 }
 
-/// Whether a row is that of a subscript of which all loops are common, divided behind so many of them.
+/// Whether a row is that of a subscript of which all loops are common, divided after this many of them.
 fn is_row(common: usize, own: &AffRow, row: &AffRow) -> bool
     ensures { IsTrue result → IsOwnRow common own.now row.now }
 {

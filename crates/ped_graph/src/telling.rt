@@ -7,7 +7,7 @@ ghost use Rattle.ped_graph.specs.Marks as Spec;
 use ped_verdict::is_exact;
 use ped_views::{LoopRange, PairView};
 
-/// Whether the tests of a view tell a dependence that they leave.
+/// Whether the tests of a view prove a dependence that they leave.
 pub fn is_telling(view: &PairView) -> bool
     ensures { result ≡ Spec.is_telling view.now }
 {

@@ -14,7 +14,7 @@ use ped_base::NoMemory;
 use ped_views::{AffRow, LoopRange, PairView, Position};
 use std::alloc::Global;
 
-/// The view of the pair of these sides, none where they don't tell it.
+/// The view of the pair of these sides, none where they don't determine it.
 pub fn told_view(alloc: Global, source: &Side, sink: &Side) -> Result<Option<PairView>, NoMemory>
     ensures { IfOk result (λ told. IfSome told (λ view. (s : PlainSetting) (a b : Site) → IsSide s a source.now → IsSide s b sink.now → view ≡ view_at s a b)) }
 {
@@ -29,14 +29,14 @@ pub fn told_view(alloc: Global, source: &Side, sink: &Side) -> Result<Option<Pai
     Ok(Some(view))
 }
 
-/// Whether no subscript has other variables, all are affine forms, and there are so many loops.
+/// Whether no subscript has other variables, all are affine forms, and there are this many loops.
 fn is_plain(side: &Side, common: usize) -> bool
     ensures { IsTrue result → IsPlain common side.now }
 {
     side.alone && side.usable && common <= side.own.loops.len()
 }
 
-/// The ranges and the positions of two references, of which so many loops are common, by the view of each of them
+/// The ranges and the positions of two references, of which this many loops are common, by the view of each of them
 /// paired with itself.
 fn joined(
     alloc: Global,
@@ -76,7 +76,7 @@ fn first_ranges(
     Ok(ranges[..count].to_vec(alloc)?)
 }
 
-/// The ranges behind so many.
+/// The ranges after this many.
 fn further_ranges(
     alloc: Global,
     ranges: &[LoopRange],
@@ -163,7 +163,7 @@ fn own_row(view: &PairView, place: usize) -> &AffRow
     &view.positions[place].source
 }
 
-/// A row of which all loops are common, divided behind so many of them.
+/// A row of which all loops are common, divided after this many of them.
 fn divided(alloc: Global, common: usize, row: &AffRow) -> Result<AffRow, NoMemory>
     requires { common ≤ length row.now.common }
     ensures { IfOk result (IsOwnRow common row.now) }

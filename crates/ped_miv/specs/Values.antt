@@ -25,7 +25,7 @@ AreMultiples P g = (v : ℤ) → Divides g v ↔ P v
 abbrev pub Plus : (ℤ → Type 0) → (ℤ → Type 0) → ℤ → Type 0
 Plus P Q v = (x : ℤ) × (y : ℤ) × P x × Q y × (x +ℤ y ≡ v)
 
--- v is a * i - b * j for some i and j that stand so
+-- v is a * i - b * j for some i and j so ordered
 pub record FormValue (R : ℤ → ℤ → Type 0) (a b v : ℤ) : Type 0 where
   pub i : ℤ
   pub j : ℤ
@@ -44,7 +44,7 @@ OnDiagonal lo hi i j = (lo ≤ℤ i) × (i ≤ℤ hi) × (i ≡ j)
 abbrev pub InTriangle : ℤ → ℤ → ℤ → ℤ → Type 0
 InTriangle lo hi i j = (lo ≤ℤ i) × (i <ℤ j) × (j ≤ℤ hi)
 
--- the index occurs on neither side, or i and j lie in the range and stand in the direction, or in any where there is none
+-- the index occurs on neither side, or i and j lie in the range and are in the direction, or in any where there is none
 abbrev pub InLoop : Range → Option Direction → ℤ → ℤ → ℤ → ℤ → Type 0
 InLoop r (Some d) a b i j = IsTrue (is_zero a && is_zero b) ⊎ (InRange r i × InRange r j × Stands r d i j)
 InLoop r None a b i j = IsTrue (is_zero a && is_zero b) ⊎ (InRange r i × InRange r j)
@@ -53,7 +53,7 @@ InLoop r None a b i j = IsTrue (is_zero a && is_zero b) ⊎ (InRange r i × InRa
 abbrev pub LoopValue : Range → Option Direction → ℤ → ℤ → ℤ → Type 0
 LoopValue r d a b v = FormValue (InLoop r d a b) a b v
 
--- what the common loops add, each in its direction: behind the last direction, in any
+-- what the common loops add, each in its direction: after the last direction, in any
 abbrev pub CommonValue : List Range → List Direction → List ℤ → List ℤ → ℤ → Type 0
 CommonValue (r ∷ loops) (d ∷ vector) (a ∷ source) (b ∷ sink) v = Plus (LoopValue r (Some d) a b) (CommonValue loops vector source sink) v
 CommonValue (r ∷ loops) [] (a ∷ source) (b ∷ sink) v = Plus (LoopValue r None a b) (CommonValue loops [] source sink) v

@@ -20,8 +20,8 @@ pub fn banerjee_excludes(view: &PairView, position: usize, directions: &[Directi
     is_beyond_extremes(view, &view.positions[position], directions)
 }
 
-/// Whether a vector that begins with this prefix may be possible, for all that the extremes tell: false exactly
-/// where a usable position can't be zero under the prefix, whatever directions stand behind it.
+/// Whether a vector that begins with this prefix may be possible, as far as the extremes show: false exactly
+/// where a usable position can't be zero under the prefix, whatever directions follow.
 pub fn may_refine(view: &PairView, prefix: &[Direction]) -> bool
     ensures { IsFalse result ↔ IsDeadEnd view.now prefix.now }
 {

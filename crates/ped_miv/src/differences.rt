@@ -10,7 +10,7 @@ use crate::rows::{common_coefficients, constant_difference, inner_coefficients};
 use ped_views::{Direction, Interval, LoopRange, PairView, Position};
 
 /// The least and the greatest value of the source's subscript less the sink's, over the values of the loops that
-/// occur, in these directions of the outer common loops and in any behind them. None where there are no
+/// occur, in these directions of the outer common loops and in any after them. None where there are no
 /// such values.
 pub(crate) fn difference_extremes(
     view: &PairView,

@@ -8,7 +8,7 @@ ghost use Rattle.ped_miv.specs.Values.{AreExtremes, FormValue, InSquare, OnDiago
 use ped_views::{Direction, Interval, LoopRange, product};
 
 /// The least and the greatest value of `a * i - b * j` over the values i at the source and j at the sink of
-/// one loop that stand in the direction, or in any where there is none. None where there are no such values.
+/// one loop that are in the direction, or in any where there is none. None where there are no such values.
 /// A loop whose index occurs on neither side gives 0, whatever its range is.
 pub(crate) fn loop_extremes(
     range: &LoopRange,

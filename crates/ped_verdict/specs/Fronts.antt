@@ -8,7 +8,7 @@ use Rattle.ped_views.specs.Excluded.{Excludes}
 use Rattle.ped_views.specs.Vectors.{IsPossible}
 use Rattle.ped_verdict.specs.Marked.{BeginsWith}
 
--- no common loop behind the first m occurs in the position
+-- no common loop after the first m occurs in the position
 abbrev pub is_done : ℕ → SubscriptPair → Bool
 is_done m p = list_all is_zero (drop m p.source.common) && list_all is_zero (drop m p.sink.common)
 

@@ -6,7 +6,7 @@ use Rattle.ped_views.specs.declared.directions.Direction.{Direction}
 use Rattle.ped_views.specs.declared.directions.Direction.TheVariants.{Same}
 use Rattle.ped_verdict.specs.declared.vectors.Vector.TheInside.{Inside}
 
--- the directions of a vector stand at the front
+-- the directions of a vector are at the front
 pub record IsVectorInside (a : Inside) : Type 0 where
   pub short : a.len ≤ 6
   pub long : length a.directions ≡ 6

@@ -1,4 +1,4 @@
--- What is found once of each position of a view. Contracts of private functions alone speak of it.
+-- What is found once of each position of a view. Only contracts of private functions use it.
 use Rattle.std.specs.Prelude.{◌≡◌, ℕ, ◌<◌, ◌≤◌, List, length, slice_index_or, IsTrue}
 use Rattle.ped_views.specs.declared.directions.Direction.{Direction}
 use Rattle.ped_views.specs.Views.{SubscriptPair, View}

@@ -73,7 +73,7 @@ fn leaves_open(
     !is_dead_end(view, pair, &sights[position], front.directions())
 }
 
-/// Whether the extremes at a usable position rule the front out, whatever directions stand behind it. They are asked
+/// Whether the extremes at a usable position rule the front out, whatever directions follow. They are asked
 /// where the form of the position is none of a single index.
 fn is_dead_end(view: &PairView, pair: &Position, sight: &Sight, front: &[Direction]) -> bool
     requires fits { FitsLoops
@@ -88,7 +88,7 @@ fn is_dead_end(view: &PairView, pair: &Position, sight: &Sight, front: &[Directi
     pair.usable && sight.is_other && parts_exclude(view, pair, &sight.parts, front)
 }
 
-/// Whether the last of so many common loops occurs in a position. Where there are none: whether none of all does.
+/// Whether the last of this many common loops occurs in a position. Where there are none: whether none of all does.
 fn is_asked(pair: &Position, loops: usize) -> bool
     ensures { IsFalse result → IsUnasked loops pair.now }
 {
@@ -107,7 +107,7 @@ fn occurs(pair: &Position, place: usize) -> bool
     has_some_at(&pair.source.common, place) || has_some_at(&pair.sink.common, place)
 }
 
-/// Whether no common loop behind so many occurs in a position.
+/// Whether no common loop after this many occurs in a position.
 fn is_done(pair: &Position, loops: usize) -> bool
     ensures { result ≡ Spec.is_done loops pair.now }
 {

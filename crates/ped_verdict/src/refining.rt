@@ -29,7 +29,7 @@ pub(crate) fn possible_vectors(alloc: Global, view: &PairView) -> Result<Row, No
 }
 
 /// Adds the places of the possible vectors that begin with this front. Where a position already rules the front out,
-/// whatever directions stand behind it, there is none.
+/// whatever directions follow, there is none.
 fn refine(
     view: &PairView,
     groups: &[Vec<StrongRow>],

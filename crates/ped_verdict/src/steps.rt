@@ -24,7 +24,7 @@ impl<L: Ledger> Model for Steps<L> {
 }
 
 impl<L: Ledger> Steps<L> {
-    /// A counter that stands at 0. The blank is that of the ledger `L`, so code that is generic in `L` and
+    /// A counter at 0. The blank is that of the ledger `L`, so code that is generic in `L` and
     /// was handed no blank can't make a counter.
     pub fn new(blank: Blank) -> Steps<L>
         requires name { blank.name ≡ L.name }

@@ -42,7 +42,7 @@ impl Vector {
         }
     }
 
-    /// This vector with a direction of one more loop, which stands in all the others.
+    /// This vector with a direction of one more loop, which is in all the others.
     pub(crate) fn with(self, direction: Direction) -> Vector
         requires { length self < 6 }
         ensures { result ≡ self ++ direction ∷ [] }
@@ -62,7 +62,7 @@ impl Vector {
         self.len as usize
     }
 
-    /// The directions, and `=` for each further one of so many loops.
+    /// The directions, and `=` for each further one of this many loops.
     pub(crate) fn padded(&self, loops: usize) -> &[Direction]
         requires most { length self.now ≤ loops }
         requires few { loops ≤ 6 }

@@ -1,4 +1,4 @@
--- A delta: what takes a graph from the state behind a change of the program to that before it, and forth again (this project).
+-- A delta: what takes a graph from the state after a change of the program to that before it, and forth again (this project).
 use Rattle.std.specs.Prelude.{◌≡◌, ℕ}
 use Rattle.ped_graph.specs.Held.{Held}
 use Rattle.ped_graph.specs.Parts.{HeldParts, Fit}

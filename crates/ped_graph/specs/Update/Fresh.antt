@@ -5,12 +5,12 @@ use Rattle.ped_tree.specs.Tree.{ProgramTree}
 use Rattle.ped_views.specs.SameViews.{same_view}
 use Rattle.ped_graph.specs.Held.{Pair, Held, held_of, held_pairs}
 
--- statements with their numbers before a change and behind it: no number stands twice among the former ones, and none twice among the latter (this project)
+-- statements with their numbers before a change and after it: no number occurs twice among the former ones, and none twice among the latter (this project)
 pub record IsOneToOne (keep : List (ℕ × ℕ)) : Type 0 where
   pub before : AllPairs (λ p q. p.0 ≢ q.0) keep
   pub behind : AllPairs (λ p q. p.1 ≢ q.1) keep
 
--- the statement with the first number before the change has the second one behind it (this project)
+-- the statement with the first number before the change has the second one after it (this project)
 abbrev pub keeps : List (ℕ × ℕ) → ℕ → ℕ → Bool
 keeps keep former now = list_any (λ k. k.0 == former && k.1 == now) keep
 

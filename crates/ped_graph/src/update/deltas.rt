@@ -25,7 +25,7 @@ impl<L: Ledger> Model for Delta<L> {
 }
 
 impl<L: Ledger> Delta<L> {
-    /// The step by these parts, of a change that tested so many pairs.
+    /// The step by these parts, of a change that tested this many pairs.
     pub(crate) fn new(parts: Parts<L>, tested: u64) -> Delta<L>
         ensures parts { result.parts ≡ parts }
         ensures tested { result.tested ≡ tested }

@@ -35,11 +35,11 @@ use std::sync::ledger::Ledger;
 pub struct Former<'a, L: Ledger> {
     /// The graph.
     pub graph: &'a Graph<L>,
-    /// For each statement that is kept, by its number behind the change, the number that it had before.
+    /// For each statement that is kept, by its number after the change, the number that it had before.
     pub statements: &'a IndexMap<u32, u32>,
 }
 
-/// The program behind a change.
+/// The program after a change.
 #[derive(Clone, Copy)]
 pub struct Changed<'a, 's> {
     /// What is known of it.
@@ -50,7 +50,7 @@ pub struct Changed<'a, 's> {
 
 /// What takes a graph to that of a changed program, of which this is known and whose pairs these are: a pair that comes
 /// from one of the graph with the same view keeps its verdict, and every other one is tested, once. Where the sides of a
-/// pair tell that its view is the same, it isn't made.
+/// pair show that its view is the same, it isn't made.
 pub fn matched<L: Ledger>(
     alloc: Global,
     graph: &Graph<L>,
@@ -123,7 +123,7 @@ fn match_pairs<L: Ledger>(
     Ok(())
 }
 
-/// Adds the next pair of a frame, whose references stand at these places.
+/// Adds the next pair of a frame, whose references are at these places.
 fn match_pair<L: Ledger>(
     alloc: Global,
     former: &Former<'_, L>,
@@ -184,7 +184,7 @@ fn match_view<L: Ledger>(
     add_verdict(alloc, parts, view, steps)
 }
 
-/// For each statement that is kept, by its number behind the change, the number that it had before.
+/// For each statement that is kept, by its number after the change, the number that it had before.
 fn former_statements(alloc: Global, keep: &[(u32, u32)]) -> Result<IndexMap<u32, u32>, NoMemory>
     ensures { IfOk result (λ former. (now : ℕ) → get nat_eq former now ≡ Matching.former_in keep.now now) }
 {
@@ -195,7 +195,7 @@ fn former_statements(alloc: Global, keep: &[(u32, u32)]) -> Result<IndexMap<u32,
     Ok(former)
 }
 
-/// The place of the pair of a graph from which a pair with this key comes, where the sides of its references tell that
+/// The place of the pair of a graph from which a pair with this key comes, where the sides of its references show that
 /// its view is the same.
 fn told_origin<L: Ledger>(
     former: &Former<'_, L>,
@@ -220,7 +220,7 @@ fn told_origin<L: Ledger>(
     None
 }
 
-/// Whether the sides of a pair's references tell that this is its view.
+/// Whether the sides of a pair's references show that this is its view.
 fn is_told(changed: &Changed, pair: &Pair, view: &PairView) -> bool
     requires known { IsKnown changed.now.known }
     requires sides { AreSides (program_tree changed.now.known.program.now) (references_of changed.now.known.found.now) changed.now.sides.now }
@@ -296,7 +296,7 @@ fn former_place(former: &IndexMap<u32, u32>, place: (u32, u32)) -> Option<(u32, 
     }
 }
 
-/// The place behind the pair that kept its verdict last: the next one is expected there. Most pairs keep their order.
+/// The place after the pair that kept its verdict last: the next one is expected there. Most pairs keep their order.
 fn place_behind(kept: &[Kept]) -> u64 {
     match kept.last() {
         Some(pair) => pair.here.saturating_add(1),

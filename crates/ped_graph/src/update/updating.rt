@@ -26,12 +26,12 @@ use ped_verdict::Steps;
 use std::alloc::Global;
 use std::sync::ledger::Ledger;
 
-/// Statements that a change keeps: the number of each before the change, and its number behind it.
+/// Statements that a change keeps: the number of each before the change, and its number after it.
 pub type Keep = Listed<(u32, u32)>;
 
-/// Makes the graph of the program before a change that of the valid program behind it, whose named constants these
+/// Makes the graph of the program before a change that of the valid program after it, whose named constants these
 /// are, and gives the step back. A pair of references whose statements are kept, with the same numbers in them and the
-/// same view as before, keeps its verdict; every other pair is tested, once. After want of memory the graph is as it
+/// same view as before, keeps its verdict; every other pair is tested, once. If memory runs out, the graph is as it
 /// was.
 pub fn update<L: Ledger>(
     alloc: Global,

@@ -66,6 +66,9 @@ fn answered<L: Ledger, R: Files + Print>(
         (name : List ℕ) × IsOneOf (inputs_of (request_of (map string_bytes words.now))) name
         × Rose (failures shelf.old.log.events name) (failures shelf.new.log.events name) }
 
+    // Whatever the files hold, status 4 comes only where a write has failed.
+    ensures write_fault { result ≡ Status.WriteFault → Rose out.old.faults out.new.faults }
+
     // Each read was of a file of the words, whatever came of it.
     ensures names { AddsOnly (IsOneOf (inputs_of (request_of (map string_bytes words.now))))
         (names_of shelf.old.log.events) (names_of shelf.new.log.events) }

@@ -3,12 +3,13 @@
 # what docs/GENERATED.md says of them; the figures are those that the session shows: how many statements its source pane
 # numbers, how many rows its dependence pane has, which lines it answers `ok` or refuses, what `tested` prints at the opening
 # and behind each accepted change, how many pairs a session tests that is opened on the last source, and what `run` prints
-# before the script and behind it.
+# before the script and behind it. And checks of each size from 1 to 300 that the run of its program ends, which no proof says.
 #
 #   tools/check-generated.sh [--program PROGRAM] [SIZE ..]      1 to 12, 100 and 300 where no size is given
 #
 # The program is the one that .ci/run or ./prove has proved and built from the present sources; nothing is proved or built
-# here. The last line counts the sizes. The status is 0 only where there are some and all agree.
+# here. Where sizes are given, only the programs of these are run. The last lines count the sizes. The status is 0 only where
+# there are some, all agree and all runs end.
 set -eu
 export LC_ALL=C
 top=$(cd -- "$(dirname -- "${BASH_SOURCE[0]}")/.." && pwd)
@@ -30,7 +31,12 @@ fi
 if ! [ -f "$program" ] || ! [ -x "$program" ]; then
     stop 'the proved program is not built; .ci/run or ./prove builds it'
 fi
-[ $# -gt 0 ] || set -- 1 2 3 4 5 6 7 8 9 10 11 12 100 300
+if [ $# -gt 0 ]; then
+    run_sizes=("$@")
+else
+    set -- 1 2 3 4 5 6 7 8 9 10 11 12 100 300
+    mapfile -t run_sizes < <(seq 1 300)
+fi
 
 work=$(mktemp -d)
 trap 'rm -rf -- "$work"' EXIT
@@ -121,5 +127,18 @@ for size in "$@"; do
         failed=$((failed + 1))
     fi
 done
+
+printf 'run\n' >run
+ended=0
+for size in "${run_sizes[@]}"; do
+    made "$size" >program.f
+    answer=$("$program" session program.f run || true)
+    if [ "${answer%%$'\n'*}" = ended ]; then
+        ended=$((ended + 1))
+    else
+        printf 'generated: the run of the program of size %s does not end: %s\n' "$size" "${answer%%$'\n'*}"
+    fi
+done
 printf 'generated: %d of %d sizes agree\n' $((count - failed)) "$count"
-[ "$count" -gt 0 ] && [ "$failed" -eq 0 ]
+printf 'generated: %d of %d runs end\n' "$ended" "${#run_sizes[@]}"
+[ "$count" -gt 0 ] && [ "$failed" -eq 0 ] && [ "$ended" -eq "${#run_sizes[@]}" ]

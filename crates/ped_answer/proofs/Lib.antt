@@ -1,4 +1,5 @@
 mod AmongCauses
+mod BareTexts
 mod Counting
 mod CoveredPanes
 mod EachItems
@@ -19,10 +20,10 @@ mod ReadNames
 mod Reports
 mod SameEnds
 mod ScriptRuns
+mod SerialPrograms
 mod SourceMoves
 mod Tallying
 mod ToldAuto
 mod ToldCauses
-mod Uncommented
 mod UnitsShown
 mod WholeAnswers

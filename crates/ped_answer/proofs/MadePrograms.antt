@@ -1,4 +1,4 @@
--- No comment stands in a program that is made.
+-- In a program that is made stands no comment, no PARALLEL DO and no C$PED REJECT line.
 use Rattle.std.proofs.Common.{◌≡◌, refl, sym, subst, ℕ, ◌%◌, ◌==◌, Bool, true, false, List, [], ◌∷◌, ◌++◌, codes}
 use Rattle.std.specs.Prelude.{◌&&◌, if◌then◌else◌}
 use Rattle.std.specs.List.{AllByRecursion, list_all, flat_map, range_with_len}
@@ -6,63 +6,63 @@ use Rattle.std.specs.Str.Lines.{lines}
 use Rattle.std.specs.Fmt.{decimal}
 use Rattle.ped_gen.specs.Generated.{nest, assignment, front, later_nest, program}
 use Rattle.ped_session.specs.ped_tree.specs.Tree.{ProgramTree}
-use Rattle.ped_session.specs.ped_tree.specs.Grammar.Characters.{is_printable}
-use Rattle.ped_session.specs.ped_tree.specs.Grammar.Columns.{is_comment}
+use Rattle.ped_session.specs.ped_tree.specs.Grammar.Characters.{is_printable, is_quoted, kept}
+use Rattle.ped_session.specs.ped_tree.specs.Grammar.Columns.{is_comment, statement_columns}
 use Rattle.ped_session.specs.ped_tree.specs.Grammar.Reading.{Reads}
 use Rattle.ped_session.specs.ped_valid.specs.ped_parse.specs.ped_lines.proofs.PrintedLaws.Lines.{IsLine, printable_line, lines_written}
 use Rattle.ped_answer.proofs.MadeScripts.{decimal_printable}
-use Rattle.ped_answer.proofs.Uncommented.{AreBare, IsUncommented, joined, uncommented}
+use Rattle.ped_answer.proofs.BareTexts.{AreBare, IsBareLine, joined, bare_program}
 
 -- a line that is made
 record IsPlain (l : List ℕ) : Type 0 where
   whole : IsLine l
-  plain : IsUncommented l
+  plain : IsBareLine l
 
 abbrev ArePlain : List (List ℕ) → Type 0
 ArePlain = AllByRecursion IsPlain
 
--- no comment begins so
+-- no comment begins so, and no statement that begins with P
 
-outer_do : (bounds : List ℕ) → IsUncommented (codes "      DO I = " ++ bounds)
-unfolding is_comment
-outer_do bounds = refl
+outer_do : (bounds : List ℕ) → IsBareLine (codes "      DO I = " ++ bounds)
+unfolding is_comment statement_columns is_quoted kept
+outer_do bounds = record { uncommented = refl; no_p = λ more. refl }
 
-inner_do : (bounds : List ℕ) → IsUncommented (codes "        DO J = " ++ bounds)
-unfolding is_comment
-inner_do bounds = refl
+inner_do : (bounds : List ℕ) → IsBareLine (codes "        DO J = " ++ bounds)
+unfolding is_comment statement_columns is_quoted kept
+inner_do bounds = record { uncommented = refl; no_p = λ more. refl }
 
-inner_end : IsUncommented (codes "        END DO")
-unfolding is_comment
-inner_end = refl
+inner_end : IsBareLine (codes "        END DO")
+unfolding is_comment statement_columns is_quoted kept
+inner_end = record { uncommented = refl; no_p = λ more. refl }
 
-outer_end : IsUncommented (codes "      END DO")
-unfolding is_comment
-outer_end = refl
+outer_end : IsBareLine (codes "      END DO")
+unfolding is_comment statement_columns is_quoted kept
+outer_end = record { uncommented = refl; no_p = λ more. refl }
 
-program_end : IsUncommented (codes "      END")
-unfolding is_comment
-program_end = refl
+program_end : IsBareLine (codes "      END")
+unfolding is_comment statement_columns is_quoted kept
+program_end = record { uncommented = refl; no_p = λ more. refl }
 
-of_arrays : IsUncommented (codes "      INTEGER A(10,10), B(10,10)")
-unfolding is_comment
-of_arrays = refl
+of_arrays : IsBareLine (codes "      INTEGER A(10,10), B(10,10)")
+unfolding is_comment statement_columns is_quoted kept
+of_arrays = record { uncommented = refl; no_p = λ more. refl }
 
-of_save : IsUncommented (codes "      SAVE A, B")
-unfolding is_comment
-of_save = refl
+of_save : IsBareLine (codes "      SAVE A, B")
+unfolding is_comment statement_columns is_quoted kept
+of_save = record { uncommented = refl; no_p = λ more. refl }
 
-to_a : (rest : List ℕ) → IsUncommented (codes "          A(I,J) = " ++ rest)
-unfolding is_comment
-to_a rest = refl
+to_a : (rest : List ℕ) → IsBareLine (codes "          A(I,J) = " ++ rest)
+unfolding is_comment statement_columns is_quoted kept
+to_a rest = record { uncommented = refl; no_p = λ more. refl }
 
-to_b : (rest : List ℕ) → IsUncommented (codes "          B(I,J) = " ++ rest)
-unfolding is_comment
-to_b rest = refl
+to_b : (rest : List ℕ) → IsBareLine (codes "          B(I,J) = " ++ rest)
+unfolding is_comment statement_columns is_quoted kept
+to_b rest = record { uncommented = refl; no_p = λ more. refl }
 
 -- the assignment of a nest
 record IsAssignment (text : List ℕ) : Type 0 where
   printable : list_all is_printable text ≡ true
-  plain : IsUncommented (codes "          " ++ text)
+  plain : IsBareLine (codes "          " ++ text)
 
 printable_both : (xs ys : List ℕ) → list_all is_printable xs ≡ true → list_all is_printable ys ≡ true → list_all is_printable (xs ++ ys) ≡ true
 printable_both [] ys p q = q
@@ -126,7 +126,7 @@ each_line : (ls : List (List ℕ)) → ArePlain ls → AllByRecursion IsLine ls
 each_line [] all = tt
 each_line (l ∷ ls) all = (all.0.whole, each_line ls all.1)
 
-each_plain : (ls : List (List ℕ)) → ArePlain ls → AllByRecursion IsUncommented ls
+each_plain : (ls : List (List ℕ)) → ArePlain ls → AllByRecursion IsBareLine ls
 each_plain [] all = tt
 each_plain (l ∷ ls) all = (all.0.plain, each_plain ls all.1)
 
@@ -134,7 +134,7 @@ program_lines : (n : ℕ) → lines (program n) ≡ made n
 unfolding program
 program_lines n = lines_written (made n) (each_line (made n) (made_lines n))
 
--- no comment stands in a program that is made
-pub no_comment : (n : ℕ) (t : ProgramTree) → Reads (program n) t → AreBare t.body
-no_comment n t reads =
-    uncommented (program n) t (subst (AllByRecursion IsUncommented) (sym (program_lines n)) (each_plain (made n) (made_lines n))) reads
+-- a program that is made is bare
+pub is_bare : (n : ℕ) (t : ProgramTree) → Reads (program n) t → AreBare t.body
+is_bare n t reads =
+    bare_program (program n) t (subst (AllByRecursion IsBareLine) (sym (program_lines n)) (each_plain (made n) (made_lines n))) reads

@@ -1,4 +1,4 @@
--- Where a program that is made may be trusted and runs without a race, the report on it says that the last program runs alike.
+-- Where the run of a program that is made ends, the report on it says that the last program runs alike.
 use Rattle.std.proofs.Common.{◌≡◌, refl, sym, ap, ◌∙◌, subst, inl, inr, ℕ, ◌+◌, List, [], ◌∷◌, length, Option, Some, None, codes}
 use Rattle.std.specs.Prelude.{◌↔◌}
 use Rattle.std.specs.List.{AllByRecursion}
@@ -48,6 +48,14 @@ OutcomesAgree = (s : State) (earlier : List ℕ) (t u : ProgramTree) (data_bytes
 abbrev pub MadeRunsAsItIs : Type 0
 MadeRunsAsItIs = (n : ℕ) (t : ProgramTree) (choices data_bytes : List ℕ) (o : Outcome) → ReadsValid (made_text n) t → IsLoweredRun choices data_bytes t o ↔ IsInterleaved t data_bytes choices o
 
+-- and it may be trusted
+abbrev pub MadeIsTrusted : Type 0
+MadeIsTrusted = (n : ℕ) (t : ProgramTree) → ReadsValid (made_text n) t → IsTrusted t
+
+-- and each run of it that ends is without a race
+abbrev pub MadeIsRaceFree : Type 0
+MadeIsRaceFree = (n : ℕ) (t : ProgramTree) (data_bytes : List ℕ) → ReadsValid (made_text n) t → Ends (run_of t data_bytes).ending → IsRaceFree t data_bytes
+
 -- without choices a program runs in order
 abbrev pub RunsInOrder : Type 0
 RunsInOrder = (t : ProgramTree) (data_bytes : List ℕ) (o : Outcome) → IsInterleaved t data_bytes [] o → o ≡ outcome t data_bytes
@@ -58,6 +66,8 @@ pub record Laws : Type 0 where
   pub keep : StepsKeep
   pub agree : OutcomesAgree
   pub as_it_is : MadeRunsAsItIs
+  pub trusted : MadeIsTrusted
+  pub race_free : MadeIsRaceFree
   pub in_order : RunsInOrder
 
 -- the present source comes from this one by transformations alone, and each in the history keeps the meaning
@@ -106,16 +116,16 @@ word_alike : (a b : Outcome) (word : List ℕ) → EndAlike a b → IsWordOn a b
 word_alike a b word same (alike h e) = e
 word_alike a b word same (unlike h e) = absurd (h same)
 
-report_alike : Laws → (n : ℕ) (t : ProgramTree) (bytes : List ℕ) → ReadsValid (made_text n) t → IsTrusted t → IsRaceFree t [] → (r : Reports n t bytes) → r.word ≡ codes "equal"
-report_alike laws n t bytes reads trusted free r =
+report_alike : Laws → (n : ℕ) (t : ProgramTree) (bytes : List ℕ) → ReadsValid (made_text n) t → Ends (run_of t []).ending → (r : Reports n t bytes) → r.word ≡ codes "equal"
+report_alike laws n t bytes reads ends r =
     let k = items_keep laws (program_text t) (commands_of (script n)) (made_script n) (opened t) r.behind r.tally r.applies (record { kept = laws.begins t; comes = refl }) in
-    let last = laws.agree r.behind (program_text t) t r.last [] [] r.ended k.kept k.comes (reads_as (program_text t) t reads.valid refl) r.reads trusted free r.runs_last in
+    let last = laws.agree r.behind (program_text t) t r.last [] [] r.ended k.kept k.comes (reads_as (program_text t) t reads.valid refl) r.reads (laws.trusted n t reads) (laws.race_free n t [] reads ends) r.runs_last in
     let first = laws.in_order t [] r.began ((laws.as_it_is n t [] [] r.began reads).0 r.runs_first) in
-    word_alike r.began r.ended r.word (ends_alike t (run_of t []).ending r.began r.ended free.0 first last) r.word_on
+    word_alike r.began r.ended r.word (ends_alike t (run_of t []).ending r.began r.ended ends first last) r.word_on
 
 -- so it is of what is answered to a size
 pub generated_alike : Laws → (n : ℕ) (s : Status) (bytes : List ℕ) → IsWhole s → IsGenerated n s bytes → ReportsAlike n bytes
-generated_alike laws n Done bytes whole h = λ t reads trusted free.
+generated_alike laws n Done bytes whole h = λ t reads ends.
     let r = subst (λ (u : ProgramTree). Reports n u bytes) (one_tree (made_text n) h.0 t h.1 reads) h.2 in
     let f : Figures = record {
       statements = statements_count r.last.body;
@@ -125,7 +135,7 @@ generated_alike laws n Done bytes whole h = λ t reads trusted free.
       tested = pair_count (references t) + r.tally.tests;
       edges = length r.edges;
     } in
-    (f, r.says ∙ ap (report n f) (report_alike laws n t bytes reads trusted free r))
+    (f, r.says ∙ ap (report n f) (report_alike laws n t bytes reads ends r))
 generated_alike laws n SomeRefused bytes whole h = absurd h
 generated_alike laws n BadWords bytes whole h = absurd whole
 generated_alike laws n ReadFault bytes whole h = absurd whole

@@ -76,7 +76,7 @@ IsShown text WriteFault bytes = ⊥
 IsShown text NoMemory bytes = ⊥
 IsShown text TooLong bytes = ⊥
 
--- these bytes are what a script answers on the program that a file's program units expand to, and this tells whether a line was refused
+-- these bytes are what a script answers on the program that a file's program units expand to, and this says whether a line was refused
 pub record AnswersScript (text script data_bytes : List ℕ) (refused : Bool) (bytes : List ℕ) : Type 0 where
   pub tree : ProgramTree
   pub expands : IsExpansion text tree
@@ -86,7 +86,7 @@ pub record AnswersScript (text script data_bytes : List ℕ) (refused : Bool) (b
   pub says : bytes ≡ said.bytes
   pub some : refused ≡ said.refused
 
--- what a session answers: what its script does on the printed text of the program that the file's program units expand to, where a refused line is told by the status; or the first refusal of the file's text
+-- what a session answers: what its script does on the printed text of the program that the file's program units expand to, where the status says that a line was refused; or the first refusal of the file's text
 abbrev pub IsSession : List ℕ → List ℕ → List ℕ → Status → List ℕ → Type 0
 IsSession text script data_bytes Done bytes = AnswersScript text script data_bytes false bytes
 IsSession text script data_bytes SomeRefused bytes = AnswersScript text script data_bytes true bytes
@@ -199,7 +199,7 @@ IsOutcome answers sink_failed sent TooLong = answers TooLong sent
 IsOutcome answers sink_failed sent WriteFault = sink_failed × IsFrontOfAnswer answers sent
 IsOutcome answers sink_failed sent NoMemory = IsFrontOfAnswer answers sent
 
--- what was sent behind the bytes before, and how the call ended
+-- what was sent after the bytes before, and how the call ended
 abbrev pub Sends : (Status → List ℕ → Type 0) → Type 0 → List ℕ → List ℕ → Status → Type 0
 Sends answers sink_failed before after status = (bytes : List ℕ) × (after ≡ before ++ bytes) × IsOutcome answers sink_failed bytes status
 

@@ -42,7 +42,7 @@ pub data IsByLoop (t : ProgramTree) (a : Access) : Type 0 where
 abbrev pub IsSoOrByLoop : Type 0 → ProgramTree → Access → Access → Type 0
 IsSoOrByLoop So t a b = So ⊎ IsByLoop t a ⊎ IsByLoop t b
 
--- in the run in order of a program on these data one access comes before another, and they conflict in one execution of a DO round both, whatever makes them (Allen and Kennedy, section 2.2.1)
+-- in the run in order of a program on these data one access comes before another, and they conflict in one execution of a DO around both, whatever makes them (Allen and Kennedy, section 2.2.1)
 pub record MeetInRun (t : ProgramTree) (data_bytes : List ℕ) (a b : Access) : Type 0 where
   pub come : ComeInRun t data_bytes a b
   pub conflicts : conflict a b ≡ true
@@ -61,7 +61,7 @@ pub record RaceInRun (t : ProgramTree) (data_bytes : List ℕ) (a b : Access) : 
   pub come : ComeInRun t data_bytes a b
   pub races : race a b ≡ true
 
--- in the run on whatever data a dependence occurs, in each of its directions: where the run has left the outermost DO round its references, and so where it ends by END; but for a variable of which the iterations of a PARALLEL DO have copies (Allen and Kennedy, section 2.2.1; ParaScope; this project)
+-- in the run on whatever data a dependence occurs, in each of its directions: where the run has left the outermost DO around its references, and so where it ends by END; but for a variable of which the iterations of a PARALLEL DO have copies (Allen and Kennedy, section 2.2.1; ParaScope; this project)
 pub record OccursOnceLeft (t : ProgramTree) (e : Edge) : Type 0 where
   pub left : (data_bytes : List ℕ) (vector : List Direction) → IsIn vector e.vectors → IsUncopied t e → ((r : Reference) → IsIn r (references t) → place_of r ≡ e.source → IsLeft t data_bytes (outermost r)) → Occurs t data_bytes e vector
   pub ended : (data_bytes : List ℕ) (vector : List Direction) (s : Store) → IsIn vector e.vectors → IsUncopied t e → (run_of t data_bytes).ending ≡ going s → Occurs t data_bytes e vector
@@ -81,7 +81,7 @@ IsCoveringPane t pane = (edges : List Edge) × AreEdges t edges × (pane ≡ edg
 abbrev pub AreCoveringPanes : ProgramTree → List ℕ → Type 0
 AreCoveringPanes t bytes = (pane : List ℕ) × IsCoveringPane t pane × (bytes ≡ source_pane t ++ pane)
 
--- one of the accesses is made in the statement with this number, or in one that stands in it (this project)
+-- one of the accesses is made in the statement with this number, or in one that is in it (this project)
 abbrev pub touches : ProgramTree → ℕ → Access → Access → Bool
 touches t number a b = is_in number (extent_of t number) a.place.statement || is_in number (extent_of t number) b.place.statement
 
@@ -96,7 +96,7 @@ pub record CoverRunsAt (t : ProgramTree) (number : ℕ) (edges : List Edge) : Ty
 abbrev pub IsCoveringPaneOf : ℕ → ProgramTree → List ℕ → Type 0
 IsCoveringPaneOf number t pane = (edges : List Edge) × AreEdges t edges × (pane ≡ edges_pane (edges_of t number edges)) × CoverRunsAt t number (edges_of t number edges)
 
--- a row covers two accesses: it goes from the block or statement of the earlier one to that of the later one, and has the level of the loop in whose iterations they stand apart first (Allen and Kennedy, sections 2.2.1, 2.2.5; ParaScope)
+-- a row covers two accesses: it goes from the block or statement of the earlier one to that of the later one, and has the level of the loop in whose iterations they first differ (Allen and Kennedy, sections 2.2.1, 2.2.5; ParaScope)
 abbrev pub HasRow : ProgramTree → List Edge → List Row → Access → Access → Type 0
 HasRow t edges rows a b = (c : IsCoveredFolded t edges a b) × IsIn (row_of (blocks t) c.covered.edge) rows
 
@@ -105,6 +105,6 @@ pub record CoverCalls (t : ProgramTree) (edges : List Edge) (rows : List Row) : 
   pub conflicts : (data_bytes : List ℕ) (a b : Access) → ConflictInRun t data_bytes a b → (is_in_block t a || is_in_block t b) ≡ true → (¬ AreInOneCall t a b) → HasRow t edges rows a b
   pub all : (data_bytes : List ℕ) (a b : Access) → MeetInRun t data_bytes a b → (is_in_block t a || is_in_block t b) ≡ true → (¬ AreInOneCall t a b) → IsSoOrByLoop (HasRow t edges rows a b) t a b
 
--- the pane of calls has a row for each folded dependence, and these cover each conflict in the run in order of what is done in a marked block with what is done outside of this execution of it, in one execution of a DO round both, but for what a DO does itself (ParaScope)
+-- the pane of calls has a row for each folded dependence, and these cover each conflict in the run in order of what is done in a marked block with what is done outside of this execution of it, in one execution of a DO around both, but for what a DO does itself (ParaScope)
 abbrev pub IsCoveringCalls : ProgramTree → List ℕ → Type 0
 IsCoveringCalls t pane = (edges : List Edge) × AreEdges t edges × (rows : List Row) × AreRows (blocks t) edges rows × (pane ≡ calls_pane (calls t) rows) × CoverCalls t edges rows

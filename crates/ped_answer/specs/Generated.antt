@@ -34,7 +34,7 @@ pub record Tally : Type 0 where
 abbrev pub no_tally : Tally
 no_tally = record { accepted = 0; refused = 0; tests = 0 }
 
--- of some lines, and of more behind them
+-- of some lines, and of more after them
 abbrev pub tally_both : Tally → Tally → Tally
 tally_both first rest = record { accepted = first.accepted + rest.accepted; refused = first.refused + rest.refused; tests = first.tests + rest.tests }
 
@@ -58,12 +58,12 @@ tally_of reply next = record { accepted = accepted_by reply; refused = refused_b
 abbrev pub bad_command_tally : Tally
 bad_command_tally = record { accepted = 0; refused = 1; tests = 0 }
 
--- what a line of a script comes to, and the state behind it; programs have no data
+-- what a line of a script comes to, and the state after it; programs have no data
 abbrev pub AppliesCommand : Option Command → State → Tally → State → Type 0
 AppliesCommand None s tally next = (tally ≡ bad_command_tally) × (next ≡ s)
 AppliesCommand (Some command) s tally next = (reply : Reply) × IsStep command [] s reply next × (tally ≡ tally_of reply next)
 
--- what the items of a script come to one behind another, each in the state that the one before has left
+-- what the items of a script come to one after another, each in the state that the one before has left
 abbrev pub Applies : List Item → State → Tally → State → Type 0
 Applies [] s tally last = (tally ≡ no_tally) × (last ≡ s)
 Applies (item ∷ items) s tally last =

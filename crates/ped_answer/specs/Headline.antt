@@ -8,7 +8,7 @@ use Rattle.ped_session.specs.ped_tree.specs.Tree.{ProgramTree}
 use Rattle.ped_session.specs.ped_tree.specs.Printing.{program_text}
 use Rattle.ped_session.specs.ped_tree.specs.Numbering.{statement_with}
 use Rattle.ped_session.specs.ped_valid.specs.Validity.{ReadsValid}
-use Rattle.ped_session.specs.ped_order.specs.ped_eval.specs.Outcomes.{Ends, Outcome, Fault, outcome, IsRaceFree}
+use Rattle.ped_session.specs.ped_order.specs.ped_eval.specs.Outcomes.{Ends, Outcome, Fault, run_of, outcome, IsRaceFree}
 use Rattle.ped_session.specs.ped_order.specs.ped_eval.specs.Runs.{failed}
 use Rattle.ped_call_runs.specs.ped_calls.specs.ped_units.specs.Units.{ProgramUnits}
 use Rattle.ped_call_runs.specs.ped_calls.specs.ped_units.specs.Verdicts.{IsExpansion}
@@ -51,11 +51,11 @@ use Rattle.ped_answer.specs.Generated.{Figures, report}
 use Rattle.ped_answer.specs.Covered.{IsCoveringPane, AreCoveringPanes, IsCoveringPaneOf, IsCoveringCalls}
 use Rattle.ped_answer.specs.StepCauses.{Forbids}
 
--- what may be so of an item of a script: of its line, its command, the data of the session, the state before it, what it says, and the state behind it (this project)
+-- what may be so of an item of a script: of its line, its command, the data of the session, the state before it, what it says, and the state after it (this project)
 abbrev pub ItemFact : Type 1
 ItemFact = ℕ → Option Command → List ℕ → State → Said → State → Type 0
 
--- items answer one behind another, each in the state that the one before has left, and this is so of each of them (this project)
+-- items answer one after another, each in the state that the one before has left, and this is so of each of them (this project)
 abbrev pub AnswersEach : ItemFact → List Item → List ℕ → State → Said → State → Type 0
 AnswersEach IsSo [] data_bytes s said last = (said ≡ nothing_said) × (last ≡ s)
 AnswersEach IsSo (item ∷ items) data_bytes s said last =
@@ -95,7 +95,7 @@ pub record Afresh (IsSo : ProgramTree → List ℕ → Type 0) (text bytes : Lis
 abbrev pub IsOfStatement : (ProgramTree → List ℕ → Type 0) → (line number : ℕ) → ProgramTree → List ℕ → Type 0
 IsOfStatement IsSo line number t bytes = MatchOption (statement_with number t) (bytes ≡ answer_row line (codes "refused NoSuchStatement")) (λ statement. IsSo t bytes)
 
--- `source`, `deps`, `deps S` and `show` show the panes that come of reading the present source afresh, whatever was done before; `print` shows that source, and `advise S` the first causes against the steps in it (ParaScope)
+-- `source`, `deps`, `deps S`, `show` and `calls` show the panes that come of reading the present source afresh, whatever was done before; `print` shows that source, and `advise S` the first causes against the steps in it (ParaScope)
 abbrev pub ShowsAfresh : ℕ → Option Command → List ℕ → State → Said → State → Type 0
 ShowsAfresh line (Some Source) data_bytes s said next = Afresh IsSourcePane s.present said.bytes
 ShowsAfresh line (Some (Deps None)) data_bytes s said next = Afresh IsDependencePane s.present said.bytes
@@ -136,21 +136,21 @@ text_of other = other.0
 abbrev pub sources_of : State → Sources
 sources_of s = record { all = reverse (map text_of s.past) ++ s.present ∷ map text_of s.future; place = length s.past }
 
--- the present source stands at its place; it does so in each state, and by it the source that a change puts behind is the new present one
+-- the present source is at its place; it does so in each state, and by it the source that a change adds is the new present one
 abbrev pub StandsAtPlace : State → Type 0
 StandsAtPlace s = slice_get (sources_of s).all (sources_of s).place ≡ Some s.present
 
--- `undo`: no source stands before the present one, and it is refused; or the one before it becomes the present one. No source is lost or changed (ParaScope)
+-- `undo`: there is no source before the present one, and it is refused; or the one before it becomes the present one. No source is lost or changed (ParaScope)
 pub data GoesOneBack (reply : Reply) (before behind : Sources) : Type 0 where
   nothing_before : before.place ≡ 0 → reply ≡ Refused NothingToUndo → behind ≡ before → GoesOneBack reply before behind
   one_before : (place : ℕ) → before.place ≡ suc place → reply ≡ Changed → behind ≡ record { all = before.all; place = place } → GoesOneBack reply before behind
 
--- `redo`: no source stands behind the present one, and it is refused; or the one behind it becomes the present one. No source is lost or changed (ParaScope)
+-- `redo`: there is no source after the present one, and it is refused; or the one after it becomes the present one. No source is lost or changed (ParaScope)
 pub data GoesOneForward (reply : Reply) (before behind : Sources) : Type 0 where
   nothing_behind : length before.all ≡ suc before.place → reply ≡ Refused NothingToRedo → behind ≡ before → GoesOneForward reply before behind
   one_behind : suc before.place < length before.all → reply ≡ Changed → behind ≡ record { all = before.all; place = suc before.place } → GoesOneForward reply before behind
 
--- a new source comes behind the present one, in the place of all that stood there, and is the present one (ParaScope)
+-- a new source comes after the present one, in place of all that was there, and is the present one (ParaScope)
 abbrev pub PutsBehind : Sources → Sources → Type 0
 PutsBehind before behind = (source : List ℕ) × (behind ≡ record { all = take (suc before.place) before.all ++ source ∷ []; place = suc before.place })
 
@@ -167,7 +167,7 @@ IsShowing Races = ⊤
 IsShowing Tested = ⊤
 IsShowing command = ⊥
 
--- what a command does to the sources: `undo` and `redo` move along them; a command that only shows something leaves all as they are; any other one that is accepted is a change and puts a source behind the present one; and one that is refused leaves all as they are (ParaScope)
+-- what a command does to the sources: `undo` and `redo` move along them; a command that only shows something leaves all as they are; any other one that is accepted is a change and puts a source after the present one; and one that is refused leaves all as they are (ParaScope)
 pub data Moves (command : Command) (reply : Reply) (before behind : Sources) : Type 0 where
   by_undo : command ≡ Undo → GoesOneBack reply before behind → Moves command reply before behind
   by_redo : command ≡ Redo → GoesOneForward reply before behind → Moves command reply before behind
@@ -175,12 +175,12 @@ pub data Moves (command : Command) (reply : Reply) (before behind : Sources) : T
   by_change : ¬ (IsMove command) → ¬ (IsShowing command) → reply ≡ Changed → PutsBehind before behind → Moves command reply before behind
   by_refusal : ¬ (IsMove command) → (why : Refusal) → reply ≡ Refused why → behind ≡ before → Moves command reply before behind
 
--- so many sources come behind the present one, each in its turn
+-- this many sources come after the present one, each in its turn
 abbrev pub PutsAllBehind : ℕ → Sources → Sources → Type 0
 PutsAllBehind zero before behind = behind ≡ before
 PutsAllBehind (suc n) before behind = (mid : Sources) × PutsBehind before mid × PutsAllBehind n mid behind
 
--- `auto` says first how many steps were accepted, and each of them was a change and put a source behind the present one (ParaScope; this project)
+-- `auto` says first how many steps were accepted, and each of them was a change and put a source after the present one (ParaScope; this project)
 pub record MovesByAuto (line : ℕ) (before : Sources) (bytes : List ℕ) (behind : Sources) : Type 0 where
   pub count : ℕ
   pub puts : PutsAllBehind count before behind
@@ -194,7 +194,7 @@ MovesBy line (Some command) before bytes behind =
     ((reply : Reply) × (bytes ≡ reply_text line reply) × Moves command reply before behind)
     ⊎ ((command ≡ Auto) × MovesByAuto line before bytes behind)
 
--- the sources before an item and behind it (ParaScope)
+-- the sources before an item and after it (ParaScope)
 pub record KeepsHistory (line : ℕ) (command : Option Command) (data_bytes : List ℕ) (s : State) (said : Said) (next : State) : Type 0 where
   pub here : StandsAtPlace s
   pub there : StandsAtPlace next
@@ -215,7 +215,7 @@ AgreesOnAllRuns s =
     (earlier : List ℕ) (t u : ProgramTree) (data_bytes choices : List ℕ) (o : Outcome) → ComesFrom s.present s.past earlier → ReadsValid earlier t → ReadsValid s.present u
     → IsTrusted t → IsRaceFree t data_bytes → IsLoweredRun choices data_bytes u o → o ≡ outcome t data_bytes
 
--- before an item and behind it, each transformation of the history keeps the meaning of a program that is tidy and without C$PED REJECT, and leaves it so; and a `run`, whatever choices it has, shows what the programs show from which the present one has come by transformations alone, where these are tidy and without C$PED REJECT and run on the data without a fault and without a race; sums of lists that are live may be done in any order. A program is tidy where no reference in a PARALLEL DO writes the variable of it or of a DO in it, and each path from that PARALLEL DO's exit to the end overwrites such a variable that is saved (ParaScope; this project)
+-- before an item and after it, each transformation of the history keeps the meaning of a program that is tidy and without C$PED REJECT, and leaves it so; and a `run`, whatever choices it has, shows what the programs show from which the present one has come by transformations alone, where these are tidy and without C$PED REJECT and run on the data without a fault and without a race; sums of lists that are live may be done in any order. A program is tidy where no reference in a PARALLEL DO writes the variable of it or of a DO in it, and each path from that PARALLEL DO's exit to the end overwrites such a variable that is saved (ParaScope; this project)
 pub record KeepsMeaning (line : ℕ) (command : Option Command) (data_bytes : List ℕ) (s : State) (said : Said) (next : State) : Type 0 where
   pub here : IsMeaningKept s
   pub there : IsMeaningKept next
@@ -223,10 +223,10 @@ pub record KeepsMeaning (line : ℕ) (command : Option Command) (data_bytes : Li
   pub all_here : AgreesOnAllRuns s
   pub all_there : AgreesOnAllRuns next
 
--- where the program that is made is tidy and without C$PED REJECT, and runs to its end without a race, the report says that the program behind the script's steps ends alike (this project)
+-- where the run of the program that is made ends, the report says that the program after the script's steps ends alike (this project)
 abbrev pub ReportsAlike : ℕ → List ℕ → Type 0
 ReportsAlike number bytes =
-    (t : ProgramTree) → ReadsValid (made.program number) t → IsTrusted t → IsRaceFree t [] → (f : Figures) × (bytes ≡ report number f (codes "equal"))
+    (t : ProgramTree) → ReadsValid (made.program number) t → Ends (run_of t []).ending → (f : Figures) × (bytes ≡ report number f (codes "equal"))
 
 -- the runs in a session's answer, and in a report
 abbrev pub RunsRequest : Option Request → Contents → List ℕ → Type 0
@@ -273,7 +273,7 @@ pub data TellsOfStep (command : Command) (at : StepAt) (line : ℕ) (t : Program
   forbidden : is_some (statement_with at.statement t) ≡ true → (c : Cause) → Forbids command t c → at.IsCause t (Some c) → bytes ≡ answer_row line (codes "refused " ++ cause_words c) → next ≡ s → TellsOfStep command at line t s bytes next
   accepted : is_some (statement_with at.statement t) ≡ true → ((c : Cause) → Forbids command t c → ⊥) → bytes ≡ answer_row line (codes "ok") → TellsOfStep command at line t s bytes next
 
--- a transformation or `reject` at a statement that is there is refused by its first cause in the present program, and accepted where it has none; where it isn't there, that is told (ParaScope)
+-- a transformation or `reject` at a statement that is there is refused by its first cause in the present program, and accepted where it has none; where it isn't there, that is reported (ParaScope)
 abbrev pub TellsCause : ℕ → Option Command → List ℕ → State → Said → State → Type 0
 TellsCause line None data_bytes s said next = ⊤
 TellsCause line (Some command) data_bytes s said next = MatchStep (step_of command) ⊤ (λ at. (t : ProgramTree) × ReadsValid s.present t × TellsOfStep command at line t s said.bytes next)
@@ -296,7 +296,7 @@ pub record AreLeft (t : ProgramTree) (left : List (ℕ × Cause)) : Type 0 where
 abbrev pub IsTransformation : Command → Type 0
 IsTransformation command = MatchStep (step_of command) ⊥ (λ at. at.kind ≡ transformation)
 
--- `auto` tells accepted steps, which lead one behind another from the state before it to the one behind it, and which a script of the told lines is read as, and all of which are transformations; then the DOs that aren't PARALLEL DOs in its program, each with its first cause; and the source, which has come from the former one by transformations alone (ParaScope; this project)
+-- `auto` lists accepted steps, which lead one after another from the state before it to the one after it, and which are what a script of the listed lines is read as, and all of which are transformations; then the DOs that aren't PARALLEL DOs in its program, each with its first cause; and the source, which has come from the former one by transformations alone (ParaScope; this project)
 pub record Parallelises (line : ℕ) (s : State) (bytes : List ℕ) (next : State) : Type 0 where
   pub accepted : List Command
   pub accepts : AcceptsAll accepted s next
@@ -314,7 +314,7 @@ abbrev pub ParallelisesBy : ℕ → Option Command → List ℕ → State → Sa
 ParallelisesBy line (Some Auto) data_bytes s said next = Parallelises line s said.bytes next
 ParallelisesBy line command data_bytes s said next = ⊤
 
--- what `auto` tells in a session's answer
+-- what `auto` lists in a session's answer
 abbrev pub AutoRequest : Option Request → Contents → List ℕ → Type 0
 AutoRequest None files bytes = ⊤
 AutoRequest (Some (show program)) files bytes = ⊤

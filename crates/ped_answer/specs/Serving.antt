@@ -12,7 +12,7 @@ use Rattle.ped_words.specs.Requests.{Request}
 use Rattle.ped_answer.specs.Answer.{Input, inputs_of, IsOneOf, AgreeOn, HasRead, HoldsTooMany, MayGive, Answers, Sends, IsJust, cannot_read_line, too_long_line}
 use Rattle.ped_answer.specs.TestCounts.{Tests, Ticks, IsUntested}
 
--- a call: the files that its shelf tells, what they may hold by all that reads have given at its end, each name's count of faults before and after it, the bytes that its sink says it has taken, those that were sent, and its count of faults before and after it, the tests counted before and after it, and how it ended
+-- a call: the files that its shelf has, what they may hold by all that reads have given at its end, each name's count of faults before and after it, the bytes that its sink says it has taken, those that were sent, and its count of faults before and after it, the tests counted before and after it, and how it ended
 pub record Call : Type 1 where
   pub told : Option Contents
   pub may : Contents → Type 0

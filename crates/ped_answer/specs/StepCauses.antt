@@ -1,4 +1,4 @@
--- What forbids each step: the rules that may stand against it, and the dependences that it may not pass over (ParaScope; this project).
+-- What forbids each step: the rules that may forbid it, and the dependences that it may not pass over (ParaScope; this project).
 use Rattle.std.specs.Prelude.{◌≡◌, ℕ, List, Contains, Bool, true}
 use Rattle.ped_session.specs.ped_tree.specs.Tree.{ProgramTree}
 use Rattle.ped_session.specs.ped_graph.specs.ped_edges.specs.Edges.{Edge}
@@ -23,18 +23,18 @@ use Rattle.ped_session.specs.ped_transformations.specs.ped_reindex.specs.ped_loo
 use Rattle.ped_session.specs.ped_transformations.specs.ped_reindex.specs.ped_loops.specs.ped_scalar.specs.ped_rules.specs.Carried.{carried, crossing}
 use Rattle.ped_session.specs.ped_transformations.specs.ped_reindex.specs.ped_loops.specs.ped_scalar.specs.ped_rules.specs.ped_loop_runs.specs.ped_bodies.specs.ped_steps.specs.Causes.{Rules, Cause, rule, dependence, none_forbids}
 
--- a rule that stands against a step, or a dependence of the program that forbids it (ParaScope)
+-- a rule against a step, or a dependence of the program that forbids it (ParaScope)
 abbrev pub IsAmong : ProgramTree → Rules → (Edge → Bool) → Cause → Type 0
 IsAmong t stands forbids (rule r n) = stands r n
 IsAmong t stands forbids (dependence e) = (edges : List Edge) × AreEdges t edges × Contains edges e × (forbids e ≡ true)
 
--- a rule that stands against fusion, or a dependence of the one DO that both would become which leads back and which that DO carries; it is told with the present numbers (Allen and Kennedy, section 6.2.5)
+-- a rule against fusion, or a dependence of the one DO that both would become which leads back and which that DO carries; it is reported with the present numbers (Allen and Kennedy, section 6.2.5)
 abbrev pub IsAmongFused : (s : ℕ) → ProgramTree → Cause → Type 0
 IsAmongFused s t (rule r n) = StandsAgainstFusion s t r n
 IsAmongFused s t (dependence e) =
     (m : Match t s) × (edges : List Edge) × AreBack m.neighbour edges × (f : Edge) × Contains edges f × (forbids_fusion m.neighbour f ≡ true) × (e ≡ with_present_numbers (next_number m.neighbour) f)
 
--- what forbids the step of a command in a program: a rule that stands, or a dependence that it may not pass over, which five steps have, since they change the order of iterations: `interchange`, `reverse`, `parallel`, `reduce` and `fuse`. One row for each step of the table of steps (Allen and Kennedy, sections 2.2.5, 5.2, 5.6; ParaScope)
+-- what forbids the step of a command in a program: a rule that holds, or a dependence that it may not pass over, which five steps have, since they change the order of iterations: `interchange`, `reverse`, `parallel`, `reduce` and `fuse`. One row for each step of the table of steps (Allen and Kennedy, sections 2.2.5, 5.2, 5.6; ParaScope)
 abbrev pub Forbids : Command → ProgramTree → Cause → Type 0
 Forbids (Interchange s) t c = IsAmong t (StandsAgainstInterchange s t) (crossing t s) c
 Forbids (Reverse s) t c = IsAmong t (StandsAgainstReversal s t) (carried t s) c

@@ -22,7 +22,7 @@ use Rattle.ped_answer.specs.Generated.{Tally, Applies, IsWordOn, report, Reports
 abbrev pub IsNoAuto : Item → Type 0
 IsNoAuto item = item.command ≢ Some Auto
 
--- before the first line so many pairs were tested
+-- before the first line this many pairs were tested
 abbrev pub first_count : ℕ → code.Tally
 first_count tested = record { accepted = 0; refused = 0; tested = tested }
 
@@ -30,7 +30,7 @@ first_count tested = record { accepted = 0; refused = 0; tested = tested }
 abbrev pub counted : code.Tally → Tally → code.Tally
 counted before more = record { accepted = before.accepted + more.accepted; refused = before.refused + more.refused; tested = before.tested + more.tests }
 
--- lines were applied, and what they come to was counted; so many pairs were tested as they test
+-- lines were applied, and what they come to was counted; this many pairs were tested as they test
 pub record Counts (Are : State → Tally → State → Type 0) (s next : State) (before after : code.Tally) (steps_before steps_after : ℕ) : Type 0 where
   pub tally : Tally
   pub applies : Are s tally next

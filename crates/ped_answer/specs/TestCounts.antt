@@ -50,7 +50,7 @@ Tests (Some (session program script data_file)) files n =
     TestsInput (source_input program) files (λ text. TestsInput (source_input script) files (λ commands. TestsData data_file files (TestsSession text commands))) n
 Tests (Some (generate number)) files n = TestsGenerated number n
 
--- by how a call ended, where the counter stood before it and stands after it, when the answer takes so many tests: as many more after an answer to a program, none more after any other, and at most as many where the sink failed or memory ran out (this project)
+-- by how a call ended, what the counter was before it and is after it, when the answer takes this many tests: as many more after an answer to a program, none more after any other, and at most as many where the sink failed or memory ran out (this project)
 abbrev pub Ticks : Status → ℕ → ℕ → ℕ → Type 0
 Ticks Done before after n = after ≡ before + n
 Ticks SomeRefused before after n = after ≡ before + n

@@ -108,15 +108,15 @@ pub fn ped_main<F: Shelf, K: Sink, L: Ledger>(
         × IsHeadline (request_of (map string_bytes words.now)) files bytes }
 
     // Where an answer is written whole, all panes in it, those of the file in mode `show` and those of each `source`, `deps`,
-    // `deps S` and `show` of a script, are those that come of reading the printed text of the present program afresh, and so
-    // is the advice of `advise S`. `print` shows that text.
+    // `deps S`, `show` and `calls` of a script, are those that come of reading the printed text of the present program
+    // afresh, and so is the advice of `advise S`. `print` shows that text.
     ensures panes { (files : Contents) → F.may_hold shelf.new files → IsWhole result →
         (bytes : List ℕ) × (K.sent out.new ≡ K.sent out.old ++ bytes)
         × PanesRequest (request_of (map string_bytes words.now)) files bytes }
 
-    // In a session the sources stand one behind another: `undo` and `redo` go along them, byte for byte, and are accepted
-    // exactly where there is one to go to; an accepted change puts its source behind the present one, in the place of all
-    // that stood there, and so does each step that `auto` says was accepted; and nothing else moves.
+    // In a session the sources are one after another: `undo` and `redo` go along them, byte for byte, and are accepted
+    // exactly where there is one to go to; an accepted change puts its source after the present one, in the place of
+    // all that stood there, and so does each step that `auto` says was accepted; and nothing else moves.
     ensures history { (files : Contents) → F.may_hold shelf.new files → IsWhole result →
         (bytes : List ℕ) × (K.sent out.new ≡ K.sent out.old ++ bytes)
         × HistoryRequest (request_of (map string_bytes words.now)) files bytes }
@@ -128,8 +128,8 @@ pub fn ped_main<F: Shelf, K: Sink, L: Ledger>(
     // overwrites such a variable that is saved. And in each state, each transformation of the history keeps the meaning of
     // such a program, and leaves it tidy and without C$PED REJECT; and on all data and with all choices, also those of no
     // `run`, the present program has the outcome of each such program from which it has come by transformations alone. The
-    // report of `generate` says that the program behind the script's steps ends as the one that was made, if that one is
-    // tidy and without C$PED REJECT and runs without a fault and without a race.
+    // report of `generate` says that the program after the script's steps ends as the one that was made, if the run of
+    // that one ends.
     ensures runs { (files : Contents) → F.may_hold shelf.new files → IsWhole result →
         (bytes : List ℕ) × (K.sent out.new ≡ K.sent out.old ++ bytes)
         × RunsRequest (request_of (map string_bytes words.now)) files bytes }
@@ -138,30 +138,32 @@ pub fn ped_main<F: Shelf, K: Sink, L: Ledger>(
     // on which the session opens, has the same outcome. So in a session on whose data they do, each `run` shows it: without
     // choices where the present source is that program's and no list of sums in it is live, and with whatever choices where
     // the present source has come from that one by transformations alone, if it is tidy and without C$PED REJECT and runs
-    // without a race.
+    // without a race. Where the units meet a fault, the program meets the same, unless a CALL reads an undefined variable of
+    // its own.
     ensures units { (files : Contents) → F.may_hold shelf.new files → IsWhole result →
         (bytes : List ℕ) × (K.sent out.new ≡ K.sent out.old ++ bytes)
         × UnitsRequest (request_of (map string_bytes words.now)) files bytes }
 
-    // A transformation or `reject` at a statement that the present program has is refused exactly where a rule stands against
-    // it or a dependence forbids it, and the first of these is told: the rule with the least number, and else the first row
-    // of the pane. Where the program has no such statement, that is told.
+    // A transformation or `reject` at a statement that the present program has is refused exactly where a rule or a
+    // dependence forbids it, and the first of these is reported: the rule with the least number, and else the
+    // first row of the pane. Where the program has no such statement, that is reported.
     ensures causes { (files : Contents) → F.may_hold shelf.new files → IsWhole result →
         (bytes : List ℕ) × (K.sent out.new ≡ K.sent out.old ++ bytes)
         × CausesRequest (request_of (map string_bytes words.now)) files bytes }
 
-    // `auto` tells accepted steps, all of them transformations, which lead one behind another from the state before it to the
-    // one behind it, as they do in a script; each DO of its program that isn't a PARALLEL DO, with the first of all that
-    // forbids `parallel` there; and its source, which has come from the former one by transformations alone.
+    // `auto` lists accepted steps, all of them transformations, which lead one after another from the state before it
+    // to the one after it, as they do in a script; each DO of its program that isn't a PARALLEL DO, with the first of
+    // all that forbids `parallel` there; and its source, which has come from the former one by transformations alone.
     ensures parallelised { (files : Contents) → F.may_hold shelf.new files → IsWhole result →
         (bytes : List ℕ) × (K.sent out.new ≡ K.sent out.old ++ bytes)
         × AutoRequest (request_of (map string_bytes words.now)) files bytes }
 
     // Each pane of dependences covers the run in order of its program, on whatever data: two accesses that references make
-    // to one cell, one of them a write, in one execution of a DO round both have a row, and for two that race a PARALLEL DO
-    // carries one. In the pane of calls such two have a row where one is made in the block of a CALL, but not both in one
-    // execution of it. Where two accesses conflict so and have no row, a DO makes one of them itself: it reads its variable in
-    // its body, or stores it when it is left.
+    // to one cell, one of them a write, in one execution of a DO around both have a row, and for two that race a
+    // PARALLEL DO carries one. In the pane of calls such two have a row where one is made in the block of a CALL, but
+    // not both in one execution of it. Where two accesses conflict so and have no row, a DO makes one of them itself:
+    // it reads its variable in its body, or stores it when it is left. And what a row marked proven says occurs, in each of
+    // its directions, once the run has left the outermost DO, except for variables that are copied.
     ensures covered { (files : Contents) → F.may_hold shelf.new files → IsWhole result →
         (bytes : List ℕ) × (K.sent out.new ≡ K.sent out.old ++ bytes)
         × CoveredRequest (request_of (map string_bytes words.now)) files bytes }

@@ -4,10 +4,11 @@ ghost use Rattle.std.specs.Prelude.{◌≡◌, ◌⊎◌, ◌↔◌, ◌≤◌, 
 ghost use Rattle.ped_io.specs.Outside.{Rose};
 ghost use Rattle.ped_gen.specs.Generated as made;
 ghost use Rattle.ped_session.specs.ped_tree.specs.Tree.{ProgramTree};
-ghost use Rattle.ped_session.specs.ped_order.specs.ped_eval.specs.Outcomes.{Outcome};
+ghost use Rattle.ped_session.specs.ped_order.specs.ped_eval.specs.Outcomes.{Ends, Outcome, run_of, IsRaceFree};
 ghost use Rattle.ped_session.specs.ped_order.specs.ped_interleavings.specs.Interleavings.{IsInterleaved};
 ghost use Rattle.ped_session.specs.ped_valid.specs.Validity.{ReadsValid};
 ghost use Rattle.ped_session.specs.ped_transformations.specs.ped_script.specs.Items.{commands_of};
+ghost use Rattle.ped_session.specs.ped_transformations.specs.ped_reindex.specs.ped_loops.specs.ped_scalar.specs.ped_rules.specs.ped_loop_runs.specs.Unrejected.{IsTrusted};
 ghost use Rattle.ped_session.specs.LoweredRuns.{HasNoList, IsLoweredRun};
 ghost use Rattle.ped_session.specs.States.{State, opened};
 ghost use Rattle.ped_answer.specs.Answer.{Sends};
@@ -17,13 +18,14 @@ ghost use Rattle.ped_answer.specs.Tallies.{AnswersReport};
 ghost use Rattle.ped_answer.specs.TestCounts.{TestsGenerated, Ticks, IsUntested};
 
 use crate::answering::Status;
+use crate::existence::dependences_exist;
 use crate::finishing::finish;
 use crate::refusals::is_refused_text;
 use crate::reporting::report;
 use ped_base::NoMemory;
 use ped_call_runs::OpenRefusal;
 use ped_io::Sink;
-use ped_session::{Session, without_lists};
+use ped_session::{Session, races_are_covered, without_lists};
 use ped_verdict::Steps;
 use std::alloc::Global;
 use std::sync::ledger::Ledger;
@@ -84,11 +86,22 @@ fn answer_session<K: Sink, L: Ledger>(
     }
 }
 
-/// No comment stands in a program that is made, so no DO of it has a list of sums, and it runs as it is.
+/// A program that is made has no comment, so no DO of it has a list of sums, and it runs as it is.
 pub fn made_programs_have_no_list()
     ensures none { (n : ℕ) (t : ProgramTree) → ReadsValid (made.program n) t → HasNoList t }
     ensures runs { (n : ℕ) (t : ProgramTree) (choices data_bytes : List ℕ) (o : Outcome) → ReadsValid (made.program n) t →
         IsLoweredRun choices data_bytes t o ↔ IsInterleaved t data_bytes choices o }
 {
     without_lists();
+}
+
+/// No PARALLEL DO and no C$PED REJECT line is in a program that is made. So it may be trusted, and each run of it that
+/// ends is without a race.
+pub fn made_programs_are_trusted()
+    ensures trusted { (n : ℕ) (t : ProgramTree) → ReadsValid (made.program n) t → IsTrusted t }
+    ensures race_free { (n : ℕ) (t : ProgramTree) (data_bytes : List ℕ) → ReadsValid (made.program n) t →
+        Ends (run_of t data_bytes).ending → IsRaceFree t data_bytes }
+{
+    dependences_exist();
+    races_are_covered();
 }

@@ -9,11 +9,11 @@ ghost use Rattle.ped_answer.specs.declared.answering.Status.{Status};
 ghost use Rattle.ped_answer.specs.Answer.{IsWhole, Answers};
 ghost use Rattle.ped_answer.specs.Headline.{PanesRequest, HistoryRequest, RunsRequest, UnitsRequest, CausesRequest, AutoRequest, CoveredRequest};
 
-use crate::generating::made_programs_have_no_list;
+use crate::generating::{made_programs_are_trusted, made_programs_have_no_list};
 use std::sync::ledger::Ledger;
 
-/// In each answer to `show`, and in each to a session at each `source`, `deps`, `deps S` and `show`, the panes are those
-/// that come of reading the printed text of the present program afresh, whatever was done before.
+/// In each answer to `show`, and in each to a session at each `source`, `deps`, `deps S`, `show` and `calls`, the panes are
+/// those that come of reading the printed text of the present program afresh, whatever was done before.
 pub fn panes_are_afresh()
     ensures { (request : Option plain.Request) (files : Contents) (s : Status) (bytes : List ℕ) → IsWhole s →
         Answers request files s bytes → PanesRequest request files bytes }
@@ -23,11 +23,11 @@ pub fn panes_are_afresh()
 
 /// In each answer to `show`, and in each to a session at each `deps`, `deps S`, `show` and `calls`, the panes cover the run
 /// in order of the present program, on whatever data. Two accesses that references make to one cell, one of them a write, in
-/// one execution of a DO round both have a row with the directions in which they stand; two that race have one that a
+/// one execution of a DO around both have a row with their directions; two that race have one that a
 /// PARALLEL DO carries. In the pane of calls two such accesses have a row with their level where one is made in the block of
 /// a CALL, but not both in one execution of it; of races it isn't said there. Where two accesses conflict so and have no row, a
 /// DO makes one of them itself: it reads its variable in its body, or stores it when it is left. And what a row marked proven
-/// says occurs, in each of its directions, once the run has left the outermost DO, but for variables that are copied.
+/// says occurs, in each of its directions, once the run has left the outermost DO, except for variables that are copied.
 pub fn panes_cover_runs()
     ensures { (request : Option plain.Request) (files : Contents) (s : Status) (bytes : List ℕ) → IsWhole s →
         Answers request files s bytes → CoveredRequest request files bytes }
@@ -39,15 +39,16 @@ pub fn panes_cover_runs()
     ped_rows::proven_dependences_occur();
 }
 
-/// In each answer to a session the sources stand one behind another: `undo` and `redo` go along them, byte for byte, and are
-/// accepted exactly where there is one to go to; a change puts its source behind the present one; and nothing else moves.
+/// In each answer to a session the sources are one after another: `undo` and `redo` go along them, byte for byte, and
+/// are accepted exactly where there is one to go to; a change puts its source after the present one; and nothing else
+/// moves.
 pub fn history_is_kept()
     ensures { (request : Option plain.Request) (files : Contents) (s : Status) (bytes : List ℕ) → IsWhole s →
         Answers request files s bytes → HistoryRequest request files bytes }
 {}
 
 /// In each answer to a session each transformation or `reject` at a statement that is there is refused exactly where something
-/// forbids it, and is told by the first cause; where the statement isn't there, that is told.
+/// forbids it, and reports the first cause; where the statement isn't there, it reports that.
 pub fn refusals_have_causes()
     ensures { (request : Option plain.Request) (files : Contents) (s : Status) (bytes : List ℕ) → IsWhole s →
         Answers request files s bytes → CausesRequest request files bytes }
@@ -56,7 +57,7 @@ pub fn refusals_have_causes()
 /// In each answer to a session each `run` of its script shows what the programs show from which the present one has come
 /// by transformations alone, if they are tidy and without C$PED REJECT and run on the data without a fault and without a
 /// race. And so it is on all data and with all choices, whether a `run` shows it or not. The report of `generate` says that
-/// its programs end alike, if the first one is tidy and runs so.
+/// its programs end alike, if the run of the first one ends.
 pub fn runs_are_as_before()
     ensures { (request : Option plain.Request) (files : Contents) (s : Status) (bytes : List ℕ) → IsWhole s →
         Answers request files s bytes → RunsRequest request files bytes }
@@ -66,14 +67,15 @@ pub fn runs_are_as_before()
     ped_session::transformations_keep_the_meaning();
     ped_session::without_choices();
     made_programs_have_no_list();
+    made_programs_are_trusted();
 }
 
 /// In each answer on a file, the program that is shown, or on which the session opens, does what the file's program units do.
 /// On all data on which these run without a fault it has their outcome. On all data on which they meet a fault it meets the
 /// same, unless a CALL reads a variable of its own that is undefined. In a session on whose data they run without a fault,
 /// each `run` of its script shows their outcome: without choices before the first change, where no list of sums is live; and
-/// with whatever choices behind transformations alone, where the opened program is tidy and without C$PED REJECT and runs
-/// without a race.
+/// with whatever choices after transformations alone, where the opened program is tidy and without C$PED REJECT and
+/// runs without a race.
 pub fn units_run_as_expanded()
     ensures { (request : Option plain.Request) (files : Contents) (s : Status) (bytes : List ℕ) → IsWhole s →
         Answers request files s bytes → UnitsRequest request files bytes }
@@ -85,9 +87,9 @@ pub fn units_run_as_expanded()
     ped_session::without_choices();
 }
 
-/// In each answer to a session each `auto` tells steps that lead, one behind another, to its source, which has come from the
-/// former one by transformations alone, as each of these steps is one; its lines are a script that is read as them; and it
-/// tells the first cause against `parallel` at each DO that is left.
+/// In each answer to a session each `auto` lists steps that lead, one after another, to its source, which has come from
+/// the former one by transformations alone, as each of these steps is one; its lines are a script that is read as them;
+/// and it reports the first cause against `parallel` at each DO that is left.
 pub fn auto_is_told<L: Ledger>()
     ensures { (request : Option plain.Request) (files : Contents) (s : Status) (bytes : List ℕ) → IsWhole s →
         Answers request files s bytes → AutoRequest request files bytes }

@@ -24,7 +24,7 @@ pub use existence::{
     dependences_exist, exclusions_are_decided, lowerings_exist, replies_exist,
     script_answers_exist, some_answer, some_tests, vectors_exist,
 };
-pub use generating::made_programs_have_no_list;
+pub use generating::{made_programs_are_trusted, made_programs_have_no_list};
 pub use headline::{
     auto_is_told, history_is_kept, panes_are_afresh, panes_cover_runs, refusals_have_causes,
     runs_are_as_before, units_run_as_expanded,

@@ -18,7 +18,7 @@ pub const SOURCE_LIMIT: u64 = 1_048_576;
 /// The most bytes that data may have.
 pub const DATA_LIMIT: u64 = 4_194_304;
 
-/// Says why the file of this name, which may have so many bytes, isn't loaded.
+/// Says why the file of this name, which may have this many bytes, isn't loaded.
 pub fn say_unread<K: Sink>(
     alloc: Global,
     name: &str,

@@ -16,7 +16,7 @@ use ped_verdict::Steps;
 use std::alloc::Global;
 use std::sync::ledger::Ledger;
 
-/// The source pane of a valid program, whose named constants these are, and behind it the dependence pane. Each
+/// The source pane of a valid program, whose named constants these are, and after it the dependence pane. Each
 /// ordered pair of references is tested once.
 pub fn panes<L: Ledger>(
     alloc: Global,

@@ -22,7 +22,7 @@ use std::alloc::Global;
 use std::sync::ledger::Ledger;
 
 /// The eight lines on the program of this size, in a session that was opened on it: its script is applied, and it is run
-/// without choices before and behind.
+/// without choices before and after.
 pub fn report<L: Ledger>(
     alloc: Global,
     size: u32,
@@ -92,7 +92,7 @@ fn push_figure(out: &mut Bytes, name: &[u8], figure: u64) -> Result<(), NoMemory
     out.push(b'\n')
 }
 
-/// Adds the line that tells how many pairs were tested.
+/// Adds the line that says how many pairs were tested.
 fn push_tested(out: &mut Bytes, tested: u128) -> Result<(), NoMemory>
     ensures { OnOk result (out.new ≡ out.old ++ Spec.figure_line (codes "tested") tested) }
 {

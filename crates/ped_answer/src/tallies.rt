@@ -27,8 +27,8 @@ pub struct Tally {
     pub tested: u128,
 }
 
-/// Applies the items of a script one behind another, where programs have no data and no item is `auto`. The pairs that were tested last
-/// before are counted, too. After want of memory no more pairs were tested than the items test.
+/// Applies the items of a script one after another, where programs have no data and no item is `auto`. The pairs that
+/// were tested last before are counted, too. If memory runs out, no more pairs were tested than the items test.
 pub fn apply_items<L: Ledger>(
     alloc: Global,
     session: &mut Session<L>,

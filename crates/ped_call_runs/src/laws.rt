@@ -27,7 +27,8 @@ pub fn expansions_fault_alike()
 
 /// With some of its CALLs expanded, the first in text order, a main program breaks no rule on names but the limit of
 /// storage and references, where it is a program of the profile. So that limit is what is refused first, where it is
-/// said to be passed in expanding. The premise is needed: of more than 10^64 new names some would be the same.
+/// said to be passed in expanding. The premise `fits` is needed: numbers have at most 64 digits here, so beyond 10^64 new
+/// names would repeat.
 pub fn expansions_pass_limits_alone()
     ensures names { (text : List ℕ) (us : ProgramUnits) (m : ℕ) → ReadsLinkedUnits text us → IsTrue (fits (partial us m)) → (f : Finding) → IsAmong f (name_refusals [] (partial us m)) → f.refusal ≡ StorageLimit }
     ensures storage { (text : List ℕ) (us : ProgramUnits) (m : ℕ) → ReadsLinkedUnits text us → IsPast us m StorageLimit → (f : Finding) × (first_of (name_refusals [] (partial us m)) ≡ Some f) × (f.refusal ≡ StorageLimit) }

@@ -14,7 +14,7 @@ pub fn exclusions_are_decided()
 {}
 
 /// Each view has its vectors: those that no position excludes, chosen one after the other. That it has no second list
-/// of them stands beside the definitions of dependences.
+/// of them is next to the definitions of dependences.
 pub fn vectors_exist()
     ensures { (v : View) → (vectors : List (List Direction)) × AreVectors v vectors }
 {}

@@ -61,8 +61,8 @@ pub fn some_answer()
     an_interleaving();
 }
 
-/// The answer to words and files takes so many dependence tests, whatever is asked for and whatever the files hold. That it
-/// takes no other number says `one_count_of_tests`.
+/// The answer to words and files takes a fixed number of dependence tests, whatever is asked for and whatever the files
+/// hold. That it takes no other number says `one_count_of_tests`.
 pub fn some_tests()
     ensures { (request : Option Request) (files : Contents) → (n : ℕ) × Tests request files n }
 {

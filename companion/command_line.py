@@ -15,9 +15,11 @@ from .commands.check import check, refusal_rows
 from .commands.export import export
 from .commands.graph import graph
 from .commands.loops import loops
-from .commands.omp import omp
+from .commands.omp import Work, omp
+from .commands.profile import profile
 from .commands.tune import tune
 from .commands.why import Wanted, why
+from .counting import Counts, counts_of
 from .languages import file_and_line
 from .messages import ERROR
 from .openmp import Wishes
@@ -40,7 +42,7 @@ exit statuses (0 to 7 are those of ped):
   5  the program is refused
   6  there isn't enough memory
   7  a file is too long
-  8  check: a run meets a fault
+  8  check, or what counts or takes times: a run meets a fault
   9  check: a run has a race
  10  check --strict: there is a warning
  11  ped can't be started, or fails
@@ -49,7 +51,8 @@ exit statuses (0 to 7 are those of ped):
  14  pedx itself fails
  15  omp --strict: a loop may race, or rests on C$PED REJECT
  16  the Python library fparser isn't there, which reads real Fortran
- 17  omp --check: the result doesn't compile, or its runs differ from the serial one
+ 17  omp --check, --time: the result doesn't compile, or its runs differ from the serial one
+ 18  gfortran or gcov isn't there, or fails, where a run is counted or timed
 
 docs/COMPANION.md is the manual, docs/REAL.md that of real Fortran.
 """
@@ -90,7 +93,7 @@ def _carried_out(options: argparse.Namespace) -> int:
         options.file, options.line = file_and_line(options.file)
     check_language(options.command, options.file)
     question = Question(options.file, options.script, options.data, getattr(options, "printed", False))
-    if question.data is not None and question.script is None and options.command not in ("check", "edit", "omp"):
+    if question.data is not None and question.script is None and not _runs(options):
         raise CompanionError(Status.BAD_WORDS, "--data wants --script")
     try:
         out, messages, status = _answer(options, question, Ped(find_ped(options.ped)))
@@ -100,6 +103,11 @@ def _carried_out(options: argparse.Namespace) -> int:
     if out is not None:
         _write(getattr(options, "output", None), out)
     return _ended(messages, status)
+
+
+def _runs(options: argparse.Namespace) -> bool:
+    """Whether a call runs the program itself, and not a script alone."""
+    return options.command in ("check", "edit", "omp", "profile") or getattr(options, "counts", False)
 
 
 def _answer(options: argparse.Namespace, question: Question, ped: Ped) -> Answer:
@@ -118,10 +126,34 @@ def _answer(options: argparse.Namespace, question: Question, ped: Ped) -> Answer
         view = open_view(ped, question)
     status = Status.LINE_REFUSED if view.complaints else Status.DONE
     if options.command == "omp":
-        data = read_file(question.data) if question.data is not None else None
-        answer = omp(view, ped, Wishes(options.live, options.all), options.strict, data)
-        return answer.text, _rows([*view.complaints, *answer.messages]), answer.status or status
+        return _omp(options, view, ped, status)
     return _COMMANDS[options.command](options, view, ped), _rows(view.complaints), status
+
+
+def _omp(options: argparse.Namespace, view: View, ped: Ped, status: Status) -> Answer:
+    work = Work(options.strict, options.counts, options.time)
+    wishes = Wishes(options.live, every=options.all, paying=not options.all)
+    answer = omp(view, ped, wishes, work, _data(options))
+    messages = _rows([*view.complaints, *answer.messages])
+    if answer.table is None or answer.text is None:
+        return answer.text, messages, answer.status or status
+    # The times are what the call answers; the program goes to the file that is named, and nowhere else.
+    if options.output is not None:
+        _write(options.output, answer.text)
+        options.output = None
+    return answer.table, messages, answer.status or status
+
+
+def _data(options: argparse.Namespace) -> Optional[str]:
+    """The text of the data."""
+    return read_file(options.data) if options.data is not None else None
+
+
+def _counted(options: argparse.Namespace, view: View) -> Counts:
+    """The counts of a run on the given data."""
+    with _progress() as progress:
+        progress.announce("gfortran compiles and runs the program")
+        return counts_of(view, _data(options))
 
 
 def _rows(rows: Sequence[str]) -> str:
@@ -141,8 +173,9 @@ def _edit(ped: Ped, question: Question) -> str:
 def _loops(options: argparse.Namespace, view: View, ped: Ped) -> str:
     if options.as_json:
         return export(view)
+    counts = _counted(options, view) if options.counts else None
     with _progress() as progress:
-        return loops(view, ped, options.loops, options.trials, progress)
+        return loops(view, ped, options.loops, options.trials, progress, counts)
 
 
 def _tune(options: argparse.Namespace, view: View, ped: Ped) -> str:
@@ -166,6 +199,7 @@ def _why(options: argparse.Namespace, view: View, ped: Ped) -> str:
 
 _COMMANDS: Dict[str, Callable[[argparse.Namespace, View, Ped], str]] = {
     "loops": _loops,
+    "profile": lambda options, view, ped: profile(view, _counted(options, view)),
     "tune": _tune,
     "why": _why,
     "calls": lambda options, view, ped: calls(view, ped),
@@ -200,20 +234,13 @@ def _parser() -> argparse.ArgumentParser:
         return command
 
     add("edit", "edit a program and transform its loops, with both panes on a terminal")
-    command = add("loops", "say which loops are parallel, what the others carry, and what to try there")
-    command.add_argument("loops", metavar="S", type=int, nargs="*", help=_LOOPS)
-    command.add_argument("--no-trials", dest="trials", action="store_false", help="ask for no advice, and try no steps")
+    _add_loops(add("loops", "say which loops are parallel, what the others carry, and what to try there"))
+    add("profile", "say how often a run enters each loop, and which share of all statements it executes there")
     command = add("tune", "say what is in the way of each loop, and which single step removes it")
     command.add_argument("loops", metavar="S", type=int, nargs="*", help="the statement numbers of the wanted loops")
     add("calls", "say which CALLs there are, what depends on them, and which can be inlined")
     _add_filters(add("why", "say of each row of the dependence pane why it is there"))
-    command = add("omp", "write the program as FORTRAN with OpenMP directives, for gfortran -fopenmp")
-    command.add_argument("--live", action="store_true", help="print the variables in SAVE at the end")
-    command.add_argument("--all", action="store_true", help="write a directive at loops in parallel loops, too")
-    command.add_argument(
-        "--strict", action="store_true", help="write nothing where a loop may race, or rests on C$PED REJECT"
-    )
-    _add_output(command)
+    _add_omp(add("omp", "write the program as FORTRAN with OpenMP directives, for gfortran -fopenmp"))
     command = add("model", "show the program that ped is asked about a loop of real Fortran")
     command.add_argument("loops", metavar="LINE", type=int, nargs="*", help="lines of the wanted loops; else all")
     command = add("check", "say what is wrong with a program, with a script, or with a run")
@@ -232,7 +259,7 @@ def _add_common(command: argparse.ArgumentParser, is_editor: bool) -> None:
     data = "the data for runs"
     if not is_editor:
         script = "look at the program after this script of a session"
-        data = "the data for the runs of the script, of check, or of the search for races of omp"
+        data = "the data for the runs of the script, of check, of profile, or of omp"
     command.add_argument("--script", metavar="SCRIPT", help=script)
     command.add_argument("--data", metavar="DATA", help=data)
     if not is_editor:
@@ -249,6 +276,29 @@ def _add_filters(command: argparse.ArgumentParser) -> None:
     command.add_argument("--name", metavar="NAME", action="append", default=[], help="of this variable" + words)
     command.add_argument("--kind", choices=KINDS, action="append", default=[], help="of this kind" + words)
     command.add_argument("--mark", choices=MARKS, action="append", default=[], help="with this mark" + words)
+
+
+def _add_loops(command: argparse.ArgumentParser) -> None:
+    command.add_argument("loops", metavar="S", type=int, nargs="*", help=_LOOPS)
+    command.add_argument("--no-trials", dest="trials", action="store_false", help="ask for no advice, and try no steps")
+    _add_counts(command, "add what gcov counts of a run: entries, iterations, share of the executed statements")
+
+
+def _add_omp(command: argparse.ArgumentParser) -> None:
+    command.add_argument("--live", action="store_true", help="print the variables in SAVE at the end")
+    command.add_argument("--all", action="store_true", help="write a directive at each parallel loop, paying or not")
+    command.add_argument(
+        "--strict", action="store_true", help="write nothing where a loop may race, or rests on C$PED REJECT"
+    )
+    _add_counts(command, "choose the loops that get a directive by the counts of a run")
+    command.add_argument(
+        "--time", action="store_true", help="compile it without and with OpenMP, run both, and print the times"
+    )
+    _add_output(command)
+
+
+def _add_counts(command: argparse.ArgumentParser, purpose: str) -> None:
+    command.add_argument("--counts", action="store_true", help=f"{purpose}; needs gfortran and gcov")
 
 
 def _add_output(command: argparse.ArgumentParser) -> None:

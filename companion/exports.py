@@ -8,13 +8,15 @@ a message.
 from __future__ import annotations
 
 from dataclasses import dataclass
-from typing import Dict, List, Optional, Sequence, Tuple
+from typing import Dict, List, Mapping, Optional, Sequence, Tuple
 
 from .cautions import doubtful_directives
+from .choices import choice_of
+from .counting import Counts
 from .faults import FAULTS
 from .lists import live_sums
 from .messages import ERROR, WARNING, located
-from .openmp import Wishes, directed_loops, translate
+from .openmp import Wishes, translate
 from .ped import Ped
 from .program import Loop
 from .replies import Race, Reply
@@ -32,11 +34,17 @@ class Export:
     doubts: Tuple[str, ...]
 
 
-def export_of(ped: Ped, view: View, wishes: Wishes, data: Optional[str] = None) -> Export:
-    """The program of a view, translated. Where there are data, ped looks for a race in the run on them."""
+def export_of(
+    ped: Ped, view: View, wishes: Wishes, data: Optional[str] = None, counts: Optional[Counts] = None
+) -> Export:
+    """The program of a view, translated. Where there are data, ped looks for a race in the run on them.
+
+    Where there are counts of a run, they choose the loops that get a directive.
+    """
     lines = view.panes.lines
     sums = live_sums(ped, lines, view.printed)
-    loops = directed_loops(view.program, sums, wishes.every)
+    choice = choice_of(view.printed, sums, wishes, counts)
+    loops = {number: view.program.loops[number] for number in choice.loops}
     notes: Dict[int, List[str]] = {}
     doubts = []
     for loop, words in doubtful_directives(view, loops.values(), sums):
@@ -47,7 +55,7 @@ def export_of(ped: Ped, view: View, wishes: Wishes, data: Optional[str] = None) 
         if reply.race is not None:
             notes.setdefault(_loop_of(reply.race, loops), []).append(_note(_about_race(reply.race)))
         doubts.extend(_about_run(view, reply))
-    translated = translate(lines, view.printed, sums, wishes, notes)
+    translated = translate(lines, view.printed, sums, wishes, notes, choice)
     text = "".join(line + "\n" for line in translated.lines)
     return Export(text, translated.options, tuple(doubts))
 
@@ -62,9 +70,9 @@ def _about_race(race: Race) -> str:
     return f"a run on the given data has a race: {words}"
 
 
-def _loop_of(race: Race, loops: Dict[int, Loop]) -> int:
-    """The outermost loop with a directive that has the two statements of a race in it."""
-    return next(number for number, loop in loops.items() if race.first in loop and race.second in loop)
+def _loop_of(race: Race, loops: Mapping[int, Loop]) -> int:
+    """The outermost loop with a directive that has the two statements of a race in it; 0 where none has."""
+    return next((number for number, loop in loops.items() if race.first in loop and race.second in loop), 0)
 
 
 def _about_run(view: View, reply: Reply) -> Sequence[str]:

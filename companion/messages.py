@@ -64,5 +64,7 @@ def listed(words: Sequence[str], last: str = "and") -> str:
 
 
 def counted(count: int, word: str) -> str:
-    """A number with its word, which takes an `s` in the plural."""
-    return f"{count} {word}{'' if count == 1 else 's'}"
+    """A number with its word in the singular or in the plural."""
+    if count == 1:
+        return f"{count} {word}"
+    return f"{count} {word[:-1]}ies" if word.endswith("ry") else f"{count} {word}s"

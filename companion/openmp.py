@@ -34,6 +34,7 @@ from .statements import Declaration, Do, Form, Other, Parameter, Private, Progra
 
 _WIDTH = LAST_COLUMN - FIRST_COLUMN + 1
 _MARGIN = " " * (FIRST_COLUMN - 1)
+_SENTINEL = "C$OMP"
 #: How many elements the arrays of a program may have that aren't in SAVE; more are put there.
 _MOST_ELEMENTS = 2**16
 
@@ -48,6 +49,21 @@ class Wishes(NamedTuple):
     live: bool = False
     #: Write a directive at every parallel loop, and not at the outermost ones alone.
     every: bool = False
+    #: Leave out directives whose threads don't pay, as far as the text or the counts of a run tell it.
+    paying: bool = False
+
+
+class Choice(NamedTuple):
+    """The loops that get a directive; of some the number of iterations from which on threads start; and remarks."""
+
+    loops: Mapping[int, Loop]
+    least: Mapping[int, int] = {}
+    remarks: Tuple[str, ...] = ()
+
+
+def has_directive(text: str) -> bool:
+    """Whether a translated program has a directive."""
+    return any(line.startswith(_SENTINEL) for line in text.split("\n"))
 
 
 class Translated(NamedTuple):
@@ -67,25 +83,28 @@ def directed_loops(program: Program, sums: Sums, every: bool) -> Dict[int, Loop]
 
 
 def translate(
-    lines: Sequence[str], program: Program, sums: Sums, wishes: Wishes, notes: Mapping[int, Sequence[str]]
+    lines: Sequence[str], program: Program, sums: Sums, wishes: Wishes, notes: Mapping[int, Sequence[str]],
+    choice: Optional[Choice] = None,
 ) -> Translated:
     """A printed program as FORTRAN with OpenMP directives.
 
     `notes` are comments about loops, by their statements; they are written before the loop's directive.
     """
-    translation = _Translation(lines, program, sums, wishes, notes)
+    chosen = choice or Choice(directed_loops(program, sums, wishes.every))
+    translation = _Translation(lines, program, sums, wishes, notes, chosen)
     translated = list(translation.lines())
-    options = ["-fopenmp", "-O2"]
+    options = ["-fopenmp", "-O2"] if chosen.loops else ["-O2"]
     if sums:
         # Sums may leave 32 bits on the way, in another order than the program's.
         options.append("-fwrapv")
     if translation.folding.leaves_range:
         options.append("-fno-range-check")
-    return Translated(_heading(options) + translated, tuple(options))
+    return Translated(_heading(options, chosen.remarks) + translated, tuple(options))
 
 
-def _heading(options: Sequence[str]) -> List[str]:
-    return ["C     WRITTEN BY PEDX OMP. TO COMPILE:", f"C     gfortran {' '.join(options)} -o NAME NAME.f"]
+def _heading(options: Sequence[str], remarks: Sequence[str]) -> List[str]:
+    rows = ["C     WRITTEN BY PEDX OMP. TO COMPILE:", f"C     gfortran {' '.join(options)} -o NAME NAME.f"]
+    return rows + [row for remark in remarks for row in _comment(f"PEDX: {remark.upper()}.")]
 
 
 class _Written(NamedTuple):
@@ -100,7 +119,8 @@ class _Translation:
     """The lines of a printed program, statement by statement."""
 
     def __init__(
-        self, lines: Sequence[str], program: Program, sums: Sums, wishes: Wishes, notes: Mapping[int, Sequence[str]]
+        self, lines: Sequence[str], program: Program, sums: Sums, wishes: Wishes, notes: Mapping[int, Sequence[str]],
+        choice: Choice,
     ) -> None:
         self._lines = lines
         self._program = program
@@ -111,7 +131,8 @@ class _Translation:
         self._statements = [
             _Written(written, read_form(written.text), self._text(written)) for written in read_statements(lines)
         ]
-        self._directed = directed_loops(program, sums, wishes.every)
+        self._directed = choice.loops
+        self._least = choice.least
         #: For each loop the names of its PRIVATE list.
         self._listed = {number: {name.name for name in loop.private} for number, loop in program.loops.items()}
         texts = [statement.text for statement in self._statements]
@@ -155,21 +176,37 @@ class _Translation:
         text = renamed(form, self._repaired(statement), names)
         loop = self._program.loops.get(number)
         if loop is not None:
-            yield from self._before(loop, names)
+            yield from self._before(loop, names, text)
             variable = self._names_in(loop).get(loop.variable, loop.variable)
             text = text.replace("PARALLEL DO", "DO", 1)
             text = text.replace(f"DO {names.get(loop.variable, loop.variable)} =", f"DO {variable} =", 1)
         yield from _cut(self._lines[line - 1][:FIRST_COLUMN - 1], text)
 
-    def _before(self, loop: Loop, names: Mapping[str, str]) -> Iterator[str]:
-        """The lines before a loop: what is noted of it, and its directive, where it has one."""
+    def _before(self, loop: Loop, names: Mapping[str, str], text: str) -> Iterator[str]:
+        """The lines before a loop with this text: what is noted of it, and its directive, where it has one."""
         if loop.number not in self._directed:
             return
         for note in self._notes.get(loop.number, ()):
             yield from _comment(note)
         inner = self._names_in(loop)
         private = [inner.get(name, name) for name in self._private_names(loop)]
-        yield from _directive(private, [names.get(name, name) for name in self._sums.get(loop.number, ())])
+        sums = [names.get(name, name) for name in self._sums.get(loop.number, ())]
+        yield from _directive(private, sums, self._condition(loop, text))
+
+    def _condition(self, loop: Loop, text: str) -> str:
+        """The condition of the clause IF: whether a loop with this text has as many iterations as are wanted."""
+        least = self._least.get(loop.number)
+        if least is None:
+            return ""
+        first, last, *steps = _bounds(text)
+        step = value_of(loop.form.step, self._program.constants) if loop.form.step is not None else 1
+        if step is None or step == 0:
+            return f"({last}-({first})+{steps[0]})/({steps[0]}).GE.{least}"
+        known = value_of(loop.form.first, self._program.constants)
+        far = (least - 1) * step
+        if known is not None and abs(known + far) < 2**31:
+            return f"{last}.{'GE' if step > 0 else 'LE'}.{known + far}"
+        return f"{last}-({first}).GE.{far}" if step > 0 else f"{first}-({last}).GE.{-far}"
 
     # Statements
 
@@ -293,15 +330,34 @@ def _comment(words: str) -> Iterator[str]:
         yield f"C     {line}"
 
 
-def _directive(private: Sequence[str], sums: Sequence[str]) -> Iterator[str]:
-    """The directive before a parallel loop, cut between names."""
-    row = "C$OMP PARALLEL DO"
-    for piece in [*_clause("PRIVATE(", private), *_clause("REDUCTION(+:", sums)]:
+def _bounds(text: str) -> List[str]:
+    """The bounds of a DO with this text, and its increment, where it has one."""
+    parts = [""]
+    depth = 0
+    for letter in text.partition("=")[2].replace(" ", ""):
+        depth += (letter == "(") - (letter == ")")
+        if letter == "," and depth == 0:
+            parts.append("")
+        else:
+            parts[-1] += letter
+    return parts
+
+
+def _directive(private: Sequence[str], sums: Sequence[str], condition: str) -> Iterator[str]:
+    """The directive before a parallel loop, cut between names and within a condition."""
+    row = f"{_SENTINEL} PARALLEL DO"
+    for piece in [*_pieces(condition), *_clause("PRIVATE(", private), *_clause("REDUCTION(+:", sums)]:
         if len(row) + len(piece) > LAST_COLUMN:
             yield row
-            row = "C$OMP&"
+            row = f"{_SENTINEL}&"
         row += piece
     yield row
+
+
+def _pieces(condition: str) -> List[str]:
+    """The pieces of a clause IF; blanks mean nothing in fixed form, so a long condition may be cut anywhere."""
+    text = f" IF({condition})" if condition else ""
+    return [text[begin:begin + _WIDTH] for begin in range(0, len(text), _WIDTH)]
 
 
 def _clause(front: str, names: Sequence[str]) -> List[str]:

@@ -29,7 +29,7 @@ _REAL: Dict[str, object] = {
 }
 _PROFILE: Dict[str, object] = {
     "--script": None, "--data": None, "--printed": False, "--no-trials": True, "--statement": [], "--live": False,
-    "--all": False, "--strict": False,
+    "--all": False, "--strict": False, "--counts": False, "--time": False,
 }
 #: Where the words are in what argparse has read, if not under their own names.
 _KEYS = {"-I": "folders", "--no-trials": "trials", "--with": "others"}

@@ -26,6 +26,7 @@ class Status(IntEnum):
     DOUBTFUL = 15
     NO_LIBRARY = 16
     DIFFERS = 17
+    NO_COMPILER = 18
 
 
 class CompanionError(Exception):

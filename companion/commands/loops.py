@@ -3,10 +3,11 @@
 from __future__ import annotations
 
 from bisect import bisect
-from typing import Dict, Iterator, List, Sequence, Tuple
+from typing import Dict, Iterator, List, Optional, Sequence, Tuple
 
 from ..advice import Adviser
 from ..automatic import Rest, rests
+from ..counting import Counts
 from ..messages import counted, listed
 from ..panes import KINDS, MARKS, Dependence
 from ..ped import Ped
@@ -21,9 +22,15 @@ _MOST_NAMED = 20
 #: Of a program with more lines `auto` takes some time.
 _LONG = 500
 
+#: The headings of the columns of counts.
+COUNTED = f"{'entries':>11} {'iterations':>13}  {'share':>5}"
 
-def loops(view: View, ped: Ped, numbers: Sequence[int], tries: bool, progress: Progress = Progress()) -> str:
-    """The table of the loops, or of those with these statement numbers.
+
+def loops(
+    view: View, ped: Ped, numbers: Sequence[int], tries: bool, progress: Progress = Progress(),
+    counts: Optional[Counts] = None,
+) -> str:
+    """The table of the loops, or of those with these statement numbers; with the counts of a run, where there are some.
 
     What `auto` leaves is told in the table of all loops alone, since it has ped look at all of them.
     """
@@ -38,10 +45,11 @@ def loops(view: View, ped: Ped, numbers: Sequence[int], tries: bool, progress: P
         left = rests(ped, view)
     headers = [header(loop) for loop in chosen]
     width = max(map(len, headers + ["loop"]))
-    rows = [f"{'S':>4} {'line':>5}  {'loop':{width}}  verdict"]
+    rows = [f"{'S':>4} {'line':>5}  {'loop':{width}}  {f'{COUNTED}  ' if counts else ''}verdict"]
     for loop, text in zip(chosen, headers):
         line = view.program.statement(loop.number).line
-        rows.append(f"{loop.number:4} {line:5}  {text:{width}}  {_verdict(view, loop)}")
+        numbered = f"{columns(counts, loop)}  " if counts else ""
+        rows.append(f"{loop.number:4} {line:5}  {text:{width}}  {numbered}{verdict(view, loop)}")
         rows.extend(" " * 14 + remark for remark in _remarks(view, adviser, loop, left.get(loop.number, [])))
     return "".join(row.rstrip() + "\n" for row in rows)
 
@@ -76,14 +84,21 @@ def header(loop: Loop) -> str:
     return indented if len(indented) <= 48 else indented[:46] + ".."
 
 
-def _verdict(view: View, loop: Loop) -> str:
+def columns(counts: Counts, loop: Loop) -> str:
+    """The counts of a loop, in columns."""
+    tally = counts.loops[loop.number]
+    return f"{tally.entries:11,} {tally.iterations:13,} {counts.share(loop):5.1f}%"
+
+
+def verdict(view: View, loop: Loop) -> str:
+    """What the loop carries, in words."""
     rows = view.carried_by(loop)
     names = carried_names(rows)
     if names:
         return f"PARALLEL DO, but carries {listed(names)}" if loop.form.parallel else f"carries {listed(names)}"
-    verdict = "parallel" if loop.form.parallel else "free"
+    word = "parallel" if loop.form.parallel else "free"
     rejected = list(dict.fromkeys(row.name for row in rows))
-    return f"{verdict}: carries nothing" + (f" but what is rejected of {listed(rejected)}" if rejected else "")
+    return f"{word}: carries nothing" + (f" but what is rejected of {listed(rejected)}" if rejected else "")
 
 
 def _remarks(view: View, adviser: Adviser, loop: Loop, left: Sequence[Rest]) -> Iterator[str]:

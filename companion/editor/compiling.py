@@ -3,8 +3,6 @@
 from __future__ import annotations
 
 import os
-import shlex
-import shutil
 import subprocess
 from typing import List, Optional, Sequence
 
@@ -14,12 +12,6 @@ from ..ped import ENCODING
 #: How long the compiled program may take, in seconds.
 _SECONDS = 60
 _THREADS = "4"
-
-
-def compiler() -> Optional[List[str]]:
-    """The words that start the compiler: those of $FC, or gfortran; none where it isn't there."""
-    words = shlex.split(os.environ.get("FC") or "gfortran")
-    return words if words and shutil.which(words[0]) else None
 
 
 def compile_command(words: List[str], options: Sequence[str], source: str) -> List[str]:

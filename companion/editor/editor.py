@@ -10,6 +10,7 @@ from .. import files
 from ..blocks import block_at, blocks_of
 from ..calls import read_calls
 from ..commands.why import explained
+from ..compilers import compiler
 from ..doubts import may_reject
 from ..exports import export_of
 from ..faults import FAULTS
@@ -24,7 +25,7 @@ from ..trials import carried_names, rows_by_name
 from . import keys
 from .advice import KEYS, advice_page, advised, calls_page
 from .changes import NoChange
-from .compiling import compile_command, compiled, compiler, run_compiled
+from .compiling import compile_command, compiled, run_compiled
 from .desk import Desk
 from .filters import Filters
 from .free_edits import TEXT, Draft, NoEditor, about_refusal, refused_line

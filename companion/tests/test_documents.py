@@ -5,6 +5,7 @@
 
 import os
 import re
+import shutil
 import subprocess
 import sys
 import unittest
@@ -49,6 +50,11 @@ def printed(block: str) -> str:
 def needs_library(block: str) -> bool:
     """Whether a block has calls on real Fortran, which the library fparser reads."""
     return "examples/real/" in block
+
+
+def needs_compiler(block: str) -> bool:
+    """Whether a block has calls that compile a program of the profile and count its run."""
+    return any(word in block for word in ("pedx profile", "--counts", "--time"))
 
 
 def has_library() -> bool:
@@ -105,6 +111,8 @@ class Manual(unittest.TestCase):
         self.assertGreater(len(blocks), 5)
         for block in blocks:
             if needs_library(block) and not has_library():
+                continue
+            if needs_compiler(block) and not (shutil.which("gfortran") and shutil.which("gcov")):
                 continue
             with self.subTest(block.splitlines()[0]):
                 self.assertEqual(printed(block), block)

@@ -10,6 +10,7 @@ from __future__ import annotations
 from typing import Dict, Iterable, Iterator, List, Mapping, Optional
 
 from .counting import Counts
+from .estimates import Condition, estimate_of
 from .messages import counted, listed
 from .openmp import Choice, Sums, Wishes, directed_loops
 from .program import Loop, Program
@@ -33,25 +34,72 @@ def choice_of(program: Program, sums: Sums, wishes: Wishes, counts: Optional[Cou
 
 def _by_text(program: Program, loops: Mapping[int, Loop]) -> Choice:
     """Of these loops those that may pay as far as the text tells, and under which condition."""
-    chosen: Dict[int, Loop] = {}
-    least: Dict[int, int] = {}
-    small: Dict[int, int] = {}
-    remarks: List[str] = []
-    for number, loop in loops.items():
-        most, each = most_executed(program, loop), most_in_iteration(program, loop)
+    by_text = _ByText(program)
+    for loop in loops.values():
+        by_text.take(loop)
+    return by_text.choice()
+
+
+class _ByText:
+    """Chooses among the parallel loops of a program by its text."""
+
+    def __init__(self, program: Program) -> None:
+        self._program = program
+        self._chosen: Dict[int, Loop] = {}
+        self._least: Dict[int, int] = {}
+        self._conditions: Dict[int, Condition] = {}
+        self._small: Dict[int, int] = {}
+        self._remarks: List[str] = []
+
+    def choice(self) -> Choice:
+        """The choice among the loops that were taken."""
+        remarks = self._remarks
+        if self._small:
+            names = f"loop{'' if len(self._small) == 1 else 's'} {listed([str(number) for number in self._small])}"
+            words = f"{names}: {_at_most(max(self._small.values()))} an entry, so threads don't pay"
+            remarks = [words, *remarks]
+        return Choice(self._chosen, self._least, tuple(remarks), self._conditions)
+
+    def take(self, loop: Loop) -> None:
+        """Chooses whether a loop gets a directive."""
+        most, each = most_executed(self._program, loop), most_in_iteration(self._program, loop)
+        if most is None and each == 0:
+            most = 0
         if most is not None and most < LEAST_WORK:
-            small[number] = most
-            continue
-        chosen[number] = loop
-        if most is None and each:
-            least[number] = max(2, -(-LEAST_WORK // each))
-            remarks.append(f"{_name(loop)}: {_at_most(each)} an iteration, so threads start from {least[number]} on")
-        elif most is None:
-            remarks.append(f"{_name(loop)}: whether threads pay depends on the data")
-    if small:
-        names = f"loop{'' if len(small) == 1 else 's'} {listed([str(number) for number in small])}"
-        remarks.insert(0, f"{names}: {_at_most(max(small.values()))} an entry, so threads don't pay")
-    return Choice(chosen, least, tuple(remarks))
+            self._small[loop.number] = most
+        elif most is not None:
+            self._chosen[loop.number] = loop
+        elif each is not None:
+            self._from(loop, each, f"{_at_most(each)} an iteration")
+        else:
+            self._estimated(loop)
+
+    def _estimated(self, loop: Loop) -> None:
+        """Chooses for a loop in which there are loops with open bounds."""
+        estimate = estimate_of(self._program, loop)
+        entry, once = estimate.entry, "" if estimate.whole else ", if loops of unknown length have one iteration"
+        if entry is None:
+            each = int(estimate.each.value or loop.last - loop.number)
+            self._from(loop, each, "each loop of open length in it counts as one iteration")
+        elif entry.value is None:
+            self._chosen[loop.number] = loop
+            self._conditions[loop.number] = Condition(entry, LEAST_WORK, estimate.iterations)
+            self._remark(loop, f"threads start from some {LEAST_WORK} statements an entry on{once}")
+        elif entry.value >= LEAST_WORK:
+            self._chosen[loop.number] = loop
+        elif estimate.whole:
+            self._small[loop.number] = int(entry.value)
+        else:
+            self._remark(loop, "what an entry executes isn't known before it, so there is no directive without --all")
+
+    def _from(self, loop: Loop, each: int, why: str) -> None:
+        """Has threads start from as many iterations on as have enough statements."""
+        self._chosen[loop.number] = loop
+        self._least[loop.number] = max(2, -(-LEAST_WORK // each))
+        self._remark(loop, f"{why}, so threads start from {self._least[loop.number]} on")
+
+    def _remark(self, loop: Loop, words: str) -> None:
+        self._remarks.append(f"{_name(loop)}: {words}")
 
 
 def _at_most(count: int) -> str:

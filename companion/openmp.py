@@ -24,6 +24,7 @@ from __future__ import annotations
 import textwrap
 from typing import Dict, Iterator, List, Mapping, NamedTuple, Optional, Sequence, Set, Tuple
 
+from .estimates import Condition
 from .expressions import names_in, value_of
 from .folding import Folding, bounds
 from .lines import FIRST_COLUMN, LAST_COLUMN, Place, WrittenStatement, is_comment, read_statements
@@ -54,11 +55,12 @@ class Wishes(NamedTuple):
 
 
 class Choice(NamedTuple):
-    """The loops that get a directive; of some the number of iterations from which on threads start; and remarks."""
+    """The loops that get a directive; of some the iterations or the condition from which on threads start; remarks."""
 
     loops: Mapping[int, Loop]
     least: Mapping[int, int] = {}
     remarks: Tuple[str, ...] = ()
+    conditions: Mapping[int, Condition] = {}
 
 
 def has_directive(text: str) -> bool:
@@ -133,6 +135,7 @@ class _Translation:
         ]
         self._directed = choice.loops
         self._least = choice.least
+        self._conditions = choice.conditions
         #: For each loop the names of its PRIVATE list.
         self._listed = {number: {name.name for name in loop.private} for number, loop in program.loops.items()}
         texts = [statement.text for statement in self._statements]
@@ -191,22 +194,27 @@ class _Translation:
         inner = self._names_in(loop)
         private = [inner.get(name, name) for name in self._private_names(loop)]
         sums = [names.get(name, name) for name in self._sums.get(loop.number, ())]
-        yield from _directive(private, sums, self._condition(loop, text))
+        condition = self._conditions.get(loop.number)
+        clause = condition.text(names) if condition is not None else self._condition(loop, text)
+        yield from _directive(private, sums, clause)
 
     def _condition(self, loop: Loop, text: str) -> str:
-        """The condition of the clause IF: whether a loop with this text has as many iterations as are wanted."""
+        """The condition of the clause IF: whether a loop with this text has as many iterations as are wanted.
+
+        A difference is one of DOUBLE PRECISION, since the bounds of a loop without iterations may be far apart.
+        """
         least = self._least.get(loop.number)
         if least is None:
             return ""
         first, last, *steps = _bounds(text)
         step = value_of(loop.form.step, self._program.constants) if loop.form.step is not None else 1
         if step is None or step == 0:
-            return f"({last}-({first})+{steps[0]})/({steps[0]}).GE.{least}"
+            return f"({last}-1D0*({first})+{steps[0]})/({steps[0]}).GE.{least}"
         known = value_of(loop.form.first, self._program.constants)
         far = (least - 1) * step
         if known is not None and abs(known + far) < 2**31:
             return f"{last}.{'GE' if step > 0 else 'LE'}.{known + far}"
-        return f"{last}-({first}).GE.{far}" if step > 0 else f"{first}-({last}).GE.{-far}"
+        return f"{last}-1D0*({first}).GE.{far}" if step > 0 else f"{first}-1D0*({last}).GE.{-far}"
 
     # Statements
 

@@ -8,7 +8,7 @@
 The program ped is that of PEDX_PED, or the one beside pedx. It wants gfortran, and gcov for the examples. A time is that of a whole
 run, the least of several: the runs take turns, so that other work slows all of them alike. `examples` uses the threads of
 OMP_NUM_THREADS, or as many as there are processors, and ends with status 1 where a program is slower by more than a tenth (and a
-millisecond, in which OpenMP is loaded), and its heading doesn't say that this depends on the data.
+millisecond, in which OpenMP is loaded).
 """
 import os
 import pathlib
@@ -139,11 +139,10 @@ def examples(ped):
         if found is None:
             print(f"{name}: passed over: the run ends with a fault")
         elif max(found) > TENTH * found[0] + LOADING:
-            said = " (its heading says that this depends on the data)" if "DEPENDS ON THE DATA" in exports[0].text else ""
-            slower += not said
+            slower += 1
             times = ", ".join(f"{one*1000:.2f}" for one in found)
-            print(f"{name}: in ms, without OpenMP and with it: {times}{said}", flush=True)
-    print(f"gains: {looked} programs, {same} without directives, {slower} slower with directives, and not said so")
+            print(f"{name}: in ms, without OpenMP and with it: {times}", flush=True)
+    print(f"gains: {looked} programs, {same} without directives, {slower} slower with directives")
     return 1 if slower else 0
 
 

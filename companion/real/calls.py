@@ -18,6 +18,7 @@ from .commons import Commons, Shared
 from .components import Part, key_of
 from .designators import first_subscripts, value_of
 from .facts import Facts
+from .generics import any_of, fitting
 from .procedures import Procedures, has_interface, is_interface
 from .recurrences import type_of
 from .roles import Roles
@@ -57,33 +58,64 @@ class Calls:
         Without `exactly` all elements of arrays may be used.
         """
         reason = "function" if is_function else "call"
+        specifics = self.procedures.specifics(symbols, name, is_function)
+        if isinstance(specifics, str):
+            return Trouble(reason, specifics)
+        if specifics is not None:
+            return self._any_called(symbols, name, arguments, specifics, is_function, exactly)
         target = self.procedures.find(symbols, name, is_function)
         if isinstance(target, str):
             more = "; --with FILE names more" if target.endswith("isn't in the files") else ""
             return Trouble(reason, target + more)
+        return self._called(symbols, target, name, arguments, _Way(is_function, exactly))
+
+    def _any_called(
+        self, symbols: Symbols, name: str, arguments: Sequence[tree.Expression], specifics: Sequence[Unit],
+        is_function: bool, exactly: bool,
+    ) -> Union[Called, Trouble]:
+        """What a generic name does: what any of the procedures does that the call may fit."""
+        found: List[Called] = []
+        for target in fitting(symbols, Roles(symbols, self), specifics, arguments):
+            one = self._called(symbols, target, target.name, arguments, _Way(is_function, exactly, True))
+            if isinstance(one, Trouble):
+                return Trouble(one.reason, f"{name} may be {target.name}: {one.words}")
+            found.append(one)
+        if not found:
+            reason = "function" if is_function else "call"
+            return Trouble(reason, f"{name} is a generic name, and none of its procedures fits")
+        return any_of(found)
+
+    def _called(
+        self, symbols: Symbols, target: Unit, name: str, arguments: Sequence[tree.Expression], way: _Way
+    ) -> Union[Called, Trouble]:
+        reason = "function" if way.is_function else "call"
         summary = self.summaries.of(target)
         if isinstance(summary, str):
             return Trouble(reason, f"{name} {summary}")
         try:
-            return _Mapping(self, symbols, target, summary, is_function, exactly).called(name, arguments)
+            return _Mapping(self, symbols, target, summary, way).called(name, arguments)
         except Unknown as unknown:
             return Trouble(reason, f"{name} {unknown.words}")
 
     def function_type(self, symbols: Symbols, name: str) -> str:
         """The type of the value of a function that a unit refers to, empty where it isn't a scalar in the files."""
-        target = self.procedures.find(symbols, name, True)
-        if isinstance(target, str):
-            return ""
-        result = result_of(self.scopes.of(target))
-        return "" if result.rank else result.type
+        results = [result_of(self.scopes.of(target)) for target in self._functions(symbols, name)]
+        types = {"" if one.rank else one.type for one in results}
+        return types.pop() if len(types) == 1 else ""
 
     def function_key(self, symbols: Symbols, name: str) -> Optional[Tuple[str, str]]:
         """Where the type of a function's value is defined, if that is a structure, and its name there."""
+        found = [self.scopes.of(target) for target in self._functions(symbols, name)]
+        keys = {key_of(own, result_of(own)) for own in found}
+        return keys.pop() if len(keys) == 1 else None
+
+    def _functions(self, symbols: Symbols, name: str) -> List[Unit]:
+        """The functions that a name may mean; none where they aren't all known."""
+        specifics = self.procedures.specifics(symbols, name, True)
+        if specifics is not None:
+            return [] if isinstance(specifics, str) else specifics
         target = self.procedures.find(symbols, name, True)
-        if isinstance(target, str):
-            return None
-        own = self.scopes.of(target)
-        return key_of(own, result_of(own))
+        return [] if isinstance(target, str) else [target]
 
     def view(self, symbols: Symbols) -> View:
         """The variables of a unit that procedures may share."""
@@ -151,6 +183,14 @@ class View:
         return [(name, one) for name, one in self._names.get(shared.home, []) if one.overlaps(shared)]
 
 
+class _Way(NamedTuple):
+    """How a procedure is called: as a function, by a generic name; `exactly` is as in `Calls.called`."""
+
+    is_function: bool
+    exactly: bool
+    is_generic: bool = False
+
+
 class _Touched(NamedTuple):
     """A variable of the calling unit that a procedure uses: as an argument, or under a name of its own."""
 
@@ -163,17 +203,15 @@ class _Touched(NamedTuple):
 class _Mapping:
     """Puts the arguments of one call into a summary."""
 
-    def __init__(
-        self, calls: Calls, symbols: Symbols, target: Unit, summary: Summary, is_function: bool, exactly: bool
-    ) -> None:
+    def __init__(self, calls: Calls, symbols: Symbols, target: Unit, summary: Summary, way: _Way) -> None:
         self._calls = calls
         self._symbols = symbols
         self._roles = Roles(symbols, calls)
         self._target = calls.scopes.of(target)
         self._summary = summary
-        self._is_function = is_function
-        self._exactly = exactly
-        self._has_interface = has_interface(symbols, target)
+        self._is_function = way.is_function
+        self._exactly = way.exactly
+        self._has_interface = way.is_generic or has_interface(symbols, target)
         #: Whether a compiler compares the arguments with the dummies of the body itself.
         self._is_checked = target.host is not None and not is_interface(target)
         self._assumes: Set[str] = set(summary.assumes)

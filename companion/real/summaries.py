@@ -170,7 +170,7 @@ class Summaries:
                 self._known[unit] = unknown.words
         for _ in range(_MOST_ROUNDS):
             found = {unit: _loosened(self._found(unit), self.scopes.of(unit)) for unit in circle}
-            if all(self._known[unit] == one for unit, one in found.items()):
+            if all(_is_same(self._known[unit], one) for unit, one in found.items()):
                 return
             self._known.update(found)
         self._known.update({unit: "calls itself in a way that isn't understood" for unit in circle})
@@ -260,6 +260,11 @@ def _at_worst(symbol: Symbol, use: Use = Use()) -> Use:
     return Use(WHOLE) if "INTENT(IN)" in symbol.attributes and not use.writes else ANYTHING
 
 
+def _is_same(before: Union[Summary, str], after: Union[Summary, str]) -> bool:
+    """Whether nothing new was found about a procedure; words about what isn't known may go on growing."""
+    return before == after or isinstance(before, str) and isinstance(after, str)
+
+
 def _loosened(found: Union[Summary, str], symbols: Symbols) -> Union[Summary, str]:
     """A summary of a procedure that may call itself: of its arguments nothing is excluded."""
     if isinstance(found, str):
@@ -297,7 +302,9 @@ class _Listener:
         self, symbols: Symbols, name: str, arguments: Sequence[tree.Expression], is_function: bool
     ) -> Union[Called, Trouble]:
         """Notes a procedure."""
-        found = self._procedures.find(symbols, name, is_function)
+        specifics = self._procedures.specifics(symbols, name, is_function)
+        found = self._procedures.find(symbols, name, is_function) if specifics is None else name
+        self.found.update(specifics if isinstance(specifics, list) else [])
         if isinstance(found, Unit):
             self.found.add(found)
         return Trouble("call", name)

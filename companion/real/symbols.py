@@ -276,6 +276,14 @@ class Symbols:
         facts = self.declarations.names.get(name)
         return None if facts is not None and facts.is_own else self._foreign(name)
 
+    def used_as(self, name: str) -> Iterator[Tuple[Symbols, str]]:
+        """The modules of the files from which a USE brings a name, each with the name there."""
+        for use in self.declarations.uses:
+            module = None if use.intrinsic else self._scopes.module(use.module)
+            for original in _originals(use, name) if module is not None and module is not self else ():
+                if module is not None and module.public(original) is not None:
+                    yield module, original
+
     def home_of(self, symbol: Symbol) -> Optional[Symbols]:
         """The names of the unit that declares a symbol; none where that isn't visible."""
         return self._home(symbol)

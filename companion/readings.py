@@ -9,7 +9,7 @@ from __future__ import annotations
 import argparse
 import sys
 from contextlib import contextmanager
-from typing import Dict, Iterator, List, Optional, Tuple
+from typing import TYPE_CHECKING, Dict, Iterator, List, Optional, Tuple
 
 from .languages import has_profile_words, is_real_by_name
 from .messages import NOTE, listed
@@ -19,13 +19,18 @@ from .progress import Progress
 from .statuses import CompanionError, ProgramRefused, Status
 from .views import Question, View, open_view
 
+if TYPE_CHECKING:
+    from .commands.real import Reading
+
 #: The commands that read real Fortran, too.
-COMMANDS = ("loops", "why", "omp", "model", "json")
+COMMANDS = ("loops", "profile", "why", "omp", "model", "json")
+#: Those that take several files, or a folder.
+PROJECTS = ("loops", "profile")
 
 #: The words for real Fortran alone, and those for programs of the profile alone, with what they are when not given.
 _REAL: Dict[str, object] = {
     "--form": None, "--columns": None, "-I": [], "--assume": [], "--deny": [], "--exact": False, "--openmp": None,
-    "--at": [], "--in-place": False, "--check": False, "--with": [],
+    "--at": [], "--in-place": False, "--check": False, "--with": [], "--each": False, "--jobs": None,
 }
 _PROFILE: Dict[str, object] = {
     "--script": None, "--data": None, "--printed": False, "--no-trials": True, "--statement": [], "--live": False,
@@ -57,6 +62,9 @@ def add_words(command: argparse.ArgumentParser, name: str) -> None:
     group.add_argument("--openmp", choices=("4.5", "5.0"), help="the version that directives are for; else 4.5")
     if name == "loops":
         group.add_argument("--json", dest="as_json", action="store_true", help="print the table as JSON")
+        group.add_argument("--each", action="store_true", help="of several files: show each loop, too")
+    if name in PROJECTS:
+        group.add_argument("--jobs", metavar="N", type=int, help="so many processes at a time; else one a processor")
     if name == "omp":
         group.add_argument(
             "--at", metavar="LINE", type=int, action="append", default=[], help="a directive for the loop at LINE alone"
@@ -131,11 +139,7 @@ def _answer(
 ) -> Tuple[Optional[str], Tuple[str, ...], Status]:
     from .commands import real
 
-    reading = real.Reading(
-        options.form, options.columns or 72, options.folders, options.assume, options.deny, options.exact,
-        options.openmp or real.OPENMP, options.others,
-    )
-    one = real.opened(options.file, reading)
+    one = real.opened(options.file, _reading(options))
     if refusal is not None and not one.is_fortran:
         raise refusal
     lines = [options.line] if options.line is not None else []
@@ -152,6 +156,38 @@ def _answer(
         [*lines, *options.at], options.output, options.in_place, options.check, options.data
     )
     return real.omp(one, ped, writing, progress)
+
+
+def _reading(options: argparse.Namespace) -> Reading:
+    """How files are read."""
+    from .commands import real
+
+    return real.Reading(
+        options.form, options.columns or 72, options.folders, options.assume, options.deny, options.exact,
+        options.openmp or real.OPENMP, options.others,
+    )
+
+
+def answer_project(options: argparse.Namespace, ped: Ped) -> Answer:
+    """Carries out a call on several files of real Fortran, or on those in a folder."""
+    what = "several files are read as Fortran, which takes no"
+    words = [word for word in _given(options, _PROFILE) if word not in ("--data", "--counts")]
+    words += ["--profile"] if options.profile else []
+    if words or options.loops:
+        wrong = listed(words) if words else f"numbers of loops, as {options.loops[0]}"
+        raise CompanionError(Status.BAD_WORDS, f"{what} {wrong}")
+    if options.jobs is not None and options.jobs < 1:
+        raise CompanionError(Status.BAD_WORDS, f"--jobs {options.jobs} leaves nobody to work")
+    from .commands import project
+
+    with _progress() as progress:
+        one = project.opened(options.files, _reading(options), progress)
+        asked = project.Asked(
+            options.jobs or project.default_processes(), getattr(options, "each", False),
+            getattr(options, "as_json", False),
+        )
+        text, messages, status = project.loops(one, ped, asked, progress)
+    return text, "".join(row + "\n" for row in messages), status
 
 
 def _note(name: str, refusal: CompanionError) -> str:

@@ -31,13 +31,14 @@ PROJECTS = ("loops", "profile")
 _REAL: Dict[str, object] = {
     "--form": None, "--columns": None, "-I": [], "--assume": [], "--deny": [], "--exact": False, "--openmp": None,
     "--at": [], "--in-place": False, "--check": False, "--with": [], "--each": False, "--jobs": None,
+    "--in": None,
 }
 _PROFILE: Dict[str, object] = {
     "--script": None, "--data": None, "--printed": False, "--no-trials": True, "--statement": [], "--live": False,
     "--all": False, "--strict": False, "--counts": False, "--time": False,
 }
 #: Where the words are in what argparse has read, if not under their own names.
-_KEYS = {"-I": "folders", "--no-trials": "trials", "--with": "others"}
+_KEYS = {"-I": "folders", "--no-trials": "trials", "--with": "others", "--in": "place"}
 
 #: The text of standard output, none where nothing is to be written; that of standard error; the status.
 Answer = Tuple[Optional[str], str, Status]
@@ -65,6 +66,7 @@ def add_words(command: argparse.ArgumentParser, name: str) -> None:
         group.add_argument("--each", action="store_true", help="of several files: show each loop, too")
     if name in PROJECTS:
         group.add_argument("--jobs", metavar="N", type=int, help="so many processes at a time; else one a processor")
+        group.add_argument("--in", dest="place", metavar="DIR", help="a counted run is in a copy of this folder")
     if name == "omp":
         group.add_argument(
             "--at", metavar="LINE", type=int, action="append", default=[], help="a directive for the loop at LINE alone"
@@ -115,6 +117,8 @@ def _given(options: argparse.Namespace, words: Dict[str, object]) -> List[str]:
 
 def answer_real(options: argparse.Namespace, ped: Ped) -> Answer:
     """Carries out a call on real Fortran."""
+    if options.command == "profile" or options.command == "loops" and options.counts:
+        return _counted_real(options, ped)
     words = _given(options, _PROFILE)
     if options.command == "omp" and options.check:
         words = [word for word in words if word != "--data"]
@@ -168,14 +172,25 @@ def _reading(options: argparse.Namespace) -> Reading:
     )
 
 
+def _counted_real(options: argparse.Namespace, ped: Ped) -> Answer:
+    """Carries out a call on one file that is run."""
+    if options.line is not None:
+        raise CompanionError(Status.BAD_WORDS, f"what counts a run takes {shown(options.file)} as a whole")
+    options.files, options.each = [options.file], True
+    text, messages, status = answer_project(options, ped)
+    refusal = getattr(options, "refusal", None)
+    return text, (f"{_note(options.file, refusal)}\n" if refusal is not None else "") + messages, status
+
+
 def answer_project(options: argparse.Namespace, ped: Ped) -> Answer:
     """Carries out a call on several files of real Fortran, or on those in a folder."""
-    what = "several files are read as Fortran, which takes no"
     words = [word for word in _given(options, _PROFILE) if word not in ("--data", "--counts")]
     words += ["--profile"] if options.profile else []
+    runs = options.command == "profile" or options.counts
+    words += [] if runs else [word for word in ("--data", "--in") if word in _given(options, {**_PROFILE, **_REAL})]
     if words or options.loops:
         wrong = listed(words) if words else f"numbers of loops, as {options.loops[0]}"
-        raise CompanionError(Status.BAD_WORDS, f"{what} {wrong}")
+        raise CompanionError(Status.BAD_WORDS, f"a call on several files, or without --counts, takes no {wrong}")
     if options.jobs is not None and options.jobs < 1:
         raise CompanionError(Status.BAD_WORDS, f"--jobs {options.jobs} leaves nobody to work")
     from .commands import project
@@ -184,7 +199,7 @@ def answer_project(options: argparse.Namespace, ped: Ped) -> Answer:
         one = project.opened(options.files, _reading(options), progress)
         asked = project.Asked(
             options.jobs or project.default_processes(), getattr(options, "each", False),
-            getattr(options, "as_json", False),
+            getattr(options, "as_json", False), runs, options.command == "profile", options.data, options.place,
         )
         text, messages, status = project.loops(one, ped, asked, progress)
     return text, "".join(row + "\n" for row in messages), status

@@ -4,14 +4,16 @@ from __future__ import annotations
 
 import json as notation
 import os
-from typing import Dict, Iterator, List, NamedTuple, Sequence, Tuple
+from dataclasses import dataclass
+from typing import Dict, Iterator, List, NamedTuple, Optional, Sequence, Tuple
 
 from ..messages import NOTE
 from ..ped import Ped, read_file, shown
 from ..progress import Progress
 from ..real import assumptions, blocks, library
+from ..real.counted import Run, costs_of
 from ..real.document import SCHEMA, Value, readable
-from ..real.overview import helps, overview
+from ..real.overview import Costs, helps, overview, profile
 from ..real.project import Done, Project, default_processes, judged, sources
 from ..real.units import File
 from ..statuses import CompanionError, Status
@@ -21,12 +23,21 @@ from .real import Answer, Reading, is_other_language
 __all__ = ["Asked", "default_processes", "loops", "opened"]
 
 
-class Asked(NamedTuple):
-    """What is asked of a project: how many processes judge, whether each loop is shown, and whether as JSON."""
+@dataclass(frozen=True)
+class Asked:
+    """What is asked of a project.
 
-    jobs: int
-    each: bool
-    as_json: bool
+    `jobs` processes judge. `each` shows each loop, too, and `is_profile` those that a run enters, and nothing else.
+    With `counts` the program is run on the text of `data` in a copy of `folder`.
+    """
+
+    jobs: int = 1
+    each: bool = False
+    as_json: bool = False
+    counts: bool = False
+    is_profile: bool = False
+    data: Optional[str] = None
+    folder: Optional[str] = None
 
 
 def paths_of(words: Sequence[str]) -> List[str]:
@@ -55,6 +66,7 @@ class Opened(NamedTuple):
 
     project: Project
     names: List[str]
+    reading: Reading
     notes: List[str]
 
 
@@ -78,7 +90,7 @@ def opened(words: Sequence[str], reading: Reading, progress: Progress) -> Opened
     others = list(_read(_others(reading.others, paths), reading, progress))
     notes = [] if note is None else [f"pedx: {NOTE}: {note}"]
     project = Project(kept, others, granted, reading.openmp >= "5.0")
-    return Opened(project, [shown(file.path) for file in kept], notes)
+    return Opened(project, [shown(file.path) for file in kept], reading, notes)
 
 
 def _others(words: Sequence[str], paths: Sequence[str]) -> List[str]:
@@ -95,13 +107,34 @@ def _read(paths: Sequence[str], reading: Reading, progress: Progress) -> Iterato
 
 def loops(one: Opened, ped: Ped, asked: Asked, progress: Progress) -> Answer:
     """The report about all loops of a project."""
+    costs = _costs(one, asked, progress) if asked.counts or asked.is_profile else None
     done = judged(one.project, ped, asked.jobs, progress)
-    text = document(one, done) if asked.as_json else overview(one.names, done, each=asked.each)
+    if asked.as_json:
+        text = document(one, done, costs)
+    elif asked.is_profile:
+        text = profile(one.names, done, costs or {})
+    else:
+        text = overview(one.names, done, costs, asked.each)
     return Answer(text, tuple(one.notes))
 
 
-def document(one: Opened, done: Sequence[Done]) -> str:
+def _costs(one: Opened, asked: Asked, progress: Progress) -> Costs:
+    """What a run costs in each loop."""
+    progress.announce("gfortran compiles and runs the program")
+    others = [word for word in one.reading.others if is_other_language(word)]
+    data = read_file(asked.data) if asked.data is not None else None
+    run = Run(one.reading.form, one.reading.columns, one.reading.folders, others, data, asked.folder)
+    return costs_of(one.project, run)
+
+
+def document(one: Opened, done: Sequence[Done], costs: Optional[Costs] = None) -> str:
     """The report as JSON: the documents of the files, and what would help."""
+    if costs is not None:
+        for loop in (loop for part in done for loop in part.loops):
+            cost = None if loop.included else costs.get((loop.file, loop.line))
+            loop.value["cost"] = None if cost is None else {
+                "entries": cost.entries, "iterations": max(cost.iterations, -1), "share": round(cost.share, 2),
+            }
     files = [_document(name, file, part) for name, file, part in zip(one.names, one.project.files, done)]
     found = [
         {"loops": each.loops, "assume": list(each.assumed), "missing": list(each.missing)}

@@ -124,9 +124,14 @@ def cost_columns(cost: Cost) -> str:
 
 def _costly(title: str, names: Sequence[str], loops: Sequence[Seen], costs: Costs) -> Iterator[str]:
     yield title if loops else f"{title} none was entered"
-    shown = loops[:_MOST_ROWS]
-    if not shown:
-        return
+    if loops:
+        yield from _rows(names, loops[:_MOST_ROWS], costs)
+    if len(loops) > _MOST_ROWS:
+        yield f"and {len(loops) - _MOST_ROWS} more"
+
+
+def _rows(names: Sequence[str], shown: Sequence[Seen], costs: Costs) -> Iterator[str]:
+    """A table of loops with what they cost."""
     places = [place_of(names, loop) for loop in shown]
     headers = [_header(loop) for loop in shown]
     left, middle = max(map(len, places)), max(map(len, headers))
@@ -134,8 +139,16 @@ def _costly(title: str, names: Sequence[str], loops: Sequence[Seen], costs: Cost
     for loop, place, header in zip(shown, places, headers):
         columns = cost_columns(costs[loop.file, loop.line])
         yield f"{columns}  {place:{left}}  {header:{middle}}  {loop.said}"
-    if len(loops) > len(shown):
-        yield f"and {len(loops) - len(shown)} more"
+
+
+def profile(names: Sequence[str], done: Sequence[Done], costs: Costs) -> str:
+    """All loops that a run has entered, the most expensive first."""
+    loops = [loop for one in done for loop in one.loops]
+    having = [loop for loop in loops if not loop.included and costs.get((loop.file, loop.line), _NEVER).entries]
+    having.sort(key=lambda loop: -costs[loop.file, loop.line].share)
+    rows = [f"{counted(len(names), 'file')}, {counted(len(loops), 'loop')}, {len(having)} of them entered"]
+    rows += _rows(names, having, costs) if having else []
+    return "".join(row.rstrip() + "\n" for row in rows)
 
 
 def _header(loop: Seen) -> str:

@@ -25,7 +25,7 @@ if TYPE_CHECKING:
 #: The commands that read real Fortran, too.
 COMMANDS = ("loops", "profile", "why", "omp", "model", "json")
 #: Those that take several files, or a folder.
-PROJECTS = ("loops", "profile")
+PROJECTS = ("loops", "profile", "omp")
 
 #: The words for real Fortran alone, and those for programs of the profile alone, with what they are when not given.
 _REAL: Dict[str, object] = {
@@ -187,12 +187,16 @@ def answer_project(options: argparse.Namespace, ped: Ped) -> Answer:
     words = [word for word in _given(options, _PROFILE) if word not in ("--data", "--counts")]
     words += ["--profile"] if options.profile else []
     runs = options.command == "profile" or options.counts
+    if options.command == "omp":
+        words += [word for word in ("--at", "--in-place", "--check") if word in _given(options, _REAL)]
     words += [] if runs else [word for word in ("--data", "--in") if word in _given(options, {**_PROFILE, **_REAL})]
     if words or options.loops:
         wrong = listed(words) if words else f"numbers of loops, as {options.loops[0]}"
         raise CompanionError(Status.BAD_WORDS, f"a call on several files, or without --counts, takes no {wrong}")
     if options.jobs is not None and options.jobs < 1:
         raise CompanionError(Status.BAD_WORDS, f"--jobs {options.jobs} leaves nobody to work")
+    if options.command == "omp" and options.output is None:
+        raise CompanionError(Status.BAD_WORDS, "omp on several files wants -o DIR, a new folder for them")
     from .commands import project
 
     with _progress() as progress:
@@ -201,7 +205,10 @@ def answer_project(options: argparse.Namespace, ped: Ped) -> Answer:
             options.jobs or project.default_processes(), getattr(options, "each", False),
             getattr(options, "as_json", False), runs, options.command == "profile", options.data, options.place,
         )
-        text, messages, status = project.loops(one, ped, asked, progress)
+        if options.command == "omp":
+            text, messages, status = project.omp(one, ped, options.files, options.output, asked, progress)
+        else:
+            text, messages, status = project.loops(one, ped, asked, progress)
     return text, "".join(row + "\n" for row in messages), status
 
 

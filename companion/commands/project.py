@@ -5,22 +5,26 @@ from __future__ import annotations
 import json as notation
 import os
 from dataclasses import dataclass
-from typing import Dict, Iterator, List, NamedTuple, Optional, Sequence, Tuple
+from typing import Dict, Iterator, List, NamedTuple, Optional, Sequence, Set, Tuple
 
-from ..messages import NOTE
-from ..ped import Ped, read_file, shown
+from ..lines import split_lines
+from ..messages import NOTE, counted
+from ..ped import ENCODING, Ped, cause, read_file, shown
 from ..progress import Progress
 from ..real import assumptions, blocks, library
 from ..real.counted import Run, costs_of
 from ..real.document import SCHEMA, Value, readable
-from ..real.overview import Costs, helps, overview, profile
+from ..real.costs import Costs
+from ..real.directives import with_directives
+from ..real.overview import helps, overview, profile
+from ..real.report import PAGE
 from ..real.project import Done, Project, default_processes, judged, sources
 from ..real.units import File
 from ..statuses import CompanionError, Status
 from .real import Answer, Reading, is_other_language
 
 
-__all__ = ["Asked", "default_processes", "loops", "opened"]
+__all__ = ["Asked", "default_processes", "loops", "omp", "opened"]
 
 
 @dataclass(frozen=True)
@@ -89,7 +93,7 @@ def opened(words: Sequence[str], reading: Reading, progress: Progress) -> Opened
     kept = [file for file in files if file.path in named or os.path.realpath(file.path) not in included]
     others = list(_read(_others(reading.others, paths), reading, progress))
     notes = [] if note is None else [f"pedx: {NOTE}: {note}"]
-    project = Project(kept, others, granted, reading.openmp >= "5.0")
+    project = Project(kept, others, granted, reading.openmp)
     return Opened(project, [shown(file.path) for file in kept], reading, notes)
 
 
@@ -125,6 +129,83 @@ def _costs(one: Opened, asked: Asked, progress: Progress) -> Costs:
     data = read_file(asked.data) if asked.data is not None else None
     run = Run(one.reading.form, one.reading.columns, one.reading.folders, others, data, asked.folder)
     return costs_of(one.project, run)
+
+
+# --- omp -------------------------------------------------------------------------------------------------------------
+
+
+def omp(one: Opened, ped: Ped, words: Sequence[str], output: str, asked: Asked, progress: Progress) -> Answer:
+    """Writes all files with directives into a folder, which has nothing in it yet."""
+    targets = _targets(one, words, output)
+    one.project.writes = True
+    one.project.costs = _costs(one, asked, progress) if asked.counts else None
+    done = judged(one.project, ped, asked.jobs, progress)
+    texts = [_with_directives(file, part) for file, part in zip(one.project.files, done)]
+    for target, text in zip(targets, texts):
+        _write(target, text)
+    return Answer(None, (*one.notes, *_notes(one, done, output)))
+
+
+def _targets(one: Opened, words: Sequence[str], output: str) -> List[str]:
+    """Where the files go: those of a folder to their places in it, others to their own names."""
+    if os.path.exists(output) and not (os.path.isdir(output) and not os.listdir(output)):
+        raise CompanionError(Status.BAD_WORDS, f"-o {shown(output)} is there already; it has to be a new folder, or empty")
+    folders = [word for word in words if os.path.isdir(word)]
+    found: Dict[str, str] = {}
+    for file in one.project.files:
+        inside = [os.path.relpath(file.path, folder) for folder in folders if _is_in(file.path, folder)]
+        target = os.path.join(output, inside[0] if inside else os.path.basename(file.path))
+        if target in found:
+            raise CompanionError(
+                Status.BAD_WORDS, f"{shown(found[target])} and {shown(file.path)} would both be {shown(target)}"
+            )
+        found[target] = file.path
+    return list(found)
+
+
+def _is_in(path: str, folder: str) -> bool:
+    """Whether a file was found in a folder."""
+    return os.path.commonpath([os.path.abspath(path), os.path.abspath(folder)]) == os.path.abspath(folder)
+
+
+def _with_directives(file: File, done: Done) -> str:
+    """The text of a file with its directives; all other bytes are as they were."""
+    text = read_file(file.path)
+    if tuple(split_lines(text)) != tuple(file.lines):
+        raise CompanionError(Status.NOT_READ, f"{shown(file.path)} has changed meanwhile, so nothing is written")
+    return with_directives(text, {loop.line: loop.directive for loop in done.loops if loop.directive})
+
+
+def _write(target: str, text: str) -> None:
+    """Writes a new file."""
+    try:
+        os.makedirs(os.path.dirname(target), exist_ok=True)
+        with open(target, "xb") as stream:
+            stream.write(text.encode(ENCODING))
+    except OSError as error:
+        raise CompanionError(Status.NOT_READ, f"cannot write {shown(target)}: {cause(error)}") from error
+
+
+def _notes(one: Opened, done: Sequence[Done], output: str) -> Iterator[str]:
+    """What was written, and what that assumes."""
+    cited: Set[str] = set()
+    count = files = 0
+    for name, part in zip(one.names, done):
+        taken = [loop for loop in part.loops if loop.directive]
+        count, files = count + len(taken), files + bool(taken)
+        for loop in part.loops:
+            if loop.directive:
+                cited.update(loop.assumes)
+                yield f"{name}:{loop.line}: {NOTE}: {loop.note} (assumes {', '.join(loop.assumes)})"
+            elif loop.left:
+                yield f"{loop.included or name}:{loop.line}: {NOTE}: parallel, but gets no directive: {loop.left}"
+    if cited:
+        yield f"pedx: {NOTE}: assumed: {assumptions.cited(cited)} ({PAGE})"
+    words = "no directives" if not count else counted(count, "directive")
+    yield f"pedx: {NOTE}: {shown(output)}: {words} in {files} of {counted(len(done), 'file')}"
+
+
+# --- JSON ------------------------------------------------------------------------------------------------------------
 
 
 def document(one: Opened, done: Sequence[Done], costs: Optional[Costs] = None) -> str:

@@ -19,8 +19,8 @@ from ..ped import ENCODING, argument, cause, shown
 from ..statuses import CompanionError, Status
 from . import tree
 from .compiled import with_stack
-from .marking import Marks, counter_text, loops_counted, marked, marks_for, module_text
-from .overview import Cost, Costs
+from .costs import Costs
+from .marking import Marks, costs_by, counter_text, marked, marks_for, module_text
 from .project import Project
 from .units import File, Written
 
@@ -56,11 +56,7 @@ def costs_of(project: Project, run: Run) -> Costs:
     with tempfile.TemporaryDirectory(prefix="pedx-") as name:
         work = _Work(Path(name), compiler, files, project, run)
         work.compile(marks)
-        values = work.values(marks)
-    return {
-        where: Cost(entries, iterations, share)
-        for where, entries, iterations, share in loops_counted(marks, values)
-    }
+        return costs_by(marks, work.values(marks))
 
 
 class _Work:
@@ -91,7 +87,7 @@ class _Work:
         own[1].write_text(counter_text(marks, _VARIABLE), "ascii")
         self._call([*self._compiler, "-O2", "-w", "-c", *map(str, own)])
         folders = dict.fromkeys([os.path.dirname(os.path.abspath(one.path)) for one in self._files])
-        included = [f"-I{folder}" for folder in [*folders, *map(os.path.abspath, self._run.folders)]]
+        included = [f"-I{folder}" for folder in [*folders, *(os.path.abspath(one) for one in self._run.folders)]]
         others = [argument(os.path.abspath(one)) for one in self._run.others]
         self._call([
             *self._compiler, *_FLAGS, *self._layout(), *included, *paths, *others, "marks.o", "counter.o", "-o", "run",

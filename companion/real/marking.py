@@ -12,8 +12,9 @@ from __future__ import annotations
 import re
 from collections import defaultdict
 from dataclasses import dataclass, field
-from typing import Dict, FrozenSet, Iterator, List, Optional, Sequence, Tuple
+from typing import Dict, FrozenSet, List, Optional, Sequence, Tuple
 
+from .costs import Cost, Costs
 from .keywords import words_of
 from .symbols import Scopes
 from .units import Block, File, Node, Unit, Written, depth_of
@@ -339,10 +340,13 @@ end subroutine
 """
 
 
-def loops_counted(marks: Marks, values: Sequence[int]) -> Iterator[Tuple[Tuple[int, int], int, int, float]]:
-    """For each loop its file and line, entries, iterations (-1 where nothing counts them), and share."""
+def costs_by(marks: Marks, values: Sequence[int]) -> Costs:
+    """The cost of each loop, by what the counter has written."""
+    found: Costs = {}
     total, counts, inside = values[0], values[1:1 + marks.places], values[1 + marks.places:]
     for where, loop in marks.loops.items():
         iterations = -1 if loop.iterations is None else counts[loop.iterations - 1]
-        share = 100.0 * inside[loop.context - 1] / total if total else 0.0
-        yield where, counts[loop.entries - 1], iterations, share
+        executed = inside[loop.context - 1]
+        share = 100.0 * executed / total if total else 0.0
+        found[where] = Cost(counts[loop.entries - 1], iterations, executed, share)
+    return found

@@ -4,10 +4,11 @@ from __future__ import annotations
 
 from collections import Counter
 from dataclasses import dataclass
-from typing import Dict, Iterator, List, Optional, Sequence, Tuple
+from typing import Iterator, List, Optional, Sequence, Tuple
 
 from ..messages import counted
 from . import assumptions, report
+from .costs import NEVER, Cost, Costs
 from .project import Done, Seen
 from .verdicts import CARRIED, PARALLEL, REFUSED
 
@@ -15,22 +16,6 @@ from .verdicts import CARRIED, PARALLEL, REFUSED
 _MOST_ROWS = 12
 _MOST_WORDS = 3
 _WIDEST = 40
-
-
-@dataclass(frozen=True)
-class Cost:
-    """What a run has done of a loop: entries, iterations, and its share of all statements, in hundredths.
-
-    `iterations` is -1 where nothing counts them.
-    """
-
-    entries: int
-    iterations: int
-    share: float
-
-
-#: The costs of loops, by the number of their file and by their line.
-Costs = Dict[Tuple[int, int], Cost]
 
 
 def overview(names: Sequence[str], done: Sequence[Done], costs: Optional[Costs] = None, each: bool = False) -> str:
@@ -99,7 +84,7 @@ def _paying(names: Sequence[str], loops: Sequence[Seen], costs: Costs) -> Iterat
     """The loops that a run has carried out, the most expensive first; of parallel ones the outermost alone."""
     having = [
         loop for loop in loops
-        if not loop.included and not loop.is_inside and costs.get((loop.file, loop.line), _NEVER).entries
+        if not loop.included and not loop.is_inside and costs.get((loop.file, loop.line), NEVER).entries
     ]
     having.sort(key=lambda loop: -costs[loop.file, loop.line].share)
     parallel = [loop for loop in having if loop.word == PARALLEL]
@@ -109,8 +94,6 @@ def _paying(names: Sequence[str], loops: Sequence[Seen], costs: Costs) -> Iterat
         yield ""
         yield from _costly("other loops, by what they cost:", names, others, costs)
 
-
-_NEVER = Cost(0, 0, 0.0)
 
 #: The headings of the columns of costs.
 COSTS = f"{'share':>6}  {'entries':>9}  {'iterations':>11}"
@@ -144,7 +127,7 @@ def _rows(names: Sequence[str], shown: Sequence[Seen], costs: Costs) -> Iterator
 def profile(names: Sequence[str], done: Sequence[Done], costs: Costs) -> str:
     """All loops that a run has entered, the most expensive first."""
     loops = [loop for one in done for loop in one.loops]
-    having = [loop for loop in loops if not loop.included and costs.get((loop.file, loop.line), _NEVER).entries]
+    having = [loop for loop in loops if not loop.included and costs.get((loop.file, loop.line), NEVER).entries]
     having.sort(key=lambda loop: -costs[loop.file, loop.line].share)
     rows = [f"{counted(len(names), 'file')}, {counted(len(loops), 'loop')}, {len(having)} of them entered"]
     rows += _rows(names, having, costs) if having else []

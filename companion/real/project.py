@@ -18,8 +18,9 @@ from typing import Dict, FrozenSet, Iterator, List, Optional, Sequence, Tuple, U
 from ..ped import Ped
 from ..progress import Progress
 from ..statuses import CompanionError, Status
-from . import report
+from . import exporting, report
 from .calls import Calls
+from .costs import NEVER, Costs
 from .document import Value, loop_value, unit_value
 from .symbols import Scopes
 from .units import File, Unit
@@ -77,6 +78,10 @@ class Seen:
     assumes: Tuple[str, ...]
     value: Dict[str, Value] = field(compare=False, repr=False)
     is_inside: bool = False
+    #: The lines of its directive, and the same in one line; where it is parallel and gets none, why.
+    directive: Tuple[str, ...] = ()
+    note: str = ""
+    left: str = ""
 
 
 @dataclass(frozen=True)
@@ -99,12 +104,17 @@ class Done:
 
 @dataclass(eq=False)
 class Project:
-    """Files that are asked about, and `others` that have procedures and modules of theirs."""
+    """Files that are asked about, and `others` that have procedures and modules of theirs.
+
+    With `writes` the loops that may have a directive get one; where there are costs, those alone that it pays for.
+    """
 
     files: Sequence[File]
     others: Sequence[File]
     granted: FrozenSet[str]
-    conditional: bool = False
+    openmp: str = "4.5"
+    writes: bool = False
+    costs: Optional[Costs] = None
     scopes: Scopes = field(init=False)
     calls: Calls = field(init=False)
     units: List[List[Unit]] = field(init=False)
@@ -131,9 +141,29 @@ class Project:
         """Carries out a task."""
         file, units = self.files[task.file], self.units[task.file][task.first:task.last]
         places = [place for unit in units for place in places_in(file, unit, self.scopes, self.calls)]
-        judged = verdicts(ped, places, self.granted, self.conditional)
-        loops = tuple(_seen(task.file, verdict) for verdict in judged)
+        judged = verdicts(ped, places, self.granted, self.openmp >= "5.0")
+        seen = [_seen(task.file, verdict) for verdict in judged]
+        loops = tuple(self._directed(file, seen, judged) if self.writes else seen)
         return Done(tuple(unit_value(unit, self.scopes) for unit in units), loops)
+
+    def _directed(self, file: File, seen: Sequence[Seen], judged: Sequence[Verdict]) -> Iterator[Seen]:
+        """The loops of some units with their directives."""
+        paying = [verdict for one, verdict in zip(seen, judged) if self._pays(one)]
+        chosen = exporting.chosen(file, paying, self.openmp)
+        taken = {id(verdict) for verdict in chosen.verdicts}
+        left = {id(one.verdict): one.words for one in chosen.left}
+        for one, verdict in zip(seen, judged):
+            if id(verdict) in taken:
+                lines = exporting.lines_for(file, verdict)
+                one = replace(one, directive=tuple(lines), note=exporting.written_for(file, verdict))
+            elif id(verdict) in left:
+                one = replace(one, left=left[id(verdict)])
+            yield one
+
+    def _pays(self, loop: Seen) -> bool:
+        if self.costs is None:
+            return True
+        return not loop.included and self.costs.get((loop.file, loop.line), NEVER).pays
 
 
 def _seen(file: int, verdict: Verdict) -> Seen:

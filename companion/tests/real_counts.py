@@ -20,9 +20,9 @@ from .real_corpora import FOLDER
 FIXED = """\
       PROGRAM COUNTS
       INTEGER I, J, K, N, F
+      F(I) = I + 1
       K = 0
       N = 0
-      F(I) = I + 1
       DO 10 I = 1, 7
 C     Both end at one label.
       DO 10 J = 1, 10
@@ -166,7 +166,7 @@ class Counted(unittest.TestCase):
 
     def test_faults(self) -> None:
         for text, status, said in (
-            ("subroutine s\nend\n", Status.BAD_WORDS, "no main program"),
+            ("subroutine s\nend\n", Status.BAD_WORDS, "has a main program"),
             ("read *, i\nend\n", Status.FAULT, "data are missing"),
             ("do i = 1, 3\nend do\nstop 3\nend\n", Status.FAULT, "status 3"),
             ("x = 1 +\nend\n", Status.NO_COMPILER, "doesn't compile"),

@@ -7,7 +7,7 @@ import gc
 import sys
 import traceback
 from contextlib import contextmanager
-from typing import IO, Callable, Dict, Iterator, List, Optional, Sequence, Tuple
+from typing import IO, Callable, Dict, Iterator, List, Optional, Sequence, Tuple, Union
 
 from . import VERSION
 from .commands.calls import calls
@@ -20,14 +20,14 @@ from .commands.profile import profile
 from .commands.tune import tune
 from .commands.why import Wanted, why
 from .counting import Counts, counts_of
-from .languages import file_and_line
+from .languages import file_and_line, is_project
 from .messages import ERROR
 from .openmp import Wishes
 from .output import tell, use_locale, write_or_close, write_to
 from .panes import KINDS, MARKS
 from .ped import Ped, cause, find_ped, read_file, shown
 from .progress import Progress
-from .readings import COMMANDS, add_words, answer_real, check_language, view_or_none
+from .readings import COMMANDS, PROJECTS, add_words, answer_project, answer_real, check_language, view_or_none
 from .statuses import CompanionError, ProgramRefused, Status
 from .views import Question, View, open_view
 
@@ -60,7 +60,7 @@ docs/COMPANION.md is the manual, docs/REAL.md that of real Fortran.
 #: Parentheses nest up to 660 deep in a statement, and the calls that read them twice as deep.
 _DEPTH = 5000
 
-_LOOPS = "the statement numbers of the wanted loops; in real Fortran lines"
+_LOOPS = "the statement numbers of the wanted loops; in real Fortran lines, or further files"
 
 #: How many objects more there may be before garbage is looked for.
 _GARBAGE = 500_000
@@ -89,6 +89,12 @@ def main(words: Optional[List[str]] = None) -> int:
 
 def _carried_out(options: argparse.Namespace) -> int:
     options.line = None
+    if options.command in PROJECTS:
+        words = [options.file, *options.loops]
+        options.files = [word for word in words if isinstance(word, str)]
+        options.loops = [word for word in options.loops if not isinstance(word, str)]
+        if is_project(options.files):
+            return _of_project(options)
     if options.command in COMMANDS:
         options.file, options.line = file_and_line(options.file)
     check_language(options.command, options.file)
@@ -102,6 +108,14 @@ def _carried_out(options: argparse.Namespace) -> int:
         return _ended("".join(row + "\n" for row in rows), refusal.status)
     if out is not None:
         _write(getattr(options, "output", None), out)
+    return _ended(messages, status)
+
+
+def _of_project(options: argparse.Namespace) -> int:
+    """Carries out a call on several files."""
+    out, messages, status = answer_project(options, Ped(find_ped(options.ped)))
+    if out is not None:
+        _write(None, out)
     return _ended(messages, status)
 
 
@@ -227,6 +241,8 @@ def _parser() -> argparse.ArgumentParser:
             name, help=purpose, description=description, epilog=_STATUSES, formatter_class=layout
         )
         words = "the program, or FILE:LINE in real Fortran" if name in COMMANDS else "the program"
+        if name in PROJECTS:
+            words += "; several files, or a folder, are read as one program of real Fortran"
         command.add_argument("file", metavar="FILE", help=words)
         _add_common(command, is_editor=name == "edit")
         if name in COMMANDS:
@@ -235,12 +251,15 @@ def _parser() -> argparse.ArgumentParser:
 
     add("edit", "edit a program and transform its loops, with both panes on a terminal")
     _add_loops(add("loops", "say which loops are parallel, what the others carry, and what to try there"))
-    add("profile", "say how often a run enters each loop, and which share of all statements it executes there")
+    command = add("profile", "say how often a run enters each loop, and which share of all statements it executes there")
+    command.add_argument("loops", metavar="FILE", nargs="*", help="further files of real Fortran")
     command = add("tune", "say what is in the way of each loop, and which single step removes it")
     command.add_argument("loops", metavar="S", type=int, nargs="*", help="the statement numbers of the wanted loops")
     add("calls", "say which CALLs there are, what depends on them, and which can be inlined")
     _add_filters(add("why", "say of each row of the dependence pane why it is there"))
-    _add_omp(add("omp", "write the program as FORTRAN with OpenMP directives, for gfortran -fopenmp"))
+    command = add("omp", "write the program as FORTRAN with OpenMP directives, for gfortran -fopenmp")
+    command.add_argument("loops", metavar="FILE", nargs="*", help="further files of real Fortran; -o names a new folder")
+    _add_omp(command)
     command = add("model", "show the program that ped is asked about a loop of real Fortran")
     command.add_argument("loops", metavar="LINE", type=int, nargs="*", help="lines of the wanted loops; else all")
     command = add("check", "say what is wrong with a program, with a script, or with a run")
@@ -252,6 +271,11 @@ def _parser() -> argparse.ArgumentParser:
     _add_output(command)
     _add_output(add("json", "write the source, the loops, the references and the dependences as JSON"))
     return parser
+
+
+def _number_or_file(word: str) -> Union[int, str]:
+    """The number of a loop, or the name of a further file."""
+    return int(word) if word.isascii() and word.isdigit() else word
 
 
 def _add_common(command: argparse.ArgumentParser, is_editor: bool) -> None:
@@ -279,7 +303,7 @@ def _add_filters(command: argparse.ArgumentParser) -> None:
 
 
 def _add_loops(command: argparse.ArgumentParser) -> None:
-    command.add_argument("loops", metavar="S", type=int, nargs="*", help=_LOOPS)
+    command.add_argument("loops", metavar="S", type=_number_or_file, nargs="*", help=_LOOPS)
     command.add_argument("--no-trials", dest="trials", action="store_false", help="ask for no advice, and try no steps")
     _add_counts(command, "add what gcov counts of a run: entries, iterations, share of the executed statements")
 

@@ -4,7 +4,7 @@ from __future__ import annotations
 
 import os
 import re
-from typing import Optional, Tuple
+from typing import Optional, Sequence, Tuple
 
 from .lines import split_lines
 
@@ -46,3 +46,8 @@ def file_and_line(word: str) -> Tuple[str, Optional[int]]:
     if match is None or os.path.lexists(word):
         return word, None
     return match.group(1), int(match.group(2))
+
+
+def is_project(words: Sequence[str]) -> bool:
+    """Whether a call names several files, or a folder."""
+    return len(words) > 1 or any(map(os.path.isdir, words))

@@ -9,7 +9,7 @@ from __future__ import annotations
 import argparse
 import sys
 from contextlib import contextmanager
-from typing import Dict, Iterator, List, Optional, Tuple
+from typing import TYPE_CHECKING, Dict, Iterator, List, Optional, Tuple
 
 from .languages import has_profile_words, is_real_by_name
 from .messages import NOTE, listed
@@ -19,20 +19,26 @@ from .progress import Progress
 from .statuses import CompanionError, ProgramRefused, Status
 from .views import Question, View, open_view
 
+if TYPE_CHECKING:
+    from .commands.real import Reading
+
 #: The commands that read real Fortran, too.
-COMMANDS = ("loops", "why", "omp", "model", "json")
+COMMANDS = ("loops", "profile", "why", "omp", "model", "json")
+#: Those that take several files, or a folder.
+PROJECTS = ("loops", "profile", "omp")
 
 #: The words for real Fortran alone, and those for programs of the profile alone, with what they are when not given.
 _REAL: Dict[str, object] = {
     "--form": None, "--columns": None, "-I": [], "--assume": [], "--deny": [], "--exact": False, "--openmp": None,
-    "--at": [], "--in-place": False, "--check": False, "--with": [], "--define": [], "--undefine": [],
+    "--at": [], "--in-place": False, "--check": False, "--with": [], "--each": False, "--jobs": None,
+    "--in": None, "--define": [], "--undefine": [],
 }
 _PROFILE: Dict[str, object] = {
     "--script": None, "--data": None, "--printed": False, "--no-trials": True, "--statement": [], "--live": False,
     "--all": False, "--strict": False, "--counts": False, "--time": False,
 }
 #: Where the words are in what argparse has read, if not under their own names.
-_KEYS = {"-I": "folders", "--no-trials": "trials", "--with": "others"}
+_KEYS = {"-I": "folders", "--no-trials": "trials", "--with": "others", "--in": "place"}
 
 #: The text of standard output, none where nothing is to be written; that of standard error; the status.
 Answer = Tuple[Optional[str], str, Status]
@@ -63,6 +69,10 @@ def add_words(command: argparse.ArgumentParser, name: str) -> None:
     group.add_argument("--openmp", choices=("4.5", "5.0"), help="the version that directives are for; else 4.5")
     if name == "loops":
         group.add_argument("--json", dest="as_json", action="store_true", help="print the table as JSON")
+        group.add_argument("--each", action="store_true", help="of several files: show each loop, too")
+    if name in PROJECTS:
+        group.add_argument("--jobs", metavar="N", type=int, help="so many processes at a time; else one a processor")
+        group.add_argument("--in", dest="place", metavar="DIR", help="a counted run is in a copy of this folder")
     if name == "omp":
         group.add_argument(
             "--at", metavar="LINE", type=int, action="append", default=[], help="a directive for the loop at LINE alone"
@@ -113,6 +123,8 @@ def _given(options: argparse.Namespace, words: Dict[str, object]) -> List[str]:
 
 def answer_real(options: argparse.Namespace, ped: Ped) -> Answer:
     """Carries out a call on real Fortran."""
+    if options.command == "profile" or options.command == "loops" and options.counts:
+        return _counted_real(options, ped)
     words = _given(options, _PROFILE)
     if options.command == "omp" and options.check:
         words = [word for word in words if word != "--data"]
@@ -137,11 +149,7 @@ def _answer(
 ) -> Tuple[Optional[str], Tuple[str, ...], Status]:
     from .commands import real
 
-    reading = real.Reading(
-        options.form, options.columns or 72, options.folders, options.assume, options.deny, options.exact,
-        options.openmp or real.OPENMP, options.others, options.define, options.undefine,
-    )
-    one = real.opened(options.file, reading)
+    one = real.opened(options.file, _reading(options))
     if refusal is not None and not one.is_fortran:
         raise refusal
     lines = [options.line] if options.line is not None else []
@@ -158,6 +166,56 @@ def _answer(
         [*lines, *options.at], options.output, options.in_place, options.check, options.data
     )
     return real.omp(one, ped, writing, progress)
+
+
+def _reading(options: argparse.Namespace) -> Reading:
+    """How files are read."""
+    from .commands import real
+
+    return real.Reading(
+        options.form, options.columns or 72, options.folders, options.assume, options.deny, options.exact,
+        options.openmp or real.OPENMP, options.others, options.define, options.undefine,
+    )
+
+
+def _counted_real(options: argparse.Namespace, ped: Ped) -> Answer:
+    """Carries out a call on one file that is run."""
+    if options.line is not None:
+        raise CompanionError(Status.BAD_WORDS, f"what counts a run takes {shown(options.file)} as a whole")
+    options.files, options.each = [options.file], True
+    text, messages, status = answer_project(options, ped)
+    refusal = getattr(options, "refusal", None)
+    return text, (f"{_note(options.file, refusal)}\n" if refusal is not None else "") + messages, status
+
+
+def answer_project(options: argparse.Namespace, ped: Ped) -> Answer:
+    """Carries out a call on several files of real Fortran, or on those in a folder."""
+    words = [word for word in _given(options, _PROFILE) if word not in ("--data", "--counts")]
+    words += ["--profile"] if options.profile else []
+    runs = options.command == "profile" or options.counts
+    if options.command == "omp":
+        words += [word for word in ("--at", "--in-place", "--check") if word in _given(options, _REAL)]
+    words += [] if runs else [word for word in ("--data", "--in") if word in _given(options, {**_PROFILE, **_REAL})]
+    if words or options.loops:
+        wrong = listed(words) if words else f"numbers of loops, as {options.loops[0]}"
+        raise CompanionError(Status.BAD_WORDS, f"a call on several files, or without --counts, takes no {wrong}")
+    if options.jobs is not None and options.jobs < 1:
+        raise CompanionError(Status.BAD_WORDS, f"--jobs {options.jobs} leaves nobody to work")
+    if options.command == "omp" and options.output is None:
+        raise CompanionError(Status.BAD_WORDS, "omp on several files wants -o DIR, a new folder for them")
+    from .commands import project
+
+    with _progress() as progress:
+        one = project.opened(options.files, _reading(options), progress)
+        asked = project.Asked(
+            options.jobs or project.default_processes(), getattr(options, "each", False),
+            getattr(options, "as_json", False), runs, options.command == "profile", options.data, options.place,
+        )
+        if options.command == "omp":
+            text, messages, status = project.omp(one, ped, options.files, options.output, asked, progress)
+        else:
+            text, messages, status = project.loops(one, ped, asked, progress)
+    return text, "".join(row + "\n" for row in messages), status
 
 
 def _note(name: str, refusal: CompanionError) -> str:

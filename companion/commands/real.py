@@ -153,7 +153,12 @@ def _is_fortran(path: str, name: str) -> bool:
         is_same = os.path.samefile(path, name)
     except OSError:
         is_same = False
-    return not is_same and Path(name).suffix.lower() not in _OTHER_LANGUAGES
+    return not is_same and not is_other_language(name)
+
+
+def is_other_language(name: str) -> bool:
+    """Whether a source is in another language, as its name says."""
+    return Path(name).suffix.lower() in _OTHER_LANGUAGES
 
 
 # --- Commands --------------------------------------------------------------------------------------------------------

@@ -159,7 +159,7 @@ class _Checking:
             done = subprocess.run(
                 [str(program)], input=(self._job.data or "").encode(ENCODING), stdout=subprocess.PIPE,
                 stderr=subprocess.DEVNULL, check=False, cwd=place, timeout=_RUNNING, env=environment,
-                preexec_fn=_with_stack,
+                preexec_fn=with_stack,
             )
         except subprocess.TimeoutExpired as error:
             raise CheckFails(f"a run takes longer than {_RUNNING} seconds, so nothing is compared") from error
@@ -196,7 +196,7 @@ class _Checking:
                 )
 
 
-def _with_stack() -> None:
+def with_stack() -> None:
     """Gives a run all the stack that it may have: with -fopenmp local arrays are on it."""
     if resource is None:
         return

@@ -29,8 +29,8 @@ def document(name: str, file: File, scopes: Scopes, verdicts: Sequence[Verdict],
         "kind": "fortran",
         "file": readable(name),
         "form": file.form,
-        "units": [_unit(unit, scopes) for unit in file.all_units()],
-        "loops": [_loop(verdict, full) for verdict in verdicts],
+        "units": [unit_value(unit, scopes) for unit in file.all_units()],
+        "loops": [loop_value(verdict, full) for verdict in verdicts],
         "assumes": {one: ASSUMPTIONS[one].words for one in cited},
     }
     entries = ",\n".join(f'"{key}": {_dumped(value)}' for key, value in found.items())
@@ -52,7 +52,8 @@ def readable(text: str) -> str:
         return text
 
 
-def _unit(unit: Unit, scopes: Scopes) -> Dict[str, Value]:
+def unit_value(unit: Unit, scopes: Scopes) -> Dict[str, Value]:
+    """A unit, and why none of its loops gets a verdict."""
     faults = scopes.of(unit).faults
     line = unit.first_line if unit.head is None else unit.head.item.first
     return {"name": unit.path, "line": line, "refused": _reason(faults[0] if faults else None)}
@@ -62,7 +63,8 @@ def _reason(fault: Optional[Fault]) -> Optional[Dict[str, Value]]:
     return None if fault is None else {"class": fault.reason, "line": fault.line, "words": readable(fault.words)}
 
 
-def _loop(verdict: Verdict, full: bool) -> Dict[str, Value]:
+def loop_value(verdict: Verdict, full: bool) -> Dict[str, Value]:
+    """What is said about a loop."""
     place = verdict.place
     found: Dict[str, Value] = {
         "line": place.line,

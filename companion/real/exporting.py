@@ -66,10 +66,14 @@ def exported(text: str, file: File, verdicts: Sequence[Verdict], schedule: str =
     """A text with the directives of some loops. Without their lines it is the same, byte for byte."""
     rows: Dict[int, List[str]] = {}
     for verdict in verdicts:
-        line = verdict.place.line
-        margin = indentation_of(file.lines[line - 1])
-        rows[line] = directive_lines(verdict.clauses, file.form, margin, schedule)
+        rows[verdict.place.line] = lines_for(file, verdict, schedule)
     return with_directives(text, rows)
+
+
+def lines_for(file: File, verdict: Verdict, schedule: str = "") -> List[str]:
+    """The lines of a loop's directive."""
+    margin = indentation_of(file.lines[verdict.place.line - 1])
+    return directive_lines(verdict.clauses, file.form, margin, schedule)
 
 
 def written_for(file: File, verdict: Verdict) -> str:

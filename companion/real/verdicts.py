@@ -17,7 +17,7 @@ from .directives import Clauses
 from .model import Model, model_of
 from .survey import Scene, control_of, own_variable, variable_of
 from .symbols import Scopes, Storage
-from .units import Block, Branch, Fault, File, Node
+from .units import Block, Branch, Fault, File, Node, Unit
 from .writer import Origin
 
 PARALLEL, CARRIED, REFUSED = "parallel", "carried", "refused"
@@ -105,9 +105,14 @@ def places_of(file: File, scopes: Scopes, others: Sequence[File] = ()) -> List[P
     found: List[Place] = []
     calls = Calls(scopes, [file, *others])
     for unit in file.all_units():
-        scene = Scene(file, unit, scopes.of(unit), calls)
-        found.extend(Place(scene, block, level) for block, level in _nested(unit.body, 1))
+        found.extend(places_in(file, unit, scopes, calls))
     return found
+
+
+def places_in(file: File, unit: Unit, scopes: Scopes, calls: Calls) -> List[Place]:
+    """All DOs of a unit of a file, in the same order; `calls` looks into the procedures that are known."""
+    scene = Scene(file, unit, scopes.of(unit), calls)
+    return [Place(scene, block, level) for block, level in _nested(unit.body, 1)]
 
 
 def _nested(nodes: Sequence[Node], level: int) -> Iterator[Tuple[Block, int]]:

@@ -30,8 +30,8 @@ PROJECTS = ("loops", "profile", "omp")
 #: The words for real Fortran alone, and those for programs of the profile alone, with what they are when not given.
 _REAL: Dict[str, object] = {
     "--form": None, "--columns": None, "-I": [], "--assume": [], "--deny": [], "--exact": False, "--openmp": None,
-    "--at": [], "--in-place": False, "--check": False, "--with": [], "--each": False, "--jobs": None,
-    "--in": None,
+    "--at": [], "--in-place": False, "--check": False, "--with": [], "--define": [], "--undefine": [], "--each": False,
+    "--jobs": None, "--in": None,
 }
 _PROFILE: Dict[str, object] = {
     "--script": None, "--data": None, "--printed": False, "--no-trials": True, "--statement": [], "--live": False,
@@ -57,6 +57,12 @@ def add_words(command: argparse.ArgumentParser, name: str) -> None:
     )
     words = "look into the procedures and modules of SOURCE, too" + ("; --check compiles it" if name == "omp" else "")
     group.add_argument("--with", dest="others", metavar="SOURCE", action="append", default=[], help=words)
+    group.add_argument(
+        "--define", metavar="NAME[=VALUE]", action="append", default=[], help="a name of the preprocessor, for #if"
+    )
+    group.add_argument(
+        "--undefine", metavar="NAME", action="append", default=[], help="a name that the preprocessor doesn't have"
+    )
     group.add_argument("--assume", metavar="A", action="append", default=[], help="grant an assumption, as A8")
     group.add_argument("--deny", metavar="A", action="append", default=[], help="withdraw an assumption, as A2")
     group.add_argument("--exact", action="store_true", help="withdraw A9: REAL sums stay in their order")
@@ -168,7 +174,7 @@ def _reading(options: argparse.Namespace) -> Reading:
 
     return real.Reading(
         options.form, options.columns or 72, options.folders, options.assume, options.deny, options.exact,
-        options.openmp or real.OPENMP, options.others,
+        options.openmp or real.OPENMP, options.others, options.define, options.undefine,
     )
 
 

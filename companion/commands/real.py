@@ -12,7 +12,7 @@ from ..lines import split_lines
 from ..messages import ERROR, NOTE, counted
 from ..ped import ENCODING, Ped, cause, read_file, shown
 from ..progress import Progress
-from ..real import assumptions, blocks, exporting, library, report, tree
+from ..real import assumptions, blocks, exporting, library, preprocessing, report, tree
 from ..real.compiled import CheckFails, Job, checked
 from ..real.document import document
 from ..real.explaining import Explainer, Wanted
@@ -31,7 +31,10 @@ OPENMP = "4.5"
 
 @dataclass(frozen=True)
 class Reading:
-    """How a file is read, and what is granted. `others` are further sources, with what it needs."""
+    """How a file is read, and what is granted. `others` are further sources, with what it needs.
+
+    `defines` and `undefines` are names of the preprocessor: `NAME` or `NAME=VALUE`, and `NAME`.
+    """
 
     form: Optional[str] = None
     columns: int = 72
@@ -41,6 +44,16 @@ class Reading:
     exact: bool = False
     openmp: str = OPENMP
     others: Sequence[str] = ()
+    defines: Sequence[str] = ()
+    undefines: Sequence[str] = ()
+
+    @property
+    def macros(self) -> preprocessing.Macros:
+        """The names of the preprocessor."""
+        try:
+            return preprocessing.macros(self.defines, self.undefines)
+        except preprocessing.BadDefinition as error:
+            raise CompanionError(Status.BAD_WORDS, str(error)) from error
 
 
 class Answer(NamedTuple):
@@ -116,7 +129,7 @@ def opened(path: str, reading: Reading, text: Optional[str] = None) -> Opened:
     text = read_file(path) if text is None else text
     try:
         granted = assumptions.granted(reading.assume, reading.deny, reading.exact)
-        file = blocks.read_file(path, text, reading.form, reading.columns, reading.folders)
+        file = blocks.read_file(path, text, reading.form, reading.columns, reading.folders, reading.macros)
         others = tuple(_other(path, name, reading) for name in reading.others if _is_fortran(path, name))
         note = library.statement_classes().note
     except assumptions.NoAssumption as error:
@@ -131,7 +144,7 @@ def opened(path: str, reading: Reading, text: Optional[str] = None) -> Opened:
 def _other(path: str, name: str, reading: Reading) -> File:
     """A further source. It has the form that is given for the file where its name ends as the file's."""
     form = reading.form if Path(name).suffix == Path(path).suffix else None
-    return blocks.read_file(name, read_file(name), form, reading.columns, reading.folders)
+    return blocks.read_file(name, read_file(name), form, reading.columns, reading.folders, reading.macros)
 
 
 def _is_fortran(path: str, name: str) -> bool:
@@ -317,7 +330,7 @@ def _checked(one: Opened, chosen: exporting.Chosen, text: str, writing: Writing)
         running=exporting.exported(one.text, one.file, chosen.verdicts, exporting.RUNTIME),
         has_main=_has_main(one),
         is_exact=not any("A9" in verdict.assumes for verdict in chosen.verdicts),
-        folders=one.reading.folders, others=one.reading.others,
+        folders=one.reading.folders, others=one.reading.others, macros=one.reading.macros.flags,
         data=read_file(writing.data) if writing.data is not None else None,
     )
     try:

@@ -17,6 +17,8 @@ from enum import Enum
 from typing import Callable, Dict, FrozenSet, List, Optional, Protocol, Sequence, Tuple, Type, Union
 
 from . import intrinsics, tree
+from .components import ALL, Leaf, Part
+from .designators import chain_of, first_subscripts, substituted, value_of
 from .transfers import Internal, goes_on_after_errors, internal
 
 #: How deep statement functions may refer to each other. In a right program each refers to earlier ones alone.
@@ -85,6 +87,15 @@ class Names(Protocol):
     def component_type(self, designator: tree.Expression) -> str:
         """The type of a component of a structure, as `type_of` has it; empty where it isn't plain data."""
 
+    def part_of(self, designator: tree.Expression) -> Optional[Part]:
+        """The part of a structure that a designator is; none where it's none, or its type isn't known."""
+
+    def is_constructor(self, name: str) -> bool:
+        """Whether the name of a derived type before parentheses makes a structure of values, and is no function."""
+
+    def copied(self, target: tree.Expression, value: tree.Expression) -> Union[Tuple[Leaf, ...], Trouble, None]:
+        """The components that an assignment of a structure assigns; none where the target is no structure as a whole."""
+
     def statement_function(self, name: str) -> Optional[StatementFunction]:
         """A statement function by its name."""
 
@@ -125,6 +136,9 @@ class Access:
     With `by_call` a procedure reads or writes it. Then `designator` is the argument as it's written, and `subscripts`
     are those of the elements that the procedure uses; `ANYWHERE` may be among them. `shared` is what the procedure has
     under a name of its own (a `commons.Shared`), so that it knows nothing of a copy that a thread has.
+
+    `part` is the component of a structure, `%X%Y`, empty for a structure as a whole and for anything else. Then
+    `part_subscripts` are those of all its dimensions.
     """
 
     name: str
@@ -136,6 +150,18 @@ class Access:
     bound: FrozenSet[str] = _NONE
     by_call: bool = False
     shared: Optional[object] = None
+    part: str = ""
+    part_subscripts: Tuple[tree.Expression, ...] = ()
+
+    @property
+    def place(self) -> str:
+        """The variable, or the component of it as a variable of its own: `P%X`."""
+        return self.name + self.part
+
+    @property
+    def indices(self) -> Optional[Tuple[tree.Expression, ...]]:
+        """The subscripts of the place; none where they aren't written."""
+        return self.part_subscripts if self.part else self.subscripts
 
 
 @dataclass(frozen=True)
@@ -216,29 +242,6 @@ def _is_function(expression: tree.Expression, names: Names) -> bool:
     return names.type_of(expression.base.name) != "CHARACTER" or not is_substring
 
 
-def substituted(expression: tree.Expression, values: Dict[str, tree.Expression]) -> tree.Expression:
-    """An expression with values, each in parentheses, in the place of names."""
-    if isinstance(expression, tree.Name):
-        value = values.get(expression.name)
-        return expression if value is None else tree.Parentheses(value)
-    return _rebuilt(expression, lambda part: substituted(part, values))
-
-
-def _rebuilt(
-    expression: tree.Expression, change: Callable[[tree.Expression], tree.Expression]
-) -> tree.Expression:
-    """An expression with changed parts. The base of a reference stays a name."""
-    changed: Dict[str, object] = {}
-    for field, value in vars(expression).items():
-        if field == "base" and isinstance(value, tree.Name):
-            continue
-        if isinstance(value, tree.Expression):
-            changed[field] = change(value)
-        elif isinstance(value, tuple) and value and all(isinstance(one, tree.Expression) for one in value):
-            changed[field] = tuple(change(one) for one in value)
-    return replace(expression, **changed) if changed else expression
-
-
 def _can_substitute(found: StatementFunction) -> bool:
     """Whether a statement function's value has dummies only as plain names, and no implied DO."""
     waiting = [found.value]
@@ -303,8 +306,36 @@ class _Run:
         root = tree.root_of(statement.target)
         if root and self.names.kind_of(root) is Kind.STATEMENT_FUNCTION:
             return
+        leaves = self.names.copied(statement.target, statement.value)
+        if isinstance(leaves, tuple):
+            self._copy(statement, leaves)
+            return
+        if leaves is not None:
+            self.trouble(leaves.reason, leaves.words)
         self.read(statement.value)
         self.write(statement.target)
+
+    def _copy(self, statement: tree.Assignment, leaves: Sequence[Leaf]) -> None:
+        """An assignment of a structure as a whole: that of each of its components."""
+        value, target = statement.value, statement.target
+        if is_variable(value, self.names):
+            self._subscripts(value)
+            self._add_leaves(value, leaves, False)
+        else:
+            self.read(value)
+        self._subscripts(target)
+        self._add_leaves(target, leaves, True)
+
+    def _add_leaves(self, designator: tree.Expression, leaves: Sequence[Leaf], writes: bool) -> None:
+        """The read or the write of each component of a structure as a whole."""
+        part = self.names.part_of(designator)
+        assert part is not None
+        for leaf in leaves:
+            subscripts = (*part.subscripts, *[ALL] * leaf.rank)
+            self._add(Access(
+                tree.root_of(designator), writes, designator, first_subscripts(designator),
+                part=part.name + leaf.name, part_subscripts=subscripts,
+            ))
 
     def point(self, statement: tree.PointerAssignment) -> None:
         """A pointer assignment."""
@@ -576,7 +607,7 @@ class _Run:
             self._designator(expression)
         elif kind is Kind.STATEMENT_FUNCTION:
             self._statement_function(base.name, expression)
-        elif kind is Kind.CONSTANT:
+        elif kind is Kind.CONSTANT or kind is Kind.TYPE and self.names.is_constructor(base.name):
             self._arguments(expression)
         elif kind is Kind.UNKNOWN:
             self._function("use", f"what {base.name} is isn't known", expression)
@@ -693,27 +724,12 @@ class _Run:
             self.calls = True
 
     def _add(self, access: Access) -> None:
+        part = None
+        if not access.by_call and not access.part and isinstance(access.designator, (tree.Component, tree.Reference)):
+            part = self.names.part_of(access.designator)
+        if part is not None and not part.is_structure:
+            access = replace(access, part=part.name, part_subscripts=part.subscripts)
         self.accesses.append(replace(access, within=self._within, bound=self.bound))
-
-
-def chain_of(designator: tree.Expression) -> List[tree.Expression]:
-    """The parts of a designator that are built on one another, its first name first."""
-    parts = [designator]
-    while isinstance(parts[-1], (tree.Reference, tree.Component)):
-        parts.append(parts[-1].base)
-    return parts[::-1]
-
-
-def first_subscripts(designator: tree.Expression) -> Optional[Tuple[tree.Expression, ...]]:
-    """The subscripts of a designator's first name, none where it has no parentheses."""
-    chain = chain_of(designator)
-    first = chain[1] if len(chain) > 1 else None
-    return first.arguments if isinstance(first, tree.Reference) else None
-
-
-def value_of(argument: tree.Expression) -> tree.Expression:
-    """An argument without its keyword."""
-    return argument.value if isinstance(argument, tree.Keyword) else argument
 
 
 #: Expressions that read what their parts read.

@@ -16,6 +16,7 @@ from . import tree
 from .convert import statement_of
 from .items import Item, read_items
 from .keywords import DECLARATIONS, keyword_of, letters_of
+from .preprocessing import Macros
 from .source import Mark, form_of, read_source
 from .units import Block, Branch, Declared, Fault, File, InterfaceBlock, Node, TypeDefinition, Unit, Written
 
@@ -39,14 +40,15 @@ _DO_LABEL = re.compile("DO([0-9]+)")
 
 def read_file(
     path: str, text: str, form: Optional[str] = None, columns: int = 72, folders: Sequence[str] = (),
+    macros: Macros = Macros(),
 ) -> File:
     """A file with its units. Raises `library.LibraryMissing`.
 
     `form` is `fixed` or `free`, by the suffix where it's none. `columns` is the last column of fixed form that counts.
-    INCLUDEd files are looked for in the file's folder and in `folders`.
+    INCLUDEd files are looked for in the file's folder and in `folders`. `macros` decide conditions of the preprocessor.
     """
     form = form_of(path) if form is None else form
-    reading = _Including(form, columns, [str(Path(path).parent), *folders])
+    reading = _Including(form, columns, [str(Path(path).parent), *folders], macros)
     items = reading.items(text, "", ())
     read = partial(statement_of, form=form)
     written = [Written(number, item, _word(item, form), read) for number, item in enumerate(items)]
@@ -66,8 +68,9 @@ def _word(item: Item, form: str) -> str:
 class _Including:
     """Reads the items of a file, with those of INCLUDEd files in their places."""
 
-    def __init__(self, form: str, columns: int, folders: Sequence[str]) -> None:
+    def __init__(self, form: str, columns: int, folders: Sequence[str], macros: Macros) -> None:
         self._form = form
+        self._macros = macros
         self._columns = columns
         self._folders = folders
         self.lines: Tuple[str, ...] = ()
@@ -76,7 +79,7 @@ class _Including:
 
     def items(self, text: str, file: str, outer: Tuple[str, ...]) -> List[Item]:
         """The items of a text; `outer` are the INCLUDEd files that it is in."""
-        source = read_source(text, self._form, self._columns)
+        source = read_source(text, self._form, self._columns, self._macros)
         if not file:
             self.lines = source.lines
         self.marks.extend(replace(mark, file=file) for mark in source.marks)
@@ -104,11 +107,11 @@ def _note_marks(unit: Unit, marks: Sequence[Mark], inherited: Tuple[Fault, ...])
     """Adds faults by the preprocessor's lines to a unit, and all of its faults to the procedures that it contains."""
     lines = [mark for mark in marks if mark.kind == "preprocessor"]
     touching = [
-        Fault("preprocessor", mark.first, mark.text.strip()) for mark in lines
+        Fault("preprocessor", mark.first, mark.words) for mark in lines
         if not mark.file and unit.first_line <= mark.last and mark.first <= unit.last_line
     ]
     included = [
-        Fault("preprocessor", mark.first, f"{mark.text.strip()} in {mark.file}") for mark in lines
+        Fault("preprocessor", mark.first, f"{mark.words} in {mark.file}") for mark in lines
         if mark.file in unit.files
     ]
     unit.faults = tuple(dict.fromkeys([*unit.faults, *inherited, *touching, *included]))

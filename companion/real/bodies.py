@@ -99,8 +99,11 @@ class Plan:
 
     def _is_fixed(self, bound: tree.Expression) -> bool:
         """Whether a bound has no scalar that the loop assigns, but for the DO variables around it."""
-        names = set(tree.names_in(bound)) - set(self.indices.counters)
-        return not names & self.survey.written
+        names = set(tree.names_in(bound)) - set(self.indices.counters) - self.survey.split
+        if names & self.survey.written:
+            return False
+        reads = reads_of(bound, self.scene.roles).accesses
+        return not any(self.survey.place(one) in self.survey.changed for one in reads if one.name in self.survey.split)
 
     def _by_unknown_steps(self, variable: str, normalised: bool) -> Count:
         """All whole numbers between two unknown ones, in place of those that are unknown steps apart."""
@@ -267,8 +270,9 @@ class BodyWriter:
             self._in_order(found.accesses, written)
         elif isinstance(statement, tree.Assignment) and len(found.writes) == 1:
             self._assign(found.writes[0], self._terms(found.reads, written), written)
-        elif isinstance(statement, tree.Assignment) and found.side_writes:
-            # What its functions write may be any part of it, at any time before the assignment.
+        elif isinstance(statement, tree.Assignment) and found.writes:
+            # What its functions write may be any part of it, at any time before the assignment. That of a structure
+            # assigns all its components.
             self._read(found.reads, written)
             self._write_maybe(found.side_writes, written)
             for access in found.writes:
@@ -416,13 +420,14 @@ class BodyWriter:
     def _with_sections(self, access: Access, written: Written) -> Tuple[List[Pieces], Use]:
         """A reference with the DOs over its sections; where they would be nested too deep, their positions are open."""
         site = self._site(written, access.bound)
-        arguments = access.subscripts or ()
+        arguments = self._survey.indices(access) or ()
+        place = self._survey.place(access)
         headers: List[Pieces] = []
         pieces: Dict[int, Pieces] = {}
-        if self._scene.roles.kind_of(access.name) is Kind.ARRAY:
+        if self._scene.roles.kind_of(place) is Kind.ARRAY:
             sections = [index for index, one in enumerate(arguments) if isinstance(one, tree.Section)]
             for index in sections if len(sections) + self._loops <= MOST_LOOPS else ():
-                count = self._plan.section(access.name, index, arguments[index], site)
+                count = self._plan.section(place, index, arguments[index], site)
                 if count is not None:
                     headers.append(count.header)
                     pieces[index] = count.value
@@ -430,14 +435,14 @@ class BodyWriter:
 
     def _designator(self, access: Access, written: Written, sections: Mapping[int, Pieces] = {}) -> Use:
         """A reference to a scalar, an element, or the first part of a structure."""
-        name = access.name
+        name = self._survey.place(access)
         site = self._site(written, access.bound)
         symbol = self._scene.symbols.get(name)
         origin = Origin(site.unit, site.line, str(access.designator), name, access.writes, site.file)
         model = self._plan.names.name(name)
         if self._scene.roles.kind_of(name) is Kind.ARRAY:
-            return Use((model, *self._indices.subscripts_of(name, access.subscripts, site, sections)), origin)
-        if symbol.type in ("TYPE", "CLASS"):
+            return Use((model, *self._indices.subscripts_of(name, self._survey.indices(access), site, sections)), origin)
+        if symbol.type in ("TYPE", "CLASS") or "%" in name:
             self._indices.ranks[model] = 1
             return Use((model, "(1)"), origin)
         return Use((model,), origin)

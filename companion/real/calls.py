@@ -8,19 +8,21 @@ names that the calling unit has for them. One without a name there gets one of i
 
 from __future__ import annotations
 
+from dataclasses import replace
 from functools import cached_property
 from typing import Dict, FrozenSet, Iterable, Iterator, List, NamedTuple, Optional, Sequence, Set, Tuple, Union
 
 from . import constants, tree
-from .accesses import (
-    ANYWHERE, Access, Called, Kind, Trouble, chain_of, first_subscripts, is_variable, value_of,
-)
+from .accesses import ANYWHERE, Access, Called, Kind, Trouble, is_variable
 from .commons import Commons, Shared
+from .components import Part, key_of
+from .designators import first_subscripts, value_of
 from .facts import Facts
+from .generics import any_of, fitting
 from .procedures import Procedures, has_interface, is_interface
 from .recurrences import type_of
 from .roles import Roles
-from .summaries import WHOLE, Cell, Cells, Summaries, Summary, Unknown, Use, as_operand
+from .summaries import WHOLE, Cell, Cells, Summaries, Summary, Unknown, Use, as_operand, dummies_of
 from .symbols import Scopes, Storage, Symbol, Symbols
 from .units import File, Unit
 
@@ -56,25 +58,64 @@ class Calls:
         Without `exactly` all elements of arrays may be used.
         """
         reason = "function" if is_function else "call"
+        specifics = self.procedures.specifics(symbols, name, is_function)
+        if isinstance(specifics, str):
+            return Trouble(reason, specifics)
+        if specifics is not None:
+            return self._any_called(symbols, name, arguments, specifics, is_function, exactly)
         target = self.procedures.find(symbols, name, is_function)
         if isinstance(target, str):
             more = "; --with FILE names more" if target.endswith("isn't in the files") else ""
             return Trouble(reason, target + more)
+        return self._called(symbols, target, name, arguments, _Way(is_function, exactly))
+
+    def _any_called(
+        self, symbols: Symbols, name: str, arguments: Sequence[tree.Expression], specifics: Sequence[Unit],
+        is_function: bool, exactly: bool,
+    ) -> Union[Called, Trouble]:
+        """What a generic name does: what any of the procedures does that the call may fit."""
+        found: List[Called] = []
+        for target in fitting(symbols, Roles(symbols, self), specifics, arguments):
+            one = self._called(symbols, target, target.name, arguments, _Way(is_function, exactly, True))
+            if isinstance(one, Trouble):
+                return Trouble(one.reason, f"{name} may be {target.name}: {one.words}")
+            found.append(one)
+        if not found:
+            reason = "function" if is_function else "call"
+            return Trouble(reason, f"{name} is a generic name, and none of its procedures fits")
+        return any_of(found)
+
+    def _called(
+        self, symbols: Symbols, target: Unit, name: str, arguments: Sequence[tree.Expression], way: _Way
+    ) -> Union[Called, Trouble]:
+        reason = "function" if way.is_function else "call"
         summary = self.summaries.of(target)
         if isinstance(summary, str):
             return Trouble(reason, f"{name} {summary}")
         try:
-            return _Mapping(self, symbols, target, summary, is_function, exactly).called(name, arguments)
+            return _Mapping(self, symbols, target, summary, way).called(name, arguments)
         except Unknown as unknown:
             return Trouble(reason, f"{name} {unknown.words}")
 
     def function_type(self, symbols: Symbols, name: str) -> str:
         """The type of the value of a function that a unit refers to, empty where it isn't a scalar in the files."""
+        results = [result_of(self.scopes.of(target)) for target in self._functions(symbols, name)]
+        types = {"" if one.rank else one.type for one in results}
+        return types.pop() if len(types) == 1 else ""
+
+    def function_key(self, symbols: Symbols, name: str) -> Optional[Tuple[str, str]]:
+        """Where the type of a function's value is defined, if that is a structure, and its name there."""
+        found = [self.scopes.of(target) for target in self._functions(symbols, name)]
+        keys = {key_of(own, result_of(own)) for own in found}
+        return keys.pop() if len(keys) == 1 else None
+
+    def _functions(self, symbols: Symbols, name: str) -> List[Unit]:
+        """The functions that a name may mean; none where they aren't all known."""
+        specifics = self.procedures.specifics(symbols, name, True)
+        if specifics is not None:
+            return [] if isinstance(specifics, str) else specifics
         target = self.procedures.find(symbols, name, True)
-        if isinstance(target, str):
-            return ""
-        result = result_of(self.scopes.of(target))
-        return "" if result.rank else result.type
+        return [] if isinstance(target, str) else [target]
 
     def view(self, symbols: Symbols) -> View:
         """The variables of a unit that procedures may share."""
@@ -119,6 +160,10 @@ class _Roughly:
         """The type of a function's value."""
         return self._calls.function_type(symbols, name)
 
+    def function_key(self, symbols: Symbols, name: str) -> Optional[Tuple[str, str]]:
+        """Where the type of a function's value is defined."""
+        return self._calls.function_key(symbols, name)
+
 
 class View:
     """The names that a unit has for variables that procedures may share."""
@@ -138,6 +183,14 @@ class View:
         return [(name, one) for name, one in self._names.get(shared.home, []) if one.overlaps(shared)]
 
 
+class _Way(NamedTuple):
+    """How a procedure is called: as a function, by a generic name; `exactly` is as in `Calls.called`."""
+
+    is_function: bool
+    exactly: bool
+    is_generic: bool = False
+
+
 class _Touched(NamedTuple):
     """A variable of the calling unit that a procedure uses: as an argument, or under a name of its own."""
 
@@ -150,17 +203,15 @@ class _Touched(NamedTuple):
 class _Mapping:
     """Puts the arguments of one call into a summary."""
 
-    def __init__(
-        self, calls: Calls, symbols: Symbols, target: Unit, summary: Summary, is_function: bool, exactly: bool
-    ) -> None:
+    def __init__(self, calls: Calls, symbols: Symbols, target: Unit, summary: Summary, way: _Way) -> None:
         self._calls = calls
         self._symbols = symbols
         self._roles = Roles(symbols, calls)
         self._target = calls.scopes.of(target)
         self._summary = summary
-        self._is_function = is_function
-        self._exactly = exactly
-        self._has_interface = has_interface(symbols, target)
+        self._is_function = way.is_function
+        self._exactly = way.exactly
+        self._has_interface = way.is_generic or has_interface(symbols, target)
         #: Whether a compiler compares the arguments with the dummies of the body itself.
         self._is_checked = target.host is not None and not is_interface(target)
         self._assumes: Set[str] = set(summary.assumes)
@@ -177,9 +228,10 @@ class _Mapping:
         if self._is_function and self._target.unit.host is None and not self._has_interface:
             self._check_result(name)
         self._values = {dummy: actual for dummy, actual in given.items() if self._is_index(dummy, actual)}
-        for dummy, use in self._summary.formals:
+        for place, use in self._summary.formals:
+            dummy = place.partition("%")[0]
             if dummy in given:
-                self._argument(self._target.get(dummy), use, given[dummy])
+                self._argument(self._target.get(dummy), place[len(dummy):], use, given[dummy])
         for shared, use in self._summary.shared:
             self._share(shared, use)
         self._check_overlaps()
@@ -196,7 +248,7 @@ class _Mapping:
 
     def _given(self, arguments: Sequence[tree.Expression]) -> Dict[str, tree.Expression]:
         """The arguments by the names of the dummies."""
-        names = [name for name, _ in self._summary.formals]
+        names = dummies_of(self._target.unit)
         found: Dict[str, tree.Expression] = {}
         for position, argument in enumerate(arguments):
             if isinstance(argument, tree.AlternateReturn):
@@ -214,8 +266,8 @@ class _Mapping:
                 raise Unknown(f"isn't given its argument {name}")
         return found
 
-    def _argument(self, dummy: Symbol, use: Use, actual: tree.Expression) -> None:
-        """What is done to an argument."""
+    def _argument(self, dummy: Symbol, part: str, use: Use, actual: tree.Expression) -> None:
+        """What is done to an argument, or to a component of it."""
         needs_interface = bool(dummy.attributes & {"OPTIONAL", "VALUE"}) or any(
             bound.upper is None for bound in dummy.bounds
         )
@@ -227,14 +279,33 @@ class _Mapping:
             self._check_value(dummy, use, actual)
             return
         self._check_form(dummy, use, actual)
-        name = tree.root_of(actual)
-        self._touched.append(_Touched(name, bool(use.reads), bool(use.writes), True))
+        found = self._argument_part(actual)
+        whole = part if found is None else found.name + part
+        self._touched.append(_Touched(tree.root_of(actual) + whole, bool(use.reads), bool(use.writes), True))
         is_certain = use.is_certain and self._is_whole_scalar(dummy, actual)
         comes_last = is_certain and not use.is_exposed
-        for subscripts in self._elements(dummy, actual, use.reads):
-            (self._last if comes_last else self._first).append(Access(name, False, actual, subscripts, by_call=True))
-        for subscripts in self._elements(dummy, actual, use.writes):
-            self._writes.append(Access(name, True, actual, subscripts, covers=is_certain, by_call=True))
+        for subscripts in self._elements(dummy, part, actual, use.reads):
+            access = self._of_argument(actual, False, whole, subscripts)
+            (self._last if comes_last else self._first).append(access)
+        for subscripts in self._elements(dummy, part, actual, use.writes):
+            self._writes.append(replace(self._of_argument(actual, True, whole, subscripts), covers=is_certain))
+
+    def _argument_part(self, actual: tree.Expression) -> Optional[Part]:
+        """The part of a structure that is given, also a structure as a whole; none for any other variable."""
+        found = self._roles.part_of(actual)
+        if found is None and self._symbols.get(tree.root_of(actual)).type in ("TYPE", "CLASS"):
+            raise Unknown(f"is given {actual}, whose type isn't known")
+        return found
+
+    def _of_argument(self, actual: tree.Expression, writes: bool, part: str, subscripts: _Subscripts) -> Access:
+        """An access of an argument."""
+        name = tree.root_of(actual)
+        if not part:
+            return Access(name, writes, actual, subscripts, by_call=True)
+        first = (subscripts or ())[:self._symbols.get(name).rank]
+        return Access(
+            name, writes, actual, first or None, by_call=True, part=part, part_subscripts=subscripts or (),
+        )
 
     def _check_value(self, dummy: Symbol, use: Use, actual: tree.Expression) -> None:
         """Raises Unknown where what is given is no value, or is assigned."""
@@ -242,20 +313,35 @@ class _Mapping:
             raise Unknown(f"is given {actual}, which is no variable")
         if use.writes:
             raise Unknown(f"may assign its argument {dummy.name}, and {actual} is no variable")
+        if dummy.type == "TYPE" and self._roles.type_key(actual) != key_of(self._target, dummy):
+            raise Unknown(f"is given {actual}, which may be of another type")
 
     def _check_form(self, dummy: Symbol, use: Use, actual: tree.Expression) -> None:
         """Raises Unknown where an argument isn't of its dummy's type or rank."""
         symbol = self._symbols.designated(actual)
-        if symbol is None or symbol.type in ("", "TYPE", "CLASS"):
+        if symbol is None or not symbol.type:
             raise Unknown(f"is given {actual}, whose type isn't known")
-        if isinstance(actual, (tree.Name, tree.Component)) and dummy.rank and not symbol.rank:
-            raise Unknown(f"takes {dummy.name} for an array, and {actual} is none")
+        trouble = self._roles.structure_trouble(actual) if symbol.type != "TYPE" else None
+        if trouble is not None and isinstance(actual, (tree.Reference, tree.Component)):
+            raise Unknown(f"is given {actual}: {trouble.words}")
+        if "TYPE" in (symbol.type, dummy.type) or "CLASS" in (symbol.type, dummy.type):
+            key = key_of(self._target, dummy)
+            if key is None or self._roles.type_key(actual) != key:
+                raise Unknown(f"is given {actual}, which may be of another type")
+            self._check_rank(dummy, actual, symbol)
+            return
+        self._check_rank(dummy, actual, symbol)
         if self._is_checked:
             return
         if symbol.type != dummy.type or symbol.kind != dummy.kind or symbol.kind is None:
             raise Unknown(f"takes {dummy.name} for {_type_of(dummy)}, and {actual} is {_type_of(symbol)}")
         if dummy.type == "CHARACTER" and use.writes and not self._takes_length(dummy):
             raise Unknown(f"takes {dummy.name} for a CHARACTER of another length, perhaps")
+
+    def _check_rank(self, dummy: Symbol, actual: tree.Expression, symbol: Symbol) -> None:
+        """Raises Unknown where a scalar is given to an array."""
+        if isinstance(actual, (tree.Name, tree.Component)) and dummy.rank and not symbol.rank:
+            raise Unknown(f"takes {dummy.name} for an array, and {actual} is none")
 
     def _takes_length(self, dummy: Symbol) -> bool:
         """Whether a CHARACTER has the length of its argument."""
@@ -271,32 +357,62 @@ class _Mapping:
 
     # --- Elements ------------------------------------------------------------------------------------------------
 
-    def _elements(self, dummy: Symbol, actual: tree.Expression, cells: Cells) -> Iterator[_Subscripts]:
-        """The subscripts of the argument's elements that are used."""
-        if not cells:
-            return
-        name = tree.root_of(actual)
-        symbol = self._symbols.get(name)
-        if dummy.rank and symbol.rank:
+    def _elements(
+        self, dummy: Symbol, part: str, actual: tree.Expression, cells: Cells
+    ) -> Iterator[_Subscripts]:
+        """The subscripts of the argument's elements that are used, with those of its components."""
+        found = self._argument_part(actual)
+        symbol = self._symbols.designated(actual)
+        assert symbol is not None
+        if cells and dummy.rank and (symbol.rank or found is not None):
             self._assumes.add("A2")
-        if isinstance(actual, tree.Name):
-            shifts = self._shifts(dummy, symbol) if symbol.rank and dummy.rank and self._exactly else None
-            yield from dict.fromkeys(self._element(cell, shifts) for cell in cells)
+        is_whole = isinstance(actual, (tree.Name, tree.Component)) and symbol.rank > 0
+        shifts = self._shifts(dummy, symbol) if is_whole and dummy.rank and self._exactly else None
+        if found is None:
+            yield from dict.fromkeys(self._plain_elements(dummy, actual, cell, shifts) for cell in cells)
             return
+        rank = self._target.get(f"{dummy.name}{part}").rank - dummy.rank
+        for cell in cells:
+            first, last = (None, None) if cell is None else (cell[:dummy.rank], cell[dummy.rank:])
+            base = self._part_elements(dummy, found, is_whole, first, shifts)
+            yield (*base, *([ANYWHERE] * rank if last is None or not self._exactly else self._put_in(last)))
+
+    def _plain_elements(
+        self, dummy: Symbol, actual: tree.Expression, cell: Cell, shifts: Optional[Sequence[int]]
+    ) -> _Subscripts:
+        """The subscripts of elements of an argument that is no structure."""
+        if isinstance(actual, tree.Name):
+            return self._element(cell, shifts)
         subscripts = first_subscripts(actual)
         is_section = any(isinstance(one, tree.Section) for one in subscripts or ())
-        is_component = any(isinstance(part, tree.Component) for part in chain_of(actual))
         # An element given to an array stands for it and all after it.
-        yield None if dummy.rank and not is_section and not is_component else subscripts
+        return None if dummy.rank and not is_section else subscripts
+
+    def _part_elements(
+        self, dummy: Symbol, found: Part, is_whole: bool, cell: Cell, shifts: Optional[Sequence[int]]
+    ) -> Tuple[tree.Expression, ...]:
+        """The subscripts of elements of a structure or of its component, by those of the dummy itself."""
+        if not dummy.rank:
+            return found.subscripts
+        before, own = found.subscripts[:len(found.subscripts) - found.last], found.subscripts[-found.last:]
+        if is_whole:
+            return (*before, *(self._element(cell, shifts) or [ANYWHERE] * found.last))
+        # An element given to an array stands for it and all after it; a section is all of its elements.
+        is_section = any(isinstance(one, tree.Section) for one in found.subscripts)
+        return found.subscripts if is_section else (*before, *[ANYWHERE] * len(own))
 
     def _element(self, cell: Cell, shifts: Optional[Sequence[int]]) -> _Subscripts:
         """An element by the dummies as one by the arguments."""
         if cell is None or shifts is None:
             return None
+        return tuple(one if one is ANYWHERE else _moved(one, shift) for one, shift in zip(self._put_in(cell), shifts))
+
+    def _put_in(self, cell: Sequence[Optional[tree.Expression]]) -> Tuple[tree.Expression, ...]:
+        """Subscripts by the dummies with the arguments put in."""
         return tuple(
             ANYWHERE if one is None or any(name not in self._values for name in tree.names_in(one))
-            else _moved(_put(one, self._values), shift)
-            for one, shift in zip(cell, shifts)
+            else _put(one, self._values)
+            for one in cell
         )
 
     def _is_index(self, name: str, actual: tree.Expression) -> bool:
@@ -349,15 +465,16 @@ class _Mapping:
         if use.writes and not is_named and self._symbols.missing_modules:
             raise Unknown(f"assigns {shared.name or shared.home}, which a module that isn't in the files may have")
         for name, one in names:
-            symbol = self._symbols.get(name)
+            symbol = self._symbols.get(name + shared.part)
             is_same = one.is_same(shared) and self._exactly
-            self._touched.append(_Touched(name, bool(use.reads), bool(use.writes), False))
+            self._touched.append(_Touched(name + shared.part, bool(use.reads), bool(use.writes), False))
             self._access(shared, name, *(
                 {self._shared_element(cell, symbol) if is_same else None for cell in cells}
                 for cells in (use.reads, use.writes)
             ))
         if not is_named:
-            hidden = self._calls.commons.hidden_name(shared) if shared.is_common else f"{shared.home}:{shared.name}"
+            hidden = f"{shared.home}:{shared.name}{shared.part}"
+            hidden = self._calls.commons.hidden_name(shared) if shared.is_common else hidden
             self._access(shared, hidden, *({None} if cells else set() for cells in (use.reads, use.writes)))
 
     def _shared_element(self, cell: Cell, symbol: Symbol) -> _Subscripts:
@@ -370,9 +487,18 @@ class _Mapping:
     ) -> None:
         """Accesses of a shared variable."""
         for subscripts in sorted(reads, key=str):
-            self._first.append(Access(name, False, tree.Name(name), subscripts, by_call=True, shared=shared))
+            self._first.append(self._of_shared(shared, name, False, subscripts))
         for subscripts in sorted(writes, key=str):
-            self._writes.append(Access(name, True, tree.Name(name), subscripts, by_call=True, shared=shared))
+            self._writes.append(self._of_shared(shared, name, True, subscripts))
+
+    def _of_shared(self, shared: Shared, name: str, writes: bool, subscripts: _Subscripts) -> Access:
+        """An access of a shared variable, or of a component of it."""
+        access = Access(name, writes, tree.Name(name), subscripts, by_call=True, shared=shared)
+        if not shared.part or ":" in name:
+            return access
+        symbol = self._symbols.get(name)
+        indices = subscripts or (ANYWHERE,) * self._symbols.get(name + shared.part).rank
+        return replace(access, subscripts=indices[:symbol.rank] or None, part=shared.part, part_subscripts=indices)
 
     # --- Names for one variable ----------------------------------------------------------------------------------
 
@@ -395,7 +521,10 @@ class _Mapping:
         if not (one.is_argument or other.is_argument):
             return False
         group = self._symbols.get(one.name).group
-        return one.name == other.name or bool(group) and group == self._symbols.get(other.name).group
+        if one.name == other.name or one.name.startswith(f"{other.name}%") or other.name.startswith(f"{one.name}%"):
+            return True
+        is_apart = one.name.partition("%")[0] == other.name.partition("%")[0]
+        return not is_apart and bool(group) and group == self._symbols.get(other.name).group
 
 
 def _put(expression: tree.Expression, values: Dict[str, tree.Expression]) -> tree.Expression:

@@ -22,13 +22,14 @@ class Shared:
 
     `home` is the path of the unit that declares it, and `name` its name there. For one of a common block `home` is the
     block, `/NAME/`, `name` is empty, and `span` is its place, none where that isn't known. `form` are its type, its kind
-    and its bounds.
+    and its bounds. `part` is a component of a structure, as in `components.Part`.
     """
 
     home: str
     name: str
     span: Optional[Span] = None
     form: Tuple[object, ...] = ()
+    part: str = ""
 
     @property
     def is_common(self) -> bool:

@@ -44,7 +44,8 @@ class Job:
     """What is checked.
 
     `text` is the user's, `written` has the directives, and `running` has them with SCHEDULE(RUNTIME). `others` are
-    sources that are compiled before it. `is_exact` tells that no REAL reduction may change last digits.
+    sources that are compiled before it. `is_exact` tells that no REAL reduction may change last digits. `macros` are the
+    compiler's words for names of the preprocessor.
     """
 
     path: str
@@ -58,6 +59,7 @@ class Job:
     folders: Sequence[str] = ()
     others: Sequence[str] = ()
     data: Optional[str] = None
+    macros: Sequence[str] = ()
 
 
 @dataclass(frozen=True)
@@ -115,7 +117,7 @@ class _Checking:
         linking = [] if self._job.has_main or output == [] else ["-c"]
         others = [argument(os.path.abspath(one)) for one in self._job.others] if self._job.has_main else []
         command = [
-            self._compiler, *_FLAGS, *flags, *linking, *self._layout(), f"-J{place}",
+            self._compiler, *_FLAGS, *self._job.macros, *flags, *linking, *self._layout(), f"-J{place}",
             *(f"-I{folder}" for folder in self._included()), *others, str(source), *output,
         ]
         try:

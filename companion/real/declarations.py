@@ -353,6 +353,8 @@ def derived_type(text: str) -> tree.Statement:
             extends = said[len("EXTENDS("):-1]
         else:
             words.add(said)
+    if node.items[2]:
+        words.add("PARAMETERS")
     return tree.DerivedType(name_of(node.items[1]), frozenset(words), extends)
 
 

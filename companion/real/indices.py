@@ -8,10 +8,10 @@ becomes the product of two such scalars, of which ped never says that it is one 
 from __future__ import annotations
 
 from dataclasses import dataclass
-from typing import Dict, FrozenSet, List, Mapping, Optional, Sequence, Set, Tuple
+from typing import Callable, Dict, FrozenSet, List, Mapping, Optional, Sequence, Set, Tuple
 
 from . import constants, intrinsics, tree
-from .accesses import Kind, reads_of
+from .accesses import Access, Kind, reads_of
 from .roles import Roles
 from .symbols import Symbols
 from .naming import OPAQUE, Naming
@@ -63,17 +63,17 @@ class Site:
 class Indices:
     """The subscripts and bounds of one loop.
 
-    `written` are the names that the loop assigns, those of its DO variables among them. `counters` are the DO variables
-    that count here and now, with what they are in the model; the model's body keeps it right.
+    `changes` tells of a read whether the loop assigns its variable, also its DO variables. `counters` are the DO
+    variables that count here and now, with what they are in the model; the model's body keeps it right.
     """
 
     def __init__(
-        self, roles: Roles, symbols: Symbols, naming: Naming, written: FrozenSet[str], grants: FrozenSet[str]
+        self, roles: Roles, symbols: Symbols, naming: Naming, changes: Callable[[Access], bool], grants: FrozenSet[str]
     ) -> None:
         self._roles = roles
         self._symbols = symbols
         self._names = naming
-        self._written = written
+        self._changes = changes
         self._grants = grants
         self.counters: Dict[str, Pieces] = {}
         #: Induction variables whose step isn't known, with the number of their steps so far.
@@ -109,7 +109,7 @@ class Indices:
         effects = reads_of(expression, self._roles, site.bound)
         if effects.troubles or effects.calls or effects.procedures or site.bound.intersection(tree.names_in(expression)):
             return False
-        return all(access.name not in self._written for access in effects.accesses)
+        return not any(map(self._changes, effects.accesses))
 
     def enter(self, variable: str, value: Pieces, first: Optional[int], last: Optional[int]) -> None:
         """A DO begins to count a variable, which is `value` in the model. Its first and last value may be constants."""
@@ -177,7 +177,8 @@ class Indices:
 
     def _check_bounds(self, name: str, position: int, argument: tree.Expression, site: Site) -> None:
         """Refuses a subscript that evidently leaves a dimension, so that it may be an element of another column."""
-        if position == self._symbols.get(name).rank - 1 or isinstance(argument, tree.Section):
+        is_last = position == self._symbols.get(name).rank - 1 and position < self._own_rank(name)
+        if is_last or isinstance(argument, tree.Section):
             return
         lower, upper = self.extent(name, position)
         values = self._range(argument, site)
@@ -187,6 +188,10 @@ class Indices:
         if is_left or values is None and lower is not None and lower == upper:
             words = f"{argument} leaves dimension {position + 1} of {name}, which is {lower}:{upper}"
             raise Refused("bounds", site.line, words)
+
+    def _own_rank(self, name: str) -> int:
+        """The number of dimensions of a variable itself, without those of its component: after them come others."""
+        return self._symbols.get(name.partition("%")[0]).rank
 
     def _range(self, expression: tree.Expression, site: Site) -> Optional[Range]:
         """The values that an expression of constants and DO variables may have."""
@@ -208,7 +213,9 @@ class Indices:
         if affine is not None:
             return affine
         if self.invariant(expression, site):
-            return (self._names.name(str(expression)),)
+            # A component as an array has the name without parentheses.
+            is_component = "%" in str(expression) and not isinstance(expression, tree.Operation)
+            return (self._names.name(f"({expression})" if is_component else str(expression)),)
         return self._function(expression, site) or self._element(expression, site)
 
     def _affine(self, expression: tree.Expression, site: Site) -> Optional[Pieces]:
@@ -318,7 +325,7 @@ class Indices:
         if isinstance(expression, (tree.Operation, tree.Parentheses)):
             return all(map(self._is_integer, expression.parts()))
         if not isinstance(expression, tree.Reference) or not isinstance(expression.base, tree.Name):
-            return False
+            return self._roles.component_type(expression) == "INTEGER"
         name = expression.base.name
         if self._roles.kind_of(name) in (Kind.ARRAY, Kind.STATEMENT_FUNCTION, Kind.CONSTANT):
             return self._roles.type_of(name) == "INTEGER"
@@ -343,7 +350,8 @@ class Indices:
             return all(map(self._is_one_number, expression.parts()))
         if isinstance(expression, tree.Reference) and isinstance(expression.base, tree.Name):
             return self._is_one_number_called(expression.base.name, expression.arguments)
-        return False
+        part = self._roles.part_of(expression)
+        return part is not None and not part.is_structure and all(map(self._is_one_number, part.subscripts))
 
     def _is_one_number_called(self, name: str, arguments: Tuple[tree.Expression, ...]) -> bool:
         kind = self._roles.kind_of(name)

@@ -14,6 +14,7 @@ from functools import cached_property
 from typing import Callable, Dict, FrozenSet, Optional, Sequence, Set, Tuple, Union
 
 from . import tree
+from .accesses import Access
 from .bodies import MOST_LOOPS, BodyWriter, Plan
 from .flow import has_iteration
 from .indices import Indices, Pieces, Refused, Site
@@ -115,8 +116,7 @@ class _Making:
         self._assumes: Set[str] = set(assumptions_of(scene, self._survey))
         self._parts = scene.facts.shape(loop)
         self._own = own_variable(loop)
-        written = self._survey.written | ({self._own} if self._own else set())
-        self._indices = Indices(scene.roles, scene.symbols, self._names, written, granted)
+        self._indices = Indices(scene.roles, scene.symbols, self._names, self._changes, granted)
 
     def model(self) -> Model:
         """The model."""
@@ -133,7 +133,9 @@ class _Making:
         writer.masked(self._loop, self._parts)
         self._assumes |= self._indices.assumed
         candidates = self._candidates(reductions, inductions, plan.outside)
-        live = frozenset(self._names.name(name) for name in self._live if name in self._survey.written)
+        live = frozenset(
+            self._names.name(name) for name in self._survey.changed if name.partition("%")[0] in self._live
+        )
         last_variable, needed_value = ("", "") if self._own else self._variable_after(variable)
         return Model(
             self._loop.first_line, writer.writer, tuple(sorted(writer.ranks.items())), self._names, candidates,
@@ -145,6 +147,10 @@ class _Making:
 
     def _turned(self) -> Model:
         return _Making(self._scene, self._loop, self._granted, downward=True).model()
+
+    def _changes(self, access: Access) -> bool:
+        """Whether the loop assigns what is read."""
+        return access.name == self._own or self._survey.place(access) in self._survey.changed
 
     # --- Recurrences ---------------------------------------------------------------------------------------------
 
@@ -248,11 +254,11 @@ def _striding(survey: Survey) -> FrozenSet[Tuple[str, int, str]]:
     found: Dict[Tuple[str, int], Set[str]] = {}
     ranks: Dict[str, Set[int]] = {}
     for _, access in survey.accesses():
-        arguments = access.subscripts or ()
-        ranks.setdefault(access.name, set()).add(len(arguments))
+        arguments, place = survey.indices(access) or (), survey.place(access)
+        ranks.setdefault(place, set()).add(len(arguments))
         for position, argument in enumerate(arguments):
             name = argument.name if isinstance(argument, tree.Name) and argument.name not in access.bound else ""
-            found.setdefault((access.name, position), set()).add(name)
+            found.setdefault((place, position), set()).add(name)
     return frozenset(
         (name, position, next(iter(names))) for (name, position), names in found.items()
         if len(names) == 1 and len(ranks[name]) == 1 and "" not in names

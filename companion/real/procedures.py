@@ -6,7 +6,7 @@ What is a dummy, a pointer, a generic name, an ENTRY or the name of an intrinsic
 
 from __future__ import annotations
 
-from typing import Dict, FrozenSet, Iterable, List, Optional, Set, Union
+from typing import Dict, FrozenSet, Iterable, Iterator, List, Optional, Set, Tuple, Union
 
 from . import intrinsics, tree
 from .specifications import Facts
@@ -55,8 +55,47 @@ class Procedures:
             return self._from_outside(name, is_function, None, is_external=False)
         home = symbols.home_of(other)
         if other.storage is Storage.UNKNOWN or home is None or home is symbols:
-            return f"what {name} is isn't known: a module that isn't in the files may have it"
+            return f"what {name} is isn't known: {missing_words(symbols)}"
         return self._find(home, other.original, is_function)
+
+    # --- Generic names -------------------------------------------------------------------------------------------
+
+    def specifics(self, symbols: Symbols, name: str, is_function: bool) -> Union[List[Unit], str, None]:
+        """The procedures that a generic name may mean; words where they aren't all known; none for any other name."""
+        if name in symbols.statement_functions or "GENERIC" not in symbols.get(name).attributes:
+            return None
+        if symbols.missing_modules:
+            return f"{name} is a generic name: {missing_words(symbols)}"
+        if name in (intrinsics.PURE | intrinsics.FURTHER if is_function else intrinsics.SUBROUTINES):
+            return f"{name} is a generic name and that of an intrinsic procedure"
+        found: Dict[Unit, None] = {}
+        words = self._collect(symbols, name, is_function, found, set())
+        return words or list(found) or f"{name} is a generic name without procedures"
+
+    def _collect(
+        self, symbols: Symbols, name: str, is_function: bool, found: Dict[Unit, None], seen: Set[Tuple[str, str]]
+    ) -> str:
+        """Adds the procedures of a generic name in a unit, its modules and its hosts; words where one isn't known."""
+        if (symbols.unit.path, name) in seen:
+            return ""
+        seen.add((symbols.unit.path, name))
+        for specific in _specifics_of(symbols.unit, name):
+            one = self._specific(symbols, specific, is_function)
+            if isinstance(one, str):
+                return f"{name} is a generic name: {one}"
+            found[one] = None
+        nexts = list(symbols.used_as(name))
+        if symbols.host is not None:
+            nexts.append((symbols.host, name))
+        return next(filter(None, (self._collect(one, other, is_function, found, seen) for one, other in nexts)), "")
+
+    def _specific(self, symbols: Symbols, name: str, is_function: bool) -> Union[Unit, str]:
+        """A procedure that a generic name has; it may have the name itself."""
+        contained = [one for one in symbols.unit.contained if one.name == name]
+        if len(contained) == 1 and contained[0].kind in _KINDS and contained[0].path not in self.doubled:
+            fits = (contained[0].kind == "FUNCTION") == is_function
+            return contained[0] if fits else f"{name} is a {contained[0].kind}"
+        return self.find(symbols, name, is_function)
 
     def _own(self, symbols: Symbols, name: str, facts: Facts, is_function: bool) -> Union[Unit, str]:
         """A name that a unit declares itself."""
@@ -101,6 +140,25 @@ _UNCERTAIN = (
 )
 
 
+def missing_words(symbols: Symbols) -> str:
+    """That something is in a module that isn't in the files, perhaps."""
+    missing = symbols.missing_modules
+    return f"module {missing[0]} isn't in the files, and may have it" if missing else "a module may have it"
+
+
+def _specifics_of(unit: Unit, name: str) -> Iterator[str]:
+    """The procedures that the INTERFACEs of a unit put under a generic name."""
+    for declared in unit.specification:
+        head = declared.head.statement if isinstance(declared, InterfaceBlock) else None
+        if not isinstance(declared, InterfaceBlock) or not isinstance(head, tree.Interface) or head.generic != name:
+            continue
+        yield from (body.name for body in declared.bodies)
+        for written in declared.names:
+            statement = written.statement
+            known = isinstance(statement, (tree.ModuleProcedure, tree.ProcedureDeclaration))
+            yield from statement.names if known else ("",)  # type: ignore[attr-defined]
+
+
 def is_interface(unit: Unit) -> bool:
     """Whether a unit is the body of an INTERFACE, which says nothing of what the procedure does."""
     return unit.host is not None and unit not in unit.host.contained
@@ -110,6 +168,11 @@ def is_pure(unit: Unit) -> bool:
     """Whether a procedure is said to be PURE, or ELEMENTAL without IMPURE."""
     prefixes = _prefixes(unit)
     return "PURE" in prefixes or "ELEMENTAL" in prefixes and "IMPURE" not in prefixes
+
+
+def is_elemental(unit: Unit) -> bool:
+    """Whether a procedure is said to be ELEMENTAL."""
+    return "ELEMENTAL" in _prefixes(unit)
 
 
 def has_interface(symbols: Symbols, target: Unit) -> bool:

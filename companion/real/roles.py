@@ -2,9 +2,9 @@
 
 from __future__ import annotations
 
-from typing import FrozenSet, List, Optional, Protocol, Sequence, Union
+from typing import FrozenSet, List, Optional, Protocol, Sequence, Tuple, Union
 
-from . import tree
+from . import components, tree
 from .accesses import Called, Kind, StatementFunction, Trouble
 from .symbols import Storage, Symbol, Symbols, TypeComponents
 
@@ -25,6 +25,9 @@ class Procedures(Protocol):
 
     def function_type(self, symbols: Symbols, name: str) -> str:
         """The type of the value of a function that a unit refers to, empty where it isn't in the files."""
+
+    def function_key(self, symbols: Symbols, name: str) -> Optional[Tuple[str, str]]:
+        """Where the type of a function's value is defined, if that is a structure, and its name there."""
 
 
 class Roles:
@@ -124,6 +127,46 @@ class Roles:
                 return ""
             symbol, home = inner, found.home
         return symbol.type
+
+    def part_of(self, designator: tree.Expression) -> Optional[components.Part]:
+        """The part of a structure that a designator is; none where it's none, or its type isn't known."""
+        return components.part_of(self._symbols, designator)
+
+    def is_constructor(self, name: str) -> bool:
+        """Whether the name of a derived type before parentheses makes a structure of values, and is no function."""
+        home = self._symbols.home_of(self._symbols.get(name))
+        facts = None if home is None else home.declarations.names.get(self._symbols.get(name).original)
+        return facts is not None and "GENERIC" not in facts.attributes and not self._symbols.missing_modules
+
+    def copied(
+        self, target: tree.Expression, value: tree.Expression
+    ) -> Union[Tuple[components.Leaf, ...], Trouble, None]:
+        """The components that an assignment of a structure assigns; none where the target is no structure as a whole."""
+        part = self.part_of(target)
+        if part is None or not part.is_structure:
+            return None
+        try:
+            components.check_assignment(self._symbols, part)
+            leaves = components.leaves_of(part.home, part.symbol)
+        except components.NotPlain as error:
+            return Trouble("function", f"{target} {error.words}")
+        key = components.key_of(part.home, part.symbol)
+        if key is None or self.type_key(value) != key:
+            return Trouble("function", f"{target} and {value} may have different types")
+        return leaves
+
+    def type_key(self, value: tree.Expression) -> Optional[Tuple[str, str]]:
+        """Where the type of a structure is defined, and its name there; none where that isn't certain."""
+        while isinstance(value, tree.Parentheses):
+            value = value.inner
+        name = value.base.name if isinstance(value, tree.Reference) and isinstance(value.base, tree.Name) else ""
+        if name and self.kind_of(name) is Kind.TYPE and self.is_constructor(name):
+            known = self._symbols.derived_type(name)
+            return None if known is None else (known.home.unit.path, known.name)
+        if name and self.kind_of(name) is Kind.PROCEDURE:
+            return None if self._procedures is None else self._procedures.function_key(self._symbols, name)
+        part = self.part_of(value)
+        return None if part is None else components.key_of(part.home, part.symbol)
 
     def _type(self, symbol: Symbol, home: Symbols) -> Union[TypeComponents, Trouble]:
         """The components of a variable's type, which is seen where the variable is declared."""

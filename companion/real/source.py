@@ -14,6 +14,7 @@ from typing import Dict, List, Optional, Sequence, Tuple
 
 from ..languages import FREE_SUFFIXES
 from ..lines import split_lines
+from .preprocessing import Conditions, Macros
 
 #: Stands for a backslash, which is an ordinary character in Fortran. No file has it, as files are read as latin-1.
 BACKSLASH = "\ue000"
@@ -25,7 +26,8 @@ BLANK = "\ue001"
 EXCLAMATION = "\ue002"
 
 _INCLUDE = re.compile(r"""\s*include\s*('[^']*'|"[^"]*")\s*(?:!.*)?$""", re.IGNORECASE)
-_CONDITION = re.compile(r"\s*#\s*(if|ifdef|ifndef|endif|define|undef|include)\b")
+_CONDITION = re.compile(r"\s*#\s*(if|ifdef|ifndef|elif|endif|define|undef|include)\b")
+_CONDITIONAL = re.compile(r"#\s*(el)?if")
 _QUOTE_OR_COMMENT = re.compile("['\"!]")
 _FREE_LABEL = re.compile(r"\s*([0-9]+)\s*(?:!.*)?$")
 
@@ -35,8 +37,9 @@ class Mark:
     """Lines that are no statement but may change what the program means.
 
     `kind` is `directive` (`!$OMP`, `!$ACC`), `conditional` (`!$ `, which a compiler with -fopenmp reads as a
-    statement), `preprocessor` (`#`, from an `#if` to its `#endif` in one mark) or `include` (an INCLUDE whose file
-    wasn't found). `text` is the first line; `file` is as in `items.Item`.
+    statement), `preprocessor` (`#`, from an `#if` that isn't decided to its `#endif` in one mark; and a line with a name
+    that is defined) or `include` (an INCLUDE whose file wasn't found). `text` is the first line; `file` is as in
+    `items.Item`.
 
     A conditional line matters outside a loop, too: what it may read is live after the loop.
     """
@@ -46,6 +49,12 @@ class Mark:
     last: int
     text: str
     file: str = ""
+
+    @property
+    def words(self) -> str:
+        """The first line, and what would help."""
+        text = self.text.strip()
+        return f"{text}; --define and --undefine decide it" if _CONDITIONAL.match(text) else text
 
 
 @dataclass
@@ -69,16 +78,17 @@ def form_of(path: str) -> str:
     return "free" if path.lower().endswith(FREE_SUFFIXES) else "fixed"
 
 
-def read_source(text: str, form: str, columns: int = 72) -> Source:
+def read_source(text: str, form: str, columns: int = 72, macros: Macros = Macros()) -> Source:
     """The lines of a text, laid out. `columns` is the last column of fixed form that counts; free form has none.
 
-    A control Z ends the program: what follows is no part of it, but its lines are kept.
+    What `macros` leave out is empty. A control Z ends the program: what follows is no part of it, but its lines are kept.
     """
     source = Source(tuple(split_lines(text)), form)
     layout: _Layout = _Fixed(source, columns) if form == "fixed" else _Free(source)
-    conditions = _Preprocessor(source)
+    conditions = _Preprocessor(source, macros)
     for number, line in enumerate(split_lines(text.partition("\x1a")[0]), 1):
         source.layout.append("" if conditions.takes(number, line) else layout.laid_out(number, line))
+        conditions.look(number, source.layout[-1])
     conditions.finish()
     source.layout += [""] * (len(source.lines) - len(source.layout))
     return source
@@ -87,44 +97,70 @@ def read_source(text: str, form: str, columns: int = 72) -> Source:
 class _Preprocessor:
     """Finds lines with `#`. Those from an `#if` to its `#endif` are one mark; all after `#define` are one, too.
 
-    What an `#include` brings may define names, so it counts as a `#define`.
+    What an `#include` brings may define names, so it counts as a `#define`. An `#if` that is decided is none.
     """
 
-    def __init__(self, source: Source) -> None:
+    def __init__(self, source: Source, macros: Macros) -> None:
         self._source = source
-        self._open: List[Tuple[int, str]] = []
+        self._macros = macros
+        self._conditions = Conditions(macros)
+        #: The `#if`s that are open; none for those that are decided.
+        self._open: List[Optional[Tuple[int, str]]] = []
         self._goes_on = False
 
     def takes(self, number: int, line: str) -> bool:
-        """Whether a line is the preprocessor's: it begins with `#`, or goes on with such a line after a backslash."""
+        """Whether a line is the preprocessor's: it begins with `#`, or goes on with such a line after a backslash.
+
+        What is left out is so, too.
+        """
         if not self._goes_on and not line.lstrip(" ")[:1] == "#":
-            return False
+            return self._conditions.leaves_out
         if self._source.form == "fixed" and not line.startswith("#") and not self._goes_on:
-            return False
+            return self._conditions.leaves_out
         if not self._goes_on:
-            self._begin(number, line)
+            self._begin(number, self._whole(number, line))
         self._goes_on = line.endswith("\\")
         return True
+
+    def look(self, number: int, layout: str) -> None:
+        """Marks a line that the preprocessor changes, since it has a name that is defined."""
+        name = self._macros.used_in(layout)
+        if name is not None:
+            self._mark(number, number, f"{name}, which --define replaces")
+
+    def _whole(self, number: int, line: str) -> str:
+        """A line with those that it goes on with."""
+        last = number
+        while line.endswith("\\") and last < len(self._source.lines):
+            last += 1
+            line = f"{line}\n{self._source.lines[last - 1]}"
+        return line
 
     def _begin(self, number: int, line: str) -> None:
         match = _CONDITION.match(line)
         word = match.group(1) if match else ""
+        is_decided = self._conditions.take(line)
+        text = line.partition("\n")[0]
         if word in ("if", "ifdef", "ifndef"):
-            self._open.append((number, line))
+            self._open.append(None if is_decided else (number, text))
         elif word == "endif" and self._open:
-            first, text = self._open.pop()
-            if not self._open:
-                self._mark(first, number, text)
+            found = self._open.pop()
+            if found is not None and not any(self._open):
+                self._mark(found[0], number, found[1])
+        elif word == "elif" and not is_decided and self._open and self._open[-1] is None:
+            self._open[-1] = number, text
+        elif is_decided or any(self._open) and word not in ("define", "undef", "include"):
+            return
         elif word in ("define", "undef", "include"):
-            self._mark(number, len(self._source.lines), line)
-        elif not self._open:
-            self._mark(number, number, line)
+            self._mark(number, len(self._source.lines), text)
+        else:
+            self._mark(number, number, text)
 
     def finish(self) -> None:
         """Ends an `#if` that is open where the file ends."""
-        if self._open:
-            first, text = self._open[0]
-            self._mark(first, len(self._source.lines), text)
+        first = next(filter(None, self._open), None)
+        if first is not None:
+            self._mark(first[0], len(self._source.lines), first[1])
 
     def _mark(self, first: int, last: int, text: str) -> None:
         self._source.marks.append(Mark("preprocessor", first, last, text))

@@ -16,6 +16,7 @@ from typing import Callable, Dict, FrozenSet, Iterator, List, Optional, Sequence
 from . import tree
 from .accesses import Access, Called, Trouble, reads_of
 from .commons import Commons, Shared
+from .components import Leaf, NotPlain, has_final, leaves_of
 from .facts import Facts
 from .keywords import words_of
 from .procedures import Procedures, is_interface, is_pure
@@ -67,7 +68,7 @@ ANYTHING = Use(WHOLE, WHOLE)
 class Summary:
     """What a procedure does: to its dummies, in their order, and to shared variables.
 
-    `assumes` are the assumptions that this rests on. With `reads_shared` it may read all shared variables.
+    A dummy that is a structure is in `formals` by its components: `P%X`. `assumes` are the assumptions that this rests on. With `reads_shared` it may read all shared variables.
     """
 
     formals: Tuple[Tuple[str, Use], ...]
@@ -162,10 +163,14 @@ class Summaries:
         """The summaries of procedures that call one another: found again until they no longer grow."""
         for unit in circle:
             symbols = self.scopes.of(unit)
-            self._known[unit] = Summary(tuple((name, _at_worst(symbols.get(name))) for name in _dummies(unit)))
+            try:
+                formals = tuple((place, _at_worst(_dummy_of(symbols, place))) for place in _places(symbols))
+                self._known[unit] = Summary(formals)
+            except Unknown as unknown:
+                self._known[unit] = unknown.words
         for _ in range(_MOST_ROUNDS):
             found = {unit: _loosened(self._found(unit), self.scopes.of(unit)) for unit in circle}
-            if all(self._known[unit] == one for unit, one in found.items()):
+            if all(_is_same(self._known[unit], one) for unit, one in found.items()):
                 return
             self._known.update(found)
         self._known.update({unit: "calls itself in a way that isn't understood" for unit in circle})
@@ -177,7 +182,7 @@ class Summaries:
         symbols = self.scopes.of(unit)
         for fault in symbols.faults:
             raise Unknown(f"isn't understood: {fault.words} ({self.place(unit, fault.line)})")
-        if "*" in _dummies(unit):
+        if "*" in dummies_of(unit):
             raise Unknown("may return to another place")
         for mark in self._files[unit].marks:
             is_here = mark.file in unit.files if mark.file else (
@@ -191,30 +196,73 @@ class Summaries:
                 if mark.kind == "conditional" and mark.first <= host.last_line and mark.last >= host.first_line:
                     raise Unknown(f"is in {host.name}, which has a line with !$ ({self.place(unit, mark.first)})")
             host = host.host
-        for name in _dummies(unit):
-            _check_dummy(symbols.get(name))
+        for name in dummies_of(unit):
+            _check_dummy(symbols, symbols.get(name))
+        _check_ends(symbols)
 
 
 def _defines(mark: Mark) -> bool:
     return mark.kind == "preprocessor" and ("define" in mark.text or "undef" in mark.text)
 
 
-def _check_dummy(symbol: Symbol) -> None:
-    """Raises Unknown where a dummy is more than a plain variable."""
+def _check_dummy(symbols: Symbols, symbol: Symbol) -> None:
+    """Raises Unknown where a dummy is more than a plain variable, or a structure of such."""
     strange = symbol.attributes & (_STRANGE | {"ALLOCATABLE", "POINTER", "TARGET", "CRAY POINTEE", "CRAY POINTER"})
     if strange:
         raise Unknown(f"has a dummy argument {symbol.name} that is {min(strange)}")
     if symbol.storage is not Storage.DUMMY:
         raise Unknown(f"has a procedure {symbol.name} as its argument")
-    if symbol.type in ("", "TYPE", "CLASS"):
-        raise Unknown(f"has a structure {symbol.name} as its argument")
+    if not symbol.type:
+        raise Unknown(f"has an argument {symbol.name} whose type isn't known")
     if any(bound.upper == tree.Name("..") for bound in symbol.bounds):
         raise Unknown(f"has an argument {symbol.name} of any rank")
+    leaves = _leaves(symbols, symbol)
+    if "INTENT(OUT)" in symbol.attributes and any("ALLOCATABLE" in leaf.attributes for leaf in leaves):
+        raise Unknown(f"has an argument {symbol.name} with INTENT(OUT), whose components it deallocates")
+
+
+def _check_ends(symbols: Symbols) -> None:
+    """Raises Unknown where a type has FINAL: then a procedure is called where nothing says so."""
+    for name, facts in symbols.declarations.names.items():
+        spec = facts.type
+        known = None if spec is None or spec.name not in ("TYPE", "CLASS") else symbols.derived_type(spec.derived or "")
+        if known is not None and has_final(known):
+            raise Unknown(f"has a variable {name} of the type {known.name}, which has FINAL")
+
+
+def _leaves(symbols: Symbols, symbol: Symbol) -> Tuple[Leaf, ...]:
+    """The components of a dummy that is a structure; none for any other. Raises Unknown."""
+    if symbol.type not in ("TYPE", "CLASS"):
+        return ()
+    try:
+        return leaves_of(symbols, symbol)
+    except NotPlain as error:
+        raise Unknown(f"has a structure as its argument {symbol.name}, which {error.words}") from error
+
+
+def _places(symbols: Symbols) -> List[str]:
+    """The dummies of a procedure in order; those that are structures by their components. Raises Unknown."""
+    found: List[str] = []
+    for name in dummies_of(symbols.unit):
+        symbol = symbols.get(name)
+        is_structure = symbol.type in ("TYPE", "CLASS")
+        found.extend([f"{name}{leaf.name}" for leaf in _leaves(symbols, symbol)] if is_structure else [name])
+    return found
+
+
+def _dummy_of(symbols: Symbols, place: str) -> Symbol:
+    """The dummy that a place is, or is a component of."""
+    return symbols.get(place.partition("%")[0])
 
 
 def _at_worst(symbol: Symbol, use: Use = Use()) -> Use:
     """What may be done to a dummy of a procedure that calls itself: with INTENT(IN) it's read, if it seems so."""
     return Use(WHOLE) if "INTENT(IN)" in symbol.attributes and not use.writes else ANYTHING
+
+
+def _is_same(before: Union[Summary, str], after: Union[Summary, str]) -> bool:
+    """Whether nothing new was found about a procedure; words about what isn't known may go on growing."""
+    return before == after or isinstance(before, str) and isinstance(after, str)
 
 
 def _loosened(found: Union[Summary, str], symbols: Symbols) -> Union[Summary, str]:
@@ -224,7 +272,7 @@ def _loosened(found: Union[Summary, str], symbols: Symbols) -> Union[Summary, st
     shared = tuple(
         (one, Use(WHOLE if use.reads else NOTHING, WHOLE if use.writes else NOTHING)) for one, use in found.shared
     )
-    formals = tuple((name, _at_worst(symbols.get(name), use)) for name, use in found.formals)
+    formals = tuple((place, _at_worst(_dummy_of(symbols, place), use)) for place, use in found.formals)
     return replace(found, formals=formals, shared=shared)
 
 
@@ -235,11 +283,11 @@ def _by_interface(symbols: Symbols) -> Summary:
     for fault in symbols.declaration_faults:
         raise Unknown(f"isn't understood: {fault.words}")
     uses = []
-    for name in _dummies(symbols.unit):
-        symbol = symbols.get(name)
-        _check_dummy(symbol)
-        reads_alone = bool(symbol.attributes & {"INTENT(IN)", "VALUE"})
-        uses.append((name, Use(WHOLE) if reads_alone else ANYTHING))
+    for name in dummies_of(symbols.unit):
+        _check_dummy(symbols, symbols.get(name))
+    for place in _places(symbols):
+        reads_alone = bool(_dummy_of(symbols, place).attributes & {"INTENT(IN)", "VALUE"})
+        uses.append((place, Use(WHOLE) if reads_alone else ANYTHING))
     return Summary(tuple(uses), (), frozenset(["A10"]), reads_shared=True)
 
 
@@ -254,7 +302,9 @@ class _Listener:
         self, symbols: Symbols, name: str, arguments: Sequence[tree.Expression], is_function: bool
     ) -> Union[Called, Trouble]:
         """Notes a procedure."""
-        found = self._procedures.find(symbols, name, is_function)
+        specifics = self._procedures.specifics(symbols, name, is_function)
+        found = self._procedures.find(symbols, name, is_function) if specifics is None else name
+        self.found.update(specifics if isinstance(specifics, list) else [])
         if isinstance(found, Unit):
             self.found.add(found)
         return Trouble("call", name)
@@ -262,6 +312,10 @@ class _Listener:
     def function_type(self, symbols: Symbols, name: str) -> str:
         """Nothing is known of types."""
         return ""
+
+    def function_key(self, symbols: Symbols, name: str) -> Optional[Tuple[str, str]]:
+        """Nothing is known of types."""
+        return None
 
 
 class _Reading:
@@ -277,7 +331,7 @@ class _Reading:
         self._accesses: List[Access] = []
         self._reads_shared = False
         self._shared: Dict[Shared, Use] = {}
-        self._formals: Dict[str, Use] = {name: Use(is_exposed=False) for name in _dummies(unit)}
+        self._formals: Dict[str, Use] = {place: Use(is_exposed=False) for place in _places(self._symbols)}
         #: The dummies that the procedure assigns nowhere.
         self._fixed: FrozenSet[str] = frozenset()
 
@@ -289,13 +343,14 @@ class _Reading:
             raise Unknown("jumps to a place that isn't there")
         specification = self._specification()
         written_names = {access.name for access in self._accesses if access.writes}
-        self._fixed = frozenset(name for name in self._formals if name not in written_names)
+        self._fixed = frozenset(name for name in dummies_of(self._unit) if name not in written_names)
         for access in (*specification, *self._accesses):
             self._take(access)
         exposed = self._facts.liveness.exposed_at_entry | {access.name for access in specification}
         for name, use in self._formals.items():
             self._formals[name] = self._with_intent(name, replace(
-                use, is_exposed=name in exposed, is_certain=name in self._facts.liveness.always_assigned,
+                use, is_exposed=name.partition("%")[0] in exposed,
+                is_certain=name in self._facts.liveness.always_assigned,
             ))
         self._check_copies()
         return Summary(
@@ -357,7 +412,7 @@ class _Reading:
 
     def _with_intent(self, name: str, use: Use) -> Use:
         """A dummy with INTENT(OUT) has no value when the procedure begins, so all of it is written in a way."""
-        return use.with_writes() if "INTENT(OUT)" in self._symbols.get(name).attributes else use
+        return use.with_writes() if "INTENT(OUT)" in _dummy_of(self._symbols, name).attributes else use
 
     def _check_copies(self) -> None:
         """Raises Unknown where threads have copies of a shared variable."""
@@ -376,14 +431,18 @@ class _Reading:
         symbol = self._symbols.get(access.name)
         self._check(symbol)
         if symbol.storage is Storage.DUMMY:
-            self._formals[access.name] = self._joined(self._formals[access.name], access, symbol)
+            if access.place not in self._formals:
+                raise Unknown(f"uses {access.name} as a whole")
+            self._formals[access.place] = self._joined(self._formals[access.place], access)
         elif symbol.storage is Storage.COMMON:
             for one in self._summaries.commons().shared(self._symbols, symbol):
-                self._share(one, access)
+                self._share(one, replace(access, part=""))
         elif symbol.storage in _SHARED:
             if symbol.group:
                 raise Unknown(f"uses {access.name}, which shares its storage")
-            self._share(Shared(symbol.home, symbol.original), access)
+            if symbol.type in ("TYPE", "CLASS") and not access.part:
+                raise Unknown(f"uses {access.name} as a whole")
+            self._share(Shared(symbol.home, symbol.original, part=access.part), access)
         elif symbol.storage not in (Storage.LOCAL, Storage.RESULT):
             raise Unknown(f"uses {access.name}, of which nothing is known")
         elif access.writes and self._is_kept(symbol):
@@ -405,21 +464,23 @@ class _Reading:
         )
 
     def _share(self, shared: Shared, access: Access) -> None:
-        symbol = None if ":" in access.name or "/" in access.name else self._symbols.get(access.name)
-        self._shared[shared] = self._joined(self._shared.get(shared, Use()), access, symbol)
+        self._shared[shared] = self._joined(self._shared.get(shared, Use()), access)
 
-    def _joined(self, use: Use, access: Access, symbol: Optional[Symbol]) -> Use:
+    def _joined(self, use: Use, access: Access) -> Use:
         """A use with a further access."""
-        cells = frozenset([self._cell(access, symbol)])
+        cells = frozenset([self._cell(access)])
         if access.writes:
             return replace(use, writes=_union(use.writes, cells))
         return replace(use, reads=_union(use.reads, cells))
 
-    def _cell(self, access: Access, symbol: Optional[Symbol]) -> Cell:
+    def _cell(self, access: Access) -> Cell:
         """The element of an access, by the dummies."""
-        if symbol is None or access.subscripts is None or len(access.subscripts) != symbol.rank or not symbol.rank:
+        if ":" in access.name or "/" in access.name:
             return None
-        return tuple(self._index(one, access.bound) for one in access.subscripts)
+        indices, rank = access.indices, self._symbols.get(access.place).rank
+        if not indices or len(indices) != rank:
+            return None
+        return tuple(self._index(one, access.bound) for one in indices)
 
     def _index(self, expression: tree.Expression, bound: FrozenSet[str]) -> Optional[tree.Expression]:
         """A subscript of constants and of dummies that keep their values; none for any other."""
@@ -476,7 +537,7 @@ def _union(left: Cells, right: Cells) -> Cells:
     return WHOLE if None in found or len(found) > _MOST_CELLS else found
 
 
-def _dummies(unit: Unit) -> Tuple[str, ...]:
+def dummies_of(unit: Unit) -> Tuple[str, ...]:
     """The dummies of a procedure in order, `*` among them for an alternate return."""
     head = unit.head.statement if unit.head is not None else None
     return head.arguments if isinstance(head, tree.Head) else ()

@@ -70,9 +70,13 @@ class Scene:
 
 @dataclass
 class Survey:
-    """What a loop reads and writes. `bound` are the variables of FORALL and DO CONCURRENT around a statement."""
+    """What a loop reads and writes. `bound` are the variables of FORALL and DO CONCURRENT around a statement.
+
+    `joined` are structures whose components aren't looked at one by one.
+    """
 
     loop: Block
+    joined: FrozenSet[str] = frozenset()
     statements: List[Written] = field(default_factory=list)
     effects: Dict[int, Effects] = field(default_factory=dict)
     bound: Dict[int, FrozenSet[str]] = field(default_factory=dict)
@@ -81,6 +85,25 @@ class Survey:
     def written(self) -> FrozenSet[str]:
         """All names that the loop assigns, its DO variables among them."""
         return frozenset(access.name for _, access in self.accesses() if access.writes)
+
+    @cached_property
+    def split(self) -> FrozenSet[str]:
+        """The structures of which each access is one of a component, so that each component is a variable of its own."""
+        whole = {access.name for _, access in self.accesses() if not access.part}
+        return frozenset(access.name for _, access in self.accesses()) - whole - self.joined
+
+    def place(self, access: Access) -> str:
+        """The variable of an access, or the component of it as a variable of its own."""
+        return access.place if access.name in self.split else access.name
+
+    def indices(self, access: Access) -> Optional[Tuple[tree.Expression, ...]]:
+        """The subscripts of that variable; none where they aren't written."""
+        return access.indices if access.name in self.split else access.subscripts
+
+    @cached_property
+    def changed(self) -> FrozenSet[str]:
+        """All variables that the loop assigns, and components that are variables of their own."""
+        return frozenset(self.place(access) for _, access in self.accesses() if access.writes)
 
     @cached_property
     def occurring(self) -> FrozenSet[str]:
@@ -143,6 +166,8 @@ def surveyed(scene: Scene, loop: Block) -> Survey:
     for written in found.statements:
         for trouble in found.effects[written.number].troubles:
             raise Refused(trouble.reason, written.item.first, trouble.words)
+    symbols = [scene.symbols.get(name) for name in found.occurring]
+    found.joined = frozenset(symbol.name for symbol in symbols if symbol.group or symbol.storage is Storage.COMMON)
     _check_variables(scene, found)
     _check_procedures(scene, found)
     _check_storage(scene, found)
@@ -173,7 +198,7 @@ def _check_mark(scene: Scene, loop: Block, mark: Mark) -> None:
     is_here = mark.file in unit.files if mark.file else mark.first <= unit.last_line and mark.last >= unit.first_line
     if mark.kind == "preprocessor":
         if is_here or _DEFINE.match(mark.text) and (mark.file or mark.first <= loop.last_line):
-            raise Refused("preprocessor", mark.first, words)
+            raise Refused("preprocessor", mark.first, mark.words)
     elif mark.kind == "include":
         if is_here:
             raise Refused("include", mark.first, words)
@@ -373,7 +398,7 @@ def assumptions_of(scene: Scene, found: Survey) -> FrozenSet[str]:
     """The assumptions that a verdict about a loop rests on by what occurs in it."""
     assumed: Set[str] = {"A3", "A12"}
     symbols = [scene.symbols.get(name) for name in sorted(found.occurring)]
-    if any(symbol.rank >= 2 for symbol in symbols) or _has_neighbours(found, symbols):
+    if any(symbol.rank >= 2 for symbol in symbols) or _has_neighbours(found, symbols) or _has_arrays(scene, found):
         assumed.add("A2")
     if _has_strangers(found, symbols):
         assumed.add("A1")
@@ -416,6 +441,14 @@ def _has_neighbours(found: Survey, symbols: List[Symbol]) -> bool:
     return any(
         len(members) > 1 and any(one.rank for one in members) and any(one.name in found.written for one in members)
         for members in blocks.values()
+    )
+
+
+def _has_arrays(scene: Scene, found: Survey) -> bool:
+    """Whether a structure has an array among its components that counts for itself."""
+    return any(
+        access.name in found.split and len(access.part_subscripts) > scene.symbols.get(access.name).rank
+        for _, access in found.accesses()
     )
 
 

@@ -13,6 +13,7 @@ from enum import Enum
 from typing import Dict, FrozenSet, Iterable, Iterator, List, Mapping, Optional, Set, Tuple
 
 from . import constants, tree, units
+from .components import component_symbol
 from .constants import Integer
 from .keywords import DECLARATIONS
 from .operators import hidden_calls
@@ -144,14 +145,16 @@ class StatementFunction:
 class TypeComponents:
     """The data components of a derived type, with those of the types that it extends.
 
-    `is_complete` is false where a type that it extends isn't in the files, or a line of it can't be read. `home` is the
-    unit whose types the components' types are.
+    `is_complete` is false where a type that it extends isn't in the files, or a line of it can't be read, and for types
+    with parameters. `home` is the unit whose types the components' types are. A component that stands for a type that is
+    extended has the attribute `PARENT`. `bindings` are the lines after CONTAINS, with those of types that it extends.
     """
 
     name: str
     components: Mapping[str, Symbol]
     is_complete: bool
     home: Symbols
+    bindings: Tuple[units.Written, ...] = ()
 
     def component(self, name: str) -> Optional[Symbol]:
         """A data component; none where there is none of this name: it's bound to the type, or the program is wrong."""
@@ -273,6 +276,14 @@ class Symbols:
         facts = self.declarations.names.get(name)
         return None if facts is not None and facts.is_own else self._foreign(name)
 
+    def used_as(self, name: str) -> Iterator[Tuple[Symbols, str]]:
+        """The modules of the files from which a USE brings a name, each with the name there."""
+        for use in self.declarations.uses:
+            module = None if use.intrinsic else self._scopes.module(use.module)
+            for original in _originals(use, name) if module is not None and module is not self else ():
+                if module is not None and module.public(original) is not None:
+                    yield module, original
+
     def home_of(self, symbol: Symbol) -> Optional[Symbols]:
         """The names of the unit that declares a symbol; none where that isn't visible."""
         return self._home(symbol)
@@ -280,12 +291,16 @@ class Symbols:
     def get(self, name: str) -> Symbol:
         """What a name stands for; it always answers.
 
-        A name with a colon or a slash is that of a variable that only procedures see which the unit calls.
+        A name with a colon or a slash is that of a variable that only procedures see which the unit calls; `P%X` is a
+        component as a variable of its own.
         """
         if name in self._known:
             return self._known[name]
         if ":" in name or "/" in name:
             return Symbol(name, storage=Storage.MODULE, home=name, original=name)
+        if "%" in name:
+            found = component_symbol(self, name)
+            return Symbol(name, storage=Storage.UNKNOWN, home=name, original=name) if found is None else found
         if ("get", name) in self._open:
             return Symbol(name, storage=Storage.UNKNOWN, home=self.unit.path, original=name)
         self._open.add(("get", name))
@@ -414,7 +429,7 @@ class Symbols:
         Names in it may stand for other things than in the unit, so nothing may be said of its loops.
         """
         if self._rounds is None:
-            self._rounds = dict(_blocks_with_names(self.unit.body, None))
+            self._rounds = dict(units.blocks_with_names(self.unit.body, None))
         return self._rounds.get(written.number)
 
     # --- Names of the unit itself --------------------------------------------------------------------------------
@@ -718,19 +733,26 @@ class Symbols:
         definition = self.declarations.types[name]
         head = definition.head.statement
         found: Dict[str, Symbol] = {}
-        is_complete = definition.end is not None
+        bindings = definition.bindings
         extends = head.extends if isinstance(head, tree.DerivedType) else ""
+        is_complete = definition.end is not None and not (
+            isinstance(head, tree.DerivedType) and "PARAMETERS" in head.attributes
+        )
         if extends:
             parent = self.derived_type(extends)
             found.update({} if parent is None else parent.components)
-            found[extends] = Symbol(extends, "TYPE", storage=Storage.COMPONENT, derived=extends, home=self.unit.path)
+            found[extends] = Symbol(
+                extends, "TYPE", storage=Storage.COMPONENT, derived=extends, home=self.unit.path,
+                attributes=frozenset(["PARENT"]),
+            )
+            bindings = bindings if parent is None else (*parent.bindings, *bindings)
             is_complete = is_complete and parent is not None and parent.is_complete
         for written in definition.components:
             statement = written.statement
             is_complete = is_complete and not isinstance(statement, (tree.Unreadable, tree.Include))
             if isinstance(statement, tree.TypeDeclaration):
                 found.update({entity.name: self._component(statement, entity) for entity in statement.entities})
-        return TypeComponents(name, found, is_complete, self)
+        return TypeComponents(name, found, is_complete, self, bindings)
 
     def _component(self, statement: tree.TypeDeclaration, entity: tree.Entity) -> Symbol:
         facts = Facts(True, statement.type, None, entity.bounds, set(statement.attributes))
@@ -768,26 +790,3 @@ def _originals(use: tree.Use, name: str) -> Iterator[str]:
     yield from renamed
     if not use.only and not renamed and all(original != name for _, original in use.names):
         yield name
-
-
-def _blocks_with_names(
-    nodes: Tuple[units.Node, ...], outer: Optional[units.Block]
-) -> Iterator[Tuple[int, units.Block]]:
-    """The numbers of statements with the innermost block round each that has names of its own; `outer` is round all."""
-    for node in nodes:
-        if isinstance(node, units.Block):
-            inner = node if _has_own_names(node) else outer
-            heads = [node.head] if node.end is None else [node.head, node.end]
-            nested = [*node.lead, *(one for branch in node.branches for one in (branch.head, *branch.body))]
-            if outer is not None:
-                yield from ((head.number, outer) for head in heads)
-            yield from _blocks_with_names(tuple(one for one in nested if one not in heads), inner)
-        elif outer is not None:
-            yield node.number, outer
-
-
-def _has_own_names(block: units.Block) -> bool:
-    """Whether names inside a block may stand for something else than outside."""
-    return block.kind in ("ASSOCIATE", "BLOCK") or (
-        block.kind == "SELECT" and not isinstance(block.head.statement, tree.SelectCase)
-    )

@@ -565,7 +565,8 @@ class Entry(Statement):
 class DerivedType(Statement):
     """The first line of a derived type.
 
-    `attributes` are `PUBLIC`, `PRIVATE`, `ABSTRACT`, `BIND(C)`; `extends` is the name of another type or empty.
+    `attributes` are `PUBLIC`, `PRIVATE`, `ABSTRACT`, `BIND(C)`, and `PARAMETERS` where it has some; `extends` is the name
+    of another type or empty.
     """
 
     name: str

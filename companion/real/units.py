@@ -180,6 +180,29 @@ def _holds(block: Block, end: Written) -> bool:
     return last is end
 
 
+def blocks_with_names(
+    nodes: Tuple[Node, ...], outer: Optional[Block]
+) -> Iterator[Tuple[int, Block]]:
+    """The numbers of statements with the innermost block round each that has names of its own; `outer` is round all."""
+    for node in nodes:
+        if isinstance(node, Block):
+            inner = node if _has_own_names(node) else outer
+            heads = [node.head] if node.end is None else [node.head, node.end]
+            nested = [*node.lead, *(one for branch in node.branches for one in (branch.head, *branch.body))]
+            if outer is not None:
+                yield from ((head.number, outer) for head in heads)
+            yield from blocks_with_names(tuple(one for one in nested if one not in heads), inner)
+        elif outer is not None:
+            yield node.number, outer
+
+
+def _has_own_names(block: Block) -> bool:
+    """Whether names inside a block may stand for something else than outside."""
+    return block.kind in ("ASSOCIATE", "BLOCK") or (
+        block.kind == "SELECT" and not isinstance(block.head.statement, tree.SelectCase)
+    )
+
+
 @dataclass(frozen=True)
 class Fault:
     """Why nothing is said about a unit or a loop: a class of refusals, the line that it's about, and words."""

@@ -1,6 +1,7 @@
 """Verdicts about random loops with calls against what their runs read and write, in procedures, too.
 
-More are run by hand: `python3 -m companion.tests.real_call_runs FIRST COUNT`.
+More are run by hand: `python3 -m companion.tests.real_call_runs FIRST COUNT`, with a module and structures by `modules`
+as a third word.
 """
 
 from __future__ import annotations
@@ -8,18 +9,19 @@ from __future__ import annotations
 import random
 import sys
 import unittest
-from typing import Dict, List, Sequence, Set, Tuple
+from typing import Dict, List, Sequence, Set, Tuple, Type
 
 from ..real.verdicts import REFUSED
 from .real_loops import Loops
 from .real_random import ARRAYS
 from .real_random_calls import CallingSubroutine
+from .real_random_modules import ModularSubroutine
 from .real_running import Endless, Event, Run, conflicts
 from .test_real_running import Checked
 
 _FIRST, _COUNT, _RUNS = 0, 25, 10
 _RUNS_BY_HAND = 200
-_HIDDEN = ("/BLK/", "MO:")
+_HIDDEN = ("/BLK/", "MO:", "TY:")
 
 
 def runs_of(loops: Loops, number: int, count: int = _RUNS) -> List[Run]:
@@ -59,9 +61,11 @@ class CheckedCalls(Checked):
         return [*super().wrong_copies(times, after), *sorted(reached)]
 
 
-def differences(number: int, words: Dict[str, int], count: int = _RUNS) -> List[str]:
+def differences(
+    number: int, words: Dict[str, int], count: int = _RUNS, kind: Type[CallingSubroutine] = CallingSubroutine
+) -> List[str]:
     """What the runs of a random subroutine show and no verdict says. The verdicts and the conflicts are counted."""
-    text = CallingSubroutine(number).text
+    text = kind(number).text
     loops = Loops(text, assume=["A8"] * (number % 2) + ["A13"] * (number % 3 == 0))
     runs = runs_of(loops, number, count)
     found = []
@@ -95,17 +99,25 @@ class RandomCalls(unittest.TestCase):
         self.assertLess(words[REFUSED], words["carried"] + words["parallel"])
 
 
-def _by_hand(first: int, count: int) -> None:
+    def test_conflicts_with_a_module(self) -> None:
+        words: Dict[str, int] = {}
+        for number in range(_FIRST, _FIRST + _COUNT):
+            self.assertEqual(differences(number, words, kind=ModularSubroutine), [])
+        self.assertGreater(words["conflicts"], 900)
+        self.assertLess(words[REFUSED], words["carried"] + words["parallel"])
+
+
+def _by_hand(first: int, count: int, kind: Type[CallingSubroutine]) -> None:
     words: Dict[str, int] = {}
     for number in range(first, first + count):
-        for row in differences(number, words, _RUNS_BY_HAND)[:1]:
+        for row in differences(number, words, _RUNS_BY_HAND, kind)[:1]:
             print(row, flush=True)
         if number % 10 == 9:
             print(number, words, flush=True)
 
 
 if __name__ == "__main__":
-    if len(sys.argv) == 3 and sys.argv[1].isdigit():
-        _by_hand(int(sys.argv[1]), int(sys.argv[2]))
+    if len(sys.argv) >= 3 and sys.argv[1].isdigit():
+        _by_hand(int(sys.argv[1]), int(sys.argv[2]), ModularSubroutine if "modules" in sys.argv else CallingSubroutine)
     else:
         unittest.main()

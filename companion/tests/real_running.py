@@ -3,6 +3,8 @@
 It knows nothing of models: it looks at the trees of statements alone. So it tells whether a verdict misses something.
 Arrays have no bounds here: each element that is asked for is there.
 
+A component of a structure is a cell with the name `P%X`, and with the indices of all parts.
+
 Procedures get their arguments by reference. What they read and write is noted at the line of the CALL, or of the
 statement with the function, under the names of the unit that is run. A variable of a common block or a module that this
 unit doesn't name is called after its block or its module.
@@ -16,6 +18,7 @@ from collections import defaultdict
 from typing import Callable, DefaultDict, Dict, Iterator, List, NamedTuple, Optional, Sequence, Set, Tuple
 
 from ..real import tree
+from ..real.designators import chain_of
 from ..real.symbols import Scopes, Symbol, Symbols
 from ..real.units import Block, Node, Unit, Written
 
@@ -213,6 +216,9 @@ class Run:
             raise _Return
 
     def _assign(self, statement: tree.Assignment) -> None:
+        if self._is_structure(statement.target):
+            self._copy(statement)
+            return
         section = next((one for one in _arguments(statement.target) if isinstance(one, tree.Section)), None)
         if section is None:
             value = self.value(statement.value)
@@ -226,6 +232,22 @@ class Run:
         for self._element, value in enumerate(values):
             self._write(statement.target, value)
 
+    def _designated(self, designator: tree.Expression) -> Optional[Symbol]:
+        """The variable or component that a designator names."""
+        if self._scopes is None or not tree.root_of(designator):
+            return None
+        return self._scopes.of(self._frames[-1].unit).designated(designator)
+
+    def _is_structure(self, designator: tree.Expression) -> bool:
+        found = self._designated(designator)
+        return found is not None and found.type == "TYPE"
+
+    def _copy(self, statement: tree.Assignment) -> None:
+        """An assignment of a structure whose components are X and Y."""
+        values = [self.value(tree.Component(statement.value, name)) for name in "XY"]
+        for name, value in zip("XY", values):
+            self._write(tree.Component(statement.target, name), value)
+
     def _write(self, target: tree.Expression, value: int) -> None:
         if abs(value) > 10**9:
             raise Endless
@@ -238,26 +260,39 @@ class Run:
         return len(self._frames) > 1 and tree.root_of(designator) in self._frames[-1].globals
 
     def _cell(self, designator: tree.Expression) -> Cell:
-        if isinstance(designator, tree.Name):
-            return self._frames[-1].scalars.get(designator.name, (designator.name, ())) if self._frames else \
-                (designator.name, ())
+        chain = chain_of(designator)
+        frame, name = self._frames[-1] if self._frames else None, tree.root_of(designator)
+        at = 2 if len(chain) > 1 and isinstance(chain[1], tree.Reference) else 1
+        if at == 1:
+            found = (name, ()) if frame is None else frame.scalars.get(name, (name, ()))
+        else:
+            array, indices = None if frame is None else frame.arrays.get(name), self._indices(chain[1])
+            found = (name, indices) if array is None else array(indices)
+        for part in chain[at:]:
+            if isinstance(part, tree.Component):
+                found = (f"{found[0]}%{part.component}", found[1])
+            else:
+                found = (found[0], found[1] + self._indices(part))
+        return found
+
+    def _indices(self, reference: tree.Expression) -> Tuple[int, ...]:
+        """The subscripts of an element; in a section those of the element that is worked on."""
         indices = []
-        for argument in _arguments(designator):
+        for argument in _arguments(reference):
             if isinstance(argument, tree.Section):
                 assert argument.first is not None and self._element is not None
                 step = 1 if argument.step is None else self.value(argument.step)
                 indices.append(self.value(argument.first) + step * self._element)
             else:
                 indices.append(self.value(argument))
-        array = self._frames[-1].arrays.get(tree.root_of(designator)) if self._frames else None
-        return (tree.root_of(designator), tuple(indices)) if array is None else array(tuple(indices))
+        return tuple(indices)
 
     # --- Procedures ----------------------------------------------------------------------------------------------
 
     def _call(self, name: str, arguments: Sequence[tree.Expression]) -> int:
         """Runs a procedure, and answers what a function's result is then."""
         assert self._scopes is not None
-        unit = self._procedures[name]
+        unit = self._procedures[name if name in self._procedures else self._specific(name, arguments[0])]
         head = unit.head.statement if unit.head is not None else None
         assert isinstance(head, tree.Head)
         self._calls += 1
@@ -288,9 +323,17 @@ class Run:
             self._frames.pop()
         return self._memory.get(frame.scalars.get(head.name, ("", ())), 0)
 
+    def _specific(self, name: str, actual: tree.Expression) -> str:
+        """The procedure of a generic name: one for scalars, one for arrays, one for structures."""
+        symbol = self._designated(actual)
+        is_array = symbol is not None and symbol.rank and not isinstance(actual, tree.Reference)
+        return name + ("P" if self._is_structure(actual) else "A" if is_array else "I")
+
     def _scalar(self, actual: tree.Expression) -> Cell:
         """The place of a scalar argument; that of a value is nobody else's."""
-        is_known = isinstance(actual, tree.Name) or tree.root_of(actual) in self._known_arrays()
+        is_known = isinstance(actual, tree.Name) or tree.root_of(actual) in self._known_arrays() or any(
+            isinstance(part, tree.Component) for part in chain_of(actual)
+        )
         if is_known and tree.root_of(actual):
             return self._cell(actual)
         value = self.value(actual)
@@ -303,9 +346,7 @@ class Run:
 
     def _array(self, actual: tree.Expression, dummy: Symbol) -> Callable[[Tuple[int, ...]], Cell]:
         """Where the elements of an array dummy are."""
-        name = tree.root_of(actual)
-        outer = self._frames[-1].arrays[name]
-        symbol = self._scopes.of(self._frames[-1].unit).get(name)  # type: ignore[union-attr]
+        outer, symbol = self._outer(actual)
         given = [(1, None) if lower is None else (lower, upper) for lower, upper in symbol.extents]
         own = [(1, None) if lower is None else (lower, upper) for lower, upper in dummy.extents]
         own = [
@@ -334,6 +375,16 @@ class Run:
             + _folded([index - lower for index, (lower, _) in zip(begin, given)], extents),
             extents, [lower for lower, _ in given],
         ))
+
+    def _outer(self, actual: tree.Expression) -> Tuple[Callable[[Tuple[int, ...]], Cell], Symbol]:
+        """Where the elements of an array are that is given, and its bounds."""
+        whole = actual.base if isinstance(actual, tree.Reference) else actual
+        symbol = self._designated(whole)
+        assert symbol is not None
+        if isinstance(whole, tree.Name):
+            return self._frames[-1].arrays[whole.name], symbol
+        name, first = self._cell(whole)
+        return lambda indices: (name, first + indices), symbol
 
     def _upper(self, dummy: Symbol, place: int) -> Optional[int]:
         """An upper bound that is another dummy; it isn't asked for of the last dimension."""
@@ -375,8 +426,8 @@ class Run:
         if symbol.home == self._unit.path and symbol.home != symbols.unit.path:
             return _named(symbol.original)
         if symbol.home != symbols.unit.path:
-            is_seen = symbol.original in top.words
-            return _named(symbol.original if is_seen else f"{symbol.home}:{symbol.original}")
+            seen = [name for name in sorted(top.words) if _is_one(top.get(name), symbol)]
+            return _named(seen[0] if seen else f"{symbol.home}:{symbol.original}")
         return None
 
     def value(self, expression: tree.Expression) -> int:
@@ -387,7 +438,8 @@ class Run:
             return self.value(expression.inner)
         if isinstance(expression, tree.Operation):
             return int(_COMPUTE[expression.operator](*map(self.value, expression.operands)))
-        if isinstance(expression, tree.Reference) and expression.root in self._procedures:
+        if isinstance(expression, tree.Reference) and isinstance(expression.base, tree.Name) and \
+                expression.root in self._procedures:
             return self._call(expression.root, expression.arguments)
         if isinstance(expression, tree.Reference) and expression.root in _CALL:
             return int(_CALL[expression.root](*map(self.value, expression.arguments)))
@@ -396,6 +448,11 @@ class Run:
             self._memory[cell] = self._random.randint(-2, 9)
         self._events.append(Event(False, cell, self._line, self._is_reached(expression)))
         return self._memory[cell]
+
+
+def _is_one(left: Symbol, right: Symbol) -> bool:
+    """Whether two units mean one variable."""
+    return (left.home, left.original) == (right.home, right.original)
 
 
 def _named(name: str) -> Callable[[Tuple[int, ...]], Cell]:

@@ -68,12 +68,12 @@ contains
     end do
   end subroutine interpolate
 
-  ! A structure is taken as a whole, whatever its component.
+  ! The components of a structure are arrays of their own.
   subroutine clear(one)
     type(level), intent(inout) :: one
     integer :: i, j
-    do j = 0, n                              != carries ONE
-      do i = 0, n                            != carries ONE
+    do j = 0, n                              != parallel
+      do i = 0, n                            != parallel
         one%u(i, j) = 0
         one%f(i, j) = mod(i*j, 7)
       end do

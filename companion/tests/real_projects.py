@@ -131,8 +131,8 @@ class Reports(Projects):
         folder = self.project(main=MAIN, tools=TOOLS)
         rows = self.rows(folder)
         self.assertEqual(rows[0], "2 files, 3 units, 4 loops: 1 parallel, 0 carry, 3 refused; 1 with a model")
-        self.assertRegex(rows[2], r"source/main.f90 +3 +0 +0 +0 +3  2 call, 1 io$")
-        self.assertIn("      2  call: SUBROUTINE OTHER isn't in the files; --with FILE names more", rows)
+        self.assertRegex(rows[2], r"source/main.f90 +3 +0 +0 +0 +3  3 call$")
+        self.assertIn("      3  call: SUBROUTINE OTHER isn't in the files; --with FILE names more (2 loops)", rows)
         at = rows.index("what would help most:")
         self.assertEqual(rows[at + 1:at + 3], [
             "      1  --with a file that has SUBROUTINE OTHER and SUBROUTINE WORK: nothing but them is missing in this "

@@ -538,7 +538,9 @@ class _Run:
         is_part = not isinstance(target, tree.Name)
         if is_part and kind is Kind.SCALAR:
             self._check_substring(target)
-            self._add(Access(name, False, target, subscripts))
+            part = self.names.part_of(target)
+            if part is None or part.symbol.type == "CHARACTER":
+                self._add(Access(name, False, target, subscripts))
         covers = kind is Kind.SCALAR and not is_part and not self._is_optional
         self._add(Access(name, True, target, subscripts, covers))
 
@@ -607,8 +609,11 @@ class _Run:
             self._designator(expression)
         elif kind is Kind.STATEMENT_FUNCTION:
             self._statement_function(base.name, expression)
-        elif kind is Kind.CONSTANT or kind is Kind.TYPE and self.names.is_constructor(base.name):
+        elif kind is Kind.CONSTANT:
             self._arguments(expression)
+        elif kind is Kind.TYPE and self.names.is_constructor(base.name):
+            for argument in expression.arguments:
+                self.read(argument)
         elif kind is Kind.UNKNOWN:
             self._function("use", f"what {base.name} is isn't known", expression)
         else:

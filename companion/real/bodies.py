@@ -356,7 +356,7 @@ class BodyWriter:
         head = block.head
         name = tree.root_of(control.variable)
         found = self._survey.effects[head.number]
-        self._read([one for one in found.reads if one.name in self._survey.written], head)
+        self._read([one for one in found.reads if self._survey.place(one) in self._survey.changed], head)
         is_outside = name in self._plan.outside
         count = self._plan.count(control, self._site(head), normalised=is_outside)
         if is_outside:
@@ -400,7 +400,7 @@ class BodyWriter:
         skipped = set(self._indices.counters) | self._plan.gathered | self._plan.growing
         terms: List[Piece] = []
         for access in reads:
-            is_needless = access.within is not None and access.name not in self._survey.written
+            is_needless = access.within is not None and self._survey.place(access) not in self._survey.changed
             if access.name in skipped or is_needless:
                 continue
             headers, use = self._with_sections(access, written)
@@ -442,7 +442,7 @@ class BodyWriter:
         model = self._plan.names.name(name)
         if self._scene.roles.kind_of(name) is Kind.ARRAY:
             return Use((model, *self._indices.subscripts_of(name, self._survey.indices(access), site, sections)), origin)
-        if symbol.type in ("TYPE", "CLASS") or "%" in name:
+        if symbol.type in ("TYPE", "CLASS") or "%" in name and ":" not in name:
             self._indices.ranks[model] = 1
             return Use((model, "(1)"), origin)
         return Use((model,), origin)

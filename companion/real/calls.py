@@ -473,12 +473,23 @@ class _Mapping:
                 for cells in (use.reads, use.writes)
             ))
         if not is_named:
-            hidden = f"{shared.home}:{shared.name}{shared.part}"
-            hidden = self._calls.commons.hidden_name(shared) if shared.is_common else hidden
+            self._share_hidden(shared, use)
+
+    def _share_hidden(self, shared: Shared, use: Use) -> None:
+        """What is done to a shared variable of which the unit has no name."""
+        if shared.is_common:
+            hidden = self._calls.commons.hidden_name(shared)
             self._access(shared, hidden, *({None} if cells else set() for cells in (use.reads, use.writes)))
+            return
+        hidden = f"{shared.home}:{shared.name}{shared.part}"
+        symbol = self._symbols.get(hidden)
+        self._access(shared, hidden, *(
+            {self._shared_element(cell, symbol) if self._exactly else None for cell in cells}
+            for cells in (use.reads, use.writes)
+        ))
 
     def _shared_element(self, cell: Cell, symbol: Symbol) -> _Subscripts:
-        if cell is None or len(cell) != symbol.rank:
+        if cell is None or len(cell) != symbol.rank or not symbol.rank:
             return None
         return self._element(cell, [0] * symbol.rank)
 

@@ -8,14 +8,14 @@ known, without pointers on the way; any other structure is `Trouble`.
 from __future__ import annotations
 
 from dataclasses import dataclass, replace
-from typing import TYPE_CHECKING, FrozenSet, Iterator, List, Optional, Sequence, Tuple
+from typing import TYPE_CHECKING, FrozenSet, Iterator, List, Mapping, Optional, Sequence, Tuple
 
 from . import tree
 from .designators import chain_of
-from .units import InterfaceBlock
+from .units import InterfaceBlock, Written
 
 if TYPE_CHECKING:
-    from .symbols import Symbol, Symbols, TypeComponents
+    from .symbols import Symbol, Symbols
 
 #: All elements of a dimension.
 ALL = tree.Section(None, None, None)
@@ -33,6 +33,26 @@ class NotPlain(Exception):
     def __init__(self, words: str) -> None:
         super().__init__(words)
         self.words = words
+
+
+@dataclass(frozen=True)
+class TypeComponents:
+    """The data components of a derived type, with those of the types that it extends.
+
+    `is_complete` is false where a type that it extends isn't in the files, or a line of it can't be read, and for types
+    with parameters. `home` is the unit whose types the components' types are. A component that stands for a type that is
+    extended has the attribute `PARENT`. `bindings` are the lines after CONTAINS, with those of types that it extends.
+    """
+
+    name: str
+    components: Mapping[str, Symbol]
+    is_complete: bool
+    home: Symbols
+    bindings: Tuple[Written, ...] = ()
+
+    def component(self, name: str) -> Optional[Symbol]:
+        """A data component; none where there is none of this name: it's bound to the type, or the program is wrong."""
+        return self.components.get(name)
 
 
 @dataclass(frozen=True)

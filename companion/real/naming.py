@@ -24,6 +24,8 @@ WORDS = frozenset("""
 _NAME = re.compile(r"[A-Z][A-Z0-9]{0,30}")
 #: The names that a model makes for itself.
 _MADE = re.compile(rf"K[0-9]+X|{OPAQUE}[0-9]*")
+#: A name, a component, and one in parentheses.
+_ALONE = re.compile(r"[\w%:/]+|\([\w%]+\)")
 _WORD = re.compile(r"[A-Z][A-Z0-9]*")
 
 
@@ -78,7 +80,7 @@ class Naming:
 
     def _restored(self, name: str) -> str:
         key = self.key(name)
-        return key if key == name or re.fullmatch(r"\w+", key) else f"({key})"
+        return key if key == name or _ALONE.fullmatch(key) else f"({key})"
 
     def _next(self) -> str:
         self._made += 1

@@ -6,7 +6,8 @@ from typing import FrozenSet, List, Optional, Protocol, Sequence, Tuple, Union
 
 from . import components, tree
 from .accesses import Called, Kind, StatementFunction, Trouble
-from .symbols import Storage, Symbol, Symbols, TypeComponents
+from .components import TypeComponents
+from .symbols import Storage, Symbol, Symbols
 
 #: What a name is by its storage, where it's no variable and no procedure.
 _KINDS = {Storage.CONSTANT: Kind.CONSTANT, Storage.TYPE: Kind.TYPE, Storage.UNKNOWN: Kind.UNKNOWN}

@@ -475,7 +475,7 @@ class _Reading:
 
     def _cell(self, access: Access) -> Cell:
         """The element of an access, by the dummies."""
-        if ":" in access.name or "/" in access.name:
+        if "/" in access.name:
             return None
         indices, rank = access.indices, self._symbols.get(access.place).rank
         if not indices or len(indices) != rank:

@@ -13,7 +13,7 @@ from enum import Enum
 from typing import Dict, FrozenSet, Iterable, Iterator, List, Mapping, Optional, Set, Tuple
 
 from . import constants, tree, units
-from .components import component_symbol
+from .components import TypeComponents, component_symbol
 from .constants import Integer
 from .keywords import DECLARATIONS
 from .operators import hidden_calls
@@ -141,26 +141,6 @@ class StatementFunction:
     value: tree.Expression
 
 
-@dataclass(frozen=True)
-class TypeComponents:
-    """The data components of a derived type, with those of the types that it extends.
-
-    `is_complete` is false where a type that it extends isn't in the files, or a line of it can't be read, and for types
-    with parameters. `home` is the unit whose types the components' types are. A component that stands for a type that is
-    extended has the attribute `PARENT`. `bindings` are the lines after CONTAINS, with those of types that it extends.
-    """
-
-    name: str
-    components: Mapping[str, Symbol]
-    is_complete: bool
-    home: Symbols
-    bindings: Tuple[units.Written, ...] = ()
-
-    def component(self, name: str) -> Optional[Symbol]:
-        """A data component; none where there is none of this name: it's bound to the type, or the program is wrong."""
-        return self.components.get(name)
-
-
 class Scopes:
     """The units of some files, and what their names stand for. Of two modules with one name neither is known."""
 
@@ -168,7 +148,9 @@ class Scopes:
         self._symbols: Dict[units.Unit, Symbols] = {}
         self._modules: Dict[Tuple[str, str], Optional[units.Unit]] = {}
         self._functions: Set[str] = set()
+        self._paths: Dict[str, Optional[units.Unit]] = {}
         for unit in all_units:
+            self._paths[unit.path] = None if unit.path in self._paths else unit
             if unit.kind == "FUNCTION" and unit.host is None:
                 self._functions.add(unit.name)
             if unit.kind in ("MODULE", "SUBMODULE") and unit.host is None:
@@ -185,6 +167,11 @@ class Scopes:
     def has_function(self, name: str) -> bool:
         """Whether an external function of the files has a name."""
         return name in self._functions
+
+    def at(self, path: str) -> Optional[Symbols]:
+        """The names of the unit with a path; none where there isn't one."""
+        unit = self._paths.get(path)
+        return None if unit is None else self.of(unit)
 
     def module(self, name: str, kind: str = "MODULE") -> Optional[Symbols]:
         """The names of a module, or of a SUBMODULE; none where it isn't in the files."""
@@ -297,7 +284,7 @@ class Symbols:
         if name in self._known:
             return self._known[name]
         if ":" in name or "/" in name:
-            return Symbol(name, storage=Storage.MODULE, home=name, original=name)
+            return self._hidden(name)
         if "%" in name:
             found = component_symbol(self, name)
             return Symbol(name, storage=Storage.UNKNOWN, home=name, original=name) if found is None else found
@@ -310,6 +297,14 @@ class Symbols:
             self._open.discard(("get", name))
         self._known[name] = replace(symbol, name=name, group=self._group(symbol))
         return self._known[name]
+
+    def _hidden(self, name: str) -> Symbol:
+        """A variable that only procedures see, as the unit has it that declares it."""
+        path, _, original = name.rpartition(":")
+        home = self._scopes.at(path)
+        if home is None or home is self:
+            return Symbol(name, storage=Storage.MODULE, home=name, original=name)
+        return replace(home.get(original), name=name, storage=Storage.MODULE)
 
     def is_live_at_end(self, name: str) -> bool:
         """Whether the value of a name may be used after RETURN or END; in a main program none is."""

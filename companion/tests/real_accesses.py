@@ -61,7 +61,8 @@ class Assignments(unittest.TestCase):
         self.assertEqual(found(made, 6), "R%Y I J =?Q(I)%X(J)")
         self.assertEqual([str(one) for one in made.effects(6).accesses[-1].subscripts or ()], ["I"])
         self.assertEqual(made.effects(6).troubles, ())
-        self.assertEqual({one.reason for one in made.effects(7).troubles}, {"function"})
+        self.assertEqual(found(made, 7), "Q(1) Q(1) =?R =?R")
+        self.assertEqual([one.place for one in made.effects(7).accesses], ["Q%X", "Q%Y", "R%X", "R%Y"])
 
     def test_pointer_components(self) -> None:
         made = program(

@@ -107,12 +107,14 @@ class Statements(unittest.TestCase):
             loops = subroutine(*lines, "20 X = 1", declarations=given)
             self.assertEqual(loops.reason(), reason)
 
-    def test_a_component_is_an_element_of_its_first_part(self) -> None:
+    def test_a_component_is_an_array_of_its_own(self) -> None:
         loops = subroutine(
             "DO I = 1, N", "P(I)%Q = P(I+1)%R + O%Q", "END DO",
             declarations="TYPE T; REAL Q, R; END TYPE; TYPE(T) P(9), O",
         )
-        self.assertEqual(loops.body(), ["DO I = 1, N", "P(I) = P(I+1)+O(1)", "END DO"])
+        model = loops.model()
+        assert isinstance(model, Model)
+        self.assertIn("P%Q(I) = P%R(I+1)+O%Q(1)", model.names.put_back(model.text))
 
     def test_long_sums_are_cut(self) -> None:
         value = " + ".join(f"B(I+{number})" for number in range(70))

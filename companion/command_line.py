@@ -251,14 +251,16 @@ def _parser() -> argparse.ArgumentParser:
 
     add("edit", "edit a program and transform its loops, with both panes on a terminal")
     _add_loops(add("loops", "say which loops are parallel, what the others carry, and what to try there"))
-    command = add("profile", "say how often a run enters each loop, and which share of all statements it executes there")
+    words = "say how often a run enters each loop, and which share of all statements it executes there"
+    command = add("profile", words)
     command.add_argument("loops", metavar="FILE", nargs="*", help="further files of real Fortran")
     command = add("tune", "say what is in the way of each loop, and which single step removes it")
     command.add_argument("loops", metavar="S", type=int, nargs="*", help="the statement numbers of the wanted loops")
     add("calls", "say which CALLs there are, what depends on them, and which can be inlined")
     _add_filters(add("why", "say of each row of the dependence pane why it is there"))
     command = add("omp", "write the program as FORTRAN with OpenMP directives, for gfortran -fopenmp")
-    command.add_argument("loops", metavar="FILE", nargs="*", help="further files of real Fortran; -o names a new folder")
+    words = "further files of real Fortran; -o names a new folder"
+    command.add_argument("loops", metavar="FILE", nargs="*", help=words)
     _add_omp(command)
     command = add("model", "show the program that ped is asked about a loop of real Fortran")
     command.add_argument("loops", metavar="LINE", type=int, nargs="*", help="lines of the wanted loops; else all")

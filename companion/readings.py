@@ -30,8 +30,8 @@ PROJECTS = ("loops", "profile", "omp")
 #: The words for real Fortran alone, and those for programs of the profile alone, with what they are when not given.
 _REAL: Dict[str, object] = {
     "--form": None, "--columns": None, "-I": [], "--assume": [], "--deny": [], "--exact": False, "--openmp": None,
-    "--at": [], "--in-place": False, "--check": False, "--with": [], "--each": False, "--jobs": None,
-    "--in": None, "--define": [], "--undefine": [],
+    "--at": [], "--in-place": False, "--check": False, "--with": [], "--define": [], "--undefine": [], "--each": False,
+    "--jobs": None, "--in": None,
 }
 _PROFILE: Dict[str, object] = {
     "--script": None, "--data": None, "--printed": False, "--no-trials": True, "--statement": [], "--live": False,

@@ -106,7 +106,8 @@ def _others(words: Sequence[str], paths: Sequence[str]) -> List[str]:
 def _read(paths: Sequence[str], reading: Reading, progress: Progress) -> Iterator[File]:
     for number, path in enumerate(paths):
         progress.show(f"{number} of {len(paths)} files")
-        yield blocks.read_file(path, read_file(path), reading.form, reading.columns, reading.folders)
+        text = read_file(path)
+        yield blocks.read_file(path, text, reading.form, reading.columns, reading.folders, reading.macros)
 
 
 def loops(one: Opened, ped: Ped, asked: Asked, progress: Progress) -> Answer:
@@ -127,7 +128,8 @@ def _costs(one: Opened, asked: Asked, progress: Progress) -> Costs:
     progress.announce("gfortran compiles and runs the program")
     others = [word for word in one.reading.others if is_other_language(word)]
     data = read_file(asked.data) if asked.data is not None else None
-    run = Run(one.reading.form, one.reading.columns, one.reading.folders, others, data, asked.folder)
+    reading = one.reading
+    run = Run(reading.form, reading.columns, reading.folders, others, data, asked.folder, reading.macros.flags)
     return costs_of(one.project, run)
 
 
@@ -149,7 +151,8 @@ def omp(one: Opened, ped: Ped, words: Sequence[str], output: str, asked: Asked, 
 def _targets(one: Opened, words: Sequence[str], output: str) -> List[str]:
     """Where the files go: those of a folder to their places in it, others to their own names."""
     if os.path.exists(output) and not (os.path.isdir(output) and not os.listdir(output)):
-        raise CompanionError(Status.BAD_WORDS, f"-o {shown(output)} is there already; it has to be a new folder, or empty")
+        message = f"-o {shown(output)} is there already; it has to be a new folder, or an empty one"
+        raise CompanionError(Status.BAD_WORDS, message)
     folders = [word for word in words if os.path.isdir(word)]
     found: Dict[str, str] = {}
     for file in one.project.files:

@@ -44,6 +44,7 @@ class Run:
     others: Sequence[str] = ()
     data: Optional[str] = None
     folder: Optional[str] = None
+    macros: Sequence[str] = ()
 
 
 def costs_of(project: Project, run: Run) -> Costs:
@@ -87,10 +88,11 @@ class _Work:
         own[1].write_text(counter_text(marks, _VARIABLE), "ascii")
         self._call([*self._compiler, "-O2", "-w", "-c", *map(str, own)])
         folders = dict.fromkeys([os.path.dirname(os.path.abspath(one.path)) for one in self._files])
-        included = [f"-I{folder}" for folder in [*folders, *(os.path.abspath(one) for one in self._run.folders)]]
+        folders.update(dict.fromkeys(os.path.abspath(one) for one in self._run.folders))
+        included = [f"-I{folder}" for folder in folders]
         others = [argument(os.path.abspath(one)) for one in self._run.others]
         self._call([
-            *self._compiler, *_FLAGS, *self._layout(), *included, *paths, *others, "marks.o", "counter.o", "-o", "run",
+            *self._compiler, *_FLAGS, *self._run.macros, *self._layout(), *included, *paths, *others, "marks.o", "counter.o", "-o", "run",
         ])
 
     def _layout(self) -> List[str]:

@@ -1,4 +1,4 @@
-"""What is said about several files: a table by file, the loops that pay first, what refuses most, and what would help."""
+"""What is said about several files: a table, the loops that pay first, what refuses most, and what would help."""
 
 from __future__ import annotations
 

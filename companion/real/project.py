@@ -34,7 +34,7 @@ _LOOPS_AT_LEAST = 40
 _MOST_PROCESSES = 16
 
 _MISSING = re.compile(r"\b(SUBROUTINE|FUNCTION|module|type) (\w+) isn't in the files")
-_PERHAPS = ("a module that isn't in the files may have it", "which a module that isn't in the files may have")
+_PERHAPS = re.compile(r"\ba module that isn't in the files may have|\bwhat \w+ is isn't known$")
 
 
 def sources(folder: str) -> List[str]:
@@ -187,9 +187,8 @@ def missing_of(verdict: Verdict) -> Tuple[str, ...]:
     if verdict.word != REFUSED or verdict.refusal is None:
         return ()
     scene = verdict.place.scene
-    troubles = [
-        trouble.words for written in verdict.place.block.statements() for trouble in scene.facts.effects(written).troubles
-    ]
+    effects = [scene.facts.effects(written) for written in verdict.place.block.statements()]
+    troubles = [trouble.words for one in effects for trouble in one.troubles]
     faults = [fault.words for fault in scene.symbols.faults]
     if verdict.refusal.words not in (*troubles, *faults):
         return ()
@@ -203,16 +202,16 @@ def missing_of(verdict: Verdict) -> Tuple[str, ...]:
 
 
 def _missing_in(words: str, modules: Sequence[str]) -> List[str]:
-    """What words of a refusal say to be missing. Where it's something of a module, the missing modules are the answer."""
+    """What words of a refusal say to be missing. For something of a module the missing modules are the answer."""
     match = _MISSING.search(words)
     if match is not None and match.group(1) != "type":
         return [f"{match.group(1)} {match.group(2)}"]
-    if match is not None or any(one in words for one in _PERHAPS):
+    if match is not None or _PERHAPS.search(words):
         return [f"module {one}" for one in modules]
     return []
 
 
-# --- Processes -------------------------------------------------------------------------------------------------------
+# --- Processes ---------------------------------------------------------------------------------------------------
 
 #: What processes share that are forked: the project and the program ped. It is set before they are.
 _SHARED: List[Tuple[Project, Ped]] = []

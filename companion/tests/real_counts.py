@@ -178,7 +178,8 @@ class Counted(unittest.TestCase):
             self.assertIn(said, caught.exception.message)
 
     def test_a_folder_with_the_programs_files(self) -> None:
-        text = "open (9, file='n.txt')\nread (9, *) n\ndo i = 1, n\nend do\nopen (9, file='m.txt')\nwrite (9, *) n\nend\n"
+        text = "open (9, file='n.txt')\nread (9, *) n\ndo i = 1, n\nend do\n"
+        text += "open (9, file='m.txt')\nwrite (9, *) n\nend\n"
         with tempfile.TemporaryDirectory() as folder:
             Path(folder, "n.txt").write_text("12\n")
             found = costs("p.f90", text, folder=folder)

@@ -87,7 +87,8 @@ class Files(Projects):
         self.assertEqual(rows[0][:30], "2 files, 3 units, 4 loops: 1 p")
 
     def test_an_included_file_is_no_source_of_its_own(self) -> None:
-        folder = self.project(a="subroutine s(a)\nreal a(9)\ninclude 'part.f90'\nend\n", part="do i = 1, 9\na(i) = 0\nend do\n")
+        text = "subroutine s(a)\nreal a(9)\ninclude 'part.f90'\nend\n"
+        folder = self.project(a=text, part="do i = 1, 9\na(i) = 0\nend do\n")
         rows = self.rows(folder)
         self.assertEqual(rows[0][:31], "1 file, 1 unit, 1 loop: 1 paral")
 
@@ -119,7 +120,7 @@ class Files(Projects):
         texts = {"a": MAIN, "b": "module upper\nuse tools\nend module\n", "c": TOOLS, "d": "use none\nend\n"}
         files = [read_file(f"{name}.f90", text) for name, text in texts.items()]
         self.assertEqual(in_order_of_modules(files), [2, 0, 1, 3])
-        circle = [read_file(f"{one}.f90", f"module {one}\nuse {two}\nend module\n") for one, two in ("xy", "yx")]
+        circle = [read_file(f"{one}.f90", f"module {one}\nuse {two}\nend module\n") for one, two in (("x", "y"), ("y", "x"))]
         self.assertEqual(sorted(in_order_of_modules(circle)), [0, 1])
 
 
@@ -130,11 +131,12 @@ class Reports(Projects):
         folder = self.project(main=MAIN, tools=TOOLS)
         rows = self.rows(folder)
         self.assertEqual(rows[0], "2 files, 3 units, 4 loops: 1 parallel, 0 carry, 3 refused; 1 with a model")
-        self.assertRegex(rows[2], r"source/main.f90 +3 +0 +0 +0 +3  2 call, 1 io$")
-        self.assertIn("      2  call: SUBROUTINE OTHER isn't in the files; --with FILE names more", rows)
+        self.assertRegex(rows[2], r"source/main.f90 +3 +0 +0 +0 +3  3 call$")
+        self.assertIn("      3  call: SUBROUTINE OTHER isn't in the files; --with FILE names more (2 loops)", rows)
         at = rows.index("what would help most:")
         self.assertEqual(rows[at + 1:at + 3], [
-            "      1  --with a file that has SUBROUTINE OTHER and SUBROUTINE WORK: nothing but them is missing in this loop",
+            "      1  --with a file that has SUBROUTINE OTHER and SUBROUTINE WORK: nothing but them is missing in this "
+            "loop",
             "      1  --with a file that has SUBROUTINE WORK: nothing but it is missing in this loop",
         ])
         work = self.file("work.f90", WORK)

@@ -20,10 +20,11 @@ class Calls(Calling):
 
     def test_bad_words(self) -> None:
         calls: List[List[str]] = [
-            [], ["show", RECURRENCE], ["loops"], ["loops", RECURRENCE, "x"], ["why", RECURRENCE, "--kind", "x"],
+            [], ["show", RECURRENCE], ["loops"], ["tune", RECURRENCE, "x"], ["why", RECURRENCE, "--kind", "x"],
         ]
         for words in calls:
             self.ends(Status.BAD_WORDS, words, "usage: pedx")
+        self.ends(Status.NOT_READ, ["loops", RECURRENCE, "x"], "cannot read x")
         self.ends(Status.BAD_WORDS, ["loops", RECURRENCE, "2"], "statement 2 of examples/panes/recurrence.f is no DO")
         self.ends(Status.BAD_WORDS, ["loops", RECURRENCE, "--data", RECURRENCE], "--data wants --script")
 

@@ -24,8 +24,8 @@ WORDS = frozenset("""
 _NAME = re.compile(r"[A-Z][A-Z0-9]{0,30}")
 #: The names that a model makes for itself.
 _MADE = re.compile(rf"K[0-9]+X|{OPAQUE}[0-9]*")
-#: A name, a component, and one in parentheses.
-_ALONE = re.compile(r"[\w%:/]+|\([\w%]+\)")
+#: A name, a component, one in parentheses, and what only procedures see.
+_ALONE = re.compile(r"[\w%:]+|/\w*/(:\w+)?|\([\w%]+\)")
 _WORD = re.compile(r"[A-Z][A-Z0-9]*")
 
 

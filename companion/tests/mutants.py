@@ -7,7 +7,9 @@ from typing import List, Tuple
 
 from .support import TOP
 
-TABLES = [TOP / "companion" / "tests" / "real" / name for name in ("mutants.txt", "mutants-calls.txt")]
+TABLES = [TOP / "companion" / "tests" / "real" / name for name in (
+    "mutants.txt", "mutants-calls.txt", "mutants-structures.txt",
+)]
 FOLDER = TOP / "companion" / "real"
 
 

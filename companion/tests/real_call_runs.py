@@ -103,7 +103,7 @@ class RandomCalls(unittest.TestCase):
         words: Dict[str, int] = {}
         for number in range(_FIRST, _FIRST + _COUNT):
             self.assertEqual(differences(number, words, kind=ModularSubroutine), [])
-        self.assertGreater(words["conflicts"], 900)
+        self.assertGreater(words["conflicts"], 600)
         self.assertLess(words[REFUSED], words["carried"] + words["parallel"])
 
 

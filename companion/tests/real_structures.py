@@ -154,6 +154,13 @@ class Components(Case):
         self.assertIsInstance(found, Fault)
 
 
+class Bounds(Case):
+    def test_a_first_value_that_changes(self) -> None:
+        """It's no number that the DO may be counted from 0 with."""
+        found = self.body("DO J = G%N, M", "G%W(J,I) = 1", "G%N = J", "END DO")
+        self.assertIn("DO J = OPQ*OPQ, M", found)
+
+
 class Copies(Case):
     """Assignments of structures as a whole."""
 

@@ -79,7 +79,7 @@ heat.f90: 2 units, 4 loops: 2 parallel, 2 carry, 0 refused
             "end do", "end",
         ]) + "\n"
         rows = shown(Loops(text, "macros.F90"), "macros.F90").splitlines()
-        self.assertIn("refused: preprocessor: #ifdef LEFT (line 5)", rows[3])
+        self.assertIn("refused: preprocessor: #ifdef LEFT; --define and --undefine decide it (line 5)", rows[3])
         self.assertIn("parallel", rows[5])
 
     def test_no_loops(self) -> None:

@@ -81,7 +81,7 @@ program solve
   a%rows = n
   allocate (a%first(n+1), a%column(3*n), a%value(3*n))
   k = 1
-  do i = 1, n                              != carries A, K
+  do i = 1, n                              != carries A%COLUMN, A%VALUE, K
     a%first(i) = k
     if (i > 1) then
       a%column(k) = i - 1

@@ -157,7 +157,7 @@ subroutine sums(a, n, s, t, p, q, x)
   do i = 1, n                              != parallel
     x = x + cmplx(a(i), i)
   end do
-  do i = 1, n                              != carries BOTH
+  do i = 1, n                              != carries BOTH%LEFT
     both%left = both%left + a(i)
   end do
   k = 3

@@ -17,8 +17,17 @@ from .replies import Reply, read_replies
 from .scripts import read_script
 from .statuses import CompanionError, ProgramRefused, Status
 
+try:
+    import resource
+except ImportError:  # Only Unix has it.
+    resource = None  # type: ignore[assignment]
+
 #: Where this variable is set, the launcher doesn't say again that its program isn't proved.
 _KNOWN_UNPROVED = "PED_KNOWN_UNPROVED"
+#: Where this one is set, it prints the path of its program, and starts nothing.
+_NAMING = "PED_NAME_PROGRAM"
+#: The stack that the launcher wants for its program, in bytes.
+_STACK = 5120 * 1024
 
 #: Texts are bytes to ped. Read in this encoding, each byte is a character, and none is lost.
 ENCODING = "latin-1"
@@ -73,6 +82,24 @@ class Ped:
     def quiet(self) -> Ped:
         """The same program, without what it writes to standard error."""
         return Ped(self._program, is_quiet=True)
+
+    def direct(self) -> Ped:
+        """The program that a launcher would start, for thousands of calls; the same where there is no launcher.
+
+        The launcher raises a low limit of the stack, so it stays where there is one.
+        """
+        if resource is None or 0 <= resource.getrlimit(resource.RLIMIT_STACK)[0] < _STACK or os.sep not in self._program:
+            return self
+        try:
+            done = subprocess.run(
+                [os.path.abspath(self._program)], stdin=subprocess.DEVNULL, stdout=subprocess.PIPE, check=False,
+                env={**os.environ, _NAMING: "1"},
+            )
+        except OSError:
+            return self
+        name = done.stdout.decode(ENCODING).rstrip("\n")
+        is_program = done.returncode == 0 and os.path.isabs(name) and os.path.isfile(name) and os.access(name, os.X_OK)
+        return Ped(name, self._is_quiet) if is_program else self
 
     def show(self, source: str) -> Panes:
         """Both panes of a program."""

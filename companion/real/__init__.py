@@ -26,6 +26,7 @@ From a loop to what is said about it:
 - `verdicts`: what is said about a loop; `assumptions`: what that rests on;
 - `report`, `document`: verdicts as text and as JSON;
 - `explaining`, `locating`: why a loop carries what it does, in the user's own lines;
+- `project`, `overview`: several files at once; `marking`, `counted`, `costs`: runs of them that count their loops;
 - `directives`, `exporting`: what is written into the user's file; `compiled`: runs of it, compared.
 
 `commands.real` has the commands, and `readings` says which files are read so.

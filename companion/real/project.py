@@ -229,6 +229,8 @@ def default_processes() -> int:
 def judged(project: Project, ped: Ped, processes: int, progress: Progress = Progress()) -> List[Done]:
     """What is said about all loops, a `Done` for each file."""
     tasks = project.tasks()
+    if len(tasks) > 1:
+        ped = ped.direct()
     if processes > 1 and len(tasks) > 1 and "fork" in multiprocessing.get_all_start_methods():
         done = _by_processes(project, ped, tasks, processes, progress)
     else:

@@ -7,8 +7,8 @@
 # elements takes; how long `races` takes for an access, and how much memory, at 10^5 and 10^6 of them; how long `races` and
 # `run` take for an operand of an expression, with up to 600 of them; and how long a `privatise` takes that is refused, which makes
 # the flow of scalars and asks it; how `generate` grows with its size; how long `auto`
-# takes, with the steps that it tries and takes, and the pairs that these test; and, by tools/bench-units.sh, how long `ped show` takes on
-# files of program units. It is no part of the gate, and needs GNU time and awk. docs/PERFORMANCE.md says how to read the figures.
+# takes, with the steps that it tries and takes, and the pairs that these test; by tools/bench-units.sh, how long `ped show` takes on
+# files of program units; and, by tools/anchors.sh, the instructions of other programs for the same work. It is no part of the gate, and needs GNU time and awk. docs/PERFORMANCE.md says how to read the figures.
 #
 # usage: tools/bench.sh [RUNS]      of so many runs (5 where it isn't said) the least counts
 set -eu
@@ -476,3 +476,7 @@ done
 # Files of program units.
 printf '\n'
 tools/bench-units.sh --program "$ped" --runs "$runs"
+
+# The same work by other programs, where they are installed; and what one PRIVATE copy and one cell of `races` cost.
+printf '\n'
+tools/anchors.sh --program "$ped"

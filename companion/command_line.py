@@ -16,6 +16,7 @@ from .commands.export import export
 from .commands.graph import graph
 from .commands.loops import loops
 from .commands.omp import Work, omp
+from .commands.page import page
 from .commands.profile import profile
 from .commands.tune import tune
 from .commands.why import Wanted, why
@@ -197,12 +198,18 @@ def _why(options: argparse.Namespace, view: View, ped: Ped) -> str:
     return why(view, Wanted(options.loop, options.statement, options.name, options.kind, options.mark))
 
 
+def _page(options: argparse.Namespace, view: View, ped: Ped) -> str:
+    with _progress() as progress:
+        return page(view, ped, options.trials, progress)
+
+
 _COMMANDS: Dict[str, Callable[[argparse.Namespace, View, Ped], str]] = {
     "loops": _loops,
     "profile": lambda options, view, ped: profile(view, _counted(options, view)),
     "tune": _tune,
     "why": _why,
     "calls": lambda options, view, ped: calls(view, ped),
+    "page": _page,
     "graph": lambda options, view, ped: graph(view, options.loop, options.svg),
     "json": lambda options, view, ped: export(view),
 }
@@ -249,6 +256,9 @@ def _parser() -> argparse.ArgumentParser:
     command = add("graph", "write the dependence graph of a loop, or of the program, for graphviz")
     command.add_argument("loop", metavar="S", type=int, nargs="?", help="the statement number of the loop")
     command.add_argument("--svg", action="store_true", help="have dot of graphviz draw it")
+    _add_output(command)
+    command = add("page", "write a page for a browser: the source beside its dependences, in one file")
+    command.add_argument("--no-trials", dest="trials", action="store_false", help="ask for no advice, and try no steps")
     _add_output(command)
     _add_output(add("json", "write the source, the loops, the references and the dependences as JSON"))
     return parser

@@ -18,6 +18,7 @@ from .commands.loops import loops
 from .commands.omp import Work, omp
 from .commands.page import page
 from .commands.profile import profile
+from .commands.serve import serve
 from .commands.tune import tune
 from .commands.why import Wanted, why
 from .counting import Counts, counts_of
@@ -90,6 +91,8 @@ def main(words: Optional[List[str]] = None) -> int:
 
 def _carried_out(options: argparse.Namespace) -> int:
     options.line = None
+    if options.command == "serve":
+        return serve(Ped(find_ped(options.ped)))
     if options.command in COMMANDS:
         options.file, options.line = file_and_line(options.file)
     check_language(options.command, options.file)
@@ -261,7 +264,13 @@ def _parser() -> argparse.ArgumentParser:
     command.add_argument("--no-trials", dest="trials", action="store_false", help="ask for no advice, and try no steps")
     _add_output(command)
     _add_output(add("json", "write the source, the loops, the references and the dependences as JSON"))
+    command = commands.add_parser("serve", help="serve an editor by the Language Server Protocol, over standard input")
+    _add_ped(command)
     return parser
+
+
+def _add_ped(command: argparse.ArgumentParser) -> None:
+    command.add_argument("--ped", metavar="PATH", help="the program ped; else PEDX_PED, else ped beside pedx")
 
 
 def _add_common(command: argparse.ArgumentParser, is_editor: bool) -> None:
@@ -274,7 +283,7 @@ def _add_common(command: argparse.ArgumentParser, is_editor: bool) -> None:
     command.add_argument("--data", metavar="DATA", help=data)
     if not is_editor:
         command.add_argument("--printed", action="store_true", help="name lines of the printed source, not of FILE")
-    command.add_argument("--ped", metavar="PATH", help="the program ped; else PEDX_PED, else ped beside pedx")
+    _add_ped(command)
 
 
 def _add_filters(command: argparse.ArgumentParser) -> None:

@@ -8,7 +8,7 @@ import unittest
 from contextlib import contextmanager
 from html.parser import HTMLParser
 from pathlib import Path
-from typing import Dict, Iterator, List, Tuple
+from typing import Dict, Iterator, List, Optional, Tuple
 
 from ..commands.page import document, page
 from ..progress import Progress
@@ -37,7 +37,7 @@ class _Elements(HTMLParser):
         self.found: List[Tuple[str, Dict[str, object]]] = []
         self.feed(text)
 
-    def handle_starttag(self, tag: str, attrs: List[Tuple[str, object]]) -> None:
+    def handle_starttag(self, tag: str, attrs: List[Tuple[str, Optional[str]]]) -> None:
         self.found.append((tag, dict(attrs)))
 
 

@@ -65,10 +65,11 @@ function drawSource() {
   });
 }
 
-/** The line of the last statement of a loop, and of what stands behind it up to the next statement. */
+/** The last line of the last statement of a loop. */
 function lastLine(loop) {
   let last = loop.line;
   data.source.forEach(([statement], place) => { if (statement !== null && isWithin(loop, statement)) last = place + 1; });
+  while (last < data.source.length && /^ {5}[^ 0]/.test(data.source[last][1])) last += 1;
   return last;
 }
 
@@ -191,19 +192,29 @@ function drawGraph() {
   const place = new Map(shown.map((statement, index) => [statement, 40 + index * 56]));
   const text = new Map(data.source.filter(([statement]) => statement !== null).map(([statement, words]) => [statement, words.trim()]));
   const parts = shown.map(statement => drawn('text', {x: 8, y: place.get(statement) + 4}, `${statement}: ${text.get(statement).slice(0, 34)}`));
+  const labels = [];
+  const span = ([key]) => Math.abs(place.get(Number(key.split(' ')[0])) - place.get(Number(key.split(' ')[1])));
   let width = 420;
-  [...arcs].forEach(([key, count], index) => {
+  [...arcs].sort((a, b) => span(a) - span(b)).forEach(([key, count], lane) => {
     const [source, sink, name, kind, mark] = key.split(' ');
     const [y1, y2] = [place.get(Number(source)), place.get(Number(sink))];
     if (y1 === undefined || y2 === undefined) return;
-    const out = 330 + (index % 6) * 14 + Math.min(Math.abs(y2 - y1) / 4, 160);
-    width = Math.max(width, out + 150);
-    const d = y1 === y2 ? `M 290 ${y1 - 6} C ${out} ${y1 - 26}, ${out} ${y1 + 26}, 290 ${y1 + 6}` : `M 290 ${y1} C ${out} ${y1}, ${out} ${y2}, 290 ${y2}`;
-    const end = y1 === y2 ? y1 + 6 : y2;
+    const out = 350 + lane * 28;
+    const d = y1 === y2 ? `M 290 ${y1 - 5} C ${out} ${y1 - 24}, ${out} ${y1 + 24}, 290 ${y1 + 5}` : `M 290 ${y1} C ${out} ${y1}, ${out} ${y2}, 290 ${y2}`;
+    const end = y1 === y2 ? y1 + 5 : y2;
+    const label = free(labels, 294 + 0.75 * (out - 290), (y1 + y2) / 2 + 4);
+    width = Math.max(width, label.x + 150);
     parts.push(drawn('path', {d, class: mark}), drawn('polygon', {points: `290,${end} 297,${end - 4} 297,${end + 4}`}),
-      drawn('text', {x: out - (y1 === y2 ? 26 : 14), y: (y1 + y2) / 2 + 4 + (index % 3) * 12 - 12}, `${name} ${kind}${count > 1 ? ' \u00d7' + count : ''}`));
+      drawn('text', {...label, class: mark}, `${name} ${kind}${count > 1 ? ' \u00d7' + count : ''}`));
   });
   at('picture').replaceChildren(drawn('svg', {width, height: 60 + shown.length * 56, role: 'img'}, ...parts));
+}
+
+/** The first place from here downwards where a label covers no earlier one. */
+function free(labels, x, y) {
+  while (labels.some(one => Math.abs(one.x - x) < 110 && Math.abs(one.y - y) < 13)) y += 13;
+  labels.push({x, y});
+  return {x, y};
 }
 
 function remember() {

@@ -16,7 +16,9 @@ from .commands.export import export
 from .commands.graph import graph
 from .commands.loops import loops
 from .commands.omp import Work, omp
+from .commands.page import page
 from .commands.profile import profile
+from .commands.serve import serve
 from .commands.tune import tune
 from .commands.why import Wanted, why
 from .counting import Counts, counts_of
@@ -89,6 +91,8 @@ def main(words: Optional[List[str]] = None) -> int:
 
 def _carried_out(options: argparse.Namespace) -> int:
     options.line = None
+    if options.command == "serve":
+        return serve(Ped(find_ped(options.ped)))
     if options.command in PROJECTS:
         words = [options.file, *options.loops]
         options.files = [word for word in words if isinstance(word, str)]
@@ -211,12 +215,18 @@ def _why(options: argparse.Namespace, view: View, ped: Ped) -> str:
     return why(view, Wanted(options.loop, options.statement, options.name, options.kind, options.mark))
 
 
+def _page(options: argparse.Namespace, view: View, ped: Ped) -> str:
+    with _progress() as progress:
+        return page(view, ped, options.trials, progress)
+
+
 _COMMANDS: Dict[str, Callable[[argparse.Namespace, View, Ped], str]] = {
     "loops": _loops,
     "profile": lambda options, view, ped: profile(view, _counted(options, view)),
     "tune": _tune,
     "why": _why,
     "calls": lambda options, view, ped: calls(view, ped),
+    "page": _page,
     "graph": lambda options, view, ped: graph(view, options.loop, options.svg),
     "json": lambda options, view, ped: export(view),
 }
@@ -271,13 +281,22 @@ def _parser() -> argparse.ArgumentParser:
     command.add_argument("loop", metavar="S", type=int, nargs="?", help="the statement number of the loop")
     command.add_argument("--svg", action="store_true", help="have dot of graphviz draw it")
     _add_output(command)
+    command = add("page", "write a page for a browser: the source beside its dependences, in one file")
+    command.add_argument("--no-trials", dest="trials", action="store_false", help="ask for no advice, and try no steps")
+    _add_output(command)
     _add_output(add("json", "write the source, the loops, the references and the dependences as JSON"))
+    command = commands.add_parser("serve", help="serve an editor by the Language Server Protocol, over standard input")
+    _add_ped(command)
     return parser
 
 
 def _number_or_file(word: str) -> Union[int, str]:
     """The number of a loop, or the name of a further file."""
     return int(word) if word.isascii() and word.isdigit() else word
+
+
+def _add_ped(command: argparse.ArgumentParser) -> None:
+    command.add_argument("--ped", metavar="PATH", help="the program ped; else PEDX_PED, else ped beside pedx")
 
 
 def _add_common(command: argparse.ArgumentParser, is_editor: bool) -> None:
@@ -290,7 +309,7 @@ def _add_common(command: argparse.ArgumentParser, is_editor: bool) -> None:
     command.add_argument("--data", metavar="DATA", help=data)
     if not is_editor:
         command.add_argument("--printed", action="store_true", help="name lines of the printed source, not of FILE")
-    command.add_argument("--ped", metavar="PATH", help="the program ped; else PEDX_PED, else ped beside pedx")
+    _add_ped(command)
 
 
 def _add_filters(command: argparse.ArgumentParser) -> None:

@@ -5,7 +5,7 @@
 #
 #   tools/anchors.sh [--program PROGRAM]     the program is the proved one of the present sources, or the one that is named
 #
-# It needs valgrind, gcc, clang and opt, and gfortran; CLANG and OPT name others than `clang` and `opt`.
+# It needs valgrind, gcc, clang and opt, gfortran, and GNU time. CLANG and OPT name others than the newest `clang-N` and `opt-N`.
 set -eu
 cd -- "$(dirname -- "${BASH_SOURCE[0]}")/.."
 # shellcheck source=tools/program.sh
@@ -17,7 +17,11 @@ else
     program=$(program_of "$(sources_sum)")
 fi
 [ -x "$program" ] || { echo 'anchors: the proved program is not built; .ci/run or ./prove builds it' >&2; exit 1; }
-clang=${CLANG-clang} opt=${OPT-opt}
+# newest NAME: the program of the greatest version, of those that Debian installs as NAME-VERSION.
+newest() {
+    compgen -c "$1-" | sed -n "s/^$1-\([0-9]*\)$/\1 &/p" | sort -un | sed -n '$s/.* //p'
+}
+clang=${CLANG-$(newest clang)} opt=${OPT-$(newest opt)}
 work=$(mktemp -d)
 trap 'rm -rf -- "$work"' EXIT
 gcc -O2 -o "$work/panes" tools/anchors/panes.c
@@ -42,6 +46,14 @@ deep() {
     printf '      INTEGER A(99,99)\n'
     for name in I J K L M N; do printf '      DO %s=1,9\n' "$name"; done
     for _ in $(seq "$1"); do printf '      A(I+J,I+K)=A(I+J-1,K+I)+A(L+M,N)\n'; done
+    for _ in I J K L M N; do printf '      END DO\n'; done
+    printf '      END\n'
+}
+# seven N: six loops around N statements whose references have seven subscripts each.
+seven() {
+    printf '      INTEGER A(7,7,7,7,7,7,7)\n'
+    for name in I J K L M N; do printf '      DO %s=1,3\n' "$name"; done
+    for _ in $(seq "$1"); do printf '      A(I+J,J+K,K+L,L+M,M+N,N+I,I+L)=A(J+I,K+J,L+K,M+L,N+M,I+N,L+I)\n'; done
     for _ in I J K L M N; do printf '      END DO\n'; done
     printf '      END\n'
 }
@@ -81,6 +93,32 @@ ran() {
     printf 'run\n' >script
     each "$(count "$program" session run6000.f script)" "$(count "$program" session run1000.f script)" 5000
 }
+# Programs of PARALLEL DOs: N iterations that assign a PRIVATE scalar, and six in one another that assign N^6 elements.
+private() {
+    printf '      INTEGER A(9)\n      PARALLEL DO 10 I=1,%s\n      PRIVATE K\n      K=I\n   10 CONTINUE\n      END\n' "$1"
+}
+cells() {
+    printf '      INTEGER A(7,7,7,7,7,7)\n'
+    for name in I J K L M N; do printf '      PARALLEL DO %s=1,%s\n' "$name" "$1"; done
+    printf '      A(I,J,K,L,M,N)=I\n'
+    for _ in I J K L M N; do printf '      END DO\n'; done
+    printf '      END\n'
+}
+# session COMMAND MAKER SIZE: the instructions and the KiB that a session of this command takes.
+session_of() {
+    "$2" "$3" >"$2$3.f"
+    printf '%s\n' "$1" >script
+    printf '%s %s\n' "$(count "$program" session "$2$3.f" script)" \
+        "$(command time -f %M "$program" session "$2$3.f" script 2>&1 >/dev/null)"
+}
+# grown COMMAND MAKER SIZE UNITS SIZE UNITS: instructions and bytes for each unit that the second program has more.
+grown() {
+    local instructions kib more_instructions more_kib
+    read -r instructions kib <<<"$(session_of "$1" "$2" "$3")"
+    read -r more_instructions more_kib <<<"$(session_of "$1" "$2" "$5")"
+    printf '%s and %s bytes\n' "$(each "$more_instructions" "$instructions" "$(($6 - $4))")" \
+        "$(((more_kib - kib) * 1024 / ($6 - $4)))"
+}
 walked() {
     each "$(count ./runs "$1" 6000)" "$(count ./runs "$1" 1000)" 5000
 }
@@ -98,8 +136,12 @@ printf '| pair of references, two loops | %s | %s | %s | %s |\n' \
 printf '| pair of references, six loops | %s | | %s | |\n' \
     "$(each "$(shown deep 4)" "$(shown deep 2)" "$(pairs 4 2)")" \
     "$(each "$(analysed deep 8)" "$(analysed deep 4)" "$(pairs 8 4)")"
+printf '| pair of references, six loops, seven subscripts | %s | | | |\n' \
+    "$(each "$(shown seven 8)" "$(shown seven 4)" "$((3 * (8 * 8 - 4 * 4)))")"
 printf '| assignment to a scalar | %s | %s | | |\n' "$(ran scalar 'K=K+I-I+1')" "$(walked scalar)"
 printf '| assignment to an element | %s | %s | | |\n' "$(ran element 'A(1)=A(1)+I-I+1')" "$(walked element)"
 printf '| assignment with two subscripts | %s | %s | | |\n' "$(ran two 'B(1,1)=B(1,1)+A(1)')" "$(walked two)"
+printf '| iteration that assigns a PRIVATE scalar (run 0) | %s | | | |\n' "$(grown 'run 0' private 1000 1000 100000 100000)"
+printf '| cell that six PARALLEL DOs assign (races) | %s | | | |\n' "$(grown races cells 4 4096 7 117649)"
 "$opt" --version | sed -n 's/.*LLVM version /LLVM /p'
 gfortran --version | sed -n 1p

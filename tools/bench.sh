@@ -1,14 +1,18 @@
 #!/usr/bin/env bash
-# Measures how long `ped show` takes, and how much memory, on programs of 64 KiB, 256 KiB and 1 MiB that are read; how long
-# it takes for each pair of references, and how much memory, on nests of two and of six loops, up to the limit of pairs;
-# how much stack it needs on programs at the limits of the language; how long `ped session` takes for the bytes of a
-# script, for an edit, a step back and a step forward, and how much memory a change keeps; how long `run` takes for an
-# assignment in loops, over an array and over a scalar, from 10^4 to 10^7 of them, and how much memory a store of 2^20
-# elements takes; how long `races` takes for an access, and how much memory, at 10^5 and 10^6 of them; how long `races` and
-# `run` take for an operand of an expression, with up to 600 of them; and how long a `privatise` takes that is refused, which makes
-# the flow of scalars and asks it; how `generate` grows with its size; how long `auto`
-# takes, with the steps that it tries and takes, and the pairs that these test; and, by tools/bench-units.sh, how long `ped show` takes on
-# files of program units. It is no part of the gate, and needs GNU time and awk. docs/PERFORMANCE.md says how to read the figures.
+# Measures the time and the memory that ped takes. It prints a table for each of these:
+# - `session`, for each byte of a script;
+# - a `privatise` that is refused, which makes the flow of scalars and asks it;
+# - `run`, for an assignment over an array and over a scalar, from 10^4 to 10^7 of them, and a store of 2^20 elements;
+# - `races`, for an access, at 10^5 and 10^6 of them;
+# - `show`, for each byte of programs of 64 KiB to 1 MiB, and for each pair of references of nests of two and six loops;
+# - the stack that programs at the limits of the language need;
+# - `races` and `run`, for an operand of an expression, with up to 600 of them;
+# - an edit, a step back and a step forward, and the memory that a change keeps;
+# - `generate`, by its size;
+# - `auto`, with the steps that it tries and takes, and the pairs that these test;
+# - `show` on files of program units (tools/bench-units.sh);
+# - the instructions that other programs take for the same work (tools/anchors.sh).
+# It is no part of the gate, and needs GNU time and awk. docs/PERFORMANCE.md says how to read the figures.
 #
 # usage: tools/bench.sh [RUNS]      of so many runs (5 where it isn't said) the least counts
 set -eu
@@ -476,3 +480,7 @@ done
 # Files of program units.
 printf '\n'
 tools/bench-units.sh --program "$ped" --runs "$runs"
+
+# The same work by other programs, where they are installed; and what one PRIVATE copy and one cell of `races` cost.
+printf '\n'
+tools/anchors.sh --program "$ped"

@@ -52,14 +52,15 @@ def _chosen(view: View, wanted: Wanted) -> Iterator[Dependence]:
 def explained(view: View, row: Dependence) -> Iterator[str]:
     """A row in a sentence, its references marked in their lines, and why the tests don't exclude it."""
     source, sink = view.program.reference(row.source), view.program.reference(row.sink)
-    yield located(view.name, source.span.start, _headline(view, row))
+    yield located(view.name, source.span.start, headline(view, row))
     yield from excerpt(view.lines, _marks(view, row, source, sink))
-    for reason in _reasons(view, row, source, sink):
+    for reason in reasons(view, row):
         yield f"      {reason}"
     yield f"      row: {row.row}"
 
 
-def _headline(view: View, row: Dependence) -> str:
+def headline(view: View, row: Dependence) -> str:
+    """What a row is, in a sentence."""
     carrier = view.carrier(row)
     where = "within one iteration" if carrier is None else f"carried by loop {carrier.number} (DO {carrier.variable})"
     return f"{row.kind} of {row.name} from {_key(row.source)} to {_key(row.sink)}, {where}, {row.mark}"
@@ -72,7 +73,7 @@ def _key(place: Tuple[int, int]) -> str:
 def _marks(view: View, row: Dependence, source: Reference, sink: Reference) -> List[Mark]:
     return [
         Mark(source.span, "^", f"{_key(row.source)} {_verb(source)}"),
-        Mark(sink.span, "~", f"{_key(row.sink)} {_verb(sink)}, {_when(view, row)}"),
+        Mark(sink.span, "~", f"{_key(row.sink)} {_verb(sink)}, {when(view, row)}"),
     ]
 
 
@@ -80,7 +81,7 @@ def _verb(reference: Reference) -> str:
     return "writes" if reference.writes else "reads"
 
 
-def _when(view: View, row: Dependence) -> str:
+def when(view: View, row: Dependence) -> str:
     """In which iterations the sink comes, seen from the source."""
     if row.level is None:
         return "in the same iteration"
@@ -118,7 +119,9 @@ def _steps(sign: str, distance: object, loop: Loop) -> str:
     }[sign]
 
 
-def _reasons(view: View, row: Dependence, source: Reference, sink: Reference) -> Iterator[str]:
+def reasons(view: View, row: Dependence) -> Iterator[str]:
+    """Why the tests don't exclude a row, and what its mark rests on."""
+    source, sink = view.program.reference(row.source), view.program.reference(row.sink)
     if row.name in (INPUT, OUTPUT):
         yield "lines are read and printed in their order"
     elif row.name not in view.program.arrays:

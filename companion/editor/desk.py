@@ -3,8 +3,9 @@
 from __future__ import annotations
 
 import re
-from typing import Dict, List, Optional
+from typing import Dict, List, Optional, Tuple
 
+from ..lines import FIRST_COLUMN, LAST_COLUMN
 from ..messages import listed
 from ..panes import Dependence, read_dependence
 from ..trials import carried_names
@@ -152,6 +153,17 @@ class Desk:
         else:
             self.say("there is no further loop" if starts else "the program has no loops")
 
+    def search(self, text: str) -> None:
+        """Goes to the next line that has a text, in capitals or not; from the last line on to the first."""
+        lines = [line.upper() for line in self._present.lines]
+        ahead = [*range(self.line, len(lines)), *range(self.line)]
+        found = next((place for place in ahead if text.upper() in lines[place]), None)
+        if found is None:
+            self.say(f"no line has {text}")
+        else:
+            self.in_rows = False
+            self.go(found + 1)
+
     def go_out(self) -> None:
         """Goes to the loop round the present one."""
         loop = self.loop
@@ -160,6 +172,17 @@ class Desk:
             return
         outer = loop if self.line != loop.first_line else self.outline.loops[loop.nest[-2]]
         self.go(outer.first_line)
+
+    def marked(self) -> Dict[int, List[Tuple[int, int]]]:
+        """For each line the columns of the two references of the chosen row, from 0 on, the last one not among them."""
+        found: Dict[int, List[Tuple[int, int]]] = {}
+        row = self.chosen
+        for key in (row.source, row.sink) if row is not None else ():
+            start, end = self._present.view.program.reference(key).span
+            for line in range(start.line, end.line + 1):
+                first = start.column - 1 if line == start.line else FIRST_COLUMN - 1
+                found.setdefault(line, []).append((first, end.column if line == end.line else LAST_COLUMN))
+        return found
 
     def ends_of_row(self) -> Dict[int, str]:
         """The statements of the chosen row with their marks: the source, the sink, or both."""

@@ -29,6 +29,7 @@ from .compiling import compile_command, compiled, run_compiled
 from .desk import Desk
 from .filters import Filters
 from .free_edits import TEXT, Draft, NoEditor, about_refusal, refused_line
+from .lists import Listed, loops_list, variables_list
 from .keys import BLOCK_STEPS, STEPS, Asks, Step
 from .pages import show_page
 from .pictures import Painter, Row
@@ -37,7 +38,8 @@ from .rescuing import Rescue, has_text_alone, remove, rescued
 from .saving import Names, What
 from .session import Session
 from .terminal import (
-    DOWN, END, ENTER, ESCAPE, HOME, INTERRUPTED, OTHER, PAGE_DOWN, PAGE_UP, RESIZED, TAB, UP, Terminal,
+    DOWN, END, ENTER, ESCAPE, HOME, INTERRUPTED, OTHER, PAGE_DOWN, PAGE_UP, PRESSED, RESIZED, TAB, UP, WHEEL_DOWN, WHEEL_UP,
+    Terminal,
 )
 
 _ENDLESS = 10 ** 9
@@ -57,6 +59,8 @@ class Editor:
         self._desk = Desk(session.present)
         self._choices = ""
         self._data_name = ""
+        #: What was searched last.
+        self._sought = ""
         self._is_done = False
         #: What was rescued and is part of the changes now; it may go once they are saved.
         self._taken: List[str] = []
@@ -94,11 +98,15 @@ class Editor:
             PAGE_UP: lambda: desk.move(-page), PAGE_DOWN: lambda: desk.move(page),
             HOME: lambda: desk.move(-_ENDLESS), END: lambda: desk.move(_ENDLESS),
             keys.NEXT_LOOP: lambda: desk.go_to_loop(True), keys.PREVIOUS_LOOP: lambda: desk.go_to_loop(False),
+            WHEEL_UP: lambda: desk.move(-3), WHEEL_DOWN: lambda: desk.move(3), PRESSED: self._press,
+            keys.LOOPS: self._list_loops, keys.SEARCH: self._search, keys.GO: self._go,
+            keys.VARIABLES: self._list_variables,
             keys.OUTER_LOOP: desk.go_out, TAB: self._change_pane, ESCAPE: self._to_source,
             keys.ADVICE: self._advise, keys.CALLS: self._show_calls, ENTER: self._why,
             keys.LEVEL: lambda: self._filter(desk.filters.with_next_level(desk.outline.depth)),
             keys.KIND: lambda: self._filter(desk.filters.with_next_kind()),
             keys.MARK: lambda: self._filter(desk.filters.with_next_mark()),
+            keys.ORDER: lambda: self._filter(desk.filters.with_next_order()),
             keys.NAME: self._filter_name, keys.NO_FILTERS: lambda: self._filter(Filters()),
             keys.AUTO: self._automatic, keys.EDIT: self._edit, keys.UNDO: self._undo, keys.REDO: self._redo,
             keys.RUN: self._run, keys.RACES: self._races, keys.DATA: self._choose_data,
@@ -158,6 +166,56 @@ class Editor:
     def _filter(self, filters: Filters) -> None:
         self._desk.filters = filters
         self._desk.say(f"dependences: {filters.words}")
+
+    def _press(self) -> None:
+        """Goes to the line that the mouse is on, or chooses the row."""
+        on = self._painter.at(self._desk, self._terminal.pressed)
+        if on.line is not None:
+            self._desk.in_rows = False
+            self._desk.go(on.line)
+        elif on.row is not None:
+            self._desk.in_rows, self._desk.row = True, on.row
+
+    def _search(self) -> None:
+        text = self._ask("the next line that has", [self._sought] if self._sought else [])
+        if text:
+            self._sought = text
+            self._desk.search(text)
+
+    def _go(self) -> None:
+        number = self._ask("go to line")
+        if number is not None and number.isdecimal():
+            self._desk.in_rows = False
+            self._desk.go(int(number))
+        elif number:
+            self._desk.say(f"{number} is no number of a line")
+
+    def _list_loops(self) -> None:
+        found = loops_list(self._desk)
+        chosen = self._choose("The loops: * carries something, o is free, = is parallel", found, "goes to a loop")
+        if chosen is not None:
+            self._desk.in_rows = False
+            self._desk.go(int(chosen))
+
+    def _list_variables(self) -> None:
+        loop = self._desk.loop
+        if loop is None:
+            self._desk.say("stand on a loop for its variables; n goes to the next one")
+            return
+        with self._busy("the program is read"):
+            view = self._session.present.view
+        self._desk.say("")
+        found = variables_list(view, view.program.loops[loop.number])
+        chosen = self._choose(f"The variables of loop {loop.number}, {loop.header}", found, "carries out a step")
+        if chosen is not None:
+            self._carry_out(chosen, loop.number)
+
+    def _choose(self, title: str, found: Listed, what: str) -> Optional[str]:
+        """Shows a list, and answers what the key that was pressed stands for."""
+        hint = f"a key at the left {what}; another one closes the page" if found.chosen else "any key closes the page"
+        key = show_page(self._terminal, title, found.lines, hint)
+        place = KEYS.find(key) if len(key) == 1 else -1
+        return found.chosen[place] if 0 <= place < len(found.chosen) else None
 
     def _filter_name(self) -> None:
         names = list(dict.fromkeys(row.name for row in self._desk.rows))

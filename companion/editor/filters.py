@@ -3,7 +3,7 @@
 from __future__ import annotations
 
 from dataclasses import dataclass, replace
-from typing import List, Optional, Sequence
+from typing import Callable, Dict, List, Optional, Sequence, Tuple
 
 from ..panes import KINDS, MARKS, Dependence
 from ..outline import LoopLines
@@ -15,14 +15,30 @@ CARRIED = "carried"
 WITHIN = "-"
 
 
+#: The orders of the rows, by their names: that of the pane, and those by a column.
+ORDERS: Dict[str, Callable[[Dependence], Tuple[object, ...]]] = {
+    "pane": lambda row: (),
+    "source": lambda row: row.source,
+    "sink": lambda row: row.sink,
+    "name": lambda row: (row.name,),
+    "kind": lambda row: (KINDS.index(row.kind),),
+    "level": lambda row: (row.level is None, row.level or 0),
+}
+
+
 @dataclass(frozen=True)
 class Filters:
-    """The filters; rows have to meet all of them."""
+    """The filters, and the order; rows have to meet all filters."""
 
     level: str = CARRIED
     kind: str = ALL
     mark: str = ALL
     name: str = ALL
+    order: str = "pane"
+
+    def with_next_order(self) -> Filters:
+        """The filters with the next order of rows."""
+        return replace(self, order=_next(list(ORDERS), self.order))
 
     def with_next_level(self, depth: int) -> Filters:
         """The filters with the next choice of levels."""
@@ -44,11 +60,12 @@ class Filters:
     def words(self) -> str:
         """The filters as they stand above the rows."""
         chosen = [("level", self.level), ("kind", self.kind), ("mark", self.mark), ("name", self.name)]
-        return " ".join(f"{what}={choice}" for what, choice in chosen if choice != ALL) or ALL
+        words = " ".join(f"{what}={choice}" for what, choice in chosen if choice != ALL) or ALL
+        return words if self.order == "pane" else f"{words}, by {self.order}"
 
     def chosen(self, present: Present, loop: Optional[LoopLines]) -> List[Dependence]:
         """The rows that are shown for a loop; outside all loops the rows of the program."""
-        return [row for row in self._of_loop(present, loop) if self._allows(row)]
+        return sorted([row for row in self._of_loop(present, loop) if self._allows(row)], key=ORDERS[self.order])
 
     def _of_loop(self, present: Present, loop: Optional[LoopLines]) -> Sequence[Dependence]:
         if loop is None:

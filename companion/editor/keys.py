@@ -52,7 +52,8 @@ BLOCK_STEPS: Dict[str, Step] = {
 
 NEXT_LOOP, PREVIOUS_LOOP, OUTER_LOOP = "n", "b", "o"
 ADVICE, CALLS, AUTO, EDIT, UNDO, REDO = "a", "c", "A", "e", "u", "y"
-LEVEL, KIND, MARK, NAME, NO_FILTERS = "L", "K", "M", "N", "0"
+LOOPS, VARIABLES, SEARCH, GO = "g", "V", "/", ":"
+LEVEL, KIND, MARK, NAME, NO_FILTERS, ORDER = "L", "K", "M", "N", "0", "S"
 RUN, RACES, DATA = "R", "C", "D"
 SAVE, WRITE, OPENMP = "w", "W", "O"
 HELP, QUIT = "?", "q"
@@ -63,13 +64,18 @@ _OTHERS: Tuple[Tuple[str, str], ...] = (
     (f"{PAGE_UP}, {PAGE_DOWN}", "a page"),
     (f"{HOME}, {END}", "the first line, the last line"),
     (f"{NEXT_LOOP} {PREVIOUS_LOOP} {OUTER_LOOP}", "the next loop, the one before, the one round this one"),
+    (LOOPS, "all loops with what they carry, with keys that go there"),
+    (f"{SEARCH} {GO}", "the next line with a text; a line by its number"),
     (f"{TAB}, {ESCAPE}", "into the dependences (^ source, ~ sink), and back"),
     ("Looking", ""),
     (ADVICE, "advice for the present loop, with keys that carry it out"),
+    (VARIABLES, "the variables of the loop: shared, private, sum, carried, read after"),
     (CALLS, "the CALLs and what depends on them, with keys that inline"),
     (ENTER, "why the chosen dependence is there, or those of the loop"),
     (f"{LEVEL} {KIND} {MARK} {NAME}", "filter the dependences by level, kind, mark, name"),
     (NO_FILTERS, "take the filters away"),
+    (ORDER, "sort the dependences by source, sink, name, kind, level"),
+    ("mouse", "a click goes to a line or chooses a dependence; the wheel scrolls"),
     ("Changing", ""),
     (AUTO, "auto: take steps that make loops parallel, each a change"),
     (EDIT, "edit the program in $EDITOR"),

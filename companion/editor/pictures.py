@@ -3,11 +3,12 @@
 from __future__ import annotations
 
 from enum import Enum
-from typing import List, NamedTuple, Sequence
+from typing import List, NamedTuple, Optional, Sequence, Tuple
 
 from ..messages import counted
 from ..output import visible
 from ..panes import Dependence, SourceRow
+from ..trials import carried_names
 from .desk import Desk
 from .filters import Filters
 
@@ -26,13 +27,29 @@ class Style(Enum):
     BAR = "bar"
     LOOP = "loop"
     CURSOR = "cursor"
+    #: A loop that carries something, one that is free, and one that is parallel.
+    CARRIES = "carries"
+    FREE = "free"
+    PARALLEL = "parallel"
+    #: Rows by their marks.
+    PROVEN = "proven"
+    PENDING = "pending"
+    REJECTED = "rejected"
 
 
 class Row(NamedTuple):
-    """A row of the screen."""
+    """A row of the screen, and parts of it that are underlined: their first column, and the first one behind."""
 
     text: str
     style: Style = Style.PLAIN
+    marked: Tuple[Tuple[int, int], ...] = ()
+
+
+class On(NamedTuple):
+    """What stands at a place of the screen: a line of the source, counted from 1, or a row, counted from 0."""
+
+    line: Optional[int] = None
+    row: Optional[int] = None
 
 
 def folded(text: str, width: int) -> List[str]:
@@ -64,6 +81,8 @@ class Painter:
         self._name = visible(name)
         self._first_line = 0
         self._first_row = 0
+        #: How many rows of the screen the source has, and the dependences.
+        self._heights = (0, 0)
 
     def picture(self, desk: Desk, state: str, height: int, width: int) -> List[Row]:
         """The whole screen. The state says how many changes there are, and whether they are saved."""
@@ -71,6 +90,7 @@ class Painter:
             return [Row("the window is too small"[:width])]
         rest = height - 3 - _MESSAGE_ROWS
         below = max(2, rest * 3 // 8)
+        self._heights = (rest - below, below)
         return [
             Row(_title(f" {self._name}: {state}", "pedx edit ", width), Style.BAR),
             *self._source(desk, rest - below, width),
@@ -80,21 +100,34 @@ class Painter:
             Row(_HINT[:width], Style.PLAIN),
         ]
 
+    def at(self, desk: Desk, y: int) -> On:
+        """What stands at a row of the screen, counted from 0."""
+        above, below = self._heights
+        line, row = y - 1 + self._first_line, y - 2 - above + self._first_row
+        if 1 <= y <= above and line < len(desk.present.panes.source):
+            return On(line=line + 1)
+        if above + 2 <= y < above + 2 + below and row < len(desk.rows):
+            return On(row=row)
+        return On()
+
     def _source(self, desk: Desk, height: int, width: int) -> List[Row]:
         source = desk.present.panes.source
         self._first_line = first_shown(self._first_line, height, len(source), _wanted_lines(desk))
         shown = source[self._first_line:self._first_line + height]
         marks = {**desk.named, **desk.ends_of_row()}
-        rows = [_source_row(desk, row, marks.get(row.statement or 0, " "), width) for row in shown]
+        marked = desk.marked()
+        rows = [
+            _source_row(desk, row, marks.get(row.statement or 0, " "), width, marked.get(row.line, [])) for row in shown
+        ]
         return rows + [Row("")] * (height - len(rows))
 
     def _rows(self, desk: Desk, height: int, width: int) -> List[Row]:
         rows = desk.rows
         self._first_row = first_shown(self._first_row, height, len(rows), [desk.row])
-        texts = _table(rows[self._first_row:self._first_row + height])
+        shown = rows[self._first_row:self._first_row + height]
         pictures = [
-            Row(text[:width], Style.CURSOR if desk.in_rows and index == desk.row else Style.PLAIN)
-            for index, text in enumerate(texts, self._first_row)
+            Row(text[:width], Style.CURSOR if desk.in_rows and index == desk.row else Style(row.mark))
+            for index, (text, row) in enumerate(zip(_table(shown), shown), self._first_row)
         ]
         if not rows:
             pictures = [Row(f"   {_about_none(desk)}"[:width])]
@@ -139,14 +172,28 @@ def _wanted_lines(desk: Desk) -> List[int]:
     return lines
 
 
-def _source_row(desk: Desk, row: SourceRow, mark: str, width: int) -> Row:
+def _source_row(desk: Desk, row: SourceRow, mark: str, width: int, marked: Sequence[Tuple[int, int]]) -> Row:
     loop = desk.loop
     inside = loop is not None and loop.first_line <= row.line <= loop.last_line
     bar = (">" if loop is not None and row.line == loop.first_line else "|") if inside else " "
     text = f"{mark}{row.statement or '':>4} {bar}{visible(row.text)}"[:width]
+    front = len(text) - len(visible(row.text)[:max(0, width - 7)])
+    parts = tuple((first + front, min(last + front, width)) for first, last in marked if first + front < width)
     if row.line == desk.line:
-        return Row(text.ljust(width) if not desk.in_rows else text, Style.LOOP if desk.in_rows else Style.CURSOR)
-    return Row(text, Style.LOOP if bar == ">" else Style.PLAIN)
+        return Row(text.ljust(width) if not desk.in_rows else text, Style.LOOP if desk.in_rows else Style.CURSOR, parts)
+    return Row(text, _style_of(desk, row, bar), parts)
+
+
+def _style_of(desk: Desk, row: SourceRow, bar: str) -> Style:
+    """How a line is shown: the DO of each loop by what it carries."""
+    if bar == ">":
+        return Style.LOOP
+    loop = desk.outline.loops.get(row.statement or 0)
+    if loop is None:
+        return Style.PLAIN
+    if carried_names(desk.present.carried.get(loop.number, [])):
+        return Style.CARRIES
+    return Style.PARALLEL if loop.parallel else Style.FREE
 
 
 def _table(rows: Sequence[Dependence]) -> List[str]:

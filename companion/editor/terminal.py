@@ -27,6 +27,12 @@ ENTER, ESCAPE, TAB, BACKSPACE, RESIZED, INTERRUPTED, OTHER = (
     "Enter", "Esc", "Tab", "backspace", "resized", "interrupted", "other"
 )
 
+#: The keys of the mouse: its wheel, and a press, whose place `Terminal.pressed` has.
+WHEEL_UP, WHEEL_DOWN, PRESSED = "wheel up", "wheel down", "pressed"
+#: Curses calls the wheel buttons 4 and 5; the latter has no name before Python 3.10.
+_WHEEL_UP: int = curses.BUTTON4_PRESSED
+_WHEEL_DOWN: int = getattr(curses, "BUTTON5_PRESSED", 1 << 21)
+
 _CHARACTERS: Dict[str, str] = {
     "\n": ENTER, "\r": ENTER, "\x1b": ESCAPE, "\t": TAB, "\x08": BACKSPACE, "\x7f": BACKSPACE, "\x03": INTERRUPTED,
     "\x04": PAGE_DOWN, "\x02": PAGE_UP,
@@ -40,6 +46,25 @@ _STYLES: Dict[Style, int] = {
     Style.PLAIN: curses.A_NORMAL, Style.BAR: curses.A_REVERSE, Style.LOOP: curses.A_BOLD,
     Style.CURSOR: curses.A_REVERSE,
 }
+#: The styles that are colours, where the terminal has some; else they are plain.
+_COLOURS: Dict[Style, int] = {
+    Style.CARRIES: curses.COLOR_RED, Style.FREE: curses.COLOR_GREEN, Style.PARALLEL: curses.COLOR_CYAN,
+    Style.PROVEN: curses.COLOR_RED, Style.PENDING: curses.COLOR_YELLOW, Style.REJECTED: curses.COLOR_BLUE,
+}
+
+
+def _colours() -> Dict[Style, int]:
+    """The colours over the terminal's own background; none where it has none, or NO_COLOR is set."""
+    if "NO_COLOR" in os.environ:
+        return {}
+    with suppress(curses.error):
+        curses.start_color()
+        if curses.has_colors():
+            curses.use_default_colors()
+            for number, colour in enumerate(_COLOURS.values(), 1):
+                curses.init_pair(number, colour, -1)
+            return {style: curses.color_pair(number) for number, style in enumerate(_COLOURS, 1)}
+    return {}
 
 
 class Terminal:
@@ -49,6 +74,11 @@ class Terminal:
         self._window = window
         self._encoding = terminal_encoding()
         self._failures = 0
+        self._styles = {**dict.fromkeys(_COLOURS, curses.A_NORMAL), **_STYLES, **_colours()}
+        #: Where the mouse was pressed last: the row of the screen, counted from 0.
+        self.pressed = 0
+        curses.mousemask(curses.BUTTON1_CLICKED | curses.BUTTON1_PRESSED | _WHEEL_UP | _WHEEL_DOWN)
+        curses.mouseinterval(0)
         # Ctrl-C is a key like others; only what takes time can be interrupted.
         curses.raw()
         self._show_cursor(False)
@@ -65,7 +95,11 @@ class Terminal:
         for index, row in enumerate(rows[:height]):
             # The last column of the last row can't be written without an error, which means nothing.
             with suppress(curses.error):
-                self._window.addnstr(index, 0, printable(row.text, self._encoding), width, _STYLES[row.style])
+                self._window.addnstr(index, 0, printable(row.text, self._encoding), width, self._styles[row.style])
+            for first, last in row.marked:
+                part = printable(row.text, self._encoding)[first:last]
+                with suppress(curses.error):
+                    self._window.addstr(index, first, part, self._styles[row.style] | curses.A_UNDERLINE | curses.A_BOLD)
         self._show_cursor(cursor >= 0)
         if cursor >= 0:
             self._window.move(min(len(rows), height) - 1, min(cursor, width - 1))
@@ -90,8 +124,18 @@ class Terminal:
             name = _CODES.get(key, OTHER)
             if name == RESIZED:
                 curses.update_lines_cols()
-            return name
+            return self._mouse() if key == curses.KEY_MOUSE else name
         return _CHARACTERS.get(key, key)
+
+    def _mouse(self) -> str:
+        """What the mouse does: it presses, or its wheel turns."""
+        try:
+            _, _, self.pressed, _, buttons = curses.getmouse()
+        except curses.error:
+            return OTHER
+        if buttons & _WHEEL_UP:
+            return WHEEL_UP
+        return WHEEL_DOWN if buttons & _WHEEL_DOWN else PRESSED
 
     @contextmanager
     def interruptible(self) -> Iterator[None]:

@@ -96,6 +96,25 @@ class Steps(Played):
         ])
         self.assertTrue(rows[13].startswith(" loop 1, DO I = 1, 5: free, carries nothing"))
 
+    def test_lists_and_places(self) -> None:
+        player = self.play(TWICE)
+        player.press("g")
+        player.wait("2  *    3 DO I = 1, 5: carries T")
+        player.press("2")
+        player.wait("loop 3, DO I = 1, 5: carries T")
+        player.press("V")
+        player.wait("1     privatise 3 T: give each iteration its own copy")
+        player.press("1")
+        player.wait("privatise 3 T: ok; loop 3 carries nothing; p makes it parallel")
+        for key in ("/", "a(i) =", ENTER):
+            player.press(key)
+        player.wait("loop 1, DO I = 1, 5: free, carries nothing")
+        for key in (":", "8", ENTER):
+            player.press(key)
+        player.wait("loop 3, DO I = 1, 5: free, carries nothing")
+        player.press("S")
+        player.wait("dependences: level=carried, by source")
+
     def test_advice_to_parallel(self) -> None:
         player = self.play(TWICE)
         player.press("n")

@@ -7,6 +7,7 @@ from ..editor.advice import Advice, advice_page, advised
 from ..editor.changes import NoChange, edit_between
 from ..editor.desk import Desk
 from ..editor.filters import Filters
+from ..editor.lists import loops_list, variables_list
 from ..editor.pictures import LEAST_HEIGHT, LEAST_WIDTH, Painter, first_shown, folded
 from ..editor.session import Present, Session
 from ..outline import outline_of
@@ -104,6 +105,77 @@ class Desks(unittest.TestCase):
             levels.append(filters.level)
             filters = filters.with_next_level(2)
         self.assertEqual(levels, ["carried", "all", "1", "2", "-", "carried"])
+
+
+    def test_orders(self) -> None:
+        desk = desk_of(NEST)
+        before = [row.row for row in desk.rows]
+        desk.filters = Filters(order="name")
+        self.assertEqual([row.name for row in desk.rows], sorted(row.name for row in desk.rows))
+        self.assertEqual(desk.filters.words, "level=carried, by name")
+        desk.filters = Filters(order="sink")
+        self.assertEqual([row.sink for row in desk.rows], sorted(row.sink for row in desk.rows))
+        self.assertEqual(sorted(row.row for row in desk.rows), sorted(before))
+        self.assertEqual(Filters(order="level").with_next_order(), Filters())
+
+    def test_search(self) -> None:
+        desk = desk_of(NEST)
+        for wanted in (5, 9, 5):
+            desk.search("a(i,")
+            self.assertEqual(desk.line, wanted)
+        desk.search("nothing like it")
+        self.assertEqual((desk.line, desk.message), (5, "no line has nothing like it"))
+
+    def test_references_of_the_chosen_row(self) -> None:
+        desk = desk_of(NEST)
+        self.assertEqual(desk.marked(), {})
+        desk.filters, desk.in_rows = Filters(name="A"), True
+        (line, parts), = desk.marked().items()
+        text = desk.present.lines[line - 1]
+        self.assertEqual([text[first:last] for first, last in parts], ["A(I,J)", "A(I-1,J)"])
+        row = next(row for row in Painter("p.f").picture(desk, "", 24, 80) if "A(I-1,J)" in row.text)
+        self.assertEqual([row.text[first:last] for first, last in row.marked], ["A(I,J)", "A(I-1,J)"])
+
+
+class Lists(unittest.TestCase):
+    def test_loops(self) -> None:
+        found = loops_list(desk_of(NEST))
+        self.assertEqual(found.lines, [
+            "  1  *    1 DO I = 2, 9: carries K, A", "  2  o    3   DO J = 2, 9: free", "  3  o    5 DO I = 1, 9: free",
+        ])
+        self.assertEqual(found.chosen, ["2", "4", "8"])
+        self.assertEqual(loops_list(desk_of(fortran("END"))).lines, ["The program has no loops."])
+
+    def test_variables(self) -> None:
+        present = desk_of(NEST).present
+        found = variables_list(present.view, present.view.program.loops[1])
+        self.assertEqual(found.chosen, ["privatise 1 K", "expand 1 K"])
+        self.assertEqual(found.lines[0].split()[:2], ["K", "carried"])
+        present = desk_of(fortran("DO I = 1, 9", "K = K+I", "END DO", "PRINT *, K", "END")).present
+        found = variables_list(present.view, present.view.program.loops[1])
+        self.assertEqual(found.chosen, ["reduce 1 K"])
+        self.assertIn("read after by statement 3", found.lines[0])
+
+    def test_each_step_has_a_key(self) -> None:
+        present = desk_of(fortran("DO I = 1, 9", *[f"K{n} = I" for n in range(20)], "END DO", "END")).present
+        found = variables_list(present.view, present.view.program.loops[1])
+        self.assertEqual(len(found.chosen), 25)
+        self.assertEqual(sum(line[2] != " " for line in found.lines), 25)
+
+
+class Clicks(unittest.TestCase):
+    def test_places(self) -> None:
+        desk = desk_of(NEST)
+        painter = Painter("p.f")
+        rows = painter.picture(desk, "", 24, 80)
+        for y, row in enumerate(rows):
+            on = painter.at(desk, y)
+            if on.line is not None:
+                self.assertTrue(row.text.endswith(desk.present.lines[on.line - 1].rstrip()) or y == desk.line)
+            if on.row is not None:
+                self.assertEqual(row.text.split(), desk.rows[on.row].row.split())
+        self.assertEqual([painter.at(desk, y).line for y in (0, 1, 11)], [None, 1, 11])
+        self.assertEqual(sum(painter.at(desk, y).row is not None for y in range(24)), min(len(desk.rows), 7))
 
 
 class Sessions(unittest.TestCase):

@@ -357,6 +357,11 @@ END SUBROUTINE"""
         ))
         self.assertEqual(self.body("CALL W(A(I))")[:2], ["IF (A(I)+MO:TOTAL.NE.0) THEN", "END IF"])
 
+    def test_a_constructor_of_the_users(self) -> None:
+        self.before = "INTERFACE PT\nMODULE PROCEDURE F1\nEND INTERFACE"
+        self.contains = "FUNCTION F1(V)\nREAL V\nTYPE(PT) F1\nF1%X = 1\nTOTAL = V\nEND FUNCTION"
+        self.refused("A(I) = PT(A(I))", "PT is a derived type and a generic name", "function")
+
     def test_functions(self) -> None:
         self.before = "INTERFACE F\nMODULE PROCEDURE F1, F2\nEND INTERFACE"
         self.contains = "REAL FUNCTION F1(V)\nREAL V\nF1 = V\nEND FUNCTION\nREAL FUNCTION F2(V)\nREAL V(:)\nF2 = V(2)\nEND FUNCTION"

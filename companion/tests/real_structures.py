@@ -1,4 +1,4 @@
-"""Components of structures, structures that procedures are given, generic names and modules. All was reasoned by hand."""
+"""Components of structures, structures as arguments, generic names and modules. All was reasoned by hand."""
 
 from __future__ import annotations
 
@@ -185,7 +185,8 @@ class Copies(Case):
 
     def test_an_assignment_of_the_users(self) -> None:
         self.before = "INTERFACE ASSIGNMENT(=)\nMODULE PROCEDURE COPY\nEND INTERFACE"
-        self.contains = "SUBROUTINE COPY(L, R)\nTYPE(PT), INTENT(OUT) :: L\nTYPE(PT), INTENT(IN) :: R\nL%X = 1\nEND SUBROUTINE"
+        self.contains = "SUBROUTINE COPY(L, R)\nTYPE(PT), INTENT(OUT) :: L\nTYPE(PT), INTENT(IN) :: R\nL%X = 1\n"
+        self.contains += "END SUBROUTINE"
         self.refused("P(I) = O", "has an assignment of its own", "function")
 
     def test_final(self) -> None:
@@ -364,7 +365,8 @@ END SUBROUTINE"""
 
     def test_functions(self) -> None:
         self.before = "INTERFACE F\nMODULE PROCEDURE F1, F2\nEND INTERFACE"
-        self.contains = "REAL FUNCTION F1(V)\nREAL V\nF1 = V\nEND FUNCTION\nREAL FUNCTION F2(V)\nREAL V(:)\nF2 = V(2)\nEND FUNCTION"
+        self.contains = "REAL FUNCTION F1(V)\nREAL V\nF1 = V\nEND FUNCTION\nREAL FUNCTION F2(V)\nREAL V(:)\n"
+        self.contains += "F2 = V(2)\nEND FUNCTION"
         self.assertEqual(self.body("A(I) = F(T)"), ["A(I) = T"])
         self.assertEqual(self.body("A(I) = F(G%H)"), ["A(I) = G%H(2)"])
         self.assertEqual(self.verdict("T = T + F(A(I))").clauses.reductions, (("+", "T"),))

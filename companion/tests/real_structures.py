@@ -154,6 +154,27 @@ class Components(Case):
         self.assertIsInstance(found, Fault)
 
 
+class Polymorphic(Case):
+    """CLASS: the components of the declared type are those of any type that extends it."""
+
+    def test_components(self) -> None:
+        self.known = "CLASS(GR) F"
+        text = _MODULE.format("", "") + _HEAD.replace("G, T)", "G, T, F)").format("", self.known)
+        loops = Loops(text + "DO I = 1, F%N\nF%H(I) = F%W(I,2) + F%Q%X\nEND DO\nEND\n")
+        self.assertEqual([one.word for one in loops.verdicts()], ["parallel"])
+
+    def test_any_type(self) -> None:
+        self.known = "CLASS(*) F"
+        self.refused("F%X = 1", "F may have any type", "function")
+
+    def test_whole_structures_and_arguments(self) -> None:
+        self.known = "CLASS(PT), ALLOCATABLE :: F"
+        self.refused("F = P(I)", "may have any type that extends its own", "function")
+        self.refused("P(I) = F", "may have different types", "function")
+        self.contains = "SUBROUTINE W(Q)\nTYPE(PT) Q\nQ%X = 1\nEND SUBROUTINE"
+        self.refused("CALL W(F)", "which may be of another type")
+
+
 class Bounds(Case):
     def test_a_first_value_that_changes(self) -> None:
         """It's no number that the DO may be counted from 0 with."""

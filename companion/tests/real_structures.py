@@ -338,8 +338,10 @@ END SUBROUTINE"""
         self.assertEqual(self.body("CALL W(P(I))"), ["IF (OPQ.NE.0) THEN", "P%X(I) = 1", "END IF"])
 
     def test_kinds_and_numbers_of_arguments(self) -> None:
-        self.contains = self.contains.replace("INTEGER V", "DOUBLE PRECISION V").replace("W1(V)", "W1(V, L)\nINTEGER L")
+        self.contains = self.contains.replace("INTEGER V", "DOUBLE PRECISION V")
         self.known = "DOUBLE PRECISION D(9)"
+        self.assertEqual(self.body("CALL W(D(I))")[3:], ["MO:FIELD(1) = 1", "END IF"])
+        self.contains = self.contains.replace("W1(V)", "W1(V, L)\nINTEGER L")
         self.assertEqual(self.body("CALL W(D(I))")[-2], "MO:FIELD(1) = 1")
         self.assertEqual(self.body("CALL W(A(I), 2)"), ["IF (OPQ.NE.0) THEN", "A(I) = 1", "END IF"])
         self.refused("CALL W(A(I), 2.0)", "none of its procedures fits")

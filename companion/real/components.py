@@ -102,7 +102,7 @@ def part_of(symbols: Symbols, designator: tree.Expression) -> Optional[Part]:
         if index >= len(chain) or symbol.type not in _STRUCTURES:
             return Part("".join(found), tuple(subscripts), symbol, home, last)
         here = chain[index]
-        known = None if symbol.type == "CLASS" else home.components(symbol)
+        known = home.components(symbol)
         inner = known.component(here.component) if known is not None and isinstance(here, tree.Component) else None
         if known is None or inner is None or "POINTER" in inner.attributes:
             return None

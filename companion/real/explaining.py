@@ -96,7 +96,7 @@ class Explainer:
         """The arrays that a loop assigns elements of."""
         place = verdict.place
         written = {
-            access.name for one in place.block.statements() for access in place.scene.facts.effects(one).writes
+            access.place for one in place.block.statements() for access in place.scene.facts.effects(one).writes
         }
         return sorted(name for name in written - set(verdict.clauses.names) if place.scene.symbols.get(name).rank)
 

@@ -66,6 +66,8 @@ class Procedures:
             return None
         if symbols.missing_modules:
             return f"{name} is a generic name: {missing_words(symbols)}"
+        if "TYPE" in symbols.get(name).attributes:
+            return f"{name} is a derived type and a generic name"
         if name in (intrinsics.PURE | intrinsics.FURTHER if is_function else intrinsics.SUBROUTINES):
             return f"{name} is a generic name and that of an intrinsic procedure"
         found: Dict[Unit, None] = {}

@@ -171,8 +171,8 @@ class Roles:
 
     def _type(self, symbol: Symbol, home: Symbols) -> Union[TypeComponents, Trouble]:
         """The components of a variable's type, which is seen where the variable is declared."""
-        if symbol.type == "CLASS":
-            return Trouble("function", f"{symbol.name} may have any type that extends its own")
+        if symbol.type == "CLASS" and symbol.derived == "*":
+            return Trouble("function", f"{symbol.name} may have any type")
         found = home.components(symbol)
         if found is None:
             return Trouble("use", f"the type {symbol.derived} isn't in the files")

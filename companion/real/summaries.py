@@ -68,7 +68,8 @@ ANYTHING = Use(WHOLE, WHOLE)
 class Summary:
     """What a procedure does: to its dummies, in their order, and to shared variables.
 
-    A dummy that is a structure is in `formals` by its components: `P%X`. `assumes` are the assumptions that this rests on. With `reads_shared` it may read all shared variables.
+    A dummy that is a structure is in `formals` by its components: `P%X`. `assumes` are the assumptions that this rests
+    on. With `reads_shared` it may read all shared variables.
     """
 
     formals: Tuple[Tuple[str, Use], ...]

@@ -351,9 +351,12 @@ class Symbols:
             yield node, function
 
     def components(self, symbol: Symbol) -> Optional[TypeComponents]:
-        """The components of a variable of a derived type; none where the type isn't in the files."""
+        """The components of a variable of a derived type; none where the type isn't in the files.
+
+        Those of CLASS are those of its declared type: any other type that it may have extends it.
+        """
         home = self._home(symbol)
-        return None if home is None or symbol.type != "TYPE" else home.derived_type(symbol.derived)
+        return None if home is None or symbol.type not in ("TYPE", "CLASS") else home.derived_type(symbol.derived)
 
     def derived_type(self, name: str) -> Optional[TypeComponents]:
         """The components of a derived type; none where it isn't in the files."""

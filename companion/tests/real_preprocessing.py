@@ -71,7 +71,8 @@ class Branches(unittest.TestCase):
         self.assertEqual(Macros().flags, [])
 
     def test_bad_definitions(self) -> None:
-        for defines, undefines in [(["1"], []), (["A"], ["A"]), ([], ["A B"]), (["=2"], [])]:
+        wrong: List[Tuple[List[str], List[str]]] = [(["1"], []), (["A"], ["A"]), ([], ["A B"]), (["=2"], [])]
+        for defines, undefines in wrong:
             with self.assertRaises(BadDefinition):
                 macros(defines, undefines)
 

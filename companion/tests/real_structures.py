@@ -1,4 +1,4 @@
-"""Components of structures, structures that procedures are given, generic names and modules. All was reasoned by hand."""
+"""Components of structures, structures as arguments, generic names and modules. All was reasoned by hand."""
 
 from __future__ import annotations
 
@@ -154,6 +154,27 @@ class Components(Case):
         self.assertIsInstance(found, Fault)
 
 
+class Polymorphic(Case):
+    """CLASS: the components of the declared type are those of any type that extends it."""
+
+    def test_components(self) -> None:
+        self.known = "CLASS(GR) F"
+        text = _MODULE.format("", "") + _HEAD.replace("G, T)", "G, T, F)").format("", self.known)
+        loops = Loops(text + "DO I = 1, F%N\nF%H(I) = F%W(I,2) + F%Q%X\nEND DO\nEND\n")
+        self.assertEqual([one.word for one in loops.verdicts()], ["parallel"])
+
+    def test_any_type(self) -> None:
+        self.known = "CLASS(*) F"
+        self.refused("F%X = 1", "F may have any type", "function")
+
+    def test_whole_structures_and_arguments(self) -> None:
+        self.known = "CLASS(PT), ALLOCATABLE :: F"
+        self.refused("F = P(I)", "may have any type that extends its own", "function")
+        self.refused("P(I) = F", "may have different types", "function")
+        self.contains = "SUBROUTINE W(Q)\nTYPE(PT) Q\nQ%X = 1\nEND SUBROUTINE"
+        self.refused("CALL W(F)", "which may be of another type")
+
+
 class Bounds(Case):
     def test_a_first_value_that_changes(self) -> None:
         """It's no number that the DO may be counted from 0 with."""
@@ -185,7 +206,8 @@ class Copies(Case):
 
     def test_an_assignment_of_the_users(self) -> None:
         self.before = "INTERFACE ASSIGNMENT(=)\nMODULE PROCEDURE COPY\nEND INTERFACE"
-        self.contains = "SUBROUTINE COPY(L, R)\nTYPE(PT), INTENT(OUT) :: L\nTYPE(PT), INTENT(IN) :: R\nL%X = 1\nEND SUBROUTINE"
+        self.contains = "SUBROUTINE COPY(L, R)\nTYPE(PT), INTENT(OUT) :: L\nTYPE(PT), INTENT(IN) :: R\nL%X = 1\n"
+        self.contains += "END SUBROUTINE"
         self.refused("P(I) = O", "has an assignment of its own", "function")
 
     def test_final(self) -> None:
@@ -316,8 +338,10 @@ END SUBROUTINE"""
         self.assertEqual(self.body("CALL W(P(I))"), ["IF (OPQ.NE.0) THEN", "P%X(I) = 1", "END IF"])
 
     def test_kinds_and_numbers_of_arguments(self) -> None:
-        self.contains = self.contains.replace("INTEGER V", "DOUBLE PRECISION V").replace("W1(V)", "W1(V, L)\nINTEGER L")
+        self.contains = self.contains.replace("INTEGER V", "DOUBLE PRECISION V")
         self.known = "DOUBLE PRECISION D(9)"
+        self.assertEqual(self.body("CALL W(D(I))")[3:], ["MO:FIELD(1) = 1", "END IF"])
+        self.contains = self.contains.replace("W1(V)", "W1(V, L)\nINTEGER L")
         self.assertEqual(self.body("CALL W(D(I))")[-2], "MO:FIELD(1) = 1")
         self.assertEqual(self.body("CALL W(A(I), 2)"), ["IF (OPQ.NE.0) THEN", "A(I) = 1", "END IF"])
         self.refused("CALL W(A(I), 2.0)", "none of its procedures fits")
@@ -357,9 +381,15 @@ END SUBROUTINE"""
         ))
         self.assertEqual(self.body("CALL W(A(I))")[:2], ["IF (A(I)+MO:TOTAL.NE.0) THEN", "END IF"])
 
+    def test_a_constructor_of_the_users(self) -> None:
+        self.before = "INTERFACE PT\nMODULE PROCEDURE F1\nEND INTERFACE"
+        self.contains = "FUNCTION F1(V)\nREAL V\nTYPE(PT) F1\nF1%X = 1\nTOTAL = V\nEND FUNCTION"
+        self.refused("A(I) = PT(A(I))", "PT is a derived type and a generic name", "function")
+
     def test_functions(self) -> None:
         self.before = "INTERFACE F\nMODULE PROCEDURE F1, F2\nEND INTERFACE"
-        self.contains = "REAL FUNCTION F1(V)\nREAL V\nF1 = V\nEND FUNCTION\nREAL FUNCTION F2(V)\nREAL V(:)\nF2 = V(2)\nEND FUNCTION"
+        self.contains = "REAL FUNCTION F1(V)\nREAL V\nF1 = V\nEND FUNCTION\nREAL FUNCTION F2(V)\nREAL V(:)\n"
+        self.contains += "F2 = V(2)\nEND FUNCTION"
         self.assertEqual(self.body("A(I) = F(T)"), ["A(I) = T"])
         self.assertEqual(self.body("A(I) = F(G%H)"), ["A(I) = G%H(2)"])
         self.assertEqual(self.verdict("T = T + F(A(I))").clauses.reductions, (("+", "T"),))

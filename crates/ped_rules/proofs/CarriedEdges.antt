@@ -8,10 +8,10 @@ use Rattle.ped_tree.specs.Numbering.{statements_count}
 use Rattle.ped_edges.specs.Edges.{Edge}
 use Rattle.ped_edges.specs.CodeEdges.{edge_of, HasAtMostSixLoops}
 use Rattle.ped_edges.specs.declared.edges.Edge.{Edge as CodeEdge}
-use Rattle.ped_loop_runs.specs.ped_bodies.specs.ped_steps.specs.ped_laws.specs.ped_graph.specs.DependencePane.{extent_by, extent_of, is_in_body}
-use Rattle.ped_loop_runs.specs.ped_bodies.specs.ped_steps.specs.ped_laws.specs.ped_graph.proofs.OnePane.{one_edges}
-use Rattle.ped_loop_runs.specs.ped_bodies.specs.ped_steps.specs.ped_flow.specs.Questions.{IsLoop}
-use Rattle.ped_loop_runs.specs.ped_bodies.specs.ped_steps.specs.Causes.{IsFirstForbidding}
+use Rattle.ped_loop_runs.specs.ped_graph.specs.DependencePane.{extent_by, extent_of, is_in_body}
+use Rattle.ped_loop_runs.specs.ped_graph.proofs.OnePane.{one_edges}
+use Rattle.ped_loop_runs.specs.ped_flow.specs.Questions.{IsLoop}
+use Rattle.ped_loop_runs.specs.ped_steps.specs.Causes.{IsFirstForbidding}
 use Rattle.ped_rules.specs.Carried.{IsFirstOf}
 use Rattle.ped_rules.specs.CodeCarried.{AreThose}
 

@@ -1,6 +1,6 @@
 -- Where no number is the least of which something holds, it holds of none.
 use Rattle.std.proofs.Common.{ℕ, zero, suc, ◌<◌, ◌≤◌, Some, arith}
-use Rattle.ped_loop_runs.specs.ped_bodies.specs.ped_steps.specs.ped_flow.specs.Questions.{IsFirst}
+use Rattle.ped_loop_runs.specs.ped_flow.specs.Questions.{IsFirst}
 
 pub least : (P : ℕ → Type 0) → ((n : ℕ) → IsFirst P (Some n) → ⊥) → (n : ℕ) → P n → ⊥
 least P unfound n h = below (suc n) n (omega arith) h

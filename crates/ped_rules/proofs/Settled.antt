@@ -4,8 +4,8 @@ use Rattle.std.proofs.lemmas.List.{append-nil}
 use Rattle.ped_tree.specs.Tree.{StmtTrees, no_stmts, more_stmts, DeclTree}
 use Rattle.ped_tree.specs.Views.{stmt_tree, stmt_trees}
 use Rattle.ped_tree.specs.declared.statements.Stmt.{Stmt}
-use Rattle.ped_loop_runs.specs.ped_bodies.specs.ped_steps.specs.Replacing.{followed, alone}
-use Rattle.ped_loop_runs.specs.ped_bodies.specs.ped_steps.proofs.Followed.{followed-assoc, followed-none, stmt_trees-append}
+use Rattle.ped_loop_runs.specs.ped_steps.specs.Replacing.{followed, alone}
+use Rattle.ped_loop_runs.specs.ped_steps.proofs.Followed.{followed-assoc, followed-none, stmt_trees-append}
 use Rattle.ped_rules.specs.CodeSettling.{decls_of, body_of}
 
 -- where no statement is to come

@@ -8,8 +8,8 @@ use Rattle.ped_affine.specs.Arguments.{setting_of}
 use Rattle.ped_affine.specs.PairViews.{heads_of}
 use Rattle.ped_affine.specs.Ranges.{interval_of, around_with}
 use Rattle.ped_refs.specs.Loops.{nest_of}
-use Rattle.ped_loop_runs.specs.ped_bodies.specs.ped_steps.specs.ped_flow.specs.PlainBounds.{Values, nest_round, setting_round, IsPlain}
-use Rattle.ped_loop_runs.specs.ped_bodies.specs.ped_steps.specs.ped_symbols.specs.Kinds.{table_of}
+use Rattle.ped_loop_runs.specs.ped_flow.specs.PlainBounds.{Values, nest_round, setting_round, IsPlain}
+use Rattle.ped_loop_runs.specs.ped_symbols.specs.Kinds.{table_of}
 use Rattle.ped_rules.specs.Rules.{IsBoundOf}
 use Rattle.ped_rules.specs.declared.bounds.Place.{Place}
 

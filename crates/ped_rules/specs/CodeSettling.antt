@@ -1,7 +1,7 @@
 -- Comments before the first executable statement, as statements are taken one by one. Only contracts of private functions use it (this project).
 use Rattle.std.specs.Prelude.{List, ◌++◌}
 use Rattle.ped_tree.specs.Tree.{StmtTrees, no_stmts, more_stmts, DeclTree}
-use Rattle.ped_loop_runs.specs.ped_bodies.specs.ped_steps.specs.Replacing.{followed}
+use Rattle.ped_loop_runs.specs.ped_steps.specs.Replacing.{followed}
 use Rattle.ped_rules.specs.Settling.{front_comments, behind_comments}
 
 -- the declarations, where these statements are the body so far and those are to come

@@ -2,7 +2,7 @@
 use Rattle.std.specs.Prelude.{ℕ, Bool}
 use Rattle.ped_tree.specs.Tree.{Head, StmtTrees, Do, ProgramTree}
 use Rattle.ped_rules.specs.OnlyLoops.{on_loop}
-use Rattle.ped_loop_runs.specs.ped_bodies.specs.ped_steps.specs.Replacing.{alone, program_with}
+use Rattle.ped_loop_runs.specs.ped_steps.specs.Replacing.{alone, program_with}
 
 -- the DO as a PARALLEL DO, or as one whose iterations are done in order; all else of it stays (ParaScope)
 abbrev pub with_flag : Bool → Head → StmtTrees → StmtTrees

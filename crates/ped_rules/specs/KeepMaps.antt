@@ -3,7 +3,7 @@ use Rattle.std.specs.Prelude.{ℕ, suc, ◌+◌, ◌-◌, nat_le, nat_lt, List, 
 use Rattle.std.specs.List.{range_with_len}
 use Rattle.ped_tree.specs.Tree.{ProgramTree}
 use Rattle.ped_tree.specs.Numbering.{statements_count}
-use Rattle.ped_loop_runs.specs.ped_bodies.specs.ped_steps.specs.Replacing.{all_kept}
+use Rattle.ped_loop_runs.specs.ped_steps.specs.Replacing.{all_kept}
 
 -- the number lies from the first of these to the last
 abbrev pub is_between : (first last : ℕ) → ℕ → Bool

@@ -5,9 +5,9 @@ use Rattle.ped_rules.specs.Carried.{carried}
 use Rattle.ped_rules.specs.Chains.{no_rules, also, WhereLoop}
 use Rattle.ped_rules.specs.Rules.{WhereNoLoop, is_parallel, WhereEscape, WhereLimit}
 use Rattle.ped_rules.specs.Steps.{transformation, StepAt}
-use Rattle.ped_loop_runs.specs.ped_bodies.specs.ped_steps.specs.declared.rules.Rule.TheVariants.{NoLoop, ParallelState, IndexEscapes, Limit}
-use Rattle.ped_loop_runs.specs.ped_bodies.specs.ped_steps.specs.Causes.{Rules, IsFirstCause}
-use Rattle.ped_loop_runs.specs.ped_bodies.specs.ped_steps.specs.Replacing.{all_kept}
+use Rattle.ped_loop_runs.specs.ped_steps.specs.declared.rules.Rule.TheVariants.{NoLoop, ParallelState, IndexEscapes, Limit}
+use Rattle.ped_loop_runs.specs.ped_steps.specs.Causes.{Rules, IsFirstCause}
+use Rattle.ped_loop_runs.specs.ped_steps.specs.Replacing.{all_kept}
 use Rattle.ped_rules.specs.Flags.{flagged}
 
 -- the program after the step, which keeps each statement with its number (ParaScope)

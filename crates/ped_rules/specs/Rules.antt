@@ -4,14 +4,14 @@ use Rattle.std.specs.Ordering.{int_eq}
 use Rattle.ped_base.specs.Lists.{has_some}
 use Rattle.ped_tree.specs.Tree.{ExprTree, Head, StmtTrees, ProgramTree}
 use Rattle.ped_tree.specs.Constants.ConstantExpressions.{constant_value}
-use Rattle.ped_loop_runs.specs.ped_bodies.specs.ped_steps.specs.ped_symbols.specs.Kinds.{table_of}
-use Rattle.ped_loop_runs.specs.ped_bodies.specs.ped_steps.specs.ped_symbols.specs.NameRefusals.{IsValid}
+use Rattle.ped_loop_runs.specs.ped_symbols.specs.Kinds.{table_of}
+use Rattle.ped_loop_runs.specs.ped_symbols.specs.NameRefusals.{IsValid}
 use Rattle.ped_affine.specs.Ranges.{Setting, interval_of, around_with}
 use Rattle.ped_affine.specs.PairViews.{heads_of}
-use Rattle.ped_loop_runs.specs.ped_bodies.specs.ped_steps.specs.ped_flow.specs.PlainBounds.{setting_round, nest_round, IsPlain}
-use Rattle.ped_loop_runs.specs.ped_bodies.specs.ped_steps.specs.ped_flow.specs.Questions.{LoopOf, IsFirst}
-use Rattle.ped_loop_runs.specs.ped_bodies.specs.ped_steps.specs.ped_flow.specs.Answers.{IsEscape}
-use Rattle.ped_loop_runs.specs.ped_bodies.specs.ped_steps.specs.ped_flow.specs.declared.flows.Reader.TheVariants.{Statement, Saved}
+use Rattle.ped_loop_runs.specs.ped_flow.specs.PlainBounds.{setting_round, nest_round, IsPlain}
+use Rattle.ped_loop_runs.specs.ped_flow.specs.Questions.{LoopOf, IsFirst}
+use Rattle.ped_loop_runs.specs.ped_flow.specs.Answers.{IsEscape}
+use Rattle.ped_loop_runs.specs.ped_flow.specs.declared.flows.Reader.TheVariants.{Statement, Saved}
 use Rattle.ped_rules.specs.OnlyLoops.{only_loop}
 use Rattle.ped_rules.specs.Spans.{Values, span_of}
 

@@ -6,12 +6,12 @@ use Rattle.ped_tree.specs.Tree.{Head, StmtTrees, ProgramTree, Do}
 use Rattle.ped_tree.specs.Nests.{indices_of}
 use Rattle.ped_tree.specs.Numbering.{statements_count}
 use Rattle.ped_refs.specs.References.{Reference, references}
-use Rattle.ped_loop_runs.specs.ped_bodies.specs.ped_steps.specs.ped_symbols.specs.Kinds.{kind_in}
+use Rattle.ped_loop_runs.specs.ped_symbols.specs.Kinds.{kind_in}
 use Rattle.ped_tree.specs.NamesIn.{loop_variables, private_names_in}
 use Rattle.ped_rules.specs.Spans.{Values, Span, span_of, spans_far}
-use Rattle.ped_loop_runs.specs.ped_bodies.specs.ped_steps.specs.ped_symbols.specs.RightUses.RightUses as uses
-use Rattle.ped_loop_runs.specs.ped_bodies.specs.ped_steps.specs.ped_flow.specs.PlainBounds.{nest_round}
-use Rattle.ped_loop_runs.specs.ped_bodies.specs.ped_steps.specs.ped_flow.specs.Questions.{IsFirst, IsExposed, IsReadBehind, IsShownBehind}
+use Rattle.ped_loop_runs.specs.ped_symbols.specs.RightUses.RightUses as uses
+use Rattle.ped_loop_runs.specs.ped_flow.specs.PlainBounds.{nest_round}
+use Rattle.ped_loop_runs.specs.ped_flow.specs.Questions.{IsFirst, IsExposed, IsReadBehind, IsShownBehind}
 
 -- the name is that of a scalar variable of the program (ANSI X3.9-1978, section 2.5)
 abbrev pub is_scalar : ProgramTree → List ℕ → Bool

@@ -8,11 +8,11 @@ ghost use Rattle.ped_tree.specs.Numbering.{statement_with};
 ghost use Rattle.ped_tree.specs.Views.{expr_tree, pack_exprs, stmt_trees, program_tree, head_of};
 ghost use Rattle.ped_tree.specs.Nests.{indices_of};
 ghost use Rattle.ped_refs.specs.Loops.{nest_of};
-ghost use Rattle.ped_loop_runs.specs.ped_bodies.specs.ped_steps.specs.ped_flow.specs.PlainBounds as Plain;
-ghost use Rattle.ped_loop_runs.specs.ped_bodies.specs.ped_steps.specs.ped_flow.specs.PlainBounds.{nest_round, setting_round, IsConstant, IsFixed, IsExtreme, IsPlainlyBuilt, ArePlainlyBuilt, IsPlain};
-ghost use Rattle.ped_loop_runs.specs.ped_bodies.specs.ped_steps.specs.ped_flow.specs.Questions.{IsLoop, LoopOf};
-ghost use Rattle.ped_loop_runs.specs.ped_bodies.specs.ped_steps.specs.Scenes.{IsSceneOf};
-ghost use Rattle.ped_loop_runs.specs.ped_bodies.specs.ped_steps.specs.ped_symbols.specs.Kinds.{table_of};
+ghost use Rattle.ped_loop_runs.specs.ped_flow.specs.PlainBounds as Plain;
+ghost use Rattle.ped_loop_runs.specs.ped_flow.specs.PlainBounds.{nest_round, setting_round, IsConstant, IsFixed, IsExtreme, IsPlainlyBuilt, ArePlainlyBuilt, IsPlain};
+ghost use Rattle.ped_loop_runs.specs.ped_flow.specs.Questions.{IsLoop, LoopOf};
+ghost use Rattle.ped_loop_runs.specs.ped_steps.specs.Scenes.{IsSceneOf};
+ghost use Rattle.ped_loop_runs.specs.ped_symbols.specs.Kinds.{table_of};
 ghost use Rattle.ped_rules.specs.CodePlain.{tree_at, values_at, IsPlaced, HasInterval, TellsPlain};
 
 use ped_affine::{Setting, assigned, interval, loop_variables};

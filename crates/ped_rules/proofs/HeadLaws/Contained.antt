@@ -1,7 +1,7 @@
 -- A DO of which no variable is read outside it is contained.
 use Rattle.std.proofs.Common.{ℕ, refl, inl, inr}
 use Rattle.ped_tree.specs.Tree.{ProgramTree}
-use Rattle.ped_loop_runs.specs.ped_bodies.specs.ped_steps.specs.ped_flow.specs.Questions.{LoopOf, IsBrokenBy, IsLiveAfter, IsContained}
+use Rattle.ped_loop_runs.specs.ped_flow.specs.Questions.{LoopOf, IsBrokenBy, IsLiveAfter, IsContained}
 use Rattle.ped_rules.specs.Rules.{WhereEscape}
 use Rattle.ped_rules.proofs.LeastNumbers.{least}
 

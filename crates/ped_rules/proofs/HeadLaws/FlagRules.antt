@@ -3,11 +3,11 @@ use Rattle.std.proofs.Common.{◌≡◌, ℕ, List, Bool, true, false, refl, sym
 use Rattle.std.proofs.lemmas.Bool.{false_from_ne_true}
 use Rattle.ped_tree.specs.Tree.{Head, StmtTrees, ProgramTree}
 use Rattle.ped_rules.proofs.OneLoop.{fails_there}
-use Rattle.ped_loop_runs.specs.ped_bodies.specs.ped_steps.specs.ped_symbols.specs.NameRefusals.{IsValid}
-use Rattle.ped_loop_runs.specs.ped_bodies.specs.ped_steps.specs.ped_flow.specs.Questions.{IsLoop, LoopOf, IsContained}
-use Rattle.ped_loop_runs.specs.ped_bodies.specs.ped_steps.specs.declared.rules.Rule.TheVariants.{NoLoop, ParallelState, IndexEscapes, Limit}
-use Rattle.ped_loop_runs.specs.ped_bodies.specs.ped_steps.specs.Causes.{Rules, NoRule, IsFirstRule}
-use Rattle.ped_loop_runs.specs.ped_bodies.specs.ped_steps.specs.Replacing.{all_kept}
+use Rattle.ped_loop_runs.specs.ped_symbols.specs.NameRefusals.{IsValid}
+use Rattle.ped_loop_runs.specs.ped_flow.specs.Questions.{IsLoop, LoopOf, IsContained}
+use Rattle.ped_loop_runs.specs.ped_steps.specs.declared.rules.Rule.TheVariants.{NoLoop, ParallelState, IndexEscapes, Limit}
+use Rattle.ped_loop_runs.specs.ped_steps.specs.Causes.{Rules, NoRule, IsFirstRule}
+use Rattle.ped_loop_runs.specs.ped_steps.specs.Replacing.{all_kept}
 use Rattle.ped_rules.specs.Chains.{no_rules, also, WhereLoop}
 use Rattle.ped_rules.specs.Rules.{WhereNoLoop, WhereEscape, WhereLimit}
 use Rattle.ped_rules.proofs.Chains.{IsChain, chain_end, chain_link, first_here, first_later, none_later, not_this, not_those, none_at_end}

@@ -8,17 +8,17 @@ use Rattle.ped_base.specs.Lists.{is_same_text, is_among}
 use Rattle.ped_base.specs.declared.arithmetic.faults.Fault.{Fault}
 use Rattle.ped_base.specs.Arithmetic.Arithmetic.{sum_of, difference_of, negation_of, product_of, quotient_of, power_of}
 use Rattle.ped_base.proofs.NameEquality.{same_is}
-use Rattle.ped_loop_runs.specs.ped_bodies.specs.ped_steps.specs.ped_sums.specs.Sums.{literal}
+use Rattle.ped_loop_runs.specs.ped_sums.specs.Sums.{literal}
 use Rattle.ped_tree.specs.declared.expressions.Intrinsic.{Intrinsic}
 use Rattle.ped_tree.specs.Constants.NamedConstants.{value_named}
 use Rattle.ped_tree.specs.Constants.ConstantExpressions.{unary_value, binary_value, onto, intrinsic_result, constant_value, constant_values}
 use Rattle.ped_tree.specs.Tree.{ExprTree, ExprTrees, Int, Var, Element, Neg, Add, Sub, Mul, Div, Pow, Call, no_exprs, more_exprs, Head, StmtTrees, Do}
 use Rattle.ped_tree.proofs.NameLaws.Collected.{among_append}
-use Rattle.ped_loop_runs.specs.ped_bodies.specs.ped_steps.specs.ped_symbols.specs.declared.uses.Use.{Use}
-use Rattle.ped_loop_runs.specs.ped_bodies.specs.ped_steps.specs.ped_symbols.specs.declared.uses.Role.TheVariants.{Rejected, Index}
-use Rattle.ped_loop_runs.specs.ped_bodies.specs.ped_steps.specs.ped_symbols.specs.Sites.{statement}
-use Rattle.ped_loop_runs.specs.ped_bodies.specs.ped_steps.specs.ped_symbols.specs.Uses.{used_as, expr_uses, exprs_uses, own_uses}
-use Rattle.ped_loop_runs.specs.ped_bodies.specs.ped_steps.proofs.RunLaws.NamesKept.{occurs}
+use Rattle.ped_loop_runs.specs.ped_symbols.specs.declared.uses.Use.{Use}
+use Rattle.ped_loop_runs.specs.ped_symbols.specs.declared.uses.Role.TheVariants.{Rejected, Index}
+use Rattle.ped_loop_runs.specs.ped_symbols.specs.Sites.{statement}
+use Rattle.ped_loop_runs.specs.ped_symbols.specs.Uses.{used_as, expr_uses, exprs_uses, own_uses}
+use Rattle.ped_loop_runs.specs.ped_steps.proofs.RunLaws.NamesKept.{occurs}
 use Rattle.ped_rules.specs.Spans.{Values}
 
 abbrev pub names_in : List Use → List (List ℕ)

@@ -5,18 +5,18 @@ use Rattle.std.proofs.lemmas.List.Elements.{All-head, All-tail}
 use Rattle.ped_base.specs.Lists.{is_among}
 use Rattle.ped_tree.specs.Tree.{Head, Do, ProgramTree}
 use Rattle.ped_tree.specs.NamesIn.{loop_variables}
-use Rattle.ped_loop_runs.specs.ped_bodies.specs.ped_steps.specs.ped_laws.specs.Acts.Orders.{IsIn}
-use Rattle.ped_loop_runs.specs.ped_bodies.specs.ped_steps.specs.ped_laws.specs.ped_graph.specs.Dependences.{AreEdges}
-use Rattle.ped_loop_runs.specs.ped_bodies.specs.ped_steps.specs.ped_laws.specs.ped_graph.specs.DependencePane as pane
+use Rattle.ped_loop_runs.specs.ped_laws.specs.Acts.Orders.{IsIn}
+use Rattle.ped_loop_runs.specs.ped_graph.specs.Dependences.{AreEdges}
+use Rattle.ped_loop_runs.specs.ped_graph.specs.DependencePane as pane
 use Rattle.ped_edges.specs.Edges.{Mark, proven, pending, rejected, Edge, is_rejected}
-use Rattle.ped_loop_runs.specs.ped_bodies.specs.ped_steps.specs.ped_laws.specs.ped_graph.specs.Update.Fresh.{IsOneToOne}
-use Rattle.ped_loop_runs.specs.ped_bodies.specs.ped_steps.specs.ped_symbols.specs.NameRefusals.{IsValid}
-use Rattle.ped_loop_runs.specs.ped_bodies.specs.ped_steps.specs.ped_flow.specs.Questions.{LoopOf, IsIndexIn, IsContained}
-use Rattle.ped_loop_runs.specs.ped_bodies.specs.ped_steps.specs.Causes.{NoRule}
-use Rattle.ped_loop_runs.specs.ped_bodies.specs.ped_steps.specs.Replacing.{all_kept}
-use Rattle.ped_loop_runs.specs.ped_bodies.specs.ped_steps.specs.Runs.Meaning.{Keeps}
-use Rattle.ped_loop_runs.specs.ped_bodies.specs.ped_steps.specs.Tidy.{is_written_in}
-use Rattle.ped_loop_runs.specs.ped_bodies.specs.ped_steps.proofs.OneCause.{one_cause}
+use Rattle.ped_loop_runs.specs.ped_graph.specs.Update.Fresh.{IsOneToOne}
+use Rattle.ped_loop_runs.specs.ped_symbols.specs.NameRefusals.{IsValid}
+use Rattle.ped_loop_runs.specs.ped_flow.specs.Questions.{LoopOf, IsIndexIn, IsContained}
+use Rattle.ped_loop_runs.specs.ped_steps.specs.Causes.{NoRule}
+use Rattle.ped_loop_runs.specs.ped_steps.specs.Replacing.{all_kept}
+use Rattle.ped_loop_runs.specs.ped_steps.specs.Runs.Meaning.{Keeps}
+use Rattle.ped_loop_runs.specs.ped_steps.specs.Tidy.{is_written_in}
+use Rattle.ped_loop_runs.specs.ped_steps.proofs.OneCause.{one_cause}
 use Rattle.ped_loop_runs.specs.Unrejected.{some_rejection, IsTrusted}
 use Rattle.ped_rules.specs.Carried.{level_at, is_carried_by, carried}
 use Rattle.ped_rules.specs.Lawful.{IsFaithful, IsLawful}

@@ -10,8 +10,8 @@ use Rattle.ped_affine.specs.Arguments.{setting_of}
 use Rattle.ped_affine.specs.PairViews.{heads_of}
 use Rattle.ped_affine.specs.Ranges as ranges
 use Rattle.ped_affine.specs.Ranges.{Setting, Around, interval_of, loop_range, inside}
-use Rattle.ped_loop_runs.specs.ped_bodies.specs.ped_steps.specs.ped_flow.specs.PlainBounds.{nest_round, setting_round, around_with, IsFixed, IsPlainlyBuilt, IsPlain}
-use Rattle.ped_loop_runs.specs.ped_bodies.specs.ped_steps.specs.ped_flow.specs.Questions.{IsAssignedBefore}
+use Rattle.ped_loop_runs.specs.ped_flow.specs.PlainBounds.{nest_round, setting_round, around_with, IsFixed, IsPlainlyBuilt, IsPlain}
+use Rattle.ped_loop_runs.specs.ped_flow.specs.Questions.{IsAssignedBefore}
 use Rattle.ped_refs.specs.Loops.{nest_of}
 use Rattle.ped_rules.specs.CodePlain.{tree_at, values_at, IsPlaced, HasInterval}
 use Rattle.ped_rules.specs.declared.bounds.Place.{Place}

@@ -8,10 +8,10 @@ use Rattle.ped_tree.specs.Tree.{ExprTree, ExprTrees, Int, Var, Element, Neg, Add
 use Rattle.ped_tree.specs.declared.expressions.Intrinsic.{Intrinsic}
 use Rattle.ped_tree.specs.declared.expressions.Intrinsic.TheVariants.{Max, Min, Abs, Mod}
 use Rattle.ped_affine.specs.Ranges.{interval_of}
-use Rattle.ped_loop_runs.specs.ped_bodies.specs.ped_steps.specs.ped_flow.specs.PlainBounds.{Values, nest_round, setting_round, around_with, IsConstant, IsFixed, IsExtreme, IsPlainlyBuilt, ArePlainlyBuilt, IsPlain}
-use Rattle.ped_loop_runs.specs.ped_bodies.specs.ped_steps.specs.ped_flow.specs.Questions.{IsAssignedBefore}
-use Rattle.ped_loop_runs.specs.ped_bodies.specs.ped_steps.specs.ped_flow.specs.Summaries.{sum_before_all}
-use Rattle.ped_loop_runs.specs.ped_bodies.specs.ped_steps.specs.ped_flow.proofs.Answering.{before_answer}
+use Rattle.ped_loop_runs.specs.ped_flow.specs.PlainBounds.{Values, nest_round, setting_round, around_with, IsConstant, IsFixed, IsExtreme, IsPlainlyBuilt, ArePlainlyBuilt, IsPlain}
+use Rattle.ped_loop_runs.specs.ped_flow.specs.Questions.{IsAssignedBefore}
+use Rattle.ped_loop_runs.specs.ped_flow.specs.Summaries.{sum_before_all}
+use Rattle.ped_loop_runs.specs.ped_flow.proofs.Answering.{before_answer}
 
 -- the sentence holds, or it doesn't
 abbrev pub OrNot : Type 0 → Type 0

@@ -8,10 +8,10 @@ use Rattle.ped_tree.specs.Nests.{Loop}
 use Rattle.ped_tree.specs.Numbering.{statements_count, statement_with}
 use Rattle.ped_tree.specs.Tree.{ExprTree, Head, ProgramTree}
 use Rattle.ped_tree.proofs.NameLaws.Collected.{among_collected}
-use Rattle.ped_loop_runs.specs.ped_bodies.specs.ped_steps.proofs.Answering.{few_numbers}
-use Rattle.ped_loop_runs.specs.ped_bodies.specs.ped_steps.specs.ped_flow.specs.PlainBounds.{Values, nest_round, outermost_or, assigned_by, IsPlain}
-use Rattle.ped_loop_runs.specs.ped_bodies.specs.ped_steps.specs.ped_symbols.specs.Kinds.{table_of}
-use Rattle.ped_loop_runs.specs.ped_bodies.specs.ped_steps.specs.ped_symbols.specs.NameRefusals.{IsValid}
+use Rattle.ped_loop_runs.specs.ped_steps.proofs.Answering.{few_numbers}
+use Rattle.ped_loop_runs.specs.ped_flow.specs.PlainBounds.{Values, nest_round, outermost_or, assigned_by, IsPlain}
+use Rattle.ped_loop_runs.specs.ped_symbols.specs.Kinds.{table_of}
+use Rattle.ped_loop_runs.specs.ped_symbols.specs.NameRefusals.{IsValid}
 use Rattle.ped_rules.specs.CodePlain.{TellsPlain}
 
 -- the program, and the one that the flow is of

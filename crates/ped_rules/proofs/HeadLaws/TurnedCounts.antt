@@ -1,7 +1,7 @@
 -- A DO that goes through its values one by one, with its bounds exchanged and the increment negated: it has as many iterations, and the same values from the last to the first.
 use Rattle.std.proofs.Common.{◌≡◌, ℕ, ◌+◌, ◌-◌, ◌≤◌, ℤ, pos, negsuc, neg_ℤ, ◌+ℤ◌, ◌-ℤ◌, ◌*ℤ◌, int_div, refl, sym, ap, ◌∙◌, arith}
 use Rattle.std.proofs.lemmas.Int.{ints}
-use Rattle.ped_loop_runs.specs.ped_bodies.specs.ped_steps.specs.ped_laws.specs.ped_store.specs.Storage.{natural}
+use Rattle.ped_loop_runs.specs.ped_store.specs.Storage.{natural}
 
 pub div_one : (n : ℤ) → int_div n (pos 1) ≡ n
 div_one (pos n) = omega (arith, ints)

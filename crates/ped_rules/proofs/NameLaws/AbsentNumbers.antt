@@ -1,24 +1,24 @@
 -- Numbers that no statement of a program has: no act of its run stands in an iteration of such a number, or touches a copy of one.
 use Rattle.ped_base.specs.Lists.{is_among}
 use Rattle.ped_loop_runs.proofs.LoopLaws.ApartTurns.{iterations_append}
-use Rattle.ped_loop_runs.specs.ped_bodies.specs.ped_steps.proofs.RunLaws.RunCells.{EachDo, EachDos, all_keep}
-use Rattle.ped_loop_runs.specs.ped_bodies.specs.ped_steps.proofs.RunLaws.RunPlaces.{all_each}
-use Rattle.ped_loop_runs.specs.ped_bodies.specs.ped_steps.proofs.RunLaws.Uncopied.{untouched_acts}
-use Rattle.ped_loop_runs.specs.ped_bodies.specs.ped_steps.specs.ped_laws.proofs.ActLaws.Lists.{in_left, in_right}
-use Rattle.ped_loop_runs.specs.ped_bodies.specs.ped_steps.specs.ped_laws.proofs.ActLaws.Renamings.{needed_touched}
-use Rattle.ped_loop_runs.specs.ped_bodies.specs.ped_steps.specs.ped_laws.proofs.RunLaws.Touches.{Each, each_append, each_more, each_none}
-use Rattle.ped_loop_runs.specs.ped_bodies.specs.ped_steps.specs.ped_laws.specs.Acts.Fitting.{touches_of}
-use Rattle.ped_loop_runs.specs.ped_bodies.specs.ped_steps.specs.ped_laws.specs.Acts.Orders.{IsIn}
-use Rattle.ped_loop_runs.specs.ped_bodies.specs.ped_steps.specs.ped_laws.specs.Acts.Renaming.{touch}
-use Rattle.ped_loop_runs.specs.ped_bodies.specs.ped_steps.specs.ped_laws.specs.Acts.Sets.{needs, wants, written}
-use Rattle.ped_loop_runs.specs.ped_bodies.specs.ped_steps.specs.ped_eval.specs.Evaluation.{Seen}
-use Rattle.ped_loop_runs.specs.ped_bodies.specs.ped_steps.specs.ped_eval.specs.Loops.{Limits, entered_with, frame}
-use Rattle.ped_loop_runs.specs.ped_bodies.specs.ped_steps.specs.ped_eval.specs.Outcomes.{setting_of}
-use Rattle.ped_loop_runs.specs.ped_bodies.specs.ped_steps.specs.ped_eval.specs.Runs.{run_all}
-use Rattle.ped_loop_runs.specs.ped_bodies.specs.ped_steps.specs.ped_eval.specs.Scopes.{Scope, Setting, cell_of, turns_of}
-use Rattle.ped_loop_runs.specs.ped_bodies.specs.ped_steps.specs.ped_laws.specs.ped_store.specs.Acts.{Act, Touch, Turn, iterations_of}
-use Rattle.ped_loop_runs.specs.ped_bodies.specs.ped_steps.specs.ped_laws.specs.ped_store.specs.Cells.{Cell, Element, In, Iteration, Out, Private, Scalar}
-use Rattle.ped_loop_runs.specs.ped_bodies.specs.ped_steps.specs.ped_laws.specs.ped_store.specs.Stores.{Store}
+use Rattle.ped_loop_runs.specs.ped_steps.proofs.RunLaws.RunCells.{EachDo, EachDos, all_keep}
+use Rattle.ped_loop_runs.specs.ped_steps.proofs.RunLaws.RunPlaces.{all_each}
+use Rattle.ped_loop_runs.specs.ped_steps.proofs.RunLaws.Uncopied.{untouched_acts}
+use Rattle.ped_loop_runs.specs.ped_laws.proofs.ActLaws.Lists.{in_left, in_right}
+use Rattle.ped_loop_runs.specs.ped_laws.proofs.ActLaws.Renamings.{needed_touched}
+use Rattle.ped_loop_runs.specs.ped_laws.proofs.RunLaws.Touches.{Each, each_append, each_more, each_none}
+use Rattle.ped_loop_runs.specs.ped_laws.specs.Acts.Fitting.{touches_of}
+use Rattle.ped_loop_runs.specs.ped_laws.specs.Acts.Orders.{IsIn}
+use Rattle.ped_loop_runs.specs.ped_laws.specs.Acts.Renaming.{touch}
+use Rattle.ped_loop_runs.specs.ped_laws.specs.Acts.Sets.{needs, wants, written}
+use Rattle.ped_loop_runs.specs.ped_eval.specs.Evaluation.{Seen}
+use Rattle.ped_loop_runs.specs.ped_eval.specs.Loops.{Limits, entered_with, frame}
+use Rattle.ped_loop_runs.specs.ped_eval.specs.Outcomes.{setting_of}
+use Rattle.ped_loop_runs.specs.ped_eval.specs.Runs.{run_all}
+use Rattle.ped_loop_runs.specs.ped_eval.specs.Scopes.{Scope, Setting, cell_of, turns_of}
+use Rattle.ped_loop_runs.specs.ped_store.specs.Acts.{Act, Touch, Turn, iterations_of}
+use Rattle.ped_loop_runs.specs.ped_store.specs.Cells.{Cell, Element, In, Iteration, Out, Private, Scalar}
+use Rattle.ped_loop_runs.specs.ped_store.specs.Stores.{Store}
 use Rattle.ped_tree.specs.Numbering.{statement_count, statements_count}
 use Rattle.ped_tree.specs.Tree.{Assign, Comment, Do, Head, If, Print, ProgramTree, Read, StmtTree, StmtTrees, Stop, more_stmts, no_stmts}
 use Rattle.std.proofs.Common.{Bool, List, [], arith, false, if◌then◌else◌, inl, not, refl, subst, sym, true, ℕ, ◌&&◌, ◌++◌, ◌+◌, ◌<◌, ◌||◌, ◌∙◌, ◌∷◌, ◌≡◌, ◌≤◌}

@@ -3,13 +3,13 @@ use Rattle.ped_base.specs.Arithmetic.Arithmetic.{difference_of, is_in_range, neg
 use Rattle.ped_base.specs.declared.arithmetic.faults.Fault.{Fault}
 use Rattle.ped_base.specs.declared.arithmetic.faults.Fault.TheVariants.{OutOfRange}
 use Rattle.ped_rules.specs.Spans.{Values, is_far}
-use Rattle.ped_loop_runs.specs.ped_bodies.specs.ped_steps.specs.ped_laws.proofs.CoveringLaws.Comings.{constant_comes, constants_come}
-use Rattle.ped_loop_runs.specs.ped_bodies.specs.ped_steps.specs.ped_eval.specs.Evaluation.{given, ◌>>>◌}
-use Rattle.ped_loop_runs.specs.ped_bodies.specs.ped_steps.specs.ped_eval.specs.Loops.{in_bounds, is_bound, limits}
-use Rattle.ped_loop_runs.specs.ped_bodies.specs.ped_steps.specs.ped_eval.specs.Scopes.{Names}
-use Rattle.ped_loop_runs.specs.ped_bodies.specs.ped_steps.specs.ped_eval.specs.Values.{binary, name_value, of_intrinsic, unary, value, values}
-use Rattle.ped_loop_runs.specs.ped_bodies.specs.ped_steps.specs.ped_laws.specs.ped_store.specs.Stores.{Store, out_of_range}
-use Rattle.ped_loop_runs.specs.ped_bodies.specs.ped_steps.specs.ped_sums.specs.Sums.{literal}
+use Rattle.ped_loop_runs.specs.ped_laws.proofs.CoveringLaws.Comings.{constant_comes, constants_come}
+use Rattle.ped_loop_runs.specs.ped_eval.specs.Evaluation.{given, ◌>>>◌}
+use Rattle.ped_loop_runs.specs.ped_eval.specs.Loops.{in_bounds, is_bound, limits}
+use Rattle.ped_loop_runs.specs.ped_eval.specs.Scopes.{Names}
+use Rattle.ped_loop_runs.specs.ped_eval.specs.Values.{binary, name_value, of_intrinsic, unary, value, values}
+use Rattle.ped_loop_runs.specs.ped_store.specs.Stores.{Store, out_of_range}
+use Rattle.ped_loop_runs.specs.ped_sums.specs.Sums.{literal}
 use Rattle.ped_tree.specs.Constants.ConstantExpressions.{binary_value, constant_value, constant_values, intrinsic_result, onto, unary_value}
 use Rattle.ped_tree.specs.Constants.NamedConstants.{value_named}
 use Rattle.ped_tree.specs.Tree.{Add, Call, Div, Element, ExprTree, ExprTrees, Head, Int, Mul, Neg, Pow, Sub, Var, more_exprs, no_exprs}

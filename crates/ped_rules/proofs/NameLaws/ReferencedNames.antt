@@ -12,9 +12,9 @@ use Rattle.ped_tree.specs.NamesIn.{expr_names, exprs_names, cond_names, item_nam
 use Rattle.ped_tree.specs.Nests.{Loop, indices_of}
 use Rattle.ped_tree.specs.Numbering.{statement_count, statements_count}
 use Rattle.ped_tree.proofs.NameLaws.Collected.{among_append}
-use Rattle.ped_loop_runs.specs.ped_bodies.specs.ped_steps.specs.ped_laws.specs.Acts.Orders.{IsIn}
-use Rattle.ped_loop_runs.specs.ped_bodies.specs.ped_steps.specs.ped_laws.proofs.ActLaws.Lists.{in_parts}
-use Rattle.ped_loop_runs.specs.ped_bodies.specs.ped_steps.specs.ped_laws.proofs.ConflictLaws.CoveringWrites.{own_access}
+use Rattle.ped_loop_runs.specs.ped_laws.specs.Acts.Orders.{IsIn}
+use Rattle.ped_loop_runs.specs.ped_laws.proofs.ActLaws.Lists.{in_parts}
+use Rattle.ped_loop_runs.specs.ped_laws.proofs.ConflictLaws.CoveringWrites.{own_access}
 use Rattle.ped_refs.specs.References.{Reference, numbered_accesses, statement_references, statements_references, references}
 
 module _ (c : List (List ℕ)) where

@@ -10,7 +10,7 @@ use Rattle.ped_tree.specs.Numbering.{statement_count, statements_count, numbered
 use Rattle.ped_tree.specs.Accesses.{Access, own_accesses, constant_names}
 use Rattle.ped_tree.specs.Nests.{Loop, indices_of}
 use Rattle.ped_refs.specs.References.{Reference, numbered_accesses, statement_references, statements_references, references}
-use Rattle.ped_loop_runs.specs.ped_bodies.specs.ped_steps.specs.ped_laws.proofs.FlowRunLaws.Standing.{Stand, whole_stands, first_stands, rest_stands, inner_stands, else_stands, is_there}
+use Rattle.ped_loop_runs.specs.ped_laws.proofs.FlowRunLaws.Standing.{Stand, whole_stands, first_stands, rest_stands, inner_stands, else_stands, is_there}
 
 or_front : (a b : Bool) → b ≡ false → (a || b) ≡ a
 or_front true b h = refl

@@ -1,18 +1,18 @@
 -- Accesses that race in a run of a valid program under other statement numbers are made by references.
 use Rattle.ped_loop_runs.proofs.LoopLaws.RacesByReferences.{by_references}
-use Rattle.ped_loop_runs.specs.ped_bodies.specs.ped_steps.proofs.RunLaws.RenumberedPrograms.{program_renumbered}
-use Rattle.ped_loop_runs.specs.ped_bodies.specs.ped_steps.proofs.RunLaws.RenumberedRuns.{same_test}
-use Rattle.ped_loop_runs.specs.ped_bodies.specs.ped_steps.specs.Runs.Exchanging.{exchanged_touch}
-use Rattle.ped_loop_runs.specs.ped_bodies.specs.ped_steps.specs.Runs.Renumbering.{IsToldBack, renumbered, renumbered_act, renumbered_cell, renumbered_place, renumbered_turn}
-use Rattle.ped_loop_runs.specs.ped_bodies.specs.ped_steps.specs.ped_laws.proofs.ActLaws.Lists.{in_left, in_parts, in_right}
-use Rattle.ped_loop_runs.specs.ped_bodies.specs.ped_steps.specs.ped_laws.specs.Acts.Orders.{IsIn}
-use Rattle.ped_loop_runs.specs.ped_bodies.specs.ped_steps.specs.ped_eval.specs.Outcomes.{run_of, setting_of}
-use Rattle.ped_loop_runs.specs.ped_bodies.specs.ped_steps.specs.ped_eval.specs.Runs.{run_all}
-use Rattle.ped_loop_runs.specs.ped_bodies.specs.ped_steps.specs.ped_laws.specs.ped_store.specs.Acts.{Act, Touch, Turn}
-use Rattle.ped_loop_runs.specs.ped_bodies.specs.ped_steps.specs.ped_laws.specs.ped_store.specs.Cells.{Cell, Element, In, Out, Private, Scalar}
-use Rattle.ped_loop_runs.specs.ped_bodies.specs.ped_steps.specs.ped_laws.specs.ped_store.specs.Races.{Access, accesses, accesses_of, are_apart, conflict, is_access, is_lines, is_write, race}
-use Rattle.ped_loop_runs.specs.ped_bodies.specs.ped_steps.specs.ped_laws.specs.ped_store.specs.Stores.{store_at_start}
-use Rattle.ped_loop_runs.specs.ped_bodies.specs.ped_steps.specs.ped_symbols.specs.NameRefusals.{IsValid}
+use Rattle.ped_loop_runs.specs.ped_steps.proofs.RunLaws.RenumberedPrograms.{program_renumbered}
+use Rattle.ped_loop_runs.specs.ped_steps.proofs.RunLaws.RenumberedRuns.{same_test}
+use Rattle.ped_loop_runs.specs.ped_steps.specs.Runs.Exchanging.{exchanged_touch}
+use Rattle.ped_loop_runs.specs.ped_steps.specs.Runs.Renumbering.{IsToldBack, renumbered, renumbered_act, renumbered_cell, renumbered_place, renumbered_turn}
+use Rattle.ped_loop_runs.specs.ped_laws.proofs.ActLaws.Lists.{in_left, in_parts, in_right}
+use Rattle.ped_loop_runs.specs.ped_laws.specs.Acts.Orders.{IsIn}
+use Rattle.ped_loop_runs.specs.ped_eval.specs.Outcomes.{run_of, setting_of}
+use Rattle.ped_loop_runs.specs.ped_eval.specs.Runs.{run_all}
+use Rattle.ped_loop_runs.specs.ped_store.specs.Acts.{Act, Touch, Turn}
+use Rattle.ped_loop_runs.specs.ped_store.specs.Cells.{Cell, Element, In, Out, Private, Scalar}
+use Rattle.ped_loop_runs.specs.ped_store.specs.Races.{Access, accesses, accesses_of, are_apart, conflict, is_access, is_lines, is_write, race}
+use Rattle.ped_loop_runs.specs.ped_store.specs.Stores.{store_at_start}
+use Rattle.ped_loop_runs.specs.ped_symbols.specs.NameRefusals.{IsValid}
 use Rattle.ped_tree.specs.Tree.{ProgramTree}
 use Rattle.std.proofs.Common.{Bool, List, [], ap, arith, eqb-true, false, filter, if◌then◌else◌, inl, inr, map, not, refl, subst, sym, true, ℕ, ◌&&◌, ◌<◌, ◌==◌, ◌||◌, ◌∙◌, ◌∷◌, ◌≡◌}
 use Rattle.std.proofs.lemmas.Bool.{and_parts}

@@ -6,11 +6,11 @@ use Rattle.ped_base.proofs.NameEquality.{same_is}
 use Rattle.ped_tree.specs.Tree.{ExprTree, Int, Var, Element, Neg, Add, Sub, Mul, Div, Pow, Call, Head, StmtTree, StmtTrees, Assign, If, Do, Print, Read, Stop, Comment, no_stmts, more_stmts}
 use Rattle.ped_tree.specs.Numbering.{statement_count, statements_count}
 use Rattle.ped_tree.specs.NamesIn.{all_loop_variables}
-use Rattle.ped_loop_runs.specs.ped_bodies.specs.ped_steps.specs.ped_flow.specs.Summaries.{passing, unreached, sum_in_turn, sum_either, sum_of, sum_of_all, sum_behind, sum_behind_all}
-use Rattle.ped_loop_runs.specs.ped_bodies.specs.ped_steps.specs.ped_flow.proofs.Truths.{untrue}
-use Rattle.ped_loop_runs.specs.ped_bodies.specs.ped_steps.specs.ped_laws.specs.FlowRuns.Covering.{has_stop, some_stop}
-use Rattle.ped_loop_runs.specs.ped_bodies.specs.ped_steps.specs.ped_sums.specs.Substitution.{substituted, head_substituted, condition_substituted, item_substituted, statement_substituted, statements_substituted}
-use Rattle.ped_loop_runs.specs.ped_bodies.specs.ped_steps.proofs.RunLaws.SubstitutedShapes.{count_kept, counts_kept}
+use Rattle.ped_loop_runs.specs.ped_flow.specs.Summaries.{passing, unreached, sum_in_turn, sum_either, sum_of, sum_of_all, sum_behind, sum_behind_all}
+use Rattle.ped_loop_runs.specs.ped_flow.proofs.Truths.{untrue}
+use Rattle.ped_loop_runs.specs.ped_laws.specs.FlowRuns.Covering.{has_stop, some_stop}
+use Rattle.ped_loop_runs.specs.ped_sums.specs.Substitution.{substituted, head_substituted, condition_substituted, item_substituted, statement_substituted, statements_substituted}
+use Rattle.ped_loop_runs.specs.ped_steps.proofs.RunLaws.SubstitutedShapes.{count_kept, counts_kept}
 use Rattle.ped_loop_runs.proofs.TidyLaws.TidyPathsSums.{IsNoMore, AreNoMore, ClearsAll, append_more, no_more, either_more, lefts, own_more, loop_more, do_more, if_more, more_more}
 use Rattle.ped_loop_runs.proofs.TidyLaws.TidyPathsGaps.{loop_behind_more, rest_behind_more}
 use Rattle.ped_rules.proofs.NameLaws.SubstitutedReferences.{all_variables_stay}

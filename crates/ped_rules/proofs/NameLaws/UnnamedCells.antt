@@ -8,39 +8,39 @@ use Rattle.ped_base.specs.Lists.{is_among, is_same_text}
 use Rattle.ped_rules.proofs.NestLaws.InnerPlaces.{loops_of_program}
 use Rattle.ped_rules.proofs.NameLaws.ReferencedNames.{reference_named}
 use Rattle.ped_loop_runs.proofs.LoopLaws.RacesByReferences.{read_is_referred}
-use Rattle.ped_loop_runs.specs.ped_bodies.specs.ped_steps.proofs.RunLaws.ExpandedNamesArrays.{no_constant, no_saved}
-use Rattle.ped_loop_runs.specs.ped_bodies.specs.ped_steps.proofs.RunLaws.ExpandedNamesSites.{stmts_at}
-use Rattle.ped_loop_runs.specs.ped_bodies.specs.ped_steps.proofs.RunLaws.ExpandedRacesOrigins.{write_there}
-use Rattle.ped_loop_runs.specs.ped_bodies.specs.ped_steps.proofs.RunLaws.NamesKept.{occurs, occurs_append}
+use Rattle.ped_loop_runs.specs.ped_steps.proofs.RunLaws.ExpandedNamesArrays.{no_constant, no_saved}
+use Rattle.ped_loop_runs.specs.ped_steps.proofs.RunLaws.ExpandedNamesSites.{stmts_at}
+use Rattle.ped_loop_runs.specs.ped_steps.proofs.RunLaws.ExpandedRacesOrigins.{write_there}
+use Rattle.ped_loop_runs.specs.ped_steps.proofs.RunLaws.NamesKept.{occurs, occurs_append}
 use Rattle.ped_affine.specs.Assigned.{assigned_in, assigned_in_all, assigned_left}
-use Rattle.ped_loop_runs.specs.ped_bodies.specs.ped_steps.specs.ped_flow.specs.Questions.{LoopOf}
-use Rattle.ped_loop_runs.specs.ped_bodies.specs.ped_steps.specs.ped_laws.proofs.ConflictLaws.CoveringCells.{name_in}
-use Rattle.ped_loop_runs.specs.ped_bodies.specs.ped_steps.specs.ped_laws.proofs.ConflictLaws.CoveringIndices.{IsIndexAt}
-use Rattle.ped_loop_runs.specs.ped_bodies.specs.ped_steps.specs.ped_laws.proofs.ConflictLaws.CoveringTelling.{Tells, program_tells}
-use Rattle.ped_loop_runs.specs.ped_bodies.specs.ped_steps.specs.ped_laws.proofs.ConflictLaws.MakingParts.{Part, Parts, body_parts, else_parts, first_part, rest_parts, stand_whole, then_parts}
-use Rattle.ped_loop_runs.specs.ped_bodies.specs.ped_steps.specs.ped_laws.proofs.ConflictLaws.MakingSteps.{Done, assignment_done, do_done, if_done, nothing_is_done, print_done, read_done, stop_done, then_done}
-use Rattle.ped_loop_runs.specs.ped_bodies.specs.ped_steps.specs.ped_laws.proofs.ConflictLaws.MakingTouches.{Good, Making}
-use Rattle.ped_loop_runs.specs.ped_bodies.specs.ped_steps.specs.ped_laws.proofs.FlowRunLaws.Writing.{all_unassigned}
-use Rattle.ped_loop_runs.specs.ped_bodies.specs.ped_steps.specs.ped_laws.proofs.RunLaws.Touches.{Each}
-use Rattle.ped_loop_runs.specs.ped_bodies.specs.ped_steps.specs.ped_laws.specs.Acts.Orders.{IsIn}
-use Rattle.ped_loop_runs.specs.ped_bodies.specs.ped_steps.specs.ped_laws.specs.Acts.Sets.{written}
-use Rattle.ped_loop_runs.specs.ped_bodies.specs.ped_steps.specs.ped_laws.specs.Conflicts.Making.{StandsFor as MadeAt, cell_named}
-use Rattle.ped_loop_runs.specs.ped_bodies.specs.ped_steps.specs.ped_laws.specs.Conflicts.Reaching.{IsStoreIn}
-use Rattle.ped_loop_runs.specs.ped_bodies.specs.ped_steps.specs.ped_laws.specs.Covering.Within.{HoldsStorable}
-use Rattle.ped_loop_runs.specs.ped_bodies.specs.ped_steps.specs.ped_laws.specs.FlowRuns.Covering.{is_cell_of}
-use Rattle.ped_loop_runs.specs.ped_bodies.specs.ped_steps.specs.ped_eval.specs.Loops.{entered_with, frame, limits}
-use Rattle.ped_loop_runs.specs.ped_bodies.specs.ped_steps.specs.ped_eval.specs.Outcomes.{run_of, setting_of}
-use Rattle.ped_loop_runs.specs.ped_bodies.specs.ped_steps.specs.ped_eval.specs.Runs.{run, run_all}
-use Rattle.ped_loop_runs.specs.ped_bodies.specs.ped_steps.specs.ped_eval.specs.Scopes.{Names, Scope, Setting, cell_of, names_in, place_of, turns_of}
-use Rattle.ped_loop_runs.specs.ped_bodies.specs.ped_steps.specs.ped_laws.specs.ped_store.specs.Acts.{Act, Manner, Step, Touch, is_told, iterations_of, reads, writes}
-use Rattle.ped_loop_runs.specs.ped_bodies.specs.ped_steps.specs.ped_laws.specs.ped_store.specs.Cells.{Cell, In, Out, Private, Scalar}
-use Rattle.ped_loop_runs.specs.ped_bodies.specs.ped_steps.specs.ped_laws.specs.ped_store.specs.Races.{is_lines, is_write}
-use Rattle.ped_loop_runs.specs.ped_bodies.specs.ped_steps.specs.ped_laws.specs.ped_store.specs.Stores.{Store, store_at_start}
+use Rattle.ped_loop_runs.specs.ped_flow.specs.Questions.{LoopOf}
+use Rattle.ped_loop_runs.specs.ped_laws.proofs.ConflictLaws.CoveringCells.{name_in}
+use Rattle.ped_loop_runs.specs.ped_laws.proofs.ConflictLaws.CoveringIndices.{IsIndexAt}
+use Rattle.ped_loop_runs.specs.ped_laws.proofs.ConflictLaws.CoveringTelling.{Tells, program_tells}
+use Rattle.ped_loop_runs.specs.ped_laws.proofs.ConflictLaws.MakingParts.{Part, Parts, body_parts, else_parts, first_part, rest_parts, stand_whole, then_parts}
+use Rattle.ped_loop_runs.specs.ped_laws.proofs.ConflictLaws.MakingSteps.{Done, assignment_done, do_done, if_done, nothing_is_done, print_done, read_done, stop_done, then_done}
+use Rattle.ped_loop_runs.specs.ped_laws.proofs.ConflictLaws.MakingTouches.{Good, Making}
+use Rattle.ped_loop_runs.specs.ped_laws.proofs.FlowRunLaws.Writing.{all_unassigned}
+use Rattle.ped_loop_runs.specs.ped_laws.proofs.RunLaws.Touches.{Each}
+use Rattle.ped_loop_runs.specs.ped_laws.specs.Acts.Orders.{IsIn}
+use Rattle.ped_loop_runs.specs.ped_laws.specs.Acts.Sets.{written}
+use Rattle.ped_loop_runs.specs.ped_laws.specs.Conflicts.Making.{StandsFor as MadeAt, cell_named}
+use Rattle.ped_loop_runs.specs.ped_laws.specs.Conflicts.Reaching.{IsStoreIn}
+use Rattle.ped_loop_runs.specs.ped_laws.specs.Covering.Within.{HoldsStorable}
+use Rattle.ped_loop_runs.specs.ped_laws.specs.FlowRuns.Covering.{is_cell_of}
+use Rattle.ped_loop_runs.specs.ped_eval.specs.Loops.{entered_with, frame, limits}
+use Rattle.ped_loop_runs.specs.ped_eval.specs.Outcomes.{run_of, setting_of}
+use Rattle.ped_loop_runs.specs.ped_eval.specs.Runs.{run, run_all}
+use Rattle.ped_loop_runs.specs.ped_eval.specs.Scopes.{Names, Scope, Setting, cell_of, names_in, place_of, turns_of}
+use Rattle.ped_loop_runs.specs.ped_store.specs.Acts.{Act, Manner, Step, Touch, is_told, iterations_of, reads, writes}
+use Rattle.ped_loop_runs.specs.ped_store.specs.Cells.{Cell, In, Out, Private, Scalar}
+use Rattle.ped_loop_runs.specs.ped_store.specs.Races.{is_lines, is_write}
+use Rattle.ped_loop_runs.specs.ped_store.specs.Stores.{Store, store_at_start}
 use Rattle.ped_refs.specs.References.{Reference, references}
-use Rattle.ped_loop_runs.specs.ped_bodies.specs.ped_steps.specs.ped_symbols.proofs.RightUseLaws.Whole.{names_occur, right_program}
-use Rattle.ped_loop_runs.specs.ped_bodies.specs.ped_steps.specs.ped_symbols.specs.Kinds.{names_of, table_of}
-use Rattle.ped_loop_runs.specs.ped_bodies.specs.ped_steps.specs.ped_symbols.specs.NameRefusals.{IsValid}
-use Rattle.ped_loop_runs.specs.ped_bodies.specs.ped_steps.specs.ped_symbols.specs.Sites.{decl_sites, stmts_sites}
+use Rattle.ped_loop_runs.specs.ped_symbols.proofs.RightUseLaws.Whole.{names_occur, right_program}
+use Rattle.ped_loop_runs.specs.ped_symbols.specs.Kinds.{names_of, table_of}
+use Rattle.ped_loop_runs.specs.ped_symbols.specs.NameRefusals.{IsValid}
+use Rattle.ped_loop_runs.specs.ped_symbols.specs.Sites.{decl_sites, stmts_sites}
 use Rattle.ped_tree.proofs.NameLaws.Collected.{among_append, among_collected}
 use Rattle.ped_tree.specs.Accesses.{constant_names}
 use Rattle.ped_tree.specs.Grammar.Fits.{Surroundings, at_body, begins_with_statement, decls_fit, in_if, in_loop, moved, stmts_fit}
@@ -51,7 +51,7 @@ use Rattle.ped_tree.specs.Nests.{Loop}
 use Rattle.ped_tree.specs.Numbering.{statement_count, statements_count}
 use Rattle.ped_tree.specs.Tree.{Add, Assign, Call, Comment, Div, Do, Element, ExprTree, Head, If, Int, Mul, Neg, Pow, Print, ProgramTree, Read, StmtTree, StmtTrees, Stop, Sub, Var, more_stmts, no_stmts}
 use Rattle.ped_affine.specs.Ranges as ranges
-use Rattle.ped_loop_runs.specs.ped_bodies.specs.ped_steps.specs.ped_laws.specs.ped_store.specs.Cells as cells
+use Rattle.ped_loop_runs.specs.ped_store.specs.Cells as cells
 use Rattle.ped_loop_runs.proofs.LoopLaws.OneForOneStands.{false_unless}
 
 module _ (w : List ℕ) where

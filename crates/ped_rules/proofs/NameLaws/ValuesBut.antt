@@ -2,18 +2,18 @@
 use Rattle.std.proofs.Common.{Bool, Err, List, None, Ok, Option, Some, false, if◌then◌else◌, length, refl, sym, true, ℕ, ℤ, ◌&&◌, ◌++◌, ◌||◌, ◌∙◌, ◌∷◌, ◌≡◌}
 use Rattle.ped_base.specs.Arithmetic.Arithmetic.{difference_of, negation_of, power_of, product_of, quotient_of, sum_of}
 use Rattle.ped_base.specs.Lists.{is_among, is_same_text}
-use Rattle.ped_loop_runs.specs.ped_bodies.specs.ped_steps.specs.ped_eval.specs.Evaluation.{given, read_cell, ◌>>>◌}
-use Rattle.ped_loop_runs.specs.ped_bodies.specs.ped_steps.specs.ped_eval.specs.Loops.{in_bounds, limits}
-use Rattle.ped_loop_runs.specs.ped_bodies.specs.ped_steps.specs.ped_eval.specs.Scopes.{Names, Scope, cell_of, index_value, turns_of}
-use Rattle.ped_loop_runs.specs.ped_bodies.specs.ped_steps.specs.ped_eval.specs.Values.{binary, is_rank, name_value, of_intrinsic, unary, value, values, variable_value}
-use Rattle.ped_loop_runs.specs.ped_bodies.specs.ped_steps.specs.ped_laws.specs.ped_store.specs.Storage.{is_within}
-use Rattle.ped_loop_runs.specs.ped_bodies.specs.ped_steps.specs.ped_laws.specs.ped_store.specs.Stores.{Store, outside_bounds}
+use Rattle.ped_loop_runs.specs.ped_eval.specs.Evaluation.{given, read_cell, ◌>>>◌}
+use Rattle.ped_loop_runs.specs.ped_eval.specs.Loops.{in_bounds, limits}
+use Rattle.ped_loop_runs.specs.ped_eval.specs.Scopes.{Names, Scope, cell_of, index_value, turns_of}
+use Rattle.ped_loop_runs.specs.ped_eval.specs.Values.{binary, is_rank, name_value, of_intrinsic, unary, value, values, variable_value}
+use Rattle.ped_loop_runs.specs.ped_store.specs.Storage.{is_within}
+use Rattle.ped_loop_runs.specs.ped_store.specs.Stores.{Store, outside_bounds}
 use Rattle.ped_tree.proofs.NameLaws.Collected.{among_append}
 use Rattle.ped_tree.specs.Constants.ConstantExpressions.{intrinsic_result}
 use Rattle.ped_tree.specs.Constants.NamedConstants.{value_named}
 use Rattle.ped_tree.specs.NamesIn.{expr_names, exprs_names}
 use Rattle.ped_tree.specs.Tree.{Add, Call, Div, Element, ExprTree, ExprTrees, Head, Int, Mul, Neg, Pow, Sub, Var, more_exprs, no_exprs}
-use Rattle.ped_loop_runs.specs.ped_bodies.specs.ped_steps.specs.ped_laws.specs.ped_store.specs.Cells as cells
+use Rattle.ped_loop_runs.specs.ped_store.specs.Cells as cells
 
 or_none : (a b : Bool) → a || b ≡ false → (a ≡ false) × (b ≡ false)
 or_none true b e = absurd cc

@@ -12,27 +12,27 @@ use Rattle.ped_loop_runs.specs.Bounds.{IsOfFixed}
 use Rattle.ped_loop_runs.proofs.PastingLaws.PastedRuns.{exchanged}
 use Rattle.ped_loop_runs.specs.Executions.{IsExecuted, LeaveCopies, StandsInside}
 use Rattle.ped_loop_runs.specs.Pasting.{AreExchanged, IsExchanged}
-use Rattle.ped_loop_runs.specs.ped_bodies.specs.ped_steps.proofs.RunLaws.ExpandedRacesOrigins.{touch_of, write_there}
-use Rattle.ped_loop_runs.specs.ped_bodies.specs.ped_steps.proofs.RunLaws.PrivatisedRacesOrigins.{accesses_from}
-use Rattle.ped_loop_runs.specs.ped_bodies.specs.ped_steps.specs.Runs.Pasting.{AreTurnsOf}
-use Rattle.ped_loop_runs.specs.ped_bodies.specs.ped_steps.specs.ped_flow.specs.PlainBounds.{nest_round, outermost_or}
-use Rattle.ped_loop_runs.specs.ped_bodies.specs.ped_steps.specs.ped_laws.proofs.ActLaws.Lists.{first_in, second_in}
-use Rattle.ped_loop_runs.specs.ped_bodies.specs.ped_steps.specs.ped_laws.proofs.ActLaws.SameCells.{cell_is}
-use Rattle.ped_loop_runs.specs.ped_bodies.specs.ped_steps.specs.ped_laws.proofs.RunLaws.Turning.{At}
-use Rattle.ped_loop_runs.specs.ped_bodies.specs.ped_steps.specs.ped_laws.specs.Acts.Orders.{IsIn, StandsBefore}
-use Rattle.ped_loop_runs.specs.ped_bodies.specs.ped_steps.specs.ped_laws.specs.Acts.Pieces.{Part, new_parts, old_parts}
-use Rattle.ped_loop_runs.specs.ped_bodies.specs.ped_steps.specs.ped_laws.specs.Acts.Sets.{written}
-use Rattle.ped_loop_runs.specs.ped_bodies.specs.ped_steps.specs.ped_laws.specs.Runs.Replaying.{finish_of, goes_on}
-use Rattle.ped_loop_runs.specs.ped_bodies.specs.ped_steps.specs.ped_eval.specs.Outcomes.{run_of, setting_of}
-use Rattle.ped_loop_runs.specs.ped_bodies.specs.ped_steps.specs.ped_eval.specs.Runs.{Run, run_all}
-use Rattle.ped_loop_runs.specs.ped_bodies.specs.ped_steps.specs.ped_eval.specs.Scopes.{Scope, Setting, turns_of}
-use Rattle.ped_loop_runs.specs.ped_bodies.specs.ped_steps.specs.ped_laws.specs.ped_store.specs.Acts.{Act, Turn, iterations_of}
-use Rattle.ped_loop_runs.specs.ped_bodies.specs.ped_steps.specs.ped_laws.specs.ped_store.specs.Cells.{Cell, Iteration, Private, Scalar, same_cell}
-use Rattle.ped_loop_runs.specs.ped_bodies.specs.ped_steps.specs.ped_laws.specs.ped_store.specs.Races.{Access, HasNoRace, accesses, are_apart, race, is_write}
-use Rattle.ped_loop_runs.specs.ped_bodies.specs.ped_steps.specs.ped_laws.specs.ped_store.specs.Stores.{Store, store_at_start}
-use Rattle.ped_loop_runs.specs.ped_bodies.specs.ped_steps.specs.ped_symbols.specs.NameRefusals.{IsValid}
-use Rattle.ped_loop_runs.specs.ped_bodies.specs.ped_steps.specs.ped_weaves.proofs.WeaveLaws.RaceSources.{pairs_free}
-use Rattle.ped_loop_runs.specs.ped_bodies.specs.ped_steps.specs.ped_weaves.specs.Sources.{RaceSomewhere}
+use Rattle.ped_loop_runs.specs.ped_steps.proofs.RunLaws.ExpandedRacesOrigins.{touch_of, write_there}
+use Rattle.ped_loop_runs.specs.ped_steps.proofs.RunLaws.PrivatisedRacesOrigins.{accesses_from}
+use Rattle.ped_loop_runs.specs.ped_steps.specs.Runs.Pasting.{AreTurnsOf}
+use Rattle.ped_loop_runs.specs.ped_flow.specs.PlainBounds.{nest_round, outermost_or}
+use Rattle.ped_loop_runs.specs.ped_laws.proofs.ActLaws.Lists.{first_in, second_in}
+use Rattle.ped_loop_runs.specs.ped_laws.proofs.ActLaws.SameCells.{cell_is}
+use Rattle.ped_loop_runs.specs.ped_laws.proofs.RunLaws.Turning.{At}
+use Rattle.ped_loop_runs.specs.ped_laws.specs.Acts.Orders.{IsIn, StandsBefore}
+use Rattle.ped_loop_runs.specs.ped_laws.specs.Acts.Pieces.{Part, new_parts, old_parts}
+use Rattle.ped_loop_runs.specs.ped_laws.specs.Acts.Sets.{written}
+use Rattle.ped_loop_runs.specs.ped_laws.specs.Runs.Replaying.{finish_of, goes_on}
+use Rattle.ped_loop_runs.specs.ped_eval.specs.Outcomes.{run_of, setting_of}
+use Rattle.ped_loop_runs.specs.ped_eval.specs.Runs.{Run, run_all}
+use Rattle.ped_loop_runs.specs.ped_eval.specs.Scopes.{Scope, Setting, turns_of}
+use Rattle.ped_loop_runs.specs.ped_store.specs.Acts.{Act, Turn, iterations_of}
+use Rattle.ped_loop_runs.specs.ped_store.specs.Cells.{Cell, Iteration, Private, Scalar, same_cell}
+use Rattle.ped_loop_runs.specs.ped_store.specs.Races.{Access, HasNoRace, accesses, are_apart, race, is_write}
+use Rattle.ped_loop_runs.specs.ped_store.specs.Stores.{Store, store_at_start}
+use Rattle.ped_loop_runs.specs.ped_symbols.specs.NameRefusals.{IsValid}
+use Rattle.ped_loop_runs.specs.ped_weaves.proofs.WeaveLaws.RaceSources.{pairs_free}
+use Rattle.ped_loop_runs.specs.ped_weaves.specs.Sources.{RaceSomewhere}
 use Rattle.ped_tree.specs.Nests.{Loop}
 use Rattle.ped_tree.specs.Numbering.{statements_count}
 use Rattle.ped_tree.specs.Tree.{ProgramTree, StmtTrees}

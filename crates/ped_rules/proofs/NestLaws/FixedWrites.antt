@@ -4,28 +4,28 @@ use Rattle.std.proofs.lemmas.List.Folds.{list_any-append}
 use Rattle.ped_base.proofs.NameEquality.{same_itself}
 use Rattle.ped_base.specs.Lists.{is_among, is_same_text}
 use Rattle.ped_rules.proofs.NestLaws.OnlyBodies.{never}
-use Rattle.ped_loop_runs.specs.ped_bodies.specs.ped_steps.proofs.RunLaws.ExpandedRacesOrigins.{touch_of, write_there}
-use Rattle.ped_loop_runs.specs.ped_bodies.specs.ped_steps.proofs.RunLaws.PrivatisedRacesOrigins.{accesses_from}
-use Rattle.ped_loop_runs.specs.ped_bodies.specs.ped_steps.proofs.RunLaws.RunPlaces.{all_each, stands_in}
-use Rattle.ped_loop_runs.specs.ped_bodies.specs.ped_steps.proofs.RunLaws.SparedVariables.{IsUnassigned, variables_unassigned}
+use Rattle.ped_loop_runs.specs.ped_steps.proofs.RunLaws.ExpandedRacesOrigins.{touch_of, write_there}
+use Rattle.ped_loop_runs.specs.ped_steps.proofs.RunLaws.PrivatisedRacesOrigins.{accesses_from}
+use Rattle.ped_loop_runs.specs.ped_steps.proofs.RunLaws.RunPlaces.{all_each, stands_in}
+use Rattle.ped_loop_runs.specs.ped_steps.proofs.RunLaws.SparedVariables.{IsUnassigned, variables_unassigned}
 use Rattle.ped_affine.specs.Assigned.{assigned_in, assigned_in_all}
-use Rattle.ped_loop_runs.specs.ped_bodies.specs.ped_steps.specs.ped_flow.specs.PlainBounds.{IsFixed, assigned_by, nest_round, outermost_or}
-use Rattle.ped_loop_runs.specs.ped_bodies.specs.ped_steps.specs.ped_laws.proofs.ActLaws.Conflicting.{access_place}
-use Rattle.ped_loop_runs.specs.ped_bodies.specs.ped_steps.specs.ped_laws.proofs.FlowRunLaws.Writing.{all_unassigned}
-use Rattle.ped_loop_runs.specs.ped_bodies.specs.ped_steps.specs.ped_laws.specs.Acts.Orders.{IsIn}
-use Rattle.ped_loop_runs.specs.ped_bodies.specs.ped_steps.specs.ped_laws.specs.Acts.Sets.{written}
-use Rattle.ped_loop_runs.specs.ped_bodies.specs.ped_steps.specs.ped_laws.specs.Runs.Replaying.{act}
-use Rattle.ped_loop_runs.specs.ped_bodies.specs.ped_steps.specs.ped_eval.specs.Evaluation.{Seen}
-use Rattle.ped_loop_runs.specs.ped_bodies.specs.ped_steps.specs.ped_eval.specs.Loops.{Limits, entered_with, frame}
-use Rattle.ped_loop_runs.specs.ped_bodies.specs.ped_steps.specs.ped_eval.specs.Outcomes.{setting_of}
-use Rattle.ped_loop_runs.specs.ped_bodies.specs.ped_steps.specs.ped_eval.specs.Runs.{run_all}
-use Rattle.ped_loop_runs.specs.ped_bodies.specs.ped_steps.specs.ped_eval.specs.Scopes.{Scope, Setting, place_of, turns_of}
-use Rattle.ped_loop_runs.specs.ped_bodies.specs.ped_steps.specs.ped_laws.specs.ped_store.specs.Acts.{Act, Place, Step, Touch, Turn}
-use Rattle.ped_loop_runs.specs.ped_bodies.specs.ped_steps.specs.ped_laws.specs.ped_store.specs.Cells.{Scalar}
-use Rattle.ped_loop_runs.specs.ped_bodies.specs.ped_steps.specs.ped_laws.specs.ped_store.specs.Races.{Access, accesses, is_write}
-use Rattle.ped_loop_runs.specs.ped_bodies.specs.ped_steps.specs.ped_laws.specs.ped_store.specs.Stores.{Store}
-use Rattle.ped_loop_runs.specs.ped_bodies.specs.ped_steps.specs.ped_symbols.specs.Kinds.{kind_in}
-use Rattle.ped_loop_runs.specs.ped_bodies.specs.ped_steps.specs.ped_symbols.specs.NameRefusals.{IsValid}
+use Rattle.ped_loop_runs.specs.ped_flow.specs.PlainBounds.{IsFixed, assigned_by, nest_round, outermost_or}
+use Rattle.ped_loop_runs.specs.ped_laws.proofs.ActLaws.Conflicting.{access_place}
+use Rattle.ped_loop_runs.specs.ped_laws.proofs.FlowRunLaws.Writing.{all_unassigned}
+use Rattle.ped_loop_runs.specs.ped_laws.specs.Acts.Orders.{IsIn}
+use Rattle.ped_loop_runs.specs.ped_laws.specs.Acts.Sets.{written}
+use Rattle.ped_loop_runs.specs.ped_laws.specs.Runs.Replaying.{act}
+use Rattle.ped_loop_runs.specs.ped_eval.specs.Evaluation.{Seen}
+use Rattle.ped_loop_runs.specs.ped_eval.specs.Loops.{Limits, entered_with, frame}
+use Rattle.ped_loop_runs.specs.ped_eval.specs.Outcomes.{setting_of}
+use Rattle.ped_loop_runs.specs.ped_eval.specs.Runs.{run_all}
+use Rattle.ped_loop_runs.specs.ped_eval.specs.Scopes.{Scope, Setting, place_of, turns_of}
+use Rattle.ped_loop_runs.specs.ped_store.specs.Acts.{Act, Place, Step, Touch, Turn}
+use Rattle.ped_loop_runs.specs.ped_store.specs.Cells.{Scalar}
+use Rattle.ped_loop_runs.specs.ped_store.specs.Races.{Access, accesses, is_write}
+use Rattle.ped_loop_runs.specs.ped_store.specs.Stores.{Store}
+use Rattle.ped_loop_runs.specs.ped_symbols.specs.Kinds.{kind_in}
+use Rattle.ped_loop_runs.specs.ped_symbols.specs.NameRefusals.{IsValid}
 use Rattle.ped_tree.specs.Numbering.{statement_with}
 use Rattle.ped_tree.specs.Tree.{Do, Head, ProgramTree, StmtTree, StmtTrees}
 

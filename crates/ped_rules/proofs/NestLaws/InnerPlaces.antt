@@ -5,11 +5,11 @@ use Rattle.std.proofs.Math.Logic.{dite}
 use Rattle.ped_base.specs.Lists.{is_among}
 use Rattle.ped_rules.proofs.NestLaws.OnlyBodies.{pair, same_head, same_inside}
 use Rattle.ped_rules.specs.OnlyLoops.{only_loop}
-use Rattle.ped_loop_runs.specs.ped_bodies.specs.ped_steps.specs.ped_flow.proofs.Answering.{at_place-within}
-use Rattle.ped_loop_runs.specs.ped_bodies.specs.ped_steps.specs.ped_flow.specs.Questions.{LoopOf}
-use Rattle.ped_loop_runs.specs.ped_bodies.specs.ped_steps.specs.ped_laws.proofs.ConflictLaws.CoveringCarriage.{here}
-use Rattle.ped_loop_runs.specs.ped_bodies.specs.ped_steps.specs.ped_laws.proofs.PlainLaws.Insides.{all_loop_variables_part}
-use Rattle.ped_loop_runs.specs.ped_bodies.specs.ped_steps.specs.ped_laws.specs.Plain.Executions.{IsOneOf}
+use Rattle.ped_loop_runs.specs.ped_flow.proofs.Answering.{at_place-within}
+use Rattle.ped_loop_runs.specs.ped_flow.specs.Questions.{LoopOf}
+use Rattle.ped_loop_runs.specs.ped_laws.proofs.ConflictLaws.CoveringCarriage.{here}
+use Rattle.ped_loop_runs.specs.ped_laws.proofs.PlainLaws.Insides.{all_loop_variables_part}
+use Rattle.ped_loop_runs.specs.ped_laws.specs.Plain.Executions.{IsOneOf}
 use Rattle.ped_tree.proofs.Numbers.{at_place-back, at_place-front}
 use Rattle.ped_tree.specs.NamesIn.{all_loop_variables, loop_variables}
 use Rattle.ped_tree.specs.Numbering.{all_numbered, at_place, numbered, statement_with, statements_count}

@@ -8,14 +8,14 @@ use Rattle.ped_rules.proofs.NestLaws.OnlyBodies.{never, only_runs, pair}
 use Rattle.ped_rules.specs.OnlyLoops.{only_loop}
 use Rattle.ped_loop_runs.specs.ped_bodies.proofs.BodyLaws.TripLists.{loop_apart, loop_made}
 use Rattle.ped_loop_runs.specs.ped_bodies.specs.Trips.{IsMadeOfTrips, IsTrip, OfTrips, bounds_seen, entered_from, loop_acts, loop_close, loop_entry, store_before, trip_end}
-use Rattle.ped_loop_runs.specs.ped_bodies.specs.ped_steps.specs.ped_laws.specs.Runs.Replaying.{IsEntered, Replays, finish_of, goes_on}
-use Rattle.ped_loop_runs.specs.ped_bodies.specs.ped_steps.specs.ped_eval.specs.Evaluation.{Seen}
-use Rattle.ped_loop_runs.specs.ped_bodies.specs.ped_steps.specs.ped_eval.specs.Loops.{Entered, Limits, frame, limits}
-use Rattle.ped_loop_runs.specs.ped_bodies.specs.ped_steps.specs.ped_eval.specs.Runs.{Run, run}
-use Rattle.ped_loop_runs.specs.ped_bodies.specs.ped_steps.specs.ped_eval.specs.Scopes.{Scope, Setting, names_in, place_of}
-use Rattle.ped_loop_runs.specs.ped_bodies.specs.ped_steps.specs.ped_eval.specs.Turns.{body_run}
-use Rattle.ped_loop_runs.specs.ped_bodies.specs.ped_steps.specs.ped_laws.specs.ped_store.specs.Acts.{Act, Place}
-use Rattle.ped_loop_runs.specs.ped_bodies.specs.ped_steps.specs.ped_laws.specs.ped_store.specs.Stores.{Store}
+use Rattle.ped_loop_runs.specs.ped_laws.specs.Runs.Replaying.{IsEntered, Replays, finish_of, goes_on}
+use Rattle.ped_loop_runs.specs.ped_eval.specs.Evaluation.{Seen}
+use Rattle.ped_loop_runs.specs.ped_eval.specs.Loops.{Entered, Limits, frame, limits}
+use Rattle.ped_loop_runs.specs.ped_eval.specs.Runs.{Run, run}
+use Rattle.ped_loop_runs.specs.ped_eval.specs.Scopes.{Scope, Setting, names_in, place_of}
+use Rattle.ped_loop_runs.specs.ped_eval.specs.Turns.{body_run}
+use Rattle.ped_loop_runs.specs.ped_store.specs.Acts.{Act, Place}
+use Rattle.ped_loop_runs.specs.ped_store.specs.Stores.{Store}
 use Rattle.ped_tree.specs.Tree.{Do, Head, StmtTrees}
 
 -- what is there for each number of a row, in one function

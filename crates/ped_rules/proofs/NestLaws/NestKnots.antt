@@ -4,15 +4,15 @@ use Rattle.std.proofs.Math.Nat.{eq-or-lt_of_le}
 use Rattle.std.specs.List.{flat_map, range_with_len}
 use Rattle.ped_loop_runs.specs.ped_bodies.proofs.BodyLaws.TripLists.{close_in_order}
 use Rattle.ped_loop_runs.specs.ped_bodies.specs.Trips.{loop_acts, loop_entry, trip_end, trips}
-use Rattle.ped_loop_runs.specs.ped_bodies.specs.ped_steps.specs.ped_laws.proofs.ActLaws.Lists.{before_parts, in_left, in_parts, in_right}
-use Rattle.ped_loop_runs.specs.ped_bodies.specs.ped_steps.specs.ped_laws.specs.Acts.Grids.{block_at}
-use Rattle.ped_loop_runs.specs.ped_bodies.specs.ped_steps.specs.ped_laws.specs.Acts.Orders.{Block, IsIn, StandsBefore}
-use Rattle.ped_loop_runs.specs.ped_bodies.specs.ped_steps.specs.ped_eval.specs.Evaluation.{Seen}
-use Rattle.ped_loop_runs.specs.ped_bodies.specs.ped_steps.specs.ped_eval.specs.Loops.{Entered}
-use Rattle.ped_loop_runs.specs.ped_bodies.specs.ped_steps.specs.ped_eval.specs.Scopes.{Scope}
-use Rattle.ped_loop_runs.specs.ped_bodies.specs.ped_steps.specs.ped_laws.specs.ped_store.specs.Acts.{Act, Place}
-use Rattle.ped_loop_runs.specs.ped_bodies.specs.ped_steps.specs.ped_weaves.proofs.WeaveLaws.KnotRows.{blocks_append, blocks_rows, knotted_append, knotted_rows}
-use Rattle.ped_loop_runs.specs.ped_bodies.specs.ped_steps.specs.ped_weaves.specs.Weaves.{Knot, block, blocks_in, control, knotted}
+use Rattle.ped_loop_runs.specs.ped_laws.proofs.ActLaws.Lists.{before_parts, in_left, in_parts, in_right}
+use Rattle.ped_loop_runs.specs.ped_laws.specs.Acts.Grids.{block_at}
+use Rattle.ped_loop_runs.specs.ped_laws.specs.Acts.Orders.{Block, IsIn, StandsBefore}
+use Rattle.ped_loop_runs.specs.ped_eval.specs.Evaluation.{Seen}
+use Rattle.ped_loop_runs.specs.ped_eval.specs.Loops.{Entered}
+use Rattle.ped_loop_runs.specs.ped_eval.specs.Scopes.{Scope}
+use Rattle.ped_loop_runs.specs.ped_store.specs.Acts.{Act, Place}
+use Rattle.ped_loop_runs.specs.ped_weaves.proofs.WeaveLaws.KnotRows.{blocks_append, blocks_rows, knotted_append, knotted_rows}
+use Rattle.ped_loop_runs.specs.ped_weaves.specs.Weaves.{Knot, block, blocks_in, control, knotted}
 
 -- items of a list that a function makes of the numbers of a row
 pub in_numbers : (m a k : ℕ) → IsIn k (range_with_len a m) → (a ≤ k) × (k < a + m)

@@ -1,10 +1,10 @@
 -- A body that is one DO and comments does what that DO does.
 use Rattle.std.proofs.Common.{Bool, List, None, Option, Some, ap, append-nil, arith, eqb-true, false, if◌then◌else◌, refl, sym, true, ℕ, ◌++◌, ◌+◌, ◌==◌, ◌∙◌, ◌≡◌}
 use Rattle.ped_rules.specs.OnlyLoops.{change_only, only_loop}
-use Rattle.ped_loop_runs.specs.ped_bodies.specs.ped_steps.specs.ped_eval.specs.Runs.{Ending, Run, failed, followed_by, going, nothing_done, run, run_all, stopped, then_run}
-use Rattle.ped_loop_runs.specs.ped_bodies.specs.ped_steps.specs.ped_eval.specs.Scopes.{Scope, Setting}
-use Rattle.ped_loop_runs.specs.ped_bodies.specs.ped_steps.specs.ped_laws.specs.ped_store.specs.Acts.{Act}
-use Rattle.ped_loop_runs.specs.ped_bodies.specs.ped_steps.specs.ped_laws.specs.ped_store.specs.Stores.{Store}
+use Rattle.ped_loop_runs.specs.ped_eval.specs.Runs.{Ending, Run, failed, followed_by, going, nothing_done, run, run_all, stopped, then_run}
+use Rattle.ped_loop_runs.specs.ped_eval.specs.Scopes.{Scope, Setting}
+use Rattle.ped_loop_runs.specs.ped_store.specs.Acts.{Act}
+use Rattle.ped_loop_runs.specs.ped_store.specs.Stores.{Store}
 use Rattle.ped_tree.specs.Numbering.{statement_count, statements_count}
 use Rattle.ped_tree.specs.Tree.{Assign, Comment, Do, Head, If, Print, Read, StmtTree, StmtTrees, Stop, more_stmts, no_stmts}
 

@@ -2,12 +2,12 @@
 use Rattle.std.proofs.Common.{Bool, List, [], ap, arith, false, inl, inr, refl, subst, sym, ℕ, ◌+◌, ◌-◌, ◌<◌, ◌∙◌, ◌∷◌, ◌≡◌, ◌≤◌}
 use Rattle.std.specs.List.{flat_map, range_with_len}
 use Rattle.ped_rules.proofs.NestLaws.NestKnots.{among_rows, before_in_rows, in_numbers, in_rows, one_of_numbers}
-use Rattle.ped_loop_runs.specs.ped_bodies.specs.ped_steps.specs.ped_laws.proofs.ActLaws.Reorderings.{column_order, rows_once}
-use Rattle.ped_loop_runs.specs.ped_bodies.specs.ped_steps.specs.ped_laws.specs.Acts.Conflicts.{blocks_conflict_outside}
-use Rattle.ped_loop_runs.specs.ped_bodies.specs.ped_steps.specs.ped_laws.specs.Acts.Grids.{block_at}
-use Rattle.ped_loop_runs.specs.ped_bodies.specs.ped_steps.specs.ped_laws.specs.Acts.Orders.{Block, EachOnce, HaveSameItems, IsByColumns, IsByRows, IsIn, IsReordered, KeepsOrder, NoneCrosses, StandsBefore, block_conflict}
-use Rattle.ped_loop_runs.specs.ped_bodies.specs.ped_steps.specs.ped_laws.specs.ped_store.specs.Acts.{Act}
-use Rattle.ped_loop_runs.specs.ped_bodies.specs.ped_steps.specs.ped_laws.specs.ped_store.specs.Cells.{Cell}
+use Rattle.ped_loop_runs.specs.ped_laws.proofs.ActLaws.Reorderings.{column_order, rows_once}
+use Rattle.ped_loop_runs.specs.ped_laws.specs.Acts.Conflicts.{blocks_conflict_outside}
+use Rattle.ped_loop_runs.specs.ped_laws.specs.Acts.Grids.{block_at}
+use Rattle.ped_loop_runs.specs.ped_laws.specs.Acts.Orders.{Block, EachOnce, HaveSameItems, IsByColumns, IsByRows, IsIn, IsReordered, KeepsOrder, NoneCrosses, StandsBefore, block_conflict}
+use Rattle.ped_loop_runs.specs.ped_store.specs.Acts.{Act}
+use Rattle.ped_loop_runs.specs.ped_store.specs.Cells.{Cell}
 
 -- iteration j of the inner loop in iteration i of the outer one is done in iteration `later i + j` of the new outer loop, as iteration `i - below (later i + j)` of the new inner one; and so back
 pub record IsRegrouped (n m : ℕ) (row column later below : ℕ → ℕ) : Type 0 where

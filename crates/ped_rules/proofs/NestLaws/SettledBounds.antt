@@ -17,30 +17,30 @@ use Rattle.ped_loop_runs.specs.Executions.{IsExecuted, as_done}
 use Rattle.ped_loop_runs.specs.Places.{AreDuring, told_at}
 use Rattle.ped_loop_runs.specs.ped_bodies.proofs.BodyLaws.LimitParts.{limits_come}
 use Rattle.ped_loop_runs.specs.ped_bodies.specs.Trips.{bounds_seen, entered_from, loop_close, loop_entry, trip_end, trips}
-use Rattle.ped_loop_runs.specs.ped_bodies.specs.ped_steps.specs.Replacing.{alone}
-use Rattle.ped_loop_runs.specs.ped_bodies.specs.ped_steps.specs.ped_flow.specs.PlainBounds.{IsPlain, IsPlainlyBuilt, nest_round, setting_round}
-use Rattle.ped_loop_runs.specs.ped_bodies.specs.ped_steps.specs.ped_flow.specs.Questions.{LoopOf}
-use Rattle.ped_loop_runs.specs.ped_bodies.specs.ped_steps.specs.ped_laws.proofs.ActLaws.Renamings.{or_left, or_right}
-use Rattle.ped_loop_runs.specs.ped_bodies.specs.ped_steps.specs.ped_laws.proofs.ActLaws.SameCells.{text_itself}
-use Rattle.ped_loop_runs.specs.ped_bodies.specs.ped_steps.specs.ped_laws.proofs.PlainLaws.Standing.{value_during}
-use Rattle.ped_loop_runs.specs.ped_bodies.specs.ped_steps.specs.ped_laws.proofs.PlainLaws.ValidPrograms.{have_values, loop_bounds_fit, no_stop_in_loops}
-use Rattle.ped_loop_runs.specs.ped_bodies.specs.ped_steps.specs.ped_laws.proofs.RunLaws.Sight.{holds_append, value_told}
-use Rattle.ped_loop_runs.specs.ped_bodies.specs.ped_steps.specs.ped_laws.specs.Acts.Fitting.{store_after}
-use Rattle.ped_loop_runs.specs.ped_bodies.specs.ped_steps.specs.ped_laws.specs.Acts.Orders.{IsIn}
-use Rattle.ped_loop_runs.specs.ped_bodies.specs.ped_steps.specs.ped_laws.specs.Plain.Executions.{HasValueDuring, IsDuring, IsInside, IsPlaceWith, LieInRanges}
-use Rattle.ped_loop_runs.specs.ped_bodies.specs.ped_steps.specs.ped_laws.specs.Runs.Replaying.{finish_of, goes_on}
-use Rattle.ped_loop_runs.specs.ped_bodies.specs.ped_steps.specs.ped_laws.specs.Runs.Seeing.{ComesTo}
-use Rattle.ped_loop_runs.specs.ped_bodies.specs.ped_steps.specs.ped_eval.specs.Evaluation.{Seen, cell_seen, index_seen}
-use Rattle.ped_loop_runs.specs.ped_bodies.specs.ped_steps.specs.ped_eval.specs.Loops.{Entered, Limits, copied_names, frame, is_bound, limits}
-use Rattle.ped_loop_runs.specs.ped_bodies.specs.ped_steps.specs.ped_eval.specs.Outcomes.{Ends, setting_of}
-use Rattle.ped_loop_runs.specs.ped_bodies.specs.ped_steps.specs.ped_eval.specs.Runs.{Ending, failed, going, run, stopped}
-use Rattle.ped_loop_runs.specs.ped_bodies.specs.ped_steps.specs.ped_eval.specs.Scopes.{Names, Scope, Setting, names_in, place_of}
-use Rattle.ped_loop_runs.specs.ped_bodies.specs.ped_steps.specs.ped_eval.specs.Values.{value}
-use Rattle.ped_loop_runs.specs.ped_bodies.specs.ped_steps.specs.ped_laws.specs.ped_store.specs.Acts.{Act}
-use Rattle.ped_loop_runs.specs.ped_bodies.specs.ped_steps.specs.ped_laws.specs.ped_store.specs.Cells.{Cell}
-use Rattle.ped_loop_runs.specs.ped_bodies.specs.ped_steps.specs.ped_laws.specs.ped_store.specs.Stores.{Content, Store, store_at_start}
-use Rattle.ped_loop_runs.specs.ped_bodies.specs.ped_steps.specs.ped_symbols.proofs.RightUseLaws.Whole.{right_program}
-use Rattle.ped_loop_runs.specs.ped_bodies.specs.ped_steps.specs.ped_symbols.specs.NameRefusals.{IsValid}
+use Rattle.ped_loop_runs.specs.ped_steps.specs.Replacing.{alone}
+use Rattle.ped_loop_runs.specs.ped_flow.specs.PlainBounds.{IsPlain, IsPlainlyBuilt, nest_round, setting_round}
+use Rattle.ped_loop_runs.specs.ped_flow.specs.Questions.{LoopOf}
+use Rattle.ped_loop_runs.specs.ped_laws.proofs.ActLaws.Renamings.{or_left, or_right}
+use Rattle.ped_loop_runs.specs.ped_laws.proofs.ActLaws.SameCells.{text_itself}
+use Rattle.ped_loop_runs.specs.ped_laws.proofs.PlainLaws.Standing.{value_during}
+use Rattle.ped_loop_runs.specs.ped_laws.proofs.PlainLaws.ValidPrograms.{have_values, loop_bounds_fit, no_stop_in_loops}
+use Rattle.ped_loop_runs.specs.ped_laws.proofs.RunLaws.Sight.{holds_append, value_told}
+use Rattle.ped_loop_runs.specs.ped_laws.specs.Acts.Fitting.{store_after}
+use Rattle.ped_loop_runs.specs.ped_laws.specs.Acts.Orders.{IsIn}
+use Rattle.ped_loop_runs.specs.ped_laws.specs.Plain.Executions.{HasValueDuring, IsDuring, IsInside, IsPlaceWith, LieInRanges}
+use Rattle.ped_loop_runs.specs.ped_laws.specs.Runs.Replaying.{finish_of, goes_on}
+use Rattle.ped_loop_runs.specs.ped_laws.specs.Runs.Seeing.{ComesTo}
+use Rattle.ped_loop_runs.specs.ped_eval.specs.Evaluation.{Seen, cell_seen, index_seen}
+use Rattle.ped_loop_runs.specs.ped_eval.specs.Loops.{Entered, Limits, copied_names, frame, is_bound, limits}
+use Rattle.ped_loop_runs.specs.ped_eval.specs.Outcomes.{Ends, setting_of}
+use Rattle.ped_loop_runs.specs.ped_eval.specs.Runs.{Ending, failed, going, run, stopped}
+use Rattle.ped_loop_runs.specs.ped_eval.specs.Scopes.{Names, Scope, Setting, names_in, place_of}
+use Rattle.ped_loop_runs.specs.ped_eval.specs.Values.{value}
+use Rattle.ped_loop_runs.specs.ped_store.specs.Acts.{Act}
+use Rattle.ped_loop_runs.specs.ped_store.specs.Cells.{Cell}
+use Rattle.ped_loop_runs.specs.ped_store.specs.Stores.{Content, Store, store_at_start}
+use Rattle.ped_loop_runs.specs.ped_symbols.proofs.RightUseLaws.Whole.{right_program}
+use Rattle.ped_loop_runs.specs.ped_symbols.specs.NameRefusals.{IsValid}
 use Rattle.ped_tree.specs.Grammar.Fits.{expr_fits}
 use Rattle.ped_tree.specs.NamesIn.{all_loop_variables, loop_variables}
 use Rattle.ped_tree.specs.Nests.{indices_of}

@@ -9,9 +9,9 @@ use Rattle.ped_loop_runs.specs.ped_bodies.proofs.BodyLaws.MovedCells.{behind_its
 use Rattle.ped_loop_runs.specs.ped_bodies.proofs.BodyLaws.NamesApart.{interchanged_apart, behind_is}
 use Rattle.ped_loop_runs.specs.ped_bodies.specs.Moving.{IsOfPairs, LiesBehind, TellNumbers, behind_front, is_cell_among, moved_behind, transposed, with_rest}
 use Rattle.ped_loop_runs.proofs.PastingLaws.LeftCopies.{IsOwn}
-use Rattle.ped_loop_runs.specs.ped_bodies.specs.ped_steps.specs.ped_eval.specs.Scopes.{Scope, Setting, cell_of, turns_of}
-use Rattle.ped_loop_runs.specs.ped_bodies.specs.ped_steps.specs.ped_laws.specs.ped_store.specs.Acts.{iterations_of}
-use Rattle.ped_loop_runs.specs.ped_bodies.specs.ped_steps.specs.ped_laws.specs.ped_store.specs.Cells.{Cell, Element, In, Iteration, Out, Private, Scalar}
+use Rattle.ped_loop_runs.specs.ped_eval.specs.Scopes.{Scope, Setting, cell_of, turns_of}
+use Rattle.ped_loop_runs.specs.ped_store.specs.Acts.{iterations_of}
+use Rattle.ped_loop_runs.specs.ped_store.specs.Cells.{Cell, Element, In, Iteration, Out, Private, Scalar}
 use Rattle.ped_loop_runs.proofs.LoopLaws.ApartTurns.{number_itself}
 
 all_four : (m n k j : ℕ) → (nat_le 1 k && nat_le k m) && (nat_le 1 j && nat_le j n) ≡ true → (1 ≤ k) × (k ≤ m) × (1 ≤ j) × (j ≤ n)

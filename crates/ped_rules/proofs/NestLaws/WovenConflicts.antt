@@ -9,28 +9,28 @@ use Rattle.ped_rules.proofs.NestLaws.OnlyBodies.{never}
 use Rattle.ped_rules.specs.Carried.{has_after, is_after}
 use Rattle.ped_loop_runs.proofs.LoopLaws.Trips.{come_in_run, of_act, trips_carried}
 use Rattle.ped_loop_runs.specs.Carried.{AllStoreWithin, AreTrips, IsCarriedByLoop, is_carried_by, is_in_body, is_level}
-use Rattle.ped_loop_runs.specs.ped_bodies.specs.ped_steps.specs.ped_flow.specs.PlainBounds.{nest_round}
-use Rattle.ped_loop_runs.specs.ped_bodies.specs.ped_steps.specs.ped_flow.specs.Questions.{LoopOf}
-use Rattle.ped_loop_runs.specs.ped_bodies.specs.ped_steps.specs.ped_laws.proofs.ActLaws.Conflicting.{acts_of_blocks}
-use Rattle.ped_loop_runs.specs.ped_bodies.specs.ped_steps.specs.ped_laws.proofs.ActLaws.Lists.{in_left, in_right}
-use Rattle.ped_loop_runs.specs.ped_bodies.specs.ped_steps.specs.ped_laws.proofs.ActLaws.Renamings.{or_left, or_right}
-use Rattle.ped_loop_runs.specs.ped_bodies.specs.ped_steps.specs.ped_laws.proofs.ConflictLaws.CoveringDirections.{earlier_before, numbers_are, same_numbers}
-use Rattle.ped_loop_runs.specs.ped_bodies.specs.ped_steps.specs.ped_laws.proofs.ConflictLaws.CoveringNests.{IsOf}
-use Rattle.ped_loop_runs.specs.ped_bodies.specs.ped_steps.specs.ped_laws.proofs.ConflictLaws.CoveringRuns.{MakingLaw, SequenceLaw}
-use Rattle.ped_loop_runs.specs.ped_bodies.specs.ped_steps.specs.ped_laws.proofs.ConflictLaws.Scoping.{touch_of_access}
-use Rattle.ped_loop_runs.specs.ped_bodies.specs.ped_steps.specs.ped_laws.proofs.RunLaws.Meetings.{outside_of_run}
-use Rattle.ped_loop_runs.specs.ped_bodies.specs.ped_steps.specs.ped_laws.specs.Acts.Conflicts.{blocks_conflict_outside}
-use Rattle.ped_loop_runs.specs.ped_bodies.specs.ped_steps.specs.ped_laws.specs.Acts.Orders.{IsIn}
-use Rattle.ped_loop_runs.specs.ped_bodies.specs.ped_steps.specs.ped_laws.specs.Conflicts.Directions.{StandInDirections, step_at}
-use Rattle.ped_loop_runs.specs.ped_bodies.specs.ped_steps.specs.ped_laws.specs.Conflicts.Sequence.{AreSuccessive}
-use Rattle.ped_loop_runs.specs.ped_bodies.specs.ped_steps.specs.ped_eval.specs.Outcomes.{run_of, setting_of}
-use Rattle.ped_loop_runs.specs.ped_bodies.specs.ped_steps.specs.ped_laws.specs.ped_graph.specs.Dependences.{AreEdges}
+use Rattle.ped_loop_runs.specs.ped_flow.specs.PlainBounds.{nest_round}
+use Rattle.ped_loop_runs.specs.ped_flow.specs.Questions.{LoopOf}
+use Rattle.ped_loop_runs.specs.ped_laws.proofs.ActLaws.Conflicting.{acts_of_blocks}
+use Rattle.ped_loop_runs.specs.ped_laws.proofs.ActLaws.Lists.{in_left, in_right}
+use Rattle.ped_loop_runs.specs.ped_laws.proofs.ActLaws.Renamings.{or_left, or_right}
+use Rattle.ped_loop_runs.specs.ped_laws.proofs.ConflictLaws.CoveringDirections.{earlier_before, numbers_are, same_numbers}
+use Rattle.ped_loop_runs.specs.ped_laws.proofs.ConflictLaws.CoveringNests.{IsOf}
+use Rattle.ped_loop_runs.specs.ped_laws.proofs.ConflictLaws.CoveringRuns.{MakingLaw, SequenceLaw}
+use Rattle.ped_loop_runs.specs.ped_laws.proofs.ConflictLaws.Scoping.{touch_of_access}
+use Rattle.ped_loop_runs.specs.ped_laws.proofs.RunLaws.Meetings.{outside_of_run}
+use Rattle.ped_loop_runs.specs.ped_laws.specs.Acts.Conflicts.{blocks_conflict_outside}
+use Rattle.ped_loop_runs.specs.ped_laws.specs.Acts.Orders.{IsIn}
+use Rattle.ped_loop_runs.specs.ped_laws.specs.Conflicts.Directions.{StandInDirections, step_at}
+use Rattle.ped_loop_runs.specs.ped_laws.specs.Conflicts.Sequence.{AreSuccessive}
+use Rattle.ped_loop_runs.specs.ped_eval.specs.Outcomes.{run_of, setting_of}
+use Rattle.ped_loop_runs.specs.ped_graph.specs.Dependences.{AreEdges}
 use Rattle.ped_edges.specs.Edges.{Edge}
-use Rattle.ped_loop_runs.specs.ped_bodies.specs.ped_steps.specs.ped_laws.specs.ped_store.specs.Acts.{Act, Turn}
-use Rattle.ped_loop_runs.specs.ped_bodies.specs.ped_steps.specs.ped_laws.specs.ped_store.specs.Cells.{Cell}
-use Rattle.ped_loop_runs.specs.ped_bodies.specs.ped_steps.specs.ped_laws.specs.ped_store.specs.Races.{Access}
-use Rattle.ped_loop_runs.specs.ped_bodies.specs.ped_steps.specs.ped_laws.specs.ped_store.specs.Stores.{store_at_start}
-use Rattle.ped_loop_runs.specs.ped_bodies.specs.ped_steps.specs.ped_symbols.specs.NameRefusals.{IsValid}
+use Rattle.ped_loop_runs.specs.ped_store.specs.Acts.{Act, Turn}
+use Rattle.ped_loop_runs.specs.ped_store.specs.Cells.{Cell}
+use Rattle.ped_loop_runs.specs.ped_store.specs.Races.{Access}
+use Rattle.ped_loop_runs.specs.ped_store.specs.Stores.{store_at_start}
+use Rattle.ped_loop_runs.specs.ped_symbols.specs.NameRefusals.{IsValid}
 use Rattle.ped_views.specs.Excluded.{StandsByValue, by_value, turned}
 use Rattle.ped_views.specs.declared.directions.Direction.{Direction}
 use Rattle.ped_views.specs.declared.directions.Direction.TheVariants.{After, Before, Same}

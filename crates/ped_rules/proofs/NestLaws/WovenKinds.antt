@@ -6,15 +6,15 @@ use Rattle.ped_tree.specs.Accesses.{constant_names}
 use Rattle.ped_tree.specs.Numbering.{statement_with}
 use Rattle.ped_tree.specs.Tree.{Head, StmtTree, StmtTrees, Do, no_stmts, ProgramTree}
 use Rattle.ped_rules.specs.OnlyLoops.{change_only, only_loop}
-use Rattle.ped_loop_runs.specs.ped_bodies.specs.ped_steps.specs.ped_flow.specs.Questions.{LoopOf}
-use Rattle.ped_loop_runs.specs.ped_bodies.specs.ped_steps.specs.ped_symbols.specs.Kinds.{names_of, kind_in}
-use Rattle.ped_loop_runs.specs.ped_bodies.specs.ped_steps.specs.ped_symbols.specs.NameRefusals.{IsValid}
-use Rattle.ped_loop_runs.specs.ped_bodies.specs.ped_steps.specs.ped_symbols.specs.Sites.{Site, statement, private_site, stmt_sites, stmts_sites}
-use Rattle.ped_loop_runs.specs.ped_bodies.specs.ped_steps.specs.ped_symbols.proofs.RightUseLaws.Whole.{same_kinds}
-use Rattle.ped_loop_runs.specs.ped_bodies.specs.ped_steps.specs.Replacing.{alone, program_with}
-use Rattle.ped_loop_runs.specs.ped_bodies.specs.ped_steps.proofs.RunLaws.NamesKept.{occurs, occurs_append, Alike, AreAlike, alike_itself, by_sites, names_kept}
-use Rattle.ped_loop_runs.specs.ped_bodies.specs.ped_steps.proofs.RunLaws.PrivatisedPrograms.{scalar_occurs, statement_in}
-use Rattle.ped_loop_runs.specs.ped_bodies.specs.ped_steps.proofs.RunLaws.ExpandedPlacesStand.{variable_scalar}
+use Rattle.ped_loop_runs.specs.ped_flow.specs.Questions.{LoopOf}
+use Rattle.ped_loop_runs.specs.ped_symbols.specs.Kinds.{names_of, kind_in}
+use Rattle.ped_loop_runs.specs.ped_symbols.specs.NameRefusals.{IsValid}
+use Rattle.ped_loop_runs.specs.ped_symbols.specs.Sites.{Site, statement, private_site, stmt_sites, stmts_sites}
+use Rattle.ped_loop_runs.specs.ped_symbols.proofs.RightUseLaws.Whole.{same_kinds}
+use Rattle.ped_loop_runs.specs.ped_steps.specs.Replacing.{alone, program_with}
+use Rattle.ped_loop_runs.specs.ped_steps.proofs.RunLaws.NamesKept.{occurs, occurs_append, Alike, AreAlike, alike_itself, by_sites, names_kept}
+use Rattle.ped_loop_runs.specs.ped_steps.proofs.RunLaws.PrivatisedPrograms.{scalar_occurs, statement_in}
+use Rattle.ped_loop_runs.specs.ped_steps.proofs.RunLaws.ExpandedPlacesStand.{variable_scalar}
 use Rattle.ped_rules.proofs.NestLaws.OnlyBodies.{pair, only_changed, only_tells}
 use Rattle.ped_loop_runs.proofs.LoopLaws.OneForOneNames.{constant_there}
 

@@ -7,16 +7,16 @@ use Rattle.ped_loop_runs.proofs.LoopLaws.OneForOneKnots.{one_at, two_at}
 use Rattle.ped_loop_runs.specs.ped_bodies.proofs.BodyLaws.TripLists.{end_in_order}
 use Rattle.ped_loop_runs.specs.ped_bodies.specs.Moving.{is_cell_among}
 use Rattle.ped_loop_runs.specs.ped_bodies.specs.Trips.{loop_acts, loop_close, loop_entry, trip_end, trips}
-use Rattle.ped_loop_runs.specs.ped_bodies.specs.ped_steps.specs.ped_laws.proofs.ActLaws.Lists.{in_parts}
-use Rattle.ped_loop_runs.specs.ped_bodies.specs.ped_steps.specs.ped_laws.specs.Acts.Conflicts.{WriteWithin}
-use Rattle.ped_loop_runs.specs.ped_bodies.specs.ped_steps.specs.ped_laws.specs.Acts.Fitting.{touches_of}
-use Rattle.ped_loop_runs.specs.ped_bodies.specs.ped_steps.specs.ped_laws.specs.Acts.Orders.{IsIn}
-use Rattle.ped_loop_runs.specs.ped_bodies.specs.ped_steps.specs.ped_laws.specs.Runs.Replaying.{act}
-use Rattle.ped_loop_runs.specs.ped_bodies.specs.ped_steps.specs.ped_eval.specs.Evaluation.{Seen, cell_seen, index_seen, numbered}
-use Rattle.ped_loop_runs.specs.ped_bodies.specs.ped_steps.specs.ped_eval.specs.Loops.{Entered, entry_touches, exit_touches, exit_when_none, undefined_all, undefined_by}
-use Rattle.ped_loop_runs.specs.ped_bodies.specs.ped_steps.specs.ped_eval.specs.Scopes.{Scope}
-use Rattle.ped_loop_runs.specs.ped_bodies.specs.ped_steps.specs.ped_laws.specs.ped_store.specs.Acts.{Act, Place, Touch, ended_turn, reads}
-use Rattle.ped_loop_runs.specs.ped_bodies.specs.ped_steps.specs.ped_laws.specs.ped_store.specs.Cells.{Cell}
+use Rattle.ped_loop_runs.specs.ped_laws.proofs.ActLaws.Lists.{in_parts}
+use Rattle.ped_loop_runs.specs.ped_laws.specs.Acts.Conflicts.{WriteWithin}
+use Rattle.ped_loop_runs.specs.ped_laws.specs.Acts.Fitting.{touches_of}
+use Rattle.ped_loop_runs.specs.ped_laws.specs.Acts.Orders.{IsIn}
+use Rattle.ped_loop_runs.specs.ped_laws.specs.Runs.Replaying.{act}
+use Rattle.ped_loop_runs.specs.ped_eval.specs.Evaluation.{Seen, cell_seen, index_seen, numbered}
+use Rattle.ped_loop_runs.specs.ped_eval.specs.Loops.{Entered, entry_touches, exit_touches, exit_when_none, undefined_all, undefined_by}
+use Rattle.ped_loop_runs.specs.ped_eval.specs.Scopes.{Scope}
+use Rattle.ped_loop_runs.specs.ped_store.specs.Acts.{Act, Place, Touch, ended_turn, reads}
+use Rattle.ped_loop_runs.specs.ped_store.specs.Cells.{Cell}
 
 -- one list stands in another, and two of them one behind the other
 pub record IsPart {X : Type 0} (whole part : List X) : Type 0 where

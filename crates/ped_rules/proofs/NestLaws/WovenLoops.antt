@@ -16,27 +16,27 @@ use Rattle.ped_loop_runs.specs.ped_bodies.specs.Likewise.{AreLikewise, DoesLikew
 use Rattle.ped_loop_runs.specs.ped_bodies.specs.Moving.{HaveNoCopies, own_number}
 use Rattle.ped_loop_runs.specs.ped_bodies.specs.Standing.{GoLikewise, SettingsAgree}
 use Rattle.ped_loop_runs.specs.ped_bodies.specs.Trips.{IsTrip, bounds_seen, entered_from, loop_acts}
-use Rattle.ped_loop_runs.specs.ped_bodies.specs.ped_steps.specs.Replacing.{alone, program_with}
-use Rattle.ped_loop_runs.specs.ped_bodies.specs.ped_steps.specs.ped_flow.specs.PlainBounds.{nest_round}
-use Rattle.ped_loop_runs.specs.ped_bodies.specs.ped_steps.specs.ped_flow.specs.Questions.{IsContained, LoopOf}
-use Rattle.ped_loop_runs.specs.ped_bodies.specs.ped_steps.specs.ped_laws.proofs.RunLaws.Sight.{limits_told}
-use Rattle.ped_loop_runs.specs.ped_bodies.specs.ped_steps.specs.ped_laws.specs.Acts.Orders.{IsIn}
-use Rattle.ped_loop_runs.specs.ped_bodies.specs.ped_steps.specs.ped_laws.specs.Acts.Sets.{nothing}
-use Rattle.ped_loop_runs.specs.ped_bodies.specs.ped_steps.specs.ped_laws.specs.Runs.Replaying.{IsEntered, Replays, finish_of, goes_on}
-use Rattle.ped_loop_runs.specs.ped_bodies.specs.ped_steps.specs.ped_laws.specs.Runs.Seeing.{ComesTo}
-use Rattle.ped_loop_runs.specs.ped_bodies.specs.ped_steps.specs.ped_eval.specs.Evaluation.{Seen, cell_seen}
-use Rattle.ped_loop_runs.specs.ped_bodies.specs.ped_steps.specs.ped_eval.specs.Loops.{Entered, Limits, frame, increment, limits, value_in}
-use Rattle.ped_loop_runs.specs.ped_bodies.specs.ped_steps.specs.ped_eval.specs.Outcomes.{setting_of}
-use Rattle.ped_loop_runs.specs.ped_bodies.specs.ped_steps.specs.ped_eval.specs.Runs.{run}
-use Rattle.ped_loop_runs.specs.ped_bodies.specs.ped_steps.specs.ped_eval.specs.Scopes.{Scope, Setting, names_in, place_of, turns_of}
-use Rattle.ped_loop_runs.specs.ped_bodies.specs.ped_steps.specs.ped_eval.specs.Turns.{body_run}
-use Rattle.ped_loop_runs.specs.ped_bodies.specs.ped_steps.specs.ped_laws.specs.ped_graph.specs.Dependences.{AreEdges}
+use Rattle.ped_loop_runs.specs.ped_steps.specs.Replacing.{alone, program_with}
+use Rattle.ped_loop_runs.specs.ped_flow.specs.PlainBounds.{nest_round}
+use Rattle.ped_loop_runs.specs.ped_flow.specs.Questions.{IsContained, LoopOf}
+use Rattle.ped_loop_runs.specs.ped_laws.proofs.RunLaws.Sight.{limits_told}
+use Rattle.ped_loop_runs.specs.ped_laws.specs.Acts.Orders.{IsIn}
+use Rattle.ped_loop_runs.specs.ped_laws.specs.Acts.Sets.{nothing}
+use Rattle.ped_loop_runs.specs.ped_laws.specs.Runs.Replaying.{IsEntered, Replays, finish_of, goes_on}
+use Rattle.ped_loop_runs.specs.ped_laws.specs.Runs.Seeing.{ComesTo}
+use Rattle.ped_loop_runs.specs.ped_eval.specs.Evaluation.{Seen, cell_seen}
+use Rattle.ped_loop_runs.specs.ped_eval.specs.Loops.{Entered, Limits, frame, increment, limits, value_in}
+use Rattle.ped_loop_runs.specs.ped_eval.specs.Outcomes.{setting_of}
+use Rattle.ped_loop_runs.specs.ped_eval.specs.Runs.{run}
+use Rattle.ped_loop_runs.specs.ped_eval.specs.Scopes.{Scope, Setting, names_in, place_of, turns_of}
+use Rattle.ped_loop_runs.specs.ped_eval.specs.Turns.{body_run}
+use Rattle.ped_loop_runs.specs.ped_graph.specs.Dependences.{AreEdges}
 use Rattle.ped_edges.specs.Edges.{Edge}
-use Rattle.ped_loop_runs.specs.ped_bodies.specs.ped_steps.specs.ped_laws.specs.ped_store.specs.Acts.{Act, Place}
-use Rattle.ped_loop_runs.specs.ped_bodies.specs.ped_steps.specs.ped_laws.specs.ped_store.specs.Cells.{Cell}
-use Rattle.ped_loop_runs.specs.ped_bodies.specs.ped_steps.specs.ped_laws.specs.ped_store.specs.Stores.{Content, Store, store_at_start}
-use Rattle.ped_loop_runs.specs.ped_bodies.specs.ped_steps.specs.ped_symbols.specs.Kinds.{kind_in}
-use Rattle.ped_loop_runs.specs.ped_bodies.specs.ped_steps.specs.ped_symbols.specs.NameRefusals.{IsValid}
+use Rattle.ped_loop_runs.specs.ped_store.specs.Acts.{Act, Place}
+use Rattle.ped_loop_runs.specs.ped_store.specs.Cells.{Cell}
+use Rattle.ped_loop_runs.specs.ped_store.specs.Stores.{Content, Store, store_at_start}
+use Rattle.ped_loop_runs.specs.ped_symbols.specs.Kinds.{kind_in}
+use Rattle.ped_loop_runs.specs.ped_symbols.specs.NameRefusals.{IsValid}
 use Rattle.ped_tree.specs.Numbering.{statements_count}
 use Rattle.ped_tree.specs.Tree.{Do, Head, ProgramTree, StmtTrees}
 

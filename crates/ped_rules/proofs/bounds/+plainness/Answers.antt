@@ -3,10 +3,10 @@ use Rattle.std.specs.Prelude.{◌↔◌, IsTrue}
 use Rattle.ped_tree.specs.Tree.{ExprTree}
 use Rattle.ped_tree.specs.Views.{expr_tree}
 use Rattle.ped_tree.specs.declared.expressions.Expr.{Expr}
-use Rattle.ped_loop_runs.specs.ped_bodies.specs.ped_steps.specs.ped_flow.specs.PlainBounds.{setting_round, IsConstant, IsPlainlyBuilt}
+use Rattle.ped_loop_runs.specs.ped_flow.specs.PlainBounds.{setting_round, IsConstant, IsPlainlyBuilt}
 use Rattle.ped_rules.specs.CodePlain.{tree_at, values_at}
 use Rattle.ped_rules.proofs.HeadLaws.PlainAnswers.{of_either, of_both}
-use Rattle.ped_loop_runs.specs.ped_bodies.specs.ped_steps.specs.ped_flow.proofs.ScalarSteps.{expr_tree-Add, expr_tree-Sub, expr_tree-Mul}
+use Rattle.ped_loop_runs.specs.ped_flow.proofs.ScalarSteps.{expr_tree-Add, expr_tree-Sub, expr_tree-Mul}
 use Rattle.ped_rules.proofs.bounds.+plainness.Goals as goal
 
 pub is_built-returns-in-Add : goal.is_built-returns-in-Add

@@ -1,7 +1,7 @@
 use Rattle.std.proofs.Common.{drop, map}
 use Rattle.std.specs.Prelude.{◌↔◌}
 use Rattle.ped_tree.specs.Views.{expr_tree, pack_exprs}
-use Rattle.ped_loop_runs.specs.ped_bodies.specs.ped_steps.specs.ped_flow.specs.PlainBounds.{ArePlainlyBuilt}
+use Rattle.ped_loop_runs.specs.ped_flow.specs.PlainBounds.{ArePlainlyBuilt}
 use Rattle.ped_rules.specs.CodePlain.{tree_at, values_at}
 use Rattle.ped_rules.proofs.bounds.+plainness.Given as goal
 

@@ -2,7 +2,7 @@ use Rattle.std.proofs.Common.{[], Option, sym, ap, ◌∙◌}
 use Rattle.std.proofs.lemmas.Result.{IfOk-weaker}
 use Rattle.ped_tree.specs.Names.Collecting.{with_names}
 use Rattle.ped_tree.specs.Tree.{StmtTree}
-use Rattle.ped_loop_runs.specs.ped_bodies.specs.ped_steps.specs.ped_flow.specs.PlainBounds.{assigned_by}
+use Rattle.ped_loop_runs.specs.ped_flow.specs.PlainBounds.{assigned_by}
 use Rattle.ped_rules.proofs.bounds.assigned_round.Goals as goal
 
 pub returns-in-Some : goal.returns-in-Some

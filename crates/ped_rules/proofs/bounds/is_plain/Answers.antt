@@ -6,12 +6,12 @@ use Rattle.ped_tree.specs.Views.{expr_tree, program_tree, stmt_trees}
 use Rattle.ped_tree.specs.declared.statements.Stmt.{Stmt}
 use Rattle.ped_rules.proofs.NestDepths.{loops_short}
 use Rattle.ped_rules.proofs.OutermostLoops.{outermost_loop}
-use Rattle.ped_loop_runs.specs.ped_bodies.specs.ped_steps.proofs.Answering.{few_numbers}
-use Rattle.ped_loop_runs.specs.ped_bodies.specs.ped_steps.specs.ped_flow.specs.PlainBounds.{outermost_or, assigned_by}
-use Rattle.ped_loop_runs.specs.ped_bodies.specs.ped_steps.specs.ped_flow.specs.Questions.{LoopOf}
+use Rattle.ped_loop_runs.specs.ped_steps.proofs.Answering.{few_numbers}
+use Rattle.ped_loop_runs.specs.ped_flow.specs.PlainBounds.{outermost_or, assigned_by}
+use Rattle.ped_loop_runs.specs.ped_flow.specs.Questions.{LoopOf}
 use Rattle.ped_refs.specs.Loops.{nest_of}
 use Rattle.ped_refs.specs.declared.loops.Loop.{Loop as CodeLoop}
-use Rattle.ped_loop_runs.specs.ped_bodies.specs.ped_steps.specs.ped_symbols.specs.Kinds.{Table}
+use Rattle.ped_loop_runs.specs.ped_symbols.specs.Kinds.{Table}
 use Rattle.ped_rules.proofs.HeadLaws.PlainPlaces.{few_there, round_there, variables_there, assigned_there, told_there}
 use Rattle.ped_rules.proofs.bounds.is_plain.Goals as goal
 

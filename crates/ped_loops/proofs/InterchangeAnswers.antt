@@ -38,7 +38,7 @@ use Rattle.ped_rules.specs.ped_loop_runs.specs.OneOut.{IsNextIn}
 use Rattle.ped_rules.proofs.Answering.{refused_by, forbidden_by, accepted_by}
 use Rattle.ped_rules.proofs.NestDepths.{nest_short}
 use Rattle.ped_loops.specs.CodeInterchanging.{NoneUpTo}
-use Rattle.ped_rules.specs.CodePlain.{TellsPlain}
+use Rattle.ped_rules.specs.Rules.{TellsPlain}
 use Rattle.ped_loops.specs.Interchanging.{with_exchanged, exchanged_loops, interchanged, MakesInterchanged, StandsAgainstInterchange, interchanging, IsBoundOfEither, is_tied, has_no_unit, makes_far, leaves_either}
 use Rattle.ped_rules.specs.Rules.{IsBoundOf}
 use Rattle.ped_loops.specs.Shapes.{Shape, new_outer, new_inner, names_outer, isnt_shaped, shape_of}

@@ -12,8 +12,9 @@ use ped_rules::{
     private_names_cleared, stays_trusted,
 };
 
-/// `serial` has one first cause at most and makes one program. Where nothing forbids it, that one is valid if the old one is;
-/// and if the old one is also tidy and without C$PED REJECT, so is the new one, and it means the same (ParaScope).
+/// `serial` has one first cause at most and makes one program. Where nothing forbids it, that one is valid if the old
+/// one is; and if the old one is also tidy and without C$PED REJECT, so is the new one, and it means the same
+/// (ParaScope).
 pub fn serial_is_lawful()
     ensures { (s : ℕ) → IsLawful (serialising s) }
 {

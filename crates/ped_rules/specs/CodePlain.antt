@@ -1,16 +1,14 @@
 -- The place of a bound, as the code has it. Only contracts of private functions use it (this project).
-use Rattle.std.specs.Prelude.{◌≡◌, ℕ, ◌+◌, ◌<◌, ◌^◌, List, [], Bool, true, false, None}
+use Rattle.std.specs.Prelude.{◌≡◌, ℕ, ◌+◌, ◌<◌, ◌^◌, List, [], None}
 use Rattle.ped_base.specs.Lists.{is_among}
-use Rattle.ped_tree.specs.Tree.{ExprTree, Head, ProgramTree}
+use Rattle.ped_tree.specs.Tree.{ExprTree, ProgramTree}
 use Rattle.ped_tree.specs.Views.{program_tree}
 use Rattle.ped_tree.specs.Numbering.{statements_count}
 use Rattle.ped_affine.specs.Arguments.{setting_of}
 use Rattle.ped_affine.specs.PairViews.{heads_of}
 use Rattle.ped_affine.specs.Ranges.{interval_of, around_with}
 use Rattle.ped_refs.specs.Loops.{nest_of}
-use Rattle.ped_loop_runs.specs.ped_flow.specs.PlainBounds.{Values, nest_round, setting_round, IsPlain}
-use Rattle.ped_loop_runs.specs.ped_symbols.specs.Kinds.{table_of}
-use Rattle.ped_rules.specs.Rules.{IsBoundOf}
+use Rattle.ped_loop_runs.specs.ped_flow.specs.PlainBounds.{Values, nest_round, setting_round}
 use Rattle.ped_rules.specs.declared.bounds.Place.{Place}
 
 -- the program in which the bound is
@@ -31,8 +29,3 @@ pub record IsPlaced (p : Place) : Type 0 where
 -- no part of the expression may leave 2^62 at this place
 abbrev pub HasInterval : Place → ExprTree → Type 0
 HasInterval p e = (interval_of (setting_of p.setting.now) (around_with (setting_of p.setting.now) [] (heads_of (nest_of p.round.now))) e ≡ None) → ⊥
-
--- both bounds of the DO with this number are plain, or one isn't
-abbrev pub TellsPlain : ProgramTree → ℕ → Head → Bool → Type 0
-TellsPlain t n h true = IsPlain (table_of t).constants t n h.first × IsPlain (table_of t).constants t n h.last
-TellsPlain t n h false = (e : ExprTree) × IsBoundOf h e × (IsPlain (table_of t).constants t n e → ⊥)

@@ -1,5 +1,5 @@
 -- The rules that several steps share: the condition under which each forbids a step, and the statement that it names (ParaScope; this project).
-use Rattle.std.specs.Prelude.{◌≡◌, ◌⊎◌, ℕ, ℤ, pos, neg_ℤ, List, [], Bool, true, not, ◌||◌, is_none, Option, Some, None}
+use Rattle.std.specs.Prelude.{◌≡◌, ◌⊎◌, ℕ, ℤ, pos, neg_ℤ, List, [], Bool, true, false, not, ◌||◌, is_none, Option, Some, None}
 use Rattle.std.specs.Ordering.{int_eq}
 use Rattle.ped_base.specs.Lists.{has_some}
 use Rattle.ped_tree.specs.Tree.{ExprTree, Head, StmtTrees, ProgramTree}
@@ -46,6 +46,11 @@ WhereEscape t s n = LoopOf t s × (IsEscape t s (Some (Statement n)) ⊎ (IsEsca
 -- the expression is a bound of the DO (ANSI X3.9-1978, section 11.10)
 abbrev pub IsBoundOf : Head → ExprTree → Type 0
 IsBoundOf h e = (e ≡ h.first) ⊎ (e ≡ h.last)
+
+-- both bounds of the DO with this number are plain, or one isn't (this project)
+abbrev pub TellsPlain : ProgramTree → ℕ → Head → Bool → Type 0
+TellsPlain t n h true = IsPlain (table_of t).constants t n h.first × IsPlain (table_of t).constants t n h.last
+TellsPlain t n h false = (e : ExprTree) × IsBoundOf h e × (IsPlain (table_of t).constants t n e → ⊥)
 
 -- a bound of the DO with number k that is asked for isn't plain (this project)
 abbrev pub HasUnplain : ProgramTree → (ℕ → ExprTree → Type 0) → ℕ → Type 0

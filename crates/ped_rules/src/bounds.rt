@@ -13,7 +13,8 @@ ghost use Rattle.ped_loop_runs.specs.ped_flow.specs.PlainBounds.{nest_round, set
 ghost use Rattle.ped_loop_runs.specs.ped_flow.specs.Questions.{IsLoop, LoopOf};
 ghost use Rattle.ped_loop_runs.specs.ped_steps.specs.Scenes.{IsSceneOf};
 ghost use Rattle.ped_loop_runs.specs.ped_symbols.specs.Kinds.{table_of};
-ghost use Rattle.ped_rules.specs.CodePlain.{tree_at, values_at, IsPlaced, HasInterval, TellsPlain};
+ghost use Rattle.ped_rules.specs.CodePlain.{tree_at, values_at, IsPlaced, HasInterval};
+ghost use Rattle.ped_rules.specs.Rules.{TellsPlain};
 
 use ped_affine::{Setting, assigned, interval, loop_variables};
 use ped_base::{Name, NoMemory};

@@ -8,9 +8,9 @@ use ped_loop_runs::{
     indices_unwritten, none_rejected, one_for_one, private_names_cleared, stays_trusted,
 };
 
-/// `parallel` has one first cause at most and makes one program. Where nothing forbids it, that one is valid if the old one
-/// is; and if the old one is also tidy and without C$PED REJECT, so is the new one, and it means the same (Allen and
-/// Kennedy, section 2.4.1; ParaScope).
+/// `parallel` has one first cause at most and makes one program. Where nothing forbids it, that one is valid if the old
+/// one is; and if the old one is also tidy and without C$PED REJECT, so is the new one, and it means the same (Allen
+/// and Kennedy, section 2.4.1; ParaScope).
 pub fn parallel_is_lawful()
     ensures { (s : ℕ) → IsLawful (paralleling s) }
 {

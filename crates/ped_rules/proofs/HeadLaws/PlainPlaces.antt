@@ -12,7 +12,7 @@ use Rattle.ped_loop_runs.specs.ped_steps.proofs.Answering.{few_numbers}
 use Rattle.ped_loop_runs.specs.ped_flow.specs.PlainBounds.{Values, nest_round, outermost_or, assigned_by, IsPlain}
 use Rattle.ped_loop_runs.specs.ped_symbols.specs.Kinds.{table_of}
 use Rattle.ped_loop_runs.specs.ped_symbols.specs.NameRefusals.{IsValid}
-use Rattle.ped_rules.specs.CodePlain.{TellsPlain}
+use Rattle.ped_rules.specs.Rules.{TellsPlain}
 
 -- the program, and the one that the flow is of
 module _ (t u : ProgramTree) (is : u ≡ t) where

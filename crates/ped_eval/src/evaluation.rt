@@ -43,29 +43,29 @@ pub fn value_of(e: &Expr, around: &Surroundings, notes: &mut Notes) -> Valued
         Expr::Int(value) => return Ok(i128::from(*value)),
         Expr::Var(name) => return scalar_value(name, around, notes),
         Expr::Element(name, subscripts) => return element_value(name, subscripts, around, notes),
-        Expr::Neg(a) => return negative(operand_value(a, around, notes)),
+        Expr::Neg(a) => return negative(value_of(a, around, notes)),
         Expr::Add(a, b) => {
-            let left = operand_value(a, around, notes);
+            let left = value_of(a, around, notes);
             let right = next_value(&left, b, around, notes);
             return added(left, right);
         }
         Expr::Sub(a, b) => {
-            let left = operand_value(a, around, notes);
+            let left = value_of(a, around, notes);
             let right = next_value(&left, b, around, notes);
             return subtracted(left, right);
         }
         Expr::Mul(a, b) => {
-            let left = operand_value(a, around, notes);
+            let left = value_of(a, around, notes);
             let right = next_value(&left, b, around, notes);
             return multiplied(left, right);
         }
         Expr::Div(a, b) => {
-            let left = operand_value(a, around, notes);
+            let left = value_of(a, around, notes);
             let right = next_value(&left, b, around, notes);
             return divided(left, right);
         }
         Expr::Pow(a, b) => {
-            let left = operand_value(a, around, notes);
+            let left = value_of(a, around, notes);
             let right = next_value(&left, b, around, notes);
             return raised(left, right);
         }
@@ -75,42 +75,18 @@ pub fn value_of(e: &Expr, around: &Surroundings, notes: &mut Notes) -> Valued
 
 /// The value of an operand, where the one before it has come to a value; else the fault of that.
 #[cycle(value_of)]
-#[inline(always)]
 fn next_value(first: &Valued, e: &Expr, around: &Surroundings, notes: &mut Notes) -> Valued
     ensures value { result ≡ next_result first.now (value_at around.now (expr_tree e.now)) }
     ensures noted { HasNoted notes.old (seen_next first.now (seen_at around.now (expr_tree e.now))) notes.new }
 {
     match first {
-        Ok(_) => return operand_value(e, around, notes),
+        Ok(_) => return value_of(e, around, notes),
         Err(fault) => return Err(*fault),
-    }
-}
-
-/// The value of an operand. Most operands are numbers and scalars, for which `value_of` with all its cases needn't be
-/// entered.
-#[cycle(value_of)]
-#[inline(always)]
-fn operand_value(e: &Expr, around: &Surroundings, notes: &mut Notes) -> Valued
-    ensures value { result ≡ value_at around.now (expr_tree e.now) }
-    ensures noted { HasNoted notes.old (seen_at around.now (expr_tree e.now)) notes.new }
-{
-    match e {
-        Expr::Int(value) => return Ok(i128::from(*value)),
-        Expr::Var(name) => return scalar_value(name, around, notes),
-        Expr::Element(_, _)
-        | Expr::Neg(_)
-        | Expr::Add(_, _)
-        | Expr::Sub(_, _)
-        | Expr::Mul(_, _)
-        | Expr::Div(_, _)
-        | Expr::Pow(_, _)
-        | Expr::Call(_, _) => return value_of(e, around, notes),
     }
 }
 
 /// The value of a scalar or of a named constant. A variable of a DO has in the DO's body the value that the place
 /// gives.
-#[inline(never)]
 fn scalar_value(name: &Name, around: &Surroundings, notes: &mut Notes) -> Valued
     ensures value { result ≡ value_at around.now (Tree.Var name.now) }
     ensures noted { HasNoted notes.old (seen_at around.now (Tree.Var name.now)) notes.new }
@@ -190,7 +166,6 @@ fn cell_value(name: &Name, around: &Surroundings, notes: &mut Notes) -> Valued
 /// The value of an element: its subscripts are evaluated in order, then their bounds are tested, then it is read. Its cell
 /// is made for kept notes alone.
 #[cycle(value_of)]
-#[inline(never)]
 fn element_value(
     name: &Name,
     subscripts: &[Expr],
@@ -239,7 +214,7 @@ fn unnoted_element(
     let [index] = indices else {
         return element_by_more(name, indices, around, notes);
     };
-    match operand_value(index, around, notes) {
+    match value_of(index, around, notes) {
         Ok(place) => return around.store.get_element(name, &[place]),
         Err(fault) => return Err(fault),
     }
@@ -261,7 +236,7 @@ fn element_by_more(
     let [first, second] = indices else {
         return element_by_many(name, indices, around, notes);
     };
-    let row = operand_value(first, around, notes);
+    let row = value_of(first, around, notes);
     let column = next_value(&row, second, around, notes);
     match row {
         Ok(row) => match column {
@@ -568,7 +543,7 @@ pub fn truth_of(
 {
     match condition {
         Cond::Rel(relation, a, b) => {
-            let left = operand_value(a, around, notes);
+            let left = value_of(a, around, notes);
             let right = next_value(&left, b, around, notes);
             return related(relation, left, right);
         }

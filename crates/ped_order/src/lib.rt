@@ -6,12 +6,15 @@
 #![tactic(auto)]
 
 mod agreeing;
+mod entering;
 mod keys;
 mod laws;
+mod paths;
 mod reports;
 mod searching;
 mod sightings;
 mod tables;
+mod touched;
 mod watches;
 
 pub use agreeing::{interleavings_agree, without_choices};

@@ -175,7 +175,7 @@ module _ (old new : Table) (known after : Touched) (mid : List (Key × Entry)) (
           ∙ ap (λ q. if q then summed else None) (and_true on_path)
           ∙ in_path same g
       spread_told same false g =
-          let l : length (map level_view known.path) ≡ length known.path = length-map level_view known.path in
+          let l : length (map level_view known.path) ≡ length known.path = length-map known.path level_view in
           let f = ltb-false (length k.around) (length known.path) g in
           ap (λ q. first_of (told_old k n w) (if q && true then summed else None)) (too_short k.around k.statement n (map level_view known.path) (omega (arith, l, f)))
           ∙ sym (as_it_was (told_old k n w))

@@ -77,4 +77,4 @@ front_short (suc n) [] = omega arith
 front_short (suc n) (t ∷ ts) = let h = front_short n ts in omega (arith, h)
 
 pub front_long : (n : ℕ) (path : List code.Turn) → n ≤ length path → length (map turn_view (take n path)) ≡ n
-front_long n path h = length-map turn_view (take n path) ∙ length-take-le n path h
+front_long n path h = length-map (take n path) turn_view ∙ length-take-le n path h

@@ -147,7 +147,7 @@ added_further told old new entry from s a before u far parallel entered updated 
 
     within : same_key here k ≡ true → is_within from k ≡ true
     within e =
-        let l : length (map iteration_of before) ≡ length before = length-map iteration_of before in
+        let l : length (map iteration_of before) ≡ length before = length-map before iteration_of in
         ap (λ (j : Key). is_within from j) (sym ((key_decides here k).0 e)) ∙ ap not (le-ltb (length (map iteration_of before)) from (omega (arith, l, far)))
 
     go : (b : Bool) → same_key here k ≡ b → told_by new k n writes ≡ first_of (told k n writes) (if is_within from k && is_rival k n writes (cut (before ++ u ∷ []) a) then Some s else None)

@@ -91,6 +91,7 @@ impl TouchedCell {
 }
 
 impl PartialEq for TouchedCell {
+    ghost use Rattle.ped_store.specs.Cells.{same_cell};
     ghost use Rattle.ped_order.specs.KeyLaws.{cell_partial_equivalence};
 
     ghost eq = { same_cell };
@@ -109,6 +110,7 @@ impl Eq for TouchedCell {
 }
 
 impl Hash for TouchedCell {
+    ghost use Rattle.ped_order.specs.Keys.{cell_writes};
     ghost use Rattle.ped_order.specs.KeyLaws.{cells_hash_alike};
 
     ghost hash_input = { cell_writes };

@@ -38,7 +38,7 @@ pub(crate) struct Path {
 }
 
 impl Model for Path {
-    ghost use Rattle.std.specs.Prelude.{List};
+    ghost use Rattle.std.specs.Prelude.{List, take};
     ghost use Rattle.ped_order.specs.declared.paths.Level.{Level};
 
     ghost Value = { List Level };

@@ -20,7 +20,7 @@ returns c told from far h =
     let touch = c.args.touch.now in
     let entry = c.with_access-entry.result in
     let found = c.copied-entry.ensures ∙ c.get.ensures.value ∙ ap (λ (k : Key). lookup (same_key k) old) c.in_ok-key.ensures in
-    let long = length-map turn_view c.args.around.now in
+    let long = length-map c.args.around.now turn_view in
     added_further told old c.insert.new.self.entries entry from touch.sighting (in_turns [] touch) (map turn_view c.args.around.now) turn (omega (arith, far, long)) c.if-not-turn.false
     (λ n w. c.with_access-entry.ensures n w ∙ ap (λ o. first_of (rival_in o n w) (if not (turn.number == n) && (touch.writes || w) then Some touch.sighting else None)) found)
     (λ k. c.in_ok-insert.ensures.updates.0 k ∙ ap (λ (j : Key). if same_key j k then Some entry else lookup (same_key k) old) c.in_ok-key.ensures)

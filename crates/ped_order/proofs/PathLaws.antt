@@ -1,8 +1,8 @@
 -- Places in the outer iterations of a path.
-use Rattle.std.proofs.Common.{◌≡◌, ℕ, suc, ◌≤◌, ◌<◌, List, [], ◌∷◌, map, length, take, Bool, true, false, ◌&&◌, ◌==◌, not, refl, ap, ◌∙◌, arith}
+use Rattle.std.proofs.Common.{◌≡◌, ℕ, suc, ◌≤◌, ◌<◌, List, [], ◌∷◌, map, length, take, min, Bool, true, false, ◌&&◌, ◌==◌, not, refl, ap, ◌∙◌, arith}
 use Rattle.std.specs.Prelude.{if◌then◌else◌, ltb}
 use Rattle.std.proofs.lemmas.Bool.{and_parts, eqb-true, ltb-false}
-use Rattle.std.proofs.lemmas.List.{length-map, length-take-le}
+use Rattle.std.proofs.lemmas.List.{length-map, length-take}
 use Rattle.ped_laws.specs.ped_eval.specs.declared.accesses.Turn as code
 use Rattle.ped_laws.specs.ped_eval.specs.AccessViews.{turn_view}
 use Rattle.ped_store.specs.Cells.{Iteration, same_iteration}
@@ -72,9 +72,7 @@ nothing_within k n from ts q h = go (ltb (length k.around) from) refl
 
 -- the outer iterations are at most so many
 pub front_short : (n : ℕ) (path : List code.Turn) → length (map turn_view (take n path)) ≤ n
-front_short 0 path = omega arith
-front_short (suc n) [] = omega arith
-front_short (suc n) (t ∷ ts) = let h = front_short n ts in omega (arith, h)
-
-pub front_long : (n : ℕ) (path : List code.Turn) → n ≤ length path → length (map turn_view (take n path)) ≡ n
-front_long n path h = length-map (take n path) turn_view ∙ length-take-le n path h
+front_short n path =
+    let l : length (map turn_view (take n path)) ≡ length (take n path) = length-map (take n path) turn_view in
+    let m : length (take n path) ≡ min n (length path) = length-take n path in
+    omega (arith, l, m)

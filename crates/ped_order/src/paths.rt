@@ -1,6 +1,6 @@
 //! Paths: iterations that all accesses of a cell so far are in.
 
-ghost use Rattle.std.specs.Prelude.{◌≡◌, ◌≤◌, ◌<◌, ◌++◌, ◌∷◌, [], map, take, length, IfOk};
+ghost use Rattle.std.specs.Prelude.{◌≡◌, ◌≤◌, ◌<◌, ◌==◌, ◌&&◌, ◌++◌, ◌∷◌, [], not, map, take, length, IfOk};
 ghost use Rattle.ped_laws.specs.ped_eval.specs.AccessViews.{turn_view};
 ghost use Rattle.ped_order.specs.Keys as Keys;
 ghost use Rattle.ped_order.specs.Keys.{iteration_of};
@@ -183,6 +183,13 @@ fn is_same(level: &Level, turn: &Turn) -> bool
         })
 }
 
+/// Whether this is another iteration of the PARALLEL DO that the turn is of.
+fn is_other(level: &Level, turn: &Turn) -> bool
+    ensures { result ≡ ((level.now.statement == turn.now.statement) && (not (level.now.number == turn.now.number) && level.now.parallel)) }
+{
+    level.statement == turn.statement && level.number != turn.number && level.parallel
+}
+
 /// Whether the first are in another iteration of the execution of the PARALLEL DO that this turn is of.
 fn is_elsewhere(levels: &[Level], around: &[Turn], turn: &Turn) -> bool
     ensures { result ≡ Keys.is_elsewhere (map iteration_of (map turn_view around.now)) turn.now.statement turn.now.number (map level_view levels.now) }
@@ -194,11 +201,7 @@ fn is_elsewhere(levels: &[Level], around: &[Turn], turn: &Turn) -> bool
                     && level.number == outer.number
                     && is_elsewhere(inner, rest, turn);
             }
-            None => {
-                return level.statement == turn.statement
-                    && level.number != turn.number
-                    && level.parallel;
-            }
+            None => return is_other(level, turn),
         },
         None => return false,
     }

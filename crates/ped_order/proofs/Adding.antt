@@ -87,7 +87,7 @@ one_path false q r s = refl
 pub record IsAdded (old new : Table) (known after : Touched) (mid : List (Key × Entry)) (c : ℕ) (s : Sighting) (b : Access) : Type 0 where
   pub sighting : s ≡ sighting_of old.told b
   pub told : new.told ≡ old.told + 1
-  pub known : IsKnown (lookup (same_cell b.cell) old.cells.entries) known
+  pub is_known : IsKnown (lookup (same_cell b.cell) old.cells.entries) known
   pub common : c ≡ common_count (map level_view known.path) b.place.turns
   pub within : c ≤ length known.path
   pub path : after.path ≡ take c known.path
@@ -97,10 +97,10 @@ pub record IsAdded (old new : Table) (known after : Touched) (mid : List (Key ×
   pub entered : Enters (told_by mid) new.entries.entries c s b
 
 module _ (old new : Table) (known after : Touched) (mid : List (Key × Entry)) (c : ℕ) (s : Sighting) (b : Access) (seen : List Access) (h : IsAdded old new known after mid c s b) (r : Remembers old seen) where
-  told_old : Telling
+  abbrev told_old : Telling
   told_old = told_by old.entries.entries
 
-  told_new : Telling
+  abbrev told_new : Telling
   told_new = told_by new.entries.entries
 
   -- at keys that the access isn't entered at, the table says what it did
@@ -134,7 +134,7 @@ module _ (old new : Table) (known after : Touched) (mid : List (Key × Entry)) (
   long = ap length h.path ∙ length-take-le c known.path h.within
 
   known_at : (k : Key) → b.cell ≡ k.cell → IsKnown (lookup (same_cell k.cell) old.cells.entries) known
-  known_at k e = subst (λ (d : Cell). IsKnown (lookup (same_cell d) old.cells.entries) known) e h.known
+  known_at k e = subst (λ (d : Cell). IsKnown (lookup (same_cell d) old.cells.entries) known) e h.is_known
 
   -- what was told at a key of the cell
   told_before : (k : Key) (n : ℕ) (w : Bool) → b.cell ≡ k.cell → told_with known told_old k n w ≡ told_in (lookup (same_cell k.cell) old.cells.entries) told_old k n w

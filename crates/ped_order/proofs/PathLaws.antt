@@ -1,5 +1,6 @@
 -- Places in the outer iterations of a path.
 use Rattle.std.proofs.Common.{◌≡◌, ℕ, suc, ◌≤◌, ◌<◌, List, [], ◌∷◌, map, length, take, min, Bool, true, false, ◌&&◌, ◌==◌, not, refl, ap, ◌∙◌, arith}
+use Prim.Native.Nat.{zero}
 use Rattle.std.specs.Prelude.{if◌then◌else◌, ltb}
 use Rattle.std.proofs.lemmas.Bool.{and_parts, eqb-true, ltb-false}
 use Rattle.std.proofs.lemmas.List.{length-map, length-take}
@@ -24,7 +25,7 @@ too_short (i ∷ is) statement n (t ∷ ts) h = go (same_iteration (iteration_of
 
 -- the outer iterations of a place tell whether it is elsewhere
 pub front_tells : (c : ℕ) (is : List Iteration) (statement n : ℕ) (ts : List Turn) → length is < c → is_elsewhere is statement n (take c ts) ≡ is_elsewhere is statement n ts
-front_tells 0 is statement n ts h = absurd (omega (arith, h))
+front_tells zero is statement n ts h = absurd (omega (arith, h))
 front_tells (suc c) is statement n [] h = refl
 front_tells (suc c) [] statement n (t ∷ ts) h = refl
 front_tells (suc c) (i ∷ is) statement n (t ∷ ts) h = ap (λ r. same_iteration (iteration_of t) i && r) (front_tells c is statement n ts (omega (arith, h)))

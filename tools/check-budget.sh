@@ -14,6 +14,7 @@
 # - steps of a function, and of a crate: at most those below, but for those that tools/large-functions.txt lists with a number of
 #   their own, which may only fall. They are read from the built libraries, and passed over where a crate has none
 # - how far crates reach into the lemmas of others, file by file: tools/lemma-doors.py --list shows it
+# - imports that name more than three crates
 #
 # There is a line for each count that is above its limit, and a last line with all. The status is 0 only where none is.
 set -eu
@@ -27,7 +28,9 @@ most_crates_with_tests=1
 # Items are passed on one by one, so a crate names each crate of which it uses items. A way costs 2 ms a look, and a crate that is
 # passed on as a whole costs each crate above it 5 s: so there are more ways than there were, and they cost less.
 # ped_rows, laws about the rows of the pane, is on ped_laws and not on the chain of steps: that costs 420 ways, and spares the chain its proof.
-most_ways=12500
+# The six families of steps stand side by side on ped_rules, and ped_transformations on all of them: that is 4,855 ways, some 10 s a look
+# at all crates, and a change in one family spares the others their proofs.
+most_ways=17300
 most_steps_of_a_function=100
 most_steps_of_a_crate=2500
 # 9 files of lemmas and 30 imports came with `auto`: what it does to sessions rests on what each step does to the number of statements.
@@ -37,10 +40,14 @@ most_steps_of_a_crate=2500
 # That there is one number of dependence tests for each answer came with 3 imports. That reads are noted by their names, and that a
 # DO makes what no reference makes (ped_answer), came with 1 file and 13 imports. That proven rows occur (ped_rows) came with 10 files
 # and 81 imports: it rests on what ped_laws shows of runs. That expansions break no rule on names but a limit (ped_call_runs) came
-# with 1 file and 24 imports: it rests on what is known of declarations and names.
-most_lemma_files=361
-most_lemma_imports=2962
+# with 1 file and 24 imports: it rests on what is known of declarations and names. What families of steps cited of each other stands in
+# ped_rules: 3 files and 76 imports, since the family that it came from cites it there, too.
+most_lemma_files=364
+most_lemma_imports=3038
 most_needless_doors=122
+# An import names the crates on its way, as Rattle.ped_rules.specs.ped_laws.specs.Runs: at most three, but in some files, mostly of
+# ped_units and ped_calls.
+most_long_imports=53
 
 edits() {
     find crates/*/must-fail -name '*.edit' 2>/dev/null
@@ -89,6 +96,12 @@ whole_crates() {
     grep -nE '^ *pub use ([a-z_0-9]+|[a-z_0-9]+::\*|[a-z_0-9]+ as [a-z_0-9]+|[a-z_0-9]+::\{?self.*);' crates/*/src/lib.rt || true
 }
 
+# How many imports name more than three crates.
+long_imports() {
+    grep -rhoE --include='*.antt' --include='*.rt' 'use Rattle(\.[A-Za-z_0-9]+)+' crates/*/src crates/*/specs crates/*/proofs |
+        awk -F '.' '{ crates = 0; for (i = 2; i <= NF; i++) if ($i ~ /^ped_/) crates++; if (crates > 3) long++ } END { print long + 0 }'
+}
+
 # The proofs by hand outside ped_host.
 hand_proofs() {
     find crates -name Proof.antt -not -path 'crates/*/out/*' -not -path 'crates/ped_host/*'
@@ -130,6 +143,7 @@ read -r lemma_files lemma_imports needless_doors < <(python3 tools/lemma-doors.p
 hold 'files of lemmas that other crates cite' "$lemma_files" "$most_lemma_files"
 hold 'imports of other crates'"'"' lemmas' "$lemma_imports" "$most_lemma_imports"
 hold 'open files of lemmas that no other crate cites' "$needless_doors" "$most_needless_doors"
+hold 'imports by way of more than three crates' "$(long_imports)" "$most_long_imports"
 
 while IFS= read -r place; do
     printf 'budget: %s: a crate is passed on as a whole\n' "$place"

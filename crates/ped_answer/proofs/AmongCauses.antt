@@ -2,9 +2,9 @@
 use Rattle.std.proofs.Common.{◌≡◌, List, ◌∷◌, Bool, true, false, Some, None, arith, refl, sym, subst}
 use Rattle.std.specs.Prelude.{Contains}
 use Rattle.std.proofs.lemmas.List.Elements.{All-contains, Contains-append_right}
-use Rattle.ped_session.specs.ped_tree.specs.Tree.{ProgramTree}
-use Rattle.ped_session.specs.ped_graph.specs.ped_edges.specs.Edges.{Edge}
-use Rattle.ped_session.specs.ped_transformations.specs.ped_reindex.specs.ped_loops.specs.ped_scalar.specs.ped_rules.specs.ped_loop_runs.specs.ped_bodies.specs.ped_steps.specs.Causes.{Rules, Cause, rule, dependence, IsFirstCause}
+use Rattle.ped_tree.specs.Tree.{ProgramTree}
+use Rattle.ped_session.specs.ped_rules.specs.ped_edges.specs.Edges.{Edge}
+use Rattle.ped_session.specs.ped_steps.specs.Causes.{Rules, Cause, rule, dependence, IsFirstCause}
 use Rattle.ped_answer.specs.StepCauses.{IsAmong}
 
 pub first_among : (t : ProgramTree) (stands : Rules) (forbids : Edge → Bool) (c : Cause) → IsFirstCause t stands forbids (Some c) → IsAmong t stands forbids c

@@ -4,18 +4,18 @@ use Rattle.std.specs.Prelude.{⊤, ◌==◌, if◌then◌else◌}
 use Rattle.std.specs.List.{AllByRecursion}
 use Rattle.std.specs.Str.Lines.{lines}
 use Rattle.std.proofs.lemmas.Bool.{both_ways}
-use Rattle.ped_session.specs.ped_tree.specs.Tree.{Head, StmtTree, StmtTrees, Assign, If, Do, Print, Read, Stop, Comment, no_stmts, more_stmts, ProgramTree}
-use Rattle.ped_session.specs.ped_tree.specs.Views.{pack_stmts}
-use Rattle.ped_session.specs.ped_tree.specs.Grammar.Characters.{text_of}
-use Rattle.ped_session.specs.ped_tree.specs.Grammar.Columns.{is_comment, is_continuation, statement_columns}
-use Rattle.ped_session.specs.ped_tree.specs.Grammar.Statement.{Note, Statement}
-use Rattle.ped_session.specs.ped_tree.specs.Grammar.Grouping.{further_lines, joined_columns, comment_at, directive_at, notes_within, statement_at, statements_from, statements_of}
-use Rattle.ped_session.specs.ped_tree.specs.Grammar.Items.{Item, does, logical_if, end_if, begins_do, ends_program, Reading, says, outside_profile, no_form, Entry}
-use Rattle.ped_session.specs.ped_tree.specs.Grammar.StatementForms.{SimpleForm, assignment, print, read, stop, continue, LabelForm, ControlForm, control, StatementForm, program, implicit, integer, dimension, parameter, save, save_all, simple, if_simple, if_then, else_if_then, else_alone, end_of_if, do_loop, end_of_do, private, end, simple_item, behind_if, statement_form_text, statement_item}
-use Rattle.ped_session.specs.ped_tree.specs.Grammar.BlockForms.{PlainForm, a_simple, a_continue, a_logical_if, PrivateForm, no_private, private_list, BodyForm, nothing, and_then, PartForm, a_plain, an_if, a_do, RestForm, ends_if, has_else, has_else_if, LoopForm, loop, EndingForm, at_plain, at_end_do, with_inner, entry, plain_item, private_entries, body_entries, part_entries, rest_entries, loop_entries, ending_entries, comments_of, plain_trees, names_of_private, comments_of_private, first_of_rest, whole_head, body_trees, part_trees, rest_trees, loop_trees, ending_trees}
-use Rattle.ped_session.specs.ped_tree.specs.Grammar.ProgramForms.{ProgramForm, decl_entry, program_entries, behind_front, all_trees}
-use Rattle.ped_session.specs.ped_tree.specs.Grammar.Occurrences.{rejected_names}
-use Rattle.ped_session.specs.ped_tree.specs.Grammar.Reading.{IsReading, AreEntries, Reads}
+use Rattle.ped_tree.specs.Tree.{Head, StmtTree, StmtTrees, Assign, If, Do, Print, Read, Stop, Comment, no_stmts, more_stmts, ProgramTree}
+use Rattle.ped_tree.specs.Views.{pack_stmts}
+use Rattle.ped_tree.specs.Grammar.Characters.{text_of}
+use Rattle.ped_tree.specs.Grammar.Columns.{is_comment, is_continuation, statement_columns}
+use Rattle.ped_tree.specs.Grammar.Statement.{Note, Statement}
+use Rattle.ped_tree.specs.Grammar.Grouping.{further_lines, joined_columns, comment_at, directive_at, notes_within, statement_at, statements_from, statements_of}
+use Rattle.ped_tree.specs.Grammar.Items.{Item, does, logical_if, end_if, begins_do, ends_program, Reading, says, outside_profile, no_form, Entry}
+use Rattle.ped_tree.specs.Grammar.StatementForms.{SimpleForm, assignment, print, read, stop, continue, LabelForm, ControlForm, control, StatementForm, program, implicit, integer, dimension, parameter, save, save_all, simple, if_simple, if_then, else_if_then, else_alone, end_of_if, do_loop, end_of_do, private, end, simple_item, behind_if, statement_form_text, statement_item}
+use Rattle.ped_tree.specs.Grammar.BlockForms.{PlainForm, a_simple, a_continue, a_logical_if, PrivateForm, no_private, private_list, BodyForm, nothing, and_then, PartForm, a_plain, an_if, a_do, RestForm, ends_if, has_else, has_else_if, LoopForm, loop, EndingForm, at_plain, at_end_do, with_inner, entry, plain_item, private_entries, body_entries, part_entries, rest_entries, loop_entries, ending_entries, comments_of, plain_trees, names_of_private, comments_of_private, first_of_rest, whole_head, body_trees, part_trees, rest_trees, loop_trees, ending_trees}
+use Rattle.ped_tree.specs.Grammar.ProgramForms.{ProgramForm, decl_entry, program_entries, behind_front, all_trees}
+use Rattle.ped_tree.specs.Grammar.Occurrences.{rejected_names}
+use Rattle.ped_tree.specs.Grammar.Reading.{IsReading, AreEntries, Reads}
 
 -- the DO is no PARALLEL DO, and no C$PED REJECT line stands before it
 pub record IsBareHead (h : Head) : Type 0 where

@@ -1,11 +1,11 @@
 -- Where the counter of dependence tests stands after a call, by how the call ended.
 use Rattle.std.proofs.Common.{◌≡◌, ◌≢◌, ◌⊎◌, inl, inr, ℕ, ◌+◌, ◌≤◌, Bool, true, false, List, refl, sym, ap, ◌∙◌, subst, arith}
-use Rattle.ped_session.specs.ped_tree.specs.Tree.{ProgramTree}
+use Rattle.ped_tree.specs.Tree.{ProgramTree}
 use Rattle.ped_session.specs.ped_refs.specs.References.{references, pair_count}
 use Rattle.ped_session.specs.ped_valid.specs.Validity.{ReadsValid, RefusesText}
-use Rattle.ped_session.specs.ped_tree.specs.Grammar.Refusal.{Finding}
+use Rattle.ped_tree.specs.Grammar.Refusal.{Finding}
 use Rattle.ped_call_runs.specs.ped_calls.specs.ped_units.specs.Verdicts.{IsExpansion}
-use Rattle.ped_session.specs.ped_transformations.specs.ped_script.specs.Items.{commands_of}
+use Rattle.ped_script.specs.Items.{commands_of}
 use Rattle.ped_session.specs.States.{State, opened}
 use Rattle.ped_session.specs.Scripts.{Said, AnswersItems}
 use Rattle.ped_session.proofs.OneAnswer as items

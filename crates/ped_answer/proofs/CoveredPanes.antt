@@ -3,29 +3,29 @@ use Rattle.std.proofs.Common.{◌≡◌, inl, inr, refl, sym, ap, ap₂, ◌∙�
 use Rattle.std.specs.Prelude.{◌||◌, filter, MatchOption}
 use Rattle.ped_io.specs.Outside.{Contents}
 use Rattle.ped_words.specs.Requests.{Request, show, session, generate}
-use Rattle.ped_session.specs.ped_tree.specs.Tree.{ProgramTree, StmtTree}
-use Rattle.ped_session.specs.ped_tree.specs.Printing.{program_text}
-use Rattle.ped_session.specs.ped_tree.specs.Numbering.{statement_with}
+use Rattle.ped_tree.specs.Tree.{ProgramTree, StmtTree}
+use Rattle.ped_tree.specs.Printing.{program_text}
+use Rattle.ped_tree.specs.Numbering.{statement_with}
 use Rattle.ped_session.specs.ped_symbols.specs.NameRefusals.{IsValid}
-use Rattle.ped_session.specs.ped_graph.specs.ped_views.specs.declared.directions.Direction.{Direction}
-use Rattle.ped_session.specs.ped_graph.specs.ped_refs.specs.References.{Reference, references, outermost}
-use Rattle.ped_session.specs.ped_graph.specs.ped_edges.specs.Edges.{Edge, proven}
+use Rattle.ped_session.specs.ped_rules.specs.ped_views.specs.declared.directions.Direction.{Direction}
+use Rattle.ped_session.specs.ped_refs.specs.References.{Reference, references, outermost}
+use Rattle.ped_session.specs.ped_rules.specs.ped_edges.specs.Edges.{Edge, proven}
 use Rattle.ped_session.specs.ped_graph.specs.Dependences.{AreEdges, place_of}
 use Rattle.ped_session.specs.ped_graph.specs.DependencePane.{extent_of, is_in, edges_of, IsDependencePane, IsDependencePaneOf}
-use Rattle.ped_session.specs.ped_order.specs.ped_store.specs.Stores.{Store}
-use Rattle.ped_session.specs.ped_order.specs.ped_store.specs.Races.{Access, conflict, race}
-use Rattle.ped_session.specs.ped_order.specs.ped_eval.specs.Runs.{going}
-use Rattle.ped_session.specs.ped_order.specs.ped_eval.specs.Outcomes.{run_of}
-use Rattle.ped_session.specs.ped_order.specs.ped_laws.specs.Acts.Orders.{IsIn}
-use Rattle.ped_session.specs.ped_order.specs.ped_laws.specs.Conflicts.Directions.{share_a_loop}
-use Rattle.ped_session.specs.ped_order.specs.ped_laws.specs.Conflicts.Covered.{ComeInRun, IsCovered, IsCarriedInParallel}
+use Rattle.ped_session.specs.ped_rules.specs.ped_store.specs.Stores.{Store}
+use Rattle.ped_session.specs.ped_rules.specs.ped_store.specs.Races.{Access, conflict, race}
+use Rattle.ped_session.specs.ped_rules.specs.ped_eval.specs.Runs.{going}
+use Rattle.ped_session.specs.ped_rules.specs.ped_eval.specs.Outcomes.{run_of}
+use Rattle.ped_session.specs.ped_laws.specs.Acts.Orders.{IsIn}
+use Rattle.ped_session.specs.ped_laws.specs.Conflicts.Directions.{share_a_loop}
+use Rattle.ped_session.specs.ped_laws.specs.Conflicts.Covered.{ComeInRun, IsCovered, IsCarriedInParallel}
 use Rattle.ped_rows.specs.Occurring.{IsUncopied, IsLeft, Occurs}
 use Rattle.ped_session.specs.ped_transformations.specs.ped_inline.specs.CallsPane.{IsCallsPane}
 use Rattle.ped_session.specs.ped_transformations.specs.ped_inline.specs.CoveredCalls.{is_in_block, AreInOneCall, IsCoveredFolded}
-use Rattle.ped_session.specs.ped_transformations.specs.ped_script.specs.Items.{commands_of}
-use Rattle.ped_session.specs.ped_transformations.specs.ped_script.specs.declared.items.Item.{Item}
-use Rattle.ped_session.specs.ped_transformations.specs.ped_script.specs.declared.items.Command.{Command}
-use Rattle.ped_session.specs.ped_transformations.specs.ped_script.specs.declared.items.Command.TheVariants.{Source, Deps, Show, Calls, Print, Advise, Replace, Insert, Delete, Interchange, Reverse, Skew, Strip, Peel, Distribute, Fuse, Inline, Expand, Privatise, Reduce, Parallel, Serial, Reject, Auto, Undo, Redo, Run, Races, Tested}
+use Rattle.ped_script.specs.Items.{commands_of}
+use Rattle.ped_script.specs.declared.items.Item.{Item}
+use Rattle.ped_script.specs.declared.items.Command.{Command}
+use Rattle.ped_script.specs.declared.items.Command.TheVariants.{Source, Deps, Show, Calls, Print, Advise, Replace, Insert, Delete, Interchange, Reverse, Skew, Strip, Peel, Distribute, Fuse, Inline, Expand, Privatise, Reduce, Parallel, Serial, Reject, Auto, Undo, Redo, Run, Races, Tested}
 use Rattle.ped_session.specs.Panes.{ArePanes}
 use Rattle.ped_session.specs.States.{State, opened}
 use Rattle.ped_session.specs.Scripts.{Said}

@@ -4,22 +4,22 @@ use Rattle.std.specs.Prelude.{◌==◌}
 use Rattle.std.specs.Str.Lines.{lines}
 use Rattle.std.proofs.lemmas.Bool.{both_ways}
 use Rattle.std.proofs.lemmas.Bool.Decides.{nat_tests}
-use Rattle.ped_session.specs.ped_tree.specs.Tree.{ProgramTree}
-use Rattle.ped_session.specs.ped_order.specs.ped_store.specs.Cells.{Cell, Scalar, Element, Private, In, Out}
-use Rattle.ped_session.specs.ped_order.specs.ped_store.specs.Stores.{store_at_start}
-use Rattle.ped_session.specs.ped_order.specs.ped_store.specs.Acts.{Manner, reads, writes, is_told, Touch, Turn, Place, Act}
-use Rattle.ped_session.specs.ped_order.specs.ped_store.specs.Races.{Access, is_lines, is_write, is_access, accesses}
-use Rattle.ped_session.specs.ped_order.specs.ped_eval.specs.Outcomes.{setting_of, run_of}
-use Rattle.ped_session.specs.ped_order.specs.ped_laws.specs.Acts.Orders.{IsIn}
-use Rattle.ped_session.specs.ped_order.specs.ped_laws.specs.Conflicts.Covered.{ComeInRun}
-use Rattle.ped_session.specs.ped_order.specs.ped_laws.proofs.ActLaws.Lists.{in_left, in_right}
-use Rattle.ped_session.specs.ped_order.specs.ped_laws.proofs.ActLaws.Conflicting.{access_by}
-use Rattle.ped_session.specs.ped_order.specs.ped_laws.proofs.RunLaws.Touches.{Fine, Good, all_good}
-use Rattle.ped_session.specs.ped_order.specs.ped_laws.proofs.ConflictLaws.Scoping.{act_of_access}
-use Rattle.ped_session.specs.ped_order.specs.ped_laws.proofs.ConflictLaws.CoveringCells.{name_in}
-use Rattle.ped_session.specs.ped_order.specs.ped_laws.proofs.ConflictLaws.CoveringIndices.{Near}
-use Rattle.ped_session.specs.ped_order.specs.ped_laws.proofs.ConflictLaws.CoveringTelling.{Tells, program_tells}
-use Rattle.ped_session.specs.ped_order.specs.ped_laws.proofs.ConflictLaws.CoveringRuns.{first_comes, second_comes}
+use Rattle.ped_tree.specs.Tree.{ProgramTree}
+use Rattle.ped_session.specs.ped_rules.specs.ped_store.specs.Cells.{Cell, Scalar, Element, Private, In, Out}
+use Rattle.ped_session.specs.ped_rules.specs.ped_store.specs.Stores.{store_at_start}
+use Rattle.ped_session.specs.ped_rules.specs.ped_store.specs.Acts.{Manner, reads, writes, is_told, Touch, Turn, Place, Act}
+use Rattle.ped_session.specs.ped_rules.specs.ped_store.specs.Races.{Access, is_lines, is_write, is_access, accesses}
+use Rattle.ped_session.specs.ped_rules.specs.ped_eval.specs.Outcomes.{setting_of, run_of}
+use Rattle.ped_session.specs.ped_laws.specs.Acts.Orders.{IsIn}
+use Rattle.ped_session.specs.ped_laws.specs.Conflicts.Covered.{ComeInRun}
+use Rattle.ped_session.specs.ped_laws.proofs.ActLaws.Lists.{in_left, in_right}
+use Rattle.ped_session.specs.ped_laws.proofs.ActLaws.Conflicting.{access_by}
+use Rattle.ped_session.specs.ped_laws.proofs.RunLaws.Touches.{Fine, Good, all_good}
+use Rattle.ped_session.specs.ped_laws.proofs.ConflictLaws.Scoping.{act_of_access}
+use Rattle.ped_session.specs.ped_laws.proofs.ConflictLaws.CoveringCells.{name_in}
+use Rattle.ped_session.specs.ped_laws.proofs.ConflictLaws.CoveringIndices.{Near}
+use Rattle.ped_session.specs.ped_laws.proofs.ConflictLaws.CoveringTelling.{Tells, program_tells}
+use Rattle.ped_session.specs.ped_laws.proofs.ConflictLaws.CoveringRuns.{first_comes, second_comes}
 use Rattle.ped_answer.specs.Covered.{IsCellOf, IsByLoop, in_body, when_left}
 use Rattle.ped_answer.proofs.LoopStores.{Stores, program_stores}
 

@@ -2,24 +2,24 @@
 use Rattle.std.proofs.Common.{◌≡◌, ℕ, zero, suc, ◌+◌, ◌<◌, List, [], ◌∷◌, ◌++◌, Bool, true, false, ◌||◌, eqb, refl, sym, ap, ◌∙◌, ◌⊎◌, inl, inr, arith, if◌then◌else◌}
 use Rattle.std.proofs.lemmas.Bool.{or_right}
 use Rattle.ped_base.specs.Lists.{is_same_text, is_among}
-use Rattle.ped_session.specs.ped_tree.specs.Tree.{StmtTree, StmtTrees, Assign, If, Do, Print, Read, Stop, Comment, no_stmts, more_stmts, ProgramTree}
-use Rattle.ped_session.specs.ped_tree.specs.Numbering.{numbered as statements_of, all_numbered, statement_count, statements_count}
-use Rattle.ped_session.specs.ped_tree.specs.NamesIn.{loop_variables, all_loop_variables}
-use Rattle.ped_session.specs.ped_order.specs.ped_flow.specs.Questions.{LoopOf}
-use Rattle.ped_session.specs.ped_order.specs.ped_store.specs.Cells.{Cell, Private}
-use Rattle.ped_session.specs.ped_order.specs.ped_store.specs.Stores.{Undefined, Number, Store}
-use Rattle.ped_session.specs.ped_order.specs.ped_store.specs.Acts.{Manner, reads, writes, is_told, Touch, Turn, Place, Act, did, entered, ended_turn, closed, iterations_of}
-use Rattle.ped_session.specs.ped_order.specs.ped_eval.specs.Scopes.{Setting, Frame, Scope, turns_of, cell_of, names_in, place_of}
-use Rattle.ped_session.specs.ped_order.specs.ped_eval.specs.Evaluation.{Seen, cell_seen, index_seen, numbered, number_behind}
-use Rattle.ped_session.specs.ped_order.specs.ped_eval.specs.Values.{truth}
-use Rattle.ped_session.specs.ped_order.specs.ped_eval.specs.Statements.{read_touch, write_touch}
-use Rattle.ped_session.specs.ped_order.specs.ped_eval.specs.Loops.{limits, Entered, entered_with, frame, inner_variables, undefined_by, undefined_all, exit_touches, exit_when_none, left_in_variable}
-use Rattle.ped_session.specs.ped_order.specs.ped_eval.specs.Runs.{Run, nothing_done, does, turns, parallel_turns, run_entered, run, run_all}
-use Rattle.ped_session.specs.ped_order.specs.ped_eval.specs.Outcomes.{setting_of}
-use Rattle.ped_session.specs.ped_order.specs.ped_laws.proofs.ActLaws.SameCells.{text_itself}
-use Rattle.ped_session.specs.ped_order.specs.ped_laws.proofs.RunLaws.Touches.{Each, each_none, each_more, each_append, then_each, does_each, on_each, any_result, Fine, run_good}
-use Rattle.ped_session.specs.ped_order.specs.ped_laws.proofs.RunLaws.Turning.{inner_among}
-use Rattle.ped_session.specs.ped_order.specs.ped_laws.proofs.FlowRunLaws.Standing.{Stand, whole_stands, first_stands, rest_stands, inner_stands, else_stands, is_there}
+use Rattle.ped_tree.specs.Tree.{StmtTree, StmtTrees, Assign, If, Do, Print, Read, Stop, Comment, no_stmts, more_stmts, ProgramTree}
+use Rattle.ped_tree.specs.Numbering.{numbered as statements_of, all_numbered, statement_count, statements_count}
+use Rattle.ped_tree.specs.NamesIn.{loop_variables, all_loop_variables}
+use Rattle.ped_session.specs.ped_flow.specs.Questions.{LoopOf}
+use Rattle.ped_session.specs.ped_rules.specs.ped_store.specs.Cells.{Cell, Private}
+use Rattle.ped_session.specs.ped_rules.specs.ped_store.specs.Stores.{Undefined, Number, Store}
+use Rattle.ped_session.specs.ped_rules.specs.ped_store.specs.Acts.{Manner, reads, writes, is_told, Touch, Turn, Place, Act, did, entered, ended_turn, closed, iterations_of}
+use Rattle.ped_session.specs.ped_rules.specs.ped_eval.specs.Scopes.{Setting, Frame, Scope, turns_of, cell_of, names_in, place_of}
+use Rattle.ped_session.specs.ped_rules.specs.ped_eval.specs.Evaluation.{Seen, cell_seen, index_seen, numbered, number_behind}
+use Rattle.ped_session.specs.ped_rules.specs.ped_eval.specs.Values.{truth}
+use Rattle.ped_session.specs.ped_rules.specs.ped_eval.specs.Statements.{read_touch, write_touch}
+use Rattle.ped_session.specs.ped_rules.specs.ped_eval.specs.Loops.{limits, Entered, entered_with, frame, inner_variables, undefined_by, undefined_all, exit_touches, exit_when_none, left_in_variable}
+use Rattle.ped_session.specs.ped_rules.specs.ped_eval.specs.Runs.{Run, nothing_done, does, turns, parallel_turns, run_entered, run, run_all}
+use Rattle.ped_session.specs.ped_rules.specs.ped_eval.specs.Outcomes.{setting_of}
+use Rattle.ped_session.specs.ped_laws.proofs.ActLaws.SameCells.{text_itself}
+use Rattle.ped_session.specs.ped_laws.proofs.RunLaws.Touches.{Each, each_none, each_more, each_append, then_each, does_each, on_each, any_result, Fine, run_good}
+use Rattle.ped_session.specs.ped_laws.proofs.RunLaws.Turning.{inner_among}
+use Rattle.ped_session.specs.ped_laws.proofs.FlowRunLaws.Standing.{Stand, whole_stands, first_stands, rest_stands, inner_stands, else_stands, is_there}
 use Rattle.ped_answer.specs.Covered.{IsCellOf}
 
 -- this DO stores the cell itself

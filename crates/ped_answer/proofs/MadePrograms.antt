@@ -5,10 +5,10 @@ use Rattle.std.specs.List.{AllByRecursion, list_all, flat_map, range_with_len}
 use Rattle.std.specs.Str.Lines.{lines}
 use Rattle.std.specs.Fmt.{decimal}
 use Rattle.ped_gen.specs.Generated.{nest, assignment, front, later_nest, program}
-use Rattle.ped_session.specs.ped_tree.specs.Tree.{ProgramTree}
-use Rattle.ped_session.specs.ped_tree.specs.Grammar.Characters.{is_printable, is_quoted, kept}
-use Rattle.ped_session.specs.ped_tree.specs.Grammar.Columns.{is_comment, statement_columns}
-use Rattle.ped_session.specs.ped_tree.specs.Grammar.Reading.{Reads}
+use Rattle.ped_tree.specs.Tree.{ProgramTree}
+use Rattle.ped_tree.specs.Grammar.Characters.{is_printable, is_quoted, kept}
+use Rattle.ped_tree.specs.Grammar.Columns.{is_comment, statement_columns}
+use Rattle.ped_tree.specs.Grammar.Reading.{Reads}
 use Rattle.ped_session.specs.ped_valid.specs.ped_parse.specs.ped_lines.proofs.PrintedLaws.Lines.{IsLine, printable_line, lines_written}
 use Rattle.ped_answer.proofs.MadeScripts.{decimal_printable}
 use Rattle.ped_answer.proofs.BareTexts.{AreBare, IsBareLine, joined, bare_program}

@@ -3,24 +3,24 @@ use Rattle.std.proofs.Common.{◌≡◌, refl, sym, ap, ◌∙◌, subst, inl, i
 use Rattle.std.specs.Prelude.{◌↔◌}
 use Rattle.std.specs.List.{AllByRecursion}
 use Rattle.ped_gen.specs.Generated.{program as made_text, script}
-use Rattle.ped_session.specs.ped_tree.specs.Tree.{ProgramTree}
-use Rattle.ped_session.specs.ped_tree.specs.Printing.{program_text}
-use Rattle.ped_session.specs.ped_tree.specs.Numbering.{statements_count}
+use Rattle.ped_tree.specs.Tree.{ProgramTree}
+use Rattle.ped_tree.specs.Printing.{program_text}
+use Rattle.ped_tree.specs.Numbering.{statements_count}
 use Rattle.ped_session.specs.ped_refs.specs.References.{references, pair_count}
 use Rattle.ped_session.specs.ped_valid.specs.Validity.{ReadsValid}
-use Rattle.ped_session.specs.ped_order.specs.ped_eval.specs.Runs.{Ending, going, stopped, failed}
-use Rattle.ped_session.specs.ped_order.specs.ped_eval.specs.Outcomes.{Ends, Outcome, outcome_of, outcome, run_of, IsRaceFree, live_rows}
+use Rattle.ped_session.specs.ped_rules.specs.ped_eval.specs.Runs.{Ending, going, stopped, failed}
+use Rattle.ped_session.specs.ped_rules.specs.ped_eval.specs.Outcomes.{Ends, Outcome, outcome_of, outcome, run_of, IsRaceFree, live_rows}
 use Rattle.ped_session.specs.ped_order.specs.ped_interleavings.specs.Interleavings.{IsInterleaved}
-use Rattle.ped_session.specs.ped_order.specs.ped_store.specs.Cells.{Out}
-use Rattle.ped_session.specs.ped_order.specs.ped_store.specs.Stores.{lines_in}
-use Rattle.ped_session.specs.ped_transformations.specs.ped_script.specs.Items.{commands_of}
-use Rattle.ped_session.specs.ped_transformations.specs.ped_script.specs.declared.items.Command.{Command}
-use Rattle.ped_session.specs.ped_transformations.specs.ped_script.specs.declared.items.Command.TheVariants.{Interchange, Parallel}
-use Rattle.ped_session.specs.ped_transformations.specs.ped_script.specs.declared.items.Item.{Item}
-use Rattle.ped_session.specs.ped_transformations.specs.ped_reindex.specs.ped_loops.specs.Interchanging.{interchanging}
-use Rattle.ped_session.specs.ped_transformations.specs.ped_reindex.specs.ped_loops.specs.Paralleling.{paralleling}
-use Rattle.ped_session.specs.ped_transformations.specs.ped_reindex.specs.ped_loops.specs.ped_scalar.specs.ped_rules.specs.Steps.{StepAt, transformation}
-use Rattle.ped_session.specs.ped_transformations.specs.ped_reindex.specs.ped_loops.specs.ped_scalar.specs.ped_rules.specs.ped_loop_runs.specs.Unrejected.{IsTrusted}
+use Rattle.ped_session.specs.ped_rules.specs.ped_store.specs.Cells.{Out}
+use Rattle.ped_session.specs.ped_rules.specs.ped_store.specs.Stores.{lines_in}
+use Rattle.ped_script.specs.Items.{commands_of}
+use Rattle.ped_script.specs.declared.items.Command.{Command}
+use Rattle.ped_script.specs.declared.items.Command.TheVariants.{Interchange, Parallel}
+use Rattle.ped_script.specs.declared.items.Item.{Item}
+use Rattle.ped_session.specs.ped_transformations.specs.ped_loops.specs.Interchanging.{interchanging}
+use Rattle.ped_session.specs.ped_rules.specs.Paralleling.{paralleling}
+use Rattle.ped_session.specs.ped_rules.specs.Steps.{StepAt, transformation}
+use Rattle.ped_session.specs.ped_transformations.specs.ped_loop_runs.specs.Unrejected.{IsTrusted}
 use Rattle.ped_session.specs.declared.replies.Reply.{Reply}
 use Rattle.ped_session.specs.States.{State, opened}
 use Rattle.ped_session.specs.Steps.{change_by, Transforms, missing, forbidden, transformed, IsStep}

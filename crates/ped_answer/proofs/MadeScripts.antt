@@ -8,14 +8,14 @@ use Rattle.std.specs.Fmt.{decimal, digits, digits_onto, digit_glyph}
 use Rattle.std.proofs.Math.Nat.{mod-lt}
 use Rattle.std.proofs.lemmas.Bool.{lt-ltb, le-leb, and_from}
 use Rattle.ped_gen.specs.Generated.{commands, script}
-use Rattle.ped_session.specs.ped_tree.specs.Grammar.Characters.{is_printable}
+use Rattle.ped_tree.specs.Grammar.Characters.{is_printable}
 use Rattle.ped_session.specs.ped_valid.specs.ped_parse.specs.ped_lines.proofs.PrintedLaws.Lines.{IsLine, printable_line, lines_written}
-use Rattle.ped_session.specs.ped_transformations.specs.ped_script.specs.Words.{Text, words_of, number_of}
-use Rattle.ped_session.specs.ped_transformations.specs.ped_script.specs.Rows.{done, number, command_of}
-use Rattle.ped_session.specs.ped_transformations.specs.ped_script.specs.Items.{whole_command, taken_lines, item_at, items_from, commands_of}
-use Rattle.ped_session.specs.ped_transformations.specs.ped_script.specs.declared.items.Command.{Command}
-use Rattle.ped_session.specs.ped_transformations.specs.ped_script.specs.declared.items.Command.TheVariants.{Interchange, Parallel, Auto}
-use Rattle.ped_session.specs.ped_transformations.specs.ped_script.specs.declared.items.Item.{Item}
+use Rattle.ped_script.specs.Words.{Text, words_of, number_of}
+use Rattle.ped_script.specs.Rows.{done, number, command_of}
+use Rattle.ped_script.specs.Items.{whole_command, taken_lines, item_at, items_from, commands_of}
+use Rattle.ped_script.specs.declared.items.Command.{Command}
+use Rattle.ped_script.specs.declared.items.Command.TheVariants.{Interchange, Parallel, Auto}
+use Rattle.ped_script.specs.declared.items.Item.{Item}
 use Rattle.ped_answer.specs.Tallies.{IsNoAuto}
 
 -- numerals can be printed, of whatever number

@@ -2,15 +2,15 @@
 use Rattle.std.proofs.Common.{◌≡◌, ◌⊎◌, inl, inr, ℕ, Bool, true, false, List, [], ◌++◌, Option, Some, None, refl, sym, ap, ◌∙◌, subst, length}
 use Rattle.std.specs.Prelude.{MatchOption, MatchBool, nat_lt}
 use Rattle.ped_io.specs.Outside.{Contents, content}
-use Rattle.ped_session.specs.ped_tree.specs.Tree.{ProgramTree}
-use Rattle.ped_session.specs.ped_tree.specs.Grammar.Refusal.{Finding}
-use Rattle.ped_session.specs.ped_tree.specs.SourcePane.{source_pane}
+use Rattle.ped_tree.specs.Tree.{ProgramTree}
+use Rattle.ped_tree.specs.Grammar.Refusal.{Finding}
+use Rattle.ped_tree.specs.SourcePane.{source_pane}
 use Rattle.ped_session.specs.ped_valid.specs.Validity.{ReadsValid, RefusesText}
 use Rattle.ped_session.specs.ped_valid.proofs.OneVerdict.{one_of_both}
 use Rattle.ped_call_runs.specs.ped_calls.specs.ped_units.specs.Verdicts.{UnitFinding, found_in_text, RefusesUnits, IsExpansion}
 use Rattle.ped_call_runs.specs.ped_calls.proofs.OneVerdict as units
 use Rattle.ped_session.specs.ped_graph.proofs.OnePane.{one_pane}
-use Rattle.ped_session.specs.ped_transformations.specs.ped_script.specs.Items.{commands_of}
+use Rattle.ped_script.specs.Items.{commands_of}
 use Rattle.ped_session.specs.Panes.{ArePanes}
 use Rattle.ped_session.specs.States.{State, opened}
 use Rattle.ped_session.specs.Scripts.{Said}

@@ -1,14 +1,14 @@
 -- A program has one report.
 use Rattle.std.proofs.Common.{◌≡◌, sym, ap, ◌∙◌, subst, ℕ, ◌+◌, List, [], length}
 use Rattle.ped_gen.specs.Generated.{script}
-use Rattle.ped_session.specs.ped_tree.specs.Tree.{ProgramTree}
-use Rattle.ped_session.specs.ped_tree.specs.Numbering.{statements_count}
+use Rattle.ped_tree.specs.Tree.{ProgramTree}
+use Rattle.ped_tree.specs.Numbering.{statements_count}
 use Rattle.ped_session.specs.ped_refs.specs.References.{references, pair_count}
 use Rattle.ped_session.specs.ped_graph.specs.Dependences.{AreEdges}
 use Rattle.ped_session.specs.ped_graph.proofs.OnePane.{one_edges}
 use Rattle.ped_session.specs.ped_valid.specs.Validity.{ReadsValid}
-use Rattle.ped_session.specs.ped_order.specs.ped_eval.specs.Outcomes.{Outcome}
-use Rattle.ped_session.specs.ped_transformations.specs.ped_script.specs.Items.{commands_of}
+use Rattle.ped_session.specs.ped_rules.specs.ped_eval.specs.Outcomes.{Outcome}
+use Rattle.ped_script.specs.Items.{commands_of}
 use Rattle.ped_session.specs.LoweredRuns.{IsLoweredRun}
 use Rattle.ped_session.specs.States.{State, opened}
 use Rattle.ped_session.proofs.OneRun.{one_lowered_run}

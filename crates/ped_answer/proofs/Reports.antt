@@ -1,15 +1,15 @@
 -- The report of a program that is made, by what its script came to and by what is reported of the last program.
 use Rattle.std.proofs.Common.{◌≡◌, ◌∙◌, refl, sym, ap, subst, ℕ, ◌+◌, List, [], ◌++◌, length, codes, arith}
 use Rattle.ped_gen.specs.Generated.{program, script}
-use Rattle.ped_session.specs.ped_tree.specs.Tree.{ProgramTree}
-use Rattle.ped_session.specs.ped_tree.specs.Numbering.{statements_count}
+use Rattle.ped_tree.specs.Tree.{ProgramTree}
+use Rattle.ped_tree.specs.Numbering.{statements_count}
 use Rattle.ped_session.specs.ped_refs.specs.References.{references, pair_count}
 use Rattle.ped_session.specs.ped_symbols.specs.NameRefusals.{IsValid}
 use Rattle.ped_session.specs.ped_valid.specs.Validity.{ReadsValid}
 use Rattle.ped_session.specs.ped_valid.proofs.OneVerdict.{valid_prints}
-use Rattle.ped_session.specs.ped_order.specs.ped_eval.specs.Outcomes.{Outcome}
-use Rattle.ped_session.specs.ped_transformations.specs.ped_script.specs.Items.{commands_of}
-use Rattle.ped_session.specs.ped_transformations.specs.ped_script.specs.declared.items.Item.{Item}
+use Rattle.ped_session.specs.ped_rules.specs.ped_eval.specs.Outcomes.{Outcome}
+use Rattle.ped_script.specs.Items.{commands_of}
+use Rattle.ped_script.specs.declared.items.Item.{Item}
 use Rattle.ped_session.specs.LoweredRuns.{IsLoweredRun}
 use Rattle.ped_session.specs.States.{State, opened}
 use Rattle.ped_session.specs.Scripts.{Said, AnswersItems}
@@ -17,7 +17,7 @@ use Rattle.ped_session.specs.Histories.{ArePrinted}
 use Rattle.ped_answer.specs.declared.tallies.Tally as code
 use Rattle.ped_answer.specs.Generated.{Tally, Figures, Applies, figure_line, runs_line, report}
 use Rattle.ped_answer.specs.Tallies.{first_count, Counts, ReportsLast, Reported}
-use Rattle.ped_answer.specs.ped_session.specs.ped_transformations.specs.ped_reduce.specs.ped_splits.proofs.Existence.Edges.{edges_of_program}
+use Rattle.ped_session.specs.ped_transformations.specs.ped_splits.proofs.Existence.Edges.{edges_of_program}
 use Rattle.ped_answer.proofs.ExistenceLaws.Replying.{reads_printed}
 use Rattle.ped_answer.proofs.Tallying.{says_items}
 

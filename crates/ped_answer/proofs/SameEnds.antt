@@ -5,9 +5,9 @@ use Rattle.std.specs.Bool.{Decides}
 use Rattle.std.specs.Option.{option_eq}
 use Rattle.std.specs.Ordering.{int_eq}
 use Rattle.std.proofs.lemmas.Bool.Decides.{Decides-int_eq, Decides-like}
-use Rattle.ped_session.specs.ped_order.specs.ped_eval.specs.Outcomes.{LiveRow, Outcome, Ended, Fault}
-use Rattle.ped_session.specs.ped_order.specs.ped_eval.specs.OutcomeViews.{row_view}
-use Rattle.ped_session.specs.ped_order.specs.ped_eval.specs.declared.outcomes.LiveRow as code_row
+use Rattle.ped_session.specs.ped_rules.specs.ped_eval.specs.Outcomes.{LiveRow, Outcome, Ended, Fault}
+use Rattle.ped_session.specs.ped_rules.specs.ped_eval.specs.OutcomeViews.{row_view}
+use Rattle.ped_session.specs.ped_rules.specs.ped_eval.specs.declared.outcomes.LiveRow as code_row
 use Rattle.ped_answer.specs.Generated.{EndAlike}
 
 -- the code's test on values

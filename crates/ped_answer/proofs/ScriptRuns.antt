@@ -2,8 +2,8 @@
 use Rattle.std.proofs.Common.{ℕ, List, [], ◌∷◌, Option, Some, None}
 use Rattle.ped_io.specs.Outside.{Contents}
 use Rattle.ped_words.specs.Requests.{Request, show, session, generate}
-use Rattle.ped_session.specs.ped_tree.specs.Tree.{ProgramTree}
-use Rattle.ped_session.specs.ped_transformations.specs.ped_script.specs.declared.items.Item.{Item}
+use Rattle.ped_tree.specs.Tree.{ProgramTree}
+use Rattle.ped_script.specs.declared.items.Item.{Item}
 use Rattle.ped_session.specs.States.{State, opened}
 use Rattle.ped_session.specs.Scripts.{Said, AnswersItems}
 use Rattle.ped_session.specs.Meanings.{IsMeaningKept}

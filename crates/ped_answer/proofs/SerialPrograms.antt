@@ -4,19 +4,19 @@ use Rattle.std.specs.List.{AllByRecursion}
 use Rattle.std.proofs.lemmas.Bool.{both_ways, or_from, false_from_ne_true}
 use Rattle.std.proofs.lemmas.List.Elements.{All-from_recursion}
 use Rattle.ped_base.specs.Lists.{has_some}
-use Rattle.ped_session.specs.ped_tree.specs.Tree.{StmtTree, StmtTrees, Assign, If, Do, Print, Read, Stop, Comment, no_stmts, more_stmts, ProgramTree}
-use Rattle.ped_session.specs.ped_tree.specs.Numbering.{statement_count, statements_count}
-use Rattle.ped_session.specs.ped_tree.specs.Accesses.{Access as Reading, own_accesses, constant_names}
-use Rattle.ped_session.specs.ped_tree.specs.Nests.{Loop, indices_of}
+use Rattle.ped_tree.specs.Tree.{StmtTree, StmtTrees, Assign, If, Do, Print, Read, Stop, Comment, no_stmts, more_stmts, ProgramTree}
+use Rattle.ped_tree.specs.Numbering.{statement_count, statements_count}
+use Rattle.ped_tree.specs.Accesses.{Access as Reading, own_accesses, constant_names}
+use Rattle.ped_tree.specs.Nests.{Loop, indices_of}
 use Rattle.ped_session.specs.ped_symbols.specs.NameRefusals.{IsValid}
 use Rattle.ped_session.specs.ped_refs.specs.References.{Reference, numbered_accesses, statement_references, statements_references, references}
-use Rattle.ped_session.specs.ped_graph.specs.ped_edges.specs.Edges.{Edge}
+use Rattle.ped_session.specs.ped_rules.specs.ped_edges.specs.Edges.{Edge}
 use Rattle.ped_session.specs.ped_graph.specs.Dependences.{AreEdges}
-use Rattle.ped_session.specs.ped_order.specs.ped_store.specs.Races.{Access, accesses, race, HasNoRace}
-use Rattle.ped_session.specs.ped_order.specs.ped_eval.specs.Outcomes.{run_of}
-use Rattle.ped_session.specs.ped_order.specs.ped_laws.specs.Acts.Orders.{IsIn}
-use Rattle.ped_session.specs.ped_order.specs.ped_laws.specs.Conflicts.Covered.{IsParallelAt}
-use Rattle.ped_session.specs.ped_transformations.specs.ped_reindex.specs.ped_loops.specs.ped_scalar.specs.ped_rules.specs.ped_loop_runs.specs.Unrejected.{has_rejection, some_rejection, IsTrusted}
+use Rattle.ped_session.specs.ped_rules.specs.ped_store.specs.Races.{Access, accesses, race, HasNoRace}
+use Rattle.ped_session.specs.ped_rules.specs.ped_eval.specs.Outcomes.{run_of}
+use Rattle.ped_session.specs.ped_laws.specs.Acts.Orders.{IsIn}
+use Rattle.ped_session.specs.ped_laws.specs.Conflicts.Covered.{IsParallelAt}
+use Rattle.ped_session.specs.ped_transformations.specs.ped_loop_runs.specs.Unrejected.{has_rejection, some_rejection, IsTrusted}
 use Rattle.ped_answer.proofs.BareTexts.{IsBare, AreBare, joined, behind}
 use Rattle.ped_answer.proofs.NoLists.{bare_loop}
 use Rattle.ped_answer.proofs.CoveredPanes.{RacesCovered}

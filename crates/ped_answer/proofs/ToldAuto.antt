@@ -3,17 +3,17 @@ use Rattle.std.proofs.Common.{◌≡◌, inl, inr, ℕ, List, [], ◌∷◌, Opt
 use Rattle.std.specs.List.{AllByRecursion}
 use Rattle.ped_io.specs.Outside.{Contents}
 use Rattle.ped_words.specs.Requests.{Request, show, session, generate}
-use Rattle.ped_session.specs.ped_tree.specs.Tree.{ProgramTree}
+use Rattle.ped_tree.specs.Tree.{ProgramTree}
 use Rattle.ped_session.specs.ped_valid.specs.Validity.{ReadsValid}
-use Rattle.ped_session.specs.ped_transformations.specs.ped_reindex.specs.ped_loops.specs.Paralleling.{paralleling}
-use Rattle.ped_session.specs.ped_transformations.specs.ped_reindex.specs.ped_loops.specs.ped_scalar.specs.ped_rules.specs.Steps.{transformation, MaybeStep, no_step, some_step, MatchStep}
-use Rattle.ped_session.specs.ped_transformations.specs.ped_reindex.specs.ped_loops.specs.ped_scalar.specs.ped_rules.specs.ped_loop_runs.specs.ped_bodies.specs.ped_steps.specs.Causes.{Cause}
-use Rattle.ped_session.specs.ped_transformations.specs.ped_auto.specs.Replay.{Replays}
-use Rattle.ped_session.specs.ped_transformations.specs.ped_auto.specs.Strategy.{Report, IsAuto}
+use Rattle.ped_session.specs.ped_rules.specs.Paralleling.{paralleling}
+use Rattle.ped_session.specs.ped_rules.specs.Steps.{transformation, MaybeStep, no_step, some_step, MatchStep}
+use Rattle.ped_session.specs.ped_steps.specs.Causes.{Cause}
+use Rattle.ped_session.specs.ped_auto.specs.Replay.{Replays}
+use Rattle.ped_session.specs.ped_auto.specs.Strategy.{Report, IsAuto}
 use Rattle.ped_session.specs.ped_transformations.specs.Table.{step_of}
-use Rattle.ped_session.specs.ped_transformations.specs.ped_script.specs.Items.{commands_of}
-use Rattle.ped_session.specs.ped_transformations.specs.ped_script.specs.declared.items.Command.{Command}
-use Rattle.ped_session.specs.ped_transformations.specs.ped_script.specs.declared.items.Command.TheVariants.{Source, Deps, Show, Calls, Print, Advise, Replace, Insert, Delete, Interchange, Reverse, Skew, Strip, Peel, Distribute, Fuse, Inline, Expand, Privatise, Reduce, Parallel, Serial, Reject, Auto, Undo, Redo, Run, Races, Tested}
+use Rattle.ped_script.specs.Items.{commands_of}
+use Rattle.ped_script.specs.declared.items.Command.{Command}
+use Rattle.ped_script.specs.declared.items.Command.TheVariants.{Source, Deps, Show, Calls, Print, Advise, Replace, Insert, Delete, Interchange, Reverse, Skew, Strip, Peel, Distribute, Fuse, Inline, Expand, Privatise, Reduce, Parallel, Serial, Reject, Auto, Undo, Redo, Run, Races, Tested}
 use Rattle.ped_session.specs.declared.replies.Refusal.TheVariants.{Step}
 use Rattle.ped_session.specs.declared.replies.Reply.{Reply}
 use Rattle.ped_session.specs.declared.replies.Reply.TheVariants.{Changed, Refused}

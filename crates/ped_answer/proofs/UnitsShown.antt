@@ -3,18 +3,18 @@ use Rattle.std.proofs.Common.{◌≡◌, inl, inr, ℕ, List, [], ◌∷◌, Opt
 use Rattle.std.specs.Prelude.{◌↔◌}
 use Rattle.ped_io.specs.Outside.{Contents}
 use Rattle.ped_words.specs.Requests.{Request, show, session, generate}
-use Rattle.ped_session.specs.ped_tree.specs.Tree.{ProgramTree}
-use Rattle.ped_session.specs.ped_tree.specs.Printing.{program_text}
+use Rattle.ped_tree.specs.Tree.{ProgramTree}
+use Rattle.ped_tree.specs.Printing.{program_text}
 use Rattle.ped_session.specs.ped_symbols.specs.NameRefusals.{IsValid}
 use Rattle.ped_session.specs.ped_valid.specs.Validity.{ReadsValid}
-use Rattle.ped_session.specs.ped_order.specs.ped_eval.specs.Outcomes.{Ends, Fault, Outcome, outcome}
-use Rattle.ped_session.specs.ped_order.specs.ped_eval.specs.Runs.{failed}
+use Rattle.ped_session.specs.ped_rules.specs.ped_eval.specs.Outcomes.{Ends, Fault, Outcome, outcome}
+use Rattle.ped_session.specs.ped_rules.specs.ped_eval.specs.Runs.{failed}
 use Rattle.ped_session.specs.ped_order.specs.ped_interleavings.specs.Interleavings.{IsInterleaved}
 use Rattle.ped_session.specs.ped_transformations.specs.ped_reduce.specs.Lowering.{Lowered}
 use Rattle.ped_session.specs.ped_transformations.specs.ped_reduce.specs.Reducing.{IsLowered}
-use Rattle.ped_session.specs.ped_transformations.specs.ped_script.specs.declared.items.Command.{Command}
-use Rattle.ped_session.specs.ped_transformations.specs.ped_script.specs.declared.items.Command.TheVariants.{Auto, Run}
-use Rattle.ped_session.specs.ped_transformations.specs.ped_script.specs.declared.items.Item.{Item}
+use Rattle.ped_script.specs.declared.items.Command.{Command}
+use Rattle.ped_script.specs.declared.items.Command.TheVariants.{Auto, Run}
+use Rattle.ped_script.specs.declared.items.Item.{Item}
 use Rattle.ped_session.specs.declared.replies.Reply.{Reply}
 use Rattle.ped_session.specs.declared.replies.Reply.TheVariants.{Shown}
 use Rattle.ped_session.specs.States.{State, opened}

@@ -3,9 +3,9 @@ use Rattle.std.specs.Prelude.{◌≡◌, ◌⊎◌, ℕ, List, [], ◌∷◌, �
 use Rattle.std.specs.Fmt.{decimal}
 use Rattle.ped_io.specs.Outside.{Contents, content}
 use Rattle.ped_words.specs.Requests.{Request, show, session, generate}
-use Rattle.ped_session.specs.ped_tree.specs.Tree.{ProgramTree}
+use Rattle.ped_tree.specs.Tree.{ProgramTree}
 use Rattle.ped_call_runs.specs.ped_calls.specs.ped_units.specs.Verdicts.{UnitFinding, RefusesUnits, IsExpansion}
-use Rattle.ped_session.specs.ped_transformations.specs.ped_script.specs.Items.{commands_of}
+use Rattle.ped_script.specs.Items.{commands_of}
 use Rattle.ped_session.specs.States.{State, opened}
 use Rattle.ped_session.specs.Panes.{ArePanes}
 use Rattle.ped_session.specs.Scripts.{Said, AnswersItems}

@@ -1,25 +1,25 @@
 -- What the panes of dependences and of calls cover of the run in order of their program, on whatever data: conflicts, but for those of accesses that a DO makes itself, and races; and that what is proven occurs (Allen and Kennedy, section 2.2.1; ParaScope; this project).
 use Rattle.std.specs.Prelude.{◌≡◌, ◌⊎◌, ℕ, ◌<◌, List, ◌++◌, Bool, true, false, ◌||◌}
 use Rattle.ped_base.specs.Lists.{is_among}
-use Rattle.ped_session.specs.ped_tree.specs.Tree.{ProgramTree}
-use Rattle.ped_session.specs.ped_tree.specs.NamesIn.{all_loop_variables}
-use Rattle.ped_session.specs.ped_tree.specs.SourcePane.{source_pane}
-use Rattle.ped_session.specs.ped_graph.specs.ped_views.specs.declared.directions.Direction.{Direction}
-use Rattle.ped_session.specs.ped_graph.specs.ped_refs.specs.References.{Reference, references, outermost}
-use Rattle.ped_session.specs.ped_graph.specs.ped_edges.specs.Edges.{Edge, proven}
-use Rattle.ped_session.specs.ped_graph.specs.ped_edges.specs.Rows.{edges_pane}
+use Rattle.ped_tree.specs.Tree.{ProgramTree}
+use Rattle.ped_tree.specs.NamesIn.{all_loop_variables}
+use Rattle.ped_tree.specs.SourcePane.{source_pane}
+use Rattle.ped_session.specs.ped_rules.specs.ped_views.specs.declared.directions.Direction.{Direction}
+use Rattle.ped_session.specs.ped_refs.specs.References.{Reference, references, outermost}
+use Rattle.ped_session.specs.ped_rules.specs.ped_edges.specs.Edges.{Edge, proven}
+use Rattle.ped_session.specs.ped_rules.specs.ped_edges.specs.Rows.{edges_pane}
 use Rattle.ped_session.specs.ped_graph.specs.Dependences.{AreEdges, place_of}
 use Rattle.ped_session.specs.ped_graph.specs.DependencePane.{extent_of, is_in, edges_of}
-use Rattle.ped_session.specs.ped_order.specs.ped_flow.specs.Questions.{LoopOf}
-use Rattle.ped_session.specs.ped_order.specs.ped_store.specs.Cells.{Cell, Scalar, Element, Private, In, Out}
-use Rattle.ped_session.specs.ped_order.specs.ped_store.specs.Acts.{Turn}
-use Rattle.ped_session.specs.ped_order.specs.ped_store.specs.Stores.{Store}
-use Rattle.ped_session.specs.ped_order.specs.ped_store.specs.Races.{Access, conflict, race}
-use Rattle.ped_session.specs.ped_order.specs.ped_eval.specs.Runs.{going}
-use Rattle.ped_session.specs.ped_order.specs.ped_eval.specs.Outcomes.{run_of}
-use Rattle.ped_session.specs.ped_order.specs.ped_laws.specs.Acts.Orders.{IsIn}
-use Rattle.ped_session.specs.ped_order.specs.ped_laws.specs.Conflicts.Directions.{share_a_loop}
-use Rattle.ped_session.specs.ped_order.specs.ped_laws.specs.Conflicts.Covered.{ComeInRun, IsCovered, IsCarriedInParallel}
+use Rattle.ped_session.specs.ped_flow.specs.Questions.{LoopOf}
+use Rattle.ped_session.specs.ped_rules.specs.ped_store.specs.Cells.{Cell, Scalar, Element, Private, In, Out}
+use Rattle.ped_session.specs.ped_rules.specs.ped_store.specs.Acts.{Turn}
+use Rattle.ped_session.specs.ped_rules.specs.ped_store.specs.Stores.{Store}
+use Rattle.ped_session.specs.ped_rules.specs.ped_store.specs.Races.{Access, conflict, race}
+use Rattle.ped_session.specs.ped_rules.specs.ped_eval.specs.Runs.{going}
+use Rattle.ped_session.specs.ped_rules.specs.ped_eval.specs.Outcomes.{run_of}
+use Rattle.ped_session.specs.ped_laws.specs.Acts.Orders.{IsIn}
+use Rattle.ped_session.specs.ped_laws.specs.Conflicts.Directions.{share_a_loop}
+use Rattle.ped_session.specs.ped_laws.specs.Conflicts.Covered.{ComeInRun, IsCovered, IsCarriedInParallel}
 use Rattle.ped_rows.specs.Occurring.{IsUncopied, IsLeft, Occurs}
 use Rattle.ped_session.specs.ped_transformations.specs.ped_inline.specs.CallsPane.{calls, calls_pane}
 use Rattle.ped_session.specs.ped_transformations.specs.ped_inline.specs.CoveredCalls.{is_in_block, AreInOneCall, IsCoveredFolded}

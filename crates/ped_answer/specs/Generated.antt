@@ -2,17 +2,17 @@
 use Rattle.std.specs.Prelude.{◌≡◌, ℕ, ◌+◌, List, [], ◌∷◌, ◌++◌, length, codes, Option, Some, None}
 use Rattle.std.specs.Fmt.{decimal}
 use Rattle.ped_gen.specs.Generated.{program, script}
-use Rattle.ped_session.specs.ped_tree.specs.Tree.{ProgramTree}
-use Rattle.ped_session.specs.ped_tree.specs.Numbering.{statements_count}
-use Rattle.ped_session.specs.ped_tree.specs.Grammar.Refusal.{Finding}
+use Rattle.ped_tree.specs.Tree.{ProgramTree}
+use Rattle.ped_tree.specs.Numbering.{statements_count}
+use Rattle.ped_tree.specs.Grammar.Refusal.{Finding}
 use Rattle.ped_session.specs.ped_refs.specs.References.{references, pair_count}
-use Rattle.ped_session.specs.ped_graph.specs.ped_edges.specs.Edges.{Edge}
+use Rattle.ped_session.specs.ped_rules.specs.ped_edges.specs.Edges.{Edge}
 use Rattle.ped_session.specs.ped_graph.specs.Dependences.{AreEdges}
 use Rattle.ped_session.specs.ped_valid.specs.Validity.{ReadsValid, RefusesText}
-use Rattle.ped_session.specs.ped_order.specs.ped_eval.specs.Outcomes.{LiveRow, Outcome, Ended}
-use Rattle.ped_session.specs.ped_transformations.specs.ped_script.specs.Items.{commands_of}
-use Rattle.ped_session.specs.ped_transformations.specs.ped_script.specs.declared.items.Command.{Command}
-use Rattle.ped_session.specs.ped_transformations.specs.ped_script.specs.declared.items.Item.{Item}
+use Rattle.ped_session.specs.ped_rules.specs.ped_eval.specs.Outcomes.{LiveRow, Outcome, Ended}
+use Rattle.ped_script.specs.Items.{commands_of}
+use Rattle.ped_script.specs.declared.items.Command.{Command}
+use Rattle.ped_script.specs.declared.items.Item.{Item}
 use Rattle.ped_session.specs.declared.replies.Reply.{Reply}
 use Rattle.ped_session.specs.declared.replies.Reply.TheVariants.{Changed, Shown, Refused}
 use Rattle.ped_session.specs.LoweredRuns.{IsLoweredRun}

@@ -4,32 +4,32 @@ use Rattle.std.specs.Fmt.{decimal}
 use Rattle.std.specs.List.{AllByRecursion}
 use Rattle.ped_io.specs.Outside.{Contents, content}
 use Rattle.ped_words.specs.Requests.{Request, show, session, generate}
-use Rattle.ped_session.specs.ped_tree.specs.Tree.{ProgramTree}
-use Rattle.ped_session.specs.ped_tree.specs.Printing.{program_text}
-use Rattle.ped_session.specs.ped_tree.specs.Numbering.{statement_with}
+use Rattle.ped_tree.specs.Tree.{ProgramTree}
+use Rattle.ped_tree.specs.Printing.{program_text}
+use Rattle.ped_tree.specs.Numbering.{statement_with}
 use Rattle.ped_session.specs.ped_valid.specs.Validity.{ReadsValid}
-use Rattle.ped_session.specs.ped_order.specs.ped_eval.specs.Outcomes.{Ends, Outcome, Fault, run_of, outcome, IsRaceFree}
-use Rattle.ped_session.specs.ped_order.specs.ped_eval.specs.Runs.{failed}
+use Rattle.ped_session.specs.ped_rules.specs.ped_eval.specs.Outcomes.{Ends, Outcome, Fault, run_of, outcome, IsRaceFree}
+use Rattle.ped_session.specs.ped_rules.specs.ped_eval.specs.Runs.{failed}
 use Rattle.ped_call_runs.specs.ped_calls.specs.ped_units.specs.Units.{ProgramUnits}
 use Rattle.ped_call_runs.specs.ped_calls.specs.ped_units.specs.Verdicts.{IsExpansion}
 use Rattle.ped_call_runs.specs.UnitRuns.{run_units, outcome_of_units}
 use Rattle.ped_call_runs.specs.UnitFaults.{FaultsInOwn, expanded_number}
 use Rattle.ped_session.specs.ped_graph.specs.DependencePane.{IsDependencePane, IsDependencePaneOf}
 use Rattle.ped_session.specs.ped_transformations.specs.ped_inline.specs.CallsPane.{IsCallsPane}
-use Rattle.ped_session.specs.ped_transformations.specs.ped_script.specs.Items.{commands_of}
-use Rattle.ped_session.specs.ped_transformations.specs.ped_script.specs.declared.items.Item.{Item}
-use Rattle.ped_session.specs.ped_transformations.specs.ped_script.specs.declared.items.Command.{Command}
-use Rattle.ped_session.specs.ped_transformations.specs.ped_script.specs.declared.items.Command.TheVariants.{Source, Deps, Show, Calls, Print, Advise, Parallel, Auto, Undo, Redo, Run, Races, Tested}
+use Rattle.ped_script.specs.Items.{commands_of}
+use Rattle.ped_script.specs.declared.items.Item.{Item}
+use Rattle.ped_script.specs.declared.items.Command.{Command}
+use Rattle.ped_script.specs.declared.items.Command.TheVariants.{Source, Deps, Show, Calls, Print, Advise, Parallel, Auto, Undo, Redo, Run, Races, Tested}
 use Rattle.ped_session.specs.ped_transformations.specs.Table.{step_of}
 use Rattle.ped_session.specs.ped_transformations.specs.Advice.{IsAdvice}
-use Rattle.ped_session.specs.ped_transformations.specs.ped_auto.specs.SerialLoops.{serial_loops}
+use Rattle.ped_session.specs.ped_auto.specs.SerialLoops.{serial_loops}
 use Rattle.ped_session.specs.ped_transformations.specs.ped_reduce.specs.Lowering.{Lowered}
 use Rattle.ped_session.specs.ped_transformations.specs.ped_reduce.specs.Reducing.{IsLowered}
-use Rattle.ped_session.specs.ped_transformations.specs.ped_reindex.specs.ped_loops.specs.Paralleling.{paralleling}
-use Rattle.ped_session.specs.ped_transformations.specs.ped_reindex.specs.ped_loops.specs.ped_scalar.specs.ped_rules.specs.Steps.{StepAt, MatchStep, transformation}
-use Rattle.ped_session.specs.ped_transformations.specs.ped_reindex.specs.ped_loops.specs.ped_scalar.specs.ped_rules.specs.ped_loop_runs.specs.Unrejected.{IsTrusted}
-use Rattle.ped_session.specs.ped_transformations.specs.ped_reindex.specs.ped_loops.specs.ped_scalar.specs.ped_rules.specs.ped_loop_runs.specs.ped_bodies.specs.ped_steps.specs.Causes.{Cause}
-use Rattle.ped_session.specs.ped_transformations.specs.ped_reindex.specs.ped_loops.specs.ped_scalar.specs.ped_rules.specs.ped_loop_runs.specs.ped_bodies.specs.ped_steps.specs.CauseWords.{cause_words}
+use Rattle.ped_session.specs.ped_rules.specs.Paralleling.{paralleling}
+use Rattle.ped_session.specs.ped_rules.specs.Steps.{StepAt, MatchStep, transformation}
+use Rattle.ped_session.specs.ped_transformations.specs.ped_loop_runs.specs.Unrejected.{IsTrusted}
+use Rattle.ped_session.specs.ped_steps.specs.Causes.{Cause}
+use Rattle.ped_session.specs.ped_steps.specs.CauseWords.{cause_words}
 use Rattle.ped_session.specs.declared.replies.Reply.{Reply}
 use Rattle.ped_session.specs.declared.replies.Reply.TheVariants.{Changed, Shown, Refused}
 use Rattle.ped_session.specs.declared.replies.Refusal.{Refusal}

@@ -3,7 +3,7 @@ use Rattle.std.specs.Prelude.{◌≡◌, ◌≢◌, ◌≤◌, ℕ, List, Bool, 
 use Rattle.ped_io.specs.Outside.{Contents, IsHeld, Rose}
 use Rattle.ped_io.specs.declared.loading.LoadError.{LoadError}
 use Rattle.ped_io.specs.declared.loading.LoadError.TheVariants as load
-use Rattle.ped_session.specs.ped_transformations.specs.ped_script.specs.Items.{commands_of}
+use Rattle.ped_script.specs.Items.{commands_of}
 use Rattle.ped_session.specs.States.{State}
 use Rattle.ped_session.specs.Scripts.{Said, AnswersItems}
 use Rattle.ped_answer.specs.declared.answering.Status.{Status}

@@ -1,16 +1,16 @@
 -- Counts of the code, and what lines of a script add to them. Only contracts of private functions use it (this project).
 use Rattle.std.specs.Prelude.{◌≡◌, ◌≢◌, ℕ, ◌+◌, List, [], length, Some}
 use Rattle.ped_gen.specs.Generated.{program, script}
-use Rattle.ped_session.specs.ped_tree.specs.Tree.{ProgramTree}
-use Rattle.ped_session.specs.ped_tree.specs.Numbering.{statements_count}
+use Rattle.ped_tree.specs.Tree.{ProgramTree}
+use Rattle.ped_tree.specs.Numbering.{statements_count}
 use Rattle.ped_session.specs.ped_refs.specs.References.{references, pair_count}
-use Rattle.ped_session.specs.ped_graph.specs.ped_edges.specs.Edges.{Edge}
+use Rattle.ped_session.specs.ped_rules.specs.ped_edges.specs.Edges.{Edge}
 use Rattle.ped_session.specs.ped_graph.specs.Dependences.{AreEdges}
 use Rattle.ped_session.specs.ped_valid.specs.Validity.{ReadsValid}
-use Rattle.ped_session.specs.ped_order.specs.ped_eval.specs.Outcomes.{Outcome}
-use Rattle.ped_session.specs.ped_transformations.specs.ped_script.specs.Items.{commands_of}
-use Rattle.ped_session.specs.ped_transformations.specs.ped_script.specs.declared.items.Command.TheVariants.{Auto}
-use Rattle.ped_session.specs.ped_transformations.specs.ped_script.specs.declared.items.Item.{Item}
+use Rattle.ped_session.specs.ped_rules.specs.ped_eval.specs.Outcomes.{Outcome}
+use Rattle.ped_script.specs.Items.{commands_of}
+use Rattle.ped_script.specs.declared.items.Command.TheVariants.{Auto}
+use Rattle.ped_script.specs.declared.items.Item.{Item}
 use Rattle.ped_session.specs.LoweredRuns.{IsLoweredRun}
 use Rattle.ped_session.specs.States.{State}
 use Rattle.ped_answer.specs.declared.answering.Status.{Status}

@@ -1,8 +1,8 @@
 //! Outcomes of two runs compared.
 
 ghost use Rattle.std.specs.Prelude.{◌≡◌, ◌↔◌, IsTrue, map};
-ghost use Rattle.ped_session.specs.ped_order.specs.ped_eval.specs.Outcomes.{Ended};
-ghost use Rattle.ped_session.specs.ped_order.specs.ped_eval.specs.OutcomeViews.{outcome_view, row_view};
+ghost use Rattle.ped_session.specs.ped_rules.specs.ped_eval.specs.Outcomes.{Ended};
+ghost use Rattle.ped_session.specs.ped_rules.specs.ped_eval.specs.OutcomeViews.{outcome_view, row_view};
 ghost use Rattle.ped_answer.specs.Generated.{EndAlike};
 
 use ped_base::Bytes;

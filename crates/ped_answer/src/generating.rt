@@ -3,12 +3,12 @@
 ghost use Rattle.std.specs.Prelude.{◌≡◌, ◌⊎◌, ◌↔◌, ◌≤◌, ℕ, List, Some, None};
 ghost use Rattle.ped_io.specs.Outside.{Rose};
 ghost use Rattle.ped_gen.specs.Generated as made;
-ghost use Rattle.ped_session.specs.ped_tree.specs.Tree.{ProgramTree};
-ghost use Rattle.ped_session.specs.ped_order.specs.ped_eval.specs.Outcomes.{Ends, Outcome, run_of, IsRaceFree};
+ghost use Rattle.ped_tree.specs.Tree.{ProgramTree};
+ghost use Rattle.ped_session.specs.ped_rules.specs.ped_eval.specs.Outcomes.{Ends, Outcome, run_of, IsRaceFree};
 ghost use Rattle.ped_session.specs.ped_order.specs.ped_interleavings.specs.Interleavings.{IsInterleaved};
 ghost use Rattle.ped_session.specs.ped_valid.specs.Validity.{ReadsValid};
-ghost use Rattle.ped_session.specs.ped_transformations.specs.ped_script.specs.Items.{commands_of};
-ghost use Rattle.ped_session.specs.ped_transformations.specs.ped_reindex.specs.ped_loops.specs.ped_scalar.specs.ped_rules.specs.ped_loop_runs.specs.Unrejected.{IsTrusted};
+ghost use Rattle.ped_script.specs.Items.{commands_of};
+ghost use Rattle.ped_session.specs.ped_transformations.specs.ped_loop_runs.specs.Unrejected.{IsTrusted};
 ghost use Rattle.ped_session.specs.LoweredRuns.{HasNoList, IsLoweredRun};
 ghost use Rattle.ped_session.specs.States.{State, opened};
 ghost use Rattle.ped_answer.specs.Answer.{Sends};

@@ -1,7 +1,7 @@
 //! Both panes of a program.
 
 ghost use Rattle.std.specs.Prelude.{◌≡◌, ◌+◌, ◌≤◌, IfOk, OnOk};
-ghost use Rattle.ped_session.specs.ped_tree.specs.Views.{program_tree};
+ghost use Rattle.ped_tree.specs.Views.{program_tree};
 ghost use Rattle.ped_session.specs.ped_symbols.specs.NameRefusals.{IsValid};
 ghost use Rattle.ped_session.specs.ped_symbols.specs.Kinds.{table_of};
 ghost use Rattle.ped_session.specs.ped_refs.specs.References.{references, pair_count};

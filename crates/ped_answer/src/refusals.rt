@@ -2,7 +2,7 @@
 
 ghost use Rattle.std.specs.Prelude.{◌≡◌, ◌⊎◌, ◌≤◌, Some, None, IfOk};
 ghost use Rattle.ped_io.specs.Outside.{Rose};
-ghost use Rattle.ped_session.specs.ped_tree.specs.Grammar.RefusalViews.{finding_of};
+ghost use Rattle.ped_tree.specs.Grammar.RefusalViews.{finding_of};
 ghost use Rattle.ped_call_runs.specs.ped_calls.specs.ped_units.specs.Verdicts.{found_in_text};
 ghost use Rattle.ped_call_runs.specs.ped_calls.specs.ped_units.specs.Views.{unit_finding_of};
 ghost use Rattle.ped_answer.specs.Answer.{Sends, IsJust};

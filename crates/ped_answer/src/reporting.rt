@@ -2,10 +2,10 @@
 
 ghost use Rattle.std.specs.Prelude.{◌≡◌, ◌+◌, ◌≤◌, [], ◌++◌, codes, List, ℕ, IfOk, OnOk};
 ghost use Rattle.ped_gen.specs.Generated as made;
-ghost use Rattle.ped_session.specs.ped_tree.specs.Tree.{ProgramTree};
-ghost use Rattle.ped_session.specs.ped_order.specs.ped_eval.specs.OutcomeViews.{outcome_view};
+ghost use Rattle.ped_tree.specs.Tree.{ProgramTree};
+ghost use Rattle.ped_session.specs.ped_rules.specs.ped_eval.specs.OutcomeViews.{outcome_view};
 ghost use Rattle.ped_session.specs.ped_valid.specs.Validity.{ReadsValid};
-ghost use Rattle.ped_session.specs.ped_transformations.specs.ped_script.specs.Items.{commands_of};
+ghost use Rattle.ped_script.specs.Items.{commands_of};
 ghost use Rattle.ped_session.specs.States.{State, opened};
 ghost use Rattle.ped_answer.specs.Generated as Spec;
 ghost use Rattle.ped_answer.specs.Generated.{Applies, IsWordOn};

@@ -2,7 +2,7 @@
 
 ghost use Rattle.std.specs.Prelude.{◌≡◌, ◌⊎◌, ◌≤◌, ℕ, Some, None};
 ghost use Rattle.ped_io.specs.Outside.{Contents, AddsOnly, Rose};
-ghost use Rattle.ped_session.specs.ped_tree.specs.Views.{program_tree};
+ghost use Rattle.ped_tree.specs.Views.{program_tree};
 ghost use Rattle.ped_session.specs.ped_symbols.specs.NameRefusals.{IsValid};
 ghost use Rattle.ped_session.specs.ped_symbols.specs.Kinds.{table_of};
 ghost use Rattle.ped_session.specs.ped_refs.specs.References.{references, pair_count};

@@ -3,7 +3,7 @@
 
 ghost use Rattle.std.specs.Prelude.{◌≡◌, ◌≢◌, ◌+◌, ◌^◌, ◌<◌, ◌≤◌, Some, IfOk, OnOk};
 ghost use Rattle.std.specs.List.{AllByRecursion};
-ghost use Rattle.ped_session.specs.ped_transformations.specs.ped_script.specs.declared.items.Command.TheVariants as commands;
+ghost use Rattle.ped_script.specs.declared.items.Command.TheVariants as commands;
 ghost use Rattle.ped_session.specs.States.{State};
 ghost use Rattle.ped_answer.specs.Generated as Spec;
 ghost use Rattle.ped_answer.specs.Generated.{AppliesCommand, Applies, tally_of};

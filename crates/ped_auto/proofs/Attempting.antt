@@ -1,8 +1,8 @@
 -- What the code does at a DO, part by part.
 use Rattle.std.proofs.Common.{◌≡◌, inl, inr, ℕ, Bool, true, false, Option, Some, None, refl, sym, subst}
 use Rattle.std.specs.Option.{is_none}
-use Rattle.ped_reduce.specs.ped_splits.specs.ped_reindex.specs.ped_loops.specs.ped_scalar.specs.ped_rules.specs.ped_loop_runs.specs.ped_bodies.specs.ped_steps.specs.CodeCauses.{cause_of}
-use Rattle.ped_reduce.specs.ped_splits.specs.ped_reindex.specs.ped_loops.specs.ped_scalar.specs.ped_rules.specs.ped_loop_runs.specs.ped_bodies.specs.ped_steps.specs.declared.causes.Refused.{Refused}
+use Rattle.ped_rules.specs.ped_steps.specs.CodeCauses.{cause_of}
+use Rattle.ped_rules.specs.ped_steps.specs.declared.causes.Refused.{Refused}
 use Rattle.ped_script.specs.declared.items.Command.{Command}
 use Rattle.ped_script.specs.declared.items.Command.TheVariants.{Parallel, Distribute}
 use Rattle.ped_auto.specs.CarriedNames.{are_scalars, are_few_scalars}

@@ -1,7 +1,7 @@
 -- The strategy cut off by want of memory.
 use Rattle.std.proofs.Common.{◌≡◌, inl, inr, ℕ, ◌+◌, ◌-◌, ◌≤◌, List, [], ◌∷◌, ◌++◌, Bool, true, false, refl, sym, subst, ap, ◌∙◌, arith}
 use Rattle.ped_script.specs.declared.items.Command.{Command}
-use Rattle.ped_reduce.specs.ped_splits.specs.ped_reindex.specs.ped_loops.specs.ped_scalar.specs.ped_rules.specs.ped_loop_runs.specs.ped_bodies.specs.ped_steps.specs.Causes.{Cause}
+use Rattle.ped_rules.specs.ped_steps.specs.Causes.{Cause}
 use Rattle.ped_auto.specs.Editing.{Editing, IsOfStrategy, IsEditing}
 use Rattle.ped_auto.specs.Strategy.{Stage, Takes, Tries, OrElse}
 use Rattle.ped_auto.specs.CodeStages.{stage, Leads, IsCut, AnyOutcome}

@@ -1,7 +1,7 @@
 -- What is tried on the names that a DO carries.
 use Rattle.std.proofs.Common.{◌≡◌, ℕ, List, Bool, true, false, MatchBool, refl, sym, subst}
 use Rattle.ped_script.specs.declared.items.Command.TheVariants.{Parallel, Reduce}
-use Rattle.ped_reduce.specs.ped_splits.specs.ped_reindex.specs.ped_loops.specs.ped_scalar.specs.ped_rules.specs.ped_loop_runs.specs.ped_bodies.specs.ped_steps.specs.ped_flow.specs.ped_tree.specs.Tree.{ProgramTree}
+use Rattle.ped_rules.specs.ped_flow.specs.ped_tree.specs.Tree.{ProgramTree}
 use Rattle.ped_auto.specs.CarriedNames.{AreCarried, are_scalars, are_few_scalars}
 use Rattle.ped_auto.specs.Editing.{Editing, IsEditing}
 use Rattle.ped_auto.specs.Strategy.{Stage, Tries, TriesEach, TriesPrivate, WithNames}

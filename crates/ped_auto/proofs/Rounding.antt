@@ -1,6 +1,6 @@
 -- A round over the statements, on the way.
 use Rattle.std.proofs.Common.{◌≡◌, ℕ, zero, suc, ◌+◌, ◌≤◌, ◌<◌, Bool, true, false, MatchBool, refl, sym, subst, ap, ◌∙◌, arith}
-use Rattle.ped_reduce.specs.ped_splits.specs.ped_reindex.specs.ped_loops.specs.ped_scalar.specs.ped_rules.specs.ped_loop_runs.specs.ped_bodies.specs.ped_steps.specs.ped_flow.specs.ped_tree.specs.Tree.{ProgramTree}
+use Rattle.ped_rules.specs.ped_flow.specs.ped_tree.specs.Tree.{ProgramTree}
 use Rattle.ped_auto.specs.SerialLoops.{is_serial_loop, count_of}
 use Rattle.ped_auto.specs.Editing.{Editing, IsEditing}
 use Rattle.ped_auto.specs.Strategy.{Stage, Meets, IsOver, RoundFrom, Round}

@@ -2,10 +2,10 @@
 use Rattle.std.proofs.Common.{◌≡◌, ◌≢◌, ℕ, ◌+◌, ◌<◌, ◌≤◌, leb, List, [], ◌∷◌, map, take, length, get_or, Bool, true, false, not, ◌&&◌, Option, Some, None, refl, sym, subst, ap, ◌∙◌, arith}
 use Rattle.std.specs.List.{list_all}
 use Rattle.std.proofs.lemmas.List.Folds.{list_all-map, list_all_more, list_all_at}
-use Rattle.ped_reduce.specs.ped_splits.specs.ped_reindex.specs.ped_loops.specs.ped_scalar.specs.ped_rules.specs.ped_loop_runs.specs.ped_bodies.specs.ped_steps.specs.ped_flow.specs.ped_base.specs.Lists.{has_some}
-use Rattle.ped_reduce.specs.ped_splits.specs.ped_reindex.specs.ped_loops.specs.ped_scalar.specs.ped_rules.specs.ped_loop_runs.specs.ped_bodies.specs.ped_steps.specs.ped_flow.specs.ped_base.specs.Letters.{is_letter, is_name}
-use Rattle.ped_reduce.specs.ped_splits.specs.ped_reindex.specs.ped_loops.specs.ped_scalar.specs.ped_rules.specs.ped_loop_runs.specs.ped_bodies.specs.ped_steps.specs.ped_flow.specs.ped_tree.specs.Tree.{ProgramTree}
-use Rattle.ped_reduce.specs.ped_splits.specs.ped_reindex.specs.ped_loops.specs.ped_scalar.specs.Scalars.{is_scalar}
+use Rattle.ped_base.specs.Lists.{has_some}
+use Rattle.ped_base.specs.Letters.{is_letter, is_name}
+use Rattle.ped_rules.specs.ped_flow.specs.ped_tree.specs.Tree.{ProgramTree}
+use Rattle.ped_rules.specs.Scalars.{is_scalar}
 use Rattle.ped_auto.specs.CarriedNames.{AreCarried, is_file, is_scalar_name, are_scalars, are_few_scalars}
 use Rattle.ped_auto.specs.Editing.{Editing}
 use Rattle.ped_auto.specs.CodeStages.{IsScalarChoice, AreScalarNames}

@@ -1,7 +1,7 @@
 -- `auto` as a whole: done, or cut off.
 use Rattle.std.proofs.Common.{◌≡◌, ℕ, ◌+◌, ◌-◌, ◌≤◌, List, [], ◌++◌, subst, ap, ◌∙◌, arith}
 use Rattle.ped_script.specs.declared.items.Command.{Command}
-use Rattle.ped_reduce.specs.ped_splits.specs.ped_reindex.specs.ped_loops.specs.ped_scalar.specs.ped_rules.specs.ped_loop_runs.specs.ped_bodies.specs.ped_steps.specs.Causes.{Cause}
+use Rattle.ped_rules.specs.ped_steps.specs.Causes.{Cause}
 use Rattle.ped_auto.specs.Editing.{Editing, IsEditing}
 use Rattle.ped_auto.specs.Replay.{Replays}
 use Rattle.ped_auto.specs.Strategy.{Stage, Visits, Round, Report, starting, AreLeft, IsAuto}

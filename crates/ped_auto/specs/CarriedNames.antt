@@ -1,13 +1,13 @@
 -- What the dependences that a DO carries are on: the names that `privatise` and `reduce` may take away (Allen and Kennedy, sections 2.2.5, 5.2; ParaScope).
 use Rattle.std.specs.Prelude.{◌≡◌, ℕ, List, [], ◌++◌, map, filter, length, codes, nat_le, Bool, not, ◌&&◌, ◌||◌}
 use Rattle.std.specs.List.{list_all}
-use Rattle.ped_reduce.specs.ped_splits.specs.ped_reindex.specs.ped_loops.specs.ped_scalar.specs.ped_rules.specs.ped_loop_runs.specs.ped_bodies.specs.ped_steps.specs.ped_flow.specs.ped_base.specs.Lists.{has_some, is_same_text}
-use Rattle.ped_reduce.specs.ped_splits.specs.ped_reindex.specs.ped_loops.specs.ped_scalar.specs.ped_rules.specs.ped_loop_runs.specs.ped_bodies.specs.ped_steps.specs.ped_flow.specs.ped_tree.specs.Tree.{ProgramTree}
-use Rattle.ped_reduce.specs.ped_splits.specs.ped_reindex.specs.ped_loops.specs.ped_scalar.specs.ped_rules.specs.ped_loop_runs.specs.ped_bodies.specs.ped_steps.specs.ped_flow.specs.ped_tree.specs.Names.Collecting.{with_names}
-use Rattle.ped_reduce.specs.ped_splits.specs.ped_reindex.specs.ped_loops.specs.ped_scalar.specs.ped_rules.specs.ped_loop_runs.specs.ped_bodies.specs.ped_steps.specs.ped_laws.specs.ped_graph.specs.ped_edges.specs.Edges.{Edge}
-use Rattle.ped_reduce.specs.ped_splits.specs.ped_reindex.specs.ped_loops.specs.ped_scalar.specs.ped_rules.specs.ped_loop_runs.specs.ped_bodies.specs.ped_steps.specs.ped_laws.specs.ped_graph.specs.Dependences.{AreEdges}
-use Rattle.ped_reduce.specs.ped_splits.specs.ped_reindex.specs.ped_loops.specs.ped_scalar.specs.ped_rules.specs.Carried.{carried}
-use Rattle.ped_reduce.specs.ped_splits.specs.ped_reindex.specs.ped_loops.specs.ped_scalar.specs.Scalars.{is_scalar}
+use Rattle.ped_base.specs.Lists.{has_some, is_same_text}
+use Rattle.ped_rules.specs.ped_flow.specs.ped_tree.specs.Tree.{ProgramTree}
+use Rattle.ped_rules.specs.ped_flow.specs.ped_tree.specs.Names.Collecting.{with_names}
+use Rattle.ped_rules.specs.ped_edges.specs.Edges.{Edge}
+use Rattle.ped_rules.specs.ped_graph.specs.Dependences.{AreEdges}
+use Rattle.ped_rules.specs.Carried.{carried}
+use Rattle.ped_rules.specs.Scalars.{is_scalar}
 
 -- the data lines or the output, which no variable names (this project)
 abbrev pub is_file : List ℕ → Bool

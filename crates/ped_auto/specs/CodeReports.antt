@@ -1,8 +1,8 @@
 -- The report as the code has it (this project).
 use Rattle.std.specs.Prelude.{ℕ, List, map, All}
-use Rattle.ped_reduce.specs.ped_splits.specs.ped_reindex.specs.ped_loops.specs.ped_scalar.specs.ped_rules.specs.ped_loop_runs.specs.ped_bodies.specs.ped_steps.specs.Causes.{Cause}
-use Rattle.ped_reduce.specs.ped_splits.specs.ped_reindex.specs.ped_loops.specs.ped_scalar.specs.ped_rules.specs.ped_loop_runs.specs.ped_bodies.specs.ped_steps.specs.CodeCauses.{cause_of, IsShort}
-use Rattle.ped_reduce.specs.ped_splits.specs.ped_reindex.specs.ped_loops.specs.ped_scalar.specs.ped_rules.specs.ped_loop_runs.specs.ped_bodies.specs.ped_steps.specs.declared.causes.Refused.{Refused}
+use Rattle.ped_rules.specs.ped_steps.specs.Causes.{Cause}
+use Rattle.ped_rules.specs.ped_steps.specs.CodeCauses.{cause_of, IsShort}
+use Rattle.ped_rules.specs.ped_steps.specs.declared.causes.Refused.{Refused}
 use Rattle.ped_auto.specs.declared.report.AutoReport.{AutoReport}
 use Rattle.ped_auto.specs.Strategy.{Report}
 

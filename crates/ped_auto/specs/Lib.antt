@@ -1,5 +1,5 @@
 pub use Rattle.ped_script
-pub use Rattle.ped_reduce
+pub use Rattle.ped_rules
 pub mod CarriedNames
 pub mod CodeReports
 pub mod CodeStages

@@ -1,8 +1,8 @@
 -- The DOs of a program that aren't PARALLEL DOs (ParaScope).
 use Rattle.std.specs.Prelude.{ℕ, ◌≤◌, List, filter, Bool, false, not, Option, Some, None}
 use Rattle.std.specs.List.{range_with_len}
-use Rattle.ped_reduce.specs.ped_splits.specs.ped_reindex.specs.ped_loops.specs.ped_scalar.specs.ped_rules.specs.ped_loop_runs.specs.ped_bodies.specs.ped_steps.specs.ped_flow.specs.ped_tree.specs.Tree.{StmtTree, Assign, If, Do, Print, Read, Stop, Comment, ProgramTree}
-use Rattle.ped_reduce.specs.ped_splits.specs.ped_reindex.specs.ped_loops.specs.ped_scalar.specs.ped_rules.specs.ped_loop_runs.specs.ped_bodies.specs.ped_steps.specs.ped_flow.specs.ped_tree.specs.Numbering.{statement_with, statements_count}
+use Rattle.ped_rules.specs.ped_flow.specs.ped_tree.specs.Tree.{StmtTree, Assign, If, Do, Print, Read, Stop, Comment, ProgramTree}
+use Rattle.ped_rules.specs.ped_flow.specs.ped_tree.specs.Numbering.{statement_with, statements_count}
 
 -- the statement is a DO and no PARALLEL DO
 abbrev pub is_serial : Option StmtTree → Bool

@@ -1,18 +1,18 @@
 //! What `auto` needs from an editor.
 
 ghost use Rattle.std.specs.Prelude.{◌≡◌, ◌≤◌, ◌+◌, ◌-◌, ℕ, map, IfOk, OnErr};
-ghost use Rattle.ped_reduce.specs.ped_splits.specs.ped_reindex.specs.ped_loops.specs.ped_scalar.specs.ped_rules.specs.ped_loop_runs.specs.ped_bodies.specs.ped_steps.specs.ped_flow.specs.ped_tree.specs.Tree.{ProgramTree};
-ghost use Rattle.ped_reduce.specs.ped_splits.specs.ped_reindex.specs.ped_loops.specs.ped_scalar.specs.ped_rules.specs.ped_loop_runs.specs.ped_bodies.specs.ped_steps.specs.ped_refs.specs.Occurrences.{name_text};
-ghost use Rattle.ped_reduce.specs.ped_splits.specs.ped_reindex.specs.ped_loops.specs.ped_scalar.specs.ped_rules.specs.ped_loop_runs.specs.ped_bodies.specs.ped_steps.specs.Causes.{Cause};
-ghost use Rattle.ped_reduce.specs.ped_splits.specs.ped_reindex.specs.ped_loops.specs.ped_scalar.specs.Scalars as Scalars;
+ghost use Rattle.ped_rules.specs.ped_flow.specs.ped_tree.specs.Tree.{ProgramTree};
+ghost use Rattle.ped_refs.specs.Occurrences.{name_text};
+ghost use Rattle.ped_rules.specs.ped_steps.specs.Causes.{Cause};
+ghost use Rattle.ped_rules.specs.Scalars as Scalars;
 ghost use Rattle.ped_auto.specs.SerialLoops as Loops;
 ghost use Rattle.ped_auto.specs.SerialLoops.{count_of, IsNumber};
 ghost use Rattle.ped_auto.specs.CarriedNames.{AreCarried};
 ghost use Rattle.ped_auto.specs.Editing.{Editing, IsEditing, CanTry, Answers};
 
 use ped_base::{Name, NoMemory};
-use ped_reduce::Refused;
 use ped_refs::RefName;
+use ped_rules::Refused;
 use ped_script::Command;
 use ped_verdict::Steps;
 use std::alloc::Global;

@@ -10,8 +10,5 @@ mod strategy;
 
 pub use editor::Editor;
 pub use laws::{accepted_are_commands, auto_replays, one_auto};
-pub use ped_reduce::{
-    Lowered, has_list, lower, lowering_keeps_the_meaning, one_lowering, reduce, reduction_is_lawful,
-};
 pub use report::AutoReport;
 pub use strategy::auto;

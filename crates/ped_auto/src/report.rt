@@ -1,7 +1,7 @@
 //! What `auto` reports.
 
 use ped_base::Listed;
-use ped_reduce::Refused;
+use ped_rules::Refused;
 use ped_script::Command;
 
 /// What `auto` has done, and what remains.

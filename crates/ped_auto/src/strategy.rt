@@ -1,8 +1,8 @@
 //! The strategy of `auto`.
 
 ghost use Rattle.std.specs.Prelude.{◌≡◌, ◌≤◌, ◌+◌, ◌-◌, ◌∷◌, [], ℕ, List, length, false, IfOk, OnOk, OnErr};
-ghost use Rattle.ped_reduce.specs.ped_splits.specs.ped_reindex.specs.ped_loops.specs.ped_scalar.specs.ped_rules.specs.ped_loop_runs.specs.ped_bodies.specs.ped_steps.specs.ped_flow.specs.ped_tree.specs.Tree.{ProgramTree};
-ghost use Rattle.ped_reduce.specs.ped_splits.specs.ped_reindex.specs.ped_loops.specs.ped_scalar.specs.ped_rules.specs.ped_loop_runs.specs.ped_bodies.specs.ped_steps.specs.ped_refs.specs.Occurrences.{name_text};
+ghost use Rattle.ped_rules.specs.ped_flow.specs.ped_tree.specs.Tree.{ProgramTree};
+ghost use Rattle.ped_refs.specs.Occurrences.{name_text};
 ghost use Rattle.ped_auto.specs.SerialLoops.{serial_loops};
 ghost use Rattle.ped_auto.specs.Editing.{IsOfStrategy, CanTry};
 ghost use Rattle.ped_auto.specs.Strategy.{Report, Tries, TriesEach, Privatises, Reduces, Attempts, Visits, VisitsAgain, Round, FurtherRounds, AreLeft, IsAuto};
@@ -13,8 +13,8 @@ ghost use Rattle.ped_auto.specs.CodeStages.{Goes, CutsOff, AnyOutcome, Tried, Ha
 use crate::editor::Editor;
 use crate::report::AutoReport;
 use ped_base::{Listed, Name, Names, NoMemory};
-use ped_reduce::Refused;
 use ped_refs::RefName;
+use ped_rules::Refused;
 use ped_script::Command;
 use ped_verdict::Steps;
 use std::alloc::Global;

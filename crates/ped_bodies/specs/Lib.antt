@@ -1,4 +1,16 @@
 pub use Rattle.ped_steps
+pub use Rattle.ped_steps.specs.ped_sums
+pub use Rattle.ped_steps.specs.ped_refs
+pub use Rattle.ped_steps.specs.ped_edges
+pub use Rattle.ped_steps.specs.ped_weaves
+pub use Rattle.ped_steps.specs.ped_laws
+pub use Rattle.ped_steps.specs.ped_flow
+pub use Rattle.ped_steps.specs.ped_graph
+pub use Rattle.ped_steps.specs.ped_eval
+pub use Rattle.ped_steps.specs.ped_store
+pub use Rattle.ped_steps.specs.ped_views
+pub use Rattle.ped_steps.specs.ped_symbols
+pub use Rattle.ped_steps.specs.ped_affine
 pub mod Rewriting
 pub mod Likewise
 pub mod Standing

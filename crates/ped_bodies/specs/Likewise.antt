@@ -1,13 +1,13 @@
 -- Acts that are done likewise: on cells that correspond, in iterations that correspond (this project).
 use Rattle.std.specs.Prelude.{◌≡◌, ℕ, ℤ, List, [], ◌∷◌, ◌++◌, map, Bool, true, false, Ok, ◌⊎◌}
-use Rattle.ped_steps.specs.ped_laws.specs.ped_store.specs.Cells.{Cell, Element, In, Out}
-use Rattle.ped_steps.specs.ped_laws.specs.ped_store.specs.Stores.{Store}
-use Rattle.ped_steps.specs.ped_laws.specs.ped_store.specs.Acts.{is_told, Turn, Touch, Act}
+use Rattle.ped_steps.specs.ped_store.specs.Cells.{Cell, Element, In, Out}
+use Rattle.ped_steps.specs.ped_store.specs.Stores.{Store}
+use Rattle.ped_steps.specs.ped_store.specs.Acts.{is_told, Turn, Touch, Act}
 use Rattle.ped_steps.specs.ped_laws.specs.Acts.Fitting.{of_cells}
 use Rattle.ped_steps.specs.ped_laws.specs.Acts.Orders.{IsIn}
-use Rattle.ped_steps.specs.ped_laws.specs.ped_store.specs.Races.{Access, is_lines, is_write}
-use Rattle.ped_steps.specs.ped_laws.specs.ped_eval.specs.Evaluation.{Seen, cell_seen, index_seen, Evaluated, numbered, number_behind}
-use Rattle.ped_steps.specs.ped_laws.specs.ped_eval.specs.Runs.{Run}
+use Rattle.ped_steps.specs.ped_store.specs.Races.{Access, is_lines, is_write}
+use Rattle.ped_steps.specs.ped_eval.specs.Evaluation.{Seen, cell_seen, index_seen, Evaluated, numbered, number_behind}
+use Rattle.ped_steps.specs.ped_eval.specs.Runs.{Run}
 use Rattle.ped_steps.specs.ped_laws.specs.Runs.Seeing.{ComesTo}
 use Rattle.ped_steps.specs.ped_laws.specs.Runs.Replaying.{Finish, Replays}
 use Rattle.ped_steps.specs.Runs.Renumbering.{renumbered_turn}

@@ -3,10 +3,10 @@ use Rattle.std.specs.Prelude.{◌≡◌, ℕ, ◌+◌, ◌-◌, ◌/◌, ◌%◌
 use Rattle.ped_steps.specs.ped_flow.specs.ped_base.specs.Lists.{is_same_text, is_among}
 use Rattle.ped_steps.specs.ped_flow.specs.ped_tree.specs.Tree.{ExprTree}
 use Rattle.ped_steps.specs.ped_flow.specs.ped_tree.specs.Constants.NamedConstants.{value_named}
-use Rattle.ped_steps.specs.ped_laws.specs.ped_store.specs.Cells.{Cell, Scalar, Element, Private, In, Out, Iteration, same_iteration}
-use Rattle.ped_steps.specs.ped_laws.specs.ped_store.specs.Acts.{iterations_of}
-use Rattle.ped_steps.specs.ped_laws.specs.ped_eval.specs.Scopes.{Setting, Frame, Scope, turns_of, cell_of, index_value, names_in}
-use Rattle.ped_steps.specs.ped_laws.specs.ped_eval.specs.Values.{value}
+use Rattle.ped_steps.specs.ped_store.specs.Cells.{Cell, Scalar, Element, Private, In, Out, Iteration, same_iteration}
+use Rattle.ped_steps.specs.ped_store.specs.Acts.{iterations_of}
+use Rattle.ped_steps.specs.ped_eval.specs.Scopes.{Setting, Frame, Scope, turns_of, cell_of, index_value, names_in}
+use Rattle.ped_steps.specs.ped_eval.specs.Values.{value}
 use Rattle.ped_steps.specs.Runs.Renumbering.{renumbered_iteration}
 use Rattle.ped_bodies.specs.Likewise.{Meet}
 use Rattle.ped_bodies.specs.Standing.{IsTold, HaveVariablesIn}

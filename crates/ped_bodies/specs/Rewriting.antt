@@ -4,7 +4,7 @@ use Rattle.ped_steps.specs.ped_flow.specs.ped_base.specs.Lists.{is_among}
 use Rattle.ped_steps.specs.ped_flow.specs.ped_tree.specs.Tree.{ExprTree, ExprTrees, Int, Var, Element, Neg, Add, Sub, Mul, Div, Pow, Call, no_exprs, more_exprs, CondTree, Rel, Not, And, Or, ItemTree, Value, Text, Head, StmtTree, StmtTrees, Assign, If, Do, Print, Read, Stop, Comment, no_stmts, more_stmts}
 use Rattle.ped_steps.specs.ped_flow.specs.ped_tree.specs.declared.expressions.Intrinsic.{Intrinsic}
 use Rattle.ped_steps.specs.ped_flow.specs.ped_tree.specs.Constants.ConstantExpressions.{constant_value}
-use Rattle.ped_steps.specs.ped_flow.specs.ped_affine.specs.Assigned.{assigned_in_all}
+use Rattle.ped_steps.specs.ped_affine.specs.Assigned.{assigned_in_all}
 use Rattle.ped_steps.specs.ped_sums.specs.Sums.{plus_of, minus_of}
 
 -- what rewrites expressions, and lists of them, goes into their parts, and may make sums and differences anew; scalars it may put anything for (this project)

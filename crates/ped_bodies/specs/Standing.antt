@@ -5,14 +5,14 @@ use Rattle.ped_steps.specs.ped_flow.specs.ped_tree.specs.Tree.{ExprTree, Var, St
 use Rattle.ped_steps.specs.ped_flow.specs.ped_tree.specs.NamesIn.{stmts_names}
 use Rattle.ped_steps.specs.ped_flow.specs.ped_tree.specs.Numbering.{statements_count}
 use Rattle.ped_steps.specs.ped_flow.specs.ped_tree.specs.Constants.NamedConstants.{value_named}
-use Rattle.ped_steps.specs.ped_laws.specs.ped_store.specs.Cells.{Cell, Private, Iteration}
-use Rattle.ped_steps.specs.ped_laws.specs.ped_store.specs.Stores.{Store}
-use Rattle.ped_steps.specs.ped_laws.specs.ped_store.specs.Acts.{iterations_of}
-use Rattle.ped_steps.specs.ped_laws.specs.ped_eval.specs.Scopes.{Setting, Scope, turns_of, cell_of, index_value, names_in}
-use Rattle.ped_steps.specs.ped_laws.specs.ped_eval.specs.Evaluation.{Seen, cell_seen, index_seen, Evaluated}
-use Rattle.ped_steps.specs.ped_laws.specs.ped_eval.specs.Values.{value}
+use Rattle.ped_steps.specs.ped_store.specs.Cells.{Cell, Private, Iteration}
+use Rattle.ped_steps.specs.ped_store.specs.Stores.{Store}
+use Rattle.ped_steps.specs.ped_store.specs.Acts.{iterations_of}
+use Rattle.ped_steps.specs.ped_eval.specs.Scopes.{Setting, Scope, turns_of, cell_of, index_value, names_in}
+use Rattle.ped_steps.specs.ped_eval.specs.Evaluation.{Seen, cell_seen, index_seen, Evaluated}
+use Rattle.ped_steps.specs.ped_eval.specs.Values.{value}
 use Rattle.ped_steps.specs.ped_flow.specs.ped_tree.specs.NamesIn.{all_loop_variables}
-use Rattle.ped_steps.specs.ped_laws.specs.ped_eval.specs.Runs.{run_all}
+use Rattle.ped_steps.specs.ped_eval.specs.Runs.{run_all}
 use Rattle.ped_steps.specs.ped_laws.specs.Runs.Replaying.{goes_on, finish_of}
 use Rattle.ped_steps.specs.Runs.Pasting.{AgreeInBounds}
 use Rattle.ped_steps.specs.Runs.Renumbering.{renumbered_iteration}

@@ -2,16 +2,16 @@
 use Rattle.std.specs.Prelude.{◌≡◌, ℕ, ◌+◌, ◌-◌, ◌≤◌, List, [], ◌∷◌, ◌++◌, Bool, true, ◌==◌, ◌&&◌, not, Ok, if◌then◌else◌}
 use Rattle.std.specs.List.{flat_map, range_with_len}
 use Rattle.ped_steps.specs.ped_flow.specs.ped_tree.specs.Tree.{Head, StmtTrees, Do}
-use Rattle.ped_steps.specs.ped_laws.specs.ped_store.specs.Cells.{Cell}
-use Rattle.ped_steps.specs.ped_laws.specs.ped_store.specs.Stores.{Store}
-use Rattle.ped_steps.specs.ped_laws.specs.ped_store.specs.Acts.{Place, Act, entered, ended_turn, closed}
+use Rattle.ped_steps.specs.ped_store.specs.Cells.{Cell}
+use Rattle.ped_steps.specs.ped_store.specs.Stores.{Store}
+use Rattle.ped_steps.specs.ped_store.specs.Acts.{Place, Act, entered, ended_turn, closed}
 use Rattle.ped_steps.specs.ped_laws.specs.Acts.Fitting.{store_after}
-use Rattle.ped_steps.specs.ped_laws.specs.ped_eval.specs.Scopes.{Setting, Scope, Names, turns_of, names_in, place_of}
-use Rattle.ped_steps.specs.ped_laws.specs.ped_eval.specs.Evaluation.{Seen}
-use Rattle.ped_steps.specs.ped_laws.specs.ped_eval.specs.Loops.{is_bound, Limits, limits, Entered, entered_with, frame, exit_touches, exit_when_none, entry_touches}
-use Rattle.ped_steps.specs.ped_laws.specs.ped_eval.specs.Values.{value}
-use Rattle.ped_steps.specs.ped_laws.specs.ped_eval.specs.Runs.{run}
-use Rattle.ped_steps.specs.ped_laws.specs.ped_eval.specs.Turns.{body_run}
+use Rattle.ped_steps.specs.ped_eval.specs.Scopes.{Setting, Scope, Names, turns_of, names_in, place_of}
+use Rattle.ped_steps.specs.ped_eval.specs.Evaluation.{Seen}
+use Rattle.ped_steps.specs.ped_eval.specs.Loops.{is_bound, Limits, limits, Entered, entered_with, frame, exit_touches, exit_when_none, entry_touches}
+use Rattle.ped_steps.specs.ped_eval.specs.Values.{value}
+use Rattle.ped_steps.specs.ped_eval.specs.Runs.{run}
+use Rattle.ped_steps.specs.ped_eval.specs.Turns.{body_run}
 use Rattle.ped_steps.specs.ped_laws.specs.Runs.Replaying.{goes_on, finish_of, act, Replays, IsEntered}
 use Rattle.ped_bodies.specs.Likewise.{AreLikewise}
 use Rattle.ped_bodies.specs.Standing.{GoLikewise}

@@ -5,9 +5,9 @@ ghost use Rattle.ped_steps.specs.ped_laws.specs.Acts.Conflicts.{without, ReadNon
 ghost use Rattle.ped_steps.specs.ped_laws.specs.Acts.Orders.{IsIn};
 ghost use Rattle.ped_steps.specs.ped_laws.specs.Acts.Renaming.{Renamed};
 ghost use Rattle.ped_steps.specs.ped_laws.specs.Acts.Sets.{nothing};
-ghost use Rattle.ped_steps.specs.ped_laws.specs.ped_store.specs.Acts.{Turn, Act};
-ghost use Rattle.ped_steps.specs.ped_laws.specs.ped_store.specs.Cells.{Cell};
-ghost use Rattle.ped_steps.specs.ped_laws.specs.ped_store.specs.Races.{Access, is_lines, accesses};
+ghost use Rattle.ped_steps.specs.ped_store.specs.Acts.{Turn, Act};
+ghost use Rattle.ped_steps.specs.ped_store.specs.Cells.{Cell};
+ghost use Rattle.ped_steps.specs.ped_store.specs.Races.{Access, is_lines, accesses};
 ghost use Rattle.ped_steps.specs.Runs.Renumbering.{renumbered_turn};
 ghost use Rattle.ped_steps.specs.Runs.Substituting.{AreSameOn};
 ghost use Rattle.ped_bodies.specs.Likewise.{NamesScalars, AreLikewise, IsMadeLikewise, IsOnlyTold};

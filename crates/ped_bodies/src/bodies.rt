@@ -9,10 +9,10 @@ ghost use Rattle.ped_steps.specs.ped_flow.specs.ped_tree.specs.Tree.{ExprTree, V
 ghost use Rattle.ped_steps.specs.ped_sums.specs.Substitution.{substituted, statements_substituted};
 ghost use Rattle.ped_steps.specs.ped_laws.specs.Acts.Renaming.{own_name};
 ghost use Rattle.ped_steps.specs.ped_laws.specs.Acts.Sets.{nothing};
-ghost use Rattle.ped_steps.specs.ped_laws.specs.ped_store.specs.Acts.{iterations_of};
-ghost use Rattle.ped_steps.specs.ped_laws.specs.ped_store.specs.Cells.{Cell, Iteration};
+ghost use Rattle.ped_steps.specs.ped_store.specs.Acts.{iterations_of};
+ghost use Rattle.ped_steps.specs.ped_store.specs.Cells.{Cell, Iteration};
 ghost use Rattle.ped_steps.specs.ped_flow.specs.ped_tree.specs.NamesIn.{all_loop_variables};
-ghost use Rattle.ped_steps.specs.ped_laws.specs.ped_eval.specs.Scopes.{Setting, Frame, Scope, turns_of};
+ghost use Rattle.ped_steps.specs.ped_eval.specs.Scopes.{Setting, Frame, Scope, turns_of};
 ghost use Rattle.ped_steps.specs.Runs.Exchanging.{IsExchange, AreExchanged};
 ghost use Rattle.ped_bodies.specs.Moving.{own_number, is_cell_among, moved_behind, turned, transposed, in_strips, peeled, in_loop, HaveNoCopies, HaveSameCopies, TellAlike, TellTheSame, ToldInside, GivesWayTo, IsOfTrips, IsInsideTrips, IsOfPairs, NamesApart, TellNumbers};
 ghost use Rattle.ped_bodies.specs.Rewriting.{MayBeRewritten};

@@ -2,15 +2,15 @@
 
 ghost use Rattle.std.specs.Prelude.{◌≡◌, ℕ, ℤ, List, ◌++◌, Bool, true, Ok};
 ghost use Rattle.ped_steps.specs.ped_flow.specs.ped_tree.specs.Tree.{Head, StmtTrees, Do};
-ghost use Rattle.ped_steps.specs.ped_laws.specs.ped_store.specs.Cells.{Cell};
-ghost use Rattle.ped_steps.specs.ped_laws.specs.ped_store.specs.Stores.{Store};
-ghost use Rattle.ped_steps.specs.ped_laws.specs.ped_store.specs.Acts.{Act};
-ghost use Rattle.ped_steps.specs.ped_laws.specs.ped_eval.specs.Scopes.{Setting, Scope, Names, place_of};
-ghost use Rattle.ped_steps.specs.ped_laws.specs.ped_eval.specs.Evaluation.{Seen};
-ghost use Rattle.ped_steps.specs.ped_laws.specs.ped_eval.specs.Loops.{is_bound, Limits, limits, Entered, frame};
-ghost use Rattle.ped_steps.specs.ped_laws.specs.ped_eval.specs.Runs.{run};
-ghost use Rattle.ped_steps.specs.ped_laws.specs.ped_eval.specs.Turns.{body_run};
-ghost use Rattle.ped_steps.specs.ped_laws.specs.ped_eval.specs.Values.{value};
+ghost use Rattle.ped_steps.specs.ped_store.specs.Cells.{Cell};
+ghost use Rattle.ped_steps.specs.ped_store.specs.Stores.{Store};
+ghost use Rattle.ped_steps.specs.ped_store.specs.Acts.{Act};
+ghost use Rattle.ped_steps.specs.ped_eval.specs.Scopes.{Setting, Scope, Names, place_of};
+ghost use Rattle.ped_steps.specs.ped_eval.specs.Evaluation.{Seen};
+ghost use Rattle.ped_steps.specs.ped_eval.specs.Loops.{is_bound, Limits, limits, Entered, frame};
+ghost use Rattle.ped_steps.specs.ped_eval.specs.Runs.{run};
+ghost use Rattle.ped_steps.specs.ped_eval.specs.Turns.{body_run};
+ghost use Rattle.ped_steps.specs.ped_eval.specs.Values.{value};
 ghost use Rattle.ped_steps.specs.ped_laws.specs.Runs.Seeing.{ComesTo};
 ghost use Rattle.ped_steps.specs.ped_laws.specs.Runs.Replaying.{goes_on, finish_of, Replays, IsEntered};
 ghost use Rattle.ped_bodies.specs.Trips.{HasLimits, loop_acts, OfTrips, entered_from, IsMadeOfTrips, DoTripsLikewise, MakesTripsLikewise};

@@ -8,11 +8,11 @@ ghost use Rattle.ped_steps.specs.ped_flow.specs.ped_tree.specs.Constants.NamedCo
 ghost use Rattle.ped_steps.specs.ped_flow.specs.ped_tree.specs.NamesIn.{expr_names};
 ghost use Rattle.ped_steps.specs.ped_flow.specs.ped_tree.specs.Tree.{ExprTree, ExprTrees, Int, Var, Neg, Add, Sub, Mul, Head};
 ghost use Rattle.ped_steps.specs.ped_sums.specs.Sums.{literal, times_of};
-ghost use Rattle.ped_steps.specs.ped_laws.specs.ped_store.specs.Cells.{Cell};
-ghost use Rattle.ped_steps.specs.ped_laws.specs.ped_store.specs.Stores.{Store};
-ghost use Rattle.ped_steps.specs.ped_laws.specs.ped_eval.specs.Loops.{Limits, limits};
-ghost use Rattle.ped_steps.specs.ped_laws.specs.ped_eval.specs.Scopes.{Setting, Scope, cell_of, index_value, names_in};
-ghost use Rattle.ped_steps.specs.ped_laws.specs.ped_eval.specs.Values.{value};
+ghost use Rattle.ped_steps.specs.ped_store.specs.Cells.{Cell};
+ghost use Rattle.ped_steps.specs.ped_store.specs.Stores.{Store};
+ghost use Rattle.ped_steps.specs.ped_eval.specs.Loops.{Limits, limits};
+ghost use Rattle.ped_steps.specs.ped_eval.specs.Scopes.{Setting, Scope, cell_of, index_value, names_in};
+ghost use Rattle.ped_steps.specs.ped_eval.specs.Values.{value};
 ghost use Rattle.ped_bodies.specs.Likewise.{NamesScalars, Meet, ComesLikewise};
 ghost use Rattle.ped_bodies.specs.Moving.{TellTheSame, ToldInside};
 ghost use Rattle.ped_bodies.specs.Rewriting.{IsRewriting, unchanged, head_rewritten};

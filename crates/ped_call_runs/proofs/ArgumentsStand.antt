@@ -11,16 +11,16 @@ use Rattle.ped_tree.specs.Grammar.LimitNumbers.{greatest_literal}
 use Rattle.ped_tree.specs.NamesIn.{expr_names, exprs_names, stmts_names}
 use Rattle.ped_tree.specs.Tree.{ExprTree, ExprTrees, Int, Var, Element, Neg, Add, Sub, Mul, Div, Pow, Call, no_exprs, more_exprs, StmtTree, StmtTrees, Assign, ProgramTree}
 use Rattle.ped_steps.specs.ped_sums.specs.Sums.{literal}
-use Rattle.ped_calls.specs.ped_valid.specs.ped_symbols.specs.Kinds.{kind_in}
-use Rattle.ped_calls.specs.ped_valid.specs.ped_symbols.specs.NameRefusals.{has_twice}
-use Rattle.ped_calls.specs.ped_valid.specs.ped_symbols.specs.Values.{Values, within, fixed_value}
+use Rattle.ped_steps.specs.ped_symbols.specs.Kinds.{kind_in}
+use Rattle.ped_steps.specs.ped_symbols.specs.NameRefusals.{has_twice}
+use Rattle.ped_steps.specs.ped_symbols.specs.Values.{Values, within, fixed_value}
 use Rattle.ped_calls.specs.Giving.{IsSmall}
 use Rattle.ped_calls.specs.ped_units.specs.Forms.{Called}
 use Rattle.ped_calls.specs.ped_units.specs.Units.{ProgramUnit, ProgramUnits}
 use Rattle.ped_calls.specs.ped_units.specs.Linking.{IsIn, Association, associations, associated, IsLinked}
 use Rattle.ped_calls.specs.ped_units.specs.Expanding.{Given, free_name, with_new, declared_as, Meanings, meaning, replaced, all_replaced, is_variable_name, Bound, standing, bound_by, bound_arguments, constants_of, behind_stmts, nothing_given}
 use Rattle.ped_calls.proofs.SmallKinds.{small_fixed}
-use Rattle.ped_steps.specs.ped_eval.specs.ped_store.specs.Stores.{is_storable}
+use Rattle.ped_steps.specs.ped_store.specs.Stores.{is_storable}
 use Rattle.ped_steps.specs.ped_eval.specs.Outcomes.{bounds_of}
 use Rattle.ped_steps.specs.ped_eval.specs.Scopes.{Setting}
 use Rattle.ped_call_runs.specs.UnitRuns.{own, Instance, formals_stand}

@@ -7,7 +7,7 @@ use Rattle.ped_tree.specs.declared.expressions.Intrinsic.{Intrinsic}
 use Rattle.ped_tree.specs.Constants.ConstantExpressions.{unary_value, binary_value, onto, intrinsic_result, constant_value, constant_values}
 use Rattle.ped_tree.specs.NamesIn.{expr_names, exprs_names}
 use Rattle.ped_tree.specs.Tree.{ExprTree, ExprTrees, Int, Var, Element, Neg, Add, Sub, Mul, Div, Pow, Call, no_exprs, more_exprs}
-use Rattle.ped_calls.specs.ped_valid.specs.ped_symbols.specs.Values.{Values}
+use Rattle.ped_steps.specs.ped_symbols.specs.Values.{Values}
 use Rattle.ped_calls.specs.ped_units.specs.Expanding.{Meanings, meaning, replaced, all_replaced}
 use Rattle.ped_call_runs.proofs.EachNames.{Each, each_front, each_behind, each_joined}
 

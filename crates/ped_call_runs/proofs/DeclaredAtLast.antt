@@ -3,12 +3,12 @@ use Rattle.std.proofs.Common.{◌≡◌, List, ◌++◌, ap, ◌∙◌}
 use Rattle.std.specs.List.{flat_map}
 use Rattle.std.proofs.lemmas.Grind.{flat_map-append}
 use Rattle.ped_tree.specs.Tree.{DeclTree, ProgramTree}
-use Rattle.ped_calls.specs.ped_valid.specs.ped_symbols.specs.Arrays.{Arrays}
-use Rattle.ped_calls.specs.ped_valid.specs.ped_symbols.specs.Kinds.{at_last}
-use Rattle.ped_calls.specs.ped_valid.specs.ped_symbols.specs.NameRefusals.{Before, at_first, behind_sites}
-use Rattle.ped_calls.specs.ped_valid.specs.ped_symbols.specs.Sites.{decl_sites, stmts_sites}
-use Rattle.ped_calls.specs.ped_valid.specs.ped_symbols.specs.Values.{Values}
-use Rattle.ped_calls.specs.ped_valid.specs.ped_symbols.proofs.RightUseLaws.Quiet.{behind_append, said, said_stays, stmts_declare_nothing}
+use Rattle.ped_steps.specs.ped_symbols.specs.Arrays.{Arrays}
+use Rattle.ped_steps.specs.ped_symbols.specs.Kinds.{at_last}
+use Rattle.ped_steps.specs.ped_symbols.specs.NameRefusals.{Before, at_first, behind_sites}
+use Rattle.ped_steps.specs.ped_symbols.specs.Sites.{decl_sites, stmts_sites}
+use Rattle.ped_steps.specs.ped_symbols.specs.Values.{Values}
+use Rattle.ped_steps.specs.ped_symbols.proofs.RightUseLaws.Quiet.{behind_append, said, said_stays, stmts_declare_nothing}
 
 -- what declarations have said behind others
 abbrev pub behind_decls : Before → List DeclTree → Before

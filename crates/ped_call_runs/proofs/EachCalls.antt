@@ -2,7 +2,7 @@
 use Rattle.std.proofs.Common.{◌≡◌, ℕ, zero, suc, length, false, Option, Some, None}
 use Rattle.ped_tree.specs.Accesses.{listed}
 use Rattle.ped_tree.specs.Tree.{StmtTree, StmtTrees, Assign, If, Do, Print, Read, Stop, Comment, no_stmts, more_stmts}
-use Rattle.ped_calls.specs.ped_valid.specs.ped_symbols.specs.NameRefusals.{has_twice}
+use Rattle.ped_steps.specs.ped_symbols.specs.NameRefusals.{has_twice}
 use Rattle.ped_calls.specs.ped_units.specs.Forms.{Called}
 use Rattle.ped_calls.specs.ped_units.specs.Units.{ProgramUnit, ProgramUnits, unit_of, call_of}
 

@@ -5,9 +5,9 @@ use Rattle.std.specs.List.{flat_map}
 use Rattle.ped_tree.specs.Constants.ConstantExpressions.{constant_value}
 use Rattle.ped_tree.specs.NamesIn.{expr_names, cond_names, item_names, private_names_in, all_private_names_in}
 use Rattle.ped_tree.specs.Tree.{Head, StmtTree, StmtTrees, Assign, If, Do, Print, Read, Stop, Comment, no_stmts, more_stmts}
-use Rattle.ped_calls.specs.ped_valid.specs.ped_symbols.specs.Declarations.{Declared}
-use Rattle.ped_calls.specs.ped_valid.specs.ped_symbols.specs.Sites.{private_site, stmt_sites, stmts_sites}
-use Rattle.ped_calls.specs.ped_valid.specs.ped_symbols.specs.Values.{Values}
+use Rattle.ped_steps.specs.ped_symbols.specs.Declarations.{Declared}
+use Rattle.ped_steps.specs.ped_symbols.specs.Sites.{private_site, stmt_sites, stmts_sites}
+use Rattle.ped_steps.specs.ped_symbols.specs.Values.{Values}
 use Rattle.ped_calls.specs.ped_units.specs.Forms.{Called}
 use Rattle.ped_calls.specs.ped_units.specs.Units.{ProgramUnit, ProgramUnits, call_of, with_calls, all_with_calls}
 use Rattle.ped_calls.specs.ped_units.specs.Linking.{assigned_left}

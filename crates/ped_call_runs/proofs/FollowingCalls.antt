@@ -9,9 +9,9 @@ use Rattle.ped_tree.specs.Numbering.{statement_count, statements_count}
 use Rattle.ped_tree.specs.Tree.{ExprTree, Int, Var, Rel, StmtTree, StmtTrees, Assign, no_stmts, more_stmts}
 use Rattle.ped_calls.specs.ped_units.specs.Forms.{Called}
 use Rattle.ped_calls.specs.ped_units.specs.Expanding.{Meanings, replaced, is_variable_name, behind_stmts, call_comment, block_of}
-use Rattle.ped_steps.specs.ped_eval.specs.ped_store.specs.Cells.{Cell, Scalar, Element, Private, In, Out}
-use Rattle.ped_steps.specs.ped_eval.specs.ped_store.specs.Stores.{Number, Store, put, is_storable, storable, out_of_range}
-use Rattle.ped_steps.specs.ped_eval.specs.ped_store.specs.Acts.{Act, Place}
+use Rattle.ped_steps.specs.ped_store.specs.Cells.{Cell, Scalar, Element, Private, In, Out}
+use Rattle.ped_steps.specs.ped_store.specs.Stores.{Number, Store, put, is_storable, storable, out_of_range}
+use Rattle.ped_steps.specs.ped_store.specs.Acts.{Act, Place}
 use Rattle.ped_steps.specs.ped_eval.specs.Scopes.{Setting, Scope, cell_of, Names, names_in, place_of}
 use Rattle.ped_steps.specs.ped_eval.specs.Evaluation.{Evaluated, onward, ◌>>>◌, given}
 use Rattle.ped_steps.specs.ped_eval.specs.Values.{value, target}

@@ -3,12 +3,12 @@ use Rattle.std.proofs.Common.{◌≡◌, ℕ, zero, suc, ◌+◌, List, [], ◌�
 use Rattle.ped_tree.specs.Accesses.{listed}
 use Rattle.ped_tree.specs.Numbering.{statement_count}
 use Rattle.ped_tree.specs.Tree.{ExprTree, Var, StmtTree, StmtTrees, no_stmts}
-use Rattle.ped_calls.specs.ped_valid.specs.ped_symbols.specs.Values.{Values}
+use Rattle.ped_steps.specs.ped_symbols.specs.Values.{Values}
 use Rattle.ped_calls.specs.ped_units.specs.Forms.{Called}
 use Rattle.ped_calls.specs.ped_units.specs.Units.{ProgramUnit, ProgramUnits, unit_of}
 use Rattle.ped_calls.specs.ped_units.specs.Expanding.{Meanings, replaced, called_replaced, Given, Bound, bound_arguments, meanings_in, behind_stmts, call_comment, all_expanded_in, unit_expanded, call_expanded}
-use Rattle.ped_steps.specs.ped_eval.specs.ped_store.specs.Cells.{Cell, Scalar, Element, Private, In, Out}
-use Rattle.ped_steps.specs.ped_eval.specs.ped_store.specs.Stores.{Number, Store, put}
+use Rattle.ped_steps.specs.ped_store.specs.Cells.{Cell, Scalar, Element, Private, In, Out}
+use Rattle.ped_steps.specs.ped_store.specs.Stores.{Number, Store, put}
 use Rattle.ped_steps.specs.ped_eval.specs.Scopes.{Setting, Scope, names_in, place_of}
 use Rattle.ped_steps.specs.ped_eval.specs.Runs.{Ending, Run, then_run, nothing_done, run_assignment, run, run_all}
 use Rattle.ped_call_runs.specs.UnitRuns.{own, is_own, is_own_cell, without_own, Instance, called_instance, number_inside, run_arguments, call_size, run_called, call_run, unit_run_all}

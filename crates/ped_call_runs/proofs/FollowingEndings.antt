@@ -1,9 +1,9 @@
 -- Statements by themselves that end as others do, but for a fault in an undefined variable of a CALL's own.
 use Rattle.std.proofs.Common.{◌≡◌, ℕ, zero, suc, ◌+◌, List, [], ◌∷◌, ◌++◌, Bool, true, false, Result, Ok, Err, refl, sym, ap, ◌∙◌, subst, ◌⊎◌, inl, inr, append_assoc, if◌then◌else◌}
 use Rattle.ped_tree.specs.Tree.{ExprTree, ItemTree, CondTree, Head, StmtTrees}
-use Rattle.ped_steps.specs.ped_eval.specs.ped_store.specs.Cells.{Cell, Out, same_cell}
-use Rattle.ped_steps.specs.ped_eval.specs.ped_store.specs.Stores.{Undefined, Number, Lines, Store, put, lines_in, with_line}
-use Rattle.ped_steps.specs.ped_eval.specs.ped_store.specs.Acts.{Touch, reads, is_told, Place, Step, did, entered, ended_turn, closed, faulted, Act, store_behind}
+use Rattle.ped_steps.specs.ped_store.specs.Cells.{Cell, Out, same_cell}
+use Rattle.ped_steps.specs.ped_store.specs.Stores.{Undefined, Number, Lines, Store, put, lines_in, with_line}
+use Rattle.ped_steps.specs.ped_store.specs.Acts.{Touch, reads, is_told, Place, Step, did, entered, ended_turn, closed, faulted, Act, store_behind}
 use Rattle.ped_steps.specs.ped_eval.specs.Scopes.{Setting, Frame, Scope, Names, names_in, place_of}
 use Rattle.ped_steps.specs.ped_eval.specs.Evaluation.{Seen, cell_seen, index_seen, Evaluated, numbered, number_behind}
 use Rattle.ped_steps.specs.ped_eval.specs.Values.{truth}

@@ -5,9 +5,9 @@ use Rattle.ped_base.specs.Lists.{is_same_text, is_among}
 use Rattle.ped_base.proofs.NameEquality.{same_is, same_itself}
 use Rattle.ped_tree.specs.Tree.{StmtTrees}
 use Rattle.ped_tree.specs.NamesIn.{all_loop_variables}
-use Rattle.ped_steps.specs.ped_eval.specs.ped_store.specs.Cells.{Cell, same_cell}
-use Rattle.ped_steps.specs.ped_eval.specs.ped_store.specs.Stores.{Content, Undefined, Store, put}
-use Rattle.ped_steps.specs.ped_eval.specs.ped_store.specs.Acts.{store_behind}
+use Rattle.ped_steps.specs.ped_store.specs.Cells.{Cell, same_cell}
+use Rattle.ped_steps.specs.ped_store.specs.Stores.{Content, Undefined, Store, put}
+use Rattle.ped_steps.specs.ped_store.specs.Acts.{store_behind}
 use Rattle.ped_steps.specs.ped_eval.specs.Scopes.{Scope, cell_of}
 use Rattle.ped_steps.specs.ped_eval.specs.Loops.{sorted_once, inner_variables, Entered, left_in_variable, exit_touches}
 use Rattle.ped_steps.specs.ped_eval.specs.Turns.{undefined_cells}

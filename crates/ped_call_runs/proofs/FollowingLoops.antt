@@ -6,9 +6,9 @@ use Rattle.ped_base.proofs.NameEquality.{same_is}
 use Rattle.ped_tree.specs.NamesIn.{expr_names, all_loop_variables}
 use Rattle.ped_tree.specs.Tree.{Head, StmtTrees}
 use Rattle.ped_calls.specs.ped_units.specs.Expanding.{Meanings, name_or, name_meant, head_replaced}
-use Rattle.ped_steps.specs.ped_eval.specs.ped_store.specs.Cells.{Private}
-use Rattle.ped_steps.specs.ped_eval.specs.ped_store.specs.Stores.{Undefined, Number, Store}
-use Rattle.ped_steps.specs.ped_eval.specs.ped_store.specs.Acts.{store_behind, iterations_of}
+use Rattle.ped_steps.specs.ped_store.specs.Cells.{Private}
+use Rattle.ped_steps.specs.ped_store.specs.Stores.{Undefined, Number, Store}
+use Rattle.ped_steps.specs.ped_store.specs.Acts.{store_behind, iterations_of}
 use Rattle.ped_steps.specs.ped_eval.specs.Scopes.{Setting, Frame, Scope, turns_of, cell_of, index_value}
 use Rattle.ped_steps.specs.ped_eval.specs.Evaluation.{Seen}
 use Rattle.ped_steps.specs.ped_eval.specs.Loops.{Limits, increment, iteration_count, sorted_once, inner_variables, Entered, entered_with, copied_names, frame, left_in_variable, exit_touches}

@@ -13,10 +13,10 @@ use Rattle.ped_tree.specs.Tree.{ExprTree, Int, Var, Neg}
 use Rattle.ped_tree.specs.Constants.NamedConstants.{value_named}
 use Rattle.ped_steps.specs.ped_sums.specs.Sums.{literal}
 use Rattle.ped_calls.specs.ped_units.specs.Expanding.{Meanings, meaning, name_or, name_meant}
-use Rattle.ped_steps.specs.ped_eval.specs.ped_store.specs.Cells.{Cell, Scalar, Element, Private, In, Out, same_cell}
-use Rattle.ped_steps.specs.ped_eval.specs.ped_store.specs.Stores.{Content, Number, Store, number_read, outside_bounds}
-use Rattle.ped_steps.specs.ped_eval.specs.ped_store.specs.Storage.{is_within}
-use Rattle.ped_steps.specs.ped_eval.specs.ped_store.specs.Acts.{iterations_of}
+use Rattle.ped_steps.specs.ped_store.specs.Cells.{Cell, Scalar, Element, Private, In, Out, same_cell}
+use Rattle.ped_steps.specs.ped_store.specs.Stores.{Content, Number, Store, number_read, outside_bounds}
+use Rattle.ped_steps.specs.ped_store.specs.Storage.{is_within}
+use Rattle.ped_steps.specs.ped_store.specs.Acts.{iterations_of}
 use Rattle.ped_steps.specs.ped_eval.specs.Scopes.{Setting, Frame, Scope, turns_of, cell_of, index_value, Names, names_in}
 use Rattle.ped_steps.specs.ped_eval.specs.Evaluation.{cell_seen, Evaluated, ◌>>>◌, given, by_number, read_cell}
 use Rattle.ped_steps.specs.ped_eval.specs.Values.{variable_value, name_value, is_rank, element_cell, value, target}

@@ -5,10 +5,10 @@ use Rattle.ped_tree.specs.Tree.{ExprTree}
 use Rattle.ped_tree.specs.NamesIn.{expr_names}
 use Rattle.ped_calls.specs.ped_units.specs.Expanding.{Meanings, replaced}
 use Rattle.ped_calls.specs.ped_units.specs.Linking.{assigned_left}
-use Rattle.ped_steps.specs.ped_eval.specs.ped_store.specs.Cells.{Cell, In, same_cell}
-use Rattle.ped_steps.specs.ped_eval.specs.ped_store.specs.Stores.{Number, Lines, Store, put, lines_in, undefined_read}
-use Rattle.ped_steps.specs.ped_eval.specs.ped_store.specs.Acts.{Touch, Place, faulted, store_behind}
-use Rattle.ped_steps.specs.ped_eval.specs.ped_store.specs.DataLines.{Data, begun, Taken, next_value_of}
+use Rattle.ped_steps.specs.ped_store.specs.Cells.{Cell, In, same_cell}
+use Rattle.ped_steps.specs.ped_store.specs.Stores.{Number, Lines, Store, put, lines_in, undefined_read}
+use Rattle.ped_steps.specs.ped_store.specs.Acts.{Touch, Place, faulted, store_behind}
+use Rattle.ped_steps.specs.ped_store.specs.DataLines.{Data, begun, Taken, next_value_of}
 use Rattle.ped_steps.specs.ped_eval.specs.Scopes.{Names}
 use Rattle.ped_steps.specs.ped_eval.specs.Evaluation.{Seen, numbered, number_behind}
 use Rattle.ped_steps.specs.ped_eval.specs.Values.{target}

@@ -8,8 +8,8 @@ use Rattle.ped_calls.specs.ped_units.specs.Forms.{Called}
 use Rattle.ped_calls.specs.ped_units.specs.Units.{call_of}
 use Rattle.ped_calls.specs.ped_units.specs.Expanding.{Meanings, replaced, cond_replaced, item_replaced, head_replaced, called_replaced, Given, Expanded, AllExpanded, expanded_or, expanded_in, all_expanded_in}
 use Rattle.ped_calls.specs.ped_units.specs.Linking.{assigned_left}
-use Rattle.ped_steps.specs.ped_eval.specs.ped_store.specs.Cells.{Cell}
-use Rattle.ped_steps.specs.ped_eval.specs.ped_store.specs.Stores.{Store}
+use Rattle.ped_steps.specs.ped_store.specs.Cells.{Cell}
+use Rattle.ped_steps.specs.ped_store.specs.Stores.{Store}
 use Rattle.ped_steps.specs.ped_eval.specs.Scopes.{Setting, Scope, names_in, place_of}
 use Rattle.ped_steps.specs.ped_eval.specs.Loops.{limits, iteration_count}
 use Rattle.ped_steps.specs.ped_eval.specs.Runs.{run, run_all}

@@ -1,7 +1,7 @@
 -- A store that holds at least what another holds, in renamed cells.
 use Rattle.std.proofs.Common.{◌≡◌, ℕ, ℤ, [], ◌∷◌, Bool, true, false, refl, sym, ap, subst, ◌⊎◌, inl, inr, if◌then◌else◌}
-use Rattle.ped_steps.specs.ped_eval.specs.ped_store.specs.Cells.{Cell, same_cell}
-use Rattle.ped_steps.specs.ped_eval.specs.ped_store.specs.Stores.{Content, Undefined, Number, Store, put, number_read}
+use Rattle.ped_steps.specs.ped_store.specs.Cells.{Cell, same_cell}
+use Rattle.ped_steps.specs.ped_store.specs.Stores.{Content, Undefined, Number, Store, put, number_read}
 use Rattle.ped_steps.specs.ped_eval.specs.Evaluation.{cell_seen, read_cell}
 use Rattle.ped_steps.specs.ped_laws.proofs.ActLaws.SameCells.{cell_is}
 use Rattle.ped_call_runs.specs.UnitRuns.{is_own_cell, without_own}

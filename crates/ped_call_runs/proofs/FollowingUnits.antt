@@ -4,15 +4,15 @@ use Rattle.std.specs.Str.Lines.{lines}
 use Rattle.ped_base.specs.Dimensions.{Dimensions}
 use Rattle.ped_base.specs.Lists.{has_some}
 use Rattle.ped_tree.specs.Tree.{ProgramTree}
-use Rattle.ped_calls.specs.ped_valid.specs.ped_symbols.specs.Kinds.{kind_in}
+use Rattle.ped_steps.specs.ped_symbols.specs.Kinds.{kind_in}
 use Rattle.ped_calls.specs.ped_units.specs.Forms.{Called}
 use Rattle.ped_calls.specs.ped_units.specs.Units.{ProgramUnits}
 use Rattle.ped_calls.specs.ped_units.specs.Refusals.{for_names}
 use Rattle.ped_calls.specs.ped_units.specs.Expanding.{Given, Expanded, call_expanded, constants_of, nothing_given, expansion}
-use Rattle.ped_steps.specs.ped_eval.specs.ped_store.specs.Cells.{Scalar, Element, Private, In, Out}
-use Rattle.ped_steps.specs.ped_eval.specs.ped_store.specs.Stores.{Store, store_at_start, number_in, lines_in}
-use Rattle.ped_steps.specs.ped_eval.specs.ped_store.specs.Storage.{elements_of}
-use Rattle.ped_steps.specs.ped_eval.specs.ped_store.specs.Variables.{values_of}
+use Rattle.ped_steps.specs.ped_store.specs.Cells.{Scalar, Element, Private, In, Out}
+use Rattle.ped_steps.specs.ped_store.specs.Stores.{Store, store_at_start, number_in, lines_in}
+use Rattle.ped_steps.specs.ped_store.specs.Storage.{elements_of}
+use Rattle.ped_steps.specs.ped_store.specs.Variables.{values_of}
 use Rattle.ped_steps.specs.ped_eval.specs.Scopes.{Setting}
 use Rattle.ped_steps.specs.ped_eval.specs.Runs.{Ending, going, stopped, failed, run_all}
 use Rattle.ped_steps.specs.ped_eval.specs.Outcomes.{bounds_of, setting_of, run_of, LiveRow, live_names, live_rows, Ended, Fault, Ends, outcome, outcome_of}

@@ -6,13 +6,13 @@ use Rattle.ped_base.specs.Arithmetic.Arithmetic.{sum_of, difference_of, negation
 use Rattle.ped_tree.specs.Constants.ConstantExpressions.{intrinsic_result}
 use Rattle.ped_tree.specs.NamesIn.{expr_names, exprs_names, cond_names, item_names}
 use Rattle.ped_tree.specs.Tree.{ExprTree, ExprTrees, Int, Var, Element, Neg, Add, Sub, Mul, Div, Pow, Call, no_exprs, more_exprs, CondTree, Rel, Not, And, Or, ItemTree, Value, Text, Head}
-use Rattle.ped_calls.specs.ped_valid.specs.ped_symbols.specs.Uses.{expr_count}
+use Rattle.ped_steps.specs.ped_symbols.specs.Uses.{expr_count}
 use Rattle.ped_calls.specs.ped_units.specs.Expanding.{Meanings, meaning, name_meant, replaced, all_replaced, cond_replaced, item_replaced, head_replaced}
 use Rattle.ped_calls.specs.ped_units.specs.Linking.{assigned_left}
-use Rattle.ped_steps.specs.ped_eval.specs.ped_store.specs.Cells as cells
-use Rattle.ped_steps.specs.ped_eval.specs.ped_store.specs.Cells.{Cell}
-use Rattle.ped_steps.specs.ped_eval.specs.ped_store.specs.Stores.{Undefined, Store, undefined_read, outside_bounds, storable}
-use Rattle.ped_steps.specs.ped_eval.specs.ped_store.specs.Storage.{is_within}
+use Rattle.ped_steps.specs.ped_store.specs.Cells as cells
+use Rattle.ped_steps.specs.ped_store.specs.Cells.{Cell}
+use Rattle.ped_steps.specs.ped_store.specs.Stores.{Undefined, Store, undefined_read, outside_bounds, storable}
+use Rattle.ped_steps.specs.ped_store.specs.Storage.{is_within}
 use Rattle.ped_steps.specs.ped_eval.specs.Scopes.{Names}
 use Rattle.ped_steps.specs.ped_eval.specs.Evaluation.{Seen, cell_seen, Evaluated, onward, ◌>>>◌, given, by_number, read_cell}
 use Rattle.ped_steps.specs.ped_eval.specs.Values.{of_intrinsic, is_rank, element_cell, value, values, relation_holds, truth, target}

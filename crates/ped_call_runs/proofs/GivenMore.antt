@@ -8,12 +8,12 @@ use Rattle.ped_base.proofs.NameEquality.{same_is}
 use Rattle.ped_tree.proofs.NameLaws.Collected.{among_append}
 use Rattle.ped_tree.specs.Grammar.LimitNumbers.{most_dimensions}
 use Rattle.ped_tree.specs.Tree.{ExprTree, BoundTree, StmtTree, StmtTrees, DeclTree}
-use Rattle.ped_calls.specs.ped_valid.specs.ped_symbols.specs.Arrays.{bounds_values, with_bounds, by_bounds}
-use Rattle.ped_calls.specs.ped_valid.specs.ped_symbols.specs.declared.symbols.Kind.{Kind}
-use Rattle.ped_calls.specs.ped_valid.specs.ped_symbols.specs.declared.symbols.Kind.TheVariants.{Scalar, Array, Constant}
-use Rattle.ped_calls.specs.ped_valid.specs.ped_symbols.specs.Entries.{entry_of}
-use Rattle.ped_calls.specs.ped_valid.specs.ped_symbols.specs.NameRefusals.{Before}
-use Rattle.ped_calls.specs.ped_valid.specs.ped_symbols.specs.Values.{Values}
+use Rattle.ped_steps.specs.ped_symbols.specs.Arrays.{bounds_values, with_bounds, by_bounds}
+use Rattle.ped_steps.specs.ped_symbols.specs.declared.symbols.Kind.{Kind}
+use Rattle.ped_steps.specs.ped_symbols.specs.declared.symbols.Kind.TheVariants.{Scalar, Array, Constant}
+use Rattle.ped_steps.specs.ped_symbols.specs.Entries.{entry_of}
+use Rattle.ped_steps.specs.ped_symbols.specs.NameRefusals.{Before}
+use Rattle.ped_steps.specs.ped_symbols.specs.Values.{Values}
 use Rattle.ped_calls.specs.ped_units.specs.Forms.{Called}
 use Rattle.ped_calls.specs.ped_units.specs.Units.{ProgramUnit, ProgramUnits}
 use Rattle.ped_calls.specs.ped_units.specs.Expanding.{Given, free_name, with_new, literal_bounds, declared_as, with_local, Meanings, bound_arguments, Renamed, renamed, expanded_in, all_expanded_in, call_expanded}

@@ -16,21 +16,21 @@ use Rattle.ped_tree.specs.Grammar.Refusal.{Finding, StorageLimit, first_of, IsAm
 use Rattle.ped_tree.proofs.GrammarLaws.First.{first_is_least, none_stands}
 use Rattle.ped_tree.specs.NamesIn.{cond_names, head_names, stmt_names, stmts_names, expr_names}
 use Rattle.ped_tree.specs.Tree.{StmtTree, StmtTrees, Assign, If, Do, Print, Read, Stop, Comment, no_stmts, more_stmts, DeclTree, Program, Implicit, Integer, Dimension, Parameter, Save, Remark, ProgramTree}
-use Rattle.ped_calls.specs.ped_valid.specs.ped_symbols.specs.ped_refs.specs.References.{references}
-use Rattle.ped_calls.specs.ped_valid.specs.ped_symbols.specs.declared.symbols.Kind.{Kind}
-use Rattle.ped_calls.specs.ped_valid.specs.ped_symbols.specs.declared.symbols.Kind.TheVariants.{Scalar, Array, Constant}
-use Rattle.ped_calls.specs.ped_valid.specs.ped_symbols.specs.declared.uses.Role.TheVariants.{Rejected, Operand}
-use Rattle.ped_calls.specs.ped_valid.specs.ped_symbols.specs.declared.uses.Use.{Use}
-use Rattle.ped_calls.specs.ped_valid.specs.ped_symbols.specs.Declarations.{Declared, declared_in, is_implicit, program_name, is_naming, is_typing, names_with, is_typed, is_constant, is_program, is_real, begins_integer, given_rank, rank_of}
-use Rattle.ped_calls.specs.ped_valid.specs.ped_symbols.specs.Kinds.{kind_in, names_of, names_at}
-use Rattle.ped_calls.specs.ped_valid.specs.ped_symbols.specs.NameRefusals.{Before, at_first, behind_site, is_of_variable, subscripts_of, differs, has_twice, name_refusals}
-use Rattle.ped_calls.specs.ped_valid.specs.ped_symbols.specs.Sites.{Site, declaration, decl_sites, stmts_sites, program_sites, site_uses}
-use Rattle.ped_calls.specs.ped_valid.specs.ped_symbols.specs.Uses.{used_as, decl_uses}
-use Rattle.ped_calls.specs.ped_valid.specs.ped_symbols.specs.Values.{Values}
-use Rattle.ped_calls.specs.ped_valid.specs.ped_symbols.proofs.RightUseLaws.Constants.{names_append}
-use Rattle.ped_calls.specs.ped_valid.specs.ped_symbols.proofs.RightUseLaws.Occurring.{occurs_first}
-use Rattle.ped_calls.specs.ped_valid.specs.ped_symbols.proofs.RightUseLaws.Quiet.{stmts_declare_nothing}
-use Rattle.ped_calls.specs.ped_valid.specs.ped_symbols.proofs.RightUseLaws.Whole.{names_occur, others_unvalued}
+use Rattle.ped_steps.specs.ped_refs.specs.References.{references}
+use Rattle.ped_steps.specs.ped_symbols.specs.declared.symbols.Kind.{Kind}
+use Rattle.ped_steps.specs.ped_symbols.specs.declared.symbols.Kind.TheVariants.{Scalar, Array, Constant}
+use Rattle.ped_steps.specs.ped_symbols.specs.declared.uses.Role.TheVariants.{Rejected, Operand}
+use Rattle.ped_steps.specs.ped_symbols.specs.declared.uses.Use.{Use}
+use Rattle.ped_steps.specs.ped_symbols.specs.Declarations.{Declared, declared_in, is_implicit, program_name, is_naming, is_typing, names_with, is_typed, is_constant, is_program, is_real, begins_integer, given_rank, rank_of}
+use Rattle.ped_steps.specs.ped_symbols.specs.Kinds.{kind_in, names_of, names_at}
+use Rattle.ped_steps.specs.ped_symbols.specs.NameRefusals.{Before, at_first, behind_site, is_of_variable, subscripts_of, differs, has_twice, name_refusals}
+use Rattle.ped_steps.specs.ped_symbols.specs.Sites.{Site, declaration, decl_sites, stmts_sites, program_sites, site_uses}
+use Rattle.ped_steps.specs.ped_symbols.specs.Uses.{used_as, decl_uses}
+use Rattle.ped_steps.specs.ped_symbols.specs.Values.{Values}
+use Rattle.ped_steps.specs.ped_symbols.proofs.RightUseLaws.Constants.{names_append}
+use Rattle.ped_steps.specs.ped_symbols.proofs.RightUseLaws.Occurring.{occurs_first}
+use Rattle.ped_steps.specs.ped_symbols.proofs.RightUseLaws.Quiet.{stmts_declare_nothing}
+use Rattle.ped_steps.specs.ped_symbols.proofs.RightUseLaws.Whole.{names_occur, others_unvalued}
 use Rattle.ped_calls.specs.ped_units.specs.Forms.{Called}
 use Rattle.ped_calls.specs.ped_units.specs.Units.{ProgramUnit, ProgramUnits, all_units, with_calls, all_with_calls}
 use Rattle.ped_calls.specs.ped_units.specs.Refusals.{dimensioned, using_arguments, save_of_formals, for_names, lines_for_names, units_name_refusals}

@@ -5,14 +5,14 @@ use Rattle.ped_base.specs.Lists.{is_same_text, is_among}
 use Rattle.ped_tree.specs.Accesses.{listed}
 use Rattle.ped_tree.specs.NamesIn.{expr_names, cond_names, item_names, head_names, stmt_names, stmts_names, first_occurrences}
 use Rattle.ped_tree.specs.Tree.{ExprTree, Int, Var, Element, Neg, Add, Sub, Mul, Div, Pow, Call, CondTree, And, Value, StmtTree, StmtTrees, Assign, If, Do, Print, Read, Stop, Comment, no_stmts, more_stmts, DeclTree, Program, Implicit, Integer, Dimension, Parameter, Save, Remark, ProgramTree}
-use Rattle.ped_calls.specs.ped_valid.specs.ped_symbols.specs.declared.uses.Role.{Role}
-use Rattle.ped_calls.specs.ped_valid.specs.ped_symbols.specs.declared.uses.Use.{Use}
-use Rattle.ped_calls.specs.ped_valid.specs.ped_symbols.specs.Declarations.{is_dimensioning, names_with}
-use Rattle.ped_calls.specs.ped_valid.specs.ped_symbols.specs.Kinds.{names_of}
-use Rattle.ped_calls.specs.ped_valid.specs.ped_symbols.specs.Sites.{decl_sites, stmts_sites, site_uses}
-use Rattle.ped_calls.specs.ped_valid.specs.ped_symbols.specs.Uses.{decl_uses}
-use Rattle.ped_calls.specs.ped_valid.specs.ped_symbols.proofs.RightUseLaws.Occurring.{first_among}
-use Rattle.ped_calls.specs.ped_valid.specs.ped_symbols.proofs.RightUseLaws.Whole.{names_occur}
+use Rattle.ped_steps.specs.ped_symbols.specs.declared.uses.Role.{Role}
+use Rattle.ped_steps.specs.ped_symbols.specs.declared.uses.Use.{Use}
+use Rattle.ped_steps.specs.ped_symbols.specs.Declarations.{is_dimensioning, names_with}
+use Rattle.ped_steps.specs.ped_symbols.specs.Kinds.{names_of}
+use Rattle.ped_steps.specs.ped_symbols.specs.Sites.{decl_sites, stmts_sites, site_uses}
+use Rattle.ped_steps.specs.ped_symbols.specs.Uses.{decl_uses}
+use Rattle.ped_steps.specs.ped_symbols.proofs.RightUseLaws.Occurring.{first_among}
+use Rattle.ped_steps.specs.ped_symbols.proofs.RightUseLaws.Whole.{names_occur}
 use Rattle.ped_calls.specs.ped_units.specs.Forms.{Called}
 use Rattle.ped_calls.specs.ped_units.specs.Units.{ProgramUnit, call_of, instead_of, with_calls, all_with_calls}
 use Rattle.ped_calls.specs.ped_units.specs.Refusals.{dimensioned, is_whole_array, plain_arguments, is_zero, and_zeros, condition_of, using_arguments, save_of_formals, for_names}

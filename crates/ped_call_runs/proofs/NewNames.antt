@@ -12,18 +12,18 @@ use Rattle.ped_tree.proofs.NameLaws.Collected.{among_append}
 use Rattle.ped_tree.specs.Grammar.Fits.{is_no_intrinsic}
 use Rattle.ped_tree.specs.Grammar.Words.{intrinsic_of}
 use Rattle.ped_tree.specs.Tree.{DeclTree}
-use Rattle.ped_calls.specs.ped_valid.specs.ped_symbols.specs.declared.symbols.Kind.{Kind}
-use Rattle.ped_calls.specs.ped_valid.specs.ped_symbols.specs.declared.symbols.Kind.TheVariants.{Scalar, Array, Constant}
-use Rattle.ped_calls.specs.ped_valid.specs.ped_symbols.specs.declared.uses.Role.{Role}
-use Rattle.ped_calls.specs.ped_valid.specs.ped_symbols.specs.declared.uses.Role.TheVariants.{Typed, Dimensioned, Named, Saved, Rejected, Private, Index, Assigned, Operand}
-use Rattle.ped_calls.specs.ped_valid.specs.ped_symbols.specs.declared.uses.Use.{Use}
-use Rattle.ped_calls.specs.ped_valid.specs.ped_symbols.specs.Declarations.{Declared, is_typing, is_dimensioning, names_with, is_typed, is_constant, is_program, begins_integer, is_real, or_zero, rank_by, ranks_in, rank_of}
-use Rattle.ped_calls.specs.ped_valid.specs.ped_symbols.specs.Entries.{entry_of}
-use Rattle.ped_calls.specs.ped_valid.specs.ped_symbols.specs.Kinds.{kind_in}
-use Rattle.ped_calls.specs.ped_valid.specs.ped_symbols.specs.NameRefusals.{Before, differs, is_again, declares_again}
-use Rattle.ped_calls.specs.ped_valid.specs.ped_symbols.specs.Sites.{declaration, decl_sites}
-use Rattle.ped_calls.specs.ped_valid.specs.ped_symbols.specs.Uses.{used_as, bounds_uses, decl_uses}
-use Rattle.ped_calls.specs.ped_valid.specs.ped_symbols.proofs.RightUseLaws.Constants.{names_append}
+use Rattle.ped_steps.specs.ped_symbols.specs.declared.symbols.Kind.{Kind}
+use Rattle.ped_steps.specs.ped_symbols.specs.declared.symbols.Kind.TheVariants.{Scalar, Array, Constant}
+use Rattle.ped_steps.specs.ped_symbols.specs.declared.uses.Role.{Role}
+use Rattle.ped_steps.specs.ped_symbols.specs.declared.uses.Role.TheVariants.{Typed, Dimensioned, Named, Saved, Rejected, Private, Index, Assigned, Operand}
+use Rattle.ped_steps.specs.ped_symbols.specs.declared.uses.Use.{Use}
+use Rattle.ped_steps.specs.ped_symbols.specs.Declarations.{Declared, is_typing, is_dimensioning, names_with, is_typed, is_constant, is_program, begins_integer, is_real, or_zero, rank_by, ranks_in, rank_of}
+use Rattle.ped_steps.specs.ped_symbols.specs.Entries.{entry_of}
+use Rattle.ped_steps.specs.ped_symbols.specs.Kinds.{kind_in}
+use Rattle.ped_steps.specs.ped_symbols.specs.NameRefusals.{Before, differs, is_again, declares_again}
+use Rattle.ped_steps.specs.ped_symbols.specs.Sites.{declaration, decl_sites}
+use Rattle.ped_steps.specs.ped_symbols.specs.Uses.{used_as, bounds_uses, decl_uses}
+use Rattle.ped_steps.specs.ped_symbols.proofs.RightUseLaws.Constants.{names_append}
 use Rattle.ped_calls.specs.ped_units.specs.Units.{ProgramUnit, ProgramUnits}
 use Rattle.ped_calls.specs.ped_units.specs.Refusals.{for_names}
 use Rattle.ped_calls.specs.ped_units.specs.Linking.{IsIn, bounds_by}

@@ -15,15 +15,15 @@ use Rattle.ped_steps.specs.ped_sums.specs.Sums.{literal}
 use Rattle.ped_steps.proofs.RunLaws.ExpandedNamesArrays.{literal_uses}
 use Rattle.ped_calls.specs.Giving.{IsSmall}
 use Rattle.ped_calls.proofs.SmallKinds.{small_constants}
-use Rattle.ped_calls.specs.ped_valid.specs.ped_symbols.specs.declared.symbols.Kind.{Kind}
-use Rattle.ped_calls.specs.ped_valid.specs.ped_symbols.specs.declared.uses.Role.TheVariants.{Rejected}
-use Rattle.ped_calls.specs.ped_valid.specs.ped_symbols.specs.Declarations.{Declared, declared_in, is_constant, given_rank, rank_of}
-use Rattle.ped_calls.specs.ped_valid.specs.ped_symbols.specs.Entries.{entry_of}
-use Rattle.ped_calls.specs.ped_valid.specs.ped_symbols.specs.Kinds.{kind_in}
-use Rattle.ped_calls.specs.ped_valid.specs.ped_symbols.specs.NameRefusals.{has_twice}
-use Rattle.ped_calls.specs.ped_valid.specs.ped_symbols.specs.Sites.{stmt_sites, stmts_sites}
-use Rattle.ped_calls.specs.ped_valid.specs.ped_symbols.specs.Uses.{used_as, expr_uses, cond_uses}
-use Rattle.ped_calls.specs.ped_valid.specs.ped_symbols.specs.Values.{Values, fixed_value}
+use Rattle.ped_steps.specs.ped_symbols.specs.declared.symbols.Kind.{Kind}
+use Rattle.ped_steps.specs.ped_symbols.specs.declared.uses.Role.TheVariants.{Rejected}
+use Rattle.ped_steps.specs.ped_symbols.specs.Declarations.{Declared, declared_in, is_constant, given_rank, rank_of}
+use Rattle.ped_steps.specs.ped_symbols.specs.Entries.{entry_of}
+use Rattle.ped_steps.specs.ped_symbols.specs.Kinds.{kind_in}
+use Rattle.ped_steps.specs.ped_symbols.specs.NameRefusals.{has_twice}
+use Rattle.ped_steps.specs.ped_symbols.specs.Sites.{stmt_sites, stmts_sites}
+use Rattle.ped_steps.specs.ped_symbols.specs.Uses.{used_as, expr_uses, cond_uses}
+use Rattle.ped_steps.specs.ped_symbols.specs.Values.{Values, fixed_value}
 use Rattle.ped_calls.specs.ped_units.specs.Forms.{Called}
 use Rattle.ped_calls.specs.ped_units.specs.Units.{ProgramUnit, ProgramUnits, all_units, unit_of}
 use Rattle.ped_calls.specs.ped_units.specs.Refusals.{dimensioned, is_whole_array, plain_arguments, is_zero, and_zeros, condition_of, for_names}

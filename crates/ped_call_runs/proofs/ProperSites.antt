@@ -4,13 +4,13 @@ use Rattle.std.specs.Prelude.{◌||◌}
 use Rattle.std.specs.List.{list_any, list_all}
 use Rattle.std.proofs.lemmas.Bool.{or_parts, or_from}
 use Rattle.ped_tree.specs.Grammar.Refusal.{Refusal, Finding, RealName, DeclaredTwice, NotConstant, RankDiffers, BoundsEmpty, StorageLimit, refused_if}
-use Rattle.ped_calls.specs.ped_valid.specs.ped_symbols.specs.ped_refs.specs.References.{Reference}
-use Rattle.ped_calls.specs.ped_valid.specs.ped_symbols.specs.declared.uses.Use.{Use}
-use Rattle.ped_calls.specs.ped_valid.specs.ped_symbols.specs.Declarations.{Declared}
-use Rattle.ped_calls.specs.ped_valid.specs.ped_symbols.specs.NameRefusals.{Before, uses_real, uses_constant, uses_program, uses_other_rank, dimensions_intrinsic, repeats, is_declared_twice, passes_limit, behind_site, behind_sites, at_site, at_sites, next_line}
-use Rattle.ped_calls.specs.ped_valid.specs.ped_symbols.specs.Sites.{Site, declaration, statement, private_names, site_uses}
-use Rattle.ped_calls.specs.ped_valid.specs.ped_symbols.specs.Values.{Values, site_fails, site_is_empty}
-use Rattle.ped_calls.specs.ped_valid.specs.ped_symbols.proofs.RightUseLaws.Quiet.{declares_nothing}
+use Rattle.ped_steps.specs.ped_refs.specs.References.{Reference}
+use Rattle.ped_steps.specs.ped_symbols.specs.declared.uses.Use.{Use}
+use Rattle.ped_steps.specs.ped_symbols.specs.Declarations.{Declared}
+use Rattle.ped_steps.specs.ped_symbols.specs.NameRefusals.{Before, uses_real, uses_constant, uses_program, uses_other_rank, dimensions_intrinsic, repeats, is_declared_twice, passes_limit, behind_site, behind_sites, at_site, at_sites, next_line}
+use Rattle.ped_steps.specs.ped_symbols.specs.Sites.{Site, declaration, statement, private_names, site_uses}
+use Rattle.ped_steps.specs.ped_symbols.specs.Values.{Values, site_fails, site_is_empty}
+use Rattle.ped_steps.specs.ped_symbols.proofs.RightUseLaws.Quiet.{declares_nothing}
 use Rattle.ped_calls.specs.ped_units.specs.Linking.{IsIn}
 use Rattle.ped_call_runs.proofs.SuitedUnits.{split}
 

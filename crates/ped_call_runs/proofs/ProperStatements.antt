@@ -14,13 +14,13 @@ use Rattle.ped_tree.specs.Numbering.{statement_count, statements_count}
 use Rattle.ped_tree.specs.Tree.{ExprTree, ExprTrees, Int, Var, Element, Neg, Add, Sub, Mul, Div, Pow, Call, no_exprs, more_exprs, CondTree, Rel, Not, And, Or, ItemTree, Value, Text, Head, StmtTree, StmtTrees, Assign, If, Do, Print, Read, Stop, Comment, no_stmts, more_stmts}
 use Rattle.ped_steps.specs.ped_sums.specs.Sums.{literal}
 use Rattle.ped_steps.proofs.RunLaws.ExpandedNamesArrays.{literal_uses}
-use Rattle.ped_calls.specs.ped_valid.specs.ped_symbols.specs.declared.uses.Role.{Role}
-use Rattle.ped_calls.specs.ped_valid.specs.ped_symbols.specs.declared.uses.Role.TheVariants.{Rejected, Private, Index, Assigned, Operand}
-use Rattle.ped_calls.specs.ped_valid.specs.ped_symbols.specs.Declarations.{Declared, declared_in, rank_of}
-use Rattle.ped_calls.specs.ped_valid.specs.ped_symbols.specs.NameRefusals.{subscripts_of, differs, has_twice}
-use Rattle.ped_calls.specs.ped_valid.specs.ped_symbols.specs.Sites.{private_site, stmt_sites, stmts_sites}
-use Rattle.ped_calls.specs.ped_valid.specs.ped_symbols.specs.Uses.{used_as, expr_count, expr_uses, exprs_uses, cond_uses, target_uses, item_uses, own_uses}
-use Rattle.ped_calls.specs.ped_valid.specs.ped_symbols.specs.Values.{Values, within, fixed_value, is_bad_step}
+use Rattle.ped_steps.specs.ped_symbols.specs.declared.uses.Role.{Role}
+use Rattle.ped_steps.specs.ped_symbols.specs.declared.uses.Role.TheVariants.{Rejected, Private, Index, Assigned, Operand}
+use Rattle.ped_steps.specs.ped_symbols.specs.Declarations.{Declared, declared_in, rank_of}
+use Rattle.ped_steps.specs.ped_symbols.specs.NameRefusals.{subscripts_of, differs, has_twice}
+use Rattle.ped_steps.specs.ped_symbols.specs.Sites.{private_site, stmt_sites, stmts_sites}
+use Rattle.ped_steps.specs.ped_symbols.specs.Uses.{used_as, expr_count, expr_uses, exprs_uses, cond_uses, target_uses, item_uses, own_uses}
+use Rattle.ped_steps.specs.ped_symbols.specs.Values.{Values, within, fixed_value, is_bad_step}
 use Rattle.ped_calls.specs.ped_valid.specs.ped_parse.specs.ped_printed.proofs.ProgramLaws.Fits.{simple_parts, if_parts, do_parts}
 use Rattle.ped_calls.specs.ped_units.specs.Forms.{Called}
 use Rattle.ped_calls.specs.ped_units.specs.Units.{ProgramUnit, ProgramUnits, call_of, instead_of, with_calls, all_with_calls}

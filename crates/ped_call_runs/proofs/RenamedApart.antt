@@ -5,10 +5,10 @@ use Rattle.ped_base.specs.Lists.{is_same_text, is_among}
 use Rattle.ped_base.proofs.NameEquality.{same_is, same_itself}
 use Rattle.ped_tree.proofs.NameLaws.Collected.{among_append}
 use Rattle.ped_tree.specs.Tree.{ExprTree, Var}
-use Rattle.ped_calls.specs.ped_valid.specs.ped_symbols.specs.declared.symbols.Kind.{Kind}
-use Rattle.ped_calls.specs.ped_valid.specs.ped_symbols.specs.Entries.{entry_of, with_entry}
-use Rattle.ped_calls.specs.ped_valid.specs.ped_symbols.specs.Kinds.{kind_in}
-use Rattle.ped_calls.specs.ped_valid.specs.ped_symbols.specs.NameRefusals.{has_twice}
+use Rattle.ped_steps.specs.ped_symbols.specs.declared.symbols.Kind.{Kind}
+use Rattle.ped_steps.specs.ped_symbols.specs.Entries.{entry_of, with_entry}
+use Rattle.ped_steps.specs.ped_symbols.specs.Kinds.{kind_in}
+use Rattle.ped_steps.specs.ped_symbols.specs.NameRefusals.{has_twice}
 use Rattle.ped_calls.specs.ped_units.specs.Units.{ProgramUnit}
 use Rattle.ped_calls.specs.ped_units.specs.Refusals.{for_names}
 use Rattle.ped_calls.specs.ped_units.specs.Expanding.{free_name, Meanings, name_or, Renamed, with_renamed, renamed}

@@ -4,8 +4,8 @@ use Rattle.std.proofs.lemmas.Bool.{both_ways}
 use Rattle.ped_base.specs.Lists.{is_same_text, is_among}
 use Rattle.ped_base.proofs.NameEquality.{same_is, same_itself}
 use Rattle.ped_tree.specs.Tree.{ExprTree, Var}
-use Rattle.ped_calls.specs.ped_valid.specs.ped_symbols.specs.Entries.{entry_of, with_entry}
-use Rattle.ped_calls.specs.ped_valid.specs.ped_symbols.specs.Kinds.{kind_in}
+use Rattle.ped_steps.specs.ped_symbols.specs.Entries.{entry_of, with_entry}
+use Rattle.ped_steps.specs.ped_symbols.specs.Kinds.{kind_in}
 use Rattle.ped_calls.specs.ped_units.specs.Units.{ProgramUnit}
 use Rattle.ped_calls.specs.ped_units.specs.Refusals.{for_names}
 use Rattle.ped_calls.specs.ped_units.specs.Expanding.{Given, free_name, with_local, Renamed, with_renamed, renamed}

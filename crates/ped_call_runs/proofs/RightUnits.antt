@@ -12,20 +12,20 @@ use Rattle.ped_tree.specs.Accesses.{constant_names}
 use Rattle.ped_tree.specs.Constants.NamedConstants.{value_named}
 use Rattle.ped_tree.specs.Grammar.LimitNumbers.{most_dimensions}
 use Rattle.ped_tree.specs.Tree.{ExprTree, ExprTrees, Int, Var, Element, Neg, Add, Sub, Mul, Div, Pow, Call, no_exprs, more_exprs, BoundTree, DeclaratorTree, DeclTree, Program, Implicit, Integer, Dimension, Parameter, Save, Remark, ProgramTree}
-use Rattle.ped_calls.specs.ped_valid.specs.ped_symbols.specs.ped_refs.specs.References.{references}
-use Rattle.ped_calls.specs.ped_valid.specs.ped_symbols.specs.declared.uses.Role.TheVariants.{Typed, Named, Saved}
-use Rattle.ped_calls.specs.ped_valid.specs.ped_symbols.specs.declared.uses.Use.{Use}
-use Rattle.ped_calls.specs.ped_valid.specs.ped_symbols.specs.Arrays.{Arrays, with_dimension, bounds_values, with_bounds, arrays_of}
-use Rattle.ped_calls.specs.ped_valid.specs.ped_symbols.specs.Declarations.{Declared, declared_in, is_naming, names_with, is_constant, is_program, is_real, or_zero, rank_by, ranks_in, given_rank, rank_of}
-use Rattle.ped_calls.specs.ped_valid.specs.ped_symbols.specs.Entries.{entry_of}
-use Rattle.ped_calls.specs.ped_valid.specs.ped_symbols.specs.Kinds.{kind_by, names_at, names_of, at_last}
-use Rattle.ped_calls.specs.ped_valid.specs.ped_symbols.specs.NameRefusals.{Before, at_first, behind_site, behind_sites, name_refusals}
-use Rattle.ped_calls.specs.ped_valid.specs.ped_symbols.specs.Sites.{Site, declaration, decl_sites, stmts_sites, program_sites, site_uses}
-use Rattle.ped_calls.specs.ped_valid.specs.ped_symbols.specs.Uses.{used_as, expr_uses, exprs_uses, bounds_uses, dimension_uses, type_uses, decl_uses}
-use Rattle.ped_calls.specs.ped_valid.specs.ped_symbols.specs.Values.{Values, fixed_value, is_missing, some_item_fails, bound_fails, declarator_fails}
-use Rattle.ped_calls.specs.ped_valid.specs.ped_symbols.proofs.RightUseLaws.Constants.{names_append}
-use Rattle.ped_calls.specs.ped_valid.specs.ped_symbols.proofs.RightUseLaws.NamedValues.{named_have_values}
-use Rattle.ped_calls.specs.ped_valid.specs.ped_symbols.proofs.RightUseLaws.Quiet.{all_quiet, quiet_front, stmts_declare_nothing}
+use Rattle.ped_steps.specs.ped_refs.specs.References.{references}
+use Rattle.ped_steps.specs.ped_symbols.specs.declared.uses.Role.TheVariants.{Typed, Named, Saved}
+use Rattle.ped_steps.specs.ped_symbols.specs.declared.uses.Use.{Use}
+use Rattle.ped_steps.specs.ped_symbols.specs.Arrays.{Arrays, with_dimension, bounds_values, with_bounds, arrays_of}
+use Rattle.ped_steps.specs.ped_symbols.specs.Declarations.{Declared, declared_in, is_naming, names_with, is_constant, is_program, is_real, or_zero, rank_by, ranks_in, given_rank, rank_of}
+use Rattle.ped_steps.specs.ped_symbols.specs.Entries.{entry_of}
+use Rattle.ped_steps.specs.ped_symbols.specs.Kinds.{kind_by, names_at, names_of, at_last}
+use Rattle.ped_steps.specs.ped_symbols.specs.NameRefusals.{Before, at_first, behind_site, behind_sites, name_refusals}
+use Rattle.ped_steps.specs.ped_symbols.specs.Sites.{Site, declaration, decl_sites, stmts_sites, program_sites, site_uses}
+use Rattle.ped_steps.specs.ped_symbols.specs.Uses.{used_as, expr_uses, exprs_uses, bounds_uses, dimension_uses, type_uses, decl_uses}
+use Rattle.ped_steps.specs.ped_symbols.specs.Values.{Values, fixed_value, is_missing, some_item_fails, bound_fails, declarator_fails}
+use Rattle.ped_steps.specs.ped_symbols.proofs.RightUseLaws.Constants.{names_append}
+use Rattle.ped_steps.specs.ped_symbols.proofs.RightUseLaws.NamedValues.{named_have_values}
+use Rattle.ped_steps.specs.ped_symbols.proofs.RightUseLaws.Quiet.{all_quiet, quiet_front, stmts_declare_nothing}
 use Rattle.ped_calls.specs.ped_units.specs.Units.{ProgramUnit}
 use Rattle.ped_calls.specs.ped_units.specs.Refusals.{save_of_formals, for_names}
 use Rattle.ped_calls.specs.ped_units.specs.Linking.{bounds_by, array_bounds}

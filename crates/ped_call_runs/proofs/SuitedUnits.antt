@@ -9,10 +9,10 @@ use Rattle.ped_tree.specs.Constants.ConstantExpressions.{constant_value}
 use Rattle.ped_tree.specs.Grammar.ProgramRefusals.{meets}
 use Rattle.ped_tree.specs.NamesIn.{expr_names, exprs_names, cond_names, item_names, head_names, stmt_names, stmts_names, loop_variables, all_loop_variables, private_names_in, all_private_names_in}
 use Rattle.ped_tree.specs.Tree.{ExprTree, ExprTrees, Int, Var, Element, Neg, Add, Sub, Mul, Div, Pow, Call, no_exprs, more_exprs, Value, Head, StmtTree, StmtTrees, Assign, If, Do, Print, Read, Stop, Comment, no_stmts, more_stmts}
-use Rattle.ped_calls.specs.ped_valid.specs.ped_symbols.specs.NameRefusals.{next_line}
-use Rattle.ped_calls.specs.ped_valid.specs.ped_symbols.specs.Sites.{Site, private_names, private_site, stmt_sites, stmts_sites, decl_sites, program_sites}
-use Rattle.ped_calls.specs.ped_valid.specs.ped_symbols.specs.Values.{within, fixed_value, is_bad_step, site_fails}
-use Rattle.ped_calls.specs.ped_valid.specs.ped_symbols.proofs.RightUseLaws.Occurring.{among_first}
+use Rattle.ped_steps.specs.ped_symbols.specs.NameRefusals.{next_line}
+use Rattle.ped_steps.specs.ped_symbols.specs.Sites.{Site, private_names, private_site, stmt_sites, stmts_sites, decl_sites, program_sites}
+use Rattle.ped_steps.specs.ped_symbols.specs.Values.{within, fixed_value, is_bad_step, site_fails}
+use Rattle.ped_steps.specs.ped_symbols.proofs.RightUseLaws.Occurring.{among_first}
 use Rattle.ped_calls.specs.ped_units.specs.Forms.{Called}
 use Rattle.ped_calls.specs.ped_units.specs.Units.{ProgramUnit, ProgramUnits, all_units, call_of, instead_of, with_calls, all_with_calls}
 use Rattle.ped_calls.specs.ped_units.specs.Refusals.{dimensioned, using_arguments}

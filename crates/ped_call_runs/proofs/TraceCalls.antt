@@ -3,7 +3,7 @@ use Rattle.std.proofs.Common.{◌≡◌, ℕ, zero, suc, ◌+◌, ◌≤◌, ◌
 use Rattle.ped_tree.specs.Accesses.{listed}
 use Rattle.ped_tree.specs.Numbering.{statement_count, statements_count}
 use Rattle.ped_tree.specs.Tree.{ExprTree, ExprTrees, no_exprs, more_exprs, StmtTree, StmtTrees}
-use Rattle.ped_calls.specs.ped_valid.specs.ped_symbols.specs.Values.{Values, fixed_value}
+use Rattle.ped_steps.specs.ped_symbols.specs.Values.{Values, fixed_value}
 use Rattle.ped_calls.specs.ped_units.specs.Forms.{Called}
 use Rattle.ped_calls.specs.ped_units.specs.Units.{ProgramUnit, ProgramUnits, unit_of}
 use Rattle.ped_calls.specs.ped_units.specs.Expanding.{Given, with_new, Meanings, all_replaced, called_replaced, is_variable_name, Bound, standing, bound_by, bound_arguments, meanings_in, behind_stmts, call_comment, block_of, all_expanded_in, unit_expanded, call_expanded}

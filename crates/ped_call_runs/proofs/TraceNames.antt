@@ -4,9 +4,9 @@ use Rattle.ped_base.specs.Lists.{is_among}
 use Rattle.ped_tree.specs.Accesses.{listed}
 use Rattle.ped_tree.specs.Numbering.{statement_count, statements_count}
 use Rattle.ped_tree.specs.Tree.{ExprTree, StmtTree, StmtTrees, Assign, If, Do, Print, Read, Stop, Comment, no_stmts, more_stmts}
-use Rattle.ped_calls.specs.ped_valid.specs.ped_symbols.specs.Entries.{entry_of}
-use Rattle.ped_calls.specs.ped_valid.specs.ped_symbols.specs.Kinds.{kind_in}
-use Rattle.ped_calls.specs.ped_valid.specs.ped_symbols.specs.Values.{Values, fixed_value}
+use Rattle.ped_steps.specs.ped_symbols.specs.Entries.{entry_of}
+use Rattle.ped_steps.specs.ped_symbols.specs.Kinds.{kind_in}
+use Rattle.ped_steps.specs.ped_symbols.specs.Values.{Values, fixed_value}
 use Rattle.ped_calls.specs.ped_units.specs.Forms.{Called}
 use Rattle.ped_calls.specs.ped_units.specs.Units.{ProgramUnit, ProgramUnits, unit_of, call_of}
 use Rattle.ped_calls.specs.ped_units.specs.Refusals.{for_names}

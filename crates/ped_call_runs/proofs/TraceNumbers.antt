@@ -3,7 +3,7 @@ use Rattle.std.proofs.Common.{◌≡◌, ℕ, suc, ◌+◌, ◌≤◌, ◌<◌, 
 use Rattle.std.proofs.lemmas.Bool.{ltb-true, ltb-false}
 use Rattle.ped_tree.specs.Numbering.{statement_count, statements_count}
 use Rattle.ped_tree.specs.Tree.{ExprTree, StmtTree, StmtTrees, Assign, If, Do, Print, Read, Stop, Comment, no_stmts, more_stmts}
-use Rattle.ped_calls.specs.ped_valid.specs.ped_symbols.specs.Values.{Values, fixed_value}
+use Rattle.ped_steps.specs.ped_symbols.specs.Values.{Values, fixed_value}
 use Rattle.ped_calls.specs.ped_units.specs.Forms.{Called}
 use Rattle.ped_calls.specs.ped_units.specs.Units.{call_of}
 use Rattle.ped_calls.specs.ped_units.specs.Expanding.{Given, with_new, Meanings, replaced, called_replaced, is_variable_name, Bound, standing, bound_by, bound_arguments, Expanded, AllExpanded, expanded_or, expanded_in, all_expanded_in}

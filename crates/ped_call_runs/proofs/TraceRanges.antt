@@ -5,9 +5,9 @@ use Rattle.ped_base.proofs.NameEquality.{same_is, same_itself}
 use Rattle.ped_tree.specs.Accesses.{listed}
 use Rattle.ped_tree.specs.Numbering.{statement_count, statements_count}
 use Rattle.ped_tree.specs.Tree.{ExprTree, StmtTree, StmtTrees, Assign, If, Do, Print, Read, Stop, Comment, no_stmts, more_stmts}
-use Rattle.ped_calls.specs.ped_valid.specs.ped_symbols.specs.Entries.{entry_of, with_entry}
-use Rattle.ped_calls.specs.ped_valid.specs.ped_symbols.specs.NameRefusals.{has_twice}
-use Rattle.ped_calls.specs.ped_valid.specs.ped_symbols.specs.Values.{Values, fixed_value}
+use Rattle.ped_steps.specs.ped_symbols.specs.Entries.{entry_of, with_entry}
+use Rattle.ped_steps.specs.ped_symbols.specs.NameRefusals.{has_twice}
+use Rattle.ped_steps.specs.ped_symbols.specs.Values.{Values, fixed_value}
 use Rattle.ped_calls.specs.ped_units.specs.Forms.{Called}
 use Rattle.ped_calls.specs.ped_units.specs.Units.{ProgramUnit, ProgramUnits, unit_of, call_of}
 use Rattle.ped_calls.specs.ped_units.specs.Expanding.{Given, with_new, Meanings, called_replaced, is_variable_name, Bound, standing, bound_by, bound_arguments, body_names, constants_of, with_formals, with_constants, Renamed, meanings_in, call_comment, Expanded, AllExpanded, expanded_in, all_expanded_in, call_expanded}

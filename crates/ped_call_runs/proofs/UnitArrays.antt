@@ -11,20 +11,20 @@ use Rattle.ped_tree.specs.Accesses.{listed}
 use Rattle.ped_tree.specs.Grammar.LimitNumbers.{most_dimensions}
 use Rattle.ped_tree.specs.Grammar.Refusal.{Finding}
 use Rattle.ped_tree.specs.Tree.{ExprTree, ExprTrees, Int, Var, Element, Neg, Add, Sub, Mul, Div, Pow, Call, no_exprs, more_exprs, CondTree, Rel, Not, And, Or, ItemTree, Value, Text, StmtTree, StmtTrees, Assign, If, Do, Print, Read, Stop, Comment, no_stmts, more_stmts, BoundTree, DeclaratorTree, DeclTree, Program, Implicit, Integer, Dimension, Parameter, Save, Remark, ProgramTree}
-use Rattle.ped_calls.specs.ped_valid.specs.ped_symbols.specs.ped_refs.specs.References.{Reference, references}
-use Rattle.ped_calls.specs.ped_valid.specs.ped_symbols.specs.declared.uses.Role.TheVariants.{Named, Saved, Rejected, Index}
-use Rattle.ped_calls.specs.ped_valid.specs.ped_symbols.specs.declared.uses.Use.{Use}
-use Rattle.ped_calls.specs.ped_valid.specs.ped_symbols.specs.Arrays.{Arrays, with_dimension, bounds_values, with_bounds, arrays_of}
-use Rattle.ped_calls.specs.ped_valid.specs.ped_symbols.specs.Declarations.{Declared, declared_in, is_constant, or_zero, ranks_in, rank_by, given_rank, rank_of}
-use Rattle.ped_calls.specs.ped_valid.specs.ped_symbols.specs.Entries.{entry_of}
-use Rattle.ped_calls.specs.ped_valid.specs.ped_symbols.specs.Kinds.{kind_by, kind_of, names_at, names_of, at_last, kind_in}
-use Rattle.ped_calls.specs.ped_valid.specs.ped_symbols.specs.NameRefusals.{Before, at_first, behind_site, behind_sites, subscripts_of, differs, uses_other_rank, name_refusals}
-use Rattle.ped_calls.specs.ped_valid.specs.ped_symbols.specs.Sites.{Site, declaration, decl_sites, private_site, stmt_sites, stmts_sites, program_sites, site_uses}
-use Rattle.ped_calls.specs.ped_valid.specs.ped_symbols.specs.Uses.{used_as, expr_count, expr_uses, exprs_uses, cond_uses, target_uses, item_uses, own_uses, bounds_uses, dimension_uses, type_uses, decl_uses}
-use Rattle.ped_calls.specs.ped_valid.specs.ped_symbols.specs.Values.{Values, fixed_value, is_missing, bound_fails, declarator_fails, some_item_fails, items}
-use Rattle.ped_calls.specs.ped_valid.specs.ped_symbols.proofs.RightUseLaws.Occurring.{among_first}
-use Rattle.ped_calls.specs.ped_valid.specs.ped_symbols.proofs.RightUseLaws.Constants.{none_named}
-use Rattle.ped_calls.specs.ped_valid.specs.ped_symbols.proofs.RightUseLaws.Quiet.{AreQuiet, all_quiet, quiet_front, no_other_rank}
+use Rattle.ped_steps.specs.ped_refs.specs.References.{Reference, references}
+use Rattle.ped_steps.specs.ped_symbols.specs.declared.uses.Role.TheVariants.{Named, Saved, Rejected, Index}
+use Rattle.ped_steps.specs.ped_symbols.specs.declared.uses.Use.{Use}
+use Rattle.ped_steps.specs.ped_symbols.specs.Arrays.{Arrays, with_dimension, bounds_values, with_bounds, arrays_of}
+use Rattle.ped_steps.specs.ped_symbols.specs.Declarations.{Declared, declared_in, is_constant, or_zero, ranks_in, rank_by, given_rank, rank_of}
+use Rattle.ped_steps.specs.ped_symbols.specs.Entries.{entry_of}
+use Rattle.ped_steps.specs.ped_symbols.specs.Kinds.{kind_by, kind_of, names_at, names_of, at_last, kind_in}
+use Rattle.ped_steps.specs.ped_symbols.specs.NameRefusals.{Before, at_first, behind_site, behind_sites, subscripts_of, differs, uses_other_rank, name_refusals}
+use Rattle.ped_steps.specs.ped_symbols.specs.Sites.{Site, declaration, decl_sites, private_site, stmt_sites, stmts_sites, program_sites, site_uses}
+use Rattle.ped_steps.specs.ped_symbols.specs.Uses.{used_as, expr_count, expr_uses, exprs_uses, cond_uses, target_uses, item_uses, own_uses, bounds_uses, dimension_uses, type_uses, decl_uses}
+use Rattle.ped_steps.specs.ped_symbols.specs.Values.{Values, fixed_value, is_missing, bound_fails, declarator_fails, some_item_fails, items}
+use Rattle.ped_steps.specs.ped_symbols.proofs.RightUseLaws.Occurring.{among_first}
+use Rattle.ped_steps.specs.ped_symbols.proofs.RightUseLaws.Constants.{none_named}
+use Rattle.ped_steps.specs.ped_symbols.proofs.RightUseLaws.Quiet.{AreQuiet, all_quiet, quiet_front, no_other_rank}
 use Rattle.ped_calls.specs.ped_units.specs.Forms.{Called}
 use Rattle.ped_calls.specs.ped_units.specs.Units.{ProgramUnit, call_of, instead_of, with_calls, all_with_calls}
 use Rattle.ped_calls.specs.ped_units.specs.Refusals.{dimensioned, is_whole_array, plain_arguments, is_zero, and_zeros, condition_of, using_arguments, for_names, lines_for_names, units_name_refusals}

@@ -9,17 +9,17 @@ use Rattle.ped_tree.specs.Constants.NamedConstants.{value_named}
 use Rattle.ped_tree.specs.Grammar.Refusal.{Finding}
 use Rattle.ped_tree.specs.NamesIn.{first_occurrences, private_names_in, all_private_names_in}
 use Rattle.ped_tree.specs.Tree.{ExprTree, Int, Var, Element, Neg, Add, Sub, Mul, Div, Pow, Call, StmtTree, StmtTrees, Assign, If, Do, Print, Read, Stop, Comment, no_stmts, more_stmts, DeclTree, ProgramTree}
-use Rattle.ped_calls.specs.ped_valid.specs.ped_symbols.specs.ped_refs.specs.References.{references}
-use Rattle.ped_calls.specs.ped_valid.specs.ped_symbols.specs.declared.uses.Role.TheVariants.{Saved, Rejected, Private}
-use Rattle.ped_calls.specs.ped_valid.specs.ped_symbols.specs.declared.uses.Use.{Use}
-use Rattle.ped_calls.specs.ped_valid.specs.ped_symbols.specs.Declarations.{Declared, declared_in, is_constant}
-use Rattle.ped_calls.specs.ped_valid.specs.ped_symbols.specs.NameRefusals.{uses_constant, at_first, behind_sites, name_refusals}
-use Rattle.ped_calls.specs.ped_valid.specs.ped_symbols.specs.Sites.{Site, private_site, stmt_sites, stmts_sites, decl_sites, program_sites, site_uses}
-use Rattle.ped_calls.specs.ped_valid.specs.ped_symbols.specs.Uses.{used_as, expr_uses, target_uses, own_uses}
-use Rattle.ped_calls.specs.ped_valid.specs.ped_symbols.specs.Values.{Values, site_fails}
-use Rattle.ped_calls.specs.ped_valid.specs.ped_symbols.proofs.RightUseLaws.Constants.{none_named}
-use Rattle.ped_calls.specs.ped_valid.specs.ped_symbols.proofs.RightUseLaws.Occurring.{among_first}
-use Rattle.ped_calls.specs.ped_valid.specs.ped_symbols.proofs.RightUseLaws.Quiet.{AreQuiet, all_quiet, quiet_back, no_constant_used, none_fails, stmts_declare_nothing}
+use Rattle.ped_steps.specs.ped_refs.specs.References.{references}
+use Rattle.ped_steps.specs.ped_symbols.specs.declared.uses.Role.TheVariants.{Saved, Rejected, Private}
+use Rattle.ped_steps.specs.ped_symbols.specs.declared.uses.Use.{Use}
+use Rattle.ped_steps.specs.ped_symbols.specs.Declarations.{Declared, declared_in, is_constant}
+use Rattle.ped_steps.specs.ped_symbols.specs.NameRefusals.{uses_constant, at_first, behind_sites, name_refusals}
+use Rattle.ped_steps.specs.ped_symbols.specs.Sites.{Site, private_site, stmt_sites, stmts_sites, decl_sites, program_sites, site_uses}
+use Rattle.ped_steps.specs.ped_symbols.specs.Uses.{used_as, expr_uses, target_uses, own_uses}
+use Rattle.ped_steps.specs.ped_symbols.specs.Values.{Values, site_fails}
+use Rattle.ped_steps.specs.ped_symbols.proofs.RightUseLaws.Constants.{none_named}
+use Rattle.ped_steps.specs.ped_symbols.proofs.RightUseLaws.Occurring.{among_first}
+use Rattle.ped_steps.specs.ped_symbols.proofs.RightUseLaws.Quiet.{AreQuiet, all_quiet, quiet_back, no_constant_used, none_fails, stmts_declare_nothing}
 use Rattle.ped_calls.specs.ped_units.specs.Forms.{Called}
 use Rattle.ped_calls.specs.ped_units.specs.Units.{ProgramUnit, with_calls, all_with_calls}
 use Rattle.ped_calls.specs.ped_units.specs.Refusals.{dimensioned, using_arguments, save_of_formals, for_names, lines_for_names, units_name_refusals}

@@ -12,12 +12,12 @@ use Rattle.ped_tree.specs.Grammar.Fits.{decls_fit, begins_with_statement, at_bod
 use Rattle.ped_tree.specs.NamesIn.{stmts_names, saved_in}
 use Rattle.ped_tree.specs.Numbering.{statements_count}
 use Rattle.ped_tree.specs.Tree.{ExprTree, Var, StmtTree, StmtTrees, Assign, If, Do, Print, Read, Stop, Comment, no_stmts, more_stmts, DeclTree, ProgramTree}
-use Rattle.ped_calls.specs.ped_valid.specs.ped_symbols.specs.Declarations.{program_name}
-use Rattle.ped_calls.specs.ped_valid.specs.ped_symbols.specs.Kinds.{names_of}
-use Rattle.ped_calls.specs.ped_valid.specs.ped_symbols.specs.NameRefusals.{has_twice, IsValid}
-use Rattle.ped_calls.specs.ped_valid.specs.ped_symbols.specs.Values.{Values}
-use Rattle.ped_calls.specs.ped_valid.specs.ped_symbols.proofs.RightUseLaws.Occurring.{occurs_first}
-use Rattle.ped_calls.specs.ped_valid.specs.ped_symbols.proofs.RightUseLaws.Whole.{others_unvalued}
+use Rattle.ped_steps.specs.ped_symbols.specs.Declarations.{program_name}
+use Rattle.ped_steps.specs.ped_symbols.specs.Kinds.{names_of}
+use Rattle.ped_steps.specs.ped_symbols.specs.NameRefusals.{has_twice, IsValid}
+use Rattle.ped_steps.specs.ped_symbols.specs.Values.{Values}
+use Rattle.ped_steps.specs.ped_symbols.proofs.RightUseLaws.Occurring.{occurs_first}
+use Rattle.ped_steps.specs.ped_symbols.proofs.RightUseLaws.Whole.{others_unvalued}
 use Rattle.ped_calls.specs.ped_units.specs.Forms.{Called}
 use Rattle.ped_calls.specs.ped_units.specs.Units.{ProgramUnit, ProgramUnits, all_units, unit_of, call_of}
 use Rattle.ped_calls.specs.ped_units.specs.Refusals.{save_of_formals, for_names}

@@ -10,7 +10,7 @@ use Rattle.ped_tree.specs.Constants.ConstantExpressions.{constant_value}
 use Rattle.ped_tree.specs.NamesIn.{expr_names, cond_names, item_names, head_names, stmt_names, stmts_names, loop_variables, all_loop_variables}
 use Rattle.ped_tree.specs.Numbering.{statement_count, statements_count}
 use Rattle.ped_tree.specs.Tree.{ExprTree, CondTree, Rel, Not, And, Or, ItemTree, Value, Text, Head, StmtTree, StmtTrees, Assign, If, Do, Print, Read, Stop, Comment, no_stmts, more_stmts}
-use Rattle.ped_calls.specs.ped_valid.specs.ped_symbols.specs.Values.{Values}
+use Rattle.ped_steps.specs.ped_symbols.specs.Values.{Values}
 use Rattle.ped_calls.specs.ped_units.specs.Forms.{Called}
 use Rattle.ped_calls.specs.ped_units.specs.Units.{ProgramUnit, ProgramUnits, all_units, unit_among, unit_of, call_of}
 use Rattle.ped_calls.specs.ped_units.specs.Linking.{IsIn, assigned_left}

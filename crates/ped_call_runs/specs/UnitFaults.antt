@@ -2,12 +2,12 @@
 use Rattle.std.specs.Prelude.{◌≡◌, ℕ, zero, suc, ◌-◌, ℤ, List, [], ◌∷◌, ◌++◌, map, filter, take, length, Bool, true, false, Option, Some, None, is_some}
 use Rattle.ped_tree.specs.Accesses.{listed}
 use Rattle.ped_tree.specs.Tree.{ExprTree, Var, StmtTree, StmtTrees, Assign, If, Do, Print, Read, Stop, Comment, no_stmts, more_stmts}
-use Rattle.ped_calls.specs.ped_valid.specs.ped_symbols.specs.Values.{Values, fixed_value}
+use Rattle.ped_steps.specs.ped_symbols.specs.Values.{Values, fixed_value}
 use Rattle.ped_calls.specs.ped_units.specs.Forms.{Called}
 use Rattle.ped_calls.specs.ped_units.specs.Units.{ProgramUnit, ProgramUnits, unit_of, call_of}
 use Rattle.ped_calls.specs.ped_units.specs.Expanding.{constants_of}
-use Rattle.ped_steps.specs.ped_eval.specs.ped_store.specs.Stores.{Undefined, undefined_read}
-use Rattle.ped_steps.specs.ped_eval.specs.ped_store.specs.Acts.{Touch, reads, Act}
+use Rattle.ped_steps.specs.ped_store.specs.Stores.{Undefined, undefined_read}
+use Rattle.ped_steps.specs.ped_store.specs.Acts.{Touch, reads, Act}
 use Rattle.ped_steps.specs.ped_eval.specs.Runs.{failed, Run}
 use Rattle.ped_call_runs.specs.UnitRuns.{is_own_cell}
 

@@ -4,10 +4,10 @@ use Rattle.std.specs.Str.Lines.{lines}
 use Rattle.ped_base.specs.Dimensions.{Dimensions}
 use Rattle.ped_tree.specs.Tree.{ExprTree, Var, StmtTree, StmtTrees, Assign, If, Do, Print, Read, Stop, Comment, no_stmts, more_stmts}
 use Rattle.ped_tree.specs.Accesses.{listed}
-use Rattle.ped_calls.specs.ped_valid.specs.ped_symbols.specs.Kinds.{kind_in}
-use Rattle.ped_calls.specs.ped_valid.specs.ped_symbols.specs.Values.{Values}
-use Rattle.ped_steps.specs.ped_eval.specs.ped_store.specs.Cells.{Cell, Scalar, Element, Private, In, Out}
-use Rattle.ped_steps.specs.ped_eval.specs.ped_store.specs.Stores.{Store, Undefined, store_at_start}
+use Rattle.ped_steps.specs.ped_symbols.specs.Kinds.{kind_in}
+use Rattle.ped_steps.specs.ped_symbols.specs.Values.{Values}
+use Rattle.ped_steps.specs.ped_store.specs.Cells.{Cell, Scalar, Element, Private, In, Out}
+use Rattle.ped_steps.specs.ped_store.specs.Stores.{Store, Undefined, store_at_start}
 use Rattle.ped_steps.specs.ped_eval.specs.Scopes.{Setting, Scope, names_in, place_of}
 use Rattle.ped_steps.specs.ped_eval.specs.Runs.{Run, nothing_done, then_run, run_assignment, run_if, run_do, run}
 use Rattle.ped_steps.specs.ped_eval.specs.Outcomes.{bounds_of, setting_of, Outcome, outcome_of}
@@ -15,7 +15,7 @@ use Rattle.ped_calls.specs.ped_units.specs.Forms.{Called}
 use Rattle.ped_calls.specs.ped_units.specs.Units.{ProgramUnit, ProgramUnits, unit_of, call_of, call_statement}
 use Rattle.ped_calls.specs.ped_units.specs.Refusals.{for_names}
 use Rattle.ped_calls.specs.ped_units.specs.Expanding.{Meanings, replaced, cond_replaced, head_replaced, is_variable_name, body_names, constants_of, with_formals, Expanded, expanded_in, all_expanded_in}
-use Rattle.ped_calls.specs.ped_valid.specs.ped_symbols.specs.Entries.{with_entry}
+use Rattle.ped_steps.specs.ped_symbols.specs.Entries.{with_entry}
 
 -- the name of a variable of its own that the CALL with this number has: no text has such a name (this project)
 abbrev pub own : ℕ → List ℕ → List ℕ

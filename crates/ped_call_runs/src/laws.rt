@@ -3,7 +3,7 @@
 ghost use Rattle.std.specs.Prelude.{◌≡◌, ℕ, List, [], Some, IsTrue};
 ghost use Rattle.ped_tree.specs.Grammar.Fits.{fits};
 ghost use Rattle.ped_tree.specs.Grammar.Refusal.{Finding, StorageLimit, first_of, IsAmong};
-ghost use Rattle.ped_calls.specs.ped_valid.specs.ped_symbols.specs.NameRefusals.{name_refusals, IsValid};
+ghost use Rattle.ped_steps.specs.ped_symbols.specs.NameRefusals.{name_refusals, IsValid};
 ghost use Rattle.ped_calls.specs.ped_units.specs.Units.{ProgramUnits};
 ghost use Rattle.ped_calls.specs.ped_units.specs.Expanding.{expansion};
 ghost use Rattle.ped_calls.specs.ped_units.specs.Verdicts.{partial, IsPast, ReadsLinkedUnits};

@@ -1,6 +1,7 @@
 //! Dependences as the editor shows them: their rows and the dependence pane. The definitions are in `specs/`.
 #![tactic(auto)]
 
+mod digits;
 mod edges;
 mod lists;
 mod pane;

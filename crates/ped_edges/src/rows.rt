@@ -5,10 +5,11 @@ ghost use Rattle.ped_edges.specs.Rows as shown;
 ghost use Rattle.ped_edges.specs.CodeEdges.{edge_of, kind_of, mark_of, HasAtMostSixLoops};
 ghost use Rattle.ped_refs.specs.Occurrences.{name_text};
 
+use crate::digits::push_digits;
 use crate::edges::{Edge, Kind, Mark};
 use crate::lists::{Shown, push_list};
 use crate::vectors::push_vectors;
-use ped_base::{Bytes, NoMemory, push_number, push_signed};
+use ped_base::{Bytes, NoMemory, push_signed};
 use ped_refs::RefName;
 use std::alloc::Global;
 
@@ -51,9 +52,9 @@ impl Edge {
 fn push_place(out: &mut Bytes, place: (u32, u32)) -> Result<(), NoMemory>
     ensures { OnOk result (out.new ≡ out.old ++ shown.place_text place) }
 {
-    push_number(out, u64::from(place.0))?;
+    push_digits(out, u64::from(place.0))?;
     out.push(b'.')?;
-    push_number(out, u64::from(place.1))
+    push_digits(out, u64::from(place.1))
 }
 
 fn push_name(out: &mut Bytes, name: &RefName) -> Result<(), NoMemory>
@@ -83,7 +84,7 @@ pub fn push_level(out: &mut Bytes, level: Option<u8>) -> Result<(), NoMemory>
     ensures { OnOk result (out.new ≡ out.old ++ shown.level_text level) }
 {
     match level {
-        Some(level) => push_number(out, u64::from(level)),
+        Some(level) => push_digits(out, u64::from(level)),
         None => out.push(b'-'),
     }
 }

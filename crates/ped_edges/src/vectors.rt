@@ -1,7 +1,7 @@
 //! The direction vectors of a dependence: if they are a product, a single one with the signs of each place; else one
 //! after another.
 
-ghost use Rattle.std.specs.Prelude.{◌≡◌, ◌≤◌, ◌++◌, [], ◌∷◌, map, OnOk};
+ghost use Rattle.std.specs.Prelude.{◌≡◌, ◌≤◌, ◌++◌, [], ◌∷◌, map, OnOk, IfSome};
 ghost use Rattle.std.specs.List.{flat_map};
 ghost use Rattle.ped_edges.specs.Rows.{direction_text, vectors_text, vector_text};
 
@@ -18,6 +18,28 @@ pub(crate) fn push_vectors(
     loops: usize,
     vectors: &[Vector],
 ) -> Result<(), NoMemory>
+    requires { loops ≤ 6 }
+    ensures { OnOk result (out.new ≡ out.old ++ vectors_text loops vectors.now) }
+{
+    match only_one(vectors) {
+        Some(vector) => push_vector(out, vector),
+        None => push_several(out, loops, vectors),
+    }
+}
+
+/// The vector, where it is the only one.
+fn only_one(vectors: &[Vector]) -> Option<&Vector>
+    ensures { IfSome result (λ vector. vectors.now ≡ vector.now ∷ []) }
+{
+    let (first, rest) = vectors.split_first()?;
+    match rest.split_first() {
+        Some(_) => None,
+        None => Some(first),
+    }
+}
+
+/// Adds vectors over this many loops, however many there are.
+fn push_several(out: &mut Bytes, loops: usize, vectors: &[Vector]) -> Result<(), NoMemory>
     requires { loops ≤ 6 }
     ensures { OnOk result (out.new ≡ out.old ++ vectors_text loops vectors.now) }
 {

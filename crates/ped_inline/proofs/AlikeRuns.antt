@@ -4,14 +4,14 @@ use Rattle.std.specs.Prelude.{Result}
 use Rattle.std.proofs.lemmas.Grind.{flat_map-append}
 use Rattle.ped_tree.specs.Tree.{CondTree, Head, StmtTrees}
 use Rattle.ped_tree.specs.NamesIn.{all_loop_variables}
-use Rattle.ped_splits.specs.ped_reindex.specs.ped_loops.specs.ped_scalar.specs.ped_rules.specs.ped_loop_runs.specs.ped_bodies.specs.ped_steps.specs.ped_laws.specs.ped_store.specs.Stores.{Store}
-use Rattle.ped_splits.specs.ped_reindex.specs.ped_loops.specs.ped_scalar.specs.ped_rules.specs.ped_loop_runs.specs.ped_bodies.specs.ped_steps.specs.ped_laws.specs.ped_store.specs.Acts.{Touch, Place, Step, did, entered, ended_turn, closed, store_behind}
-use Rattle.ped_splits.specs.ped_reindex.specs.ped_loops.specs.ped_scalar.specs.ped_rules.specs.ped_loop_runs.specs.ped_bodies.specs.ped_steps.specs.ped_laws.specs.ped_store.specs.Races.{accesses_of, accesses}
-use Rattle.ped_splits.specs.ped_reindex.specs.ped_loops.specs.ped_scalar.specs.ped_rules.specs.ped_loop_runs.specs.ped_bodies.specs.ped_steps.specs.ped_laws.specs.ped_eval.specs.Scopes.{Setting, Frame, Scope, Names, names_in, place_of}
-use Rattle.ped_splits.specs.ped_reindex.specs.ped_loops.specs.ped_scalar.specs.ped_rules.specs.ped_loop_runs.specs.ped_bodies.specs.ped_steps.specs.ped_laws.specs.ped_eval.specs.Evaluation.{Seen, Evaluated, numbered}
-use Rattle.ped_splits.specs.ped_reindex.specs.ped_loops.specs.ped_scalar.specs.ped_rules.specs.ped_loop_runs.specs.ped_bodies.specs.ped_steps.specs.ped_laws.specs.ped_eval.specs.Values.{truth}
-use Rattle.ped_splits.specs.ped_reindex.specs.ped_loops.specs.ped_scalar.specs.ped_rules.specs.ped_loop_runs.specs.ped_bodies.specs.ped_steps.specs.ped_laws.specs.ped_eval.specs.Loops.{Limits, limits, Entered, entered_with, frame, inner_variables, sorted_once, exit_touches, exit_when_none, entry_touches}
-use Rattle.ped_splits.specs.ped_reindex.specs.ped_loops.specs.ped_scalar.specs.ped_rules.specs.ped_loop_runs.specs.ped_bodies.specs.ped_steps.specs.ped_laws.specs.ped_eval.specs.Runs.{Ending, going, stopped, failed, Run, nothing_done, followed_by, then_run, does, on, on_value, run_if, turns, parallel_turns, run_entered, run_from_entry, run_do}
+use Rattle.ped_rules.specs.ped_store.specs.Stores.{Store}
+use Rattle.ped_rules.specs.ped_store.specs.Acts.{Touch, Place, Step, did, entered, ended_turn, closed, store_behind}
+use Rattle.ped_rules.specs.ped_store.specs.Races.{accesses_of, accesses}
+use Rattle.ped_rules.specs.ped_eval.specs.Scopes.{Setting, Frame, Scope, Names, names_in, place_of}
+use Rattle.ped_rules.specs.ped_eval.specs.Evaluation.{Seen, Evaluated, numbered}
+use Rattle.ped_rules.specs.ped_eval.specs.Values.{truth}
+use Rattle.ped_rules.specs.ped_eval.specs.Loops.{Limits, limits, Entered, entered_with, frame, inner_variables, sorted_once, exit_touches, exit_when_none, entry_touches}
+use Rattle.ped_rules.specs.ped_eval.specs.Runs.{Ending, going, stopped, failed, Run, nothing_done, followed_by, then_run, does, on, on_value, run_if, turns, parallel_turns, run_entered, run_from_entry, run_do}
 
 -- two runs end alike and make the same accesses
 pub record AreAlike (r w : Run) : Type 0 where

@@ -5,7 +5,7 @@ use Rattle.std.specs.Ordering.{nat_cmp, ordering_then, MatchOrdering}
 use Rattle.std.specs.declared.cmp.Ordering.{Ordering}
 use Rattle.std.specs.declared.cmp.Ordering.TheVariants.{Less, Equal, Greater}
 use Rattle.std.specs.Cmp.Lexicographic.{slice_cmp}
-use Rattle.ped_splits.specs.ped_reindex.specs.ped_loops.specs.ped_scalar.specs.ped_rules.specs.ped_loop_runs.specs.ped_bodies.specs.ped_steps.specs.ped_laws.specs.ped_graph.specs.ped_edges.specs.Edges.{Kind, flow, anti, output}
+use Rattle.ped_edges.specs.Edges.{Kind, flow, anti, output}
 use Rattle.ped_inline.specs.Folding.{Row, kind_rank, level_cmp, row_cmp}
 
 nat_equal : (a b : ℕ) → nat_cmp a b ≡ Equal → a ≡ b

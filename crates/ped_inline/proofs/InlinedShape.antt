@@ -2,8 +2,8 @@
 use Rattle.std.proofs.Common.{◌≡◌, ℕ, List, Bool, true, false, Some, None, if◌then◌else◌, refl, ap, ◌∙◌}
 use Rattle.ped_tree.specs.declared.conditions.Relation.TheVariants.{Eq}
 use Rattle.ped_tree.specs.Tree.{Int, Rel, StmtTree, StmtTrees, Assign, If, Do, Print, Read, Stop, Comment, no_stmts, more_stmts, ProgramTree}
-use Rattle.ped_splits.specs.ped_reindex.specs.ped_loops.specs.ped_scalar.specs.ped_rules.specs.ped_loop_runs.specs.ped_bodies.specs.ped_steps.specs.Replacing.{program_with}
-use Rattle.ped_splits.specs.ped_reindex.specs.ped_loops.specs.ped_scalar.specs.ped_rules.specs.ped_loop_runs.specs.ped_bodies.specs.ped_steps.proofs.RunLaws.ReplacedTrees.{HasGap, program_gap}
+use Rattle.ped_rules.specs.ped_steps.specs.Replacing.{program_with}
+use Rattle.ped_rules.specs.ped_steps.proofs.RunLaws.ReplacedTrees.{HasGap, program_gap}
 use Rattle.ped_inline.specs.Blocks.{is_always, is_mark, behind_call, block_body, IsBlock}
 use Rattle.ped_inline.proofs.OpenedRuns.{always_is}
 

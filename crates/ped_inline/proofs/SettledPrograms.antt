@@ -1,15 +1,15 @@
 -- A program whose front comments are among its declarations: they do nothing there, and it means the same.
 use Rattle.ped_base.specs.Lists.{is_among}
-use Rattle.ped_splits.specs.ped_reindex.specs.ped_loops.specs.ped_scalar.specs.ped_rules.specs.ped_loop_runs.specs.ped_bodies.specs.ped_steps.specs.Replacing.{followed}
-use Rattle.ped_splits.specs.ped_reindex.specs.ped_loops.specs.ped_scalar.specs.ped_rules.specs.ped_loop_runs.specs.ped_bodies.specs.ped_steps.specs.ped_laws.specs.ped_eval.specs.Outcomes.{bounds_of, setting_of}
-use Rattle.ped_splits.specs.ped_reindex.specs.ped_loops.specs.ped_scalar.specs.ped_rules.specs.ped_loop_runs.specs.ped_bodies.specs.ped_steps.specs.ped_laws.specs.ped_eval.specs.Runs.{run_all}
-use Rattle.ped_splits.specs.ped_reindex.specs.ped_loops.specs.ped_scalar.specs.ped_rules.specs.ped_loop_runs.specs.ped_bodies.specs.ped_steps.specs.ped_laws.specs.ped_eval.specs.Scopes.{Scope, Setting}
-use Rattle.ped_splits.specs.ped_reindex.specs.ped_loops.specs.ped_scalar.specs.ped_rules.specs.ped_loop_runs.specs.ped_bodies.specs.ped_steps.specs.ped_laws.specs.ped_store.specs.Stores.{Store}
-use Rattle.ped_splits.specs.ped_reindex.specs.ped_loops.specs.ped_scalar.specs.ped_rules.specs.ped_loop_runs.specs.ped_bodies.specs.ped_steps.specs.ped_symbols.specs.Kinds.{kind_among, kind_in, names_at}
-use Rattle.ped_splits.specs.ped_reindex.specs.ped_loops.specs.ped_scalar.specs.ped_rules.specs.ped_loop_runs.specs.ped_bodies.specs.ped_steps.specs.ped_symbols.specs.NameRefusals.{at_first, behind_sites}
-use Rattle.ped_splits.specs.ped_reindex.specs.ped_loops.specs.ped_scalar.specs.ped_rules.specs.ped_loop_runs.specs.ped_bodies.specs.ped_steps.specs.ped_symbols.specs.Sites.{Site, decl_sites, program_sites, stmt_sites, stmts_sites}
-use Rattle.ped_splits.specs.ped_reindex.specs.ped_loops.specs.ped_scalar.specs.ped_rules.specs.ped_loop_runs.specs.ped_bodies.specs.ped_steps.specs.ped_symbols.specs.declared.symbols.Kind.{Kind}
-use Rattle.ped_splits.specs.ped_reindex.specs.Settling.{behind_comments, front_comments, settled}
+use Rattle.ped_rules.specs.ped_steps.specs.Replacing.{followed}
+use Rattle.ped_rules.specs.ped_eval.specs.Outcomes.{bounds_of, setting_of}
+use Rattle.ped_rules.specs.ped_eval.specs.Runs.{run_all}
+use Rattle.ped_rules.specs.ped_eval.specs.Scopes.{Scope, Setting}
+use Rattle.ped_rules.specs.ped_store.specs.Stores.{Store}
+use Rattle.ped_rules.specs.ped_symbols.specs.Kinds.{kind_among, kind_in, names_at}
+use Rattle.ped_rules.specs.ped_symbols.specs.NameRefusals.{at_first, behind_sites}
+use Rattle.ped_rules.specs.ped_symbols.specs.Sites.{Site, decl_sites, program_sites, stmt_sites, stmts_sites}
+use Rattle.ped_rules.specs.ped_symbols.specs.declared.symbols.Kind.{Kind}
+use Rattle.ped_rules.specs.Settling.{behind_comments, front_comments, settled}
 use Rattle.ped_tree.specs.Accesses.{constant_names, constants_in}
 use Rattle.ped_tree.specs.NamesIn.{first_occurrences, saved_in}
 use Rattle.ped_tree.specs.Numbering.{statements_count}

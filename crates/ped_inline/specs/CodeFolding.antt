@@ -1,7 +1,7 @@
 -- Marked blocks, CALLs and rows as the code keeps them (this project).
 use Rattle.std.specs.Prelude.{ℕ, List, map, Option, Some, None}
-use Rattle.ped_splits.specs.ped_reindex.specs.ped_loops.specs.ped_scalar.specs.ped_rules.specs.ped_loop_runs.specs.ped_bodies.specs.ped_steps.specs.ped_refs.specs.Occurrences.{name_text}
-use Rattle.ped_splits.specs.ped_reindex.specs.ped_loops.specs.ped_scalar.specs.ped_rules.specs.ped_loop_runs.specs.ped_bodies.specs.ped_steps.specs.ped_laws.specs.ped_graph.specs.ped_edges.specs.CodeEdges.{kind_of}
+use Rattle.ped_refs.specs.Occurrences.{name_text}
+use Rattle.ped_edges.specs.CodeEdges.{kind_of}
 use Rattle.ped_inline.specs.Folding.{Block, Row}
 use Rattle.ped_inline.specs.CallsPane.{Called}
 use Rattle.ped_inline.specs.declared.block_places.Block as code_blocks

@@ -1,10 +1,10 @@
 -- Conflicts of a run with what a CALL does, and the folded dependences that cover them (Allen and Kennedy, section 2.2.1; ParaScope).
 use Rattle.std.specs.Prelude.{◌≡◌, ℕ, suc, List, [], ◌∷◌, take, Bool, true, ◌==◌, is_some, Option, Some, None, if◌then◌else◌}
 use Rattle.ped_tree.specs.Tree.{ProgramTree}
-use Rattle.ped_splits.specs.ped_reindex.specs.ped_loops.specs.ped_scalar.specs.ped_rules.specs.ped_loop_runs.specs.ped_bodies.specs.ped_steps.specs.ped_laws.specs.ped_graph.specs.ped_edges.specs.Edges.{Edge}
-use Rattle.ped_splits.specs.ped_reindex.specs.ped_loops.specs.ped_scalar.specs.ped_rules.specs.ped_loop_runs.specs.ped_bodies.specs.ped_steps.specs.ped_laws.specs.ped_store.specs.Acts.{Turn, iterations_of}
-use Rattle.ped_splits.specs.ped_reindex.specs.ped_loops.specs.ped_scalar.specs.ped_rules.specs.ped_loop_runs.specs.ped_bodies.specs.ped_steps.specs.ped_laws.specs.ped_store.specs.Races.{Access}
-use Rattle.ped_splits.specs.ped_reindex.specs.ped_loops.specs.ped_scalar.specs.ped_rules.specs.ped_loop_runs.specs.ped_bodies.specs.ped_steps.specs.ped_laws.specs.Conflicts.Covered.{IsCovered}
+use Rattle.ped_edges.specs.Edges.{Edge}
+use Rattle.ped_rules.specs.ped_store.specs.Acts.{Turn, iterations_of}
+use Rattle.ped_rules.specs.ped_store.specs.Races.{Access}
+use Rattle.ped_rules.specs.ped_laws.specs.Conflicts.Covered.{IsCovered}
 use Rattle.ped_inline.specs.Folding.{Block, blocks, block_at, is_folded}
 
 -- the level of the outermost loop around both in whose iterations two accesses are apart, where the outermost loop of all has this level; None where they are in the same iterations of all loops around both (Allen and Kennedy, section 2.2.5)

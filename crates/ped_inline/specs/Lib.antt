@@ -1,4 +1,4 @@
-pub use Rattle.ped_splits
+pub use Rattle.ped_rules
 pub mod Blocks
 pub mod Inlining
 pub mod Folding

@@ -4,17 +4,17 @@ ghost use Rattle.std.specs.Prelude.{◌≡◌, ◌+◌, ◌-◌, ◌<◌, ◌^�
 ghost use Rattle.std.specs.List.{range_with_len};
 ghost use Rattle.ped_tree.specs.Numbering.{statements_count};
 ghost use Rattle.ped_tree.specs.Views.{stmt_trees, program_tree};
-ghost use Rattle.ped_splits.specs.ped_reindex.specs.ped_loops.specs.ped_scalar.specs.ped_rules.specs.Steps.{Answers};
-ghost use Rattle.ped_splits.specs.ped_reindex.specs.ped_loops.specs.ped_scalar.specs.ped_rules.specs.ped_loop_runs.specs.ped_bodies.specs.ped_steps.specs.Changes.{IsChange};
-ghost use Rattle.ped_splits.specs.ped_reindex.specs.ped_loops.specs.ped_scalar.specs.ped_rules.specs.ped_loop_runs.specs.ped_bodies.specs.ped_steps.specs.Scenes.{IsSceneOf};
-ghost use Rattle.ped_splits.specs.ped_reindex.specs.ped_loops.specs.ped_scalar.specs.ped_rules.specs.ped_loop_runs.specs.ped_bodies.specs.ped_steps.specs.ped_symbols.specs.NameRefusals.{IsValid};
-ghost use Rattle.ped_splits.specs.Neighbours as Neighbours;
+ghost use Rattle.ped_rules.specs.Steps.{Answers};
+ghost use Rattle.ped_rules.specs.ped_steps.specs.Changes.{IsChange};
+ghost use Rattle.ped_rules.specs.ped_steps.specs.Scenes.{IsSceneOf};
+ghost use Rattle.ped_rules.specs.ped_symbols.specs.NameRefusals.{IsValid};
+ghost use Rattle.ped_rules.specs.KeepMaps as KeepMaps;
 ghost use Rattle.ped_inline.specs.Blocks.{IsBlock};
 ghost use Rattle.ped_inline.specs.Inlining as Spec;
 
 use crate::blocks::block_at;
 use ped_base::{Listed, NoMemory};
-use ped_splits::{
+use ped_rules::{
     Change, Keep, Refused, Rule, Scene, against, behind_comments, body_with, change_to,
 };
 use ped_tree::{Program, Stmt, copy_decls, count_statements};
@@ -117,7 +117,7 @@ fn inline_kept(alloc: Global, program: &Program, number: u32) -> Result<Keep, No
 /// The `count` statements of the new program, each with its number before the step.
 fn kept_up_to(alloc: Global, count: u32, number: u32) -> Result<Keep, NoMemory>
     requires { count + 1 < 2 ^ 32 }
-    ensures { IfOk result (λ keep. keep ≡ map (λ k. (Neighbours.opened_at number k, k)) (range_with_len 1 count)) }
+    ensures { IfOk result (λ keep. keep ≡ map (λ k. (KeepMaps.opened_at number k, k)) (range_with_len 1 count)) }
 {
     let mut keep = Listed::new(alloc);
     for n in 0..count {
@@ -129,7 +129,7 @@ fn kept_up_to(alloc: Global, count: u32, number: u32) -> Result<Keep, NoMemory>
 /// The number before the step of a statement of the new program.
 fn opened_at(number: u32, k: u32) -> u32
     requires { k + 1 < 2 ^ 32 }
-    ensures { result ≡ Neighbours.opened_at number k }
+    ensures { result ≡ KeepMaps.opened_at number k }
 {
     if k < number { k } else { k + 1 }
 }

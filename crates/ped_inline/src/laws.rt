@@ -1,7 +1,7 @@
 //! What is true of the step. The function does nothing; its contract is the law.
 
 ghost use Rattle.std.specs.Prelude.{ℕ};
-ghost use Rattle.ped_splits.specs.ped_reindex.specs.ped_loops.specs.ped_scalar.specs.ped_rules.specs.Lawful.{IsLawful};
+ghost use Rattle.ped_rules.specs.Lawful.{IsLawful};
 ghost use Rattle.ped_inline.specs.Inlining.{inlining};
 
 /// `inline` has one first cause at most and makes one program; where nothing forbids it, that one is valid, has no C$PED

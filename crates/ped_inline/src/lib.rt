@@ -15,10 +15,4 @@ pub use inlining::inline;
 pub use laws::inline_is_lawful;
 pub use pane::calls_pane;
 pub use pane_laws::{calls_are_covered, one_calls_pane};
-pub use ped_splits::{
-    Change, Refused, Scene, cause_words, distribute, distribution_is_lawful, expand, fuse,
-    fusion_is_lawful, interchange, interchange_is_lawful, loop_at, loops_round, make_parallel,
-    make_serial, parallel_is_lawful, peel, peeling_is_lawful, privatise, reject,
-    rejection_is_lawful, reversal_is_lawful, reverse, serial_is_lawful, skew, skewing_is_lawful,
-    strip, stripping_is_lawful,
-};
+pub use ped_rules::{Change, Refused, Scene, cause_words, loop_at, loops_round};

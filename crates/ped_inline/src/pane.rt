@@ -4,7 +4,7 @@ ghost use Rattle.std.specs.Prelude.{◌≡◌, ◌++◌, [], ◌∷◌, codes, m
 ghost use Rattle.std.specs.List.{flat_map};
 ghost use Rattle.std.specs.Fmt.{decimal};
 ghost use Rattle.ped_tree.specs.Views.{program_tree};
-ghost use Rattle.ped_splits.specs.ped_reindex.specs.ped_loops.specs.ped_scalar.specs.ped_rules.specs.ped_loop_runs.specs.ped_bodies.specs.ped_steps.specs.Scenes.{IsSceneOf};
+ghost use Rattle.ped_rules.specs.ped_steps.specs.Scenes.{IsSceneOf};
 ghost use Rattle.ped_inline.specs.CallsPane as Spec;
 ghost use Rattle.ped_inline.specs.CallsPane.{IsCallsPane};
 ghost use Rattle.ped_inline.specs.CodeFolding.{called_seen, row_seen};
@@ -14,7 +14,7 @@ use crate::called::{Called, calls};
 use crate::rows::{FoldedRow, bytes_of, folded_rows};
 use ped_base::{Bytes, NoMemory, push_number};
 use ped_edges::{push_kind, push_level};
-use ped_splits::Scene;
+use ped_rules::Scene;
 use std::alloc::Global;
 use std::collections::BTreeSet;
 use std::sync::ledger::Ledger;

@@ -2,16 +2,16 @@
 
 ghost use Rattle.std.specs.Prelude.{◌≡◌, ◌<◌, ◌||◌, ℕ, List, true};
 ghost use Rattle.ped_tree.specs.Tree.{ProgramTree};
-ghost use Rattle.ped_splits.specs.ped_reindex.specs.ped_loops.specs.ped_scalar.specs.ped_rules.specs.ped_loop_runs.specs.ped_bodies.specs.ped_steps.specs.ped_symbols.specs.NameRefusals.{IsValid};
-ghost use Rattle.ped_splits.specs.ped_reindex.specs.ped_loops.specs.ped_scalar.specs.ped_rules.specs.ped_loop_runs.specs.ped_bodies.specs.ped_steps.specs.ped_laws.specs.ped_graph.specs.ped_edges.specs.Edges.{Edge};
-ghost use Rattle.ped_splits.specs.ped_reindex.specs.ped_loops.specs.ped_scalar.specs.ped_rules.specs.ped_loop_runs.specs.ped_bodies.specs.ped_steps.specs.ped_laws.specs.ped_graph.specs.Dependences.{AreEdges};
-ghost use Rattle.ped_splits.specs.ped_reindex.specs.ped_loops.specs.ped_scalar.specs.ped_rules.specs.ped_loop_runs.specs.ped_bodies.specs.ped_steps.specs.ped_laws.specs.ped_store.specs.Races.{Access, conflict};
-ghost use Rattle.ped_splits.specs.ped_reindex.specs.ped_loops.specs.ped_scalar.specs.ped_rules.specs.ped_loop_runs.specs.ped_bodies.specs.ped_steps.specs.ped_laws.specs.Conflicts.Directions.{share_a_loop};
-ghost use Rattle.ped_splits.specs.ped_reindex.specs.ped_loops.specs.ped_scalar.specs.ped_rules.specs.ped_loop_runs.specs.ped_bodies.specs.ped_steps.specs.ped_laws.specs.Conflicts.Covered.{ComeInRun};
+ghost use Rattle.ped_rules.specs.ped_symbols.specs.NameRefusals.{IsValid};
+ghost use Rattle.ped_edges.specs.Edges.{Edge};
+ghost use Rattle.ped_rules.specs.ped_graph.specs.Dependences.{AreEdges};
+ghost use Rattle.ped_rules.specs.ped_store.specs.Races.{Access, conflict};
+ghost use Rattle.ped_rules.specs.ped_laws.specs.Conflicts.Directions.{share_a_loop};
+ghost use Rattle.ped_rules.specs.ped_laws.specs.Conflicts.Covered.{ComeInRun};
 ghost use Rattle.ped_inline.specs.CallsPane.{IsCallsPane};
 ghost use Rattle.ped_inline.specs.CoveredCalls.{is_in_block, AreInOneCall, IsCoveredFolded};
 
-use ped_splits::{accesses_are_made, accesses_in_sequence, conflicts_are_covered};
+use ped_rules::{accesses_are_made, accesses_in_sequence, conflicts_are_covered};
 
 /// Where two accesses of a run that references make conflict in one execution of a loop around both, and one of them is
 /// made in a marked block, but not both in one execution of one block, there is a folded dependence from the reference

@@ -1,9 +1,9 @@
 -- What is read where a plain bound is evaluated (ANSI X3.9-1978, section 11.10.3; this project).
 use Rattle.std.specs.Prelude.{◌≡◌, ℕ, List, [], ◌∷◌}
-use Rattle.ped_loop_runs.specs.ped_bodies.specs.ped_steps.specs.ped_laws.specs.ped_flow.specs.ped_tree.specs.Tree.{ProgramTree}
-use Rattle.ped_loop_runs.specs.ped_bodies.specs.ped_steps.specs.ped_laws.specs.ped_flow.specs.PlainBounds.{Values, IsFixed}
-use Rattle.ped_loop_runs.specs.ped_bodies.specs.ped_steps.specs.ped_laws.specs.ped_store.specs.Cells.{Cell, Scalar}
-use Rattle.ped_loop_runs.specs.ped_bodies.specs.ped_steps.specs.ped_laws.specs.ped_eval.specs.Evaluation.{Seen, cell_seen, index_seen, Evaluated}
+use Rattle.ped_bodies.specs.ped_flow.specs.ped_tree.specs.Tree.{ProgramTree}
+use Rattle.ped_bodies.specs.ped_flow.specs.PlainBounds.{Values, IsFixed}
+use Rattle.ped_bodies.specs.ped_store.specs.Cells.{Cell, Scalar}
+use Rattle.ped_bodies.specs.ped_eval.specs.Evaluation.{Seen, cell_seen, index_seen, Evaluated}
 
 -- the own cell of a scalar that keeps its value in the outermost DO that is a DO or is around it (this project)
 abbrev pub IsOfFixed : Values → ProgramTree → ℕ → Cell → Type 0

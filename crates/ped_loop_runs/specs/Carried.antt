@@ -1,23 +1,23 @@
 -- Dependences that a loop carries, and accesses in its trips (Allen and Kennedy, section 2.2.5).
 use Rattle.std.specs.Prelude.{◌≡◌, ◌<◌, ℕ, ◌+◌, List, ◌∷◌, ◌++◌, map, length, nat_lt, nat_le, Bool, true, false, ◌==◌, ◌&&◌, Option, Some, None}
-use Rattle.ped_loop_runs.specs.ped_bodies.specs.ped_steps.specs.ped_laws.specs.ped_graph.specs.ped_views.specs.declared.directions.Direction.{Direction}
-use Rattle.ped_loop_runs.specs.ped_bodies.specs.ped_steps.specs.ped_laws.specs.ped_graph.specs.ped_views.specs.declared.directions.Direction.TheVariants.{Before, Same}
-use Rattle.ped_loop_runs.specs.ped_bodies.specs.ped_steps.specs.ped_laws.specs.ped_flow.specs.ped_tree.specs.Tree.{StmtTrees, ProgramTree}
-use Rattle.ped_loop_runs.specs.ped_bodies.specs.ped_steps.specs.ped_laws.specs.ped_flow.specs.ped_tree.specs.Numbering.{statements_count}
-use Rattle.ped_loop_runs.specs.ped_bodies.specs.ped_steps.specs.ped_laws.specs.ped_flow.specs.PlainBounds.{nest_round}
-use Rattle.ped_loop_runs.specs.ped_bodies.specs.ped_steps.specs.ped_laws.specs.ped_graph.specs.ped_refs.specs.References.{Reference}
-use Rattle.ped_loop_runs.specs.ped_bodies.specs.ped_steps.specs.ped_laws.specs.ped_edges.specs.Edges.{Edge}
-use Rattle.ped_loop_runs.specs.ped_bodies.specs.ped_steps.specs.ped_laws.specs.ped_store.specs.Cells.{Cell}
-use Rattle.ped_loop_runs.specs.ped_bodies.specs.ped_steps.specs.ped_laws.specs.ped_store.specs.Stores.{Store}
-use Rattle.ped_loop_runs.specs.ped_bodies.specs.ped_steps.specs.ped_laws.specs.ped_store.specs.Acts.{Turn, Act}
-use Rattle.ped_loop_runs.specs.ped_bodies.specs.ped_steps.specs.ped_laws.specs.ped_store.specs.Races.{Access, conflict}
-use Rattle.ped_loop_runs.specs.ped_bodies.specs.ped_steps.specs.ped_laws.specs.ped_eval.specs.Scopes.{Scope}
-use Rattle.ped_loop_runs.specs.ped_bodies.specs.ped_steps.specs.ped_laws.specs.ped_eval.specs.Outcomes.{run_of}
-use Rattle.ped_loop_runs.specs.ped_bodies.specs.ped_steps.specs.ped_laws.specs.Acts.Orders.{IsIn}
-use Rattle.ped_loop_runs.specs.ped_bodies.specs.ped_steps.specs.ped_laws.specs.Runs.Touching.{StoresWithin}
-use Rattle.ped_loop_runs.specs.ped_bodies.specs.ped_steps.specs.ped_laws.specs.Conflicts.Directions.{StandInDirections}
-use Rattle.ped_loop_runs.specs.ped_bodies.specs.ped_steps.specs.ped_laws.specs.Conflicts.Making.{IsMade}
-use Rattle.ped_loop_runs.specs.ped_bodies.specs.ped_steps.specs.ped_laws.specs.Conflicts.Covered.{IsCovered}
+use Rattle.ped_bodies.specs.ped_views.specs.declared.directions.Direction.{Direction}
+use Rattle.ped_bodies.specs.ped_views.specs.declared.directions.Direction.TheVariants.{Before, Same}
+use Rattle.ped_bodies.specs.ped_flow.specs.ped_tree.specs.Tree.{StmtTrees, ProgramTree}
+use Rattle.ped_bodies.specs.ped_flow.specs.ped_tree.specs.Numbering.{statements_count}
+use Rattle.ped_bodies.specs.ped_flow.specs.PlainBounds.{nest_round}
+use Rattle.ped_bodies.specs.ped_refs.specs.References.{Reference}
+use Rattle.ped_bodies.specs.ped_edges.specs.Edges.{Edge}
+use Rattle.ped_bodies.specs.ped_store.specs.Cells.{Cell}
+use Rattle.ped_bodies.specs.ped_store.specs.Stores.{Store}
+use Rattle.ped_bodies.specs.ped_store.specs.Acts.{Turn, Act}
+use Rattle.ped_bodies.specs.ped_store.specs.Races.{Access, conflict}
+use Rattle.ped_bodies.specs.ped_eval.specs.Scopes.{Scope}
+use Rattle.ped_bodies.specs.ped_eval.specs.Outcomes.{run_of}
+use Rattle.ped_bodies.specs.ped_laws.specs.Acts.Orders.{IsIn}
+use Rattle.ped_bodies.specs.ped_laws.specs.Runs.Touching.{StoresWithin}
+use Rattle.ped_bodies.specs.ped_laws.specs.Conflicts.Directions.{StandInDirections}
+use Rattle.ped_bodies.specs.ped_laws.specs.Conflicts.Making.{IsMade}
+use Rattle.ped_bodies.specs.ped_laws.specs.Conflicts.Covered.{IsCovered}
 
 -- two references make accesses that conflict, in an execution of an outermost DO that begins with this store (Allen and Kennedy, section 2.2.1)
 pub record MakeConflict (t : ProgramTree) (first : Store) (a b : Access) (source sink : Reference) : Type 0 where

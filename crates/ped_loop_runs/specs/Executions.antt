@@ -1,17 +1,17 @@
 -- Executions of statements among the acts of a run: the iterations that have been entered for them, and the copies that nobody else touches (this project).
 use Rattle.std.specs.Prelude.{◌≡◌, ℕ, ◌+◌, ◌<◌, ◌≤◌, List, [], ◌∷◌, ◌++◌, Ok}
-use Rattle.ped_bodies.specs.ped_steps.specs.ped_flow.specs.ped_tree.specs.Tree.{Do, ProgramTree}
-use Rattle.ped_bodies.specs.ped_steps.specs.ped_laws.specs.ped_store.specs.Cells.{Cell, Private, Iteration}
-use Rattle.ped_bodies.specs.ped_steps.specs.ped_laws.specs.ped_store.specs.Stores.{Store}
-use Rattle.ped_bodies.specs.ped_steps.specs.ped_laws.specs.ped_store.specs.Acts.{Turn, Touch, Act, iterations_of}
-use Rattle.ped_bodies.specs.ped_steps.specs.ped_laws.specs.Acts.Fitting.{store_after}
-use Rattle.ped_bodies.specs.ped_steps.specs.ped_laws.specs.Acts.Orders.{IsIn}
-use Rattle.ped_bodies.specs.ped_steps.specs.ped_laws.specs.ped_eval.specs.Scopes.{Setting, Frame, Scope, turns_of, names_in}
-use Rattle.ped_bodies.specs.ped_steps.specs.ped_laws.specs.ped_eval.specs.Evaluation.{Seen}
-use Rattle.ped_bodies.specs.ped_steps.specs.ped_laws.specs.ped_eval.specs.Loops.{Limits, limits, entered_with, frame}
-use Rattle.ped_bodies.specs.ped_steps.specs.ped_laws.specs.ped_eval.specs.Runs.{run, run_all}
-use Rattle.ped_bodies.specs.ped_steps.specs.ped_laws.specs.ped_flow.specs.PlainBounds.{nest_round, outermost_or}
-use Rattle.ped_bodies.specs.ped_steps.specs.ped_laws.specs.ped_flow.specs.Questions.{LoopOf}
+use Rattle.ped_bodies.specs.ped_flow.specs.ped_tree.specs.Tree.{Do, ProgramTree}
+use Rattle.ped_bodies.specs.ped_store.specs.Cells.{Cell, Private, Iteration}
+use Rattle.ped_bodies.specs.ped_store.specs.Stores.{Store}
+use Rattle.ped_bodies.specs.ped_store.specs.Acts.{Turn, Touch, Act, iterations_of}
+use Rattle.ped_bodies.specs.ped_laws.specs.Acts.Fitting.{store_after}
+use Rattle.ped_bodies.specs.ped_laws.specs.Acts.Orders.{IsIn}
+use Rattle.ped_bodies.specs.ped_eval.specs.Scopes.{Setting, Frame, Scope, turns_of, names_in}
+use Rattle.ped_bodies.specs.ped_eval.specs.Evaluation.{Seen}
+use Rattle.ped_bodies.specs.ped_eval.specs.Loops.{Limits, limits, entered_with, frame}
+use Rattle.ped_bodies.specs.ped_eval.specs.Runs.{run, run_all}
+use Rattle.ped_bodies.specs.ped_flow.specs.PlainBounds.{nest_round, outermost_or}
+use Rattle.ped_bodies.specs.ped_flow.specs.Questions.{LoopOf}
 use Rattle.ped_bodies.specs.ped_steps.specs.Runs.Pasting.{IsPlaceOf, IsInOutermost, IsDone}
 
 -- a copy that belongs to an iteration of a DO with one of these numbers, this many from n on, or of one in such a DO; the DO is in these iterations (ParaScope; this project)

@@ -1,4 +1,17 @@
 pub use Rattle.ped_bodies
+pub use Rattle.ped_bodies.specs.ped_steps
+pub use Rattle.ped_bodies.specs.ped_sums
+pub use Rattle.ped_bodies.specs.ped_refs
+pub use Rattle.ped_bodies.specs.ped_edges
+pub use Rattle.ped_bodies.specs.ped_weaves
+pub use Rattle.ped_bodies.specs.ped_laws
+pub use Rattle.ped_bodies.specs.ped_flow
+pub use Rattle.ped_bodies.specs.ped_graph
+pub use Rattle.ped_bodies.specs.ped_eval
+pub use Rattle.ped_bodies.specs.ped_store
+pub use Rattle.ped_bodies.specs.ped_views
+pub use Rattle.ped_bodies.specs.ped_symbols
+pub use Rattle.ped_bodies.specs.ped_affine
 pub mod Executions
 pub mod Copies
 pub mod Pasting

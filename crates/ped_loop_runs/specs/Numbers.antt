@@ -1,6 +1,6 @@
 -- Numbers under which the statements of a new program count, so that those that stay have their old ones (this project).
 use Rattle.std.specs.Prelude.{◌≡◌, ℕ, zero, suc, ◌+◌, ◌-◌, ◌<◌, ◌≤◌, List, [], ◌∷◌, ◌++◌, ◌==◌, ◌⊎◌, if◌then◌else◌}
-use Rattle.ped_bodies.specs.ped_steps.specs.ped_laws.specs.Acts.Orders.{IsIn}
+use Rattle.ped_bodies.specs.ped_laws.specs.Acts.Orders.{IsIn}
 
 -- two numbers exchanged (plain words)
 abbrev pub exchanged_numbers : (a b : ℕ) → ℕ → ℕ

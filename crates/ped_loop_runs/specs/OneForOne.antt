@@ -1,28 +1,28 @@
 -- One DO in the place of another: with the same body and as many iterations, in the same order or from the last to the first (Allen and Kennedy, sections 2.2.3, 2.4; this project).
 use Rattle.std.specs.Prelude.{◌≡◌, ℕ, ◌+◌, ◌-◌, List, Bool, true, false, Ok, ◌⊎◌, if◌then◌else◌}
-use Rattle.ped_loop_runs.specs.ped_bodies.specs.ped_steps.specs.ped_laws.specs.ped_flow.specs.ped_base.specs.Lists.{is_among}
-use Rattle.ped_loop_runs.specs.ped_bodies.specs.ped_steps.specs.ped_laws.specs.ped_flow.specs.ped_tree.specs.Tree.{Head, StmtTrees, Do, ProgramTree}
-use Rattle.ped_loop_runs.specs.ped_bodies.specs.ped_steps.specs.ped_laws.specs.ped_flow.specs.ped_tree.specs.NamesIn.{loop_variables}
-use Rattle.ped_loop_runs.specs.ped_bodies.specs.ped_steps.specs.ped_laws.specs.ped_flow.specs.Questions.{LoopOf, IsContained}
-use Rattle.ped_loop_runs.specs.ped_bodies.specs.ped_steps.specs.ped_laws.specs.ped_graph.specs.Dependences.{AreEdges}
-use Rattle.ped_loop_runs.specs.ped_bodies.specs.ped_steps.specs.ped_laws.specs.ped_graph.specs.ped_symbols.specs.Kinds.{kind_in}
-use Rattle.ped_loop_runs.specs.ped_bodies.specs.ped_steps.specs.ped_laws.specs.ped_graph.specs.ped_symbols.specs.NameRefusals.{IsValid}
-use Rattle.ped_loop_runs.specs.ped_bodies.specs.ped_steps.specs.ped_laws.specs.ped_edges.specs.Edges.{Edge}
-use Rattle.ped_loop_runs.specs.ped_bodies.specs.ped_steps.specs.ped_laws.specs.ped_store.specs.Cells.{Cell, Iteration}
-use Rattle.ped_loop_runs.specs.ped_bodies.specs.ped_steps.specs.ped_laws.specs.ped_store.specs.Stores.{Store}
-use Rattle.ped_loop_runs.specs.ped_bodies.specs.ped_steps.specs.ped_laws.specs.ped_store.specs.Acts.{iterations_of}
-use Rattle.ped_loop_runs.specs.ped_bodies.specs.ped_steps.specs.ped_laws.specs.Acts.Renaming.{own_name}
-use Rattle.ped_loop_runs.specs.ped_bodies.specs.ped_steps.specs.ped_laws.specs.Acts.Sets.{nothing}
-use Rattle.ped_loop_runs.specs.ped_bodies.specs.ped_steps.specs.ped_laws.specs.ped_eval.specs.Evaluation.{numbered}
-use Rattle.ped_loop_runs.specs.ped_bodies.specs.ped_steps.specs.ped_laws.specs.ped_eval.specs.Scopes.{Setting, Scope, turns_of, names_in, place_of}
-use Rattle.ped_loop_runs.specs.ped_bodies.specs.ped_steps.specs.ped_laws.specs.ped_eval.specs.Loops.{Limits, limits, value_in}
-use Rattle.ped_loop_runs.specs.ped_bodies.specs.ped_steps.specs.ped_laws.specs.ped_eval.specs.Outcomes.{setting_of}
-use Rattle.ped_loop_runs.specs.ped_bodies.specs.ped_steps.specs.ped_laws.specs.ped_eval.specs.Runs.{run}
-use Rattle.ped_loop_runs.specs.ped_bodies.specs.ped_steps.specs.Replacing.{alone, program_with}
-use Rattle.ped_loop_runs.specs.ped_bodies.specs.ped_steps.specs.Tidy.{is_written_in}
-use Rattle.ped_loop_runs.specs.ped_bodies.specs.ped_steps.specs.ped_weaves.specs.Puttings.{ReadAmong}
-use Rattle.ped_loop_runs.specs.ped_bodies.specs.Moving.{own_number, is_cell_among, moved_behind, turned}
-use Rattle.ped_loop_runs.specs.ped_bodies.specs.Trips.{loop_acts, OfTrips, bounds_seen, entered_from, IsMadeOfTrips, MakesTripsLikewise}
+use Rattle.ped_bodies.specs.ped_flow.specs.ped_base.specs.Lists.{is_among}
+use Rattle.ped_bodies.specs.ped_flow.specs.ped_tree.specs.Tree.{Head, StmtTrees, Do, ProgramTree}
+use Rattle.ped_bodies.specs.ped_flow.specs.ped_tree.specs.NamesIn.{loop_variables}
+use Rattle.ped_bodies.specs.ped_flow.specs.Questions.{LoopOf, IsContained}
+use Rattle.ped_bodies.specs.ped_graph.specs.Dependences.{AreEdges}
+use Rattle.ped_bodies.specs.ped_symbols.specs.Kinds.{kind_in}
+use Rattle.ped_bodies.specs.ped_symbols.specs.NameRefusals.{IsValid}
+use Rattle.ped_bodies.specs.ped_edges.specs.Edges.{Edge}
+use Rattle.ped_bodies.specs.ped_store.specs.Cells.{Cell, Iteration}
+use Rattle.ped_bodies.specs.ped_store.specs.Stores.{Store}
+use Rattle.ped_bodies.specs.ped_store.specs.Acts.{iterations_of}
+use Rattle.ped_bodies.specs.ped_laws.specs.Acts.Renaming.{own_name}
+use Rattle.ped_bodies.specs.ped_laws.specs.Acts.Sets.{nothing}
+use Rattle.ped_bodies.specs.ped_eval.specs.Evaluation.{numbered}
+use Rattle.ped_bodies.specs.ped_eval.specs.Scopes.{Setting, Scope, turns_of, names_in, place_of}
+use Rattle.ped_bodies.specs.ped_eval.specs.Loops.{Limits, limits, value_in}
+use Rattle.ped_bodies.specs.ped_eval.specs.Outcomes.{setting_of}
+use Rattle.ped_bodies.specs.ped_eval.specs.Runs.{run}
+use Rattle.ped_bodies.specs.ped_steps.specs.Replacing.{alone, program_with}
+use Rattle.ped_bodies.specs.ped_steps.specs.Tidy.{is_written_in}
+use Rattle.ped_bodies.specs.ped_weaves.specs.Puttings.{ReadAmong}
+use Rattle.ped_bodies.specs.Moving.{own_number, is_cell_among, moved_behind, turned}
+use Rattle.ped_bodies.specs.Trips.{loop_acts, OfTrips, bounds_seen, entered_from, IsMadeOfTrips, MakesTripsLikewise}
 use Rattle.ped_loop_runs.specs.Carried.{NoneCarriedBy}
 
 -- which of n iterations of the old DO an iteration of the new one repeats (Allen and Kennedy, section 2.4)

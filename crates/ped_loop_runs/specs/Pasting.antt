@@ -1,18 +1,18 @@
 -- Statements of a program exchanged for others, where statements that exist count under their old numbers, and executions know what they are (this project).
 use Rattle.std.specs.Prelude.{◌≡◌, ℕ, ◌+◌, ◌<◌, ◌≤◌, List, [], ◌∷◌, ◌++◌, Bool, true, false}
-use Rattle.ped_bodies.specs.ped_steps.specs.ped_flow.specs.ped_tree.specs.Tree.{StmtTrees, ProgramTree}
-use Rattle.ped_bodies.specs.ped_steps.specs.ped_flow.specs.ped_tree.specs.NamesIn.{stmts_names}
-use Rattle.ped_bodies.specs.ped_steps.specs.ped_flow.specs.ped_tree.specs.Numbering.{statements_count}
-use Rattle.ped_bodies.specs.ped_steps.specs.ped_laws.specs.ped_store.specs.Cells.{Cell}
-use Rattle.ped_bodies.specs.ped_steps.specs.ped_laws.specs.ped_store.specs.Stores.{Store}
-use Rattle.ped_bodies.specs.ped_steps.specs.ped_laws.specs.ped_store.specs.Acts.{Act}
-use Rattle.ped_bodies.specs.ped_steps.specs.ped_laws.specs.Acts.Fitting.{store_after}
-use Rattle.ped_bodies.specs.ped_steps.specs.ped_laws.specs.Acts.Pieces.{Part, same, changed, old_parts, StandsFor}
-use Rattle.ped_bodies.specs.ped_steps.specs.ped_laws.specs.FlowRuns.Covering.{some_stop}
-use Rattle.ped_bodies.specs.ped_steps.specs.ped_laws.specs.FlowRuns.Exits.{IsOneToOne}
-use Rattle.ped_bodies.specs.ped_steps.specs.ped_laws.specs.Runs.Replaying.{goes_on, finish_of, Replays}
-use Rattle.ped_bodies.specs.ped_steps.specs.ped_laws.specs.ped_eval.specs.Scopes.{Setting, Scope}
-use Rattle.ped_bodies.specs.ped_steps.specs.ped_laws.specs.ped_eval.specs.Runs.{Run, run_all}
+use Rattle.ped_bodies.specs.ped_flow.specs.ped_tree.specs.Tree.{StmtTrees, ProgramTree}
+use Rattle.ped_bodies.specs.ped_flow.specs.ped_tree.specs.NamesIn.{stmts_names}
+use Rattle.ped_bodies.specs.ped_flow.specs.ped_tree.specs.Numbering.{statements_count}
+use Rattle.ped_bodies.specs.ped_store.specs.Cells.{Cell}
+use Rattle.ped_bodies.specs.ped_store.specs.Stores.{Store}
+use Rattle.ped_bodies.specs.ped_store.specs.Acts.{Act}
+use Rattle.ped_bodies.specs.ped_laws.specs.Acts.Fitting.{store_after}
+use Rattle.ped_bodies.specs.ped_laws.specs.Acts.Pieces.{Part, same, changed, old_parts, StandsFor}
+use Rattle.ped_bodies.specs.ped_laws.specs.FlowRuns.Covering.{some_stop}
+use Rattle.ped_bodies.specs.ped_laws.specs.FlowRuns.Exits.{IsOneToOne}
+use Rattle.ped_bodies.specs.ped_laws.specs.Runs.Replaying.{goes_on, finish_of, Replays}
+use Rattle.ped_bodies.specs.ped_eval.specs.Scopes.{Setting, Scope}
+use Rattle.ped_bodies.specs.ped_eval.specs.Runs.{Run, run_all}
 use Rattle.ped_bodies.specs.ped_steps.specs.Runs.Gaps.{Gap, filled, number_at}
 use Rattle.ped_bodies.specs.ped_steps.specs.Runs.Pasting.{AgreeInBounds, is_in_parallel, HaveSameIndices}
 use Rattle.ped_loop_runs.specs.Executions.{IsExecuted}

@@ -1,12 +1,12 @@
 -- The values that the iterations around an execution give, and its place in that of the outermost DO (ANSI X3.9-1978, section 11.10; this project).
 use Rattle.std.specs.Prelude.{◌≡◌, ℕ, ℤ, pos, List, ◌++◌, unwrap_or}
-use Rattle.ped_bodies.specs.ped_steps.specs.ped_flow.specs.ped_tree.specs.Tree.{ProgramTree}
-use Rattle.ped_bodies.specs.ped_steps.specs.ped_laws.specs.ped_store.specs.Stores.{Store}
-use Rattle.ped_bodies.specs.ped_steps.specs.ped_laws.specs.ped_store.specs.Acts.{Act}
-use Rattle.ped_bodies.specs.ped_steps.specs.ped_laws.specs.Acts.Fitting.{store_after}
-use Rattle.ped_bodies.specs.ped_steps.specs.ped_laws.specs.FlowRuns.Entries.{IsEntry}
-use Rattle.ped_bodies.specs.ped_steps.specs.ped_laws.specs.Plain.Executions.{IsDuring}
-use Rattle.ped_bodies.specs.ped_steps.specs.ped_laws.specs.ped_eval.specs.Scopes.{Setting, Scope, index_value}
+use Rattle.ped_bodies.specs.ped_flow.specs.ped_tree.specs.Tree.{ProgramTree}
+use Rattle.ped_bodies.specs.ped_store.specs.Stores.{Store}
+use Rattle.ped_bodies.specs.ped_store.specs.Acts.{Act}
+use Rattle.ped_bodies.specs.ped_laws.specs.Acts.Fitting.{store_after}
+use Rattle.ped_bodies.specs.ped_laws.specs.FlowRuns.Entries.{IsEntry}
+use Rattle.ped_bodies.specs.ped_laws.specs.Plain.Executions.{IsDuring}
+use Rattle.ped_bodies.specs.ped_eval.specs.Scopes.{Setting, Scope, index_value}
 
 -- the values that iterations give to the variables of their DO loops; of any other name 0 (ANSI X3.9-1978, section 11.10; this project)
 abbrev pub told_at : Scope → List ℕ → ℤ

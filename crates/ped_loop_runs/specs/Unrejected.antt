@@ -1,8 +1,8 @@
 -- Programs without C$PED REJECT: the editor may trust what their dependences say (ParaScope; this project).
 use Rattle.std.specs.Prelude.{◌≡◌, Bool, false, ◌||◌}
-use Rattle.ped_loop_runs.specs.ped_bodies.specs.ped_steps.specs.ped_flow.specs.ped_base.specs.Lists.{has_some}
-use Rattle.ped_loop_runs.specs.ped_bodies.specs.ped_steps.specs.ped_flow.specs.ped_tree.specs.Tree.{StmtTree, StmtTrees, Assign, If, Do, Print, Read, Stop, Comment, no_stmts, more_stmts, ProgramTree}
-use Rattle.ped_loop_runs.specs.ped_bodies.specs.ped_steps.specs.Tidy.{IsTidy}
+use Rattle.ped_bodies.specs.ped_flow.specs.ped_base.specs.Lists.{has_some}
+use Rattle.ped_bodies.specs.ped_flow.specs.ped_tree.specs.Tree.{StmtTree, StmtTrees, Assign, If, Do, Print, Read, Stop, Comment, no_stmts, more_stmts, ProgramTree}
+use Rattle.ped_bodies.specs.ped_steps.specs.Tidy.{IsTidy}
 
 -- a C$PED REJECT line is before a DO, the statement itself or one in its parts (ParaScope)
 abbrev mutual

@@ -1,16 +1,16 @@
 //! What a plain bound reads.
 
 ghost use Rattle.std.specs.Prelude.{◌≡◌, ℕ, ℤ, List, false};
-ghost use Rattle.ped_loop_runs.specs.ped_bodies.specs.ped_steps.specs.ped_laws.specs.ped_flow.specs.ped_tree.specs.Tree.{ExprTree, Do, ProgramTree};
-ghost use Rattle.ped_loop_runs.specs.ped_bodies.specs.ped_steps.specs.ped_laws.specs.ped_flow.specs.PlainBounds.{nest_round, outermost_or, IsPlainlyBuilt};
-ghost use Rattle.ped_loop_runs.specs.ped_bodies.specs.ped_steps.specs.ped_laws.specs.ped_flow.specs.Questions.{LoopOf};
-ghost use Rattle.ped_loop_runs.specs.ped_bodies.specs.ped_steps.specs.ped_laws.specs.ped_store.specs.Cells.{Cell};
-ghost use Rattle.ped_loop_runs.specs.ped_bodies.specs.ped_steps.specs.ped_laws.specs.ped_store.specs.Stores.{Store};
-ghost use Rattle.ped_loop_runs.specs.ped_bodies.specs.ped_steps.specs.ped_laws.specs.ped_eval.specs.Scopes.{Setting, Scope, names_in};
-ghost use Rattle.ped_loop_runs.specs.ped_bodies.specs.ped_steps.specs.ped_laws.specs.ped_eval.specs.Values.{value};
-ghost use Rattle.ped_loop_runs.specs.ped_bodies.specs.ped_steps.specs.ped_laws.specs.ped_eval.specs.Runs.{run};
-ghost use Rattle.ped_loop_runs.specs.ped_bodies.specs.ped_steps.specs.ped_laws.specs.Acts.Sets.{written};
-ghost use Rattle.ped_loop_runs.specs.ped_bodies.specs.ped_steps.specs.ped_laws.specs.Plain.Executions.{IsPlaceWith, IsDuring};
+ghost use Rattle.ped_bodies.specs.ped_flow.specs.ped_tree.specs.Tree.{ExprTree, Do, ProgramTree};
+ghost use Rattle.ped_bodies.specs.ped_flow.specs.PlainBounds.{nest_round, outermost_or, IsPlainlyBuilt};
+ghost use Rattle.ped_bodies.specs.ped_flow.specs.Questions.{LoopOf};
+ghost use Rattle.ped_bodies.specs.ped_store.specs.Cells.{Cell};
+ghost use Rattle.ped_bodies.specs.ped_store.specs.Stores.{Store};
+ghost use Rattle.ped_bodies.specs.ped_eval.specs.Scopes.{Setting, Scope, names_in};
+ghost use Rattle.ped_bodies.specs.ped_eval.specs.Values.{value};
+ghost use Rattle.ped_bodies.specs.ped_eval.specs.Runs.{run};
+ghost use Rattle.ped_bodies.specs.ped_laws.specs.Acts.Sets.{written};
+ghost use Rattle.ped_bodies.specs.ped_laws.specs.Plain.Executions.{IsPlaceWith, IsDuring};
 ghost use Rattle.ped_loop_runs.specs.Bounds.{IsOfFixed, ComeToTheSame};
 
 /// A bound that is built as a plain one reads only own cells of scalars that keep their values in the outermost DO: no

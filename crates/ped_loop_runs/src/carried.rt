@@ -1,22 +1,22 @@
 //! What a loop carries.
 
 ghost use Rattle.std.specs.Prelude.{◌≡◌, ◌<◌, ℕ, List, ◌∷◌, ◌++◌, length, Bool, true, false, None};
-ghost use Rattle.ped_loop_runs.specs.ped_bodies.specs.ped_steps.specs.ped_laws.specs.ped_flow.specs.ped_tree.specs.Tree.{ProgramTree};
-ghost use Rattle.ped_loop_runs.specs.ped_bodies.specs.ped_steps.specs.ped_laws.specs.ped_flow.specs.Questions.{LoopOf, IsIndexIn};
-ghost use Rattle.ped_loop_runs.specs.ped_bodies.specs.ped_steps.specs.ped_laws.specs.ped_graph.specs.ped_symbols.specs.NameRefusals.{IsValid};
-ghost use Rattle.ped_loop_runs.specs.ped_bodies.specs.ped_steps.specs.ped_laws.specs.ped_graph.specs.ped_refs.specs.References.{Reference};
-ghost use Rattle.ped_loop_runs.specs.ped_bodies.specs.ped_steps.specs.ped_laws.specs.ped_graph.specs.Dependences.{EdgesOfPairs, AreEdges};
-ghost use Rattle.ped_loop_runs.specs.ped_bodies.specs.ped_steps.specs.ped_laws.specs.ped_edges.specs.Edges.{Edge};
-ghost use Rattle.ped_loop_runs.specs.ped_bodies.specs.ped_steps.specs.ped_laws.specs.ped_store.specs.Stores.{Store};
-ghost use Rattle.ped_loop_runs.specs.ped_bodies.specs.ped_steps.specs.ped_laws.specs.ped_store.specs.Cells.{Cell};
-ghost use Rattle.ped_loop_runs.specs.ped_bodies.specs.ped_steps.specs.ped_laws.specs.ped_store.specs.Acts.{Turn, Act};
-ghost use Rattle.ped_loop_runs.specs.ped_bodies.specs.ped_steps.specs.ped_laws.specs.ped_store.specs.Races.{Access, conflict};
-ghost use Rattle.ped_loop_runs.specs.ped_bodies.specs.ped_steps.specs.ped_laws.specs.Acts.Conflicts.{blocks_conflict_outside};
-ghost use Rattle.ped_loop_runs.specs.ped_bodies.specs.ped_steps.specs.ped_laws.specs.Acts.Orders.{IsIn};
-ghost use Rattle.ped_loop_runs.specs.ped_bodies.specs.ped_steps.specs.ped_laws.specs.Conflicts.Directions.{share_a_loop};
-ghost use Rattle.ped_loop_runs.specs.ped_bodies.specs.ped_steps.specs.ped_laws.specs.Conflicts.Sequence.{IsBeforeInText, AreSuccessive};
-ghost use Rattle.ped_loop_runs.specs.ped_bodies.specs.ped_steps.specs.ped_laws.specs.Conflicts.Covered.{ComeInRun};
-ghost use Rattle.ped_loop_runs.specs.ped_bodies.specs.ped_steps.specs.Tidy.{is_written_in};
+ghost use Rattle.ped_bodies.specs.ped_flow.specs.ped_tree.specs.Tree.{ProgramTree};
+ghost use Rattle.ped_bodies.specs.ped_flow.specs.Questions.{LoopOf, IsIndexIn};
+ghost use Rattle.ped_bodies.specs.ped_symbols.specs.NameRefusals.{IsValid};
+ghost use Rattle.ped_bodies.specs.ped_refs.specs.References.{Reference};
+ghost use Rattle.ped_bodies.specs.ped_graph.specs.Dependences.{EdgesOfPairs, AreEdges};
+ghost use Rattle.ped_bodies.specs.ped_edges.specs.Edges.{Edge};
+ghost use Rattle.ped_bodies.specs.ped_store.specs.Stores.{Store};
+ghost use Rattle.ped_bodies.specs.ped_store.specs.Cells.{Cell};
+ghost use Rattle.ped_bodies.specs.ped_store.specs.Acts.{Turn, Act};
+ghost use Rattle.ped_bodies.specs.ped_store.specs.Races.{Access, conflict};
+ghost use Rattle.ped_bodies.specs.ped_laws.specs.Acts.Conflicts.{blocks_conflict_outside};
+ghost use Rattle.ped_bodies.specs.ped_laws.specs.Acts.Orders.{IsIn};
+ghost use Rattle.ped_bodies.specs.ped_laws.specs.Conflicts.Directions.{share_a_loop};
+ghost use Rattle.ped_bodies.specs.ped_laws.specs.Conflicts.Sequence.{IsBeforeInText, AreSuccessive};
+ghost use Rattle.ped_bodies.specs.ped_laws.specs.Conflicts.Covered.{ComeInRun};
+ghost use Rattle.ped_bodies.specs.ped_steps.specs.Tidy.{is_written_in};
 ghost use Rattle.ped_loop_runs.specs.Carried.{MakeConflict, IsCoveredAt, IsCarriedInside, AreInTrips, IsCarriedByLoop, AreTrips, AllStoreWithin, NoneCarriedBy};
 
 use ped_bodies::{accesses_are_made, accesses_in_sequence};

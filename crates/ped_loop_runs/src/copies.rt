@@ -1,14 +1,14 @@
 //! Copies that belong to iterations inside an execution.
 
 ghost use Rattle.std.specs.Prelude.{◌≡◌, ℕ, List, false};
-ghost use Rattle.ped_bodies.specs.ped_steps.specs.ped_flow.specs.ped_tree.specs.Tree.{StmtTrees, ProgramTree};
-ghost use Rattle.ped_bodies.specs.ped_steps.specs.ped_laws.specs.ped_store.specs.Cells.{Cell};
-ghost use Rattle.ped_bodies.specs.ped_steps.specs.ped_laws.specs.ped_store.specs.Stores.{Undefined, Store, store_at_start};
-ghost use Rattle.ped_bodies.specs.ped_steps.specs.ped_laws.specs.ped_store.specs.Acts.{Act};
-ghost use Rattle.ped_bodies.specs.ped_steps.specs.ped_laws.specs.Acts.Sets.{needs};
-ghost use Rattle.ped_bodies.specs.ped_steps.specs.ped_laws.specs.Runs.Replaying.{finish_of, has_fault};
-ghost use Rattle.ped_bodies.specs.ped_steps.specs.ped_laws.specs.ped_eval.specs.Scopes.{Setting, Scope};
-ghost use Rattle.ped_bodies.specs.ped_steps.specs.ped_laws.specs.ped_eval.specs.Runs.{run_all};
+ghost use Rattle.ped_bodies.specs.ped_flow.specs.ped_tree.specs.Tree.{StmtTrees, ProgramTree};
+ghost use Rattle.ped_bodies.specs.ped_store.specs.Cells.{Cell};
+ghost use Rattle.ped_bodies.specs.ped_store.specs.Stores.{Undefined, Store, store_at_start};
+ghost use Rattle.ped_bodies.specs.ped_store.specs.Acts.{Act};
+ghost use Rattle.ped_bodies.specs.ped_laws.specs.Acts.Sets.{needs};
+ghost use Rattle.ped_bodies.specs.ped_laws.specs.Runs.Replaying.{finish_of, has_fault};
+ghost use Rattle.ped_bodies.specs.ped_eval.specs.Scopes.{Setting, Scope};
+ghost use Rattle.ped_bodies.specs.ped_eval.specs.Runs.{run_all};
 ghost use Rattle.ped_loop_runs.specs.Copies.{IsTheirs};
 ghost use Rattle.ped_loop_runs.specs.Executions.{IsCopyInside, IsExecuted};
 

@@ -1,9 +1,9 @@
 //! One loop in place of another.
 
 ghost use Rattle.std.specs.Prelude.{ℕ, Bool};
-ghost use Rattle.ped_loop_runs.specs.ped_bodies.specs.ped_steps.specs.ped_laws.specs.ped_flow.specs.ped_tree.specs.Tree.{Head, ProgramTree};
-ghost use Rattle.ped_loop_runs.specs.ped_bodies.specs.ped_steps.specs.ped_laws.specs.ped_flow.specs.Questions.{LoopOf};
-ghost use Rattle.ped_loop_runs.specs.ped_bodies.specs.ped_steps.specs.Runs.Meaning.{Keeps};
+ghost use Rattle.ped_bodies.specs.ped_flow.specs.ped_tree.specs.Tree.{Head, ProgramTree};
+ghost use Rattle.ped_bodies.specs.ped_flow.specs.Questions.{LoopOf};
+ghost use Rattle.ped_bodies.specs.ped_steps.specs.Runs.Meaning.{Keeps};
 ghost use Rattle.ped_loop_runs.specs.OneForOne.{IsOneForOne};
 
 use ped_bodies::{accesses_are_made, accesses_in_sequence};

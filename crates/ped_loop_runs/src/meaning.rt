@@ -1,9 +1,9 @@
 //! What a step shows, and the meaning that it keeps.
 
 ghost use Rattle.std.specs.Prelude.{Bool, ◌||◌, not};
-ghost use Rattle.ped_bodies.specs.ped_steps.specs.ped_laws.specs.Acts.Sets.{wants};
-ghost use Rattle.ped_bodies.specs.ped_steps.specs.ped_laws.specs.ped_store.specs.Cells.{Cell};
-ghost use Rattle.ped_bodies.specs.ped_steps.specs.ped_flow.specs.ped_tree.specs.Tree.{StmtTrees, ProgramTree};
+ghost use Rattle.ped_bodies.specs.ped_laws.specs.Acts.Sets.{wants};
+ghost use Rattle.ped_bodies.specs.ped_store.specs.Cells.{Cell};
+ghost use Rattle.ped_bodies.specs.ped_flow.specs.ped_tree.specs.Tree.{StmtTrees, ProgramTree};
 ghost use Rattle.ped_bodies.specs.ped_steps.specs.Runs.Gaps.{Gap};
 ghost use Rattle.ped_bodies.specs.ped_steps.specs.Runs.Meaning.{Keeps};
 ghost use Rattle.ped_loop_runs.specs.Meaning.{SuitEnds, IsExchange};

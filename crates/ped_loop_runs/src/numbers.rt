@@ -1,9 +1,9 @@
 //! The numbers under which the statements of a new program are counted.
 
 ghost use Rattle.std.specs.Prelude.{◌≡◌, ℕ, List};
-ghost use Rattle.ped_bodies.specs.ped_steps.specs.ped_flow.specs.ped_tree.specs.Tree.{ProgramTree};
-ghost use Rattle.ped_bodies.specs.ped_steps.specs.ped_laws.specs.Acts.Orders.{IsIn};
-ghost use Rattle.ped_bodies.specs.ped_steps.specs.ped_laws.specs.ped_eval.specs.Outcomes.{setting_of};
+ghost use Rattle.ped_bodies.specs.ped_flow.specs.ped_tree.specs.Tree.{ProgramTree};
+ghost use Rattle.ped_bodies.specs.ped_laws.specs.Acts.Orders.{IsIn};
+ghost use Rattle.ped_bodies.specs.ped_eval.specs.Outcomes.{setting_of};
 ghost use Rattle.ped_bodies.specs.ped_steps.specs.Runs.Renumbering.{IsToldBack, renumbered};
 ghost use Rattle.ped_loop_runs.specs.Numbers.{counted_by, told_by, AreApart, kept_numbers, FitInGap};
 ghost use Rattle.ped_loop_runs.specs.Pasting.{CountAlike};

@@ -2,25 +2,25 @@
 
 ghost use Rattle.std.specs.Prelude.{◌≡◌, ◌<◌, ◌⊎◌, ℕ, ℤ, ◌+◌, List, ◌∷◌, true, false, None};
 ghost use Rattle.std.specs.Str.Lines.{lines};
-ghost use Rattle.ped_loop_runs.specs.ped_bodies.specs.ped_steps.specs.ped_laws.specs.ped_flow.specs.ped_base.specs.Lists.{is_among};
-ghost use Rattle.ped_loop_runs.specs.ped_bodies.specs.ped_steps.specs.ped_laws.specs.ped_flow.specs.ped_affine.specs.Ranges.{bound_interval};
-ghost use Rattle.ped_loop_runs.specs.ped_bodies.specs.ped_steps.specs.ped_laws.specs.ped_flow.specs.ped_tree.specs.Tree.{ExprTree, Add, Sub, ProgramTree};
-ghost use Rattle.ped_loop_runs.specs.ped_bodies.specs.ped_steps.specs.ped_laws.specs.ped_flow.specs.ped_tree.specs.NamesIn.{expr_names};
-ghost use Rattle.ped_loop_runs.specs.ped_bodies.specs.ped_steps.specs.ped_laws.specs.ped_flow.specs.ped_tree.specs.Nests.{indices_of};
-ghost use Rattle.ped_loop_runs.specs.ped_bodies.specs.ped_steps.specs.ped_laws.specs.ped_flow.specs.ped_tree.specs.Numbering.{statements_count};
-ghost use Rattle.ped_loop_runs.specs.ped_bodies.specs.ped_steps.specs.ped_laws.specs.ped_flow.specs.ped_tree.specs.Constants.ConstantExpressions.{constant_value};
-ghost use Rattle.ped_loop_runs.specs.ped_bodies.specs.ped_steps.specs.ped_laws.specs.ped_flow.specs.ped_tree.specs.Grammar.Fits.{expr_fits};
-ghost use Rattle.ped_loop_runs.specs.ped_bodies.specs.ped_steps.specs.ped_laws.specs.ped_flow.specs.PlainBounds.{Values, nest_round, setting_round, IsPlain};
-ghost use Rattle.ped_loop_runs.specs.ped_bodies.specs.ped_steps.specs.ped_laws.specs.ped_flow.specs.Questions.{LoopOf};
-ghost use Rattle.ped_loop_runs.specs.ped_bodies.specs.ped_steps.specs.ped_laws.specs.ped_graph.specs.ped_symbols.specs.NameRefusals.{IsValid};
-ghost use Rattle.ped_loop_runs.specs.ped_bodies.specs.ped_steps.specs.ped_laws.specs.ped_store.specs.Stores.{store_at_start};
-ghost use Rattle.ped_loop_runs.specs.ped_bodies.specs.ped_steps.specs.ped_laws.specs.ped_store.specs.Acts.{Act};
-ghost use Rattle.ped_loop_runs.specs.ped_bodies.specs.ped_steps.specs.ped_laws.specs.ped_eval.specs.Scopes.{Frame, Scope};
-ghost use Rattle.ped_loop_runs.specs.ped_bodies.specs.ped_steps.specs.ped_laws.specs.ped_eval.specs.Outcomes.{setting_of};
-ghost use Rattle.ped_loop_runs.specs.ped_bodies.specs.ped_steps.specs.ped_laws.specs.Acts.Fitting.{store_after};
-ghost use Rattle.ped_loop_runs.specs.ped_bodies.specs.ped_steps.specs.ped_laws.specs.FlowRuns.Entries.{IsEntry};
-ghost use Rattle.ped_loop_runs.specs.ped_bodies.specs.ped_steps.specs.ped_laws.specs.Plain.PlainValues.{around_loop};
-ghost use Rattle.ped_loop_runs.specs.ped_bodies.specs.ped_steps.specs.ped_laws.specs.Plain.Executions.{IsInside, IsPlaceWith, LieInRanges, HasValueDuring};
+ghost use Rattle.ped_bodies.specs.ped_flow.specs.ped_base.specs.Lists.{is_among};
+ghost use Rattle.ped_bodies.specs.ped_affine.specs.Ranges.{bound_interval};
+ghost use Rattle.ped_bodies.specs.ped_flow.specs.ped_tree.specs.Tree.{ExprTree, Add, Sub, ProgramTree};
+ghost use Rattle.ped_bodies.specs.ped_flow.specs.ped_tree.specs.NamesIn.{expr_names};
+ghost use Rattle.ped_bodies.specs.ped_flow.specs.ped_tree.specs.Nests.{indices_of};
+ghost use Rattle.ped_bodies.specs.ped_flow.specs.ped_tree.specs.Numbering.{statements_count};
+ghost use Rattle.ped_bodies.specs.ped_flow.specs.ped_tree.specs.Constants.ConstantExpressions.{constant_value};
+ghost use Rattle.ped_bodies.specs.ped_flow.specs.ped_tree.specs.Grammar.Fits.{expr_fits};
+ghost use Rattle.ped_bodies.specs.ped_flow.specs.PlainBounds.{Values, nest_round, setting_round, IsPlain};
+ghost use Rattle.ped_bodies.specs.ped_flow.specs.Questions.{LoopOf};
+ghost use Rattle.ped_bodies.specs.ped_symbols.specs.NameRefusals.{IsValid};
+ghost use Rattle.ped_bodies.specs.ped_store.specs.Stores.{store_at_start};
+ghost use Rattle.ped_bodies.specs.ped_store.specs.Acts.{Act};
+ghost use Rattle.ped_bodies.specs.ped_eval.specs.Scopes.{Frame, Scope};
+ghost use Rattle.ped_bodies.specs.ped_eval.specs.Outcomes.{setting_of};
+ghost use Rattle.ped_bodies.specs.ped_laws.specs.Acts.Fitting.{store_after};
+ghost use Rattle.ped_bodies.specs.ped_laws.specs.FlowRuns.Entries.{IsEntry};
+ghost use Rattle.ped_bodies.specs.ped_laws.specs.Plain.PlainValues.{around_loop};
+ghost use Rattle.ped_bodies.specs.ped_laws.specs.Plain.Executions.{IsInside, IsPlaceWith, LieInRanges, HasValueDuring};
 ghost use Rattle.ped_loop_runs.specs.OneOut.{IsNextIn};
 
 /// A plain bound of a DO that is in another one is a plain bound of that one, too, where it doesn't name its variable:

@@ -1,16 +1,16 @@
 //! Cut and paste where names enter or leave PARALLEL DO loops.
 
 ghost use Rattle.std.specs.Prelude.{◌≡◌, ℕ, List, [], ◌++◌, Bool};
-ghost use Rattle.ped_bodies.specs.ped_steps.specs.ped_flow.specs.ped_tree.specs.Tree.{StmtTrees, ProgramTree};
-ghost use Rattle.ped_bodies.specs.ped_steps.specs.ped_flow.specs.ped_tree.specs.Numbering.{statements_count};
-ghost use Rattle.ped_bodies.specs.ped_steps.specs.ped_laws.specs.ped_store.specs.Cells.{Cell};
-ghost use Rattle.ped_bodies.specs.ped_steps.specs.ped_laws.specs.ped_store.specs.Stores.{Store};
-ghost use Rattle.ped_bodies.specs.ped_steps.specs.ped_laws.specs.ped_store.specs.Acts.{Act};
-ghost use Rattle.ped_bodies.specs.ped_steps.specs.ped_laws.specs.Acts.Pieces.{Part, StandsFor, old_parts, new_parts};
-ghost use Rattle.ped_bodies.specs.ped_steps.specs.ped_laws.specs.ped_eval.specs.Scopes.{Setting, Scope};
-ghost use Rattle.ped_bodies.specs.ped_steps.specs.ped_laws.specs.ped_eval.specs.Runs.{Run, run_all};
-ghost use Rattle.ped_bodies.specs.ped_steps.specs.ped_laws.specs.ped_eval.specs.Outcomes.{Ends};
-ghost use Rattle.ped_bodies.specs.ped_steps.specs.ped_laws.specs.Runs.Replaying.{finish_of, Replays};
+ghost use Rattle.ped_bodies.specs.ped_flow.specs.ped_tree.specs.Tree.{StmtTrees, ProgramTree};
+ghost use Rattle.ped_bodies.specs.ped_flow.specs.ped_tree.specs.Numbering.{statements_count};
+ghost use Rattle.ped_bodies.specs.ped_store.specs.Cells.{Cell};
+ghost use Rattle.ped_bodies.specs.ped_store.specs.Stores.{Store};
+ghost use Rattle.ped_bodies.specs.ped_store.specs.Acts.{Act};
+ghost use Rattle.ped_bodies.specs.ped_laws.specs.Acts.Pieces.{Part, StandsFor, old_parts, new_parts};
+ghost use Rattle.ped_bodies.specs.ped_eval.specs.Scopes.{Setting, Scope};
+ghost use Rattle.ped_bodies.specs.ped_eval.specs.Runs.{Run, run_all};
+ghost use Rattle.ped_bodies.specs.ped_eval.specs.Outcomes.{Ends};
+ghost use Rattle.ped_bodies.specs.ped_laws.specs.Runs.Replaying.{finish_of, Replays};
 ghost use Rattle.ped_bodies.specs.ped_steps.specs.Runs.Gaps.{Gap, number_at};
 ghost use Rattle.ped_bodies.specs.ped_steps.specs.Runs.Meaning.{Keeps};
 ghost use Rattle.ped_loop_runs.specs.Meaning.{SuitEnds};

@@ -1,13 +1,13 @@
 //! Programs without C$PED REJECT. The functions do nothing; their contracts are the laws.
 
 ghost use Rattle.std.specs.Prelude.{◌≡◌, ℕ, List, Bool, false};
-ghost use Rattle.ped_loop_runs.specs.ped_bodies.specs.ped_steps.specs.ped_flow.specs.ped_tree.specs.Tree.{StmtTree, StmtTrees, ProgramTree};
-ghost use Rattle.ped_loop_runs.specs.ped_bodies.specs.ped_steps.specs.ped_laws.specs.ped_graph.specs.Dependences.{EdgesOfPairs, AreEdges};
-ghost use Rattle.ped_loop_runs.specs.ped_bodies.specs.ped_steps.specs.ped_laws.specs.ped_graph.specs.ped_edges.specs.Edges.{Edge, rejected};
-ghost use Rattle.ped_loop_runs.specs.ped_bodies.specs.ped_steps.specs.ped_laws.specs.Acts.Orders.{IsIn};
-ghost use Rattle.ped_loop_runs.specs.ped_bodies.specs.ped_steps.specs.ped_refs.specs.References.{Reference, references};
-ghost use Rattle.ped_loop_runs.specs.ped_bodies.specs.ped_steps.specs.Replacing.{program_with};
-ghost use Rattle.ped_loop_runs.specs.ped_bodies.specs.ped_steps.specs.Runs.Gaps.{Gap, filled};
+ghost use Rattle.ped_bodies.specs.ped_flow.specs.ped_tree.specs.Tree.{StmtTree, StmtTrees, ProgramTree};
+ghost use Rattle.ped_bodies.specs.ped_graph.specs.Dependences.{EdgesOfPairs, AreEdges};
+ghost use Rattle.ped_bodies.specs.ped_edges.specs.Edges.{Edge, rejected};
+ghost use Rattle.ped_bodies.specs.ped_laws.specs.Acts.Orders.{IsIn};
+ghost use Rattle.ped_bodies.specs.ped_refs.specs.References.{Reference, references};
+ghost use Rattle.ped_bodies.specs.ped_steps.specs.Replacing.{program_with};
+ghost use Rattle.ped_bodies.specs.ped_steps.specs.Runs.Gaps.{Gap, filled};
 ghost use Rattle.ped_loop_runs.specs.Unrejected.{has_rejection, some_rejection};
 
 /// No dependence of a program without C$PED REJECT is marked as rejected (ParaScope): so what forbids a step there, no

@@ -1,12 +1,12 @@
 //! Tidy programs in which statements are replaced by others. The functions do nothing; their contracts are the laws.
 
 ghost use Rattle.std.specs.Prelude.{◌≡◌, ℕ, List, Bool, false, not, ◌⊎◌};
-ghost use Rattle.ped_loop_runs.specs.ped_bodies.specs.ped_steps.specs.ped_flow.specs.ped_base.specs.Lists.{is_among};
-ghost use Rattle.ped_loop_runs.specs.ped_bodies.specs.ped_steps.specs.ped_flow.specs.ped_tree.specs.Tree.{Head, StmtTrees, Do, ProgramTree};
-ghost use Rattle.ped_loop_runs.specs.ped_bodies.specs.ped_steps.specs.ped_flow.specs.ped_tree.specs.NamesIn.{loop_variables};
-ghost use Rattle.ped_loop_runs.specs.ped_bodies.specs.ped_steps.specs.ped_flow.specs.Questions.{IsShownBehind};
-ghost use Rattle.ped_loop_runs.specs.ped_bodies.specs.ped_steps.specs.ped_flow.specs.Summaries.{sum_of};
-ghost use Rattle.ped_loop_runs.specs.ped_bodies.specs.ped_steps.specs.Tidy.{IsTidy};
+ghost use Rattle.ped_bodies.specs.ped_flow.specs.ped_base.specs.Lists.{is_among};
+ghost use Rattle.ped_bodies.specs.ped_flow.specs.ped_tree.specs.Tree.{Head, StmtTrees, Do, ProgramTree};
+ghost use Rattle.ped_bodies.specs.ped_flow.specs.ped_tree.specs.NamesIn.{loop_variables};
+ghost use Rattle.ped_bodies.specs.ped_flow.specs.Questions.{IsShownBehind};
+ghost use Rattle.ped_bodies.specs.ped_flow.specs.Summaries.{sum_of};
+ghost use Rattle.ped_bodies.specs.ped_steps.specs.Tidy.{IsTidy};
 ghost use Rattle.ped_loop_runs.specs.Unrejected.{some_rejection, IsTrusted};
 ghost use Rattle.ped_loop_runs.specs.Exchanges.{Exchange, old_of, loop_of, IsExchanged, IsStaying, IsNew, KeepsVariable, LeavesAlone};
 

@@ -1,19 +1,19 @@
 -- What each step comes to is determined, whatever it keeps of the meaning.
 use Rattle.std.proofs.Common.{ℕ, ◌+◌, List, true, false, refl}
-use Rattle.ped_scalar.specs.ped_rules.specs.ped_loop_runs.specs.ped_bodies.specs.ped_steps.specs.Causes.{none_forbids}
-use Rattle.ped_scalar.specs.ped_rules.specs.ped_loop_runs.specs.ped_bodies.specs.ped_steps.specs.Replacing.{all_kept}
-use Rattle.ped_scalar.specs.ped_rules.specs.ped_loop_runs.specs.ped_bodies.specs.ped_steps.proofs.OneCause.{one_cause}
-use Rattle.ped_scalar.specs.ped_rules.specs.Carried.{carried, crossing}
-use Rattle.ped_scalar.specs.ped_rules.specs.KeepMaps.{all_but}
-use Rattle.ped_scalar.specs.ped_rules.specs.Rules.{is_parallel, is_serial}
-use Rattle.ped_scalar.specs.ped_rules.specs.Lawful.{IsDetermined}
-use Rattle.ped_loops.specs.Flags.{flagged}
-use Rattle.ped_loops.specs.Paralleling.{StandsAgainstParallel, paralleling}
+use Rattle.ped_rules.specs.ped_steps.specs.Causes.{none_forbids}
+use Rattle.ped_rules.specs.ped_steps.specs.Replacing.{all_kept}
+use Rattle.ped_rules.specs.ped_steps.proofs.OneCause.{one_cause}
+use Rattle.ped_rules.specs.Carried.{carried, crossing}
+use Rattle.ped_rules.specs.KeepMaps.{all_but}
+use Rattle.ped_rules.specs.Rules.{is_parallel, is_serial}
+use Rattle.ped_rules.specs.Lawful.{IsDetermined}
+use Rattle.ped_rules.specs.Flags.{flagged}
+use Rattle.ped_rules.specs.Paralleling.{StandsAgainstParallel, paralleling}
 use Rattle.ped_loops.specs.Serialising.{StandsAgainstSerial, serialising}
 use Rattle.ped_loops.specs.Reversing.{reversed, StandsAgainstReversal, reversing}
 use Rattle.ped_loops.specs.Interchanging.{interchanged, StandsAgainstInterchange, interchanging}
 use Rattle.ped_loops.specs.Rejecting.{rejecting}
-use Rattle.ped_loops.proofs.FlagRules as flags
+use Rattle.ped_rules.proofs.HeadLaws.FlagRules as flags
 use Rattle.ped_loops.proofs.ReverseRules as reversal
 use Rattle.ped_loops.proofs.RejectRules as rejection
 use Rattle.ped_loops.proofs.InterchangeRules as interchange

@@ -1,22 +1,22 @@
 -- Two loops whose bounds are plain, and the inner ones free of the outer variable, have the same pairs of iterations in each other's place, in each execution.
 use Rattle.ped_base.specs.Lists.{is_among}
-use Rattle.ped_loops.proofs.OnlyBodies.{pair}
-use Rattle.ped_loops.proofs.SettledBounds.{ArePlaced, IsSettled, are_placed, fits, inner_fits, next}
+use Rattle.ped_rules.proofs.NestLaws.OnlyBodies.{pair}
+use Rattle.ped_rules.proofs.NestLaws.SettledBounds.{ArePlaced, IsSettled, are_placed, fits, inner_fits, next}
 use Rattle.ped_loops.proofs.SwappedBounds.{settled_trips}
-use Rattle.ped_loops.proofs.SwappedLoops.{HasSwappedTrips}
-use Rattle.ped_scalar.specs.ped_rules.specs.OnlyLoops.{change_only, only_loop}
-use Rattle.ped_scalar.specs.ped_rules.specs.ped_loop_runs.proofs.LoopLaws.OneOut.{plain_out}
-use Rattle.ped_scalar.specs.ped_rules.specs.ped_loop_runs.specs.Executions.{IsExecuted}
-use Rattle.ped_scalar.specs.ped_rules.specs.ped_loop_runs.specs.ped_bodies.specs.ped_steps.specs.Replacing.{alone}
-use Rattle.ped_scalar.specs.ped_rules.specs.ped_loop_runs.specs.ped_bodies.specs.ped_steps.specs.ped_flow.specs.PlainBounds.{IsPlain, nest_round}
-use Rattle.ped_scalar.specs.ped_rules.specs.ped_loop_runs.specs.ped_bodies.specs.ped_steps.specs.ped_flow.specs.Questions.{LoopOf}
-use Rattle.ped_scalar.specs.ped_rules.specs.ped_loop_runs.specs.ped_bodies.specs.ped_steps.specs.ped_laws.specs.Runs.Replaying.{finish_of, goes_on}
-use Rattle.ped_scalar.specs.ped_rules.specs.ped_loop_runs.specs.ped_bodies.specs.ped_steps.specs.ped_laws.specs.ped_eval.specs.Outcomes.{setting_of}
-use Rattle.ped_scalar.specs.ped_rules.specs.ped_loop_runs.specs.ped_bodies.specs.ped_steps.specs.ped_laws.specs.ped_eval.specs.Runs.{run}
-use Rattle.ped_scalar.specs.ped_rules.specs.ped_loop_runs.specs.ped_bodies.specs.ped_steps.specs.ped_laws.specs.ped_eval.specs.Scopes.{Scope}
-use Rattle.ped_scalar.specs.ped_rules.specs.ped_loop_runs.specs.ped_bodies.specs.ped_steps.specs.ped_laws.specs.ped_store.specs.Acts.{Act}
-use Rattle.ped_scalar.specs.ped_rules.specs.ped_loop_runs.specs.ped_bodies.specs.ped_steps.specs.ped_laws.specs.ped_store.specs.Stores.{Store, store_at_start}
-use Rattle.ped_scalar.specs.ped_rules.specs.ped_loop_runs.specs.ped_bodies.specs.ped_steps.specs.ped_symbols.specs.NameRefusals.{IsValid}
+use Rattle.ped_rules.proofs.NestLaws.WovenLoops.{HasSwappedTrips}
+use Rattle.ped_rules.specs.OnlyLoops.{change_only, only_loop}
+use Rattle.ped_rules.specs.ped_loop_runs.proofs.LoopLaws.OneOut.{plain_out}
+use Rattle.ped_rules.specs.ped_loop_runs.specs.Executions.{IsExecuted}
+use Rattle.ped_rules.specs.ped_steps.specs.Replacing.{alone}
+use Rattle.ped_rules.specs.ped_flow.specs.PlainBounds.{IsPlain, nest_round}
+use Rattle.ped_rules.specs.ped_flow.specs.Questions.{LoopOf}
+use Rattle.ped_rules.specs.ped_laws.specs.Runs.Replaying.{finish_of, goes_on}
+use Rattle.ped_rules.specs.ped_eval.specs.Outcomes.{setting_of}
+use Rattle.ped_rules.specs.ped_eval.specs.Runs.{run}
+use Rattle.ped_rules.specs.ped_eval.specs.Scopes.{Scope}
+use Rattle.ped_rules.specs.ped_store.specs.Acts.{Act}
+use Rattle.ped_rules.specs.ped_store.specs.Stores.{Store, store_at_start}
+use Rattle.ped_rules.specs.ped_symbols.specs.NameRefusals.{IsValid}
 use Rattle.ped_tree.specs.Grammar.Fits.{expr_fits}
 use Rattle.ped_tree.specs.NamesIn.{expr_names}
 use Rattle.ped_tree.specs.Nests.{indices_of}

@@ -4,49 +4,50 @@ use Rattle.std.proofs.lemmas.Bool.Decides.{Decides-int_eq}
 use Rattle.std.proofs.Common.{◌≡◌, ℕ, ℤ, pos, ◌+◌, List, [], ◌∷◌, ◌++◌, length, All, Bool, true, false, ◌||◌, ◌&&◌, unwrap_or, Option, Some, None, MatchOption, is_none, refl, sym, ap, ◌∙◌, subst, inl, inr}
 use Rattle.ped_base.specs.Lists.{has_some}
 use Rattle.ped_tree.specs.Tree.{ExprTree, Head, StmtTrees, Do, ProgramTree}
-use Rattle.ped_scalar.specs.ped_rules.specs.ped_loop_runs.specs.ped_bodies.specs.ped_steps.specs.ped_laws.proofs.ConflictLaws.CoveringRuns.{MakingLaw, SequenceLaw}
-use Rattle.ped_scalar.specs.ped_rules.specs.ped_loop_runs.specs.ped_bodies.specs.ped_steps.specs.ped_laws.specs.ped_eval.specs.Outcomes.{setting_of}
-use Rattle.ped_scalar.specs.ped_rules.specs.ped_loop_runs.specs.ped_bodies.specs.ped_steps.specs.ped_laws.specs.ped_graph.specs.Dependences.{AreEdges}
-use Rattle.ped_scalar.specs.ped_rules.specs.ped_loop_runs.specs.ped_bodies.specs.ped_steps.specs.ped_laws.specs.ped_graph.specs.ped_edges.specs.Edges.{Edge}
-use Rattle.ped_scalar.specs.ped_rules.specs.ped_loop_runs.specs.ped_bodies.specs.ped_steps.specs.ped_laws.specs.ped_graph.specs.Update.Fresh.{IsOneToOne}
-use Rattle.ped_scalar.specs.ped_rules.specs.ped_loop_runs.specs.ped_bodies.specs.ped_steps.specs.ped_laws.specs.Acts.Orders.{IsIn}
-use Rattle.ped_scalar.specs.ped_rules.specs.ped_loop_runs.specs.ped_bodies.specs.ped_steps.specs.ped_symbols.specs.Kinds.{kind_in}
-use Rattle.ped_scalar.specs.ped_rules.specs.ped_loop_runs.specs.ped_bodies.specs.ped_steps.specs.ped_symbols.specs.NameRefusals.{IsValid}
-use Rattle.ped_scalar.specs.ped_rules.specs.ped_loop_runs.specs.ped_bodies.specs.ped_steps.specs.ped_flow.specs.PlainBounds.{IsPlain, around_with, nest_round, setting_round}
-use Rattle.ped_scalar.specs.ped_rules.specs.ped_loop_runs.specs.ped_bodies.specs.ped_steps.specs.ped_flow.specs.Questions.{LoopOf}
-use Rattle.ped_scalar.specs.ped_rules.specs.ped_loop_runs.specs.ped_bodies.specs.ped_steps.specs.Causes.{NoRule}
-use Rattle.ped_scalar.specs.ped_rules.specs.ped_loop_runs.specs.ped_bodies.specs.ped_steps.specs.Replacing.{alone, program_with}
-use Rattle.ped_scalar.specs.ped_rules.specs.ped_loop_runs.specs.ped_bodies.specs.ped_steps.proofs.OneCause.{one_cause}
-use Rattle.ped_scalar.specs.ped_rules.specs.ped_loop_runs.specs.Unrejected.{IsTrusted}
-use Rattle.ped_scalar.specs.ped_rules.specs.Carried.{crossing, has_after}
-use Rattle.ped_scalar.specs.ped_rules.specs.KeepMaps.{all_but}
-use Rattle.ped_scalar.specs.ped_rules.specs.Lawful.{IsFaithful, IsLawful}
-use Rattle.ped_scalar.specs.ped_rules.specs.OnlyLoops.{change_only, only_loop, of_loop, either}
-use Rattle.ped_scalar.specs.ped_rules.specs.Rules.{HasUnplain, has_other_step, has_private, is_one, is_parallel, isnt_allowed, leaves}
-use Rattle.ped_scalar.specs.ped_rules.proofs.KeptNumbers.{but_one_to_one}
-use Rattle.ped_scalar.specs.ped_rules.specs.ped_loop_runs.specs.Carried.{is_carried_by}
-use Rattle.ped_loops.specs.Interchanging.{IsBoundOf, IsBoundOfEither, StandsAgainstInterchange, interchanged, interchanging, leaves_either}
+use Rattle.ped_rules.specs.ped_laws.proofs.ConflictLaws.CoveringRuns.{MakingLaw, SequenceLaw}
+use Rattle.ped_rules.specs.ped_eval.specs.Outcomes.{setting_of}
+use Rattle.ped_rules.specs.ped_graph.specs.Dependences.{AreEdges}
+use Rattle.ped_edges.specs.Edges.{Edge}
+use Rattle.ped_rules.specs.ped_graph.specs.Update.Fresh.{IsOneToOne}
+use Rattle.ped_rules.specs.ped_laws.specs.Acts.Orders.{IsIn}
+use Rattle.ped_rules.specs.ped_symbols.specs.Kinds.{kind_in}
+use Rattle.ped_rules.specs.ped_symbols.specs.NameRefusals.{IsValid}
+use Rattle.ped_rules.specs.ped_flow.specs.PlainBounds.{IsPlain, around_with, nest_round, setting_round}
+use Rattle.ped_rules.specs.ped_flow.specs.Questions.{LoopOf}
+use Rattle.ped_rules.specs.ped_steps.specs.Causes.{NoRule}
+use Rattle.ped_rules.specs.ped_steps.specs.Replacing.{alone, program_with}
+use Rattle.ped_rules.specs.ped_steps.proofs.OneCause.{one_cause}
+use Rattle.ped_rules.specs.ped_loop_runs.specs.Unrejected.{IsTrusted}
+use Rattle.ped_rules.specs.Carried.{crossing, has_after}
+use Rattle.ped_rules.specs.KeepMaps.{all_but}
+use Rattle.ped_rules.specs.Lawful.{IsFaithful, IsLawful}
+use Rattle.ped_rules.specs.OnlyLoops.{change_only, only_loop, of_loop, either}
+use Rattle.ped_rules.specs.Rules.{HasUnplain, has_other_step, has_private, is_one, is_parallel, isnt_allowed, leaves}
+use Rattle.ped_rules.proofs.KeptNumbers.{but_one_to_one}
+use Rattle.ped_rules.specs.ped_loop_runs.specs.Carried.{is_carried_by}
+use Rattle.ped_rules.specs.Rules.{IsBoundOf}
+use Rattle.ped_loops.specs.Interchanging.{IsBoundOfEither, StandsAgainstInterchange, interchanged, interchanging, leaves_either}
 use Rattle.ped_loops.specs.Shapes.{is_named, isnt_shaped, names_outer, new_inner, new_outer, shape_of}
-use Rattle.ped_scalar.specs.ped_rules.specs.ped_loop_runs.specs.ped_bodies.specs.ped_steps.specs.ped_affine.specs.PairViews.{heads_of}
-use Rattle.ped_scalar.specs.ped_rules.specs.ped_loop_runs.specs.ped_bodies.specs.ped_steps.specs.ped_affine.specs.Ranges as ranges
-use Rattle.ped_scalar.specs.ped_rules.specs.ped_loop_runs.specs.ped_bodies.specs.ped_steps.specs.ped_affine.specs.Ranges.{Around, Setting, interval_of}
-use Rattle.ped_scalar.specs.ped_rules.specs.ped_loop_runs.specs.ped_bodies.specs.ped_steps.specs.ped_laws.specs.ped_eval.specs.Loops.{increment}
+use Rattle.ped_rules.specs.ped_affine.specs.PairViews.{heads_of}
+use Rattle.ped_rules.specs.ped_affine.specs.Ranges as ranges
+use Rattle.ped_rules.specs.ped_affine.specs.Ranges.{Around, Setting, interval_of}
+use Rattle.ped_rules.specs.ped_eval.specs.Loops.{increment}
 use Rattle.ped_tree.specs.Constants.ConstantExpressions.{constant_value}
-use Rattle.ped_scalar.proofs.KeptByPrivatising.{least}
-use Rattle.ped_loops.proofs.FlagsLawful.{UnrejectedLaw}
+use Rattle.ped_rules.proofs.LeastNumbers.{least}
+use Rattle.ped_rules.proofs.HeadLaws.ParallelLawful.{UnrejectedLaw}
 use Rattle.ped_loops.proofs.FreeSwaps.{free_swap, interchanged_is}
-use Rattle.ped_loops.proofs.PlainAnswers.{same_around}
+use Rattle.ped_rules.proofs.HeadLaws.PlainAnswers.{same_around}
 use Rattle.ped_loops.proofs.ShapedNames.{shaped_names}
 use Rattle.ped_loops.proofs.ShapedSwaps.{shaped_swap}
 use Rattle.ped_loops.proofs.SwappedKeeps.{swapped_keeps}
 use Rattle.ped_loops.proofs.InterchangeRules as rules
-use Rattle.ped_loops.proofs.LoopSurroundings.{inner_variable_apart, variable_apart, variables_differ}
-use Rattle.ped_loops.proofs.OneHead.{TrustedLaw, ClearedLaw}
-use Rattle.ped_loops.proofs.OnlyBodies.{pair}
-use Rattle.ped_loops.proofs.PlainDecided.{OrNot, plain_decided}
-use Rattle.ped_loops.proofs.SwappedKinds.{swapped_kinds}
-use Rattle.ped_loops.proofs.SwappedLoops.{AreSwapped}
-use Rattle.ped_loops.proofs.SwappedTrust.{stays_trusted_swap}
+use Rattle.ped_rules.proofs.NestLaws.IndicesApart.{inner_variable_apart, variable_apart, variables_differ}
+use Rattle.ped_rules.proofs.HeadLaws.OneHead.{TrustedLaw, ClearedLaw}
+use Rattle.ped_rules.proofs.NestLaws.OnlyBodies.{pair}
+use Rattle.ped_rules.proofs.HeadLaws.PlainDecided.{OrNot, plain_decided}
+use Rattle.ped_rules.proofs.NestLaws.WovenKinds.{swapped_kinds}
+use Rattle.ped_rules.proofs.NestLaws.WovenLoops.{AreSwapped}
+use Rattle.ped_rules.proofs.NestLaws.WovenTrust.{stays_trusted_swap}
 use Rattle.ped_loops.proofs.UncrossedPairs.{uncrossed_pairs}
 
 or_neither : (a b : Bool) → a || b ≡ false → (a ≡ false) × (b ≡ false)

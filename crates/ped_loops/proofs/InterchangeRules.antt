@@ -1,23 +1,23 @@
 -- The rules that stand against `interchange`, one behind the other; and what is so where none stands.
 use Rattle.std.proofs.Common.{Bool, List, arith, false, inl, inr, refl, sym, true, ℕ, ◌+◌, ◌∙◌, ◌≡◌, ◌≤◌}
 use Rattle.std.proofs.lemmas.Bool.{false_from_ne_true}
-use Rattle.ped_loops.proofs.Contained.{contained}
+use Rattle.ped_rules.proofs.HeadLaws.Contained.{contained}
 use Rattle.ped_loops.specs.CodeInterchanging.{NoneUpTo}
 use Rattle.ped_loops.specs.Interchanging.{IsBoundOfEither, MakesInterchanged, StandsAgainstInterchange, is_tied, has_no_unit, interchanged, makes_far}
-use Rattle.ped_scalar.specs.ped_rules.proofs.OneLoop.{fails_there}
-use Rattle.ped_scalar.specs.ped_rules.proofs.Chains.{IsChain, chain_end, chain_link, first_here, first_later, none_at_end, none_later}
-use Rattle.ped_scalar.specs.ped_rules.proofs.Decided.{limit_not, limit_stands, limit_valid, some_loop}
-use Rattle.ped_scalar.specs.ped_rules.proofs.OneEach.{escape_one, limit_one, loop_one, no_loop_one, unplain_one}
-use Rattle.ped_scalar.specs.ped_rules.specs.Chains.{WhereLoop, also, no_rules}
-use Rattle.ped_scalar.specs.ped_rules.specs.KeepMaps.{all_but}
-use Rattle.ped_scalar.specs.ped_rules.specs.OnlyLoops.{either}
-use Rattle.ped_scalar.specs.ped_rules.specs.Rules.{WhereEscape, WhereLimit, WhereNoLoop, WhereUnplain, has_private, heads_round, is_parallel, isnt_perfect, setting_at}
-use Rattle.ped_scalar.specs.ped_rules.specs.ped_loop_runs.specs.ped_bodies.specs.ped_steps.specs.Causes.{IsFirstRule, NoRule, Rules}
-use Rattle.ped_scalar.specs.ped_rules.specs.ped_loop_runs.specs.ped_bodies.specs.ped_steps.specs.declared.rules.Rule.{Rule}
-use Rattle.ped_scalar.specs.ped_rules.specs.ped_loop_runs.specs.ped_bodies.specs.ped_steps.specs.declared.rules.Rule.TheVariants.{BoundNotPlain, BoundsShape, HasPrivate, IndexEscapes, Limit, NoLoop, NotPerfect, ParallelState, Range, StepShape}
-use Rattle.ped_scalar.specs.ped_rules.specs.ped_loop_runs.specs.ped_bodies.specs.ped_steps.specs.ped_flow.specs.Questions.{IsContained, IsLoop, LoopOf}
-use Rattle.ped_scalar.specs.ped_rules.specs.ped_loop_runs.specs.ped_bodies.specs.ped_steps.specs.ped_symbols.specs.Kinds.{table_of}
-use Rattle.ped_scalar.specs.ped_rules.specs.ped_loop_runs.specs.ped_bodies.specs.ped_steps.specs.ped_symbols.specs.NameRefusals.{IsValid}
+use Rattle.ped_rules.proofs.OneLoop.{fails_there}
+use Rattle.ped_rules.proofs.Chains.{IsChain, chain_end, chain_link, first_here, first_later, none_at_end, none_later}
+use Rattle.ped_rules.proofs.Decided.{limit_not, limit_stands, limit_valid, some_loop}
+use Rattle.ped_rules.proofs.OneEach.{escape_one, limit_one, loop_one, no_loop_one, unplain_one}
+use Rattle.ped_rules.specs.Chains.{WhereLoop, also, no_rules}
+use Rattle.ped_rules.specs.KeepMaps.{all_but}
+use Rattle.ped_rules.specs.OnlyLoops.{either}
+use Rattle.ped_rules.specs.Rules.{WhereEscape, WhereLimit, WhereNoLoop, WhereUnplain, has_private, heads_round, is_parallel, isnt_perfect, setting_at}
+use Rattle.ped_rules.specs.ped_steps.specs.Causes.{IsFirstRule, NoRule, Rules}
+use Rattle.ped_rules.specs.ped_steps.specs.declared.rules.Rule.{Rule}
+use Rattle.ped_rules.specs.ped_steps.specs.declared.rules.Rule.TheVariants.{BoundNotPlain, BoundsShape, HasPrivate, IndexEscapes, Limit, NoLoop, NotPerfect, ParallelState, Range, StepShape}
+use Rattle.ped_rules.specs.ped_flow.specs.Questions.{IsContained, IsLoop, LoopOf}
+use Rattle.ped_rules.specs.ped_symbols.specs.Kinds.{table_of}
+use Rattle.ped_rules.specs.ped_symbols.specs.NameRefusals.{IsValid}
 use Rattle.ped_tree.specs.Tree.{Head, ProgramTree, StmtTrees}
 
 -- rules from some place of a chain on, where none of those before stands

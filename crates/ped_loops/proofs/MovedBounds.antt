@@ -4,12 +4,12 @@ use Rattle.ped_base.specs.Arithmetic.Arithmetic.{difference_of, sum_of}
 use Rattle.ped_base.specs.Lists.{is_among, is_same_text}
 use Rattle.ped_base.specs.declared.arithmetic.faults.Fault.{Fault}
 use Rattle.ped_loops.specs.Shapes.{Shape, difference, free, is_named, is_variable, is_with, itself, moved_bound, shape_of, shape_or_free, shaped, sum, turned}
-use Rattle.ped_scalar.specs.ped_rules.specs.ped_loop_runs.proofs.LoopLaws.OneOut.{difference_sides, plain_out, sum_sides}
-use Rattle.ped_scalar.specs.ped_rules.specs.ped_loop_runs.specs.OneOut.{IsNextIn}
-use Rattle.ped_scalar.specs.ped_rules.specs.ped_loop_runs.specs.ped_bodies.specs.ped_steps.proofs.RunLaws.SubstitutedSums.{by_shape}
-use Rattle.ped_scalar.specs.ped_rules.specs.ped_loop_runs.specs.ped_bodies.specs.ped_steps.specs.ped_flow.specs.PlainBounds.{IsPlain, IsPlainlyBuilt, Values}
-use Rattle.ped_scalar.specs.ped_rules.specs.ped_loop_runs.specs.ped_bodies.specs.ped_steps.specs.ped_flow.specs.Questions.{LoopOf}
-use Rattle.ped_scalar.specs.ped_rules.specs.ped_loop_runs.specs.ped_bodies.specs.ped_steps.specs.ped_sums.specs.Sums.{added, is_zero, literal, literal_or, literal_value, minus_of, of_both, plus_of, small, subtracted}
+use Rattle.ped_rules.specs.ped_loop_runs.proofs.LoopLaws.OneOut.{difference_sides, plain_out, sum_sides}
+use Rattle.ped_rules.specs.ped_loop_runs.specs.OneOut.{IsNextIn}
+use Rattle.ped_rules.specs.ped_steps.proofs.RunLaws.SubstitutedSums.{by_shape}
+use Rattle.ped_rules.specs.ped_flow.specs.PlainBounds.{IsPlain, IsPlainlyBuilt, Values}
+use Rattle.ped_rules.specs.ped_flow.specs.Questions.{LoopOf}
+use Rattle.ped_sums.specs.Sums.{added, is_zero, literal, literal_or, literal_value, minus_of, of_both, plus_of, small, subtracted}
 use Rattle.ped_tree.specs.Constants.ConstantExpressions.{binary_value, constant_value}
 use Rattle.ped_tree.specs.Constants.NamedConstants.{value_named}
 use Rattle.ped_tree.specs.Grammar.Fits.{expr_fits}

@@ -14,18 +14,18 @@ use Rattle.ped_tree.specs.Grammar.LimitNumbers.{most_loops_nested, most_blocks_n
 use Rattle.ped_tree.specs.Grammar.Words.{is_name}
 use Rattle.ped_tree.specs.Grammar.Fits.{decls_fit, Surroundings, moved, in_if, in_loop, is_within, private_fits, expr_fits, cond_fits, stmt_fits, stmts_fit, begins_with_statement, at_body, fits}
 use Rattle.ped_tree.specs.Grammar.Refusal.{Finding, RealName, DeclaredTwice, NotConstant, RankDiffers, BoundsEmpty, StorageLimit, refused_if}
-use Rattle.ped_scalar.specs.ped_rules.specs.ped_loop_runs.specs.ped_bodies.specs.ped_steps.specs.ped_refs.specs.References.{Reference, numbered_accesses, references, statement_references, statements_references, is_pair, pair_count}
-use Rattle.ped_scalar.specs.ped_rules.specs.ped_loop_runs.specs.ped_bodies.specs.ped_steps.specs.ped_refs.specs.PairLimit.{references_until, is_within_pair_limit}
-use Rattle.ped_scalar.specs.ped_rules.specs.ped_loop_runs.specs.ped_bodies.specs.ped_steps.specs.ped_symbols.specs.declared.uses.Role.TheVariants.{Rejected, Index}
-use Rattle.ped_scalar.specs.ped_rules.specs.ped_loop_runs.specs.ped_bodies.specs.ped_steps.specs.ped_symbols.specs.declared.uses.Use.{Use}
-use Rattle.ped_scalar.specs.ped_rules.specs.ped_loop_runs.specs.ped_bodies.specs.ped_steps.specs.ped_symbols.specs.Uses.{used_as, expr_uses}
-use Rattle.ped_scalar.specs.ped_rules.specs.ped_loop_runs.specs.ped_bodies.specs.ped_steps.specs.ped_symbols.specs.Sites.{Site, declaration, statement, private_names, private_site, stmt_sites, stmts_sites, decl_sites, program_sites, site_uses}
-use Rattle.ped_scalar.specs.ped_rules.specs.ped_loop_runs.specs.ped_bodies.specs.ped_steps.specs.ped_symbols.specs.Declarations.{Declared, declared_in, is_real, is_constant, is_program}
-use Rattle.ped_scalar.specs.ped_rules.specs.ped_loop_runs.specs.ped_bodies.specs.ped_steps.specs.ped_symbols.specs.Values.{stmt_fails, site_fails, site_is_empty}
-use Rattle.ped_scalar.specs.ped_rules.specs.ped_loop_runs.specs.ped_bodies.specs.ped_steps.specs.ped_symbols.specs.StorageLimits.{has_many_pairs}
-use Rattle.ped_scalar.specs.ped_rules.specs.ped_loop_runs.specs.ped_bodies.specs.ped_steps.specs.ped_symbols.specs.NameRefusals.{uses_real, uses_constant, uses_program, dimensions_intrinsic, uses_other_rank, has_twice, Before, behind_site, is_declared_twice, at_site, next_line, at_first, at_sites, IsValid}
-use Rattle.ped_scalar.specs.ped_rules.specs.ped_loop_runs.specs.ped_bodies.specs.ped_steps.specs.Replacing.{alone, followed, replaced, all_replaced}
-use Rattle.ped_scalar.specs.ped_rules.specs.OnlyLoops.{on_loop}
+use Rattle.ped_refs.specs.References.{Reference, numbered_accesses, references, statement_references, statements_references, is_pair, pair_count}
+use Rattle.ped_refs.specs.PairLimit.{references_until, is_within_pair_limit}
+use Rattle.ped_rules.specs.ped_symbols.specs.declared.uses.Role.TheVariants.{Rejected, Index}
+use Rattle.ped_rules.specs.ped_symbols.specs.declared.uses.Use.{Use}
+use Rattle.ped_rules.specs.ped_symbols.specs.Uses.{used_as, expr_uses}
+use Rattle.ped_rules.specs.ped_symbols.specs.Sites.{Site, declaration, statement, private_names, private_site, stmt_sites, stmts_sites, decl_sites, program_sites, site_uses}
+use Rattle.ped_rules.specs.ped_symbols.specs.Declarations.{Declared, declared_in, is_real, is_constant, is_program}
+use Rattle.ped_rules.specs.ped_symbols.specs.Values.{stmt_fails, site_fails, site_is_empty}
+use Rattle.ped_rules.specs.ped_symbols.specs.StorageLimits.{has_many_pairs}
+use Rattle.ped_rules.specs.ped_symbols.specs.NameRefusals.{uses_real, uses_constant, uses_program, dimensions_intrinsic, uses_other_rank, has_twice, Before, behind_site, is_declared_twice, at_site, next_line, at_first, at_sites, IsValid}
+use Rattle.ped_rules.specs.ped_steps.specs.Replacing.{alone, followed, replaced, all_replaced}
+use Rattle.ped_rules.specs.OnlyLoops.{on_loop}
 
 module _ (x : List ℕ) (sought : ℕ) where
   -- the names with this one behind them, where it isn't among them

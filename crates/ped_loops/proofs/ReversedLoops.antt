@@ -1,27 +1,27 @@
 -- A DO whose bounds are exchanged and whose increment, 1 or -1, is negated: it has the same iterations, from the last to the first.
 use Rattle.std.proofs.Common.{◌≡◌, ◌⊎◌, ℕ, suc, ◌+◌, ◌-◌, ◌≤◌, ℤ, pos, negsuc, neg_ℤ, ◌+ℤ◌, ◌*ℤ◌, List, [], ◌∷◌, ◌++◌, Bool, true, false, ◌||◌, Option, Some, Ok, refl, sym, ap, ◌∙◌, subst, inl, inr, arith, int_eq, unwrap_or}
 use Rattle.std.proofs.lemmas.Bool.Decides.{Decides-int_eq}
-use Rattle.ped_scalar.specs.ped_rules.specs.ped_loop_runs.specs.ped_bodies.specs.ped_steps.specs.ped_sums.specs.Sums.{literal}
+use Rattle.ped_sums.specs.Sums.{literal}
 use Rattle.ped_tree.specs.Constants.ConstantExpressions.{constant_value}
 use Rattle.ped_tree.specs.Tree.{ExprTree, Head, StmtTrees}
-use Rattle.ped_scalar.specs.ped_rules.specs.ped_loop_runs.specs.ped_bodies.specs.ped_steps.specs.ped_laws.specs.ped_store.specs.Acts.{reads, Touch}
-use Rattle.ped_scalar.specs.ped_rules.specs.ped_loop_runs.specs.ped_bodies.specs.ped_steps.specs.ped_laws.specs.ped_store.specs.Cells.{Cell}
-use Rattle.ped_scalar.specs.ped_rules.specs.ped_loop_runs.specs.ped_bodies.specs.ped_steps.specs.ped_laws.specs.ped_store.specs.Stores.{Content, Store}
-use Rattle.ped_scalar.specs.ped_rules.specs.ped_loop_runs.specs.ped_bodies.specs.ped_steps.specs.ped_laws.specs.Acts.Orders.{IsIn}
-use Rattle.ped_scalar.specs.ped_rules.specs.ped_loop_runs.specs.ped_bodies.specs.ped_steps.specs.ped_laws.proofs.ActLaws.Lists.{in_left, in_right, in_parts}
-use Rattle.ped_scalar.specs.ped_rules.specs.ped_loop_runs.specs.ped_bodies.specs.ped_steps.specs.ped_laws.specs.Runs.Seeing.{ComesTo}
-use Rattle.ped_scalar.specs.ped_rules.specs.ped_loop_runs.specs.ped_bodies.specs.ped_steps.specs.ped_laws.proofs.RunLaws.Sight.{holds_append, value_told}
-use Rattle.ped_scalar.specs.ped_rules.specs.ped_loop_runs.specs.ped_bodies.specs.ped_steps.specs.ped_eval.specs.Evaluation.{Seen, cell_seen, index_seen, Evaluated, numbered}
-use Rattle.ped_scalar.specs.ped_rules.specs.ped_loop_runs.specs.ped_bodies.specs.ped_steps.specs.ped_eval.specs.Values.{value}
-use Rattle.ped_scalar.specs.ped_rules.specs.ped_loop_runs.specs.ped_bodies.specs.ped_steps.specs.ped_eval.specs.Scopes.{Setting, Scope, Names, names_in}
-use Rattle.ped_scalar.specs.ped_rules.specs.ped_loop_runs.specs.ped_bodies.specs.ped_steps.specs.ped_eval.specs.Loops.{Limits, limits, increment, iteration_count, Entered}
-use Rattle.ped_scalar.specs.ped_rules.specs.ped_loop_runs.specs.ped_bodies.specs.ped_steps.specs.ped_weaves.specs.Puttings.{ReadAmong}
-use Rattle.ped_scalar.specs.ped_rules.specs.ped_loop_runs.specs.ped_bodies.specs.Trips.{HasLimits, bounds_seen, entered_from}
-use Rattle.ped_scalar.specs.ped_rules.specs.ped_loop_runs.specs.ped_bodies.proofs.BodyLaws.LimitParts.{limits_come, limits_parted}
-use Rattle.ped_scalar.specs.ped_rules.specs.Rules.{is_unit}
-use Rattle.ped_scalar.specs.ped_rules.specs.ped_loop_runs.specs.OneForOne.{HasSameTrips}
+use Rattle.ped_rules.specs.ped_store.specs.Acts.{reads, Touch}
+use Rattle.ped_rules.specs.ped_store.specs.Cells.{Cell}
+use Rattle.ped_rules.specs.ped_store.specs.Stores.{Content, Store}
+use Rattle.ped_rules.specs.ped_laws.specs.Acts.Orders.{IsIn}
+use Rattle.ped_rules.specs.ped_laws.proofs.ActLaws.Lists.{in_left, in_right, in_parts}
+use Rattle.ped_rules.specs.ped_laws.specs.Runs.Seeing.{ComesTo}
+use Rattle.ped_rules.specs.ped_laws.proofs.RunLaws.Sight.{holds_append, value_told}
+use Rattle.ped_rules.specs.ped_eval.specs.Evaluation.{Seen, cell_seen, index_seen, Evaluated, numbered}
+use Rattle.ped_rules.specs.ped_eval.specs.Values.{value}
+use Rattle.ped_rules.specs.ped_eval.specs.Scopes.{Setting, Scope, Names, names_in}
+use Rattle.ped_rules.specs.ped_eval.specs.Loops.{Limits, limits, increment, iteration_count, Entered}
+use Rattle.ped_rules.specs.ped_weaves.specs.Puttings.{ReadAmong}
+use Rattle.ped_rules.specs.ped_bodies.specs.Trips.{HasLimits, bounds_seen, entered_from}
+use Rattle.ped_rules.specs.ped_bodies.proofs.BodyLaws.LimitParts.{limits_come, limits_parted}
+use Rattle.ped_rules.specs.Rules.{is_unit}
+use Rattle.ped_rules.specs.ped_loop_runs.specs.OneForOne.{HasSameTrips}
 use Rattle.ped_loops.specs.Reversing.{turned_head}
-use Rattle.ped_loops.proofs.TurnedCounts.{counts_down, values_down, values_up}
+use Rattle.ped_rules.proofs.HeadLaws.TurnedCounts.{counts_down, values_down, values_up}
 
 -- 1 and -1 alone
 pub unit_is : (m : ℤ) → is_unit m ≡ true → (m ≡ pos 1) ⊎ (m ≡ negsuc 0)

@@ -1,43 +1,43 @@
 -- Two loops with increments 1 whose bounds are plain, and the inner ones with shapes in the outer variable, have the same pairs of iterations in each other's place, in each execution.
 use Rattle.ped_base.specs.Lists.{is_among}
-use Rattle.ped_loops.proofs.LoopPairs as pairs
-use Rattle.ped_loops.proofs.LoopPairs.{inner_at, old_entered, row_at, rows_are, scope_at, store_at}
+use Rattle.ped_rules.proofs.NestLaws.LoopPairs as pairs
+use Rattle.ped_rules.proofs.NestLaws.LoopPairs.{inner_at, old_entered, row_at, rows_are, scope_at, store_at}
 use Rattle.ped_loops.proofs.MovedBounds.{HasPart, IsPlainThere, IsShaped, its_part, moved_built, shape_is, some_shape}
-use Rattle.ped_loops.proofs.OnlyBodies.{pair}
-use Rattle.ped_loops.proofs.PairOrders.{IsRegrouped}
-use Rattle.ped_loops.proofs.SettledBounds.{ArePlaced, IsSettled, are_placed, fits, inner_fits, its_inner, next, one_result}
+use Rattle.ped_rules.proofs.NestLaws.OnlyBodies.{pair}
+use Rattle.ped_rules.proofs.NestLaws.PairOrders.{IsRegrouped}
+use Rattle.ped_rules.proofs.NestLaws.SettledBounds.{ArePlaced, IsSettled, are_placed, fits, inner_fits, its_inner, next, one_result}
 use Rattle.ped_loops.proofs.ShapedPairs.{Way, bound_by, from_above, from_below, moved_by, way_below, way_column, way_later, way_row, ways_bounded, ways_lie, ways_outer, ways_regrouped, ways_value, ways_within, when_falling, when_rising}
 use Rattle.ped_loops.proofs.ShapedValues.{IsNearZero, IsSmall, IsWorth, all_joined, bound_near, greatest_worth, least_worth, limits_worth, near_bound, same_worth, small_joined}
 use Rattle.ped_loops.proofs.ShapedWays.{falling_small, falling_worth, moved_worth, old_worth, rising_small, rising_worth, way, worth_there}
-use Rattle.ped_loops.proofs.SwappedLoops.{HasSwappedTrips}
-use Rattle.ped_loops.proofs.TurnedCounts.{div_one}
+use Rattle.ped_rules.proofs.NestLaws.WovenLoops.{HasSwappedTrips}
+use Rattle.ped_rules.proofs.HeadLaws.TurnedCounts.{div_one}
 use Rattle.ped_loops.specs.Shapes.{Shape, asked_above, asked_below, asked_if, first_shape, is_turned, last_shape, new_inner, new_outer, shape_of}
-use Rattle.ped_scalar.specs.ped_rules.specs.OnlyLoops.{change_only, only_loop}
-use Rattle.ped_scalar.specs.ped_rules.specs.ped_loop_runs.specs.Bounds.{IsOfFixed}
-use Rattle.ped_scalar.specs.ped_rules.specs.ped_loop_runs.specs.Executions.{IsExecuted}
-use Rattle.ped_scalar.specs.ped_rules.specs.ped_loop_runs.specs.ped_bodies.proofs.BodyLaws.LimitParts.{limits_parted}
-use Rattle.ped_scalar.specs.ped_rules.specs.ped_loop_runs.specs.ped_bodies.specs.Trips.{HasLimits, entered_from}
-use Rattle.ped_scalar.specs.ped_rules.specs.ped_loop_runs.specs.ped_bodies.specs.ped_steps.proofs.RunLaws.ExpandedPlacesStand.{variable_scalar}
-use Rattle.ped_scalar.specs.ped_rules.specs.ped_loop_runs.specs.ped_bodies.specs.ped_steps.proofs.RunLaws.PrivatisedPrograms.{scalar_unvalued}
-use Rattle.ped_scalar.specs.ped_rules.specs.ped_loop_runs.specs.ped_bodies.specs.ped_steps.specs.Replacing.{alone}
-use Rattle.ped_scalar.specs.ped_rules.specs.ped_loop_runs.specs.ped_bodies.specs.ped_steps.specs.ped_affine.specs.Ranges.{interval_of}
-use Rattle.ped_scalar.specs.ped_rules.specs.ped_loop_runs.specs.ped_bodies.specs.ped_steps.specs.ped_eval.specs.ped_store.specs.Storage.{natural}
-use Rattle.ped_scalar.specs.ped_rules.specs.ped_loop_runs.specs.ped_bodies.specs.ped_steps.specs.ped_flow.specs.PlainBounds.{IsPlain, around_with, nest_round, setting_round}
-use Rattle.ped_scalar.specs.ped_rules.specs.ped_loop_runs.specs.ped_bodies.specs.ped_steps.specs.ped_flow.specs.Questions.{LoopOf}
-use Rattle.ped_scalar.specs.ped_rules.specs.ped_loop_runs.specs.ped_bodies.specs.ped_steps.specs.ped_laws.proofs.ActLaws.SameCells.{text_itself}
-use Rattle.ped_scalar.specs.ped_rules.specs.ped_loop_runs.specs.ped_bodies.specs.ped_steps.specs.ped_laws.specs.Acts.Orders.{IsIn}
-use Rattle.ped_scalar.specs.ped_rules.specs.ped_loop_runs.specs.ped_bodies.specs.ped_steps.specs.ped_laws.specs.Plain.Executions.{IsPlaceWith}
-use Rattle.ped_scalar.specs.ped_rules.specs.ped_loop_runs.specs.ped_bodies.specs.ped_steps.specs.ped_laws.specs.Runs.Replaying.{finish_of, goes_on}
-use Rattle.ped_scalar.specs.ped_rules.specs.ped_loop_runs.specs.ped_bodies.specs.ped_steps.specs.ped_laws.specs.ped_eval.specs.Evaluation.{cell_seen}
-use Rattle.ped_scalar.specs.ped_rules.specs.ped_loop_runs.specs.ped_bodies.specs.ped_steps.specs.ped_laws.specs.ped_eval.specs.Loops.{Entered, Limits, frame, increment, is_bound, iteration_count, limits, value_in}
-use Rattle.ped_scalar.specs.ped_rules.specs.ped_loop_runs.specs.ped_bodies.specs.ped_steps.specs.ped_laws.specs.ped_eval.specs.Outcomes.{setting_of}
-use Rattle.ped_scalar.specs.ped_rules.specs.ped_loop_runs.specs.ped_bodies.specs.ped_steps.specs.ped_laws.specs.ped_eval.specs.Runs.{run}
-use Rattle.ped_scalar.specs.ped_rules.specs.ped_loop_runs.specs.ped_bodies.specs.ped_steps.specs.ped_laws.specs.ped_eval.specs.Scopes.{Names, Scope, Setting, index_value, names_in}
-use Rattle.ped_scalar.specs.ped_rules.specs.ped_loop_runs.specs.ped_bodies.specs.ped_steps.specs.ped_laws.specs.ped_eval.specs.Values.{value}
-use Rattle.ped_scalar.specs.ped_rules.specs.ped_loop_runs.specs.ped_bodies.specs.ped_steps.specs.ped_laws.specs.ped_store.specs.Acts.{Act}
-use Rattle.ped_scalar.specs.ped_rules.specs.ped_loop_runs.specs.ped_bodies.specs.ped_steps.specs.ped_laws.specs.ped_store.specs.Cells.{Cell}
-use Rattle.ped_scalar.specs.ped_rules.specs.ped_loop_runs.specs.ped_bodies.specs.ped_steps.specs.ped_laws.specs.ped_store.specs.Stores.{Content, Store, store_at_start}
-use Rattle.ped_scalar.specs.ped_rules.specs.ped_loop_runs.specs.ped_bodies.specs.ped_steps.specs.ped_symbols.specs.NameRefusals.{IsValid}
+use Rattle.ped_rules.specs.OnlyLoops.{change_only, only_loop}
+use Rattle.ped_rules.specs.ped_loop_runs.specs.Bounds.{IsOfFixed}
+use Rattle.ped_rules.specs.ped_loop_runs.specs.Executions.{IsExecuted}
+use Rattle.ped_rules.specs.ped_bodies.proofs.BodyLaws.LimitParts.{limits_parted}
+use Rattle.ped_rules.specs.ped_bodies.specs.Trips.{HasLimits, entered_from}
+use Rattle.ped_rules.specs.ped_steps.proofs.RunLaws.ExpandedPlacesStand.{variable_scalar}
+use Rattle.ped_rules.specs.ped_steps.proofs.RunLaws.PrivatisedPrograms.{scalar_unvalued}
+use Rattle.ped_rules.specs.ped_steps.specs.Replacing.{alone}
+use Rattle.ped_rules.specs.ped_affine.specs.Ranges.{interval_of}
+use Rattle.ped_rules.specs.ped_store.specs.Storage.{natural}
+use Rattle.ped_rules.specs.ped_flow.specs.PlainBounds.{IsPlain, around_with, nest_round, setting_round}
+use Rattle.ped_rules.specs.ped_flow.specs.Questions.{LoopOf}
+use Rattle.ped_rules.specs.ped_laws.proofs.ActLaws.SameCells.{text_itself}
+use Rattle.ped_rules.specs.ped_laws.specs.Acts.Orders.{IsIn}
+use Rattle.ped_rules.specs.ped_laws.specs.Plain.Executions.{IsPlaceWith}
+use Rattle.ped_rules.specs.ped_laws.specs.Runs.Replaying.{finish_of, goes_on}
+use Rattle.ped_rules.specs.ped_eval.specs.Evaluation.{cell_seen}
+use Rattle.ped_rules.specs.ped_eval.specs.Loops.{Entered, Limits, frame, increment, is_bound, iteration_count, limits, value_in}
+use Rattle.ped_rules.specs.ped_eval.specs.Outcomes.{setting_of}
+use Rattle.ped_rules.specs.ped_eval.specs.Runs.{run}
+use Rattle.ped_rules.specs.ped_eval.specs.Scopes.{Names, Scope, Setting, index_value, names_in}
+use Rattle.ped_rules.specs.ped_eval.specs.Values.{value}
+use Rattle.ped_rules.specs.ped_store.specs.Acts.{Act}
+use Rattle.ped_rules.specs.ped_store.specs.Cells.{Cell}
+use Rattle.ped_rules.specs.ped_store.specs.Stores.{Content, Store, store_at_start}
+use Rattle.ped_rules.specs.ped_symbols.specs.NameRefusals.{IsValid}
 use Rattle.ped_tree.specs.Constants.NamedConstants.{value_named}
 use Rattle.ped_tree.specs.Grammar.Fits.{expr_fits}
 use Rattle.ped_tree.specs.Nests.{indices_of}

@@ -6,9 +6,9 @@ use Rattle.ped_tree.specs.Numbering.{statements_count}
 use Rattle.ped_tree.specs.Tree.{ExprTree, Call, more_exprs, Head, StmtTrees, Assign, If, Do, Print, Read, Stop, Comment, no_stmts, more_stmts}
 use Rattle.ped_tree.specs.Views.{pack_exprs, pack_stmts, stmt_tree, stmt_trees}
 use Rattle.ped_tree.specs.declared.statements.Stmt.{Stmt}
-use Rattle.ped_scalar.specs.ped_rules.specs.OnlyLoops.{only_loop, change_only}
+use Rattle.ped_rules.specs.OnlyLoops.{only_loop, change_only}
 use Rattle.ped_tree.specs.declared.expressions.Intrinsic.{Intrinsic}
-use Rattle.ped_scalar.specs.ped_rules.specs.ped_loop_runs.specs.ped_bodies.specs.ped_steps.specs.Replacing.{alone}
+use Rattle.ped_rules.specs.ped_steps.specs.Replacing.{alone}
 use Rattle.ped_loops.specs.CodeInterchanging.{one_around, each_around}
 use Rattle.ped_loops.specs.Interchanging.{exchanged_loops, with_exchanged}
 use Rattle.ped_loops.specs.Shapes.{arguments_of, extreme_of, new_inner, new_outer}

@@ -1,14 +1,14 @@
 -- The heads of two loops in each other's place have the names of the old ones, also where the inner bounds have shapes.
 use Rattle.ped_base.specs.Lists.{is_among, is_same_text}
 use Rattle.ped_loops.proofs.MovedBounds.{IsShaped, shape_is, some_shape}
-use Rattle.ped_loops.proofs.ReversedNames.{among_both, head_uses, literal_unnamed, names_in}
-use Rattle.ped_loops.proofs.SwappedKinds.{occurs_in}
+use Rattle.ped_rules.proofs.HeadLaws.HeadNames.{among_both, head_uses, literal_unnamed, names_in}
+use Rattle.ped_rules.proofs.NestLaws.WovenKinds.{occurs_in}
 use Rattle.ped_loops.specs.Shapes.{Shape, arguments_of, asked_above, asked_below, asked_if, difference, extreme_of, first_shape, free, is_turned, itself, last_shape, moved_bound, new_inner, new_outer, shape_of, sum, turned}
-use Rattle.ped_scalar.specs.ped_rules.specs.ped_loop_runs.specs.ped_bodies.specs.ped_steps.proofs.RunLaws.SubstitutedSums.{by_shape}
-use Rattle.ped_scalar.specs.ped_rules.specs.ped_loop_runs.specs.ped_bodies.specs.ped_steps.specs.ped_laws.proofs.ActLaws.Renamings.{or_left, or_right}
-use Rattle.ped_scalar.specs.ped_rules.specs.ped_loop_runs.specs.ped_bodies.specs.ped_steps.specs.ped_sums.specs.Sums.{added, computed, is_zero, literal_or, literal_value, minus_of, of_both, plus_of, small, subtracted}
-use Rattle.ped_scalar.specs.ped_rules.specs.ped_loop_runs.specs.ped_bodies.specs.ped_steps.specs.ped_symbols.specs.Uses.{expr_uses, exprs_uses, used_as}
-use Rattle.ped_scalar.specs.ped_rules.specs.ped_loop_runs.specs.ped_bodies.specs.ped_steps.specs.ped_symbols.specs.declared.uses.Role.TheVariants.{Rejected}
+use Rattle.ped_rules.specs.ped_steps.proofs.RunLaws.SubstitutedSums.{by_shape}
+use Rattle.ped_rules.specs.ped_laws.proofs.ActLaws.Renamings.{or_left, or_right}
+use Rattle.ped_sums.specs.Sums.{added, computed, is_zero, literal_or, literal_value, minus_of, of_both, plus_of, small, subtracted}
+use Rattle.ped_rules.specs.ped_symbols.specs.Uses.{expr_uses, exprs_uses, used_as}
+use Rattle.ped_rules.specs.ped_symbols.specs.declared.uses.Role.TheVariants.{Rejected}
 use Rattle.ped_tree.specs.Tree.{Add, ExprTree, Head, Sub, Var, no_stmts}
 use Rattle.ped_tree.specs.declared.expressions.Intrinsic.TheVariants.{Max, Min}
 use Rattle.ped_tree.specs.declared.expressions.Intrinsic.{Intrinsic}

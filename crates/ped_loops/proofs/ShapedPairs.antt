@@ -3,8 +3,8 @@ use Rattle.std.proofs.Common.{◌≡◌, ℕ, ◌+◌, ◌-◌, ◌≤◌, ◌<�
 use Rattle.std.specs.Prelude.{◌≤ℤ◌}
 use Rattle.std.specs.Int.{int_max, int_min}
 use Rattle.std.proofs.lemmas.Int.{ints, clamps}
-use Rattle.ped_loops.proofs.PairOrders.{IsRegrouped}
-use Rattle.ped_scalar.specs.ped_rules.specs.ped_loop_runs.specs.ped_bodies.specs.ped_steps.specs.ped_eval.specs.ped_store.specs.Storage.{natural}
+use Rattle.ped_rules.proofs.NestLaws.PairOrders.{IsRegrouped}
+use Rattle.ped_rules.specs.ped_store.specs.Storage.{natural}
 
 -- a number that is at least 0, as a natural one
 natural_is : (z : ℤ) → pos 0 ≤ℤ z → pos (natural z) ≡ z

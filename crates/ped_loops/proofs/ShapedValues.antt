@@ -3,18 +3,18 @@ use Rattle.ped_base.specs.Arithmetic.Arithmetic.{difference_of, from_left, in_ra
 use Rattle.ped_base.specs.Arithmetic.Faults.{◌>>=◌}
 use Rattle.ped_base.specs.declared.arithmetic.faults.Fault.TheVariants.{OutOfRange}
 use Rattle.ped_base.specs.declared.arithmetic.faults.Fault.{Fault}
-use Rattle.ped_loops.proofs.SettledBounds.{limits_there}
+use Rattle.ped_rules.proofs.NestLaws.SettledBounds.{limits_there}
 use Rattle.ped_loops.specs.Shapes.{arguments_of, extreme_of}
-use Rattle.ped_scalar.specs.ped_rules.specs.ped_loop_runs.specs.ped_bodies.specs.ped_steps.proofs.RunLaws.SubstitutedSums.{minus_comes, plus_comes}
-use Rattle.ped_scalar.specs.ped_rules.specs.ped_loop_runs.specs.ped_bodies.specs.ped_steps.specs.ped_laws.proofs.ActLaws.Lists.{in_parts}
-use Rattle.ped_scalar.specs.ped_rules.specs.ped_loop_runs.specs.ped_bodies.specs.ped_steps.specs.ped_laws.specs.Acts.Orders.{IsIn}
-use Rattle.ped_scalar.specs.ped_rules.specs.ped_loop_runs.specs.ped_bodies.specs.ped_steps.specs.ped_laws.specs.ped_eval.specs.Evaluation.{Evaluated, Seen, by_number, cell_seen, given, index_seen, ◌>>>◌}
-use Rattle.ped_scalar.specs.ped_rules.specs.ped_loop_runs.specs.ped_bodies.specs.ped_steps.specs.ped_laws.specs.ped_eval.specs.Loops.{Limits, is_bound, limits}
-use Rattle.ped_scalar.specs.ped_rules.specs.ped_loop_runs.specs.ped_bodies.specs.ped_steps.specs.ped_laws.specs.ped_eval.specs.Scopes.{Names}
-use Rattle.ped_scalar.specs.ped_rules.specs.ped_loop_runs.specs.ped_bodies.specs.ped_steps.specs.ped_laws.specs.ped_eval.specs.Values.{binary, name_value, of_intrinsic, value, values, variable_value}
-use Rattle.ped_scalar.specs.ped_rules.specs.ped_loop_runs.specs.ped_bodies.specs.ped_steps.specs.ped_laws.specs.ped_store.specs.Cells.{Cell}
-use Rattle.ped_scalar.specs.ped_rules.specs.ped_loop_runs.specs.ped_bodies.specs.ped_steps.specs.ped_laws.specs.ped_store.specs.Stores.{Content, Store}
-use Rattle.ped_scalar.specs.ped_rules.specs.ped_loop_runs.specs.ped_bodies.specs.ped_steps.specs.ped_sums.specs.Sums.{minus_of, plus_of}
+use Rattle.ped_rules.specs.ped_steps.proofs.RunLaws.SubstitutedSums.{minus_comes, plus_comes}
+use Rattle.ped_rules.specs.ped_laws.proofs.ActLaws.Lists.{in_parts}
+use Rattle.ped_rules.specs.ped_laws.specs.Acts.Orders.{IsIn}
+use Rattle.ped_rules.specs.ped_eval.specs.Evaluation.{Evaluated, Seen, by_number, cell_seen, given, index_seen, ◌>>>◌}
+use Rattle.ped_rules.specs.ped_eval.specs.Loops.{Limits, is_bound, limits}
+use Rattle.ped_rules.specs.ped_eval.specs.Scopes.{Names}
+use Rattle.ped_rules.specs.ped_eval.specs.Values.{binary, name_value, of_intrinsic, value, values, variable_value}
+use Rattle.ped_rules.specs.ped_store.specs.Cells.{Cell}
+use Rattle.ped_rules.specs.ped_store.specs.Stores.{Content, Store}
+use Rattle.ped_sums.specs.Sums.{minus_of, plus_of}
 use Rattle.ped_tree.specs.Constants.ConstantExpressions.{intrinsic_result}
 use Rattle.ped_tree.specs.Constants.NamedConstants.{value_named}
 use Rattle.ped_tree.specs.Tree.{Call, ExprTree, ExprTrees, Head, Var}

@@ -1,19 +1,19 @@
 -- What inner bounds with shapes are worth: by the value of the outer variable where the old inner loop is entered, and by that of the inner variable where the new one is.
 use Rattle.ped_base.specs.Arithmetic.Arithmetic.{difference_of, sum_of}
 use Rattle.ped_loops.proofs.MovedBounds.{HasPart, IsPlainThere, IsShaped}
-use Rattle.ped_loops.proofs.SettledBounds.{IsSettled, one_result, settled_reads}
+use Rattle.ped_rules.proofs.NestLaws.SettledBounds.{IsSettled, one_result, settled_reads}
 use Rattle.ped_loops.proofs.ShapedPairs.{Way, bound_by, falls, moved_by, rises, stays, when_falling, when_rising}
 use Rattle.ped_loops.proofs.ShapedValues.{AllSmall, AllWorth, IsNearZero, IsWorth, bound_near, index_worth, minus_worth, plus_worth, ranged, same_worth}
 use Rattle.ped_loops.specs.Shapes.{Shape, free, asked_if, difference, is_turned, itself, moved_bound, sum, turned}
-use Rattle.ped_scalar.specs.ped_rules.specs.ped_loop_runs.specs.Bounds.{IsOfFixed}
-use Rattle.ped_scalar.specs.ped_rules.specs.ped_loop_runs.specs.ped_bodies.specs.ped_steps.proofs.RunLaws.SubstitutedSums.{two_parts}
-use Rattle.ped_scalar.specs.ped_rules.specs.ped_loop_runs.specs.ped_bodies.specs.ped_steps.specs.ped_laws.specs.Plain.Executions.{IsDuring, IsPlaceWith}
-use Rattle.ped_scalar.specs.ped_rules.specs.ped_loop_runs.specs.ped_bodies.specs.ped_steps.specs.ped_laws.specs.ped_eval.specs.Outcomes.{setting_of}
-use Rattle.ped_scalar.specs.ped_rules.specs.ped_loop_runs.specs.ped_bodies.specs.ped_steps.specs.ped_laws.specs.ped_eval.specs.Scopes.{Names, Scope, Setting, index_value, names_in}
-use Rattle.ped_scalar.specs.ped_rules.specs.ped_loop_runs.specs.ped_bodies.specs.ped_steps.specs.ped_laws.specs.ped_eval.specs.Values.{value}
-use Rattle.ped_scalar.specs.ped_rules.specs.ped_loop_runs.specs.ped_bodies.specs.ped_steps.specs.ped_laws.specs.ped_store.specs.Cells.{Cell}
-use Rattle.ped_scalar.specs.ped_rules.specs.ped_loop_runs.specs.ped_bodies.specs.ped_steps.specs.ped_laws.specs.ped_store.specs.Stores.{Store}
-use Rattle.ped_scalar.specs.ped_rules.specs.ped_loop_runs.specs.ped_bodies.specs.ped_steps.specs.ped_sums.specs.Sums.{minus_of, plus_of}
+use Rattle.ped_rules.specs.ped_loop_runs.specs.Bounds.{IsOfFixed}
+use Rattle.ped_rules.specs.ped_steps.proofs.RunLaws.SubstitutedSums.{two_parts}
+use Rattle.ped_rules.specs.ped_laws.specs.Plain.Executions.{IsDuring, IsPlaceWith}
+use Rattle.ped_rules.specs.ped_eval.specs.Outcomes.{setting_of}
+use Rattle.ped_rules.specs.ped_eval.specs.Scopes.{Names, Scope, Setting, index_value, names_in}
+use Rattle.ped_rules.specs.ped_eval.specs.Values.{value}
+use Rattle.ped_rules.specs.ped_store.specs.Cells.{Cell}
+use Rattle.ped_rules.specs.ped_store.specs.Stores.{Store}
+use Rattle.ped_sums.specs.Sums.{minus_of, plus_of}
 use Rattle.ped_tree.specs.Constants.NamedConstants.{value_named}
 use Rattle.ped_tree.specs.Tree.{Add, ExprTree, ProgramTree, Sub, Var}
 use Rattle.std.proofs.Common.{List, None, Ok, Some, arith, inl, inr, neg_ℤ, pos, subst, ℕ, ℤ, ◌+ℤ◌, ◌-ℤ◌, ◌∙◌, ◌≡◌}

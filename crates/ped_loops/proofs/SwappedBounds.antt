@@ -1,27 +1,27 @@
 -- Two loops whose inner bounds are worth the same in each iteration of the outer one have the same pairs of iterations in each other's place.
-use Rattle.ped_loops.proofs.LoopPairs as pairs
-use Rattle.ped_loops.proofs.LoopPairs.{inner_at, old_entered, row_at, rows_are, scope_at, store_at}
-use Rattle.ped_loops.proofs.OnlyBodies.{pair}
-use Rattle.ped_loops.proofs.SettledBounds.{IsSettled, limits_there, one_result, settled_reads}
-use Rattle.ped_loops.proofs.SwappedLoops.{HasSwappedTrips}
-use Rattle.ped_scalar.specs.ped_rules.specs.OnlyLoops.{change_only, only_loop}
-use Rattle.ped_scalar.specs.ped_rules.specs.ped_loop_runs.specs.Bounds.{IsOfFixed}
-use Rattle.ped_scalar.specs.ped_rules.specs.ped_loop_runs.specs.ped_bodies.proofs.BodyLaws.LimitParts.{limits_parted}
-use Rattle.ped_scalar.specs.ped_rules.specs.ped_loop_runs.specs.ped_bodies.specs.Trips.{HasLimits, entered_from}
-use Rattle.ped_scalar.specs.ped_rules.specs.ped_loop_runs.specs.ped_bodies.specs.ped_steps.specs.ped_eval.specs.Evaluation.{Evaluated}
-use Rattle.ped_scalar.specs.ped_rules.specs.ped_loop_runs.specs.ped_bodies.specs.ped_steps.specs.ped_eval.specs.Loops.{iteration_count}
-use Rattle.ped_scalar.specs.ped_rules.specs.ped_loop_runs.specs.ped_bodies.specs.ped_steps.specs.ped_laws.proofs.ActLaws.Lists.{in_parts}
-use Rattle.ped_scalar.specs.ped_rules.specs.ped_loop_runs.specs.ped_bodies.specs.ped_steps.specs.ped_laws.specs.Acts.Orders.{IsIn}
-use Rattle.ped_scalar.specs.ped_rules.specs.ped_loop_runs.specs.ped_bodies.specs.ped_steps.specs.ped_laws.specs.Plain.Executions.{IsDuring, IsPlaceWith}
-use Rattle.ped_scalar.specs.ped_rules.specs.ped_loop_runs.specs.ped_bodies.specs.ped_steps.specs.ped_laws.specs.Runs.Replaying.{finish_of, goes_on}
-use Rattle.ped_scalar.specs.ped_rules.specs.ped_loop_runs.specs.ped_bodies.specs.ped_steps.specs.ped_laws.specs.ped_eval.specs.Evaluation.{cell_seen}
-use Rattle.ped_scalar.specs.ped_rules.specs.ped_loop_runs.specs.ped_bodies.specs.ped_steps.specs.ped_laws.specs.ped_eval.specs.Loops.{Entered, Limits, frame, increment, limits}
-use Rattle.ped_scalar.specs.ped_rules.specs.ped_loop_runs.specs.ped_bodies.specs.ped_steps.specs.ped_laws.specs.ped_eval.specs.Outcomes.{setting_of}
-use Rattle.ped_scalar.specs.ped_rules.specs.ped_loop_runs.specs.ped_bodies.specs.ped_steps.specs.ped_laws.specs.ped_eval.specs.Runs.{run}
-use Rattle.ped_scalar.specs.ped_rules.specs.ped_loop_runs.specs.ped_bodies.specs.ped_steps.specs.ped_laws.specs.ped_eval.specs.Scopes.{Scope, Setting, names_in}
-use Rattle.ped_scalar.specs.ped_rules.specs.ped_loop_runs.specs.ped_bodies.specs.ped_steps.specs.ped_laws.specs.ped_eval.specs.Values.{value}
-use Rattle.ped_scalar.specs.ped_rules.specs.ped_loop_runs.specs.ped_bodies.specs.ped_steps.specs.ped_laws.specs.ped_store.specs.Cells.{Cell}
-use Rattle.ped_scalar.specs.ped_rules.specs.ped_loop_runs.specs.ped_bodies.specs.ped_steps.specs.ped_laws.specs.ped_store.specs.Stores.{Content, Store}
+use Rattle.ped_rules.proofs.NestLaws.LoopPairs as pairs
+use Rattle.ped_rules.proofs.NestLaws.LoopPairs.{inner_at, old_entered, row_at, rows_are, scope_at, store_at}
+use Rattle.ped_rules.proofs.NestLaws.OnlyBodies.{pair}
+use Rattle.ped_rules.proofs.NestLaws.SettledBounds.{IsSettled, limits_there, one_result, settled_reads}
+use Rattle.ped_rules.proofs.NestLaws.WovenLoops.{HasSwappedTrips}
+use Rattle.ped_rules.specs.OnlyLoops.{change_only, only_loop}
+use Rattle.ped_rules.specs.ped_loop_runs.specs.Bounds.{IsOfFixed}
+use Rattle.ped_rules.specs.ped_bodies.proofs.BodyLaws.LimitParts.{limits_parted}
+use Rattle.ped_rules.specs.ped_bodies.specs.Trips.{HasLimits, entered_from}
+use Rattle.ped_rules.specs.ped_eval.specs.Evaluation.{Evaluated}
+use Rattle.ped_rules.specs.ped_eval.specs.Loops.{iteration_count}
+use Rattle.ped_rules.specs.ped_laws.proofs.ActLaws.Lists.{in_parts}
+use Rattle.ped_rules.specs.ped_laws.specs.Acts.Orders.{IsIn}
+use Rattle.ped_rules.specs.ped_laws.specs.Plain.Executions.{IsDuring, IsPlaceWith}
+use Rattle.ped_rules.specs.ped_laws.specs.Runs.Replaying.{finish_of, goes_on}
+use Rattle.ped_rules.specs.ped_eval.specs.Evaluation.{cell_seen}
+use Rattle.ped_rules.specs.ped_eval.specs.Loops.{Entered, Limits, frame, increment, limits}
+use Rattle.ped_rules.specs.ped_eval.specs.Outcomes.{setting_of}
+use Rattle.ped_rules.specs.ped_eval.specs.Runs.{run}
+use Rattle.ped_rules.specs.ped_eval.specs.Scopes.{Scope, Setting, names_in}
+use Rattle.ped_rules.specs.ped_eval.specs.Values.{value}
+use Rattle.ped_rules.specs.ped_store.specs.Cells.{Cell}
+use Rattle.ped_rules.specs.ped_store.specs.Stores.{Content, Store}
 use Rattle.ped_tree.specs.Constants.ConstantExpressions.{constant_value}
 use Rattle.ped_tree.specs.Tree.{Do, ExprTree, Head, ProgramTree, StmtTrees}
 use Rattle.std.proofs.Common.{List, Ok, Some, ap, arith, inl, inr, pos, subst, sym, unwrap_or, ℕ, ℤ, ◌*ℤ◌, ◌++◌, ◌+ℤ◌, ◌+◌, ◌-◌, ◌∙◌, ◌∷◌, ◌≡◌, ◌≤◌}

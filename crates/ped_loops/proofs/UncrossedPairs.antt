@@ -1,15 +1,15 @@
 -- Where no dependence forbids `interchange`, none that the outer DO carries has its sink in an earlier iteration of the inner one, as none is rejected.
 use Rattle.std.proofs.Common.{◌≡◌, ℕ, ◌+◌, List, length, All, Bool, true, false, ◌&&◌, not, sym, ◌∙◌}
 use Rattle.ped_tree.specs.Tree.{ProgramTree}
-use Rattle.ped_scalar.specs.ped_rules.specs.ped_loop_runs.specs.ped_bodies.specs.ped_steps.specs.ped_laws.specs.Acts.Orders.{IsIn}
-use Rattle.ped_scalar.specs.ped_rules.specs.ped_loop_runs.specs.ped_bodies.specs.ped_steps.specs.ped_laws.specs.ped_graph.specs.Dependences.{AreEdges}
-use Rattle.ped_scalar.specs.ped_rules.specs.ped_loop_runs.specs.ped_bodies.specs.ped_steps.specs.ped_laws.specs.ped_graph.specs.ped_edges.specs.Edges.{Edge, is_rejected}
-use Rattle.ped_scalar.specs.ped_rules.specs.ped_loop_runs.specs.ped_bodies.specs.ped_steps.specs.ped_flow.specs.PlainBounds.{nest_round}
-use Rattle.ped_scalar.specs.ped_rules.specs.ped_loop_runs.specs.ped_bodies.specs.ped_steps.specs.ped_flow.specs.Questions.{LoopOf}
-use Rattle.ped_scalar.specs.ped_rules.specs.ped_loop_runs.specs.Unrejected.{some_rejection}
-use Rattle.ped_scalar.specs.ped_rules.specs.Carried.{level_at, is_carried_by, has_after, crossing}
-use Rattle.ped_scalar.specs.ped_rules.specs.ped_loop_runs.specs.Carried as runs
-use Rattle.ped_loops.proofs.FlagsLawful.{UnrejectedLaw, each_of, same_carried, not_rejected}
+use Rattle.ped_rules.specs.ped_laws.specs.Acts.Orders.{IsIn}
+use Rattle.ped_rules.specs.ped_graph.specs.Dependences.{AreEdges}
+use Rattle.ped_edges.specs.Edges.{Edge, is_rejected}
+use Rattle.ped_rules.specs.ped_flow.specs.PlainBounds.{nest_round}
+use Rattle.ped_rules.specs.ped_flow.specs.Questions.{LoopOf}
+use Rattle.ped_rules.specs.ped_loop_runs.specs.Unrejected.{some_rejection}
+use Rattle.ped_rules.specs.Carried.{level_at, is_carried_by, has_after, crossing}
+use Rattle.ped_rules.specs.ped_loop_runs.specs.Carried as runs
+use Rattle.ped_rules.proofs.HeadLaws.ParallelLawful.{UnrejectedLaw, each_of, same_carried, not_rejected}
 
 third_false : (a b c : Bool) → (a && not b) && c ≡ false → a ≡ true → b ≡ false → c ≡ false
 third_false true false c h e f = h

@@ -10,16 +10,16 @@ use Rattle.ped_tree.specs.Accesses.{constant_names}
 use Rattle.ped_tree.specs.Grammar.Refusal.{Refusal, Finding, refused_if}
 use Rattle.ped_tree.specs.NamesIn.{stmts_names}
 use Rattle.ped_tree.proofs.NameLaws.Collected.{among_append}
-use Rattle.ped_scalar.specs.ped_rules.specs.ped_loop_runs.specs.ped_bodies.specs.ped_steps.specs.ped_refs.specs.References.{Reference, references}
-use Rattle.ped_scalar.specs.ped_rules.specs.ped_loop_runs.specs.ped_bodies.specs.ped_steps.specs.ped_symbols.specs.declared.uses.Role.TheVariants.{Named, Saved}
-use Rattle.ped_scalar.specs.ped_rules.specs.ped_loop_runs.specs.ped_bodies.specs.ped_steps.specs.ped_symbols.specs.declared.uses.Use.{Use}
-use Rattle.ped_scalar.specs.ped_rules.specs.ped_loop_runs.specs.ped_bodies.specs.ped_steps.specs.ped_symbols.specs.Uses.{used_as, expr_uses, exprs_uses, bounds_uses, dimension_uses, type_uses, decl_uses}
-use Rattle.ped_scalar.specs.ped_rules.specs.ped_loop_runs.specs.ped_bodies.specs.ped_steps.specs.ped_symbols.specs.Declarations.{Declared, declared_in, is_naming, names_with, is_real, is_constant, is_program}
-use Rattle.ped_scalar.specs.ped_rules.specs.ped_loop_runs.specs.ped_bodies.specs.ped_steps.specs.ped_symbols.specs.Sites.{Site, decl_sites, stmts_sites, program_sites, site_uses}
-use Rattle.ped_scalar.specs.ped_rules.specs.ped_loop_runs.specs.ped_bodies.specs.ped_steps.specs.ped_symbols.specs.Kinds.{names_at}
-use Rattle.ped_scalar.specs.ped_rules.specs.ped_loop_runs.specs.ped_bodies.specs.ped_steps.specs.ped_symbols.specs.NameRefusals.{Before, uses_real, uses_program, is_declared_twice, behind_site, at_site, at_sites, next_line, at_first, IsValid}
-use Rattle.ped_scalar.specs.ped_rules.specs.ped_loop_runs.specs.ped_bodies.specs.ped_steps.specs.ped_symbols.proofs.RightUseLaws.Constants.{names_append}
-use Rattle.ped_scalar.specs.ped_rules.specs.ped_loop_runs.specs.ped_bodies.specs.ped_steps.proofs.RunLaws.ExpandedNamesSites.{at_append, stmts_at}
+use Rattle.ped_refs.specs.References.{Reference, references}
+use Rattle.ped_rules.specs.ped_symbols.specs.declared.uses.Role.TheVariants.{Named, Saved}
+use Rattle.ped_rules.specs.ped_symbols.specs.declared.uses.Use.{Use}
+use Rattle.ped_rules.specs.ped_symbols.specs.Uses.{used_as, expr_uses, exprs_uses, bounds_uses, dimension_uses, type_uses, decl_uses}
+use Rattle.ped_rules.specs.ped_symbols.specs.Declarations.{Declared, declared_in, is_naming, names_with, is_real, is_constant, is_program}
+use Rattle.ped_rules.specs.ped_symbols.specs.Sites.{Site, decl_sites, stmts_sites, program_sites, site_uses}
+use Rattle.ped_rules.specs.ped_symbols.specs.Kinds.{names_at}
+use Rattle.ped_rules.specs.ped_symbols.specs.NameRefusals.{Before, uses_real, uses_program, is_declared_twice, behind_site, at_site, at_sites, next_line, at_first, IsValid}
+use Rattle.ped_rules.specs.ped_symbols.proofs.RightUseLaws.Constants.{names_append}
+use Rattle.ped_rules.specs.ped_steps.proofs.RunLaws.ExpandedNamesSites.{at_append, stmts_at}
 
 -- no use makes a name a constant
 abbrev NamesNone : List Use → Type 0

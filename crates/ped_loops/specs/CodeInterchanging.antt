@@ -1,9 +1,9 @@
 -- How far the code of `interchange` has come, and the loops that it makes. Only contracts of private functions use it (this project).
 use Rattle.std.specs.Prelude.{◌≤◌, ℕ}
 use Rattle.ped_tree.specs.Tree.{Head, StmtTree, StmtTrees, Assign, If, Do, Print, Read, Stop, Comment, no_stmts, more_stmts}
-use Rattle.ped_scalar.specs.ped_rules.specs.ped_loop_runs.specs.ped_bodies.specs.ped_steps.specs.declared.rules.Rule.{Rule}
-use Rattle.ped_scalar.specs.ped_rules.specs.ped_loop_runs.specs.ped_bodies.specs.ped_steps.specs.RuleNames.{number_of}
-use Rattle.ped_scalar.specs.ped_rules.specs.ped_loop_runs.specs.ped_bodies.specs.ped_steps.specs.Causes.{Rules}
+use Rattle.ped_rules.specs.ped_steps.specs.declared.rules.Rule.{Rule}
+use Rattle.ped_rules.specs.ped_steps.specs.RuleNames.{number_of}
+use Rattle.ped_rules.specs.ped_steps.specs.Causes.{Rules}
 
 -- no rule with a number up to this one forbids the step
 abbrev pub NoneUpTo : ℕ → Rules → Type 0

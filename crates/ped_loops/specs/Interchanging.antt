@@ -1,20 +1,21 @@
 -- `interchange`: a DO and the only DO in its body change places (Allen and Kennedy, section 5.2; ParaScope).
 use Rattle.std.specs.Prelude.{◌≡◌, ◌⊎◌, ℕ, ◌+◌, List, [], ◌∷◌, ◌++◌, Bool, ◌&&◌, ◌||◌, MatchOption, Option, Some, None}
 use Rattle.ped_tree.specs.Tree.{ExprTree, Head, StmtTrees, Do, ProgramTree}
-use Rattle.ped_scalar.specs.ped_rules.specs.ped_loop_runs.specs.ped_bodies.specs.ped_steps.specs.ped_affine.specs.Ranges.{Setting}
-use Rattle.ped_scalar.specs.ped_rules.specs.Carried.{crossing}
-use Rattle.ped_scalar.specs.ped_rules.specs.Chains.{no_rules, also, WhereLoop}
-use Rattle.ped_scalar.specs.ped_rules.specs.KeepMaps.{all_but}
-use Rattle.ped_scalar.specs.ped_rules.specs.OnlyLoops.{only_loop, inner, either, on_loop, change_only}
-use Rattle.ped_scalar.specs.ped_rules.specs.Rules.{WhereNoLoop, isnt_perfect, is_parallel, has_private, WhereEscape, WhereUnplain, is_one, has_other_step, leaves, setting_at, heads_round, WhereLimit}
-use Rattle.ped_scalar.specs.ped_rules.specs.Spans.{Values}
-use Rattle.ped_scalar.specs.ped_rules.specs.Steps.{transformation, StepAt}
-use Rattle.ped_scalar.specs.ped_rules.specs.ped_loop_runs.specs.ped_bodies.specs.ped_steps.specs.ped_flow.specs.Questions.{LoopOf}
-use Rattle.ped_scalar.specs.ped_rules.specs.ped_loop_runs.specs.ped_bodies.specs.ped_steps.specs.ped_symbols.specs.Kinds.{table_of}
-use Rattle.ped_scalar.specs.ped_rules.specs.ped_loop_runs.specs.ped_bodies.specs.ped_steps.specs.declared.rules.Rule.TheVariants.{NoLoop, NotPerfect, ParallelState, HasPrivate, IndexEscapes, BoundNotPlain, BoundsShape, StepShape, Range, Limit}
-use Rattle.ped_scalar.specs.ped_rules.specs.ped_loop_runs.specs.ped_bodies.specs.ped_steps.specs.Causes.{Rules, IsFirstCause}
-use Rattle.ped_scalar.specs.ped_rules.specs.ped_loop_runs.specs.ped_bodies.specs.ped_steps.specs.Replacing.{alone, program_with}
+use Rattle.ped_rules.specs.ped_affine.specs.Ranges.{Setting}
+use Rattle.ped_rules.specs.Carried.{crossing}
+use Rattle.ped_rules.specs.Chains.{no_rules, also, WhereLoop}
+use Rattle.ped_rules.specs.KeepMaps.{all_but}
+use Rattle.ped_rules.specs.OnlyLoops.{only_loop, inner, either, on_loop, change_only}
+use Rattle.ped_rules.specs.Rules.{WhereNoLoop, isnt_perfect, is_parallel, has_private, WhereEscape, WhereUnplain, is_one, has_other_step, leaves, setting_at, heads_round, WhereLimit}
+use Rattle.ped_rules.specs.Spans.{Values}
+use Rattle.ped_rules.specs.Steps.{transformation, StepAt}
+use Rattle.ped_rules.specs.ped_flow.specs.Questions.{LoopOf}
+use Rattle.ped_rules.specs.ped_symbols.specs.Kinds.{table_of}
+use Rattle.ped_rules.specs.ped_steps.specs.declared.rules.Rule.TheVariants.{NoLoop, NotPerfect, ParallelState, HasPrivate, IndexEscapes, BoundNotPlain, BoundsShape, StepShape, Range, Limit}
+use Rattle.ped_rules.specs.ped_steps.specs.Causes.{Rules, IsFirstCause}
+use Rattle.ped_rules.specs.ped_steps.specs.Replacing.{alone, program_with}
 use Rattle.ped_loops.specs.Shapes.{new_outer, new_inner, names_outer, isnt_shaped}
+use Rattle.ped_rules.specs.Rules.{IsBoundOf}
 
 -- the two DO loops in each other's place: comments in the body of the outer one stay in that of the new outer one (Allen and Kennedy, section 5.2)
 abbrev pub exchanged_loops : Head → (body : StmtTrees) → Option (Head × StmtTrees) → StmtTrees
@@ -32,10 +33,6 @@ interchanged t s = program_with (on_loop with_exchanged) s t
 -- what the step makes: each statement keeps its number, but the two DO loops themselves are new (ParaScope; this project)
 abbrev pub MakesInterchanged : (s : ℕ) → ProgramTree → ProgramTree → List (ℕ × ℕ) → Type 0
 MakesInterchanged s t new keep = (new ≡ interchanged t s) × (keep ≡ all_but s (s + 1) t)
-
--- the expression is a bound of the DO (ANSI X3.9-1978, section 11.10)
-abbrev pub IsBoundOf : Head → ExprTree → Type 0
-IsBoundOf h e = (e ≡ h.first) ⊎ (e ≡ h.last)
 
 -- rule 6: the bounds that are asked for are those of the DO, and those of the only DO in its body under the next number (this project)
 abbrev pub IsBoundOfEither : ProgramTree → (s : ℕ) → ℕ → ExprTree → Type 0

@@ -1,11 +1,8 @@
-pub use Rattle.ped_scalar
-pub mod Flags
-pub mod Paralleling
+pub use Rattle.ped_rules
 pub mod Serialising
 pub mod Rejecting
 pub mod Reversing
 pub mod Shapes
 pub mod Interchanging
 pub mod CodeShapes
-pub mod CodePlain
 pub mod CodeInterchanging

@@ -1,18 +1,18 @@
 -- `reverse`: the iterations of a DO are done from the last to the first (Allen and Kennedy, section 5.2; ParaScope).
 use Rattle.std.specs.Prelude.{◌≡◌, ℕ, neg_ℤ, List}
-use Rattle.ped_scalar.specs.ped_rules.specs.ped_loop_runs.specs.ped_bodies.specs.ped_steps.specs.ped_sums.specs.Sums.{literal}
+use Rattle.ped_sums.specs.Sums.{literal}
 use Rattle.ped_tree.specs.Tree.{Head, StmtTrees, Do, ProgramTree}
-use Rattle.ped_scalar.specs.ped_rules.specs.Carried.{carried}
-use Rattle.ped_scalar.specs.ped_rules.specs.Chains.{no_rules, also, WhereLoop}
-use Rattle.ped_scalar.specs.ped_rules.specs.OnlyLoops.{on_loop}
-use Rattle.ped_scalar.specs.ped_rules.specs.Rules.{WhereNoLoop, is_parallel, WhereEscape, is_unit, has_other_step, WhereLimit}
-use Rattle.ped_scalar.specs.ped_rules.specs.Spans.{Values}
-use Rattle.ped_scalar.specs.ped_rules.specs.Steps.{transformation, StepAt}
-use Rattle.ped_scalar.specs.ped_rules.specs.ped_loop_runs.specs.ped_bodies.specs.ped_steps.specs.ped_eval.specs.Loops.{increment}
-use Rattle.ped_scalar.specs.ped_rules.specs.ped_loop_runs.specs.ped_bodies.specs.ped_steps.specs.ped_symbols.specs.Kinds.{table_of}
-use Rattle.ped_scalar.specs.ped_rules.specs.ped_loop_runs.specs.ped_bodies.specs.ped_steps.specs.declared.rules.Rule.TheVariants.{NoLoop, ParallelState, IndexEscapes, StepShape, Limit}
-use Rattle.ped_scalar.specs.ped_rules.specs.ped_loop_runs.specs.ped_bodies.specs.ped_steps.specs.Causes.{Rules, IsFirstCause}
-use Rattle.ped_scalar.specs.ped_rules.specs.ped_loop_runs.specs.ped_bodies.specs.ped_steps.specs.Replacing.{alone, program_with, all_kept}
+use Rattle.ped_rules.specs.Carried.{carried}
+use Rattle.ped_rules.specs.Chains.{no_rules, also, WhereLoop}
+use Rattle.ped_rules.specs.OnlyLoops.{on_loop}
+use Rattle.ped_rules.specs.Rules.{WhereNoLoop, is_parallel, WhereEscape, is_unit, has_other_step, WhereLimit}
+use Rattle.ped_rules.specs.Spans.{Values}
+use Rattle.ped_rules.specs.Steps.{transformation, StepAt}
+use Rattle.ped_rules.specs.ped_eval.specs.Loops.{increment}
+use Rattle.ped_rules.specs.ped_symbols.specs.Kinds.{table_of}
+use Rattle.ped_rules.specs.ped_steps.specs.declared.rules.Rule.TheVariants.{NoLoop, ParallelState, IndexEscapes, StepShape, Limit}
+use Rattle.ped_rules.specs.ped_steps.specs.Causes.{Rules, IsFirstCause}
+use Rattle.ped_rules.specs.ped_steps.specs.Replacing.{alone, program_with, all_kept}
 
 -- a DO's head with the bounds exchanged, and the literal of the negated increment; all else of it stays (ANSI X3.9-1978, section 11.10; ParaScope)
 abbrev pub turned_head : Values → Head → Head

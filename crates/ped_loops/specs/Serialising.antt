@@ -1,13 +1,13 @@
 -- `serial`: a PARALLEL DO becomes a DO whose iterations are done in order (ParaScope).
 use Rattle.std.specs.Prelude.{◌≡◌, ℕ, List, false}
 use Rattle.ped_tree.specs.Tree.{ProgramTree}
-use Rattle.ped_scalar.specs.ped_rules.specs.Chains.{no_rules, also, WhereLoop}
-use Rattle.ped_scalar.specs.ped_rules.specs.Rules.{WhereNoLoop, is_serial, WhereEscape, WhereLimit}
-use Rattle.ped_scalar.specs.ped_rules.specs.Steps.{transformation, StepAt}
-use Rattle.ped_scalar.specs.ped_rules.specs.ped_loop_runs.specs.ped_bodies.specs.ped_steps.specs.declared.rules.Rule.TheVariants.{NoLoop, ParallelState, IndexEscapes, Limit}
-use Rattle.ped_scalar.specs.ped_rules.specs.ped_loop_runs.specs.ped_bodies.specs.ped_steps.specs.Causes.{Rules, IsFirstCause, none_forbids}
-use Rattle.ped_scalar.specs.ped_rules.specs.ped_loop_runs.specs.ped_bodies.specs.ped_steps.specs.Replacing.{all_kept}
-use Rattle.ped_loops.specs.Flags.{flagged}
+use Rattle.ped_rules.specs.Chains.{no_rules, also, WhereLoop}
+use Rattle.ped_rules.specs.Rules.{WhereNoLoop, is_serial, WhereEscape, WhereLimit}
+use Rattle.ped_rules.specs.Steps.{transformation, StepAt}
+use Rattle.ped_rules.specs.ped_steps.specs.declared.rules.Rule.TheVariants.{NoLoop, ParallelState, IndexEscapes, Limit}
+use Rattle.ped_rules.specs.ped_steps.specs.Causes.{Rules, IsFirstCause, none_forbids}
+use Rattle.ped_rules.specs.ped_steps.specs.Replacing.{all_kept}
+use Rattle.ped_rules.specs.Flags.{flagged}
 
 -- the program after the step, which keeps each statement with its number (ParaScope)
 abbrev pub MakesSerial : (s : ℕ) → ProgramTree → ProgramTree → List (ℕ × ℕ) → Type 0

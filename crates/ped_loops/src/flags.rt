@@ -3,15 +3,15 @@
 ghost use Rattle.std.specs.Prelude.{◌≡◌, ◌+◌, ◌<◌, ◌^◌, [], IfOk, MatchOption};
 ghost use Rattle.ped_tree.specs.Numbering.{statements_count};
 ghost use Rattle.ped_tree.specs.Views.{stmt_tree, stmt_trees, program_tree, head_of};
-ghost use Rattle.ped_scalar.specs.ped_rules.specs.ped_loop_runs.specs.ped_bodies.specs.ped_steps.specs.ped_symbols.specs.NameRefusals.{IsValid};
-ghost use Rattle.ped_scalar.specs.ped_rules.specs.ped_loop_runs.specs.ped_bodies.specs.ped_steps.specs.ped_flow.specs.Questions.{IsLoop};
-ghost use Rattle.ped_scalar.specs.ped_rules.specs.ped_loop_runs.specs.ped_bodies.specs.ped_steps.specs.Changes.{IsChange};
-ghost use Rattle.ped_scalar.specs.ped_rules.specs.ped_loop_runs.specs.ped_bodies.specs.ped_steps.specs.Replacing as Replacing;
-ghost use Rattle.ped_scalar.specs.ped_rules.specs.ped_loop_runs.specs.ped_bodies.specs.ped_steps.specs.Scenes.{IsSceneOf};
-ghost use Rattle.ped_loops.specs.Flags as Spec;
+ghost use Rattle.ped_rules.specs.ped_symbols.specs.NameRefusals.{IsValid};
+ghost use Rattle.ped_rules.specs.ped_flow.specs.Questions.{IsLoop};
+ghost use Rattle.ped_rules.specs.ped_steps.specs.Changes.{IsChange};
+ghost use Rattle.ped_rules.specs.ped_steps.specs.Replacing as Replacing;
+ghost use Rattle.ped_rules.specs.ped_steps.specs.Scenes.{IsSceneOf};
+ghost use Rattle.ped_rules.specs.Flags as Spec;
 
 use ped_base::NoMemory;
-use ped_scalar::{Change, Scene, all_kept, change_to, program_with};
+use ped_rules::{Change, Scene, all_kept, change_to, program_with};
 use ped_tree::{Do, Program, Stmt};
 use std::alloc::Global;
 use std::sync::ledger::Ledger;

@@ -4,30 +4,29 @@ ghost use Rattle.std.specs.Prelude.{◌≡◌, ◌||◌, ◌&&◌, ◌+◌, ◌<
 ghost use Rattle.ped_base.specs.Lists.{has_some};
 ghost use Rattle.ped_tree.specs.Numbering.{statements_count};
 ghost use Rattle.ped_tree.specs.Views.{stmt_trees, do_tree, program_tree, head_of};
-ghost use Rattle.ped_scalar.specs.ped_rules.specs.KeepMaps as KeepMaps;
-ghost use Rattle.ped_scalar.specs.ped_rules.specs.OnlyLoops.{only_loop};
-ghost use Rattle.ped_scalar.specs.ped_rules.specs.Rules as Rules;
-ghost use Rattle.ped_scalar.specs.ped_rules.specs.Rules.{WhereUnplain, setting_at, heads_round};
-ghost use Rattle.ped_scalar.specs.ped_rules.specs.Steps.{Answers};
-ghost use Rattle.ped_scalar.specs.ped_rules.specs.ped_loop_runs.specs.ped_bodies.specs.ped_steps.specs.Causes.{NoRule};
-ghost use Rattle.ped_scalar.specs.ped_rules.specs.ped_loop_runs.specs.ped_bodies.specs.ped_steps.specs.Changes.{IsChange};
-ghost use Rattle.ped_scalar.specs.ped_rules.specs.ped_loop_runs.specs.ped_bodies.specs.ped_steps.specs.Replacing.{alone};
-ghost use Rattle.ped_scalar.specs.ped_rules.specs.ped_loop_runs.specs.ped_bodies.specs.ped_steps.specs.Scenes.{IsSceneOf};
-ghost use Rattle.ped_scalar.specs.ped_rules.specs.ped_loop_runs.specs.ped_bodies.specs.ped_steps.specs.ped_affine.specs.PairViews.{heads_of};
-ghost use Rattle.ped_scalar.specs.ped_rules.specs.ped_loop_runs.specs.ped_bodies.specs.ped_steps.specs.ped_flow.specs.Questions.{IsLoop};
-ghost use Rattle.ped_scalar.specs.ped_rules.specs.ped_loop_runs.specs.ped_bodies.specs.ped_steps.specs.ped_refs.specs.Loops.{nest_of};
-ghost use Rattle.ped_scalar.specs.ped_rules.specs.ped_loop_runs.specs.ped_bodies.specs.ped_steps.specs.ped_symbols.specs.NameRefusals.{IsValid};
+ghost use Rattle.ped_rules.specs.KeepMaps as KeepMaps;
+ghost use Rattle.ped_rules.specs.OnlyLoops.{only_loop};
+ghost use Rattle.ped_rules.specs.Rules as Rules;
+ghost use Rattle.ped_rules.specs.Rules.{WhereUnplain, setting_at, heads_round};
+ghost use Rattle.ped_rules.specs.Steps.{Answers};
+ghost use Rattle.ped_rules.specs.ped_steps.specs.Causes.{NoRule};
+ghost use Rattle.ped_rules.specs.ped_steps.specs.Changes.{IsChange};
+ghost use Rattle.ped_rules.specs.ped_steps.specs.Replacing.{alone};
+ghost use Rattle.ped_rules.specs.ped_steps.specs.Scenes.{IsSceneOf};
+ghost use Rattle.ped_rules.specs.ped_affine.specs.PairViews.{heads_of};
+ghost use Rattle.ped_rules.specs.ped_flow.specs.Questions.{IsLoop};
+ghost use Rattle.ped_refs.specs.Loops.{nest_of};
+ghost use Rattle.ped_rules.specs.ped_symbols.specs.NameRefusals.{IsValid};
 ghost use Rattle.ped_loops.specs.CodeInterchanging.{NoneUpTo};
 ghost use Rattle.ped_loops.specs.CodeShapes.{HasShapes};
 ghost use Rattle.ped_loops.specs.Interchanging as Spec;
 ghost use Rattle.ped_loops.specs.Shapes.{names_outer};
 
-use crate::bounds::are_plain;
 use crate::shapes::{Pair, exchanged, names_outer, pair_of};
 use ped_base::NoMemory;
 use ped_refs::Loop;
-use ped_scalar::{
-    Change, Refused, Rule, Scene, against, all_but, change_to, escapes, first_crossing,
+use ped_rules::{
+    Change, Refused, Rule, Scene, against, all_but, are_plain, change_to, escapes, first_crossing,
     has_step_one, leaves, loop_at, loops_round, only_loop, program_with,
 };
 use ped_tree::constants::Consts;

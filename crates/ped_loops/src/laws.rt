@@ -1,32 +1,20 @@
 //! What is true of the steps. The functions do nothing; their contracts are the laws.
 
 ghost use Rattle.std.specs.Prelude.{ℕ, List};
-ghost use Rattle.ped_scalar.specs.ped_rules.specs.Lawful.{IsLawful};
-ghost use Rattle.ped_loops.specs.Paralleling.{paralleling};
+ghost use Rattle.ped_rules.specs.Lawful.{IsLawful};
 ghost use Rattle.ped_loops.specs.Serialising.{serialising};
 ghost use Rattle.ped_loops.specs.Rejecting.{rejecting};
 ghost use Rattle.ped_loops.specs.Reversing.{reversing};
 ghost use Rattle.ped_loops.specs.Interchanging.{interchanging};
 
-use ped_scalar::{
+use ped_rules::{
     accesses_are_made, accesses_in_sequence, indices_unwritten, none_rejected, one_for_one,
     private_names_cleared, stays_trusted,
 };
 
-/// `parallel` has one first cause at most and makes one program. Where nothing forbids it, that one is valid if the old one
-/// is; and if the old one is also tidy and without C$PED REJECT, so is the new one, and it means the same (Allen and
-/// Kennedy, section 2.4.1; ParaScope).
-pub fn parallel_is_lawful()
-    ensures { (s : ℕ) → IsLawful (paralleling s) }
-{
-    one_for_one();
-    stays_trusted();
-    private_names_cleared();
-    indices_unwritten();
-    none_rejected();
-}
-
-/// So it is with `serial` (ParaScope).
+/// `serial` has one first cause at most and makes one program. Where nothing forbids it, that one is valid if the old
+/// one is; and if the old one is also tidy and without C$PED REJECT, so is the new one, and it means the same
+/// (ParaScope).
 pub fn serial_is_lawful()
     ensures { (s : ℕ) → IsLawful (serialising s) }
 {

@@ -2,18 +2,18 @@
 
 ghost use Rattle.std.specs.Prelude.{true, IfOk};
 ghost use Rattle.ped_tree.specs.Views.{stmt_trees, program_tree, head_of};
-ghost use Rattle.ped_scalar.specs.ped_rules.specs.Steps.{Answers};
-ghost use Rattle.ped_scalar.specs.ped_rules.specs.ped_loop_runs.specs.ped_bodies.specs.ped_steps.specs.Causes.{NoRule};
-ghost use Rattle.ped_scalar.specs.ped_rules.specs.ped_loop_runs.specs.ped_bodies.specs.ped_steps.specs.Changes.{IsChange};
-ghost use Rattle.ped_scalar.specs.ped_rules.specs.ped_loop_runs.specs.ped_bodies.specs.ped_steps.specs.Replacing.{all_kept};
-ghost use Rattle.ped_scalar.specs.ped_rules.specs.ped_loop_runs.specs.ped_bodies.specs.ped_steps.specs.Scenes.{IsSceneOf};
-ghost use Rattle.ped_scalar.specs.ped_rules.specs.ped_loop_runs.specs.ped_bodies.specs.ped_steps.specs.ped_flow.specs.Questions.{IsLoop};
-ghost use Rattle.ped_loops.specs.Flags as Flags;
-ghost use Rattle.ped_loops.specs.Paralleling as Spec;
+ghost use Rattle.ped_rules.specs.Steps.{Answers};
+ghost use Rattle.ped_rules.specs.ped_steps.specs.Causes.{NoRule};
+ghost use Rattle.ped_rules.specs.ped_steps.specs.Changes.{IsChange};
+ghost use Rattle.ped_rules.specs.ped_steps.specs.Replacing.{all_kept};
+ghost use Rattle.ped_rules.specs.ped_steps.specs.Scenes.{IsSceneOf};
+ghost use Rattle.ped_rules.specs.ped_flow.specs.Questions.{IsLoop};
+ghost use Rattle.ped_rules.specs.Flags as Flags;
+ghost use Rattle.ped_rules.specs.Paralleling as Spec;
 
 use crate::flags::flagged;
 use ped_base::NoMemory;
-use ped_scalar::{Change, Refused, Rule, Scene, against, escapes, first_carried, loop_at};
+use ped_rules::{Change, Refused, Rule, Scene, against, escapes, first_carried, loop_at};
 use ped_tree::Do;
 use std::alloc::Global;
 use std::sync::ledger::Ledger;

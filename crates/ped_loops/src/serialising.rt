@@ -2,14 +2,14 @@
 
 ghost use Rattle.std.specs.Prelude.{IfOk};
 ghost use Rattle.ped_tree.specs.Views.{stmt_trees, program_tree, head_of};
-ghost use Rattle.ped_scalar.specs.ped_rules.specs.Steps.{Answers};
-ghost use Rattle.ped_scalar.specs.ped_rules.specs.ped_loop_runs.specs.ped_bodies.specs.ped_steps.specs.Scenes.{IsSceneOf};
-ghost use Rattle.ped_scalar.specs.ped_rules.specs.ped_loop_runs.specs.ped_bodies.specs.ped_steps.specs.ped_flow.specs.Questions.{IsLoop};
+ghost use Rattle.ped_rules.specs.Steps.{Answers};
+ghost use Rattle.ped_rules.specs.ped_steps.specs.Scenes.{IsSceneOf};
+ghost use Rattle.ped_rules.specs.ped_flow.specs.Questions.{IsLoop};
 ghost use Rattle.ped_loops.specs.Serialising as Spec;
 
 use crate::flags::flagged;
 use ped_base::NoMemory;
-use ped_scalar::{Change, Refused, Rule, Scene, against, escapes, loop_at};
+use ped_rules::{Change, Refused, Rule, Scene, against, escapes, loop_at};
 use ped_tree::Do;
 use std::alloc::Global;
 use std::sync::ledger::Ledger;

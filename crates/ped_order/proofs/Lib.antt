@@ -11,7 +11,9 @@ pub mod OneOutcome
 mod Examples
 mod Searches
 mod Levels
+mod PathLaws
 mod Remembering
+mod Adding
 mod RacesFound
 mod Following
 pub mod OneReport

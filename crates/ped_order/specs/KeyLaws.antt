@@ -4,10 +4,10 @@ use Rattle.std.proofs.Common.{ap}
 use Rattle.std.proofs.lemmas.Bool.Decides.{Decides-and, Decides-like}
 use Rattle.std.specs.Cmp.{IsEquivalence, IsPartialEquivalence, decided, partial_equiv_from_equiv, unsigned_Decides}
 use Rattle.std.specs.Cmp.Lexicographic.{pointwise}
-use Rattle.ped_store.specs.Cells.{same_iteration, same_cell}
+use Rattle.ped_store.specs.Cells.{Cell, same_iteration, same_cell}
 use Rattle.ped_store.specs.IterationLaws.{iterations_decide}
 use Rattle.ped_laws.proofs.ActLaws.SameCells.{cell_is, is_cell}
-use Rattle.ped_order.specs.Keys.{Key, same_key, key_writes}
+use Rattle.ped_order.specs.Keys.{Key, same_key, key_writes, cell_writes}
 
 -- the test of keys is equality
 pub key_decides : (k l : Key) → Decides (same_key k l) (k ≡ l)
@@ -27,3 +27,19 @@ key_partial_equivalence = partial_equiv_from_equiv key_equivalence
 -- equal keys are hashed alike
 pub keys_hash_alike : (k l : Key) → same_key k l ≡ true → key_writes k ≡ key_writes l
 keys_hash_alike k l e = ap key_writes ((key_decides k l).0 e)
+
+-- the test of cells is equality
+pub cell_decides : (c d : Cell) → Decides (same_cell c d) (c ≡ d)
+cell_decides c d = (cell_is c d, is_cell c d)
+
+-- the test of cells goes both ways, and from one to the next
+pub cell_equivalence : IsEquivalence same_cell
+cell_equivalence = decided same_cell cell_decides
+
+-- the same of cells that may be equal to none
+pub cell_partial_equivalence : IsPartialEquivalence same_cell
+cell_partial_equivalence = partial_equiv_from_equiv cell_equivalence
+
+-- equal cells are hashed alike
+pub cells_hash_alike : (c d : Cell) → same_cell c d ≡ true → cell_writes c ≡ cell_writes d
+cells_hash_alike c d e = ap cell_writes ((cell_decides c d).0 e)

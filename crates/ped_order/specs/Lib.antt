@@ -3,9 +3,12 @@ pub use Rattle.ped_laws
 pub use Rattle.ped_interleavings
 pub use Rattle.ped_laws.specs.ped_flow
 pub use Rattle.ped_laws.specs.ped_eval
+pub mod Entered
 pub mod FirstRaces
 pub mod KeyLaws
 pub mod Keys
+pub mod PathPlaces
+pub mod Paths
 pub mod Reports
 pub mod ReportViews
 pub mod CarriedRaces

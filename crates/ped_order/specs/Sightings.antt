@@ -1,9 +1,10 @@
--- What is remembered of the accesses at a key: the earliest, and the earliest of another iteration, among all and among writes (this project).
+-- What is remembered of the accesses at a key: the earliest, and the earliest of another iteration, among all and among writes; and of those in the same iterations, the earliest and the earliest write (this project).
 use Rattle.std.specs.Prelude.{ℕ, Bool, ◌==◌, ltb, List, [], ◌∷◌, Option, Some, None, suc, if◌then◌else◌}
 use Rattle.ped_store.specs.Races.{Access}
 use Rattle.ped_order.specs.declared.sightings.Sighting.{Sighting}
 use Rattle.ped_order.specs.declared.sightings.Earliest.{Earliest}
 use Rattle.ped_order.specs.declared.sightings.Entry.{Entry}
+use Rattle.ped_order.specs.declared.sightings.Summary.{Summary}
 
 -- the earliest access in another iteration than that with number n
 abbrev pub earliest_elsewhere : Option Earliest → ℕ → Option Sighting
@@ -23,6 +24,11 @@ all_in (Some e) = Some e.all
 -- the earliest access that conflicts with a write, or with a read, in the iteration with number n
 abbrev pub rival_in : Option Entry → ℕ → Bool → Option Sighting
 rival_in entry n writes = earliest_elsewhere (if writes then all_in entry else writes_in entry) n
+
+-- the earliest of some accesses in the same iterations that conflicts with a write, or with a read
+abbrev pub rival_among : Option Summary → Bool → Option Sighting
+rival_among None writes = None
+rival_among (Some s) writes = if writes then Some s.first else s.write
 
 -- the first if there is one, or else the second
 abbrev pub first_of : Option Sighting → Option Sighting → Option Sighting

@@ -66,6 +66,62 @@ fn iterations(alloc: Global, turns: &[Turn]) -> Result<Vec<Iteration>, NoMemory>
     Ok(iterations)
 }
 
+/// A cell that has been touched.
+#[derive(Drop)]
+pub(crate) struct TouchedCell {
+    cell: Cell,
+}
+
+impl Model for TouchedCell {
+    ghost use Rattle.ped_store.specs.CellViews.{cell_view};
+    ghost use Rattle.ped_store.specs.Cells.{Cell};
+
+    ghost Value = { Cell };
+
+    ghost view = { λ c. cell_view c.cell };
+}
+
+impl TouchedCell {
+    /// This cell.
+    pub(crate) fn new(cell: &Cell) -> TouchedCell
+        ensures { result ≡ cell_view cell.now }
+    {
+        TouchedCell { cell: *cell }
+    }
+}
+
+impl PartialEq for TouchedCell {
+    ghost use Rattle.ped_store.specs.Cells.{same_cell};
+    ghost use Rattle.ped_order.specs.KeyLaws.{cell_partial_equivalence};
+
+    ghost eq = { same_cell };
+
+    ghost laws = { cell_partial_equivalence };
+
+    fn eq(&self, other: &TouchedCell) -> bool {
+        are_same_cell(&self.cell, &other.cell)
+    }
+}
+
+impl Eq for TouchedCell {
+    ghost use Rattle.ped_order.specs.KeyLaws.{cell_equivalence};
+
+    ghost laws = { cell_equivalence };
+}
+
+impl Hash for TouchedCell {
+    ghost use Rattle.ped_order.specs.Keys.{cell_writes};
+    ghost use Rattle.ped_order.specs.KeyLaws.{cells_hash_alike};
+
+    ghost hash_input = { cell_writes };
+
+    ghost respects_eq = { cells_hash_alike };
+
+    fn hash<H: Hasher>(&self, state: &mut H) {
+        hash_cell(&self.cell, state);
+    }
+}
+
 impl PartialEq for Key {
     ghost use Rattle.ped_order.specs.Keys.{same_key};
     ghost use Rattle.ped_order.specs.KeyLaws.{key_partial_equivalence};

@@ -46,6 +46,50 @@ impl Earliest {
     }
 }
 
+/// The earliest of some accesses in the same iterations, and the earliest write among them.
+#[derive(Clone, Copy)]
+pub(crate) struct Summary {
+    /// The earliest.
+    pub first: Sighting,
+    /// The earliest write.
+    pub write: Option<Sighting>,
+}
+
+/// The earliest access that conflicts with a write, or with a read.
+pub(crate) fn rival_among(seen: &Option<Summary>, writes: bool) -> Option<Sighting>
+    ensures { result ≡ Spec.rival_among seen.now writes }
+{
+    match seen {
+        None => return None,
+        Some(summary) => {
+            if writes {
+                return Some(summary.first);
+            }
+            return summary.write;
+        }
+    }
+}
+
+/// With one more access, in the same iterations.
+pub(crate) fn with_touch(seen: &Option<Summary>, writes: bool, sighting: Sighting) -> Summary
+    ensures { (w : Bool) → Spec.rival_among (Some result) w ≡ Spec.first_of (Spec.rival_among seen.now w) (if writes || w then Some sighting else None) }
+{
+    match seen {
+        None => Summary {
+            first: sighting,
+            write: if writes { Some(sighting) } else { None },
+        },
+        Some(summary) => Summary {
+            first: summary.first,
+            write: if writes && summary.write.is_none() {
+                Some(sighting)
+            } else {
+                summary.write
+            },
+        },
+    }
+}
+
 /// With one more access, in the iteration with this number.
 fn with_sighting(earliest: &Option<Earliest>, number: u64, sighting: Sighting) -> Earliest
     ensures { (n : ℕ) → Spec.earliest_elsewhere (Some result) n ≡ Spec.first_of (Spec.earliest_elsewhere earliest.now n) (if number == n then None else Some sighting) }

@@ -11,7 +11,7 @@ use Rattle.ped_tree.proofs.NameLaws.Collected.{among_append}
 use Rattle.ped_tree.specs.NamesIn.{expr_names, exprs_names}
 use Rattle.ped_tree.specs.Constants.ConstantExpressions.{unary_value, binary_value, onto, intrinsic_result, constant_value, constant_values}
 use Rattle.ped_tree.specs.Constants.NamedConstants.{value_named}
-use Rattle.ped_splits.specs.ped_reindex.specs.ped_loops.specs.ped_scalar.specs.ped_rules.specs.ped_loop_runs.specs.ped_bodies.specs.ped_steps.specs.ped_flow.specs.Events.{scalars_in, all_scalars_in}
+use Rattle.ped_rules.specs.ped_flow.specs.Events.{scalars_in, all_scalars_in}
 
 nothing : {A : Type 0} {X : Type 0} {x : X} → ◌≡◌ {A = Option X} None (Some x) → A
 nothing e = absurd cc

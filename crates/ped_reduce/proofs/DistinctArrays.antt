@@ -11,13 +11,13 @@ use Rattle.ped_base.specs.Lists.{is_same_text, is_among}
 use Rattle.ped_base.proofs.NameEquality.{same_is, same_flip, same_itself}
 use Rattle.ped_tree.specs.Grammar.Words.{is_name}
 use Rattle.ped_tree.specs.Tree.{ProgramTree}
-use Rattle.ped_splits.specs.ped_reindex.specs.ped_loops.specs.ped_scalar.specs.ped_rules.specs.ped_loop_runs.specs.ped_bodies.specs.ped_steps.specs.ped_symbols.specs.Kinds.{names_of}
-use Rattle.ped_splits.specs.ped_reindex.specs.ped_loops.specs.ped_scalar.specs.ped_rules.specs.ped_loop_runs.specs.ped_bodies.specs.ped_steps.specs.ped_symbols.specs.NameRefusals.{has_twice}
-use Rattle.ped_splits.specs.ped_reindex.specs.ped_loops.specs.ped_scalar.specs.ped_rules.specs.ped_loop_runs.specs.ped_bodies.specs.ped_steps.specs.ped_flow.proofs.Truths.{or_split, not_true}
-use Rattle.ped_splits.specs.ped_reindex.specs.ped_loops.specs.ped_scalar.specs.ped_rules.specs.ped_loop_runs.specs.ped_bodies.specs.ped_steps.specs.ped_laws.specs.Acts.Orders.{IsIn}
-use Rattle.ped_splits.specs.ped_reindex.specs.ped_loops.specs.ped_scalar.specs.ped_rules.specs.Fresh.{occurs, most_numbered}
-use Rattle.ped_splits.specs.ped_reindex.specs.ped_loops.specs.ped_scalar.specs.ped_rules.specs.declared.fresh.NewName.TheVariants.{Array}
-use Rattle.ped_splits.specs.ped_reindex.specs.ped_loops.specs.ped_scalar.specs.ped_rules.proofs.FreshNames.{most_is, numbered_name}
+use Rattle.ped_rules.specs.ped_symbols.specs.Kinds.{names_of}
+use Rattle.ped_rules.specs.ped_symbols.specs.NameRefusals.{has_twice}
+use Rattle.ped_rules.specs.ped_flow.proofs.Truths.{or_split, not_true}
+use Rattle.ped_rules.specs.ped_laws.specs.Acts.Orders.{IsIn}
+use Rattle.ped_rules.specs.Fresh.{occurs, most_numbered}
+use Rattle.ped_rules.specs.declared.fresh.NewName.TheVariants.{Array}
+use Rattle.ped_rules.proofs.FreshNames.{most_is, numbered_name}
 use Rattle.ped_reduce.specs.Lowering.{Partials, fresh_arrays, partials_of}
 use Rattle.ped_reduce.proofs.SumStores.{is_array_of, AreDistinct, AreThree, HaveArrays}
 use Rattle.ped_reduce.proofs.SumExits.{AllDistinct}

@@ -4,7 +4,7 @@ use Rattle.std.specs.Prelude.{codes, option_map}
 use Rattle.std.specs.Fmt.{decimal}
 use Rattle.std.proofs.lemmas.List.{map-append}
 use Rattle.ped_tree.specs.Tree.{ProgramTree}
-use Rattle.ped_splits.specs.ped_reindex.specs.ped_loops.specs.ped_scalar.specs.ped_rules.specs.Fresh.{occurs, numbered_names, most_numbered}
+use Rattle.ped_rules.specs.Fresh.{occurs, numbered_names, most_numbered}
 use Rattle.ped_reduce.specs.declared.partials.Partials.{Partials as CodePartials}
 use Rattle.ped_reduce.specs.Lowering.{Partials, fresh_arrays, partials_of}
 use Rattle.ped_reduce.specs.CodeLowering.{partials_view, fresh_from}

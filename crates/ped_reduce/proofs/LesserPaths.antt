@@ -6,10 +6,10 @@ use Rattle.std.proofs.lemmas.Bool.{or_left}
 use Rattle.ped_base.specs.Lists.{is_same_text, is_among}
 use Rattle.ped_tree.specs.Tree.{ExprTree, Int, Var, Element, Neg, Add, Sub, Mul, Div, Pow, Call, Head, StmtTree, StmtTrees, Assign, If, Do, Print, Read, Stop, Comment, no_stmts, more_stmts}
 use Rattle.ped_tree.specs.Numbering.{statement_count, statements_count}
-use Rattle.ped_splits.specs.ped_reindex.specs.ped_loops.specs.ped_scalar.specs.ped_rules.specs.ped_loop_runs.specs.ped_bodies.specs.ped_steps.specs.ped_flow.specs.Events.{Manner, reads, assigns, clears, Event, event, unless_constant, scalars_in, all_scalars_in, scalars_in_cond, scalars_in_item, reads_of, left_events, own_events, copied, start_events, exit_events}
-use Rattle.ped_splits.specs.ped_reindex.specs.ped_loops.specs.ped_scalar.specs.ped_rules.specs.ped_loop_runs.specs.ped_bodies.specs.ped_steps.specs.ped_flow.specs.Summaries.{least_of, when, passing, unreached, of_manner, sum_in_turn, sum_either, sum_trips, sum_event, sum_events, sum_loop, sum_of, sum_of_all}
-use Rattle.ped_splits.specs.ped_reindex.specs.ped_loops.specs.ped_scalar.specs.ped_rules.specs.ped_loop_runs.specs.ped_bodies.specs.ped_steps.specs.ped_flow.proofs.Truths.{untrue, or_none}
-use Rattle.ped_splits.specs.ped_reindex.specs.ped_loops.specs.ped_scalar.specs.ped_rules.specs.ped_loop_runs.proofs.TidyLaws.TidyPathsSums.{Summary, IsNoMore, AreNoMore, own_exit, no_more, no_more_by, in_turn_more, either_more, trips_more, unreached_more, own_more, cleared_more}
+use Rattle.ped_rules.specs.ped_flow.specs.Events.{Manner, reads, assigns, clears, Event, event, unless_constant, scalars_in, all_scalars_in, scalars_in_cond, scalars_in_item, reads_of, left_events, own_events, copied, start_events, exit_events}
+use Rattle.ped_rules.specs.ped_flow.specs.Summaries.{least_of, when, passing, unreached, of_manner, sum_in_turn, sum_either, sum_trips, sum_event, sum_events, sum_loop, sum_of, sum_of_all}
+use Rattle.ped_rules.specs.ped_flow.proofs.Truths.{untrue, or_none}
+use Rattle.ped_rules.specs.ped_loop_runs.proofs.TidyLaws.TidyPathsSums.{Summary, IsNoMore, AreNoMore, own_exit, no_more, no_more_by, in_turn_more, either_more, trips_more, unreached_more, own_more, cleared_more}
 
 -- no more than another
 pub record IsLess (a b : Summary) : Type 0 where

@@ -3,12 +3,12 @@ use Rattle.std.proofs.Common.{◌≡◌, ℕ, ◌+◌, List, [], ◌∷◌, refl
 use Rattle.ped_tree.specs.Tree.{StmtTrees}
 use Rattle.ped_tree.specs.NamesIn.{all_loop_variables}
 use Rattle.ped_tree.specs.Numbering.{statements_count}
-use Rattle.ped_splits.specs.ped_reindex.specs.ped_loops.specs.ped_scalar.specs.ped_rules.specs.ped_loop_runs.specs.ped_bodies.specs.ped_steps.specs.ped_symbols.specs.Sites.{stmts_sites}
-use Rattle.ped_splits.specs.ped_reindex.specs.ped_loops.specs.ped_scalar.specs.ped_rules.specs.ped_loop_runs.specs.ped_bodies.specs.ped_steps.specs.ped_laws.specs.FlowRuns.Covering.{some_stop}
-use Rattle.ped_splits.specs.ped_reindex.specs.ped_loops.specs.ped_scalar.specs.ped_rules.specs.ped_loop_runs.specs.ped_bodies.specs.ped_steps.specs.ped_laws.specs.ped_eval.specs.Runs.{run_all}
-use Rattle.ped_splits.specs.ped_reindex.specs.ped_loops.specs.ped_scalar.specs.ped_rules.specs.ped_loop_runs.specs.ped_bodies.specs.ped_steps.specs.ped_laws.specs.ped_eval.specs.Scopes.{Setting, Scope}
-use Rattle.ped_splits.specs.ped_reindex.specs.ped_loops.specs.ped_scalar.specs.ped_rules.specs.ped_loop_runs.specs.Unrejected.{some_rejection}
-use Rattle.ped_splits.specs.ped_reindex.specs.ped_loops.specs.ped_scalar.specs.ped_rules.specs.ped_loop_runs.specs.Writing.{all_write, some_write_index}
+use Rattle.ped_rules.specs.ped_symbols.specs.Sites.{stmts_sites}
+use Rattle.ped_rules.specs.ped_laws.specs.FlowRuns.Covering.{some_stop}
+use Rattle.ped_rules.specs.ped_eval.specs.Runs.{run_all}
+use Rattle.ped_rules.specs.ped_eval.specs.Scopes.{Setting, Scope}
+use Rattle.ped_rules.specs.ped_loop_runs.specs.Unrejected.{some_rejection}
+use Rattle.ped_rules.specs.ped_loop_runs.specs.Writing.{all_write, some_write_index}
 use Rattle.ped_reduce.specs.Lists.{with_list}
 
 -- they have no number

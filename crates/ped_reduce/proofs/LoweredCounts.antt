@@ -3,7 +3,7 @@ use Rattle.std.proofs.Common.{◌≡◌, ℕ, ◌+◌, ◌*◌, List, [], ◌∷
 use Rattle.std.proofs.lemmas.List.Elements.{filter-append}
 use Rattle.ped_tree.specs.Tree.{ExprTree, Head, StmtTree, StmtTrees, Assign, If, Do, Print, Read, Stop, Comment, no_stmts, more_stmts}
 use Rattle.ped_tree.specs.Numbering.{numbered, all_numbered, statement_count, statements_count}
-use Rattle.ped_splits.specs.ped_reindex.specs.ped_loops.specs.ped_scalar.specs.ped_rules.specs.ped_loop_runs.specs.ped_bodies.specs.ped_steps.proofs.RunLaws.FilledGaps.{counted}
+use Rattle.ped_rules.specs.ped_steps.proofs.RunLaws.FilledGaps.{counted}
 use Rattle.ped_reduce.specs.Lists.{listed_name, unless_named, without_list}
 use Rattle.ped_reduce.specs.Sums.{Sum, sum_to}
 use Rattle.ped_reduce.specs.Lowering.{Partials, zeros, apart_or, sum_apart, summed, all_summed, exits, lowered_loop, is_sum, gained}

@@ -8,13 +8,13 @@ use Rattle.ped_tree.specs.Tree.{ExprTree, Int, Var, Add, Mul, Div, Call, no_expr
 use Rattle.ped_tree.specs.declared.expressions.Intrinsic.TheVariants.{Mod}
 use Rattle.ped_tree.specs.Numbering.{statement_count, statements_count}
 use Rattle.ped_tree.specs.NamesIn.{loop_variables, all_loop_variables}
-use Rattle.ped_splits.specs.ped_reindex.specs.ped_loops.specs.ped_scalar.specs.ped_rules.specs.ped_loop_runs.specs.ped_bodies.specs.ped_steps.specs.ped_flow.specs.Events.{event, reads, assigns, unless_constant, scalars_in, reads_of, left_events, own_events, copied}
-use Rattle.ped_splits.specs.ped_reindex.specs.ped_loops.specs.ped_scalar.specs.ped_rules.specs.ped_loop_runs.specs.ped_bodies.specs.ped_steps.specs.ped_flow.specs.Summaries.{least_of, when, passing, sum_in_turn, sum_either, sum_trips, sum_events, sum_loop, sum_of, sum_of_all}
-use Rattle.ped_splits.specs.ped_reindex.specs.ped_loops.specs.ped_scalar.specs.ped_rules.specs.ped_loop_runs.specs.ped_bodies.specs.ped_steps.specs.ped_flow.proofs.Truths.{untrue, or_none}
-use Rattle.ped_splits.specs.ped_reindex.specs.ped_loops.specs.ped_scalar.specs.ped_rules.specs.ped_loop_runs.specs.ped_bodies.specs.ped_steps.specs.ped_flow.proofs.SumLaws.{in_turn-assoc}
-use Rattle.ped_splits.specs.ped_reindex.specs.ped_loops.specs.ped_scalar.specs.ped_rules.specs.ped_loop_runs.specs.ped_bodies.specs.ped_steps.specs.Replacing.{followed, alone}
-use Rattle.ped_splits.specs.ped_reindex.specs.ped_loops.specs.ped_scalar.specs.ped_rules.specs.ped_loop_runs.proofs.TidyLaws.TidyPathsSums.{Summary, AreNoMore, own_exit, events_keep, own_overwrites, own_lefts}
-use Rattle.ped_splits.specs.ped_reindex.specs.ped_loops.specs.ped_scalar.specs.ped_rules.specs.ped_loop_runs.proofs.TidyLaws.TidyPathsGaps.{followed_sum}
+use Rattle.ped_rules.specs.ped_flow.specs.Events.{event, reads, assigns, unless_constant, scalars_in, reads_of, left_events, own_events, copied}
+use Rattle.ped_rules.specs.ped_flow.specs.Summaries.{least_of, when, passing, sum_in_turn, sum_either, sum_trips, sum_events, sum_loop, sum_of, sum_of_all}
+use Rattle.ped_rules.specs.ped_flow.proofs.Truths.{untrue, or_none}
+use Rattle.ped_rules.specs.ped_flow.proofs.SumLaws.{in_turn-assoc}
+use Rattle.ped_rules.specs.ped_steps.specs.Replacing.{followed, alone}
+use Rattle.ped_rules.specs.ped_loop_runs.proofs.TidyLaws.TidyPathsSums.{Summary, AreNoMore, own_exit, events_keep, own_overwrites, own_lefts}
+use Rattle.ped_rules.specs.ped_loop_runs.proofs.TidyLaws.TidyPathsGaps.{followed_sum}
 use Rattle.ped_reduce.specs.Lists.{listed_name, unless_named, without_list}
 use Rattle.ped_reduce.specs.Sums.{Sum, plus, minus}
 use Rattle.ped_reduce.specs.Lowering.{Partials, at, zeros, with_sum, added_apart, sum_apart, summed, all_summed, addition, exit, exits, bare, lowered_loop}

@@ -4,14 +4,14 @@ use Rattle.std.proofs.lemmas.Bool.{both_ways}
 use Rattle.std.proofs.lemmas.List.Elements.{All-head, All-tail}
 use Rattle.ped_base.specs.Lists.{has_some}
 use Rattle.ped_tree.specs.Tree.{Head, StmtTrees, ProgramTree}
-use Rattle.ped_splits.specs.ped_reindex.specs.ped_loops.specs.ped_scalar.specs.ped_rules.specs.ped_loop_runs.specs.ped_bodies.specs.ped_steps.specs.ped_flow.specs.Questions.{IsLoop, LoopOf}
-use Rattle.ped_splits.specs.ped_reindex.specs.ped_loops.specs.ped_scalar.specs.ped_rules.specs.ped_loop_runs.specs.ped_bodies.specs.ped_steps.specs.ped_laws.specs.ped_graph.specs.ped_edges.specs.CodeEdges.{edge_of}
-use Rattle.ped_splits.specs.ped_reindex.specs.ped_loops.specs.ped_scalar.specs.ped_rules.specs.ped_loop_runs.specs.ped_bodies.specs.ped_steps.specs.ped_laws.specs.ped_graph.specs.ped_edges.specs.Edges.{Edge}
-use Rattle.ped_splits.specs.ped_reindex.specs.ped_loops.specs.ped_scalar.specs.ped_rules.specs.ped_loop_runs.specs.ped_bodies.specs.ped_steps.specs.ped_laws.specs.ped_graph.specs.ped_edges.specs.declared.edges.Edge.{Edge as CodeEdge}
-use Rattle.ped_splits.specs.ped_reindex.specs.ped_loops.specs.ped_scalar.specs.ped_rules.specs.ped_loop_runs.specs.ped_bodies.specs.ped_steps.specs.Causes.{Rules, NoRule}
-use Rattle.ped_splits.specs.ped_reindex.specs.ped_loops.specs.ped_scalar.specs.ped_rules.specs.Carried.{IsFirstOf as IsFirstEdge}
-use Rattle.ped_splits.specs.ped_reindex.specs.ped_loops.specs.ped_scalar.specs.ped_rules.specs.Chains.{no_rules}
-use Rattle.ped_splits.specs.ped_reindex.specs.ped_loops.specs.ped_scalar.specs.ped_rules.proofs.OneLoop.{one_loop}
+use Rattle.ped_rules.specs.ped_flow.specs.Questions.{IsLoop, LoopOf}
+use Rattle.ped_edges.specs.CodeEdges.{edge_of}
+use Rattle.ped_edges.specs.Edges.{Edge}
+use Rattle.ped_edges.specs.declared.edges.Edge.{Edge as CodeEdge}
+use Rattle.ped_rules.specs.ped_steps.specs.Causes.{Rules, NoRule}
+use Rattle.ped_rules.specs.Carried.{IsFirstOf as IsFirstEdge}
+use Rattle.ped_rules.specs.Chains.{no_rules}
+use Rattle.ped_rules.proofs.OneLoop.{one_loop}
 use Rattle.ped_reduce.specs.declared.lowering.Lowered.{Lowered as CodeLowered}
 use Rattle.ped_reduce.specs.declared.rules.Standing.{Standing}
 use Rattle.ped_reduce.specs.Lists.{list_of}

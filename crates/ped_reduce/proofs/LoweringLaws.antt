@@ -7,10 +7,10 @@ use Rattle.std.proofs.lemmas.List.FromFn.{length-range_with_len, get_or-range_wi
 use Rattle.ped_tree.specs.Tree.{Head, StmtTree, StmtTrees, Do, ProgramTree}
 use Rattle.ped_tree.specs.Numbering.{all_numbered, statements_count}
 use Rattle.ped_tree.proofs.Numbers.{length-all_numbered}
-use Rattle.ped_splits.specs.ped_reindex.specs.ped_loops.specs.ped_scalar.specs.ped_rules.specs.ped_loop_runs.specs.ped_bodies.specs.ped_steps.specs.ped_symbols.specs.NameRefusals.{IsValid}
-use Rattle.ped_splits.specs.ped_reindex.specs.ped_loops.specs.ped_scalar.specs.ped_rules.specs.ped_loop_runs.specs.ped_bodies.specs.ped_steps.specs.ped_flow.specs.Questions.{IsLoop, LoopOf}
-use Rattle.ped_splits.specs.ped_reindex.specs.ped_loops.specs.ped_scalar.specs.ped_rules.specs.ped_loop_runs.specs.ped_bodies.specs.ped_steps.specs.ped_flow.proofs.Answering.{loop_fits}
-use Rattle.ped_splits.specs.ped_reindex.specs.ped_loops.specs.ped_scalar.specs.ped_rules.proofs.OneLoop.{one_loop}
+use Rattle.ped_rules.specs.ped_symbols.specs.NameRefusals.{IsValid}
+use Rattle.ped_rules.specs.ped_flow.specs.Questions.{IsLoop, LoopOf}
+use Rattle.ped_rules.specs.ped_flow.proofs.Answering.{loop_fits}
+use Rattle.ped_rules.proofs.OneLoop.{one_loop}
 use Rattle.ped_reduce.specs.Lists.{list_of, has_list}
 use Rattle.ped_reduce.specs.Lowering.{Partials, Lowered, not_lowered, repeated, is_sum, summed_origins, lowered_at}
 use Rattle.ped_reduce.specs.Reducing.{IsLive, LowersOne, Lowers, IsLowered}

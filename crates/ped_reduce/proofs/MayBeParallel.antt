@@ -6,30 +6,30 @@ use Rattle.std.proofs.lemmas.List.Elements.{All-nil, All-cons, All-head, All-tai
 use Rattle.ped_base.specs.Lists.{is_among}
 use Rattle.ped_tree.specs.Tree.{Head, StmtTree, StmtTrees, If, Do, more_stmts, ProgramTree}
 use Rattle.ped_tree.specs.Numbering.{statement_count, statements_count}
-use Rattle.ped_splits.specs.ped_reindex.specs.ped_loops.specs.ped_scalar.specs.ped_rules.specs.ped_loop_runs.specs.ped_bodies.specs.ped_steps.specs.ped_symbols.specs.Kinds.{table_of}
-use Rattle.ped_splits.specs.ped_reindex.specs.ped_loops.specs.ped_scalar.specs.ped_rules.specs.ped_loop_runs.specs.ped_bodies.specs.ped_steps.specs.ped_symbols.specs.NameRefusals.{IsValid}
-use Rattle.ped_splits.specs.ped_reindex.specs.ped_loops.specs.ped_scalar.specs.ped_rules.specs.ped_loop_runs.specs.ped_bodies.specs.ped_steps.specs.ped_laws.specs.ped_graph.specs.ped_edges.specs.Edges.{Mark, proven, pending, rejected, Edge, is_rejected}
-use Rattle.ped_splits.specs.ped_reindex.specs.ped_loops.specs.ped_scalar.specs.ped_rules.specs.ped_loop_runs.specs.ped_bodies.specs.ped_steps.specs.ped_laws.specs.ped_graph.specs.Dependences.{AreEdges}
-use Rattle.ped_splits.specs.ped_reindex.specs.ped_loops.specs.ped_scalar.specs.ped_rules.specs.ped_loop_runs.specs.ped_bodies.specs.ped_steps.specs.ped_flow.proofs.Truths.{untrue}
-use Rattle.ped_splits.specs.ped_reindex.specs.ped_loops.specs.ped_scalar.specs.ped_rules.specs.ped_loop_runs.specs.ped_bodies.specs.ped_steps.specs.ped_flow.specs.Questions.{IsContained}
-use Rattle.ped_splits.specs.ped_reindex.specs.ped_loops.specs.ped_scalar.specs.ped_rules.specs.ped_loop_runs.specs.ped_bodies.specs.ped_steps.specs.declared.rules.Rule.TheVariants.{IndexEscapes}
-use Rattle.ped_splits.specs.ped_reindex.specs.ped_loops.specs.ped_scalar.specs.ped_rules.specs.ped_loop_runs.specs.ped_bodies.specs.ped_steps.specs.Causes.{NoRule}
-use Rattle.ped_splits.specs.ped_reindex.specs.ped_loops.specs.ped_scalar.specs.ped_rules.specs.ped_loop_runs.specs.ped_bodies.specs.ped_steps.specs.Replacing.{followed, alone, all_replaced, all_kept}
-use Rattle.ped_splits.specs.ped_reindex.specs.ped_loops.specs.ped_scalar.specs.ped_rules.specs.ped_loop_runs.specs.ped_bodies.specs.ped_steps.specs.Runs.Gaps.{Gap, at_front, past, in_then, in_else, in_body, filled, number_at}
-use Rattle.ped_splits.specs.ped_reindex.specs.ped_loops.specs.ped_scalar.specs.ped_rules.specs.ped_loop_runs.specs.ped_bodies.specs.ped_steps.proofs.RunLaws.FilledGaps.{number_from, number_room}
-use Rattle.ped_splits.specs.ped_reindex.specs.ped_loops.specs.ped_scalar.specs.ped_rules.specs.ped_loop_runs.specs.ped_bodies.specs.ped_steps.proofs.Followed.{followed-assoc}
-use Rattle.ped_splits.specs.ped_reindex.specs.ped_loops.specs.ped_scalar.specs.ped_rules.specs.ped_loop_runs.specs.ped_bodies.specs.ped_steps.proofs.RunLaws.ReplacedTrees as trees
-use Rattle.ped_splits.specs.ped_reindex.specs.ped_loops.specs.ped_scalar.specs.ped_rules.specs.ped_loop_runs.specs.Unrejected.{IsTrusted}
-use Rattle.ped_splits.specs.ped_reindex.specs.ped_loops.specs.ped_scalar.specs.ped_rules.specs.ped_loop_runs.proofs.LoopLaws.SomeEdges.{some_edges}
-use Rattle.ped_splits.specs.ped_reindex.specs.ped_loops.specs.ped_scalar.specs.ped_rules.specs.ped_loop_runs.proofs.TidyLaws.UnrejectedEdges.{edges_unrejected}
-use Rattle.ped_splits.specs.ped_reindex.specs.ped_loops.specs.ped_scalar.specs.ped_rules.specs.ped_loop_runs.specs.ped_bodies.specs.ped_steps.specs.ped_laws.specs.Acts.Orders.{IsIn}
-use Rattle.ped_splits.specs.ped_reindex.specs.ped_loops.specs.ped_scalar.specs.ped_rules.specs.Carried.{is_carried_by, carried}
-use Rattle.ped_splits.specs.ped_reindex.specs.ped_loops.specs.ped_scalar.specs.ped_rules.specs.OnlyLoops.{on_loop}
-use Rattle.ped_splits.specs.ped_reindex.specs.ped_loops.specs.ped_scalar.specs.ped_rules.specs.Spans.{Span, span_of}
-use Rattle.ped_splits.specs.ped_reindex.specs.ped_loops.specs.ped_scalar.specs.ped_rules.proofs.EscapeRule.{by_nothing}
-use Rattle.ped_splits.specs.ped_reindex.specs.ped_loops.specs.ped_scalar.specs.ped_rules.proofs.OneLoop.{one_loop}
-use Rattle.ped_splits.specs.ped_reindex.specs.ped_loops.specs.Flags.{with_flag, flagged}
-use Rattle.ped_splits.specs.ped_reindex.specs.ped_loops.specs.Paralleling.{StandsAgainstParallel, paralleling}
+use Rattle.ped_rules.specs.ped_symbols.specs.Kinds.{table_of}
+use Rattle.ped_rules.specs.ped_symbols.specs.NameRefusals.{IsValid}
+use Rattle.ped_edges.specs.Edges.{Mark, proven, pending, rejected, Edge, is_rejected}
+use Rattle.ped_rules.specs.ped_graph.specs.Dependences.{AreEdges}
+use Rattle.ped_rules.specs.ped_flow.proofs.Truths.{untrue}
+use Rattle.ped_rules.specs.ped_flow.specs.Questions.{IsContained}
+use Rattle.ped_rules.specs.ped_steps.specs.declared.rules.Rule.TheVariants.{IndexEscapes}
+use Rattle.ped_rules.specs.ped_steps.specs.Causes.{NoRule}
+use Rattle.ped_rules.specs.ped_steps.specs.Replacing.{followed, alone, all_replaced, all_kept}
+use Rattle.ped_rules.specs.ped_steps.specs.Runs.Gaps.{Gap, at_front, past, in_then, in_else, in_body, filled, number_at}
+use Rattle.ped_rules.specs.ped_steps.proofs.RunLaws.FilledGaps.{number_from, number_room}
+use Rattle.ped_rules.specs.ped_steps.proofs.Followed.{followed-assoc}
+use Rattle.ped_rules.specs.ped_steps.proofs.RunLaws.ReplacedTrees as trees
+use Rattle.ped_rules.specs.ped_loop_runs.specs.Unrejected.{IsTrusted}
+use Rattle.ped_rules.specs.ped_loop_runs.proofs.LoopLaws.SomeEdges.{some_edges}
+use Rattle.ped_rules.specs.ped_loop_runs.proofs.TidyLaws.UnrejectedEdges.{edges_unrejected}
+use Rattle.ped_rules.specs.ped_laws.specs.Acts.Orders.{IsIn}
+use Rattle.ped_rules.specs.Carried.{is_carried_by, carried}
+use Rattle.ped_rules.specs.OnlyLoops.{on_loop}
+use Rattle.ped_rules.specs.Spans.{Span, span_of}
+use Rattle.ped_rules.proofs.EscapeRule.{by_nothing}
+use Rattle.ped_rules.proofs.OneLoop.{one_loop}
+use Rattle.ped_rules.specs.Flags.{with_flag, flagged}
+use Rattle.ped_rules.specs.Paralleling.{StandsAgainstParallel, paralleling}
 use Rattle.ped_reduce.specs.Lists.{list_of}
 use Rattle.ped_reduce.specs.Lowering.{Partials, near_only, declarations, bare, exits, fresh_arrays, partials_of, lowered_loop, Lowered, not_lowered, lowered_at}
 use Rattle.ped_reduce.specs.Reducing.{carried_beside, IsLive, Lowers}
@@ -39,7 +39,7 @@ use Rattle.ped_reduce.proofs.LoweredStages.{IsResembling, lowered_resembles}
 use Rattle.ped_reduce.proofs.ResemblingPaths.{new_loop, contained_again}
 use Rattle.ped_reduce.proofs.EdgesResemble.{ViewsResemble, edges_resemble}
 use Rattle.ped_reduce.proofs.ViewsAlike.{views_are}
-use Rattle.ped_splits.specs.ped_reindex.specs.ped_loops.proofs.Contained.{contained}
+use Rattle.ped_rules.proofs.HeadLaws.Contained.{contained}
 
 each_of : {X : Type 0} (P : X → Type 0) (xs : List X) (x : X) → All P xs → IsIn x xs → P x
 each_of P [] x all i = absurd i

@@ -4,11 +4,11 @@ use Rattle.ped_base.specs.Lists.{has_some, is_among}
 use Rattle.ped_tree.specs.Tree.{Head, StmtTrees, If, Do, no_stmts, more_stmts, ProgramTree}
 use Rattle.ped_tree.specs.NamesIn.{stmts_names}
 use Rattle.ped_tree.specs.Numbering.{all_numbered, statement_with, statement_count, statements_count}
-use Rattle.ped_splits.specs.ped_reindex.specs.ped_loops.specs.ped_scalar.specs.ped_rules.specs.ped_loop_runs.specs.ped_bodies.specs.ped_steps.specs.ped_refs.specs.References.{outermost_number}
-use Rattle.ped_splits.specs.ped_reindex.specs.ped_loops.specs.ped_scalar.specs.ped_rules.specs.ped_loop_runs.specs.ped_bodies.specs.ped_steps.specs.ped_affine.specs.Assigned.{assigned_in}
-use Rattle.ped_splits.specs.ped_reindex.specs.ped_loops.specs.ped_scalar.specs.ped_rules.specs.ped_loop_runs.specs.ped_bodies.specs.ped_steps.specs.ped_flow.proofs.Truths.{untrue}
-use Rattle.ped_splits.specs.ped_reindex.specs.ped_loops.specs.ped_scalar.specs.ped_rules.specs.ped_loop_runs.specs.ped_bodies.specs.ped_steps.specs.Replacing.{alone}
-use Rattle.ped_splits.specs.ped_reindex.specs.ped_loops.specs.ped_scalar.specs.ped_rules.specs.ped_loop_runs.specs.ped_bodies.specs.ped_steps.specs.Runs.Gaps.{Gap, at_front, past, in_then, in_else, in_body, filled, number_at}
+use Rattle.ped_refs.specs.References.{outermost_number}
+use Rattle.ped_rules.specs.ped_affine.specs.Assigned.{assigned_in}
+use Rattle.ped_rules.specs.ped_flow.proofs.Truths.{untrue}
+use Rattle.ped_rules.specs.ped_steps.specs.Replacing.{alone}
+use Rattle.ped_rules.specs.ped_steps.specs.Runs.Gaps.{Gap, at_front, past, in_then, in_else, in_body, filled, number_at}
 use Rattle.ped_reduce.proofs.Resembling.{GapBecomes, pasts}
 use Rattle.ped_reduce.proofs.LoopsRoundGaps.{gap_loops, front_there}
 use Rattle.ped_reduce.proofs.AssignedStays.{has, do_has, gap_same}

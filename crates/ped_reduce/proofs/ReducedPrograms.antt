@@ -8,33 +8,33 @@ use Rattle.ped_tree.specs.Tree.{CondTree, Head, StmtTree, StmtTrees, If, Do, no_
 use Rattle.ped_tree.specs.Accesses.{constant_names}
 use Rattle.ped_tree.specs.NamesIn.{loop_variables, all_loop_variables, saved_in}
 use Rattle.ped_tree.specs.Numbering.{statement_count}
-use Rattle.ped_splits.specs.ped_reindex.specs.ped_loops.specs.ped_scalar.specs.ped_rules.specs.ped_loop_runs.specs.ped_bodies.specs.ped_steps.specs.ped_symbols.specs.Kinds.{kind_in, names_of}
-use Rattle.ped_splits.specs.ped_reindex.specs.ped_loops.specs.ped_scalar.specs.ped_rules.specs.ped_loop_runs.specs.ped_bodies.specs.ped_steps.specs.ped_symbols.specs.NameRefusals.{IsValid}
-use Rattle.ped_splits.specs.ped_reindex.specs.ped_loops.specs.ped_scalar.specs.ped_rules.specs.ped_loop_runs.specs.ped_bodies.specs.ped_steps.specs.ped_symbols.specs.Sites.{private_site, stmt_sites, stmts_sites, decl_sites, program_sites, site_uses}
-use Rattle.ped_splits.specs.ped_reindex.specs.ped_loops.specs.ped_scalar.specs.ped_rules.specs.ped_loop_runs.specs.ped_bodies.specs.ped_steps.specs.ped_symbols.specs.Uses.{own_uses, cond_uses}
-use Rattle.ped_splits.specs.ped_reindex.specs.ped_loops.specs.ped_scalar.specs.ped_rules.specs.ped_loop_runs.specs.ped_bodies.specs.ped_steps.specs.ped_symbols.specs.declared.uses.Use.{Use}
-use Rattle.ped_splits.specs.ped_reindex.specs.ped_loops.specs.ped_scalar.specs.ped_rules.specs.ped_loop_runs.specs.ped_bodies.specs.ped_steps.specs.ped_symbols.proofs.RightUseLaws.Whole.{same_values, same_kinds, names_occur}
-use Rattle.ped_splits.specs.ped_reindex.specs.ped_loops.specs.ped_scalar.specs.ped_rules.specs.ped_loop_runs.specs.ped_bodies.specs.ped_steps.specs.ped_flow.specs.Questions.{LoopOf, IsContained, IsShownBehind}
-use Rattle.ped_splits.specs.ped_reindex.specs.ped_loops.specs.ped_scalar.specs.ped_rules.specs.ped_loop_runs.specs.ped_bodies.specs.ped_steps.specs.ped_flow.proofs.Truths.{untrue}
-use Rattle.ped_splits.specs.ped_reindex.specs.ped_loops.specs.ped_scalar.specs.ped_rules.specs.ped_loop_runs.specs.ped_bodies.specs.ped_steps.specs.ped_laws.proofs.FlowRunLaws.Stopping.{fitting_stops, loop_stops}
-use Rattle.ped_splits.specs.ped_reindex.specs.ped_loops.specs.ped_scalar.specs.ped_rules.specs.ped_loop_runs.specs.ped_bodies.specs.ped_steps.specs.ped_laws.specs.ped_eval.specs.Loops.{sorted_once}
-use Rattle.ped_splits.specs.ped_reindex.specs.ped_loops.specs.ped_scalar.specs.ped_rules.specs.ped_loop_runs.specs.ped_bodies.specs.ped_steps.specs.ped_laws.specs.ped_eval.specs.Outcomes.{bounds_of, setting_of, run_of, live_rows, Ended, outcome_of, Ends}
-use Rattle.ped_splits.specs.ped_reindex.specs.ped_loops.specs.ped_scalar.specs.ped_rules.specs.ped_loop_runs.specs.ped_bodies.specs.ped_steps.specs.ped_laws.specs.ped_eval.specs.Runs.{Run, Ending, going, stopped, failed, run, run_all}
-use Rattle.ped_splits.specs.ped_reindex.specs.ped_loops.specs.ped_scalar.specs.ped_rules.specs.ped_loop_runs.specs.ped_bodies.specs.ped_steps.specs.ped_laws.specs.ped_eval.specs.Scopes.{Setting, Scope}
-use Rattle.ped_splits.specs.ped_reindex.specs.ped_loops.specs.ped_scalar.specs.ped_rules.specs.ped_loop_runs.specs.ped_bodies.specs.ped_steps.specs.ped_laws.specs.ped_store.specs.Cells.{Out}
-use Rattle.ped_splits.specs.ped_reindex.specs.ped_loops.specs.ped_scalar.specs.ped_rules.specs.ped_loop_runs.specs.ped_bodies.specs.ped_steps.specs.ped_laws.specs.ped_store.specs.Stores.{Store, store_at_start, lines_in}
-use Rattle.ped_splits.specs.ped_reindex.specs.ped_loops.specs.ped_scalar.specs.ped_rules.specs.ped_loop_runs.specs.ped_bodies.specs.ped_steps.specs.ped_laws.specs.ped_store.specs.Variables.{values_of}
-use Rattle.ped_splits.specs.ped_reindex.specs.ped_loops.specs.ped_scalar.specs.ped_rules.specs.ped_loop_runs.specs.ped_bodies.specs.ped_steps.specs.ped_laws.specs.ped_store.specs.Races.{accesses, HasNoRace}
-use Rattle.ped_splits.specs.ped_reindex.specs.ped_loops.specs.ped_scalar.specs.ped_rules.specs.ped_loop_runs.specs.ped_bodies.specs.ped_steps.specs.Replacing.{alone, program_with}
-use Rattle.ped_splits.specs.ped_reindex.specs.ped_loops.specs.ped_scalar.specs.ped_rules.specs.ped_loop_runs.specs.ped_bodies.specs.ped_steps.specs.Runs.Gaps.{Gap, at_front, past, in_then, in_else, in_body, filled}
-use Rattle.ped_splits.specs.ped_reindex.specs.ped_loops.specs.ped_scalar.specs.ped_rules.specs.ped_loop_runs.specs.ped_bodies.specs.ped_steps.specs.Runs.Meaning.{Keeps}
-use Rattle.ped_splits.specs.ped_reindex.specs.ped_loops.specs.ped_scalar.specs.ped_rules.specs.ped_loop_runs.specs.ped_bodies.specs.ped_steps.proofs.OnePlace.{one_program}
-use Rattle.ped_splits.specs.ped_reindex.specs.ped_loops.specs.ped_scalar.specs.ped_rules.specs.ped_loop_runs.specs.ped_bodies.specs.ped_steps.proofs.RunLaws.ReplacedTrees.{HasGap, program_gap}
-use Rattle.ped_splits.specs.ped_reindex.specs.ped_loops.specs.ped_scalar.specs.ped_rules.specs.ped_loop_runs.specs.Exchanges.{Exchange, start_of, loop_of, IsExchanged, LeavesAlone}
-use Rattle.ped_splits.specs.ped_reindex.specs.ped_loops.specs.ped_scalar.specs.ped_rules.specs.ped_loop_runs.specs.Unrejected.{some_rejection, IsTrusted}
-use Rattle.ped_splits.specs.ped_reindex.specs.ped_loops.specs.ped_scalar.specs.ped_rules.specs.ped_loop_runs.specs.Writing.{writes_name, all_write, some_write_index}
-use Rattle.ped_splits.specs.ped_reindex.specs.ped_loops.specs.ped_scalar.specs.ped_rules.specs.OnlyLoops.{on_loop}
-use Rattle.ped_splits.specs.ped_reindex.specs.ped_loops.proofs.OneHead.{TrustedLaw, ClearedLaw}
+use Rattle.ped_rules.specs.ped_symbols.specs.Kinds.{kind_in, names_of}
+use Rattle.ped_rules.specs.ped_symbols.specs.NameRefusals.{IsValid}
+use Rattle.ped_rules.specs.ped_symbols.specs.Sites.{private_site, stmt_sites, stmts_sites, decl_sites, program_sites, site_uses}
+use Rattle.ped_rules.specs.ped_symbols.specs.Uses.{own_uses, cond_uses}
+use Rattle.ped_rules.specs.ped_symbols.specs.declared.uses.Use.{Use}
+use Rattle.ped_rules.specs.ped_symbols.proofs.RightUseLaws.Whole.{same_values, same_kinds, names_occur}
+use Rattle.ped_rules.specs.ped_flow.specs.Questions.{LoopOf, IsContained, IsShownBehind}
+use Rattle.ped_rules.specs.ped_flow.proofs.Truths.{untrue}
+use Rattle.ped_rules.specs.ped_laws.proofs.FlowRunLaws.Stopping.{fitting_stops, loop_stops}
+use Rattle.ped_rules.specs.ped_eval.specs.Loops.{sorted_once}
+use Rattle.ped_rules.specs.ped_eval.specs.Outcomes.{bounds_of, setting_of, run_of, live_rows, Ended, outcome_of, Ends}
+use Rattle.ped_rules.specs.ped_eval.specs.Runs.{Run, Ending, going, stopped, failed, run, run_all}
+use Rattle.ped_rules.specs.ped_eval.specs.Scopes.{Setting, Scope}
+use Rattle.ped_rules.specs.ped_store.specs.Cells.{Out}
+use Rattle.ped_rules.specs.ped_store.specs.Stores.{Store, store_at_start, lines_in}
+use Rattle.ped_rules.specs.ped_store.specs.Variables.{values_of}
+use Rattle.ped_rules.specs.ped_store.specs.Races.{accesses, HasNoRace}
+use Rattle.ped_rules.specs.ped_steps.specs.Replacing.{alone, program_with}
+use Rattle.ped_rules.specs.ped_steps.specs.Runs.Gaps.{Gap, at_front, past, in_then, in_else, in_body, filled}
+use Rattle.ped_rules.specs.ped_steps.specs.Runs.Meaning.{Keeps}
+use Rattle.ped_rules.specs.ped_steps.proofs.OnePlace.{one_program}
+use Rattle.ped_rules.specs.ped_steps.proofs.RunLaws.ReplacedTrees.{HasGap, program_gap}
+use Rattle.ped_rules.specs.ped_loop_runs.specs.Exchanges.{Exchange, start_of, loop_of, IsExchanged, LeavesAlone}
+use Rattle.ped_rules.specs.ped_loop_runs.specs.Unrejected.{some_rejection, IsTrusted}
+use Rattle.ped_rules.specs.ped_loop_runs.specs.Writing.{writes_name, all_write, some_write_index}
+use Rattle.ped_rules.specs.OnlyLoops.{on_loop}
+use Rattle.ped_rules.proofs.HeadLaws.OneHead.{TrustedLaw, ClearedLaw}
 use Rattle.ped_reduce.specs.Lists.{with_list}
 use Rattle.ped_reduce.specs.Reducing.{with_listed, with_reduction}
 use Rattle.ped_reduce.proofs.ListedComments.{listed_count, listed_variables, listed_sites, listed_stop, listed_rejection, listed_write, listed_write_index, listed_run}

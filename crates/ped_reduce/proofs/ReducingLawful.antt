@@ -1,16 +1,16 @@
 -- `reduce` is lawful.
 use Rattle.std.proofs.Common.{ℕ, List, refl, sym, subst}
 use Rattle.ped_tree.specs.Tree.{ProgramTree}
-use Rattle.ped_splits.specs.ped_reindex.specs.ped_loops.specs.ped_scalar.specs.ped_rules.specs.ped_loop_runs.specs.ped_bodies.specs.ped_steps.specs.ped_laws.specs.ped_graph.specs.Update.Fresh.{IsOneToOne}
-use Rattle.ped_splits.specs.ped_reindex.specs.ped_loops.specs.ped_scalar.specs.ped_rules.specs.ped_loop_runs.specs.ped_bodies.specs.ped_steps.specs.ped_symbols.specs.NameRefusals.{IsValid}
-use Rattle.ped_splits.specs.ped_reindex.specs.ped_loops.specs.ped_scalar.specs.ped_rules.specs.ped_loop_runs.specs.ped_bodies.specs.ped_steps.specs.ped_flow.specs.Questions.{LoopOf}
-use Rattle.ped_splits.specs.ped_reindex.specs.ped_loops.specs.ped_scalar.specs.ped_rules.specs.ped_loop_runs.specs.ped_bodies.specs.ped_steps.specs.Causes.{NoRule}
-use Rattle.ped_splits.specs.ped_reindex.specs.ped_loops.specs.ped_scalar.specs.ped_rules.specs.ped_loop_runs.specs.ped_bodies.specs.ped_steps.specs.Replacing.{all_kept}
-use Rattle.ped_splits.specs.ped_reindex.specs.ped_loops.specs.ped_scalar.specs.ped_rules.specs.ped_loop_runs.specs.ped_bodies.specs.ped_steps.proofs.OneCause.{one_cause}
-use Rattle.ped_splits.specs.ped_reindex.specs.ped_loops.specs.ped_scalar.specs.ped_rules.specs.ped_loop_runs.specs.Unrejected.{IsTrusted}
-use Rattle.ped_splits.specs.ped_reindex.specs.ped_loops.specs.ped_scalar.specs.ped_rules.specs.Lawful.{IsFaithful, IsLawful}
-use Rattle.ped_splits.specs.ped_reindex.specs.ped_loops.specs.ped_scalar.specs.ped_rules.proofs.KeptNumbers.{all_one_to_one}
-use Rattle.ped_splits.specs.ped_reindex.specs.ped_loops.proofs.OneHead.{TrustedLaw, ClearedLaw}
+use Rattle.ped_rules.specs.ped_graph.specs.Update.Fresh.{IsOneToOne}
+use Rattle.ped_rules.specs.ped_symbols.specs.NameRefusals.{IsValid}
+use Rattle.ped_rules.specs.ped_flow.specs.Questions.{LoopOf}
+use Rattle.ped_rules.specs.ped_steps.specs.Causes.{NoRule}
+use Rattle.ped_rules.specs.ped_steps.specs.Replacing.{all_kept}
+use Rattle.ped_rules.specs.ped_steps.proofs.OneCause.{one_cause}
+use Rattle.ped_rules.specs.ped_loop_runs.specs.Unrejected.{IsTrusted}
+use Rattle.ped_rules.specs.Lawful.{IsFaithful, IsLawful}
+use Rattle.ped_rules.proofs.KeptNumbers.{all_one_to_one}
+use Rattle.ped_rules.proofs.HeadLaws.OneHead.{TrustedLaw, ClearedLaw}
 use Rattle.ped_reduce.specs.Reducing.{with_reduction, carried_beside, StandsAgainstReducing, reducing}
 use Rattle.ped_reduce.proofs.ReducedPrograms.{reduced_is, reduced_keeps, reduced_trusted}
 use Rattle.ped_reduce.proofs.ReducingRules as rules

@@ -4,14 +4,14 @@ use Rattle.ped_tree.specs.Tree.{Head, StmtTree, StmtTrees, If, Do, no_stmts, mor
 use Rattle.ped_tree.specs.Accesses.{own_accesses}
 use Rattle.ped_tree.specs.Nests.{Loop, indices_of}
 use Rattle.ped_tree.specs.Numbering.{statement_count, statements_count}
-use Rattle.ped_splits.specs.ped_reindex.specs.ped_loops.specs.ped_scalar.specs.ped_rules.specs.ped_loop_runs.specs.ped_bodies.specs.ped_steps.specs.ped_refs.specs.References.{Reference, numbered_accesses, statement_references, statements_references}
-use Rattle.ped_splits.specs.ped_reindex.specs.ped_loops.specs.ped_scalar.specs.ped_rules.specs.ped_loop_runs.specs.ped_bodies.specs.ped_steps.specs.Replacing.{followed, alone}
-use Rattle.ped_splits.specs.ped_reindex.specs.ped_loops.specs.ped_scalar.specs.ped_rules.specs.ped_loop_runs.specs.ped_bodies.specs.ped_steps.specs.Runs.Gaps.{Gap, at_front, past, in_then, in_else, in_body, filled, number_at}
-use Rattle.ped_splits.specs.ped_reindex.specs.ped_loops.specs.ped_scalar.specs.ped_rules.specs.ped_loop_runs.specs.ped_bodies.specs.ped_steps.proofs.RunLaws.FilledGaps.{number_from, number_room}
-use Rattle.ped_splits.specs.ped_reindex.specs.ped_loops.specs.ped_scalar.specs.ped_rules.specs.ped_loop_runs.specs.ped_bodies.specs.ped_steps.proofs.RunLaws.ReplacedTrees.{all_inside}
-use Rattle.ped_splits.specs.ped_reindex.specs.ped_loops.specs.ped_scalar.specs.ped_rules.specs.ped_loop_runs.specs.ped_bodies.specs.ped_steps.specs.ped_laws.specs.Acts.Orders.{IsIn}
-use Rattle.ped_splits.specs.ped_reindex.specs.ped_loops.specs.ped_scalar.specs.ped_rules.specs.ped_loop_runs.specs.ped_bodies.specs.ped_steps.specs.ped_laws.proofs.ActLaws.Lists.{in_left, in_right, in_parts}
-use Rattle.ped_splits.specs.ped_reindex.specs.ped_loops.specs.ped_scalar.specs.ped_rules.specs.ped_loop_runs.specs.ped_bodies.specs.ped_steps.specs.ped_laws.proofs.ConflictLaws.CoveringWrites.{own_access, statements_located}
+use Rattle.ped_refs.specs.References.{Reference, numbered_accesses, statement_references, statements_references}
+use Rattle.ped_rules.specs.ped_steps.specs.Replacing.{followed, alone}
+use Rattle.ped_rules.specs.ped_steps.specs.Runs.Gaps.{Gap, at_front, past, in_then, in_else, in_body, filled, number_at}
+use Rattle.ped_rules.specs.ped_steps.proofs.RunLaws.FilledGaps.{number_from, number_room}
+use Rattle.ped_rules.specs.ped_steps.proofs.RunLaws.ReplacedTrees.{all_inside}
+use Rattle.ped_rules.specs.ped_laws.specs.Acts.Orders.{IsIn}
+use Rattle.ped_rules.specs.ped_laws.proofs.ActLaws.Lists.{in_left, in_right, in_parts}
+use Rattle.ped_rules.specs.ped_laws.proofs.ConflictLaws.CoveringWrites.{own_access, statements_located}
 use Rattle.ped_reduce.proofs.LoopsRoundGaps.{gap_loops}
 
 -- a DO round statements

@@ -8,13 +8,13 @@ use Rattle.ped_tree.specs.Tree.{Head, StmtTree, StmtTrees, Assign, If, Do, Print
 use Rattle.ped_tree.specs.Nests.{Loop}
 use Rattle.ped_tree.specs.NamesIn.{stmts_names}
 use Rattle.ped_tree.specs.Numbering.{statement_count, statements_count}
-use Rattle.ped_splits.specs.ped_reindex.specs.ped_loops.specs.ped_scalar.specs.ped_rules.specs.ped_loop_runs.specs.ped_bodies.specs.ped_steps.specs.ped_flow.specs.Questions.{IsLoop}
-use Rattle.ped_splits.specs.ped_reindex.specs.ped_loops.specs.ped_scalar.specs.ped_rules.specs.ped_loop_runs.specs.ped_bodies.specs.ped_steps.specs.Causes.{NoRule}
-use Rattle.ped_splits.specs.ped_reindex.specs.ped_loops.specs.ped_scalar.specs.ped_rules.specs.ped_loop_runs.specs.ped_bodies.specs.ped_steps.specs.Replacing.{followed, alone, all_replaced}
-use Rattle.ped_splits.specs.ped_reindex.specs.ped_loops.specs.ped_scalar.specs.ped_rules.specs.ped_loop_runs.specs.ped_bodies.specs.ped_steps.specs.Runs.Gaps.{Gap, at_front, past, in_then, in_else, in_body, filled, number_at}
-use Rattle.ped_splits.specs.ped_reindex.specs.ped_loops.specs.ped_scalar.specs.ped_rules.specs.ped_loop_runs.specs.ped_bodies.specs.ped_steps.proofs.RunLaws.FilledGaps.{counted, number_from, number_room}
-use Rattle.ped_splits.specs.ped_reindex.specs.ped_loops.specs.ped_scalar.specs.ped_rules.specs.ped_loop_runs.specs.ped_bodies.specs.ped_steps.proofs.RunLaws.ReplacedTrees as trees
-use Rattle.ped_splits.specs.ped_reindex.specs.ped_loops.specs.ped_scalar.specs.ped_rules.specs.ped_loop_runs.specs.ped_bodies.specs.ped_steps.specs.ped_laws.specs.Acts.Orders.{IsIn}
+use Rattle.ped_rules.specs.ped_flow.specs.Questions.{IsLoop}
+use Rattle.ped_rules.specs.ped_steps.specs.Causes.{NoRule}
+use Rattle.ped_rules.specs.ped_steps.specs.Replacing.{followed, alone, all_replaced}
+use Rattle.ped_rules.specs.ped_steps.specs.Runs.Gaps.{Gap, at_front, past, in_then, in_else, in_body, filled, number_at}
+use Rattle.ped_rules.specs.ped_steps.proofs.RunLaws.FilledGaps.{counted, number_from, number_room}
+use Rattle.ped_rules.specs.ped_steps.proofs.RunLaws.ReplacedTrees as trees
+use Rattle.ped_rules.specs.ped_laws.specs.Acts.Orders.{IsIn}
 use Rattle.ped_reduce.proofs.LoopsRoundGaps.{gap_loops}
 use Rattle.ped_reduce.specs.Lists.{list_of}
 use Rattle.ped_reduce.specs.Lowering.{Partials, lowered_loop}

@@ -10,19 +10,19 @@ use Rattle.ped_base.proofs.NameEquality.{same_itself}
 use Rattle.ped_tree.specs.Tree.{Var}
 use Rattle.ped_tree.specs.Constants.ConstantExpressions.{constant_value}
 use Rattle.ped_tree.specs.Nests.{Loop, indices_of, common_nest}
-use Rattle.ped_splits.specs.ped_reindex.specs.ped_loops.specs.ped_scalar.specs.ped_rules.specs.ped_loop_runs.specs.ped_bodies.specs.ped_steps.specs.ped_flow.proofs.Truths.{untrue, or_none}
-use Rattle.ped_splits.specs.ped_reindex.specs.ped_loops.specs.ped_scalar.specs.ped_rules.specs.ped_loop_runs.specs.ped_bodies.specs.ped_steps.specs.ped_views.specs.declared.directions.Direction.{Direction}
-use Rattle.ped_splits.specs.ped_reindex.specs.ped_loops.specs.ped_scalar.specs.ped_rules.specs.ped_loop_runs.specs.ped_bodies.specs.ped_steps.specs.ped_views.specs.declared.directions.Direction.TheVariants.{Before, Same, After}
-use Rattle.ped_splits.specs.ped_reindex.specs.ped_loops.specs.ped_scalar.specs.ped_rules.specs.ped_loop_runs.specs.ped_bodies.specs.ped_steps.specs.ped_views.specs.declared.strong_rows.StrongRow.{StrongRow}
-use Rattle.ped_splits.specs.ped_reindex.specs.ped_loops.specs.ped_scalar.specs.ped_rules.specs.ped_loop_runs.specs.ped_bodies.specs.ped_steps.specs.ped_views.specs.Whole.{is_zero}
-use Rattle.ped_splits.specs.ped_reindex.specs.ped_loops.specs.ped_scalar.specs.ped_rules.specs.ped_loop_runs.specs.ped_bodies.specs.ped_steps.specs.ped_views.specs.Views.{SubscriptPair}
-use Rattle.ped_splits.specs.ped_reindex.specs.ped_loops.specs.ped_scalar.specs.ped_rules.specs.ped_loop_runs.specs.ped_bodies.specs.ped_steps.specs.ped_views.specs.Forms.{Occurrence, occurring, Form, strong_siv, other_form, common_form, form_of}
-use Rattle.ped_splits.specs.ped_reindex.specs.ped_loops.specs.ped_scalar.specs.ped_rules.specs.ped_loop_runs.specs.ped_bodies.specs.ped_steps.specs.ped_views.specs.Excluded.{StandsByValue, by_value, rows_in, group_of, MeetTogether, loop_at, direction_at, FormExcludes}
-use Rattle.ped_splits.specs.ped_reindex.specs.ped_loops.specs.ped_scalar.specs.ped_rules.specs.ped_loop_runs.specs.ped_bodies.specs.ped_steps.specs.ped_views.specs.Vectors.{IsPossible}
-use Rattle.ped_splits.specs.ped_reindex.specs.ped_loops.specs.ped_scalar.specs.ped_rules.specs.ped_loop_runs.specs.ped_bodies.specs.ped_steps.specs.ped_affine.specs.Ranges.{Setting}
-use Rattle.ped_splits.specs.ped_reindex.specs.ped_loops.specs.ped_scalar.specs.ped_rules.specs.ped_loop_runs.specs.ped_bodies.specs.ped_steps.specs.ped_affine.specs.AffineForms.{AffineForm, is_small, is_limited, within_limits, unknown_coefficient, unknown_form, variable_form, constant_or, affine_of}
-use Rattle.ped_splits.specs.ped_reindex.specs.ped_loops.specs.ped_scalar.specs.ped_rules.specs.ped_loop_runs.specs.ped_bodies.specs.ped_steps.specs.ped_affine.specs.PairViews.{Site, Depths, depths_of, is_other, other_variables, terms_of, other_coefficients, unusable, usable_pair, subscript_pair, position_of, view_at}
-use Rattle.ped_splits.specs.ped_reindex.specs.ped_loops.specs.ped_scalar.specs.ped_rules.specs.ped_loop_runs.specs.ped_bodies.specs.ped_steps.specs.ped_laws.specs.ped_graph.specs.Dependences.{carriage_from, is_of}
+use Rattle.ped_rules.specs.ped_flow.proofs.Truths.{untrue, or_none}
+use Rattle.ped_rules.specs.ped_views.specs.declared.directions.Direction.{Direction}
+use Rattle.ped_rules.specs.ped_views.specs.declared.directions.Direction.TheVariants.{Before, Same, After}
+use Rattle.ped_rules.specs.ped_views.specs.declared.strong_rows.StrongRow.{StrongRow}
+use Rattle.ped_rules.specs.ped_views.specs.Whole.{is_zero}
+use Rattle.ped_rules.specs.ped_views.specs.Views.{SubscriptPair}
+use Rattle.ped_rules.specs.ped_views.specs.Forms.{Occurrence, occurring, Form, strong_siv, other_form, common_form, form_of}
+use Rattle.ped_rules.specs.ped_views.specs.Excluded.{StandsByValue, by_value, rows_in, group_of, MeetTogether, loop_at, direction_at, FormExcludes}
+use Rattle.ped_rules.specs.ped_views.specs.Vectors.{IsPossible}
+use Rattle.ped_rules.specs.ped_affine.specs.Ranges.{Setting}
+use Rattle.ped_rules.specs.ped_affine.specs.AffineForms.{AffineForm, is_small, is_limited, within_limits, unknown_coefficient, unknown_form, variable_form, constant_or, affine_of}
+use Rattle.ped_rules.specs.ped_affine.specs.PairViews.{Site, Depths, depths_of, is_other, other_variables, terms_of, other_coefficients, unusable, usable_pair, subscript_pair, position_of, view_at}
+use Rattle.ped_rules.specs.ped_graph.specs.Dependences.{carriage_from, is_of}
 
 -- numbers that all are 0
 abbrev AllZero : List ℤ → Type 0

@@ -11,21 +11,21 @@ use Rattle.ped_tree.specs.Accesses.{constants_in, constant_names}
 use Rattle.ped_tree.specs.Constants.ConstantExpressions.{constant_value}
 use Rattle.ped_tree.specs.NamesIn.{loop_variables, all_loop_variables, saved_in}
 use Rattle.ped_tree.specs.Numbering.{all_numbered}
-use Rattle.ped_splits.specs.ped_reindex.specs.ped_loops.specs.ped_scalar.specs.ped_rules.specs.ped_loop_runs.specs.ped_bodies.specs.ped_steps.specs.ped_symbols.specs.Kinds.{table_of}
-use Rattle.ped_splits.specs.ped_reindex.specs.ped_loops.specs.ped_scalar.specs.ped_rules.specs.ped_loop_runs.specs.ped_bodies.specs.ped_steps.specs.ped_symbols.proofs.RightUseLaws.Whole.{others_unvalued}
-use Rattle.ped_splits.specs.ped_reindex.specs.ped_loops.specs.ped_scalar.specs.ped_rules.specs.ped_loop_runs.specs.ped_bodies.specs.ped_steps.specs.ped_flow.specs.Events.{event, assigns, scalars_in, own_events}
-use Rattle.ped_splits.specs.ped_reindex.specs.ped_loops.specs.ped_scalar.specs.ped_rules.specs.ped_loop_runs.specs.ped_bodies.specs.ped_steps.specs.ped_flow.specs.Kept.{all_first_outside}
-use Rattle.ped_splits.specs.ped_reindex.specs.ped_loops.specs.ped_scalar.specs.ped_rules.specs.ped_loop_runs.specs.ped_bodies.specs.ped_steps.specs.ped_flow.specs.Summaries.{sum_events, sum_behind_all, AreSummed}
-use Rattle.ped_splits.specs.ped_reindex.specs.ped_loops.specs.ped_scalar.specs.ped_rules.specs.ped_loop_runs.specs.ped_bodies.specs.ped_steps.specs.ped_flow.specs.Paths.{all_paths_behind}
-use Rattle.ped_splits.specs.ped_reindex.specs.ped_loops.specs.ped_scalar.specs.ped_rules.specs.ped_loop_runs.specs.ped_bodies.specs.ped_steps.specs.ped_flow.specs.Questions.{LoopOf, IsFirst, IsReadBehind, IsShownBehind, IsLiveAfter, IsReadLoose, IsIndexIn, IsContained, all_reads_outside}
-use Rattle.ped_splits.specs.ped_reindex.specs.ped_loops.specs.ped_scalar.specs.ped_rules.specs.ped_loop_runs.specs.ped_bodies.specs.ped_steps.specs.ped_flow.proofs.Truths.{untrue, or_split}
-use Rattle.ped_splits.specs.ped_reindex.specs.ped_loops.specs.ped_scalar.specs.ped_rules.specs.ped_loop_runs.specs.ped_bodies.specs.ped_steps.specs.ped_flow.proofs.TreeSums.{all_behind-summed}
-use Rattle.ped_splits.specs.ped_reindex.specs.ped_loops.specs.ped_scalar.specs.ped_rules.specs.ped_loop_runs.specs.ped_bodies.specs.ped_steps.specs.ped_flow.proofs.LooseReads.{all_outside_first}
-use Rattle.ped_splits.specs.ped_reindex.specs.ped_loops.specs.ped_scalar.specs.ped_rules.specs.ped_loop_runs.specs.ped_bodies.specs.ped_steps.specs.declared.rules.Rule.TheVariants.{ParallelState, NotScalar, NotConstant}
-use Rattle.ped_splits.specs.ped_reindex.specs.ped_loops.specs.ped_scalar.specs.ped_rules.specs.ped_loop_runs.specs.ped_bodies.specs.ped_steps.specs.Replacing.{followed, alone}
-use Rattle.ped_splits.specs.ped_reindex.specs.ped_loops.specs.ped_scalar.specs.ped_rules.specs.ped_loop_runs.specs.ped_bodies.specs.ped_steps.specs.Runs.Gaps.{Gap, at_front, past, in_then, in_else, in_body, filled}
-use Rattle.ped_splits.specs.ped_reindex.specs.ped_loops.specs.ped_scalar.specs.ped_rules.specs.Spans.{Span, span_by, span_of}
-use Rattle.ped_splits.specs.ped_reindex.specs.ped_loops.specs.ped_scalar.specs.ped_rules.proofs.OneLoop.{one_loop}
+use Rattle.ped_rules.specs.ped_symbols.specs.Kinds.{table_of}
+use Rattle.ped_rules.specs.ped_symbols.proofs.RightUseLaws.Whole.{others_unvalued}
+use Rattle.ped_rules.specs.ped_flow.specs.Events.{event, assigns, scalars_in, own_events}
+use Rattle.ped_rules.specs.ped_flow.specs.Kept.{all_first_outside}
+use Rattle.ped_rules.specs.ped_flow.specs.Summaries.{sum_events, sum_behind_all, AreSummed}
+use Rattle.ped_rules.specs.ped_flow.specs.Paths.{all_paths_behind}
+use Rattle.ped_rules.specs.ped_flow.specs.Questions.{LoopOf, IsFirst, IsReadBehind, IsShownBehind, IsLiveAfter, IsReadLoose, IsIndexIn, IsContained, all_reads_outside}
+use Rattle.ped_rules.specs.ped_flow.proofs.Truths.{untrue, or_split}
+use Rattle.ped_rules.specs.ped_flow.proofs.TreeSums.{all_behind-summed}
+use Rattle.ped_rules.specs.ped_flow.proofs.LooseReads.{all_outside_first}
+use Rattle.ped_rules.specs.ped_steps.specs.declared.rules.Rule.TheVariants.{ParallelState, NotScalar, NotConstant}
+use Rattle.ped_rules.specs.ped_steps.specs.Replacing.{followed, alone}
+use Rattle.ped_rules.specs.ped_steps.specs.Runs.Gaps.{Gap, at_front, past, in_then, in_else, in_body, filled}
+use Rattle.ped_rules.specs.Spans.{Span, span_by, span_of}
+use Rattle.ped_rules.proofs.OneLoop.{one_loop}
 use Rattle.ped_reduce.proofs.LoopsRoundGaps.{front_there}
 use Rattle.ped_reduce.specs.Lists.{list_of, without_list}
 use Rattle.ped_reduce.specs.Lowering.{Partials, zeros, all_summed, exits, bare, lowered_loop}

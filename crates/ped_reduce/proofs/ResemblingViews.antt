@@ -8,12 +8,12 @@ use Rattle.ped_tree.specs.Tree.{ExprTree, ExprTrees, Int, Var, Element, Neg, Add
 use Rattle.ped_tree.specs.Constants.ConstantExpressions.{constant_value}
 use Rattle.ped_tree.specs.NamesIn.{expr_names, exprs_names}
 use Rattle.ped_tree.specs.Nests.{Loop, indices_of, common_nest}
-use Rattle.ped_splits.specs.ped_reindex.specs.ped_loops.specs.ped_scalar.specs.ped_rules.specs.ped_loop_runs.specs.ped_bodies.specs.ped_steps.specs.ped_flow.proofs.Truths.{or_none}
-use Rattle.ped_splits.specs.ped_reindex.specs.ped_loops.specs.ped_scalar.specs.ped_rules.specs.ped_loop_runs.specs.ped_bodies.specs.ped_steps.specs.ped_views.specs.Views.{Range}
-use Rattle.ped_splits.specs.ped_reindex.specs.ped_loops.specs.ped_scalar.specs.ped_rules.specs.ped_loop_runs.specs.ped_bodies.specs.ped_steps.specs.ped_affine.specs.IntervalArithmetic.{interval_sum, interval_difference, interval_negation, interval_product}
-use Rattle.ped_splits.specs.ped_reindex.specs.ped_loops.specs.ped_scalar.specs.ped_rules.specs.ped_loop_runs.specs.ped_bodies.specs.ped_steps.specs.ped_affine.specs.Ranges.{Setting, Around, constant_or, of_one, of_two, variable_by, onto, call_interval, interval_of, intervals_of, near_or_all, step_by, is_steady, are_steady, range_between, loop_range, inside, ranges_inside, nest_ranges}
-use Rattle.ped_splits.specs.ped_reindex.specs.ped_loops.specs.ped_scalar.specs.ped_rules.specs.ped_loop_runs.specs.ped_bodies.specs.ped_steps.specs.ped_affine.specs.AffineForms.{affine_of, form_variables}
-use Rattle.ped_splits.specs.ped_reindex.specs.ped_loops.specs.ped_scalar.specs.ped_rules.specs.ped_loop_runs.specs.ped_bodies.specs.ped_steps.specs.ped_affine.specs.PairViews.{Site, depths_of, is_other, other_variables, subscript_pair, position_of, positions_of, heads_of, view_at}
+use Rattle.ped_rules.specs.ped_flow.proofs.Truths.{or_none}
+use Rattle.ped_rules.specs.ped_views.specs.Views.{Range}
+use Rattle.ped_rules.specs.ped_affine.specs.IntervalArithmetic.{interval_sum, interval_difference, interval_negation, interval_product}
+use Rattle.ped_rules.specs.ped_affine.specs.Ranges.{Setting, Around, constant_or, of_one, of_two, variable_by, onto, call_interval, interval_of, intervals_of, near_or_all, step_by, is_steady, are_steady, range_between, loop_range, inside, ranges_inside, nest_ranges}
+use Rattle.ped_rules.specs.ped_affine.specs.AffineForms.{affine_of, form_variables}
+use Rattle.ped_rules.specs.ped_affine.specs.PairViews.{Site, depths_of, is_other, other_variables, subscript_pair, position_of, positions_of, heads_of, view_at}
 
 -- settings with the same constants and variables of DO loops, in which the same names are assigned, but for some
 pub record AgreeBut (bad : List ℕ → Bool) (s u : Setting) : Type 0 where

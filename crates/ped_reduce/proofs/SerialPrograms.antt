@@ -9,13 +9,13 @@ use Rattle.ped_tree.specs.Nests.{Loop, indices_of, common_nest}
 use Rattle.ped_tree.specs.Numbering.{statement_count, statements_count}
 use Rattle.ped_tree.specs.Grammar.Fits.{begins_with_statement}
 use Rattle.ped_tree.specs.Grammar.Refusal.{Finding, RealName, DeclaredTwice, NotConstant, RankDiffers, BoundsEmpty, StorageLimit, refused_if}
-use Rattle.ped_splits.specs.ped_reindex.specs.ped_loops.specs.ped_scalar.specs.ped_rules.specs.ped_loop_runs.specs.ped_bodies.specs.ped_steps.specs.ped_refs.specs.References.{Reference, numbered_accesses, references, statement_references, statements_references, is_pair, pair_count}
-use Rattle.ped_splits.specs.ped_reindex.specs.ped_loops.specs.ped_scalar.specs.ped_rules.specs.ped_loop_runs.specs.ped_bodies.specs.ped_steps.specs.ped_refs.specs.PairLimit.{references_until, is_within_pair_limit}
-use Rattle.ped_splits.specs.ped_reindex.specs.ped_loops.specs.ped_scalar.specs.ped_rules.specs.ped_loop_runs.specs.ped_bodies.specs.ped_steps.specs.ped_symbols.specs.Sites.{Site, declaration, statement, private_names, private_site, stmt_sites, stmts_sites, decl_sites, program_sites, site_uses}
-use Rattle.ped_splits.specs.ped_reindex.specs.ped_loops.specs.ped_scalar.specs.ped_rules.specs.ped_loop_runs.specs.ped_bodies.specs.ped_steps.specs.ped_symbols.specs.Declarations.{Declared, declared_in}
-use Rattle.ped_splits.specs.ped_reindex.specs.ped_loops.specs.ped_scalar.specs.ped_rules.specs.ped_loop_runs.specs.ped_bodies.specs.ped_steps.specs.ped_symbols.specs.Values.{site_fails, site_is_empty}
-use Rattle.ped_splits.specs.ped_reindex.specs.ped_loops.specs.ped_scalar.specs.ped_rules.specs.ped_loop_runs.specs.ped_bodies.specs.ped_steps.specs.ped_symbols.specs.StorageLimits.{has_many_pairs}
-use Rattle.ped_splits.specs.ped_reindex.specs.ped_loops.specs.ped_scalar.specs.ped_rules.specs.ped_loop_runs.specs.ped_bodies.specs.ped_steps.specs.ped_symbols.specs.NameRefusals.{uses_real, uses_other_rank, Before, behind_site, is_declared_twice, at_site, next_line, at_first, at_sites, name_refusals}
+use Rattle.ped_refs.specs.References.{Reference, numbered_accesses, references, statement_references, statements_references, is_pair, pair_count}
+use Rattle.ped_refs.specs.PairLimit.{references_until, is_within_pair_limit}
+use Rattle.ped_rules.specs.ped_symbols.specs.Sites.{Site, declaration, statement, private_names, private_site, stmt_sites, stmts_sites, decl_sites, program_sites, site_uses}
+use Rattle.ped_rules.specs.ped_symbols.specs.Declarations.{Declared, declared_in}
+use Rattle.ped_rules.specs.ped_symbols.specs.Values.{site_fails, site_is_empty}
+use Rattle.ped_rules.specs.ped_symbols.specs.StorageLimits.{has_many_pairs}
+use Rattle.ped_rules.specs.ped_symbols.specs.NameRefusals.{uses_real, uses_other_rank, Before, behind_site, is_declared_twice, at_site, next_line, at_first, at_sites, name_refusals}
 
 -- the head of a DO as that of no PARALLEL DO
 abbrev serial_head : Head → Head

@@ -6,8 +6,8 @@ use Rattle.ped_base.specs.declared.arithmetic.faults.Fault.{Fault}
 use Rattle.ped_base.specs.declared.arithmetic.faults.Fault.TheVariants.{OutOfRange}
 use Rattle.ped_base.specs.Arithmetic.Faults.{◌>>=◌}
 use Rattle.ped_base.specs.Arithmetic.Arithmetic.{in_range, sum_of, difference_of, product_of, quotient_of, remainder_of}
-use Rattle.ped_splits.specs.ped_reindex.specs.ped_loops.specs.ped_scalar.specs.ped_rules.specs.ped_loop_runs.specs.ped_bodies.specs.ped_steps.specs.ped_views.proofs.Products.{linear}
-use Rattle.ped_splits.specs.ped_reindex.specs.ped_loops.specs.ped_scalar.specs.ped_rules.specs.ped_loop_runs.specs.ped_bodies.specs.ped_steps.specs.ped_laws.specs.ped_store.specs.Stores.{is_storable}
+use Rattle.ped_rules.specs.ped_views.proofs.Products.{linear}
+use Rattle.ped_rules.specs.ped_store.specs.Stores.{is_storable}
 
 le_is : (a b : ℤ) → a ≤ℤ b → int_le a b ≡ true
 le_is a b h = go (int_le a b) refl

@@ -10,13 +10,13 @@ use Rattle.ped_base.specs.Lists.{is_same_text, is_among}
 use Rattle.ped_base.proofs.NameEquality.{same_is, same_flip}
 use Rattle.ped_tree.specs.NamesIn.{saved_in}
 use Rattle.ped_tree.specs.Tree.{DeclTree, StmtTrees, ProgramTree}
-use Rattle.ped_splits.specs.ped_reindex.specs.ped_loops.specs.ped_scalar.specs.ped_rules.specs.ped_loop_runs.specs.ped_bodies.specs.ped_steps.specs.ped_symbols.specs.Kinds.{kind_of, names_of, at_last}
-use Rattle.ped_splits.specs.ped_reindex.specs.ped_loops.specs.ped_scalar.specs.ped_rules.specs.ped_loop_runs.specs.ped_bodies.specs.ped_steps.specs.ped_symbols.specs.declared.symbols.Kind.TheVariants.{Array}
-use Rattle.ped_splits.specs.ped_reindex.specs.ped_loops.specs.ped_scalar.specs.ped_rules.specs.ped_loop_runs.specs.ped_bodies.specs.ped_steps.specs.ped_flow.proofs.Truths.{untrue, or_split}
-use Rattle.ped_splits.specs.ped_reindex.specs.ped_loops.specs.ped_scalar.specs.ped_rules.specs.ped_loop_runs.specs.ped_bodies.specs.ped_steps.specs.ped_laws.specs.Acts.Orders.{IsIn}
-use Rattle.ped_splits.specs.ped_reindex.specs.ped_loops.specs.ped_scalar.specs.ped_rules.specs.ped_loop_runs.specs.ped_bodies.specs.ped_steps.specs.Runs.Expanding.{array_decl, array_bounds}
-use Rattle.ped_splits.specs.ped_reindex.specs.ped_loops.specs.ped_scalar.specs.ped_rules.specs.ped_loop_runs.specs.ped_bodies.specs.ped_steps.proofs.RunLaws.ExpandedNamesArrays.{names_more, names_besides, array_named, values_same, kind_same, kind_there}
-use Rattle.ped_splits.specs.ped_reindex.specs.ped_loops.specs.ped_scalar.specs.ped_rules.specs.Spans.{Span}
+use Rattle.ped_rules.specs.ped_symbols.specs.Kinds.{kind_of, names_of, at_last}
+use Rattle.ped_rules.specs.ped_symbols.specs.declared.symbols.Kind.TheVariants.{Array}
+use Rattle.ped_rules.specs.ped_flow.proofs.Truths.{untrue, or_split}
+use Rattle.ped_rules.specs.ped_laws.specs.Acts.Orders.{IsIn}
+use Rattle.ped_rules.specs.ped_steps.specs.Runs.Expanding.{array_decl, array_bounds}
+use Rattle.ped_rules.specs.ped_steps.proofs.RunLaws.ExpandedNamesArrays.{names_more, names_besides, array_named, values_same, kind_same, kind_there}
+use Rattle.ped_rules.specs.Spans.{Span}
 use Rattle.ped_reduce.specs.Lowering.{Partials, declarations}
 use Rattle.ped_reduce.proofs.SumStores.{is_array_of, is_array, AreDistinct, AreThree, high_array, low_array, flag_array}
 use Rattle.ped_reduce.proofs.SumExits.{AllDistinct}

@@ -10,11 +10,11 @@ use Rattle.ped_tree.specs.Grammar.Words.{is_name}
 use Rattle.ped_tree.specs.Numbering.{statement_count, statements_count}
 use Rattle.ped_tree.specs.Printing.{value_text, step_text, do_word, do_text}
 use Rattle.ped_tree.specs.Tree.{CondTree, Head, StmtTree, StmtTrees, Assign, If, Do, Print, Read, Stop, Comment, no_stmts, more_stmts, DeclTree, ProgramTree}
-use Rattle.ped_splits.specs.ped_reindex.specs.ped_loops.specs.ped_scalar.specs.ped_rules.specs.ped_loop_runs.specs.ped_bodies.specs.ped_steps.specs.Replacing.{followed, alone, replaced, all_replaced}
-use Rattle.ped_splits.specs.ped_reindex.specs.ped_loops.specs.ped_scalar.specs.ped_rules.specs.ped_loop_runs.specs.ped_bodies.specs.ped_steps.proofs.RunLaws.FilledGaps.{counted}
-use Rattle.ped_splits.specs.ped_reindex.specs.ped_loops.specs.ped_scalar.specs.ped_rules.specs.ped_loop_runs.specs.ped_bodies.specs.ped_steps.specs.ped_symbols.specs.NameRefusals.{name_refusals, IsValid}
-use Rattle.ped_splits.specs.ped_reindex.specs.ped_loops.specs.ped_scalar.specs.ped_rules.specs.ped_loop_runs.specs.ped_bodies.specs.ped_steps.specs.ped_flow.proofs.Truths.{untrue, and_split}
-use Rattle.ped_splits.specs.ped_reindex.specs.ped_loops.specs.ped_scalar.specs.ped_rules.specs.OnlyLoops.{on_loop}
+use Rattle.ped_rules.specs.ped_steps.specs.Replacing.{followed, alone, replaced, all_replaced}
+use Rattle.ped_rules.specs.ped_steps.proofs.RunLaws.FilledGaps.{counted}
+use Rattle.ped_rules.specs.ped_symbols.specs.NameRefusals.{name_refusals, IsValid}
+use Rattle.ped_rules.specs.ped_flow.proofs.Truths.{untrue, and_split}
+use Rattle.ped_rules.specs.OnlyLoops.{on_loop}
 use Rattle.ped_reduce.specs.Lists.{without_list}
 use Rattle.ped_reduce.specs.Lowering.{Partials, declarations, zeros, all_summed, exits, bare, lowered_loop}
 use Rattle.ped_reduce.proofs.SerialPrograms.{serial, all_serial, begins_same, refused_as_serial}

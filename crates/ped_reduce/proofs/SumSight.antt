@@ -7,18 +7,18 @@ use Rattle.std.proofs.lemmas.List.Folds.{list_any-append}
 use Rattle.ped_tree.specs.Constants.NamedConstants.{value_named}
 use Rattle.ped_tree.specs.Tree.{ExprTree, ExprTrees, Int, Var, Element, Neg, Add, Sub, Mul, Div, Pow, Call, no_exprs, more_exprs, CondTree, Rel, Not, And, Or, ItemTree, Value, Text, Head}
 use Rattle.ped_tree.specs.NamesIn.{expr_names, exprs_names, cond_names, item_names}
-use Rattle.ped_splits.specs.ped_reindex.specs.ped_loops.specs.ped_scalar.specs.ped_rules.specs.ped_loop_runs.specs.ped_bodies.specs.ped_steps.specs.ped_laws.specs.ped_store.specs.Cells as cells
-use Rattle.ped_splits.specs.ped_reindex.specs.ped_loops.specs.ped_scalar.specs.ped_rules.specs.ped_loop_runs.specs.ped_bodies.specs.ped_steps.specs.ped_laws.specs.ped_store.specs.Cells.{Cell, In}
-use Rattle.ped_splits.specs.ped_reindex.specs.ped_loops.specs.ped_scalar.specs.ped_rules.specs.ped_loop_runs.specs.ped_bodies.specs.ped_steps.specs.ped_laws.specs.ped_store.specs.Stores.{Number, Store, put, lines_in, storable, outside_bounds}
-use Rattle.ped_splits.specs.ped_reindex.specs.ped_loops.specs.ped_scalar.specs.ped_rules.specs.ped_loop_runs.specs.ped_bodies.specs.ped_steps.specs.ped_laws.specs.ped_store.specs.Acts.{Touch}
-use Rattle.ped_splits.specs.ped_reindex.specs.ped_loops.specs.ped_scalar.specs.ped_rules.specs.ped_loop_runs.specs.ped_bodies.specs.ped_steps.specs.ped_laws.specs.ped_store.specs.DataLines.{Data, begun, Taken, next_value_of}
-use Rattle.ped_splits.specs.ped_reindex.specs.ped_loops.specs.ped_scalar.specs.ped_rules.specs.ped_loop_runs.specs.ped_bodies.specs.ped_steps.specs.ped_laws.specs.ped_store.specs.Storage.{is_within}
-use Rattle.ped_splits.specs.ped_reindex.specs.ped_loops.specs.ped_scalar.specs.ped_rules.specs.ped_loop_runs.specs.ped_bodies.specs.ped_steps.specs.ped_laws.specs.ped_eval.specs.Scopes.{Names}
-use Rattle.ped_splits.specs.ped_reindex.specs.ped_loops.specs.ped_scalar.specs.ped_rules.specs.ped_loop_runs.specs.ped_bodies.specs.ped_steps.specs.ped_laws.specs.ped_eval.specs.Evaluation.{Seen, cell_seen, index_seen, Evaluated, onward, ◌>>>◌, given, read_cell, numbered, number_behind}
-use Rattle.ped_splits.specs.ped_reindex.specs.ped_loops.specs.ped_scalar.specs.ped_rules.specs.ped_loop_runs.specs.ped_bodies.specs.ped_steps.specs.ped_laws.specs.ped_eval.specs.Values.{variable_value, name_value, is_rank, element_cell, value, values, truth, target}
-use Rattle.ped_splits.specs.ped_reindex.specs.ped_loops.specs.ped_scalar.specs.ped_rules.specs.ped_loop_runs.specs.ped_bodies.specs.ped_steps.specs.ped_laws.specs.ped_eval.specs.Statements.{Stored, assigned, item_text, item_texts, printed_line, into_item, with_taken, taking, taking_from, reading, reading_touches, write_touch}
-use Rattle.ped_splits.specs.ped_reindex.specs.ped_loops.specs.ped_scalar.specs.ped_rules.specs.ped_loop_runs.specs.ped_bodies.specs.ped_steps.specs.ped_laws.specs.ped_eval.specs.Loops.{in_bounds, limits}
-use Rattle.ped_splits.specs.ped_reindex.specs.ped_loops.specs.ped_scalar.specs.ped_rules.specs.ped_loop_runs.specs.ped_bodies.specs.ped_steps.specs.ped_laws.proofs.RunLaws.SeenCells.{AllSeen, OfResult}
+use Rattle.ped_rules.specs.ped_store.specs.Cells as cells
+use Rattle.ped_rules.specs.ped_store.specs.Cells.{Cell, In}
+use Rattle.ped_rules.specs.ped_store.specs.Stores.{Number, Store, put, lines_in, storable, outside_bounds}
+use Rattle.ped_rules.specs.ped_store.specs.Acts.{Touch}
+use Rattle.ped_rules.specs.ped_store.specs.DataLines.{Data, begun, Taken, next_value_of}
+use Rattle.ped_rules.specs.ped_store.specs.Storage.{is_within}
+use Rattle.ped_rules.specs.ped_eval.specs.Scopes.{Names}
+use Rattle.ped_rules.specs.ped_eval.specs.Evaluation.{Seen, cell_seen, index_seen, Evaluated, onward, ◌>>>◌, given, read_cell, numbered, number_behind}
+use Rattle.ped_rules.specs.ped_eval.specs.Values.{variable_value, name_value, is_rank, element_cell, value, values, truth, target}
+use Rattle.ped_rules.specs.ped_eval.specs.Statements.{Stored, assigned, item_text, item_texts, printed_line, into_item, with_taken, taking, taking_from, reading, reading_touches, write_touch}
+use Rattle.ped_rules.specs.ped_eval.specs.Loops.{in_bounds, limits}
+use Rattle.ped_rules.specs.ped_laws.proofs.RunLaws.SeenCells.{AllSeen, OfResult}
 
 -- each touch is of a cell of this kind
 abbrev pub AllTouch : (Cell → Type 0) → List Touch → Type 0

@@ -3,17 +3,17 @@ use Rattle.std.proofs.Common.{◌≡◌, ℕ, List, ◌++◌, true, false, sym, 
 use Rattle.ped_base.specs.Lists.{is_among}
 use Rattle.ped_tree.specs.NamesIn.{all_loop_variables}
 use Rattle.ped_tree.specs.Tree.{StmtTrees}
-use Rattle.ped_splits.specs.ped_reindex.specs.ped_loops.specs.ped_scalar.specs.ped_rules.specs.ped_loop_runs.specs.ped_bodies.specs.ped_steps.specs.ped_laws.specs.ped_store.specs.Cells.{Scalar}
-use Rattle.ped_splits.specs.ped_reindex.specs.ped_loops.specs.ped_scalar.specs.ped_rules.specs.ped_loop_runs.specs.ped_bodies.specs.ped_steps.specs.ped_laws.specs.ped_store.specs.Stores.{Store}
-use Rattle.ped_splits.specs.ped_reindex.specs.ped_loops.specs.ped_scalar.specs.ped_rules.specs.ped_loop_runs.specs.ped_bodies.specs.ped_steps.specs.ped_laws.specs.ped_store.specs.Acts.{Act}
-use Rattle.ped_splits.specs.ped_reindex.specs.ped_loops.specs.ped_scalar.specs.ped_rules.specs.ped_loop_runs.specs.ped_bodies.specs.ped_steps.specs.ped_laws.specs.Acts.Fitting.{store_after, touches_of}
-use Rattle.ped_splits.specs.ped_reindex.specs.ped_loops.specs.ped_scalar.specs.ped_rules.specs.ped_loop_runs.specs.ped_bodies.specs.ped_steps.specs.ped_laws.specs.Acts.Orders.{IsIn}
-use Rattle.ped_splits.specs.ped_reindex.specs.ped_loops.specs.ped_scalar.specs.ped_rules.specs.ped_loop_runs.specs.ped_bodies.specs.ped_steps.specs.ped_laws.specs.Plain.Executions.{is_small, WriteSmall}
-use Rattle.ped_splits.specs.ped_reindex.specs.ped_loops.specs.ped_scalar.specs.ped_rules.specs.ped_loop_runs.specs.ped_bodies.specs.ped_steps.specs.ped_laws.proofs.ActLaws.Reorderings.{touches_append}
-use Rattle.ped_splits.specs.ped_reindex.specs.ped_loops.specs.ped_scalar.specs.ped_rules.specs.ped_loop_runs.specs.ped_bodies.specs.ped_steps.specs.ped_laws.proofs.ActLaws.SameCells.{text_itself}
-use Rattle.ped_splits.specs.ped_reindex.specs.ped_loops.specs.ped_scalar.specs.ped_rules.specs.ped_loop_runs.specs.ped_bodies.specs.ped_steps.specs.ped_laws.proofs.PlainLaws.SmallWrites.{small_front, run_all_small, small_after}
-use Rattle.ped_splits.specs.ped_reindex.specs.ped_loops.specs.ped_scalar.specs.ped_rules.specs.ped_loop_runs.specs.ped_bodies.specs.ped_steps.specs.ped_laws.specs.ped_eval.specs.Scopes.{Setting, Scope}
-use Rattle.ped_splits.specs.ped_reindex.specs.ped_loops.specs.ped_scalar.specs.ped_rules.specs.ped_loop_runs.specs.ped_bodies.specs.ped_steps.specs.ped_laws.specs.ped_eval.specs.Runs.{run_all}
+use Rattle.ped_rules.specs.ped_store.specs.Cells.{Scalar}
+use Rattle.ped_rules.specs.ped_store.specs.Stores.{Store}
+use Rattle.ped_rules.specs.ped_store.specs.Acts.{Act}
+use Rattle.ped_rules.specs.ped_laws.specs.Acts.Fitting.{store_after, touches_of}
+use Rattle.ped_rules.specs.ped_laws.specs.Acts.Orders.{IsIn}
+use Rattle.ped_rules.specs.ped_laws.specs.Plain.Executions.{is_small, WriteSmall}
+use Rattle.ped_rules.specs.ped_laws.proofs.ActLaws.Reorderings.{touches_append}
+use Rattle.ped_rules.specs.ped_laws.proofs.ActLaws.SameCells.{text_itself}
+use Rattle.ped_rules.specs.ped_laws.proofs.PlainLaws.SmallWrites.{small_front, run_all_small, small_after}
+use Rattle.ped_rules.specs.ped_eval.specs.Scopes.{Setting, Scope}
+use Rattle.ped_rules.specs.ped_eval.specs.Runs.{run_all}
 use Rattle.ped_reduce.specs.Lowering.{Partials}
 use Rattle.ped_reduce.proofs.SplitSums.{storable_32}
 use Rattle.ped_reduce.proofs.SumStores.{AreSmall}

@@ -4,21 +4,21 @@ use Rattle.std.specs.Prelude.{not}
 use Rattle.std.proofs.lemmas.Bool.{both_ways}
 use Rattle.ped_base.specs.Dimensions.{Dimensions}
 use Rattle.ped_tree.specs.Tree.{Head, StmtTrees, Do}
-use Rattle.ped_splits.specs.ped_reindex.specs.ped_loops.specs.ped_scalar.specs.ped_rules.specs.ped_loop_runs.specs.ped_bodies.specs.ped_steps.specs.Replacing.{alone}
-use Rattle.ped_splits.specs.ped_reindex.specs.ped_loops.specs.ped_scalar.specs.ped_rules.specs.ped_loop_runs.specs.ped_bodies.specs.ped_steps.specs.ped_laws.specs.ped_store.specs.Cells.{Cell, Scalar, Element, Private, In, Out}
-use Rattle.ped_splits.specs.ped_reindex.specs.ped_loops.specs.ped_scalar.specs.ped_rules.specs.ped_loop_runs.specs.ped_bodies.specs.ped_steps.specs.ped_laws.specs.ped_store.specs.Stores.{Undefined, Number, Store}
-use Rattle.ped_splits.specs.ped_reindex.specs.ped_loops.specs.ped_scalar.specs.ped_rules.specs.ped_loop_runs.specs.ped_bodies.specs.ped_steps.specs.ped_laws.specs.ped_store.specs.Acts.{Act}
-use Rattle.ped_splits.specs.ped_reindex.specs.ped_loops.specs.ped_scalar.specs.ped_rules.specs.ped_loop_runs.specs.ped_bodies.specs.ped_steps.specs.ped_laws.specs.ped_store.specs.Races.{is_lines}
-use Rattle.ped_splits.specs.ped_reindex.specs.ped_loops.specs.ped_scalar.specs.ped_rules.specs.ped_loop_runs.specs.ped_bodies.specs.ped_steps.specs.ped_laws.specs.Acts.Fitting.{Fits, store_after}
-use Rattle.ped_splits.specs.ped_reindex.specs.ped_loops.specs.ped_scalar.specs.ped_rules.specs.ped_loop_runs.specs.ped_bodies.specs.ped_steps.specs.ped_laws.specs.Acts.Sets.{AgreeIn, needs, wants}
-use Rattle.ped_splits.specs.ped_reindex.specs.ped_loops.specs.ped_scalar.specs.ped_rules.specs.ped_loop_runs.specs.ped_bodies.specs.ped_steps.specs.ped_laws.specs.Acts.Pieces.{StandsFor}
-use Rattle.ped_splits.specs.ped_reindex.specs.ped_loops.specs.ped_scalar.specs.ped_rules.specs.ped_loop_runs.specs.ped_bodies.specs.ped_steps.specs.ped_laws.proofs.ActLaws.Renamings.{agreeing_fits, agreeing_leaves}
-use Rattle.ped_splits.specs.ped_reindex.specs.ped_loops.specs.ped_scalar.specs.ped_rules.specs.ped_loop_runs.specs.ped_bodies.specs.ped_steps.specs.ped_laws.specs.ped_eval.specs.Scopes.{Setting, Scope, cell_of}
-use Rattle.ped_splits.specs.ped_reindex.specs.ped_loops.specs.ped_scalar.specs.ped_rules.specs.ped_loop_runs.specs.ped_bodies.specs.ped_steps.specs.ped_laws.specs.ped_eval.specs.Runs.{going, Run, run, run_all}
-use Rattle.ped_splits.specs.ped_reindex.specs.ped_loops.specs.ped_scalar.specs.ped_rules.specs.ped_loop_runs.specs.ped_bodies.specs.ped_steps.specs.ped_laws.specs.Runs.Replaying.{Finish, goes_on, finish_of, ending_with, has_fault, Replays}
-use Rattle.ped_splits.specs.ped_reindex.specs.ped_loops.specs.ped_scalar.specs.ped_rules.specs.ped_loop_runs.specs.ped_bodies.specs.ped_steps.specs.ped_laws.proofs.RunLaws.Defined.{numbers_needed}
-use Rattle.ped_splits.specs.ped_reindex.specs.ped_loops.specs.ped_scalar.specs.ped_rules.specs.ped_loop_runs.specs.ped_bodies.specs.ped_steps.specs.ped_laws.proofs.RunLaws.StatementsTold.{all_told}
-use Rattle.ped_splits.specs.ped_reindex.specs.ped_loops.specs.ped_scalar.specs.ped_rules.specs.ped_loop_runs.specs.ped_bodies.specs.ped_steps.specs.ped_laws.proofs.RunLaws.Told.{own_run}
+use Rattle.ped_rules.specs.ped_steps.specs.Replacing.{alone}
+use Rattle.ped_rules.specs.ped_store.specs.Cells.{Cell, Scalar, Element, Private, In, Out}
+use Rattle.ped_rules.specs.ped_store.specs.Stores.{Undefined, Number, Store}
+use Rattle.ped_rules.specs.ped_store.specs.Acts.{Act}
+use Rattle.ped_rules.specs.ped_store.specs.Races.{is_lines}
+use Rattle.ped_rules.specs.ped_laws.specs.Acts.Fitting.{Fits, store_after}
+use Rattle.ped_rules.specs.ped_laws.specs.Acts.Sets.{AgreeIn, needs, wants}
+use Rattle.ped_rules.specs.ped_laws.specs.Acts.Pieces.{StandsFor}
+use Rattle.ped_rules.specs.ped_laws.proofs.ActLaws.Renamings.{agreeing_fits, agreeing_leaves}
+use Rattle.ped_rules.specs.ped_eval.specs.Scopes.{Setting, Scope, cell_of}
+use Rattle.ped_rules.specs.ped_eval.specs.Runs.{going, Run, run, run_all}
+use Rattle.ped_rules.specs.ped_laws.specs.Runs.Replaying.{Finish, goes_on, finish_of, ending_with, has_fault, Replays}
+use Rattle.ped_rules.specs.ped_laws.proofs.RunLaws.Defined.{numbers_needed}
+use Rattle.ped_rules.specs.ped_laws.proofs.RunLaws.StatementsTold.{all_told}
+use Rattle.ped_rules.specs.ped_laws.proofs.RunLaws.Told.{own_run}
 use Rattle.ped_reduce.specs.Lowering.{Partials}
 use Rattle.ped_reduce.proofs.SumStores.{AreSmall, HaveArrays}
 use Rattle.ped_reduce.proofs.SumBodies.{then_nothing}

@@ -5,21 +5,21 @@ use Rattle.ped_base.specs.declared.arithmetic.faults.Fault.{Fault}
 use Rattle.ped_base.specs.Arithmetic.Arithmetic.{sum_of, difference_of}
 use Rattle.ped_tree.specs.Constants.NamedConstants.{value_named}
 use Rattle.ped_tree.specs.Tree.{ExprTree, Var, Add, Sub, no_exprs, more_exprs}
-use Rattle.ped_splits.specs.ped_reindex.specs.ped_loops.specs.ped_scalar.specs.ped_rules.specs.ped_loop_runs.specs.ped_bodies.specs.ped_steps.specs.ped_laws.specs.ped_store.specs.Cells.{Cell, Scalar, same_cell}
-use Rattle.ped_splits.specs.ped_reindex.specs.ped_loops.specs.ped_scalar.specs.ped_rules.specs.ped_loop_runs.specs.ped_bodies.specs.ped_steps.specs.ped_laws.specs.ped_store.specs.Stores.{Content, Undefined, Number, Lines, Store, put, number_read, is_storable, storable, outside_bounds, out_of_range}
-use Rattle.ped_splits.specs.ped_reindex.specs.ped_loops.specs.ped_scalar.specs.ped_rules.specs.ped_loop_runs.specs.ped_bodies.specs.ped_steps.specs.ped_laws.specs.ped_store.specs.Storage.{is_within}
-use Rattle.ped_splits.specs.ped_reindex.specs.ped_loops.specs.ped_scalar.specs.ped_rules.specs.ped_loop_runs.specs.ped_bodies.specs.ped_steps.specs.ped_laws.specs.ped_store.specs.Acts.{Manner, reads, writes, is_told, Touch, Place, did, store_behind}
-use Rattle.ped_splits.specs.ped_reindex.specs.ped_loops.specs.ped_scalar.specs.ped_rules.specs.ped_loop_runs.specs.ped_bodies.specs.ped_steps.specs.ped_laws.specs.Acts.Orders.{IsIn}
-use Rattle.ped_splits.specs.ped_reindex.specs.ped_loops.specs.ped_scalar.specs.ped_rules.specs.ped_loop_runs.specs.ped_bodies.specs.ped_steps.specs.ped_laws.specs.Acts.Sets.{written_by, writes_to}
-use Rattle.ped_splits.specs.ped_reindex.specs.ped_loops.specs.ped_scalar.specs.ped_rules.specs.ped_loop_runs.specs.ped_bodies.specs.ped_steps.specs.ped_laws.proofs.ActLaws.SameCells.{cell_itself}
-use Rattle.ped_splits.specs.ped_reindex.specs.ped_loops.specs.ped_scalar.specs.ped_rules.specs.ped_loop_runs.specs.ped_bodies.specs.ped_steps.specs.ped_laws.proofs.ActLaws.Lists.{in_left}
-use Rattle.ped_splits.specs.ped_reindex.specs.ped_loops.specs.ped_scalar.specs.ped_rules.specs.ped_loop_runs.specs.ped_bodies.specs.ped_steps.specs.ped_laws.specs.ped_eval.specs.Scopes.{Names}
-use Rattle.ped_splits.specs.ped_reindex.specs.ped_loops.specs.ped_scalar.specs.ped_rules.specs.ped_loop_runs.specs.ped_bodies.specs.ped_steps.specs.ped_laws.specs.ped_eval.specs.Evaluation.{Seen, cell_seen, index_seen, Evaluated, having_seen, onward, ◌>>>◌, given, by_number, read_cell, read_index, numbered, number_behind}
-use Rattle.ped_splits.specs.ped_reindex.specs.ped_loops.specs.ped_scalar.specs.ped_rules.specs.ped_loop_runs.specs.ped_bodies.specs.ped_steps.specs.ped_laws.specs.ped_eval.specs.Values.{binary, variable_value, name_value, element_cell, value, values, target}
-use Rattle.ped_splits.specs.ped_reindex.specs.ped_loops.specs.ped_scalar.specs.ped_rules.specs.ped_loop_runs.specs.ped_bodies.specs.ped_steps.specs.ped_laws.specs.ped_eval.specs.Statements.{Stored, assigned, assignment_touches, write_touch}
-use Rattle.ped_splits.specs.ped_reindex.specs.ped_loops.specs.ped_scalar.specs.ped_rules.specs.ped_loop_runs.specs.ped_bodies.specs.ped_steps.specs.ped_laws.specs.ped_eval.specs.Runs.{going, Run, nothing_done, does, on_value, run_assignment}
-use Rattle.ped_splits.specs.ped_reindex.specs.ped_loops.specs.ped_scalar.specs.ped_rules.specs.ped_loop_runs.specs.ped_bodies.specs.ped_steps.specs.ped_laws.specs.Runs.Replaying.{act}
-use Rattle.ped_splits.specs.ped_reindex.specs.ped_loops.specs.ped_scalar.specs.ped_rules.specs.ped_loop_runs.specs.ped_bodies.specs.ped_steps.specs.ped_laws.proofs.CoveringLaws.Comings.{came, ok_one, within_range}
+use Rattle.ped_rules.specs.ped_store.specs.Cells.{Cell, Scalar, same_cell}
+use Rattle.ped_rules.specs.ped_store.specs.Stores.{Content, Undefined, Number, Lines, Store, put, number_read, is_storable, storable, outside_bounds, out_of_range}
+use Rattle.ped_rules.specs.ped_store.specs.Storage.{is_within}
+use Rattle.ped_rules.specs.ped_store.specs.Acts.{Manner, reads, writes, is_told, Touch, Place, did, store_behind}
+use Rattle.ped_rules.specs.ped_laws.specs.Acts.Orders.{IsIn}
+use Rattle.ped_rules.specs.ped_laws.specs.Acts.Sets.{written_by, writes_to}
+use Rattle.ped_rules.specs.ped_laws.proofs.ActLaws.SameCells.{cell_itself}
+use Rattle.ped_rules.specs.ped_laws.proofs.ActLaws.Lists.{in_left}
+use Rattle.ped_rules.specs.ped_eval.specs.Scopes.{Names}
+use Rattle.ped_rules.specs.ped_eval.specs.Evaluation.{Seen, cell_seen, index_seen, Evaluated, having_seen, onward, ◌>>>◌, given, by_number, read_cell, read_index, numbered, number_behind}
+use Rattle.ped_rules.specs.ped_eval.specs.Values.{binary, variable_value, name_value, element_cell, value, values, target}
+use Rattle.ped_rules.specs.ped_eval.specs.Statements.{Stored, assigned, assignment_touches, write_touch}
+use Rattle.ped_rules.specs.ped_eval.specs.Runs.{going, Run, nothing_done, does, on_value, run_assignment}
+use Rattle.ped_rules.specs.ped_laws.specs.Runs.Replaying.{act}
+use Rattle.ped_rules.specs.ped_laws.proofs.CoveringLaws.Comings.{came, ok_one, within_range}
 use Rattle.ped_reduce.specs.Sums.{Sum, plus, minus}
 use Rattle.ped_reduce.specs.Lowering.{Partials, at}
 use Rattle.ped_reduce.proofs.SumStores.{is_array_of, is_total, is_apart, part}

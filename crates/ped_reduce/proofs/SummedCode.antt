@@ -5,8 +5,8 @@ use Rattle.ped_tree.specs.Tree.{Int, StmtTree, StmtTrees, Assign, more_stmts}
 use Rattle.ped_tree.specs.Views.{stmt_tree, stmt_trees}
 use Rattle.ped_tree.specs.declared.statements.Stmt.{Stmt}
 use Rattle.ped_tree.proofs.Numbers.{stmt_trees-drop}
-use Rattle.ped_splits.specs.ped_reindex.specs.ped_loops.specs.ped_scalar.specs.ped_rules.specs.ped_loop_runs.specs.ped_bodies.specs.ped_steps.specs.Replacing.{followed, alone}
-use Rattle.ped_splits.specs.ped_reindex.specs.ped_loops.specs.ped_scalar.specs.ped_rules.specs.ped_loop_runs.specs.ped_bodies.specs.ped_steps.proofs.Followed.{followed-assoc, stmt_trees-append}
+use Rattle.ped_rules.specs.ped_steps.specs.Replacing.{followed, alone}
+use Rattle.ped_rules.specs.ped_steps.proofs.Followed.{followed-assoc, stmt_trees-append}
 use Rattle.ped_reduce.specs.declared.partials.Partials.{Partials as CodePartials}
 use Rattle.ped_reduce.specs.Sums.{Sum, sum_to}
 use Rattle.ped_reduce.specs.Lowering.{Partials, at, zeros, added_apart, apart_or, sum_apart, summed, all_summed, exit, exits}

@@ -5,7 +5,7 @@ use Rattle.std.proofs.lemmas.Bool.{cases_lt, lt-ltb, le-ltb}
 use Rattle.ped_tree.specs.Tree.{ExprTree, StmtTree, StmtTrees, Assign, If, Do, Print, Read, Stop, Comment, no_stmts, more_stmts}
 use Rattle.ped_tree.specs.Nests.{Loop, common_nest}
 use Rattle.ped_tree.specs.Numbering.{statement_count, statements_count}
-use Rattle.ped_splits.specs.ped_reindex.specs.ped_loops.specs.ped_scalar.specs.ped_rules.specs.ped_loop_runs.specs.ped_bodies.specs.ped_steps.proofs.RunLaws.FilledGaps.{counted}
+use Rattle.ped_rules.specs.ped_steps.proofs.RunLaws.FilledGaps.{counted}
 use Rattle.ped_reduce.specs.Lowering.{Partials, sum_apart, summed, all_summed}
 use Rattle.ped_reduce.proofs.SumShapes.{IsApart, IsBare, apart_or_bare}
 use Rattle.ped_reduce.proofs.SummedReferences.{renumbered, Tells, AllTell}

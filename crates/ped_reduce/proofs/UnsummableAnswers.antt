@@ -3,7 +3,7 @@ use Rattle.std.proofs.Common.{◌≡◌, ℕ, List, Bool, true, false, not, ◌|
 use Rattle.ped_base.specs.Lists.{is_among}
 use Rattle.ped_tree.specs.NamesIn.{all_loop_variables}
 use Rattle.ped_tree.specs.Tree.{StmtTrees, ProgramTree}
-use Rattle.ped_splits.specs.ped_reindex.specs.ped_loops.specs.ped_scalar.specs.Scalars.{is_scalar, is_referred}
+use Rattle.ped_rules.specs.Scalars.{is_scalar, is_referred}
 use Rattle.ped_reduce.specs.Reducing.{is_unsummable}
 
 module _ (t : ProgramTree) (s : ℕ) (body : StmtTrees) (x : List ℕ) where

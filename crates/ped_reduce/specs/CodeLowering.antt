@@ -1,7 +1,7 @@
 -- What is lowered, as the code has it (this project).
 use Rattle.std.specs.Prelude.{◌+◌, ◌-◌, ℕ, List, filter, not, codes}
 use Rattle.ped_tree.specs.Tree.{ProgramTree}
-use Rattle.ped_splits.specs.ped_reindex.specs.ped_loops.specs.ped_scalar.specs.ped_rules.specs.Fresh.{occurs, numbered_names, most_numbered}
+use Rattle.ped_rules.specs.Fresh.{occurs, numbered_names, most_numbered}
 use Rattle.ped_reduce.specs.declared.partials.Partials.{Partials as CodePartials}
 use Rattle.ped_reduce.specs.Lowering.{Partials}
 

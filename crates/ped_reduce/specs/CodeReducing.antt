@@ -1,9 +1,9 @@
 -- What forbids `reduce`, as the code finds it. Only contracts of private functions use it (this project).
 use Rattle.std.specs.Prelude.{ℕ, List, Option, Some, None}
 use Rattle.ped_tree.specs.Tree.{ProgramTree}
-use Rattle.ped_splits.specs.ped_reindex.specs.ped_loops.specs.ped_scalar.specs.ped_rules.specs.ped_loop_runs.specs.ped_bodies.specs.ped_steps.specs.declared.causes.Refused.{Refused}
-use Rattle.ped_splits.specs.ped_reindex.specs.ped_loops.specs.ped_scalar.specs.ped_rules.specs.ped_loop_runs.specs.ped_bodies.specs.ped_steps.specs.Causes.{IsFirstCause}
-use Rattle.ped_splits.specs.ped_reindex.specs.ped_loops.specs.ped_scalar.specs.ped_rules.specs.ped_loop_runs.specs.ped_bodies.specs.ped_steps.specs.CodeCauses.{cause_of, IsShort}
+use Rattle.ped_rules.specs.ped_steps.specs.declared.causes.Refused.{Refused}
+use Rattle.ped_rules.specs.ped_steps.specs.Causes.{IsFirstCause}
+use Rattle.ped_rules.specs.ped_steps.specs.CodeCauses.{cause_of, IsShort}
 use Rattle.ped_reduce.specs.Reducing.{StandsAgainstReducing, carried_beside}
 
 -- the first cause against the step; or there is none

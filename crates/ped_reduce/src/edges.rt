@@ -3,18 +3,18 @@
 ghost use Rattle.std.specs.Prelude.{◌≡◌, filter, not, IfOk};
 ghost use Rattle.ped_base.specs.Lists as Lists;
 ghost use Rattle.ped_tree.specs.Views.{program_tree};
-ghost use Rattle.ped_splits.specs.ped_reindex.specs.ped_loops.specs.ped_scalar.specs.ped_rules.specs.Carried as Carried;
-ghost use Rattle.ped_splits.specs.ped_reindex.specs.ped_loops.specs.ped_scalar.specs.ped_rules.specs.CodeCarried.{AreThose};
-ghost use Rattle.ped_splits.specs.ped_reindex.specs.ped_loops.specs.ped_scalar.specs.ped_rules.specs.ped_loop_runs.specs.ped_bodies.specs.ped_steps.specs.Scenes.{IsSceneOf};
-ghost use Rattle.ped_splits.specs.ped_reindex.specs.ped_loops.specs.ped_scalar.specs.ped_rules.specs.ped_loop_runs.specs.ped_bodies.specs.ped_steps.specs.ped_laws.specs.ped_graph.specs.ped_edges.specs.CodeEdges.{edge_of};
-ghost use Rattle.ped_splits.specs.ped_reindex.specs.ped_loops.specs.ped_scalar.specs.ped_rules.specs.ped_loop_runs.specs.ped_bodies.specs.ped_steps.specs.ped_refs.specs.Occurrences.{name_text};
+ghost use Rattle.ped_rules.specs.Carried as Carried;
+ghost use Rattle.ped_rules.specs.CodeCarried.{AreThose};
+ghost use Rattle.ped_rules.specs.ped_steps.specs.Scenes.{IsSceneOf};
+ghost use Rattle.ped_edges.specs.CodeEdges.{edge_of};
+ghost use Rattle.ped_refs.specs.Occurrences.{name_text};
 ghost use Rattle.ped_reduce.specs.Reducing as Spec;
 
 use crate::referring::is_named;
 use ped_base::{Name, NoMemory};
 use ped_edges::{Edge, first_of, keep_unrejected};
 use ped_refs::RefName;
-use ped_splits::{Scene, level_at};
+use ped_rules::{Scene, level_at};
 use std::alloc::Global;
 use std::sync::ledger::Ledger;
 

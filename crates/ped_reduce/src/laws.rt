@@ -3,16 +3,16 @@
 ghost use Rattle.std.specs.Prelude.{◌≡◌, ◌≤◌, [], ℕ, List, All, length, false};
 ghost use Rattle.ped_tree.specs.Numbering.{statements_count};
 ghost use Rattle.ped_tree.specs.Tree.{ProgramTree};
-ghost use Rattle.ped_splits.specs.ped_reindex.specs.ped_loops.specs.ped_scalar.specs.ped_rules.specs.Lawful.{IsLawful};
-ghost use Rattle.ped_splits.specs.ped_reindex.specs.ped_loops.specs.ped_scalar.specs.ped_rules.specs.ped_loop_runs.specs.Unrejected.{IsTrusted};
-ghost use Rattle.ped_splits.specs.ped_reindex.specs.ped_loops.specs.ped_scalar.specs.ped_rules.specs.ped_loop_runs.specs.ped_bodies.specs.ped_steps.specs.ped_symbols.specs.NameRefusals.{IsValid};
-ghost use Rattle.ped_splits.specs.ped_reindex.specs.ped_loops.specs.ped_scalar.specs.ped_rules.specs.ped_loop_runs.specs.ped_bodies.specs.ped_steps.specs.Runs.Meaning.{Keeps};
-ghost use Rattle.ped_splits.specs.ped_reindex.specs.ped_loops.specs.ped_scalar.specs.ped_rules.specs.ped_loop_runs.specs.ped_bodies.specs.ped_steps.specs.ped_flow.specs.Questions.{LoopOf};
+ghost use Rattle.ped_rules.specs.Lawful.{IsLawful};
+ghost use Rattle.ped_rules.specs.ped_loop_runs.specs.Unrejected.{IsTrusted};
+ghost use Rattle.ped_rules.specs.ped_symbols.specs.NameRefusals.{IsValid};
+ghost use Rattle.ped_rules.specs.ped_steps.specs.Runs.Meaning.{Keeps};
+ghost use Rattle.ped_rules.specs.ped_flow.specs.Questions.{LoopOf};
 ghost use Rattle.ped_reduce.specs.Lists.{has_list};
 ghost use Rattle.ped_reduce.specs.Lowering.{Lowered, not_lowered};
 ghost use Rattle.ped_reduce.specs.Reducing.{IsLowered, reducing};
 
-use ped_splits::{parallel_is_lawful, private_names_cleared, stays_trusted};
+use ped_rules::{parallel_is_lawful, private_names_cleared, stays_trusted};
 
 /// `reduce` has one first cause at most and makes one program. Where nothing forbids it, that one is valid; and if the old one
 /// is tidy and without C$PED REJECT, so is the new one, and it means the same: the list is a comment (ParaScope).

@@ -19,5 +19,4 @@ mod sums;
 pub use laws::{lowering_keeps_the_meaning, one_lowering, reduction_is_lawful};
 pub use lists::has_list;
 pub use lowering::{Lowered, lower};
-pub use ped_splits::Refused;
 pub use reducing::reduce;

@@ -4,11 +4,11 @@ ghost use Rattle.std.specs.Prelude.{◌≡◌, ◌≤◌, ◌<◌, ◌+◌, ◌-
 ghost use Rattle.std.specs.List.{range_with_len};
 ghost use Rattle.ped_tree.specs.Numbering.{statements_count};
 ghost use Rattle.ped_tree.specs.Views.{stmt_trees, program_tree, head_of};
-ghost use Rattle.ped_splits.specs.ped_reindex.specs.ped_loops.specs.ped_scalar.specs.ped_rules.specs.ped_loop_runs.specs.ped_bodies.specs.ped_steps.specs.Scenes.{IsSceneOf};
-ghost use Rattle.ped_splits.specs.ped_reindex.specs.ped_loops.specs.ped_scalar.specs.ped_rules.specs.ped_loop_runs.specs.ped_bodies.specs.ped_steps.specs.ped_symbols.specs.Kinds.{table_of};
-ghost use Rattle.ped_splits.specs.ped_reindex.specs.ped_loops.specs.ped_scalar.specs.ped_rules.specs.ped_loop_runs.specs.ped_bodies.specs.ped_steps.specs.ped_symbols.specs.NameRefusals.{IsValid};
-ghost use Rattle.ped_splits.specs.ped_reindex.specs.ped_loops.specs.ped_scalar.specs.ped_rules.specs.ped_loop_runs.specs.ped_bodies.specs.ped_steps.specs.ped_flow.specs.Questions.{IsLoop};
-ghost use Rattle.ped_splits.specs.ped_reindex.specs.ped_loops.specs.ped_scalar.specs.ped_rules.specs.CodeSpans.{span_in, IsNear};
+ghost use Rattle.ped_rules.specs.ped_steps.specs.Scenes.{IsSceneOf};
+ghost use Rattle.ped_rules.specs.ped_symbols.specs.Kinds.{table_of};
+ghost use Rattle.ped_rules.specs.ped_symbols.specs.NameRefusals.{IsValid};
+ghost use Rattle.ped_rules.specs.ped_flow.specs.Questions.{IsLoop};
+ghost use Rattle.ped_rules.specs.CodeSpans.{span_in, IsNear};
 ghost use Rattle.ped_reduce.specs.Lowering as Lowering;
 ghost use Rattle.ped_reduce.specs.Reducing as Spec;
 ghost use Rattle.ped_reduce.specs.CodeLowering.{partials_view};
@@ -21,7 +21,7 @@ use crate::partials::{Partials, declare, partials_of};
 use crate::rules::{early, late};
 use crate::summing::lowered_loop;
 use ped_base::{Name, NoMemory};
-use ped_splits::{
+use ped_rules::{
     Course, Scene, Span, Symbols, body_with, course_of, loop_at, loops_round, valid_symbols,
 };
 use ped_tree::{Do, Program, copy_decls, count_statements};

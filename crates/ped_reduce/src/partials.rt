@@ -3,15 +3,15 @@
 ghost use Rattle.std.specs.Prelude.{◌≡◌, ◌≤◌, ◌<◌, ◌+◌, ◌^◌, ◌∷◌, ◌++◌, [], ℕ, List, None, Some, codes, map, option_map, IfOk, OnOk, MatchOption};
 ghost use Rattle.std.specs.Fmt.{decimal};
 ghost use Rattle.ped_tree.specs.Views.{program_tree, decl_tree};
-ghost use Rattle.ped_splits.specs.ped_reindex.specs.ped_loops.specs.ped_scalar.specs.ped_rules.specs.ped_loop_runs.specs.ped_bodies.specs.ped_steps.specs.ped_symbols.specs.Kinds.{table_of};
-ghost use Rattle.ped_splits.specs.ped_reindex.specs.ped_loops.specs.ped_scalar.specs.ped_rules.specs.CodeSpans.{span_in, IsNear};
-ghost use Rattle.ped_splits.specs.ped_reindex.specs.ped_loops.specs.ped_scalar.specs.Expanding as Expanding;
+ghost use Rattle.ped_rules.specs.ped_symbols.specs.Kinds.{table_of};
+ghost use Rattle.ped_rules.specs.CodeSpans.{span_in, IsNear};
+ghost use Rattle.ped_rules.specs.ScalarArrays as ScalarArrays;
 ghost use Rattle.ped_reduce.specs.Lowering as Spec;
 ghost use Rattle.ped_reduce.specs.CodeLowering.{partials_view, fresh_from};
 
 use itoa::Buffer;
 use ped_base::{Bytes, Name, NoMemory, both};
-use ped_splits::{Span, Symbols, literal, occurs};
+use ped_rules::{Span, Symbols, literal, occurs};
 use ped_tree::{Bound, Decl, Declarator, Program};
 use std::alloc::Global;
 
@@ -142,7 +142,7 @@ pub(crate) fn declare(
 /// The declaration of an array over the values of the DO's variable.
 fn declaration(alloc: Global, array: Name, span: Span) -> Result<Decl, NoMemory>
     requires { IsNear span }
-    ensures { IfOk result (λ decl. decl_tree decl ≡ Expanding.declaration array (span_in span)) }
+    ensures { IfOk result (λ decl. decl_tree decl ≡ ScalarArrays.declaration array (span_in span)) }
 {
     let lower = literal(alloc, span.first.min(span.last))?;
     let (lower, upper) = both(lower, literal(alloc, span.first.max(span.last)))?;

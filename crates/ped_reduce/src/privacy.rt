@@ -6,12 +6,12 @@ ghost use Rattle.ped_base.specs.Lists as Lists;
 ghost use Rattle.ped_tree.specs.NamesIn as Names;
 ghost use Rattle.ped_tree.specs.Tree;
 ghost use Rattle.ped_tree.specs.Views.{stmt_trees, head_of};
-ghost use Rattle.ped_splits.specs.ped_reindex.specs.ped_loops.specs.ped_scalar.specs.ped_rules.specs.ped_loop_runs.specs.ped_bodies.specs.ped_steps.specs.ped_refs.specs.Loops.{nest_of};
-ghost use Rattle.ped_splits.specs.ped_reindex.specs.ped_loops.specs.ped_scalar.specs.ped_rules.specs.ped_loop_runs.specs.ped_bodies.specs.ped_steps.specs.ped_symbols.specs.NameRefusals as Refusals;
+ghost use Rattle.ped_refs.specs.Loops.{nest_of};
+ghost use Rattle.ped_rules.specs.ped_symbols.specs.NameRefusals as Refusals;
 
 use ped_base::{Name, is_among};
 use ped_refs::Loop;
-use ped_splits::{is_private_in, is_private_round, is_some_parallel};
+use ped_rules::{is_private_in, is_private_round, is_some_parallel};
 use ped_tree::Do;
 
 /// Whether the DO or one of these around it is a PARALLEL DO.

@@ -4,8 +4,7 @@
 ghost use Rattle.std.specs.Prelude.{◌≡◌, [], map, true, IfOk, OnOk};
 ghost use Rattle.ped_tree.specs.Tree;
 ghost use Rattle.ped_tree.specs.Views.{expr_tree, stmt_tree, stmt_trees, do_tree, head_of};
-ghost use Rattle.ped_splits.specs.ped_reindex.specs.ped_loops.specs.ped_scalar.specs.ped_rules.specs.ped_loop_runs.specs.ped_bodies.specs.ped_steps.specs.Replacing as Replacing;
-ghost use Rattle.ped_splits.specs.ped_reindex.specs.ped_loops.specs.ped_scalar.specs.Expanding as Expanding;
+ghost use Rattle.ped_rules.specs.ped_steps.specs.Replacing as Replacing;
 ghost use Rattle.ped_tree.specs.declared.expressions.Intrinsic.TheVariants.{Mod};
 ghost use Rattle.ped_reduce.specs.Lists as Lists;
 ghost use Rattle.ped_reduce.specs.Lowering as Spec;

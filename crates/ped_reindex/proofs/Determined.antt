@@ -1,10 +1,10 @@
 -- What each step comes to is determined, whatever it keeps of the meaning.
 use Rattle.std.proofs.Common.{ℕ, ℤ, Bool, refl}
-use Rattle.ped_loops.specs.ped_scalar.specs.ped_rules.specs.ped_loop_runs.specs.ped_bodies.specs.ped_steps.specs.Causes.{none_forbids}
-use Rattle.ped_loops.specs.ped_scalar.specs.ped_rules.specs.ped_loop_runs.specs.ped_bodies.specs.ped_steps.specs.Replacing.{all_kept}
-use Rattle.ped_loops.specs.ped_scalar.specs.ped_rules.specs.ped_loop_runs.specs.ped_bodies.specs.ped_steps.proofs.OneCause.{one_cause}
-use Rattle.ped_loops.specs.ped_scalar.specs.ped_rules.specs.KeepMaps.{moved_by}
-use Rattle.ped_loops.specs.ped_scalar.specs.ped_rules.specs.Lawful.{IsDetermined}
+use Rattle.ped_rules.specs.ped_steps.specs.Causes.{none_forbids}
+use Rattle.ped_rules.specs.ped_steps.specs.Replacing.{all_kept}
+use Rattle.ped_rules.specs.ped_steps.proofs.OneCause.{one_cause}
+use Rattle.ped_rules.specs.KeepMaps.{moved_by}
+use Rattle.ped_rules.specs.Lawful.{IsDetermined}
 use Rattle.ped_reindex.specs.Skewing.{skewed, StandsAgainstSkewing, skewing}
 use Rattle.ped_reindex.specs.Stripping.{stripped, StandsAgainstStripping, stripping}
 use Rattle.ped_reindex.specs.Peeling.{peeled, peel_kept, StandsAgainstPeeling, peeling}

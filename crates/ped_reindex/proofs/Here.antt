@@ -2,10 +2,10 @@
 use Rattle.std.proofs.Common.{◌≡◌, ℕ, Bool, true, false, refl, sym, ◌∙◌}
 use Rattle.std.proofs.lemmas.Bool.{both_ways}
 use Rattle.ped_tree.specs.Tree.{Head, StmtTrees, ProgramTree}
-use Rattle.ped_loops.specs.ped_scalar.specs.ped_rules.specs.ped_loop_runs.specs.ped_bodies.specs.ped_steps.specs.ped_flow.specs.Questions.{IsLoop, LoopOf}
-use Rattle.ped_loops.specs.ped_scalar.specs.ped_rules.specs.ped_loop_runs.specs.ped_bodies.specs.ped_steps.specs.ped_flow.proofs.Answering.{same_head, same_body}
-use Rattle.ped_loops.specs.ped_scalar.specs.ped_rules.specs.Chains.{WhereLoop, Unless}
-use Rattle.ped_loops.specs.ped_scalar.specs.ped_rules.specs.Rules.{WhereNoLoop}
+use Rattle.ped_rules.specs.ped_flow.specs.Questions.{IsLoop, LoopOf}
+use Rattle.ped_rules.specs.ped_flow.proofs.Answering.{same_head, same_body}
+use Rattle.ped_rules.specs.Chains.{WhereLoop, Unless}
+use Rattle.ped_rules.specs.Rules.{WhereNoLoop}
 
 pub false_by : (b : Bool) → (b ≡ true → ⊥) → b ≡ false
 false_by true h = absurd (h refl)

@@ -2,7 +2,6 @@ mod Here
 mod Remainders
 mod OneTaken
 mod Sizes
-mod Settled
 mod NestRooms
 mod KeptRooms
 mod Answering
@@ -14,15 +13,12 @@ mod StripAnswers
 mod PeelAnswers
 pub mod Determined
 mod StripsNumbers
-pub mod UnnamedCells
 mod StripsCells
-pub mod ValuesBut
 pub mod StripsBounds
 mod StripsTrips
 mod StripsControls
 mod StripsAbsent
 mod StripsStand
-pub mod RenumberedRaces
 mod StripsRaces
 mod StripsAccesses
 mod StripsKeeps
@@ -41,10 +37,8 @@ mod SkewLawful
 mod PeelFront
 mod PeelCounts
 pub mod PeelKinds
-mod PeelConstants
 mod PeelNumbers
 mod PeelRuns
-pub mod PeelFar
 mod PeelQuiet
 mod PeelCells
 mod PeelStands

@@ -9,16 +9,16 @@ use Rattle.ped_tree.specs.Views.{head_of}
 use Rattle.ped_tree.specs.Nests.{Loop}
 use Rattle.ped_tree.specs.Numbering.{numbered, all_numbered, at_place, statement_count, statements_count}
 use Rattle.ped_tree.proofs.Numbers.{at_place-back, length-numbered, length-all_numbered}
-use Rattle.ped_loops.specs.ped_scalar.specs.ped_rules.specs.ped_loop_runs.specs.ped_bodies.specs.ped_steps.specs.ped_affine.specs.PairViews.{heads_of}
-use Rattle.ped_loops.specs.ped_scalar.specs.ped_rules.specs.ped_loop_runs.specs.ped_bodies.specs.ped_steps.specs.ped_refs.specs.declared.loops.Loop.{Loop as CodeLoop}
-use Rattle.ped_loops.specs.ped_scalar.specs.ped_rules.specs.ped_loop_runs.specs.ped_bodies.specs.ped_steps.specs.ped_refs.specs.Loops.{loop_of, nest_of}
-use Rattle.ped_loops.specs.ped_scalar.specs.ped_rules.specs.ped_loop_runs.specs.ped_bodies.specs.ped_steps.specs.ped_symbols.specs.NameRefusals.{IsValid}
-use Rattle.ped_loops.specs.ped_scalar.specs.ped_rules.specs.ped_loop_runs.specs.ped_bodies.specs.ped_steps.specs.ped_symbols.specs.RightUses.RightLoops.{loop_depth, loops_deep}
-use Rattle.ped_loops.specs.ped_scalar.specs.ped_rules.specs.ped_loop_runs.specs.ped_bodies.specs.ped_steps.specs.ped_symbols.proofs.RightUseLaws.Whole.{right_program}
-use Rattle.ped_loops.specs.ped_scalar.specs.ped_rules.specs.ped_loop_runs.specs.ped_bodies.specs.ped_steps.specs.ped_flow.specs.PlainBounds.{loops_round, all_loops_round, nest_round}
-use Rattle.ped_loops.specs.ped_scalar.specs.ped_rules.specs.ped_loop_runs.specs.ped_bodies.specs.ped_steps.specs.ped_flow.specs.Questions.{IsLoop}
-use Rattle.ped_loops.specs.ped_scalar.specs.ped_rules.specs.ped_loop_runs.specs.ped_bodies.specs.ped_steps.proofs.RunLaws.LoopsRound.{all_none_before, all_none_from, none_before}
-use Rattle.ped_loops.specs.ped_scalar.specs.ped_rules.specs.Rules.{heads_round}
+use Rattle.ped_rules.specs.ped_affine.specs.PairViews.{heads_of}
+use Rattle.ped_refs.specs.declared.loops.Loop.{Loop as CodeLoop}
+use Rattle.ped_refs.specs.Loops.{loop_of, nest_of}
+use Rattle.ped_rules.specs.ped_symbols.specs.NameRefusals.{IsValid}
+use Rattle.ped_rules.specs.ped_symbols.specs.RightUses.RightLoops.{loop_depth, loops_deep}
+use Rattle.ped_rules.specs.ped_symbols.proofs.RightUseLaws.Whole.{right_program}
+use Rattle.ped_rules.specs.ped_flow.specs.PlainBounds.{loops_round, all_loops_round, nest_round}
+use Rattle.ped_rules.specs.ped_flow.specs.Questions.{IsLoop}
+use Rattle.ped_rules.specs.ped_steps.proofs.RunLaws.LoopsRound.{all_none_before, all_none_from, none_before}
+use Rattle.ped_rules.specs.Rules.{heads_round}
 
 nothing_there : (d : StmtTree) → None ≡ Some d → ⊥
 nothing_there d e = cc

@@ -1,7 +1,7 @@
 -- The iteration that is taken out, as the code has its value and its bound.
 use Rattle.std.proofs.Common.{◌≡◌, ◌<◌, ◌≤◌, ℤ, ◌-ℤ◌, unsigned_abs, FitsSigned, Some, subst, arith}
 use Rattle.std.specs.Int.{w128}
-use Rattle.ped_loops.specs.ped_scalar.specs.ped_rules.specs.ped_loop_runs.specs.ped_bodies.specs.ped_steps.specs.ped_views.proofs.Products.{linear}
+use Rattle.ped_rules.specs.ped_views.proofs.Products.{linear}
 use Rattle.ped_reindex.specs.CodePeeling.{IsFound}
 use Rattle.ped_reindex.specs.Peeling.{Peeled}
 use Rattle.ped_reindex.specs.declared.iterations.Iteration.{Iteration}

@@ -1,9 +1,9 @@
 -- The iterations of a DO with constant bounds, and of the DO that is left when the first or the last of them is peeled off.
-use Rattle.ped_loops.specs.ped_scalar.specs.ped_rules.specs.Spans.{Values, has_iteration, last_value, span_by}
-use Rattle.ped_loops.specs.ped_scalar.specs.ped_rules.specs.ped_loop_runs.specs.ped_bodies.specs.ped_steps.proofs.RunLaws.ConstantBounds.{Counts, constant_step}
-use Rattle.ped_loops.specs.ped_scalar.specs.ped_rules.specs.ped_loop_runs.specs.ped_bodies.specs.ped_steps.specs.ped_laws.specs.ped_eval.specs.Loops.{increment, iteration_count}
-use Rattle.ped_loops.specs.ped_scalar.specs.ped_rules.specs.ped_loop_runs.specs.ped_bodies.specs.ped_steps.specs.ped_laws.specs.ped_store.specs.Storage.{natural}
-use Rattle.ped_loops.specs.ped_scalar.specs.ped_rules.specs.ped_loop_runs.specs.ped_bodies.specs.ped_steps.specs.ped_views.proofs.Products.{abs_some, linear, mul-sub, small_multiple}
+use Rattle.ped_rules.specs.Spans.{Values, has_iteration, last_value, span_by}
+use Rattle.ped_rules.specs.ped_steps.proofs.RunLaws.ConstantBounds.{Counts, constant_step}
+use Rattle.ped_rules.specs.ped_eval.specs.Loops.{increment, iteration_count}
+use Rattle.ped_rules.specs.ped_store.specs.Storage.{natural}
+use Rattle.ped_rules.specs.ped_views.proofs.Products.{abs_some, linear, mul-sub, small_multiple}
 use Rattle.ped_reindex.specs.Peeling.{Peeled, peeled_by, peeled_of, taken_out}
 use Rattle.ped_tree.specs.Constants.ConstantExpressions.{constant_value}
 use Rattle.ped_tree.specs.Tree.{Head}

@@ -1,16 +1,16 @@
 -- Comments before the first executable statement: they do nothing, and a program means the same with them among its declarations.
 use Rattle.ped_base.specs.Lists.{is_among}
-use Rattle.ped_loops.specs.ped_scalar.specs.ped_rules.specs.ped_loop_runs.specs.ped_bodies.specs.ped_steps.specs.Replacing.{followed}
-use Rattle.ped_loops.specs.ped_scalar.specs.ped_rules.specs.ped_loop_runs.specs.ped_bodies.specs.ped_steps.specs.Runs.Gaps.{Gap, at_front, filled, in_body, in_else, in_then, past}
-use Rattle.ped_loops.specs.ped_scalar.specs.ped_rules.specs.ped_loop_runs.specs.ped_bodies.specs.ped_steps.specs.ped_laws.specs.ped_eval.specs.Outcomes.{bounds_of, setting_of}
-use Rattle.ped_loops.specs.ped_scalar.specs.ped_rules.specs.ped_loop_runs.specs.ped_bodies.specs.ped_steps.specs.ped_laws.specs.ped_eval.specs.Runs.{run_all}
-use Rattle.ped_loops.specs.ped_scalar.specs.ped_rules.specs.ped_loop_runs.specs.ped_bodies.specs.ped_steps.specs.ped_laws.specs.ped_eval.specs.Scopes.{Scope, Setting}
-use Rattle.ped_loops.specs.ped_scalar.specs.ped_rules.specs.ped_loop_runs.specs.ped_bodies.specs.ped_steps.specs.ped_laws.specs.ped_store.specs.Stores.{Store}
-use Rattle.ped_loops.specs.ped_scalar.specs.ped_rules.specs.ped_loop_runs.specs.ped_bodies.specs.ped_steps.specs.ped_symbols.specs.Kinds.{kind_among, kind_in, names_at}
-use Rattle.ped_loops.specs.ped_scalar.specs.ped_rules.specs.ped_loop_runs.specs.ped_bodies.specs.ped_steps.specs.ped_symbols.specs.NameRefusals.{at_first, behind_sites}
-use Rattle.ped_loops.specs.ped_scalar.specs.ped_rules.specs.ped_loop_runs.specs.ped_bodies.specs.ped_steps.specs.ped_symbols.specs.Sites.{Site, decl_sites, program_sites, stmt_sites, stmts_sites}
-use Rattle.ped_loops.specs.ped_scalar.specs.ped_rules.specs.ped_loop_runs.specs.ped_bodies.specs.ped_steps.specs.ped_symbols.specs.declared.symbols.Kind.{Kind}
-use Rattle.ped_reindex.specs.Settling.{behind_comments, front_comments, settled}
+use Rattle.ped_rules.specs.ped_steps.specs.Replacing.{followed}
+use Rattle.ped_rules.specs.ped_steps.specs.Runs.Gaps.{Gap, at_front, filled, in_body, in_else, in_then, past}
+use Rattle.ped_rules.specs.ped_eval.specs.Outcomes.{bounds_of, setting_of}
+use Rattle.ped_rules.specs.ped_eval.specs.Runs.{run_all}
+use Rattle.ped_rules.specs.ped_eval.specs.Scopes.{Scope, Setting}
+use Rattle.ped_rules.specs.ped_store.specs.Stores.{Store}
+use Rattle.ped_rules.specs.ped_symbols.specs.Kinds.{kind_among, kind_in, names_at}
+use Rattle.ped_rules.specs.ped_symbols.specs.NameRefusals.{at_first, behind_sites}
+use Rattle.ped_rules.specs.ped_symbols.specs.Sites.{Site, decl_sites, program_sites, stmt_sites, stmts_sites}
+use Rattle.ped_rules.specs.ped_symbols.specs.declared.symbols.Kind.{Kind}
+use Rattle.ped_rules.specs.Settling.{behind_comments, front_comments, settled}
 use Rattle.ped_tree.specs.Accesses.{constant_names, constants_in}
 use Rattle.ped_tree.specs.Grammar.Fits.{begins_with_statement}
 use Rattle.ped_tree.specs.NamesIn.{all_loop_variables, first_occurrences, loop_variables, saved_in}

@@ -1,50 +1,50 @@
 -- A program in which an iteration of a DO is peeled off keeps its meaning.
 use Rattle.ped_base.specs.Lists.{is_among, is_same_text}
-use Rattle.ped_loops.specs.ped_scalar.specs.ped_rules.proofs.RightSteps.{right_step, step_parts}
-use Rattle.ped_loops.specs.ped_scalar.specs.ped_rules.specs.Spans.{Values}
-use Rattle.ped_loops.specs.ped_scalar.specs.ped_rules.specs.ped_loop_runs.proofs.LoopLaws.OneForOneNames.{variables_unnamed}
-use Rattle.ped_loops.specs.ped_scalar.specs.ped_rules.specs.ped_loop_runs.proofs.LoopLaws.OneForOneStands.{run_alone}
-use Rattle.ped_loops.specs.ped_scalar.specs.ped_rules.specs.ped_loop_runs.proofs.TidyLaws.TidyPathsGaps.{followed_count}
-use Rattle.ped_loops.specs.ped_scalar.specs.ped_rules.specs.ped_loop_runs.proofs.TidyLaws.TidyReferencesGaps.{of_first}
-use Rattle.ped_loops.specs.ped_scalar.specs.ped_rules.specs.ped_loop_runs.proofs.PastingLaws.CountedNumbers.{count_alike, told_back}
-use Rattle.ped_loops.specs.ped_scalar.specs.ped_rules.specs.ped_loop_runs.proofs.PastingLaws.KeptMeaning.{exchange_keeps, wanted_suit}
-use Rattle.ped_loops.specs.ped_scalar.specs.ped_rules.specs.ped_loop_runs.proofs.PastingLaws.OneStatement.{gives_way}
-use Rattle.ped_loops.specs.ped_scalar.specs.ped_rules.specs.ped_loop_runs.specs.Executions.{IsExecuted}
-use Rattle.ped_loops.specs.ped_scalar.specs.ped_rules.specs.ped_loop_runs.specs.Meaning.{IsExchange, RaceFreeInstead}
-use Rattle.ped_loops.specs.ped_scalar.specs.ped_rules.specs.ped_loop_runs.specs.Numbers.{counted_by, told_by}
-use Rattle.ped_loops.specs.ped_scalar.specs.ped_rules.specs.ped_loop_runs.specs.Pasting.{CountAlike, DoInstead, StandInstead}
-use Rattle.ped_loops.specs.ped_scalar.specs.ped_rules.specs.ped_loop_runs.specs.Statements.{GivesWay}
-use Rattle.ped_loops.specs.ped_scalar.specs.ped_rules.specs.ped_loop_runs.specs.ped_bodies.proofs.BodyLaws.Rewritings.{may_give_way}
-use Rattle.ped_loops.specs.ped_scalar.specs.ped_rules.specs.ped_loop_runs.specs.ped_bodies.specs.Rewriting.{HaveIncrements, MayBeRewritten, OfHeads}
-use Rattle.ped_loops.specs.ped_scalar.specs.ped_rules.specs.ped_loop_runs.specs.ped_bodies.specs.ped_steps.proofs.RunLaws.ExpandedPlacesParts.{part_at}
-use Rattle.ped_loops.specs.ped_scalar.specs.ped_rules.specs.ped_loop_runs.specs.ped_bodies.specs.ped_steps.proofs.RunLaws.RunCells.{EachDos}
-use Rattle.ped_loops.specs.ped_scalar.specs.ped_rules.specs.ped_loop_runs.specs.ped_bodies.specs.ped_steps.proofs.RunLaws.SparedVariables.{IsUnassigned, variables_unassigned}
-use Rattle.ped_loops.specs.ped_scalar.specs.ped_rules.specs.ped_loop_runs.specs.ped_bodies.specs.ped_steps.proofs.RunLaws.SubstitutedShapes.{counts_kept}
-use Rattle.ped_loops.specs.ped_scalar.specs.ped_rules.specs.ped_loop_runs.specs.ped_bodies.specs.ped_steps.specs.Replacing.{alone, program_with}
-use Rattle.ped_loops.specs.ped_scalar.specs.ped_rules.specs.ped_loop_runs.specs.ped_bodies.specs.ped_steps.specs.Runs.Gaps.{Gap, at_front, filled, in_body, in_else, in_then, number_at, past}
-use Rattle.ped_loops.specs.ped_scalar.specs.ped_rules.specs.ped_loop_runs.specs.ped_bodies.specs.ped_steps.specs.Runs.Meaning.{Keeps}
-use Rattle.ped_loops.specs.ped_scalar.specs.ped_rules.specs.ped_loop_runs.specs.ped_bodies.specs.ped_steps.specs.Runs.Renumbering.{renumbered}
-use Rattle.ped_loops.specs.ped_scalar.specs.ped_rules.specs.ped_loop_runs.specs.ped_bodies.specs.ped_steps.specs.ped_affine.specs.Assigned.{assigned_in_all}
-use Rattle.ped_loops.specs.ped_scalar.specs.ped_rules.specs.ped_loop_runs.specs.ped_bodies.specs.ped_steps.specs.ped_flow.proofs.Answering.{loop_fits}
-use Rattle.ped_loops.specs.ped_scalar.specs.ped_rules.specs.ped_loop_runs.specs.ped_bodies.specs.ped_steps.specs.ped_flow.specs.Questions.{IsContained, LoopOf}
-use Rattle.ped_loops.specs.ped_scalar.specs.ped_rules.specs.ped_loop_runs.specs.ped_bodies.specs.ped_steps.specs.ped_laws.proofs.ActLaws.Renamings.{or_left}
-use Rattle.ped_loops.specs.ped_scalar.specs.ped_rules.specs.ped_loop_runs.specs.ped_bodies.specs.ped_steps.specs.ped_laws.proofs.ActLaws.SameCells.{text_itself}
-use Rattle.ped_loops.specs.ped_scalar.specs.ped_rules.specs.ped_loop_runs.specs.ped_bodies.specs.ped_steps.specs.ped_laws.proofs.FlowRunLaws.Stopping.{fitting_stops, loop_stops}
-use Rattle.ped_loops.specs.ped_scalar.specs.ped_rules.specs.ped_loop_runs.specs.ped_bodies.specs.ped_steps.specs.ped_laws.specs.Acts.Pieces.{StandsFor}
-use Rattle.ped_loops.specs.ped_scalar.specs.ped_rules.specs.ped_loop_runs.specs.ped_bodies.specs.ped_steps.specs.ped_laws.specs.Acts.Sets.{wants}
-use Rattle.ped_loops.specs.ped_scalar.specs.ped_rules.specs.ped_loop_runs.specs.ped_bodies.specs.ped_steps.specs.ped_laws.specs.Runs.Replaying.{Replays, finish_of, goes_on}
-use Rattle.ped_loops.specs.ped_scalar.specs.ped_rules.specs.ped_loop_runs.specs.ped_bodies.specs.ped_steps.specs.ped_laws.specs.Runs.Showing.{shown_at_end}
-use Rattle.ped_loops.specs.ped_scalar.specs.ped_rules.specs.ped_loop_runs.specs.ped_bodies.specs.ped_steps.specs.ped_laws.specs.ped_eval.specs.Outcomes.{IsRaceFree, bounds_of, setting_of}
-use Rattle.ped_loops.specs.ped_scalar.specs.ped_rules.specs.ped_loop_runs.specs.ped_bodies.specs.ped_steps.specs.ped_laws.specs.ped_eval.specs.Runs.{Run, run, run_all}
-use Rattle.ped_loops.specs.ped_scalar.specs.ped_rules.specs.ped_loop_runs.specs.ped_bodies.specs.ped_steps.specs.ped_laws.specs.ped_eval.specs.Scopes.{Scope, Setting}
-use Rattle.ped_loops.specs.ped_scalar.specs.ped_rules.specs.ped_loop_runs.specs.ped_bodies.specs.ped_steps.specs.ped_laws.specs.ped_store.specs.Acts.{Act}
-use Rattle.ped_loops.specs.ped_scalar.specs.ped_rules.specs.ped_loop_runs.specs.ped_bodies.specs.ped_steps.specs.ped_laws.specs.ped_store.specs.Stores.{Store, store_at_start}
-use Rattle.ped_loops.specs.ped_scalar.specs.ped_rules.specs.ped_loop_runs.specs.ped_bodies.specs.ped_steps.specs.ped_sums.specs.Substitution.{substituted}
-use Rattle.ped_loops.specs.ped_scalar.specs.ped_rules.specs.ped_loop_runs.specs.ped_bodies.specs.ped_steps.specs.ped_sums.specs.Sums.{literal}
-use Rattle.ped_loops.specs.ped_scalar.specs.ped_rules.specs.ped_loop_runs.specs.ped_bodies.specs.ped_steps.specs.ped_symbols.proofs.RightUseLaws.Whole.{others_unvalued, same_values}
-use Rattle.ped_loops.specs.ped_scalar.specs.ped_rules.specs.ped_loop_runs.specs.ped_bodies.specs.ped_steps.specs.ped_symbols.specs.Kinds.{kind_in, table_of}
-use Rattle.ped_loops.specs.ped_scalar.specs.ped_rules.specs.ped_loop_runs.specs.ped_bodies.specs.ped_steps.specs.ped_symbols.specs.NameRefusals.{IsValid}
-use Rattle.ped_loops.specs.ped_scalar.specs.ped_rules.specs.ped_loop_runs.specs.ped_bodies.specs.ped_steps.specs.ped_symbols.specs.RightUses.RightLoops.{is_step, step_is_right, steps_are_right, stmt_steps_are_right}
+use Rattle.ped_rules.proofs.RightSteps.{right_step, step_parts}
+use Rattle.ped_rules.specs.Spans.{Values}
+use Rattle.ped_rules.specs.ped_loop_runs.proofs.LoopLaws.OneForOneNames.{variables_unnamed}
+use Rattle.ped_rules.specs.ped_loop_runs.proofs.LoopLaws.OneForOneStands.{run_alone}
+use Rattle.ped_rules.specs.ped_loop_runs.proofs.TidyLaws.TidyPathsGaps.{followed_count}
+use Rattle.ped_rules.specs.ped_loop_runs.proofs.TidyLaws.TidyReferencesGaps.{of_first}
+use Rattle.ped_rules.specs.ped_loop_runs.proofs.PastingLaws.CountedNumbers.{count_alike, told_back}
+use Rattle.ped_rules.specs.ped_loop_runs.proofs.PastingLaws.KeptMeaning.{exchange_keeps, wanted_suit}
+use Rattle.ped_rules.specs.ped_loop_runs.proofs.PastingLaws.OneStatement.{gives_way}
+use Rattle.ped_rules.specs.ped_loop_runs.specs.Executions.{IsExecuted}
+use Rattle.ped_rules.specs.ped_loop_runs.specs.Meaning.{IsExchange, RaceFreeInstead}
+use Rattle.ped_rules.specs.ped_loop_runs.specs.Numbers.{counted_by, told_by}
+use Rattle.ped_rules.specs.ped_loop_runs.specs.Pasting.{CountAlike, DoInstead, StandInstead}
+use Rattle.ped_rules.specs.ped_loop_runs.specs.Statements.{GivesWay}
+use Rattle.ped_rules.specs.ped_bodies.proofs.BodyLaws.Rewritings.{may_give_way}
+use Rattle.ped_rules.specs.ped_bodies.specs.Rewriting.{HaveIncrements, MayBeRewritten, OfHeads}
+use Rattle.ped_rules.specs.ped_steps.proofs.RunLaws.ExpandedPlacesParts.{part_at}
+use Rattle.ped_rules.specs.ped_steps.proofs.RunLaws.RunCells.{EachDos}
+use Rattle.ped_rules.specs.ped_steps.proofs.RunLaws.SparedVariables.{IsUnassigned, variables_unassigned}
+use Rattle.ped_rules.specs.ped_steps.proofs.RunLaws.SubstitutedShapes.{counts_kept}
+use Rattle.ped_rules.specs.ped_steps.specs.Replacing.{alone, program_with}
+use Rattle.ped_rules.specs.ped_steps.specs.Runs.Gaps.{Gap, at_front, filled, in_body, in_else, in_then, number_at, past}
+use Rattle.ped_rules.specs.ped_steps.specs.Runs.Meaning.{Keeps}
+use Rattle.ped_rules.specs.ped_steps.specs.Runs.Renumbering.{renumbered}
+use Rattle.ped_rules.specs.ped_affine.specs.Assigned.{assigned_in_all}
+use Rattle.ped_rules.specs.ped_flow.proofs.Answering.{loop_fits}
+use Rattle.ped_rules.specs.ped_flow.specs.Questions.{IsContained, LoopOf}
+use Rattle.ped_rules.specs.ped_laws.proofs.ActLaws.Renamings.{or_left}
+use Rattle.ped_rules.specs.ped_laws.proofs.ActLaws.SameCells.{text_itself}
+use Rattle.ped_rules.specs.ped_laws.proofs.FlowRunLaws.Stopping.{fitting_stops, loop_stops}
+use Rattle.ped_rules.specs.ped_laws.specs.Acts.Pieces.{StandsFor}
+use Rattle.ped_rules.specs.ped_laws.specs.Acts.Sets.{wants}
+use Rattle.ped_rules.specs.ped_laws.specs.Runs.Replaying.{Replays, finish_of, goes_on}
+use Rattle.ped_rules.specs.ped_laws.specs.Runs.Showing.{shown_at_end}
+use Rattle.ped_rules.specs.ped_eval.specs.Outcomes.{IsRaceFree, bounds_of, setting_of}
+use Rattle.ped_rules.specs.ped_eval.specs.Runs.{Run, run, run_all}
+use Rattle.ped_rules.specs.ped_eval.specs.Scopes.{Scope, Setting}
+use Rattle.ped_rules.specs.ped_store.specs.Acts.{Act}
+use Rattle.ped_rules.specs.ped_store.specs.Stores.{Store, store_at_start}
+use Rattle.ped_sums.specs.Substitution.{substituted}
+use Rattle.ped_sums.specs.Sums.{literal}
+use Rattle.ped_rules.specs.ped_symbols.proofs.RightUseLaws.Whole.{others_unvalued, same_values}
+use Rattle.ped_rules.specs.ped_symbols.specs.Kinds.{kind_in, table_of}
+use Rattle.ped_rules.specs.ped_symbols.specs.NameRefusals.{IsValid}
+use Rattle.ped_rules.specs.ped_symbols.specs.RightUses.RightLoops.{is_step, step_is_right, steps_are_right, stmt_steps_are_right}
 use Rattle.ped_reindex.proofs.PeelCounts.{HasSpan, has_span}
 use Rattle.ped_reindex.proofs.PeelFront.{settled_count, settled_gap, settled_kinds, settled_new, settled_run, settled_saved, settled_setting, settled_variables}
 use Rattle.ped_reindex.proofs.PeelKinds.{peeled_kinds}
@@ -55,7 +55,7 @@ use Rattle.ped_reindex.proofs.PeelRuns.{IsPeeledRun, copy_of, peeled_run}
 use Rattle.ped_reindex.proofs.PeelStands.{does_instead, stands_instead}
 use Rattle.ped_reindex.proofs.PeelTrusted.{left_head, peeled_is, same_variables}
 use Rattle.ped_reindex.specs.Peeling.{Peeled, has_far, peeled, peeled_of, with_peeled}
-use Rattle.ped_reindex.specs.Settling.{behind_comments, settled}
+use Rattle.ped_rules.specs.Settling.{behind_comments, settled}
 use Rattle.ped_tree.specs.Constants.ConstantExpressions.{constant_value}
 use Rattle.ped_tree.specs.Constants.NamedConstants.{value_named}
 use Rattle.ped_tree.specs.Grammar.Fits.{at_body, begins_with_statement, decls_fit, stmts_fit}

@@ -1,61 +1,31 @@
 -- What names stand for in a program in which an iteration of a DO is peeled off: all that they stood for.
-use Rattle.ped_base.proofs.NameEquality.{same_is}
-use Rattle.ped_base.specs.Arithmetic.Arithmetic.{difference_of, negation_of, power_of, product_of, quotient_of, sum_of}
 use Rattle.ped_base.specs.Lists.{is_among, is_same_text}
-use Rattle.ped_loops.specs.ped_scalar.specs.ped_rules.specs.ped_loop_runs.proofs.LoopLaws.OneForOneNames.{constant_there}
-use Rattle.ped_loops.specs.ped_scalar.specs.ped_rules.specs.Spans.{Values}
-use Rattle.ped_loops.specs.ped_scalar.specs.ped_rules.specs.ped_loop_runs.specs.ped_bodies.specs.ped_steps.proofs.RunLaws.ExpandedNamesSites.{stmt_at, stmts_at}
-use Rattle.ped_loops.specs.ped_scalar.specs.ped_rules.specs.ped_loop_runs.specs.ped_bodies.specs.ped_steps.proofs.RunLaws.ExpandedNamesSubstituted.{in_stmts}
-use Rattle.ped_loops.specs.ped_scalar.specs.ped_rules.specs.ped_loop_runs.specs.ped_bodies.specs.ped_steps.proofs.RunLaws.ExpandedPlacesStand.{variable_scalar}
-use Rattle.ped_loops.specs.ped_scalar.specs.ped_rules.specs.ped_loop_runs.specs.ped_bodies.specs.ped_steps.proofs.RunLaws.NamesKept.{Alike, AreAlike, names_kept, occurs}
-use Rattle.ped_loops.specs.ped_scalar.specs.ped_rules.specs.ped_loop_runs.specs.ped_bodies.specs.ped_steps.proofs.RunLaws.PrivatisedPrograms.{scalar_occurs, statement_in}
-use Rattle.ped_loops.specs.ped_scalar.specs.ped_rules.specs.ped_loop_runs.specs.ped_bodies.specs.ped_steps.specs.Replacing.{followed, program_with}
-use Rattle.ped_loops.specs.ped_scalar.specs.ped_rules.specs.ped_loop_runs.specs.ped_bodies.specs.ped_steps.specs.ped_flow.specs.Questions.{LoopOf}
-use Rattle.ped_loops.specs.ped_scalar.specs.ped_rules.specs.ped_loop_runs.specs.ped_bodies.specs.ped_steps.specs.ped_sums.specs.Sums.{literal}
-use Rattle.ped_loops.specs.ped_scalar.specs.ped_rules.specs.ped_loop_runs.specs.ped_bodies.specs.ped_steps.specs.ped_symbols.proofs.RightUseLaws.Whole.{others_unvalued, same_kinds}
-use Rattle.ped_loops.specs.ped_scalar.specs.ped_rules.specs.ped_loop_runs.specs.ped_bodies.specs.ped_steps.specs.ped_symbols.specs.Kinds.{kind_in, names_of, table_of}
-use Rattle.ped_loops.specs.ped_scalar.specs.ped_rules.specs.ped_loop_runs.specs.ped_bodies.specs.ped_steps.specs.ped_symbols.specs.NameRefusals.{IsValid}
-use Rattle.ped_loops.specs.ped_scalar.specs.ped_rules.specs.ped_loop_runs.specs.ped_bodies.specs.ped_steps.specs.ped_symbols.specs.Sites.{stmt_sites, stmts_sites}
-use Rattle.ped_reindex.proofs.PeelConstants.{of_binary, of_call, of_onto, of_unary}
+use Rattle.ped_rules.specs.ped_loop_runs.proofs.LoopLaws.OneForOneNames.{constant_there}
+use Rattle.ped_rules.specs.ped_steps.proofs.RunLaws.ExpandedNamesSites.{stmt_at, stmts_at}
+use Rattle.ped_rules.specs.ped_steps.proofs.RunLaws.ExpandedNamesSubstituted.{in_stmts}
+use Rattle.ped_rules.specs.ped_steps.proofs.RunLaws.ExpandedPlacesStand.{variable_scalar}
+use Rattle.ped_rules.specs.ped_steps.proofs.RunLaws.NamesKept.{Alike, AreAlike, names_kept, occurs}
+use Rattle.ped_rules.specs.ped_steps.proofs.RunLaws.PrivatisedPrograms.{scalar_occurs, statement_in}
+use Rattle.ped_rules.specs.ped_steps.specs.Replacing.{followed, program_with}
+use Rattle.ped_rules.specs.ped_flow.specs.Questions.{LoopOf}
+use Rattle.ped_sums.specs.Sums.{literal}
+use Rattle.ped_rules.specs.ped_symbols.proofs.RightUseLaws.Whole.{others_unvalued, same_kinds}
+use Rattle.ped_rules.specs.ped_symbols.specs.Kinds.{kind_in, names_of, table_of}
+use Rattle.ped_rules.specs.ped_symbols.specs.NameRefusals.{IsValid}
+use Rattle.ped_rules.specs.ped_symbols.specs.Sites.{stmt_sites, stmts_sites}
 use Rattle.ped_reindex.proofs.PeelCounts.{HasSpan}
 use Rattle.ped_reindex.proofs.PeelTrusted.{again, left_head, peeled_tells}
 use Rattle.ped_reindex.specs.Peeling.{Peeled, iteration_of, with_peeled}
 use Rattle.ped_tree.proofs.NameLaws.Collected.{among_append}
 use Rattle.ped_tree.specs.Accesses.{constant_names}
-use Rattle.ped_tree.specs.Constants.ConstantExpressions.{constant_value, constant_values}
 use Rattle.ped_tree.specs.Constants.NamedConstants.{value_named}
-use Rattle.ped_tree.specs.NamesIn.{expr_names, exprs_names, head_names, stmt_names, stmts_names}
+use Rattle.ped_tree.specs.NamesIn.{expr_names, head_names, stmt_names, stmts_names}
 use Rattle.ped_tree.specs.Numbering.{statement_with}
-use Rattle.ped_tree.specs.Tree.{Add, Call, Div, Do, Element, ExprTree, ExprTrees, Head, Int, Mul, Neg, Pow, ProgramTree, StmtTree, StmtTrees, Sub, Var, more_exprs, more_stmts, no_exprs, no_stmts}
+use Rattle.ped_tree.specs.Tree.{Do, Head, Int, Neg, ProgramTree, StmtTree, StmtTrees, more_stmts, no_stmts}
 use Rattle.std.proofs.Common.{Bool, List, None, Some, ap, false, if◌then◌else◌, refl, subst, sym, true, unsigned_abs, ℕ, ℤ, ◌++◌, ◌||◌, ◌∙◌, ◌∷◌, ◌≡◌}
 use Rattle.std.specs.Int.{is_negative}
 use Rattle.std.proofs.lemmas.Bool.{or_right}
-
-none_in_both : (y : List ℕ) (xs ys : List (List ℕ)) → is_among y xs ≡ false → is_among y ys ≡ false → is_among y (xs ++ ys) ≡ false
-none_in_both y xs ys p q = among_append y xs ys ∙ (λ i. p i || q i)
-
--- a name without a value occurs in no expression that has one
-module _ (values : Values) (y : List ℕ) (none : value_named values y ≡ None) where
-  not_it : (x : List ℕ) (m : ℤ) → value_named values x ≡ Some m → (b : Bool) → is_same_text y x ≡ b → is_same_text y x || false ≡ false
-  not_it x m h true e = let other = sym none ∙ ap (value_named values) (same_is y x e) ∙ h in absurd cc
-  not_it x m h false e = ap (λ (b : Bool). b || false) e
-
-  mutual
-    pub unnamed : (e : ExprTree) (m : ℤ) → constant_value values e ≡ Some m → is_among y (expr_names e) ≡ false
-    unnamed (Int n) m h = refl
-    unnamed (Var x) m h = not_it x m h (is_same_text y x) refl
-    unnamed (Element x subscripts) m h = absurd cc
-    unnamed (Neg a) m h = let r = of_unary negation_of (constant_value values a) m h in unnamed a r.0 r.1
-    unnamed (Add a b) m h = let r = of_binary sum_of (constant_value values a) (constant_value values b) m h in none_in_both y (expr_names a) (expr_names b) (unnamed a r.0 r.2) (unnamed b r.1 r.3)
-    unnamed (Sub a b) m h = let r = of_binary difference_of (constant_value values a) (constant_value values b) m h in none_in_both y (expr_names a) (expr_names b) (unnamed a r.0 r.2) (unnamed b r.1 r.3)
-    unnamed (Mul a b) m h = let r = of_binary product_of (constant_value values a) (constant_value values b) m h in none_in_both y (expr_names a) (expr_names b) (unnamed a r.0 r.2) (unnamed b r.1 r.3)
-    unnamed (Div a b) m h = let r = of_binary quotient_of (constant_value values a) (constant_value values b) m h in none_in_both y (expr_names a) (expr_names b) (unnamed a r.0 r.2) (unnamed b r.1 r.3)
-    unnamed (Pow a b) m h = let r = of_binary power_of (constant_value values a) (constant_value values b) m h in none_in_both y (expr_names a) (expr_names b) (unnamed a r.0 r.2) (unnamed b r.1 r.3)
-    unnamed (Call g arguments) m h = let r = of_call g (constant_values values arguments) m h in all_unnamed arguments r.0 r.1
-
-    all_unnamed : (es : ExprTrees) (vs : List ℤ) → constant_values values es ≡ Some vs → is_among y (exprs_names es) ≡ false
-    all_unnamed no_exprs vs h = refl
-    all_unnamed (more_exprs e rest) vs h = let r = of_onto (constant_value values e) (constant_values values rest) vs h in none_in_both y (expr_names e) (exprs_names rest) (unnamed e r.0 r.2) (all_unnamed rest r.1 r.3)
+use Rattle.ped_rules.proofs.NameLaws.ConstantNames.{unnamed}
 
 -- names among statements, and in a head
 names_followed : (y : List ℕ) (a b : StmtTrees) → is_among y (stmts_names (followed a b)) ≡ is_among y (stmts_names a) || is_among y (stmts_names b)

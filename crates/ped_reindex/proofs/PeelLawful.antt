@@ -1,14 +1,14 @@
 -- `peel` is lawful.
 use Rattle.ped_base.specs.Lists.{has_some}
-use Rattle.ped_loops.proofs.OneHead.{ClearedLaw, TrustedLaw}
-use Rattle.ped_loops.specs.ped_scalar.specs.ped_rules.proofs.KeptNumbers.{moved_one_to_one}
-use Rattle.ped_loops.specs.ped_scalar.specs.ped_rules.specs.Lawful.{IsFaithful, IsLawful}
-use Rattle.ped_loops.specs.ped_scalar.specs.ped_rules.specs.ped_loop_runs.specs.Unrejected.{IsTrusted}
-use Rattle.ped_loops.specs.ped_scalar.specs.ped_rules.specs.ped_loop_runs.specs.ped_bodies.specs.ped_steps.specs.Causes.{NoRule}
-use Rattle.ped_loops.specs.ped_scalar.specs.ped_rules.specs.ped_loop_runs.specs.ped_bodies.specs.ped_steps.specs.ped_flow.specs.Questions.{LoopOf}
-use Rattle.ped_loops.specs.ped_scalar.specs.ped_rules.specs.ped_loop_runs.specs.ped_bodies.specs.ped_steps.specs.ped_laws.specs.ped_graph.specs.Update.Fresh.{IsOneToOne}
-use Rattle.ped_loops.specs.ped_scalar.specs.ped_rules.specs.ped_loop_runs.specs.ped_bodies.specs.ped_steps.specs.ped_symbols.specs.Kinds.{table_of}
-use Rattle.ped_loops.specs.ped_scalar.specs.ped_rules.specs.ped_loop_runs.specs.ped_bodies.specs.ped_steps.specs.ped_symbols.specs.NameRefusals.{IsValid}
+use Rattle.ped_rules.proofs.HeadLaws.OneHead.{ClearedLaw, TrustedLaw}
+use Rattle.ped_rules.proofs.KeptNumbers.{moved_one_to_one}
+use Rattle.ped_rules.specs.Lawful.{IsFaithful, IsLawful}
+use Rattle.ped_rules.specs.ped_loop_runs.specs.Unrejected.{IsTrusted}
+use Rattle.ped_rules.specs.ped_steps.specs.Causes.{NoRule}
+use Rattle.ped_rules.specs.ped_flow.specs.Questions.{LoopOf}
+use Rattle.ped_rules.specs.ped_graph.specs.Update.Fresh.{IsOneToOne}
+use Rattle.ped_rules.specs.ped_symbols.specs.Kinds.{table_of}
+use Rattle.ped_rules.specs.ped_symbols.specs.NameRefusals.{IsValid}
 use Rattle.ped_reindex.proofs.Determined.{determined_peel}
 use Rattle.ped_reindex.proofs.PeelKeeps.{peeled_keeps}
 use Rattle.ped_reindex.proofs.PeelTrusted.{stays_trusted_peeled}

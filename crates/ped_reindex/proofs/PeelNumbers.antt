@@ -1,7 +1,7 @@
 -- Numbers of the statements of a program in which an iteration of a DO is peeled off: the DO that is left and its body have the old numbers, and the copy of the body has numbers of which the old program has none.
-use Rattle.ped_loops.specs.ped_scalar.specs.ped_rules.specs.ped_loop_runs.proofs.PastingLaws.CountedNumbers.{Differ, append_apart, in_row, inside_counts, row_apart, row_in}
-use Rattle.ped_loops.specs.ped_scalar.specs.ped_rules.specs.ped_loop_runs.specs.Numbers.{FitInGap, counted_by, in_a_row, kept_numbers}
-use Rattle.ped_loops.specs.ped_scalar.specs.ped_rules.specs.ped_loop_runs.specs.ped_bodies.specs.ped_steps.specs.ped_laws.proofs.ActLaws.Lists.{in_left, in_parts, in_right}
+use Rattle.ped_rules.specs.ped_loop_runs.proofs.PastingLaws.CountedNumbers.{Differ, append_apart, in_row, inside_counts, row_apart, row_in}
+use Rattle.ped_rules.specs.ped_loop_runs.specs.Numbers.{FitInGap, counted_by, in_a_row, kept_numbers}
+use Rattle.ped_rules.specs.ped_laws.proofs.ActLaws.Lists.{in_left, in_parts, in_right}
 use Rattle.std.proofs.Common.{Bool, List, ap, arith, false, inl, inr, refl, suc, sym, true, zero, ℕ, ◌++◌, ◌+◌, ◌-◌, ◌<◌, ◌∙◌, ◌≡◌, ◌≤◌, ◌⊎◌}
 
 -- the number of the copy of a statement

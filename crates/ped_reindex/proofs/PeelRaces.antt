@@ -1,38 +1,38 @@
 -- New acts in the place of executions make no race, where their accesses come from those of the executions. The new program is run under numbers of which the old one may have none: so are the iterations that a step gives other numbers.
-use Rattle.ped_loops.proofs.ApartTurns.{apart_inside, apart_split, apart_within, front_apart, iterations_append, same_fronts, turns_long}
-use Rattle.ped_loops.proofs.ExchangedRaces.{RaceBefore}
-use Rattle.ped_loops.specs.ped_scalar.specs.ped_rules.specs.ped_loop_runs.proofs.LoopLaws.ChangedPairs.{Change, Give, in_acts, pairs_give}
-use Rattle.ped_loops.specs.ped_scalar.specs.ped_rules.specs.ped_loop_runs.specs.Executions.{IsExecuted, LeaveCopies, StandsInside}
-use Rattle.ped_loops.specs.ped_scalar.specs.ped_rules.specs.ped_loop_runs.specs.Pasting.{AreExchanged, IsExchanged}
-use Rattle.ped_loops.specs.ped_scalar.specs.ped_rules.specs.ped_loop_runs.specs.ped_bodies.specs.ped_steps.proofs.RunLaws.PrivatisedRacesOrigins.{accesses_from}
-use Rattle.ped_loops.specs.ped_scalar.specs.ped_rules.specs.ped_loop_runs.specs.ped_bodies.specs.ped_steps.specs.Runs.Renumbering.{IsToldBack, renumbered}
-use Rattle.ped_loops.specs.ped_scalar.specs.ped_rules.specs.ped_loop_runs.specs.ped_bodies.specs.ped_steps.specs.ped_flow.specs.PlainBounds.{nest_round}
-use Rattle.ped_loops.specs.ped_scalar.specs.ped_rules.specs.ped_loop_runs.specs.ped_bodies.specs.ped_steps.specs.ped_laws.proofs.ActLaws.Conflicting.{access_place}
-use Rattle.ped_loops.specs.ped_scalar.specs.ped_rules.specs.ped_loop_runs.specs.ped_bodies.specs.ped_steps.specs.ped_laws.proofs.ActLaws.Lists.{first_in, second_in}
-use Rattle.ped_loops.specs.ped_scalar.specs.ped_rules.specs.ped_loop_runs.specs.ped_bodies.specs.ped_steps.specs.ped_laws.proofs.ActLaws.SameCells.{cell_is}
-use Rattle.ped_loops.specs.ped_scalar.specs.ped_rules.specs.ped_loop_runs.specs.ped_bodies.specs.ped_steps.specs.ped_laws.proofs.RunLaws.Turning.{At}
-use Rattle.ped_loops.specs.ped_scalar.specs.ped_rules.specs.ped_loop_runs.specs.ped_bodies.specs.ped_steps.specs.ped_laws.specs.Acts.Orders.{IsIn, StandsBefore}
-use Rattle.ped_loops.specs.ped_scalar.specs.ped_rules.specs.ped_loop_runs.specs.ped_bodies.specs.ped_steps.specs.ped_laws.specs.Acts.Pieces.{Part, new_parts, old_parts}
-use Rattle.ped_loops.specs.ped_scalar.specs.ped_rules.specs.ped_loop_runs.specs.ped_bodies.specs.ped_steps.specs.ped_laws.specs.Runs.Replaying.{finish_of, goes_on}
-use Rattle.ped_loops.specs.ped_scalar.specs.ped_rules.specs.ped_loop_runs.specs.ped_bodies.specs.ped_steps.specs.ped_laws.specs.ped_eval.specs.Outcomes.{run_of, setting_of}
-use Rattle.ped_loops.specs.ped_scalar.specs.ped_rules.specs.ped_loop_runs.specs.ped_bodies.specs.ped_steps.specs.ped_laws.specs.ped_eval.specs.Runs.{Run, run_all}
-use Rattle.ped_loops.specs.ped_scalar.specs.ped_rules.specs.ped_loop_runs.specs.ped_bodies.specs.ped_steps.specs.ped_laws.specs.ped_eval.specs.Scopes.{Scope, Setting, turns_of}
-use Rattle.ped_loops.specs.ped_scalar.specs.ped_rules.specs.ped_loop_runs.specs.ped_bodies.specs.ped_steps.specs.ped_laws.specs.ped_store.specs.Acts.{Act, Place, Turn, iterations_of}
-use Rattle.ped_loops.specs.ped_scalar.specs.ped_rules.specs.ped_loop_runs.specs.ped_bodies.specs.ped_steps.specs.ped_laws.specs.ped_store.specs.Cells.{Cell, Iteration, Private, same_cell}
-use Rattle.ped_loops.specs.ped_scalar.specs.ped_rules.specs.ped_loop_runs.specs.ped_bodies.specs.ped_steps.specs.ped_laws.specs.ped_store.specs.Races.{Access, HasNoRace, accesses, are_apart, race}
-use Rattle.ped_loops.specs.ped_scalar.specs.ped_rules.specs.ped_loop_runs.specs.ped_bodies.specs.ped_steps.specs.ped_laws.specs.ped_store.specs.Stores.{Store, store_at_start}
-use Rattle.ped_loops.specs.ped_scalar.specs.ped_rules.specs.ped_loop_runs.specs.ped_bodies.specs.ped_steps.specs.ped_symbols.specs.NameRefusals.{IsValid}
-use Rattle.ped_loops.specs.ped_scalar.specs.ped_rules.specs.ped_loop_runs.specs.ped_bodies.specs.ped_steps.specs.ped_weaves.proofs.WeaveLaws.RaceSources.{pairs_free}
-use Rattle.ped_loops.specs.ped_scalar.specs.ped_rules.specs.ped_loop_runs.specs.ped_bodies.specs.ped_steps.specs.ped_weaves.specs.Sources.{RaceSomewhere}
-use Rattle.ped_reindex.proofs.PeelFar.{turns_below}
-use Rattle.ped_reindex.proofs.RenumberedRaces.{references_renumbered}
+use Rattle.ped_rules.specs.ped_loop_runs.proofs.LoopLaws.ApartTurns.{apart_inside, apart_split, apart_within, front_apart, iterations_append, same_fronts, turns_long}
+use Rattle.ped_rules.proofs.NestLaws.ExchangedRaces.{RaceBefore}
+use Rattle.ped_rules.specs.ped_loop_runs.proofs.LoopLaws.ChangedPairs.{Change, Give, in_acts, pairs_give}
+use Rattle.ped_rules.specs.ped_loop_runs.specs.Executions.{IsExecuted, LeaveCopies, StandsInside}
+use Rattle.ped_rules.specs.ped_loop_runs.specs.Pasting.{AreExchanged, IsExchanged}
+use Rattle.ped_rules.specs.ped_steps.proofs.RunLaws.PrivatisedRacesOrigins.{accesses_from}
+use Rattle.ped_rules.specs.ped_steps.specs.Runs.Renumbering.{IsToldBack, renumbered}
+use Rattle.ped_rules.specs.ped_flow.specs.PlainBounds.{nest_round}
+use Rattle.ped_rules.specs.ped_laws.proofs.ActLaws.Conflicting.{access_place}
+use Rattle.ped_rules.specs.ped_laws.proofs.ActLaws.Lists.{first_in, second_in}
+use Rattle.ped_rules.specs.ped_laws.proofs.ActLaws.SameCells.{cell_is}
+use Rattle.ped_rules.specs.ped_laws.proofs.RunLaws.Turning.{At}
+use Rattle.ped_rules.specs.ped_laws.specs.Acts.Orders.{IsIn, StandsBefore}
+use Rattle.ped_rules.specs.ped_laws.specs.Acts.Pieces.{Part, new_parts, old_parts}
+use Rattle.ped_rules.specs.ped_laws.specs.Runs.Replaying.{finish_of, goes_on}
+use Rattle.ped_rules.specs.ped_eval.specs.Outcomes.{run_of, setting_of}
+use Rattle.ped_rules.specs.ped_eval.specs.Runs.{Run, run_all}
+use Rattle.ped_rules.specs.ped_eval.specs.Scopes.{Scope, Setting, turns_of}
+use Rattle.ped_rules.specs.ped_store.specs.Acts.{Act, Place, Turn, iterations_of}
+use Rattle.ped_rules.specs.ped_store.specs.Cells.{Cell, Iteration, Private, same_cell}
+use Rattle.ped_rules.specs.ped_store.specs.Races.{Access, HasNoRace, accesses, are_apart, race}
+use Rattle.ped_rules.specs.ped_store.specs.Stores.{Store, store_at_start}
+use Rattle.ped_rules.specs.ped_symbols.specs.NameRefusals.{IsValid}
+use Rattle.ped_rules.specs.ped_weaves.proofs.WeaveLaws.RaceSources.{pairs_free}
+use Rattle.ped_rules.specs.ped_weaves.specs.Sources.{RaceSomewhere}
+use Rattle.ped_rules.proofs.NameLaws.AbsentNumbers.{turns_below}
+use Rattle.ped_rules.proofs.NameLaws.RenumberedRaces.{references_renumbered}
 use Rattle.ped_tree.specs.Numbering.{statements_count}
 use Rattle.ped_tree.specs.Tree.{ProgramTree, StmtTrees}
 use Rattle.std.proofs.Common.{List, [], ap, append-nil, arith, inl, inr, length, subst, sym, true, ℕ, ◌++◌, ◌<◌, ◌||◌, ◌∙◌, ◌∷◌, ◌≡◌, ◌⊎◌}
 use Rattle.std.proofs.lemmas.Bool.{and_parts}
 use Rattle.std.specs.Str.Lines.{lines}
-use Rattle.ped_loops.specs.ped_scalar.specs.ped_rules.specs.ped_loop_runs.proofs.LoopLaws.OldRaces.{acts_outside, round_apart}
-use Rattle.ped_loops.specs.ped_scalar.specs.ped_rules.specs.ped_loop_runs.proofs.LoopLaws.OldRaces as origins
+use Rattle.ped_rules.specs.ped_loop_runs.proofs.LoopLaws.OldRaces.{acts_outside, round_apart}
+use Rattle.ped_rules.specs.ped_loop_runs.proofs.LoopLaws.OldRaces as origins
 
 -- an access in the place of an execution comes from one in an iteration of the DO, in the same cell, or in a copy that belongs to an iteration of the DO, or to one that the old program doesn't have
 pub record ComesInside (t : ProgramTree) (l : ℕ) (scope : Scope) (olds : List Act) (b : Access) : Type 0 where

@@ -2,22 +2,22 @@
 use Rattle.std.proofs.Common.{◌≡◌, ℕ, ℤ, List, Bool, true, false, Option, Some, None, refl, sym, ap, ◌∙◌, arith}
 use Rattle.std.specs.Prelude.{is_none}
 use Rattle.ped_tree.specs.Tree.{Head, StmtTrees, ProgramTree}
-use Rattle.ped_loops.specs.ped_scalar.specs.ped_rules.specs.ped_loop_runs.specs.ped_bodies.specs.ped_steps.specs.ped_symbols.specs.Kinds.{table_of}
-use Rattle.ped_loops.specs.ped_scalar.specs.ped_rules.specs.ped_loop_runs.specs.ped_bodies.specs.ped_steps.specs.ped_symbols.specs.NameRefusals.{IsValid}
-use Rattle.ped_loops.specs.ped_scalar.specs.ped_rules.specs.ped_loop_runs.specs.ped_bodies.specs.ped_steps.specs.ped_laws.specs.ped_eval.specs.Loops.{increment}
-use Rattle.ped_loops.specs.ped_scalar.specs.ped_rules.specs.ped_loop_runs.specs.ped_bodies.specs.ped_steps.specs.ped_flow.specs.Questions.{IsLoop, LoopOf, IsContained}
-use Rattle.ped_loops.specs.ped_scalar.specs.ped_rules.specs.ped_loop_runs.specs.ped_bodies.specs.ped_steps.specs.ped_flow.proofs.Answering.{same_head, same_body}
-use Rattle.ped_loops.specs.ped_scalar.specs.ped_rules.specs.ped_loop_runs.specs.ped_bodies.specs.ped_steps.specs.declared.rules.Rule.{Rule}
-use Rattle.ped_loops.specs.ped_scalar.specs.ped_rules.specs.ped_loop_runs.specs.ped_bodies.specs.ped_steps.specs.declared.rules.Rule.TheVariants.{NoLoop, ParallelState, HasPrivate, IndexEscapes, Range, NotConstant, Limit}
-use Rattle.ped_loops.specs.ped_scalar.specs.ped_rules.specs.ped_loop_runs.specs.ped_bodies.specs.ped_steps.specs.Causes.{Rules, NoRule, IsFirstRule}
-use Rattle.ped_loops.specs.ped_scalar.specs.ped_rules.specs.Chains.{no_rules, also, WhereLoop}
-use Rattle.ped_loops.specs.ped_scalar.specs.ped_rules.specs.Rules.{WhereNoLoop, is_parallel, has_private, WhereEscape, isnt_constant, WhereLimit}
-use Rattle.ped_loops.specs.ped_scalar.specs.ped_rules.specs.Spans.{Span, span_of}
-use Rattle.ped_loops.specs.ped_scalar.specs.ped_rules.proofs.Chains.{IsChain, chain_end, chain_link, first_here, first_later, none_later, not_this, not_those, none_at_end}
-use Rattle.ped_loops.specs.ped_scalar.specs.ped_rules.proofs.OneEach.{no_loop_one, loop_one, escape_one, limit_one}
-use Rattle.ped_loops.specs.ped_scalar.specs.ped_rules.proofs.Decided.{some_loop, limit_stands, limit_not, limit_valid}
+use Rattle.ped_rules.specs.ped_symbols.specs.Kinds.{table_of}
+use Rattle.ped_rules.specs.ped_symbols.specs.NameRefusals.{IsValid}
+use Rattle.ped_rules.specs.ped_eval.specs.Loops.{increment}
+use Rattle.ped_rules.specs.ped_flow.specs.Questions.{IsLoop, LoopOf, IsContained}
+use Rattle.ped_rules.specs.ped_flow.proofs.Answering.{same_head, same_body}
+use Rattle.ped_rules.specs.ped_steps.specs.declared.rules.Rule.{Rule}
+use Rattle.ped_rules.specs.ped_steps.specs.declared.rules.Rule.TheVariants.{NoLoop, ParallelState, HasPrivate, IndexEscapes, Range, NotConstant, Limit}
+use Rattle.ped_rules.specs.ped_steps.specs.Causes.{Rules, NoRule, IsFirstRule}
+use Rattle.ped_rules.specs.Chains.{no_rules, also, WhereLoop}
+use Rattle.ped_rules.specs.Rules.{WhereNoLoop, is_parallel, has_private, WhereEscape, isnt_constant, WhereLimit}
+use Rattle.ped_rules.specs.Spans.{Span, span_of}
+use Rattle.ped_rules.proofs.Chains.{IsChain, chain_end, chain_link, first_here, first_later, none_later, not_this, not_those, none_at_end}
+use Rattle.ped_rules.proofs.OneEach.{no_loop_one, loop_one, escape_one, limit_one}
+use Rattle.ped_rules.proofs.Decided.{some_loop, limit_stands, limit_not, limit_valid}
 use Rattle.ped_reindex.specs.Peeling.{Peeled, peeled_by, peeled_of, peels_far, peeled, peel_kept, MakesPeeled, StandsAgainstPeeling}
-use Rattle.ped_loops.proofs.Contained.{contained}
+use Rattle.ped_rules.proofs.HeadLaws.Contained.{contained}
 use Rattle.ped_reindex.proofs.Here.{fails_by, here, not_no_loop, fails_there, passes_there}
 
 one_peeled : (p q : Peeled) → Some p ≡ Some q → p ≡ q

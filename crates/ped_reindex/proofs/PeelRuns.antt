@@ -1,30 +1,30 @@
 -- A DO taken apart into its iterations, and the statements that an iteration peeled off makes put together from them.
-use Rattle.ped_loops.specs.ped_scalar.specs.ped_rules.specs.Spans.{is_far, last_value}
-use Rattle.ped_loops.specs.ped_scalar.specs.ped_rules.specs.ped_loop_runs.specs.ped_bodies.proofs.BodyLaws.Instances.{peeled_body, unpeeled_body}
-use Rattle.ped_loops.specs.ped_scalar.specs.ped_rules.specs.ped_loop_runs.specs.ped_bodies.proofs.BodyLaws.LimitParts.{limits_parted}
-use Rattle.ped_loops.specs.ped_scalar.specs.ped_rules.specs.ped_loop_runs.specs.ped_bodies.proofs.BodyLaws.StandingPlaces.{literal_told}
-use Rattle.ped_loops.specs.ped_scalar.specs.ped_rules.specs.ped_loop_runs.specs.ped_bodies.proofs.BodyLaws.TripLists.{loop_apart}
-use Rattle.ped_loops.specs.ped_scalar.specs.ped_rules.specs.ped_loop_runs.specs.ped_bodies.proofs.BodyLaws.TripsLikewise.{trips_made}
-use Rattle.ped_loops.specs.ped_scalar.specs.ped_rules.specs.ped_loop_runs.specs.ped_bodies.specs.Likewise.{DoesLikewise}
-use Rattle.ped_loops.specs.ped_scalar.specs.ped_rules.specs.ped_loop_runs.specs.ped_bodies.specs.Moving.{ToldInside, moved_behind, own_number, peeled}
-use Rattle.ped_loops.specs.ped_scalar.specs.ped_rules.specs.ped_loop_runs.specs.ped_bodies.specs.Rewriting.{MayBeRewritten}
-use Rattle.ped_loops.specs.ped_scalar.specs.ped_rules.specs.ped_loop_runs.specs.ped_bodies.specs.Standing.{SettingsAgree}
-use Rattle.ped_loops.specs.ped_scalar.specs.ped_rules.specs.ped_loop_runs.specs.ped_bodies.specs.Trips.{DoTripsLikewise, HasLimits, IsMadeOfTrips, MakesTripsLikewise, bounds_seen, entered_from, store_before}
-use Rattle.ped_loops.specs.ped_scalar.specs.ped_rules.specs.ped_loop_runs.specs.ped_bodies.specs.ped_steps.proofs.RunLaws.ConstantBounds.{Counts, constant_counts, constant_limits, constant_step}
-use Rattle.ped_loops.specs.ped_scalar.specs.ped_rules.specs.ped_loop_runs.specs.ped_bodies.specs.ped_steps.specs.Runs.Renumbering.{renumbered}
-use Rattle.ped_loops.specs.ped_scalar.specs.ped_rules.specs.ped_loop_runs.specs.ped_bodies.specs.ped_steps.specs.ped_laws.specs.Acts.Sets.{nothing}
-use Rattle.ped_loops.specs.ped_scalar.specs.ped_rules.specs.ped_loop_runs.specs.ped_bodies.specs.ped_steps.specs.ped_laws.specs.Runs.Replaying.{IsEntered, finish_of, goes_on}
-use Rattle.ped_loops.specs.ped_scalar.specs.ped_rules.specs.ped_loop_runs.specs.ped_bodies.specs.ped_steps.specs.ped_laws.specs.ped_eval.specs.Evaluation.{Evaluated}
-use Rattle.ped_loops.specs.ped_scalar.specs.ped_rules.specs.ped_loop_runs.specs.ped_bodies.specs.ped_steps.specs.ped_laws.specs.ped_eval.specs.Loops.{Entered, Limits, frame, increment, is_bound, iteration_count, limits, value_in}
-use Rattle.ped_loops.specs.ped_scalar.specs.ped_rules.specs.ped_loop_runs.specs.ped_bodies.specs.ped_steps.specs.ped_laws.specs.ped_eval.specs.Outcomes.{setting_of}
-use Rattle.ped_loops.specs.ped_scalar.specs.ped_rules.specs.ped_loop_runs.specs.ped_bodies.specs.ped_steps.specs.ped_laws.specs.ped_eval.specs.Runs.{run, run_all}
-use Rattle.ped_loops.specs.ped_scalar.specs.ped_rules.specs.ped_loop_runs.specs.ped_bodies.specs.ped_steps.specs.ped_laws.specs.ped_eval.specs.Scopes.{Scope, Setting, names_in, place_of, turns_of}
-use Rattle.ped_loops.specs.ped_scalar.specs.ped_rules.specs.ped_loop_runs.specs.ped_bodies.specs.ped_steps.specs.ped_laws.specs.ped_store.specs.Acts.{Act, iterations_of}
-use Rattle.ped_loops.specs.ped_scalar.specs.ped_rules.specs.ped_loop_runs.specs.ped_bodies.specs.ped_steps.specs.ped_laws.specs.ped_store.specs.Cells.{Cell}
-use Rattle.ped_loops.specs.ped_scalar.specs.ped_rules.specs.ped_loop_runs.specs.ped_bodies.specs.ped_steps.specs.ped_laws.specs.ped_store.specs.Stores.{Store}
-use Rattle.ped_loops.specs.ped_scalar.specs.ped_rules.specs.ped_loop_runs.specs.ped_bodies.specs.ped_steps.specs.ped_sums.specs.Substitution.{statements_substituted, substituted}
-use Rattle.ped_loops.specs.ped_scalar.specs.ped_rules.specs.ped_loop_runs.specs.ped_bodies.specs.ped_steps.specs.ped_sums.specs.Sums.{literal}
-use Rattle.ped_reindex.proofs.PeelConstants.{constant_limits_come, literal_constant, near_bound, near_in_range}
+use Rattle.ped_rules.specs.Spans.{is_far, last_value}
+use Rattle.ped_rules.specs.ped_bodies.proofs.BodyLaws.Instances.{peeled_body, unpeeled_body}
+use Rattle.ped_rules.specs.ped_bodies.proofs.BodyLaws.LimitParts.{limits_parted}
+use Rattle.ped_rules.specs.ped_bodies.proofs.BodyLaws.StandingPlaces.{literal_told}
+use Rattle.ped_rules.specs.ped_bodies.proofs.BodyLaws.TripLists.{loop_apart}
+use Rattle.ped_rules.specs.ped_bodies.proofs.BodyLaws.TripsLikewise.{trips_made}
+use Rattle.ped_rules.specs.ped_bodies.specs.Likewise.{DoesLikewise}
+use Rattle.ped_rules.specs.ped_bodies.specs.Moving.{ToldInside, moved_behind, own_number, peeled}
+use Rattle.ped_rules.specs.ped_bodies.specs.Rewriting.{MayBeRewritten}
+use Rattle.ped_rules.specs.ped_bodies.specs.Standing.{SettingsAgree}
+use Rattle.ped_rules.specs.ped_bodies.specs.Trips.{DoTripsLikewise, HasLimits, IsMadeOfTrips, MakesTripsLikewise, bounds_seen, entered_from, store_before}
+use Rattle.ped_rules.specs.ped_steps.proofs.RunLaws.ConstantBounds.{Counts, constant_counts, constant_limits, constant_step}
+use Rattle.ped_rules.specs.ped_steps.specs.Runs.Renumbering.{renumbered}
+use Rattle.ped_rules.specs.ped_laws.specs.Acts.Sets.{nothing}
+use Rattle.ped_rules.specs.ped_laws.specs.Runs.Replaying.{IsEntered, finish_of, goes_on}
+use Rattle.ped_rules.specs.ped_eval.specs.Evaluation.{Evaluated}
+use Rattle.ped_rules.specs.ped_eval.specs.Loops.{Entered, Limits, frame, increment, is_bound, iteration_count, limits, value_in}
+use Rattle.ped_rules.specs.ped_eval.specs.Outcomes.{setting_of}
+use Rattle.ped_rules.specs.ped_eval.specs.Runs.{run, run_all}
+use Rattle.ped_rules.specs.ped_eval.specs.Scopes.{Scope, Setting, names_in, place_of, turns_of}
+use Rattle.ped_rules.specs.ped_store.specs.Acts.{Act, iterations_of}
+use Rattle.ped_rules.specs.ped_store.specs.Cells.{Cell}
+use Rattle.ped_rules.specs.ped_store.specs.Stores.{Store}
+use Rattle.ped_sums.specs.Substitution.{statements_substituted, substituted}
+use Rattle.ped_sums.specs.Sums.{literal}
+use Rattle.ped_rules.proofs.NameLaws.ConstantBounds.{constant_limits_come, literal_constant, near_bound, near_in_range}
 use Rattle.ped_reindex.proofs.PeelCounts.{HasSpan, first_count, last_count, next_value}
 use Rattle.ped_reindex.proofs.PeelNumbers.{copied}
 use Rattle.ped_reindex.proofs.PeelTrusted.{left_head, left_parallel, left_private, left_variable}

@@ -1,8 +1,8 @@
 -- A body with a literal for the variable of its DO: it has the same DO loops, it writes no name that it didn't, and C$PED REJECT stands nowhere else.
-use Rattle.ped_loops.specs.ped_scalar.specs.ped_rules.specs.ped_loop_runs.specs.Writing.{writes_left}
-use Rattle.ped_loops.specs.ped_scalar.specs.ped_rules.specs.ped_loop_runs.specs.ped_bodies.specs.ped_steps.specs.Replacing.{followed}
-use Rattle.ped_loops.specs.ped_scalar.specs.ped_rules.specs.ped_loop_runs.specs.ped_bodies.specs.ped_steps.specs.ped_laws.specs.FlowRuns.Covering.{has_stop, some_stop}
-use Rattle.ped_loops.specs.ped_scalar.specs.ped_rules.specs.ped_loop_runs.specs.ped_bodies.specs.ped_steps.specs.ped_sums.specs.Sums.{literal}
+use Rattle.ped_rules.specs.ped_loop_runs.specs.Writing.{writes_left}
+use Rattle.ped_rules.specs.ped_steps.specs.Replacing.{followed}
+use Rattle.ped_rules.specs.ped_laws.specs.FlowRuns.Covering.{has_stop, some_stop}
+use Rattle.ped_sums.specs.Sums.{literal}
 use Rattle.ped_tree.specs.Tree.{Int, Neg, StmtTrees, more_stmts, no_stmts}
 use Rattle.std.proofs.Common.{Bool, List, ap, false, if◌then◌else◌, refl, true, unsigned_abs, ℕ, ℤ, ◌||◌, ◌∙◌, ◌≡◌}
 use Rattle.std.specs.Int.{is_negative}

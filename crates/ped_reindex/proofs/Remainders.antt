@@ -2,9 +2,9 @@
 use Rattle.std.proofs.Common.{◌≡◌, ◌<◌, ℤ, pos, negsuc, neg_ℤ, ◌+ℤ◌, ◌-ℤ◌, ◌*ℤ◌, ◌≤ℤ◌, ◌<ℤ◌, int_div, int_rem, int_lt, int_le, unsigned_abs, Bool, true, false, ◌&&◌, ◌||◌, refl, sym, ap, ◌∙◌, subst, arith, if◌then◌else◌}
 use Rattle.std.proofs.Math.IntN.{*ℤ_comm}
 use Rattle.std.proofs.lemmas.Int.{ints, quot-rem, rem_below}
-use Rattle.ped_loops.specs.ped_scalar.specs.ped_rules.specs.Spans.{has_iteration}
-use Rattle.ped_loops.specs.ped_scalar.specs.ped_rules.proofs.RightSteps.{less_is}
-use Rattle.ped_loops.specs.ped_scalar.specs.ped_rules.specs.ped_loop_runs.specs.ped_bodies.specs.ped_steps.specs.ped_views.proofs.Products.{abs_some, linear, sub-mul, small_multiple}
+use Rattle.ped_rules.specs.Spans.{has_iteration}
+use Rattle.ped_rules.proofs.RightSteps.{less_is}
+use Rattle.ped_rules.specs.ped_views.proofs.Products.{abs_some, linear, sub-mul, small_multiple}
 use Rattle.ped_reindex.specs.CodePeeling.{towards}
 
 -- the remainder has the sign of the dividend

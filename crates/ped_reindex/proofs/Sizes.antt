@@ -5,7 +5,7 @@ use Rattle.std.specs.Int.{w64}
 use Rattle.std.proofs.lemmas.Bool.{both_ways}
 use Rattle.std.proofs.lemmas.Bool.Decides.{Decides-int_eq}
 use Rattle.std.proofs.lemmas.Int.{fits_signed_from_abs}
-use Rattle.ped_loops.specs.ped_scalar.specs.ped_rules.specs.ped_loop_runs.specs.ped_bodies.specs.ped_steps.specs.ped_views.proofs.Products.{abs_some, linear}
+use Rattle.ped_rules.specs.ped_views.proofs.Products.{abs_some, linear}
 use Rattle.ped_reindex.specs.Skewing.{is_bad_factor}
 use Rattle.ped_reindex.specs.Stripping.{is_bad_size}
 

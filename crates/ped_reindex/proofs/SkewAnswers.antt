@@ -5,19 +5,19 @@ use Rattle.ped_tree.specs.Numbering.{statements_count}
 use Rattle.ped_tree.specs.Tree.{Head, StmtTree, StmtTrees, Assign, If, Do, Print, Read, Stop, Comment, no_stmts, more_stmts, ProgramTree}
 use Rattle.ped_tree.specs.Views.{stmt_tree, stmt_trees, pack_stmts}
 use Rattle.ped_tree.specs.declared.statements.Stmt.{Stmt}
-use Rattle.ped_loops.specs.ped_scalar.specs.ped_rules.specs.OnlyLoops.{only_loop, of_loop, on_loop, change_only}
-use Rattle.ped_loops.specs.ped_scalar.specs.ped_rules.specs.Rules.{leaves, setting_at, heads_round}
-use Rattle.ped_loops.specs.ped_scalar.specs.ped_rules.specs.ped_loop_runs.specs.ped_bodies.specs.ped_steps.specs.Replacing.{alone, program_with, all_kept}
-use Rattle.ped_loops.specs.ped_scalar.specs.ped_rules.specs.Steps.{transformation, Answers}
-use Rattle.ped_loops.specs.ped_scalar.specs.ped_rules.specs.ped_loop_runs.specs.ped_bodies.specs.ped_steps.specs.ped_flow.specs.Questions.{IsLoop}
-use Rattle.ped_loops.specs.ped_scalar.specs.ped_rules.specs.ped_loop_runs.specs.ped_bodies.specs.ped_steps.specs.declared.causes.Refused.{Refused}
-use Rattle.ped_loops.specs.ped_scalar.specs.ped_rules.specs.ped_loop_runs.specs.ped_bodies.specs.ped_steps.specs.declared.causes.Refused.TheVariants as variant
-use Rattle.ped_loops.specs.ped_scalar.specs.ped_rules.specs.ped_loop_runs.specs.ped_bodies.specs.ped_steps.specs.declared.changes.Change.{Change}
-use Rattle.ped_loops.specs.ped_scalar.specs.ped_rules.specs.ped_loop_runs.specs.ped_bodies.specs.ped_steps.specs.declared.rules.Rule.{Rule}
-use Rattle.ped_loops.specs.ped_scalar.specs.ped_rules.specs.ped_loop_runs.specs.ped_bodies.specs.ped_steps.specs.Causes.{NoRule, IsFirstRule, none_forbids}
-use Rattle.ped_loops.specs.ped_scalar.specs.ped_rules.specs.ped_loop_runs.specs.ped_bodies.specs.ped_steps.specs.Changes.{IsChange}
-use Rattle.ped_loops.specs.ped_scalar.specs.ped_rules.specs.ped_loop_runs.specs.ped_bodies.specs.ped_steps.proofs.OnePlace.{one_program}
-use Rattle.ped_loops.specs.ped_scalar.specs.ped_rules.proofs.Answering.{refused_by, accepted_by, none_first}
+use Rattle.ped_rules.specs.OnlyLoops.{only_loop, of_loop, on_loop, change_only}
+use Rattle.ped_rules.specs.Rules.{leaves, setting_at, heads_round}
+use Rattle.ped_rules.specs.ped_steps.specs.Replacing.{alone, program_with, all_kept}
+use Rattle.ped_rules.specs.Steps.{transformation, Answers}
+use Rattle.ped_rules.specs.ped_flow.specs.Questions.{IsLoop}
+use Rattle.ped_rules.specs.ped_steps.specs.declared.causes.Refused.{Refused}
+use Rattle.ped_rules.specs.ped_steps.specs.declared.causes.Refused.TheVariants as variant
+use Rattle.ped_rules.specs.ped_steps.specs.declared.changes.Change.{Change}
+use Rattle.ped_rules.specs.ped_steps.specs.declared.rules.Rule.{Rule}
+use Rattle.ped_rules.specs.ped_steps.specs.Causes.{NoRule, IsFirstRule, none_forbids}
+use Rattle.ped_rules.specs.ped_steps.specs.Changes.{IsChange}
+use Rattle.ped_rules.specs.ped_steps.proofs.OnePlace.{one_program}
+use Rattle.ped_rules.proofs.Answering.{refused_by, accepted_by, none_first}
 use Rattle.ped_reindex.specs.CodeSkewing.{skewed_statement, all_skewed}
 use Rattle.ped_reindex.specs.Skewing.{skewed_bound, skew_leaves, skewed_loop, with_skewed, skewed, MakesSkewed, StandsAgainstSkewing, skewing}
 use Rattle.ped_reindex.proofs.Answering.{same_statement}

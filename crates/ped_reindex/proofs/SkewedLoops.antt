@@ -3,29 +3,29 @@ use Rattle.std.proofs.Common.{◌≡◌, ℕ, ◌+◌, ◌-◌, ◌<◌, ◌≤�
 use Rattle.ped_tree.specs.Numbering.{statements_count}
 use Rattle.ped_tree.specs.NamesIn.{loop_variables, all_loop_variables}
 use Rattle.ped_tree.specs.Tree.{Assign, Comment, Do, Head, If, Print, Read, StmtTree, StmtTrees, Stop, more_stmts, no_stmts}
-use Rattle.ped_loops.specs.ped_scalar.specs.ped_rules.specs.ped_loop_runs.specs.ped_bodies.specs.ped_steps.specs.ped_laws.specs.ped_store.specs.Cells.{Cell}
-use Rattle.ped_loops.specs.ped_scalar.specs.ped_rules.specs.ped_loop_runs.specs.ped_bodies.specs.ped_steps.specs.ped_laws.specs.ped_store.specs.Stores.{Store}
-use Rattle.ped_loops.specs.ped_scalar.specs.ped_rules.specs.ped_loop_runs.specs.ped_bodies.specs.ped_steps.specs.ped_laws.specs.ped_store.specs.Acts.{Touch, Place, Act, ended_turn, closed}
-use Rattle.ped_loops.specs.ped_scalar.specs.ped_rules.specs.ped_loop_runs.specs.ped_bodies.specs.ped_steps.specs.ped_laws.specs.Acts.Fitting.{of_cells}
-use Rattle.ped_loops.specs.ped_scalar.specs.ped_rules.specs.ped_loop_runs.specs.ped_bodies.specs.ped_steps.specs.ped_laws.specs.Acts.Sets.{nothing}
-use Rattle.ped_loops.specs.ped_scalar.specs.ped_rules.specs.ped_loop_runs.specs.ped_bodies.specs.ped_steps.specs.ped_laws.specs.Acts.Renaming.{own_name}
-use Rattle.ped_loops.specs.ped_scalar.specs.ped_rules.specs.ped_loop_runs.specs.ped_bodies.specs.ped_steps.specs.ped_laws.specs.Runs.Seeing.{ComesTo}
-use Rattle.ped_loops.specs.ped_scalar.specs.ped_rules.specs.ped_loop_runs.specs.ped_bodies.specs.ped_steps.specs.ped_laws.specs.Runs.Replaying.{IsEntered, Replays, finish_of, goes_on, act}
-use Rattle.ped_loops.specs.ped_scalar.specs.ped_rules.specs.ped_loop_runs.specs.ped_bodies.specs.ped_steps.specs.ped_laws.proofs.RunLaws.Sight.{limits_told}
-use Rattle.ped_loops.specs.ped_scalar.specs.ped_rules.specs.ped_loop_runs.specs.ped_bodies.specs.ped_steps.specs.ped_laws.specs.ped_eval.specs.Evaluation.{numbered}
-use Rattle.ped_loops.specs.ped_scalar.specs.ped_rules.specs.ped_loop_runs.specs.ped_bodies.specs.ped_steps.specs.ped_laws.specs.ped_eval.specs.Loops.{Entered, Limits, limits, sorted_once, inner_variables, frame, left_in_variable, undefined_by, undefined_all, exit_touches, exit_when_none}
-use Rattle.ped_loops.specs.ped_scalar.specs.ped_rules.specs.ped_loop_runs.specs.ped_bodies.specs.ped_steps.specs.ped_laws.specs.ped_eval.specs.Runs.{Run, run}
-use Rattle.ped_loops.specs.ped_scalar.specs.ped_rules.specs.ped_loop_runs.specs.ped_bodies.specs.ped_steps.specs.ped_laws.specs.ped_eval.specs.Scopes.{Frame, Scope, Setting, turns_of, cell_of, names_in, place_of}
-use Rattle.ped_loops.specs.ped_scalar.specs.ped_rules.specs.ped_loop_runs.specs.ped_bodies.specs.ped_steps.specs.ped_laws.specs.ped_eval.specs.Statements.{write_touch}
-use Rattle.ped_loops.specs.ped_scalar.specs.ped_rules.specs.ped_loop_runs.specs.ped_bodies.specs.ped_steps.specs.ped_laws.specs.ped_eval.specs.Turns.{body_run}
-use Rattle.ped_loops.specs.ped_scalar.specs.ped_rules.specs.ped_loop_runs.specs.ped_bodies.specs.Likewise.{AreSeenAlike}
-use Rattle.ped_loops.specs.ped_scalar.specs.ped_rules.specs.ped_loop_runs.specs.ped_bodies.specs.Moving.{own_number}
-use Rattle.ped_loops.specs.ped_scalar.specs.ped_rules.specs.ped_loop_runs.specs.ped_bodies.specs.Standing.{GoLikewise}
-use Rattle.ped_loops.specs.ped_scalar.specs.ped_rules.specs.ped_loop_runs.specs.ped_bodies.specs.Trips.{IsMadeOfTrips, IsTrip, MakesTripsLikewise, OfTrips, bounds_seen, entered_from, loop_acts, loop_close, loop_entry, store_before, trip_end, trips}
-use Rattle.ped_loops.specs.ped_scalar.specs.ped_rules.specs.ped_loop_runs.specs.ped_bodies.proofs.BodyLaws.TripLists.{loop_apart, loop_made}
-use Rattle.ped_loops.specs.ped_scalar.specs.ped_rules.specs.ped_loop_runs.specs.ped_bodies.proofs.BodyLaws.TripsLikewise.{chosen, chosen_are, trips_made}
-use Rattle.ped_loops.specs.ped_scalar.specs.ped_rules.specs.OnlyLoops.{change_only, only_loop}
-use Rattle.ped_loops.proofs.OnlyBodies.{pair, only_runs, only_tells, same_head, same_inside}
+use Rattle.ped_rules.specs.ped_store.specs.Cells.{Cell}
+use Rattle.ped_rules.specs.ped_store.specs.Stores.{Store}
+use Rattle.ped_rules.specs.ped_store.specs.Acts.{Touch, Place, Act, ended_turn, closed}
+use Rattle.ped_rules.specs.ped_laws.specs.Acts.Fitting.{of_cells}
+use Rattle.ped_rules.specs.ped_laws.specs.Acts.Sets.{nothing}
+use Rattle.ped_rules.specs.ped_laws.specs.Acts.Renaming.{own_name}
+use Rattle.ped_rules.specs.ped_laws.specs.Runs.Seeing.{ComesTo}
+use Rattle.ped_rules.specs.ped_laws.specs.Runs.Replaying.{IsEntered, Replays, finish_of, goes_on, act}
+use Rattle.ped_rules.specs.ped_laws.proofs.RunLaws.Sight.{limits_told}
+use Rattle.ped_rules.specs.ped_eval.specs.Evaluation.{numbered}
+use Rattle.ped_rules.specs.ped_eval.specs.Loops.{Entered, Limits, limits, sorted_once, inner_variables, frame, left_in_variable, undefined_by, undefined_all, exit_touches, exit_when_none}
+use Rattle.ped_rules.specs.ped_eval.specs.Runs.{Run, run}
+use Rattle.ped_rules.specs.ped_eval.specs.Scopes.{Frame, Scope, Setting, turns_of, cell_of, names_in, place_of}
+use Rattle.ped_rules.specs.ped_eval.specs.Statements.{write_touch}
+use Rattle.ped_rules.specs.ped_eval.specs.Turns.{body_run}
+use Rattle.ped_rules.specs.ped_bodies.specs.Likewise.{AreSeenAlike}
+use Rattle.ped_rules.specs.ped_bodies.specs.Moving.{own_number}
+use Rattle.ped_rules.specs.ped_bodies.specs.Standing.{GoLikewise}
+use Rattle.ped_rules.specs.ped_bodies.specs.Trips.{IsMadeOfTrips, IsTrip, MakesTripsLikewise, OfTrips, bounds_seen, entered_from, loop_acts, loop_close, loop_entry, store_before, trip_end, trips}
+use Rattle.ped_rules.specs.ped_bodies.proofs.BodyLaws.TripLists.{loop_apart, loop_made}
+use Rattle.ped_rules.specs.ped_bodies.proofs.BodyLaws.TripsLikewise.{chosen, chosen_are, trips_made}
+use Rattle.ped_rules.specs.OnlyLoops.{change_only, only_loop}
+use Rattle.ped_rules.proofs.NestLaws.OnlyBodies.{pair, only_runs, only_tells, same_head, same_inside}
 use Rattle.ped_reindex.proofs.SkewedActs.{valueless, AreSameTurns, AllKept, IsKeptAct, AreKept, turns_append, touches_themselves, cells_kept, acts_themselves, kept_append, kept_rows, likewise_kept, touches_likewise}
 
 -- with these limits of the old DO the new one has limits, for which it reads the same; it has as many iterations, and in each its body does likewise what the old one's did

@@ -7,23 +7,23 @@ use Rattle.ped_base.specs.Lists.{is_same_text, is_among}
 use Rattle.ped_tree.specs.NamesIn.{expr_names, head_names, stmt_names, stmts_names}
 use Rattle.ped_tree.specs.Numbering.{statement_with}
 use Rattle.ped_tree.specs.Tree.{ExprTree, Int, Var, Add, Sub, Mul, Head, StmtTree, StmtTrees, Do, ProgramTree}
-use Rattle.ped_loops.specs.ped_scalar.specs.ped_rules.specs.ped_loop_runs.specs.ped_bodies.specs.ped_steps.specs.ped_flow.specs.Questions.{LoopOf}
-use Rattle.ped_loops.specs.ped_scalar.specs.ped_rules.specs.ped_loop_runs.specs.ped_bodies.specs.ped_steps.specs.ped_symbols.specs.Kinds.{names_of, kind_in}
-use Rattle.ped_loops.specs.ped_scalar.specs.ped_rules.specs.ped_loop_runs.specs.ped_bodies.specs.ped_steps.specs.ped_symbols.specs.NameRefusals.{IsValid}
-use Rattle.ped_loops.specs.ped_scalar.specs.ped_rules.specs.ped_loop_runs.specs.ped_bodies.specs.ped_steps.specs.ped_symbols.specs.Sites.{stmt_sites, stmts_sites}
-use Rattle.ped_loops.specs.ped_scalar.specs.ped_rules.specs.ped_loop_runs.specs.ped_bodies.specs.ped_steps.specs.ped_symbols.proofs.RightUseLaws.Whole.{same_kinds}
-use Rattle.ped_loops.specs.ped_scalar.specs.ped_rules.specs.ped_loop_runs.specs.ped_bodies.specs.ped_steps.specs.ped_sums.specs.Sums.{literal_value, of_both, small, computed, literal_or, is_zero, added, subtracted, plus_of, minus_of}
-use Rattle.ped_loops.specs.ped_scalar.specs.ped_rules.specs.ped_loop_runs.specs.ped_bodies.specs.ped_steps.specs.ped_sums.specs.Substitution.{statements_substituted}
-use Rattle.ped_loops.specs.ped_scalar.specs.ped_rules.specs.ped_loop_runs.specs.ped_bodies.specs.ped_steps.specs.Replacing.{alone, program_with}
-use Rattle.ped_loops.specs.ped_scalar.specs.ped_rules.specs.ped_loop_runs.specs.ped_bodies.specs.ped_steps.proofs.RunLaws.NamesKept.{occurs, Alike, AreAlike, by_sites, names_kept}
-use Rattle.ped_loops.specs.ped_scalar.specs.ped_rules.specs.ped_loop_runs.specs.ped_bodies.specs.ped_steps.proofs.RunLaws.ExpandedNamesSites.{stmt_at}
-use Rattle.ped_loops.specs.ped_scalar.specs.ped_rules.specs.ped_loop_runs.specs.ped_bodies.specs.ped_steps.proofs.RunLaws.ExpandedNamesSubstituted.{in_stmts}
-use Rattle.ped_loops.specs.ped_scalar.specs.ped_rules.specs.ped_loop_runs.specs.ped_bodies.specs.ped_steps.proofs.RunLaws.ExpandedPlacesStand.{variable_scalar}
-use Rattle.ped_loops.specs.ped_scalar.specs.ped_rules.specs.ped_loop_runs.specs.ped_bodies.specs.ped_steps.proofs.RunLaws.PrivatisedPrograms.{scalar_occurs, statement_in}
-use Rattle.ped_loops.specs.ped_scalar.specs.ped_rules.specs.ped_loop_runs.specs.ped_bodies.specs.ped_steps.proofs.RunLaws.SubstitutedSums.{by_shape}
+use Rattle.ped_rules.specs.ped_flow.specs.Questions.{LoopOf}
+use Rattle.ped_rules.specs.ped_symbols.specs.Kinds.{names_of, kind_in}
+use Rattle.ped_rules.specs.ped_symbols.specs.NameRefusals.{IsValid}
+use Rattle.ped_rules.specs.ped_symbols.specs.Sites.{stmt_sites, stmts_sites}
+use Rattle.ped_rules.specs.ped_symbols.proofs.RightUseLaws.Whole.{same_kinds}
+use Rattle.ped_sums.specs.Sums.{literal_value, of_both, small, computed, literal_or, is_zero, added, subtracted, plus_of, minus_of}
+use Rattle.ped_sums.specs.Substitution.{statements_substituted}
+use Rattle.ped_rules.specs.ped_steps.specs.Replacing.{alone, program_with}
+use Rattle.ped_rules.specs.ped_steps.proofs.RunLaws.NamesKept.{occurs, Alike, AreAlike, by_sites, names_kept}
+use Rattle.ped_rules.specs.ped_steps.proofs.RunLaws.ExpandedNamesSites.{stmt_at}
+use Rattle.ped_rules.specs.ped_steps.proofs.RunLaws.ExpandedNamesSubstituted.{in_stmts}
+use Rattle.ped_rules.specs.ped_steps.proofs.RunLaws.ExpandedPlacesStand.{variable_scalar}
+use Rattle.ped_rules.specs.ped_steps.proofs.RunLaws.PrivatisedPrograms.{scalar_occurs, statement_in}
+use Rattle.ped_rules.specs.ped_steps.proofs.RunLaws.SubstitutedSums.{by_shape}
 use Rattle.ped_tree.proofs.NameLaws.Collected.{among_append}
-use Rattle.ped_loops.specs.ped_scalar.specs.ped_rules.specs.OnlyLoops.{only_loop}
-use Rattle.ped_loops.proofs.OnlyBodies.{pair, only_tells}
+use Rattle.ped_rules.specs.OnlyLoops.{only_loop}
+use Rattle.ped_rules.proofs.NestLaws.OnlyBodies.{pair, only_tells}
 use Rattle.ped_reindex.specs.Skewing.{offset, skewed_bound, unskewed, skewed_head}
 
 or_false : (b : Bool) → b || false ≡ b

@@ -10,18 +10,18 @@ use Rattle.ped_base.specs.declared.arithmetic.faults.Fault.{Fault}
 use Rattle.ped_base.specs.declared.arithmetic.faults.Fault.TheVariants.{OutOfRange}
 use Rattle.ped_tree.specs.Constants.NamedConstants.{value_named}
 use Rattle.ped_tree.specs.Tree.{ExprTree, Var, Add, Sub}
-use Rattle.ped_loops.specs.ped_scalar.specs.ped_rules.specs.ped_loop_runs.specs.ped_bodies.specs.ped_steps.specs.ped_views.proofs.Products.{linear}
-use Rattle.ped_loops.specs.ped_scalar.specs.ped_rules.specs.ped_loop_runs.specs.ped_bodies.specs.ped_steps.specs.ped_laws.specs.ped_store.specs.Stores.{Store}
-use Rattle.ped_loops.specs.ped_scalar.specs.ped_rules.specs.ped_loop_runs.specs.ped_bodies.specs.ped_steps.specs.ped_laws.specs.ped_store.specs.Storage.{natural}
-use Rattle.ped_loops.specs.ped_scalar.specs.ped_rules.specs.ped_loop_runs.specs.ped_bodies.specs.ped_steps.specs.ped_laws.proofs.PlainLaws.NearIntervals.{IsNear}
-use Rattle.ped_loops.specs.ped_scalar.specs.ped_rules.specs.ped_loop_runs.specs.ped_bodies.specs.ped_steps.specs.ped_laws.specs.ped_eval.specs.Evaluation.{Evaluated, by_number}
-use Rattle.ped_loops.specs.ped_scalar.specs.ped_rules.specs.ped_loop_runs.specs.ped_bodies.specs.ped_steps.specs.ped_laws.specs.ped_eval.specs.Loops.{is_bound, iteration_count}
-use Rattle.ped_loops.specs.ped_scalar.specs.ped_rules.specs.ped_loop_runs.specs.ped_bodies.specs.ped_steps.specs.ped_laws.specs.ped_eval.specs.Scopes.{Setting, Scope, Names, index_value, names_in}
-use Rattle.ped_loops.specs.ped_scalar.specs.ped_rules.specs.ped_loop_runs.specs.ped_bodies.specs.ped_steps.specs.ped_laws.specs.ped_eval.specs.Values.{binary, value}
-use Rattle.ped_loops.specs.ped_scalar.specs.ped_rules.specs.ped_loop_runs.specs.ped_bodies.specs.ped_steps.specs.ped_sums.specs.Sums.{plus_of, minus_of}
-use Rattle.ped_loops.specs.ped_scalar.specs.ped_rules.specs.ped_loop_runs.specs.ped_bodies.specs.ped_steps.proofs.RunLaws.SubstitutedSums.{evaluated, plus_comes, minus_comes}
-use Rattle.ped_loops.specs.ped_scalar.specs.ped_rules.specs.ped_loop_runs.specs.ped_bodies.specs.Moving.{ToldInside}
-use Rattle.ped_loops.specs.ped_scalar.specs.ped_rules.specs.ped_loop_runs.specs.ped_bodies.proofs.BodyLaws.StandingPlaces.{times_told, variable_told, itself_told, sum_told, difference_told}
+use Rattle.ped_rules.specs.ped_views.proofs.Products.{linear}
+use Rattle.ped_rules.specs.ped_store.specs.Stores.{Store}
+use Rattle.ped_rules.specs.ped_store.specs.Storage.{natural}
+use Rattle.ped_rules.specs.ped_laws.proofs.PlainLaws.NearIntervals.{IsNear}
+use Rattle.ped_rules.specs.ped_eval.specs.Evaluation.{Evaluated, by_number}
+use Rattle.ped_rules.specs.ped_eval.specs.Loops.{is_bound, iteration_count}
+use Rattle.ped_rules.specs.ped_eval.specs.Scopes.{Setting, Scope, Names, index_value, names_in}
+use Rattle.ped_rules.specs.ped_eval.specs.Values.{binary, value}
+use Rattle.ped_sums.specs.Sums.{plus_of, minus_of}
+use Rattle.ped_rules.specs.ped_steps.proofs.RunLaws.SubstitutedSums.{evaluated, plus_comes, minus_comes}
+use Rattle.ped_rules.specs.ped_bodies.specs.Moving.{ToldInside}
+use Rattle.ped_rules.specs.ped_bodies.proofs.BodyLaws.StandingPlaces.{times_told, variable_told, itself_told, sum_told, difference_told}
 use Rattle.ped_reindex.specs.Skewing.{is_bad_factor, offset, skewed_bound, unskewed}
 
 -- numbers of this size have 128 bits

@@ -3,40 +3,41 @@ use Rattle.std.proofs.Common.{Bool, List, [], ap, append-nil, append_assoc, arit
 use Rattle.std.proofs.lemmas.Bool.{both_ways}
 use Rattle.std.specs.Str.Lines.{lines}
 use Rattle.ped_base.specs.Lists.{is_among}
-use Rattle.ped_loops.proofs.ApartTurns.{apart_further, apart_same, in_one_iteration, none_behind, none_within}
-use Rattle.ped_loops.proofs.ExchangedRaces.{RaceBefore, ReadsFixed, only_second}
-use Rattle.ped_loops.proofs.SwappedAccesses.{in_knots, of_knots, same_turns, touch_in}
-use Rattle.ped_loops.proofs.SwappedWeave.{end_unreferred, entry_referred}
-use Rattle.ped_loops.specs.ped_scalar.specs.ped_rules.specs.ped_loop_runs.proofs.LoopLaws.OneForOneCells.{IsOfLoop}
-use Rattle.ped_loops.specs.ped_scalar.specs.ped_rules.specs.ped_loop_runs.proofs.LoopLaws.OneForOneStands.{run_alone}
-use Rattle.ped_loops.specs.ped_scalar.specs.ped_rules.specs.ped_loop_runs.proofs.LoopLaws.RacesByReferences.{told_is_unreferred}
-use Rattle.ped_loops.specs.ped_scalar.specs.ped_rules.specs.ped_loop_runs.specs.Bounds.{IsOfFixed}
-use Rattle.ped_loops.specs.ped_scalar.specs.ped_rules.specs.ped_loop_runs.specs.Executions.{IsExecuted}
-use Rattle.ped_loops.specs.ped_scalar.specs.ped_rules.specs.ped_loop_runs.specs.ped_bodies.proofs.BodyLaws.LikewiseAccesses.{likewise_accesses}
-use Rattle.ped_loops.specs.ped_scalar.specs.ped_rules.specs.ped_loop_runs.specs.ped_bodies.specs.Likewise.{IsMadeLikewise, IsOnlyTold, NamesScalars}
-use Rattle.ped_loops.specs.ped_scalar.specs.ped_rules.specs.ped_loop_runs.specs.ped_bodies.specs.Moving.{own_number}
-use Rattle.ped_loops.specs.ped_scalar.specs.ped_rules.specs.ped_loop_runs.specs.ped_bodies.specs.Trips.{bounds_seen, loop_entry, trip_end}
-use Rattle.ped_loops.specs.ped_scalar.specs.ped_rules.specs.ped_loop_runs.specs.ped_bodies.specs.ped_steps.proofs.RunLaws.ExpandedRacesOrigins.{touch_of}
-use Rattle.ped_loops.specs.ped_scalar.specs.ped_rules.specs.ped_loop_runs.specs.ped_bodies.specs.ped_steps.proofs.RunLaws.PrivatisedRacesOrigins.{accesses_from}
-use Rattle.ped_loops.specs.ped_scalar.specs.ped_rules.specs.ped_loop_runs.specs.ped_bodies.specs.ped_steps.specs.Replacing.{alone}
-use Rattle.ped_loops.specs.ped_scalar.specs.ped_rules.specs.ped_loop_runs.specs.ped_bodies.specs.ped_steps.specs.ped_flow.specs.Questions.{LoopOf}
-use Rattle.ped_loops.specs.ped_scalar.specs.ped_rules.specs.ped_loop_runs.specs.ped_bodies.specs.ped_steps.specs.ped_laws.proofs.ActLaws.Conflicting.{access_by, access_in, access_place, accesses_in}
-use Rattle.ped_loops.specs.ped_scalar.specs.ped_rules.specs.ped_loop_runs.specs.ped_bodies.specs.ped_steps.specs.ped_laws.proofs.ActLaws.Lists.{in_left}
-use Rattle.ped_loops.specs.ped_scalar.specs.ped_rules.specs.ped_loop_runs.specs.ped_bodies.specs.ped_steps.specs.ped_laws.specs.Acts.Fitting.{touches_of}
-use Rattle.ped_loops.specs.ped_scalar.specs.ped_rules.specs.ped_loop_runs.specs.ped_bodies.specs.ped_steps.specs.ped_laws.specs.Acts.Orders.{IsIn}
-use Rattle.ped_loops.specs.ped_scalar.specs.ped_rules.specs.ped_loop_runs.specs.ped_bodies.specs.ped_steps.specs.ped_laws.specs.Acts.Sets.{nothing, written}
-use Rattle.ped_loops.specs.ped_scalar.specs.ped_rules.specs.ped_loop_runs.specs.ped_bodies.specs.ped_steps.specs.ped_laws.specs.Runs.Replaying.{finish_of, goes_on}
-use Rattle.ped_loops.specs.ped_scalar.specs.ped_rules.specs.ped_loop_runs.specs.ped_bodies.specs.ped_steps.specs.ped_laws.specs.ped_eval.specs.Evaluation.{Evaluated, Seen, numbered}
-use Rattle.ped_loops.specs.ped_scalar.specs.ped_rules.specs.ped_loop_runs.specs.ped_bodies.specs.ped_steps.specs.ped_laws.specs.ped_eval.specs.Loops.{Entered, Limits, exit_when_none, frame, inner_variables}
-use Rattle.ped_loops.specs.ped_scalar.specs.ped_rules.specs.ped_loop_runs.specs.ped_bodies.specs.ped_steps.specs.ped_laws.specs.ped_eval.specs.Outcomes.{Ends, run_of, setting_of}
-use Rattle.ped_loops.specs.ped_scalar.specs.ped_rules.specs.ped_loop_runs.specs.ped_bodies.specs.ped_steps.specs.ped_laws.specs.ped_eval.specs.Runs.{Run, run}
-use Rattle.ped_loops.specs.ped_scalar.specs.ped_rules.specs.ped_loop_runs.specs.ped_bodies.specs.ped_steps.specs.ped_laws.specs.ped_eval.specs.Scopes.{Scope, Setting, place_of, turns_of}
-use Rattle.ped_loops.specs.ped_scalar.specs.ped_rules.specs.ped_loop_runs.specs.ped_bodies.specs.ped_steps.specs.ped_laws.specs.ped_store.specs.Acts.{Act, Place, Touch, Turn}
-use Rattle.ped_loops.specs.ped_scalar.specs.ped_rules.specs.ped_loop_runs.specs.ped_bodies.specs.ped_steps.specs.ped_laws.specs.ped_store.specs.Cells.{Cell}
-use Rattle.ped_loops.specs.ped_scalar.specs.ped_rules.specs.ped_loop_runs.specs.ped_bodies.specs.ped_steps.specs.ped_laws.specs.ped_store.specs.Races.{Access, accesses, accesses_of, are_apart, is_access, is_write}
-use Rattle.ped_loops.specs.ped_scalar.specs.ped_rules.specs.ped_loop_runs.specs.ped_bodies.specs.ped_steps.specs.ped_laws.specs.ped_store.specs.Stores.{Store, store_at_start}
-use Rattle.ped_loops.specs.ped_scalar.specs.ped_rules.specs.ped_loop_runs.specs.ped_bodies.specs.ped_steps.specs.ped_weaves.specs.Weaves.{Weave, block, control, new_list, old_list}
-use Rattle.ped_reindex.proofs.StripsBounds.{AreBeside, IsStripped}
+use Rattle.ped_rules.specs.ped_loop_runs.proofs.LoopLaws.ApartTurns.{apart_further, apart_same, in_one_iteration, none_behind, none_within}
+use Rattle.ped_rules.proofs.NestLaws.ExchangedRaces.{RaceBefore, ReadsFixed, only_second}
+use Rattle.ped_rules.proofs.NestLaws.WovenAccesses.{in_knots, of_knots, same_turns, touch_in}
+use Rattle.ped_rules.proofs.NestLaws.WovenLists.{end_unreferred, entry_referred}
+use Rattle.ped_rules.specs.ped_loop_runs.proofs.LoopLaws.OneForOneCells.{IsOfLoop}
+use Rattle.ped_rules.specs.ped_loop_runs.proofs.LoopLaws.OneForOneStands.{run_alone}
+use Rattle.ped_rules.specs.ped_loop_runs.proofs.LoopLaws.RacesByReferences.{told_is_unreferred}
+use Rattle.ped_rules.specs.ped_loop_runs.specs.Bounds.{IsOfFixed}
+use Rattle.ped_rules.specs.ped_loop_runs.specs.Executions.{IsExecuted}
+use Rattle.ped_rules.specs.ped_bodies.proofs.BodyLaws.LikewiseAccesses.{likewise_accesses}
+use Rattle.ped_rules.specs.ped_bodies.specs.Likewise.{IsMadeLikewise, IsOnlyTold, NamesScalars}
+use Rattle.ped_rules.specs.ped_bodies.specs.Moving.{own_number}
+use Rattle.ped_rules.specs.ped_bodies.specs.Trips.{bounds_seen, loop_entry, trip_end}
+use Rattle.ped_rules.specs.ped_steps.proofs.RunLaws.ExpandedRacesOrigins.{touch_of}
+use Rattle.ped_rules.specs.ped_steps.proofs.RunLaws.PrivatisedRacesOrigins.{accesses_from}
+use Rattle.ped_rules.specs.ped_steps.specs.Replacing.{alone}
+use Rattle.ped_rules.specs.ped_flow.specs.Questions.{LoopOf}
+use Rattle.ped_rules.specs.ped_laws.proofs.ActLaws.Conflicting.{access_by, access_in, access_place, accesses_in}
+use Rattle.ped_rules.specs.ped_laws.proofs.ActLaws.Lists.{in_left}
+use Rattle.ped_rules.specs.ped_laws.specs.Acts.Fitting.{touches_of}
+use Rattle.ped_rules.specs.ped_laws.specs.Acts.Orders.{IsIn}
+use Rattle.ped_rules.specs.ped_laws.specs.Acts.Sets.{nothing, written}
+use Rattle.ped_rules.specs.ped_laws.specs.Runs.Replaying.{finish_of, goes_on}
+use Rattle.ped_rules.specs.ped_eval.specs.Evaluation.{Evaluated, Seen, numbered}
+use Rattle.ped_rules.specs.ped_eval.specs.Loops.{Entered, Limits, exit_when_none, frame, inner_variables}
+use Rattle.ped_rules.specs.ped_eval.specs.Outcomes.{Ends, run_of, setting_of}
+use Rattle.ped_rules.specs.ped_eval.specs.Runs.{Run, run}
+use Rattle.ped_rules.specs.ped_eval.specs.Scopes.{Scope, Setting, place_of, turns_of}
+use Rattle.ped_rules.specs.ped_store.specs.Acts.{Act, Place, Touch, Turn}
+use Rattle.ped_rules.specs.ped_store.specs.Cells.{Cell}
+use Rattle.ped_rules.specs.ped_store.specs.Races.{Access, accesses, accesses_of, are_apart, is_access, is_write}
+use Rattle.ped_rules.specs.ped_store.specs.Stores.{Store, store_at_start}
+use Rattle.ped_rules.specs.ped_weaves.specs.Weaves.{Weave, block, control, new_list, old_list}
+use Rattle.ped_rules.proofs.NameLaws.ValuesBut.{AreBeside}
+use Rattle.ped_reindex.proofs.StripsBounds.{IsStripped}
 use Rattle.ped_reindex.proofs.StripsCells.{StripReached, strip_names, strips_apart, strips_inside, strips_or_stays}
 use Rattle.ped_reindex.proofs.StripsControls.{IsInnerControl, entry_seen, inner_end, inner_entry, outer_end}
 use Rattle.ped_reindex.proofs.StripsNumbers.{is_in_strip}

@@ -9,22 +9,22 @@ use Rattle.ped_base.specs.Arithmetic.Arithmetic.{from_left, in_range, least_of, 
 use Rattle.ped_base.specs.Arithmetic.Faults.{◌>>=◌}
 use Rattle.ped_base.specs.Lists.{is_among, is_same_text}
 use Rattle.ped_base.specs.declared.arithmetic.faults.Fault.TheVariants.{OutOfRange}
-use Rattle.ped_loops.proofs.SettledBounds.{limits_there}
-use Rattle.ped_loops.specs.ped_scalar.specs.ped_rules.specs.ped_loop_runs.specs.ped_bodies.proofs.BodyLaws.LimitParts.{limits_parted}
-use Rattle.ped_loops.specs.ped_scalar.specs.ped_rules.specs.ped_loop_runs.specs.ped_bodies.specs.Trips.{HasLimits, bounds_seen, entered_from}
-use Rattle.ped_loops.specs.ped_scalar.specs.ped_rules.specs.ped_loop_runs.specs.ped_bodies.specs.ped_steps.specs.Replacing.{alone}
-use Rattle.ped_loops.specs.ped_scalar.specs.ped_rules.specs.ped_loop_runs.specs.ped_bodies.specs.ped_steps.specs.ped_laws.specs.Acts.Orders.{IsIn}
-use Rattle.ped_loops.specs.ped_scalar.specs.ped_rules.specs.ped_loop_runs.specs.ped_bodies.specs.ped_steps.specs.ped_laws.specs.ped_eval.specs.Evaluation.{Evaluated, Seen, by_number, cell_seen, given, index_seen, ◌>>>◌}
-use Rattle.ped_loops.specs.ped_scalar.specs.ped_rules.specs.ped_loop_runs.specs.ped_bodies.specs.ped_steps.specs.ped_laws.specs.ped_eval.specs.Loops.{Entered, Limits, frame, increment, is_bound, iteration_count, limits, value_in}
-use Rattle.ped_loops.specs.ped_scalar.specs.ped_rules.specs.ped_loop_runs.specs.ped_bodies.specs.ped_steps.specs.ped_laws.specs.ped_eval.specs.Scopes.{Names, Scope, Setting, cell_of, index_value, names_in, turns_of}
-use Rattle.ped_loops.specs.ped_scalar.specs.ped_rules.specs.ped_loop_runs.specs.ped_bodies.specs.ped_steps.specs.ped_laws.specs.ped_eval.specs.Values.{binary, name_value, of_intrinsic, value, values, variable_value}
-use Rattle.ped_loops.specs.ped_scalar.specs.ped_rules.specs.ped_loop_runs.specs.ped_bodies.specs.ped_steps.specs.ped_laws.specs.ped_store.specs.Cells.{Cell}
-use Rattle.ped_loops.specs.ped_scalar.specs.ped_rules.specs.ped_loop_runs.specs.ped_bodies.specs.ped_steps.specs.ped_laws.specs.ped_store.specs.Stores.{Content, Store}
-use Rattle.ped_loops.specs.ped_scalar.specs.ped_rules.specs.ped_loop_runs.specs.ped_bodies.specs.ped_steps.specs.ped_sums.specs.Sums.{literal, plus_of}
-use Rattle.ped_loops.specs.ped_scalar.specs.ped_rules.specs.ped_loop_runs.specs.ped_bodies.specs.ped_steps.specs.ped_views.proofs.Products.{linear}
+use Rattle.ped_rules.proofs.NestLaws.SettledBounds.{limits_there}
+use Rattle.ped_rules.specs.ped_bodies.proofs.BodyLaws.LimitParts.{limits_parted}
+use Rattle.ped_rules.specs.ped_bodies.specs.Trips.{HasLimits, bounds_seen, entered_from}
+use Rattle.ped_rules.specs.ped_steps.specs.Replacing.{alone}
+use Rattle.ped_rules.specs.ped_laws.specs.Acts.Orders.{IsIn}
+use Rattle.ped_rules.specs.ped_eval.specs.Evaluation.{Evaluated, Seen, by_number, cell_seen, given, index_seen, ◌>>>◌}
+use Rattle.ped_rules.specs.ped_eval.specs.Loops.{Entered, Limits, frame, increment, is_bound, iteration_count, limits, value_in}
+use Rattle.ped_rules.specs.ped_eval.specs.Scopes.{Names, Scope, Setting, cell_of, index_value, names_in}
+use Rattle.ped_rules.specs.ped_eval.specs.Values.{binary, name_value, of_intrinsic, value, values, variable_value}
+use Rattle.ped_rules.specs.ped_store.specs.Cells.{Cell}
+use Rattle.ped_rules.specs.ped_store.specs.Stores.{Content, Store}
+use Rattle.ped_sums.specs.Sums.{literal, plus_of}
+use Rattle.ped_rules.specs.ped_views.proofs.Products.{linear}
 use Rattle.ped_reindex.proofs.StripsNumbers.{IsStrip, is_strip, strip_first, strip_last, strips}
-use Rattle.ped_reindex.proofs.UnnamedCells.{UnnamedHead, neither, unnamed_head}
-use Rattle.ped_reindex.proofs.ValuesBut.{AgreeBut, limits_but, value_but}
+use Rattle.ped_rules.proofs.NameLaws.UnnamedCells.{UnnamedHead, neither, unnamed_head}
+use Rattle.ped_rules.proofs.NameLaws.ValuesBut.{AgreeBut, limits_but, value_but}
 use Rattle.ped_reindex.specs.Stripping.{strip_end, strip_head, strips_head}
 use Rattle.ped_tree.specs.Constants.ConstantExpressions.{constant_value, intrinsic_result}
 use Rattle.ped_tree.specs.Constants.NamedConstants.{value_named}
@@ -32,12 +32,13 @@ use Rattle.ped_tree.specs.NamesIn.{head_names, stmt_names, stmts_names}
 use Rattle.ped_tree.specs.Numbering.{statements_count}
 use Rattle.ped_tree.specs.Tree.{Add, Call, Do, ExprTree, Head, Int, Neg, ProgramTree, StmtTrees, Var, more_exprs, no_exprs}
 use Rattle.ped_tree.specs.declared.expressions.Intrinsic.TheVariants.{Min}
-use Rattle.ped_loops.specs.ped_scalar.specs.ped_rules.specs.ped_loop_runs.specs.ped_bodies.specs.ped_steps.specs.ped_flow.specs.Questions.{IsContained, LoopOf}
-use Rattle.ped_loops.specs.ped_scalar.specs.ped_rules.specs.ped_loop_runs.specs.ped_bodies.specs.ped_steps.specs.ped_symbols.specs.NameRefusals.{IsValid}
+use Rattle.ped_rules.specs.ped_flow.specs.Questions.{IsContained, LoopOf}
+use Rattle.ped_rules.specs.ped_symbols.specs.NameRefusals.{IsValid}
 use Rattle.ped_tree.specs.Grammar.Words.{is_name}
-use Rattle.ped_loops.specs.ped_scalar.specs.ped_rules.specs.ped_loop_runs.specs.ped_bodies.specs.ped_steps.specs.ped_symbols.specs.Kinds.{names_of}
-use Rattle.ped_loops.specs.ped_scalar.specs.ped_rules.specs.ped_loop_runs.specs.ped_bodies.specs.ped_steps.specs.ped_laws.specs.ped_eval.specs.Outcomes.{setting_of}
-use Rattle.ped_loops.specs.ped_scalar.specs.ped_rules.specs.ped_loop_runs.specs.ped_bodies.specs.ped_steps.specs.ped_flow.specs.PlainBounds.{IsPlain}
+use Rattle.ped_rules.specs.ped_symbols.specs.Kinds.{names_of}
+use Rattle.ped_rules.specs.ped_eval.specs.Outcomes.{setting_of}
+use Rattle.ped_rules.specs.ped_flow.specs.PlainBounds.{IsPlain}
+use Rattle.ped_rules.proofs.NameLaws.ValuesBut.{AreBeside}
 
 at_least : (a b : ℤ) → int_le a b ≡ true → a ≤ℤ b
 at_least a b h = omega (arith, linear, h)
@@ -103,12 +104,6 @@ least_comes g a b s A B u v x y r =
 
 all_four : {X : Type 0} (xs ys : List X) → (xs ++ ((ys ++ []) ++ [])) ++ [] ≡ xs ++ ys
 all_four xs ys = append-nil (xs ++ ((ys ++ []) ++ [])) ∙ (λ i. xs ++ (append-nil (ys ++ []) i)) ∙ (λ i. xs ++ append-nil ys i)
-
--- two places in the same iterations, where all names but one stand for the same
-pub record AreBeside (w : List ℕ) (scope other : Scope) : Type 0 where
-  pub turns : turns_of other ≡ turns_of scope
-  pub index : (x : List ℕ) → index_value other x ≡ index_value scope x
-  pub cell : (x : List ℕ) → is_same_text w x ≡ false → cell_of other x ≡ cell_of scope x
 
 -- the new program counts the DO over the strips as the old DO, and the statements in both as the old ones
 pub record CountsStrips (p q : Setting) (l : ℕ) (body : StmtTrees) (w : List ℕ) : Type 0 where

@@ -1,14 +1,14 @@
 -- Copies inside a DO, and their names where its iterations are done in strips.
 use Rattle.std.proofs.Common.{Bool, List, None, Option, Some, [], ap, eqb, eqb-true, false, if◌then◌else◌, inl, inr, refl, sym, true, ℕ, ◌%◌, ◌++◌, ◌+◌, ◌-◌, ◌/◌, ◌∙◌, ◌∷◌, ◌≡◌, ◌≤◌, ◌⊎◌}
-use Rattle.ped_loops.specs.ped_scalar.specs.ped_rules.specs.ped_loop_runs.proofs.LoopLaws.OneForOneCells.{IsOfLoop, lies}
-use Rattle.ped_loops.specs.ped_scalar.specs.ped_rules.specs.ped_loop_runs.proofs.PastingLaws.LeftCopies.{IsOwn}
-use Rattle.ped_loops.specs.ped_scalar.specs.ped_rules.specs.ped_loop_runs.specs.ped_bodies.proofs.BodyLaws.MovedCells.{moved_is, place_stays}
-use Rattle.ped_loops.specs.ped_scalar.specs.ped_rules.specs.ped_loop_runs.specs.ped_bodies.proofs.BodyLaws.NamesApart.{behind_is, stripped_apart}
-use Rattle.ped_loops.specs.ped_scalar.specs.ped_rules.specs.ped_loop_runs.specs.ped_bodies.specs.Moving.{behind_front, in_strips, is_cell_among, moved_behind, with_rest}
-use Rattle.ped_loops.specs.ped_scalar.specs.ped_rules.specs.ped_loop_runs.specs.ped_bodies.specs.ped_steps.specs.ped_laws.specs.ped_eval.specs.Scopes.{Scope, Setting, cell_of, turns_of}
-use Rattle.ped_loops.specs.ped_scalar.specs.ped_rules.specs.ped_loop_runs.specs.ped_bodies.specs.ped_steps.specs.ped_laws.specs.ped_store.specs.Acts.{iterations_of}
-use Rattle.ped_loops.specs.ped_scalar.specs.ped_rules.specs.ped_loop_runs.specs.ped_bodies.specs.ped_steps.specs.ped_laws.specs.ped_store.specs.Cells.{Cell, Element, In, Iteration, Out, Private, Scalar}
-use Rattle.ped_loops.proofs.ApartTurns.{number_itself}
+use Rattle.ped_rules.specs.ped_loop_runs.proofs.LoopLaws.OneForOneCells.{IsOfLoop, lies}
+use Rattle.ped_rules.specs.ped_loop_runs.proofs.PastingLaws.LeftCopies.{IsOwn}
+use Rattle.ped_rules.specs.ped_bodies.proofs.BodyLaws.MovedCells.{moved_is, place_stays}
+use Rattle.ped_rules.specs.ped_bodies.proofs.BodyLaws.NamesApart.{behind_is, stripped_apart}
+use Rattle.ped_rules.specs.ped_bodies.specs.Moving.{behind_front, in_strips, is_cell_among, moved_behind, with_rest}
+use Rattle.ped_rules.specs.ped_eval.specs.Scopes.{Scope, Setting, cell_of, turns_of}
+use Rattle.ped_rules.specs.ped_store.specs.Acts.{iterations_of}
+use Rattle.ped_rules.specs.ped_store.specs.Cells.{Cell, Element, In, Iteration, Out, Private, Scalar}
+use Rattle.ped_rules.specs.ped_loop_runs.proofs.LoopLaws.ApartTurns.{number_itself}
 
 module _ (p : Setting) (scope : Scope) (l inner K : ℕ) where
   abbrev front : List Iteration

@@ -2,21 +2,21 @@
 use Rattle.std.proofs.Common.{Bool, List, None, Some, [], ap, append-nil, false, if◌then◌else◌, map, pos, refl, subst, sym, true, ℕ, ℤ, ◌++◌, ◌||◌, ◌∙◌, ◌≡◌, ◌≤◌}
 use Rattle.std.specs.List.{flat_map}
 use Rattle.ped_base.specs.Lists.{is_among, is_same_text}
-use Rattle.ped_loops.specs.ped_scalar.specs.ped_rules.specs.ped_loop_runs.proofs.LoopLaws.OneForOneNames.{constant_there}
-use Rattle.ped_loops.proofs.ReversedNames.{among_both, head_uses, literal_unnamed, names_in, unnamed}
-use Rattle.ped_loops.proofs.SwappedKinds.{in_both, in_loop, occurs_in}
-use Rattle.ped_loops.specs.ped_scalar.specs.ped_rules.specs.ped_loop_runs.specs.ped_bodies.specs.ped_steps.proofs.RunLaws.ExpandedPlacesStand.{variable_scalar}
-use Rattle.ped_loops.specs.ped_scalar.specs.ped_rules.specs.ped_loop_runs.specs.ped_bodies.specs.ped_steps.proofs.RunLaws.NamesKept.{Alike, AreAlike, alike_itself, by_sites, names_kept, occurs}
-use Rattle.ped_loops.specs.ped_scalar.specs.ped_rules.specs.ped_loop_runs.specs.ped_bodies.specs.ped_steps.proofs.RunLaws.PrivatisedPrograms.{scalar_occurs, statement_in}
-use Rattle.ped_loops.specs.ped_scalar.specs.ped_rules.specs.ped_loop_runs.specs.ped_bodies.specs.ped_steps.specs.Replacing.{alone, program_with}
-use Rattle.ped_loops.specs.ped_scalar.specs.ped_rules.specs.ped_loop_runs.specs.ped_bodies.specs.ped_steps.specs.ped_flow.specs.Questions.{LoopOf}
-use Rattle.ped_loops.specs.ped_scalar.specs.ped_rules.specs.ped_loop_runs.specs.ped_bodies.specs.ped_steps.specs.ped_symbols.proofs.RightUseLaws.Quiet.{behind_append, said, said_stays, stmts_declare_nothing}
-use Rattle.ped_loops.specs.ped_scalar.specs.ped_rules.specs.ped_loop_runs.specs.ped_bodies.specs.ped_steps.specs.ped_symbols.proofs.RightUseLaws.Whole.{others_unvalued}
-use Rattle.ped_loops.specs.ped_scalar.specs.ped_rules.specs.ped_loop_runs.specs.ped_bodies.specs.ped_steps.specs.ped_symbols.specs.Kinds.{at_last, kind_among, kind_in, names_of}
-use Rattle.ped_loops.specs.ped_scalar.specs.ped_rules.specs.ped_loop_runs.specs.ped_bodies.specs.ped_steps.specs.ped_symbols.specs.NameRefusals.{IsValid, at_first, behind_sites}
-use Rattle.ped_loops.specs.ped_scalar.specs.ped_rules.specs.ped_loop_runs.specs.ped_bodies.specs.ped_steps.specs.ped_symbols.specs.Sites.{decl_sites, stmt_sites, stmts_sites}
-use Rattle.ped_loops.specs.ped_scalar.specs.ped_rules.specs.ped_loop_runs.specs.ped_bodies.specs.ped_steps.specs.ped_symbols.specs.Uses.{expr_uses, used_as}
-use Rattle.ped_loops.specs.ped_scalar.specs.ped_rules.specs.ped_loop_runs.specs.ped_bodies.specs.ped_steps.specs.ped_symbols.specs.declared.uses.Role.TheVariants.{Rejected}
+use Rattle.ped_rules.specs.ped_loop_runs.proofs.LoopLaws.OneForOneNames.{constant_there}
+use Rattle.ped_rules.proofs.HeadLaws.HeadNames.{among_both, head_uses, literal_unnamed, names_in, unnamed}
+use Rattle.ped_rules.proofs.NestLaws.WovenKinds.{in_both, in_loop, occurs_in}
+use Rattle.ped_rules.specs.ped_steps.proofs.RunLaws.ExpandedPlacesStand.{variable_scalar}
+use Rattle.ped_rules.specs.ped_steps.proofs.RunLaws.NamesKept.{Alike, AreAlike, alike_itself, by_sites, names_kept, occurs}
+use Rattle.ped_rules.specs.ped_steps.proofs.RunLaws.PrivatisedPrograms.{scalar_occurs, statement_in}
+use Rattle.ped_rules.specs.ped_steps.specs.Replacing.{alone, program_with}
+use Rattle.ped_rules.specs.ped_flow.specs.Questions.{LoopOf}
+use Rattle.ped_rules.specs.ped_symbols.proofs.RightUseLaws.Quiet.{behind_append, said, said_stays, stmts_declare_nothing}
+use Rattle.ped_rules.specs.ped_symbols.proofs.RightUseLaws.Whole.{others_unvalued}
+use Rattle.ped_rules.specs.ped_symbols.specs.Kinds.{at_last, kind_among, kind_in, names_of}
+use Rattle.ped_rules.specs.ped_symbols.specs.NameRefusals.{IsValid, at_first, behind_sites}
+use Rattle.ped_rules.specs.ped_symbols.specs.Sites.{decl_sites, stmt_sites, stmts_sites}
+use Rattle.ped_rules.specs.ped_symbols.specs.Uses.{expr_uses, used_as}
+use Rattle.ped_rules.specs.ped_symbols.specs.declared.uses.Role.TheVariants.{Rejected}
 use Rattle.ped_reindex.proofs.StripsBounds.{end_is}
 use Rattle.ped_reindex.specs.Stripping.{strip_end, strip_head, strips_head, with_strips}
 use Rattle.ped_tree.specs.Accesses.{constant_names}

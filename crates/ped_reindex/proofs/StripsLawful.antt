@@ -7,25 +7,25 @@ use Rattle.std.specs.Fmt.{decimal}
 use Rattle.std.specs.List.{flat_map}
 use Rattle.ped_base.proofs.NameEquality.{same_is, same_itself}
 use Rattle.ped_base.specs.Lists.{has_some, is_among, is_same_text}
-use Rattle.ped_loops.proofs.OneHead.{ClearedLaw, TrustedLaw}
-use Rattle.ped_loops.proofs.PlainDecided.{OrNot, plain_decided}
-use Rattle.ped_loops.specs.ped_scalar.specs.ped_rules.proofs.FreshNames.{most_is, numbered_name}
-use Rattle.ped_loops.specs.ped_scalar.specs.ped_rules.proofs.KeptNumbers.{moved_one_to_one}
-use Rattle.ped_loops.specs.ped_scalar.specs.ped_rules.specs.Fresh.{first_free, most_numbered, numbered_names, occurs, program_name}
-use Rattle.ped_loops.specs.ped_scalar.specs.ped_rules.specs.Lawful.{IsFaithful, IsLawful}
-use Rattle.ped_loops.specs.ped_scalar.specs.ped_rules.specs.OnlyLoops.{on_loop}
-use Rattle.ped_loops.specs.ped_scalar.specs.ped_rules.specs.Rules.{is_one, isnt_allowed}
-use Rattle.ped_loops.specs.ped_scalar.specs.ped_rules.specs.declared.fresh.NewName.TheVariants.{Variable}
-use Rattle.ped_loops.specs.ped_scalar.specs.ped_rules.specs.ped_loop_runs.specs.Unrejected.{IsTrusted}
-use Rattle.ped_loops.specs.ped_scalar.specs.ped_rules.specs.ped_loop_runs.specs.ped_bodies.specs.ped_steps.proofs.OnePlace.{one_program}
-use Rattle.ped_loops.specs.ped_scalar.specs.ped_rules.specs.ped_loop_runs.specs.ped_bodies.specs.ped_steps.specs.Causes.{NoRule}
-use Rattle.ped_loops.specs.ped_scalar.specs.ped_rules.specs.ped_loop_runs.specs.ped_bodies.specs.ped_steps.specs.Replacing.{program_with}
-use Rattle.ped_loops.specs.ped_scalar.specs.ped_rules.specs.ped_loop_runs.specs.ped_bodies.specs.ped_steps.specs.ped_flow.specs.PlainBounds.{IsPlain}
-use Rattle.ped_loops.specs.ped_scalar.specs.ped_rules.specs.ped_loop_runs.specs.ped_bodies.specs.ped_steps.specs.ped_flow.specs.Questions.{IsContained, LoopOf}
-use Rattle.ped_loops.specs.ped_scalar.specs.ped_rules.specs.ped_loop_runs.specs.ped_bodies.specs.ped_steps.specs.ped_laws.specs.ped_eval.specs.Outcomes.{setting_of}
-use Rattle.ped_loops.specs.ped_scalar.specs.ped_rules.specs.ped_loop_runs.specs.ped_bodies.specs.ped_steps.specs.ped_laws.specs.ped_graph.specs.Update.Fresh.{IsOneToOne}
-use Rattle.ped_loops.specs.ped_scalar.specs.ped_rules.specs.ped_loop_runs.specs.ped_bodies.specs.ped_steps.specs.ped_symbols.specs.Kinds.{kind_in, names_of}
-use Rattle.ped_loops.specs.ped_scalar.specs.ped_rules.specs.ped_loop_runs.specs.ped_bodies.specs.ped_steps.specs.ped_symbols.specs.NameRefusals.{IsValid}
+use Rattle.ped_rules.proofs.HeadLaws.OneHead.{ClearedLaw, TrustedLaw}
+use Rattle.ped_rules.proofs.HeadLaws.PlainDecided.{OrNot, plain_decided}
+use Rattle.ped_rules.proofs.FreshNames.{most_is, numbered_name}
+use Rattle.ped_rules.proofs.KeptNumbers.{moved_one_to_one}
+use Rattle.ped_rules.specs.Fresh.{first_free, most_numbered, numbered_names, occurs, program_name}
+use Rattle.ped_rules.specs.Lawful.{IsFaithful, IsLawful}
+use Rattle.ped_rules.specs.OnlyLoops.{on_loop}
+use Rattle.ped_rules.specs.Rules.{is_one, isnt_allowed}
+use Rattle.ped_rules.specs.declared.fresh.NewName.TheVariants.{Variable}
+use Rattle.ped_rules.specs.ped_loop_runs.specs.Unrejected.{IsTrusted}
+use Rattle.ped_rules.specs.ped_steps.proofs.OnePlace.{one_program}
+use Rattle.ped_rules.specs.ped_steps.specs.Causes.{NoRule}
+use Rattle.ped_rules.specs.ped_steps.specs.Replacing.{program_with}
+use Rattle.ped_rules.specs.ped_flow.specs.PlainBounds.{IsPlain}
+use Rattle.ped_rules.specs.ped_flow.specs.Questions.{IsContained, LoopOf}
+use Rattle.ped_rules.specs.ped_eval.specs.Outcomes.{setting_of}
+use Rattle.ped_rules.specs.ped_graph.specs.Update.Fresh.{IsOneToOne}
+use Rattle.ped_rules.specs.ped_symbols.specs.Kinds.{kind_in, names_of}
+use Rattle.ped_rules.specs.ped_symbols.specs.NameRefusals.{IsValid}
 use Rattle.ped_reindex.proofs.Determined.{determined_strip}
 use Rattle.ped_reindex.proofs.Sizes.{strip_sizes}
 use Rattle.ped_reindex.proofs.StripsKeeps.{IsStripping, strips_keep}

@@ -9,10 +9,10 @@ use Rattle.std.proofs.lemmas.Nat.{div-add-mod'}
 use Rattle.std.specs.Int.{int_min}
 use Rattle.std.specs.List.{flat_map, range_with_len}
 use Rattle.std.specs.Prelude.{cond}
-use Rattle.ped_loops.proofs.TurnedCounts.{div_one}
-use Rattle.ped_loops.specs.ped_scalar.specs.ped_rules.specs.ped_loop_runs.specs.ped_bodies.specs.ped_steps.specs.ped_laws.specs.ped_eval.specs.Loops.{iteration_count}
-use Rattle.ped_loops.specs.ped_scalar.specs.ped_rules.specs.ped_loop_runs.specs.ped_bodies.specs.ped_steps.specs.ped_laws.specs.ped_store.specs.Storage.{natural}
-use Rattle.ped_loops.specs.ped_scalar.specs.ped_rules.specs.ped_loop_runs.specs.ped_bodies.specs.ped_steps.specs.ped_views.proofs.Products.{linear}
+use Rattle.ped_rules.proofs.HeadLaws.TurnedCounts.{div_one}
+use Rattle.ped_rules.specs.ped_eval.specs.Loops.{iteration_count}
+use Rattle.ped_rules.specs.ped_store.specs.Storage.{natural}
+use Rattle.ped_rules.specs.ped_views.proofs.Products.{linear}
 
 -- products by one more
 one_more : (x K : ℕ) → suc x * K ≡ x * K + K

@@ -7,98 +7,99 @@ use Rattle.std.specs.List.{flat_map, range_with_len}
 use Rattle.std.specs.Str.Lines.{lines}
 use Rattle.ped_base.proofs.NameEquality.{same_is}
 use Rattle.ped_base.specs.Lists.{is_among, is_same_text}
-use Rattle.ped_loops.proofs.SettledBounds.{ends_so, read_so}
-use Rattle.ped_loops.proofs.LoopPlaces.{loops_of_program}
-use Rattle.ped_loops.proofs.NestKnots.{in_numbers, in_rows, nest_acts, nest_blocks, nest_row, pair_of}
-use Rattle.ped_loops.proofs.SwappedAccesses.{of_knots}
-use Rattle.ped_loops.proofs.SwappedStands.{agreed_wanted, idle_apart, of_block, stands_apart, touches_in, without_from}
-use Rattle.ped_loops.proofs.SwappedWeave.{IsPart, end_reads, end_within, entry_reads, entry_within, trip_in_loop}
-use Rattle.ped_loops.specs.ped_scalar.specs.ped_rules.specs.ped_loop_runs.proofs.LoopLaws.OneForOneCells.{IsOfLoop, all_unread, among_of_scalar, cell_among, exit_unread, likewise_idle, needed_counts, touched_in}
-use Rattle.ped_loops.specs.ped_scalar.specs.ped_rules.specs.ped_loop_runs.proofs.LoopLaws.OneForOneNames.{variables_unnamed}
-use Rattle.ped_loops.specs.ped_scalar.specs.ped_rules.specs.ped_loop_runs.proofs.LoopLaws.OneForOneStands.{run_alone, false_unless, both, not_so}
-use Rattle.ped_loops.specs.ped_scalar.specs.ped_rules.specs.ped_loop_runs.proofs.LoopLaws.PlainReads.{plain_again}
-use Rattle.ped_loops.specs.ped_scalar.specs.ped_rules.specs.ped_loop_runs.specs.Bounds.{IsOfFixed}
-use Rattle.ped_loops.specs.ped_scalar.specs.ped_rules.specs.ped_loop_runs.proofs.PastingLaws.ExecutedDuring.{whole_outermost}
-use Rattle.ped_loops.specs.ped_scalar.specs.ped_rules.specs.ped_loop_runs.proofs.PastingLaws.LeftCopies.{IsOwn, body_reaches, entry_own, own_apart, run_reaches}
-use Rattle.ped_loops.specs.ped_scalar.specs.ped_rules.specs.ped_loop_runs.proofs.PastingLaws.TheirCopies.{theirs, theirs_unneeded}
-use Rattle.ped_loops.specs.ped_scalar.specs.ped_rules.specs.ped_loop_runs.proofs.PastingLaws.ToldPlaces.{no_turns, place_with}
-use Rattle.ped_loops.specs.ped_scalar.specs.ped_rules.specs.ped_loop_runs.specs.Copies.{IsTheirs}
-use Rattle.ped_loops.specs.ped_scalar.specs.ped_rules.specs.ped_loop_runs.specs.Executions.{IsCopyInside, IsExecuted, as_done}
-use Rattle.ped_loops.specs.ped_scalar.specs.ped_rules.specs.ped_loop_runs.specs.Places.{AreDuring, told_at}
-use Rattle.ped_loops.specs.ped_scalar.specs.ped_rules.specs.ped_loop_runs.specs.ped_bodies.proofs.BodyLaws.LikewiseAccesses.{likewise_accesses}
-use Rattle.ped_loops.specs.ped_scalar.specs.ped_rules.specs.ped_loop_runs.specs.ped_bodies.proofs.BodyLaws.LikewiseActs.{likewise_stripped}
-use Rattle.ped_loops.specs.ped_scalar.specs.ped_rules.specs.ped_loop_runs.specs.ped_bodies.proofs.BodyLaws.LimitParts.{limits_parted}
-use Rattle.ped_loops.specs.ped_scalar.specs.ped_rules.specs.ped_loop_runs.specs.ped_bodies.proofs.BodyLaws.TripLists.{close_in_order, end_in_order}
-use Rattle.ped_loops.specs.ped_scalar.specs.ped_rules.specs.ped_loop_runs.specs.ped_bodies.specs.Likewise.{IsMadeLikewise, IsOnlyTold}
-use Rattle.ped_loops.specs.ped_scalar.specs.ped_rules.specs.ped_loop_runs.specs.ped_bodies.specs.Moving.{is_cell_among, own_number}
-use Rattle.ped_loops.specs.ped_scalar.specs.ped_rules.specs.ped_loop_runs.specs.ped_bodies.specs.Trips.{IsMadeOfTrips, IsTrip, bounds_seen, loop_entry, trip_end, trips as trips_in_order}
-use Rattle.ped_loops.specs.ped_scalar.specs.ped_rules.specs.ped_loop_runs.specs.ped_bodies.specs.ped_steps.proofs.RunLaws.ExpandedRacesOrigins.{touch_of, write_access, write_in}
-use Rattle.ped_loops.specs.ped_scalar.specs.ped_rules.specs.ped_loop_runs.specs.ped_bodies.specs.ped_steps.proofs.RunLaws.PastedStores.{execution_left}
-use Rattle.ped_loops.specs.ped_scalar.specs.ped_rules.specs.ped_loop_runs.specs.ped_bodies.specs.ped_steps.proofs.RunLaws.PrivatisedPrograms.{shown_scalar}
-use Rattle.ped_loops.specs.ped_scalar.specs.ped_rules.specs.ped_loop_runs.specs.ped_bodies.specs.ped_steps.proofs.RunLaws.PrivatisedRacesOrigins.{accesses_from}
-use Rattle.ped_loops.specs.ped_scalar.specs.ped_rules.specs.ped_loop_runs.specs.ped_bodies.specs.ped_steps.specs.Replacing.{alone}
-use Rattle.ped_loops.specs.ped_scalar.specs.ped_rules.specs.ped_loop_runs.specs.ped_bodies.specs.ped_steps.specs.Runs.Exchanging.{is_of_scalar}
-use Rattle.ped_loops.specs.ped_scalar.specs.ped_rules.specs.ped_loop_runs.specs.ped_bodies.specs.ped_steps.specs.Runs.Pasting.{IsInOutermost, IsPlaceOf}
-use Rattle.ped_loops.specs.ped_scalar.specs.ped_rules.specs.ped_loop_runs.specs.ped_bodies.specs.ped_steps.specs.ped_flow.specs.PlainBounds.{nest_round, outermost_or}
-use Rattle.ped_loops.specs.ped_scalar.specs.ped_rules.specs.ped_loop_runs.specs.ped_bodies.specs.ped_steps.specs.ped_flow.specs.Questions.{LoopOf}
-use Rattle.ped_loops.specs.ped_scalar.specs.ped_rules.specs.ped_loop_runs.specs.ped_bodies.specs.ped_steps.specs.ped_laws.proofs.ActLaws.Appending.{needs_append, written_append}
-use Rattle.ped_loops.specs.ped_scalar.specs.ped_rules.specs.ped_loop_runs.specs.ped_bodies.specs.ped_steps.specs.ped_laws.proofs.ActLaws.Conflicting.{access_by, access_in, accesses_in}
-use Rattle.ped_loops.specs.ped_scalar.specs.ped_rules.specs.ped_loop_runs.specs.ped_bodies.specs.ped_steps.specs.ped_laws.proofs.ActLaws.Lists.{in_left, in_right}
-use Rattle.ped_loops.specs.ped_scalar.specs.ped_rules.specs.ped_loop_runs.specs.ped_bodies.specs.ped_steps.specs.ped_laws.proofs.ActLaws.Outside.{dropped_first, none_append}
-use Rattle.ped_loops.specs.ped_scalar.specs.ped_rules.specs.ped_loop_runs.specs.ped_bodies.specs.ped_steps.specs.ped_laws.proofs.ActLaws.Renamings.{after_other, or_left, or_right}
-use Rattle.ped_loops.specs.ped_scalar.specs.ped_rules.specs.ped_loop_runs.specs.ped_bodies.specs.ped_steps.specs.ped_laws.proofs.ActLaws.SameCells.{text_itself}
-use Rattle.ped_loops.specs.ped_scalar.specs.ped_rules.specs.ped_loop_runs.specs.ped_bodies.specs.ped_steps.specs.ped_laws.proofs.FlowRunLaws.Cells.{cell_named}
-use Rattle.ped_loops.specs.ped_scalar.specs.ped_rules.specs.ped_loop_runs.specs.ped_bodies.specs.ped_steps.specs.ped_laws.proofs.FlowRunLaws.DeadExits.{unwanted_behind}
-use Rattle.ped_loops.specs.ped_scalar.specs.ped_rules.specs.ped_loop_runs.specs.ped_bodies.specs.ped_steps.specs.ped_laws.proofs.FlowRunLaws.Stopping.{fitting_stops}
-use Rattle.ped_loops.specs.ped_scalar.specs.ped_rules.specs.ped_loop_runs.specs.ped_bodies.specs.ped_steps.specs.ped_laws.proofs.FlowRunLaws.TripReads.{contained_unread}
-use Rattle.ped_loops.specs.ped_scalar.specs.ped_rules.specs.ped_loop_runs.specs.ped_bodies.specs.ped_steps.specs.ped_laws.proofs.RunLaws.Sight.{value_told}
-use Rattle.ped_loops.specs.ped_scalar.specs.ped_rules.specs.ped_loop_runs.specs.ped_bodies.specs.ped_steps.specs.ped_laws.proofs.RunLaws.StatementsTold.{run_told}
-use Rattle.ped_loops.specs.ped_scalar.specs.ped_rules.specs.ped_loop_runs.specs.ped_bodies.specs.ped_steps.specs.ped_laws.specs.Acts.Changes.{AreSameOutside}
-use Rattle.ped_loops.specs.ped_scalar.specs.ped_rules.specs.ped_loop_runs.specs.ped_bodies.specs.ped_steps.specs.ped_laws.specs.Acts.Conflicts.{LeaveUnread, ReadNone, WriteWithin, touches_without, without}
-use Rattle.ped_loops.specs.ped_scalar.specs.ped_rules.specs.ped_loop_runs.specs.ped_bodies.specs.ped_steps.specs.ped_laws.specs.Acts.Fitting.{Fits, of_cells, store_after, touches_of}
-use Rattle.ped_loops.specs.ped_scalar.specs.ped_rules.specs.ped_loop_runs.specs.ped_bodies.specs.ped_steps.specs.ped_laws.specs.Acts.Grids.{block_at}
-use Rattle.ped_loops.specs.ped_scalar.specs.ped_rules.specs.ped_loop_runs.specs.ped_bodies.specs.ped_steps.specs.ped_laws.specs.Acts.Orders.{Block, EachOnce, IsIn, IsReordered, KeepsOrder, acts_in_blocks, block_conflict}
-use Rattle.ped_loops.specs.ped_scalar.specs.ped_rules.specs.ped_loop_runs.specs.ped_bodies.specs.ped_steps.specs.ped_laws.specs.Acts.Pieces.{StandsFor}
-use Rattle.ped_loops.specs.ped_scalar.specs.ped_rules.specs.ped_loop_runs.specs.ped_bodies.specs.ped_steps.specs.ped_laws.specs.Acts.Renaming.{AreRenamed, Renamed, own_name, touch}
-use Rattle.ped_loops.specs.ped_scalar.specs.ped_rules.specs.ped_loop_runs.specs.ped_bodies.specs.ped_steps.specs.ped_laws.specs.Acts.Sets.{AgreeIn, needs, nothing, wants, written}
-use Rattle.ped_loops.specs.ped_scalar.specs.ped_rules.specs.ped_loop_runs.specs.ped_bodies.specs.ped_steps.specs.ped_laws.specs.FlowRuns.Covering.{is_cell_of, some_stops_in_loop}
-use Rattle.ped_loops.specs.ped_scalar.specs.ped_rules.specs.ped_loop_runs.specs.ped_bodies.specs.ped_steps.specs.ped_laws.specs.FlowRuns.Exits.{IsExit, IsOneToOne}
-use Rattle.ped_loops.specs.ped_scalar.specs.ped_rules.specs.ped_loop_runs.specs.ped_bodies.specs.ped_steps.specs.ped_laws.specs.Plain.Executions.{IsDuring, IsPlaceWith}
-use Rattle.ped_loops.specs.ped_scalar.specs.ped_rules.specs.ped_loop_runs.specs.ped_bodies.specs.ped_steps.specs.ped_laws.specs.Runs.Replaying.{Replays, ending_with, finish_of, goes_on, has_fault}
-use Rattle.ped_loops.specs.ped_scalar.specs.ped_rules.specs.ped_loop_runs.specs.ped_bodies.specs.ped_steps.specs.ped_laws.specs.Runs.Showing.{shown_at_end}
-use Rattle.ped_loops.specs.ped_scalar.specs.ped_rules.specs.ped_loop_runs.specs.ped_bodies.specs.ped_steps.specs.ped_laws.specs.ped_eval.specs.Evaluation.{Evaluated, Seen, cell_seen, index_seen, numbered}
-use Rattle.ped_loops.specs.ped_scalar.specs.ped_rules.specs.ped_loop_runs.specs.ped_bodies.specs.ped_steps.specs.ped_laws.specs.ped_eval.specs.Loops.{Entered, Limits, exit_touches, exit_when_none, frame, inner_variables, left_in_variable, limits, undefined_all, undefined_by}
-use Rattle.ped_loops.specs.ped_scalar.specs.ped_rules.specs.ped_loop_runs.specs.ped_bodies.specs.ped_steps.specs.ped_laws.specs.ped_eval.specs.Outcomes.{Ends, run_of, setting_of}
-use Rattle.ped_loops.specs.ped_scalar.specs.ped_rules.specs.ped_loop_runs.specs.ped_bodies.specs.ped_steps.specs.ped_laws.specs.ped_eval.specs.Runs.{Run, run, run_all}
-use Rattle.ped_loops.specs.ped_scalar.specs.ped_rules.specs.ped_loop_runs.specs.ped_bodies.specs.ped_steps.specs.ped_laws.specs.ped_eval.specs.Scopes.{Scope, Setting, cell_of, names_in, place_of, turns_of}
-use Rattle.ped_loops.specs.ped_scalar.specs.ped_rules.specs.ped_loop_runs.specs.ped_bodies.specs.ped_steps.specs.ped_laws.specs.ped_eval.specs.Statements.{write_touch}
-use Rattle.ped_loops.specs.ped_scalar.specs.ped_rules.specs.ped_loop_runs.specs.ped_bodies.specs.ped_steps.specs.ped_laws.specs.ped_eval.specs.Values.{value}
-use Rattle.ped_loops.specs.ped_scalar.specs.ped_rules.specs.ped_loop_runs.specs.ped_bodies.specs.ped_steps.specs.ped_laws.specs.ped_store.specs.Acts.{Act, Place, Touch, iterations_of, reads}
-use Rattle.ped_loops.specs.ped_scalar.specs.ped_rules.specs.ped_loop_runs.specs.ped_bodies.specs.ped_steps.specs.ped_laws.specs.ped_store.specs.Cells.{Cell, Iteration, Private, Scalar}
-use Rattle.ped_loops.specs.ped_scalar.specs.ped_rules.specs.ped_loop_runs.specs.ped_bodies.specs.ped_steps.specs.ped_laws.specs.ped_store.specs.Races.{Access, accesses, is_write}
-use Rattle.ped_loops.specs.ped_scalar.specs.ped_rules.specs.ped_loop_runs.specs.ped_bodies.specs.ped_steps.specs.ped_laws.specs.ped_store.specs.Stores.{Content, Store, store_at_start}
-use Rattle.ped_loops.specs.ped_scalar.specs.ped_rules.specs.ped_loop_runs.specs.ped_bodies.specs.ped_steps.specs.ped_weaves.proofs.WeaveLaws.AgreedApart.{agreed_before_or_written, both_stand, needed_agreed}
-use Rattle.ped_loops.specs.ped_scalar.specs.ped_rules.specs.ped_loop_runs.specs.ped_bodies.specs.ped_steps.specs.ped_weaves.proofs.WeaveLaws.CountedActs.{counted_needed, counted_touched, counted_writes}
-use Rattle.ped_loops.specs.ped_scalar.specs.ped_rules.specs.ped_loop_runs.specs.ped_bodies.specs.ped_steps.specs.ped_weaves.proofs.WeaveLaws.KnotRows.{blocks_rows, knotted_rows}
-use Rattle.ped_loops.specs.ped_scalar.specs.ped_rules.specs.ped_loop_runs.specs.ped_bodies.specs.ped_steps.specs.ped_weaves.proofs.WeaveLaws.PutFor.{put_stands}
-use Rattle.ped_loops.specs.ped_scalar.specs.ped_rules.specs.ped_loop_runs.specs.ped_bodies.specs.ped_steps.specs.ped_weaves.proofs.WeaveLaws.TripOrders.{trips_stand}
-use Rattle.ped_loops.specs.ped_scalar.specs.ped_rules.specs.ped_loop_runs.specs.ped_bodies.specs.ped_steps.specs.ped_weaves.proofs.WeaveLaws.Woven.{woven_stands}
-use Rattle.ped_loops.specs.ped_scalar.specs.ped_rules.specs.ped_loop_runs.specs.ped_bodies.specs.ped_steps.specs.ped_weaves.specs.Apart.{agreed}
-use Rattle.ped_loops.specs.ped_scalar.specs.ped_rules.specs.ped_loop_runs.specs.ped_bodies.specs.ped_steps.specs.ped_weaves.specs.Puttings.{IsPutFor, Suit}
-use Rattle.ped_loops.specs.ped_scalar.specs.ped_rules.specs.ped_loop_runs.specs.ped_bodies.specs.ped_steps.specs.ped_weaves.specs.Weaves.{IsSteady, IsWoven, Knot, Weave, block, blocks_in, control, counted, new_list, new_trips, old_list, old_trips}
-use Rattle.ped_reindex.proofs.StripsBounds.{AreBeside, IsStripped, inner_reads, outer_limits}
+use Rattle.ped_rules.proofs.NestLaws.SettledBounds.{ends_so, read_so}
+use Rattle.ped_rules.proofs.NestLaws.InnerPlaces.{loops_of_program}
+use Rattle.ped_rules.proofs.NestLaws.NestKnots.{in_numbers, in_rows, nest_acts, nest_blocks, nest_row, pair_of}
+use Rattle.ped_rules.proofs.NestLaws.WovenAccesses.{of_knots}
+use Rattle.ped_rules.proofs.NestLaws.WovenStands.{agreed_wanted, idle_apart, of_block, stands_apart, touches_in, without_from}
+use Rattle.ped_rules.proofs.NestLaws.WovenLists.{IsPart, end_reads, end_within, entry_reads, entry_within, trip_in_loop}
+use Rattle.ped_rules.specs.ped_loop_runs.proofs.LoopLaws.OneForOneCells.{IsOfLoop, all_unread, among_of_scalar, cell_among, exit_unread, likewise_idle, needed_counts, touched_in}
+use Rattle.ped_rules.specs.ped_loop_runs.proofs.LoopLaws.OneForOneNames.{variables_unnamed}
+use Rattle.ped_rules.specs.ped_loop_runs.proofs.LoopLaws.OneForOneStands.{run_alone, false_unless, both, not_so}
+use Rattle.ped_rules.specs.ped_loop_runs.proofs.LoopLaws.PlainReads.{plain_again}
+use Rattle.ped_rules.specs.ped_loop_runs.specs.Bounds.{IsOfFixed}
+use Rattle.ped_rules.specs.ped_loop_runs.proofs.PastingLaws.ExecutedDuring.{whole_outermost}
+use Rattle.ped_rules.specs.ped_loop_runs.proofs.PastingLaws.LeftCopies.{IsOwn, body_reaches, entry_own, own_apart, run_reaches}
+use Rattle.ped_rules.specs.ped_loop_runs.proofs.PastingLaws.TheirCopies.{theirs, theirs_unneeded}
+use Rattle.ped_rules.specs.ped_loop_runs.proofs.PastingLaws.ToldPlaces.{no_turns, place_with}
+use Rattle.ped_rules.specs.ped_loop_runs.specs.Copies.{IsTheirs}
+use Rattle.ped_rules.specs.ped_loop_runs.specs.Executions.{IsCopyInside, IsExecuted, as_done}
+use Rattle.ped_rules.specs.ped_loop_runs.specs.Places.{AreDuring, told_at}
+use Rattle.ped_rules.specs.ped_bodies.proofs.BodyLaws.LikewiseAccesses.{likewise_accesses}
+use Rattle.ped_rules.specs.ped_bodies.proofs.BodyLaws.LikewiseActs.{likewise_stripped}
+use Rattle.ped_rules.specs.ped_bodies.proofs.BodyLaws.LimitParts.{limits_parted}
+use Rattle.ped_rules.specs.ped_bodies.proofs.BodyLaws.TripLists.{close_in_order, end_in_order}
+use Rattle.ped_rules.specs.ped_bodies.specs.Likewise.{IsMadeLikewise, IsOnlyTold}
+use Rattle.ped_rules.specs.ped_bodies.specs.Moving.{is_cell_among, own_number}
+use Rattle.ped_rules.specs.ped_bodies.specs.Trips.{IsMadeOfTrips, IsTrip, bounds_seen, loop_entry, trip_end, trips as trips_in_order}
+use Rattle.ped_rules.specs.ped_steps.proofs.RunLaws.ExpandedRacesOrigins.{touch_of, write_access, write_in}
+use Rattle.ped_rules.specs.ped_steps.proofs.RunLaws.PastedStores.{execution_left}
+use Rattle.ped_rules.specs.ped_steps.proofs.RunLaws.PrivatisedPrograms.{shown_scalar}
+use Rattle.ped_rules.specs.ped_steps.proofs.RunLaws.PrivatisedRacesOrigins.{accesses_from}
+use Rattle.ped_rules.specs.ped_steps.specs.Replacing.{alone}
+use Rattle.ped_rules.specs.ped_steps.specs.Runs.Exchanging.{is_of_scalar}
+use Rattle.ped_rules.specs.ped_steps.specs.Runs.Pasting.{IsInOutermost, IsPlaceOf}
+use Rattle.ped_rules.specs.ped_flow.specs.PlainBounds.{nest_round, outermost_or}
+use Rattle.ped_rules.specs.ped_flow.specs.Questions.{LoopOf}
+use Rattle.ped_rules.specs.ped_laws.proofs.ActLaws.Appending.{needs_append, written_append}
+use Rattle.ped_rules.specs.ped_laws.proofs.ActLaws.Conflicting.{access_by, access_in, accesses_in}
+use Rattle.ped_rules.specs.ped_laws.proofs.ActLaws.Lists.{in_left, in_right}
+use Rattle.ped_rules.specs.ped_laws.proofs.ActLaws.Outside.{dropped_first, none_append}
+use Rattle.ped_rules.specs.ped_laws.proofs.ActLaws.Renamings.{after_other, or_left, or_right}
+use Rattle.ped_rules.specs.ped_laws.proofs.ActLaws.SameCells.{text_itself}
+use Rattle.ped_rules.specs.ped_laws.proofs.FlowRunLaws.Cells.{cell_named}
+use Rattle.ped_rules.specs.ped_laws.proofs.FlowRunLaws.DeadExits.{unwanted_behind}
+use Rattle.ped_rules.specs.ped_laws.proofs.FlowRunLaws.Stopping.{fitting_stops}
+use Rattle.ped_rules.specs.ped_laws.proofs.FlowRunLaws.TripReads.{contained_unread}
+use Rattle.ped_rules.specs.ped_laws.proofs.RunLaws.Sight.{value_told}
+use Rattle.ped_rules.specs.ped_laws.proofs.RunLaws.StatementsTold.{run_told}
+use Rattle.ped_rules.specs.ped_laws.specs.Acts.Changes.{AreSameOutside}
+use Rattle.ped_rules.specs.ped_laws.specs.Acts.Conflicts.{LeaveUnread, ReadNone, WriteWithin, touches_without, without}
+use Rattle.ped_rules.specs.ped_laws.specs.Acts.Fitting.{Fits, of_cells, store_after, touches_of}
+use Rattle.ped_rules.specs.ped_laws.specs.Acts.Grids.{block_at}
+use Rattle.ped_rules.specs.ped_laws.specs.Acts.Orders.{Block, EachOnce, IsIn, IsReordered, KeepsOrder, acts_in_blocks, block_conflict}
+use Rattle.ped_rules.specs.ped_laws.specs.Acts.Pieces.{StandsFor}
+use Rattle.ped_rules.specs.ped_laws.specs.Acts.Renaming.{AreRenamed, Renamed, own_name, touch}
+use Rattle.ped_rules.specs.ped_laws.specs.Acts.Sets.{AgreeIn, needs, nothing, wants, written}
+use Rattle.ped_rules.specs.ped_laws.specs.FlowRuns.Covering.{is_cell_of, some_stops_in_loop}
+use Rattle.ped_rules.specs.ped_laws.specs.FlowRuns.Exits.{IsExit, IsOneToOne}
+use Rattle.ped_rules.specs.ped_laws.specs.Plain.Executions.{IsDuring, IsPlaceWith}
+use Rattle.ped_rules.specs.ped_laws.specs.Runs.Replaying.{Replays, ending_with, finish_of, goes_on, has_fault}
+use Rattle.ped_rules.specs.ped_laws.specs.Runs.Showing.{shown_at_end}
+use Rattle.ped_rules.specs.ped_eval.specs.Evaluation.{Evaluated, Seen, cell_seen, index_seen, numbered}
+use Rattle.ped_rules.specs.ped_eval.specs.Loops.{Entered, Limits, exit_touches, exit_when_none, frame, inner_variables, left_in_variable, limits, undefined_all, undefined_by}
+use Rattle.ped_rules.specs.ped_eval.specs.Outcomes.{Ends, run_of, setting_of}
+use Rattle.ped_rules.specs.ped_eval.specs.Runs.{Run, run, run_all}
+use Rattle.ped_rules.specs.ped_eval.specs.Scopes.{Scope, Setting, cell_of, names_in, place_of, turns_of}
+use Rattle.ped_rules.specs.ped_eval.specs.Statements.{write_touch}
+use Rattle.ped_rules.specs.ped_eval.specs.Values.{value}
+use Rattle.ped_rules.specs.ped_store.specs.Acts.{Act, Place, Touch, iterations_of, reads}
+use Rattle.ped_rules.specs.ped_store.specs.Cells.{Cell, Iteration, Private, Scalar}
+use Rattle.ped_rules.specs.ped_store.specs.Races.{Access, accesses, is_write}
+use Rattle.ped_rules.specs.ped_store.specs.Stores.{Content, Store, store_at_start}
+use Rattle.ped_rules.specs.ped_weaves.proofs.WeaveLaws.AgreedApart.{agreed_before_or_written, both_stand, needed_agreed}
+use Rattle.ped_rules.specs.ped_weaves.proofs.WeaveLaws.CountedActs.{counted_needed, counted_touched, counted_writes}
+use Rattle.ped_rules.specs.ped_weaves.proofs.WeaveLaws.KnotRows.{blocks_rows, knotted_rows}
+use Rattle.ped_rules.specs.ped_weaves.proofs.WeaveLaws.PutFor.{put_stands}
+use Rattle.ped_rules.specs.ped_weaves.proofs.WeaveLaws.TripOrders.{trips_stand}
+use Rattle.ped_rules.specs.ped_weaves.proofs.WeaveLaws.Woven.{woven_stands}
+use Rattle.ped_rules.specs.ped_weaves.specs.Apart.{agreed}
+use Rattle.ped_rules.specs.ped_weaves.specs.Puttings.{IsPutFor, Suit}
+use Rattle.ped_rules.specs.ped_weaves.specs.Weaves.{IsSteady, IsWoven, Knot, Weave, block, blocks_in, control, counted, new_list, new_trips, old_list, old_trips}
+use Rattle.ped_rules.proofs.NameLaws.ValuesBut.{AreBeside}
+use Rattle.ped_reindex.proofs.StripsBounds.{IsStripped, inner_reads, outer_limits}
 use Rattle.ped_reindex.proofs.StripsCells.{StripReached, strip_names, strips_apart, strips_idle, strips_inside, strips_or_stays}
 use Rattle.ped_reindex.proofs.StripsControls.{IsInnerControl, end_cell, entry_cell, held_in, inner_control, inner_end, inner_entry, other_acts, outer_end, same_control, seen_touch}
 use Rattle.ped_reindex.proofs.StripsNumbers.{are_strips, strips, strips_joined, whole}
-use Rattle.ped_reindex.proofs.UnnamedCells.{neither, unnamed_head}
+use Rattle.ped_rules.proofs.NameLaws.UnnamedCells.{neither, unnamed_head}
 use Rattle.ped_reindex.specs.Stripping.{strip_head, strips_head}
 use Rattle.ped_tree.specs.NamesIn.{all_loop_variables, head_names, loop_variables, stmts_names}
 use Rattle.ped_tree.specs.Numbering.{statement_count, statement_with, statements_count}
 use Rattle.ped_tree.specs.Tree.{Do, Head, ProgramTree, StmtTree, StmtTrees}
 use Rattle.ped_reindex.proofs.StripsAbsent.{leaves_alone, unwanted_name}
 use Rattle.ped_reindex.proofs.StripsTrips as trips
-use Rattle.ped_loops.specs.ped_scalar.specs.ped_rules.specs.ped_loop_runs.proofs.LoopLaws.OneForOneCells as cells
-use Rattle.ped_loops.specs.ped_scalar.specs.ped_rules.specs.ped_loop_runs.proofs.LoopLaws.PlainReads as plain
+use Rattle.ped_rules.specs.ped_loop_runs.proofs.LoopLaws.OneForOneCells as cells
+use Rattle.ped_rules.specs.ped_loop_runs.proofs.LoopLaws.PlainReads as plain
 
 module _ (t : ProgramTree) (l : ℕ) (loop : LoopOf t l) (K : ℕ) (w : List ℕ) (q : Setting) (x : IsStripped t l loop K w q) (data_bytes : List ℕ) (ends : Ends (run_of t data_bytes).ending) where
   abbrev p : Setting

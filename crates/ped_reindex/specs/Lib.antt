@@ -1,8 +1,6 @@
-pub use Rattle.ped_loops
+pub use Rattle.ped_rules
 pub mod Skewing
 pub mod Stripping
-pub mod Settling
 pub mod Peeling
 pub mod CodePeeling
 pub mod CodeSkewing
-pub mod CodeSettling

@@ -3,15 +3,15 @@ use Rattle.std.specs.Prelude.{◌≡◌, ℕ, ℤ, pos, nat_lt, unsigned_abs, Li
 use Rattle.std.specs.Int.{is_negative}
 use Rattle.std.specs.Ordering.{int_eq}
 use Rattle.ped_tree.specs.Tree.{ExprTree, Var, Add, Sub, Head, StmtTree, StmtTrees, Do, ProgramTree}
-use Rattle.ped_loops.specs.ped_scalar.specs.ped_rules.specs.Chains.{no_rules, also, WhereLoop, Unless}
-use Rattle.ped_loops.specs.ped_scalar.specs.ped_rules.specs.OnlyLoops.{inner, either, on_loop, change_only}
-use Rattle.ped_loops.specs.ped_scalar.specs.ped_rules.specs.Rules.{WhereNoLoop, isnt_perfect, is_parallel, WhereEscape, leaves, setting_at, heads_round, WhereLimit}
-use Rattle.ped_loops.specs.ped_scalar.specs.ped_rules.specs.Steps.{transformation, StepAt}
-use Rattle.ped_loops.specs.ped_scalar.specs.ped_rules.specs.ped_loop_runs.specs.ped_bodies.specs.ped_steps.specs.ped_sums.specs.Sums.{plus_of, minus_of, times_of}
-use Rattle.ped_loops.specs.ped_scalar.specs.ped_rules.specs.ped_loop_runs.specs.ped_bodies.specs.ped_steps.specs.ped_sums.specs.Substitution.{statements_substituted}
-use Rattle.ped_loops.specs.ped_scalar.specs.ped_rules.specs.ped_loop_runs.specs.ped_bodies.specs.ped_steps.specs.declared.rules.Rule.TheVariants.{NoLoop, NotPerfect, ParallelState, IndexEscapes, Range, Limit, BadFactor}
-use Rattle.ped_loops.specs.ped_scalar.specs.ped_rules.specs.ped_loop_runs.specs.ped_bodies.specs.ped_steps.specs.Causes.{Rules, IsFirstCause, none_forbids}
-use Rattle.ped_loops.specs.ped_scalar.specs.ped_rules.specs.ped_loop_runs.specs.ped_bodies.specs.ped_steps.specs.Replacing.{alone, program_with, all_kept}
+use Rattle.ped_rules.specs.Chains.{no_rules, also, WhereLoop, Unless}
+use Rattle.ped_rules.specs.OnlyLoops.{inner, either, on_loop, change_only}
+use Rattle.ped_rules.specs.Rules.{WhereNoLoop, isnt_perfect, is_parallel, WhereEscape, leaves, setting_at, heads_round, WhereLimit}
+use Rattle.ped_rules.specs.Steps.{transformation, StepAt}
+use Rattle.ped_sums.specs.Sums.{plus_of, minus_of, times_of}
+use Rattle.ped_sums.specs.Substitution.{statements_substituted}
+use Rattle.ped_rules.specs.ped_steps.specs.declared.rules.Rule.TheVariants.{NoLoop, NotPerfect, ParallelState, IndexEscapes, Range, Limit, BadFactor}
+use Rattle.ped_rules.specs.ped_steps.specs.Causes.{Rules, IsFirstCause, none_forbids}
+use Rattle.ped_rules.specs.ped_steps.specs.Replacing.{alone, program_with, all_kept}
 
 -- rule 16: the factor is 0 or more than 1000 in size (this project)
 abbrev pub is_bad_factor : ℤ → Bool

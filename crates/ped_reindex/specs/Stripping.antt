@@ -2,18 +2,18 @@
 use Rattle.std.specs.Prelude.{◌≡◌, ℕ, ℤ, pos, ◌-ℤ◌, int_lt, List, [], ◌∷◌, ◌++◌, codes, Bool, false, ◌||◌, Option, Some, None}
 use Rattle.ped_tree.specs.declared.expressions.Intrinsic.TheVariants.{Min}
 use Rattle.ped_tree.specs.Tree.{ExprTree, Int, Var, Call, no_exprs, more_exprs, Head, StmtTrees, Do, ProgramTree}
-use Rattle.ped_loops.specs.ped_scalar.specs.ped_rules.specs.Chains.{no_rules, also, WhereLoop, Unless}
-use Rattle.ped_loops.specs.ped_scalar.specs.ped_rules.specs.Fresh.{fresh_name}
-use Rattle.ped_loops.specs.ped_scalar.specs.ped_rules.specs.KeepMaps.{moved_by}
-use Rattle.ped_loops.specs.ped_scalar.specs.ped_rules.specs.OnlyLoops.{on_loop}
-use Rattle.ped_loops.specs.ped_scalar.specs.ped_rules.specs.Rules.{WhereNoLoop, is_parallel, has_private, WhereEscape, WhereUnplain, is_one, has_other_step, leaves, setting_at, heads_round, WhereLimit}
-use Rattle.ped_loops.specs.ped_scalar.specs.ped_rules.specs.Steps.{transformation, StepAt}
-use Rattle.ped_loops.specs.ped_scalar.specs.ped_rules.specs.ped_loop_runs.specs.ped_bodies.specs.ped_steps.specs.ped_sums.specs.Sums.{literal, plus_of}
-use Rattle.ped_loops.specs.ped_scalar.specs.ped_rules.specs.ped_loop_runs.specs.ped_bodies.specs.ped_steps.specs.ped_symbols.specs.Kinds.{table_of}
-use Rattle.ped_loops.specs.ped_scalar.specs.ped_rules.specs.ped_loop_runs.specs.ped_bodies.specs.ped_steps.specs.ped_flow.specs.Questions.{LoopOf}
-use Rattle.ped_loops.specs.ped_scalar.specs.ped_rules.specs.ped_loop_runs.specs.ped_bodies.specs.ped_steps.specs.declared.rules.Rule.TheVariants.{NoLoop, ParallelState, HasPrivate, IndexEscapes, BoundNotPlain, StepShape, Range, Limit, BadFactor}
-use Rattle.ped_loops.specs.ped_scalar.specs.ped_rules.specs.ped_loop_runs.specs.ped_bodies.specs.ped_steps.specs.Causes.{Rules, IsFirstCause, none_forbids}
-use Rattle.ped_loops.specs.ped_scalar.specs.ped_rules.specs.ped_loop_runs.specs.ped_bodies.specs.ped_steps.specs.Replacing.{alone, program_with}
+use Rattle.ped_rules.specs.Chains.{no_rules, also, WhereLoop, Unless}
+use Rattle.ped_rules.specs.Fresh.{fresh_name}
+use Rattle.ped_rules.specs.KeepMaps.{moved_by}
+use Rattle.ped_rules.specs.OnlyLoops.{on_loop}
+use Rattle.ped_rules.specs.Rules.{WhereNoLoop, is_parallel, has_private, WhereEscape, WhereUnplain, is_one, has_other_step, leaves, setting_at, heads_round, WhereLimit}
+use Rattle.ped_rules.specs.Steps.{transformation, StepAt}
+use Rattle.ped_sums.specs.Sums.{literal, plus_of}
+use Rattle.ped_rules.specs.ped_symbols.specs.Kinds.{table_of}
+use Rattle.ped_rules.specs.ped_flow.specs.Questions.{LoopOf}
+use Rattle.ped_rules.specs.ped_steps.specs.declared.rules.Rule.TheVariants.{NoLoop, ParallelState, HasPrivate, IndexEscapes, BoundNotPlain, StepShape, Range, Limit, BadFactor}
+use Rattle.ped_rules.specs.ped_steps.specs.Causes.{Rules, IsFirstCause, none_forbids}
+use Rattle.ped_rules.specs.ped_steps.specs.Replacing.{alone, program_with}
 
 -- rule 16: a strip has less than 2 or more than 1000 iterations (this project)
 abbrev pub is_bad_size : ℤ → Bool

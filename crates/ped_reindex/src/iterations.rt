@@ -2,13 +2,13 @@
 
 ghost use Rattle.std.specs.Prelude.{◌≡◌, ◌<◌, ◌≤ℤ◌, pos, neg_ℤ, ◌+ℤ◌, ◌-ℤ◌, int_rem, unsigned_abs, IsTrue, Some, true, false};
 ghost use Rattle.ped_tree.specs.Views.{head_of};
-ghost use Rattle.ped_loops.specs.ped_scalar.specs.ped_rules.specs.Spans as Spans;
-ghost use Rattle.ped_loops.specs.ped_scalar.specs.ped_rules.specs.ped_loop_runs.specs.ped_bodies.specs.ped_steps.specs.ped_symbols.specs.RightUses.RightLoops.{step_is_right, is_step};
+ghost use Rattle.ped_rules.specs.Spans as Spans;
+ghost use Rattle.ped_rules.specs.ped_symbols.specs.RightUses.RightLoops.{step_is_right, is_step};
 ghost use Rattle.ped_reindex.specs.Peeling as Spec;
 ghost use Rattle.ped_reindex.specs.CodePeeling.{IsFound};
 ghost use Rattle.ped_reindex.specs.CodePeeling as Code;
 
-use ped_loops::is_far;
+use ped_rules::is_far;
 use ped_tree::Do;
 use ped_tree::constants::{Consts, constant};
 

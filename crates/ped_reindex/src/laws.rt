@@ -1,12 +1,12 @@
 //! What is true of the steps. The functions do nothing; their contracts are the laws.
 
 ghost use Rattle.std.specs.Prelude.{ℕ, ℤ, Bool};
-ghost use Rattle.ped_loops.specs.ped_scalar.specs.ped_rules.specs.Lawful.{IsLawful};
+ghost use Rattle.ped_rules.specs.Lawful.{IsLawful};
 ghost use Rattle.ped_reindex.specs.Skewing.{skewing};
 ghost use Rattle.ped_reindex.specs.Stripping.{stripping};
 ghost use Rattle.ped_reindex.specs.Peeling.{peeling};
 
-use ped_loops::{private_names_cleared, stays_trusted};
+use ped_rules::{private_names_cleared, stays_trusted};
 
 /// `skew` has one first cause at most and makes one program; where nothing forbids it, that one is valid, has no C$PED REJECT
 /// and is tidy if the old one is so, and means the same (Allen and Kennedy, section 5.9; ParaScope).

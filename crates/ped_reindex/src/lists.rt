@@ -2,7 +2,7 @@
 
 ghost use Rattle.std.specs.Prelude.{◌≡◌};
 ghost use Rattle.ped_tree.specs.Views.{stmt_trees, head_of};
-ghost use Rattle.ped_loops.specs.ped_scalar.specs.ped_rules.specs.Rules.{has_private};
+ghost use Rattle.ped_rules.specs.Rules.{has_private};
 
 use ped_tree::Do;
 

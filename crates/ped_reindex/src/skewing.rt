@@ -4,27 +4,27 @@ ghost use Rattle.std.specs.Prelude.{◌≡◌, ◌+◌, ◌<◌, ◌≤◌, ◌^
 ghost use Rattle.ped_tree.specs.Numbering.{statements_count};
 ghost use Rattle.ped_tree.specs.Tree as Tree;
 ghost use Rattle.ped_tree.specs.Views.{expr_tree, stmt_tree, stmt_trees, do_tree, program_tree, head_of};
-ghost use Rattle.ped_loops.specs.ped_scalar.specs.ped_rules.specs.OnlyLoops as Only;
-ghost use Rattle.ped_loops.specs.ped_scalar.specs.ped_rules.specs.Rules.{setting_at, isnt_perfect, WhereEscape};
-ghost use Rattle.ped_loops.specs.ped_scalar.specs.ped_rules.specs.Rules as Rules;
-ghost use Rattle.ped_loops.specs.ped_scalar.specs.ped_rules.specs.Steps.{Answers};
-ghost use Rattle.ped_loops.specs.ped_scalar.specs.ped_rules.specs.ped_loop_runs.specs.ped_bodies.specs.ped_steps.specs.Changes.{IsChange};
-ghost use Rattle.ped_loops.specs.ped_scalar.specs.ped_rules.specs.ped_loop_runs.specs.ped_bodies.specs.ped_steps.specs.Replacing as Replacing;
-ghost use Rattle.ped_loops.specs.ped_scalar.specs.ped_rules.specs.ped_loop_runs.specs.ped_bodies.specs.ped_steps.specs.Scenes.{IsSceneOf};
-ghost use Rattle.ped_loops.specs.ped_scalar.specs.ped_rules.specs.ped_loop_runs.specs.ped_bodies.specs.ped_steps.specs.ped_affine.specs.PairViews.{heads_of};
-ghost use Rattle.ped_loops.specs.ped_scalar.specs.ped_rules.specs.ped_loop_runs.specs.ped_bodies.specs.ped_steps.specs.ped_flow.specs.Questions.{IsLoop};
-ghost use Rattle.ped_loops.specs.ped_scalar.specs.ped_rules.specs.ped_loop_runs.specs.ped_bodies.specs.ped_steps.specs.ped_refs.specs.Loops.{nest_of};
-ghost use Rattle.ped_loops.specs.ped_scalar.specs.ped_rules.specs.ped_loop_runs.specs.ped_bodies.specs.ped_steps.specs.ped_sums.specs.Substitution.{statements_substituted};
-ghost use Rattle.ped_loops.specs.ped_scalar.specs.ped_rules.specs.ped_loop_runs.specs.ped_bodies.specs.ped_steps.specs.ped_symbols.specs.NameRefusals.{IsValid};
+ghost use Rattle.ped_rules.specs.OnlyLoops as Only;
+ghost use Rattle.ped_rules.specs.Rules.{setting_at, isnt_perfect, WhereEscape};
+ghost use Rattle.ped_rules.specs.Rules as Rules;
+ghost use Rattle.ped_rules.specs.Steps.{Answers};
+ghost use Rattle.ped_rules.specs.ped_steps.specs.Changes.{IsChange};
+ghost use Rattle.ped_rules.specs.ped_steps.specs.Replacing as Replacing;
+ghost use Rattle.ped_rules.specs.ped_steps.specs.Scenes.{IsSceneOf};
+ghost use Rattle.ped_rules.specs.ped_affine.specs.PairViews.{heads_of};
+ghost use Rattle.ped_rules.specs.ped_flow.specs.Questions.{IsLoop};
+ghost use Rattle.ped_refs.specs.Loops.{nest_of};
+ghost use Rattle.ped_sums.specs.Substitution.{statements_substituted};
+ghost use Rattle.ped_rules.specs.ped_symbols.specs.NameRefusals.{IsValid};
 ghost use Rattle.ped_reindex.specs.Skewing as Spec;
 ghost use Rattle.ped_reindex.specs.CodeSkewing.{skewed_statement, all_skewed};
 
 use ped_base::{Name, NoMemory, both};
-use ped_loops::{
+use ped_refs::Loop;
+use ped_rules::{
     Change, Refused, Rule, Scene, against, all_kept, change_to, escapes, leaves, loop_at,
     loops_round, only_loop, program_with,
 };
-use ped_refs::Loop;
 use ped_sums::{minus, plus, substitute_in_statements, times};
 use ped_tree::{Do, Expr, Program, Stmt};
 use std::alloc::Global;

@@ -2,14 +2,14 @@
 use Rattle.std.proofs.Common.{◌≡◌, ℕ, List, [], ◌∷◌, All, Bool, false, Some, None, Ok, Err, refl, sym, subst}
 use Rattle.std.proofs.lemmas.List.Elements.{All-nil, All-cons}
 use Rattle.ped_tree.specs.Tree.{ProgramTree}
-use Rattle.ped_loop_runs.specs.ped_bodies.specs.ped_steps.specs.ped_laws.specs.ped_graph.specs.ped_edges.specs.Edges.{Edge}
-use Rattle.ped_loop_runs.specs.ped_bodies.specs.ped_steps.specs.ped_laws.specs.ped_graph.specs.ped_edges.specs.declared.edges.Edge.{Edge as CodeEdge}
-use Rattle.ped_loop_runs.specs.ped_bodies.specs.ped_steps.specs.declared.rules.Rule.{Rule}
-use Rattle.ped_loop_runs.specs.ped_bodies.specs.ped_steps.specs.declared.causes.Refused.{Refused}
-use Rattle.ped_loop_runs.specs.ped_bodies.specs.ped_steps.specs.declared.causes.Refused.TheVariants as variant
-use Rattle.ped_loop_runs.specs.ped_bodies.specs.ped_steps.specs.declared.changes.Change.{Change}
-use Rattle.ped_loop_runs.specs.ped_bodies.specs.ped_steps.specs.Causes.{Rules, NoRule, IsFirstRule, IsFirstCause, none_forbids}
-use Rattle.ped_loop_runs.specs.ped_bodies.specs.ped_steps.specs.Changes.{IsChange}
+use Rattle.ped_edges.specs.Edges.{Edge}
+use Rattle.ped_edges.specs.declared.edges.Edge.{Edge as CodeEdge}
+use Rattle.ped_loop_runs.specs.ped_steps.specs.declared.rules.Rule.{Rule}
+use Rattle.ped_loop_runs.specs.ped_steps.specs.declared.causes.Refused.{Refused}
+use Rattle.ped_loop_runs.specs.ped_steps.specs.declared.causes.Refused.TheVariants as variant
+use Rattle.ped_loop_runs.specs.ped_steps.specs.declared.changes.Change.{Change}
+use Rattle.ped_loop_runs.specs.ped_steps.specs.Causes.{Rules, NoRule, IsFirstRule, IsFirstCause, none_forbids}
+use Rattle.ped_loop_runs.specs.ped_steps.specs.Changes.{IsChange}
 use Rattle.ped_rules.specs.Steps.{StepKind, StepAt, Answers}
 use Rattle.ped_rules.specs.Carried.{IsFirstOf}
 

@@ -5,13 +5,13 @@ use Rattle.std.proofs.lemmas.Bool.Decides.{nat_tests}
 use Rattle.std.proofs.lemmas.List.Elements.{All-nil, All-cons, All-head, All-filter}
 use Rattle.ped_tree.specs.Tree.{Head, StmtTrees, ProgramTree}
 use Rattle.ped_tree.specs.Numbering.{statements_count}
-use Rattle.ped_loop_runs.specs.ped_bodies.specs.ped_steps.specs.ped_laws.specs.ped_graph.specs.ped_edges.specs.Edges.{Edge}
-use Rattle.ped_loop_runs.specs.ped_bodies.specs.ped_steps.specs.ped_laws.specs.ped_graph.specs.ped_edges.specs.CodeEdges.{edge_of, HasAtMostSixLoops}
-use Rattle.ped_loop_runs.specs.ped_bodies.specs.ped_steps.specs.ped_laws.specs.ped_graph.specs.ped_edges.specs.declared.edges.Edge.{Edge as CodeEdge}
-use Rattle.ped_loop_runs.specs.ped_bodies.specs.ped_steps.specs.ped_laws.specs.ped_graph.specs.DependencePane.{extent_by, extent_of, is_in_body}
-use Rattle.ped_loop_runs.specs.ped_bodies.specs.ped_steps.specs.ped_laws.specs.ped_graph.proofs.OnePane.{one_edges}
-use Rattle.ped_loop_runs.specs.ped_bodies.specs.ped_steps.specs.ped_flow.specs.Questions.{IsLoop}
-use Rattle.ped_loop_runs.specs.ped_bodies.specs.ped_steps.specs.Causes.{IsFirstForbidding}
+use Rattle.ped_edges.specs.Edges.{Edge}
+use Rattle.ped_edges.specs.CodeEdges.{edge_of, HasAtMostSixLoops}
+use Rattle.ped_edges.specs.declared.edges.Edge.{Edge as CodeEdge}
+use Rattle.ped_loop_runs.specs.ped_graph.specs.DependencePane.{extent_by, extent_of, is_in_body}
+use Rattle.ped_loop_runs.specs.ped_graph.proofs.OnePane.{one_edges}
+use Rattle.ped_loop_runs.specs.ped_flow.specs.Questions.{IsLoop}
+use Rattle.ped_loop_runs.specs.ped_steps.specs.Causes.{IsFirstForbidding}
 use Rattle.ped_rules.specs.Carried.{IsFirstOf}
 use Rattle.ped_rules.specs.CodeCarried.{AreThose}
 

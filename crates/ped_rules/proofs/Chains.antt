@@ -1,8 +1,8 @@
 -- A chain of rules, each of which names one statement, in the order of their numbers: it has one first rule that stands, and that one is found by asking the rules one behind the other.
 use Rattle.std.proofs.Common.{◌≡◌, ℕ, ◌≤◌, ◌<◌, inl, inr, refl, sym, ap, subst, arith}
-use Rattle.ped_loop_runs.specs.ped_bodies.specs.ped_steps.specs.declared.rules.Rule.{Rule}
-use Rattle.ped_loop_runs.specs.ped_bodies.specs.ped_steps.specs.RuleNames.{number_of}
-use Rattle.ped_loop_runs.specs.ped_bodies.specs.ped_steps.specs.Causes.{Rules, NoRule, IsFirstRule}
+use Rattle.ped_loop_runs.specs.ped_steps.specs.declared.rules.Rule.{Rule}
+use Rattle.ped_loop_runs.specs.ped_steps.specs.RuleNames.{number_of}
+use Rattle.ped_loop_runs.specs.ped_steps.specs.Causes.{Rules, NoRule, IsFirstRule}
 use Rattle.ped_rules.specs.Chains.{no_rules, also}
 
 -- this names one number

@@ -4,8 +4,8 @@ use Rattle.ped_tree.specs.Tree.{StmtTree, Assign, If, Do, Print, Read, Stop, Com
 use Rattle.ped_tree.specs.Numbering.{statement_with}
 use Rattle.ped_tree.specs.Grammar.Refusal.{Finding}
 use Rattle.ped_tree.specs.Grammar.Fits.{fits}
-use Rattle.ped_loop_runs.specs.ped_bodies.specs.ped_steps.specs.ped_symbols.specs.NameRefusals.{name_refusals, IsValid}
-use Rattle.ped_loop_runs.specs.ped_bodies.specs.ped_steps.specs.ped_flow.specs.Questions.{LoopOf}
+use Rattle.ped_loop_runs.specs.ped_symbols.specs.NameRefusals.{name_refusals, IsValid}
+use Rattle.ped_loop_runs.specs.ped_flow.specs.Questions.{LoopOf}
 use Rattle.ped_rules.specs.Rules.{WhereNoLoop, WhereLimit}
 
 -- it is a DO

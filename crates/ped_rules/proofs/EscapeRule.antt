@@ -1,7 +1,7 @@
 -- What a flow answers of a DO's variables is what the rule IndexEscapes says.
 use Rattle.std.proofs.Common.{◌⊎◌, ℕ, inl, inr, refl, Some, None}
 use Rattle.ped_tree.specs.Tree.{ProgramTree}
-use Rattle.ped_loop_runs.specs.ped_bodies.specs.ped_steps.specs.ped_flow.specs.Questions.{IsFirst, IsReadBehind, IsReadLoose, IsContained, IsBrokenBy, IsShown}
+use Rattle.ped_loop_runs.specs.ped_flow.specs.Questions.{IsFirst, IsReadBehind, IsReadLoose, IsContained, IsBrokenBy, IsShown}
 use Rattle.ped_rules.specs.Rules.{WhereEscape}
 
 module _ (t : ProgramTree) (s : ℕ) where

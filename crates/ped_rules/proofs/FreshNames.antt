@@ -10,8 +10,8 @@ use Rattle.std.proofs.lemmas.Fmt.{decimal_is_IsNumeral_wide, length-decimal-le_w
 use Rattle.ped_base.specs.Letters.{is_letter, is_digit, is_alphanumeric, name_of}
 use Rattle.ped_base.specs.Lists.{is_among}
 use Rattle.ped_tree.specs.Tree.{ProgramTree}
-use Rattle.ped_loop_runs.specs.ped_bodies.specs.ped_steps.specs.ped_symbols.specs.declared.symbols.Kind.{Kind}
-use Rattle.ped_loop_runs.specs.ped_bodies.specs.ped_steps.specs.ped_symbols.specs.Kinds.{kind_of, kind_in, names_of}
+use Rattle.ped_loop_runs.specs.ped_symbols.specs.declared.symbols.Kind.{Kind}
+use Rattle.ped_loop_runs.specs.ped_symbols.specs.Kinds.{kind_of, kind_in, names_of}
 use Rattle.ped_rules.specs.declared.fresh.NewName.{NewName}
 use Rattle.ped_rules.specs.declared.fresh.NewName.TheVariants.{Array, Variable}
 use Rattle.ped_rules.specs.CodeFresh.{letters_of}

@@ -11,3 +11,9 @@ pub mod NestDepths
 pub mod EscapeRule
 pub mod SameIntervals
 pub mod OutermostLoops
+mod Settled
+pub mod KnownSpans
+pub mod LeastNumbers
+pub mod HeadLaws
+pub mod NestLaws
+pub mod NameLaws

@@ -7,13 +7,13 @@ use Rattle.std.proofs.Math.Logic.{dite}
 use Rattle.ped_tree.specs.Tree.{StmtTree, StmtTrees, Assign, If, Do, Print, Read, Stop, Comment, no_stmts, more_stmts, ProgramTree}
 use Rattle.ped_tree.specs.Nests.{Loop}
 use Rattle.ped_tree.specs.Numbering.{statement_count, statements_count}
-use Rattle.ped_loop_runs.specs.ped_bodies.specs.ped_steps.specs.ped_refs.specs.declared.loops.Loop.{Loop as CodeLoop}
-use Rattle.ped_loop_runs.specs.ped_bodies.specs.ped_steps.specs.ped_refs.specs.Loops.{loop_of, nest_of}
-use Rattle.ped_loop_runs.specs.ped_bodies.specs.ped_steps.specs.ped_symbols.specs.NameRefusals.{IsValid}
-use Rattle.ped_loop_runs.specs.ped_bodies.specs.ped_steps.specs.ped_symbols.specs.RightUses.RightLoops.{loop_depth, loops_deep}
-use Rattle.ped_loop_runs.specs.ped_bodies.specs.ped_steps.specs.ped_symbols.proofs.RightUseLaws.Whole.{right_program}
-use Rattle.ped_loop_runs.specs.ped_bodies.specs.ped_steps.specs.ped_flow.specs.PlainBounds.{loops_round, all_loops_round, nest_round}
-use Rattle.ped_loop_runs.specs.ped_bodies.specs.ped_steps.proofs.RunLaws.LoopsRound.{all_none_before, all_none_from, none_before}
+use Rattle.ped_refs.specs.declared.loops.Loop.{Loop as CodeLoop}
+use Rattle.ped_refs.specs.Loops.{loop_of, nest_of}
+use Rattle.ped_loop_runs.specs.ped_symbols.specs.NameRefusals.{IsValid}
+use Rattle.ped_loop_runs.specs.ped_symbols.specs.RightUses.RightLoops.{loop_depth, loops_deep}
+use Rattle.ped_loop_runs.specs.ped_symbols.proofs.RightUseLaws.Whole.{right_program}
+use Rattle.ped_loop_runs.specs.ped_flow.specs.PlainBounds.{loops_round, all_loops_round, nest_round}
+use Rattle.ped_loop_runs.specs.ped_steps.proofs.RunLaws.LoopsRound.{all_none_before, all_none_from, none_before}
 
 within_test : (b : Bool) (first : Loop) (inner : List Loop) (n : ℕ) → length inner ≤ n → length (if b then first ∷ inner else []) ≤ n + 1
 within_test true first inner n h = omega (arith, h)

@@ -1,7 +1,7 @@
 -- Each of the shared rules names one statement.
 use Rattle.std.proofs.Common.{◌≡◌, ℕ, inl, inr, Bool, List, Some, sym, ◌∙◌, arith}
 use Rattle.ped_tree.specs.Tree.{ExprTree, Head, StmtTrees, ProgramTree}
-use Rattle.ped_loop_runs.specs.ped_bodies.specs.ped_steps.specs.ped_flow.specs.Questions.{IsFirst, IsBrokenBy}
+use Rattle.ped_loop_runs.specs.ped_flow.specs.Questions.{IsFirst, IsBrokenBy}
 use Rattle.ped_rules.specs.Chains.{WhereLoop, Unless}
 use Rattle.ped_rules.specs.Rules.{WhereNoLoop, WhereEscape, HasUnplain, WhereUnplain, WhereLimit}
 use Rattle.ped_rules.proofs.Chains.{IsOne}

@@ -2,8 +2,8 @@
 use Rattle.std.proofs.Common.{◌≡◌, ℕ, Bool, true, false, ◌∙◌}
 use Rattle.std.proofs.lemmas.Bool.{both_ways}
 use Rattle.ped_tree.specs.Tree.{Head, StmtTrees, ProgramTree}
-use Rattle.ped_loop_runs.specs.ped_bodies.specs.ped_steps.specs.ped_flow.specs.Questions.{IsLoop, LoopOf}
-use Rattle.ped_loop_runs.specs.ped_bodies.specs.ped_steps.specs.ped_flow.proofs.Answering.{same_head, same_body}
+use Rattle.ped_loop_runs.specs.ped_flow.specs.Questions.{IsLoop, LoopOf}
+use Rattle.ped_loop_runs.specs.ped_flow.proofs.Answering.{same_head, same_body}
 use Rattle.ped_rules.specs.Chains.{WhereLoop}
 
 -- a statement is one DO

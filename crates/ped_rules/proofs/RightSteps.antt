@@ -6,14 +6,14 @@ use Rattle.std.proofs.lemmas.Bool.{and_parts}
 use Rattle.std.specs.Int.{w64, w128}
 use Rattle.std.proofs.lemmas.Int.{ints, rem_below, fits_signed_from_abs}
 use Rattle.std.proofs.lemmas.List.Folds.{list_all-append}
-use Rattle.ped_loop_runs.specs.ped_bodies.specs.ped_steps.specs.ped_views.proofs.Products.{abs_some, linear}
+use Rattle.ped_views.proofs.Products.{abs_some, linear}
 use Rattle.ped_tree.specs.Tree.{Head, StmtTree, StmtTrees, Assign, If, Do, Print, Read, Stop, Comment, no_stmts, more_stmts, ProgramTree}
 use Rattle.ped_tree.specs.Numbering.{numbered, all_numbered, at_place}
-use Rattle.ped_loop_runs.specs.ped_bodies.specs.ped_steps.specs.ped_symbols.specs.Kinds.{table_of}
-use Rattle.ped_loop_runs.specs.ped_bodies.specs.ped_steps.specs.ped_symbols.specs.NameRefusals.{IsValid}
-use Rattle.ped_loop_runs.specs.ped_bodies.specs.ped_steps.specs.ped_symbols.specs.RightUses.RightLoops.{is_small, is_step, step_is_right, stmt_steps_are_right, steps_are_right}
-use Rattle.ped_loop_runs.specs.ped_bodies.specs.ped_steps.specs.ped_symbols.proofs.RightUseLaws.Whole.{right_program}
-use Rattle.ped_loop_runs.specs.ped_bodies.specs.ped_steps.specs.ped_flow.specs.Questions.{IsLoop}
+use Rattle.ped_loop_runs.specs.ped_symbols.specs.Kinds.{table_of}
+use Rattle.ped_loop_runs.specs.ped_symbols.specs.NameRefusals.{IsValid}
+use Rattle.ped_loop_runs.specs.ped_symbols.specs.RightUses.RightLoops.{is_small, is_step, step_is_right, stmt_steps_are_right, steps_are_right}
+use Rattle.ped_loop_runs.specs.ped_symbols.proofs.RightUseLaws.Whole.{right_program}
+use Rattle.ped_loop_runs.specs.ped_flow.specs.Questions.{IsLoop}
 use Rattle.ped_rules.specs.Spans.{Span, has_iteration, span_by, spans_far, is_far, last_value}
 use Rattle.ped_rules.specs.CodeSpans.{IsCourse, IsKnown, span_in}
 use Rattle.ped_rules.specs.declared.spans.Span.{Span as CodeSpan}

@@ -3,12 +3,12 @@ use Rattle.std.proofs.Common.{◌≡◌, ℤ, List, [], ◌∷◌, ◌++◌, Boo
 use Rattle.std.specs.Prelude.{ℕ, pos, int_lt}
 use Rattle.std.specs.Map.{lookup}
 use Rattle.ped_base.specs.Lists.{is_same_text, is_among}
-use Rattle.ped_loop_runs.specs.ped_bodies.specs.ped_steps.specs.ped_views.specs.declared.intervals.Interval.{Interval}
-use Rattle.ped_loop_runs.specs.ped_bodies.specs.ped_steps.specs.ped_views.specs.Views.{range}
+use Rattle.ped_views.specs.declared.intervals.Interval.{Interval}
+use Rattle.ped_views.specs.Views.{range}
 use Rattle.ped_tree.specs.Tree.{ExprTree, ExprTrees, Int, Var, Element, Neg, Add, Sub, Mul, Div, Pow, Call, no_exprs, more_exprs, Head}
 use Rattle.ped_tree.specs.Constants.ConstantExpressions.{constant_value}
-use Rattle.ped_loop_runs.specs.ped_bodies.specs.ped_steps.specs.ped_affine.specs.IntervalArithmetic.{interval_sum, interval_difference, interval_negation, interval_product}
-use Rattle.ped_loop_runs.specs.ped_bodies.specs.ped_steps.specs.ped_affine.specs.Ranges.{Setting, Around, constant_or, of_one, of_two, variable_by, onto, call_interval, interval_of, intervals_of, near_or_all, bound_interval, step_by, is_steady, range_between, loop_range, between_ends, inside, around_with}
+use Rattle.ped_affine.specs.IntervalArithmetic.{interval_sum, interval_difference, interval_negation, interval_product}
+use Rattle.ped_affine.specs.Ranges.{Setting, Around, constant_or, of_one, of_two, variable_by, onto, call_interval, interval_of, intervals_of, near_or_all, bound_interval, step_by, is_steady, range_between, loop_range, between_ends, inside, around_with}
 
 -- intervals are the same with these names
 pub record TellTheSame (s u : Setting) : Type 0 where

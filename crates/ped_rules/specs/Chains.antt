@@ -1,9 +1,9 @@
 -- The rules of a step as a chain: each rule with the condition under which it forbids the step, and then the others (this project).
 use Rattle.std.specs.Prelude.{◌≡◌, ◌⊎◌, ℕ, Bool, true, false}
 use Rattle.ped_tree.specs.Tree.{Head, StmtTrees, ProgramTree}
-use Rattle.ped_loop_runs.specs.ped_bodies.specs.ped_steps.specs.ped_flow.specs.Questions.{LoopOf}
-use Rattle.ped_loop_runs.specs.ped_bodies.specs.ped_steps.specs.declared.rules.Rule.{Rule}
-use Rattle.ped_loop_runs.specs.ped_bodies.specs.ped_steps.specs.Causes.{Rules}
+use Rattle.ped_loop_runs.specs.ped_flow.specs.Questions.{LoopOf}
+use Rattle.ped_loop_runs.specs.ped_steps.specs.declared.rules.Rule.{Rule}
+use Rattle.ped_loop_runs.specs.ped_steps.specs.Causes.{Rules}
 
 -- no rule forbids the step
 abbrev pub no_rules : Rules

@@ -1,10 +1,10 @@
 -- The dependences that the code finds. Only contracts of private functions use it (this project).
 use Rattle.std.specs.Prelude.{◌≡◌, List, map, filter, Bool, All}
 use Rattle.ped_tree.specs.Tree.{ProgramTree}
-use Rattle.ped_loop_runs.specs.ped_bodies.specs.ped_steps.specs.ped_laws.specs.ped_graph.specs.ped_edges.specs.Edges.{Edge}
-use Rattle.ped_loop_runs.specs.ped_bodies.specs.ped_steps.specs.ped_laws.specs.ped_graph.specs.ped_edges.specs.CodeEdges.{edge_of, HasAtMostSixLoops}
-use Rattle.ped_loop_runs.specs.ped_bodies.specs.ped_steps.specs.ped_laws.specs.ped_graph.specs.ped_edges.specs.declared.edges.Edge.{Edge as CodeEdge}
-use Rattle.ped_loop_runs.specs.ped_bodies.specs.ped_steps.specs.ped_laws.specs.ped_graph.specs.Dependences.{AreEdges}
+use Rattle.ped_edges.specs.Edges.{Edge}
+use Rattle.ped_edges.specs.CodeEdges.{edge_of, HasAtMostSixLoops}
+use Rattle.ped_edges.specs.declared.edges.Edge.{Edge as CodeEdge}
+use Rattle.ped_loop_runs.specs.ped_graph.specs.Dependences.{AreEdges}
 
 -- these are the dependences of a program that pass the test, in the order of the pane
 pub record AreThose (t : ProgramTree) (test : Edge → Bool) (found : List CodeEdge) : Type 0 where

@@ -4,7 +4,7 @@ use Rattle.std.specs.List.{flat_map, range_with_len}
 use Rattle.std.specs.Fmt.{decimal}
 use Rattle.ped_base.specs.Lists.{is_among}
 use Rattle.ped_tree.specs.Tree.{DeclTree, Program, Implicit, Integer, Dimension, Parameter, Save, Remark, ProgramTree}
-use Rattle.ped_loop_runs.specs.ped_bodies.specs.ped_steps.specs.ped_symbols.specs.Kinds.{names_of}
+use Rattle.ped_loop_runs.specs.ped_symbols.specs.Kinds.{names_of}
 
 -- the name that a PROGRAM statement gives the program (ANSI X3.9-1978, section 14.1)
 abbrev pub program_name : DeclTree → List (List ℕ)

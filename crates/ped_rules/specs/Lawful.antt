@@ -1,10 +1,10 @@
 -- What is true of every step of the editor (ParaScope; this project).
 use Rattle.std.specs.Prelude.{◌≡◌, ℕ, List, Option, None, ⊤}
 use Rattle.ped_tree.specs.Tree.{ProgramTree}
-use Rattle.ped_loop_runs.specs.ped_bodies.specs.ped_steps.specs.ped_symbols.specs.NameRefusals.{IsValid}
-use Rattle.ped_loop_runs.specs.ped_bodies.specs.ped_steps.specs.ped_laws.specs.ped_graph.specs.Update.Fresh.{IsOneToOne}
-use Rattle.ped_loop_runs.specs.ped_bodies.specs.ped_steps.specs.Causes.{Cause}
-use Rattle.ped_loop_runs.specs.ped_bodies.specs.ped_steps.specs.Runs.Meaning.{Keeps}
+use Rattle.ped_loop_runs.specs.ped_symbols.specs.NameRefusals.{IsValid}
+use Rattle.ped_loop_runs.specs.ped_graph.specs.Update.Fresh.{IsOneToOne}
+use Rattle.ped_loop_runs.specs.ped_steps.specs.Causes.{Cause}
+use Rattle.ped_loop_runs.specs.ped_steps.specs.Runs.Meaning.{Keeps}
 use Rattle.ped_loop_runs.specs.Unrejected.{IsTrusted}
 use Rattle.ped_rules.specs.Steps.{StepKind, transformation, rejection, StepAt}
 

@@ -2,7 +2,7 @@
 use Rattle.std.specs.Prelude.{◌==◌, Bool, false, ◌||◌, Option, Some, None, if◌then◌else◌}
 use Rattle.ped_tree.specs.Tree.{Head, StmtTree, StmtTrees, Assign, If, Do, Print, Read, Stop, Comment, no_stmts, more_stmts}
 use Rattle.ped_tree.specs.Numbering.{statements_count}
-use Rattle.ped_loop_runs.specs.ped_bodies.specs.ped_steps.specs.Replacing.{alone}
+use Rattle.ped_loop_runs.specs.ped_steps.specs.Replacing.{alone}
 
 -- the head and the body of the only DO among these statements, where nothing but comments is next to it
 abbrev pub only_loop : StmtTrees → Option (Head × StmtTrees)

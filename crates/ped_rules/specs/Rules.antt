@@ -1,17 +1,17 @@
 -- The rules that several steps share: the condition under which each forbids a step, and the statement that it names (ParaScope; this project).
-use Rattle.std.specs.Prelude.{◌≡◌, ◌⊎◌, ℕ, ℤ, pos, neg_ℤ, List, [], Bool, true, not, ◌||◌, is_none, Option, Some, None}
+use Rattle.std.specs.Prelude.{◌≡◌, ◌⊎◌, ℕ, ℤ, pos, neg_ℤ, List, [], Bool, true, false, not, ◌||◌, is_none, Option, Some, None}
 use Rattle.std.specs.Ordering.{int_eq}
 use Rattle.ped_base.specs.Lists.{has_some}
 use Rattle.ped_tree.specs.Tree.{ExprTree, Head, StmtTrees, ProgramTree}
 use Rattle.ped_tree.specs.Constants.ConstantExpressions.{constant_value}
-use Rattle.ped_loop_runs.specs.ped_bodies.specs.ped_steps.specs.ped_symbols.specs.Kinds.{table_of}
-use Rattle.ped_loop_runs.specs.ped_bodies.specs.ped_steps.specs.ped_symbols.specs.NameRefusals.{IsValid}
-use Rattle.ped_loop_runs.specs.ped_bodies.specs.ped_steps.specs.ped_affine.specs.Ranges.{Setting, interval_of, around_with}
-use Rattle.ped_loop_runs.specs.ped_bodies.specs.ped_steps.specs.ped_affine.specs.PairViews.{heads_of}
-use Rattle.ped_loop_runs.specs.ped_bodies.specs.ped_steps.specs.ped_flow.specs.PlainBounds.{setting_round, nest_round, IsPlain}
-use Rattle.ped_loop_runs.specs.ped_bodies.specs.ped_steps.specs.ped_flow.specs.Questions.{LoopOf, IsFirst}
-use Rattle.ped_loop_runs.specs.ped_bodies.specs.ped_steps.specs.ped_flow.specs.Answers.{IsEscape}
-use Rattle.ped_loop_runs.specs.ped_bodies.specs.ped_steps.specs.ped_flow.specs.declared.flows.Reader.TheVariants.{Statement, Saved}
+use Rattle.ped_loop_runs.specs.ped_symbols.specs.Kinds.{table_of}
+use Rattle.ped_loop_runs.specs.ped_symbols.specs.NameRefusals.{IsValid}
+use Rattle.ped_affine.specs.Ranges.{Setting, interval_of, around_with}
+use Rattle.ped_affine.specs.PairViews.{heads_of}
+use Rattle.ped_loop_runs.specs.ped_flow.specs.PlainBounds.{setting_round, nest_round, IsPlain}
+use Rattle.ped_loop_runs.specs.ped_flow.specs.Questions.{LoopOf, IsFirst}
+use Rattle.ped_loop_runs.specs.ped_flow.specs.Answers.{IsEscape}
+use Rattle.ped_loop_runs.specs.ped_flow.specs.declared.flows.Reader.TheVariants.{Statement, Saved}
 use Rattle.ped_rules.specs.OnlyLoops.{only_loop}
 use Rattle.ped_rules.specs.Spans.{Values, span_of}
 
@@ -42,6 +42,15 @@ has_private h body = has_some h.private
 -- rule 5: the DO reads its variable, or that of a DO in it, elsewhere than in the body of that DO, or one of these is live after it: the rule names the first statement that reads one so, or, where none does, the DO, since the program's end may show one (this project)
 abbrev pub WhereEscape : ProgramTree → ℕ → ℕ → Type 0
 WhereEscape t s n = LoopOf t s × (IsEscape t s (Some (Statement n)) ⊎ (IsEscape t s (Some Saved) × (n ≡ s)))
+
+-- the expression is a bound of the DO (ANSI X3.9-1978, section 11.10)
+abbrev pub IsBoundOf : Head → ExprTree → Type 0
+IsBoundOf h e = (e ≡ h.first) ⊎ (e ≡ h.last)
+
+-- both bounds of the DO with this number are plain, or one isn't (this project)
+abbrev pub TellsPlain : ProgramTree → ℕ → Head → Bool → Type 0
+TellsPlain t n h true = IsPlain (table_of t).constants t n h.first × IsPlain (table_of t).constants t n h.last
+TellsPlain t n h false = (e : ExprTree) × IsBoundOf h e × (IsPlain (table_of t).constants t n e → ⊥)
 
 -- a bound of the DO with number k that is asked for isn't plain (this project)
 abbrev pub HasUnplain : ProgramTree → (ℕ → ExprTree → Type 0) → ℕ → Type 0

@@ -1,11 +1,11 @@
 -- Steps of the editor: of which kind one is, what forbids it, what it makes of a program, and what its code answers (ParaScope; this project).
 use Rattle.std.specs.Prelude.{ℕ, List, Option, Some, None, Result, Ok, Err}
 use Rattle.ped_tree.specs.Tree.{ProgramTree}
-use Rattle.ped_loop_runs.specs.ped_bodies.specs.ped_steps.specs.declared.causes.Refused.{Refused}
-use Rattle.ped_loop_runs.specs.ped_bodies.specs.ped_steps.specs.declared.changes.Change.{Change}
-use Rattle.ped_loop_runs.specs.ped_bodies.specs.ped_steps.specs.Causes.{Cause}
-use Rattle.ped_loop_runs.specs.ped_bodies.specs.ped_steps.specs.CodeCauses.{cause_of, IsShort}
-use Rattle.ped_loop_runs.specs.ped_bodies.specs.ped_steps.specs.Changes.{IsChange}
+use Rattle.ped_loop_runs.specs.ped_steps.specs.declared.causes.Refused.{Refused}
+use Rattle.ped_loop_runs.specs.ped_steps.specs.declared.changes.Change.{Change}
+use Rattle.ped_loop_runs.specs.ped_steps.specs.Causes.{Cause}
+use Rattle.ped_loop_runs.specs.ped_steps.specs.CodeCauses.{cause_of, IsShort}
+use Rattle.ped_loop_runs.specs.ped_steps.specs.Changes.{IsChange}
 
 -- a step transforms the program, so that it means the same; or it takes down what the user says about a dependence (ParaScope)
 pub data StepKind : Type 0 where

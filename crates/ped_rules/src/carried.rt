@@ -3,11 +3,11 @@
 ghost use Rattle.std.specs.Prelude.{◌≡◌, ◌+◌, ◌<◌, ◌^◌, map, filter, length, slice_get, All, IfOk};
 ghost use Rattle.std.specs.List.{list_any};
 ghost use Rattle.ped_tree.specs.Views.{program_tree, stmt_trees, head_of};
-ghost use Rattle.ped_loop_runs.specs.ped_bodies.specs.ped_steps.specs.ped_flow.specs.PlainBounds.{nest_round};
-ghost use Rattle.ped_loop_runs.specs.ped_bodies.specs.ped_steps.specs.Scenes.{IsSceneOf};
-ghost use Rattle.ped_loop_runs.specs.ped_bodies.specs.ped_steps.specs.ped_laws.specs.ped_graph.specs.ped_edges.specs.CodeEdges.{edge_of, HasAtMostSixLoops};
-ghost use Rattle.ped_loop_runs.specs.ped_bodies.specs.ped_steps.specs.ped_laws.specs.ped_graph.specs.ped_edges.specs.Edges as plain;
-ghost use Rattle.ped_loop_runs.specs.ped_bodies.specs.ped_steps.specs.ped_laws.specs.ped_graph.specs.Dependences.{AreEdges};
+ghost use Rattle.ped_loop_runs.specs.ped_flow.specs.PlainBounds.{nest_round};
+ghost use Rattle.ped_loop_runs.specs.ped_steps.specs.Scenes.{IsSceneOf};
+ghost use Rattle.ped_edges.specs.CodeEdges.{edge_of, HasAtMostSixLoops};
+ghost use Rattle.ped_edges.specs.Edges as plain;
+ghost use Rattle.ped_loop_runs.specs.ped_graph.specs.Dependences.{AreEdges};
 ghost use Rattle.ped_rules.specs.Carried as Spec;
 ghost use Rattle.ped_rules.specs.CodeCarried.{AreThose};
 

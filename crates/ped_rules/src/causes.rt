@@ -1,7 +1,7 @@
 //! Rules that refuse a step.
 
 ghost use Rattle.std.specs.Prelude.{◌≡◌};
-ghost use Rattle.ped_loop_runs.specs.ped_bodies.specs.ped_steps.specs.declared.causes.Refused.TheVariants as refused;
+ghost use Rattle.ped_loop_runs.specs.ped_steps.specs.declared.causes.Refused.TheVariants as refused;
 
 use ped_loop_runs::{Refused, Rule};
 

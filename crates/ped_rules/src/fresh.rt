@@ -6,7 +6,7 @@ ghost use Rattle.std.specs.List.{flat_map};
 ghost use Rattle.ped_base.specs.Lists as Lists;
 ghost use Rattle.ped_tree.specs.Tree.{ProgramTree};
 ghost use Rattle.ped_tree.specs.Views.{decl_tree, program_tree};
-ghost use Rattle.ped_loop_runs.specs.ped_bodies.specs.ped_steps.specs.ped_symbols.specs.Kinds.{table_of};
+ghost use Rattle.ped_loop_runs.specs.ped_symbols.specs.Kinds.{table_of};
 ghost use Rattle.ped_rules.specs.Fresh as Spec;
 ghost use Rattle.ped_rules.specs.CodeFresh.{letters_of};
 

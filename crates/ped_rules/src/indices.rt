@@ -5,7 +5,7 @@ ghost use Rattle.std.specs.List.{list_any};
 ghost use Rattle.ped_base.specs.Lists as Lists;
 ghost use Rattle.ped_tree.specs.Tree;
 ghost use Rattle.ped_tree.specs.Views.{stmt_tree, stmt_trees};
-ghost use Rattle.ped_loop_runs.specs.ped_bodies.specs.ped_steps.specs.ped_refs.specs.Loops.{nest_of};
+ghost use Rattle.ped_refs.specs.Loops.{nest_of};
 ghost use Rattle.ped_tree.specs.Views.{head_of};
 ghost use Rattle.ped_tree.specs.NamesIn.{loop_variables, all_loop_variables};
 

@@ -2,9 +2,9 @@
 
 ghost use Rattle.std.specs.Prelude.{ℕ, ◌≡◌, ◌≤◌, length, IfOk};
 ghost use Rattle.ped_tree.specs.Views.{expr_tree, program_tree};
-ghost use Rattle.ped_loop_runs.specs.ped_bodies.specs.ped_steps.specs.ped_affine.specs.PairViews.{heads_of};
-ghost use Rattle.ped_loop_runs.specs.ped_bodies.specs.ped_steps.specs.ped_refs.specs.Loops.{nest_of};
-ghost use Rattle.ped_loop_runs.specs.ped_bodies.specs.ped_steps.specs.Scenes.{IsSceneOf};
+ghost use Rattle.ped_affine.specs.PairViews.{heads_of};
+ghost use Rattle.ped_refs.specs.Loops.{nest_of};
+ghost use Rattle.ped_loop_runs.specs.ped_steps.specs.Scenes.{IsSceneOf};
 ghost use Rattle.ped_rules.specs.Rules as Spec;
 
 use ped_affine::{Setting, interval, loop_variables};

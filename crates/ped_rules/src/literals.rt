@@ -2,7 +2,7 @@
 
 ghost use Rattle.std.specs.Prelude.{◌≡◌, ◌≤◌, IfOk, unsigned_abs};
 ghost use Rattle.ped_tree.specs.Views.{expr_tree};
-ghost use Rattle.ped_loop_runs.specs.ped_bodies.specs.ped_steps.specs.ped_sums.specs.Sums as Sums;
+ghost use Rattle.ped_loop_runs.specs.ped_sums.specs.Sums as Sums;
 
 use ped_base::NoMemory;
 use ped_tree::Expr;

@@ -6,7 +6,7 @@ ghost use Rattle.ped_base.specs.Lists as Lists;
 ghost use Rattle.ped_tree.specs.NamesIn as Names;
 ghost use Rattle.ped_tree.specs.Tree;
 ghost use Rattle.ped_tree.specs.Views.{stmt_tree, stmt_trees};
-ghost use Rattle.ped_loop_runs.specs.ped_bodies.specs.ped_steps.specs.ped_refs.specs.Loops.{nest_of};
+ghost use Rattle.ped_refs.specs.Loops.{nest_of};
 ghost use Rattle.ped_tree.specs.Views.{head_of};
 
 use ped_base::{Name, is_among};

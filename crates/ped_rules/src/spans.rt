@@ -4,7 +4,7 @@ ghost use Rattle.std.specs.Prelude.{◌≡◌, ◌<◌, ◌^◌, ◌≤ℤ◌, �
 ghost use Rattle.ped_tree.specs.Views.{head_of};
 ghost use Rattle.ped_rules.specs.Spans as Spec;
 ghost use Rattle.ped_rules.specs.CodeSpans.{IsCourse};
-ghost use Rattle.ped_loop_runs.specs.ped_bodies.specs.ped_steps.specs.ped_symbols.specs.RightUses.RightLoops.{step_is_right, is_step};
+ghost use Rattle.ped_loop_runs.specs.ped_symbols.specs.RightUses.RightLoops.{step_is_right, is_step};
 
 use ped_tree::Do;
 use ped_tree::constants::{Consts, constant};

@@ -1,30 +1,28 @@
 -- The rules that stand against `expand`, one behind the other; what is so where none stands; and what the code answers.
-use Rattle.std.proofs.Common.{◌≡◌, ◌⊎◌, ◌↔◌, ℕ, List, Bool, true, false, inl, inr, Option, Some, None, Ok, Err, IsTrue, refl, sym, ap, ◌∙◌, subst, arith}
+use Rattle.std.proofs.Common.{◌≡◌, ◌⊎◌, ◌↔◌, ℕ, List, Bool, true, false, inl, inr, Some, None, Ok, Err, IsTrue, refl, sym, ap, ◌∙◌, subst, arith}
 use Rattle.std.proofs.lemmas.Bool.{both_ways, and_from, and_right, false_from_ne_true}
 use Rattle.ped_tree.specs.Tree.{Head, StmtTrees, ProgramTree}
-use Rattle.ped_rules.specs.ped_loop_runs.specs.ped_bodies.specs.ped_steps.specs.ped_symbols.specs.Kinds.{table_of}
-use Rattle.ped_rules.specs.ped_loop_runs.specs.ped_bodies.specs.ped_steps.specs.ped_symbols.specs.NameRefusals.{IsValid}
-use Rattle.ped_rules.specs.ped_loop_runs.specs.ped_bodies.specs.ped_steps.specs.ped_flow.specs.Questions.{IsLoop, LoopOf, IsExposed, IsLiveAfter}
-use Rattle.ped_rules.specs.ped_loop_runs.specs.ped_bodies.specs.ped_steps.specs.declared.rules.Rule.{Rule}
-use Rattle.ped_rules.specs.ped_loop_runs.specs.ped_bodies.specs.ped_steps.specs.declared.rules.Rule.TheVariants.{NoLoop, ParallelState, Range, ExposedOrLive, NotScalar, NotConstant, Limit, AlreadyPrivate}
-use Rattle.ped_rules.specs.ped_loop_runs.specs.ped_bodies.specs.ped_steps.specs.declared.causes.Refused.{Refused}
-use Rattle.ped_rules.specs.ped_loop_runs.specs.ped_bodies.specs.ped_steps.specs.declared.causes.Refused.TheVariants as variant
-use Rattle.ped_rules.specs.ped_loop_runs.specs.ped_bodies.specs.ped_steps.specs.declared.changes.Change.{Change}
-use Rattle.ped_rules.specs.ped_loop_runs.specs.ped_bodies.specs.ped_steps.specs.Changes.{IsChange}
-use Rattle.ped_rules.specs.ped_loop_runs.specs.ped_bodies.specs.ped_steps.specs.Causes.{Rules, NoRule, IsFirstRule, none_forbids}
+use Rattle.ped_rules.specs.ped_symbols.specs.Kinds.{table_of}
+use Rattle.ped_rules.specs.ped_symbols.specs.NameRefusals.{IsValid}
+use Rattle.ped_rules.specs.ped_flow.specs.Questions.{IsLoop, LoopOf, IsExposed, IsLiveAfter}
+use Rattle.ped_rules.specs.ped_steps.specs.declared.rules.Rule.{Rule}
+use Rattle.ped_rules.specs.ped_steps.specs.declared.rules.Rule.TheVariants.{NoLoop, ParallelState, Range, ExposedOrLive, NotScalar, NotConstant, Limit, AlreadyPrivate}
+use Rattle.ped_rules.specs.ped_steps.specs.declared.causes.Refused.{Refused}
+use Rattle.ped_rules.specs.ped_steps.specs.declared.causes.Refused.TheVariants as variant
+use Rattle.ped_rules.specs.ped_steps.specs.declared.changes.Change.{Change}
+use Rattle.ped_rules.specs.ped_steps.specs.Changes.{IsChange}
+use Rattle.ped_rules.specs.ped_steps.specs.Causes.{Rules, NoRule, IsFirstRule, none_forbids}
 use Rattle.ped_rules.specs.Steps.{transformation, Answers}
 use Rattle.ped_rules.specs.Chains.{no_rules, also, WhereLoop}
 use Rattle.ped_rules.specs.Rules.{WhereNoLoop, is_parallel, isnt_constant}
-use Rattle.ped_rules.specs.Spans.{Values, Span, span_of, spans_far}
-use Rattle.ped_rules.specs.CodeSpans.{IsKnown, span_in}
-use Rattle.ped_rules.specs.declared.spans.Span.{Span as CodeSpan}
+use Rattle.ped_rules.specs.Spans.{Values, Span, span_of}
 use Rattle.ped_rules.proofs.Answering.{refused_by, accepted_by, none_first}
 use Rattle.ped_rules.proofs.Chains.{IsOne, IsChain, chain_end, chain_link, first_here, first_later, none_later, not_this, not_those, none_at_end}
 use Rattle.ped_rules.proofs.Decided.{some_loop, valid_decided}
 use Rattle.ped_rules.proofs.OneEach.{one_first, no_loop_one, loop_one}
-use Rattle.ped_rules.proofs.RightSteps.{near_spans}
-use Rattle.ped_scalar.specs.Scalars.{is_scalar, is_unfit}
-use Rattle.ped_scalar.specs.Expanding.{array_name, expanded, expand_kept, is_private_near, IsLostBy, IsScalarLostBy, IsExpanded, MakesExpanded, of_span, has_far_value, WhereLost, WhereArrayLimit, is_scalar_private_near, StandsAgainstExpanding, expanding}
+use Rattle.ped_rules.specs.Scalars.{is_scalar, is_unfit}
+use Rattle.ped_scalar.specs.Expanding.{array_name, expanded, expand_kept, IsLostBy, IsScalarLostBy, IsExpanded, MakesExpanded, WhereLost, WhereArrayLimit, is_scalar_private_near, StandsAgainstExpanding, expanding}
+use Rattle.ped_rules.specs.Scalars.{is_private_near, has_far_value}
 use Rattle.ped_scalar.proofs.FlowAnswers.{fit_scalar}
 use Rattle.ped_rules.proofs.OneLoop.{one_loop, fails_there}
 use Rattle.ped_scalar.proofs.PrivatiseRules.{live_one}
@@ -46,11 +44,6 @@ one_truth P true true p q = refl
 one_truth P true false p q = absurd (both_ways false refl (q.1 (p.0 refl)))
 one_truth P false true p q = absurd (both_ways false refl (p.1 (q.0 refl)))
 one_truth P false false p q = refl
-
--- where the code knows the values of a DO's variable, or that there are none, literals have them
-pub known_near : (found : Option Span) (o : Option CodeSpan) → IsKnown found o → of_span spans_far found ≡ false
-known_near found None none = ap (of_span spans_far) none
-known_near found (Some v) known = ap (of_span spans_far) known.0 ∙ false_from_ne_true (spans_far (span_in v)) (λ far. near_spans found v (span_in v) known known.0 far)
 
 module _ (s : ℕ) (x : List ℕ) where
   module _ (t : ProgramTree) where

@@ -5,11 +5,12 @@ use Rattle.ped_tree.specs.Tree.{Head, StmtTree, StmtTrees, Do, DeclTree, Program
 use Rattle.ped_tree.specs.Views.{stmt_trees, decl_tree}
 use Rattle.ped_tree.specs.declared.statements.Stmt.{Stmt}
 use Rattle.ped_tree.specs.declared.declarations.Decl.{Decl}
-use Rattle.ped_rules.specs.ped_loop_runs.specs.ped_bodies.specs.ped_steps.specs.ped_flow.specs.Questions.{IsLoop}
-use Rattle.ped_rules.specs.ped_loop_runs.specs.ped_bodies.specs.ped_steps.specs.Replacing.{all_replaced}
-use Rattle.ped_rules.specs.ped_loop_runs.specs.ped_bodies.specs.ped_steps.proofs.OnePlace.{one_program}
+use Rattle.ped_rules.specs.ped_flow.specs.Questions.{IsLoop}
+use Rattle.ped_rules.specs.ped_steps.specs.Replacing.{all_replaced}
+use Rattle.ped_rules.specs.ped_steps.proofs.OnePlace.{one_program}
 use Rattle.ped_rules.specs.Spans.{Span}
-use Rattle.ped_scalar.specs.Expanding.{with_elements, declaration, expanded}
+use Rattle.ped_scalar.specs.Expanding.{with_elements, expanded}
+use Rattle.ped_rules.specs.ScalarArrays.{declaration}
 
 one_found : (a b : StmtTree) → Some a ≡ Some b → a ≡ b
 one_found a b e = cc

@@ -3,10 +3,10 @@ use Rattle.std.proofs.Common.{◌≡◌, ℕ, List, [], ◌∷◌, Bool, true, f
 use Rattle.ped_tree.specs.Tree.{Head, StmtTree, StmtTrees, Do, ProgramTree}
 use Rattle.ped_tree.specs.Views.{stmt_tree, stmt_trees}
 use Rattle.ped_tree.specs.declared.statements.Stmt.{Stmt}
-use Rattle.ped_rules.specs.ped_loop_runs.specs.ped_bodies.specs.ped_steps.specs.ped_flow.specs.Questions.{IsLoop, IsFirst, IsExposed}
-use Rattle.ped_rules.specs.ped_loop_runs.specs.ped_bodies.specs.ped_steps.specs.Replacing.{alone, program_with}
-use Rattle.ped_rules.specs.ped_loop_runs.specs.ped_bodies.specs.ped_steps.proofs.OnePlace.{one_program}
-use Rattle.ped_scalar.specs.Scalars.{is_scalar, is_index_near, is_referred, is_unfit, IsLiveBy}
+use Rattle.ped_rules.specs.ped_flow.specs.Questions.{IsLoop, IsFirst, IsExposed}
+use Rattle.ped_rules.specs.ped_steps.specs.Replacing.{alone, program_with}
+use Rattle.ped_rules.specs.ped_steps.proofs.OnePlace.{one_program}
+use Rattle.ped_rules.specs.Scalars.{is_scalar, is_index_near, is_referred, is_unfit, IsLiveBy}
 use Rattle.ped_scalar.specs.Privatising.{with_private, privatised, IsScalarExposedOrLiveBy}
 
 pub true_not_false : (b : Bool) → IsTrue b → b ≡ false → ⊥

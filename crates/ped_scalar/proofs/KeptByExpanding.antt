@@ -9,32 +9,33 @@ use Rattle.ped_tree.specs.Tree.{Do, more_stmts, ProgramTree}
 use Rattle.ped_tree.specs.Nests.{indices_of}
 use Rattle.ped_tree.specs.Accesses.{constant_names}
 use Rattle.ped_tree.specs.Constants.ConstantExpressions.{constant_value}
-use Rattle.ped_rules.specs.ped_loop_runs.specs.ped_bodies.specs.ped_steps.specs.ped_symbols.specs.Kinds.{names_of, table_of}
-use Rattle.ped_rules.specs.ped_loop_runs.specs.ped_bodies.specs.ped_steps.specs.ped_symbols.specs.NameRefusals.{IsValid}
+use Rattle.ped_rules.specs.ped_symbols.specs.Kinds.{names_of, table_of}
+use Rattle.ped_rules.specs.ped_symbols.specs.NameRefusals.{IsValid}
 use Rattle.ped_tree.specs.NamesIn.{loop_variables}
 use Rattle.ped_tree.specs.NamesIn.{all_loop_variables}
-use Rattle.ped_rules.specs.ped_loop_runs.specs.ped_bodies.specs.ped_steps.specs.ped_flow.specs.Paths.{all_paths}
-use Rattle.ped_rules.specs.ped_loop_runs.specs.ped_bodies.specs.ped_steps.specs.ped_flow.specs.PlainBounds.{nest_round}
-use Rattle.ped_rules.specs.ped_loop_runs.specs.ped_bodies.specs.ped_steps.specs.ped_flow.specs.Questions.{LoopOf, IsFirst, IsExposed, IsReadBehind, IsLiveAfter, IsAssignedThrough}
-use Rattle.ped_rules.specs.ped_loop_runs.specs.ped_bodies.specs.ped_steps.specs.ped_flow.specs.Summaries.{sum_of_all, sum_behind_all}
-use Rattle.ped_rules.specs.ped_loop_runs.specs.ped_bodies.specs.ped_steps.specs.ped_flow.proofs.Answering.{assigned_by, through_loop, read_behind}
-use Rattle.ped_rules.specs.ped_loop_runs.specs.ped_bodies.specs.ped_steps.specs.ped_flow.proofs.TreeSums.{all_summed, all_behind-summed}
-use Rattle.ped_rules.specs.ped_loop_runs.specs.ped_bodies.specs.ped_steps.specs.ped_laws.proofs.FlowRunLaws.Names.{sorted_among, inner_among}
-use Rattle.ped_rules.specs.ped_loop_runs.specs.ped_bodies.specs.ped_steps.specs.Causes.{NoRule}
-use Rattle.ped_rules.specs.ped_loop_runs.specs.ped_bodies.specs.ped_steps.specs.Tidy.{is_written_in, IsTidy}
-use Rattle.ped_rules.specs.ped_loop_runs.specs.ped_bodies.specs.ped_steps.specs.Runs.Meaning.{Keeps}
+use Rattle.ped_rules.specs.ped_flow.specs.Paths.{all_paths}
+use Rattle.ped_rules.specs.ped_flow.specs.PlainBounds.{nest_round}
+use Rattle.ped_rules.specs.ped_flow.specs.Questions.{LoopOf, IsFirst, IsExposed, IsReadBehind, IsLiveAfter, IsAssignedThrough}
+use Rattle.ped_rules.specs.ped_flow.specs.Summaries.{sum_of_all, sum_behind_all}
+use Rattle.ped_rules.specs.ped_flow.proofs.Answering.{assigned_by, through_loop, read_behind}
+use Rattle.ped_rules.specs.ped_flow.proofs.TreeSums.{all_summed, all_behind-summed}
+use Rattle.ped_rules.specs.ped_laws.proofs.FlowRunLaws.Names.{sorted_among, inner_among}
+use Rattle.ped_rules.specs.ped_steps.specs.Causes.{NoRule}
+use Rattle.ped_rules.specs.ped_steps.specs.Tidy.{is_written_in, IsTidy}
+use Rattle.ped_rules.specs.ped_steps.specs.Runs.Meaning.{Keeps}
 use Rattle.ped_tree.specs.NamesIn.{private_names_in}
-use Rattle.ped_rules.specs.ped_loop_runs.specs.ped_bodies.specs.ped_steps.specs.Runs.Expanding as runs
-use Rattle.ped_rules.specs.ped_loop_runs.specs.ped_bodies.specs.ped_steps.specs.Runs.Expanding.{expanded_by, IsRound, MayExpand}
-use Rattle.ped_rules.specs.ped_loop_runs.specs.ped_bodies.specs.ped_steps.proofs.RunLaws.ExpandingKeeps.{expanding_keeps}
-use Rattle.ped_scalar.specs.Scalars.{is_scalar, is_index_near, is_referred, IsLiveBy}
+use Rattle.ped_rules.specs.ped_steps.specs.Runs.Expanding as runs
+use Rattle.ped_rules.specs.ped_steps.specs.Runs.Expanding.{expanded_by, IsRound, MayExpand}
+use Rattle.ped_rules.specs.ped_steps.proofs.RunLaws.ExpandingKeeps.{expanding_keeps}
+use Rattle.ped_rules.specs.Scalars.{is_scalar, is_index_near, is_referred, IsLiveBy}
 use Rattle.ped_rules.specs.Spans.{Span, has_iteration, last_value, span_by, is_far, spans_far}
 use Rattle.ped_rules.specs.Fresh.{occurs, first_free, numbered_names, most_numbered}
-use Rattle.ped_scalar.specs.Expanding.{kept_value, with_elements, expanded, is_private_near, IsExpanded, of_span, StandsAgainstExpanding}
+use Rattle.ped_scalar.specs.Expanding.{kept_value, with_elements, expanded, IsExpanded, StandsAgainstExpanding}
+use Rattle.ped_rules.specs.Scalars.{is_private_near, of_span}
 use Rattle.ped_rules.specs.ped_loop_runs.proofs.TidyLaws.TidyPathsSums.{Summary}
 use Rattle.ped_rules.proofs.RightSteps.{near_is}
 use Rattle.ped_scalar.proofs.ExpandRules as rules
-use Rattle.ped_scalar.proofs.KeptByPrivatising.{least}
+use Rattle.ped_rules.proofs.LeastNumbers.{least}
 use Rattle.ped_scalar.proofs.WrittenThere as writing
 use Rattle.ped_scalar.proofs.VariablesRound as round_it
 

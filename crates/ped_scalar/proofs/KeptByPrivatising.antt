@@ -1,29 +1,19 @@
 -- Where no rule stands against `privatise`, the new program keeps the meaning of the old one.
-use Rattle.std.proofs.Common.{◌≡◌, ℕ, zero, suc, ◌<◌, ◌≤◌, List, true, Some, refl, inl, inr, arith}
+use Rattle.std.proofs.Common.{◌≡◌, ℕ, List, true, refl, inl, inr}
 use Rattle.std.specs.List.{list_any}
 use Rattle.std.proofs.lemmas.Bool.{or_parts}
 use Rattle.ped_tree.specs.Tree.{ProgramTree}
-use Rattle.ped_rules.specs.ped_loop_runs.specs.ped_bodies.specs.ped_steps.specs.ped_symbols.specs.NameRefusals.{IsValid}
-use Rattle.ped_rules.specs.ped_loop_runs.specs.ped_bodies.specs.ped_steps.specs.ped_flow.specs.PlainBounds.{nest_round}
-use Rattle.ped_rules.specs.ped_loop_runs.specs.ped_bodies.specs.ped_steps.specs.ped_flow.specs.Questions.{LoopOf, IsFirst, IsExposed, IsReadBehind, IsLiveAfter}
-use Rattle.ped_rules.specs.ped_loop_runs.specs.ped_bodies.specs.ped_steps.specs.Causes.{NoRule}
-use Rattle.ped_rules.specs.ped_loop_runs.specs.ped_bodies.specs.ped_steps.specs.Runs.Meaning.{Keeps}
-use Rattle.ped_rules.specs.ped_loop_runs.specs.ped_bodies.specs.ped_steps.proofs.RunLaws.PrivatisedPrograms.{privatised_keeps}
-use Rattle.ped_scalar.specs.Scalars.{is_scalar}
+use Rattle.ped_rules.specs.ped_symbols.specs.NameRefusals.{IsValid}
+use Rattle.ped_rules.specs.ped_flow.specs.PlainBounds.{nest_round}
+use Rattle.ped_rules.specs.ped_flow.specs.Questions.{LoopOf, IsExposed, IsReadBehind, IsLiveAfter}
+use Rattle.ped_rules.specs.ped_steps.specs.Causes.{NoRule}
+use Rattle.ped_rules.specs.ped_steps.specs.Runs.Meaning.{Keeps}
+use Rattle.ped_rules.specs.ped_steps.proofs.RunLaws.PrivatisedPrograms.{privatised_keeps}
+use Rattle.ped_rules.specs.Scalars.{is_scalar}
 use Rattle.ped_scalar.specs.Privatising.{with_private, privatised, StandsAgainstPrivatising}
 use Rattle.ped_scalar.proofs.FlowAnswers.{fit_scalar}
 use Rattle.ped_scalar.proofs.PrivatiseRules as rules
-
--- where no number is the least of which this holds, it holds of none
-pub least : (P : ℕ → Type 0) → ((n : ℕ) → IsFirst P (Some n) → ⊥) → (n : ℕ) → P n → ⊥
-least P unfound n h = below (suc n) n (omega arith) h
-  where
-    not_less : (m n : ℕ) → (m < n → ⊥) → n ≤ m
-    not_less m n h = omega (arith, h)
-
-    below : (k n : ℕ) → n < k → P n → ⊥
-    below zero n lt p = omega (arith, lt)
-    below (suc k) n lt p = unfound n (p, λ m q. not_less m n (λ less. below k m (omega (arith, lt, less)) q))
+use Rattle.ped_rules.proofs.LeastNumbers.{least}
 
 module _ (t : ProgramTree) (s : ℕ) (x : List ℕ) (valid : IsValid t) (stands_none : NoRule (StandsAgainstPrivatising s x t)) where
   module _ (l : LoopOf t s) where

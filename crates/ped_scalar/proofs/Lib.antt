@@ -4,16 +4,13 @@ pub mod PrivatiseRules
 pub mod KeptByPrivatising
 pub mod ExpandRules
 pub mod ExpandedPrograms
-pub mod TidyReferencesSubstituted
 pub mod TidyReferencesPrivatised
 pub mod TidyReferencesExpanded
 pub mod TidyPathsPrivatising
-pub mod TidyPathsSubstituted
 pub mod TidyPathsExpanding
 pub mod TidyPathsUnshown
 pub mod UnwrittenReads
 pub mod UnwrittenStatements
-pub mod ReferencesThere
 pub mod WrittenThere
 pub mod VariablesRound
 pub mod KeptByExpanding

@@ -5,11 +5,11 @@ use Rattle.ped_base.specs.Lists.{is_among}
 use Rattle.ped_tree.specs.Tree.{ProgramTree}
 use Rattle.ped_tree.specs.Accesses.{constant_names}
 use Rattle.ped_tree.specs.NamesIn.{saved_in}
-use Rattle.ped_rules.specs.ped_loop_runs.specs.ped_bodies.specs.ped_steps.specs.ped_flow.specs.Paths.{paths_from_exit}
-use Rattle.ped_rules.specs.ped_loop_runs.specs.ped_bodies.specs.ped_steps.specs.ped_flow.specs.Questions.{IsFirst, IsReadBehind, IsShownBehind, IsLiveAfter}
-use Rattle.ped_rules.specs.ped_loop_runs.specs.ped_bodies.specs.ped_steps.specs.ped_flow.specs.Summaries.{AreSummed, sum_behind_all}
-use Rattle.ped_rules.specs.ped_loop_runs.specs.ped_bodies.specs.ped_steps.specs.ped_flow.proofs.TreeSums.{all_behind-summed}
-use Rattle.ped_rules.specs.ped_loop_runs.specs.ped_bodies.specs.ped_steps.specs.ped_flow.proofs.Answering.{read_behind, Left, left_is}
+use Rattle.ped_rules.specs.ped_flow.specs.Paths.{paths_from_exit}
+use Rattle.ped_rules.specs.ped_flow.specs.Questions.{IsFirst, IsReadBehind, IsShownBehind, IsLiveAfter}
+use Rattle.ped_rules.specs.ped_flow.specs.Summaries.{AreSummed, sum_behind_all}
+use Rattle.ped_rules.specs.ped_flow.proofs.TreeSums.{all_behind-summed}
+use Rattle.ped_rules.specs.ped_flow.proofs.Answering.{read_behind, Left, left_is}
 use Rattle.ped_rules.specs.ped_loop_runs.proofs.TidyLaws.TidyPathsSums.{Summary}
 use Rattle.ped_scalar.specs.Expanding.{SaysLive}
 use Rattle.ped_scalar.proofs.FlowAnswers.{true_not_false}

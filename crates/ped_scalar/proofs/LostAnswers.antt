@@ -1,11 +1,11 @@
 -- By which statement a scalar would be lost, and whether it is live after a DO.
 use Rattle.std.proofs.Common.{ℕ, List, true, false, inl, inr, Option, Some, None, MatchOption, IsTrue, refl}
 use Rattle.ped_tree.specs.Tree.{ProgramTree}
-use Rattle.ped_rules.specs.ped_loop_runs.specs.ped_bodies.specs.ped_steps.specs.ped_flow.specs.Questions.{IsFirst, IsExposed, IsLiveAfter, IsAssignedThrough}
-use Rattle.ped_rules.specs.ped_loop_runs.specs.ped_bodies.specs.ped_steps.specs.ped_flow.specs.Answers.{IsReader}
-use Rattle.ped_rules.specs.ped_loop_runs.specs.ped_bodies.specs.ped_steps.specs.ped_flow.specs.declared.flows.Reader.{Reader}
-use Rattle.ped_rules.specs.ped_loop_runs.specs.ped_bodies.specs.ped_steps.specs.ped_flow.specs.declared.flows.Reader.TheVariants.{Statement, Saved}
-use Rattle.ped_scalar.specs.Scalars.{is_scalar, IsLiveBy}
+use Rattle.ped_rules.specs.ped_flow.specs.Questions.{IsFirst, IsExposed, IsLiveAfter, IsAssignedThrough}
+use Rattle.ped_rules.specs.ped_flow.specs.Answers.{IsReader}
+use Rattle.ped_rules.specs.ped_flow.specs.declared.flows.Reader.{Reader}
+use Rattle.ped_rules.specs.ped_flow.specs.declared.flows.Reader.TheVariants.{Statement, Saved}
+use Rattle.ped_rules.specs.Scalars.{is_scalar, IsLiveBy}
 use Rattle.ped_scalar.specs.Expanding.{IsLostBy, IsScalarLostBy, SaysLive}
 use Rattle.ped_scalar.proofs.FlowAnswers.{true_not_false}
 

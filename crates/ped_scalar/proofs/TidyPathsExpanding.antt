@@ -9,24 +9,25 @@ use Rattle.ped_tree.specs.Tree.{ExprTree, Var, Assign, Head, StmtTrees, Do, no_s
 use Rattle.ped_tree.specs.Numbering.{statement_count, statements_count}
 use Rattle.ped_tree.specs.Accesses.{constants_in, constant_names}
 use Rattle.ped_tree.specs.NamesIn.{loop_variables, all_loop_variables}
-use Rattle.ped_rules.specs.ped_loop_runs.specs.ped_bodies.specs.ped_steps.specs.ped_flow.specs.Events.{copied, own_events, exit_events}
-use Rattle.ped_rules.specs.ped_loop_runs.specs.ped_bodies.specs.ped_steps.specs.ped_flow.specs.Questions.{LoopOf, IsIndexIn, IsShownBehind}
+use Rattle.ped_rules.specs.ped_flow.specs.Events.{copied, own_events, exit_events}
+use Rattle.ped_rules.specs.ped_flow.specs.Questions.{LoopOf, IsIndexIn, IsShownBehind}
 use Rattle.ped_tree.specs.NamesIn.{saved_in}
-use Rattle.ped_rules.specs.ped_loop_runs.specs.ped_bodies.specs.ped_steps.specs.ped_flow.specs.Summaries.{passing, unreached, sum_in_turn, sum_events, sum_loop, sum_of, sum_of_all, sum_at_once, sum_behind_all}
-use Rattle.ped_rules.specs.ped_loop_runs.specs.ped_bodies.specs.ped_steps.specs.ped_flow.proofs.Truths.{untrue, or_none}
-use Rattle.ped_rules.specs.ped_loop_runs.specs.ped_bodies.specs.ped_steps.specs.ped_laws.specs.FlowRuns.Covering.{some_stop}
-use Rattle.ped_rules.specs.ped_loop_runs.specs.ped_bodies.specs.ped_steps.specs.ped_sums.specs.Sums.{literal}
-use Rattle.ped_rules.specs.ped_loop_runs.specs.ped_bodies.specs.ped_steps.specs.ped_sums.specs.Substitution.{statements_substituted}
-use Rattle.ped_rules.specs.ped_loop_runs.specs.ped_bodies.specs.ped_steps.specs.Replacing.{alone}
-use Rattle.ped_rules.specs.ped_loop_runs.specs.ped_bodies.specs.ped_steps.proofs.RunLaws.SubstitutedShapes.{counts_kept}
+use Rattle.ped_rules.specs.ped_flow.specs.Summaries.{passing, unreached, sum_in_turn, sum_events, sum_loop, sum_of, sum_of_all, sum_at_once, sum_behind_all}
+use Rattle.ped_rules.specs.ped_flow.proofs.Truths.{untrue, or_none}
+use Rattle.ped_rules.specs.ped_laws.specs.FlowRuns.Covering.{some_stop}
+use Rattle.ped_sums.specs.Sums.{literal}
+use Rattle.ped_sums.specs.Substitution.{statements_substituted}
+use Rattle.ped_rules.specs.ped_steps.specs.Replacing.{alone}
+use Rattle.ped_rules.specs.ped_steps.proofs.RunLaws.SubstitutedShapes.{counts_kept}
 use Rattle.ped_rules.specs.Spans.{Span}
-use Rattle.ped_scalar.specs.Expanding.{element, kept_value, with_elements, declaration, expanded, moved_behind}
+use Rattle.ped_rules.specs.ScalarArrays.{element, declaration}
+use Rattle.ped_scalar.specs.Expanding.{kept_value, with_elements, expanded, moved_behind}
 use Rattle.ped_rules.specs.ped_loop_runs.proofs.TidyLaws.TidyPathsSums.{IsNoMore, AreNoMore, append_more, no_more, no_more_by, unreached_more, in_turn_more, either_more, events_keep, events_pass, clear_all, own_overwrites, own_exit, same_head_clears, loop_more, do_more, more_more}
 use Rattle.ped_rules.specs.ped_loop_runs.proofs.TidyLaws.TidyPathsGaps.{IsPlaced, IsOutside, LeaveNoMore, at_once_more, in_turn_none, all_behind_none, all_behind_placed, loop_behind_more, rest_behind_more}
 use Rattle.ped_rules.specs.ped_loop_runs.proofs.TidyLaws.TidyPathsShown.{exchanged_shows_less}
 use Rattle.ped_rules.specs.ped_loop_runs.proofs.TidyLaws.TidyPathsInside.{inside_variables}
 use Rattle.ped_rules.specs.ped_loop_runs.proofs.TidyLaws.TidyPathsStops.{unstopped}
-use Rattle.ped_scalar.proofs.TidyPathsSubstituted.{stops_kept, variables_clear, all_substituted_leave, all_substituted_behind}
+use Rattle.ped_rules.proofs.NameLaws.SubstitutedPaths.{stops_kept, variables_clear, all_substituted_leave, all_substituted_behind}
 
 -- numbers up to the DO's last one are told alike
 placed_up_to : (live : Bool) (end l i : ℕ) → i ≤ end → (moved_behind end live l == i) ≡ (l == i)

@@ -5,9 +5,9 @@ use Rattle.ped_base.specs.Lists.{is_same_text, is_among}
 use Rattle.ped_tree.specs.Tree.{Head, StmtTrees, Do, no_stmts, ProgramTree}
 use Rattle.ped_tree.specs.Numbering.{statement_count}
 use Rattle.ped_tree.specs.Accesses.{constant_names}
-use Rattle.ped_rules.specs.ped_loop_runs.specs.ped_bodies.specs.ped_steps.specs.ped_flow.specs.Questions.{LoopOf, IsShownBehind}
-use Rattle.ped_rules.specs.ped_loop_runs.specs.ped_bodies.specs.ped_steps.specs.ped_flow.specs.Summaries.{passing, unreached, sum_of_all, sum_behind_all}
-use Rattle.ped_rules.specs.ped_loop_runs.specs.ped_bodies.specs.ped_steps.specs.Replacing.{alone}
+use Rattle.ped_rules.specs.ped_flow.specs.Questions.{LoopOf, IsShownBehind}
+use Rattle.ped_rules.specs.ped_flow.specs.Summaries.{passing, unreached, sum_of_all, sum_behind_all}
+use Rattle.ped_rules.specs.ped_steps.specs.Replacing.{alone}
 use Rattle.ped_scalar.specs.Privatising.{with_private, privatised}
 use Rattle.ped_rules.specs.ped_loop_runs.proofs.TidyLaws.TidyPathsSums.{IsNoMore, ClearsAll, no_more, loop_more, do_more, more_more, any_numbers}
 use Rattle.ped_rules.specs.ped_loop_runs.proofs.TidyLaws.TidyPathsGaps.{LeaveNoMore, loop_behind_more, rest_behind_more}

@@ -6,15 +6,16 @@ use Rattle.ped_base.specs.Lists.{is_same_text, is_among}
 use Rattle.ped_tree.specs.Tree.{Do, ProgramTree}
 use Rattle.ped_tree.specs.Nests.{indices_of}
 use Rattle.ped_tree.specs.Numbering.{statements_count}
-use Rattle.ped_rules.specs.ped_loop_runs.specs.ped_bodies.specs.ped_steps.specs.ped_symbols.specs.NameRefusals.{IsValid}
+use Rattle.ped_rules.specs.ped_symbols.specs.NameRefusals.{IsValid}
 use Rattle.ped_tree.specs.NamesIn.{loop_variables}
-use Rattle.ped_rules.specs.ped_loop_runs.specs.ped_bodies.specs.ped_steps.specs.ped_flow.specs.PlainBounds.{nest_round}
-use Rattle.ped_rules.specs.ped_loop_runs.specs.ped_bodies.specs.ped_steps.specs.ped_flow.specs.Questions.{LoopOf, IsIndexIn, IsShownBehind}
-use Rattle.ped_rules.specs.ped_loop_runs.specs.ped_bodies.specs.ped_steps.specs.ped_flow.proofs.Truths.{or_none}
-use Rattle.ped_rules.specs.ped_loop_runs.specs.ped_bodies.specs.ped_steps.specs.ped_laws.proofs.FlowRunLaws.Stopping.{fitting_stops, loop_stops}
-use Rattle.ped_scalar.specs.Scalars.{is_index_near}
+use Rattle.ped_rules.specs.ped_flow.specs.PlainBounds.{nest_round}
+use Rattle.ped_rules.specs.ped_flow.specs.Questions.{LoopOf, IsIndexIn, IsShownBehind}
+use Rattle.ped_rules.specs.ped_flow.proofs.Truths.{or_none}
+use Rattle.ped_rules.specs.ped_laws.proofs.FlowRunLaws.Stopping.{fitting_stops, loop_stops}
+use Rattle.ped_rules.specs.Scalars.{is_index_near}
 use Rattle.ped_rules.specs.Spans.{Span}
-use Rattle.ped_scalar.specs.Expanding.{is_private_near, expanded, moved_behind}
+use Rattle.ped_rules.specs.Scalars.{is_private_near}
+use Rattle.ped_scalar.specs.Expanding.{expanded, moved_behind}
 use Rattle.ped_tree.specs.NamesIn.{private_names_in, all_private_names_in}
 use Rattle.ped_scalar.proofs.TidyPathsExpanding.{expanded_index_shows_less}
 

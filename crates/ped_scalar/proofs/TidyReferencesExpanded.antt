@@ -11,28 +11,29 @@ use Rattle.ped_tree.specs.Numbering.{statement_count, statements_count}
 use Rattle.ped_tree.specs.Accesses.{constants_in, constant_names}
 use Rattle.ped_base.proofs.NameEquality.{same_is}
 use Rattle.ped_tree.specs.NamesIn.{loop_variables, all_loop_variables}
-use Rattle.ped_rules.specs.ped_loop_runs.specs.ped_bodies.specs.ped_steps.specs.ped_laws.specs.Acts.Orders.{IsIn}
-use Rattle.ped_rules.specs.ped_loop_runs.specs.ped_bodies.specs.ped_steps.specs.ped_symbols.specs.NameRefusals.{IsValid}
-use Rattle.ped_rules.specs.ped_loop_runs.specs.ped_bodies.specs.ped_steps.specs.ped_symbols.specs.Kinds.{kind_of, kind_in, names_of}
-use Rattle.ped_rules.specs.ped_loop_runs.specs.ped_bodies.specs.ped_steps.specs.ped_symbols.specs.RightUses.RightUses.{is_scalar_kind, is_scalar, cond_is_right, head_is_right, stmt_is_right, stmts_are_right}
-use Rattle.ped_rules.specs.ped_loop_runs.specs.ped_bodies.specs.ped_steps.specs.ped_flow.specs.PlainBounds.{all_loops_round, nest_round}
-use Rattle.ped_rules.specs.ped_loop_runs.specs.ped_bodies.specs.ped_steps.specs.ped_flow.specs.Questions.{LoopOf, IsIndexIn}
-use Rattle.ped_rules.specs.ped_loop_runs.specs.ped_bodies.specs.ped_steps.specs.ped_sums.specs.Substitution.{statement_substituted, statements_substituted}
-use Rattle.ped_rules.specs.ped_loop_runs.specs.ped_bodies.specs.ped_steps.specs.Replacing.{alone}
-use Rattle.ped_rules.specs.ped_loop_runs.specs.ped_bodies.specs.ped_steps.specs.Tidy.{is_written_in}
-use Rattle.ped_rules.specs.ped_loop_runs.specs.ped_bodies.specs.ped_steps.specs.Runs.Gaps.{Gap, filled}
-use Rattle.ped_rules.specs.ped_loop_runs.specs.ped_bodies.specs.ped_steps.specs.Runs.Expanding.{IsRound}
-use Rattle.ped_rules.specs.ped_loop_runs.specs.ped_bodies.specs.ped_steps.proofs.RunLaws.ExpandedPlacesParts.{part_at}
-use Rattle.ped_rules.specs.ped_loop_runs.specs.ped_bodies.specs.ped_steps.proofs.RunLaws.ReplacedTrees.{program_gap}
-use Rattle.ped_rules.specs.ped_loop_runs.specs.ped_bodies.specs.ped_steps.proofs.RunLaws.RunCells.{EachDo, EachDos}
-use Rattle.ped_rules.specs.ped_loop_runs.specs.ped_bodies.specs.ped_steps.proofs.RunLaws.SubstitutedShapes.{count_kept, counts_kept}
+use Rattle.ped_rules.specs.ped_laws.specs.Acts.Orders.{IsIn}
+use Rattle.ped_rules.specs.ped_symbols.specs.NameRefusals.{IsValid}
+use Rattle.ped_rules.specs.ped_symbols.specs.Kinds.{kind_of, kind_in, names_of}
+use Rattle.ped_rules.specs.ped_symbols.specs.RightUses.RightUses.{is_scalar_kind, is_scalar, cond_is_right, head_is_right, stmt_is_right, stmts_are_right}
+use Rattle.ped_rules.specs.ped_flow.specs.PlainBounds.{all_loops_round, nest_round}
+use Rattle.ped_rules.specs.ped_flow.specs.Questions.{LoopOf, IsIndexIn}
+use Rattle.ped_sums.specs.Substitution.{statement_substituted, statements_substituted}
+use Rattle.ped_rules.specs.ped_steps.specs.Replacing.{alone}
+use Rattle.ped_rules.specs.ped_steps.specs.Tidy.{is_written_in}
+use Rattle.ped_rules.specs.ped_steps.specs.Runs.Gaps.{Gap, filled}
+use Rattle.ped_rules.specs.ped_steps.specs.Runs.Expanding.{IsRound}
+use Rattle.ped_rules.specs.ped_steps.proofs.RunLaws.ExpandedPlacesParts.{part_at}
+use Rattle.ped_rules.specs.ped_steps.proofs.RunLaws.ReplacedTrees.{program_gap}
+use Rattle.ped_rules.specs.ped_steps.proofs.RunLaws.RunCells.{EachDo, EachDos}
+use Rattle.ped_rules.specs.ped_steps.proofs.RunLaws.SubstitutedShapes.{count_kept, counts_kept}
 use Rattle.ped_rules.specs.Spans.{Span}
-use Rattle.ped_scalar.specs.Expanding.{element, kept_value, with_elements, declaration, expanded, moved_behind}
+use Rattle.ped_rules.specs.ScalarArrays.{element, declaration}
+use Rattle.ped_scalar.specs.Expanding.{kept_value, with_elements, expanded, moved_behind}
 use Rattle.ped_rules.specs.ped_loop_runs.specs.Writing.{writes_name, all_write}
 use Rattle.ped_rules.specs.ped_loop_runs.proofs.TidyLaws.TidyReferences.{written_is}
 use Rattle.ped_rules.specs.ped_loop_runs.proofs.TidyLaws.TidyReferencesFilled.{filled_unwritten}
 use Rattle.ped_rules.specs.ped_loop_runs.proofs.TidyLaws.TidyReferencesGaps.{Stands, each_stands, exchanged_each, each_of_program}
-use Rattle.ped_scalar.proofs.TidyReferencesSubstituted.{variables_stay, all_variables_stay, other_unwritten, all_unwritten, filled_variables}
+use Rattle.ped_rules.proofs.NameLaws.SubstitutedReferences.{variables_stay, all_variables_stay, other_unwritten, all_unwritten, filled_variables}
 
 not_so : (b : Bool) → (b ≡ true → ⊥) → b ≡ false
 not_so true h = absurd (h refl)

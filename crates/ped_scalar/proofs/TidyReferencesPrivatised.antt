@@ -6,13 +6,13 @@ use Rattle.std.proofs.lemmas.Bool.{both_ways}
 use Rattle.ped_tree.specs.Tree.{Head, StmtTrees, Do, ProgramTree}
 use Rattle.ped_tree.specs.Nests.{Loop}
 use Rattle.ped_tree.specs.Numbering.{statements_count}
-use Rattle.ped_rules.specs.ped_loop_runs.specs.ped_bodies.specs.ped_steps.specs.ped_laws.specs.Acts.Orders.{IsIn}
-use Rattle.ped_rules.specs.ped_loop_runs.specs.ped_bodies.specs.ped_steps.specs.ped_flow.specs.PlainBounds.{all_loops_round, nest_round}
-use Rattle.ped_rules.specs.ped_loop_runs.specs.ped_bodies.specs.ped_steps.specs.ped_flow.specs.Questions.{LoopOf, IsIndexIn}
-use Rattle.ped_rules.specs.ped_loop_runs.specs.ped_bodies.specs.ped_steps.specs.Replacing.{alone}
-use Rattle.ped_rules.specs.ped_loop_runs.specs.ped_bodies.specs.ped_steps.specs.Tidy.{is_written_in}
-use Rattle.ped_rules.specs.ped_loop_runs.specs.ped_bodies.specs.ped_steps.proofs.RunLaws.ReplacedTrees.{program_gap}
-use Rattle.ped_rules.specs.ped_loop_runs.specs.ped_bodies.specs.ped_steps.proofs.RunLaws.RunCells.{EachDos}
+use Rattle.ped_rules.specs.ped_laws.specs.Acts.Orders.{IsIn}
+use Rattle.ped_rules.specs.ped_flow.specs.PlainBounds.{all_loops_round, nest_round}
+use Rattle.ped_rules.specs.ped_flow.specs.Questions.{LoopOf, IsIndexIn}
+use Rattle.ped_rules.specs.ped_steps.specs.Replacing.{alone}
+use Rattle.ped_rules.specs.ped_steps.specs.Tidy.{is_written_in}
+use Rattle.ped_rules.specs.ped_steps.proofs.RunLaws.ReplacedTrees.{program_gap}
+use Rattle.ped_rules.specs.ped_steps.proofs.RunLaws.RunCells.{EachDos}
 use Rattle.ped_scalar.specs.Privatising.{with_private, privatised}
 use Rattle.ped_rules.specs.ped_loop_runs.proofs.TidyLaws.TidyReferences.{written_is}
 use Rattle.ped_rules.specs.ped_loop_runs.proofs.TidyLaws.TidyReferencesGaps.{Stands, each_stands, all_move, exchanged_each, each_of_program}

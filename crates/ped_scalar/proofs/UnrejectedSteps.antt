@@ -1,28 +1,14 @@
 -- `privatise` and `expand` leave the rejected names of each DO as they are.
 use Rattle.std.proofs.Common.{◌≡◌, ℕ, ℤ, List, Bool, true, false, ◌||◌, refl, ap, ◌∙◌}
 use Rattle.ped_base.specs.Lists.{has_some}
-use Rattle.ped_tree.specs.Tree.{ExprTree, Var, StmtTree, StmtTrees, Assign, If, Do, Print, Read, Stop, Comment, no_stmts, more_stmts, ProgramTree}
-use Rattle.ped_rules.specs.ped_loop_runs.specs.ped_bodies.specs.ped_steps.specs.ped_flow.specs.Questions.{LoopOf}
-use Rattle.ped_rules.specs.ped_loop_runs.specs.ped_bodies.specs.ped_steps.specs.ped_sums.specs.Substitution.{statement_substituted, statements_substituted}
+use Rattle.ped_tree.specs.Tree.{Var, StmtTree, Assign, If, Do, Print, Read, Stop, Comment, ProgramTree}
+use Rattle.ped_rules.specs.ped_flow.specs.Questions.{LoopOf}
 use Rattle.ped_rules.specs.ped_loop_runs.specs.Unrejected.{has_rejection, some_rejection}
 use Rattle.ped_rules.specs.ped_loop_runs.proofs.TidyLaws.UnrejectedTrees.{alone_unrejected, program_unrejected}
 use Rattle.ped_scalar.specs.Privatising.{with_private, privatised}
-use Rattle.ped_scalar.specs.Expanding.{element, kept_value, with_elements, IsExpanded}
-
-module _ (x : List ℕ) (by : ExprTree) where
-  mutual
-    rejection_kept : (s : StmtTree) → has_rejection (statement_substituted x by s) ≡ has_rejection s
-    rejection_kept (Assign left right) = refl
-    rejection_kept (If c a b) = λ i. rejections_kept a i || rejections_kept b i
-    rejection_kept (Do h body) = λ i. has_some h.rejected || rejections_kept body i
-    rejection_kept (Print items) = refl
-    rejection_kept (Read items) = refl
-    rejection_kept Stop = refl
-    rejection_kept (Comment text) = refl
-
-    pub rejections_kept : (ss : StmtTrees) → some_rejection (statements_substituted x by ss) ≡ some_rejection ss
-    rejections_kept no_stmts = refl
-    rejections_kept (more_stmts s rest) = λ i. rejection_kept s i || rejections_kept rest i
+use Rattle.ped_rules.specs.ScalarArrays.{element}
+use Rattle.ped_scalar.specs.Expanding.{kept_value, with_elements, IsExpanded}
+use Rattle.ped_rules.proofs.NameLaws.SubstitutedRejections.{rejections_kept}
 
 with_private_unrejected : (x : List ℕ) (s : StmtTree) → has_rejection s ≡ false → some_rejection (with_private x s) ≡ false
 with_private_unrejected x (Do h body) e = alone_unrejected (Do h body) e

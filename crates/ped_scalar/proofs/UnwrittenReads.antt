@@ -9,14 +9,14 @@ use Rattle.ped_tree.specs.Tree.{ExprTree, ExprTrees, Int, Var, Element, Neg, Add
 use Rattle.ped_tree.specs.Accesses.{Access, listed, read_of, write_of, unless_constant, expr_reads, exprs_reads, cond_reads, left_accesses, item_reads, private_writes, own_accesses}
 use Rattle.ped_tree.specs.Grammar.Fits.{takes_arguments}
 use Rattle.ped_base.proofs.NameEquality.{same_is}
-use Rattle.ped_rules.specs.ped_loop_runs.specs.ped_bodies.specs.ped_steps.specs.ped_symbols.specs.Uses.{expr_count}
-use Rattle.ped_rules.specs.ped_loop_runs.specs.ped_bodies.specs.ped_steps.specs.ped_symbols.specs.declared.symbols.Kind.{Kind}
-use Rattle.ped_rules.specs.ped_loop_runs.specs.ped_bodies.specs.ped_steps.specs.ped_symbols.specs.declared.symbols.Kind.TheVariants.{Scalar, Array, Constant}
-use Rattle.ped_rules.specs.ped_loop_runs.specs.ped_bodies.specs.ped_steps.specs.ped_symbols.specs.RightUses.RightUses.{NameKinds, is_scalar, is_scalar_kind, is_array_kind, has_rank, is_rank, expr_is_right, exprs_are_right, target_is_right, cond_is_right, item_is_right, head_is_right}
-use Rattle.ped_rules.specs.ped_loop_runs.specs.ped_bodies.specs.ped_steps.specs.ped_flow.specs.Events.{Event, reads, assigns, event, scalars_in, all_scalars_in, scalars_in_cond, scalars_in_item, reads_of, left_events, own_events}
-use Rattle.ped_rules.specs.ped_loop_runs.specs.ped_bodies.specs.ped_steps.specs.ped_flow.specs.Summaries.{least_of, when, passing, of_manner, sum_in_turn, sum_either, sum_event, sum_events}
-use Rattle.ped_rules.specs.ped_loop_runs.specs.ped_bodies.specs.ped_steps.specs.ped_flow.proofs.SumLaws.{events-append}
-use Rattle.ped_rules.specs.ped_loop_runs.specs.ped_bodies.specs.ped_steps.specs.ped_flow.proofs.Truths.{untrue, or_split}
+use Rattle.ped_rules.specs.ped_symbols.specs.Uses.{expr_count}
+use Rattle.ped_rules.specs.ped_symbols.specs.declared.symbols.Kind.{Kind}
+use Rattle.ped_rules.specs.ped_symbols.specs.declared.symbols.Kind.TheVariants.{Scalar, Array, Constant}
+use Rattle.ped_rules.specs.ped_symbols.specs.RightUses.RightUses.{NameKinds, is_scalar, is_scalar_kind, is_array_kind, has_rank, is_rank, expr_is_right, exprs_are_right, target_is_right, cond_is_right, item_is_right, head_is_right}
+use Rattle.ped_rules.specs.ped_flow.specs.Events.{Event, reads, assigns, event, scalars_in, all_scalars_in, scalars_in_cond, scalars_in_item, reads_of, left_events, own_events}
+use Rattle.ped_rules.specs.ped_flow.specs.Summaries.{least_of, when, passing, of_manner, sum_in_turn, sum_either, sum_event, sum_events}
+use Rattle.ped_rules.specs.ped_flow.proofs.SumLaws.{events-append}
+use Rattle.ped_rules.specs.ped_flow.proofs.Truths.{untrue, or_split}
 use Rattle.ped_rules.specs.ped_loop_runs.proofs.TidyLaws.TidyPathsSums.{Summary}
 
 -- paths that go on, of which one leaves the scalar as it is, and one reads it first, where the truth value says that something refers to it

@@ -8,14 +8,14 @@ use Rattle.ped_tree.specs.Tree.{Head, StmtTree, StmtTrees, Assign, If, Do, Print
 use Rattle.ped_tree.specs.Numbering.{statement_count, statements_count}
 use Rattle.ped_tree.specs.Accesses.{Access, own_accesses}
 use Rattle.ped_tree.specs.Nests.{Loop, indices_of}
-use Rattle.ped_rules.specs.ped_loop_runs.specs.ped_bodies.specs.ped_steps.specs.ped_refs.specs.References.{Reference, numbered_accesses, statement_references, statements_references}
+use Rattle.ped_refs.specs.References.{Reference, numbered_accesses, statement_references, statements_references}
 use Rattle.ped_tree.specs.NamesIn.{loop_variables, all_loop_variables}
-use Rattle.ped_rules.specs.ped_loop_runs.specs.ped_bodies.specs.ped_steps.specs.ped_symbols.specs.RightUses.RightUses.{NameKinds, is_scalar, cond_is_right, head_is_right, stmt_is_right, stmts_are_right}
-use Rattle.ped_rules.specs.ped_loop_runs.specs.ped_bodies.specs.ped_steps.specs.ped_flow.specs.Events.{clears, event, own_events, copied, start_events, exit_events}
-use Rattle.ped_rules.specs.ped_loop_runs.specs.ped_bodies.specs.ped_steps.specs.ped_flow.specs.Summaries.{passing, of_manner, sum_in_turn, sum_either, sum_trips, sum_events, sum_loop, sum_of, sum_of_all}
-use Rattle.ped_rules.specs.ped_loop_runs.specs.ped_bodies.specs.ped_steps.specs.ped_flow.proofs.SumLaws.{cleared}
-use Rattle.ped_rules.specs.ped_loop_runs.specs.ped_bodies.specs.ped_steps.specs.ped_flow.proofs.Truths.{untrue}
-use Rattle.ped_rules.specs.ped_loop_runs.specs.ped_bodies.specs.ped_steps.specs.ped_laws.specs.FlowRuns.Covering.{has_stop, some_stop}
+use Rattle.ped_rules.specs.ped_symbols.specs.RightUses.RightUses.{NameKinds, is_scalar, cond_is_right, head_is_right, stmt_is_right, stmts_are_right}
+use Rattle.ped_rules.specs.ped_flow.specs.Events.{clears, event, own_events, copied, start_events, exit_events}
+use Rattle.ped_rules.specs.ped_flow.specs.Summaries.{passing, of_manner, sum_in_turn, sum_either, sum_trips, sum_events, sum_loop, sum_of, sum_of_all}
+use Rattle.ped_rules.specs.ped_flow.proofs.SumLaws.{cleared}
+use Rattle.ped_rules.specs.ped_flow.proofs.Truths.{untrue}
+use Rattle.ped_rules.specs.ped_laws.specs.FlowRuns.Covering.{has_stop, some_stop}
 use Rattle.ped_tree.specs.NamesIn.{private_names_in, all_private_names_in}
 use Rattle.ped_rules.specs.ped_loop_runs.proofs.TidyLaws.TidyPathsSums.{Summary}
 use Rattle.ped_scalar.proofs.UnwrittenReads.{IsStill, passing_still, in_turn_still, either_still, is_of, is_write_of, assignment_still, condition_still, entry_still, output_still, input_still}

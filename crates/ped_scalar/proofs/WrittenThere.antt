@@ -8,29 +8,29 @@ use Rattle.ped_base.specs.Lists.{is_same_text, is_among}
 use Rattle.ped_tree.specs.Tree.{Head, StmtTrees, Do, ProgramTree}
 use Rattle.ped_tree.specs.Numbering.{statements_count, statement_with}
 use Rattle.ped_tree.specs.Accesses.{constant_names}
-use Rattle.ped_rules.specs.ped_loop_runs.specs.ped_bodies.specs.ped_steps.specs.ped_refs.specs.References.{Reference, statements_references, references}
-use Rattle.ped_rules.specs.ped_loop_runs.specs.ped_bodies.specs.ped_steps.specs.ped_symbols.specs.Kinds.{kind_in}
-use Rattle.ped_rules.specs.ped_loop_runs.specs.ped_bodies.specs.ped_steps.specs.ped_symbols.specs.NameRefusals.{IsValid}
+use Rattle.ped_refs.specs.References.{Reference, statements_references, references}
+use Rattle.ped_rules.specs.ped_symbols.specs.Kinds.{kind_in}
+use Rattle.ped_rules.specs.ped_symbols.specs.NameRefusals.{IsValid}
 use Rattle.ped_tree.specs.NamesIn.{loop_variables, all_loop_variables}
-use Rattle.ped_rules.specs.ped_loop_runs.specs.ped_bodies.specs.ped_steps.specs.ped_symbols.specs.RightUses.RightUses.{head_is_right, stmts_are_right}
-use Rattle.ped_rules.specs.ped_loop_runs.specs.ped_bodies.specs.ped_steps.specs.ped_flow.specs.Events.{start_events}
-use Rattle.ped_rules.specs.ped_loop_runs.specs.ped_bodies.specs.ped_steps.specs.ped_flow.specs.PathSets.{Paths}
-use Rattle.ped_rules.specs.ped_loop_runs.specs.ped_bodies.specs.ped_steps.specs.ped_flow.specs.Paths.{iteration, all_paths}
-use Rattle.ped_rules.specs.ped_loop_runs.specs.ped_bodies.specs.ped_steps.specs.ped_flow.specs.Questions.{LoopOf, IsFirst, IsExposed}
-use Rattle.ped_rules.specs.ped_loop_runs.specs.ped_bodies.specs.ped_steps.specs.ped_flow.specs.Summaries.{AreSummed, IsReadOn, sum_in_turn, sum_events, sum_of_all}
-use Rattle.ped_rules.specs.ped_loop_runs.specs.ped_bodies.specs.ped_steps.specs.ped_flow.proofs.Answering.{loop_fits}
-use Rattle.ped_rules.specs.ped_loop_runs.specs.ped_bodies.specs.ped_steps.specs.ped_flow.proofs.TreeSums.{iteration-summed, all_summed, some_path_of_all}
-use Rattle.ped_rules.specs.ped_loop_runs.specs.ped_bodies.specs.ped_steps.specs.ped_flow.proofs.Truths.{untrue}
-use Rattle.ped_rules.specs.ped_loop_runs.specs.ped_bodies.specs.ped_steps.specs.ped_laws.specs.FlowRuns.Covering.{some_stop}
-use Rattle.ped_rules.specs.ped_loop_runs.specs.ped_bodies.specs.ped_steps.specs.ped_laws.proofs.FlowRunLaws.Stopping.{fitting_stops, loop_stops}
-use Rattle.ped_rules.specs.ped_loop_runs.specs.ped_bodies.specs.ped_steps.specs.Tidy.{is_written_in}
-use Rattle.ped_rules.specs.ped_loop_runs.specs.ped_bodies.specs.ped_steps.proofs.RunLaws.ExpandedPlacesParts.{part_at}
-use Rattle.ped_scalar.specs.Scalars.{is_scalar, is_referred}
+use Rattle.ped_rules.specs.ped_symbols.specs.RightUses.RightUses.{head_is_right, stmts_are_right}
+use Rattle.ped_rules.specs.ped_flow.specs.Events.{start_events}
+use Rattle.ped_rules.specs.ped_flow.specs.PathSets.{Paths}
+use Rattle.ped_rules.specs.ped_flow.specs.Paths.{iteration, all_paths}
+use Rattle.ped_rules.specs.ped_flow.specs.Questions.{LoopOf, IsFirst, IsExposed}
+use Rattle.ped_rules.specs.ped_flow.specs.Summaries.{AreSummed, IsReadOn, sum_in_turn, sum_events, sum_of_all}
+use Rattle.ped_rules.specs.ped_flow.proofs.Answering.{loop_fits}
+use Rattle.ped_rules.specs.ped_flow.proofs.TreeSums.{iteration-summed, all_summed, some_path_of_all}
+use Rattle.ped_rules.specs.ped_flow.proofs.Truths.{untrue}
+use Rattle.ped_rules.specs.ped_laws.specs.FlowRuns.Covering.{some_stop}
+use Rattle.ped_rules.specs.ped_laws.proofs.FlowRunLaws.Stopping.{fitting_stops, loop_stops}
+use Rattle.ped_rules.specs.ped_steps.specs.Tidy.{is_written_in}
+use Rattle.ped_rules.specs.ped_steps.proofs.RunLaws.ExpandedPlacesParts.{part_at}
+use Rattle.ped_rules.specs.Scalars.{is_scalar, is_referred}
 use Rattle.ped_tree.specs.NamesIn.{private_names_in, all_private_names_in}
 use Rattle.ped_rules.specs.ped_loop_runs.proofs.TidyLaws.TidyPathsSums.{Summary}
 use Rattle.ped_scalar.proofs.UnwrittenReads.{IsStill}
 use Rattle.ped_scalar.proofs.UnwrittenStatements.{refers, writes, statements_still, iteration_still}
-use Rattle.ped_scalar.proofs.ReferencesThere.{AreThere, references_there}
+use Rattle.ped_rules.proofs.NameLaws.ReferencesThere.{AreThere, references_there}
 
 and_assoc : (a b c : Bool) → ((a && b) && c) ≡ (a && (b && c))
 and_assoc true b c = refl

@@ -1,7 +1,7 @@
 -- Elements of a scalar, as the code has them (this project).
 use Rattle.std.specs.Prelude.{◌≡◌, ℕ, Some}
 use Rattle.ped_tree.specs.Tree.{Head, ProgramTree}
-use Rattle.ped_rules.specs.ped_loop_runs.specs.ped_bodies.specs.ped_steps.specs.ped_symbols.specs.Kinds.{table_of}
+use Rattle.ped_rules.specs.ped_symbols.specs.Kinds.{table_of}
 use Rattle.ped_scalar.specs.declared.elements.Elements.{Elements}
 use Rattle.ped_rules.specs.CodeSpans.{IsKnown}
 use Rattle.ped_rules.specs.Spans.{span_of}

@@ -1,34 +1,28 @@
 -- `expand`: a scalar becomes an array with an element for each value of a DO's variable. The new program, and the rules that forbid it (Allen and Kennedy, section 5.3; ParaScope).
-use Rattle.std.specs.Prelude.{◌≡◌, ◌⊎◌, ◌↔◌, ℕ, ◌+◌, ℤ, nat_lt, List, [], ◌∷◌, ◌++◌, map, codes, Bool, true, false, ◌&&◌, ◌||◌, IsTrue, Option, Some, None, if◌then◌else◌}
-use Rattle.std.specs.List.{list_any, range_with_len}
-use Rattle.std.specs.Int.{int_min, int_max}
-use Rattle.ped_base.specs.Lists.{is_among}
-use Rattle.ped_tree.specs.Tree.{ExprTree, Var, Element, no_exprs, more_exprs, Head, StmtTree, StmtTrees, Assign, If, Do, Print, Read, Stop, Comment, no_stmts, more_stmts, DeclTree, Integer, ProgramTree}
+use Rattle.std.specs.Prelude.{◌≡◌, ◌⊎◌, ◌↔◌, ℕ, ◌+◌, ℤ, nat_lt, List, [], ◌∷◌, ◌++◌, map, codes, Bool, true, false, ◌&&◌, IsTrue, Option, Some, None, if◌then◌else◌}
+use Rattle.std.specs.List.{range_with_len}
+use Rattle.ped_tree.specs.Tree.{Var, Head, StmtTree, StmtTrees, Assign, If, Do, Print, Read, Stop, Comment, no_stmts, more_stmts, ProgramTree}
 use Rattle.ped_tree.specs.Numbering.{statements_count}
-use Rattle.ped_tree.specs.NamesIn.{private_names_in}
-use Rattle.ped_rules.specs.ped_loop_runs.specs.ped_bodies.specs.ped_steps.specs.ped_symbols.specs.Kinds.{table_of}
-use Rattle.ped_rules.specs.ped_loop_runs.specs.ped_bodies.specs.ped_steps.specs.ped_symbols.specs.NameRefusals.{IsValid}
-use Rattle.ped_rules.specs.ped_loop_runs.specs.ped_bodies.specs.ped_steps.specs.ped_flow.specs.PlainBounds.{nest_round}
-use Rattle.ped_rules.specs.ped_loop_runs.specs.ped_bodies.specs.ped_steps.specs.ped_flow.specs.Questions.{LoopOf, IsLiveAfter, IsAssignedThrough}
-use Rattle.ped_rules.specs.ped_loop_runs.specs.ped_bodies.specs.ped_steps.specs.ped_sums.specs.Sums.{literal}
-use Rattle.ped_rules.specs.ped_loop_runs.specs.ped_bodies.specs.ped_steps.specs.ped_sums.specs.Substitution.{statements_substituted}
-use Rattle.ped_rules.specs.ped_loop_runs.specs.ped_bodies.specs.ped_steps.specs.declared.rules.Rule.TheVariants.{NoLoop, ParallelState, Range, ExposedOrLive, NotScalar, NotConstant, Limit, AlreadyPrivate}
-use Rattle.ped_rules.specs.ped_loop_runs.specs.ped_bodies.specs.ped_steps.specs.Causes.{Rules, IsFirstCause, none_forbids}
-use Rattle.ped_rules.specs.ped_loop_runs.specs.ped_bodies.specs.ped_steps.specs.Replacing.{alone, all_replaced}
+use Rattle.ped_rules.specs.ped_symbols.specs.Kinds.{table_of}
+use Rattle.ped_rules.specs.ped_symbols.specs.NameRefusals.{IsValid}
+use Rattle.ped_rules.specs.ped_flow.specs.Questions.{LoopOf, IsLiveAfter, IsAssignedThrough}
+use Rattle.ped_sums.specs.Sums.{literal}
+use Rattle.ped_sums.specs.Substitution.{statements_substituted}
+use Rattle.ped_rules.specs.ped_steps.specs.declared.rules.Rule.TheVariants.{NoLoop, ParallelState, Range, ExposedOrLive, NotScalar, NotConstant, Limit, AlreadyPrivate}
+use Rattle.ped_rules.specs.ped_steps.specs.Causes.{Rules, IsFirstCause, none_forbids}
+use Rattle.ped_rules.specs.ped_steps.specs.Replacing.{alone, all_replaced}
 use Rattle.ped_rules.specs.Steps.{transformation, StepAt}
 use Rattle.ped_rules.specs.Chains.{no_rules, also, WhereLoop}
 use Rattle.ped_rules.specs.Rules.{WhereNoLoop, is_parallel, isnt_constant}
-use Rattle.ped_rules.specs.Spans.{Values, Span, span_of, spans_far}
+use Rattle.ped_rules.specs.Spans.{Span, span_of}
 use Rattle.ped_rules.specs.Fresh.{fresh_name}
-use Rattle.ped_scalar.specs.Scalars.{is_scalar, is_unfit, IsLiveBy, IsExposedBy, IsUnexposed}
+use Rattle.ped_rules.specs.Scalars.{is_scalar, is_unfit, IsLiveBy, IsExposedBy, IsUnexposed}
+use Rattle.ped_rules.specs.Scalars.{is_private_near, has_far_value}
+use Rattle.ped_rules.specs.ScalarArrays.{element, declaration}
 
 -- the name of the new array: the first of KX1, KX2 and so on that doesn't occur in the program; none where it would have more than 31 characters (this project)
 abbrev pub array_name : ProgramTree → Option (List ℕ)
 array_name t = fresh_name (codes "KX") t
-
--- an array with one subscript (ANSI X3.9-1978, section 5.3)
-abbrev pub element : List ℕ → ExprTree → ExprTree
-element array e = Element array (more_exprs e no_exprs)
 
 -- the scalar keeps what its last element holds, where it is live (Allen and Kennedy, section 5.3)
 abbrev pub kept_value : Bool → List ℕ → List ℕ → ℤ → StmtTrees
@@ -45,17 +39,9 @@ with_elements x array live last (Read items) = alone (Read items)
 with_elements x array live last Stop = alone Stop
 with_elements x array live last (Comment text) = alone (Comment text)
 
--- the declaration of the array, from the least to the greatest value of the DO's variable (ANSI X3.9-1978, section 5.1)
-abbrev pub declaration : List ℕ → Span → DeclTree
-declaration array v = Integer ((record { name = array; bounds = (record { lower = literal (int_min v.first v.last); upper = literal (int_max v.first v.last) }) ∷ [] }) ∷ [])
-
 -- the program after the step, with this array over these values (Allen and Kennedy, section 5.3)
 abbrev pub expanded : ProgramTree → ℕ → List ℕ → Bool → List ℕ → Span → ProgramTree
 expanded t s x live array v = record { decls = t.decls ++ declaration array v ∷ []; body = all_replaced (with_elements x array live v.last) s t.body 1 }
-
--- the name is in the PRIVATE list of the DO, of one in it or of one around it (ParaScope)
-abbrev pub is_private_near : ProgramTree → ℕ → Head → StmtTrees → List ℕ → Bool
-is_private_near t s h body x = is_among x (private_names_in (Do h body)) || list_any (λ l. is_among x l.head.private) (nest_round t s)
 
 -- the scalar is exposed in the DO by this statement, or else live after it by this statement and not assigned on each path through the body (Allen and Kennedy, section 5.3; this project)
 abbrev pub IsLostBy : ProgramTree → ℕ → List ℕ → ℕ → Type 0
@@ -90,15 +76,6 @@ expand_kept t s body live = map (λ n. (n, moved_behind (s + statements_count bo
 -- what the step makes (ParaScope)
 abbrev pub MakesExpanded : (s : ℕ) → List ℕ → ProgramTree → ProgramTree → List (ℕ × ℕ) → Type 0
 MakesExpanded s x t new keep = (l : LoopOf t s) × (e : IsExpanded t s x l.head new) × (keep ≡ expand_kept t s l.body e.live)
-
--- there are values of a DO's variable, and they pass the test
-abbrev pub of_span : (Span → Bool) → Option Span → Bool
-of_span test None = false
-of_span test (Some v) = test v
-
--- rule 9: the bounds are constant, there is an iteration, and a value of the DO's variable is one that no literal has (ANSI X3.9-1978, section 4.3; this project)
-abbrev pub has_far_value : Values → Head → StmtTrees → Bool
-has_far_value constants h body = of_span spans_far (span_of constants h)
 
 -- rule 12: a scalar is exposed in the DO, or live after it and not assigned on each path through the body. What is asked of a scalar isn't asked of another name (ParaScope; this project)
 abbrev pub WhereLost : ProgramTree → (s : ℕ) → List ℕ → ℕ → Type 0

@@ -1,17 +1,16 @@
 -- `privatise`: a scalar becomes private to the iterations of a DO. The new program, and the rules that forbid it (Allen and Kennedy, section 5.2; ParaScope).
-use Rattle.std.specs.Prelude.{◌≡◌, ◌⊎◌, ℕ, List, [], ◌∷◌, ◌++◌, Bool, not, ◌&&◌, ◌||◌, IsTrue}
-use Rattle.std.specs.List.{list_any}
+use Rattle.std.specs.Prelude.{◌≡◌, ◌⊎◌, ℕ, List, [], ◌∷◌, ◌++◌, Bool, not, ◌&&◌, IsTrue}
 use Rattle.ped_base.specs.Lists.{is_among}
 use Rattle.ped_tree.specs.Tree.{Head, StmtTree, StmtTrees, Assign, If, Do, Print, Read, Stop, Comment, ProgramTree}
-use Rattle.ped_rules.specs.ped_loop_runs.specs.ped_bodies.specs.ped_steps.specs.ped_flow.specs.PlainBounds.{nest_round}
-use Rattle.ped_rules.specs.ped_loop_runs.specs.ped_bodies.specs.ped_steps.specs.ped_flow.specs.Questions.{LoopOf}
-use Rattle.ped_rules.specs.ped_loop_runs.specs.ped_bodies.specs.ped_steps.specs.declared.rules.Rule.TheVariants.{NoLoop, ParallelState, ExposedOrLive, NotScalar, Limit, AlreadyPrivate}
-use Rattle.ped_rules.specs.ped_loop_runs.specs.ped_bodies.specs.ped_steps.specs.Causes.{Rules, IsFirstCause, none_forbids}
-use Rattle.ped_rules.specs.ped_loop_runs.specs.ped_bodies.specs.ped_steps.specs.Replacing.{alone, program_with, all_kept}
+use Rattle.ped_rules.specs.ped_flow.specs.Questions.{LoopOf}
+use Rattle.ped_rules.specs.ped_steps.specs.declared.rules.Rule.TheVariants.{NoLoop, ParallelState, ExposedOrLive, NotScalar, Limit, AlreadyPrivate}
+use Rattle.ped_rules.specs.ped_steps.specs.Causes.{Rules, IsFirstCause, none_forbids}
+use Rattle.ped_rules.specs.ped_steps.specs.Replacing.{alone, program_with, all_kept}
 use Rattle.ped_rules.specs.Steps.{transformation, StepAt}
 use Rattle.ped_rules.specs.Chains.{no_rules, also, WhereLoop}
 use Rattle.ped_rules.specs.Rules.{WhereNoLoop, WhereLimit}
-use Rattle.ped_scalar.specs.Scalars.{is_scalar, is_unfit, IsLiveBy, IsExposedBy, IsUnexposed}
+use Rattle.ped_rules.specs.Scalars.{is_scalar, is_unfit, IsLiveBy, IsExposedBy, IsUnexposed}
+use Rattle.ped_rules.specs.Scalars.{is_in_parallel}
 
 -- a DO with the name last in its PRIVATE list (ParaScope)
 abbrev pub with_private : List ℕ → StmtTree → StmtTrees
@@ -34,10 +33,6 @@ IsExposedOrLiveBy t s x n = IsExposedBy t s x n ⊎ (IsUnexposed t s x × IsLive
 -- the name is that of a scalar variable, which is exposed in the DO or live after it by this statement (ParaScope; this project)
 abbrev pub IsScalarExposedOrLiveBy : ProgramTree → ℕ → List ℕ → ℕ → Type 0
 IsScalarExposedOrLiveBy t s x n = IsTrue (is_scalar t x) × IsExposedOrLiveBy t s x n
-
--- rule 3: the DO or one around it is a PARALLEL DO (ParaScope)
-abbrev pub is_in_parallel : ProgramTree → ℕ → Head → StmtTrees → Bool
-is_in_parallel t s h body = h.parallel || list_any (λ m. m.head.parallel) (nest_round t s)
 
 -- rule 12: a scalar is exposed in the DO or live after it. What is asked of a scalar isn't asked of another name (ParaScope; this project)
 abbrev pub WhereExposedOrLive : ProgramTree → (s : ℕ) → List ℕ → ℕ → Type 0

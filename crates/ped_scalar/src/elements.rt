@@ -5,11 +5,12 @@ ghost use Rattle.ped_tree.specs.Tree;
 ghost use Rattle.ped_tree.specs.Views.{expr_tree, stmt_tree, stmt_trees, do_tree, decl_tree, program_tree};
 ghost use Rattle.ped_tree.specs.Numbering.{statements_count};
 ghost use Rattle.ped_tree.specs.Views.{head_of};
-ghost use Rattle.ped_rules.specs.ped_loop_runs.specs.ped_bodies.specs.ped_steps.specs.ped_flow.specs.Questions.{IsLoop};
-ghost use Rattle.ped_rules.specs.ped_loop_runs.specs.ped_bodies.specs.ped_steps.specs.ped_sums.specs.Sums as Sums;
-ghost use Rattle.ped_rules.specs.ped_loop_runs.specs.ped_bodies.specs.ped_steps.specs.ped_sums.specs.Substitution.{statements_substituted};
-ghost use Rattle.ped_rules.specs.ped_loop_runs.specs.ped_bodies.specs.ped_steps.specs.Replacing as Replacing;
+ghost use Rattle.ped_rules.specs.ped_flow.specs.Questions.{IsLoop};
+ghost use Rattle.ped_sums.specs.Sums as Sums;
+ghost use Rattle.ped_sums.specs.Substitution.{statements_substituted};
+ghost use Rattle.ped_rules.specs.ped_steps.specs.Replacing as Replacing;
 ghost use Rattle.ped_scalar.specs.Expanding as Spec;
+ghost use Rattle.ped_rules.specs.ScalarArrays as ScalarArrays;
 ghost use Rattle.ped_rules.specs.CodeSpans.{span_in, IsNear};
 
 use ped_base::{Name, NoMemory, both};
@@ -60,7 +61,7 @@ impl Elements {
     /// The declaration of the array.
     fn declaration(&self, alloc: Global) -> Result<Decl, NoMemory>
         requires near { IsNear self.now.span }
-        ensures { IfOk result (λ decl. decl_tree decl ≡ Spec.declaration self.now.array (span_in self.now.span)) }
+        ensures { IfOk result (λ decl. decl_tree decl ≡ ScalarArrays.declaration self.now.array (span_in self.now.span)) }
     {
         let lower = literal(alloc, self.span.first.min(self.span.last))?;
         let upper = literal(alloc, self.span.first.max(self.span.last));
@@ -91,7 +92,7 @@ impl Elements {
 
     /// The DO with the elements in place of the scalar.
     fn loop_with(&self, alloc: Global, d: &Do) -> Result<Stmt, NoMemory>
-        ensures { IfOk result (λ new. stmt_tree new ≡ Tree.Do (head_of d.now) (statements_substituted self.now.scalar (Spec.element self.now.array (Tree.Var d.now.variable)) (stmt_trees d.now.body.items))) }
+        ensures { IfOk result (λ new. stmt_tree new ≡ Tree.Do (head_of d.now) (statements_substituted self.now.scalar (ScalarArrays.element self.now.array (Tree.Var d.now.variable)) (stmt_trees d.now.body.items))) }
     {
         let element = element(alloc, self.array, Expr::scalar(d.variable))?;
         let substituted = substitute_in_statements(alloc, &d.body, &self.scalar, &element);
@@ -103,7 +104,7 @@ impl Elements {
     /// The assignment of the last element to the scalar.
     fn last(&self, alloc: Global) -> Result<Stmt, NoMemory>
         requires near { IsNear self.now.span }
-        ensures { IfOk result (λ new. stmt_tree new ≡ Tree.Assign (Tree.Var self.now.scalar) (Spec.element self.now.array (Sums.literal self.now.span.last))) }
+        ensures { IfOk result (λ new. stmt_tree new ≡ Tree.Assign (Tree.Var self.now.scalar) (ScalarArrays.element self.now.array (Sums.literal self.now.span.last))) }
     {
         let last = literal(alloc, self.span.last)?;
         let element = element(alloc, self.array, last)?;
@@ -113,7 +114,7 @@ impl Elements {
 
 /// An element of an array with one subscript.
 fn element(alloc: Global, array: Name, subscript: Expr) -> Result<Expr, NoMemory>
-    ensures { IfOk result (λ e. expr_tree e ≡ Spec.element array (expr_tree subscript)) }
+    ensures { IfOk result (λ e. expr_tree e ≡ ScalarArrays.element array (expr_tree subscript)) }
 {
     let mut subscripts = Vec::new(alloc);
     subscripts.push(subscript)?;

@@ -2,11 +2,11 @@
 
 ghost use Rattle.std.specs.Prelude.{◌≡◌, ℕ, List, Option, None, false};
 ghost use Rattle.ped_tree.specs.Tree.{ProgramTree};
-ghost use Rattle.ped_rules.specs.ped_loop_runs.specs.ped_bodies.specs.ped_steps.specs.ped_symbols.specs.NameRefusals.{IsValid};
-ghost use Rattle.ped_rules.specs.ped_loop_runs.specs.ped_bodies.specs.ped_steps.specs.ped_flow.specs.Questions.{LoopOf};
-ghost use Rattle.ped_rules.specs.ped_loop_runs.specs.ped_bodies.specs.ped_steps.specs.Causes.{Cause, IsFirstCause, none_forbids};
-ghost use Rattle.ped_rules.specs.ped_loop_runs.specs.ped_bodies.specs.ped_steps.specs.Tidy.{IsTidy};
-ghost use Rattle.ped_rules.specs.ped_loop_runs.specs.ped_bodies.specs.ped_steps.specs.Runs.Meaning.{Keeps};
+ghost use Rattle.ped_rules.specs.ped_symbols.specs.NameRefusals.{IsValid};
+ghost use Rattle.ped_rules.specs.ped_flow.specs.Questions.{LoopOf};
+ghost use Rattle.ped_rules.specs.ped_steps.specs.Causes.{Cause, IsFirstCause, none_forbids};
+ghost use Rattle.ped_rules.specs.ped_steps.specs.Tidy.{IsTidy};
+ghost use Rattle.ped_rules.specs.ped_steps.specs.Runs.Meaning.{Keeps};
 ghost use Rattle.ped_rules.specs.ped_loop_runs.specs.Unrejected.{some_rejection};
 ghost use Rattle.ped_rules.specs.Lawful.{IsLawful};
 ghost use Rattle.ped_scalar.specs.Privatising.{privatised, StandsAgainstPrivatising, privatising};

@@ -16,13 +16,4 @@ pub use laws::{
     one_cause_against_expanding, one_cause_against_privatising, privatising_is_lawful,
     privatising_keeps, privatising_rejects_nothing, privatising_stays_tidy,
 };
-pub use ped_rules::{
-    Change, Course, Flow, Keep, NewName, PairKey, Prepared, Reader, Refused, Rule, Scene, Span,
-    Symbols, accesses_are_made, accesses_in_sequence, against, all_but, all_kept, are_comments,
-    body_with, cause_words, change_to, conflicts_are_covered, course_of, escapes, first_carried,
-    first_crossing, flow_of, fresh_name, has_step_one, indices_unwritten, is_comment, is_far,
-    is_index_of, is_private_in, is_private_round, is_some_parallel, leaves, level_at, literal,
-    loop_at, loops_round, moved_by, none_rejected, occurs, one_for_one, only_loop, prepare,
-    private_names_cleared, program_with, stays_trusted, unit_step, valid_symbols,
-};
 pub use privatising::privatise;

@@ -5,9 +5,9 @@ ghost use Rattle.std.specs.List.{list_any};
 ghost use Rattle.ped_base.specs.Lists as Lists;
 ghost use Rattle.ped_tree.specs.Views.{stmt_trees, program_tree};
 ghost use Rattle.ped_tree.specs.Numbering.{statements_count};
-ghost use Rattle.ped_rules.specs.ped_loop_runs.specs.ped_bodies.specs.ped_steps.specs.ped_refs.specs.References.{references};
-ghost use Rattle.ped_rules.specs.ped_loop_runs.specs.ped_bodies.specs.ped_steps.specs.ped_refs.specs.Occurrences.{name_text, reference_of, references_of};
-ghost use Rattle.ped_scalar.specs.Scalars as Spec;
+ghost use Rattle.ped_refs.specs.References.{references};
+ghost use Rattle.ped_refs.specs.Occurrences.{name_text, reference_of, references_of};
+ghost use Rattle.ped_rules.specs.Scalars as Spec;
 
 use ped_base::{Name, NoMemory};
 use ped_refs::{Occurrence, RefName, occurrences};

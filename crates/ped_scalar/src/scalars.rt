@@ -3,13 +3,13 @@
 ghost use Rattle.std.specs.Prelude.{◌≡◌, ◌+◌, ◌<◌, ◌^◌, ℕ, length, IfOk, MatchOption};
 ghost use Rattle.ped_tree.specs.Numbering.{statements_count};
 ghost use Rattle.ped_tree.specs.Views.{stmt_trees, program_tree};
-ghost use Rattle.ped_rules.specs.ped_loop_runs.specs.ped_bodies.specs.ped_steps.specs.ped_refs.specs.References.{references};
-ghost use Rattle.ped_rules.specs.ped_loop_runs.specs.ped_bodies.specs.ped_steps.specs.ped_refs.specs.Loops.{nest_of};
+ghost use Rattle.ped_refs.specs.References.{references};
+ghost use Rattle.ped_refs.specs.Loops.{nest_of};
 ghost use Rattle.ped_tree.specs.Views.{head_of};
-ghost use Rattle.ped_rules.specs.ped_loop_runs.specs.ped_bodies.specs.ped_steps.specs.ped_flow.specs.PlainBounds.{nest_round};
-ghost use Rattle.ped_rules.specs.ped_loop_runs.specs.ped_bodies.specs.ped_steps.specs.ped_flow.specs.Questions.{IsLoop, IsFirst, IsExposed};
-ghost use Rattle.ped_rules.specs.ped_loop_runs.specs.ped_bodies.specs.ped_steps.specs.Scenes.{IsSceneOf, IsFlowOf};
-ghost use Rattle.ped_scalar.specs.Scalars as Spec;
+ghost use Rattle.ped_rules.specs.ped_flow.specs.PlainBounds.{nest_round};
+ghost use Rattle.ped_rules.specs.ped_flow.specs.Questions.{IsLoop, IsFirst, IsExposed};
+ghost use Rattle.ped_rules.specs.ped_steps.specs.Scenes.{IsSceneOf, IsFlowOf};
+ghost use Rattle.ped_rules.specs.Scalars as Spec;
 
 use crate::referring::is_referred;
 use ped_base::{Name, NoMemory};

@@ -3,15 +3,15 @@ use Rattle.std.proofs.Common.{◌≡◌, inl, inr, ℕ, ◌+◌, ◌-◌, ◌≤
 use Rattle.std.specs.Prelude.{MatchBool}
 use Rattle.std.proofs.lemmas.Bool.Decides.{nat_tests}
 use Rattle.ped_history.specs.Timeline.{Timeline, pushed}
-use Rattle.ped_session.specs.ped_tree.specs.Tree.{ProgramTree}
-use Rattle.ped_session.specs.ped_tree.specs.Printing.{program_text}
-use Rattle.ped_session.specs.ped_tree.specs.Grammar.Refusal.{Finding}
-use Rattle.ped_session.specs.ped_tree.specs.Grammar.RefusalViews.{finding_of}
-use Rattle.ped_session.specs.ped_tree.specs.declared.grammar.refusals.Refusal as of_text
+use Rattle.ped_tree.specs.Tree.{ProgramTree}
+use Rattle.ped_tree.specs.Printing.{program_text}
+use Rattle.ped_tree.specs.Grammar.Refusal.{Finding}
+use Rattle.ped_tree.specs.Grammar.RefusalViews.{finding_of}
+use Rattle.ped_tree.specs.declared.grammar.refusals.Refusal as of_text
 use Rattle.ped_valid.specs.Validity.{ReadsValid, RefusesText}
 use Rattle.ped_valid.proofs.OneVerdict.{one_of_both}
-use Rattle.ped_session.specs.ped_graph.specs.Held.{Held, held_of}
-use Rattle.ped_session.specs.ped_graph.specs.Update.Fresh.{fresh_pairs, tested_pairs}
+use Rattle.ped_transformations.specs.ped_graph.specs.Held.{Held, held_of}
+use Rattle.ped_transformations.specs.ped_graph.specs.Update.Fresh.{fresh_pairs, tested_pairs}
 use Rattle.ped_session.specs.declared.changes.Change.TheVariants.{Edit}
 use Rattle.ped_session.specs.declared.replies.Reply.{Reply}
 use Rattle.ped_session.specs.declared.replies.Reply.TheVariants.{Refused}

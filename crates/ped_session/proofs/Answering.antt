@@ -1,7 +1,7 @@
 -- Answers one behind another.
 use Rattle.std.proofs.Common.{◌≡◌, ◌∙◌, ℕ, ◌+◌, ◌<◌, ◌≤◌, ap, sym, refl, List, [], ◌∷◌, ◌++◌, length, take, drop, get_or, append-nil, append_assoc, Bool, true, false, ◌||◌, arith, subst}
 use Rattle.std.proofs.lemmas.List.{take_more, drop_more, take_all, take-append-drop}
-use Rattle.ped_session.specs.ped_transformations.specs.ped_script.specs.declared.items.Item.{Item}
+use Rattle.ped_script.specs.declared.items.Item.{Item}
 use Rattle.ped_session.specs.declared.answers.Answered.{Answered}
 use Rattle.ped_session.specs.States.{State}
 use Rattle.ped_session.specs.Adding.{Adds}

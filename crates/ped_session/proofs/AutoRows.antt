@@ -11,13 +11,13 @@ use Rattle.std.proofs.lemmas.List.Elements.{All-from_recursion}
 use Rattle.ped_base.proofs.FirstLines.{more_parts}
 use Rattle.ped_base.specs.Letters.{is_letter, is_digit, is_alphanumeric, begins_with_letter}
 use Rattle.ped_transformations.specs.ped_auto.specs.Editing.{IsOfStrategy}
-use Rattle.ped_session.specs.ped_transformations.specs.ped_script.specs.declared.items.Command.{Command}
-use Rattle.ped_session.specs.ped_transformations.specs.ped_script.specs.declared.items.Command.TheVariants.{Source, Deps, Show, Calls, Print, Advise, Replace, Insert, Delete, Interchange, Reverse, Skew, Strip, Peel, Distribute, Fuse, Inline, Expand, Privatise, Reduce, Parallel, Serial, Reject, Auto, Undo, Redo, Run, Races, Tested}
-use Rattle.ped_session.specs.ped_transformations.specs.ped_script.specs.declared.items.Item.{Item}
-use Rattle.ped_session.specs.ped_transformations.specs.ped_script.specs.Words.{words_of}
-use Rattle.ped_session.specs.ped_transformations.specs.ped_script.specs.Rows.{command_of}
-use Rattle.ped_session.specs.ped_transformations.specs.ped_script.specs.CommandTexts.{behind, line_of, command_text, IsShortNumber, IsShortName, IsWritable}
-use Rattle.ped_session.specs.ped_transformations.specs.ped_script.specs.Items.{with_text, whole_command, taken_lines, item_at, items_from, commands_of}
+use Rattle.ped_script.specs.declared.items.Command.{Command}
+use Rattle.ped_script.specs.declared.items.Command.TheVariants.{Source, Deps, Show, Calls, Print, Advise, Replace, Insert, Delete, Interchange, Reverse, Skew, Strip, Peel, Distribute, Fuse, Inline, Expand, Privatise, Reduce, Parallel, Serial, Reject, Auto, Undo, Redo, Run, Races, Tested}
+use Rattle.ped_script.specs.declared.items.Item.{Item}
+use Rattle.ped_script.specs.Words.{words_of}
+use Rattle.ped_script.specs.Rows.{command_of}
+use Rattle.ped_script.specs.CommandTexts.{behind, line_of, command_text, IsShortNumber, IsShortName, IsWritable}
+use Rattle.ped_script.specs.Items.{with_text, whole_command, taken_lines, item_at, items_from, commands_of}
 use Rattle.ped_session.specs.AutoAnswers.{script_row}
 use Rattle.ped_session.specs.AutoScripts.{script_of, items_on}
 

@@ -1,7 +1,7 @@
 -- The steps that `auto` takes, answered one behind another as a script.
 use Rattle.std.proofs.Common.{inl, ℕ, ◌+◌, List, [], ◌∷◌, refl, ap, ◌∙◌}
 use Rattle.ped_transformations.specs.ped_auto.specs.Replay.{Replays}
-use Rattle.ped_session.specs.ped_transformations.specs.ped_script.specs.declared.items.Command.{Command}
+use Rattle.ped_script.specs.declared.items.Command.{Command}
 use Rattle.ped_session.specs.declared.replies.Reply.TheVariants.{Changed}
 use Rattle.ped_session.specs.States.{State}
 use Rattle.ped_session.specs.Scripts.{said_by, AnswersItems}

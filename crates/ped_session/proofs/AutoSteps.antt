@@ -1,11 +1,11 @@
 -- The steps that `auto` takes in a session, one behind another.
 use Rattle.std.proofs.Common.{◌≡◌, inl, inr, ℕ, List, [], ◌∷◌, refl, sym, ap, subst}
-use Rattle.ped_transformations.specs.ped_reindex.specs.ped_loops.specs.ped_scalar.specs.ped_rules.specs.Steps.{transformation, StepAt, MaybeStep, no_step, some_step, MatchStep}
+use Rattle.ped_transformations.specs.ped_rules.specs.Steps.{transformation, StepAt, MaybeStep, no_step, some_step, MatchStep}
 use Rattle.ped_transformations.specs.ped_auto.specs.Replay.{Replays}
 use Rattle.ped_transformations.specs.ped_auto.specs.Strategy.{Report, IsAuto}
 use Rattle.ped_transformations.specs.ped_auto.proofs.OneCourse as course
 use Rattle.ped_transformations.specs.Table.{step_of}
-use Rattle.ped_session.specs.ped_transformations.specs.ped_script.specs.declared.items.Command.{Command}
+use Rattle.ped_script.specs.declared.items.Command.{Command}
 use Rattle.ped_session.specs.declared.replies.Reply.{Reply}
 use Rattle.ped_session.specs.declared.replies.Reply.TheVariants.{Changed}
 use Rattle.ped_session.specs.States.{Other, State}

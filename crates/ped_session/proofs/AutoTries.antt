@@ -1,18 +1,18 @@
 -- Steps that `auto` tries in a session.
 use Rattle.std.proofs.Common.{◌≡◌, ◌⊎◌, inl, inr, ℕ, ◌+◌, ◌-◌, ◌<◌, true, false, Option, Some, None, is_some, refl, sym, ap, subst, ◌∙◌, arith}
-use Rattle.ped_session.specs.ped_tree.specs.Tree.{StmtTree, ProgramTree}
-use Rattle.ped_session.specs.ped_tree.specs.Numbering.{statement_with}
-use Rattle.ped_session.specs.ped_tree.proofs.Numbers.{statement_with-none}
+use Rattle.ped_tree.specs.Tree.{StmtTree, ProgramTree}
+use Rattle.ped_tree.specs.Numbering.{statement_with}
+use Rattle.ped_tree.proofs.Numbers.{statement_with-none}
 use Rattle.ped_valid.specs.Validity.{ReadsValid}
-use Rattle.ped_transformations.specs.ped_reindex.specs.ped_loops.specs.ped_scalar.specs.ped_rules.specs.ped_loop_runs.specs.ped_bodies.specs.ped_steps.specs.Causes.{Cause}
-use Rattle.ped_transformations.specs.ped_reindex.specs.ped_loops.specs.ped_scalar.specs.ped_rules.specs.ped_loop_runs.specs.ped_bodies.specs.ped_steps.specs.CodeCauses.{cause_of}
-use Rattle.ped_transformations.specs.ped_reindex.specs.ped_loops.specs.ped_scalar.specs.ped_rules.specs.ped_loop_runs.specs.ped_bodies.specs.ped_steps.specs.declared.causes.Refused as code
-use Rattle.ped_transformations.specs.ped_reindex.specs.ped_loops.specs.ped_scalar.specs.ped_rules.specs.Steps.{transformation, StepAt, MaybeStep, no_step, some_step, MatchStep}
+use Rattle.ped_transformations.specs.ped_steps.specs.Causes.{Cause}
+use Rattle.ped_transformations.specs.ped_steps.specs.CodeCauses.{cause_of}
+use Rattle.ped_transformations.specs.ped_steps.specs.declared.causes.Refused as code
+use Rattle.ped_transformations.specs.ped_rules.specs.Steps.{transformation, StepAt, MaybeStep, no_step, some_step, MatchStep}
 use Rattle.ped_transformations.specs.ped_auto.specs.SerialLoops.{IsNumber, count_of}
 use Rattle.ped_transformations.specs.ped_auto.specs.Editing.{place_of, IsAt, CanTry, Answers}
 use Rattle.ped_transformations.specs.Table.{step_of}
-use Rattle.ped_session.specs.ped_transformations.specs.ped_script.specs.declared.items.Command.{Command}
-use Rattle.ped_session.specs.ped_transformations.specs.ped_script.specs.declared.items.Command.TheVariants.{Source, Deps, Show, Calls, Print, Advise, Replace, Insert, Delete, Interchange, Reverse, Skew, Strip, Peel, Distribute, Fuse, Inline, Expand, Privatise, Reduce, Parallel, Serial, Reject, Auto, Undo, Redo, Run, Races, Tested}
+use Rattle.ped_script.specs.declared.items.Command.{Command}
+use Rattle.ped_script.specs.declared.items.Command.TheVariants.{Source, Deps, Show, Calls, Print, Advise, Replace, Insert, Delete, Interchange, Reverse, Skew, Strip, Peel, Distribute, Fuse, Inline, Expand, Privatise, Reduce, Parallel, Serial, Reject, Auto, Undo, Redo, Run, Races, Tested}
 use Rattle.ped_session.specs.declared.replies.Refusal.TheVariants.{Step}
 use Rattle.ped_session.specs.declared.replies.Reply.{Reply}
 use Rattle.ped_session.specs.declared.replies.Reply.TheVariants.{Refused}

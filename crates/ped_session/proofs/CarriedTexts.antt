@@ -4,12 +4,12 @@ use Rattle.std.specs.Prelude.{if◌then◌else◌}
 use Rattle.std.specs.List.{list_any}
 use Rattle.std.proofs.lemmas.List.{map-append}
 use Rattle.ped_base.specs.Lists.{is_among, is_same_text}
-use Rattle.ped_session.specs.ped_tree.specs.Names.Collecting.{with_name}
-use Rattle.ped_session.specs.ped_refs.specs.Occurrences.{name_text}
-use Rattle.ped_session.specs.ped_refs.specs.declared.references.RefName.{RefName}
-use Rattle.ped_session.specs.ped_graph.specs.ped_edges.specs.Edges.{Edge}
-use Rattle.ped_session.specs.ped_graph.specs.ped_edges.specs.CodeEdges.{edge_of}
-use Rattle.ped_session.specs.ped_graph.specs.ped_edges.specs.declared.edges.Edge.{Edge as CodeEdge}
+use Rattle.ped_tree.specs.Names.Collecting.{with_name}
+use Rattle.ped_refs.specs.Occurrences.{name_text}
+use Rattle.ped_refs.specs.declared.references.RefName.{RefName}
+use Rattle.ped_edges.specs.Edges.{Edge}
+use Rattle.ped_edges.specs.CodeEdges.{edge_of}
+use Rattle.ped_edges.specs.declared.edges.Edge.{Edge as CodeEdge}
 use Rattle.ped_transformations.specs.ped_auto.specs.CarriedNames.{is_file, files_last}
 
 -- the name is there by its text

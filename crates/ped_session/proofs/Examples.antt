@@ -2,11 +2,11 @@
 use Rattle.std.proofs.Common.{◌≡◌, ℕ, pos, negsuc, List, [], ◌∷◌, true, false, Some, None, refl}
 use Rattle.std.specs.Prelude.{codes}
 use Rattle.std.specs.Fmt.{digits}
-use Rattle.ped_order.specs.ped_store.specs.Cells.{Scalar, Element, Private, In}
-use Rattle.ped_order.specs.ped_eval.specs.Outcomes.{Outcome, Ended, Fault}
+use Rattle.ped_store.specs.Cells.{Scalar, Element, Private, In}
+use Rattle.ped_eval.specs.Outcomes.{Outcome, Ended, Fault}
 use Rattle.ped_order.specs.Reports.{NoRace, Race}
 use Rattle.ped_order.specs.Reports as races
-use Rattle.ped_session.specs.ped_tree.specs.declared.grammar.refusals.RefusalKind.TheVariants.{OpenBlock, StorageLimit}
+use Rattle.ped_tree.specs.declared.grammar.refusals.RefusalKind.TheVariants.{OpenBlock, StorageLimit}
 use Rattle.ped_session.specs.declared.replies.Refusal.TheVariants.{BadEdit, NothingToUndo, NothingToRedo, NoSuchStatement, NoSuchLine}
 use Rattle.ped_session.specs.declared.replies.Reply.TheVariants.{Changed, Shown, Refused}
 use Rattle.ped_session.specs.Splices.{text_of_lines, spliced, are_lines, is_place}

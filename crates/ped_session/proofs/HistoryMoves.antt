@@ -1,7 +1,7 @@
 -- Steps along the history of a session.
 use Rattle.std.proofs.Common.{◌≡◌, ℕ, List, map, [], ◌∷◌, drop, slice_get, Option, Some, None, sym, ap, subst, ◌∙◌}
-use Rattle.ped_session.specs.ped_graph.specs.Held.{Held, held_of}
-use Rattle.ped_session.specs.ped_graph.specs.Update.Deltas.{TakesTo}
+use Rattle.ped_transformations.specs.ped_graph.specs.Held.{Held, held_of}
+use Rattle.ped_transformations.specs.ped_graph.specs.Update.Deltas.{TakesTo}
 use Rattle.ped_session.specs.declared.versions.Version.{Version}
 use Rattle.ped_session.specs.declared.versions.Entry.{Entry}
 use Rattle.ped_session.specs.declared.changes.Change.{Change}

@@ -5,11 +5,11 @@ use Rattle.std.specs.List.{AllByRecursion, count_by, range_with_len}
 use Rattle.std.proofs.lemmas.List.Elements.{All-from_recursion}
 use Rattle.std.proofs.lemmas.List.Kept.{AllPairs-cons}
 use Rattle.std.proofs.lemmas.List.Recursion.{is_count_by}
-use Rattle.ped_session.specs.ped_tree.specs.Tree.{ProgramTree}
-use Rattle.ped_session.specs.ped_tree.specs.Numbering.{statements_count}
-use Rattle.ped_session.specs.ped_tree.specs.Printing.{Line, begun_in, program_lines}
+use Rattle.ped_tree.specs.Tree.{ProgramTree}
+use Rattle.ped_tree.specs.Numbering.{statements_count}
+use Rattle.ped_tree.specs.Printing.{Line, begun_in, program_lines}
 use Rattle.ped_print.proofs.Begins.{of_program}
-use Rattle.ped_session.specs.ped_graph.specs.Update.Fresh.{IsOneToOne}
+use Rattle.ped_transformations.specs.ped_graph.specs.Update.Fresh.{IsOneToOne}
 use Rattle.ped_session.specs.Splices.{kept_front, kept_back, kept_ends, edit_keep}
 
 -- both numbers rise, from one pair up to another

@@ -1,25 +1,25 @@
 -- Transformations keep the meaning of a session's programs.
 use Rattle.std.proofs.Common.{◌≡◌, inl, inr, ℕ, List, [], ◌∷◌, map, Option, Some, None, refl, sym, ap, ◌∙◌, subst}
 use Rattle.std.specs.List.{range_with_len}
-use Rattle.ped_session.specs.ped_tree.specs.Tree.{ProgramTree}
-use Rattle.ped_session.specs.ped_tree.specs.Numbering.{statements_count}
-use Rattle.ped_session.specs.ped_tree.specs.Printing.{program_text}
-use Rattle.ped_valid.specs.ped_symbols.specs.NameRefusals.{IsValid}
+use Rattle.ped_tree.specs.Tree.{ProgramTree}
+use Rattle.ped_tree.specs.Numbering.{statements_count}
+use Rattle.ped_tree.specs.Printing.{program_text}
+use Rattle.ped_transformations.specs.ped_symbols.specs.NameRefusals.{IsValid}
 use Rattle.ped_valid.specs.Validity.{ReadsValid}
 use Rattle.ped_valid.proofs.OneVerdict.{valid_prints}
-use Rattle.ped_order.specs.ped_eval.specs.Runs.{Ending, going, stopped, failed}
-use Rattle.ped_order.specs.ped_eval.specs.Outcomes.{Outcome, run_of, outcome_of, outcome, Ends, IsRaceFree}
+use Rattle.ped_eval.specs.Runs.{Ending, going, stopped, failed}
+use Rattle.ped_eval.specs.Outcomes.{Outcome, run_of, outcome_of, outcome, Ends, IsRaceFree}
 use Rattle.ped_order.specs.ped_interleavings.specs.Interleavings.{IsInterleaved}
 use Rattle.ped_transformations.specs.ped_reduce.specs.Lowering.{Lowered, not_lowered}
 use Rattle.ped_transformations.specs.ped_reduce.specs.Reducing.{IsLowered}
 use Rattle.ped_transformations.specs.ped_reduce.proofs.LoweringLaws.{valid_stays}
-use Rattle.ped_transformations.specs.ped_reindex.specs.ped_loops.specs.ped_scalar.specs.ped_rules.specs.ped_loop_runs.specs.Unrejected.{IsTrusted}
-use Rattle.ped_transformations.specs.ped_reindex.specs.ped_loops.specs.ped_scalar.specs.ped_rules.specs.Lawful.{IsFaithful, Owes, IsLawful}
-use Rattle.ped_transformations.specs.ped_reindex.specs.ped_loops.specs.ped_scalar.specs.ped_rules.specs.ped_loop_runs.specs.ped_bodies.specs.ped_steps.specs.Runs.Meaning.{Keeps}
-use Rattle.ped_session.specs.ped_transformations.specs.ped_script.specs.declared.items.Command.{Command}
-use Rattle.ped_session.specs.ped_transformations.specs.ped_script.specs.declared.items.Command.TheVariants.{Run}
-use Rattle.ped_session.specs.ped_transformations.specs.ped_script.specs.declared.items.Item.{Item}
-use Rattle.ped_session.specs.ped_graph.specs.Held.{Held}
+use Rattle.ped_transformations.specs.ped_loop_runs.specs.Unrejected.{IsTrusted}
+use Rattle.ped_transformations.specs.ped_rules.specs.Lawful.{IsFaithful, Owes, IsLawful}
+use Rattle.ped_transformations.specs.ped_steps.specs.Runs.Meaning.{Keeps}
+use Rattle.ped_script.specs.declared.items.Command.{Command}
+use Rattle.ped_script.specs.declared.items.Command.TheVariants.{Run}
+use Rattle.ped_script.specs.declared.items.Item.{Item}
+use Rattle.ped_transformations.specs.ped_graph.specs.Held.{Held}
 use Rattle.ped_session.specs.declared.versions.Version.{Version}
 use Rattle.ped_session.specs.declared.versions.Entry.{Entry}
 use Rattle.ped_session.specs.Holding.{other_of, IsConsistent}
@@ -29,7 +29,7 @@ use Rattle.ped_session.specs.declared.replies.Reply.TheVariants.{Changed}
 use Rattle.ped_session.specs.States.{Other, State, opened}
 use Rattle.ped_session.specs.Blocks.{block, IsRunBlock}
 use Rattle.ped_session.specs.LoweredRuns.{told_by, IsLoweredRun}
-use Rattle.ped_transformations.specs.ped_reindex.specs.ped_loops.specs.ped_scalar.specs.ped_rules.specs.Steps.{StepKind, transformation, rejection, StepAt}
+use Rattle.ped_transformations.specs.ped_rules.specs.Steps.{StepKind, transformation, rejection, StepAt}
 use Rattle.ped_session.specs.Steps.{Edits, accepted, refused, change_by, Transforms, missing, forbidden, transformed, GoesBack, GoesForward, Shows, IsStep}
 use Rattle.ped_session.specs.Scripts.{Said, said_by, AnswersReply, AnswersCommand, AnswersItems}
 use Rattle.ped_session.specs.Meanings.{MeansTheSame, IsKept, IsPastKept, IsFutureKept, IsMeaningKept, ComesFrom, IsAsBefore, ShowsAsBefore}

@@ -1,8 +1,8 @@
 -- Where no list is found, no DO has one.
 use Rattle.std.proofs.Common.{◌≡◌, ℕ, ◌-◌, ◌==◌, Bool, true, false, ◌||◌, List, [], ◌∷◌, ◌++◌, Option, Some, None, refl, sym, ap, ◌∙◌}
 use Rattle.std.specs.Prelude.{if◌then◌else◌}
-use Rattle.ped_session.specs.ped_tree.specs.Tree.{StmtTree, StmtTrees, Assign, If, Do, Print, Read, Stop, Comment, no_stmts, more_stmts, ProgramTree}
-use Rattle.ped_session.specs.ped_tree.specs.Numbering.{numbered, all_numbered, at_place}
+use Rattle.ped_tree.specs.Tree.{StmtTree, StmtTrees, Assign, If, Do, Print, Read, Stop, Comment, no_stmts, more_stmts, ProgramTree}
+use Rattle.ped_tree.specs.Numbering.{numbered, all_numbered, at_place}
 use Rattle.ped_transformations.specs.ped_reduce.specs.Lists.{has_list}
 use Rattle.ped_session.specs.Listing.{holds_list, some_holds_list}
 use Rattle.ped_session.specs.LoweredRuns.{HasNoList}

@@ -1,14 +1,14 @@
 -- `undo` and `redo` move along the sources, and take each other back.
 use Rattle.std.proofs.Common.{◌≡◌, inl, inr, ℕ, zero, suc, List, [], ◌∷◌, refl, sym, ap, ◌∙◌, subst}
-use Rattle.ped_session.specs.ped_transformations.specs.ped_script.specs.declared.items.Command.{Command}
-use Rattle.ped_session.specs.ped_transformations.specs.ped_script.specs.declared.items.Command.TheVariants.{Undo, Redo}
+use Rattle.ped_script.specs.declared.items.Command.{Command}
+use Rattle.ped_script.specs.declared.items.Command.TheVariants.{Undo, Redo}
 use Rattle.ped_session.specs.declared.changes.Change.{Change}
 use Rattle.ped_session.specs.declared.changes.Change.TheVariants.{Edit}
 use Rattle.ped_session.specs.declared.replies.Refusal.{Refusal}
 use Rattle.ped_session.specs.declared.replies.Reply.{Reply}
 use Rattle.ped_session.specs.declared.replies.Reply.TheVariants.{Changed, Refused}
 use Rattle.ped_session.specs.States.{Other, State, gone_back_to, gone_forward_to}
-use Rattle.ped_transformations.specs.ped_reindex.specs.ped_loops.specs.ped_scalar.specs.ped_rules.specs.Steps.{StepAt}
+use Rattle.ped_transformations.specs.ped_rules.specs.Steps.{StepAt}
 use Rattle.ped_session.specs.Steps.{Edits, accepted, refused, change_by, Transforms, missing, forbidden, transformed, GoesBack, GoesForward, IsStep, IsMove}
 use Rattle.ped_session.specs.Histories.{HaveSameSources, Times}
 use Rattle.ped_session.proofs.Doing.{Does, by_nothing, by_edit, by_step, by_undo, by_redo, does}

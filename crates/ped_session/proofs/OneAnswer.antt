@@ -1,9 +1,9 @@
 -- The items of a script have one answer in a state, and lead to one state.
 use Rattle.std.proofs.Common.{◌≡◌, inl, inr, ℕ, List, [], ◌∷◌, Option, Some, None, sym, ◌∙◌, subst}
 use Rattle.ped_transformations.specs.ped_auto.proofs.OneCourse.{one_auto}
-use Rattle.ped_session.specs.ped_transformations.specs.ped_script.specs.declared.items.Command.{Command}
-use Rattle.ped_session.specs.ped_transformations.specs.ped_script.specs.declared.items.Command.TheVariants.{Auto}
-use Rattle.ped_session.specs.ped_transformations.specs.ped_script.specs.declared.items.Item.{Item}
+use Rattle.ped_script.specs.declared.items.Command.{Command}
+use Rattle.ped_script.specs.declared.items.Command.TheVariants.{Auto}
+use Rattle.ped_script.specs.declared.items.Item.{Item}
 use Rattle.ped_session.specs.declared.replies.Reply.{Reply}
 use Rattle.ped_session.specs.States.{State}
 use Rattle.ped_session.specs.Steps.{IsStep}

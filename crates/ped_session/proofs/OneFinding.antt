@@ -1,11 +1,11 @@
 -- Refusals of the code that stand for one finding are one refusal.
 use Rattle.std.proofs.Common.{◌≡◌, refl, sym, ap, ◌∙◌}
-use Rattle.ped_session.specs.ped_tree.specs.Grammar.Refusal as plain
-use Rattle.ped_session.specs.ped_tree.specs.Grammar.Refusal.{Refusal, Finding}
-use Rattle.ped_session.specs.ped_tree.specs.declared.grammar.refusals.RefusalKind.{RefusalKind}
-use Rattle.ped_session.specs.ped_tree.specs.declared.grammar.refusals.RefusalKind.TheVariants as kind
-use Rattle.ped_session.specs.ped_tree.specs.declared.grammar.refusals.Refusal as declared
-use Rattle.ped_session.specs.ped_tree.specs.Grammar.RefusalViews.{kind_of, finding_of}
+use Rattle.ped_tree.specs.Grammar.Refusal as plain
+use Rattle.ped_tree.specs.Grammar.Refusal.{Refusal, Finding}
+use Rattle.ped_tree.specs.declared.grammar.refusals.RefusalKind.{RefusalKind}
+use Rattle.ped_tree.specs.declared.grammar.refusals.RefusalKind.TheVariants as kind
+use Rattle.ped_tree.specs.declared.grammar.refusals.Refusal as declared
+use Rattle.ped_tree.specs.Grammar.RefusalViews.{kind_of, finding_of}
 
 -- the kind of a refusal
 abbrev back : Refusal → RefusalKind

@@ -2,9 +2,9 @@
 use Rattle.std.proofs.Common.{◌≡◌, ◌↔◌, ℕ, zero, suc, ◌+◌, List, refl, sym, ap, ◌∙◌, subst, arith}
 use Rattle.std.specs.Prelude.{slice_index_or}
 use Rattle.std.specs.List.{range_with_len}
-use Rattle.ped_session.specs.ped_tree.specs.Tree.{ProgramTree}
-use Rattle.ped_session.specs.ped_tree.specs.Numbering.{statements_count}
-use Rattle.ped_order.specs.ped_eval.specs.Outcomes.{Outcome, Ended, Fault}
+use Rattle.ped_tree.specs.Tree.{ProgramTree}
+use Rattle.ped_tree.specs.Numbering.{statements_count}
+use Rattle.ped_eval.specs.Outcomes.{Outcome, Ended, Fault}
 use Rattle.ped_order.specs.ped_interleavings.specs.Interleavings.{at_start, IsInterleaved}
 use Rattle.ped_order.proofs.OneOutcome.{one_outcome}
 use Rattle.ped_transformations.specs.ped_reduce.specs.Lowering.{Lowered, not_lowered}

@@ -1,12 +1,12 @@
 -- The present source of a session reads as its program alone, whose graph is held.
 use Rattle.std.proofs.Common.{◌≡◌, ℕ, List, length, refl, sym, ap, subst, ◌∙◌}
-use Rattle.ped_session.specs.ped_tree.specs.Tree.{ProgramTree}
+use Rattle.ped_tree.specs.Tree.{ProgramTree}
 use Rattle.ped_valid.specs.Validity.{ReadsValid}
 use Rattle.ped_valid.proofs.OneVerdict.{valid_prints}
-use Rattle.ped_session.specs.ped_graph.specs.ped_edges.specs.Edges.{Edge}
-use Rattle.ped_session.specs.ped_graph.specs.Dependences.{AreEdges}
-use Rattle.ped_session.specs.ped_graph.specs.Held.{Held, held_of}
-use Rattle.ped_session.specs.ped_graph.proofs.OnePane.{one_edges}
+use Rattle.ped_edges.specs.Edges.{Edge}
+use Rattle.ped_transformations.specs.ped_graph.specs.Dependences.{AreEdges}
+use Rattle.ped_transformations.specs.ped_graph.specs.Held.{Held, held_of}
+use Rattle.ped_transformations.specs.ped_graph.proofs.OnePane.{one_edges}
 use Rattle.ped_session.specs.declared.versions.Version.{Version}
 use Rattle.ped_session.specs.declared.versions.Entry.{Entry}
 use Rattle.ped_session.specs.Holding.{tree_of, IsVersion, IsConsistent}

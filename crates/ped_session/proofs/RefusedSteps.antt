@@ -1,10 +1,10 @@
 -- A refused command leaves the session as it was.
 use Rattle.std.proofs.Common.{◌≡◌, ℕ, List, [], ◌∷◌}
-use Rattle.ped_session.specs.ped_transformations.specs.ped_script.specs.declared.items.Command.{Command}
+use Rattle.ped_script.specs.declared.items.Command.{Command}
 use Rattle.ped_session.specs.declared.replies.Refusal.{Refusal}
 use Rattle.ped_session.specs.declared.replies.Reply.TheVariants.{Refused}
 use Rattle.ped_session.specs.States.{Other, State}
-use Rattle.ped_transformations.specs.ped_reindex.specs.ped_loops.specs.ped_scalar.specs.ped_rules.specs.Steps.{StepAt}
+use Rattle.ped_transformations.specs.ped_rules.specs.Steps.{StepAt}
 use Rattle.ped_session.specs.Steps.{Edits, accepted, refused, Transforms, missing, forbidden, transformed, GoesBack, GoesForward, IsStep}
 use Rattle.ped_session.proofs.Doing.{Does, by_nothing, by_edit, by_step, by_undo, by_redo, no_refusal, does}
 

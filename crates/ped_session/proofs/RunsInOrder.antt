@@ -1,10 +1,10 @@
 -- Without choices a program runs in order, by what it is lowered to.
 use Rattle.std.proofs.Common.{◌≡◌, ℕ, List, [], ap, ◌∙◌}
 use Rattle.std.specs.List.{range_with_len}
-use Rattle.ped_session.specs.ped_tree.specs.Tree.{ProgramTree}
-use Rattle.ped_session.specs.ped_tree.specs.Numbering.{statements_count}
+use Rattle.ped_tree.specs.Tree.{ProgramTree}
+use Rattle.ped_tree.specs.Numbering.{statements_count}
 use Rattle.ped_valid.specs.Validity.{ReadsValid}
-use Rattle.ped_order.specs.ped_eval.specs.Outcomes.{Outcome, outcome}
+use Rattle.ped_eval.specs.Outcomes.{Outcome, outcome}
 use Rattle.ped_order.specs.ped_interleavings.specs.Interleavings.{IsInterleaved}
 use Rattle.ped_transformations.specs.ped_reduce.specs.Lowering.{not_lowered}
 use Rattle.ped_transformations.specs.ped_reduce.specs.Reducing.{IsLowered}

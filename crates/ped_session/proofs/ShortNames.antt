@@ -7,25 +7,25 @@ use Rattle.std.proofs.lemmas.List.Folds.{list_all-append, list_all-map}
 use Rattle.ped_base.specs.Letters as Letters
 use Rattle.ped_base.specs.Lists.{has_some, is_same_text, is_among}
 use Rattle.ped_base.proofs.NameEquality.{same_is}
-use Rattle.ped_session.specs.ped_tree.specs.Tree.{ExprTree, ExprTrees, Int, Var, Element, Neg, Add, Sub, Mul, Div, Pow, Call, no_exprs, more_exprs, CondTree, Rel, Not, And, Or, ItemTree, Value, Text, Head, StmtTree, StmtTrees, Assign, If, Do, Print, Read, Stop, Comment, no_stmts, more_stmts, BoundTree, DeclaratorTree, DeclTree, Program, Implicit, Integer, Dimension, Parameter, Save, Remark, ProgramTree}
-use Rattle.ped_session.specs.ped_tree.specs.Numbering.{statement_count, statements_count}
-use Rattle.ped_session.specs.ped_tree.specs.Printing.{decl_text}
-use Rattle.ped_session.specs.ped_tree.specs.Grammar.LimitNumbers.{most_characters}
-use Rattle.ped_session.specs.ped_tree.specs.Grammar.ProgramRefusals.{is_out_of_order}
-use Rattle.ped_session.specs.ped_tree.specs.Grammar.Words.{is_name}
-use Rattle.ped_session.specs.ped_tree.specs.Grammar.StatementForms.{are_names}
-use Rattle.ped_session.specs.ped_tree.specs.Grammar.Contexts.{decl_rank}
-use Rattle.ped_session.specs.ped_tree.specs.Grammar.Fits.{expr_fits, exprs_fit, has_expr, target_fits, cond_fits, item_fits, Surroundings, moved, in_if, in_loop, private_fits, loop_fits, stmt_fits, stmts_fit, bound_fits, declarator_fits, array_fits, constant_fits, decl_fits, decls_fit, begins_with_statement, at_body, fits}
-use Rattle.ped_valid.specs.ped_symbols.specs.declared.uses.Role.{Role}
-use Rattle.ped_valid.specs.ped_symbols.specs.declared.uses.Role.TheVariants.{Typed, Dimensioned, Named, Saved, Rejected, Private, Index, Assigned, Operand}
-use Rattle.ped_valid.specs.ped_symbols.specs.declared.uses.Use.{Use}
-use Rattle.ped_valid.specs.ped_symbols.specs.Uses.{used_as, expr_uses, exprs_uses, cond_uses, target_uses, item_uses, own_uses, bounds_uses, dimension_uses, type_uses}
-use Rattle.ped_valid.specs.ped_symbols.specs.Sites.{Site, declaration, statement, private_names, private_site, stmt_sites, stmts_sites, decl_sites, program_sites, site_uses}
-use Rattle.ped_valid.specs.ped_symbols.specs.Kinds.{names_at, names_of, kind_of}
-use Rattle.ped_valid.specs.ped_symbols.specs.RightUses.RightUses.{is_scalar_kind}
-use Rattle.ped_valid.specs.ped_symbols.specs.NameRefusals.{IsValid}
-use Rattle.ped_valid.specs.ped_symbols.proofs.RightUseLaws.Occurring.{first_among}
-use Rattle.ped_transformations.specs.ped_reindex.specs.ped_loops.specs.ped_scalar.specs.Scalars.{is_scalar}
+use Rattle.ped_tree.specs.Tree.{ExprTree, ExprTrees, Int, Var, Element, Neg, Add, Sub, Mul, Div, Pow, Call, no_exprs, more_exprs, CondTree, Rel, Not, And, Or, ItemTree, Value, Text, Head, StmtTree, StmtTrees, Assign, If, Do, Print, Read, Stop, Comment, no_stmts, more_stmts, BoundTree, DeclaratorTree, DeclTree, Program, Implicit, Integer, Dimension, Parameter, Save, Remark, ProgramTree}
+use Rattle.ped_tree.specs.Numbering.{statement_count, statements_count}
+use Rattle.ped_tree.specs.Printing.{decl_text}
+use Rattle.ped_tree.specs.Grammar.LimitNumbers.{most_characters}
+use Rattle.ped_tree.specs.Grammar.ProgramRefusals.{is_out_of_order}
+use Rattle.ped_tree.specs.Grammar.Words.{is_name}
+use Rattle.ped_tree.specs.Grammar.StatementForms.{are_names}
+use Rattle.ped_tree.specs.Grammar.Contexts.{decl_rank}
+use Rattle.ped_tree.specs.Grammar.Fits.{expr_fits, exprs_fit, has_expr, target_fits, cond_fits, item_fits, Surroundings, moved, in_if, in_loop, private_fits, loop_fits, stmt_fits, stmts_fit, bound_fits, declarator_fits, array_fits, constant_fits, decl_fits, decls_fit, begins_with_statement, at_body, fits}
+use Rattle.ped_transformations.specs.ped_symbols.specs.declared.uses.Role.{Role}
+use Rattle.ped_transformations.specs.ped_symbols.specs.declared.uses.Role.TheVariants.{Typed, Dimensioned, Named, Saved, Rejected, Private, Index, Assigned, Operand}
+use Rattle.ped_transformations.specs.ped_symbols.specs.declared.uses.Use.{Use}
+use Rattle.ped_transformations.specs.ped_symbols.specs.Uses.{used_as, expr_uses, exprs_uses, cond_uses, target_uses, item_uses, own_uses, bounds_uses, dimension_uses, type_uses}
+use Rattle.ped_transformations.specs.ped_symbols.specs.Sites.{Site, declaration, statement, private_names, private_site, stmt_sites, stmts_sites, decl_sites, program_sites, site_uses}
+use Rattle.ped_transformations.specs.ped_symbols.specs.Kinds.{names_at, names_of, kind_of}
+use Rattle.ped_transformations.specs.ped_symbols.specs.RightUses.RightUses.{is_scalar_kind}
+use Rattle.ped_transformations.specs.ped_symbols.specs.NameRefusals.{IsValid}
+use Rattle.ped_transformations.specs.ped_symbols.proofs.RightUseLaws.Occurring.{first_among}
+use Rattle.ped_transformations.specs.ped_rules.specs.Scalars.{is_scalar}
 use Rattle.ped_transformations.specs.ped_auto.specs.CarriedNames.{is_file}
 use Rattle.ped_transformations.specs.ped_auto.specs.Replay.{HasShortNames}
 use Rattle.ped_session.specs.AutoEditing.{session_editing}

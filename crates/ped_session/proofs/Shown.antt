@@ -1,9 +1,9 @@
 -- What is shown of the present program of a session.
 use Rattle.std.proofs.Common.{◌≡◌, ℕ, ◌+◌, List, refl, ap, true, false, Option, Some, None, is_some, arith}
-use Rattle.ped_session.specs.ped_tree.specs.Tree.{StmtTree, ProgramTree}
-use Rattle.ped_session.specs.ped_tree.specs.Numbering.{statement_with}
-use Rattle.ped_session.specs.ped_graph.specs.DependencePane.{IsDependencePane, IsDependencePaneOf}
-use Rattle.ped_session.specs.ped_transformations.specs.ped_script.specs.declared.items.Command.TheVariants.{Deps}
+use Rattle.ped_tree.specs.Tree.{StmtTree, ProgramTree}
+use Rattle.ped_tree.specs.Numbering.{statement_with}
+use Rattle.ped_transformations.specs.ped_graph.specs.DependencePane.{IsDependencePane, IsDependencePaneOf}
+use Rattle.ped_script.specs.declared.items.Command.TheVariants.{Deps}
 use Rattle.ped_session.specs.declared.versions.Version.{Version}
 use Rattle.ped_session.specs.declared.replies.Refusal.TheVariants.{NoSuchStatement}
 use Rattle.ped_session.specs.declared.replies.Reply.{Reply}

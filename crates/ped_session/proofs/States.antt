@@ -1,9 +1,9 @@
 -- States of sessions by their parts.
 use Rattle.std.proofs.Common.{◌≡◌, ℕ, List, [], map}
 use Rattle.ped_history.specs.Timeline.{Timeline, timeline}
-use Rattle.ped_session.specs.ped_tree.specs.Tree.{ProgramTree}
-use Rattle.ped_session.specs.ped_tree.specs.Printing.{program_text}
-use Rattle.ped_session.specs.ped_graph.specs.ped_refs.specs.References.{references, pair_count}
+use Rattle.ped_tree.specs.Tree.{ProgramTree}
+use Rattle.ped_tree.specs.Printing.{program_text}
+use Rattle.ped_refs.specs.References.{references, pair_count}
 use Rattle.ped_session.specs.declared.versions.Entry.{Entry}
 use Rattle.ped_session.specs.Holding.{other_of}
 use Rattle.ped_session.specs.States.{State, opened}

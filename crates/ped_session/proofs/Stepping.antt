@@ -1,25 +1,25 @@
 -- Answers of steps, and what a session makes of them.
 use Rattle.std.proofs.Common.{◌≡◌, ℕ, ◌+◌, ◌≤◌, List, true, false, Some, None, Result, Ok, Err, is_some, refl, sym, ap, subst, ◌∙◌, arith}
-use Rattle.ped_session.specs.ped_tree.specs.Tree.{ProgramTree}
-use Rattle.ped_session.specs.ped_tree.specs.Views.{program_tree}
-use Rattle.ped_session.specs.ped_tree.specs.Printing.{program_text}
-use Rattle.ped_session.specs.ped_tree.specs.Numbering.{statement_with}
-use Rattle.ped_valid.specs.ped_symbols.specs.Kinds.{table_of}
-use Rattle.ped_valid.specs.ped_symbols.specs.NameRefusals.{IsValid}
+use Rattle.ped_tree.specs.Tree.{ProgramTree}
+use Rattle.ped_tree.specs.Views.{program_tree}
+use Rattle.ped_tree.specs.Printing.{program_text}
+use Rattle.ped_tree.specs.Numbering.{statement_with}
+use Rattle.ped_transformations.specs.ped_symbols.specs.Kinds.{table_of}
+use Rattle.ped_transformations.specs.ped_symbols.specs.NameRefusals.{IsValid}
 use Rattle.ped_valid.specs.Validity.{ReadsValid}
-use Rattle.ped_session.specs.ped_graph.specs.Update.Fresh.{tested_pairs}
-use Rattle.ped_transformations.specs.ped_reindex.specs.ped_loops.specs.ped_scalar.specs.ped_rules.specs.ped_loop_runs.specs.ped_bodies.specs.ped_steps.specs.declared.causes.Refused.{Refused}
-use Rattle.ped_transformations.specs.ped_reindex.specs.ped_loops.specs.ped_scalar.specs.ped_rules.specs.ped_loop_runs.specs.ped_bodies.specs.ped_steps.specs.declared.changes.Change as step
-use Rattle.ped_transformations.specs.ped_reindex.specs.ped_loops.specs.ped_scalar.specs.ped_rules.specs.ped_loop_runs.specs.ped_bodies.specs.ped_steps.specs.CodeCauses.{cause_of}
-use Rattle.ped_transformations.specs.ped_reindex.specs.ped_loops.specs.ped_scalar.specs.ped_rules.specs.ped_loop_runs.specs.ped_bodies.specs.ped_steps.specs.Changes.{IsChange}
+use Rattle.ped_transformations.specs.ped_graph.specs.Update.Fresh.{tested_pairs}
+use Rattle.ped_transformations.specs.ped_steps.specs.declared.causes.Refused.{Refused}
+use Rattle.ped_transformations.specs.ped_steps.specs.declared.changes.Change as step
+use Rattle.ped_transformations.specs.ped_steps.specs.CodeCauses.{cause_of}
+use Rattle.ped_transformations.specs.ped_steps.specs.Changes.{IsChange}
 use Rattle.ped_session.specs.declared.replies.Refusal.TheVariants.{NoSuchStatement}
 use Rattle.ped_session.specs.declared.replies.Reply.{Reply}
 use Rattle.ped_session.specs.declared.replies.Reply.TheVariants as reply
 use Rattle.ped_session.specs.declared.versions.Version.{Version}
 use Rattle.ped_session.specs.States.{State, changed_to}
 use Rattle.ped_session.specs.Holding.{tree_of, IsVersion}
-use Rattle.ped_transformations.specs.ped_reindex.specs.ped_loops.specs.ped_scalar.specs.ped_rules.specs.Steps.{StepAt, Answers}
-use Rattle.ped_transformations.specs.ped_reindex.specs.ped_loops.specs.ped_scalar.specs.ped_rules.specs.Lawful.{IsLawful}
+use Rattle.ped_transformations.specs.ped_rules.specs.Steps.{StepAt, Answers}
+use Rattle.ped_transformations.specs.ped_rules.specs.Lawful.{IsLawful}
 use Rattle.ped_session.specs.Steps.{change_by, Transforms, missing, forbidden, transformed}
 use Rattle.ped_session.specs.Changing.{IsStepAnswer, IsTakeable, Takes, most_tests}
 use Rattle.ped_session.specs.Scripts.{tests_of}

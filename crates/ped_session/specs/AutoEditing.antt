@@ -1,10 +1,10 @@
 -- A session as the editor of `auto`: its present program, the commands that it accepts, and those that it refuses (ParaScope; this project).
 use Rattle.std.specs.Prelude.{◌≡◌}
 use Rattle.ped_valid.specs.Validity.{ReadsValid}
-use Rattle.ped_transformations.specs.ped_reindex.specs.ped_loops.specs.ped_scalar.specs.ped_rules.specs.Steps.{transformation, StepAt, MatchStep}
+use Rattle.ped_transformations.specs.ped_rules.specs.Steps.{transformation, StepAt, MatchStep}
 use Rattle.ped_transformations.specs.ped_auto.specs.Editing.{Editing}
 use Rattle.ped_transformations.specs.Table.{step_of}
-use Rattle.ped_session.specs.ped_transformations.specs.ped_script.specs.declared.items.Command.{Command}
+use Rattle.ped_script.specs.declared.items.Command.{Command}
 use Rattle.ped_session.specs.declared.replies.Refusal.TheVariants.{Step}
 use Rattle.ped_session.specs.declared.replies.Reply.{Reply}
 use Rattle.ped_session.specs.declared.replies.Reply.TheVariants.{Changed, Refused}

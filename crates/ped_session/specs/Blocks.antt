@@ -2,8 +2,8 @@
 use Rattle.std.specs.Prelude.{◌≡◌, ℕ, ℤ, List, [], ◌∷◌, ◌++◌, codes, Option, Some, None}
 use Rattle.std.specs.Fmt.{decimal, signed_decimal}
 use Rattle.std.specs.List.{flat_map}
-use Rattle.ped_session.specs.ped_tree.specs.Tree.{ProgramTree}
-use Rattle.ped_order.specs.ped_eval.specs.Outcomes.{LiveRow, Outcome, Ended, Fault}
+use Rattle.ped_tree.specs.Tree.{ProgramTree}
+use Rattle.ped_eval.specs.Outcomes.{LiveRow, Outcome, Ended, Fault}
 use Rattle.ped_session.specs.LoweredRuns.{IsLoweredRun}
 
 -- a line that the program has printed, after a bar and a blank

@@ -1,15 +1,15 @@
 -- Accepted changes and answers of steps, as the code has them. Only contracts of private functions use it (this project).
 use Rattle.std.specs.Prelude.{◌≡◌, ℕ, List, Some, None, Result, Ok, Err}
-use Rattle.ped_session.specs.ped_tree.specs.Tree.{ProgramTree}
-use Rattle.ped_session.specs.ped_tree.specs.Printing.{program_text}
-use Rattle.ped_session.specs.ped_tree.specs.Views.{program_tree}
-use Rattle.ped_valid.specs.ped_symbols.specs.Kinds.{table_of}
-use Rattle.ped_valid.specs.ped_symbols.specs.NameRefusals.{IsValid}
+use Rattle.ped_tree.specs.Tree.{ProgramTree}
+use Rattle.ped_tree.specs.Printing.{program_text}
+use Rattle.ped_tree.specs.Views.{program_tree}
+use Rattle.ped_transformations.specs.ped_symbols.specs.Kinds.{table_of}
+use Rattle.ped_transformations.specs.ped_symbols.specs.NameRefusals.{IsValid}
 use Rattle.ped_valid.specs.Validity.{ReadsValid}
-use Rattle.ped_session.specs.ped_graph.specs.Update.Fresh.{IsOneToOne, tested_pairs}
-use Rattle.ped_transformations.specs.ped_reindex.specs.ped_loops.specs.ped_scalar.specs.ped_rules.specs.ped_loop_runs.specs.ped_bodies.specs.ped_steps.specs.declared.causes.Refused.{Refused}
-use Rattle.ped_transformations.specs.ped_reindex.specs.ped_loops.specs.ped_scalar.specs.ped_rules.specs.ped_loop_runs.specs.ped_bodies.specs.ped_steps.specs.declared.changes.Change as step
-use Rattle.ped_transformations.specs.ped_reindex.specs.ped_loops.specs.ped_scalar.specs.ped_rules.specs.ped_loop_runs.specs.ped_bodies.specs.ped_steps.specs.CodeCauses.{cause_of, IsShort}
+use Rattle.ped_transformations.specs.ped_graph.specs.Update.Fresh.{IsOneToOne, tested_pairs}
+use Rattle.ped_transformations.specs.ped_steps.specs.declared.causes.Refused.{Refused}
+use Rattle.ped_transformations.specs.ped_steps.specs.declared.changes.Change as step
+use Rattle.ped_transformations.specs.ped_steps.specs.CodeCauses.{cause_of, IsShort}
 use Rattle.ped_session.specs.declared.changes.Change.{Change}
 use Rattle.ped_session.specs.declared.changes.Change.TheVariants.{Edit}
 use Rattle.ped_session.specs.declared.replies.Refusal.TheVariants as refusal
@@ -18,9 +18,9 @@ use Rattle.ped_session.specs.declared.replies.Reply.TheVariants.{Changed}
 use Rattle.ped_session.specs.States.{State, changed_to}
 use Rattle.ped_session.specs.Splices.{edit_keep}
 use Rattle.ped_session.specs.Meanings.{IsKept}
-use Rattle.ped_transformations.specs.ped_reindex.specs.ped_loops.specs.ped_scalar.specs.ped_rules.specs.Steps.{StepAt, MatchStep}
+use Rattle.ped_transformations.specs.ped_rules.specs.Steps.{StepAt, MatchStep}
 use Rattle.ped_transformations.specs.Table.{step_of}
-use Rattle.ped_session.specs.ped_transformations.specs.ped_script.specs.declared.items.Command.{Command}
+use Rattle.ped_script.specs.declared.items.Command.{Command}
 use Rattle.ped_session.specs.Steps.{Refuses, change_by}
 
 -- the printed text of a program has become the present source by a change that keeps these statements

@@ -1,7 +1,7 @@
 -- Replies to steps, as the code has them. Only contracts of private functions use it (this project).
 use Rattle.std.specs.Prelude.{◌≡◌, Option, Some, None, ⊤}
-use Rattle.ped_transformations.specs.ped_reindex.specs.ped_loops.specs.ped_scalar.specs.ped_rules.specs.ped_loop_runs.specs.ped_bodies.specs.ped_steps.specs.declared.causes.Refused.{Refused}
-use Rattle.ped_transformations.specs.ped_reindex.specs.ped_loops.specs.ped_scalar.specs.ped_rules.specs.ped_loop_runs.specs.ped_bodies.specs.ped_steps.specs.CodeCauses.{cause_of, IsShort}
+use Rattle.ped_transformations.specs.ped_steps.specs.declared.causes.Refused.{Refused}
+use Rattle.ped_transformations.specs.ped_steps.specs.CodeCauses.{cause_of, IsShort}
 use Rattle.ped_session.specs.declared.replies.Refusal.{Refusal}
 use Rattle.ped_session.specs.declared.replies.Refusal.TheVariants.{BadEdit, Step, NothingToUndo, NothingToRedo, NoSuchStatement, NoSuchLine}
 use Rattle.ped_session.specs.declared.replies.Reply.{Reply}

@@ -1,9 +1,9 @@
 -- What holds of a session whatever is done (ParaScope; this project).
 use Rattle.std.specs.Prelude.{◌≡◌, ℕ, zero, suc, List, All}
-use Rattle.ped_session.specs.ped_tree.specs.Tree.{ProgramTree}
-use Rattle.ped_session.specs.ped_tree.specs.Printing.{program_text}
-use Rattle.ped_valid.specs.ped_symbols.specs.NameRefusals.{IsValid}
-use Rattle.ped_session.specs.ped_transformations.specs.ped_script.specs.declared.items.Command.{Command}
+use Rattle.ped_tree.specs.Tree.{ProgramTree}
+use Rattle.ped_tree.specs.Printing.{program_text}
+use Rattle.ped_transformations.specs.ped_symbols.specs.NameRefusals.{IsValid}
+use Rattle.ped_script.specs.declared.items.Command.{Command}
 use Rattle.ped_session.specs.declared.replies.Reply.TheVariants.{Changed}
 use Rattle.ped_session.specs.States.{Other, State}
 use Rattle.ped_session.specs.Steps.{IsStep}

@@ -1,12 +1,12 @@
 -- What a session holds of its programs. Only contracts of private functions use it (this project).
 use Rattle.std.specs.Prelude.{◌≡◌, List, [], ◌∷◌, map}
-use Rattle.ped_session.specs.ped_tree.specs.Tree.{ProgramTree}
-use Rattle.ped_session.specs.ped_tree.specs.Views.{program_tree}
-use Rattle.ped_session.specs.ped_tree.specs.Printing.{program_text}
-use Rattle.ped_valid.specs.ped_symbols.specs.Kinds.{table_of}
-use Rattle.ped_valid.specs.ped_symbols.specs.NameRefusals.{IsValid}
-use Rattle.ped_session.specs.ped_graph.specs.Held.{Held, held_of}
-use Rattle.ped_session.specs.ped_graph.specs.Update.Deltas.{TakesTo}
+use Rattle.ped_tree.specs.Tree.{ProgramTree}
+use Rattle.ped_tree.specs.Views.{program_tree}
+use Rattle.ped_tree.specs.Printing.{program_text}
+use Rattle.ped_transformations.specs.ped_symbols.specs.Kinds.{table_of}
+use Rattle.ped_transformations.specs.ped_symbols.specs.NameRefusals.{IsValid}
+use Rattle.ped_transformations.specs.ped_graph.specs.Held.{Held, held_of}
+use Rattle.ped_transformations.specs.ped_graph.specs.Update.Deltas.{TakesTo}
 use Rattle.ped_session.specs.declared.versions.Version.{Version}
 use Rattle.ped_session.specs.declared.versions.Entry.{Entry}
 use Rattle.ped_session.specs.States.{Other}

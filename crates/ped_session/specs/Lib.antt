@@ -1,7 +1,12 @@
 pub use Rattle.ped_transformations
-pub use Rattle.ped_transformations.specs.ped_reindex.specs.ped_loops.specs.ped_scalar.specs.ped_rules.specs.ped_loop_runs.specs.ped_bodies.specs.ped_steps.specs.ped_flow.specs.ped_tree
-pub use Rattle.ped_transformations.specs.ped_reindex.specs.ped_loops.specs.ped_scalar.specs.ped_rules.specs.ped_loop_runs.specs.ped_bodies.specs.ped_steps.specs.ped_laws.specs.ped_graph
-pub use Rattle.ped_transformations.specs.ped_reindex.specs.ped_loops.specs.ped_scalar.specs.ped_rules.specs.ped_loop_runs.specs.ped_bodies.specs.ped_steps.specs.ped_laws.specs.ped_graph.specs.ped_refs
+pub use Rattle.ped_transformations.specs.ped_auto
+pub use Rattle.ped_transformations.specs.ped_rules
+pub use Rattle.ped_transformations.specs.ped_steps
+pub use Rattle.ped_transformations.specs.ped_flow
+pub use Rattle.ped_transformations.specs.ped_laws
+pub use Rattle.ped_transformations.specs.ped_graph
+pub use Rattle.ped_transformations.specs.ped_refs
+pub use Rattle.ped_tree
 pub use Rattle.ped_valid.specs.ped_symbols
 pub use Rattle.ped_valid
 pub use Rattle.ped_order

@@ -1,6 +1,6 @@
 -- Whether statements hold lists of sums, as the code looks. Only contracts of private functions use it (this project).
 use Rattle.std.specs.Prelude.{Bool, false, ◌||◌}
-use Rattle.ped_session.specs.ped_tree.specs.Tree.{StmtTree, StmtTrees, Assign, If, Do, Print, Read, Stop, Comment, no_stmts, more_stmts}
+use Rattle.ped_tree.specs.Tree.{StmtTree, StmtTrees, Assign, If, Do, Print, Read, Stop, Comment, no_stmts, more_stmts}
 use Rattle.ped_transformations.specs.ped_reduce.specs.Lists.{has_list}
 
 -- a statement is a DO with a list, or one is in it

@@ -1,8 +1,8 @@
 -- Runs of programs with lists of sums: what runs is what the program is lowered to (Allen and Kennedy, section 5.6; this project).
 use Rattle.std.specs.Prelude.{◌≡◌, ℕ, List, ◌∷◌, false, slice_index_or}
-use Rattle.ped_session.specs.ped_tree.specs.Tree.{ProgramTree}
-use Rattle.ped_order.specs.ped_eval.specs.Outcomes.{Outcome, Ended, Fault, outcome}
-use Rattle.ped_order.specs.ped_flow.specs.Questions.{LoopOf}
+use Rattle.ped_tree.specs.Tree.{ProgramTree}
+use Rattle.ped_eval.specs.Outcomes.{Outcome, Ended, Fault, outcome}
+use Rattle.ped_transformations.specs.ped_flow.specs.Questions.{LoopOf}
 use Rattle.ped_order.specs.ped_interleavings.specs.Interleavings.{IsInterleaved}
 use Rattle.ped_transformations.specs.ped_reduce.specs.Lists.{has_list}
 use Rattle.ped_transformations.specs.ped_reduce.specs.Lowering.{Lowered}

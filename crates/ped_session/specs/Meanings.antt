@@ -1,10 +1,10 @@
 -- What transformations keep in a session: the meaning of its programs (Allen and Kennedy, section 2.2.3; ParaScope; this project).
 use Rattle.std.specs.Prelude.{◌≡◌, ◌⊎◌, ℕ, List, [], ◌∷◌, ⊤}
-use Rattle.ped_session.specs.ped_tree.specs.Tree.{ProgramTree}
+use Rattle.ped_tree.specs.Tree.{ProgramTree}
 use Rattle.ped_valid.specs.Validity.{ReadsValid}
-use Rattle.ped_order.specs.ped_eval.specs.Outcomes.{Outcome, outcome, IsRaceFree}
-use Rattle.ped_transformations.specs.ped_reindex.specs.ped_loops.specs.ped_scalar.specs.ped_rules.specs.ped_loop_runs.specs.Unrejected.{IsTrusted}
-use Rattle.ped_transformations.specs.ped_reindex.specs.ped_loops.specs.ped_scalar.specs.ped_rules.specs.Lawful.{IsFaithful}
+use Rattle.ped_eval.specs.Outcomes.{Outcome, outcome, IsRaceFree}
+use Rattle.ped_transformations.specs.ped_loop_runs.specs.Unrejected.{IsTrusted}
+use Rattle.ped_transformations.specs.ped_rules.specs.Lawful.{IsFaithful}
 use Rattle.ped_session.specs.declared.changes.Change.{Change}
 use Rattle.ped_session.specs.declared.changes.Change.TheVariants.{Edit, Rejection, Transformation}
 use Rattle.ped_session.specs.States.{Other, State}

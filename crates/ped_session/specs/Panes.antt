@@ -1,9 +1,9 @@
 -- What a session prints of its present program (ParaScope; this project).
 use Rattle.std.specs.Prelude.{◌≡◌, ℕ, List, [], ◌∷◌, ◌++◌, codes}
 use Rattle.std.specs.Fmt.{decimal}
-use Rattle.ped_session.specs.ped_tree.specs.Tree.{ProgramTree}
-use Rattle.ped_session.specs.ped_tree.specs.SourcePane.{source_pane}
-use Rattle.ped_session.specs.ped_graph.specs.DependencePane.{IsDependencePane}
+use Rattle.ped_tree.specs.Tree.{ProgramTree}
+use Rattle.ped_tree.specs.SourcePane.{source_pane}
+use Rattle.ped_transformations.specs.ped_graph.specs.DependencePane.{IsDependencePane}
 
 -- the source pane of a program
 abbrev pub IsSourcePane : ProgramTree → List ℕ → Type 0

@@ -1,10 +1,10 @@
 -- What is printed of replies (this project).
 use Rattle.std.specs.Prelude.{ℕ, List, [], ◌∷◌, ◌++◌, codes, Bool, true, false}
 use Rattle.std.specs.Fmt.{decimal}
-use Rattle.ped_session.specs.ped_tree.specs.Grammar.Refusal.{Finding, number_of, name_of_refusal}
-use Rattle.ped_session.specs.ped_tree.specs.Grammar.RefusalViews.{finding_of}
+use Rattle.ped_tree.specs.Grammar.Refusal.{Finding, number_of, name_of_refusal}
+use Rattle.ped_tree.specs.Grammar.RefusalViews.{finding_of}
 use Rattle.ped_session.specs.declared.replies.Refusal.{Refusal}
-use Rattle.ped_transformations.specs.ped_reindex.specs.ped_loops.specs.ped_scalar.specs.ped_rules.specs.ped_loop_runs.specs.ped_bodies.specs.ped_steps.specs.CauseWords.{cause_words}
+use Rattle.ped_transformations.specs.ped_steps.specs.CauseWords.{cause_words}
 use Rattle.ped_session.specs.declared.replies.Refusal.TheVariants.{BadEdit, Step, NothingToUndo, NothingToRedo, NoSuchStatement, NoSuchLine}
 use Rattle.ped_session.specs.declared.replies.Reply.{Reply}
 use Rattle.ped_session.specs.declared.replies.Reply.TheVariants.{Changed, Shown, Refused}

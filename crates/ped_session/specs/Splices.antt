@@ -2,9 +2,9 @@
 use Rattle.std.specs.Prelude.{ℕ, ◌+◌, ◌-◌, min, List, [], ◌∷◌, ◌++◌, map, take, drop, length, Bool, ◌&&◌, nat_le}
 use Rattle.std.specs.List.{flat_map, range_with_len}
 use Rattle.std.specs.Str.Lines.{lines}
-use Rattle.ped_session.specs.ped_tree.specs.Tree.{ProgramTree}
-use Rattle.ped_session.specs.ped_tree.specs.Numbering.{statements_count}
-use Rattle.ped_session.specs.ped_tree.specs.Printing.{begun_in, program_lines}
+use Rattle.ped_tree.specs.Tree.{ProgramTree}
+use Rattle.ped_tree.specs.Numbering.{statements_count}
+use Rattle.ped_tree.specs.Printing.{begun_in, program_lines}
 
 -- lines as a text: each with its line feed
 abbrev pub text_of_lines : List (List ℕ) → List ℕ

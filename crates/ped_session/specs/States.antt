@@ -1,8 +1,8 @@
 -- The state of a session: sources, and the kinds of the changes between them (ParaScope; this project).
 use Rattle.std.specs.Prelude.{ℕ, List, [], ◌∷◌}
-use Rattle.ped_session.specs.ped_tree.specs.Tree.{ProgramTree}
-use Rattle.ped_session.specs.ped_tree.specs.Printing.{program_text}
-use Rattle.ped_session.specs.ped_graph.specs.ped_refs.specs.References.{references, pair_count}
+use Rattle.ped_tree.specs.Tree.{ProgramTree}
+use Rattle.ped_tree.specs.Printing.{program_text}
+use Rattle.ped_refs.specs.References.{references, pair_count}
 use Rattle.ped_session.specs.declared.changes.Change.{Change}
 
 -- another source of a session, with the change between it and the next source towards the present

@@ -7,7 +7,7 @@ ghost use Rattle.ped_session.specs.Scripts.{AnswersItems};
 ghost use Rattle.ped_session.specs.RunsAsBefore.{AnswersAsBefore};
 ghost use Rattle.ped_session.specs.Replies as Replies;
 ghost use Rattle.ped_session.specs.Adding.{added, Adds};
-ghost use Rattle.ped_session.specs.ped_transformations.specs.ped_script.specs.declared.items.Command.TheVariants as commands;
+ghost use Rattle.ped_script.specs.declared.items.Command.TheVariants as commands;
 
 use crate::auto_texts::auto_text;
 use crate::replies::Reply;

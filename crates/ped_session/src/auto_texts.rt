@@ -3,7 +3,7 @@
 ghost use Rattle.std.specs.Prelude.{◌≡◌, ◌++◌, codes, IfOk, OnOk};
 ghost use Rattle.std.specs.Fmt.{decimal};
 ghost use Rattle.std.specs.List.{flat_map};
-ghost use Rattle.ped_transformations.specs.ped_reindex.specs.ped_loops.specs.ped_scalar.specs.ped_rules.specs.ped_loop_runs.specs.ped_bodies.specs.ped_steps.specs.CodeCauses.{cause_of, IsShort};
+ghost use Rattle.ped_transformations.specs.ped_steps.specs.CodeCauses.{cause_of, IsShort};
 ghost use Rattle.ped_transformations.specs.ped_auto.specs.CodeReports.{report_of, AreShort};
 ghost use Rattle.ped_transformations.specs.ped_auto.specs.CodeReports.{causes_of};
 ghost use Rattle.ped_session.specs.Replies.{answer_row};

@@ -1,8 +1,8 @@
 //! A session as the editor of `auto`: what it reports of its present program, and steps that it takes by itself.
 
 ghost use Rattle.std.specs.Prelude.{◌≡◌};
-ghost use Rattle.ped_session.specs.ped_tree.specs.Tree.{ProgramTree};
-ghost use Rattle.ped_session.specs.ped_tree.specs.Views.{program_tree};
+ghost use Rattle.ped_tree.specs.Tree.{ProgramTree};
+ghost use Rattle.ped_tree.specs.Views.{program_tree};
 ghost use Rattle.ped_transformations.specs.ped_auto.specs.SerialLoops as Loops;
 ghost use Rattle.ped_session.specs.CodeStepReplies.{IsOfStep, Says};
 

@@ -2,7 +2,7 @@
 
 ghost use Rattle.std.specs.Prelude.{◌≡◌, ◌++◌, map, IfOk, OnOk};
 ghost use Rattle.std.specs.List.{flat_map};
-ghost use Rattle.ped_order.specs.ped_eval.specs.OutcomeViews.{outcome_view, row_view};
+ghost use Rattle.ped_eval.specs.OutcomeViews.{outcome_view, row_view};
 ghost use Rattle.ped_session.specs.Blocks as Spec;
 
 use ped_base::{Bytes, NoMemory, push_number, push_signed};

@@ -3,14 +3,14 @@
 ghost use Rattle.std.specs.Prelude.{◌≡◌, ◌++◌, [], map, filter, not, IfOk, OnOk};
 ghost use Rattle.std.specs.List.{list_any};
 ghost use Rattle.ped_base.specs.Lists.{is_same_text};
-ghost use Rattle.ped_session.specs.ped_tree.specs.Views.{program_tree};
-ghost use Rattle.ped_session.specs.ped_tree.specs.Names.Collecting as Collecting;
-ghost use Rattle.ped_session.specs.ped_graph.specs.Held.{held_of};
-ghost use Rattle.ped_session.specs.ped_graph.specs.ped_edges.specs.CodeEdges.{edge_of};
-ghost use Rattle.ped_session.specs.ped_refs.specs.Occurrences.{name_text};
-ghost use Rattle.ped_valid.specs.ped_symbols.specs.NameRefusals.{IsValid};
-ghost use Rattle.ped_transformations.specs.ped_reindex.specs.ped_loops.specs.ped_scalar.specs.ped_rules.specs.Carried as Carried;
-ghost use Rattle.ped_transformations.specs.ped_reindex.specs.ped_loops.specs.ped_scalar.specs.ped_rules.specs.CodeCarried.{AreThose};
+ghost use Rattle.ped_tree.specs.Views.{program_tree};
+ghost use Rattle.ped_tree.specs.Names.Collecting as Collecting;
+ghost use Rattle.ped_transformations.specs.ped_graph.specs.Held.{held_of};
+ghost use Rattle.ped_edges.specs.CodeEdges.{edge_of};
+ghost use Rattle.ped_refs.specs.Occurrences.{name_text};
+ghost use Rattle.ped_transformations.specs.ped_symbols.specs.NameRefusals.{IsValid};
+ghost use Rattle.ped_transformations.specs.ped_rules.specs.Carried as Carried;
+ghost use Rattle.ped_transformations.specs.ped_rules.specs.CodeCarried.{AreThose};
 ghost use Rattle.ped_transformations.specs.ped_auto.specs.CarriedNames as Spec;
 ghost use Rattle.ped_transformations.specs.ped_auto.specs.CarriedNames.{AreCarried};
 

@@ -1,13 +1,13 @@
 //! Accepted changes: a valid program becomes the present one.
 
 ghost use Rattle.std.specs.Prelude.{◌≡◌, ◌+◌, ◌≤◌, IfOk, OnErr};
-ghost use Rattle.ped_session.specs.ped_tree.specs.Tree.{ProgramTree};
-ghost use Rattle.ped_session.specs.ped_tree.specs.Views.{program_tree};
-ghost use Rattle.ped_valid.specs.ped_symbols.specs.NameRefusals.{IsValid};
-ghost use Rattle.ped_valid.specs.ped_symbols.specs.Kinds.{table_of};
+ghost use Rattle.ped_tree.specs.Tree.{ProgramTree};
+ghost use Rattle.ped_tree.specs.Views.{program_tree};
+ghost use Rattle.ped_transformations.specs.ped_symbols.specs.NameRefusals.{IsValid};
+ghost use Rattle.ped_transformations.specs.ped_symbols.specs.Kinds.{table_of};
 ghost use Rattle.ped_valid.specs.Validity.{ReadsValid};
-ghost use Rattle.ped_session.specs.ped_tree.specs.Printing.{program_text};
-ghost use Rattle.ped_session.specs.ped_graph.specs.Update.Fresh.{IsOneToOne, tested_pairs};
+ghost use Rattle.ped_tree.specs.Printing.{program_text};
+ghost use Rattle.ped_transformations.specs.ped_graph.specs.Update.Fresh.{IsOneToOne, tested_pairs};
 ghost use Rattle.ped_session.specs.Changing.{Changes};
 ghost use Rattle.ped_session.specs.Meanings.{IsKept};
 ghost use Rattle.ped_session.specs.Scripts.{tests_of};

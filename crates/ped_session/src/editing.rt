@@ -1,12 +1,12 @@
 //! Edits: lines of the present source are removed, others inserted, and the result is read afresh.
 
 ghost use Rattle.std.specs.Prelude.{◌≡◌, ◌+◌, ◌≤◌, IfOk, OnErr};
-ghost use Rattle.ped_session.specs.ped_tree.specs.Tree.{ProgramTree};
-ghost use Rattle.ped_session.specs.ped_tree.specs.Views.{program_tree};
-ghost use Rattle.ped_valid.specs.ped_symbols.specs.NameRefusals.{IsValid};
-ghost use Rattle.ped_valid.specs.ped_symbols.specs.Kinds.{table_of};
+ghost use Rattle.ped_tree.specs.Tree.{ProgramTree};
+ghost use Rattle.ped_tree.specs.Views.{program_tree};
+ghost use Rattle.ped_transformations.specs.ped_symbols.specs.NameRefusals.{IsValid};
+ghost use Rattle.ped_transformations.specs.ped_symbols.specs.Kinds.{table_of};
 ghost use Rattle.ped_valid.specs.Validity.{ReadsValid};
-ghost use Rattle.ped_session.specs.ped_graph.specs.Update.Fresh.{tested_pairs};
+ghost use Rattle.ped_transformations.specs.ped_graph.specs.Update.Fresh.{tested_pairs};
 ghost use Rattle.ped_session.specs.declared.replies.Reply.{Reply};
 ghost use Rattle.ped_session.specs.States.{State};
 ghost use Rattle.ped_session.specs.Changing.{EditChanges};

@@ -3,8 +3,8 @@
 
 ghost use Rattle.std.specs.Prelude.{◌≡◌, ◌+◌, ◌-◌, ◌<◌, ◌≤◌, ◌^◌, ◌++◌, map, IfOk, OnOk};
 ghost use Rattle.std.specs.List.{range_with_len};
-ghost use Rattle.ped_session.specs.ped_tree.specs.Numbering.{statements_count};
-ghost use Rattle.ped_session.specs.ped_tree.specs.Views.{program_tree};
+ghost use Rattle.ped_tree.specs.Numbering.{statements_count};
+ghost use Rattle.ped_tree.specs.Views.{program_tree};
 ghost use Rattle.ped_session.specs.Splices as Splices;
 
 use ped_base::NoMemory;

@@ -1,18 +1,18 @@
 //! What holds of every session. Each function here does nothing; its contract is the law.
 
 ghost use Rattle.std.specs.Prelude.{◌≡◌, ◌↔◌, ℕ, List, [], length};
-ghost use Rattle.ped_session.specs.ped_tree.specs.Tree.{ProgramTree};
-ghost use Rattle.ped_valid.specs.ped_symbols.specs.NameRefusals.{IsValid};
+ghost use Rattle.ped_tree.specs.Tree.{ProgramTree};
+ghost use Rattle.ped_transformations.specs.ped_symbols.specs.NameRefusals.{IsValid};
 ghost use Rattle.ped_valid.specs.Validity.{ReadsValid};
-ghost use Rattle.ped_order.specs.ped_eval.specs.Outcomes.{Outcome, outcome, IsRaceFree};
+ghost use Rattle.ped_eval.specs.Outcomes.{Outcome, outcome, IsRaceFree};
 ghost use Rattle.ped_order.specs.ped_interleavings.specs.Interleavings.{IsInterleaved};
-ghost use Rattle.ped_transformations.specs.ped_reindex.specs.ped_loops.specs.ped_scalar.specs.ped_rules.specs.ped_loop_runs.specs.Unrejected.{IsTrusted};
+ghost use Rattle.ped_transformations.specs.ped_loop_runs.specs.Unrejected.{IsTrusted};
 ghost use Rattle.ped_transformations.specs.ped_reduce.specs.Lowering.{Lowered};
 ghost use Rattle.ped_transformations.specs.ped_reduce.specs.Reducing.{IsLowered};
-ghost use Rattle.ped_transformations.specs.ped_reindex.specs.ped_loops.specs.ped_scalar.specs.ped_rules.specs.Lawful.{IsFaithful};
-ghost use Rattle.ped_session.specs.ped_transformations.specs.ped_script.specs.declared.items.Command.{Command};
-ghost use Rattle.ped_session.specs.ped_transformations.specs.ped_script.specs.declared.items.Command.TheVariants.{Undo, Redo, Run};
-ghost use Rattle.ped_session.specs.ped_transformations.specs.ped_script.specs.declared.items.Item.{Item};
+ghost use Rattle.ped_transformations.specs.ped_rules.specs.Lawful.{IsFaithful};
+ghost use Rattle.ped_script.specs.declared.items.Command.{Command};
+ghost use Rattle.ped_script.specs.declared.items.Command.TheVariants.{Undo, Redo, Run};
+ghost use Rattle.ped_script.specs.declared.items.Item.{Item};
 ghost use Rattle.ped_session.specs.declared.replies.Refusal as code_refusal;
 ghost use Rattle.ped_session.specs.declared.replies.Reply as code_reply;
 ghost use Rattle.ped_session.specs.declared.replies.Reply.TheVariants.{Changed, Refused};
@@ -26,7 +26,7 @@ ghost use Rattle.ped_session.specs.RunsAsBefore.{AnswersAsBefore};
 ghost use Rattle.ped_session.specs.Histories.{ArePrinted, HaveSameSources, Times};
 ghost use Rattle.ped_transformations.specs.ped_auto.specs.Strategy.{Report, IsAuto};
 ghost use Rattle.ped_session.specs.AutoEditing.{session_editing};
-ghost use Rattle.ped_session.specs.ped_transformations.specs.ped_script.specs.Items.{commands_of};
+ghost use Rattle.ped_script.specs.Items.{commands_of};
 ghost use Rattle.ped_session.specs.AutoAnswers.{AcceptsAll};
 ghost use Rattle.ped_session.specs.AutoScripts.{script_of, items_on, all_accepted};
 

@@ -1,7 +1,7 @@
 //! Whether a program has lists of sums.
 
 ghost use Rattle.std.specs.Prelude.{◌≡◌, IfOk};
-ghost use Rattle.ped_session.specs.ped_tree.specs.Views.{stmt_tree, stmt_trees};
+ghost use Rattle.ped_tree.specs.Views.{stmt_tree, stmt_trees};
 ghost use Rattle.ped_session.specs.Listing as Spec;
 
 use ped_base::NoMemory;

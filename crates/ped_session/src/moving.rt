@@ -1,8 +1,8 @@
 //! Steps back and forward along the history, which take no memory.
 
 ghost use Rattle.std.specs.Prelude.{◌≡◌};
-ghost use Rattle.ped_session.specs.ped_graph.specs.Held.{held_of};
-ghost use Rattle.ped_session.specs.ped_graph.specs.Update.Deltas.{TakesTo};
+ghost use Rattle.ped_transformations.specs.ped_graph.specs.Held.{held_of};
+ghost use Rattle.ped_transformations.specs.ped_graph.specs.Update.Deltas.{TakesTo};
 ghost use Rattle.ped_session.specs.Holding.{tree_of};
 ghost use Rattle.ped_session.specs.Steps.{GoesBack, GoesForward};
 

@@ -2,7 +2,7 @@
 
 ghost use Rattle.std.specs.Prelude.{◌≡◌, ◌++◌, take, IfOk, OnOk};
 ghost use Rattle.std.specs.List.{flat_map};
-ghost use Rattle.ped_order.specs.ped_store.specs.CellViews.{cell_view};
+ghost use Rattle.ped_store.specs.CellViews.{cell_view};
 ghost use Rattle.ped_order.specs.ReportViews.{report_view};
 ghost use Rattle.ped_session.specs.RaceRows as Spec;
 

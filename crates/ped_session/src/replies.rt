@@ -1,7 +1,7 @@
 //! Replies to commands.
 
 ghost use Rattle.std.specs.Prelude.{◌≡◌};
-ghost use Rattle.ped_transformations.specs.ped_reindex.specs.ped_loops.specs.ped_scalar.specs.ped_rules.specs.ped_loop_runs.specs.ped_bodies.specs.ped_steps.specs.CodeCauses.{cause_of, IsShort};
+ghost use Rattle.ped_transformations.specs.ped_steps.specs.CodeCauses.{cause_of, IsShort};
 
 use ped_base::Bytes;
 use ped_transformations::Refused;
@@ -15,8 +15,8 @@ pub struct FirstCause {
 }
 
 impl Model for FirstCause {
-    ghost use Rattle.ped_transformations.specs.ped_reindex.specs.ped_loops.specs.ped_scalar.specs.ped_rules.specs.ped_loop_runs.specs.ped_bodies.specs.ped_steps.specs.Causes.{Cause};
-    ghost use Rattle.ped_transformations.specs.ped_reindex.specs.ped_loops.specs.ped_scalar.specs.ped_rules.specs.ped_loop_runs.specs.ped_bodies.specs.ped_steps.specs.CodeCauses.{cause_of, IsShort};
+    ghost use Rattle.ped_transformations.specs.ped_steps.specs.Causes.{Cause};
+    ghost use Rattle.ped_transformations.specs.ped_steps.specs.CodeCauses.{cause_of, IsShort};
 
     ghost Value = { Cause };
 

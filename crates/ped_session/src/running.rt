@@ -1,11 +1,11 @@
 //! Runs of a session's programs.
 
 ghost use Rattle.std.specs.Prelude.{◌≡◌, IfOk};
-ghost use Rattle.ped_session.specs.ped_tree.specs.Views.{program_tree};
-ghost use Rattle.ped_session.specs.ped_graph.specs.Held.{held_of};
-ghost use Rattle.ped_valid.specs.ped_symbols.specs.Kinds.{table_of};
-ghost use Rattle.ped_valid.specs.ped_symbols.specs.NameRefusals.{IsValid};
-ghost use Rattle.ped_order.specs.ped_eval.specs.OutcomeViews.{outcome_view};
+ghost use Rattle.ped_tree.specs.Views.{program_tree};
+ghost use Rattle.ped_transformations.specs.ped_graph.specs.Held.{held_of};
+ghost use Rattle.ped_transformations.specs.ped_symbols.specs.Kinds.{table_of};
+ghost use Rattle.ped_transformations.specs.ped_symbols.specs.NameRefusals.{IsValid};
+ghost use Rattle.ped_eval.specs.OutcomeViews.{outcome_view};
 ghost use Rattle.ped_order.specs.ped_interleavings.specs.Interleavings.{IsInterleaved};
 ghost use Rattle.ped_transformations.specs.ped_reduce.specs.Reducing.{IsLowered};
 ghost use Rattle.ped_transformations.specs.ped_reduce.specs.CodeLowered.{lowered_view};

@@ -1,8 +1,8 @@
 //! What is printed for the items of a script.
 
 ghost use Rattle.std.specs.Prelude.{◌≡◌, ◌++◌, codes, IfOk, OnOk};
-ghost use Rattle.ped_session.specs.ped_tree.specs.Grammar.RefusalViews.{finding_of};
-ghost use Rattle.ped_transformations.specs.ped_reindex.specs.ped_loops.specs.ped_scalar.specs.ped_rules.specs.ped_loop_runs.specs.ped_bodies.specs.ped_steps.specs.CauseWords.{cause_words};
+ghost use Rattle.ped_tree.specs.Grammar.RefusalViews.{finding_of};
+ghost use Rattle.ped_transformations.specs.ped_steps.specs.CauseWords.{cause_words};
 ghost use Rattle.ped_session.specs.Replies as Spec;
 
 use crate::replies::{FirstCause, Refusal, Reply};

@@ -1,18 +1,18 @@
 //! Sessions, and the commands that they answer.
 
 ghost use Rattle.std.specs.Prelude.{◌≡◌, ◌≢◌, ◌+◌, ◌≤◌, List, length, IfOk, IfErr, OnOk, OnErr, is_ok, true, None};
-ghost use Rattle.ped_session.specs.ped_tree.specs.Tree.{ProgramTree};
-ghost use Rattle.ped_session.specs.ped_tree.specs.Numbering.{statements_count};
-ghost use Rattle.ped_session.specs.ped_graph.specs.ped_refs.specs.References.{references, pair_count};
-ghost use Rattle.ped_session.specs.ped_tree.specs.Views.{program_tree};
-ghost use Rattle.ped_valid.specs.ped_symbols.specs.NameRefusals.{IsValid};
-ghost use Rattle.ped_valid.specs.ped_symbols.specs.Kinds.{table_of};
-ghost use Rattle.ped_session.specs.ped_tree.specs.Grammar.Refusal.{Finding};
+ghost use Rattle.ped_tree.specs.Tree.{ProgramTree};
+ghost use Rattle.ped_tree.specs.Numbering.{statements_count};
+ghost use Rattle.ped_refs.specs.References.{references, pair_count};
+ghost use Rattle.ped_tree.specs.Views.{program_tree};
+ghost use Rattle.ped_transformations.specs.ped_symbols.specs.NameRefusals.{IsValid};
+ghost use Rattle.ped_transformations.specs.ped_symbols.specs.Kinds.{table_of};
+ghost use Rattle.ped_tree.specs.Grammar.Refusal.{Finding};
 ghost use Rattle.ped_valid.specs.Validity.{ReadsValid, RefusesText};
 ghost use Rattle.ped_valid.specs.Refusals.{IsRefusalOf};
-ghost use Rattle.ped_session.specs.ped_graph.specs.ped_edges.specs.Edges as plain;
-ghost use Rattle.ped_session.specs.ped_graph.specs.Dependences.{AreEdges};
-ghost use Rattle.ped_order.specs.ped_eval.specs.OutcomeViews.{outcome_view};
+ghost use Rattle.ped_edges.specs.Edges as plain;
+ghost use Rattle.ped_transformations.specs.ped_graph.specs.Dependences.{AreEdges};
+ghost use Rattle.ped_eval.specs.OutcomeViews.{outcome_view};
 ghost use Rattle.ped_session.specs.declared.replies.Reply.{Reply};
 ghost use Rattle.ped_transformations.specs.Table.{step_of};
 ghost use Rattle.ped_transformations.specs.CodeKinds.{IsPlace};
@@ -21,7 +21,7 @@ ghost use Rattle.ped_session.specs.Meanings.{IsAsBefore};
 ghost use Rattle.ped_session.specs.States.{State, opened};
 ghost use Rattle.ped_session.specs.Steps.{IsStep, IsOther, IsMove};
 ghost use Rattle.ped_session.specs.Scripts.{tests_of};
-ghost use Rattle.ped_session.specs.ped_transformations.specs.ped_script.specs.declared.items.Command.TheVariants as commands;
+ghost use Rattle.ped_script.specs.declared.items.Command.TheVariants as commands;
 
 use crate::replies::Reply;
 use crate::running::run_version;

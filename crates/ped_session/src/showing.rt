@@ -1,7 +1,7 @@
 //! What is shown of the present program. Nothing here changes the session.
 
 ghost use Rattle.std.specs.Prelude.{◌≡◌, IfOk, Option, Some, List, ℕ};
-ghost use Rattle.ped_session.specs.ped_graph.specs.DependencePane.{IsDependencePane, IsDependencePaneOf};
+ghost use Rattle.ped_transformations.specs.ped_graph.specs.DependencePane.{IsDependencePane, IsDependencePaneOf};
 ghost use Rattle.ped_transformations.specs.Advice.{IsAdvice};
 ghost use Rattle.ped_transformations.specs.ped_inline.specs.CallsPane.{IsCallsPane};
 ghost use Rattle.ped_session.specs.Panes.{IsSourcePane, ArePanes};
@@ -9,7 +9,7 @@ ghost use Rattle.ped_session.specs.Panes as Panes;
 ghost use Rattle.ped_session.specs.Blocks.{IsRunBlock};
 ghost use Rattle.ped_session.specs.RaceRows.{IsRaceRow};
 ghost use Rattle.ped_session.specs.Steps.{Shows, ShowsStatement, Prints, IsStep};
-ghost use Rattle.ped_session.specs.ped_transformations.specs.ped_script.specs.declared.items.Command.TheVariants as commands;
+ghost use Rattle.ped_script.specs.declared.items.Command.TheVariants as commands;
 
 use crate::blocks::block;
 use crate::race_rows::race_row;

@@ -1,9 +1,9 @@
 //! Steps: transformations of the present program, and rejections of its dependences.
 
 ghost use Rattle.std.specs.Prelude.{◌≡◌, ◌+◌, ◌≤◌, Some, IfOk, OnErr};
-ghost use Rattle.ped_session.specs.ped_tree.specs.Tree.{ProgramTree};
+ghost use Rattle.ped_tree.specs.Tree.{ProgramTree};
 ghost use Rattle.ped_valid.specs.Validity.{ReadsValid};
-ghost use Rattle.ped_transformations.specs.ped_reindex.specs.ped_loops.specs.ped_scalar.specs.ped_rules.specs.Steps.{MatchStep};
+ghost use Rattle.ped_transformations.specs.ped_rules.specs.Steps.{MatchStep};
 ghost use Rattle.ped_transformations.specs.Table.{step_of};
 ghost use Rattle.ped_transformations.specs.CodeKinds.{kind_of, IsPlace};
 ghost use Rattle.ped_session.specs.declared.replies.Reply.{Reply};

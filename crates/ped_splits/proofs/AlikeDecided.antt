@@ -7,7 +7,7 @@ use Rattle.ped_tree.specs.Tree.{ExprTree, ExprTrees, Int, Var, Element, Neg, Add
 use Rattle.ped_tree.specs.declared.expressions.Intrinsic.{Intrinsic}
 use Rattle.ped_tree.specs.declared.expressions.Intrinsic.TheVariants.{Max, Min, Abs, Mod}
 use Rattle.ped_tree.specs.NamesIn.{stmts_names}
-use Rattle.ped_reindex.specs.ped_loops.proofs.PlainDecided.{OrNot}
+use Rattle.ped_rules.proofs.HeadLaws.PlainDecided.{OrNot}
 use Rattle.ped_splits.specs.Neighbours.{Neighbour, AreAlike}
 use Rattle.ped_splits.specs.Fusing.{Match}
 use Rattle.ped_splits.proofs.NeighbourFound.{Found, neighbour_decided, one_neighbour}

@@ -5,9 +5,9 @@ use Rattle.std.proofs.lemmas.List.{ext_get_or, get_or-replicate, get_or_past, le
 use Rattle.std.proofs.lemmas.Bool.{cases_lt, false≢true}
 use Rattle.ped_bits.specs.Reaching.{row_of, Arrow, Reaches, IsSquare}
 use Rattle.ped_tree.specs.Tree.{Head, StmtTrees, ProgramTree}
-use Rattle.ped_reindex.specs.ped_loops.specs.ped_scalar.specs.ped_rules.specs.Carried.{level_at}
-use Rattle.ped_reindex.specs.ped_loops.specs.ped_scalar.specs.ped_rules.specs.ped_loop_runs.specs.ped_bodies.specs.ped_steps.specs.ped_laws.specs.ped_graph.specs.ped_edges.specs.Edges.{Edge}
-use Rattle.ped_reindex.specs.ped_loops.specs.ped_scalar.specs.ped_rules.specs.ped_loop_runs.specs.ped_bodies.specs.ped_steps.specs.ped_refs.specs.References.{Reference, references}
+use Rattle.ped_rules.specs.Carried.{level_at}
+use Rattle.ped_edges.specs.Edges.{Edge}
+use Rattle.ped_refs.specs.References.{Reference, references}
 use Rattle.ped_splits.specs.Units.{units, homes, is_arrow, arrows, IsClosure}
 use Rattle.ped_splits.specs.CodeUnits.{leads_between, refers_by}
 use Rattle.ped_splits.proofs.ArrowLaws.{Adds, true_either}

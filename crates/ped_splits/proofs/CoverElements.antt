@@ -5,24 +5,24 @@ use Rattle.ped_base.specs.Lists.{has_some, is_among}
 use Rattle.ped_base.specs.Arithmetic.Faults.{◌>>=◌}
 use Rattle.ped_tree.specs.Tree.{ExprTree, ItemTree, StmtTree, StmtTrees, Assign, If, Do, Print, Read, Stop, Comment, no_stmts, more_stmts}
 use Rattle.ped_tree.specs.Numbering.{statement_count, statements_count}
-use Rattle.ped_reindex.specs.ped_loops.specs.ped_scalar.specs.ped_rules.specs.ped_loop_runs.specs.ped_bodies.specs.ped_steps.specs.ped_laws.specs.ped_store.specs.Cells.{Cell, Element, Private, In, same_cell}
-use Rattle.ped_reindex.specs.ped_loops.specs.ped_scalar.specs.ped_rules.specs.ped_loop_runs.specs.ped_bodies.specs.ped_steps.specs.ped_laws.specs.ped_store.specs.Stores.{Number, Store, put, lines_in, storable, is_storable, out_of_range, bad_data}
-use Rattle.ped_reindex.specs.ped_loops.specs.ped_scalar.specs.ped_rules.specs.ped_loop_runs.specs.ped_bodies.specs.ped_steps.specs.ped_laws.specs.ped_store.specs.DataLines.{Data, Taken, begun, behind_blanks, word_of, behind_value, is_value, number_of, taken_from, value_from, next_value_of}
-use Rattle.ped_reindex.specs.ped_loops.specs.ped_scalar.specs.ped_rules.specs.ped_loop_runs.specs.ped_bodies.specs.ped_steps.specs.ped_laws.specs.ped_store.specs.Acts.{Touch, Place, did, ended_turn, closed, Act, store_behind, iterations_of}
-use Rattle.ped_reindex.specs.ped_loops.specs.ped_scalar.specs.ped_rules.specs.ped_loop_runs.specs.ped_bodies.specs.ped_steps.specs.ped_laws.specs.Acts.Fitting.{touches_of}
-use Rattle.ped_reindex.specs.ped_loops.specs.ped_scalar.specs.ped_rules.specs.ped_loop_runs.specs.ped_bodies.specs.ped_steps.specs.ped_laws.specs.Acts.Sets.{writes_to, written_by}
-use Rattle.ped_reindex.specs.ped_loops.specs.ped_scalar.specs.ped_rules.specs.ped_loop_runs.specs.ped_bodies.specs.ped_steps.specs.ped_laws.proofs.ActLaws.Reorderings.{touches_append}
-use Rattle.ped_reindex.specs.ped_loops.specs.ped_scalar.specs.ped_rules.specs.ped_loop_runs.specs.ped_bodies.specs.ped_steps.specs.ped_laws.specs.ped_eval.specs.Scopes.{Frame, Scope, Setting, Names, names_in, place_of, cell_of, turns_of}
-use Rattle.ped_reindex.specs.ped_loops.specs.ped_scalar.specs.ped_rules.specs.ped_loop_runs.specs.ped_bodies.specs.ped_steps.specs.ped_laws.specs.ped_eval.specs.Evaluation.{Seen, ◌>>>◌, given, numbered, number_behind}
-use Rattle.ped_reindex.specs.ped_loops.specs.ped_scalar.specs.ped_rules.specs.ped_loop_runs.specs.ped_bodies.specs.ped_steps.specs.ped_laws.specs.ped_eval.specs.Values.{value, target, truth}
-use Rattle.ped_reindex.specs.ped_loops.specs.ped_scalar.specs.ped_rules.specs.ped_loop_runs.specs.ped_bodies.specs.ped_steps.specs.ped_laws.specs.ped_eval.specs.Statements.{write_touch, Stored, assigned, assignment_touches, printed_line, print_touches, into_item, with_taken, taking, taking_from, reading, reading_touches}
-use Rattle.ped_reindex.specs.ped_loops.specs.ped_scalar.specs.ped_rules.specs.ped_loop_runs.specs.ped_bodies.specs.ped_steps.specs.ped_laws.specs.ped_eval.specs.Loops.{limits, Entered, entered_with, frame, undefined_by, undefined_all, exit_touches, exit_when_none, entry_touches}
-use Rattle.ped_reindex.specs.ped_loops.specs.ped_scalar.specs.ped_rules.specs.ped_loop_runs.specs.ped_bodies.specs.ped_steps.specs.ped_laws.specs.ped_eval.specs.Runs.{Ending, going, stopped, failed, Run, followed_by, on_value, does, nothing_done, run_assignment, run_print, run_taking, run_read, turns, parallel_turns, run_entered, run_from_entry, run, run_all}
-use Rattle.ped_reindex.specs.ped_loops.specs.ped_scalar.specs.ped_rules.specs.ped_loop_runs.specs.ped_bodies.specs.ped_steps.specs.ped_flow.proofs.Truths.{untrue, or_none}
-use Rattle.ped_reindex.specs.ped_loops.specs.ped_scalar.specs.ped_rules.specs.ped_loop_runs.specs.ped_bodies.specs.ped_steps.specs.ped_laws.proofs.FlowRunLaws.Coverings.{seen_unwritten}
-use Rattle.ped_reindex.specs.ped_loops.specs.ped_scalar.specs.ped_rules.specs.ped_loop_runs.specs.ped_bodies.specs.ped_steps.specs.ped_laws.proofs.CoveringLaws.Comings.{came, ok_one}
-use Rattle.ped_reindex.specs.ped_loops.specs.ped_scalar.specs.ped_rules.specs.ped_loop_runs.specs.ped_bodies.specs.ped_steps.specs.ped_laws.specs.Plain.Executions.{WriteSmall}
-use Rattle.ped_reindex.specs.ped_loops.specs.ped_scalar.specs.ped_rules.specs.ped_loop_runs.specs.ped_bodies.specs.ped_steps.specs.ped_laws.proofs.PlainLaws.SmallWrites.{small_append}
+use Rattle.ped_rules.specs.ped_store.specs.Cells.{Cell, Element, Private, In, same_cell}
+use Rattle.ped_rules.specs.ped_store.specs.Stores.{Number, Store, put, lines_in, storable, is_storable, out_of_range, bad_data}
+use Rattle.ped_rules.specs.ped_store.specs.DataLines.{Data, Taken, begun, behind_blanks, word_of, behind_value, is_value, number_of, taken_from, value_from, next_value_of}
+use Rattle.ped_rules.specs.ped_store.specs.Acts.{Touch, Place, did, ended_turn, closed, Act, store_behind, iterations_of}
+use Rattle.ped_rules.specs.ped_laws.specs.Acts.Fitting.{touches_of}
+use Rattle.ped_rules.specs.ped_laws.specs.Acts.Sets.{writes_to, written_by}
+use Rattle.ped_rules.specs.ped_laws.proofs.ActLaws.Reorderings.{touches_append}
+use Rattle.ped_rules.specs.ped_eval.specs.Scopes.{Frame, Scope, Setting, Names, names_in, place_of, cell_of, turns_of}
+use Rattle.ped_rules.specs.ped_eval.specs.Evaluation.{Seen, ◌>>>◌, given, numbered, number_behind}
+use Rattle.ped_rules.specs.ped_eval.specs.Values.{value, target, truth}
+use Rattle.ped_rules.specs.ped_eval.specs.Statements.{write_touch, Stored, assigned, assignment_touches, printed_line, print_touches, into_item, with_taken, taking, taking_from, reading, reading_touches}
+use Rattle.ped_rules.specs.ped_eval.specs.Loops.{limits, Entered, entered_with, frame, undefined_by, undefined_all, exit_touches, exit_when_none, entry_touches}
+use Rattle.ped_rules.specs.ped_eval.specs.Runs.{Ending, going, stopped, failed, Run, followed_by, on_value, does, nothing_done, run_assignment, run_print, run_taking, run_read, turns, parallel_turns, run_entered, run_from_entry, run, run_all}
+use Rattle.ped_rules.specs.ped_flow.proofs.Truths.{untrue, or_none}
+use Rattle.ped_rules.specs.ped_laws.proofs.FlowRunLaws.Coverings.{seen_unwritten}
+use Rattle.ped_rules.specs.ped_laws.proofs.CoveringLaws.Comings.{came, ok_one}
+use Rattle.ped_rules.specs.ped_laws.specs.Plain.Executions.{WriteSmall}
+use Rattle.ped_rules.specs.ped_laws.proofs.PlainLaws.SmallWrites.{small_append}
 
 unwritten_small : (c : Cell) (ts : List Touch) → written_by ts c ≡ false → WriteSmall c ts
 unwritten_small c [] h = tt

@@ -1,10 +1,10 @@
 -- Two DO loops that may become one, whether a dependence forbids it or not: what the covering law asks of them.
 use Rattle.std.proofs.Common.{◌≡◌, ℕ, [], false}
-use Rattle.ped_reindex.specs.ped_loops.specs.Interchanging.{IsBoundOf}
-use Rattle.ped_reindex.specs.ped_loops.specs.ped_scalar.specs.ped_rules.specs.ped_loop_runs.specs.ped_bodies.specs.ped_steps.specs.ped_flow.specs.PlainBounds.{IsPlain}
-use Rattle.ped_reindex.specs.ped_loops.specs.ped_scalar.specs.ped_rules.specs.ped_loop_runs.specs.ped_bodies.specs.ped_steps.specs.ped_flow.specs.Questions.{IsContained}
-use Rattle.ped_reindex.specs.ped_loops.specs.ped_scalar.specs.ped_rules.specs.ped_loop_runs.specs.ped_bodies.specs.ped_steps.specs.ped_symbols.specs.NameRefusals.{IsValid}
-use Rattle.ped_reindex.specs.ped_loops.specs.ped_scalar.specs.ped_rules.specs.ped_loop_runs.specs.ped_bodies.specs.ped_steps.specs.ped_laws.specs.ped_eval.specs.Outcomes.{setting_of}
+use Rattle.ped_rules.specs.Rules.{IsBoundOf}
+use Rattle.ped_rules.specs.ped_flow.specs.PlainBounds.{IsPlain}
+use Rattle.ped_rules.specs.ped_flow.specs.Questions.{IsContained}
+use Rattle.ped_rules.specs.ped_symbols.specs.NameRefusals.{IsValid}
+use Rattle.ped_rules.specs.ped_eval.specs.Outcomes.{setting_of}
 use Rattle.ped_tree.specs.Tree.{ExprTree, ProgramTree}
 use Rattle.ped_splits.proofs.FuseFacts.{IsFusable}
 use Rattle.ped_splits.specs.Fusing.{Match}

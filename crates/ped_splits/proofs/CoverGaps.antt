@@ -10,26 +10,26 @@ use Rattle.ped_tree.specs.NamesIn.{all_loop_variables}
 use Rattle.ped_tree.specs.Numbering.{all_numbered, numbered, statement_with, statement_count, statements_count}
 use Rattle.ped_tree.specs.Grammar.Fits.{Surroundings, moved, in_if, in_loop, loop_fits, stmts_fit}
 use Rattle.ped_tree.specs.Grammar.Words.{is_name}
-use Rattle.ped_reindex.specs.ped_loops.specs.ped_scalar.specs.ped_rules.specs.ped_loop_runs.specs.ped_bodies.specs.ped_steps.specs.ped_laws.specs.ped_flow.specs.ped_affine.specs.Assigned.{assigned_in, assigned_in_all}
-use Rattle.ped_reindex.specs.ped_loops.specs.ped_scalar.specs.ped_rules.specs.ped_loop_runs.specs.ped_bodies.specs.ped_steps.specs.ped_laws.specs.ped_flow.specs.ped_affine.specs.Ranges as ranges
-use Rattle.ped_reindex.specs.ped_loops.specs.ped_scalar.specs.ped_rules.specs.ped_loop_runs.specs.ped_bodies.specs.ped_steps.specs.ped_flow.specs.PlainBounds.{loops_round, all_loops_round}
-use Rattle.ped_reindex.specs.ped_loops.specs.ped_scalar.specs.ped_rules.specs.ped_loop_runs.specs.ped_bodies.specs.ped_steps.specs.ped_symbols.specs.Kinds.{kind_in, at_last}
-use Rattle.ped_reindex.specs.ped_loops.specs.ped_scalar.specs.ped_rules.specs.ped_loop_runs.specs.ped_bodies.specs.ped_steps.specs.ped_symbols.specs.RightUses.RightUses.{is_scalar, stmts_are_right}
-use Rattle.ped_reindex.specs.ped_loops.specs.ped_scalar.specs.ped_rules.specs.ped_loop_runs.specs.ped_bodies.specs.ped_steps.specs.ped_symbols.specs.RightUses.RightLoops.{step_is_right, steps_are_right}
-use Rattle.ped_reindex.specs.ped_loops.specs.ped_scalar.specs.ped_rules.specs.ped_loop_runs.specs.ped_bodies.specs.ped_steps.specs.Replacing.{followed, alone}
-use Rattle.ped_reindex.specs.ped_loops.specs.ped_scalar.specs.ped_rules.specs.ped_loop_runs.specs.ped_bodies.specs.ped_steps.specs.Runs.Gaps.{Gap, at_front, past, in_then, in_else, in_body, filled, number_at}
-use Rattle.ped_reindex.specs.ped_loops.specs.ped_scalar.specs.ped_rules.specs.ped_loop_runs.specs.ped_bodies.specs.ped_steps.proofs.RunLaws.FilledGaps.{number_from, number_room}
-use Rattle.ped_reindex.specs.ped_loops.specs.ped_scalar.specs.ped_rules.specs.ped_loop_runs.specs.ped_bodies.specs.ped_steps.proofs.RunLaws.LoopsRound.{none_before, all_none_before, all_none_from, one_more}
-use Rattle.ped_reindex.specs.ped_loops.specs.ped_scalar.specs.ped_rules.specs.ped_loop_runs.proofs.LoopLaws.NextIn.{first_alone, second_alone}
-use Rattle.ped_reindex.specs.ped_loops.specs.ped_scalar.specs.ped_rules.specs.ped_loop_runs.proofs.PastingLaws.FilledIndices.{index_filled}
-use Rattle.ped_reindex.specs.ped_loops.specs.ped_scalar.specs.ped_rules.specs.ped_loop_runs.proofs.PastingLaws.NestsRound.{variables_behind}
-use Rattle.ped_reindex.specs.ped_loops.specs.ped_scalar.specs.ped_rules.specs.ped_loop_runs.specs.ped_bodies.specs.ped_steps.specs.ped_laws.specs.Covering.Nested.{loop}
-use Rattle.ped_reindex.specs.ped_loops.specs.ped_scalar.specs.ped_rules.specs.ped_loop_runs.specs.ped_bodies.specs.ped_steps.specs.ped_laws.proofs.ConflictLaws.MakingParts.{Part, Parts, first_part, rest_parts, then_parts, else_parts, body_parts}
-use Rattle.ped_reindex.specs.ped_loops.specs.ped_scalar.specs.ped_rules.specs.ped_loop_runs.specs.ped_bodies.specs.ped_steps.specs.ped_laws.proofs.ConflictLaws.MakingSteps.{head_fits, head_uses}
-use Rattle.ped_reindex.specs.ped_loops.specs.ped_scalar.specs.ped_rules.specs.ped_loop_runs.specs.ped_bodies.specs.ped_steps.specs.ped_laws.proofs.ConflictLaws.Scoping.{variables_of}
-use Rattle.ped_reindex.specs.ped_loops.specs.ped_scalar.specs.ped_rules.specs.ped_loop_runs.specs.ped_bodies.specs.ped_steps.specs.ped_laws.proofs.FlowRunLaws.Standing.{Stand, first_stands, rest_stands, inner_stands, else_stands, is_there}
-use Rattle.ped_reindex.specs.ped_loops.specs.ped_scalar.specs.ped_rules.specs.ped_loop_runs.specs.ped_bodies.specs.ped_steps.specs.ped_laws.specs.ped_eval.specs.Scopes.{Frame, Scope}
-use Rattle.ped_reindex.specs.ped_loops.specs.ped_scalar.specs.ped_rules.specs.ped_loop_runs.specs.ped_bodies.specs.ped_steps.specs.ped_laws.specs.ped_eval.specs.Outcomes.{setting_of}
+use Rattle.ped_rules.specs.ped_affine.specs.Assigned.{assigned_in, assigned_in_all}
+use Rattle.ped_rules.specs.ped_affine.specs.Ranges as ranges
+use Rattle.ped_rules.specs.ped_flow.specs.PlainBounds.{loops_round, all_loops_round}
+use Rattle.ped_rules.specs.ped_symbols.specs.Kinds.{kind_in, at_last}
+use Rattle.ped_rules.specs.ped_symbols.specs.RightUses.RightUses.{is_scalar, stmts_are_right}
+use Rattle.ped_rules.specs.ped_symbols.specs.RightUses.RightLoops.{step_is_right, steps_are_right}
+use Rattle.ped_rules.specs.ped_steps.specs.Replacing.{followed, alone}
+use Rattle.ped_rules.specs.ped_steps.specs.Runs.Gaps.{Gap, at_front, past, in_then, in_else, in_body, filled, number_at}
+use Rattle.ped_rules.specs.ped_steps.proofs.RunLaws.FilledGaps.{number_from, number_room}
+use Rattle.ped_rules.specs.ped_steps.proofs.RunLaws.LoopsRound.{none_before, all_none_before, all_none_from, one_more}
+use Rattle.ped_rules.specs.ped_loop_runs.proofs.LoopLaws.NextIn.{first_alone, second_alone}
+use Rattle.ped_rules.specs.ped_loop_runs.proofs.PastingLaws.FilledIndices.{index_filled}
+use Rattle.ped_rules.specs.ped_loop_runs.proofs.PastingLaws.NestsRound.{variables_behind}
+use Rattle.ped_rules.specs.ped_laws.specs.Covering.Nested.{loop}
+use Rattle.ped_rules.specs.ped_laws.proofs.ConflictLaws.MakingParts.{Part, Parts, first_part, rest_parts, then_parts, else_parts, body_parts}
+use Rattle.ped_rules.specs.ped_laws.proofs.ConflictLaws.MakingSteps.{head_fits, head_uses}
+use Rattle.ped_rules.specs.ped_laws.proofs.ConflictLaws.Scoping.{variables_of}
+use Rattle.ped_rules.specs.ped_laws.proofs.FlowRunLaws.Standing.{Stand, first_stands, rest_stands, inner_stands, else_stands, is_there}
+use Rattle.ped_rules.specs.ped_eval.specs.Scopes.{Frame, Scope}
+use Rattle.ped_rules.specs.ped_eval.specs.Outcomes.{setting_of}
 
 -- the DO loops round a gap, the outermost first, where the first statement has number n
 abbrev pub gap_loops : Gap → ℕ → List Loop

@@ -8,28 +8,28 @@ use Rattle.ped_tree.specs.NamesIn.{stmts_names}
 use Rattle.ped_tree.specs.Nests.{Loop}
 use Rattle.ped_tree.specs.Numbering.{statements_count}
 use Rattle.ped_tree.specs.Tree.{ProgramTree, StmtTrees}
-use Rattle.ped_reindex.specs.ped_loops.specs.ped_scalar.specs.ped_rules.specs.ped_loop_runs.specs.Carried.{IsCoveredAt}
-use Rattle.ped_reindex.specs.ped_loops.specs.ped_scalar.specs.ped_rules.specs.ped_loop_runs.specs.Executions.{IsActInside}
-use Rattle.ped_reindex.specs.ped_loops.specs.ped_scalar.specs.ped_rules.specs.ped_loop_runs.specs.ped_bodies.specs.ped_steps.proofs.RunLaws.FilledGaps.{counted}
-use Rattle.ped_reindex.specs.ped_loops.specs.ped_scalar.specs.ped_rules.specs.ped_loop_runs.specs.ped_bodies.specs.ped_steps.specs.Causes.{NoRule}
-use Rattle.ped_reindex.specs.ped_loops.specs.ped_scalar.specs.ped_rules.specs.ped_loop_runs.specs.ped_bodies.specs.ped_steps.specs.Replacing.{alone}
-use Rattle.ped_reindex.specs.ped_loops.specs.ped_scalar.specs.ped_rules.specs.ped_loop_runs.specs.ped_bodies.specs.ped_steps.specs.Runs.Pasting.{AreTurnsOf}
-use Rattle.ped_reindex.specs.ped_loops.specs.ped_scalar.specs.ped_rules.specs.ped_loop_runs.specs.ped_bodies.specs.ped_steps.specs.Tidy.{IsTidy}
-use Rattle.ped_reindex.specs.ped_loops.specs.ped_scalar.specs.ped_rules.specs.ped_loop_runs.specs.ped_bodies.specs.ped_steps.specs.ped_symbols.specs.NameRefusals.{IsValid}
-use Rattle.ped_reindex.specs.ped_loops.specs.ped_scalar.specs.ped_rules.specs.ped_loop_runs.specs.ped_bodies.specs.ped_steps.specs.ped_laws.proofs.ActLaws.Conflicting.{accesses_in}
-use Rattle.ped_reindex.specs.ped_loops.specs.ped_scalar.specs.ped_rules.specs.ped_loop_runs.specs.ped_bodies.specs.ped_steps.specs.ped_laws.proofs.ActLaws.Lists.{in_parts}
-use Rattle.ped_reindex.specs.ped_loops.specs.ped_scalar.specs.ped_rules.specs.ped_loop_runs.specs.ped_bodies.specs.ped_steps.specs.ped_laws.proofs.ConflictLaws.CoveringRuns.{MakingLaw}
-use Rattle.ped_reindex.specs.ped_loops.specs.ped_scalar.specs.ped_rules.specs.ped_loop_runs.specs.ped_bodies.specs.ped_steps.specs.ped_laws.proofs.ConflictLaws.Scoping.{act_of_access, touch_of_access}
-use Rattle.ped_reindex.specs.ped_loops.specs.ped_scalar.specs.ped_rules.specs.ped_loop_runs.specs.ped_bodies.specs.ped_steps.specs.ped_laws.specs.Acts.Orders.{IsIn}
-use Rattle.ped_reindex.specs.ped_loops.specs.ped_scalar.specs.ped_rules.specs.ped_loop_runs.specs.ped_bodies.specs.ped_steps.specs.ped_laws.specs.FlowRuns.Covering.{some_stop}
-use Rattle.ped_reindex.specs.ped_loops.specs.ped_scalar.specs.ped_rules.specs.ped_loop_runs.specs.ped_bodies.specs.ped_steps.specs.ped_laws.specs.ped_eval.specs.Outcomes.{Ends, run_of, setting_of}
-use Rattle.ped_reindex.specs.ped_loops.specs.ped_scalar.specs.ped_rules.specs.ped_loop_runs.specs.ped_bodies.specs.ped_steps.specs.ped_laws.specs.ped_eval.specs.Runs.{run_all}
-use Rattle.ped_reindex.specs.ped_loops.specs.ped_scalar.specs.ped_rules.specs.ped_loop_runs.specs.ped_bodies.specs.ped_steps.specs.ped_laws.specs.ped_eval.specs.Scopes.{Setting, Scope, turns_of}
-use Rattle.ped_reindex.specs.ped_loops.specs.ped_scalar.specs.ped_rules.specs.ped_loop_runs.specs.ped_bodies.specs.ped_steps.specs.ped_laws.specs.ped_graph.specs.Dependences.{AreEdges}
-use Rattle.ped_reindex.specs.ped_loops.specs.ped_scalar.specs.ped_rules.specs.ped_loop_runs.specs.ped_bodies.specs.ped_steps.specs.ped_laws.specs.ped_graph.specs.ped_edges.specs.Edges.{Edge}
-use Rattle.ped_reindex.specs.ped_loops.specs.ped_scalar.specs.ped_rules.specs.ped_loop_runs.specs.ped_bodies.specs.ped_steps.specs.ped_laws.specs.ped_store.specs.Acts.{Act, Place, Turn}
-use Rattle.ped_reindex.specs.ped_loops.specs.ped_scalar.specs.ped_rules.specs.ped_loop_runs.specs.ped_bodies.specs.ped_steps.specs.ped_laws.specs.ped_store.specs.Races.{Access, accesses, accesses_of}
-use Rattle.ped_reindex.specs.ped_loops.specs.ped_scalar.specs.ped_rules.specs.ped_loop_runs.specs.ped_bodies.specs.ped_steps.specs.ped_laws.specs.ped_store.specs.Stores.{Store, store_at_start}
+use Rattle.ped_rules.specs.ped_loop_runs.specs.Carried.{IsCoveredAt}
+use Rattle.ped_rules.specs.ped_loop_runs.specs.Executions.{IsActInside}
+use Rattle.ped_rules.specs.ped_steps.proofs.RunLaws.FilledGaps.{counted}
+use Rattle.ped_rules.specs.ped_steps.specs.Causes.{NoRule}
+use Rattle.ped_rules.specs.ped_steps.specs.Replacing.{alone}
+use Rattle.ped_rules.specs.ped_steps.specs.Runs.Pasting.{AreTurnsOf}
+use Rattle.ped_rules.specs.ped_steps.specs.Tidy.{IsTidy}
+use Rattle.ped_rules.specs.ped_symbols.specs.NameRefusals.{IsValid}
+use Rattle.ped_rules.specs.ped_laws.proofs.ActLaws.Conflicting.{accesses_in}
+use Rattle.ped_rules.specs.ped_laws.proofs.ActLaws.Lists.{in_parts}
+use Rattle.ped_rules.specs.ped_laws.proofs.ConflictLaws.CoveringRuns.{MakingLaw}
+use Rattle.ped_rules.specs.ped_laws.proofs.ConflictLaws.Scoping.{act_of_access, touch_of_access}
+use Rattle.ped_rules.specs.ped_laws.specs.Acts.Orders.{IsIn}
+use Rattle.ped_rules.specs.ped_laws.specs.FlowRuns.Covering.{some_stop}
+use Rattle.ped_rules.specs.ped_eval.specs.Outcomes.{Ends, run_of, setting_of}
+use Rattle.ped_rules.specs.ped_eval.specs.Runs.{run_all}
+use Rattle.ped_rules.specs.ped_eval.specs.Scopes.{Setting, Scope, turns_of}
+use Rattle.ped_rules.specs.ped_graph.specs.Dependences.{AreEdges}
+use Rattle.ped_edges.specs.Edges.{Edge}
+use Rattle.ped_rules.specs.ped_store.specs.Acts.{Act, Place, Turn}
+use Rattle.ped_rules.specs.ped_store.specs.Races.{Access, accesses, accesses_of}
+use Rattle.ped_rules.specs.ped_store.specs.Stores.{Store, store_at_start}
 use Rattle.ped_splits.proofs.CoverConflicts.{CrossBetween, crossing_covered}
 use Rattle.ped_splits.proofs.CoverFacts.{MayFuse}
 use Rattle.ped_splits.proofs.CoverFound.{IsFound, IsPlaced, each_placed}

@@ -6,21 +6,21 @@ use Rattle.ped_base.specs.Lists.{is_among}
 use Rattle.ped_base.proofs.NameEquality.{same_itself}
 use Rattle.ped_tree.specs.Tree.{StmtTrees}
 use Rattle.ped_tree.specs.NamesIn.{all_loop_variables}
-use Rattle.ped_reindex.specs.ped_loops.specs.ped_scalar.specs.ped_rules.specs.ped_loop_runs.specs.ped_bodies.specs.ped_steps.specs.ped_laws.specs.ped_flow.specs.ped_affine.specs.Assigned.{assigned_in_all}
-use Rattle.ped_reindex.specs.ped_loops.specs.ped_scalar.specs.ped_rules.specs.ped_loop_runs.specs.ped_bodies.specs.ped_steps.specs.ped_flow.proofs.Truths.{or_none}
-use Rattle.ped_reindex.specs.ped_loops.specs.ped_scalar.specs.ped_rules.specs.ped_loop_runs.specs.ped_bodies.specs.ped_steps.specs.ped_laws.specs.ped_store.specs.Cells.{Cell, Scalar, Element, Private, In, Out}
-use Rattle.ped_reindex.specs.ped_loops.specs.ped_scalar.specs.ped_rules.specs.ped_loop_runs.specs.ped_bodies.specs.ped_steps.specs.ped_laws.specs.ped_store.specs.Stores.{Content, Undefined, Number, Lines, Store, is_storable, store_at_start}
-use Rattle.ped_reindex.specs.ped_loops.specs.ped_scalar.specs.ped_rules.specs.ped_loop_runs.specs.ped_bodies.specs.ped_steps.specs.ped_laws.specs.ped_store.specs.Acts.{Touch, Act}
-use Rattle.ped_reindex.specs.ped_loops.specs.ped_scalar.specs.ped_rules.specs.ped_loop_runs.specs.ped_bodies.specs.ped_steps.specs.ped_laws.specs.ped_eval.specs.Scopes.{Setting, Scope}
-use Rattle.ped_reindex.specs.ped_loops.specs.ped_scalar.specs.ped_rules.specs.ped_loop_runs.specs.ped_bodies.specs.ped_steps.specs.ped_laws.specs.ped_eval.specs.Runs.{run_all}
-use Rattle.ped_reindex.specs.ped_loops.specs.ped_scalar.specs.ped_rules.specs.ped_loop_runs.specs.ped_bodies.specs.ped_steps.specs.ped_laws.specs.Acts.Fitting.{store_after, touches_of}
-use Rattle.ped_reindex.specs.ped_loops.specs.ped_scalar.specs.ped_rules.specs.ped_loop_runs.specs.ped_bodies.specs.ped_steps.specs.ped_laws.specs.Acts.Sets.{written, writes_to}
-use Rattle.ped_reindex.specs.ped_loops.specs.ped_scalar.specs.ped_rules.specs.ped_loop_runs.specs.ped_bodies.specs.ped_steps.specs.ped_laws.specs.Covering.Within.{is_storing, HoldsStorable}
-use Rattle.ped_reindex.specs.ped_loops.specs.ped_scalar.specs.ped_rules.specs.ped_loop_runs.specs.ped_bodies.specs.ped_steps.specs.ped_laws.specs.Plain.Executions.{is_small, WriteSmall}
-use Rattle.ped_reindex.specs.ped_loops.specs.ped_scalar.specs.ped_rules.specs.ped_loop_runs.specs.ped_bodies.specs.ped_steps.specs.ped_laws.proofs.ActLaws.Renamings.{after_other}
-use Rattle.ped_reindex.specs.ped_loops.specs.ped_scalar.specs.ped_rules.specs.ped_loop_runs.specs.ped_bodies.specs.ped_steps.specs.ped_laws.proofs.ActLaws.Reorderings.{touches_append}
-use Rattle.ped_reindex.specs.ped_loops.specs.ped_scalar.specs.ped_rules.specs.ped_loop_runs.specs.ped_bodies.specs.ped_steps.specs.ped_laws.proofs.FlowRunLaws.Writing.{all_unassigned}
-use Rattle.ped_reindex.specs.ped_loops.specs.ped_scalar.specs.ped_rules.specs.ped_loop_runs.specs.ped_bodies.specs.ped_steps.specs.ped_laws.proofs.PlainLaws.SmallWrites.{run_all_small, small_after, small_front}
+use Rattle.ped_rules.specs.ped_affine.specs.Assigned.{assigned_in_all}
+use Rattle.ped_rules.specs.ped_flow.proofs.Truths.{or_none}
+use Rattle.ped_rules.specs.ped_store.specs.Cells.{Cell, Scalar, Element, Private, In, Out}
+use Rattle.ped_rules.specs.ped_store.specs.Stores.{Content, Undefined, Number, Lines, Store, is_storable, store_at_start}
+use Rattle.ped_rules.specs.ped_store.specs.Acts.{Touch, Act}
+use Rattle.ped_rules.specs.ped_eval.specs.Scopes.{Setting, Scope}
+use Rattle.ped_rules.specs.ped_eval.specs.Runs.{run_all}
+use Rattle.ped_rules.specs.ped_laws.specs.Acts.Fitting.{store_after, touches_of}
+use Rattle.ped_rules.specs.ped_laws.specs.Acts.Sets.{written, writes_to}
+use Rattle.ped_rules.specs.ped_laws.specs.Covering.Within.{is_storing, HoldsStorable}
+use Rattle.ped_rules.specs.ped_laws.specs.Plain.Executions.{is_small, WriteSmall}
+use Rattle.ped_rules.specs.ped_laws.proofs.ActLaws.Renamings.{after_other}
+use Rattle.ped_rules.specs.ped_laws.proofs.ActLaws.Reorderings.{touches_append}
+use Rattle.ped_rules.specs.ped_laws.proofs.FlowRunLaws.Writing.{all_unassigned}
+use Rattle.ped_rules.specs.ped_laws.proofs.PlainLaws.SmallWrites.{run_all_small, small_after, small_front}
 use Rattle.ped_splits.proofs.CoverElements.{elements_small}
 
 small_of : (o : Content) → ((n : ℤ) → o ≡ Number n → is_storable n ≡ true) → is_small o ≡ true

@@ -1,8 +1,8 @@
 -- What the step comes to is determined, whatever it keeps of the meaning.
 use Rattle.std.proofs.Common.{ℕ, refl}
-use Rattle.ped_reindex.specs.ped_loops.specs.ped_scalar.specs.ped_rules.specs.ped_loop_runs.specs.ped_bodies.specs.ped_steps.specs.Causes.{none_forbids}
-use Rattle.ped_reindex.specs.ped_loops.specs.ped_scalar.specs.ped_rules.specs.ped_loop_runs.specs.ped_bodies.specs.ped_steps.proofs.OneCause.{one_cause}
-use Rattle.ped_reindex.specs.ped_loops.specs.ped_scalar.specs.ped_rules.specs.Lawful.{IsDetermined}
+use Rattle.ped_rules.specs.ped_steps.specs.Causes.{none_forbids}
+use Rattle.ped_rules.specs.ped_steps.proofs.OneCause.{one_cause}
+use Rattle.ped_rules.specs.Lawful.{IsDetermined}
 use Rattle.ped_splits.specs.Distributing.{distributed, StandsAgainstDistribution, distributing}
 use Rattle.ped_splits.proofs.DistributeRules.{kept, one_made, chain, its_loop, is_valid}
 use Rattle.ped_splits.proofs.Existence.Closures.{blocks_exist}

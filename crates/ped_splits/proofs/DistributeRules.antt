@@ -2,20 +2,20 @@
 use Rattle.std.proofs.Common.{◌≡◌, ◌⊎◌, ℕ, ◌<◌, ◌≤◌, List, length, Bool, true, false, inl, inr, refl, sym, ap, ◌∙◌, subst, arith}
 use Rattle.std.proofs.lemmas.Bool.{cases_lt}
 use Rattle.ped_tree.specs.Tree.{ExprTree, Head, StmtTrees, ProgramTree}
-use Rattle.ped_reindex.specs.ped_loops.specs.Interchanging.{IsBoundOf}
-use Rattle.ped_reindex.specs.ped_loops.specs.ped_scalar.specs.ped_rules.specs.ped_loop_runs.specs.ped_bodies.specs.ped_steps.specs.ped_symbols.specs.Kinds.{table_of}
-use Rattle.ped_reindex.specs.ped_loops.specs.ped_scalar.specs.ped_rules.specs.ped_loop_runs.specs.ped_bodies.specs.ped_steps.specs.ped_symbols.specs.NameRefusals.{IsValid}
-use Rattle.ped_reindex.specs.ped_loops.specs.ped_scalar.specs.ped_rules.specs.ped_loop_runs.specs.ped_bodies.specs.ped_steps.specs.ped_flow.specs.PlainBounds.{IsPlain}
-use Rattle.ped_reindex.specs.ped_loops.specs.ped_scalar.specs.ped_rules.specs.ped_loop_runs.specs.ped_bodies.specs.ped_steps.specs.ped_flow.specs.Questions.{IsLoop, LoopOf, IsContained}
-use Rattle.ped_reindex.specs.ped_loops.specs.ped_scalar.specs.ped_rules.specs.ped_loop_runs.specs.ped_bodies.specs.ped_steps.specs.ped_flow.proofs.Answering.{same_head, same_body}
-use Rattle.ped_reindex.specs.ped_loops.specs.ped_scalar.specs.ped_rules.specs.ped_loop_runs.specs.ped_bodies.specs.ped_steps.specs.declared.rules.Rule.{Rule}
-use Rattle.ped_reindex.specs.ped_loops.specs.ped_scalar.specs.ped_rules.specs.ped_loop_runs.specs.ped_bodies.specs.ped_steps.specs.declared.rules.Rule.TheVariants.{NoLoop, ParallelState, IndexEscapes, BoundNotPlain, OneBlock, Limit}
-use Rattle.ped_reindex.specs.ped_loops.specs.ped_scalar.specs.ped_rules.specs.ped_loop_runs.specs.ped_bodies.specs.ped_steps.specs.Causes.{Rules, NoRule, IsFirstRule}
-use Rattle.ped_reindex.specs.ped_loops.specs.ped_scalar.specs.ped_rules.specs.Chains.{no_rules, also, WhereLoop}
-use Rattle.ped_reindex.specs.ped_loops.specs.ped_scalar.specs.ped_rules.specs.Rules.{WhereNoLoop, is_parallel, WhereEscape, WhereUnplain, WhereLimit}
-use Rattle.ped_reindex.specs.ped_loops.specs.ped_scalar.specs.ped_rules.proofs.Chains.{IsChain, IsOne, chain_end, chain_link, first_here, first_later, none_later, not_this, not_those, none_at_end}
-use Rattle.ped_reindex.specs.ped_loops.specs.ped_scalar.specs.ped_rules.proofs.OneEach.{no_loop_one, loop_one, escape_one, unplain_one, limit_one}
-use Rattle.ped_reindex.specs.ped_loops.specs.ped_scalar.specs.ped_rules.proofs.Decided.{some_loop, limit_stands, limit_not, limit_valid}
+use Rattle.ped_rules.specs.Rules.{IsBoundOf}
+use Rattle.ped_rules.specs.ped_symbols.specs.Kinds.{table_of}
+use Rattle.ped_rules.specs.ped_symbols.specs.NameRefusals.{IsValid}
+use Rattle.ped_rules.specs.ped_flow.specs.PlainBounds.{IsPlain}
+use Rattle.ped_rules.specs.ped_flow.specs.Questions.{IsLoop, LoopOf, IsContained}
+use Rattle.ped_rules.specs.ped_flow.proofs.Answering.{same_head, same_body}
+use Rattle.ped_rules.specs.ped_steps.specs.declared.rules.Rule.{Rule}
+use Rattle.ped_rules.specs.ped_steps.specs.declared.rules.Rule.TheVariants.{NoLoop, ParallelState, IndexEscapes, BoundNotPlain, OneBlock, Limit}
+use Rattle.ped_rules.specs.ped_steps.specs.Causes.{Rules, NoRule, IsFirstRule}
+use Rattle.ped_rules.specs.Chains.{no_rules, also, WhereLoop}
+use Rattle.ped_rules.specs.Rules.{WhereNoLoop, is_parallel, WhereEscape, WhereUnplain, WhereLimit}
+use Rattle.ped_rules.proofs.Chains.{IsChain, IsOne, chain_end, chain_link, first_here, first_later, none_later, not_this, not_those, none_at_end}
+use Rattle.ped_rules.proofs.OneEach.{no_loop_one, loop_one, escape_one, unplain_one, limit_one}
+use Rattle.ped_rules.proofs.Decided.{some_loop, limit_stands, limit_not, limit_valid}
 use Rattle.ped_splits.proofs.Contained.{contained}
 use Rattle.ped_splits.proofs.Here.{here, not_no_loop, fails_by, fails_there, passes_there}
 use Rattle.ped_splits.specs.Blocks.{AreBlocks}

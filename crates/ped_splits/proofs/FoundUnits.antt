@@ -7,7 +7,7 @@ use Rattle.ped_tree.specs.Tree.{StmtTree, StmtTrees, no_stmts, more_stmts}
 use Rattle.ped_tree.specs.Numbering.{statement_count, statements_count}
 use Rattle.ped_tree.specs.Views.{stmt_tree, stmt_trees}
 use Rattle.ped_tree.specs.declared.statements.Stmt.{Stmt}
-use Rattle.ped_reindex.specs.ped_loops.specs.ped_scalar.specs.ped_rules.specs.ped_loop_runs.specs.ped_bodies.specs.ped_steps.specs.Replacing.{alone}
+use Rattle.ped_rules.specs.ped_steps.specs.Replacing.{alone}
 use Rattle.ped_splits.specs.declared.units.Unit.{Unit}
 use Rattle.ped_splits.specs.Units.{before_first, units}
 use Rattle.ped_splits.specs.CodeUnits.{unit_tree, unit_trees}

@@ -7,17 +7,18 @@ use Rattle.std.proofs.lemmas.List.Elements.{All-nil, All-cons, All-head, All-tai
 use Rattle.std.proofs.lemmas.List.Kept.{AllPairs-cons}
 use Rattle.ped_tree.specs.Numbering.{statements_count}
 use Rattle.ped_tree.specs.Tree.{Do, ProgramTree}
-use Rattle.ped_reindex.specs.ped_loops.specs.ped_scalar.specs.ped_rules.specs.Carried.{carried}
-use Rattle.ped_reindex.specs.ped_loops.specs.ped_scalar.specs.ped_rules.specs.ped_loop_runs.specs.ped_bodies.specs.ped_steps.proofs.OneCause.{one_cause}
-use Rattle.ped_reindex.specs.ped_loops.specs.ped_scalar.specs.ped_rules.specs.ped_loop_runs.specs.ped_bodies.specs.ped_steps.specs.Causes.{Cause, rule, dependence, IsFirstForbidding, none_forbids}
-use Rattle.ped_reindex.specs.ped_loops.specs.ped_scalar.specs.ped_rules.specs.ped_loop_runs.specs.ped_bodies.specs.ped_steps.specs.Replacing.{followed, alone}
-use Rattle.ped_reindex.specs.ped_loops.specs.ped_scalar.specs.ped_rules.specs.ped_loop_runs.specs.ped_bodies.specs.ped_steps.specs.Runs.Gaps.{filled}
-use Rattle.ped_reindex.specs.ped_loops.specs.ped_scalar.specs.ped_rules.specs.ped_loop_runs.specs.ped_bodies.specs.ped_steps.specs.ped_laws.specs.ped_graph.proofs.OnePane.{one_edges_of_pairs}
-use Rattle.ped_reindex.specs.ped_loops.specs.ped_scalar.specs.ped_rules.specs.ped_loop_runs.specs.ped_bodies.specs.ped_steps.specs.ped_laws.specs.ped_graph.specs.Dependences.{EdgesOfPairs}
-use Rattle.ped_reindex.specs.ped_loops.specs.ped_scalar.specs.ped_rules.specs.ped_loop_runs.specs.ped_bodies.specs.ped_steps.specs.ped_laws.specs.ped_graph.specs.Update.Fresh.{IsOneToOne}
-use Rattle.ped_reindex.specs.ped_loops.specs.ped_scalar.specs.ped_rules.specs.ped_loop_runs.specs.ped_bodies.specs.ped_steps.specs.ped_laws.specs.ped_graph.specs.ped_edges.specs.Edges.{Edge}
-use Rattle.ped_reindex.specs.ped_loops.specs.ped_scalar.specs.ped_rules.specs.ped_loop_runs.specs.ped_bodies.specs.ped_steps.specs.ped_refs.specs.References.{Reference, references, pairs}
-use Rattle.ped_splits.specs.Neighbours.{Neighbour, joined_head, renamed_body, fused, next_number, closed_up, kept_without}
+use Rattle.ped_rules.specs.Carried.{carried}
+use Rattle.ped_rules.specs.ped_steps.proofs.OneCause.{one_cause}
+use Rattle.ped_rules.specs.ped_steps.specs.Causes.{Cause, rule, dependence, IsFirstForbidding, none_forbids}
+use Rattle.ped_rules.specs.ped_steps.specs.Replacing.{followed, alone}
+use Rattle.ped_rules.specs.ped_steps.specs.Runs.Gaps.{filled}
+use Rattle.ped_rules.specs.ped_graph.proofs.OnePane.{one_edges_of_pairs}
+use Rattle.ped_rules.specs.ped_graph.specs.Dependences.{EdgesOfPairs}
+use Rattle.ped_rules.specs.ped_graph.specs.Update.Fresh.{IsOneToOne}
+use Rattle.ped_edges.specs.Edges.{Edge}
+use Rattle.ped_refs.specs.References.{Reference, references, pairs}
+use Rattle.ped_splits.specs.Neighbours.{Neighbour, joined_head, renamed_body, fused, next_number, kept_without}
+use Rattle.ped_rules.specs.KeepMaps.{closed_up}
 use Rattle.ped_splits.specs.Fusing.{Match, MakesFused, StandsAgainstFusion, AreBack, forbids_fusion, with_present_numbers, IsFusionCause}
 use Rattle.ped_splits.proofs.BlockOrders.{all_by}
 use Rattle.ped_splits.proofs.FuseRules.{chain}

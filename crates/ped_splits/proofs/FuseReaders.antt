@@ -2,11 +2,12 @@
 use Rattle.std.proofs.Common.{◌≡◌, ◌⊎◌, inl, inr, ℕ, suc, ◌<◌, ◌≤◌, nat_lt, Bool, true, false, Option, Some, None, MatchOption, refl, sym, ap, subst, ◌∙◌, arith, if◌then◌else◌}
 use Rattle.std.proofs.lemmas.Bool.{ltb-true, ltb-false}
 use Rattle.ped_tree.specs.Tree.{ProgramTree}
-use Rattle.ped_reindex.specs.ped_loops.specs.ped_scalar.specs.ped_rules.specs.ped_loop_runs.specs.ped_bodies.specs.ped_steps.specs.ped_flow.specs.Answers.{IsEscape}
-use Rattle.ped_reindex.specs.ped_loops.specs.ped_scalar.specs.ped_rules.specs.ped_loop_runs.specs.ped_bodies.specs.ped_steps.specs.ped_flow.specs.Questions.{LoopOf, IsFirst, IsReadLoose, IsReadBehind, IsContained, IsBrokenBy, IsShown}
-use Rattle.ped_reindex.specs.ped_loops.specs.ped_scalar.specs.ped_rules.specs.ped_loop_runs.specs.ped_bodies.specs.ped_steps.specs.ped_flow.specs.declared.flows.Reader.{Reader}
-use Rattle.ped_reindex.specs.ped_loops.specs.ped_scalar.specs.ped_rules.specs.ped_loop_runs.specs.ped_bodies.specs.ped_steps.specs.ped_flow.specs.declared.flows.Reader.TheVariants.{Statement, Saved}
-use Rattle.ped_splits.specs.Neighbours.{Neighbour, fused, next_number, opened_at}
+use Rattle.ped_rules.specs.ped_flow.specs.Answers.{IsEscape}
+use Rattle.ped_rules.specs.ped_flow.specs.Questions.{LoopOf, IsFirst, IsReadLoose, IsReadBehind, IsContained, IsBrokenBy, IsShown}
+use Rattle.ped_rules.specs.ped_flow.specs.declared.flows.Reader.{Reader}
+use Rattle.ped_rules.specs.ped_flow.specs.declared.flows.Reader.TheVariants.{Statement, Saved}
+use Rattle.ped_splits.specs.Neighbours.{Neighbour, fused, next_number}
+use Rattle.ped_rules.specs.KeepMaps.{opened_at}
 use Rattle.ped_splits.specs.Fusing.{Match, IsBrokenInFusion, IsShownInFusion, WhereFusionEscapes}
 use Rattle.ped_splits.specs.CodeFusing.{IsReaderOf, earlier, IsBrokenInTwo, IsShownInTwo, IsBrokenInNew, named_by}
 use Rattle.ped_splits.proofs.FuseOne.{same_fused, same_next}

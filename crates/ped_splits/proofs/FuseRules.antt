@@ -1,12 +1,12 @@
 -- The rules that stand against `fuse`, one behind the other: each names one statement.
 use Rattle.std.proofs.Common.{◌≡◌, ℕ, inl, inr, Bool, sym, ◌∙◌, arith}
 use Rattle.ped_tree.specs.Tree.{Head, StmtTrees, ProgramTree}
-use Rattle.ped_reindex.specs.ped_loops.specs.ped_scalar.specs.ped_rules.specs.ped_loop_runs.specs.ped_bodies.specs.ped_steps.specs.declared.rules.Rule.TheVariants.{NoLoop, ParallelState, HasPrivate, IndexEscapes, BoundNotPlain, NoNeighbour, Limit}
-use Rattle.ped_reindex.specs.ped_loops.specs.ped_scalar.specs.ped_rules.specs.ped_loop_runs.specs.ped_bodies.specs.ped_steps.specs.Causes.{Rules}
-use Rattle.ped_reindex.specs.ped_loops.specs.ped_scalar.specs.ped_rules.specs.Chains.{no_rules, also}
-use Rattle.ped_reindex.specs.ped_loops.specs.ped_scalar.specs.ped_rules.specs.Rules.{WhereNoLoop, is_parallel, has_private, WhereUnplain}
-use Rattle.ped_reindex.specs.ped_loops.specs.ped_scalar.specs.ped_rules.proofs.Chains.{IsChain, IsOne, chain_end, chain_link}
-use Rattle.ped_reindex.specs.ped_loops.specs.ped_scalar.specs.ped_rules.proofs.OneEach.{one_first, no_loop_one, unplain_one}
+use Rattle.ped_rules.specs.ped_steps.specs.declared.rules.Rule.TheVariants.{NoLoop, ParallelState, HasPrivate, IndexEscapes, BoundNotPlain, NoNeighbour, Limit}
+use Rattle.ped_rules.specs.ped_steps.specs.Causes.{Rules}
+use Rattle.ped_rules.specs.Chains.{no_rules, also}
+use Rattle.ped_rules.specs.Rules.{WhereNoLoop, is_parallel, has_private, WhereUnplain}
+use Rattle.ped_rules.proofs.Chains.{IsChain, IsOne, chain_end, chain_link}
+use Rattle.ped_rules.proofs.OneEach.{one_first, no_loop_one, unplain_one}
 use Rattle.ped_splits.specs.Distributing.{IsItsBound}
 use Rattle.ped_splits.specs.Fusing.{WhereEither, IsBrokenInFusion, WhereFusionEscapes, WhereNoMatch, WhereFusedLimit, StandsAgainstFusion}
 

@@ -5,12 +5,12 @@ use Rattle.ped_base.proofs.NameEquality.{same_itself, same_is}
 use Rattle.ped_base.specs.Lists.{is_same_text, is_among}
 use Rattle.ped_tree.specs.Tree.{Var, Head, StmtTree, StmtTrees, Do, more_stmts, ProgramTree}
 use Rattle.ped_tree.specs.NamesIn.{stmts_names}
-use Rattle.ped_reindex.specs.ped_loops.specs.ped_scalar.specs.ped_rules.specs.ped_loop_runs.specs.ped_bodies.specs.ped_steps.proofs.RunLaws.KeptMeanings.{keeps_further}
-use Rattle.ped_reindex.specs.ped_loops.specs.ped_scalar.specs.ped_rules.specs.ped_loop_runs.specs.ped_bodies.specs.ped_steps.specs.Replacing.{followed, alone}
-use Rattle.ped_reindex.specs.ped_loops.specs.ped_scalar.specs.ped_rules.specs.ped_loop_runs.specs.ped_bodies.specs.ped_steps.specs.Runs.Gaps.{filled}
-use Rattle.ped_reindex.specs.ped_loops.specs.ped_scalar.specs.ped_rules.specs.ped_loop_runs.specs.ped_bodies.specs.ped_steps.specs.Runs.Meaning.{Keeps}
-use Rattle.ped_reindex.specs.ped_loops.specs.ped_scalar.specs.ped_rules.specs.ped_loop_runs.specs.ped_bodies.specs.ped_steps.specs.ped_laws.proofs.ConflictLaws.CoveringRuns.{MakingLaw}
-use Rattle.ped_reindex.specs.ped_loops.specs.ped_scalar.specs.ped_rules.specs.ped_loop_runs.specs.ped_bodies.specs.ped_steps.specs.ped_sums.specs.Substitution.{statements_substituted}
+use Rattle.ped_rules.specs.ped_steps.proofs.RunLaws.KeptMeanings.{keeps_further}
+use Rattle.ped_rules.specs.ped_steps.specs.Replacing.{followed, alone}
+use Rattle.ped_rules.specs.ped_steps.specs.Runs.Gaps.{filled}
+use Rattle.ped_rules.specs.ped_steps.specs.Runs.Meaning.{Keeps}
+use Rattle.ped_rules.specs.ped_laws.proofs.ConflictLaws.CoveringRuns.{MakingLaw}
+use Rattle.ped_sums.specs.Substitution.{statements_substituted}
 use Rattle.ped_splits.proofs.FuseFacts.{IsFusable}
 use Rattle.ped_splits.proofs.JoinCrossing.{NoneCrosses}
 use Rattle.ped_splits.proofs.JoinKeeps.{joined_keeps}

@@ -10,29 +10,29 @@ use Rattle.ped_tree.specs.Names.Collecting.{with_names}
 use Rattle.ped_tree.specs.NamesIn.{all_loop_variables, cond_names, head_names, loop_variables, stmt_names, stmts_names}
 use Rattle.ped_tree.specs.Numbering.{statement_count, statements_count}
 use Rattle.ped_tree.specs.Tree.{Var, Head, StmtTree, StmtTrees, Assign, If, Do, Print, Read, Stop, Comment, no_stmts, more_stmts, ProgramTree}
-use Rattle.ped_reindex.specs.ped_loops.specs.ped_scalar.proofs.TidyReferencesSubstituted.{all_unwritten, all_variables_stay, other_unwritten, variables_followed}
-use Rattle.ped_reindex.specs.ped_loops.specs.ped_scalar.proofs.UnrejectedSteps.{rejections_kept}
-use Rattle.ped_reindex.specs.ped_loops.specs.ped_scalar.specs.ped_rules.specs.ped_loop_runs.proofs.TidyLaws.TidyPathsGaps.{LeaveNoMore, followed_sum, gap_behind}
-use Rattle.ped_reindex.specs.ped_loops.specs.ped_scalar.specs.ped_rules.specs.ped_loop_runs.proofs.TidyLaws.TidyPathsPrivate.{cleared_private}
-use Rattle.ped_reindex.specs.ped_loops.specs.ped_scalar.specs.ped_rules.specs.ped_loop_runs.proofs.TidyLaws.TidyPathsShown.{shown_by}
-use Rattle.ped_reindex.specs.ped_loops.specs.ped_scalar.specs.ped_rules.specs.ped_loop_runs.proofs.TidyLaws.TidyPathsStops.{all_behind_unstopped}
-use Rattle.ped_reindex.specs.ped_loops.specs.ped_scalar.specs.ped_rules.specs.ped_loop_runs.proofs.TidyLaws.TidyPathsSums.{Summary, IsNoMore, any_numbers}
-use Rattle.ped_reindex.specs.ped_loops.specs.ped_scalar.specs.ped_rules.specs.ped_loop_runs.proofs.TidyLaws.TidyReferencesFilled.{all_followed}
-use Rattle.ped_reindex.specs.ped_loops.specs.ped_scalar.specs.ped_rules.specs.ped_loop_runs.proofs.TidyLaws.UnrejectedTrees.{followed_rejection}
-use Rattle.ped_reindex.specs.ped_loops.specs.ped_scalar.specs.ped_rules.specs.ped_loop_runs.proofs.TidyLaws.WrittenIndices.{followed_index}
-use Rattle.ped_reindex.specs.ped_loops.specs.ped_scalar.specs.ped_rules.specs.ped_loop_runs.specs.Unrejected.{has_rejection, some_rejection}
-use Rattle.ped_reindex.specs.ped_loops.specs.ped_scalar.specs.ped_rules.specs.ped_loop_runs.specs.Writing.{all_write, some_write_index, writes, writes_index, writes_name}
-use Rattle.ped_reindex.specs.ped_loops.specs.ped_scalar.specs.ped_rules.specs.ped_loop_runs.specs.ped_bodies.specs.ped_steps.proofs.RunLaws.ExpandedPlacesParts.{part_at}
-use Rattle.ped_reindex.specs.ped_loops.specs.ped_scalar.specs.ped_rules.specs.ped_loop_runs.specs.ped_bodies.specs.ped_steps.specs.Replacing.{followed, alone}
-use Rattle.ped_reindex.specs.ped_loops.specs.ped_scalar.specs.ped_rules.specs.ped_loop_runs.specs.ped_bodies.specs.ped_steps.specs.ped_flow.proofs.Truths.{untrue, or_split}
-use Rattle.ped_reindex.specs.ped_loops.specs.ped_scalar.specs.ped_rules.specs.ped_loop_runs.specs.ped_bodies.specs.ped_steps.specs.ped_flow.specs.Questions.{IsContained, IsShownBehind}
-use Rattle.ped_reindex.specs.ped_loops.specs.ped_scalar.specs.ped_rules.specs.ped_loop_runs.specs.ped_bodies.specs.ped_steps.specs.ped_flow.specs.Summaries.{sum_in_turn, sum_either, sum_loop, sum_of, sum_of_all, sum_at_once, sum_behind, sum_behind_all}
-use Rattle.ped_reindex.specs.ped_loops.specs.ped_scalar.specs.ped_rules.specs.ped_loop_runs.specs.ped_bodies.specs.ped_steps.specs.ped_laws.proofs.FlowRunLaws.Stopping.{fitting_stops, loop_stops}
-use Rattle.ped_reindex.specs.ped_loops.specs.ped_scalar.specs.ped_rules.specs.ped_loop_runs.specs.ped_bodies.specs.ped_steps.specs.ped_laws.specs.FlowRuns.Covering.{has_stop, some_stop}
-use Rattle.ped_reindex.specs.ped_loops.specs.ped_scalar.specs.ped_rules.specs.ped_loop_runs.specs.ped_bodies.specs.ped_steps.specs.ped_symbols.specs.Kinds.{kind_in}
-use Rattle.ped_reindex.specs.ped_loops.specs.ped_scalar.specs.ped_rules.specs.ped_loop_runs.specs.ped_bodies.specs.ped_steps.specs.ped_symbols.specs.NameRefusals.{IsValid}
-use Rattle.ped_reindex.specs.ped_loops.specs.ped_scalar.specs.ped_rules.specs.ped_loop_runs.specs.ped_bodies.specs.ped_steps.specs.ped_symbols.specs.RightUses.RightUses.{NameKinds, cond_is_right, head_is_right, stmt_is_right, stmts_are_right}
-use Rattle.ped_reindex.specs.ped_loops.specs.ped_scalar.specs.ped_rules.specs.ped_loop_runs.specs.ped_bodies.specs.ped_steps.specs.ped_sums.specs.Substitution.{statement_substituted, statements_substituted}
+use Rattle.ped_rules.proofs.NameLaws.SubstitutedReferences.{all_unwritten, all_variables_stay, other_unwritten, variables_followed}
+use Rattle.ped_rules.proofs.NameLaws.SubstitutedRejections.{rejections_kept}
+use Rattle.ped_rules.specs.ped_loop_runs.proofs.TidyLaws.TidyPathsGaps.{LeaveNoMore, followed_sum, gap_behind}
+use Rattle.ped_rules.specs.ped_loop_runs.proofs.TidyLaws.TidyPathsPrivate.{cleared_private}
+use Rattle.ped_rules.specs.ped_loop_runs.proofs.TidyLaws.TidyPathsShown.{shown_by}
+use Rattle.ped_rules.specs.ped_loop_runs.proofs.TidyLaws.TidyPathsStops.{all_behind_unstopped}
+use Rattle.ped_rules.specs.ped_loop_runs.proofs.TidyLaws.TidyPathsSums.{Summary, IsNoMore, any_numbers}
+use Rattle.ped_rules.specs.ped_loop_runs.proofs.TidyLaws.TidyReferencesFilled.{all_followed}
+use Rattle.ped_rules.specs.ped_loop_runs.proofs.TidyLaws.UnrejectedTrees.{followed_rejection}
+use Rattle.ped_rules.specs.ped_loop_runs.proofs.TidyLaws.WrittenIndices.{followed_index}
+use Rattle.ped_rules.specs.ped_loop_runs.specs.Unrejected.{has_rejection, some_rejection}
+use Rattle.ped_rules.specs.ped_loop_runs.specs.Writing.{all_write, some_write_index, writes, writes_index, writes_name}
+use Rattle.ped_rules.specs.ped_steps.proofs.RunLaws.ExpandedPlacesParts.{part_at}
+use Rattle.ped_rules.specs.ped_steps.specs.Replacing.{followed, alone}
+use Rattle.ped_rules.specs.ped_flow.proofs.Truths.{untrue, or_split}
+use Rattle.ped_rules.specs.ped_flow.specs.Questions.{IsContained, IsShownBehind}
+use Rattle.ped_rules.specs.ped_flow.specs.Summaries.{sum_in_turn, sum_either, sum_loop, sum_of, sum_of_all, sum_at_once, sum_behind, sum_behind_all}
+use Rattle.ped_rules.specs.ped_laws.proofs.FlowRunLaws.Stopping.{fitting_stops, loop_stops}
+use Rattle.ped_rules.specs.ped_laws.specs.FlowRuns.Covering.{has_stop, some_stop}
+use Rattle.ped_rules.specs.ped_symbols.specs.Kinds.{kind_in}
+use Rattle.ped_rules.specs.ped_symbols.specs.NameRefusals.{IsValid}
+use Rattle.ped_rules.specs.ped_symbols.specs.RightUses.RightUses.{NameKinds, cond_is_right, head_is_right, stmt_is_right, stmts_are_right}
+use Rattle.ped_sums.specs.Substitution.{statement_substituted, statements_substituted}
 use Rattle.ped_splits.specs.Neighbours.{Neighbour, AreAlike, joined_head, renamed_body, joined_loop, fused, next_number}
 use Rattle.ped_splits.proofs.NeighbourLoops.{pair, pair_count, own_loop, next_loop, fused_loop, next_is}
 use Rattle.ped_splits.proofs.UnitTests.{only_comment}

@@ -3,19 +3,20 @@ use Rattle.std.proofs.Common.{◌≡◌, ◌⊎◌, ℕ, suc, ◌<◌, ◌≤◌
 use Rattle.std.proofs.lemmas.Bool.{both_ways, cases_lt}
 use Rattle.ped_tree.specs.NamesIn.{loop_variables}
 use Rattle.ped_tree.specs.Tree.{Head, StmtTrees, Do, ProgramTree}
-use Rattle.ped_reindex.specs.ped_loops.proofs.PlainDecided.{OrNot}
-use Rattle.ped_reindex.specs.ped_loops.specs.ped_scalar.specs.ped_rules.proofs.Decided.{loop_decided, valid_decided, limit_stands}
-use Rattle.ped_reindex.specs.ped_loops.specs.ped_scalar.specs.ped_rules.specs.Chains.{WhereLoop}
-use Rattle.ped_reindex.specs.ped_loops.specs.ped_scalar.specs.ped_rules.specs.ped_loop_runs.specs.ped_bodies.specs.ped_steps.specs.ped_flow.proofs.Escaping.{escape_is}
-use Rattle.ped_reindex.specs.ped_loops.specs.ped_scalar.specs.ped_rules.specs.ped_loop_runs.specs.ped_bodies.specs.ped_steps.specs.ped_flow.proofs.FirstLaws.{first_map, first_or}
-use Rattle.ped_reindex.specs.ped_loops.specs.ped_scalar.specs.ped_rules.specs.ped_loop_runs.specs.ped_bodies.specs.ped_steps.specs.ped_flow.specs.Answers.{IsEscape}
-use Rattle.ped_reindex.specs.ped_loops.specs.ped_scalar.specs.ped_rules.specs.ped_loop_runs.specs.ped_bodies.specs.ped_steps.specs.ped_flow.specs.Escapes.{escapes_of, escaping}
-use Rattle.ped_reindex.specs.ped_loops.specs.ped_scalar.specs.ped_rules.specs.ped_loop_runs.specs.ped_bodies.specs.ped_steps.specs.ped_flow.specs.Questions.{LoopOf, IsFirst, IsReadLoose, IsReadBehind, IsContained, IsBrokenBy, IsShown}
-use Rattle.ped_reindex.specs.ped_loops.specs.ped_scalar.specs.ped_rules.specs.ped_loop_runs.specs.ped_bodies.specs.ped_steps.specs.ped_flow.specs.Summaries.{least_of}
-use Rattle.ped_reindex.specs.ped_loops.specs.ped_scalar.specs.ped_rules.specs.ped_loop_runs.specs.ped_bodies.specs.ped_steps.specs.ped_flow.specs.declared.flows.Reader.{Reader}
-use Rattle.ped_reindex.specs.ped_loops.specs.ped_scalar.specs.ped_rules.specs.ped_loop_runs.specs.ped_bodies.specs.ped_steps.specs.ped_flow.specs.declared.flows.Reader.TheVariants.{Statement, Saved}
-use Rattle.ped_reindex.specs.ped_loops.specs.ped_scalar.specs.ped_rules.specs.ped_loop_runs.specs.ped_bodies.specs.ped_steps.specs.ped_symbols.specs.NameRefusals.{IsValid}
-use Rattle.ped_splits.specs.Neighbours.{Neighbour, fused, next_number, opened_at, kept_without}
+use Rattle.ped_rules.proofs.HeadLaws.PlainDecided.{OrNot}
+use Rattle.ped_rules.proofs.Decided.{loop_decided, valid_decided, limit_stands}
+use Rattle.ped_rules.specs.Chains.{WhereLoop}
+use Rattle.ped_rules.specs.ped_flow.proofs.Escaping.{escape_is}
+use Rattle.ped_rules.specs.ped_flow.proofs.FirstLaws.{first_map, first_or}
+use Rattle.ped_rules.specs.ped_flow.specs.Answers.{IsEscape}
+use Rattle.ped_rules.specs.ped_flow.specs.Escapes.{escapes_of, escaping}
+use Rattle.ped_rules.specs.ped_flow.specs.Questions.{LoopOf, IsFirst, IsReadLoose, IsReadBehind, IsContained, IsBrokenBy, IsShown}
+use Rattle.ped_rules.specs.ped_flow.specs.Summaries.{least_of}
+use Rattle.ped_rules.specs.ped_flow.specs.declared.flows.Reader.{Reader}
+use Rattle.ped_rules.specs.ped_flow.specs.declared.flows.Reader.TheVariants.{Statement, Saved}
+use Rattle.ped_rules.specs.ped_symbols.specs.NameRefusals.{IsValid}
+use Rattle.ped_splits.specs.Neighbours.{Neighbour, fused, next_number, kept_without}
+use Rattle.ped_rules.specs.KeepMaps.{opened_at}
 use Rattle.ped_splits.specs.Fusing.{Match, MakesFused, WhereNext, WhereEither, IsBrokenInFusion, IsShownInFusion, WhereFusionEscapes, WhereNoMatch, WhereFusedLimit}
 use Rattle.ped_splits.proofs.AlikeDecided.{neither, match_decided}
 use Rattle.ped_splits.proofs.FuseOne.{fused_at, number_behind, one_made}

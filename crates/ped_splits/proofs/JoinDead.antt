@@ -7,15 +7,15 @@ use Rattle.ped_tree.specs.Accesses.{constant_names}
 use Rattle.ped_tree.specs.NamesIn.{all_loop_variables}
 use Rattle.ped_tree.specs.Numbering.{statement_count, statements_count}
 use Rattle.ped_tree.specs.Tree.{Add, Assign, Call, Comment, DeclTree, Div, Do, Element, ExprTree, Head, If, Int, Mul, Neg, Pow, Print, ProgramTree, Read, StmtTree, StmtTrees, Stop, Sub, Var, more_stmts, no_stmts}
-use Rattle.ped_reindex.specs.ped_loops.specs.ped_scalar.specs.ped_rules.specs.ped_loop_runs.proofs.LoopLaws.OneForOneStands.{false_unless}
-use Rattle.ped_reindex.specs.ped_loops.specs.ped_scalar.specs.ped_rules.specs.ped_loop_runs.proofs.TidyLaws.TidyPathsStops.{all_unstopped}
-use Rattle.ped_reindex.specs.ped_loops.specs.ped_scalar.specs.ped_rules.specs.ped_loop_runs.proofs.TidyLaws.TidyPathsSums.{Summary, events_keep, own_overwrites}
-use Rattle.ped_reindex.specs.ped_loops.specs.ped_scalar.specs.ped_rules.specs.ped_loop_runs.specs.ped_bodies.specs.ped_steps.specs.Replacing.{alone, followed}
-use Rattle.ped_reindex.specs.ped_loops.specs.ped_scalar.specs.ped_rules.specs.ped_loop_runs.specs.ped_bodies.specs.ped_steps.specs.Runs.Gaps.{filled}
-use Rattle.ped_reindex.specs.ped_loops.specs.ped_scalar.specs.ped_rules.specs.ped_loop_runs.specs.ped_bodies.specs.ped_steps.specs.ped_flow.proofs.Truths.{or_none}
-use Rattle.ped_reindex.specs.ped_loops.specs.ped_scalar.specs.ped_rules.specs.ped_loop_runs.specs.ped_bodies.specs.ped_steps.specs.ped_flow.specs.Events.{Event, all_scalars_in, assigns, clears, copied, event, exit_events, is_overwriting, is_read_by, left_events, own_events, reads_of, scalars_in, scalars_in_cond, scalars_in_item, start_events, unless_constant}
-use Rattle.ped_reindex.specs.ped_loops.specs.ped_scalar.specs.ped_rules.specs.ped_loop_runs.specs.ped_bodies.specs.ped_steps.specs.ped_flow.specs.Questions.{IsLiveAfter, all_reads_outside, reads_outside}
-use Rattle.ped_reindex.specs.ped_loops.specs.ped_scalar.specs.ped_rules.specs.ped_loop_runs.specs.ped_bodies.specs.ped_steps.specs.ped_flow.specs.Summaries.{of_manner, passing, sum_at_once, sum_behind, sum_behind_all, sum_either, sum_event, sum_events, sum_in_turn, sum_loop, sum_of, sum_of_all, sum_trips, unreached, when}
+use Rattle.ped_rules.specs.ped_loop_runs.proofs.LoopLaws.OneForOneStands.{false_unless}
+use Rattle.ped_rules.specs.ped_loop_runs.proofs.TidyLaws.TidyPathsStops.{all_unstopped}
+use Rattle.ped_rules.specs.ped_loop_runs.proofs.TidyLaws.TidyPathsSums.{Summary, events_keep, own_overwrites}
+use Rattle.ped_rules.specs.ped_steps.specs.Replacing.{alone, followed}
+use Rattle.ped_rules.specs.ped_steps.specs.Runs.Gaps.{filled}
+use Rattle.ped_rules.specs.ped_flow.proofs.Truths.{or_none}
+use Rattle.ped_rules.specs.ped_flow.specs.Events.{Event, all_scalars_in, assigns, clears, copied, event, exit_events, is_overwriting, is_read_by, left_events, own_events, reads_of, scalars_in, scalars_in_cond, scalars_in_item, start_events, unless_constant}
+use Rattle.ped_rules.specs.ped_flow.specs.Questions.{IsLiveAfter, all_reads_outside, reads_outside}
+use Rattle.ped_rules.specs.ped_flow.specs.Summaries.{of_manner, passing, sum_at_once, sum_behind, sum_behind_all, sum_either, sum_event, sum_events, sum_in_turn, sum_loop, sum_of, sum_of_all, sum_trips, unreached, when}
 use Rattle.ped_splits.proofs.JoinFacts.{AreJoined, both_loops, one_body, one_head, one_loop, variables_of}
 use Rattle.ped_splits.proofs.JoinLive.{IsNoLess, clears_read_none, either_less, either_none_less, events_less, further, head_alike, is_least, is_when, itself, none_less, numbers_less, turn_less, turn_none}
 use Rattle.ped_splits.proofs.JoinLiveGaps.{gap_behind_less, live_alike}
@@ -23,7 +23,7 @@ use Rattle.ped_splits.proofs.JoinNumbers.{one_count, pair_count}
 use Rattle.ped_splits.proofs.JoinParts.{one_loop_there}
 use Rattle.ped_splits.proofs.JoinSame.{none_stops, same_indices}
 use Rattle.ped_splits.proofs.JoinUnread.{loose_first, loose_second}
-use Rattle.ped_reindex.specs.ped_loops.specs.ped_scalar.specs.ped_rules.specs.ped_loop_runs.specs.ped_bodies.specs.ped_steps.specs.ped_flow.specs.Events as events
+use Rattle.ped_rules.specs.ped_flow.specs.Events as events
 
 -- statements that read a scalar nowhere outside its DO loops read it first on no path
 module _ (cs : List (List ℕ)) (w : List ℕ) where

@@ -6,23 +6,23 @@ use Rattle.ped_base.specs.Lists.{is_among}
 use Rattle.ped_tree.specs.Accesses.{constant_names}
 use Rattle.ped_tree.specs.Numbering.{statements_count}
 use Rattle.ped_tree.specs.Tree.{DeclTree, Do, ProgramTree}
-use Rattle.ped_reindex.specs.ped_loops.specs.ped_scalar.specs.ped_rules.specs.ped_loop_runs.specs.Executions.{IsExecuted}
-use Rattle.ped_reindex.specs.ped_loops.specs.ped_scalar.specs.ped_rules.specs.ped_loop_runs.specs.ped_bodies.proofs.BodyLaws.TripLists.{close_in_order, end_in_order}
-use Rattle.ped_reindex.specs.ped_loops.specs.ped_scalar.specs.ped_rules.specs.ped_loop_runs.specs.ped_bodies.specs.Trips.{loop_acts, loop_entry, trip_end, trips}
-use Rattle.ped_reindex.specs.ped_loops.specs.ped_scalar.specs.ped_rules.specs.ped_loop_runs.specs.ped_bodies.specs.ped_steps.proofs.RunLaws.PrivatisedPrograms.{shown_scalar}
-use Rattle.ped_reindex.specs.ped_loops.specs.ped_scalar.specs.ped_rules.specs.ped_loop_runs.specs.ped_bodies.specs.ped_steps.specs.ped_laws.proofs.FlowRunLaws.DeadExits.{unwanted_behind}
-use Rattle.ped_reindex.specs.ped_loops.specs.ped_scalar.specs.ped_rules.specs.ped_loop_runs.specs.ped_bodies.specs.ped_steps.specs.ped_laws.specs.Acts.Fitting.{store_after}
-use Rattle.ped_reindex.specs.ped_loops.specs.ped_scalar.specs.ped_rules.specs.ped_loop_runs.specs.ped_bodies.specs.ped_steps.specs.ped_laws.specs.Acts.Sets.{wants}
-use Rattle.ped_reindex.specs.ped_loops.specs.ped_scalar.specs.ped_rules.specs.ped_loop_runs.specs.ped_bodies.specs.ped_steps.specs.ped_laws.specs.FlowRuns.Exits.{IsExit, is_exit}
-use Rattle.ped_reindex.specs.ped_loops.specs.ped_scalar.specs.ped_rules.specs.ped_loop_runs.specs.ped_bodies.specs.ped_steps.specs.ped_laws.specs.Runs.Replaying.{act, finish_of, goes_on}
-use Rattle.ped_reindex.specs.ped_loops.specs.ped_scalar.specs.ped_rules.specs.ped_loop_runs.specs.ped_bodies.specs.ped_steps.specs.ped_laws.specs.Runs.Showing.{shown_at_end}
-use Rattle.ped_reindex.specs.ped_loops.specs.ped_scalar.specs.ped_rules.specs.ped_loop_runs.specs.ped_bodies.specs.ped_steps.specs.ped_laws.specs.ped_eval.specs.Evaluation.{Seen}
-use Rattle.ped_reindex.specs.ped_loops.specs.ped_scalar.specs.ped_rules.specs.ped_loop_runs.specs.ped_bodies.specs.ped_steps.specs.ped_laws.specs.ped_eval.specs.Loops.{Entered, exit_when_none}
-use Rattle.ped_reindex.specs.ped_loops.specs.ped_scalar.specs.ped_rules.specs.ped_loop_runs.specs.ped_bodies.specs.ped_steps.specs.ped_laws.specs.ped_eval.specs.Outcomes.{Ends, run_of, setting_of}
-use Rattle.ped_reindex.specs.ped_loops.specs.ped_scalar.specs.ped_rules.specs.ped_loop_runs.specs.ped_bodies.specs.ped_steps.specs.ped_laws.specs.ped_eval.specs.Runs.{run, run_all}
-use Rattle.ped_reindex.specs.ped_loops.specs.ped_scalar.specs.ped_rules.specs.ped_loop_runs.specs.ped_bodies.specs.ped_steps.specs.ped_laws.specs.ped_eval.specs.Scopes.{Scope, Setting, cell_of, place_of}
-use Rattle.ped_reindex.specs.ped_loops.specs.ped_scalar.specs.ped_rules.specs.ped_loop_runs.specs.ped_bodies.specs.ped_steps.specs.ped_laws.specs.ped_store.specs.Acts.{Act, Place, ended_turn}
-use Rattle.ped_reindex.specs.ped_loops.specs.ped_scalar.specs.ped_rules.specs.ped_loop_runs.specs.ped_bodies.specs.ped_steps.specs.ped_laws.specs.ped_store.specs.Stores.{Store, store_at_start}
+use Rattle.ped_rules.specs.ped_loop_runs.specs.Executions.{IsExecuted}
+use Rattle.ped_rules.specs.ped_bodies.proofs.BodyLaws.TripLists.{close_in_order, end_in_order}
+use Rattle.ped_rules.specs.ped_bodies.specs.Trips.{loop_acts, loop_entry, trip_end, trips}
+use Rattle.ped_rules.specs.ped_steps.proofs.RunLaws.PrivatisedPrograms.{shown_scalar}
+use Rattle.ped_rules.specs.ped_laws.proofs.FlowRunLaws.DeadExits.{unwanted_behind}
+use Rattle.ped_rules.specs.ped_laws.specs.Acts.Fitting.{store_after}
+use Rattle.ped_rules.specs.ped_laws.specs.Acts.Sets.{wants}
+use Rattle.ped_rules.specs.ped_laws.specs.FlowRuns.Exits.{IsExit, is_exit}
+use Rattle.ped_rules.specs.ped_laws.specs.Runs.Replaying.{act, finish_of, goes_on}
+use Rattle.ped_rules.specs.ped_laws.specs.Runs.Showing.{shown_at_end}
+use Rattle.ped_rules.specs.ped_eval.specs.Evaluation.{Seen}
+use Rattle.ped_rules.specs.ped_eval.specs.Loops.{Entered, exit_when_none}
+use Rattle.ped_rules.specs.ped_eval.specs.Outcomes.{Ends, run_of, setting_of}
+use Rattle.ped_rules.specs.ped_eval.specs.Runs.{run, run_all}
+use Rattle.ped_rules.specs.ped_eval.specs.Scopes.{Scope, Setting, cell_of, place_of}
+use Rattle.ped_rules.specs.ped_store.specs.Acts.{Act, Place, ended_turn}
+use Rattle.ped_rules.specs.ped_store.specs.Stores.{Store, store_at_start}
 use Rattle.ped_splits.proofs.JoinDead.{dead}
 use Rattle.ped_splits.proofs.JoinFacts.{AreJoined, both_loops, variables_of}
 use Rattle.ped_splits.proofs.JoinParts.{pair_acts}

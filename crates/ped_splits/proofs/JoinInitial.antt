@@ -1,6 +1,6 @@
 -- The second of two DO loops of one variable has the initial value of the first one, in each execution.
 use Rattle.std.proofs.Common.{ap, ℕ}
-use Rattle.ped_reindex.specs.ped_loops.specs.ped_scalar.specs.ped_rules.specs.ped_loop_runs.specs.ped_bodies.specs.ped_steps.specs.ped_laws.specs.ped_eval.specs.Loops.{Limits}
+use Rattle.ped_rules.specs.ped_eval.specs.Loops.{Limits}
 use Rattle.ped_tree.specs.Tree.{ProgramTree}
 use Rattle.ped_splits.proofs.CoverFacts.{MayFuse, may_fuse}
 use Rattle.ped_splits.proofs.CoverMeets.{SameInitial}

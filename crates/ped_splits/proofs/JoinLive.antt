@@ -6,11 +6,11 @@ use Rattle.ped_base.specs.Lists.{is_same_text}
 use Rattle.ped_tree.specs.NamesIn.{all_loop_variables}
 use Rattle.ped_tree.specs.Numbering.{statement_count, statements_count}
 use Rattle.ped_tree.specs.Tree.{Add, Assign, Call, Comment, Div, Do, Element, ExprTree, Head, If, Int, Mul, Neg, Pow, Print, Read, StmtTree, StmtTrees, Stop, Sub, Var, more_stmts, no_stmts}
-use Rattle.ped_reindex.specs.ped_loops.specs.ped_scalar.specs.ped_rules.specs.ped_loop_runs.proofs.TidyLaws.TidyPathsGaps.{IsPlaced, in_turn_none, part_placed}
-use Rattle.ped_reindex.specs.ped_loops.specs.ped_scalar.specs.ped_rules.specs.ped_loop_runs.proofs.TidyLaws.TidyPathsSums.{AreNoMore, IsNoMore, Summary, append_more, cleared_more, copied_more, either_more, in_turn_more, no_more, no_more_by, or_more, same_head_clears, trips_more, unreached_more}
-use Rattle.ped_reindex.specs.ped_loops.specs.ped_scalar.specs.ped_rules.specs.ped_loop_runs.specs.ped_bodies.specs.ped_steps.specs.ped_flow.specs.Events.{Event, all_scalars_in, assigns, clears, copied, event, exit_events, left_events, own_events, reads_of, scalars_in, scalars_in_cond, scalars_in_item, start_events, unless_constant}
-use Rattle.ped_reindex.specs.ped_loops.specs.ped_scalar.specs.ped_rules.specs.ped_loop_runs.specs.ped_bodies.specs.ped_steps.specs.ped_flow.specs.Summaries.{least_of, of_manner, passing, sum_at_once, sum_behind, sum_behind_all, sum_either, sum_event, sum_events, sum_in_turn, sum_loop, sum_of, sum_of_all, sum_trips, unreached, when}
-use Rattle.ped_reindex.specs.ped_loops.specs.ped_scalar.specs.ped_rules.specs.ped_loop_runs.specs.ped_bodies.specs.ped_steps.specs.ped_flow.specs.Events as events
+use Rattle.ped_rules.specs.ped_loop_runs.proofs.TidyLaws.TidyPathsGaps.{IsPlaced, in_turn_none, part_placed}
+use Rattle.ped_rules.specs.ped_loop_runs.proofs.TidyLaws.TidyPathsSums.{AreNoMore, IsNoMore, Summary, append_more, cleared_more, copied_more, either_more, in_turn_more, no_more, no_more_by, or_more, same_head_clears, trips_more, unreached_more}
+use Rattle.ped_rules.specs.ped_flow.specs.Events.{Event, all_scalars_in, assigns, clears, copied, event, exit_events, left_events, own_events, reads_of, scalars_in, scalars_in_cond, scalars_in_item, start_events, unless_constant}
+use Rattle.ped_rules.specs.ped_flow.specs.Summaries.{least_of, of_manner, passing, sum_at_once, sum_behind, sum_behind_all, sum_either, sum_event, sum_events, sum_in_turn, sum_loop, sum_of, sum_of_all, sum_trips, unreached, when}
+use Rattle.ped_rules.specs.ped_flow.specs.Events as events
 
 pub is_least : (o r : Option ℕ) → is_some (least_of o r) ≡ is_some o || is_some r
 is_least None r = refl

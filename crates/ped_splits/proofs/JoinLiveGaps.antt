@@ -5,16 +5,16 @@ use Rattle.ped_tree.specs.Accesses.{constant_names}
 use Rattle.ped_tree.specs.NamesIn.{all_loop_variables, saved_in}
 use Rattle.ped_tree.specs.Numbering.{statement_count, statements_count}
 use Rattle.ped_tree.specs.Tree.{DeclTree, Do, If, ProgramTree, StmtTrees, no_stmts}
-use Rattle.ped_reindex.specs.ped_loops.specs.ped_scalar.specs.ped_rules.specs.ped_loop_runs.proofs.TidyLaws.TidyPathsGaps.{IsPlaced, behind_gap, followed_behind, followed_sum, gap_count, gap_from, gap_variables}
-use Rattle.ped_reindex.specs.ped_loops.specs.ped_scalar.specs.ped_rules.specs.ped_loop_runs.proofs.TidyLaws.TidyPathsShown.{shown_by}
-use Rattle.ped_reindex.specs.ped_loops.specs.ped_scalar.specs.ped_rules.specs.ped_loop_runs.proofs.TidyLaws.TidyPathsSums.{AreNoMore, Summary}
-use Rattle.ped_reindex.specs.ped_loops.specs.ped_scalar.specs.ped_rules.specs.ped_loop_runs.specs.ped_bodies.specs.ped_steps.specs.Replacing.{followed}
-use Rattle.ped_reindex.specs.ped_loops.specs.ped_scalar.specs.ped_rules.specs.ped_loop_runs.specs.ped_bodies.specs.ped_steps.specs.Runs.Gaps.{Gap, at_front, filled, in_body, in_else, in_then, number_at, past}
-use Rattle.ped_reindex.specs.ped_loops.specs.ped_scalar.specs.ped_rules.specs.ped_loop_runs.specs.ped_bodies.specs.ped_steps.specs.ped_flow.proofs.TreeSums.{all_behind-summed}
-use Rattle.ped_reindex.specs.ped_loops.specs.ped_scalar.specs.ped_rules.specs.ped_loop_runs.specs.ped_bodies.specs.ped_steps.specs.ped_flow.specs.Events.{own_events}
-use Rattle.ped_reindex.specs.ped_loops.specs.ped_scalar.specs.ped_rules.specs.ped_loop_runs.specs.ped_bodies.specs.ped_steps.specs.ped_flow.specs.Paths.{paths_from_exit}
-use Rattle.ped_reindex.specs.ped_loops.specs.ped_scalar.specs.ped_rules.specs.ped_loop_runs.specs.ped_bodies.specs.ped_steps.specs.ped_flow.specs.Questions.{IsFirst, IsLiveAfter, IsReadBehind}
-use Rattle.ped_reindex.specs.ped_loops.specs.ped_scalar.specs.ped_rules.specs.ped_loop_runs.specs.ped_bodies.specs.ped_steps.specs.ped_flow.specs.Summaries.{AreSummed, IsReadOn, sum_behind_all, sum_either, sum_events, sum_in_turn, sum_loop, sum_of, sum_of_all}
+use Rattle.ped_rules.specs.ped_loop_runs.proofs.TidyLaws.TidyPathsGaps.{IsPlaced, behind_gap, followed_behind, followed_sum, gap_count, gap_from, gap_variables}
+use Rattle.ped_rules.specs.ped_loop_runs.proofs.TidyLaws.TidyPathsShown.{shown_by}
+use Rattle.ped_rules.specs.ped_loop_runs.proofs.TidyLaws.TidyPathsSums.{AreNoMore, Summary}
+use Rattle.ped_rules.specs.ped_steps.specs.Replacing.{followed}
+use Rattle.ped_rules.specs.ped_steps.specs.Runs.Gaps.{Gap, at_front, filled, in_body, in_else, in_then, number_at, past}
+use Rattle.ped_rules.specs.ped_flow.proofs.TreeSums.{all_behind-summed}
+use Rattle.ped_rules.specs.ped_flow.specs.Events.{own_events}
+use Rattle.ped_rules.specs.ped_flow.specs.Paths.{paths_from_exit}
+use Rattle.ped_rules.specs.ped_flow.specs.Questions.{IsFirst, IsLiveAfter, IsReadBehind}
+use Rattle.ped_rules.specs.ped_flow.specs.Summaries.{AreSummed, IsReadOn, sum_behind_all, sum_either, sum_events, sum_in_turn, sum_loop, sum_of, sum_of_all}
 use Rattle.ped_splits.proofs.JoinLive.{IsNoLess, all_behind_less, behind_less, do_behind_less, either_less, loop_less, number_less, numbers_less, own_less, rest_less, turn_less}
 
 module _ (cs : List (List ℕ)) (w : List ℕ) (new old : StmtTrees) (summed : (n m : ℕ) → IsNoLess (sum_of_all cs w new n) (sum_of_all cs w old m)) (loops : AreNoMore w (all_loop_variables old) (all_loop_variables new)) where

@@ -1,16 +1,16 @@
 -- What copies in two DO loops are called in the one: those of the second belong to the iterations of the first. No two cells that they touch get one name.
 use Rattle.std.proofs.Common.{Bool, List, None, Option, Some, [], ap, arith, eq-eqb, eqb-true, false, if◌then◌else◌, inl, inr, refl, sym, true, ℕ, ◌++◌, ◌<◌, ◌==◌, ◌∙◌, ◌∷◌, ◌≡◌, ◌≤◌, ◌⊎◌}
 use Rattle.std.proofs.lemmas.Bool.{both_ways}
-use Rattle.ped_reindex.specs.ped_loops.specs.ped_scalar.specs.ped_rules.specs.ped_loop_runs.proofs.PastingLaws.LeftCopies.{IsOwn}
-use Rattle.ped_reindex.specs.ped_loops.specs.ped_scalar.specs.ped_rules.specs.ped_loop_runs.specs.ped_bodies.proofs.BodyLaws.MovedCells.{moved_is}
-use Rattle.ped_reindex.specs.ped_loops.specs.ped_scalar.specs.ped_rules.specs.ped_loop_runs.specs.ped_bodies.proofs.BodyLaws.NamesApart.{behind_is}
-use Rattle.ped_reindex.specs.ped_loops.specs.ped_scalar.specs.ped_rules.specs.ped_loop_runs.specs.ped_bodies.specs.Moving.{behind_front, in_loop, is_cell_among, moved_behind, with_rest}
-use Rattle.ped_reindex.specs.ped_loops.specs.ped_scalar.specs.ped_rules.specs.ped_loop_runs.specs.ped_bodies.specs.ped_steps.specs.Runs.Exchanging.{is_of_scalar}
-use Rattle.ped_reindex.specs.ped_loops.specs.ped_scalar.specs.ped_rules.specs.ped_loop_runs.specs.ped_bodies.specs.ped_steps.specs.ped_laws.proofs.FlowRunLaws.Apart.{same_behind}
-use Rattle.ped_reindex.specs.ped_loops.specs.ped_scalar.specs.ped_rules.specs.ped_loop_runs.specs.ped_bodies.specs.ped_steps.specs.ped_laws.proofs.FlowRunLaws.Names.{no_copy_within}
-use Rattle.ped_reindex.specs.ped_loops.specs.ped_scalar.specs.ped_rules.specs.ped_loop_runs.specs.ped_bodies.specs.ped_steps.specs.ped_laws.specs.ped_eval.specs.Scopes.{Scope, Setting, turns_of}
-use Rattle.ped_reindex.specs.ped_loops.specs.ped_scalar.specs.ped_rules.specs.ped_loop_runs.specs.ped_bodies.specs.ped_steps.specs.ped_laws.specs.ped_store.specs.Acts.{iterations_of}
-use Rattle.ped_reindex.specs.ped_loops.specs.ped_scalar.specs.ped_rules.specs.ped_loop_runs.specs.ped_bodies.specs.ped_steps.specs.ped_laws.specs.ped_store.specs.Cells.{Cell, Element, In, Iteration, Out, Private, Scalar}
+use Rattle.ped_rules.specs.ped_loop_runs.proofs.PastingLaws.LeftCopies.{IsOwn}
+use Rattle.ped_rules.specs.ped_bodies.proofs.BodyLaws.MovedCells.{moved_is}
+use Rattle.ped_rules.specs.ped_bodies.proofs.BodyLaws.NamesApart.{behind_is}
+use Rattle.ped_rules.specs.ped_bodies.specs.Moving.{behind_front, in_loop, is_cell_among, moved_behind, with_rest}
+use Rattle.ped_rules.specs.ped_steps.specs.Runs.Exchanging.{is_of_scalar}
+use Rattle.ped_rules.specs.ped_laws.proofs.FlowRunLaws.Apart.{same_behind}
+use Rattle.ped_rules.specs.ped_laws.proofs.FlowRunLaws.Names.{no_copy_within}
+use Rattle.ped_rules.specs.ped_eval.specs.Scopes.{Scope, Setting, turns_of}
+use Rattle.ped_rules.specs.ped_store.specs.Acts.{iterations_of}
+use Rattle.ped_rules.specs.ped_store.specs.Cells.{Cell, Element, In, Iteration, Out, Private, Scalar}
 
 same_first : (i j : Iteration) (is js : List Iteration) → i ∷ is ≡ j ∷ js → i ≡ j
 same_first i j is js e = cc

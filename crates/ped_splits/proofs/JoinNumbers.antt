@@ -5,15 +5,15 @@ use Rattle.std.proofs.lemmas.Bool.Decides.{nat_tests}
 use Rattle.std.specs.Prelude.{nat_lt}
 use Rattle.ped_tree.specs.Numbering.{statements_count}
 use Rattle.ped_tree.specs.Tree.{Do, ProgramTree}
-use Rattle.ped_reindex.specs.ped_loops.specs.ped_scalar.specs.ped_rules.specs.ped_loop_runs.proofs.TidyLaws.TidyPathsGaps.{followed_count}
-use Rattle.ped_reindex.specs.ped_loops.specs.ped_scalar.specs.ped_rules.specs.ped_loop_runs.specs.Pasting.{CountAlike}
-use Rattle.ped_reindex.specs.ped_loops.specs.ped_scalar.specs.ped_rules.specs.ped_loop_runs.specs.ped_bodies.specs.ped_steps.specs.Replacing.{alone, followed}
-use Rattle.ped_reindex.specs.ped_loops.specs.ped_scalar.specs.ped_rules.specs.ped_loop_runs.specs.ped_bodies.specs.ped_steps.specs.Runs.Renumbering.{IsToldBack}
-use Rattle.ped_reindex.specs.ped_loops.specs.ped_scalar.specs.ped_rules.specs.ped_loop_runs.specs.ped_bodies.specs.ped_steps.specs.ped_laws.specs.ped_eval.specs.Outcomes.{setting_of}
-use Rattle.ped_reindex.specs.ped_loops.specs.ped_scalar.specs.ped_rules.specs.ped_loop_runs.specs.ped_bodies.specs.ped_steps.specs.ped_laws.specs.ped_eval.specs.Scopes.{Setting}
+use Rattle.ped_rules.specs.ped_loop_runs.proofs.TidyLaws.TidyPathsGaps.{followed_count}
+use Rattle.ped_rules.specs.ped_loop_runs.specs.Pasting.{CountAlike}
+use Rattle.ped_rules.specs.ped_steps.specs.Replacing.{alone, followed}
+use Rattle.ped_rules.specs.ped_steps.specs.Runs.Renumbering.{IsToldBack}
+use Rattle.ped_rules.specs.ped_eval.specs.Outcomes.{setting_of}
+use Rattle.ped_rules.specs.ped_eval.specs.Scopes.{Setting}
 use Rattle.ped_splits.proofs.JoinFacts.{AreJoined, both_loops, one_loop}
 use Rattle.ped_splits.proofs.JoinParts.{quiet_count}
-use Rattle.ped_splits.specs.Neighbours.{closed_up, opened_at}
+use Rattle.ped_rules.specs.KeepMaps.{closed_up, opened_at}
 
 below : (m k : ℕ) → k < m → nat_lt k m ≡ true
 below m k h = grind (arith, nat_tests, h)

@@ -2,13 +2,13 @@
 use Rattle.std.proofs.Common.{Bool, List, [], ap, arith, false, inl, inr, refl, subst, sym, true, ℕ, ◌++◌, ◌<◌, ◌∙◌, ◌∷◌, ◌≡◌, ◌≤◌, ◌⊎◌}
 use Rattle.std.proofs.lemmas.Bool.{both_ways, cases_lt}
 use Rattle.std.specs.List.{flat_map, range_with_len}
-use Rattle.ped_reindex.specs.ped_loops.specs.ped_scalar.specs.ped_rules.specs.ped_loop_runs.specs.ped_bodies.specs.ped_steps.specs.ped_laws.proofs.ActLaws.Lists.{before_parts, first_in, in_left, in_parts, in_right, second_in}
-use Rattle.ped_reindex.specs.ped_loops.specs.ped_scalar.specs.ped_rules.specs.ped_loop_runs.specs.ped_bodies.specs.ped_steps.specs.ped_laws.proofs.ActLaws.Reorderings.{rows_once}
-use Rattle.ped_reindex.specs.ped_loops.specs.ped_scalar.specs.ped_rules.specs.ped_loop_runs.specs.ped_bodies.specs.ped_steps.specs.ped_laws.specs.Acts.Conflicts.{blocks_conflict_outside}
-use Rattle.ped_reindex.specs.ped_loops.specs.ped_scalar.specs.ped_rules.specs.ped_loop_runs.specs.ped_bodies.specs.ped_steps.specs.ped_laws.specs.Acts.Grids.{block_at}
-use Rattle.ped_reindex.specs.ped_loops.specs.ped_scalar.specs.ped_rules.specs.ped_loop_runs.specs.ped_bodies.specs.ped_steps.specs.ped_laws.specs.Acts.Orders.{Block, EachOnce, IsByRows, IsIn, IsReordered, KeepsOrder, StandsBefore, block_conflict}
-use Rattle.ped_reindex.specs.ped_loops.specs.ped_scalar.specs.ped_rules.specs.ped_loop_runs.specs.ped_bodies.specs.ped_steps.specs.ped_laws.specs.ped_store.specs.Acts.{Act}
-use Rattle.ped_reindex.specs.ped_loops.specs.ped_scalar.specs.ped_rules.specs.ped_loop_runs.specs.ped_bodies.specs.ped_steps.specs.ped_laws.specs.ped_store.specs.Cells.{Cell}
+use Rattle.ped_rules.specs.ped_laws.proofs.ActLaws.Lists.{before_parts, first_in, in_left, in_parts, in_right, second_in}
+use Rattle.ped_rules.specs.ped_laws.proofs.ActLaws.Reorderings.{rows_once}
+use Rattle.ped_rules.specs.ped_laws.specs.Acts.Conflicts.{blocks_conflict_outside}
+use Rattle.ped_rules.specs.ped_laws.specs.Acts.Grids.{block_at}
+use Rattle.ped_rules.specs.ped_laws.specs.Acts.Orders.{Block, EachOnce, IsByRows, IsIn, IsReordered, KeepsOrder, StandsBefore, block_conflict}
+use Rattle.ped_rules.specs.ped_store.specs.Acts.{Act}
+use Rattle.ped_rules.specs.ped_store.specs.Cells.{Cell}
 use Rattle.ped_splits.proofs.BlockLaws.{In}
 use Rattle.ped_splits.proofs.BlockPlaces.{IsRising}
 use Rattle.ped_splits.proofs.SplitOrders.{before_by_rows, before_in_row, in_all_rows, in_row, of_rows, row_before, rows_rise, units_row}

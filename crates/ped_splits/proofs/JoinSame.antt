@@ -5,9 +5,9 @@ use Rattle.ped_tree.proofs.NameLaws.Collected.{among_append}
 use Rattle.ped_tree.specs.NamesIn.{all_loop_variables, loop_variables}
 use Rattle.ped_tree.specs.Numbering.{statements_count}
 use Rattle.ped_tree.specs.Tree.{Assign, Comment, Do, If, Print, ProgramTree, Read, StmtTree, StmtTrees, Stop, more_stmts, no_stmts}
-use Rattle.ped_reindex.specs.ped_loops.specs.ped_scalar.specs.ped_rules.specs.ped_loop_runs.specs.ped_bodies.specs.ped_steps.specs.Replacing.{alone, followed}
-use Rattle.ped_reindex.specs.ped_loops.specs.ped_scalar.specs.ped_rules.specs.ped_loop_runs.specs.ped_bodies.specs.ped_steps.specs.ped_laws.proofs.FlowRunLaws.Stopping.{loop_stops}
-use Rattle.ped_reindex.specs.ped_loops.specs.ped_scalar.specs.ped_rules.specs.ped_loop_runs.specs.ped_bodies.specs.ped_steps.specs.ped_laws.specs.FlowRuns.Covering.{some_stop}
+use Rattle.ped_rules.specs.ped_steps.specs.Replacing.{alone, followed}
+use Rattle.ped_rules.specs.ped_laws.proofs.FlowRunLaws.Stopping.{loop_stops}
+use Rattle.ped_rules.specs.ped_laws.specs.FlowRuns.Covering.{some_stop}
 use Rattle.ped_splits.proofs.JoinFacts.{AreJoined, both_loops, one_body, one_head, one_loop}
 use Rattle.ped_splits.proofs.JoinParts.{first_loop, second_loop}
 

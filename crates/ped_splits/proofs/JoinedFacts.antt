@@ -1,9 +1,9 @@
 -- What fusing shows of two DO loops that have one variable already.
 use Rattle.std.proofs.Common.{refl, subst, sym, ℕ, ◌≡◌}
 use Rattle.ped_tree.specs.Tree.{ProgramTree}
-use Rattle.ped_reindex.specs.ped_loops.specs.ped_scalar.specs.ped_rules.specs.ped_loop_runs.specs.ped_bodies.specs.ped_steps.specs.ped_flow.specs.PlainBounds.{IsPlainlyBuilt, Values}
-use Rattle.ped_reindex.specs.ped_loops.specs.ped_scalar.specs.ped_rules.specs.ped_loop_runs.specs.ped_bodies.specs.ped_steps.specs.ped_laws.specs.ped_eval.specs.Outcomes.{setting_of}
-use Rattle.ped_reindex.specs.ped_loops.specs.ped_scalar.specs.ped_rules.specs.ped_loop_runs.specs.ped_bodies.specs.ped_steps.specs.ped_symbols.proofs.RightUseLaws.Whole.{same_values}
+use Rattle.ped_rules.specs.ped_flow.specs.PlainBounds.{IsPlainlyBuilt, Values}
+use Rattle.ped_rules.specs.ped_eval.specs.Outcomes.{setting_of}
+use Rattle.ped_rules.specs.ped_symbols.proofs.RightUseLaws.Whole.{same_values}
 use Rattle.ped_splits.proofs.CoverFacts.{MayFuse}
 use Rattle.ped_splits.proofs.CoverKinds.{kinds_alike}
 use Rattle.ped_splits.proofs.FuseFacts.{renamed}

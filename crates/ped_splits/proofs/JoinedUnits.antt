@@ -4,8 +4,8 @@ use Rattle.std.proofs.lemmas.List.{drop_more, drop_all, get_or-map}
 use Rattle.ped_tree.specs.Tree.{Head, StmtTree, StmtTrees, Do, no_stmts, more_stmts}
 use Rattle.ped_tree.specs.Views.{stmt_tree, stmt_trees}
 use Rattle.ped_tree.specs.declared.statements.Stmt.{Stmt}
-use Rattle.ped_reindex.specs.ped_loops.specs.ped_scalar.specs.ped_rules.specs.ped_loop_runs.specs.ped_bodies.specs.ped_steps.specs.Replacing.{followed, alone}
-use Rattle.ped_reindex.specs.ped_loops.specs.ped_scalar.specs.ped_rules.specs.ped_loop_runs.specs.ped_bodies.specs.ped_steps.proofs.Followed.{followed-assoc, followed-none, stmt_trees-append}
+use Rattle.ped_rules.specs.ped_steps.specs.Replacing.{followed, alone}
+use Rattle.ped_rules.specs.ped_steps.proofs.Followed.{followed-assoc, followed-none, stmt_trees-append}
 use Rattle.ped_splits.specs.declared.units.Unit.{Unit}
 use Rattle.ped_splits.specs.Units.{units}
 use Rattle.ped_splits.specs.CodeUnits.{unit_tree, unit_trees}

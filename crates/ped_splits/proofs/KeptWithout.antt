@@ -1,7 +1,7 @@
 -- Statements but one, as the code keeps them.
 use Rattle.std.proofs.Common.{◌≡◌, ◌==◌, ℕ, List, [], ◌∷◌, map, filter, cond, not, Bool, true, false, refl, ap, ◌∙◌, if◌then◌else◌}
 use Rattle.std.specs.List.{range_with_len}
-use Rattle.ped_splits.specs.Neighbours.{closed_up}
+use Rattle.ped_rules.specs.KeepMaps.{closed_up}
 
 pub unless_kept : {A : Type 0} (gone : Bool) (x : A) → (if gone then [] else x ∷ []) ≡ cond (not gone) (x ∷ []) []
 unless_kept true x = refl

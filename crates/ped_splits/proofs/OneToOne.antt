@@ -8,9 +8,9 @@ use Rattle.std.proofs.lemmas.List.Kept.{AllPairs-cons}
 use Rattle.std.proofs.lemmas.Bool.{cases_lt}
 use Rattle.ped_tree.specs.Numbering.{all_numbered, at_place, statements_count}
 use Rattle.ped_tree.specs.Tree.{Head, StmtTree, StmtTrees, Do, ProgramTree}
-use Rattle.ped_reindex.specs.ped_loops.specs.ped_scalar.specs.ped_rules.specs.ped_loop_runs.specs.ped_bodies.specs.ped_steps.specs.ped_flow.specs.Questions.{IsLoop, LoopOf}
-use Rattle.ped_reindex.specs.ped_loops.specs.ped_scalar.specs.ped_rules.specs.ped_loop_runs.specs.ped_bodies.specs.ped_steps.specs.ped_flow.proofs.Answering.{loop_fits}
-use Rattle.ped_reindex.specs.ped_loops.specs.ped_scalar.specs.ped_rules.specs.ped_loop_runs.specs.ped_bodies.specs.ped_steps.specs.ped_laws.specs.ped_graph.specs.Update.Fresh.{IsOneToOne}
+use Rattle.ped_rules.specs.ped_flow.specs.Questions.{IsLoop, LoopOf}
+use Rattle.ped_rules.specs.ped_flow.proofs.Answering.{loop_fits}
+use Rattle.ped_rules.specs.ped_graph.specs.Update.Fresh.{IsOneToOne}
 use Rattle.ped_splits.specs.Units.{unit_of, is_unit, stands_in}
 use Rattle.ped_splits.specs.Blocks.{blocks, AreBlocks}
 use Rattle.ped_splits.specs.Distributing.{numbers_of, block_sources, loop_sources, unmoved, sources, kept_from, MakesDistributed}

@@ -6,8 +6,8 @@ use Rattle.ped_tree.specs.Numbering.{statement_count}
 use Rattle.ped_tree.specs.Views.{stmt_tree, stmt_trees}
 use Rattle.ped_tree.specs.declared.statements.Stmt.{Stmt}
 use Rattle.ped_tree.proofs.Numbers.{stmt_trees-drop}
-use Rattle.ped_reindex.specs.ped_loops.specs.ped_scalar.specs.ped_rules.specs.ped_loop_runs.specs.ped_bodies.specs.ped_steps.specs.Replacing.{followed, alone}
-use Rattle.ped_reindex.specs.ped_loops.specs.ped_scalar.specs.ped_rules.specs.ped_loop_runs.specs.ped_bodies.specs.ped_steps.proofs.Followed.{followed-assoc, followed-none, stmt_trees-append}
+use Rattle.ped_rules.specs.ped_steps.specs.Replacing.{followed, alone}
+use Rattle.ped_rules.specs.ped_steps.proofs.Followed.{followed-assoc, followed-none, stmt_trees-append}
 use Rattle.ped_splits.specs.CodePairs.{NextLoop, behind_all, next_in, two_with, two_to}
 
 behind_twice : (a b : StmtTrees) (o : Option NextLoop) → behind_all a (behind_all b o) ≡ behind_all (followed a b) o

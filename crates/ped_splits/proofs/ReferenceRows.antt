@@ -8,9 +8,9 @@ use Rattle.std.proofs.lemmas.List.Folds.{list_any-append}
 use Rattle.std.proofs.lemmas.Bool.{cases_eq, eqb-true, eq-eqb, or_right}
 use Rattle.ped_base.specs.Lists.{is_same_text}
 use Rattle.ped_bits.specs.Places.{Has}
-use Rattle.ped_reindex.specs.ped_loops.specs.ped_scalar.specs.ped_rules.specs.ped_loop_runs.specs.ped_bodies.specs.ped_steps.specs.ped_refs.specs.References.{Reference}
-use Rattle.ped_reindex.specs.ped_loops.specs.ped_scalar.specs.ped_rules.specs.ped_loop_runs.specs.ped_bodies.specs.ped_steps.specs.ped_refs.specs.Occurrences.{name_text, reference_of, references_of}
-use Rattle.ped_reindex.specs.ped_loops.specs.ped_scalar.specs.ped_rules.specs.ped_loop_runs.specs.ped_bodies.specs.ped_steps.specs.ped_refs.specs.declared.occurring.Occurrence.{Occurrence}
+use Rattle.ped_refs.specs.References.{Reference}
+use Rattle.ped_refs.specs.Occurrences.{name_text, reference_of, references_of}
+use Rattle.ped_refs.specs.declared.occurring.Occurrence.{Occurrence}
 use Rattle.ped_splits.specs.Units.{is_unit}
 use Rattle.ped_splits.specs.CodeUnits.{AreBelow, home_of, refers_by}
 use Rattle.ped_splits.proofs.ArrowLaws.{taken, true_both}

@@ -5,19 +5,19 @@ use Rattle.std.specs.List.{flat_map, range_with_len}
 use Rattle.std.proofs.lemmas.List.{map-append}
 use Rattle.std.proofs.lemmas.List.Elements.{filter-append}
 use Rattle.std.proofs.lemmas.Grind.{flat_map-append}
-use Rattle.ped_reindex.specs.ped_loops.specs.ped_scalar.specs.ped_rules.specs.ped_loop_runs.specs.ped_bodies.specs.ped_steps.specs.ped_laws.specs.ped_store.specs.Cells.{Cell}
-use Rattle.ped_reindex.specs.ped_loops.specs.ped_scalar.specs.ped_rules.specs.ped_loop_runs.specs.ped_bodies.specs.ped_steps.specs.ped_laws.specs.ped_store.specs.Acts.{Act, Manner, Place, Step, Touch, is_told, reads, writes}
-use Rattle.ped_reindex.specs.ped_loops.specs.ped_scalar.specs.ped_rules.specs.ped_loop_runs.specs.ped_bodies.specs.ped_steps.specs.ped_laws.specs.ped_store.specs.Races.{Access, accesses, accesses_of, is_access, is_write}
-use Rattle.ped_reindex.specs.ped_loops.specs.ped_scalar.specs.ped_rules.specs.ped_loop_runs.specs.ped_bodies.specs.ped_steps.specs.ped_laws.specs.Acts.Conflicts.{touches_without, without}
-use Rattle.ped_reindex.specs.ped_loops.specs.ped_scalar.specs.ped_rules.specs.ped_loop_runs.specs.ped_bodies.specs.ped_steps.specs.ped_laws.specs.Acts.Fitting.{has_cell, of_cells, touches_of}
-use Rattle.ped_reindex.specs.ped_loops.specs.ped_scalar.specs.ped_rules.specs.ped_loop_runs.specs.ped_bodies.specs.ped_steps.specs.ped_laws.specs.Acts.Orders.{IsIn}
-use Rattle.ped_reindex.specs.ped_loops.specs.ped_scalar.specs.ped_rules.specs.ped_loop_runs.specs.ped_bodies.specs.ped_steps.proofs.RunLaws.ExpandedRacesOrigins.{write_there}
-use Rattle.ped_reindex.specs.ped_loops.specs.ped_scalar.specs.ped_rules.specs.ped_loop_runs.specs.ped_bodies.specs.ped_steps.specs.ped_laws.proofs.ActLaws.Appending.{written_append}
-use Rattle.ped_reindex.specs.ped_loops.specs.ped_scalar.specs.ped_rules.specs.ped_loop_runs.specs.ped_bodies.specs.ped_steps.specs.ped_laws.proofs.ActLaws.Renamings.{or_right}
-use Rattle.ped_reindex.specs.ped_loops.specs.ped_scalar.specs.ped_rules.specs.ped_loop_runs.specs.ped_bodies.specs.ped_steps.specs.ped_laws.specs.Acts.Sets.{written}
-use Rattle.ped_reindex.specs.ped_loops.specs.ped_scalar.specs.ped_rules.specs.ped_loop_runs.specs.ped_bodies.specs.ped_steps.specs.ped_laws.specs.Acts.Renaming.{AreRenamed, Renamed, own_name}
-use Rattle.ped_reindex.specs.ped_loops.specs.ped_scalar.specs.ped_rules.specs.ped_loop_runs.specs.ped_bodies.specs.ped_steps.specs.ped_laws.proofs.ActLaws.OfCells.{cells_append, goes_first, stays_first}
-use Rattle.ped_reindex.specs.ped_loops.specs.ped_scalar.specs.ped_rules.specs.ped_loop_runs.specs.ped_bodies.proofs.BodyLaws.LikewiseActs.{cells_without, filter_first, filter_other}
+use Rattle.ped_rules.specs.ped_store.specs.Cells.{Cell}
+use Rattle.ped_rules.specs.ped_store.specs.Acts.{Act, Manner, Place, Step, Touch, is_told, reads, writes}
+use Rattle.ped_rules.specs.ped_store.specs.Races.{Access, accesses, accesses_of, is_access, is_write}
+use Rattle.ped_rules.specs.ped_laws.specs.Acts.Conflicts.{touches_without, without}
+use Rattle.ped_rules.specs.ped_laws.specs.Acts.Fitting.{has_cell, of_cells, touches_of}
+use Rattle.ped_rules.specs.ped_laws.specs.Acts.Orders.{IsIn}
+use Rattle.ped_rules.specs.ped_steps.proofs.RunLaws.ExpandedRacesOrigins.{write_there}
+use Rattle.ped_rules.specs.ped_laws.proofs.ActLaws.Appending.{written_append}
+use Rattle.ped_rules.specs.ped_laws.proofs.ActLaws.Renamings.{or_right}
+use Rattle.ped_rules.specs.ped_laws.specs.Acts.Sets.{written}
+use Rattle.ped_rules.specs.ped_laws.specs.Acts.Renaming.{AreRenamed, Renamed, own_name}
+use Rattle.ped_rules.specs.ped_laws.proofs.ActLaws.OfCells.{cells_append, goes_first, stays_first}
+use Rattle.ped_rules.specs.ped_bodies.proofs.BodyLaws.LikewiseActs.{cells_without, filter_first, filter_other}
 
 -- an item that doesn't pass is left out
 filter_out : {X : Type 0} (p : X → Bool) (x : X) (xs : List X) → p x ≡ false → filter p (x ∷ xs) ≡ filter p xs

@@ -7,37 +7,37 @@ use Rattle.ped_base.proofs.NameEquality.{same_is}
 use Rattle.ped_base.specs.Lists.{is_among, is_same_text}
 use Rattle.ped_tree.specs.NamesIn.{all_loop_variables, loop_variables, saved_in}
 use Rattle.ped_tree.specs.Tree.{Do, ProgramTree}
-use Rattle.ped_reindex.specs.ped_loops.specs.ped_scalar.specs.ped_rules.specs.ped_loop_runs.proofs.LoopLaws.OneForOneNames.{variables_unnamed}
-use Rattle.ped_reindex.specs.ped_loops.specs.ped_scalar.specs.ped_rules.specs.ped_loop_runs.proofs.LoopLaws.OneForOneStands.{false_unless}
-use Rattle.ped_reindex.specs.ped_loops.specs.ped_scalar.specs.ped_rules.specs.ped_loop_runs.specs.OtherCopies.{IsOtherExit}
-use Rattle.ped_reindex.specs.ped_loops.specs.ped_scalar.specs.ped_rules.specs.ped_loop_runs.specs.ped_bodies.specs.ped_steps.proofs.RunLaws.PrivatisedPrograms.{shown_scalar}
-use Rattle.ped_reindex.specs.ped_loops.specs.ped_scalar.specs.ped_rules.specs.ped_loop_runs.specs.ped_bodies.specs.ped_steps.specs.Tidy.{IsTidy}
-use Rattle.ped_reindex.specs.ped_loops.specs.ped_scalar.specs.ped_rules.specs.ped_loop_runs.specs.ped_bodies.specs.ped_steps.specs.ped_symbols.specs.NameRefusals.{IsValid}
-use Rattle.ped_reindex.specs.ped_loops.specs.ped_scalar.specs.ped_rules.specs.ped_loop_runs.specs.ped_bodies.specs.ped_steps.specs.ped_laws.proofs.ActLaws.Lists.{in_parts, in_right}
-use Rattle.ped_reindex.specs.ped_loops.specs.ped_scalar.specs.ped_rules.specs.ped_loop_runs.specs.ped_bodies.specs.ped_steps.specs.ped_laws.proofs.ActLaws.SameCells.{cell_itself, cell_is}
-use Rattle.ped_reindex.specs.ped_loops.specs.ped_scalar.specs.ped_rules.specs.ped_loop_runs.specs.ped_bodies.specs.ped_steps.specs.ped_laws.proofs.ActLaws.Stores.{behind_append, fits_find, fits_rest}
-use Rattle.ped_reindex.specs.ped_loops.specs.ped_scalar.specs.ped_rules.specs.ped_loop_runs.specs.ped_bodies.specs.ped_steps.specs.ped_laws.proofs.FlowRunLaws.DeadExits.{exit_followed}
-use Rattle.ped_reindex.specs.ped_loops.specs.ped_scalar.specs.ped_rules.specs.ped_loop_runs.specs.ped_bodies.specs.ped_steps.specs.ped_laws.proofs.FlowRunLaws.Stopping.{fitting_stops}
-use Rattle.ped_reindex.specs.ped_loops.specs.ped_scalar.specs.ped_rules.specs.ped_loop_runs.specs.ped_bodies.specs.ped_steps.specs.ped_laws.proofs.RunLaws.Defined.{numbers_read}
-use Rattle.ped_reindex.specs.ped_loops.specs.ped_scalar.specs.ped_rules.specs.ped_loop_runs.specs.ped_bodies.specs.ped_steps.specs.ped_laws.proofs.RunLaws.StatementsTold.{all_told}
-use Rattle.ped_reindex.specs.ped_loops.specs.ped_scalar.specs.ped_rules.specs.ped_loop_runs.specs.ped_bodies.specs.ped_steps.specs.ped_laws.proofs.RunLaws.Turning.{once_among}
-use Rattle.ped_reindex.specs.ped_loops.specs.ped_scalar.specs.ped_rules.specs.ped_loop_runs.specs.ped_bodies.specs.ped_steps.specs.ped_laws.specs.Acts.Fitting.{Find, IsFound, Fits, store_after, touches_of}
-use Rattle.ped_reindex.specs.ped_loops.specs.ped_scalar.specs.ped_rules.specs.ped_loop_runs.specs.ped_bodies.specs.ped_steps.specs.ped_laws.specs.Acts.Orders.{IsIn}
-use Rattle.ped_reindex.specs.ped_loops.specs.ped_scalar.specs.ped_rules.specs.ped_loop_runs.specs.ped_bodies.specs.ped_steps.specs.ped_laws.specs.Acts.Sets.{needed_by, needs, read_first, wants, written}
-use Rattle.ped_reindex.specs.ped_loops.specs.ped_scalar.specs.ped_rules.specs.ped_loop_runs.specs.ped_bodies.specs.ped_steps.specs.ped_laws.specs.FlowRuns.Exits.{Follows, IsExit, IsOneToOne, leaves}
-use Rattle.ped_reindex.specs.ped_loops.specs.ped_scalar.specs.ped_rules.specs.ped_loop_runs.specs.ped_bodies.specs.ped_steps.specs.ped_laws.specs.Runs.Replaying.{act, finish_of, has_fault}
-use Rattle.ped_reindex.specs.ped_loops.specs.ped_scalar.specs.ped_rules.specs.ped_loop_runs.specs.ped_bodies.specs.ped_steps.specs.ped_laws.specs.Runs.Showing.{shown_at_end}
-use Rattle.ped_reindex.specs.ped_loops.specs.ped_scalar.specs.ped_rules.specs.ped_loop_runs.specs.ped_bodies.specs.ped_steps.specs.ped_laws.specs.ped_eval.specs.Loops.{undefined_all}
-use Rattle.ped_reindex.specs.ped_loops.specs.ped_scalar.specs.ped_rules.specs.ped_loop_runs.specs.ped_bodies.specs.ped_steps.specs.ped_laws.specs.ped_eval.specs.Outcomes.{Ends, run_of, setting_of}
-use Rattle.ped_reindex.specs.ped_loops.specs.ped_scalar.specs.ped_rules.specs.ped_loop_runs.specs.ped_bodies.specs.ped_steps.specs.ped_laws.specs.ped_eval.specs.Runs.{Ending, failed, going, stopped}
-use Rattle.ped_reindex.specs.ped_loops.specs.ped_scalar.specs.ped_rules.specs.ped_loop_runs.specs.ped_bodies.specs.ped_steps.specs.ped_laws.specs.ped_eval.specs.Scopes.{Scope, Setting, cell_of, place_of, turns_of}
-use Rattle.ped_reindex.specs.ped_loops.specs.ped_scalar.specs.ped_rules.specs.ped_loop_runs.specs.ped_bodies.specs.ped_steps.specs.ped_laws.specs.ped_store.specs.Acts.{Act, Manner, Touch, is_told, iterations_of, reads, store_behind, touched, writes}
-use Rattle.ped_reindex.specs.ped_loops.specs.ped_scalar.specs.ped_rules.specs.ped_loop_runs.specs.ped_bodies.specs.ped_steps.specs.ped_laws.specs.ped_store.specs.Cells.{Cell, Private, Scalar, same_cell}
-use Rattle.ped_reindex.specs.ped_loops.specs.ped_scalar.specs.ped_rules.specs.ped_loop_runs.specs.ped_bodies.specs.ped_steps.specs.ped_laws.specs.ped_store.specs.Races.{is_lines}
-use Rattle.ped_reindex.specs.ped_loops.specs.ped_scalar.specs.ped_rules.specs.ped_loop_runs.specs.ped_bodies.specs.ped_steps.specs.ped_laws.specs.ped_store.specs.Stores.{Number, Store, Undefined, put, store_at_start}
-use Rattle.ped_reindex.specs.ped_loops.specs.ped_scalar.specs.ped_rules.specs.ped_loop_runs.specs.ped_bodies.specs.ped_steps.specs.ped_flow.specs.Events.{Event, overwrites}
-use Rattle.ped_reindex.specs.ped_loops.specs.ped_scalar.specs.ped_rules.specs.ped_loop_runs.specs.ped_bodies.specs.ped_steps.specs.ped_flow.specs.PathSets.{Whole}
-use Rattle.ped_reindex.specs.ped_loops.specs.ped_scalar.specs.ped_rules.specs.ped_loop_runs.specs.ped_bodies.specs.ped_steps.specs.ped_flow.specs.Paths.{paths_from_exit}
+use Rattle.ped_rules.specs.ped_loop_runs.proofs.LoopLaws.OneForOneNames.{variables_unnamed}
+use Rattle.ped_rules.specs.ped_loop_runs.proofs.LoopLaws.OneForOneStands.{false_unless}
+use Rattle.ped_rules.specs.ped_loop_runs.specs.OtherCopies.{IsOtherExit}
+use Rattle.ped_rules.specs.ped_steps.proofs.RunLaws.PrivatisedPrograms.{shown_scalar}
+use Rattle.ped_rules.specs.ped_steps.specs.Tidy.{IsTidy}
+use Rattle.ped_rules.specs.ped_symbols.specs.NameRefusals.{IsValid}
+use Rattle.ped_rules.specs.ped_laws.proofs.ActLaws.Lists.{in_parts, in_right}
+use Rattle.ped_rules.specs.ped_laws.proofs.ActLaws.SameCells.{cell_itself, cell_is}
+use Rattle.ped_rules.specs.ped_laws.proofs.ActLaws.Stores.{behind_append, fits_find, fits_rest}
+use Rattle.ped_rules.specs.ped_laws.proofs.FlowRunLaws.DeadExits.{exit_followed}
+use Rattle.ped_rules.specs.ped_laws.proofs.FlowRunLaws.Stopping.{fitting_stops}
+use Rattle.ped_rules.specs.ped_laws.proofs.RunLaws.Defined.{numbers_read}
+use Rattle.ped_rules.specs.ped_laws.proofs.RunLaws.StatementsTold.{all_told}
+use Rattle.ped_rules.specs.ped_laws.proofs.RunLaws.Turning.{once_among}
+use Rattle.ped_rules.specs.ped_laws.specs.Acts.Fitting.{Find, IsFound, Fits, store_after, touches_of}
+use Rattle.ped_rules.specs.ped_laws.specs.Acts.Orders.{IsIn}
+use Rattle.ped_rules.specs.ped_laws.specs.Acts.Sets.{needed_by, needs, read_first, wants, written}
+use Rattle.ped_rules.specs.ped_laws.specs.FlowRuns.Exits.{Follows, IsExit, IsOneToOne, leaves}
+use Rattle.ped_rules.specs.ped_laws.specs.Runs.Replaying.{act, finish_of, has_fault}
+use Rattle.ped_rules.specs.ped_laws.specs.Runs.Showing.{shown_at_end}
+use Rattle.ped_rules.specs.ped_eval.specs.Loops.{undefined_all}
+use Rattle.ped_rules.specs.ped_eval.specs.Outcomes.{Ends, run_of, setting_of}
+use Rattle.ped_rules.specs.ped_eval.specs.Runs.{Ending, failed, going, stopped}
+use Rattle.ped_rules.specs.ped_eval.specs.Scopes.{Scope, Setting, cell_of, place_of, turns_of}
+use Rattle.ped_rules.specs.ped_store.specs.Acts.{Act, Manner, Touch, is_told, iterations_of, reads, store_behind, touched, writes}
+use Rattle.ped_rules.specs.ped_store.specs.Cells.{Cell, Private, Scalar, same_cell}
+use Rattle.ped_rules.specs.ped_store.specs.Races.{is_lines}
+use Rattle.ped_rules.specs.ped_store.specs.Stores.{Number, Store, Undefined, put, store_at_start}
+use Rattle.ped_rules.specs.ped_flow.specs.Events.{Event, overwrites}
+use Rattle.ped_rules.specs.ped_flow.specs.PathSets.{Whole}
+use Rattle.ped_rules.specs.ped_flow.specs.Paths.{paths_from_exit}
 
 -- touches find what the store holds, so a cell that they need holds a number, where each of their reads of it finds one
 pub needed_number : (ts : List Touch) (s : Store) (c : Cell) → ((t : Touch) → IsIn t ts → t.manner ≡ reads → t.cell ≡ c → (n : ℤ) × (t.content ≡ Number n)) → Find ts s → needed_by ts c ≡ true → (n : ℤ) × (s c ≡ Number n)

@@ -7,15 +7,15 @@ use Rattle.ped_tree.specs.Constants.NamedConstants.{value_named}
 use Rattle.ped_tree.specs.NamesIn.{all_loop_variables, expr_names, loop_variables, stmts_names}
 use Rattle.ped_tree.specs.Nests.{Loop, indices_of}
 use Rattle.ped_tree.specs.Tree.{Do, ExprTree, ProgramTree}
-use Rattle.ped_reindex.specs.ped_loops.proofs.LoopPlaces.{loops_of_program}
-use Rattle.ped_reindex.specs.ped_loops.proofs.LoopSurroundings.{variable_apart}
-use Rattle.ped_reindex.specs.ped_loops.specs.ped_scalar.specs.ped_rules.specs.ped_loop_runs.proofs.LoopLaws.OneForOneNames.{variables_unnamed}
-use Rattle.ped_reindex.specs.ped_loops.specs.ped_scalar.specs.ped_rules.specs.ped_loop_runs.specs.ped_bodies.specs.ped_steps.specs.ped_symbols.proofs.RightUseLaws.Whole.{others_unvalued}
-use Rattle.ped_reindex.specs.ped_loops.specs.ped_scalar.specs.ped_rules.specs.ped_loop_runs.specs.ped_bodies.specs.ped_steps.specs.ped_symbols.specs.NameRefusals.{IsValid}
-use Rattle.ped_reindex.specs.ped_loops.specs.ped_scalar.specs.ped_rules.specs.ped_loop_runs.specs.ped_bodies.specs.ped_steps.specs.Tidy.{IsTidy}
-use Rattle.ped_reindex.specs.ped_loops.specs.ped_scalar.specs.ped_rules.specs.ped_loop_runs.specs.ped_bodies.specs.ped_steps.specs.ped_flow.specs.PlainBounds.{nest_round}
-use Rattle.ped_reindex.specs.ped_loops.specs.ped_scalar.specs.ped_rules.specs.ped_loop_runs.specs.ped_bodies.specs.ped_steps.specs.ped_flow.specs.Questions.{IsContained}
-use Rattle.ped_reindex.specs.ped_loops.specs.ped_scalar.specs.ped_rules.specs.ped_loop_runs.specs.ped_bodies.specs.ped_steps.specs.ped_laws.specs.ped_eval.specs.Outcomes.{setting_of}
+use Rattle.ped_rules.proofs.NestLaws.InnerPlaces.{loops_of_program}
+use Rattle.ped_rules.proofs.NestLaws.IndicesApart.{variable_apart}
+use Rattle.ped_rules.specs.ped_loop_runs.proofs.LoopLaws.OneForOneNames.{variables_unnamed}
+use Rattle.ped_rules.specs.ped_symbols.proofs.RightUseLaws.Whole.{others_unvalued}
+use Rattle.ped_rules.specs.ped_symbols.specs.NameRefusals.{IsValid}
+use Rattle.ped_rules.specs.ped_steps.specs.Tidy.{IsTidy}
+use Rattle.ped_rules.specs.ped_flow.specs.PlainBounds.{nest_round}
+use Rattle.ped_rules.specs.ped_flow.specs.Questions.{IsContained}
+use Rattle.ped_rules.specs.ped_eval.specs.Outcomes.{setting_of}
 use Rattle.ped_splits.proofs.CoverFacts.{MayFuse, may_fuse}
 use Rattle.ped_splits.proofs.FuseFacts.{IsFusable}
 use Rattle.ped_splits.proofs.RenameGaps.{next_loop, same_nest}

@@ -10,11 +10,11 @@ use Rattle.ped_base.specs.Lists.{is_among, is_same_text}
 use Rattle.ped_tree.specs.NamesIn.{all_loop_variables}
 use Rattle.ped_tree.specs.Numbering.{all_numbered, statement_with, statements_count}
 use Rattle.ped_tree.specs.Tree.{Do, ProgramTree, StmtTrees, no_stmts}
-use Rattle.ped_reindex.specs.ped_loops.specs.ped_scalar.specs.ped_rules.specs.ped_loop_runs.proofs.PastingLaws.OneStatement.{gives_way}
-use Rattle.ped_reindex.specs.ped_loops.specs.ped_scalar.proofs.ReferencesThere.{all_end_within}
-use Rattle.ped_reindex.specs.ped_loops.specs.ped_scalar.specs.ped_rules.specs.ped_loop_runs.specs.ped_bodies.specs.ped_steps.specs.Replacing.{alone}
-use Rattle.ped_reindex.specs.ped_loops.specs.ped_scalar.specs.ped_rules.specs.ped_loop_runs.specs.ped_bodies.specs.ped_steps.specs.ped_laws.proofs.FlowRunLaws.Standing.{Stand, inner_stands, whole_stands}
-use Rattle.ped_reindex.specs.ped_loops.specs.ped_scalar.specs.ped_rules.specs.ped_loop_runs.specs.ped_bodies.specs.ped_steps.specs.ped_flow.specs.Questions.{LoopOf}
+use Rattle.ped_rules.specs.ped_loop_runs.proofs.PastingLaws.OneStatement.{gives_way}
+use Rattle.ped_rules.proofs.NameLaws.ReferencesThere.{all_end_within}
+use Rattle.ped_rules.specs.ped_steps.specs.Replacing.{alone}
+use Rattle.ped_rules.specs.ped_laws.proofs.FlowRunLaws.Standing.{Stand, inner_stands, whole_stands}
+use Rattle.ped_rules.specs.ped_flow.specs.Questions.{LoopOf}
 use Rattle.ped_splits.proofs.RenameGaps.{next_loop, own_loop, stands_at}
 use Rattle.ped_splits.proofs.RenameLost.{is_loop_of, loses}
 use Rattle.ped_splits.proofs.RenameRound.{variables_by}

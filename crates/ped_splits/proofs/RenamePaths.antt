@@ -7,14 +7,14 @@ use Rattle.ped_tree.specs.Accesses.{constant_names}
 use Rattle.ped_tree.specs.NamesIn.{all_loop_variables}
 use Rattle.ped_tree.specs.Numbering.{statement_count, statements_count}
 use Rattle.ped_tree.specs.Tree.{Assign, Comment, Do, Head, If, Print, ProgramTree, Read, StmtTree, StmtTrees, Stop, more_stmts, no_stmts}
-use Rattle.ped_reindex.specs.ped_loops.specs.ped_scalar.specs.ped_rules.specs.ped_loop_runs.specs.ped_bodies.specs.ped_steps.proofs.RunLaws.FilledGaps.{counted, number_from, number_room}
-use Rattle.ped_reindex.specs.ped_loops.specs.ped_scalar.specs.ped_rules.specs.ped_loop_runs.specs.ped_bodies.specs.ped_steps.specs.Replacing.{alone, followed}
-use Rattle.ped_reindex.specs.ped_loops.specs.ped_scalar.specs.ped_rules.specs.ped_loop_runs.specs.ped_bodies.specs.ped_steps.specs.Runs.Gaps.{Gap, at_front, filled, in_body, in_else, in_then, number_at, past}
-use Rattle.ped_reindex.specs.ped_loops.specs.ped_scalar.specs.ped_rules.specs.ped_loop_runs.specs.ped_bodies.specs.ped_steps.specs.ped_flow.specs.Events.{Event, assigns, clears, event, exit_events, overwrites, own_events, reads_first, reads_of, scalars_in}
-use Rattle.ped_reindex.specs.ped_loops.specs.ped_scalar.specs.ped_rules.specs.ped_loop_runs.specs.ped_bodies.specs.ped_steps.specs.ped_flow.proofs.EventLaws.{overwrites-append, reads_first-back}
-use Rattle.ped_reindex.specs.ped_loops.specs.ped_scalar.specs.ped_rules.specs.ped_loop_runs.specs.ped_bodies.specs.ped_steps.specs.ped_flow.specs.PathSets.{Paths, Whole, either, going, in_turn, trips}
-use Rattle.ped_reindex.specs.ped_loops.specs.ped_scalar.specs.ped_rules.specs.ped_loop_runs.specs.ped_bodies.specs.ped_steps.specs.ped_flow.specs.Paths.{all_paths, all_paths_behind, at_once, iteration, paths, paths_behind, paths_from_exit}
-use Rattle.ped_reindex.specs.ped_loops.specs.ped_scalar.specs.ped_rules.specs.ped_loop_runs.specs.ped_bodies.specs.ped_steps.specs.ped_flow.specs.Questions.{IsLiveAfter}
+use Rattle.ped_rules.specs.ped_steps.proofs.RunLaws.FilledGaps.{counted, number_from, number_room}
+use Rattle.ped_rules.specs.ped_steps.specs.Replacing.{alone, followed}
+use Rattle.ped_rules.specs.ped_steps.specs.Runs.Gaps.{Gap, at_front, filled, in_body, in_else, in_then, number_at, past}
+use Rattle.ped_rules.specs.ped_flow.specs.Events.{Event, assigns, clears, event, exit_events, overwrites, own_events, reads_first, reads_of, scalars_in}
+use Rattle.ped_rules.specs.ped_flow.proofs.EventLaws.{overwrites-append, reads_first-back}
+use Rattle.ped_rules.specs.ped_flow.specs.PathSets.{Paths, Whole, either, going, in_turn, trips}
+use Rattle.ped_rules.specs.ped_flow.specs.Paths.{all_paths, all_paths_behind, at_once, iteration, paths, paths_behind, paths_from_exit}
+use Rattle.ped_rules.specs.ped_flow.specs.Questions.{IsLiveAfter}
 use Rattle.ped_splits.specs.Neighbours.{Neighbour, next_number}
 
 -- statements in which a DO doesn't stand have no path from its exit

@@ -12,22 +12,22 @@ use Rattle.ped_tree.specs.NamesIn.{all_loop_variables, cond_names, expr_names, e
 use Rattle.ped_tree.specs.Numbering.{statement_count, statements_count}
 use Rattle.ped_tree.specs.Nests.{indices_of}
 use Rattle.ped_tree.specs.Tree.{Add, And, Assign, Call, Comment, CondTree, Div, Do, Element, ExprTree, ExprTrees, Head, If, Int, ItemTree, Mul, Neg, Not, Or, Pow, Print, ProgramTree, Read, Rel, StmtTree, StmtTrees, Stop, Sub, Text, Value, Var, more_exprs, more_stmts, no_exprs, no_stmts}
-use Rattle.ped_reindex.specs.ped_loops.specs.ped_scalar.specs.ped_rules.specs.ped_loop_runs.specs.ped_bodies.specs.ped_steps.specs.ped_flow.specs.Events.{Event, all_scalars_in, assigns, event, is_overwriting, is_read_by, left_events, own_events, reads_of, scalars_in, scalars_in_cond, scalars_in_item, unless_constant}
-use Rattle.ped_reindex.specs.ped_loops.specs.ped_scalar.specs.ped_rules.specs.ped_loop_runs.specs.ped_bodies.specs.ped_steps.specs.ped_flow.specs.Questions.{all_reads_outside, reads_outside}
-use Rattle.ped_reindex.specs.ped_loops.specs.ped_scalar.specs.ped_rules.specs.ped_loop_runs.specs.ped_bodies.specs.ped_steps.specs.ped_flow.specs.PlainBounds.{ArePlainlyBuilt, IsConstant, IsPlainlyBuilt, Values, nest_round, setting_round}
-use Rattle.ped_reindex.specs.ped_loops.specs.ped_scalar.specs.ped_rules.specs.ped_loop_runs.specs.ped_bodies.specs.ped_steps.specs.ped_laws.proofs.FlowRunLaws.Located.{all_located}
-use Rattle.ped_reindex.specs.ped_loops.specs.ped_scalar.specs.ped_rules.specs.ped_loop_runs.specs.ped_bodies.specs.ped_steps.specs.ped_laws.specs.Acts.Conflicts.{IsNoReadOf, LeaveUnread, ReadNone}
-use Rattle.ped_reindex.specs.ped_loops.specs.ped_scalar.specs.ped_rules.specs.ped_loop_runs.specs.ped_bodies.specs.ped_steps.specs.ped_laws.specs.Acts.Fitting.{touches_of}
-use Rattle.ped_reindex.specs.ped_loops.specs.ped_scalar.specs.ped_rules.specs.ped_loop_runs.specs.ped_bodies.specs.ped_steps.specs.ped_laws.specs.FlowRuns.Covering.{is_cell_of}
-use Rattle.ped_reindex.specs.ped_loops.specs.ped_scalar.specs.ped_rules.specs.ped_loop_runs.specs.ped_bodies.specs.ped_steps.specs.ped_laws.proofs.ActLaws.SameCells.{cell_itself}
-use Rattle.ped_reindex.specs.ped_loops.specs.ped_scalar.specs.ped_rules.specs.ped_loop_runs.specs.ped_bodies.specs.ped_steps.specs.ped_laws.proofs.FlowRunLaws.Reading.{is_read, reads_cell}
-use Rattle.ped_reindex.specs.ped_loops.specs.ped_scalar.specs.ped_rules.specs.ped_loop_runs.specs.ped_bodies.specs.ped_steps.specs.ped_laws.specs.ped_eval.specs.Runs.{run_all}
-use Rattle.ped_reindex.specs.ped_loops.specs.ped_scalar.specs.ped_rules.specs.ped_loop_runs.specs.ped_bodies.specs.ped_steps.specs.ped_laws.specs.ped_eval.specs.Scopes.{Scope, Setting}
-use Rattle.ped_reindex.specs.ped_loops.specs.ped_scalar.specs.ped_rules.specs.ped_loop_runs.specs.ped_bodies.specs.ped_steps.specs.ped_laws.specs.ped_store.specs.Acts.{Act, Manner, Touch, is_told, reads, writes}
-use Rattle.ped_reindex.specs.ped_loops.specs.ped_scalar.specs.ped_rules.specs.ped_loop_runs.specs.ped_bodies.specs.ped_steps.specs.ped_laws.specs.ped_store.specs.Cells.{Cell, same_cell}
-use Rattle.ped_reindex.specs.ped_loops.specs.ped_scalar.specs.ped_rules.specs.ped_loop_runs.specs.ped_bodies.specs.ped_steps.specs.ped_laws.specs.ped_store.specs.Stores.{Store}
-use Rattle.ped_reindex.proofs.PeelKinds.{unnamed}
-use Rattle.ped_reindex.specs.ped_loops.specs.ped_scalar.specs.ped_rules.specs.ped_loop_runs.specs.ped_bodies.specs.ped_steps.specs.ped_flow.specs.Events as events
+use Rattle.ped_rules.specs.ped_flow.specs.Events.{Event, all_scalars_in, assigns, event, is_overwriting, is_read_by, left_events, own_events, reads_of, scalars_in, scalars_in_cond, scalars_in_item, unless_constant}
+use Rattle.ped_rules.specs.ped_flow.specs.Questions.{all_reads_outside, reads_outside}
+use Rattle.ped_rules.specs.ped_flow.specs.PlainBounds.{ArePlainlyBuilt, IsConstant, IsPlainlyBuilt, Values, nest_round, setting_round}
+use Rattle.ped_rules.specs.ped_laws.proofs.FlowRunLaws.Located.{all_located}
+use Rattle.ped_rules.specs.ped_laws.specs.Acts.Conflicts.{IsNoReadOf, LeaveUnread, ReadNone}
+use Rattle.ped_rules.specs.ped_laws.specs.Acts.Fitting.{touches_of}
+use Rattle.ped_rules.specs.ped_laws.specs.FlowRuns.Covering.{is_cell_of}
+use Rattle.ped_rules.specs.ped_laws.proofs.ActLaws.SameCells.{cell_itself}
+use Rattle.ped_rules.specs.ped_laws.proofs.FlowRunLaws.Reading.{is_read, reads_cell}
+use Rattle.ped_rules.specs.ped_eval.specs.Runs.{run_all}
+use Rattle.ped_rules.specs.ped_eval.specs.Scopes.{Scope, Setting}
+use Rattle.ped_rules.specs.ped_store.specs.Acts.{Act, Manner, Touch, is_told, reads, writes}
+use Rattle.ped_rules.specs.ped_store.specs.Cells.{Cell, same_cell}
+use Rattle.ped_rules.specs.ped_store.specs.Stores.{Store}
+use Rattle.ped_rules.proofs.NameLaws.ConstantNames.{unnamed}
+use Rattle.ped_rules.specs.ped_flow.specs.Events as events
 
 module _ (cs : List (List ℕ)) (x : List ℕ) where
   abbrev None_in : List (List ℕ) → Type 0

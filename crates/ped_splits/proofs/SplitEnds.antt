@@ -2,26 +2,26 @@
 use Rattle.std.proofs.Common.{◌≡◌, ℕ, zero, suc, ◌+◌, ◌≤◌, List, [], ◌∷◌, ◌++◌, length, append-nil, append_assoc, Bool, true, false, ◌||◌, if◌then◌else◌, refl, sym, ap, subst, ◌∙◌, arith}
 use Rattle.std.specs.List.{flat_map, list_any, range_with_len}
 use Rattle.ped_tree.specs.Tree.{Do, ProgramTree}
-use Rattle.ped_reindex.specs.ped_loops.specs.ped_scalar.specs.ped_rules.specs.ped_loop_runs.specs.ped_bodies.proofs.BodyLaws.TripLists.{close_in_order, end_in_order}
-use Rattle.ped_reindex.specs.ped_loops.specs.ped_scalar.specs.ped_rules.specs.ped_loop_runs.specs.ped_bodies.specs.Trips.{bounds_seen, loop_acts, loop_entry, trip_end, trips}
-use Rattle.ped_reindex.specs.ped_loops.specs.ped_scalar.specs.ped_rules.specs.ped_loop_runs.specs.ped_bodies.specs.ped_steps.specs.ped_flow.specs.Questions.{LoopOf}
-use Rattle.ped_reindex.specs.ped_loops.specs.ped_scalar.specs.ped_rules.specs.ped_loop_runs.specs.ped_bodies.specs.ped_steps.specs.Runs.Renumbering.{renumbered}
-use Rattle.ped_reindex.specs.ped_loops.specs.ped_scalar.specs.ped_rules.specs.ped_loop_runs.specs.Numbers.{counted_by}
-use Rattle.ped_reindex.specs.ped_loops.specs.ped_scalar.specs.ped_rules.specs.ped_loop_runs.specs.ped_bodies.specs.ped_steps.specs.ped_laws.proofs.ActLaws.Appending.{written_append}
-use Rattle.ped_reindex.specs.ped_loops.specs.ped_scalar.specs.ped_rules.specs.ped_loop_runs.specs.ped_bodies.specs.ped_steps.specs.ped_laws.proofs.ActLaws.Renamings.{or_right}
-use Rattle.ped_reindex.specs.ped_loops.specs.ped_scalar.specs.ped_rules.specs.ped_loop_runs.specs.ped_bodies.specs.ped_steps.specs.ped_laws.proofs.ActLaws.Stores.{after_append, behind_append}
-use Rattle.ped_reindex.specs.ped_loops.specs.ped_scalar.specs.ped_rules.specs.ped_loop_runs.specs.ped_bodies.specs.ped_steps.specs.ped_laws.specs.Acts.Fitting.{store_after}
-use Rattle.ped_reindex.specs.ped_loops.specs.ped_scalar.specs.ped_rules.specs.ped_loop_runs.specs.ped_bodies.specs.ped_steps.specs.ped_laws.specs.Acts.Sets.{written, written_by}
-use Rattle.ped_reindex.specs.ped_loops.specs.ped_scalar.specs.ped_rules.specs.ped_loop_runs.specs.ped_bodies.specs.ped_steps.specs.ped_laws.specs.Runs.Replaying.{act, finish_of, goes_on}
-use Rattle.ped_reindex.specs.ped_loops.specs.ped_scalar.specs.ped_rules.specs.ped_loop_runs.specs.ped_bodies.specs.ped_steps.specs.ped_laws.specs.ped_eval.specs.Evaluation.{Seen, numbered}
-use Rattle.ped_reindex.specs.ped_loops.specs.ped_scalar.specs.ped_rules.specs.ped_loop_runs.specs.ped_bodies.specs.ped_steps.specs.ped_laws.specs.ped_eval.specs.Loops.{Entered, exit_touches, exit_when_none, inner_variables, left_in_variable, undefined_all, undefined_by}
-use Rattle.ped_reindex.specs.ped_loops.specs.ped_scalar.specs.ped_rules.specs.ped_loop_runs.specs.ped_bodies.specs.ped_steps.specs.ped_laws.specs.ped_eval.specs.Outcomes.{setting_of}
-use Rattle.ped_reindex.specs.ped_loops.specs.ped_scalar.specs.ped_rules.specs.ped_loop_runs.specs.ped_bodies.specs.ped_steps.specs.ped_laws.specs.ped_eval.specs.Runs.{run}
-use Rattle.ped_reindex.specs.ped_loops.specs.ped_scalar.specs.ped_rules.specs.ped_loop_runs.specs.ped_bodies.specs.ped_steps.specs.ped_laws.specs.ped_eval.specs.Scopes.{Scope, cell_of, place_of}
-use Rattle.ped_reindex.specs.ped_loops.specs.ped_scalar.specs.ped_rules.specs.ped_loop_runs.specs.ped_bodies.specs.ped_steps.specs.ped_laws.specs.ped_eval.specs.Statements.{write_touch}
-use Rattle.ped_reindex.specs.ped_loops.specs.ped_scalar.specs.ped_rules.specs.ped_loop_runs.specs.ped_bodies.specs.ped_steps.specs.ped_laws.specs.ped_store.specs.Acts.{Act, Place, Touch, ended_turn, store_behind, touched, writes}
-use Rattle.ped_reindex.specs.ped_loops.specs.ped_scalar.specs.ped_rules.specs.ped_loop_runs.specs.ped_bodies.specs.ped_steps.specs.ped_laws.specs.ped_store.specs.Cells.{Cell, same_cell}
-use Rattle.ped_reindex.specs.ped_loops.specs.ped_scalar.specs.ped_rules.specs.ped_loop_runs.specs.ped_bodies.specs.ped_steps.specs.ped_laws.specs.ped_store.specs.Stores.{Store, Undefined}
+use Rattle.ped_rules.specs.ped_bodies.proofs.BodyLaws.TripLists.{close_in_order, end_in_order}
+use Rattle.ped_rules.specs.ped_bodies.specs.Trips.{bounds_seen, loop_acts, loop_entry, trip_end, trips}
+use Rattle.ped_rules.specs.ped_flow.specs.Questions.{LoopOf}
+use Rattle.ped_rules.specs.ped_steps.specs.Runs.Renumbering.{renumbered}
+use Rattle.ped_rules.specs.ped_loop_runs.specs.Numbers.{counted_by}
+use Rattle.ped_rules.specs.ped_laws.proofs.ActLaws.Appending.{written_append}
+use Rattle.ped_rules.specs.ped_laws.proofs.ActLaws.Renamings.{or_right}
+use Rattle.ped_rules.specs.ped_laws.proofs.ActLaws.Stores.{after_append, behind_append}
+use Rattle.ped_rules.specs.ped_laws.specs.Acts.Fitting.{store_after}
+use Rattle.ped_rules.specs.ped_laws.specs.Acts.Sets.{written, written_by}
+use Rattle.ped_rules.specs.ped_laws.specs.Runs.Replaying.{act, finish_of, goes_on}
+use Rattle.ped_rules.specs.ped_eval.specs.Evaluation.{Seen, numbered}
+use Rattle.ped_rules.specs.ped_eval.specs.Loops.{Entered, exit_touches, exit_when_none, inner_variables, left_in_variable, undefined_all, undefined_by}
+use Rattle.ped_rules.specs.ped_eval.specs.Outcomes.{setting_of}
+use Rattle.ped_rules.specs.ped_eval.specs.Runs.{run}
+use Rattle.ped_rules.specs.ped_eval.specs.Scopes.{Scope, cell_of, place_of}
+use Rattle.ped_rules.specs.ped_eval.specs.Statements.{write_touch}
+use Rattle.ped_rules.specs.ped_store.specs.Acts.{Act, Place, Touch, ended_turn, store_behind, touched, writes}
+use Rattle.ped_rules.specs.ped_store.specs.Cells.{Cell, same_cell}
+use Rattle.ped_rules.specs.ped_store.specs.Stores.{Store, Undefined}
 use Rattle.ped_splits.proofs.SplitFacts.{IsSplit}
 use Rattle.ped_splits.proofs.SplitNumbers.{split_numbers}
 use Rattle.ped_splits.proofs.SplitPlaces.{end_of}

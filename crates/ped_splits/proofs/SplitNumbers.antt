@@ -6,9 +6,9 @@ use Rattle.std.proofs.lemmas.List.Sums.{sum_by-cons}
 use Rattle.std.specs.List.{flat_map, range_with_len}
 use Rattle.ped_tree.specs.Tree.{Head, StmtTrees, ProgramTree}
 use Rattle.ped_tree.specs.Numbering.{statements_count}
-use Rattle.ped_reindex.specs.ped_loops.specs.ped_scalar.specs.ped_rules.specs.ped_loop_runs.specs.Numbers.{AreApart, FitInGap, kept_numbers}
-use Rattle.ped_reindex.specs.ped_loops.specs.ped_scalar.specs.ped_rules.specs.ped_loop_runs.specs.ped_bodies.specs.ped_steps.specs.ped_laws.specs.Acts.Orders.{IsIn}
-use Rattle.ped_reindex.specs.ped_loops.specs.ped_scalar.specs.ped_rules.specs.ped_loop_runs.specs.ped_bodies.specs.ped_steps.specs.ped_laws.proofs.ActLaws.Lists.{in_parts}
+use Rattle.ped_rules.specs.ped_loop_runs.specs.Numbers.{AreApart, FitInGap, kept_numbers}
+use Rattle.ped_rules.specs.ped_laws.specs.Acts.Orders.{IsIn}
+use Rattle.ped_rules.specs.ped_laws.proofs.ActLaws.Lists.{in_parts}
 use Rattle.ped_splits.proofs.OneToOne.{times_in, is_number, loops_once}
 use Rattle.ped_splits.proofs.Partitions.{tally, flat, loops_long}
 use Rattle.ped_splits.proofs.BlockSizes.{found_below}

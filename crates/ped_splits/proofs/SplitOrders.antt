@@ -3,14 +3,14 @@ use Rattle.std.proofs.Common.{◌≡◌, ◌⊎◌, ℕ, zero, suc, ◌+◌, ◌
 use Rattle.std.proofs.lemmas.Bool.{both_ways, cases_lt}
 use Rattle.std.specs.List.{flat_map, range_with_len}
 use Rattle.std.specs.Prelude.{slice_index_or}
-use Rattle.ped_reindex.specs.ped_loops.proofs.NestKnots.{among_rows, before_in_rows, in_numbers, in_rows, one_of_numbers}
-use Rattle.ped_reindex.specs.ped_loops.specs.ped_scalar.specs.ped_rules.specs.ped_loop_runs.specs.ped_bodies.specs.ped_steps.specs.ped_laws.proofs.ActLaws.Lists.{before_across, before_left, before_parts, before_right, first_in, in_left, in_parts, in_right, second_in}
-use Rattle.ped_reindex.specs.ped_loops.specs.ped_scalar.specs.ped_rules.specs.ped_loop_runs.specs.ped_bodies.specs.ped_steps.specs.ped_laws.proofs.ActLaws.Reorderings.{rows_once}
-use Rattle.ped_reindex.specs.ped_loops.specs.ped_scalar.specs.ped_rules.specs.ped_loop_runs.specs.ped_bodies.specs.ped_steps.specs.ped_laws.specs.Acts.Conflicts.{blocks_conflict_outside}
-use Rattle.ped_reindex.specs.ped_loops.specs.ped_scalar.specs.ped_rules.specs.ped_loop_runs.specs.ped_bodies.specs.ped_steps.specs.ped_laws.specs.Acts.Grids.{block_at}
-use Rattle.ped_reindex.specs.ped_loops.specs.ped_scalar.specs.ped_rules.specs.ped_loop_runs.specs.ped_bodies.specs.ped_steps.specs.ped_laws.specs.Acts.Orders.{Block, EachOnce, IsByRows, IsIn, IsReordered, KeepsOrder, StandsBefore, block_conflict}
-use Rattle.ped_reindex.specs.ped_loops.specs.ped_scalar.specs.ped_rules.specs.ped_loop_runs.specs.ped_bodies.specs.ped_steps.specs.ped_laws.specs.ped_store.specs.Acts.{Act}
-use Rattle.ped_reindex.specs.ped_loops.specs.ped_scalar.specs.ped_rules.specs.ped_loop_runs.specs.ped_bodies.specs.ped_steps.specs.ped_laws.specs.ped_store.specs.Cells.{Cell}
+use Rattle.ped_rules.proofs.NestLaws.NestKnots.{among_rows, before_in_rows, in_numbers, in_rows, one_of_numbers}
+use Rattle.ped_rules.specs.ped_laws.proofs.ActLaws.Lists.{before_across, before_left, before_parts, before_right, first_in, in_left, in_parts, in_right, second_in}
+use Rattle.ped_rules.specs.ped_laws.proofs.ActLaws.Reorderings.{rows_once}
+use Rattle.ped_rules.specs.ped_laws.specs.Acts.Conflicts.{blocks_conflict_outside}
+use Rattle.ped_rules.specs.ped_laws.specs.Acts.Grids.{block_at}
+use Rattle.ped_rules.specs.ped_laws.specs.Acts.Orders.{Block, EachOnce, IsByRows, IsIn, IsReordered, KeepsOrder, StandsBefore, block_conflict}
+use Rattle.ped_rules.specs.ped_store.specs.Acts.{Act}
+use Rattle.ped_rules.specs.ped_store.specs.Cells.{Cell}
 use Rattle.ped_splits.proofs.BlockLaws.{In, in_either}
 use Rattle.ped_splits.proofs.BlockPlaces.{AreApart, AreRising, IsRising}
 use Rattle.ped_splits.proofs.Partitions.{flat}

@@ -4,35 +4,35 @@ use Rattle.std.proofs.lemmas.Bool.{and_parts}
 use Rattle.std.specs.Str.Lines.{lines}
 use Rattle.ped_tree.specs.Tree.{StmtTrees, ProgramTree}
 use Rattle.ped_tree.specs.Numbering.{statements_count}
-use Rattle.ped_reindex.proofs.PeelFar.{turns_below}
-use Rattle.ped_reindex.proofs.RenumberedRaces.{references_renumbered}
-use Rattle.ped_reindex.specs.ped_loops.proofs.ApartTurns.{apart_inside, apart_split, apart_within, front_apart, iterations_append, none_behind, same_fronts, turns_long}
-use Rattle.ped_reindex.specs.ped_loops.proofs.ExchangedRaces.{RaceBefore}
-use Rattle.ped_reindex.specs.ped_loops.specs.ped_scalar.specs.ped_rules.specs.ped_loop_runs.proofs.LoopLaws.ChangedPairs.{AreSuccessive, Change, Give, in_acts, pairs_give}
-use Rattle.ped_reindex.specs.ped_loops.specs.ped_scalar.specs.ped_rules.specs.ped_loop_runs.proofs.LoopLaws.OldRaces.{acts_outside, round_apart}
-use Rattle.ped_reindex.specs.ped_loops.specs.ped_scalar.specs.ped_rules.specs.ped_loop_runs.proofs.LoopLaws.OldRaces as origins
-use Rattle.ped_reindex.specs.ped_loops.specs.ped_scalar.specs.ped_rules.specs.ped_loop_runs.specs.Executions.{IsExecuted, LeaveCopies, StandsInside}
-use Rattle.ped_reindex.specs.ped_loops.specs.ped_scalar.specs.ped_rules.specs.ped_loop_runs.specs.Pasting.{AreExchanged, IsExchanged}
-use Rattle.ped_reindex.specs.ped_loops.specs.ped_scalar.specs.ped_rules.specs.ped_loop_runs.specs.ped_bodies.specs.ped_steps.proofs.RunLaws.PrivatisedRacesOrigins.{accesses_from}
-use Rattle.ped_reindex.specs.ped_loops.specs.ped_scalar.specs.ped_rules.specs.ped_loop_runs.specs.ped_bodies.specs.ped_steps.specs.Runs.Renumbering.{IsToldBack, renumbered}
-use Rattle.ped_reindex.specs.ped_loops.specs.ped_scalar.specs.ped_rules.specs.ped_loop_runs.specs.ped_bodies.specs.ped_steps.specs.ped_flow.specs.PlainBounds.{nest_round}
-use Rattle.ped_reindex.specs.ped_loops.specs.ped_scalar.specs.ped_rules.specs.ped_loop_runs.specs.ped_bodies.specs.ped_steps.specs.ped_symbols.specs.NameRefusals.{IsValid}
-use Rattle.ped_reindex.specs.ped_loops.specs.ped_scalar.specs.ped_rules.specs.ped_loop_runs.specs.ped_bodies.specs.ped_steps.specs.ped_weaves.proofs.WeaveLaws.RaceSources.{pairs_free}
-use Rattle.ped_reindex.specs.ped_loops.specs.ped_scalar.specs.ped_rules.specs.ped_loop_runs.specs.ped_bodies.specs.ped_steps.specs.ped_weaves.specs.Sources.{RaceSomewhere}
-use Rattle.ped_reindex.specs.ped_loops.specs.ped_scalar.specs.ped_rules.specs.ped_loop_runs.specs.ped_bodies.specs.ped_steps.specs.ped_laws.proofs.ActLaws.Conflicting.{access_place}
-use Rattle.ped_reindex.specs.ped_loops.specs.ped_scalar.specs.ped_rules.specs.ped_loop_runs.specs.ped_bodies.specs.ped_steps.specs.ped_laws.proofs.ActLaws.Lists.{first_in, second_in}
-use Rattle.ped_reindex.specs.ped_loops.specs.ped_scalar.specs.ped_rules.specs.ped_loop_runs.specs.ped_bodies.specs.ped_steps.specs.ped_laws.proofs.ActLaws.SameCells.{cell_is}
-use Rattle.ped_reindex.specs.ped_loops.specs.ped_scalar.specs.ped_rules.specs.ped_loop_runs.specs.ped_bodies.specs.ped_steps.specs.ped_laws.proofs.RunLaws.Turning.{At}
-use Rattle.ped_reindex.specs.ped_loops.specs.ped_scalar.specs.ped_rules.specs.ped_loop_runs.specs.ped_bodies.specs.ped_steps.specs.ped_laws.specs.Acts.Orders.{IsIn, StandsBefore}
-use Rattle.ped_reindex.specs.ped_loops.specs.ped_scalar.specs.ped_rules.specs.ped_loop_runs.specs.ped_bodies.specs.ped_steps.specs.ped_laws.specs.Acts.Pieces.{Part, new_parts, old_parts}
-use Rattle.ped_reindex.specs.ped_loops.specs.ped_scalar.specs.ped_rules.specs.ped_loop_runs.specs.ped_bodies.specs.ped_steps.specs.ped_laws.specs.Runs.Replaying.{finish_of, goes_on}
-use Rattle.ped_reindex.specs.ped_loops.specs.ped_scalar.specs.ped_rules.specs.ped_loop_runs.specs.ped_bodies.specs.ped_steps.specs.ped_laws.specs.ped_eval.specs.Outcomes.{run_of, setting_of}
-use Rattle.ped_reindex.specs.ped_loops.specs.ped_scalar.specs.ped_rules.specs.ped_loop_runs.specs.ped_bodies.specs.ped_steps.specs.ped_laws.specs.ped_eval.specs.Runs.{Run, run_all}
-use Rattle.ped_reindex.specs.ped_loops.specs.ped_scalar.specs.ped_rules.specs.ped_loop_runs.specs.ped_bodies.specs.ped_steps.specs.ped_laws.specs.ped_eval.specs.Scopes.{Scope, Setting, turns_of}
-use Rattle.ped_reindex.specs.ped_loops.specs.ped_scalar.specs.ped_rules.specs.ped_loop_runs.specs.ped_bodies.specs.ped_steps.specs.ped_laws.specs.ped_store.specs.Acts.{Act, Place, Turn, iterations_of}
-use Rattle.ped_reindex.specs.ped_loops.specs.ped_scalar.specs.ped_rules.specs.ped_loop_runs.specs.ped_bodies.specs.ped_steps.specs.ped_laws.specs.ped_store.specs.Cells.{Cell, Iteration, Private, same_cell}
-use Rattle.ped_reindex.specs.ped_loops.specs.ped_scalar.specs.ped_rules.specs.ped_loop_runs.specs.ped_bodies.specs.ped_steps.specs.ped_laws.specs.ped_store.specs.Races.{Access, HasNoRace, accesses, are_apart, race}
-use Rattle.ped_reindex.specs.ped_loops.specs.ped_scalar.specs.ped_rules.specs.ped_loop_runs.specs.ped_bodies.specs.ped_steps.specs.ped_laws.specs.ped_store.specs.Stores.{Store, store_at_start}
+use Rattle.ped_rules.proofs.NameLaws.AbsentNumbers.{turns_below}
+use Rattle.ped_rules.proofs.NameLaws.RenumberedRaces.{references_renumbered}
+use Rattle.ped_rules.specs.ped_loop_runs.proofs.LoopLaws.ApartTurns.{apart_inside, apart_split, apart_within, front_apart, iterations_append, none_behind, same_fronts, turns_long}
+use Rattle.ped_rules.proofs.NestLaws.ExchangedRaces.{RaceBefore}
+use Rattle.ped_rules.specs.ped_loop_runs.proofs.LoopLaws.ChangedPairs.{AreSuccessive, Change, Give, in_acts, pairs_give}
+use Rattle.ped_rules.specs.ped_loop_runs.proofs.LoopLaws.OldRaces.{acts_outside, round_apart}
+use Rattle.ped_rules.specs.ped_loop_runs.proofs.LoopLaws.OldRaces as origins
+use Rattle.ped_rules.specs.ped_loop_runs.specs.Executions.{IsExecuted, LeaveCopies, StandsInside}
+use Rattle.ped_rules.specs.ped_loop_runs.specs.Pasting.{AreExchanged, IsExchanged}
+use Rattle.ped_rules.specs.ped_steps.proofs.RunLaws.PrivatisedRacesOrigins.{accesses_from}
+use Rattle.ped_rules.specs.ped_steps.specs.Runs.Renumbering.{IsToldBack, renumbered}
+use Rattle.ped_rules.specs.ped_flow.specs.PlainBounds.{nest_round}
+use Rattle.ped_rules.specs.ped_symbols.specs.NameRefusals.{IsValid}
+use Rattle.ped_rules.specs.ped_weaves.proofs.WeaveLaws.RaceSources.{pairs_free}
+use Rattle.ped_rules.specs.ped_weaves.specs.Sources.{RaceSomewhere}
+use Rattle.ped_rules.specs.ped_laws.proofs.ActLaws.Conflicting.{access_place}
+use Rattle.ped_rules.specs.ped_laws.proofs.ActLaws.Lists.{first_in, second_in}
+use Rattle.ped_rules.specs.ped_laws.proofs.ActLaws.SameCells.{cell_is}
+use Rattle.ped_rules.specs.ped_laws.proofs.RunLaws.Turning.{At}
+use Rattle.ped_rules.specs.ped_laws.specs.Acts.Orders.{IsIn, StandsBefore}
+use Rattle.ped_rules.specs.ped_laws.specs.Acts.Pieces.{Part, new_parts, old_parts}
+use Rattle.ped_rules.specs.ped_laws.specs.Runs.Replaying.{finish_of, goes_on}
+use Rattle.ped_rules.specs.ped_eval.specs.Outcomes.{run_of, setting_of}
+use Rattle.ped_rules.specs.ped_eval.specs.Runs.{Run, run_all}
+use Rattle.ped_rules.specs.ped_eval.specs.Scopes.{Scope, Setting, turns_of}
+use Rattle.ped_rules.specs.ped_store.specs.Acts.{Act, Place, Turn, iterations_of}
+use Rattle.ped_rules.specs.ped_store.specs.Cells.{Cell, Iteration, Private, same_cell}
+use Rattle.ped_rules.specs.ped_store.specs.Races.{Access, HasNoRace, accesses, are_apart, race}
+use Rattle.ped_rules.specs.ped_store.specs.Stores.{Store, store_at_start}
 
 -- an access in the place of an execution comes from one of it, in the same cell, or in a copy that belongs to an iteration there: both stand in the iterations round it, or the old one in an iteration of one of so many statements and the new one in one of the first of them or of a DO that the old program doesn't have
 pub record ComesFrom (t : ProgramTree) (l count : ℕ) (scope : Scope) (olds : List Act) (b : Access) : Type 0 where

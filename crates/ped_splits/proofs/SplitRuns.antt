@@ -7,35 +7,35 @@ use Rattle.std.specs.List.{flat_map, range_with_len}
 use Rattle.std.specs.Prelude.{slice_index_or, nat_le, nat_lt}
 use Rattle.ped_tree.specs.Tree.{Head, StmtTrees, Do, no_stmts, ProgramTree}
 use Rattle.ped_tree.specs.Numbering.{statement_count, statements_count}
-use Rattle.ped_reindex.specs.ped_loops.specs.ped_scalar.specs.ped_rules.specs.ped_loop_runs.proofs.TidyLaws.TidyPathsGaps.{followed_count}
-use Rattle.ped_reindex.specs.ped_loops.specs.ped_scalar.specs.ped_rules.specs.ped_loop_runs.proofs.PastingLaws.PastedLoops.{run_followed}
-use Rattle.ped_reindex.specs.ped_loops.specs.ped_scalar.specs.ped_rules.specs.ped_loop_runs.specs.Numbers.{counted_by}
-use Rattle.ped_reindex.specs.ped_loops.specs.ped_scalar.specs.ped_rules.specs.ped_loop_runs.specs.ped_bodies.proofs.BodyLaws.Instances.{distributed_body}
-use Rattle.ped_reindex.specs.ped_loops.specs.ped_scalar.specs.ped_rules.specs.ped_loop_runs.specs.ped_bodies.proofs.BodyLaws.TripLists.{loop_apart, loop_made}
-use Rattle.ped_reindex.specs.ped_loops.specs.ped_scalar.specs.ped_rules.specs.ped_loop_runs.specs.ped_bodies.specs.Likewise.{AreLikewise, DoesLikewise}
-use Rattle.ped_reindex.specs.ped_loops.specs.ped_scalar.specs.ped_rules.specs.ped_loop_runs.specs.ped_bodies.specs.Moving.{own_number, in_loop, moved_behind}
-use Rattle.ped_reindex.specs.ped_loops.specs.ped_scalar.specs.ped_rules.specs.ped_loop_runs.specs.ped_bodies.specs.Standing.{SettingsAgree}
-use Rattle.ped_reindex.specs.ped_loops.specs.ped_scalar.specs.ped_rules.specs.ped_loop_runs.specs.ped_bodies.specs.Trips.{IsMadeOfTrips, bounds_seen, entered_from, loop_acts, store_before}
-use Rattle.ped_reindex.specs.ped_loops.specs.ped_scalar.specs.ped_rules.specs.ped_loop_runs.specs.ped_bodies.specs.ped_steps.specs.Replacing.{followed}
-use Rattle.ped_reindex.specs.ped_loops.specs.ped_scalar.specs.ped_rules.specs.ped_loop_runs.specs.ped_bodies.specs.ped_steps.specs.Runs.Renumbering.{renumbered}
-use Rattle.ped_reindex.specs.ped_loops.specs.ped_scalar.specs.ped_rules.specs.ped_loop_runs.specs.ped_bodies.specs.ped_steps.specs.ped_flow.proofs.Answering.{loop_fits}
-use Rattle.ped_reindex.specs.ped_loops.specs.ped_scalar.specs.ped_rules.specs.ped_loop_runs.specs.ped_bodies.specs.ped_steps.specs.ped_flow.specs.Questions.{LoopOf}
-use Rattle.ped_reindex.specs.ped_loops.specs.ped_scalar.specs.ped_rules.specs.ped_loop_runs.specs.ped_bodies.specs.ped_steps.specs.ped_laws.proofs.RunLaws.Joined.{parted_more, replays_nothing, statements_more}
-use Rattle.ped_reindex.specs.ped_loops.specs.ped_scalar.specs.ped_rules.specs.ped_loop_runs.specs.ped_bodies.specs.ped_steps.specs.ped_laws.proofs.RunLaws.Sight.{limits_told}
-use Rattle.ped_reindex.specs.ped_loops.specs.ped_scalar.specs.ped_rules.specs.ped_loop_runs.specs.ped_bodies.specs.ped_steps.specs.ped_laws.proofs.RunLaws.StatementsTold.{all_told}
-use Rattle.ped_reindex.specs.ped_loops.specs.ped_scalar.specs.ped_rules.specs.ped_loop_runs.specs.ped_bodies.specs.ped_steps.specs.ped_laws.proofs.RunLaws.Told.{replays_behind}
-use Rattle.ped_reindex.specs.ped_loops.specs.ped_scalar.specs.ped_rules.specs.ped_loop_runs.specs.ped_bodies.specs.ped_steps.specs.ped_laws.specs.Acts.Fitting.{store_after}
-use Rattle.ped_reindex.specs.ped_loops.specs.ped_scalar.specs.ped_rules.specs.ped_loop_runs.specs.ped_bodies.specs.ped_steps.specs.ped_laws.specs.Runs.Replaying.{IsEntered, Replays, behind, finish_of, goes_on}
-use Rattle.ped_reindex.specs.ped_loops.specs.ped_scalar.specs.ped_rules.specs.ped_loop_runs.specs.ped_bodies.specs.ped_steps.specs.ped_laws.specs.Runs.Seeing.{ComesTo}
-use Rattle.ped_reindex.specs.ped_loops.specs.ped_scalar.specs.ped_rules.specs.ped_loop_runs.specs.ped_bodies.specs.ped_steps.specs.ped_laws.specs.ped_eval.specs.Evaluation.{Seen}
-use Rattle.ped_reindex.specs.ped_loops.specs.ped_scalar.specs.ped_rules.specs.ped_loop_runs.specs.ped_bodies.specs.ped_steps.specs.ped_laws.specs.ped_eval.specs.Loops.{Entered, frame, inner_variables, limits}
-use Rattle.ped_reindex.specs.ped_loops.specs.ped_scalar.specs.ped_rules.specs.ped_loop_runs.specs.ped_bodies.specs.ped_steps.specs.ped_laws.specs.ped_eval.specs.Outcomes.{setting_of}
-use Rattle.ped_reindex.specs.ped_loops.specs.ped_scalar.specs.ped_rules.specs.ped_loop_runs.specs.ped_bodies.specs.ped_steps.specs.ped_laws.specs.ped_eval.specs.Runs.{Ending, Run, failed, followed_by, going, run, run_all, stopped}
-use Rattle.ped_reindex.specs.ped_loops.specs.ped_scalar.specs.ped_rules.specs.ped_loop_runs.specs.ped_bodies.specs.ped_steps.specs.ped_laws.specs.ped_eval.specs.Scopes.{Scope, Setting, names_in, place_of, turns_of}
-use Rattle.ped_reindex.specs.ped_loops.specs.ped_scalar.specs.ped_rules.specs.ped_loop_runs.specs.ped_bodies.specs.ped_steps.specs.ped_laws.specs.ped_store.specs.Acts.{Act, iterations_of}
-use Rattle.ped_reindex.specs.ped_loops.specs.ped_scalar.specs.ped_rules.specs.ped_loop_runs.specs.ped_bodies.specs.ped_steps.specs.ped_laws.specs.ped_store.specs.Cells.{Cell}
-use Rattle.ped_reindex.specs.ped_loops.specs.ped_scalar.specs.ped_rules.specs.ped_loop_runs.specs.ped_bodies.specs.ped_steps.specs.ped_laws.specs.Acts.Sets.{nothing}
-use Rattle.ped_reindex.specs.ped_loops.specs.ped_scalar.specs.ped_rules.specs.ped_loop_runs.specs.ped_bodies.specs.ped_steps.specs.ped_laws.specs.ped_store.specs.Stores.{Store}
+use Rattle.ped_rules.specs.ped_loop_runs.proofs.TidyLaws.TidyPathsGaps.{followed_count}
+use Rattle.ped_rules.specs.ped_loop_runs.proofs.PastingLaws.PastedLoops.{run_followed}
+use Rattle.ped_rules.specs.ped_loop_runs.specs.Numbers.{counted_by}
+use Rattle.ped_rules.specs.ped_bodies.proofs.BodyLaws.Instances.{distributed_body}
+use Rattle.ped_rules.specs.ped_bodies.proofs.BodyLaws.TripLists.{loop_apart, loop_made}
+use Rattle.ped_rules.specs.ped_bodies.specs.Likewise.{AreLikewise, DoesLikewise}
+use Rattle.ped_rules.specs.ped_bodies.specs.Moving.{own_number, in_loop, moved_behind}
+use Rattle.ped_rules.specs.ped_bodies.specs.Standing.{SettingsAgree}
+use Rattle.ped_rules.specs.ped_bodies.specs.Trips.{IsMadeOfTrips, bounds_seen, entered_from, loop_acts, store_before}
+use Rattle.ped_rules.specs.ped_steps.specs.Replacing.{followed}
+use Rattle.ped_rules.specs.ped_steps.specs.Runs.Renumbering.{renumbered}
+use Rattle.ped_rules.specs.ped_flow.proofs.Answering.{loop_fits}
+use Rattle.ped_rules.specs.ped_flow.specs.Questions.{LoopOf}
+use Rattle.ped_rules.specs.ped_laws.proofs.RunLaws.Joined.{parted_more, replays_nothing, statements_more}
+use Rattle.ped_rules.specs.ped_laws.proofs.RunLaws.Sight.{limits_told}
+use Rattle.ped_rules.specs.ped_laws.proofs.RunLaws.StatementsTold.{all_told}
+use Rattle.ped_rules.specs.ped_laws.proofs.RunLaws.Told.{replays_behind}
+use Rattle.ped_rules.specs.ped_laws.specs.Acts.Fitting.{store_after}
+use Rattle.ped_rules.specs.ped_laws.specs.Runs.Replaying.{IsEntered, Replays, behind, finish_of, goes_on}
+use Rattle.ped_rules.specs.ped_laws.specs.Runs.Seeing.{ComesTo}
+use Rattle.ped_rules.specs.ped_eval.specs.Evaluation.{Seen}
+use Rattle.ped_rules.specs.ped_eval.specs.Loops.{Entered, frame, inner_variables, limits}
+use Rattle.ped_rules.specs.ped_eval.specs.Outcomes.{setting_of}
+use Rattle.ped_rules.specs.ped_eval.specs.Runs.{Ending, Run, failed, followed_by, going, run, run_all, stopped}
+use Rattle.ped_rules.specs.ped_eval.specs.Scopes.{Scope, Setting, names_in, place_of, turns_of}
+use Rattle.ped_rules.specs.ped_store.specs.Acts.{Act, iterations_of}
+use Rattle.ped_rules.specs.ped_store.specs.Cells.{Cell}
+use Rattle.ped_rules.specs.ped_laws.specs.Acts.Sets.{nothing}
+use Rattle.ped_rules.specs.ped_store.specs.Stores.{Store}
 use Rattle.ped_splits.proofs.BlockLaws.{In, in_back, in_either, in_front}
 use Rattle.ped_splits.proofs.BlockSizes.{found_below, width}
 use Rattle.ped_splits.proofs.DistributeTrusted.{each_placed}

@@ -1,22 +1,22 @@
 -- Where the acts of the new DO loops come from: from entries and ends, which touch what names stand for there, or from what units did.
 use Rattle.std.proofs.Common.{◌≡◌, ◌⊎◌, ℕ, ◌-◌, List, [], ◌∷◌, filter, cond, Bool, true, false, inl, inr, refl, sym, ap, subst, ◌∙◌}
 use Rattle.ped_tree.specs.Tree.{Head}
-use Rattle.ped_reindex.specs.ped_loops.specs.ped_scalar.specs.ped_rules.specs.ped_loop_runs.proofs.PastingLaws.LeftCopies.{IsOwn, entry_own, exit_when_own}
-use Rattle.ped_reindex.specs.ped_loops.specs.ped_scalar.specs.ped_rules.specs.ped_loop_runs.specs.ped_bodies.proofs.BodyLaws.TripLists.{end_in_order}
-use Rattle.ped_reindex.specs.ped_loops.specs.ped_scalar.specs.ped_rules.specs.ped_loop_runs.specs.ped_bodies.specs.Likewise.{AllMeet, AreLikewise, Meet}
-use Rattle.ped_reindex.specs.ped_loops.specs.ped_scalar.specs.ped_rules.specs.ped_loop_runs.specs.ped_bodies.specs.Trips.{bounds_seen, loop_entry, trip_end}
-use Rattle.ped_reindex.specs.ped_loops.specs.ped_scalar.specs.ped_rules.specs.ped_loop_runs.specs.ped_bodies.specs.ped_steps.specs.ped_laws.proofs.ActLaws.Lists.{in_parts}
-use Rattle.ped_reindex.specs.ped_loops.specs.ped_scalar.specs.ped_rules.specs.ped_loop_runs.specs.ped_bodies.specs.ped_steps.specs.ped_laws.specs.Acts.Fitting.{has_cell, of_cells}
-use Rattle.ped_reindex.specs.ped_loops.specs.ped_scalar.specs.ped_rules.specs.ped_loop_runs.specs.ped_bodies.specs.ped_steps.specs.ped_laws.specs.Acts.Orders.{IsIn}
-use Rattle.ped_reindex.specs.ped_loops.specs.ped_scalar.specs.ped_rules.specs.ped_loop_runs.specs.ped_bodies.specs.ped_steps.specs.ped_laws.specs.Acts.Sets.{nothing}
-use Rattle.ped_reindex.specs.ped_loops.specs.ped_scalar.specs.ped_rules.specs.ped_loop_runs.specs.ped_bodies.specs.ped_steps.specs.ped_laws.specs.Runs.Replaying.{act}
-use Rattle.ped_reindex.specs.ped_loops.specs.ped_scalar.specs.ped_rules.specs.ped_loop_runs.specs.ped_bodies.specs.ped_steps.specs.ped_laws.specs.ped_eval.specs.Loops.{Entered, exit_when_none}
-use Rattle.ped_reindex.specs.ped_loops.specs.ped_scalar.specs.ped_rules.specs.ped_loop_runs.specs.ped_bodies.specs.ped_steps.specs.ped_laws.specs.ped_eval.specs.Scopes.{Scope, Setting}
-use Rattle.ped_reindex.specs.ped_loops.specs.ped_scalar.specs.ped_rules.specs.ped_loop_runs.specs.ped_bodies.specs.ped_steps.specs.ped_laws.specs.ped_store.specs.Acts.{Act, Manner, Place, Touch, Turn, ended_turn, is_told, reads, writes}
-use Rattle.ped_reindex.specs.ped_loops.specs.ped_scalar.specs.ped_rules.specs.ped_loop_runs.specs.ped_bodies.specs.ped_steps.specs.ped_laws.specs.ped_store.specs.Cells.{Cell}
-use Rattle.ped_reindex.specs.ped_loops.specs.ped_scalar.specs.ped_rules.specs.ped_loop_runs.specs.ped_bodies.specs.ped_steps.specs.ped_laws.specs.ped_store.specs.Races.{is_write}
-use Rattle.ped_reindex.specs.ped_loops.specs.ped_scalar.specs.ped_rules.specs.ped_loop_runs.specs.ped_bodies.specs.ped_steps.specs.ped_laws.specs.ped_store.specs.Stores.{Store}
-use Rattle.ped_reindex.specs.ped_loops.specs.ped_scalar.specs.ped_rules.specs.ped_loop_runs.specs.ped_bodies.specs.ped_steps.specs.ped_weaves.specs.Weaves.{Knot, block, control, knotted}
+use Rattle.ped_rules.specs.ped_loop_runs.proofs.PastingLaws.LeftCopies.{IsOwn, entry_own, exit_when_own}
+use Rattle.ped_rules.specs.ped_bodies.proofs.BodyLaws.TripLists.{end_in_order}
+use Rattle.ped_rules.specs.ped_bodies.specs.Likewise.{AllMeet, AreLikewise, Meet}
+use Rattle.ped_rules.specs.ped_bodies.specs.Trips.{bounds_seen, loop_entry, trip_end}
+use Rattle.ped_rules.specs.ped_laws.proofs.ActLaws.Lists.{in_parts}
+use Rattle.ped_rules.specs.ped_laws.specs.Acts.Fitting.{has_cell, of_cells}
+use Rattle.ped_rules.specs.ped_laws.specs.Acts.Orders.{IsIn}
+use Rattle.ped_rules.specs.ped_laws.specs.Acts.Sets.{nothing}
+use Rattle.ped_rules.specs.ped_laws.specs.Runs.Replaying.{act}
+use Rattle.ped_rules.specs.ped_eval.specs.Loops.{Entered, exit_when_none}
+use Rattle.ped_rules.specs.ped_eval.specs.Scopes.{Scope, Setting}
+use Rattle.ped_rules.specs.ped_store.specs.Acts.{Act, Manner, Place, Touch, Turn, ended_turn, is_told, reads, writes}
+use Rattle.ped_rules.specs.ped_store.specs.Cells.{Cell}
+use Rattle.ped_rules.specs.ped_store.specs.Races.{is_write}
+use Rattle.ped_rules.specs.ped_store.specs.Stores.{Store}
+use Rattle.ped_rules.specs.ped_weaves.specs.Weaves.{Knot, block, control, knotted}
 use Rattle.ped_splits.proofs.SplitControls.{control_is}
 use Rattle.ped_splits.proofs.SplitKnots.{loop_knots}
 

@@ -3,22 +3,22 @@ use Rattle.std.specs.Prelude.{◌≡◌, ◌<◌, ◌⊎◌, ℕ, ◌+◌, nat_l
 use Rattle.ped_tree.specs.Tree.{Head, ProgramTree}
 use Rattle.ped_tree.specs.Numbering.{statements_count}
 use Rattle.ped_tree.specs.Views.{stmt_trees, head_of}
-use Rattle.ped_reindex.specs.ped_loops.specs.ped_scalar.specs.ped_rules.specs.ped_loop_runs.specs.ped_bodies.specs.ped_steps.specs.Causes.{IsFirstForbidding}
-use Rattle.ped_reindex.specs.ped_loops.specs.ped_scalar.specs.ped_rules.specs.ped_loop_runs.specs.ped_bodies.specs.ped_steps.specs.ped_flow.specs.PlainBounds.{IsPlain}
-use Rattle.ped_reindex.specs.ped_loops.specs.ped_scalar.specs.ped_rules.specs.ped_loop_runs.specs.ped_bodies.specs.ped_steps.specs.ped_flow.specs.Questions.{IsFirst, IsBrokenBy, IsShown}
-use Rattle.ped_reindex.specs.ped_loops.specs.ped_scalar.specs.ped_rules.specs.ped_loop_runs.specs.ped_bodies.specs.ped_steps.specs.ped_flow.specs.declared.flows.Reader.{Reader}
-use Rattle.ped_reindex.specs.ped_loops.specs.ped_scalar.specs.ped_rules.specs.ped_loop_runs.specs.ped_bodies.specs.ped_steps.specs.ped_flow.specs.declared.flows.Reader.TheVariants.{Statement, Saved}
-use Rattle.ped_reindex.specs.ped_loops.specs.ped_scalar.specs.ped_rules.specs.ped_loop_runs.specs.ped_bodies.specs.ped_steps.specs.ped_symbols.specs.Kinds.{table_of}
-use Rattle.ped_reindex.specs.ped_loops.specs.ped_scalar.specs.ped_rules.specs.ped_loop_runs.specs.ped_bodies.specs.ped_steps.specs.ped_laws.specs.ped_graph.specs.DependencePane.{is_level}
-use Rattle.ped_reindex.specs.ped_loops.specs.ped_scalar.specs.ped_rules.specs.ped_loop_runs.specs.ped_bodies.specs.ped_steps.specs.ped_laws.specs.ped_graph.specs.Dependences.{EdgesOfPairs}
-use Rattle.ped_reindex.specs.ped_loops.specs.ped_scalar.specs.ped_rules.specs.ped_loop_runs.specs.ped_bodies.specs.ped_steps.specs.ped_laws.specs.ped_graph.specs.declared.frames.PairKey.{PairKey}
-use Rattle.ped_reindex.specs.ped_loops.specs.ped_scalar.specs.ped_rules.specs.ped_loop_runs.specs.ped_bodies.specs.ped_steps.specs.ped_laws.specs.ped_graph.specs.ped_edges.specs.CodeEdges.{edge_of, HasAtMostSixLoops}
-use Rattle.ped_reindex.specs.ped_loops.specs.ped_scalar.specs.ped_rules.specs.ped_loop_runs.specs.ped_bodies.specs.ped_steps.specs.ped_laws.specs.ped_graph.specs.ped_edges.specs.Edges.{Edge, is_rejected}
-use Rattle.ped_reindex.specs.ped_loops.specs.ped_scalar.specs.ped_rules.specs.ped_loop_runs.specs.ped_bodies.specs.ped_steps.specs.ped_laws.specs.ped_graph.specs.ped_edges.specs.declared.edges.Edge.{Edge as CodeEdge}
-use Rattle.ped_reindex.specs.ped_loops.specs.ped_scalar.specs.ped_rules.specs.ped_loop_runs.specs.ped_bodies.specs.ped_steps.specs.ped_refs.specs.References.{Reference}
+use Rattle.ped_rules.specs.ped_steps.specs.Causes.{IsFirstForbidding}
+use Rattle.ped_rules.specs.ped_flow.specs.PlainBounds.{IsPlain}
+use Rattle.ped_rules.specs.ped_flow.specs.Questions.{IsFirst, IsBrokenBy, IsShown}
+use Rattle.ped_rules.specs.ped_flow.specs.declared.flows.Reader.{Reader}
+use Rattle.ped_rules.specs.ped_flow.specs.declared.flows.Reader.TheVariants.{Statement, Saved}
+use Rattle.ped_rules.specs.ped_symbols.specs.Kinds.{table_of}
+use Rattle.ped_rules.specs.ped_graph.specs.DependencePane.{is_level}
+use Rattle.ped_rules.specs.ped_graph.specs.Dependences.{EdgesOfPairs}
+use Rattle.ped_rules.specs.ped_graph.specs.declared.frames.PairKey.{PairKey}
+use Rattle.ped_edges.specs.CodeEdges.{edge_of, HasAtMostSixLoops}
+use Rattle.ped_edges.specs.Edges.{Edge, is_rejected}
+use Rattle.ped_edges.specs.declared.edges.Edge.{Edge as CodeEdge}
+use Rattle.ped_refs.specs.References.{Reference}
 use Rattle.ped_splits.specs.declared.neighbours.Pair.{Pair}
 use Rattle.ped_splits.specs.declared.returning.Bodies.{Bodies}
-use Rattle.ped_splits.specs.Neighbours.{opened_at}
+use Rattle.ped_rules.specs.KeepMaps.{opened_at}
 use Rattle.ped_splits.specs.Fusing.{with_present_numbers}
 
 -- the source of the pair is in the second body, and the sink in the first one

@@ -3,15 +3,15 @@ use Rattle.std.specs.Prelude.{◌≡◌, ◌<◌, ℕ, suc, ◌+◌, ◌-◌, Li
 use Rattle.std.specs.List.{flat_map, range_with_len}
 use Rattle.ped_tree.specs.Tree.{Head, ExprTree, StmtTree, StmtTrees, Do, no_stmts, more_stmts, ProgramTree}
 use Rattle.ped_tree.specs.Numbering.{statements_count}
-use Rattle.ped_reindex.specs.ped_loops.specs.Interchanging.{IsBoundOf}
-use Rattle.ped_reindex.specs.ped_loops.specs.ped_scalar.specs.ped_rules.specs.Chains.{no_rules, also, WhereLoop}
-use Rattle.ped_reindex.specs.ped_loops.specs.ped_scalar.specs.ped_rules.specs.OnlyLoops.{on_loop}
-use Rattle.ped_reindex.specs.ped_loops.specs.ped_scalar.specs.ped_rules.specs.Rules.{WhereNoLoop, is_parallel, WhereEscape, WhereUnplain, WhereLimit}
-use Rattle.ped_reindex.specs.ped_loops.specs.ped_scalar.specs.ped_rules.specs.Steps.{transformation, StepAt}
-use Rattle.ped_reindex.specs.ped_loops.specs.ped_scalar.specs.ped_rules.specs.ped_loop_runs.specs.ped_bodies.specs.ped_steps.specs.ped_flow.specs.Questions.{LoopOf}
-use Rattle.ped_reindex.specs.ped_loops.specs.ped_scalar.specs.ped_rules.specs.ped_loop_runs.specs.ped_bodies.specs.ped_steps.specs.declared.rules.Rule.TheVariants.{NoLoop, ParallelState, IndexEscapes, BoundNotPlain, OneBlock, Limit}
-use Rattle.ped_reindex.specs.ped_loops.specs.ped_scalar.specs.ped_rules.specs.ped_loop_runs.specs.ped_bodies.specs.ped_steps.specs.Causes.{Rules, IsFirstCause, none_forbids}
-use Rattle.ped_reindex.specs.ped_loops.specs.ped_scalar.specs.ped_rules.specs.ped_loop_runs.specs.ped_bodies.specs.ped_steps.specs.Replacing.{followed, program_with}
+use Rattle.ped_rules.specs.Rules.{IsBoundOf}
+use Rattle.ped_rules.specs.Chains.{no_rules, also, WhereLoop}
+use Rattle.ped_rules.specs.OnlyLoops.{on_loop}
+use Rattle.ped_rules.specs.Rules.{WhereNoLoop, is_parallel, WhereEscape, WhereUnplain, WhereLimit}
+use Rattle.ped_rules.specs.Steps.{transformation, StepAt}
+use Rattle.ped_rules.specs.ped_flow.specs.Questions.{LoopOf}
+use Rattle.ped_rules.specs.ped_steps.specs.declared.rules.Rule.TheVariants.{NoLoop, ParallelState, IndexEscapes, BoundNotPlain, OneBlock, Limit}
+use Rattle.ped_rules.specs.ped_steps.specs.Causes.{Rules, IsFirstCause, none_forbids}
+use Rattle.ped_rules.specs.ped_steps.specs.Replacing.{followed, program_with}
 use Rattle.ped_splits.specs.Units.{units, stands_in}
 use Rattle.ped_splits.specs.Blocks.{AreBlocks}
 

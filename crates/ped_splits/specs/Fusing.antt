@@ -2,18 +2,19 @@
 use Rattle.std.specs.Prelude.{◌≡◌, ◌⊎◌, ℕ, ◌+◌, nat_le, nat_lt, List, filter, Bool, true, false, ◌&&◌, All, Option, Some, None}
 use Rattle.ped_tree.specs.Tree.{Head, StmtTrees, ProgramTree}
 use Rattle.ped_tree.specs.Numbering.{statements_count}
-use Rattle.ped_reindex.specs.ped_loops.specs.ped_scalar.specs.ped_rules.specs.Carried.{carried}
-use Rattle.ped_reindex.specs.ped_loops.specs.ped_scalar.specs.ped_rules.specs.Chains.{no_rules, also, WhereLoop}
-use Rattle.ped_reindex.specs.ped_loops.specs.ped_scalar.specs.ped_rules.specs.Rules.{WhereNoLoop, is_parallel, has_private, WhereUnplain, WhereLimit}
-use Rattle.ped_reindex.specs.ped_loops.specs.ped_scalar.specs.ped_rules.specs.Steps.{transformation, StepAt}
-use Rattle.ped_reindex.specs.ped_loops.specs.ped_scalar.specs.ped_rules.specs.ped_loop_runs.specs.ped_bodies.specs.ped_steps.specs.ped_flow.specs.Questions.{LoopOf, IsFirst, IsBrokenBy, IsShown}
-use Rattle.ped_reindex.specs.ped_loops.specs.ped_scalar.specs.ped_rules.specs.ped_loop_runs.specs.ped_bodies.specs.ped_steps.specs.declared.rules.Rule.TheVariants.{NoLoop, ParallelState, HasPrivate, IndexEscapes, BoundNotPlain, NoNeighbour, Limit}
-use Rattle.ped_reindex.specs.ped_loops.specs.ped_scalar.specs.ped_rules.specs.ped_loop_runs.specs.ped_bodies.specs.ped_steps.specs.Causes.{Rules, Cause, rule, dependence, NoRule, IsFirstRule, IsFirstForbidding}
-use Rattle.ped_reindex.specs.ped_loops.specs.ped_scalar.specs.ped_rules.specs.ped_loop_runs.specs.ped_bodies.specs.ped_steps.specs.ped_refs.specs.References.{Reference, references, pairs}
-use Rattle.ped_reindex.specs.ped_loops.specs.ped_scalar.specs.ped_rules.specs.ped_loop_runs.specs.ped_bodies.specs.ped_steps.specs.ped_laws.specs.ped_graph.specs.ped_edges.specs.Edges.{Edge}
-use Rattle.ped_reindex.specs.ped_loops.specs.ped_scalar.specs.ped_rules.specs.ped_loop_runs.specs.ped_bodies.specs.ped_steps.specs.ped_laws.specs.ped_graph.specs.Dependences.{EdgesOfPairs}
+use Rattle.ped_rules.specs.Carried.{carried}
+use Rattle.ped_rules.specs.Chains.{no_rules, also, WhereLoop}
+use Rattle.ped_rules.specs.Rules.{WhereNoLoop, is_parallel, has_private, WhereUnplain, WhereLimit}
+use Rattle.ped_rules.specs.Steps.{transformation, StepAt}
+use Rattle.ped_rules.specs.ped_flow.specs.Questions.{LoopOf, IsFirst, IsBrokenBy, IsShown}
+use Rattle.ped_rules.specs.ped_steps.specs.declared.rules.Rule.TheVariants.{NoLoop, ParallelState, HasPrivate, IndexEscapes, BoundNotPlain, NoNeighbour, Limit}
+use Rattle.ped_rules.specs.ped_steps.specs.Causes.{Rules, Cause, rule, dependence, NoRule, IsFirstRule, IsFirstForbidding}
+use Rattle.ped_refs.specs.References.{Reference, references, pairs}
+use Rattle.ped_edges.specs.Edges.{Edge}
+use Rattle.ped_rules.specs.ped_graph.specs.Dependences.{EdgesOfPairs}
 use Rattle.ped_splits.specs.Distributing.{IsItsBound}
-use Rattle.ped_splits.specs.Neighbours.{Neighbour, AreAlike, fused, next_number, opened_at, kept_without}
+use Rattle.ped_splits.specs.Neighbours.{Neighbour, AreAlike, fused, next_number, kept_without}
+use Rattle.ped_rules.specs.KeepMaps.{opened_at}
 
 -- a DO comes next that is alike (ParaScope)
 pub record Match (t : ProgramTree) (s : ℕ) : Type 0 where

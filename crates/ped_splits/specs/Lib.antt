@@ -1,5 +1,5 @@
 pub use Rattle.ped_bits
-pub use Rattle.ped_reindex
+pub use Rattle.ped_rules
 pub mod Units
 pub mod Blocks
 pub mod Distributing

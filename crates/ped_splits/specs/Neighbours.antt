@@ -1,14 +1,15 @@
 -- The DO that comes next after a DO, and the two as one (Allen and Kennedy, section 6.2.5; ParaScope).
-use Rattle.std.specs.Prelude.{◌≡◌, ◌⊎◌, ℕ, suc, ◌+◌, ◌-◌, ◌==◌, nat_lt, List, [], ◌++◌, map, filter, Bool, false, not, if◌then◌else◌}
+use Rattle.std.specs.Prelude.{◌≡◌, ◌⊎◌, ℕ, ◌+◌, ◌==◌, List, [], ◌++◌, map, filter, false, not, if◌then◌else◌}
 use Rattle.std.specs.List.{range_with_len}
 use Rattle.ped_base.specs.Lists.{is_same_text, is_among}
 use Rattle.ped_tree.specs.Tree.{Var, Head, StmtTrees, Do, more_stmts, ProgramTree}
 use Rattle.ped_tree.specs.Numbering.{statements_count}
 use Rattle.ped_tree.specs.Names.Collecting.{with_names}
 use Rattle.ped_tree.specs.NamesIn.{stmts_names}
-use Rattle.ped_reindex.specs.ped_loops.specs.ped_scalar.specs.ped_rules.specs.ped_loop_runs.specs.ped_bodies.specs.ped_steps.specs.ped_sums.specs.Substitution.{statements_substituted}
-use Rattle.ped_reindex.specs.ped_loops.specs.ped_scalar.specs.ped_rules.specs.ped_loop_runs.specs.ped_bodies.specs.ped_steps.specs.Replacing.{followed, alone}
-use Rattle.ped_reindex.specs.ped_loops.specs.ped_scalar.specs.ped_rules.specs.ped_loop_runs.specs.ped_bodies.specs.ped_steps.specs.Runs.Gaps.{Gap, filled, number_at}
+use Rattle.ped_sums.specs.Substitution.{statements_substituted}
+use Rattle.ped_rules.specs.ped_steps.specs.Replacing.{followed, alone}
+use Rattle.ped_rules.specs.ped_steps.specs.Runs.Gaps.{Gap, filled, number_at}
+use Rattle.ped_rules.specs.KeepMaps.{closed_up}
 
 -- the DO with number s, and the next statement of the same list that is no comment, which is a DO, too (ParaScope; this project)
 pub record Neighbour (t : ProgramTree) (s : ℕ) : Type 0 where
@@ -48,14 +49,6 @@ fused {t} x = record { decls = t.decls; body = filled x.gap (joined_loop x) }
 -- the number of the second DO (this project)
 abbrev pub next_number : {t : ProgramTree} {s : ℕ} → Neighbour t s → ℕ
 next_number {t} {s} x = s + 1 + statements_count x.own_body
-
--- the number after the step of the statement with number k, where the second DO has number m (this project)
-abbrev pub closed_up : (m k : ℕ) → ℕ
-closed_up m k = if nat_lt k m then k else k - 1
-
--- the number before the step of the statement with number k of the new program (this project)
-abbrev pub opened_at : (m k : ℕ) → ℕ
-opened_at m k = if nat_lt k m then k else suc k
 
 -- each statement but the second DO, with its number after the step (this project)
 abbrev pub kept_without : (m : ℕ) → ProgramTree → List (ℕ × ℕ)

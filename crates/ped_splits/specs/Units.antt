@@ -5,10 +5,10 @@ use Rattle.ped_base.specs.Lists.{is_same_text}
 use Rattle.ped_bits.specs.Reaching.{Arrow, Reaches, IsSquare}
 use Rattle.ped_tree.specs.Tree.{Head, StmtTree, StmtTrees, no_stmts, more_stmts, ProgramTree}
 use Rattle.ped_tree.specs.Numbering.{statement_count, statements_count}
-use Rattle.ped_reindex.specs.ped_loops.specs.ped_scalar.specs.ped_rules.specs.Carried.{level_at}
-use Rattle.ped_reindex.specs.ped_loops.specs.ped_scalar.specs.ped_rules.specs.ped_loop_runs.specs.ped_bodies.specs.ped_steps.specs.ped_laws.specs.ped_graph.specs.ped_edges.specs.Edges.{Edge, is_rejected}
-use Rattle.ped_reindex.specs.ped_loops.specs.ped_scalar.specs.ped_rules.specs.ped_loop_runs.specs.ped_bodies.specs.ped_steps.specs.ped_refs.specs.References.{references}
-use Rattle.ped_reindex.specs.ped_loops.specs.ped_scalar.specs.ped_rules.specs.ped_loop_runs.specs.ped_bodies.specs.ped_steps.specs.Replacing.{alone}
+use Rattle.ped_rules.specs.Carried.{level_at}
+use Rattle.ped_edges.specs.Edges.{Edge, is_rejected}
+use Rattle.ped_refs.specs.References.{references}
+use Rattle.ped_rules.specs.ped_steps.specs.Replacing.{alone}
 
 -- a comment in front of the first unit, where there is one
 abbrev pub before_first : StmtTree → List StmtTrees → List StmtTrees

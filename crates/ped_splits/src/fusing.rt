@@ -3,14 +3,14 @@
 ghost use Rattle.std.specs.Prelude.{◌≡◌, ◌||◌, ◌+◌, ◌<◌, ◌^◌, [], ℕ, IfOk, MatchOption};
 ghost use Rattle.ped_tree.specs.Numbering.{statements_count};
 ghost use Rattle.ped_tree.specs.Views.{stmt_trees, program_tree, head_of};
-ghost use Rattle.ped_reindex.specs.ped_loops.specs.ped_scalar.specs.ped_rules.specs.Steps.{Answers};
-ghost use Rattle.ped_reindex.specs.ped_loops.specs.ped_scalar.specs.ped_rules.specs.ped_loop_runs.specs.ped_bodies.specs.ped_steps.specs.Scenes.{IsSceneOf};
-ghost use Rattle.ped_reindex.specs.ped_loops.specs.ped_scalar.specs.ped_rules.specs.ped_loop_runs.specs.ped_bodies.specs.ped_steps.specs.ped_flow.specs.Questions.{IsLoop, LoopOf, IsBrokenBy, IsShown};
-ghost use Rattle.ped_reindex.specs.ped_loops.specs.ped_scalar.specs.ped_rules.specs.ped_loop_runs.specs.ped_bodies.specs.ped_steps.specs.ped_refs.specs.References.{references, pairs};
-ghost use Rattle.ped_reindex.specs.ped_loops.specs.ped_scalar.specs.ped_rules.specs.ped_loop_runs.specs.ped_bodies.specs.ped_steps.specs.Causes.{NoRule};
-ghost use Rattle.ped_reindex.specs.ped_loops.specs.ped_scalar.specs.ped_rules.specs.ped_loop_runs.specs.ped_bodies.specs.ped_steps.specs.Changes.{IsChange};
-ghost use Rattle.ped_reindex.specs.ped_loops.specs.ped_scalar.specs.ped_rules.specs.Carried as Carried;
-ghost use Rattle.ped_reindex.specs.ped_loops.specs.ped_scalar.specs.ped_rules.specs.Rules.{is_parallel, has_private};
+ghost use Rattle.ped_rules.specs.Steps.{Answers};
+ghost use Rattle.ped_rules.specs.ped_steps.specs.Scenes.{IsSceneOf};
+ghost use Rattle.ped_rules.specs.ped_flow.specs.Questions.{IsLoop, LoopOf, IsBrokenBy, IsShown};
+ghost use Rattle.ped_refs.specs.References.{references, pairs};
+ghost use Rattle.ped_rules.specs.ped_steps.specs.Causes.{NoRule};
+ghost use Rattle.ped_rules.specs.ped_steps.specs.Changes.{IsChange};
+ghost use Rattle.ped_rules.specs.Carried as Carried;
+ghost use Rattle.ped_rules.specs.Rules.{is_parallel, has_private};
 ghost use Rattle.ped_splits.specs.CodePairs.{IsPair};
 ghost use Rattle.ped_splits.specs.CodeFusing.{bodies_of, IsFirstBack, IsReaderOf, IsBrokenInTwo, IsShownInTwo, IsBrokenInNew, HasPlainBounds};
 ghost use Rattle.ped_splits.specs.CodeFusing as Code;
@@ -24,7 +24,7 @@ use crate::neighbours::{Pair, pair_at};
 use crate::returning::first_back;
 use ped_base::NoMemory;
 use ped_edges::Edge;
-use ped_reindex::{
+use ped_rules::{
     Change, Reader, Refused, Rule, Scene, against, change_to, flow_of, is_plain, level_at, loop_at,
 };
 use ped_tree::{Do, Program};

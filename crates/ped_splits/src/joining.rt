@@ -6,15 +6,16 @@ ghost use Rattle.ped_tree.specs.Names.Collecting.{with_name, with_names};
 ghost use Rattle.ped_tree.specs.Numbering.{statement_count, statements_count};
 ghost use Rattle.ped_tree.specs.Tree as Tree;
 ghost use Rattle.ped_tree.specs.Views.{stmt_tree, stmt_trees, do_tree, head_of, program_tree};
-ghost use Rattle.ped_reindex.specs.ped_loops.specs.ped_scalar.specs.ped_rules.specs.ped_loop_runs.specs.ped_bodies.specs.ped_steps.specs.Replacing.{followed, alone};
+ghost use Rattle.ped_rules.specs.ped_steps.specs.Replacing.{followed, alone};
 ghost use Rattle.ped_splits.specs.CodePairs as Code;
 ghost use Rattle.ped_splits.specs.CodePairs.{IsPair, all_joined, one_joined};
 ghost use Rattle.ped_splits.specs.Neighbours as Spec;
+ghost use Rattle.ped_rules.specs.KeepMaps as KeepMaps;
 
 use crate::alike::is_same;
 use crate::neighbours::Pair;
 use ped_base::{Listed, Name, Names, NoMemory, is_among};
-use ped_reindex::{Keep, is_comment};
+use ped_rules::{Keep, is_comment};
 use ped_sums::substitute_in_statements;
 use ped_tree::{Do, Expr, Program, Stmt, copy_decls, count_statement, count_statements};
 use std::alloc::Global;
@@ -229,7 +230,7 @@ pub(crate) fn kept_without(alloc: Global, program: &Program, number: u32) -> Res
 /// The same of this many statements.
 fn kept_up_to(alloc: Global, count: u32, number: u32) -> Result<Keep, NoMemory>
     requires { count + 1 < 2 ^ 32 }
-    ensures { IfOk result (λ keep. keep ≡ filter (λ p. not (p.0 == number)) (map (λ k. (k, Spec.closed_up number k)) (range_with_len 1 count))) }
+    ensures { IfOk result (λ keep. keep ≡ filter (λ p. not (p.0 == number)) (map (λ k. (k, KeepMaps.closed_up number k)) (range_with_len 1 count))) }
 {
     let mut keep = Listed::new(alloc);
     for n in 0..count {
@@ -241,7 +242,7 @@ fn kept_up_to(alloc: Global, count: u32, number: u32) -> Result<Keep, NoMemory>
 /// Adds a statement with its number after the step, where it isn't the second DO.
 fn add_unless(keep: &mut Keep, number: u32, k: u32) -> Result<(), NoMemory>
     requires { 1 ≤ k }
-    ensures { OnOk result (keep.new ≡ keep.old ++ (if k == number then [] else (k, Spec.closed_up number k) ∷ [])) }
+    ensures { OnOk result (keep.new ≡ keep.old ++ (if k == number then [] else (k, KeepMaps.closed_up number k) ∷ [])) }
 {
     if k == number {
         return Ok(());
@@ -253,7 +254,7 @@ fn add_unless(keep: &mut Keep, number: u32, k: u32) -> Result<(), NoMemory>
 /// The number after the step of a statement.
 fn closed_up(number: u32, k: u32) -> u32
     requires { 1 ≤ k }
-    ensures { result ≡ Spec.closed_up number k }
+    ensures { result ≡ KeepMaps.closed_up number k }
 {
     if k < number { k } else { k - 1 }
 }
@@ -261,7 +262,7 @@ fn closed_up(number: u32, k: u32) -> u32
 /// The number before the step of a statement of the new program.
 pub(crate) fn opened_at(number: u32, k: u32) -> u32
     requires { k + 1 < 2 ^ 32 }
-    ensures { result ≡ Spec.opened_at number k }
+    ensures { result ≡ KeepMaps.opened_at number k }
 {
     if k < number { k } else { k + 1 }
 }

@@ -9,7 +9,7 @@ ghost use Rattle.ped_splits.specs.CodeUnits.{IsParted, body_of};
 
 use crate::units::Parted;
 use ped_base::{Listed, NoMemory};
-use ped_reindex::Keep;
+use ped_rules::Keep;
 use ped_tree::{Program, count_statements};
 use std::alloc::Global;
 

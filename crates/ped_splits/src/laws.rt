@@ -2,21 +2,21 @@
 
 ghost use Rattle.std.specs.Prelude.{ℕ, ◌+◌, List, length, Some};
 ghost use Rattle.ped_tree.specs.Tree.{ProgramTree};
-ghost use Rattle.ped_reindex.specs.ped_loops.specs.ped_scalar.specs.ped_rules.specs.Lawful.{IsLawful};
+ghost use Rattle.ped_rules.specs.Lawful.{IsLawful};
 ghost use Rattle.ped_splits.specs.Distributing.{distributing};
-ghost use Rattle.ped_reindex.specs.ped_loops.specs.ped_scalar.specs.ped_rules.specs.ped_loop_runs.specs.Carried.{IsCoveredAt};
-ghost use Rattle.ped_reindex.specs.ped_loops.specs.ped_scalar.specs.ped_rules.specs.ped_loop_runs.specs.ped_bodies.specs.ped_steps.specs.Causes.{NoRule};
-ghost use Rattle.ped_reindex.specs.ped_loops.specs.ped_scalar.specs.ped_rules.specs.ped_loop_runs.specs.ped_bodies.specs.ped_steps.specs.Tidy.{IsTidy};
-ghost use Rattle.ped_reindex.specs.ped_loops.specs.ped_scalar.specs.ped_rules.specs.ped_loop_runs.specs.ped_bodies.specs.ped_steps.specs.ped_symbols.specs.NameRefusals.{IsValid};
-ghost use Rattle.ped_reindex.specs.ped_loops.specs.ped_scalar.specs.ped_rules.specs.ped_loop_runs.specs.ped_bodies.specs.ped_steps.specs.ped_laws.specs.ped_graph.specs.Dependences.{AreEdges};
-ghost use Rattle.ped_reindex.specs.ped_loops.specs.ped_scalar.specs.ped_rules.specs.ped_loop_runs.specs.ped_bodies.specs.ped_steps.specs.ped_laws.specs.ped_graph.specs.ped_edges.specs.Edges.{Edge};
-ghost use Rattle.ped_reindex.specs.ped_loops.specs.ped_scalar.specs.ped_rules.specs.ped_loop_runs.specs.ped_bodies.specs.ped_steps.specs.ped_laws.specs.ped_eval.specs.Outcomes.{Ends, run_of};
-ghost use Rattle.ped_reindex.specs.ped_loops.specs.ped_scalar.specs.ped_rules.specs.ped_loop_runs.specs.ped_bodies.specs.ped_steps.specs.ped_laws.specs.ped_store.specs.Races.{Access};
+ghost use Rattle.ped_rules.specs.ped_loop_runs.specs.Carried.{IsCoveredAt};
+ghost use Rattle.ped_rules.specs.ped_steps.specs.Causes.{NoRule};
+ghost use Rattle.ped_rules.specs.ped_steps.specs.Tidy.{IsTidy};
+ghost use Rattle.ped_rules.specs.ped_symbols.specs.NameRefusals.{IsValid};
+ghost use Rattle.ped_rules.specs.ped_graph.specs.Dependences.{AreEdges};
+ghost use Rattle.ped_edges.specs.Edges.{Edge};
+ghost use Rattle.ped_rules.specs.ped_eval.specs.Outcomes.{Ends, run_of};
+ghost use Rattle.ped_rules.specs.ped_store.specs.Races.{Access};
 ghost use Rattle.ped_splits.specs.Fusing.{Match, StandsAgainstFusion, fusing};
 ghost use Rattle.ped_splits.specs.Neighbours.{fused};
 ghost use Rattle.ped_splits.specs.OneVariable.{in_one, Cross};
 
-use ped_reindex::{
+use ped_rules::{
     accesses_are_made, accesses_in_sequence, none_rejected, private_names_cleared, stays_trusted,
 };
 

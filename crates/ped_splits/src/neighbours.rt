@@ -6,7 +6,7 @@ ghost use Rattle.ped_tree.specs.Numbering.{statement_count, statements_count};
 ghost use Rattle.ped_splits.specs.CodePairs.{IsPair, two_in, two_with, two_from, two_among, two_under, two_to, next_in};
 ghost use Rattle.ped_splits.specs.Neighbours.{Neighbour};
 
-use ped_reindex::is_comment;
+use ped_rules::is_comment;
 use ped_tree::{Do, Program, Stmt, count_statement, count_statements};
 
 /// Two DO loops, one after the other in the same list.

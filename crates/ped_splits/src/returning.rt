@@ -4,12 +4,12 @@ ghost use Rattle.std.specs.Prelude.{◌≡◌, ◌+◌, ◌<◌, ◌^◌, ◌∷
 ghost use Rattle.ped_tree.specs.Tree.{ProgramTree};
 ghost use Rattle.ped_tree.specs.Views.{program_tree, stmt_trees};
 ghost use Rattle.ped_tree.specs.Numbering.{statements_count};
-ghost use Rattle.ped_reindex.specs.ped_loops.specs.ped_scalar.specs.ped_rules.specs.ped_loop_runs.specs.ped_bodies.specs.ped_steps.specs.ped_symbols.specs.Kinds.{table_of};
-ghost use Rattle.ped_reindex.specs.ped_loops.specs.ped_scalar.specs.ped_rules.specs.ped_loop_runs.specs.ped_bodies.specs.ped_steps.specs.ped_symbols.specs.NameRefusals.{IsValid};
-ghost use Rattle.ped_reindex.specs.ped_loops.specs.ped_scalar.specs.ped_rules.specs.ped_loop_runs.specs.ped_bodies.specs.ped_steps.specs.ped_laws.specs.ped_graph.specs.DependencePane as Pane;
-ghost use Rattle.ped_reindex.specs.ped_loops.specs.ped_scalar.specs.ped_rules.specs.ped_loop_runs.specs.ped_bodies.specs.ped_steps.specs.ped_laws.specs.ped_graph.specs.Held.{held_of};
-ghost use Rattle.ped_reindex.specs.ped_loops.specs.ped_scalar.specs.ped_rules.specs.ped_loop_runs.specs.ped_bodies.specs.ped_steps.specs.ped_laws.specs.ped_graph.specs.ped_edges.specs.CodeEdges.{edge_of, HasAtMostSixLoops};
-ghost use Rattle.ped_reindex.specs.ped_loops.specs.ped_scalar.specs.ped_rules.specs.ped_loop_runs.specs.ped_bodies.specs.ped_steps.specs.ped_refs.specs.References.{Reference, references, pairs};
+ghost use Rattle.ped_rules.specs.ped_symbols.specs.Kinds.{table_of};
+ghost use Rattle.ped_rules.specs.ped_symbols.specs.NameRefusals.{IsValid};
+ghost use Rattle.ped_rules.specs.ped_graph.specs.DependencePane as Pane;
+ghost use Rattle.ped_rules.specs.ped_graph.specs.Held.{held_of};
+ghost use Rattle.ped_edges.specs.CodeEdges.{edge_of, HasAtMostSixLoops};
+ghost use Rattle.ped_refs.specs.References.{Reference, references, pairs};
 ghost use Rattle.ped_splits.specs.CodeFusing.{bodies_of, key_is_back, StandsInside, forbids_at, IsFirstAmong, IsFirstBack};
 ghost use Rattle.ped_splits.specs.Fusing as Fusing;
 
@@ -17,7 +17,7 @@ use crate::joining::opened_at;
 use crate::neighbours::Pair;
 use ped_base::NoMemory;
 use ped_edges::Edge;
-use ped_reindex::{PairKey, Prepared, prepare};
+use ped_rules::{PairKey, Prepared, prepare};
 use ped_tree::constants::Consts;
 use ped_tree::{Program, count_statements};
 use std::alloc::Global;

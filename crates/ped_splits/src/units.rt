@@ -7,7 +7,7 @@ ghost use Rattle.ped_splits.specs.Units as Spec;
 ghost use Rattle.ped_splits.specs.CodeUnits.{AreShort, unit_trees, home_of};
 
 use ped_base::NoMemory;
-use ped_reindex::{are_comments, is_comment};
+use ped_rules::{are_comments, is_comment};
 use ped_tree::{Do, Stmt, count_statements};
 use std::alloc::Global;
 

@@ -6,7 +6,7 @@ use Rattle.ped_tree.specs.Numbering.{statement_count, statements_count}
 use Rattle.ped_tree.specs.declared.statements.Stmt.{Stmt}
 use Rattle.ped_tree.proofs.Numbers.{stmt_trees-drop}
 use Rattle.ped_tree.specs.Nests.{Loop}
-use Rattle.ped_weaves.specs.ped_laws.specs.ped_flow.specs.PlainBounds.{loops_round, all_loops_round}
+use Rattle.ped_weaves.specs.ped_flow.specs.PlainBounds.{loops_round, all_loops_round}
 use Rattle.std.proofs.lemmas.List.{append_assoc}
 use Rattle.ped_steps.specs.Replacing.{followed, alone}
 use Rattle.ped_steps.specs.Placing.{placed, all_placed}

@@ -1,8 +1,8 @@
 -- The words by which a refused step is reported (this project).
 use Rattle.std.specs.Prelude.{ℕ, List, ◌++◌, codes}
 use Rattle.std.specs.Fmt.{decimal}
-use Rattle.ped_weaves.specs.ped_laws.specs.ped_graph.specs.ped_edges.specs.Edges.{Edge}
-use Rattle.ped_weaves.specs.ped_laws.specs.ped_graph.specs.ped_edges.specs.Rows.{edge_row}
+use Rattle.ped_edges.specs.Edges.{Edge}
+use Rattle.ped_edges.specs.Rows.{edge_row}
 use Rattle.ped_steps.specs.declared.rules.Rule.{Rule}
 use Rattle.ped_steps.specs.RuleNames.{number_of, name_of}
 use Rattle.ped_steps.specs.Causes.{Cause, rule, dependence}

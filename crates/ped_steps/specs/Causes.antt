@@ -1,8 +1,8 @@
 -- Why a step is refused: a rule or a dependence that forbids it; the first of them is reported (ParaScope; this project).
 use Rattle.std.specs.Prelude.{◌≡◌, ◌≤◌, ℕ, List, ◌∷◌, ◌++◌, All, Bool, true, false, Option, Some, None}
 use Rattle.ped_tree.specs.Tree.{ProgramTree}
-use Rattle.ped_weaves.specs.ped_laws.specs.ped_graph.specs.ped_edges.specs.Edges.{Edge}
-use Rattle.ped_weaves.specs.ped_laws.specs.ped_graph.specs.Dependences.{AreEdges}
+use Rattle.ped_edges.specs.Edges.{Edge}
+use Rattle.ped_weaves.specs.ped_graph.specs.Dependences.{AreEdges}
 use Rattle.ped_steps.specs.declared.rules.Rule.{Rule}
 use Rattle.ped_steps.specs.RuleNames.{number_of}
 

@@ -2,9 +2,9 @@
 use Rattle.std.specs.Prelude.{◌≡◌, ℕ, List, [], Bool, Some, None, Result, Ok, Err}
 use Rattle.ped_tree.specs.Tree.{ProgramTree}
 use Rattle.ped_tree.specs.Views.{program_tree}
-use Rattle.ped_weaves.specs.ped_laws.specs.ped_graph.specs.ped_symbols.specs.Kinds.{table_of}
-use Rattle.ped_weaves.specs.ped_laws.specs.ped_graph.specs.ped_symbols.specs.NameRefusals.{IsValid}
-use Rattle.ped_weaves.specs.ped_laws.specs.ped_graph.specs.ped_edges.specs.Edges.{Edge}
+use Rattle.ped_weaves.specs.ped_graph.specs.ped_symbols.specs.Kinds.{table_of}
+use Rattle.ped_weaves.specs.ped_graph.specs.ped_symbols.specs.NameRefusals.{IsValid}
+use Rattle.ped_edges.specs.Edges.{Edge}
 use Rattle.ped_steps.specs.declared.causes.Refused.{Refused}
 use Rattle.ped_steps.specs.declared.changes.Change.{Change}
 use Rattle.ped_steps.specs.Causes.{Rules, IsFirstCause}

@@ -1,5 +1,5 @@
 -- The causes that the code keeps (this project).
-use Rattle.ped_weaves.specs.ped_laws.specs.ped_graph.specs.ped_edges.specs.CodeEdges.{edge_of, HasAtMostSixLoops}
+use Rattle.ped_edges.specs.CodeEdges.{edge_of, HasAtMostSixLoops}
 use Rattle.ped_steps.specs.declared.causes.Refused.{Refused}
 use Rattle.ped_steps.specs.declared.causes.Refused.TheVariants as variant
 use Rattle.ped_steps.specs.Causes.{Cause, rule, dependence}

@@ -2,10 +2,10 @@
 use Rattle.std.specs.Prelude.{◌≡◌}
 use Rattle.ped_tree.specs.Tree.{ProgramTree}
 use Rattle.ped_tree.specs.Views.{program_tree}
-use Rattle.ped_weaves.specs.ped_laws.specs.ped_graph.specs.ped_symbols.specs.Kinds.{table_of}
-use Rattle.ped_weaves.specs.ped_laws.specs.ped_graph.specs.ped_symbols.specs.NameRefusals.{IsValid}
-use Rattle.ped_weaves.specs.ped_laws.specs.ped_graph.specs.Held.{held_of}
-use Rattle.ped_weaves.specs.ped_laws.specs.ped_flow.specs.declared.flows.Flow.{Flow}
+use Rattle.ped_weaves.specs.ped_graph.specs.ped_symbols.specs.Kinds.{table_of}
+use Rattle.ped_weaves.specs.ped_graph.specs.ped_symbols.specs.NameRefusals.{IsValid}
+use Rattle.ped_weaves.specs.ped_graph.specs.Held.{held_of}
+use Rattle.ped_weaves.specs.ped_flow.specs.declared.flows.Flow.{Flow}
 use Rattle.ped_steps.specs.declared.scenes.Scene.{Scene}
 
 -- the flow is that of the scalars of this program (this project)

@@ -4,8 +4,8 @@ use Rattle.std.specs.List.{list_any}
 use Rattle.ped_base.specs.Lists.{is_same_text}
 use Rattle.ped_tree.specs.Tree.{StmtTrees, ProgramTree}
 use Rattle.ped_tree.specs.Numbering.{statements_count}
-use Rattle.ped_weaves.specs.ped_laws.specs.ped_graph.specs.ped_refs.specs.References.{Reference, references}
-use Rattle.ped_weaves.specs.ped_laws.specs.ped_flow.specs.Questions.{LoopOf, IsIndexIn, IsShownBehind}
+use Rattle.ped_refs.specs.References.{Reference, references}
+use Rattle.ped_weaves.specs.ped_flow.specs.Questions.{LoopOf, IsIndexIn, IsShownBehind}
 
 -- a reference in the body of the DO with number l, which with those in it is this many statements, writes the name; what the DO's header refers to is outside (this project)
 abbrev pub is_write_in : ℕ → ℕ → List ℕ → Reference → Bool

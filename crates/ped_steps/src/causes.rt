@@ -1,7 +1,7 @@
 //! Why a step is refused, and the words for it.
 
 ghost use Rattle.std.specs.Prelude.{◌≡◌, IfOk};
-ghost use Rattle.ped_weaves.specs.ped_laws.specs.ped_graph.specs.ped_edges.specs.CodeEdges.{edge_of, HasAtMostSixLoops};
+ghost use Rattle.ped_edges.specs.CodeEdges.{edge_of, HasAtMostSixLoops};
 ghost use Rattle.ped_steps.specs.CauseWords as shown;
 ghost use Rattle.ped_steps.specs.CodeCauses.{cause_of, IsShort};
 

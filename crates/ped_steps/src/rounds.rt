@@ -3,8 +3,8 @@
 ghost use Rattle.std.specs.Prelude.{◌≡◌, ◌++◌, ◌+◌, ◌<◌, ◌^◌, IfOk, OnOk};
 ghost use Rattle.ped_tree.specs.Views.{stmt_tree, stmt_trees, program_tree};
 ghost use Rattle.ped_tree.specs.Numbering.{statement_count, statements_count};
-ghost use Rattle.ped_weaves.specs.ped_laws.specs.ped_graph.specs.ped_refs.specs.Loops.{nest_of};
-ghost use Rattle.ped_weaves.specs.ped_laws.specs.ped_flow.specs.PlainBounds as Spec;
+ghost use Rattle.ped_refs.specs.Loops.{nest_of};
+ghost use Rattle.ped_weaves.specs.ped_flow.specs.PlainBounds as Spec;
 
 use ped_base::NoMemory;
 use ped_refs::Loop;

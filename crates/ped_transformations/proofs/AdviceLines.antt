@@ -2,12 +2,12 @@
 use Rattle.std.proofs.Common.{◌≡◌, ◌∙◌, ℕ, List, [], ◌∷◌, ◌++◌, take, codes, Option, Result, Ok, Err, true, false, refl, sym, ap, subst, append-nil, append_assoc}
 use Rattle.std.specs.Prelude.{⊤}
 use Rattle.ped_tree.specs.Tree.{ProgramTree}
-use Rattle.ped_auto.specs.ped_script.specs.declared.items.Command.{Command}
-use Rattle.ped_auto.specs.ped_script.specs.declared.items.Command.TheVariants.{Interchange, Reverse, Distribute, Fuse, Parallel, Serial, Peel}
-use Rattle.ped_auto.specs.ped_reduce.specs.ped_splits.specs.ped_reindex.specs.ped_loops.specs.ped_scalar.specs.ped_rules.specs.ped_loop_runs.specs.ped_bodies.specs.ped_steps.specs.Causes.{Cause}
-use Rattle.ped_auto.specs.ped_reduce.specs.ped_splits.specs.ped_reindex.specs.ped_loops.specs.ped_scalar.specs.ped_rules.specs.Steps.{MaybeStep, no_step, some_step, MatchStep, Answers}
-use Rattle.ped_auto.specs.ped_reduce.specs.ped_splits.specs.ped_reindex.specs.ped_loops.specs.ped_scalar.specs.ped_rules.specs.ped_loop_runs.specs.ped_bodies.specs.ped_steps.specs.declared.causes.Refused.{Refused}
-use Rattle.ped_auto.specs.ped_reduce.specs.ped_splits.specs.ped_reindex.specs.ped_loops.specs.ped_scalar.specs.ped_rules.specs.ped_loop_runs.specs.ped_bodies.specs.ped_steps.specs.declared.changes.Change.{Change}
+use Rattle.ped_script.specs.declared.items.Command.{Command}
+use Rattle.ped_script.specs.declared.items.Command.TheVariants.{Interchange, Reverse, Distribute, Fuse, Parallel, Serial, Peel}
+use Rattle.ped_auto.specs.ped_rules.specs.ped_steps.specs.Causes.{Cause}
+use Rattle.ped_auto.specs.ped_rules.specs.Steps.{MaybeStep, no_step, some_step, MatchStep, Answers}
+use Rattle.ped_auto.specs.ped_rules.specs.ped_steps.specs.declared.causes.Refused.{Refused}
+use Rattle.ped_auto.specs.ped_rules.specs.ped_steps.specs.declared.changes.Change.{Change}
 use Rattle.ped_transformations.specs.Table.{step_of}
 use Rattle.ped_transformations.specs.Advice.{Advised, advised_at, verdict_words, advice_line, IsLineOf, AreLinesOf, IsAdvice}
 use Rattle.ped_transformations.specs.CodeAdvice.{cause_in, IsAgainst, Tells}

@@ -1,8 +1,8 @@
 -- What is so of a step, where the code has found that there is one or that there is none.
 use Rattle.std.proofs.Common.{Some, None}
 use Rattle.std.specs.Prelude.{⊤}
-use Rattle.ped_auto.specs.ped_reduce.specs.ped_splits.specs.ped_reindex.specs.ped_loops.specs.ped_scalar.specs.ped_rules.specs.Steps.{StepAt, MaybeStep, no_step, some_step, MatchStep}
-use Rattle.ped_auto.specs.ped_reduce.specs.ped_splits.specs.ped_reindex.specs.ped_loops.specs.ped_scalar.specs.ped_rules.specs.Lawful.{IsLawful}
+use Rattle.ped_auto.specs.ped_rules.specs.Steps.{StepAt, MaybeStep, no_step, some_step, MatchStep}
+use Rattle.ped_auto.specs.ped_rules.specs.Lawful.{IsLawful}
 use Rattle.ped_transformations.specs.declared.table.Place.{Place}
 use Rattle.ped_transformations.specs.CodeKinds.{IsAt, IsPlace}
 

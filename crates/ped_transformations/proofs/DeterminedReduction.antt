@@ -1,10 +1,10 @@
 -- What `reduce` comes to is determined, whatever it keeps of the meaning.
 use Rattle.std.proofs.Common.{ℕ, List, refl}
-use Rattle.ped_auto.specs.ped_reduce.specs.ped_splits.specs.ped_reindex.specs.ped_loops.specs.ped_scalar.specs.ped_rules.specs.ped_loop_runs.specs.ped_bodies.specs.ped_steps.specs.Replacing.{all_kept}
-use Rattle.ped_auto.specs.ped_reduce.specs.ped_splits.specs.ped_reindex.specs.ped_loops.specs.ped_scalar.specs.ped_rules.specs.ped_loop_runs.specs.ped_bodies.specs.ped_steps.proofs.OneCause.{one_cause}
-use Rattle.ped_auto.specs.ped_reduce.specs.ped_splits.specs.ped_reindex.specs.ped_loops.specs.ped_scalar.specs.ped_rules.specs.Lawful.{IsDetermined}
-use Rattle.ped_auto.specs.ped_reduce.specs.Reducing.{with_reduction, carried_beside, StandsAgainstReducing, reducing}
-use Rattle.ped_auto.specs.ped_reduce.proofs.ReducingRules as rules
+use Rattle.ped_auto.specs.ped_rules.specs.ped_steps.specs.Replacing.{all_kept}
+use Rattle.ped_auto.specs.ped_rules.specs.ped_steps.proofs.OneCause.{one_cause}
+use Rattle.ped_auto.specs.ped_rules.specs.Lawful.{IsDetermined}
+use Rattle.ped_reduce.specs.Reducing.{with_reduction, carried_beside, StandsAgainstReducing, reducing}
+use Rattle.ped_reduce.proofs.ReducingRules as rules
 
 pub determined_reduction : (s : ℕ) (names : List (List ℕ)) → IsDetermined (reducing s names)
 determined_reduction s names = record {

@@ -3,23 +3,23 @@ use Rattle.std.proofs.Common.{◌≡◌, inl, inr, ℕ, ◌≤◌, ◌<◌, List
 use Rattle.std.specs.Prelude.{⊤}
 use Rattle.ped_tree.specs.Tree.{Head, StmtTree, StmtTrees, Assign, If, Do, Print, Read, Stop, Comment, ProgramTree}
 use Rattle.ped_tree.specs.Numbering.{statement_with, statements_count}
-use Rattle.ped_auto.specs.ped_reduce.specs.ped_splits.specs.ped_reindex.specs.ped_loops.specs.ped_scalar.specs.ped_rules.specs.OnlyLoops.{on_loop}
-use Rattle.ped_auto.specs.ped_reduce.specs.ped_splits.specs.ped_reindex.specs.ped_loops.specs.ped_scalar.specs.ped_rules.specs.Steps.{MatchStep}
-use Rattle.ped_auto.specs.ped_reduce.specs.ped_splits.specs.ped_reindex.specs.ped_loops.specs.ped_scalar.specs.ped_rules.specs.ped_loop_runs.specs.ped_bodies.specs.ped_steps.specs.declared.rules.Rule.TheVariants.{NoLoop, ParallelState}
-use Rattle.ped_auto.specs.ped_reduce.specs.ped_splits.specs.ped_reindex.specs.ped_loops.specs.ped_scalar.specs.ped_rules.specs.ped_loop_runs.specs.ped_bodies.specs.ped_steps.specs.Causes.{NoRule}
-use Rattle.ped_auto.specs.ped_reduce.specs.ped_splits.specs.ped_reindex.specs.ped_loops.specs.ped_scalar.specs.ped_rules.specs.ped_loop_runs.specs.ped_bodies.specs.ped_steps.specs.Replacing.{alone, program_with}
-use Rattle.ped_auto.specs.ped_reduce.specs.ped_splits.specs.ped_reindex.specs.ped_loops.specs.ped_scalar.specs.ped_rules.specs.ped_loop_runs.specs.ped_bodies.specs.ped_steps.specs.Runs.Gaps.{filled}
-use Rattle.ped_auto.specs.ped_reduce.specs.ped_splits.specs.ped_reindex.specs.ped_loops.specs.ped_scalar.specs.ped_rules.specs.ped_loop_runs.specs.ped_bodies.specs.ped_steps.proofs.RunLaws.FilledGaps.{count_filled}
-use Rattle.ped_auto.specs.ped_reduce.specs.ped_splits.specs.ped_reindex.specs.ped_loops.specs.ped_scalar.specs.ped_rules.specs.ped_loop_runs.specs.ped_bodies.specs.ped_steps.proofs.RunLaws.ReplacedTrees.{program_gap}
-use Rattle.ped_auto.specs.ped_reduce.specs.ped_splits.specs.ped_reindex.specs.ped_loops.specs.ped_scalar.specs.Privatising.{with_private}
-use Rattle.ped_auto.specs.ped_reduce.specs.ped_splits.specs.ped_reindex.specs.ped_loops.specs.Flags.{with_flag}
-use Rattle.ped_auto.specs.ped_reduce.specs.ped_splits.specs.ped_reindex.specs.ped_loops.specs.Paralleling.{StandsAgainstParallel, paralleling}
-use Rattle.ped_auto.specs.ped_reduce.specs.ped_splits.specs.Distributing.{loops_of}
-use Rattle.ped_auto.specs.ped_reduce.specs.ped_splits.proofs.DistributedCounts.{no_fewer}
-use Rattle.ped_auto.specs.ped_reduce.specs.Reducing.{with_listed}
-use Rattle.ped_auto.specs.ped_reduce.proofs.ListedComments.{listed_count}
-use Rattle.ped_auto.specs.ped_script.specs.declared.items.Command.{Command}
-use Rattle.ped_auto.specs.ped_script.specs.declared.items.Command.TheVariants.{Source, Deps, Show, Calls, Print, Advise, Replace, Insert, Delete, Interchange, Reverse, Skew, Strip, Peel, Distribute, Fuse, Inline, Expand, Privatise, Reduce, Parallel, Serial, Reject, Auto, Undo, Redo, Run, Races, Tested}
+use Rattle.ped_auto.specs.ped_rules.specs.OnlyLoops.{on_loop}
+use Rattle.ped_auto.specs.ped_rules.specs.Steps.{MatchStep}
+use Rattle.ped_auto.specs.ped_rules.specs.ped_steps.specs.declared.rules.Rule.TheVariants.{NoLoop, ParallelState}
+use Rattle.ped_auto.specs.ped_rules.specs.ped_steps.specs.Causes.{NoRule}
+use Rattle.ped_auto.specs.ped_rules.specs.ped_steps.specs.Replacing.{alone, program_with}
+use Rattle.ped_auto.specs.ped_rules.specs.ped_steps.specs.Runs.Gaps.{filled}
+use Rattle.ped_auto.specs.ped_rules.specs.ped_steps.proofs.RunLaws.FilledGaps.{count_filled}
+use Rattle.ped_auto.specs.ped_rules.specs.ped_steps.proofs.RunLaws.ReplacedTrees.{program_gap}
+use Rattle.ped_scalar.specs.Privatising.{with_private}
+use Rattle.ped_auto.specs.ped_rules.specs.Flags.{with_flag}
+use Rattle.ped_auto.specs.ped_rules.specs.Paralleling.{StandsAgainstParallel, paralleling}
+use Rattle.ped_splits.specs.Distributing.{loops_of}
+use Rattle.ped_splits.proofs.DistributedCounts.{no_fewer}
+use Rattle.ped_reduce.specs.Reducing.{with_listed}
+use Rattle.ped_reduce.proofs.ListedComments.{listed_count}
+use Rattle.ped_script.specs.declared.items.Command.{Command}
+use Rattle.ped_script.specs.declared.items.Command.TheVariants.{Source, Deps, Show, Calls, Print, Advise, Replace, Insert, Delete, Interchange, Reverse, Skew, Strip, Peel, Distribute, Fuse, Inline, Expand, Privatise, Reduce, Parallel, Serial, Reject, Auto, Undo, Redo, Run, Races, Tested}
 use Rattle.ped_auto.specs.SerialLoops.{count_of, serial_loops}
 use Rattle.ped_auto.specs.Editing.{IsOfStrategy}
 use Rattle.ped_transformations.specs.Table.{step_of}

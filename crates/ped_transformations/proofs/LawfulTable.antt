@@ -1,25 +1,25 @@
 -- Each step of the table is determined, and lawful.
 use Rattle.std.proofs.Common.{ℕ, ℤ, List, Bool}
 use Rattle.std.specs.Prelude.{⊤}
-use Rattle.ped_auto.specs.ped_script.specs.declared.items.Command.{Command}
-use Rattle.ped_auto.specs.ped_script.specs.declared.items.Command.TheVariants.{Source, Deps, Show, Calls, Print, Advise, Replace, Insert, Delete, Interchange, Reverse, Skew, Strip, Peel, Distribute, Fuse, Inline, Expand, Privatise, Reduce, Parallel, Serial, Reject, Auto, Undo, Redo, Run, Races, Tested}
-use Rattle.ped_auto.specs.ped_reduce.specs.ped_splits.specs.ped_reindex.specs.ped_loops.specs.ped_scalar.specs.ped_rules.specs.Steps.{StepAt, MatchStep}
-use Rattle.ped_auto.specs.ped_reduce.specs.ped_splits.specs.ped_reindex.specs.ped_loops.specs.ped_scalar.specs.ped_rules.specs.Lawful.{IsDetermined, IsLawful}
-use Rattle.ped_auto.specs.ped_reduce.specs.ped_splits.specs.ped_reindex.specs.ped_loops.specs.ped_scalar.proofs.LawfulSteps.{lawful_privatising, lawful_expanding}
-use Rattle.ped_auto.specs.ped_reduce.specs.ped_splits.specs.ped_reindex.specs.ped_loops.specs.Interchanging.{interchanging}
-use Rattle.ped_auto.specs.ped_reduce.specs.ped_splits.specs.ped_reindex.specs.ped_loops.specs.Reversing.{reversing}
-use Rattle.ped_auto.specs.ped_reduce.specs.ped_splits.specs.ped_reindex.specs.ped_loops.specs.Paralleling.{paralleling}
-use Rattle.ped_auto.specs.ped_reduce.specs.ped_splits.specs.ped_reindex.specs.ped_loops.specs.Serialising.{serialising}
-use Rattle.ped_auto.specs.ped_reduce.specs.ped_splits.specs.ped_reindex.specs.ped_loops.specs.Rejecting.{rejecting}
-use Rattle.ped_auto.specs.ped_reduce.specs.ped_splits.specs.ped_reindex.specs.Skewing.{skewing}
-use Rattle.ped_auto.specs.ped_reduce.specs.ped_splits.specs.ped_reindex.specs.Stripping.{stripping}
-use Rattle.ped_auto.specs.ped_reduce.specs.ped_splits.specs.ped_reindex.specs.Peeling.{peeling}
-use Rattle.ped_auto.specs.ped_reduce.specs.ped_splits.specs.Distributing.{distributing}
-use Rattle.ped_auto.specs.ped_reduce.specs.ped_splits.specs.Fusing.{fusing}
-use Rattle.ped_auto.specs.ped_reduce.specs.Reducing.{reducing}
-use Rattle.ped_auto.specs.ped_reduce.specs.ped_splits.specs.ped_reindex.specs.ped_loops.proofs.Determined.{determined_parallel, determined_serial, determined_reversal, determined_interchange, determined_rejection}
-use Rattle.ped_auto.specs.ped_reduce.specs.ped_splits.specs.ped_reindex.proofs.Determined.{determined_skew, determined_strip, determined_peel}
-use Rattle.ped_auto.specs.ped_reduce.specs.ped_splits.proofs.Determined.{determined_distribution, determined_fusion}
+use Rattle.ped_script.specs.declared.items.Command.{Command}
+use Rattle.ped_script.specs.declared.items.Command.TheVariants.{Source, Deps, Show, Calls, Print, Advise, Replace, Insert, Delete, Interchange, Reverse, Skew, Strip, Peel, Distribute, Fuse, Inline, Expand, Privatise, Reduce, Parallel, Serial, Reject, Auto, Undo, Redo, Run, Races, Tested}
+use Rattle.ped_auto.specs.ped_rules.specs.Steps.{StepAt, MatchStep}
+use Rattle.ped_auto.specs.ped_rules.specs.Lawful.{IsDetermined, IsLawful}
+use Rattle.ped_scalar.proofs.LawfulSteps.{lawful_privatising, lawful_expanding}
+use Rattle.ped_loops.specs.Interchanging.{interchanging}
+use Rattle.ped_loops.specs.Reversing.{reversing}
+use Rattle.ped_auto.specs.ped_rules.specs.Paralleling.{paralleling}
+use Rattle.ped_loops.specs.Serialising.{serialising}
+use Rattle.ped_loops.specs.Rejecting.{rejecting}
+use Rattle.ped_reindex.specs.Skewing.{skewing}
+use Rattle.ped_reindex.specs.Stripping.{stripping}
+use Rattle.ped_reindex.specs.Peeling.{peeling}
+use Rattle.ped_splits.specs.Distributing.{distributing}
+use Rattle.ped_splits.specs.Fusing.{fusing}
+use Rattle.ped_reduce.specs.Reducing.{reducing}
+use Rattle.ped_loops.proofs.Determined.{determined_parallel, determined_serial, determined_reversal, determined_interchange, determined_rejection}
+use Rattle.ped_reindex.proofs.Determined.{determined_skew, determined_strip, determined_peel}
+use Rattle.ped_splits.proofs.Determined.{determined_distribution, determined_fusion}
 use Rattle.ped_inline.specs.Inlining as step
 use Rattle.ped_inline.proofs.InlineLawful.{lawful_inline}
 use Rattle.ped_transformations.proofs.DeterminedReduction.{determined_reduction}

@@ -2,9 +2,9 @@
 use Rattle.std.proofs.Common.{◌≡◌, ◌∙◌, ℕ, List, [], ◌∷◌, ◌++◌, sym, ap, ap₂, Option}
 use Rattle.std.specs.Prelude.{⊤}
 use Rattle.ped_tree.specs.Tree.{ProgramTree}
-use Rattle.ped_auto.specs.ped_reduce.specs.ped_splits.specs.ped_reindex.specs.ped_loops.specs.ped_scalar.specs.ped_rules.specs.ped_loop_runs.specs.ped_bodies.specs.ped_steps.specs.Causes.{Cause}
-use Rattle.ped_auto.specs.ped_reduce.specs.ped_splits.specs.ped_reindex.specs.ped_loops.specs.ped_scalar.specs.ped_rules.specs.Steps.{StepAt, MaybeStep, no_step, some_step, MatchStep}
-use Rattle.ped_auto.specs.ped_reduce.specs.ped_splits.specs.ped_reindex.specs.ped_loops.specs.ped_scalar.specs.ped_rules.specs.Lawful.{IsDetermined}
+use Rattle.ped_auto.specs.ped_rules.specs.ped_steps.specs.Causes.{Cause}
+use Rattle.ped_auto.specs.ped_rules.specs.Steps.{StepAt, MaybeStep, no_step, some_step, MatchStep}
+use Rattle.ped_auto.specs.ped_rules.specs.Lawful.{IsDetermined}
 use Rattle.ped_transformations.specs.Table.{step_of}
 use Rattle.ped_transformations.specs.Advice.{Advised, advised_at, advice_line, IsLineOf, AreLinesOf, IsAdvice}
 use Rattle.ped_transformations.proofs.LawfulTable.{determined_step}

@@ -4,9 +4,9 @@ use Rattle.std.specs.List.{range_with_len}
 use Rattle.ped_tree.specs.Tree.{CondTree, Head, StmtTree, StmtTrees, If, Do, no_stmts, more_stmts, ProgramTree}
 use Rattle.ped_tree.specs.Numbering.{numbered, all_numbered, at_place, statement_with}
 use Rattle.ped_tree.proofs.Numbers.{length-all_numbered}
-use Rattle.ped_auto.specs.ped_reduce.specs.ped_splits.specs.ped_reindex.specs.ped_loops.specs.ped_scalar.specs.ped_rules.specs.ped_loop_runs.specs.ped_bodies.specs.ped_steps.specs.Replacing.{followed, alone, program_with}
-use Rattle.ped_auto.specs.ped_reduce.specs.ped_splits.specs.ped_reindex.specs.ped_loops.specs.ped_scalar.specs.ped_rules.specs.ped_loop_runs.specs.ped_bodies.specs.ped_steps.specs.Runs.Gaps.{Gap, at_front, past, in_then, in_else, in_body, filled}
-use Rattle.ped_auto.specs.ped_reduce.specs.ped_splits.specs.ped_reindex.specs.ped_loops.specs.ped_scalar.specs.ped_rules.specs.ped_loop_runs.specs.ped_bodies.specs.ped_steps.proofs.RunLaws.ReplacedTrees.{program_gap}
+use Rattle.ped_auto.specs.ped_rules.specs.ped_steps.specs.Replacing.{followed, alone, program_with}
+use Rattle.ped_auto.specs.ped_rules.specs.ped_steps.specs.Runs.Gaps.{Gap, at_front, past, in_then, in_else, in_body, filled}
+use Rattle.ped_auto.specs.ped_rules.specs.ped_steps.proofs.RunLaws.ReplacedTrees.{program_gap}
 use Rattle.ped_auto.specs.SerialLoops.{is_serial, is_serial_loop, serial_loops}
 
 -- the statement is a DO and no PARALLEL DO

@@ -1,10 +1,10 @@
 -- What the code of the advice finds. Only contracts of private functions use it (this project).
 use Rattle.std.specs.Prelude.{◌≡◌, ℕ, List, ◌++◌, Option, Some, None, Result, Ok, Err, option_map, ⊤}
 use Rattle.ped_tree.specs.Tree.{ProgramTree}
-use Rattle.ped_auto.specs.ped_reduce.specs.ped_splits.specs.ped_reindex.specs.ped_loops.specs.ped_scalar.specs.ped_rules.specs.ped_loop_runs.specs.ped_bodies.specs.ped_steps.specs.declared.causes.Refused.{Refused}
-use Rattle.ped_auto.specs.ped_reduce.specs.ped_splits.specs.ped_reindex.specs.ped_loops.specs.ped_scalar.specs.ped_rules.specs.ped_loop_runs.specs.ped_bodies.specs.ped_steps.specs.declared.changes.Change.{Change}
-use Rattle.ped_auto.specs.ped_reduce.specs.ped_splits.specs.ped_reindex.specs.ped_loops.specs.ped_scalar.specs.ped_rules.specs.ped_loop_runs.specs.ped_bodies.specs.ped_steps.specs.CodeCauses.{cause_of, IsShort}
-use Rattle.ped_auto.specs.ped_reduce.specs.ped_splits.specs.ped_reindex.specs.ped_loops.specs.ped_scalar.specs.ped_rules.specs.Steps.{MaybeStep, MatchStep}
+use Rattle.ped_auto.specs.ped_rules.specs.ped_steps.specs.declared.causes.Refused.{Refused}
+use Rattle.ped_auto.specs.ped_rules.specs.ped_steps.specs.declared.changes.Change.{Change}
+use Rattle.ped_auto.specs.ped_rules.specs.ped_steps.specs.CodeCauses.{cause_of, IsShort}
+use Rattle.ped_auto.specs.ped_rules.specs.Steps.{MaybeStep, MatchStep}
 use Rattle.ped_transformations.specs.Advice.{Advised, IsLineOf}
 
 -- the cause in what a step answers, or that there is none

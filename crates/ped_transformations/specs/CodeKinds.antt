@@ -2,9 +2,9 @@
 use Rattle.std.specs.Prelude.{◌≡◌, Option, Some, None, Result, Ok, Err, ⊤}
 use Rattle.ped_base.specs.declared.memory.NoMemory.{NoMemory}
 use Rattle.ped_tree.specs.Tree.{ProgramTree}
-use Rattle.ped_auto.specs.ped_reduce.specs.ped_splits.specs.ped_reindex.specs.ped_loops.specs.ped_scalar.specs.ped_rules.specs.ped_loop_runs.specs.ped_bodies.specs.ped_steps.specs.declared.causes.Refused.{Refused}
-use Rattle.ped_auto.specs.ped_reduce.specs.ped_splits.specs.ped_reindex.specs.ped_loops.specs.ped_scalar.specs.ped_rules.specs.ped_loop_runs.specs.ped_bodies.specs.ped_steps.specs.declared.changes.Change.{Change}
-use Rattle.ped_auto.specs.ped_reduce.specs.ped_splits.specs.ped_reindex.specs.ped_loops.specs.ped_scalar.specs.ped_rules.specs.Steps.{StepKind, transformation, rejection, StepAt, MaybeStep, MatchStep, Answers}
+use Rattle.ped_auto.specs.ped_rules.specs.ped_steps.specs.declared.causes.Refused.{Refused}
+use Rattle.ped_auto.specs.ped_rules.specs.ped_steps.specs.declared.changes.Change.{Change}
+use Rattle.ped_auto.specs.ped_rules.specs.Steps.{StepKind, transformation, rejection, StepAt, MaybeStep, MatchStep, Answers}
 use Rattle.ped_transformations.specs.declared.table.Kind.{Kind}
 use Rattle.ped_transformations.specs.declared.table.Kind.TheVariants.{Transformation, Rejection}
 use Rattle.ped_transformations.specs.declared.table.Place.{Place}

@@ -1,20 +1,20 @@
 -- The only table of the steps: which one each command takes (ParaScope; this project).
-use Rattle.ped_auto.specs.ped_script.specs.declared.items.Command.{Command}
-use Rattle.ped_auto.specs.ped_script.specs.declared.items.Command.TheVariants.{Interchange, Reverse, Skew, Strip, Peel, Distribute, Fuse, Inline, Expand, Privatise, Reduce, Parallel, Serial, Reject}
-use Rattle.ped_auto.specs.ped_reduce.specs.ped_splits.specs.ped_reindex.specs.ped_loops.specs.ped_scalar.specs.ped_rules.specs.Steps.{MaybeStep, no_step, some_step}
-use Rattle.ped_auto.specs.ped_reduce.specs.ped_splits.specs.ped_reindex.specs.ped_loops.specs.ped_scalar.specs.Privatising.{privatising}
-use Rattle.ped_auto.specs.ped_reduce.specs.ped_splits.specs.ped_reindex.specs.ped_loops.specs.ped_scalar.specs.Expanding.{expanding}
-use Rattle.ped_auto.specs.ped_reduce.specs.ped_splits.specs.ped_reindex.specs.ped_loops.specs.Interchanging.{interchanging}
-use Rattle.ped_auto.specs.ped_reduce.specs.ped_splits.specs.ped_reindex.specs.ped_loops.specs.Reversing.{reversing}
-use Rattle.ped_auto.specs.ped_reduce.specs.ped_splits.specs.ped_reindex.specs.ped_loops.specs.Paralleling.{paralleling}
-use Rattle.ped_auto.specs.ped_reduce.specs.ped_splits.specs.ped_reindex.specs.ped_loops.specs.Serialising.{serialising}
-use Rattle.ped_auto.specs.ped_reduce.specs.ped_splits.specs.ped_reindex.specs.ped_loops.specs.Rejecting.{rejecting}
-use Rattle.ped_auto.specs.ped_reduce.specs.ped_splits.specs.ped_reindex.specs.Skewing.{skewing}
-use Rattle.ped_auto.specs.ped_reduce.specs.ped_splits.specs.ped_reindex.specs.Stripping.{stripping}
-use Rattle.ped_auto.specs.ped_reduce.specs.ped_splits.specs.ped_reindex.specs.Peeling.{peeling}
-use Rattle.ped_auto.specs.ped_reduce.specs.ped_splits.specs.Distributing.{distributing}
-use Rattle.ped_auto.specs.ped_reduce.specs.ped_splits.specs.Fusing.{fusing}
-use Rattle.ped_auto.specs.ped_reduce.specs.Reducing.{reducing}
+use Rattle.ped_script.specs.declared.items.Command.{Command}
+use Rattle.ped_script.specs.declared.items.Command.TheVariants.{Interchange, Reverse, Skew, Strip, Peel, Distribute, Fuse, Inline, Expand, Privatise, Reduce, Parallel, Serial, Reject}
+use Rattle.ped_auto.specs.ped_rules.specs.Steps.{MaybeStep, no_step, some_step}
+use Rattle.ped_scalar.specs.Privatising.{privatising}
+use Rattle.ped_scalar.specs.Expanding.{expanding}
+use Rattle.ped_loops.specs.Interchanging.{interchanging}
+use Rattle.ped_loops.specs.Reversing.{reversing}
+use Rattle.ped_auto.specs.ped_rules.specs.Paralleling.{paralleling}
+use Rattle.ped_loops.specs.Serialising.{serialising}
+use Rattle.ped_loops.specs.Rejecting.{rejecting}
+use Rattle.ped_reindex.specs.Skewing.{skewing}
+use Rattle.ped_reindex.specs.Stripping.{stripping}
+use Rattle.ped_reindex.specs.Peeling.{peeling}
+use Rattle.ped_splits.specs.Distributing.{distributing}
+use Rattle.ped_splits.specs.Fusing.{fusing}
+use Rattle.ped_reduce.specs.Reducing.{reducing}
 use Rattle.ped_inline.specs.Inlining.{inlining}
 
 -- the step that a command takes, where it takes one

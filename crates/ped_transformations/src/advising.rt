@@ -2,10 +2,10 @@
 
 ghost use Rattle.std.specs.Prelude.{◌≡◌, [], ◌++◌, codes, option_map, ⊤, IfOk, OnOk};
 ghost use Rattle.ped_tree.specs.Views.{program_tree};
-ghost use Rattle.ped_auto.specs.ped_reduce.specs.ped_splits.specs.ped_reindex.specs.ped_loops.specs.ped_scalar.specs.ped_rules.specs.Steps.{MatchStep};
-ghost use Rattle.ped_auto.specs.ped_reduce.specs.ped_splits.specs.ped_reindex.specs.ped_loops.specs.ped_scalar.specs.ped_rules.specs.ped_loop_runs.specs.ped_bodies.specs.ped_steps.specs.Scenes.{IsSceneOf};
-ghost use Rattle.ped_auto.specs.ped_reduce.specs.ped_splits.specs.ped_reindex.specs.ped_loops.specs.ped_scalar.specs.ped_rules.specs.ped_loop_runs.specs.ped_bodies.specs.ped_steps.specs.CauseWords as shown;
-ghost use Rattle.ped_auto.specs.ped_reduce.specs.ped_splits.specs.ped_reindex.specs.ped_loops.specs.ped_scalar.specs.ped_rules.specs.ped_loop_runs.specs.ped_bodies.specs.ped_steps.specs.CodeCauses.{cause_of, IsShort};
+ghost use Rattle.ped_auto.specs.ped_rules.specs.Steps.{MatchStep};
+ghost use Rattle.ped_auto.specs.ped_rules.specs.ped_steps.specs.Scenes.{IsSceneOf};
+ghost use Rattle.ped_auto.specs.ped_rules.specs.ped_steps.specs.CauseWords as shown;
+ghost use Rattle.ped_auto.specs.ped_rules.specs.ped_steps.specs.CodeCauses.{cause_of, IsShort};
 ghost use Rattle.ped_transformations.specs.Table.{step_of};
 ghost use Rattle.ped_transformations.specs.Advice as Spec;
 ghost use Rattle.ped_transformations.specs.CodeAdvice as told;

@@ -1,17 +1,19 @@
 //! What is true of every step of the table. The function does nothing; its contract is the law.
 
 ghost use Rattle.std.specs.Prelude.{⊤};
-ghost use Rattle.ped_auto.specs.ped_script.specs.declared.items.Command.{Command};
-ghost use Rattle.ped_auto.specs.ped_reduce.specs.ped_splits.specs.ped_reindex.specs.ped_loops.specs.ped_scalar.specs.ped_rules.specs.Steps.{MatchStep};
-ghost use Rattle.ped_auto.specs.ped_reduce.specs.ped_splits.specs.ped_reindex.specs.ped_loops.specs.ped_scalar.specs.ped_rules.specs.Lawful.{IsLawful};
+ghost use Rattle.ped_script.specs.declared.items.Command.{Command};
+ghost use Rattle.ped_auto.specs.ped_rules.specs.Steps.{MatchStep};
+ghost use Rattle.ped_auto.specs.ped_rules.specs.Lawful.{IsLawful};
 ghost use Rattle.ped_transformations.specs.Table.{step_of};
 
-use ped_auto::reduction_is_lawful;
-use ped_inline::{
-    distribution_is_lawful, fusion_is_lawful, inline_is_lawful, interchange_is_lawful,
-    parallel_is_lawful, peeling_is_lawful, rejection_is_lawful, reversal_is_lawful,
-    serial_is_lawful, skewing_is_lawful, stripping_is_lawful,
+use ped_inline::inline_is_lawful;
+use ped_loops::{
+    interchange_is_lawful, parallel_is_lawful, rejection_is_lawful, reversal_is_lawful,
+    serial_is_lawful,
 };
+use ped_reduce::reduction_is_lawful;
+use ped_reindex::{peeling_is_lawful, skewing_is_lawful, stripping_is_lawful};
+use ped_splits::{distribution_is_lawful, fusion_is_lawful};
 
 /// The step of each command is lawful, where it takes one: it has one first cause at most, makes one program, and where
 /// nothing forbids it there is one, which is valid; and a transformation of a program that may be trusted makes one that

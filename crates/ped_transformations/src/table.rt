@@ -2,18 +2,19 @@
 
 ghost use Rattle.std.specs.Prelude.{◌≡◌, IfOk};
 ghost use Rattle.ped_tree.specs.Views.{program_tree};
-ghost use Rattle.ped_auto.specs.ped_reduce.specs.ped_splits.specs.ped_reindex.specs.ped_loops.specs.ped_scalar.specs.ped_rules.specs.ped_loop_runs.specs.ped_bodies.specs.ped_steps.specs.Scenes.{IsSceneOf};
+ghost use Rattle.ped_auto.specs.ped_rules.specs.ped_steps.specs.Scenes.{IsSceneOf};
 ghost use Rattle.ped_transformations.specs.declared.table.Kind.TheVariants as Kind;
 ghost use Rattle.ped_transformations.specs.Table.{step_of};
 ghost use Rattle.ped_transformations.specs.CodeKinds.{IsPlace, AnswersStep, some_of};
 
-use ped_auto::reduce;
 use ped_base::NoMemory;
-use ped_inline::{
-    Change, Refused, Scene, distribute, expand, fuse, inline, interchange, make_parallel,
-    make_serial, peel, privatise, reject, reverse, skew, strip,
-};
+use ped_inline::{Change, Refused, Scene, inline};
+use ped_loops::{interchange, make_parallel, make_serial, reject, reverse};
+use ped_reduce::reduce;
+use ped_reindex::{peel, skew, strip};
+use ped_scalar::{expand, privatise};
 use ped_script::Command;
+use ped_splits::{distribute, fuse};
 use std::alloc::Global;
 use std::sync::ledger::Ledger;
 

@@ -1,4 +1,8 @@
 pub use Rattle.ped_laws
+pub use Rattle.ped_laws.specs.ped_flow
+pub use Rattle.ped_laws.specs.ped_graph
+pub use Rattle.ped_laws.specs.ped_eval
+pub use Rattle.ped_laws.specs.ped_store
 pub mod Apart
 pub mod Puttings
 pub mod Weaves

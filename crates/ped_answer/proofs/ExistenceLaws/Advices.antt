@@ -1,12 +1,12 @@
 -- There is advice on each statement of a program: of each step a first cause against it, or none.
 use Rattle.std.proofs.Common.{◌≡◌, ℕ, List, [], ◌∷◌, ◌++◌, Option, true, false, refl}
 use Rattle.std.specs.Prelude.{⊤}
-use Rattle.ped_answer.specs.ped_session.specs.ped_tree.specs.Tree.{ProgramTree}
-use Rattle.ped_answer.specs.ped_session.specs.ped_transformations.specs.ped_reindex.specs.ped_loops.specs.ped_scalar.specs.ped_rules.specs.ped_loop_runs.specs.ped_bodies.specs.ped_steps.specs.Causes.{Cause}
-use Rattle.ped_answer.specs.ped_session.specs.ped_transformations.specs.ped_reindex.specs.ped_loops.specs.ped_scalar.specs.ped_rules.specs.Steps.{MaybeStep, no_step, some_step, MatchStep}
-use Rattle.ped_answer.specs.ped_session.specs.ped_transformations.specs.ped_script.specs.declared.items.Command.TheVariants.{Interchange, Reverse, Distribute, Fuse, Parallel, Serial, Peel}
-use Rattle.ped_answer.specs.ped_session.specs.ped_transformations.specs.Table.{step_of}
-use Rattle.ped_answer.specs.ped_session.specs.ped_transformations.specs.Advice.{Advised, advised_at, advice_line, AreLinesOf, IsAdvice}
+use Rattle.ped_tree.specs.Tree.{ProgramTree}
+use Rattle.ped_session.specs.ped_steps.specs.Causes.{Cause}
+use Rattle.ped_session.specs.ped_rules.specs.Steps.{MaybeStep, no_step, some_step, MatchStep}
+use Rattle.ped_script.specs.declared.items.Command.TheVariants.{Interchange, Reverse, Distribute, Fuse, Parallel, Serial, Peel}
+use Rattle.ped_session.specs.ped_transformations.specs.Table.{step_of}
+use Rattle.ped_session.specs.ped_transformations.specs.Advice.{Advised, advised_at, advice_line, AreLinesOf, IsAdvice}
 use Rattle.ped_answer.proofs.ExistenceLaws.FirstCauses.{HasCause, each_cause}
 
 -- each of these commands has a step, and in each program a first cause is against it, or none

@@ -3,10 +3,10 @@ use Rattle.std.proofs.Common.{◌≡◌, refl, sym, ap, ap₂, ◌∙◌, inl, i
 use Rattle.std.specs.Bool.{Decides}
 use Rattle.std.proofs.lemmas.Slice.Eq.{bytes_eq-Decides}
 use Rattle.std.specs.Str.{bytes_eq}
-use Rattle.ped_answer.specs.ped_session.specs.ped_order.specs.ped_eval.specs.Outcomes.{LiveRow, Outcome, Ended, Fault}
+use Rattle.ped_session.specs.ped_rules.specs.ped_eval.specs.Outcomes.{LiveRow, Outcome, Ended, Fault}
 use Rattle.ped_answer.specs.Existence.Deciding.{Decided}
 use Rattle.ped_answer.specs.Generated.{EndAlike}
-use Rattle.ped_answer.specs.ped_session.specs.ped_transformations.specs.ped_reduce.specs.ped_splits.proofs.Existence.Deciding.{decided_same, decided_both, equal_decided}
+use Rattle.ped_session.specs.ped_transformations.specs.ped_splits.proofs.Existence.Deciding.{decided_same, decided_both, equal_decided}
 
 by_test : {P : Type 0} (r : Bool) → Decides r P → Decided P
 by_test true d = inl (d.0 refl)

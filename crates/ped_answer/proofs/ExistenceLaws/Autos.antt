@@ -2,31 +2,31 @@
 use Rattle.std.proofs.Common.{◌≡◌, ◌⊎◌, inl, inr, ℕ, List, is_some, true, refl, sym, subst}
 use Rattle.std.specs.Prelude.{⊤}
 use Rattle.std.proofs.lemmas.List.Elements.{All-nil, All-cons}
-use Rattle.ped_answer.specs.ped_session.specs.ped_tree.specs.Tree.{ProgramTree}
-use Rattle.ped_answer.specs.ped_session.specs.ped_tree.specs.Printing.{program_text}
-use Rattle.ped_answer.specs.ped_session.specs.ped_tree.specs.Numbering.{statement_with}
-use Rattle.ped_answer.specs.ped_session.specs.ped_symbols.specs.NameRefusals.{IsValid}
-use Rattle.ped_answer.specs.ped_session.specs.ped_graph.specs.Update.Fresh.{tested_pairs}
-use Rattle.ped_answer.specs.ped_session.specs.ped_valid.specs.Validity.{ReadsValid}
-use Rattle.ped_answer.specs.ped_session.specs.ped_valid.proofs.OneVerdict.{valid_prints}
-use Rattle.ped_answer.specs.ped_session.specs.ped_transformations.specs.ped_reindex.specs.ped_loops.specs.ped_scalar.specs.ped_rules.specs.ped_loop_runs.specs.ped_bodies.specs.ped_steps.specs.Causes.{Cause}
-use Rattle.ped_answer.specs.ped_session.specs.ped_transformations.specs.ped_reindex.specs.ped_loops.specs.ped_scalar.specs.ped_rules.specs.Steps.{transformation, MaybeStep, no_step, some_step, MatchStep}
-use Rattle.ped_answer.specs.ped_session.specs.ped_transformations.specs.ped_auto.specs.SerialLoops.{IsNumber}
-use Rattle.ped_answer.specs.ped_session.specs.ped_transformations.specs.ped_auto.specs.CarriedNames.{carried_names}
-use Rattle.ped_answer.specs.ped_session.specs.ped_transformations.specs.ped_auto.proofs.SomeCourse as course
-use Rattle.ped_answer.specs.ped_session.specs.ped_transformations.specs.Table.{step_of}
-use Rattle.ped_answer.specs.ped_session.proofs.AutoTries.{there, of_try}
-use Rattle.ped_answer.specs.ped_session.specs.ped_transformations.specs.ped_auto.specs.Strategy.{Report, IsAuto}
-use Rattle.ped_answer.specs.ped_session.specs.ped_transformations.specs.ped_script.specs.declared.items.Command.{Command}
-use Rattle.ped_answer.specs.ped_session.specs.ped_transformations.specs.ped_script.specs.declared.items.Command.TheVariants.{Source, Deps, Show, Calls, Print, Advise, Replace, Insert, Delete, Interchange, Reverse, Skew, Strip, Peel, Distribute, Fuse, Inline, Expand, Privatise, Reduce, Parallel, Serial, Reject, Auto, Undo, Redo, Run, Races, Tested}
-use Rattle.ped_answer.specs.ped_session.specs.declared.replies.Refusal.TheVariants.{Step}
-use Rattle.ped_answer.specs.ped_session.specs.declared.replies.Reply.TheVariants.{Changed, Refused}
-use Rattle.ped_answer.specs.ped_session.specs.States.{Other, State, changed_to}
-use Rattle.ped_answer.specs.ped_session.specs.Steps.{change_by, forbidden, transformed}
-use Rattle.ped_answer.specs.ped_session.specs.Histories.{IsPrinted, ArePrinted}
-use Rattle.ped_answer.specs.ped_session.specs.AutoEditing.{TransformsTo, session_editing}
-use Rattle.ped_answer.specs.ped_session.specs.AutoEditingLaws.{session_laws}
-use Rattle.ped_answer.specs.ped_session.specs.ped_transformations.specs.ped_reduce.specs.ped_splits.proofs.Existence.Edges.{edges_of_program}
+use Rattle.ped_tree.specs.Tree.{ProgramTree}
+use Rattle.ped_tree.specs.Printing.{program_text}
+use Rattle.ped_tree.specs.Numbering.{statement_with}
+use Rattle.ped_session.specs.ped_symbols.specs.NameRefusals.{IsValid}
+use Rattle.ped_session.specs.ped_graph.specs.Update.Fresh.{tested_pairs}
+use Rattle.ped_session.specs.ped_valid.specs.Validity.{ReadsValid}
+use Rattle.ped_session.specs.ped_valid.proofs.OneVerdict.{valid_prints}
+use Rattle.ped_session.specs.ped_steps.specs.Causes.{Cause}
+use Rattle.ped_session.specs.ped_rules.specs.Steps.{transformation, MaybeStep, no_step, some_step, MatchStep}
+use Rattle.ped_session.specs.ped_auto.specs.SerialLoops.{IsNumber}
+use Rattle.ped_session.specs.ped_auto.specs.CarriedNames.{carried_names}
+use Rattle.ped_session.specs.ped_auto.proofs.SomeCourse as course
+use Rattle.ped_session.specs.ped_transformations.specs.Table.{step_of}
+use Rattle.ped_session.proofs.AutoTries.{there, of_try}
+use Rattle.ped_session.specs.ped_auto.specs.Strategy.{Report, IsAuto}
+use Rattle.ped_script.specs.declared.items.Command.{Command}
+use Rattle.ped_script.specs.declared.items.Command.TheVariants.{Source, Deps, Show, Calls, Print, Advise, Replace, Insert, Delete, Interchange, Reverse, Skew, Strip, Peel, Distribute, Fuse, Inline, Expand, Privatise, Reduce, Parallel, Serial, Reject, Auto, Undo, Redo, Run, Races, Tested}
+use Rattle.ped_session.specs.declared.replies.Refusal.TheVariants.{Step}
+use Rattle.ped_session.specs.declared.replies.Reply.TheVariants.{Changed, Refused}
+use Rattle.ped_session.specs.States.{Other, State, changed_to}
+use Rattle.ped_session.specs.Steps.{change_by, forbidden, transformed}
+use Rattle.ped_session.specs.Histories.{IsPrinted, ArePrinted}
+use Rattle.ped_session.specs.AutoEditing.{TransformsTo, session_editing}
+use Rattle.ped_session.specs.AutoEditingLaws.{session_laws}
+use Rattle.ped_session.specs.ped_transformations.specs.ped_splits.proofs.Existence.Edges.{edges_of_program}
 use Rattle.ped_answer.proofs.ExistenceLaws.FirstCauses.{Goes, each_goes}
 
 -- a command is `auto` or another one

@@ -1,13 +1,13 @@
 -- `inline` has a first cause against it in a program, or none.
 use Rattle.std.proofs.Common.{◌⊎◌, ℕ, inl, inr, Option, Some, None, refl}
-use Rattle.ped_answer.specs.ped_session.specs.ped_tree.specs.Tree.{StmtTrees, ProgramTree}
-use Rattle.ped_answer.specs.ped_session.specs.ped_symbols.specs.NameRefusals.{IsValid}
-use Rattle.ped_answer.specs.ped_session.specs.ped_transformations.specs.ped_reindex.specs.ped_loops.specs.ped_scalar.specs.ped_rules.specs.ped_loop_runs.specs.ped_bodies.specs.ped_steps.specs.declared.rules.Rule.TheVariants.{Limit, NoCall}
-use Rattle.ped_answer.specs.ped_session.specs.ped_transformations.specs.ped_reindex.specs.ped_loops.specs.ped_scalar.specs.ped_rules.specs.ped_loop_runs.specs.ped_bodies.specs.ped_steps.specs.Causes.{Cause, IsFirstCause, none_forbids}
-use Rattle.ped_answer.specs.ped_session.specs.ped_transformations.specs.ped_reindex.specs.ped_loops.specs.ped_scalar.specs.ped_rules.proofs.Decided.{valid_decided}
-use Rattle.ped_answer.specs.ped_session.specs.ped_transformations.specs.ped_inline.specs.Blocks.{IsBlock}
-use Rattle.ped_answer.specs.ped_session.specs.ped_transformations.specs.ped_inline.specs.Inlining.{inlined, WhereBlockLimit, WhereNoCall, StandsAgainstInlining}
-use Rattle.ped_answer.specs.ped_session.specs.ped_transformations.specs.ped_inline.proofs.InlineRules.{call, call_chain, block_decided}
+use Rattle.ped_tree.specs.Tree.{StmtTrees, ProgramTree}
+use Rattle.ped_session.specs.ped_symbols.specs.NameRefusals.{IsValid}
+use Rattle.ped_session.specs.ped_steps.specs.declared.rules.Rule.TheVariants.{Limit, NoCall}
+use Rattle.ped_session.specs.ped_steps.specs.Causes.{Cause, IsFirstCause, none_forbids}
+use Rattle.ped_session.specs.ped_rules.proofs.Decided.{valid_decided}
+use Rattle.ped_session.specs.ped_transformations.specs.ped_inline.specs.Blocks.{IsBlock}
+use Rattle.ped_session.specs.ped_transformations.specs.ped_inline.specs.Inlining.{inlined, WhereBlockLimit, WhereNoCall, StandsAgainstInlining}
+use Rattle.ped_session.specs.ped_transformations.specs.ped_inline.proofs.InlineRules.{call, call_chain, block_decided}
 use Rattle.ped_answer.proofs.ExistenceLaws.ChainCauses.{Settled, found_link, found_last, some_cause}
 
 module _ (t : ProgramTree) (s : ℕ) where

@@ -1,28 +1,28 @@
 -- Each step whose rules are a chain of the shared ones, and that dependences forbid by a test, has a first cause or none.
 use Rattle.std.proofs.Common.{◌≡◌, ◌⊎◌, ℕ, refl, sym, ap, ◌∙◌, inl, inr, Bool, true, false, List, [], ◌∷◌, All, Option, Some, None, MatchOption, subst}
 use Rattle.std.proofs.lemmas.List.Elements.{All-nil, All-cons}
-use Rattle.ped_answer.specs.ped_session.specs.ped_tree.specs.Tree.{Head, StmtTrees, Do, ProgramTree}
-use Rattle.ped_answer.specs.ped_session.specs.ped_symbols.specs.NameRefusals.{IsValid}
-use Rattle.ped_answer.specs.ped_session.specs.ped_order.specs.ped_flow.specs.Questions.{LoopOf}
-use Rattle.ped_answer.specs.ped_session.specs.ped_tree.specs.NamesIn.{loop_variables}
-use Rattle.ped_answer.specs.ped_session.specs.ped_order.specs.ped_flow.proofs.Answering.{same_head, same_body}
-use Rattle.ped_answer.specs.ped_session.specs.ped_order.specs.ped_flow.specs.Answers.{IsEscape}
-use Rattle.ped_answer.specs.ped_session.specs.ped_order.specs.ped_flow.specs.Escapes.{escapes_of, escaping}
-use Rattle.ped_answer.specs.ped_session.specs.ped_order.specs.ped_flow.proofs.Escaping.{escape_is}
-use Rattle.ped_answer.specs.ped_session.specs.ped_order.specs.ped_flow.specs.declared.flows.Reader.{Reader}
-use Rattle.ped_answer.specs.ped_session.specs.ped_order.specs.ped_flow.specs.declared.flows.Reader.TheVariants.{Statement, Saved}
-use Rattle.ped_answer.specs.ped_session.specs.ped_graph.specs.ped_edges.specs.Edges.{Edge}
-use Rattle.ped_answer.specs.ped_session.specs.ped_graph.specs.Dependences.{AreEdges}
-use Rattle.ped_answer.specs.ped_session.specs.ped_graph.proofs.OnePane.{one_edges}
-use Rattle.ped_answer.specs.ped_session.specs.ped_transformations.specs.ped_reindex.specs.ped_loops.specs.ped_scalar.specs.ped_rules.specs.ped_loop_runs.specs.ped_bodies.specs.ped_steps.specs.declared.rules.Rule.{Rule}
-use Rattle.ped_answer.specs.ped_session.specs.ped_transformations.specs.ped_reindex.specs.ped_loops.specs.ped_scalar.specs.ped_rules.specs.ped_loop_runs.specs.ped_bodies.specs.ped_steps.specs.RuleNames.{number_of}
-use Rattle.ped_answer.specs.ped_session.specs.ped_transformations.specs.ped_reindex.specs.ped_loops.specs.ped_scalar.specs.ped_rules.specs.ped_loop_runs.specs.ped_bodies.specs.ped_steps.specs.Causes.{Rules, NoRule, IsFirstRule, Cause, rule, dependence, IsFirstForbidding, IsFirstCause}
-use Rattle.ped_answer.specs.ped_session.specs.ped_transformations.specs.ped_reindex.specs.ped_loops.specs.ped_scalar.specs.ped_rules.specs.Chains.{no_rules, also, WhereLoop}
-use Rattle.ped_answer.specs.ped_session.specs.ped_transformations.specs.ped_reindex.specs.ped_loops.specs.ped_scalar.specs.ped_rules.specs.Rules.{WhereNoLoop, WhereEscape, WhereLimit}
-use Rattle.ped_answer.specs.ped_session.specs.ped_transformations.specs.ped_reindex.specs.ped_loops.specs.ped_scalar.specs.ped_rules.proofs.Chains.{IsChain, chain_end, first_here, first_later, none_later, none_at_end}
-use Rattle.ped_answer.specs.ped_session.specs.ped_transformations.specs.ped_reindex.specs.ped_loops.specs.ped_scalar.specs.ped_rules.proofs.Decided.{loop_decided, valid_decided, limit_stands}
-use Rattle.ped_answer.specs.ped_session.specs.ped_transformations.specs.ped_reindex.specs.ped_loops.specs.ped_scalar.specs.ped_rules.proofs.EscapeRule.{by_statement, by_saved, by_nothing}
-use Rattle.ped_answer.specs.ped_session.specs.ped_transformations.specs.ped_reduce.specs.ped_splits.proofs.Existence.Edges.{edges_of_program}
+use Rattle.ped_tree.specs.Tree.{Head, StmtTrees, Do, ProgramTree}
+use Rattle.ped_session.specs.ped_symbols.specs.NameRefusals.{IsValid}
+use Rattle.ped_session.specs.ped_flow.specs.Questions.{LoopOf}
+use Rattle.ped_tree.specs.NamesIn.{loop_variables}
+use Rattle.ped_session.specs.ped_flow.proofs.Answering.{same_head, same_body}
+use Rattle.ped_session.specs.ped_flow.specs.Answers.{IsEscape}
+use Rattle.ped_session.specs.ped_flow.specs.Escapes.{escapes_of, escaping}
+use Rattle.ped_session.specs.ped_flow.proofs.Escaping.{escape_is}
+use Rattle.ped_session.specs.ped_flow.specs.declared.flows.Reader.{Reader}
+use Rattle.ped_session.specs.ped_flow.specs.declared.flows.Reader.TheVariants.{Statement, Saved}
+use Rattle.ped_session.specs.ped_rules.specs.ped_edges.specs.Edges.{Edge}
+use Rattle.ped_session.specs.ped_graph.specs.Dependences.{AreEdges}
+use Rattle.ped_session.specs.ped_graph.proofs.OnePane.{one_edges}
+use Rattle.ped_session.specs.ped_steps.specs.declared.rules.Rule.{Rule}
+use Rattle.ped_session.specs.ped_steps.specs.RuleNames.{number_of}
+use Rattle.ped_session.specs.ped_steps.specs.Causes.{Rules, NoRule, IsFirstRule, Cause, rule, dependence, IsFirstForbidding, IsFirstCause}
+use Rattle.ped_session.specs.ped_rules.specs.Chains.{no_rules, also, WhereLoop}
+use Rattle.ped_session.specs.ped_rules.specs.Rules.{WhereNoLoop, WhereEscape, WhereLimit}
+use Rattle.ped_session.specs.ped_rules.proofs.Chains.{IsChain, chain_end, first_here, first_later, none_later, none_at_end}
+use Rattle.ped_session.specs.ped_rules.proofs.Decided.{loop_decided, valid_decided, limit_stands}
+use Rattle.ped_session.specs.ped_rules.proofs.EscapeRule.{by_statement, by_saved, by_nothing}
+use Rattle.ped_session.specs.ped_transformations.specs.ped_splits.proofs.Existence.Edges.{edges_of_program}
 
 -- the rule names a statement, or none
 abbrev pub Settled : (ℕ → Type 0) → Type 0

@@ -1,17 +1,17 @@
 -- Words and files take so many dependence tests, whatever they are.
 use Rattle.std.proofs.Common.{◌≡◌, ◌⊎◌, inl, inr, ℕ, ◌+◌, Bool, true, false, List, [], Option, Some, None, refl, length}
 use Rattle.std.specs.Prelude.{MatchOption, MatchBool, nat_lt}
-use Rattle.ped_answer.specs.ped_io.specs.Outside.{Contents, content}
-use Rattle.ped_answer.specs.ped_session.specs.ped_refs.specs.References.{references, pair_count}
-use Rattle.ped_answer.specs.ped_session.specs.ped_valid.specs.Verdicts.{HasOneValidTree, HasOneFirstRefusal}
-use Rattle.ped_answer.specs.ped_session.specs.ped_valid.proofs.OneVerdict.{one_of_both}
+use Rattle.ped_io.specs.Outside.{Contents, content}
+use Rattle.ped_session.specs.ped_refs.specs.References.{references, pair_count}
+use Rattle.ped_session.specs.ped_valid.specs.Verdicts.{HasOneValidTree, HasOneFirstRefusal}
+use Rattle.ped_session.specs.ped_valid.proofs.OneVerdict.{one_of_both}
 use Rattle.ped_call_runs.specs.ped_calls.specs.Laws.{HasOneExpansion, HasOneUnitRefusal}
 use Rattle.ped_call_runs.specs.ped_calls.proofs.OneVerdict as units
-use Rattle.ped_answer.specs.ped_session.specs.ped_transformations.specs.ped_script.specs.Items.{commands_of}
+use Rattle.ped_script.specs.Items.{commands_of}
 use Rattle.ped_answer.proofs.ExistenceLaws.Replying.{SomeOutcome, answers_of_script}
 use Rattle.ped_answer.proofs.ExistenceLaws.Reporting.{some_report}
 use Rattle.ped_gen.specs.Generated.{program}
-use Rattle.ped_answer.specs.ped_words.specs.Requests.{Request, show, session, generate}
+use Rattle.ped_words.specs.Requests.{Request, show, session, generate}
 use Rattle.ped_answer.specs.Answer.{Input, source_input, data_input}
 use Rattle.ped_answer.specs.TestCounts.{TestsText, of_tree, of_refusal, TestsSession, of_script, of_refused_program, TestsGenerated, of_report, of_refused_text, TestsInput, TestsData, Tests}
 

@@ -1,22 +1,22 @@
 -- `distribute` has a first cause against it in a program, or none.
 use Rattle.std.proofs.Common.{◌≡◌, ◌⊎◌, ℕ, ◌<◌, ◌≤◌, inl, inr, refl, subst, length, List, Option, Some, None, arith}
 use Rattle.std.proofs.lemmas.Bool.{cases_lt}
-use Rattle.ped_answer.specs.ped_session.specs.ped_tree.specs.Tree.{ExprTree, ProgramTree}
-use Rattle.ped_answer.specs.ped_session.specs.ped_order.specs.ped_flow.specs.PlainBounds.{IsPlain}
-use Rattle.ped_answer.specs.ped_session.specs.ped_order.specs.ped_flow.specs.Questions.{LoopOf}
-use Rattle.ped_answer.specs.ped_session.specs.ped_symbols.specs.Kinds.{table_of}
-use Rattle.ped_answer.specs.ped_session.specs.ped_transformations.specs.ped_reindex.specs.ped_loops.specs.ped_scalar.specs.ped_rules.specs.ped_loop_runs.specs.ped_bodies.specs.ped_steps.specs.declared.rules.Rule.TheVariants.{NoLoop, ParallelState, IndexEscapes, BoundNotPlain, OneBlock, Limit}
-use Rattle.ped_answer.specs.ped_session.specs.ped_transformations.specs.ped_reindex.specs.ped_loops.specs.ped_scalar.specs.ped_rules.specs.ped_loop_runs.specs.ped_bodies.specs.ped_steps.specs.Causes.{Cause, IsFirstCause, none_forbids}
-use Rattle.ped_answer.specs.ped_session.specs.ped_transformations.specs.ped_reindex.specs.ped_loops.specs.ped_scalar.specs.ped_rules.specs.Chains.{WhereLoop}
-use Rattle.ped_answer.specs.ped_session.specs.ped_transformations.specs.ped_reindex.specs.ped_loops.specs.ped_scalar.specs.ped_rules.specs.Rules.{WhereNoLoop, is_parallel, WhereEscape, WhereUnplain, WhereLimit}
-use Rattle.ped_answer.specs.ped_session.specs.ped_transformations.specs.ped_reindex.specs.ped_loops.specs.ped_scalar.specs.ped_rules.proofs.Decided.{loop_decided}
-use Rattle.ped_answer.specs.ped_session.specs.ped_transformations.specs.ped_reindex.specs.ped_loops.specs.Interchanging.{IsBoundOf}
-use Rattle.ped_answer.specs.ped_session.specs.ped_transformations.specs.ped_reindex.specs.ped_loops.proofs.PlainDecided.{plain_decided}
-use Rattle.ped_answer.specs.ped_session.specs.ped_transformations.specs.ped_reduce.specs.ped_splits.specs.Blocks.{AreBlocks}
-use Rattle.ped_answer.specs.ped_session.specs.ped_transformations.specs.ped_reduce.specs.ped_splits.specs.Distributing.{distributed, MakesDistributed, IsItsBound, WhereOneBlock, StandsAgainstDistribution}
-use Rattle.ped_answer.specs.ped_session.specs.ped_transformations.specs.ped_reduce.specs.ped_splits.proofs.OneBlocks.{one_found}
-use Rattle.ped_answer.specs.ped_session.specs.ped_transformations.specs.ped_reduce.specs.ped_splits.proofs.DistributeRules as rules
-use Rattle.ped_answer.specs.ped_session.specs.ped_transformations.specs.ped_reduce.specs.ped_splits.proofs.Existence.Closures.{blocks_exist}
+use Rattle.ped_tree.specs.Tree.{ExprTree, ProgramTree}
+use Rattle.ped_session.specs.ped_flow.specs.PlainBounds.{IsPlain}
+use Rattle.ped_session.specs.ped_flow.specs.Questions.{LoopOf}
+use Rattle.ped_session.specs.ped_symbols.specs.Kinds.{table_of}
+use Rattle.ped_session.specs.ped_steps.specs.declared.rules.Rule.TheVariants.{NoLoop, ParallelState, IndexEscapes, BoundNotPlain, OneBlock, Limit}
+use Rattle.ped_session.specs.ped_steps.specs.Causes.{Cause, IsFirstCause, none_forbids}
+use Rattle.ped_session.specs.ped_rules.specs.Chains.{WhereLoop}
+use Rattle.ped_session.specs.ped_rules.specs.Rules.{WhereNoLoop, is_parallel, WhereEscape, WhereUnplain, WhereLimit}
+use Rattle.ped_session.specs.ped_rules.proofs.Decided.{loop_decided}
+use Rattle.ped_session.specs.ped_rules.specs.Rules.{IsBoundOf}
+use Rattle.ped_session.specs.ped_rules.proofs.HeadLaws.PlainDecided.{plain_decided}
+use Rattle.ped_session.specs.ped_transformations.specs.ped_splits.specs.Blocks.{AreBlocks}
+use Rattle.ped_session.specs.ped_transformations.specs.ped_splits.specs.Distributing.{distributed, MakesDistributed, IsItsBound, WhereOneBlock, StandsAgainstDistribution}
+use Rattle.ped_session.specs.ped_transformations.specs.ped_splits.proofs.OneBlocks.{one_found}
+use Rattle.ped_session.specs.ped_transformations.specs.ped_splits.proofs.DistributeRules as rules
+use Rattle.ped_session.specs.ped_transformations.specs.ped_splits.proofs.Existence.Closures.{blocks_exist}
 use Rattle.ped_answer.specs.Existence.Deciding.{Decided}
 use Rattle.ped_answer.proofs.ExistenceLaws.ChainCauses.{Settled, found_link, found_last, settled_no_loop, settled_where, settled_escape, settled_limit, some_cause}
 

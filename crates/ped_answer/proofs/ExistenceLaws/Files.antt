@@ -1,13 +1,13 @@
 -- Words and files have an answer, whatever they are.
 use Rattle.std.proofs.Common.{◌⊎◌, inl, inr, ℕ, Bool, true, false, List, [], Option, Some, None, refl, length}
 use Rattle.std.specs.Prelude.{MatchOption, MatchBool, nat_lt}
-use Rattle.ped_answer.specs.ped_io.specs.Outside.{Contents, content}
-use Rattle.ped_answer.specs.ped_session.specs.ped_valid.specs.Verdicts.{HasOneValidTree, HasOneFirstRefusal}
-use Rattle.ped_answer.specs.ped_session.specs.ped_valid.proofs.OneVerdict.{one_of_both}
+use Rattle.ped_io.specs.Outside.{Contents, content}
+use Rattle.ped_session.specs.ped_valid.specs.Verdicts.{HasOneValidTree, HasOneFirstRefusal}
+use Rattle.ped_session.specs.ped_valid.proofs.OneVerdict.{one_of_both}
 use Rattle.ped_call_runs.specs.ped_calls.specs.ped_units.specs.Verdicts.{found_in_text}
 use Rattle.ped_call_runs.specs.ped_calls.specs.Laws.{HasOneExpansion, HasOneUnitRefusal}
 use Rattle.ped_call_runs.specs.ped_calls.proofs.OneVerdict as units
-use Rattle.ped_answer.specs.ped_session.specs.ped_transformations.specs.ped_script.specs.Items.{commands_of}
+use Rattle.ped_script.specs.Items.{commands_of}
 use Rattle.ped_answer.proofs.ExistenceLaws.Replying.{SomeOutcome, panes, answers_of_script}
 use Rattle.ped_answer.proofs.ExistenceLaws.Reporting.{some_report}
 use Rattle.ped_answer.specs.declared.answering.Status.{Status}
@@ -15,7 +15,7 @@ use Rattle.ped_answer.specs.declared.answering.Status.TheVariants.{Done, SomeRef
 use Rattle.ped_answer.specs.Refusals.{refused_line}
 use Rattle.ped_answer.specs.Generated.{IsGenerated}
 use Rattle.ped_gen.specs.Generated.{program}
-use Rattle.ped_answer.specs.ped_words.specs.Requests.{Request, show, session, generate}
+use Rattle.ped_words.specs.Requests.{Request, show, session, generate}
 use Rattle.ped_answer.specs.Answer.{Input, source_input, data_input, usage_line, cannot_read_line, too_long_line, IsJust, IsShown, AnswersScript, IsSession, AnswersInput, AnswersData, Answers}
 
 -- there is an answer

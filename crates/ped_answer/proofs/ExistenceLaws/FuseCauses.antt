@@ -1,19 +1,19 @@
 -- `fuse` has a first cause against it in a program, or none.
 use Rattle.std.proofs.Common.{◌≡◌, ◌⊎◌, ℕ, inl, inr, refl, List, filter, All, false, Option, Some, None}
-use Rattle.ped_answer.specs.ped_session.specs.ped_graph.specs.ped_edges.specs.Edges.{Edge}
-use Rattle.ped_answer.specs.ped_session.specs.ped_refs.specs.References.{references, pairs}
-use Rattle.ped_answer.specs.ped_session.specs.ped_tree.specs.Tree.{ProgramTree}
-use Rattle.ped_answer.specs.ped_session.specs.ped_transformations.specs.ped_reindex.specs.ped_loops.specs.ped_scalar.specs.ped_rules.specs.ped_loop_runs.specs.ped_bodies.specs.ped_steps.specs.declared.rules.Rule.TheVariants.{NoLoop, ParallelState, HasPrivate, IndexEscapes, BoundNotPlain, NoNeighbour, Limit}
-use Rattle.ped_answer.specs.ped_session.specs.ped_transformations.specs.ped_reindex.specs.ped_loops.specs.ped_scalar.specs.ped_rules.specs.ped_loop_runs.specs.ped_bodies.specs.ped_steps.specs.Causes.{Cause, rule, dependence, NoRule, IsFirstForbidding}
-use Rattle.ped_answer.specs.ped_session.specs.ped_transformations.specs.ped_reindex.specs.ped_loops.specs.ped_scalar.specs.ped_rules.specs.Rules.{WhereNoLoop, is_parallel, has_private, WhereUnplain}
-use Rattle.ped_answer.specs.ped_session.specs.ped_transformations.specs.ped_reduce.specs.ped_splits.specs.Distributing.{IsItsBound}
-use Rattle.ped_answer.specs.ped_session.specs.ped_transformations.specs.ped_reduce.specs.ped_splits.specs.Neighbours.{fused, next_number}
-use Rattle.ped_answer.specs.ped_session.specs.ped_transformations.specs.ped_reduce.specs.ped_splits.specs.Fusing.{Match, WhereEither, WhereFusionEscapes, WhereNoMatch, WhereFusedLimit, StandsAgainstFusion, goes_back, AreBack, forbids_fusion, with_present_numbers, IsFusionCause}
-use Rattle.ped_answer.specs.ped_session.specs.ped_transformations.specs.ped_reduce.specs.ped_splits.proofs.Existence.Edges.{edges_of_pairs}
-use Rattle.ped_answer.specs.ped_session.specs.ped_transformations.specs.ped_reduce.specs.ped_splits.proofs.FusableFacts.{its_match}
-use Rattle.ped_answer.specs.ped_session.specs.ped_transformations.specs.ped_reduce.specs.ped_splits.proofs.FuseOne.{one_back_edges}
-use Rattle.ped_answer.specs.ped_session.specs.ped_transformations.specs.ped_reduce.specs.ped_splits.proofs.FuseRules as rules
-use Rattle.ped_answer.specs.ped_session.specs.ped_transformations.specs.ped_reduce.specs.ped_splits.proofs.FusionSettled as names
+use Rattle.ped_session.specs.ped_rules.specs.ped_edges.specs.Edges.{Edge}
+use Rattle.ped_session.specs.ped_refs.specs.References.{references, pairs}
+use Rattle.ped_tree.specs.Tree.{ProgramTree}
+use Rattle.ped_session.specs.ped_steps.specs.declared.rules.Rule.TheVariants.{NoLoop, ParallelState, HasPrivate, IndexEscapes, BoundNotPlain, NoNeighbour, Limit}
+use Rattle.ped_session.specs.ped_steps.specs.Causes.{Cause, rule, dependence, NoRule, IsFirstForbidding}
+use Rattle.ped_session.specs.ped_rules.specs.Rules.{WhereNoLoop, is_parallel, has_private, WhereUnplain}
+use Rattle.ped_session.specs.ped_transformations.specs.ped_splits.specs.Distributing.{IsItsBound}
+use Rattle.ped_session.specs.ped_transformations.specs.ped_splits.specs.Neighbours.{fused, next_number}
+use Rattle.ped_session.specs.ped_transformations.specs.ped_splits.specs.Fusing.{Match, WhereEither, WhereFusionEscapes, WhereNoMatch, WhereFusedLimit, StandsAgainstFusion, goes_back, AreBack, forbids_fusion, with_present_numbers, IsFusionCause}
+use Rattle.ped_session.specs.ped_transformations.specs.ped_splits.proofs.Existence.Edges.{edges_of_pairs}
+use Rattle.ped_session.specs.ped_transformations.specs.ped_splits.proofs.FusableFacts.{its_match}
+use Rattle.ped_session.specs.ped_transformations.specs.ped_splits.proofs.FuseOne.{one_back_edges}
+use Rattle.ped_session.specs.ped_transformations.specs.ped_splits.proofs.FuseRules as rules
+use Rattle.ped_session.specs.ped_transformations.specs.ped_splits.proofs.FusionSettled as names
 use Rattle.ped_answer.proofs.ExistenceLaws.ChainCauses.{Found, found_link, found_last, settled_no_loop, first_edge}
 use Rattle.ped_answer.proofs.ExistenceLaws.DistributeCauses.{settled_plain}
 

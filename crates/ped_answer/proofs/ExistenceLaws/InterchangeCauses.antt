@@ -1,20 +1,21 @@
 -- `interchange` has a first cause against it in a program, or none.
 use Rattle.std.proofs.Common.{◌≡◌, ◌⊎◌, ℕ, ◌+◌, inl, inr, refl, sym, Option, Some, None, MatchOption, subst, arith}
-use Rattle.ped_answer.specs.ped_session.specs.ped_tree.specs.Tree.{ExprTree, Head, StmtTrees, ProgramTree}
-use Rattle.ped_answer.specs.ped_session.specs.ped_order.specs.ped_flow.specs.PlainBounds.{IsPlain}
-use Rattle.ped_answer.specs.ped_session.specs.ped_order.specs.ped_flow.specs.Questions.{LoopOf}
-use Rattle.ped_answer.specs.ped_session.specs.ped_symbols.specs.Kinds.{table_of}
-use Rattle.ped_answer.specs.ped_session.specs.ped_transformations.specs.ped_reindex.specs.ped_loops.specs.ped_scalar.specs.ped_rules.specs.ped_loop_runs.specs.ped_bodies.specs.ped_steps.specs.declared.rules.Rule.TheVariants.{NoLoop, NotPerfect, ParallelState, HasPrivate, IndexEscapes, BoundNotPlain, BoundsShape, StepShape, Range, Limit}
-use Rattle.ped_answer.specs.ped_session.specs.ped_transformations.specs.ped_reindex.specs.ped_loops.specs.ped_scalar.specs.ped_rules.specs.ped_loop_runs.specs.ped_bodies.specs.ped_steps.specs.Causes.{Cause, IsFirstCause}
-use Rattle.ped_answer.specs.ped_session.specs.ped_transformations.specs.ped_reindex.specs.ped_loops.specs.ped_scalar.specs.ped_rules.specs.Carried.{crossing}
-use Rattle.ped_answer.specs.ped_session.specs.ped_transformations.specs.ped_reindex.specs.ped_loops.specs.ped_scalar.specs.ped_rules.specs.KeepMaps.{all_but}
-use Rattle.ped_answer.specs.ped_session.specs.ped_transformations.specs.ped_reindex.specs.ped_loops.specs.ped_scalar.specs.ped_rules.specs.OnlyLoops.{only_loop, either}
-use Rattle.ped_answer.specs.ped_session.specs.ped_transformations.specs.ped_reindex.specs.ped_loops.specs.ped_scalar.specs.ped_rules.specs.Rules.{WhereNoLoop, WhereEscape, WhereUnplain, WhereLimit, HasUnplain, isnt_perfect, is_parallel, has_private}
-use Rattle.ped_answer.specs.ped_session.specs.ped_transformations.specs.ped_reindex.specs.ped_loops.specs.ped_scalar.specs.ped_rules.specs.Chains.{WhereLoop}
-use Rattle.ped_answer.specs.ped_session.specs.ped_transformations.specs.ped_reindex.specs.ped_loops.specs.ped_scalar.specs.ped_rules.proofs.Decided.{loop_decided}
-use Rattle.ped_answer.specs.ped_session.specs.ped_transformations.specs.ped_reindex.specs.ped_loops.specs.Interchanging.{IsBoundOf, IsBoundOfEither, MakesInterchanged, StandsAgainstInterchange, interchanged, is_tied}
-use Rattle.ped_answer.specs.ped_session.specs.ped_transformations.specs.ped_reindex.specs.ped_loops.proofs.InterchangeRules as rules
-use Rattle.ped_answer.specs.ped_session.specs.ped_transformations.specs.ped_reindex.specs.ped_loops.proofs.PlainDecided.{plain_decided}
+use Rattle.ped_tree.specs.Tree.{ExprTree, Head, StmtTrees, ProgramTree}
+use Rattle.ped_session.specs.ped_flow.specs.PlainBounds.{IsPlain}
+use Rattle.ped_session.specs.ped_flow.specs.Questions.{LoopOf}
+use Rattle.ped_session.specs.ped_symbols.specs.Kinds.{table_of}
+use Rattle.ped_session.specs.ped_steps.specs.declared.rules.Rule.TheVariants.{NoLoop, NotPerfect, ParallelState, HasPrivate, IndexEscapes, BoundNotPlain, BoundsShape, StepShape, Range, Limit}
+use Rattle.ped_session.specs.ped_steps.specs.Causes.{Cause, IsFirstCause}
+use Rattle.ped_session.specs.ped_rules.specs.Carried.{crossing}
+use Rattle.ped_session.specs.ped_rules.specs.KeepMaps.{all_but}
+use Rattle.ped_session.specs.ped_rules.specs.OnlyLoops.{only_loop, either}
+use Rattle.ped_session.specs.ped_rules.specs.Rules.{WhereNoLoop, WhereEscape, WhereUnplain, WhereLimit, HasUnplain, isnt_perfect, is_parallel, has_private}
+use Rattle.ped_session.specs.ped_rules.specs.Chains.{WhereLoop}
+use Rattle.ped_session.specs.ped_rules.proofs.Decided.{loop_decided}
+use Rattle.ped_session.specs.ped_rules.specs.Rules.{IsBoundOf}
+use Rattle.ped_session.specs.ped_transformations.specs.ped_loops.specs.Interchanging.{IsBoundOfEither, MakesInterchanged, StandsAgainstInterchange, interchanged, is_tied}
+use Rattle.ped_session.specs.ped_transformations.specs.ped_loops.proofs.InterchangeRules as rules
+use Rattle.ped_session.specs.ped_rules.proofs.HeadLaws.PlainDecided.{plain_decided}
 use Rattle.ped_answer.specs.Existence.Deciding.{Decided}
 use Rattle.ped_answer.proofs.ExistenceLaws.ChainCauses.{Settled, found_link, found_last, settled_no_loop, one_loop, settled_where, settled_escape, settled_limit, some_cause}
 

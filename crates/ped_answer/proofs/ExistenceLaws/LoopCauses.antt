@@ -1,27 +1,27 @@
 -- Each step that keeps one loop one loop has a first cause against it in a program, or none.
 use Rattle.std.proofs.Common.{◌≡◌, ◌⊎◌, ℕ, inl, inr, sym, ◌∙◌, Bool, true, false, ◌&&◌, List, Option, Some, None, refl, arith}
 use Rattle.std.specs.List.{list_any}
-use Rattle.ped_answer.specs.ped_session.specs.ped_tree.specs.Tree.{Head, StmtTrees, ProgramTree}
-use Rattle.ped_answer.specs.ped_session.specs.ped_order.specs.ped_flow.specs.Questions.{LoopOf}
-use Rattle.ped_answer.specs.ped_session.specs.ped_symbols.specs.Kinds.{table_of}
-use Rattle.ped_answer.specs.ped_session.specs.ped_graph.specs.ped_edges.specs.Edges.{Edge}
-use Rattle.ped_answer.specs.ped_session.specs.ped_graph.specs.Dependences.{AreEdges}
-use Rattle.ped_answer.specs.ped_session.specs.ped_transformations.specs.ped_reindex.specs.ped_loops.specs.ped_scalar.specs.ped_rules.specs.ped_loop_runs.specs.ped_bodies.specs.ped_steps.specs.declared.rules.Rule.TheVariants.{NoLoop, ParallelState, IndexEscapes, StepShape, Limit, NothingToReject}
-use Rattle.ped_answer.specs.ped_session.specs.ped_transformations.specs.ped_reindex.specs.ped_loops.specs.ped_scalar.specs.ped_rules.specs.ped_loop_runs.specs.ped_bodies.specs.ped_steps.specs.Causes.{Rules, Cause, IsFirstCause, none_forbids}
-use Rattle.ped_answer.specs.ped_session.specs.ped_transformations.specs.ped_reindex.specs.ped_loops.specs.ped_scalar.specs.ped_rules.specs.ped_loop_runs.specs.ped_bodies.specs.ped_steps.specs.Replacing.{all_kept}
-use Rattle.ped_answer.specs.ped_session.specs.ped_transformations.specs.ped_reindex.specs.ped_loops.specs.ped_scalar.specs.ped_rules.specs.Carried.{is_carried_by, carried}
-use Rattle.ped_answer.specs.ped_session.specs.ped_transformations.specs.ped_reindex.specs.ped_loops.specs.ped_scalar.specs.ped_rules.specs.Chains.{no_rules, also, WhereLoop}
-use Rattle.ped_answer.specs.ped_session.specs.ped_transformations.specs.ped_reindex.specs.ped_loops.specs.ped_scalar.specs.ped_rules.specs.Rules.{WhereNoLoop, is_parallel, is_serial, WhereEscape, is_unit, has_other_step, WhereLimit}
-use Rattle.ped_answer.specs.ped_session.specs.ped_transformations.specs.ped_reindex.specs.ped_loops.specs.ped_scalar.specs.ped_rules.proofs.Chains.{IsChain, chain_end, chain_link}
-use Rattle.ped_answer.specs.ped_session.specs.ped_transformations.specs.ped_reindex.specs.ped_loops.specs.ped_scalar.specs.ped_rules.proofs.OneEach.{loop_one, escape_one, limit_one}
-use Rattle.ped_answer.specs.ped_session.specs.ped_transformations.specs.ped_reindex.specs.ped_loops.specs.ped_scalar.specs.ped_rules.proofs.Decided.{loop_decided}
-use Rattle.ped_answer.specs.ped_session.specs.ped_transformations.specs.ped_reindex.specs.ped_loops.specs.Flags.{flagged}
-use Rattle.ped_answer.specs.ped_session.specs.ped_transformations.specs.ped_reindex.specs.ped_loops.specs.Paralleling.{StandsAgainstParallel}
-use Rattle.ped_answer.specs.ped_session.specs.ped_transformations.specs.ped_reindex.specs.ped_loops.specs.Serialising.{StandsAgainstSerial}
-use Rattle.ped_answer.specs.ped_session.specs.ped_transformations.specs.ped_reindex.specs.ped_loops.specs.Reversing.{reversed, MakesReversed, StandsAgainstReversal}
-use Rattle.ped_answer.specs.ped_session.specs.ped_transformations.specs.ped_reindex.specs.ped_loops.specs.Rejecting.{is_pending_of, NothingPending, WhereNothing, StandsAgainstRejection}
-use Rattle.ped_answer.specs.ped_session.specs.ped_transformations.specs.ped_reindex.specs.ped_loops.proofs.RejectRules.{nothing_pending, some_pending}
-use Rattle.ped_answer.specs.ped_session.specs.ped_transformations.specs.ped_reduce.specs.ped_splits.proofs.Existence.Edges.{edges_of_program}
+use Rattle.ped_tree.specs.Tree.{Head, StmtTrees, ProgramTree}
+use Rattle.ped_session.specs.ped_flow.specs.Questions.{LoopOf}
+use Rattle.ped_session.specs.ped_symbols.specs.Kinds.{table_of}
+use Rattle.ped_session.specs.ped_rules.specs.ped_edges.specs.Edges.{Edge}
+use Rattle.ped_session.specs.ped_graph.specs.Dependences.{AreEdges}
+use Rattle.ped_session.specs.ped_steps.specs.declared.rules.Rule.TheVariants.{NoLoop, ParallelState, IndexEscapes, StepShape, Limit, NothingToReject}
+use Rattle.ped_session.specs.ped_steps.specs.Causes.{Rules, Cause, IsFirstCause, none_forbids}
+use Rattle.ped_session.specs.ped_steps.specs.Replacing.{all_kept}
+use Rattle.ped_session.specs.ped_rules.specs.Carried.{is_carried_by, carried}
+use Rattle.ped_session.specs.ped_rules.specs.Chains.{no_rules, also, WhereLoop}
+use Rattle.ped_session.specs.ped_rules.specs.Rules.{WhereNoLoop, is_parallel, is_serial, WhereEscape, is_unit, has_other_step, WhereLimit}
+use Rattle.ped_session.specs.ped_rules.proofs.Chains.{IsChain, chain_end, chain_link}
+use Rattle.ped_session.specs.ped_rules.proofs.OneEach.{loop_one, escape_one, limit_one}
+use Rattle.ped_session.specs.ped_rules.proofs.Decided.{loop_decided}
+use Rattle.ped_session.specs.ped_rules.specs.Flags.{flagged}
+use Rattle.ped_session.specs.ped_rules.specs.Paralleling.{StandsAgainstParallel}
+use Rattle.ped_session.specs.ped_transformations.specs.ped_loops.specs.Serialising.{StandsAgainstSerial}
+use Rattle.ped_session.specs.ped_transformations.specs.ped_loops.specs.Reversing.{reversed, MakesReversed, StandsAgainstReversal}
+use Rattle.ped_session.specs.ped_transformations.specs.ped_loops.specs.Rejecting.{is_pending_of, NothingPending, WhereNothing, StandsAgainstRejection}
+use Rattle.ped_session.specs.ped_transformations.specs.ped_loops.proofs.RejectRules.{nothing_pending, some_pending}
+use Rattle.ped_session.specs.ped_transformations.specs.ped_splits.proofs.Existence.Edges.{edges_of_program}
 use Rattle.ped_answer.proofs.ExistenceLaws.ChainCauses.{Settled, Found, found_link, found_last, settled_no_loop, settled_where, settled_escape, settled_limit, some_cause}
 
 module _ (t : ProgramTree) (s : ℕ) where

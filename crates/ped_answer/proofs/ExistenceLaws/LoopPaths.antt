@@ -1,24 +1,24 @@
 -- What the paths of a program tell of a scalar and a DO is decided: their summaries, which are computed statement by
 -- statement, say what all of the paths do.
 use Rattle.std.proofs.Common.{ℕ, ◌+◌, refl, inl, inr, not, ◌&&◌, IsTrue, List, Option, Some, None, MatchOption}
-use Rattle.ped_answer.specs.ped_session.specs.ped_tree.specs.Tree.{ProgramTree}
-use Rattle.ped_answer.specs.ped_session.specs.ped_tree.specs.Accesses.{constant_names}
-use Rattle.ped_answer.specs.ped_session.specs.ped_order.specs.ped_flow.specs.Events.{start_events}
-use Rattle.ped_answer.specs.ped_session.specs.ped_order.specs.ped_flow.specs.Paths.{all_paths}
-use Rattle.ped_answer.specs.ped_session.specs.ped_order.specs.ped_flow.specs.Questions.{LoopOf, IsFirst, IsExposed, IsReadBehind, IsShownBehind, IsAssignedThrough}
-use Rattle.ped_answer.specs.ped_session.specs.ped_order.specs.ped_flow.specs.Summaries.{sum_in_turn, sum_events, sum_of_all}
-use Rattle.ped_answer.specs.ped_session.specs.ped_order.specs.ped_flow.proofs.TreeSums.{all_summed}
-use Rattle.ped_answer.specs.ped_session.specs.ped_order.specs.ped_flow.proofs.Answering.{exposed_in_loop, exposed_nowhere, first_in_iteration, assigned_by, through_loop}
-use Rattle.ped_answer.specs.ped_session.specs.ped_transformations.specs.ped_reindex.specs.ped_loops.specs.ped_scalar.specs.Scalars.{is_scalar, IsLiveBy}
-use Rattle.ped_answer.specs.ped_session.specs.ped_transformations.specs.ped_reindex.specs.ped_loops.specs.ped_scalar.specs.Privatising.{IsScalarExposedOrLiveBy}
-use Rattle.ped_answer.specs.ped_session.specs.ped_transformations.specs.ped_reindex.specs.ped_loops.specs.ped_scalar.specs.Expanding.{IsScalarLostBy}
-use Rattle.ped_answer.specs.ped_session.specs.ped_transformations.specs.ped_reindex.specs.ped_loops.specs.ped_scalar.proofs.FlowAnswers.{live_answer}
-use Rattle.ped_answer.specs.ped_session.specs.ped_transformations.specs.ped_reindex.specs.ped_loops.specs.ped_scalar.specs.ped_rules.specs.ped_loop_runs.proofs.TidyLaws.TidyPathsSums.{Summary}
-use Rattle.ped_answer.specs.ped_session.specs.ped_transformations.specs.ped_reindex.specs.ped_loops.specs.ped_scalar.proofs.LostAnswers.{kept_answer, lost_answer}
-use Rattle.ped_answer.specs.ped_session.specs.ped_transformations.specs.ped_reindex.specs.ped_loops.specs.ped_scalar.proofs.LiveSaid.{behind_first, shown_decided}
-use Rattle.ped_answer.specs.ped_session.specs.ped_transformations.specs.ped_reindex.specs.ped_loops.specs.ped_scalar.specs.ped_rules.proofs.Decided.{loop_decided}
+use Rattle.ped_tree.specs.Tree.{ProgramTree}
+use Rattle.ped_tree.specs.Accesses.{constant_names}
+use Rattle.ped_session.specs.ped_flow.specs.Events.{start_events}
+use Rattle.ped_session.specs.ped_flow.specs.Paths.{all_paths}
+use Rattle.ped_session.specs.ped_flow.specs.Questions.{LoopOf, IsFirst, IsExposed, IsReadBehind, IsShownBehind, IsAssignedThrough}
+use Rattle.ped_session.specs.ped_flow.specs.Summaries.{sum_in_turn, sum_events, sum_of_all}
+use Rattle.ped_session.specs.ped_flow.proofs.TreeSums.{all_summed}
+use Rattle.ped_session.specs.ped_flow.proofs.Answering.{exposed_in_loop, exposed_nowhere, first_in_iteration, assigned_by, through_loop}
+use Rattle.ped_session.specs.ped_rules.specs.Scalars.{is_scalar, IsLiveBy}
+use Rattle.ped_session.specs.ped_transformations.specs.ped_scalar.specs.Privatising.{IsScalarExposedOrLiveBy}
+use Rattle.ped_session.specs.ped_transformations.specs.ped_scalar.specs.Expanding.{IsScalarLostBy}
+use Rattle.ped_session.specs.ped_transformations.specs.ped_scalar.proofs.FlowAnswers.{live_answer}
+use Rattle.ped_session.specs.ped_transformations.specs.ped_loop_runs.proofs.TidyLaws.TidyPathsSums.{Summary}
+use Rattle.ped_session.specs.ped_transformations.specs.ped_scalar.proofs.LostAnswers.{kept_answer, lost_answer}
+use Rattle.ped_session.specs.ped_transformations.specs.ped_scalar.proofs.LiveSaid.{behind_first, shown_decided}
+use Rattle.ped_session.specs.ped_rules.proofs.Decided.{loop_decided}
 use Rattle.ped_answer.specs.Existence.Deciding.{Decided}
-use Rattle.ped_answer.specs.ped_session.specs.ped_transformations.specs.ped_reduce.specs.ped_splits.proofs.Existence.Deciding.{decided_same, true_decided}
+use Rattle.ped_session.specs.ped_transformations.specs.ped_splits.proofs.Existence.Deciding.{decided_same, true_decided}
 
 module _ (t : ProgramTree) (s : ℕ) (x : List ℕ) where
   -- the first statement with an exposed read, or none

@@ -5,25 +5,25 @@ use Rattle.std.specs.List.{range_with_len}
 use Rattle.std.proofs.lemmas.Bool.{both_ways}
 use Rattle.std.proofs.lemmas.Bool.Decides.{nat_tests}
 use Rattle.ped_base.specs.Lists.{has_some}
-use Rattle.ped_answer.specs.ped_session.specs.ped_tree.specs.Tree.{Head, StmtTrees, ProgramTree}
-use Rattle.ped_answer.specs.ped_session.specs.ped_tree.specs.Numbering.{statements_count}
-use Rattle.ped_answer.specs.ped_session.specs.ped_symbols.specs.NameRefusals.{IsValid}
-use Rattle.ped_answer.specs.ped_session.specs.ped_symbols.specs.Kinds.{table_of}
-use Rattle.ped_answer.specs.ped_session.specs.ped_order.specs.ped_flow.specs.Questions.{LoopOf}
-use Rattle.ped_answer.specs.ped_session.specs.ped_transformations.specs.ped_reindex.specs.ped_loops.specs.ped_scalar.specs.ped_rules.specs.ped_loop_runs.specs.ped_bodies.specs.ped_steps.specs.declared.rules.Rule.{Rule}
-use Rattle.ped_answer.specs.ped_session.specs.ped_transformations.specs.ped_reindex.specs.ped_loops.specs.ped_scalar.specs.ped_rules.specs.ped_loop_runs.specs.ped_bodies.specs.ped_steps.specs.declared.rules.Rule.TheVariants.{NoLoop, ParallelState, IndexEscapes, Range, NotScalar, NotConstant, AlreadyPrivate, NotSum}
-use Rattle.ped_answer.specs.ped_session.specs.ped_transformations.specs.ped_reindex.specs.ped_loops.specs.ped_scalar.specs.ped_rules.specs.ped_loop_runs.specs.ped_bodies.specs.ped_steps.specs.RuleNames.{number_of}
-use Rattle.ped_answer.specs.ped_session.specs.ped_transformations.specs.ped_reindex.specs.ped_loops.specs.ped_scalar.specs.ped_rules.specs.ped_loop_runs.specs.ped_bodies.specs.ped_steps.specs.Causes.{Rules, Cause, IsFirstCause}
-use Rattle.ped_answer.specs.ped_session.specs.ped_transformations.specs.ped_reindex.specs.ped_loops.specs.ped_scalar.specs.ped_rules.specs.Chains.{no_rules, also, WhereLoop}
-use Rattle.ped_answer.specs.ped_session.specs.ped_transformations.specs.ped_reindex.specs.ped_loops.specs.ped_scalar.specs.ped_rules.specs.Rules.{WhereNoLoop, WhereEscape, isnt_constant}
-use Rattle.ped_answer.specs.ped_session.specs.ped_transformations.specs.ped_reindex.specs.ped_loops.specs.ped_scalar.specs.ped_rules.proofs.Chains.{first_later, none_later}
-use Rattle.ped_answer.specs.ped_session.specs.ped_transformations.specs.ped_reindex.specs.ped_loops.specs.ped_scalar.specs.ped_rules.proofs.Decided.{loop_decided, valid_decided}
-use Rattle.ped_answer.specs.ped_session.specs.ped_transformations.specs.ped_reindex.specs.ped_loops.specs.ped_scalar.specs.Privatising.{is_in_parallel}
-use Rattle.ped_answer.specs.ped_session.specs.ped_transformations.specs.ped_reindex.specs.ped_loops.specs.ped_scalar.specs.Expanding.{has_far_value}
-use Rattle.ped_answer.specs.ped_session.specs.ped_transformations.specs.ped_reduce.specs.Lists.{list_of}
-use Rattle.ped_answer.specs.ped_session.specs.ped_transformations.specs.ped_reduce.specs.Lowering.{Lowered, not_lowered, lowered_at}
-use Rattle.ped_answer.specs.ped_session.specs.ped_transformations.specs.ped_reduce.specs.Reducing.{first_beside_sums, has_unsummable, has_private_or_twice, WhereNoSum, also_against_sums, StandsAgainstSumming, carried_beside, is_in_live, IsLive, LowersOne, Lowers, IsLowered}
-use Rattle.ped_answer.specs.ped_session.specs.ped_transformations.specs.ped_reduce.proofs.SummingRules.{AreAbove, also_above, here_first}
+use Rattle.ped_tree.specs.Tree.{Head, StmtTrees, ProgramTree}
+use Rattle.ped_tree.specs.Numbering.{statements_count}
+use Rattle.ped_session.specs.ped_symbols.specs.NameRefusals.{IsValid}
+use Rattle.ped_session.specs.ped_symbols.specs.Kinds.{table_of}
+use Rattle.ped_session.specs.ped_flow.specs.Questions.{LoopOf}
+use Rattle.ped_session.specs.ped_steps.specs.declared.rules.Rule.{Rule}
+use Rattle.ped_session.specs.ped_steps.specs.declared.rules.Rule.TheVariants.{NoLoop, ParallelState, IndexEscapes, Range, NotScalar, NotConstant, AlreadyPrivate, NotSum}
+use Rattle.ped_session.specs.ped_steps.specs.RuleNames.{number_of}
+use Rattle.ped_session.specs.ped_steps.specs.Causes.{Rules, Cause, IsFirstCause}
+use Rattle.ped_session.specs.ped_rules.specs.Chains.{no_rules, also, WhereLoop}
+use Rattle.ped_session.specs.ped_rules.specs.Rules.{WhereNoLoop, WhereEscape, isnt_constant}
+use Rattle.ped_session.specs.ped_rules.proofs.Chains.{first_later, none_later}
+use Rattle.ped_session.specs.ped_rules.proofs.Decided.{loop_decided, valid_decided}
+use Rattle.ped_session.specs.ped_rules.specs.Scalars.{is_in_parallel}
+use Rattle.ped_session.specs.ped_rules.specs.Scalars.{has_far_value}
+use Rattle.ped_session.specs.ped_transformations.specs.ped_reduce.specs.Lists.{list_of}
+use Rattle.ped_session.specs.ped_transformations.specs.ped_reduce.specs.Lowering.{Lowered, not_lowered, lowered_at}
+use Rattle.ped_session.specs.ped_transformations.specs.ped_reduce.specs.Reducing.{first_beside_sums, has_unsummable, has_private_or_twice, WhereNoSum, also_against_sums, StandsAgainstSumming, carried_beside, is_in_live, IsLive, LowersOne, Lowers, IsLowered}
+use Rattle.ped_session.specs.ped_transformations.specs.ped_reduce.proofs.SummingRules.{AreAbove, also_above, here_first}
 use Rattle.ped_answer.proofs.AmongCauses.{first_among, none_among}
 use Rattle.ped_answer.proofs.ExistenceLaws.ChainCauses.{Settled, Found, found_last, one_loop, settled_no_loop, settled_where, settled_escape, some_cause}
 

@@ -1,11 +1,11 @@
 -- Each finding is that of a refusal as the code has it.
 use Rattle.std.proofs.Common.{◌≡◌, refl}
-use Rattle.ped_answer.specs.ped_session.specs.ped_tree.specs.Grammar.Refusal as plain
-use Rattle.ped_answer.specs.ped_session.specs.ped_tree.specs.Grammar.Refusal.{Refusal, Finding}
-use Rattle.ped_answer.specs.ped_session.specs.ped_tree.specs.declared.grammar.refusals.RefusalKind.{RefusalKind}
-use Rattle.ped_answer.specs.ped_session.specs.ped_tree.specs.declared.grammar.refusals.RefusalKind.TheVariants as kind
-use Rattle.ped_answer.specs.ped_session.specs.ped_tree.specs.declared.grammar.refusals.Refusal as declared
-use Rattle.ped_answer.specs.ped_session.specs.ped_tree.specs.Grammar.RefusalViews.{kind_of, finding_of}
+use Rattle.ped_tree.specs.Grammar.Refusal as plain
+use Rattle.ped_tree.specs.Grammar.Refusal.{Refusal, Finding}
+use Rattle.ped_tree.specs.declared.grammar.refusals.RefusalKind.{RefusalKind}
+use Rattle.ped_tree.specs.declared.grammar.refusals.RefusalKind.TheVariants as kind
+use Rattle.ped_tree.specs.declared.grammar.refusals.Refusal as declared
+use Rattle.ped_tree.specs.Grammar.RefusalViews.{kind_of, finding_of}
 
 kind_for : (r : Refusal) → (k : RefusalKind) × (kind_of k ≡ r)
 kind_for plain.Tab = (kind.Tab, refl)

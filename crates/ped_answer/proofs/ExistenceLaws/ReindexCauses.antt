@@ -1,26 +1,26 @@
 -- `skew`, `strip` and `peel` have a first cause against them in a program, or none.
 use Rattle.std.proofs.Common.{◌≡◌, ◌⊎◌, ℕ, ℤ, inl, inr, sym, ap, ◌∙◌, Bool, true, false, List, Option, Some, None, refl}
 use Rattle.std.proofs.lemmas.Bool.{both_ways}
-use Rattle.ped_answer.specs.ped_session.specs.ped_tree.specs.Tree.{ProgramTree}
-use Rattle.ped_answer.specs.ped_session.specs.ped_order.specs.ped_flow.specs.PlainBounds.{IsPlain}
-use Rattle.ped_answer.specs.ped_session.specs.ped_order.specs.ped_flow.specs.Questions.{LoopOf}
-use Rattle.ped_answer.specs.ped_session.specs.ped_symbols.specs.Kinds.{table_of}
-use Rattle.ped_answer.specs.ped_session.specs.ped_symbols.specs.NameRefusals.{IsValid}
-use Rattle.ped_answer.specs.ped_session.specs.ped_transformations.specs.ped_reindex.specs.Skewing.{has_bad_factor, skewed, MakesSkewed, skew_leaves, StandsAgainstSkewing}
-use Rattle.ped_answer.specs.ped_session.specs.ped_transformations.specs.ped_reindex.specs.Stripping.{has_bad_size, strip_variable, stripped, MakesStripped, IsItsLimit, strip_leaves, StandsAgainstStripping}
-use Rattle.ped_answer.specs.ped_session.specs.ped_transformations.specs.ped_reindex.specs.Peeling.{Peeled, peeled_of, peeled, peel_kept, MakesPeeled, StandsAgainstPeeling}
-use Rattle.ped_answer.specs.ped_session.specs.ped_transformations.specs.ped_reindex.specs.ped_loops.proofs.PlainDecided.{plain_decided}
-use Rattle.ped_answer.specs.ped_session.specs.ped_transformations.specs.ped_reindex.proofs.SkewRules as skew
-use Rattle.ped_answer.specs.ped_session.specs.ped_transformations.specs.ped_reindex.proofs.StripRules as strip
-use Rattle.ped_answer.specs.ped_session.specs.ped_transformations.specs.ped_reindex.proofs.PeelRules as peel
-use Rattle.ped_answer.specs.ped_session.specs.ped_transformations.specs.ped_reindex.specs.ped_loops.specs.ped_scalar.specs.ped_rules.specs.ped_loop_runs.specs.ped_bodies.specs.ped_steps.specs.declared.rules.Rule.TheVariants.{NoLoop, NotPerfect, ParallelState, HasPrivate, IndexEscapes, BoundNotPlain, StepShape, Range, NotConstant, Limit, BadFactor}
-use Rattle.ped_answer.specs.ped_session.specs.ped_transformations.specs.ped_reindex.specs.ped_loops.specs.ped_scalar.specs.ped_rules.specs.ped_loop_runs.specs.ped_bodies.specs.ped_steps.specs.Causes.{Cause, IsFirstCause, none_forbids}
-use Rattle.ped_answer.specs.ped_session.specs.ped_transformations.specs.ped_reindex.specs.ped_loops.specs.ped_scalar.specs.ped_rules.specs.ped_loop_runs.specs.ped_bodies.specs.ped_steps.specs.Replacing.{all_kept}
-use Rattle.ped_answer.specs.ped_session.specs.ped_transformations.specs.ped_reindex.specs.ped_loops.specs.ped_scalar.specs.ped_rules.specs.Chains.{WhereLoop, Unless}
-use Rattle.ped_answer.specs.ped_session.specs.ped_transformations.specs.ped_reindex.specs.ped_loops.specs.ped_scalar.specs.ped_rules.specs.KeepMaps.{moved_by}
-use Rattle.ped_answer.specs.ped_session.specs.ped_transformations.specs.ped_reindex.specs.ped_loops.specs.ped_scalar.specs.ped_rules.specs.OnlyLoops.{either}
-use Rattle.ped_answer.specs.ped_session.specs.ped_transformations.specs.ped_reindex.specs.ped_loops.specs.ped_scalar.specs.ped_rules.specs.Rules.{WhereNoLoop, isnt_perfect, is_parallel, has_private, WhereEscape, WhereUnplain, WhereLimit}
-use Rattle.ped_answer.specs.ped_session.specs.ped_transformations.specs.ped_reindex.specs.ped_loops.specs.ped_scalar.specs.ped_rules.proofs.Decided.{loop_decided, valid_decided, limit_stands}
+use Rattle.ped_tree.specs.Tree.{ProgramTree}
+use Rattle.ped_session.specs.ped_flow.specs.PlainBounds.{IsPlain}
+use Rattle.ped_session.specs.ped_flow.specs.Questions.{LoopOf}
+use Rattle.ped_session.specs.ped_symbols.specs.Kinds.{table_of}
+use Rattle.ped_session.specs.ped_symbols.specs.NameRefusals.{IsValid}
+use Rattle.ped_session.specs.ped_transformations.specs.ped_reindex.specs.Skewing.{has_bad_factor, skewed, MakesSkewed, skew_leaves, StandsAgainstSkewing}
+use Rattle.ped_session.specs.ped_transformations.specs.ped_reindex.specs.Stripping.{has_bad_size, strip_variable, stripped, MakesStripped, IsItsLimit, strip_leaves, StandsAgainstStripping}
+use Rattle.ped_session.specs.ped_transformations.specs.ped_reindex.specs.Peeling.{Peeled, peeled_of, peeled, peel_kept, MakesPeeled, StandsAgainstPeeling}
+use Rattle.ped_session.specs.ped_rules.proofs.HeadLaws.PlainDecided.{plain_decided}
+use Rattle.ped_session.specs.ped_transformations.specs.ped_reindex.proofs.SkewRules as skew
+use Rattle.ped_session.specs.ped_transformations.specs.ped_reindex.proofs.StripRules as strip
+use Rattle.ped_session.specs.ped_transformations.specs.ped_reindex.proofs.PeelRules as peel
+use Rattle.ped_session.specs.ped_steps.specs.declared.rules.Rule.TheVariants.{NoLoop, NotPerfect, ParallelState, HasPrivate, IndexEscapes, BoundNotPlain, StepShape, Range, NotConstant, Limit, BadFactor}
+use Rattle.ped_session.specs.ped_steps.specs.Causes.{Cause, IsFirstCause, none_forbids}
+use Rattle.ped_session.specs.ped_steps.specs.Replacing.{all_kept}
+use Rattle.ped_session.specs.ped_rules.specs.Chains.{WhereLoop, Unless}
+use Rattle.ped_session.specs.ped_rules.specs.KeepMaps.{moved_by}
+use Rattle.ped_session.specs.ped_rules.specs.OnlyLoops.{either}
+use Rattle.ped_session.specs.ped_rules.specs.Rules.{WhereNoLoop, isnt_perfect, is_parallel, has_private, WhereEscape, WhereUnplain, WhereLimit}
+use Rattle.ped_session.specs.ped_rules.proofs.Decided.{loop_decided, valid_decided, limit_stands}
 use Rattle.ped_answer.specs.Existence.Deciding.{Decided}
 use Rattle.ped_answer.proofs.ExistenceLaws.ChainCauses.{Settled, found_link, found_last, settled_no_loop, one_loop, settled_where, settled_escape, settled_limit, some_cause}
 

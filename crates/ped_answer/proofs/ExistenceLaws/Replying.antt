@@ -2,41 +2,41 @@
 use Rattle.std.proofs.Common.{◌≡◌, ◌⊎◌, ℕ, ◌+◌, ◌-◌, refl, sym, subst, inl, inr, Bool, true, false, List, [], ◌∷◌, ◌++◌, All, Option, Some, None, is_some}
 use Rattle.std.specs.Prelude.{MatchBool, ⊤}
 use Rattle.std.proofs.lemmas.List.Elements.{All-nil, All-cons, All-head, All-tail}
-use Rattle.ped_answer.specs.ped_session.specs.ped_tree.specs.Tree.{StmtTree, ProgramTree}
-use Rattle.ped_answer.specs.ped_session.specs.ped_tree.specs.Printing.{program_text}
-use Rattle.ped_answer.specs.ped_session.specs.ped_tree.specs.SourcePane.{source_pane}
-use Rattle.ped_answer.specs.ped_session.specs.ped_tree.specs.Numbering.{statement_with}
-use Rattle.ped_answer.specs.ped_session.specs.ped_symbols.specs.NameRefusals.{IsValid}
-use Rattle.ped_answer.specs.ped_session.specs.ped_graph.specs.DependencePane.{IsDependencePane, IsDependencePaneOf}
-use Rattle.ped_answer.specs.ped_session.specs.ped_graph.specs.Update.Fresh.{tested_pairs}
-use Rattle.ped_answer.specs.ped_session.specs.ped_valid.specs.Validity.{ReadsValid, RefusesText}
-use Rattle.ped_answer.specs.ped_session.specs.ped_valid.specs.Verdicts.{HasOneValidTree, HasOneFirstRefusal}
-use Rattle.ped_answer.specs.ped_session.specs.ped_valid.proofs.OneVerdict.{one_of_both, valid_prints}
-use Rattle.ped_answer.specs.ped_session.specs.ped_order.specs.ped_eval.specs.Outcomes.{Outcome}
-use Rattle.ped_answer.specs.ped_session.specs.ped_order.specs.ped_interleavings.specs.Interleavings.{Standing, at_start, IsInterleavedFrom}
-use Rattle.ped_answer.specs.ped_session.specs.ped_order.proofs.OneReport.{one_at_least}
-use Rattle.ped_answer.specs.ped_session.specs.ped_transformations.specs.ped_inline.specs.CallsPane.{IsCallsPane}
-use Rattle.ped_answer.specs.ped_session.specs.ped_transformations.specs.ped_script.specs.declared.items.Command.{Command}
-use Rattle.ped_answer.specs.ped_session.specs.ped_transformations.specs.ped_script.specs.declared.items.Command.TheVariants.{Source, Deps, Show, Calls, Print, Advise, Replace, Insert, Delete, Interchange, Reverse, Skew, Strip, Peel, Distribute, Fuse, Inline, Expand, Privatise, Reduce, Parallel, Serial, Reject, Auto, Undo, Redo, Run, Races, Tested}
-use Rattle.ped_answer.specs.ped_session.specs.ped_transformations.specs.ped_script.specs.declared.items.Item.{Item}
-use Rattle.ped_answer.specs.ped_session.specs.declared.changes.Change.TheVariants.{Edit}
-use Rattle.ped_answer.specs.ped_session.specs.declared.replies.Refusal.{Refusal}
-use Rattle.ped_answer.specs.ped_session.specs.declared.replies.Refusal.TheVariants.{BadEdit, Step, NothingToUndo, NothingToRedo, NoSuchStatement, NoSuchLine}
-use Rattle.ped_answer.specs.ped_session.specs.declared.replies.Reply.{Reply}
-use Rattle.ped_answer.specs.ped_session.specs.declared.replies.Reply.TheVariants.{Changed, Shown, Refused}
-use Rattle.ped_answer.specs.ped_session.specs.States.{Other, State, opened, changed_to, gone_back_to, gone_forward_to}
-use Rattle.ped_answer.specs.ped_session.specs.Splices.{spliced, are_lines, is_place, edit_keep}
-use Rattle.ped_answer.specs.ped_session.specs.Panes.{IsSourcePane, ArePanes, tested_row}
-use Rattle.ped_answer.specs.ped_session.specs.Blocks.{block, IsRunBlock}
-use Rattle.ped_answer.specs.ped_session.specs.LoweredRuns.{told_by, IsLoweredRun}
-use Rattle.ped_answer.specs.ped_session.specs.RaceRows.{race_row, IsRaceRow}
-use Rattle.ped_answer.specs.ped_session.specs.ped_transformations.specs.ped_reindex.specs.ped_loops.specs.ped_scalar.specs.ped_rules.specs.Steps.{StepAt, MaybeStep, no_step, some_step, MatchStep}
-use Rattle.ped_answer.specs.ped_session.specs.ped_transformations.specs.Table as table
-use Rattle.ped_answer.specs.ped_session.specs.ped_transformations.specs.Advice.{IsAdvice}
-use Rattle.ped_answer.specs.ped_session.specs.Steps.{Refuses, Shows, ShowsOf, ShowsStatement, Edits, accepted, refused, change_by, Transforms, missing, forbidden, transformed, GoesBack, GoesForward, IsOther, IsStep}
-use Rattle.ped_answer.specs.ped_session.specs.Histories.{IsPrinted, ArePrinted}
-use Rattle.ped_answer.specs.ped_session.specs.Scripts.{Said, said_by, bad_command_said, nothing_said, said_both, AnswersCommand, AnswersItems}
-use Rattle.ped_answer.specs.ped_session.specs.AutoAnswers.{auto_text}
+use Rattle.ped_tree.specs.Tree.{StmtTree, ProgramTree}
+use Rattle.ped_tree.specs.Printing.{program_text}
+use Rattle.ped_tree.specs.SourcePane.{source_pane}
+use Rattle.ped_tree.specs.Numbering.{statement_with}
+use Rattle.ped_session.specs.ped_symbols.specs.NameRefusals.{IsValid}
+use Rattle.ped_session.specs.ped_graph.specs.DependencePane.{IsDependencePane, IsDependencePaneOf}
+use Rattle.ped_session.specs.ped_graph.specs.Update.Fresh.{tested_pairs}
+use Rattle.ped_session.specs.ped_valid.specs.Validity.{ReadsValid, RefusesText}
+use Rattle.ped_session.specs.ped_valid.specs.Verdicts.{HasOneValidTree, HasOneFirstRefusal}
+use Rattle.ped_session.specs.ped_valid.proofs.OneVerdict.{one_of_both, valid_prints}
+use Rattle.ped_session.specs.ped_rules.specs.ped_eval.specs.Outcomes.{Outcome}
+use Rattle.ped_session.specs.ped_order.specs.ped_interleavings.specs.Interleavings.{Standing, at_start, IsInterleavedFrom}
+use Rattle.ped_session.specs.ped_order.proofs.OneReport.{one_at_least}
+use Rattle.ped_session.specs.ped_transformations.specs.ped_inline.specs.CallsPane.{IsCallsPane}
+use Rattle.ped_script.specs.declared.items.Command.{Command}
+use Rattle.ped_script.specs.declared.items.Command.TheVariants.{Source, Deps, Show, Calls, Print, Advise, Replace, Insert, Delete, Interchange, Reverse, Skew, Strip, Peel, Distribute, Fuse, Inline, Expand, Privatise, Reduce, Parallel, Serial, Reject, Auto, Undo, Redo, Run, Races, Tested}
+use Rattle.ped_script.specs.declared.items.Item.{Item}
+use Rattle.ped_session.specs.declared.changes.Change.TheVariants.{Edit}
+use Rattle.ped_session.specs.declared.replies.Refusal.{Refusal}
+use Rattle.ped_session.specs.declared.replies.Refusal.TheVariants.{BadEdit, Step, NothingToUndo, NothingToRedo, NoSuchStatement, NoSuchLine}
+use Rattle.ped_session.specs.declared.replies.Reply.{Reply}
+use Rattle.ped_session.specs.declared.replies.Reply.TheVariants.{Changed, Shown, Refused}
+use Rattle.ped_session.specs.States.{Other, State, opened, changed_to, gone_back_to, gone_forward_to}
+use Rattle.ped_session.specs.Splices.{spliced, are_lines, is_place, edit_keep}
+use Rattle.ped_session.specs.Panes.{IsSourcePane, ArePanes, tested_row}
+use Rattle.ped_session.specs.Blocks.{block, IsRunBlock}
+use Rattle.ped_session.specs.LoweredRuns.{told_by, IsLoweredRun}
+use Rattle.ped_session.specs.RaceRows.{race_row, IsRaceRow}
+use Rattle.ped_session.specs.ped_rules.specs.Steps.{StepAt, MaybeStep, no_step, some_step, MatchStep}
+use Rattle.ped_session.specs.ped_transformations.specs.Table as table
+use Rattle.ped_session.specs.ped_transformations.specs.Advice.{IsAdvice}
+use Rattle.ped_session.specs.Steps.{Refuses, Shows, ShowsOf, ShowsStatement, Edits, accepted, refused, change_by, Transforms, missing, forbidden, transformed, GoesBack, GoesForward, IsOther, IsStep}
+use Rattle.ped_session.specs.Histories.{IsPrinted, ArePrinted}
+use Rattle.ped_session.specs.Scripts.{Said, said_by, bad_command_said, nothing_said, said_both, AnswersCommand, AnswersItems}
+use Rattle.ped_session.specs.AutoAnswers.{auto_text}
 use Rattle.ped_answer.proofs.ExistenceLaws.Advices.{advice_of}
 use Rattle.ped_answer.proofs.ExistenceLaws.Autos.{auto_or_other, some_auto}
 use Rattle.ped_answer.proofs.ExistenceLaws.Edges.{pane_of_program, calls_pane_of_program, pane_of_statement}

@@ -3,21 +3,21 @@ use Rattle.std.proofs.Common.{◌≢◌, refl, ap, inl, inr, ℕ, List, [], ◌�
 use Rattle.std.specs.List.{AllByRecursion}
 use Rattle.std.proofs.lemmas.List.Elements.{All-nil}
 use Rattle.ped_gen.specs.Generated.{script}
-use Rattle.ped_answer.specs.ped_session.specs.ped_tree.specs.Tree.{ProgramTree}
-use Rattle.ped_answer.specs.ped_session.specs.ped_symbols.specs.NameRefusals.{IsValid}
-use Rattle.ped_answer.specs.ped_session.specs.ped_order.specs.ped_eval.specs.Outcomes.{Outcome}
-use Rattle.ped_answer.specs.ped_session.specs.ped_transformations.specs.ped_script.specs.Items.{commands_of}
-use Rattle.ped_answer.specs.ped_session.specs.ped_transformations.specs.ped_script.specs.declared.items.Command.{Command}
-use Rattle.ped_answer.specs.ped_session.specs.ped_transformations.specs.ped_script.specs.declared.items.Item.{Item}
-use Rattle.ped_answer.specs.ped_session.specs.States.{Other, State, opened}
-use Rattle.ped_answer.specs.ped_session.specs.Histories.{IsPrinted, ArePrinted}
+use Rattle.ped_tree.specs.Tree.{ProgramTree}
+use Rattle.ped_session.specs.ped_symbols.specs.NameRefusals.{IsValid}
+use Rattle.ped_session.specs.ped_rules.specs.ped_eval.specs.Outcomes.{Outcome}
+use Rattle.ped_script.specs.Items.{commands_of}
+use Rattle.ped_script.specs.declared.items.Command.{Command}
+use Rattle.ped_script.specs.declared.items.Item.{Item}
+use Rattle.ped_session.specs.States.{Other, State, opened}
+use Rattle.ped_session.specs.Histories.{IsPrinted, ArePrinted}
 use Rattle.ped_answer.specs.Existence.Deciding.{Decided}
 use Rattle.ped_answer.specs.Generated.{Tally, no_tally, tally_both, tally_of, bad_command_tally, AppliesCommand, Applies, EndAlike, IsWordOn, alike, unlike, Reports}
-use Rattle.ped_answer.specs.ped_session.specs.ped_transformations.specs.ped_script.specs.declared.items.Command.TheVariants.{Auto}
+use Rattle.ped_script.specs.declared.items.Command.TheVariants.{Auto}
 use Rattle.ped_answer.specs.Tallies.{IsNoAuto}
 use Rattle.ped_answer.proofs.MadeScripts.{no_auto}
 use Rattle.ped_answer.proofs.ExistenceLaws.Alike.{alike_decided}
-use Rattle.ped_answer.specs.ped_session.specs.ped_transformations.specs.ped_reduce.specs.ped_splits.proofs.Existence.Edges.{edges_of_program}
+use Rattle.ped_session.specs.ped_transformations.specs.ped_splits.proofs.Existence.Edges.{edges_of_program}
 use Rattle.ped_answer.proofs.ExistenceLaws.Replying.{SomeOutcome, lowered_outcome, replies, reads_printed}
 
 -- what lines come to, and the state behind them, whose sources are all printed

@@ -1,22 +1,24 @@
 -- Each step on a scalar has a first cause against it in a program, or none.
 use Rattle.std.proofs.Common.{◌≡◌, ◌⊎◌, ℕ, Bool, List, Option, Some, None, inl, inr, refl, sym, ◌∙◌}
-use Rattle.ped_answer.specs.ped_session.specs.ped_tree.specs.Tree.{ProgramTree}
-use Rattle.ped_answer.specs.ped_session.specs.ped_symbols.specs.NameRefusals.{IsValid}
-use Rattle.ped_answer.specs.ped_session.specs.ped_symbols.specs.Kinds.{table_of}
-use Rattle.ped_answer.specs.ped_session.specs.ped_order.specs.ped_flow.specs.Questions.{LoopOf}
-use Rattle.ped_answer.specs.ped_session.specs.ped_transformations.specs.ped_reindex.specs.ped_loops.specs.ped_scalar.specs.ped_rules.specs.ped_loop_runs.specs.ped_bodies.specs.ped_steps.specs.declared.rules.Rule.TheVariants.{NoLoop, ParallelState, Range, ExposedOrLive, NotScalar, NotConstant, Limit, AlreadyPrivate}
-use Rattle.ped_answer.specs.ped_session.specs.ped_transformations.specs.ped_reindex.specs.ped_loops.specs.ped_scalar.specs.ped_rules.specs.ped_loop_runs.specs.ped_bodies.specs.ped_steps.specs.Causes.{Cause, IsFirstCause, none_forbids}
-use Rattle.ped_answer.specs.ped_session.specs.ped_transformations.specs.ped_reindex.specs.ped_loops.specs.ped_scalar.specs.ped_rules.specs.ped_loop_runs.specs.ped_bodies.specs.ped_steps.specs.Replacing.{all_kept}
-use Rattle.ped_answer.specs.ped_session.specs.ped_transformations.specs.ped_reindex.specs.ped_loops.specs.ped_scalar.specs.ped_rules.specs.Chains.{WhereLoop}
-use Rattle.ped_answer.specs.ped_session.specs.ped_transformations.specs.ped_reindex.specs.ped_loops.specs.ped_scalar.specs.ped_rules.specs.Rules.{WhereNoLoop, is_parallel, isnt_constant, WhereLimit}
-use Rattle.ped_answer.specs.ped_session.specs.ped_transformations.specs.ped_reindex.specs.ped_loops.specs.ped_scalar.specs.ped_rules.specs.Spans.{Values, Span, span_of}
-use Rattle.ped_answer.specs.ped_session.specs.ped_transformations.specs.ped_reindex.specs.ped_loops.specs.ped_scalar.specs.ped_rules.proofs.Decided.{loop_decided, valid_decided}
-use Rattle.ped_answer.specs.ped_session.specs.ped_transformations.specs.ped_reindex.specs.ped_loops.specs.ped_scalar.specs.Scalars.{is_unfit}
-use Rattle.ped_answer.specs.ped_session.specs.ped_transformations.specs.ped_reindex.specs.ped_loops.specs.ped_scalar.specs.Privatising.{privatised, IsScalarExposedOrLiveBy, is_in_parallel, WhereExposedOrLive, isnt_listed, MakesPrivatised, WhereUnlistedLimit, is_scalar_listed, StandsAgainstPrivatising}
-use Rattle.ped_answer.specs.ped_session.specs.ped_transformations.specs.ped_reindex.specs.ped_loops.specs.ped_scalar.specs.Expanding.{array_name, IsScalarLostBy, SaysLive, IsExpanded, expanded, has_far_value, WhereLost, WhereArrayLimit, is_scalar_private_near, StandsAgainstExpanding}
-use Rattle.ped_answer.specs.ped_session.specs.ped_transformations.specs.ped_reindex.specs.ped_loops.specs.ped_scalar.proofs.LiveSaid.{live_said}
-use Rattle.ped_answer.specs.ped_session.specs.ped_transformations.specs.ped_reindex.specs.ped_loops.specs.ped_scalar.proofs.PrivatiseRules as private
-use Rattle.ped_answer.specs.ped_session.specs.ped_transformations.specs.ped_reindex.specs.ped_loops.specs.ped_scalar.proofs.ExpandRules as expand
+use Rattle.ped_tree.specs.Tree.{ProgramTree}
+use Rattle.ped_session.specs.ped_symbols.specs.NameRefusals.{IsValid}
+use Rattle.ped_session.specs.ped_symbols.specs.Kinds.{table_of}
+use Rattle.ped_session.specs.ped_flow.specs.Questions.{LoopOf}
+use Rattle.ped_session.specs.ped_steps.specs.declared.rules.Rule.TheVariants.{NoLoop, ParallelState, Range, ExposedOrLive, NotScalar, NotConstant, Limit, AlreadyPrivate}
+use Rattle.ped_session.specs.ped_steps.specs.Causes.{Cause, IsFirstCause, none_forbids}
+use Rattle.ped_session.specs.ped_steps.specs.Replacing.{all_kept}
+use Rattle.ped_session.specs.ped_rules.specs.Chains.{WhereLoop}
+use Rattle.ped_session.specs.ped_rules.specs.Rules.{WhereNoLoop, is_parallel, isnt_constant, WhereLimit}
+use Rattle.ped_session.specs.ped_rules.specs.Spans.{Values, Span, span_of}
+use Rattle.ped_session.specs.ped_rules.proofs.Decided.{loop_decided, valid_decided}
+use Rattle.ped_session.specs.ped_rules.specs.Scalars.{is_unfit}
+use Rattle.ped_session.specs.ped_transformations.specs.ped_scalar.specs.Privatising.{privatised, IsScalarExposedOrLiveBy, WhereExposedOrLive, isnt_listed, MakesPrivatised, WhereUnlistedLimit, is_scalar_listed, StandsAgainstPrivatising}
+use Rattle.ped_session.specs.ped_rules.specs.Scalars.{is_in_parallel}
+use Rattle.ped_session.specs.ped_transformations.specs.ped_scalar.specs.Expanding.{array_name, IsScalarLostBy, SaysLive, IsExpanded, expanded, WhereLost, WhereArrayLimit, is_scalar_private_near, StandsAgainstExpanding}
+use Rattle.ped_session.specs.ped_rules.specs.Scalars.{has_far_value}
+use Rattle.ped_session.specs.ped_transformations.specs.ped_scalar.proofs.LiveSaid.{live_said}
+use Rattle.ped_session.specs.ped_transformations.specs.ped_scalar.proofs.PrivatiseRules as private
+use Rattle.ped_session.specs.ped_transformations.specs.ped_scalar.proofs.ExpandRules as expand
 use Rattle.ped_answer.proofs.ExistenceLaws.ChainCauses.{Settled, found_link, found_last, settled_both, settled_no_loop, settled_there, settled_where, settled_limit, some_cause}
 use Rattle.ped_answer.proofs.ExistenceLaws.LoopPaths.{exposed_or_live, lost}
 

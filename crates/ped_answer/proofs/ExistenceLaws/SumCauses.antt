@@ -2,21 +2,21 @@
 use Rattle.std.proofs.Common.{◌≡◌, ◌⊎◌, ℕ, ◌-◌, List, Bool, true, false, inl, inr, Option, Some, None, refl, sym, ◌∙◌, subst, arith}
 use Rattle.std.specs.List.{range_with_len}
 use Rattle.std.proofs.lemmas.Bool.{both_ways}
-use Rattle.ped_answer.specs.ped_session.specs.ped_tree.specs.Tree.{Head, StmtTrees, ProgramTree}
-use Rattle.ped_answer.specs.ped_session.specs.ped_symbols.specs.NameRefusals.{IsValid}
-use Rattle.ped_answer.specs.ped_session.specs.ped_order.specs.ped_flow.specs.Questions.{LoopOf}
-use Rattle.ped_answer.specs.ped_session.specs.ped_transformations.specs.ped_reindex.specs.ped_loops.specs.ped_scalar.specs.ped_rules.specs.ped_loop_runs.specs.ped_bodies.specs.ped_steps.specs.declared.rules.Rule.TheVariants.{Limit, AlreadyPrivate}
-use Rattle.ped_answer.specs.ped_session.specs.ped_transformations.specs.ped_reindex.specs.ped_loops.specs.ped_scalar.specs.ped_rules.specs.ped_loop_runs.specs.ped_bodies.specs.ped_steps.specs.Causes.{Rules, Cause, IsFirstCause}
-use Rattle.ped_answer.specs.ped_session.specs.ped_transformations.specs.ped_reindex.specs.ped_loops.specs.ped_scalar.specs.ped_rules.specs.ped_loop_runs.specs.ped_bodies.specs.ped_steps.specs.Replacing.{all_kept}
-use Rattle.ped_answer.specs.ped_session.specs.ped_transformations.specs.ped_reindex.specs.ped_loops.specs.ped_scalar.specs.ped_rules.specs.Chains.{also, WhereLoop}
-use Rattle.ped_answer.specs.ped_session.specs.ped_transformations.specs.ped_reindex.specs.ped_loops.specs.ped_scalar.specs.ped_rules.specs.Rules.{WhereLimit}
-use Rattle.ped_answer.specs.ped_session.specs.ped_transformations.specs.ped_reindex.specs.ped_loops.specs.ped_scalar.specs.ped_rules.proofs.Decided.{loop_decided, valid_decided}
-use Rattle.ped_answer.specs.ped_session.specs.ped_transformations.specs.ped_reduce.specs.Lists.{has_list}
-use Rattle.ped_answer.specs.ped_session.specs.ped_transformations.specs.ped_reduce.specs.Lowering.{Lowered, not_lowered, lowered_at}
-use Rattle.ped_answer.specs.ped_session.specs.ped_transformations.specs.ped_reduce.specs.Reducing.{carried_beside, is_in_live, Lowers, with_reduction, MakesReduction, IsUnlowerable, WhereReductionLimit, is_unlistable, StandsAgainstReducing}
-use Rattle.ped_answer.specs.ped_session.specs.ped_transformations.specs.ped_reduce.proofs.LoweringLaws.{one_behind}
-use Rattle.ped_answer.specs.ped_session.specs.ped_transformations.specs.ped_reduce.proofs.ReducingRules.{one_made}
-use Rattle.ped_answer.specs.ped_session.specs.ped_transformations.specs.ped_reduce.proofs.SummingRules.{AreAbove, also_above}
+use Rattle.ped_tree.specs.Tree.{Head, StmtTrees, ProgramTree}
+use Rattle.ped_session.specs.ped_symbols.specs.NameRefusals.{IsValid}
+use Rattle.ped_session.specs.ped_flow.specs.Questions.{LoopOf}
+use Rattle.ped_session.specs.ped_steps.specs.declared.rules.Rule.TheVariants.{Limit, AlreadyPrivate}
+use Rattle.ped_session.specs.ped_steps.specs.Causes.{Rules, Cause, IsFirstCause}
+use Rattle.ped_session.specs.ped_steps.specs.Replacing.{all_kept}
+use Rattle.ped_session.specs.ped_rules.specs.Chains.{also, WhereLoop}
+use Rattle.ped_session.specs.ped_rules.specs.Rules.{WhereLimit}
+use Rattle.ped_session.specs.ped_rules.proofs.Decided.{loop_decided, valid_decided}
+use Rattle.ped_session.specs.ped_transformations.specs.ped_reduce.specs.Lists.{has_list}
+use Rattle.ped_session.specs.ped_transformations.specs.ped_reduce.specs.Lowering.{Lowered, not_lowered, lowered_at}
+use Rattle.ped_session.specs.ped_transformations.specs.ped_reduce.specs.Reducing.{carried_beside, is_in_live, Lowers, with_reduction, MakesReduction, IsUnlowerable, WhereReductionLimit, is_unlistable, StandsAgainstReducing}
+use Rattle.ped_session.specs.ped_transformations.specs.ped_reduce.proofs.LoweringLaws.{one_behind}
+use Rattle.ped_session.specs.ped_transformations.specs.ped_reduce.proofs.ReducingRules.{one_made}
+use Rattle.ped_session.specs.ped_transformations.specs.ped_reduce.proofs.SummingRules.{AreAbove, also_above}
 use Rattle.ped_answer.proofs.ExistenceLaws.ChainCauses.{Settled, one_loop, settled_where, settled_limit, some_cause}
 use Rattle.ped_answer.proofs.ExistenceLaws.Lowerings.{found_above, no_sum, no_sum_found, no_sum_above, found_against, some_lowers}
 

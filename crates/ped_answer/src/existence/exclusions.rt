@@ -1,10 +1,10 @@
 //! Exclusions and vectors of views. Each function here does nothing; its contract is the law.
 
 ghost use Rattle.std.specs.Prelude.{List};
-ghost use Rattle.ped_answer.specs.ped_session.specs.ped_graph.specs.ped_views.specs.declared.directions.Direction.{Direction};
-ghost use Rattle.ped_answer.specs.ped_session.specs.ped_graph.specs.ped_views.specs.Views.{SubscriptPair, View};
-ghost use Rattle.ped_answer.specs.ped_session.specs.ped_graph.specs.ped_views.specs.Excluded.{Excludes};
-ghost use Rattle.ped_answer.specs.ped_session.specs.ped_graph.specs.ped_views.specs.Vectors.{AreVectors};
+ghost use Rattle.ped_session.specs.ped_rules.specs.ped_views.specs.declared.directions.Direction.{Direction};
+ghost use Rattle.ped_session.specs.ped_rules.specs.ped_views.specs.Views.{SubscriptPair, View};
+ghost use Rattle.ped_session.specs.ped_rules.specs.ped_views.specs.Excluded.{Excludes};
+ghost use Rattle.ped_session.specs.ped_rules.specs.ped_views.specs.Vectors.{AreVectors};
 ghost use Rattle.ped_answer.specs.Existence.Deciding.{Decided};
 
 /// A subscript pair excludes a direction vector, or it doesn't, whatever the view is: the sentences speak of index

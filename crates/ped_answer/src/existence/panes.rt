@@ -1,11 +1,11 @@
 //! Dependences and panes of programs. Each function here does nothing; its contract is the law.
 
 ghost use Rattle.std.specs.Prelude.{ℕ, List, Option};
-ghost use Rattle.ped_answer.specs.ped_session.specs.ped_tree.specs.Tree.{ProgramTree};
-ghost use Rattle.ped_answer.specs.ped_session.specs.ped_graph.specs.ped_edges.specs.Edges.{Edge};
-ghost use Rattle.ped_answer.specs.ped_session.specs.ped_graph.specs.Dependences.{AreEdges};
-ghost use Rattle.ped_answer.specs.ped_session.specs.ped_graph.specs.DependencePane.{IsDependencePane, IsDependencePaneOf};
-ghost use Rattle.ped_answer.specs.ped_session.specs.ped_transformations.specs.ped_inline.specs.CallsPane.{IsCallsPane};
+ghost use Rattle.ped_tree.specs.Tree.{ProgramTree};
+ghost use Rattle.ped_session.specs.ped_rules.specs.ped_edges.specs.Edges.{Edge};
+ghost use Rattle.ped_session.specs.ped_graph.specs.Dependences.{AreEdges};
+ghost use Rattle.ped_session.specs.ped_graph.specs.DependencePane.{IsDependencePane, IsDependencePaneOf};
+ghost use Rattle.ped_session.specs.ped_transformations.specs.ped_inline.specs.CallsPane.{IsCallsPane};
 
 /// Each program has its dependences: each pair of its references has the vectors of its view.
 pub fn dependences_exist()

@@ -1,21 +1,21 @@
 //! Replies to commands, and answers to scripts. Each function here does nothing; its contract is the law.
 
 ghost use Rattle.std.specs.Prelude.{◌≢◌, ℕ, List, Option};
-ghost use Rattle.ped_answer.specs.ped_io.specs.Outside.{Contents};
-ghost use Rattle.ped_answer.specs.ped_session.specs.ped_tree.specs.Tree.{ProgramTree};
-ghost use Rattle.ped_answer.specs.ped_session.specs.ped_symbols.specs.NameRefusals.{IsValid};
-ghost use Rattle.ped_answer.specs.ped_session.specs.ped_transformations.specs.ped_reduce.specs.Lowering.{Lowered};
-ghost use Rattle.ped_answer.specs.ped_session.specs.ped_transformations.specs.ped_reduce.specs.Reducing.{IsLowered};
-ghost use Rattle.ped_answer.specs.ped_session.specs.ped_transformations.specs.ped_script.specs.declared.items.Command.{Command};
-ghost use Rattle.ped_answer.specs.ped_session.specs.ped_transformations.specs.ped_script.specs.declared.items.Command.TheVariants as commands;
-ghost use Rattle.ped_answer.specs.ped_session.specs.ped_transformations.specs.ped_script.specs.declared.items.Item.{Item};
-ghost use Rattle.ped_answer.specs.ped_session.specs.declared.replies.Reply.{Reply};
-ghost use Rattle.ped_answer.specs.ped_session.specs.States.{State, opened};
-ghost use Rattle.ped_answer.specs.ped_session.specs.Steps.{IsStep};
-ghost use Rattle.ped_answer.specs.ped_session.specs.Histories.{ArePrinted};
-ghost use Rattle.ped_answer.specs.ped_session.specs.Scripts.{Said, AnswersItems};
+ghost use Rattle.ped_io.specs.Outside.{Contents};
+ghost use Rattle.ped_tree.specs.Tree.{ProgramTree};
+ghost use Rattle.ped_session.specs.ped_symbols.specs.NameRefusals.{IsValid};
+ghost use Rattle.ped_session.specs.ped_transformations.specs.ped_reduce.specs.Lowering.{Lowered};
+ghost use Rattle.ped_session.specs.ped_transformations.specs.ped_reduce.specs.Reducing.{IsLowered};
+ghost use Rattle.ped_script.specs.declared.items.Command.{Command};
+ghost use Rattle.ped_script.specs.declared.items.Command.TheVariants as commands;
+ghost use Rattle.ped_script.specs.declared.items.Item.{Item};
+ghost use Rattle.ped_session.specs.declared.replies.Reply.{Reply};
+ghost use Rattle.ped_session.specs.States.{State, opened};
+ghost use Rattle.ped_session.specs.Steps.{IsStep};
+ghost use Rattle.ped_session.specs.Histories.{ArePrinted};
+ghost use Rattle.ped_session.specs.Scripts.{Said, AnswersItems};
 ghost use Rattle.ped_answer.specs.declared.answering.Status.{Status};
-ghost use Rattle.ped_answer.specs.ped_words.specs.Requests.{Request};
+ghost use Rattle.ped_words.specs.Requests.{Request};
 ghost use Rattle.ped_answer.specs.Answer.{Answers};
 ghost use Rattle.ped_answer.specs.TestCounts.{Tests};
 

@@ -1,12 +1,12 @@
 -- Touches that correspond, and what evaluations see that correspond.
 use Rattle.std.proofs.Common.{◌≡◌, ℕ, suc, List, [], ◌∷◌, ◌++◌, Bool, refl, sym, ap, subst, ◌∙◌}
-use Rattle.ped_steps.specs.ped_laws.specs.ped_store.specs.Cells.{Cell}
-use Rattle.ped_steps.specs.ped_laws.specs.ped_store.specs.Stores.{Content, Number}
-use Rattle.ped_steps.specs.ped_laws.specs.ped_store.specs.Acts.{reads, is_told, Touch}
+use Rattle.ped_steps.specs.ped_store.specs.Cells.{Cell}
+use Rattle.ped_steps.specs.ped_store.specs.Stores.{Content, Number}
+use Rattle.ped_steps.specs.ped_store.specs.Acts.{reads, is_told, Touch}
 use Rattle.ped_steps.specs.ped_laws.specs.Acts.Fitting.{of_cells}
 use Rattle.ped_steps.specs.ped_laws.proofs.ActLaws.OfCells.{cells_append}
-use Rattle.ped_steps.specs.ped_laws.specs.ped_eval.specs.Evaluation.{Seen, cell_seen, index_seen, numbered, number_behind}
-use Rattle.ped_steps.specs.ped_laws.specs.ped_eval.specs.Statements.{read_touch, write_touch}
+use Rattle.ped_steps.specs.ped_eval.specs.Evaluation.{Seen, cell_seen, index_seen, numbered, number_behind}
+use Rattle.ped_steps.specs.ped_eval.specs.Statements.{read_touch, write_touch}
 use Rattle.ped_bodies.specs.Likewise.{Meet, Meets, AllMeet, AreSeenAlike}
 use Rattle.ped_bodies.specs.Standing.{SeesNoCell}
 

@@ -3,13 +3,13 @@ use Rattle.std.proofs.Common.{◌≡◌, ◌≤◌, ℕ, ◌+◌, ◌-◌, List,
 use Rattle.ped_steps.specs.ped_flow.specs.ped_tree.specs.Tree.{Int, Var, Element, Add, Sub, Mul, no_exprs, more_exprs, Head, StmtTrees, Assign, no_stmts, more_stmts}
 use Rattle.ped_steps.specs.ped_sums.specs.Sums.{times_of}
 use Rattle.ped_steps.specs.ped_sums.specs.Substitution.{statements_substituted}
-use Rattle.ped_steps.specs.ped_laws.specs.ped_store.specs.Cells.{Private, Iteration}
-use Rattle.ped_steps.specs.ped_laws.specs.ped_store.specs.Stores.{Store}
-use Rattle.ped_steps.specs.ped_laws.specs.ped_store.specs.Acts.{iterations_of}
+use Rattle.ped_steps.specs.ped_store.specs.Cells.{Private, Iteration}
+use Rattle.ped_steps.specs.ped_store.specs.Stores.{Store}
+use Rattle.ped_steps.specs.ped_store.specs.Acts.{iterations_of}
 use Rattle.ped_steps.specs.ped_laws.specs.Acts.Sets.{nothing}
-use Rattle.ped_steps.specs.ped_laws.specs.ped_eval.specs.Scopes.{Setting, Scope, turns_of}
-use Rattle.ped_steps.specs.ped_laws.specs.ped_eval.specs.Evaluation.{Seen}
-use Rattle.ped_steps.specs.ped_laws.specs.ped_eval.specs.Loops.{Entered, value_in, copied_names, frame}
+use Rattle.ped_steps.specs.ped_eval.specs.Scopes.{Setting, Scope, turns_of}
+use Rattle.ped_steps.specs.ped_eval.specs.Evaluation.{Seen}
+use Rattle.ped_steps.specs.ped_eval.specs.Loops.{Entered, value_in, copied_names, frame}
 use Rattle.ped_steps.specs.ped_laws.specs.Runs.Replaying.{IsEntered}
 use Rattle.ped_bodies.specs.Standing.{SettingsAgree}
 use Rattle.ped_bodies.specs.Moving.{own_number, moved_behind, turned, transposed, in_strips, peeled, in_loop}

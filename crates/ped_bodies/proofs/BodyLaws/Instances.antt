@@ -8,14 +8,14 @@ use Rattle.ped_steps.specs.ped_flow.specs.ped_tree.specs.Constants.NamedConstant
 use Rattle.ped_steps.specs.ped_flow.specs.ped_tree.specs.Tree.{ExprTree, Var, StmtTrees}
 use Rattle.ped_steps.specs.ped_flow.specs.ped_tree.specs.NamesIn.{stmts_names}
 use Rattle.ped_steps.specs.ped_sums.specs.Substitution.{substituted, all_substituted, statements_substituted}
-use Rattle.ped_steps.specs.ped_laws.specs.ped_store.specs.Cells.{Cell, Scalar, Element, Private, In, Out, Iteration}
-use Rattle.ped_steps.specs.ped_laws.specs.ped_store.specs.Acts.{Turn, iterations_of}
+use Rattle.ped_steps.specs.ped_store.specs.Cells.{Cell, Scalar, Element, Private, In, Out, Iteration}
+use Rattle.ped_steps.specs.ped_store.specs.Acts.{Turn, iterations_of}
 use Rattle.ped_steps.specs.ped_laws.specs.Acts.Renaming.{own_name}
 use Rattle.ped_steps.specs.ped_laws.specs.Acts.Sets.{nothing}
 use Rattle.ped_steps.specs.ped_laws.proofs.ActLaws.SameCells.{text_itself}
-use Rattle.ped_steps.specs.ped_laws.specs.ped_eval.specs.Scopes.{Setting, Frame, Scope, turns_of, index_value}
+use Rattle.ped_steps.specs.ped_eval.specs.Scopes.{Setting, Frame, Scope, turns_of, index_value}
 use Rattle.ped_steps.specs.ped_flow.specs.ped_tree.specs.NamesIn.{all_loop_variables}
-use Rattle.ped_steps.specs.ped_laws.specs.ped_eval.specs.Runs.{run_all}
+use Rattle.ped_steps.specs.ped_eval.specs.Runs.{run_all}
 use Rattle.ped_steps.specs.ped_laws.specs.Runs.Replaying.{goes_on}
 use Rattle.ped_steps.specs.Runs.Exchanging.{IsExchange, AreExchanged}
 use Rattle.ped_bodies.specs.Rewriting.{unchanged, all_unchanged, MayBeRewritten}

@@ -2,9 +2,9 @@
 use Rattle.std.proofs.Common.{◌≡◌, ℕ, List, [], ◌∷◌, map, filter, Bool, true, false, ◌||◌, refl, sym, ap, subst, ◌∙◌, ◌⊎◌, inl, inr}
 use Rattle.std.specs.Prelude.{not, cond}
 use Rattle.std.proofs.lemmas.Bool.{both_ways}
-use Rattle.ped_steps.specs.ped_laws.specs.ped_store.specs.Cells.{Cell, Scalar, Element, Private, In, Out}
-use Rattle.ped_steps.specs.ped_laws.specs.ped_store.specs.Acts.{Manner, reads, writes, is_told, Touch, Turn, Act}
-use Rattle.ped_steps.specs.ped_laws.specs.ped_store.specs.Races.{Access, is_lines, is_write, is_access, accesses_of, accesses}
+use Rattle.ped_steps.specs.ped_store.specs.Cells.{Cell, Scalar, Element, Private, In, Out}
+use Rattle.ped_steps.specs.ped_store.specs.Acts.{Manner, reads, writes, is_told, Touch, Turn, Act}
+use Rattle.ped_steps.specs.ped_store.specs.Races.{Access, is_lines, is_write, is_access, accesses_of, accesses}
 use Rattle.ped_steps.specs.ped_laws.specs.Acts.Fitting.{has_cell, of_cells}
 use Rattle.ped_steps.specs.ped_laws.specs.Acts.Orders.{IsIn}
 use Rattle.ped_steps.specs.ped_laws.proofs.ActLaws.Lists.{in_left, in_right, in_parts}

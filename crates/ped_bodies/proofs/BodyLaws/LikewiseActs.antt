@@ -2,9 +2,9 @@
 use Rattle.std.proofs.Common.{◌≡◌, ℕ, List, [], ◌∷◌, ◌++◌, map, filter, Bool, true, false, ◌&&◌, inl, inr, refl, sym, ap, subst, ◌∙◌}
 use Rattle.std.specs.Prelude.{not}
 use Rattle.std.proofs.lemmas.Bool.{both_ways}
-use Rattle.ped_steps.specs.ped_laws.specs.ped_store.specs.Cells.{Cell}
-use Rattle.ped_steps.specs.ped_laws.specs.ped_store.specs.Acts.{Manner, reads, writes, is_told, Touch, Turn, Act}
-use Rattle.ped_steps.specs.ped_laws.specs.ped_store.specs.Races.{is_write}
+use Rattle.ped_steps.specs.ped_store.specs.Cells.{Cell}
+use Rattle.ped_steps.specs.ped_store.specs.Acts.{Manner, reads, writes, is_told, Touch, Turn, Act}
+use Rattle.ped_steps.specs.ped_store.specs.Races.{is_write}
 use Rattle.ped_steps.specs.ped_laws.specs.Acts.Fitting.{touches_of, has_cell, of_cells}
 use Rattle.ped_steps.specs.ped_laws.specs.Acts.Sets.{nothing}
 use Rattle.ped_steps.specs.ped_laws.specs.Acts.Conflicts.{touches_without, without, IsNoReadOf, LeaveUnread, ReadNone}

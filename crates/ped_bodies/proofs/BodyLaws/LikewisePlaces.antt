@@ -7,12 +7,12 @@ use Rattle.ped_steps.specs.ped_flow.specs.ped_tree.specs.Constants.NamedConstant
 use Rattle.ped_steps.specs.ped_flow.specs.ped_base.proofs.NameEquality.{same_is}
 use Rattle.ped_steps.specs.ped_flow.specs.ped_tree.specs.Tree.{ExprTree, Var, Head, StmtTree, StmtTrees, Assign, If, Do, Print, Read, Stop, Comment, no_stmts, more_stmts}
 use Rattle.ped_steps.specs.ped_flow.specs.ped_tree.specs.Numbering.{statement_count, statements_count}
-use Rattle.ped_steps.specs.ped_laws.specs.ped_store.specs.Cells.{Cell, Private, Iteration}
-use Rattle.ped_steps.specs.ped_laws.specs.ped_store.specs.Stores.{Store}
-use Rattle.ped_steps.specs.ped_laws.specs.ped_store.specs.Acts.{Turn, Act, iterations_of}
-use Rattle.ped_steps.specs.ped_laws.specs.ped_eval.specs.Scopes.{Setting, Frame, Scope, turns_of, cell_of, index_value, names_in}
-use Rattle.ped_steps.specs.ped_laws.specs.ped_eval.specs.Values.{variable_value, name_value, value}
-use Rattle.ped_steps.specs.ped_laws.specs.ped_eval.specs.Loops.{increment, sorted_once, inner_variables}
+use Rattle.ped_steps.specs.ped_store.specs.Cells.{Cell, Private, Iteration}
+use Rattle.ped_steps.specs.ped_store.specs.Stores.{Store}
+use Rattle.ped_steps.specs.ped_store.specs.Acts.{Turn, Act, iterations_of}
+use Rattle.ped_steps.specs.ped_eval.specs.Scopes.{Setting, Frame, Scope, turns_of, cell_of, index_value, names_in}
+use Rattle.ped_steps.specs.ped_eval.specs.Values.{variable_value, name_value, value}
+use Rattle.ped_steps.specs.ped_eval.specs.Loops.{increment, sorted_once, inner_variables}
 use Rattle.ped_steps.specs.ped_flow.specs.ped_tree.specs.NamesIn.{loop_variables, all_loop_variables}
 use Rattle.ped_steps.specs.Runs.Renumbering.{renumbered_iteration, renumbered_turn}
 use Rattle.ped_bodies.specs.Rewriting.{head_rewritten, statement_rewritten, statements_rewritten, KeepsIncrement}

@@ -5,18 +5,18 @@ use Rattle.ped_steps.specs.ped_flow.specs.ped_base.specs.Lists.{is_among}
 use Rattle.ped_steps.specs.ped_flow.specs.ped_tree.specs.Tree.{ExprTree, ExprTrees, Var}
 use Rattle.ped_steps.specs.ped_flow.specs.ped_tree.specs.NamesIn.{expr_names}
 use Rattle.ped_steps.specs.ped_affine.specs.Assigned.{assigned_left}
-use Rattle.ped_steps.specs.ped_laws.specs.ped_store.specs.Cells.{Cell, Scalar, Element, Private, In, Out, same_cell}
-use Rattle.ped_steps.specs.ped_laws.specs.ped_store.specs.Stores.{Content, Number, Lines, Store, put, lines_in}
-use Rattle.ped_steps.specs.ped_laws.specs.ped_store.specs.Acts.{Touch, Place, did, store_behind}
-use Rattle.ped_steps.specs.ped_laws.specs.ped_store.specs.Races.{is_lines}
-use Rattle.ped_steps.specs.ped_laws.specs.ped_store.specs.DataLines.{Data, begun, Taken, next_value_of}
+use Rattle.ped_steps.specs.ped_store.specs.Cells.{Cell, Scalar, Element, Private, In, Out, same_cell}
+use Rattle.ped_steps.specs.ped_store.specs.Stores.{Content, Number, Lines, Store, put, lines_in}
+use Rattle.ped_steps.specs.ped_store.specs.Acts.{Touch, Place, did, store_behind}
+use Rattle.ped_steps.specs.ped_store.specs.Races.{is_lines}
+use Rattle.ped_steps.specs.ped_store.specs.DataLines.{Data, begun, Taken, next_value_of}
 use Rattle.ped_steps.specs.ped_laws.specs.Acts.Fitting.{Find}
 use Rattle.ped_steps.specs.ped_laws.proofs.ActLaws.Stores.{find_first, find_rest}
-use Rattle.ped_steps.specs.ped_laws.specs.ped_eval.specs.Scopes.{Setting, Scope, Names, names_in}
-use Rattle.ped_steps.specs.ped_laws.specs.ped_eval.specs.Evaluation.{Seen, cell_seen, index_seen, Evaluated, numbered, number_behind}
-use Rattle.ped_steps.specs.ped_laws.specs.ped_eval.specs.Values.{target}
-use Rattle.ped_steps.specs.ped_laws.specs.ped_eval.specs.Statements.{Taking, into_item, with_taken, taking, taking_from, reading, having_touched, reading_touches, read_touch, write_touch}
-use Rattle.ped_steps.specs.ped_laws.specs.ped_eval.specs.Runs.{does, nothing_done, run_taking, run_read}
+use Rattle.ped_steps.specs.ped_eval.specs.Scopes.{Setting, Scope, Names, names_in}
+use Rattle.ped_steps.specs.ped_eval.specs.Evaluation.{Seen, cell_seen, index_seen, Evaluated, numbered, number_behind}
+use Rattle.ped_steps.specs.ped_eval.specs.Values.{target}
+use Rattle.ped_steps.specs.ped_eval.specs.Statements.{Taking, into_item, with_taken, taking, taking_from, reading, having_touched, reading_touches, read_touch, write_touch}
+use Rattle.ped_steps.specs.ped_eval.specs.Runs.{does, nothing_done, run_taking, run_read}
 use Rattle.ped_steps.specs.ped_laws.specs.Runs.Seeing.{Holds}
 use Rattle.ped_steps.specs.ped_laws.specs.Runs.Replaying.{goes_on, act, Replays}
 use Rattle.ped_steps.specs.ped_laws.proofs.RunLaws.Told.{found_reads_first}

@@ -9,16 +9,16 @@ use Rattle.ped_steps.specs.ped_flow.specs.ped_tree.specs.Tree.{ExprTree, ExprTre
 use Rattle.ped_steps.specs.ped_flow.specs.ped_tree.specs.NamesIn.{expr_names, cond_names, item_names, head_names, stmt_names, stmts_names}
 use Rattle.ped_steps.specs.ped_flow.specs.ped_tree.specs.Numbering.{statement_count, statements_count}
 use Rattle.ped_steps.specs.ped_affine.specs.Assigned.{assigned_left, assigned_in, assigned_in_all}
-use Rattle.ped_steps.specs.ped_laws.specs.ped_store.specs.Cells.{Cell, Out}
-use Rattle.ped_steps.specs.ped_laws.specs.ped_store.specs.Stores.{Undefined, Number, Lines, Store, lines_in}
-use Rattle.ped_steps.specs.ped_laws.specs.ped_store.specs.Acts.{Turn, Touch, Place, Step, did, entered, ended_turn, closed, Act, store_behind}
-use Rattle.ped_steps.specs.ped_laws.specs.ped_eval.specs.Scopes.{Setting, Frame, Scope, turns_of, cell_of, Names, names_in, place_of}
-use Rattle.ped_steps.specs.ped_laws.specs.ped_eval.specs.Evaluation.{Seen, Evaluated, numbered, number_behind}
-use Rattle.ped_steps.specs.ped_laws.specs.ped_eval.specs.Values.{value, truth}
-use Rattle.ped_steps.specs.ped_laws.specs.ped_eval.specs.Statements.{assigned, assignment_touches, printed_line, print_touches, read_touch, write_touch, reading, reading_touches}
-use Rattle.ped_steps.specs.ped_laws.specs.ped_eval.specs.Loops.{Limits, limits, increment, iteration_count, inner_variables, Entered, entered_with, frame, left_in_variable, undefined_by, undefined_all, exit_touches, exit_when_none, entry_touches}
+use Rattle.ped_steps.specs.ped_store.specs.Cells.{Cell, Out}
+use Rattle.ped_steps.specs.ped_store.specs.Stores.{Undefined, Number, Lines, Store, lines_in}
+use Rattle.ped_steps.specs.ped_store.specs.Acts.{Turn, Touch, Place, Step, did, entered, ended_turn, closed, Act, store_behind}
+use Rattle.ped_steps.specs.ped_eval.specs.Scopes.{Setting, Frame, Scope, turns_of, cell_of, Names, names_in, place_of}
+use Rattle.ped_steps.specs.ped_eval.specs.Evaluation.{Seen, Evaluated, numbered, number_behind}
+use Rattle.ped_steps.specs.ped_eval.specs.Values.{value, truth}
+use Rattle.ped_steps.specs.ped_eval.specs.Statements.{assigned, assignment_touches, printed_line, print_touches, read_touch, write_touch, reading, reading_touches}
+use Rattle.ped_steps.specs.ped_eval.specs.Loops.{Limits, limits, increment, iteration_count, inner_variables, Entered, entered_with, frame, left_in_variable, undefined_by, undefined_all, exit_touches, exit_when_none, entry_touches}
 use Rattle.ped_steps.specs.ped_flow.specs.ped_tree.specs.NamesIn.{loop_variables, all_loop_variables}
-use Rattle.ped_steps.specs.ped_laws.specs.ped_eval.specs.Runs.{Ending, going, stopped, failed, Run, nothing_done, followed_by, then_run, does, on, run_taking, turns, parallel_turns, run_entered, run_from_entry, run, run_all}
+use Rattle.ped_steps.specs.ped_eval.specs.Runs.{Ending, going, stopped, failed, Run, nothing_done, followed_by, then_run, does, on, run_taking, turns, parallel_turns, run_entered, run_from_entry, run, run_all}
 use Rattle.ped_steps.specs.ped_laws.specs.Runs.Replaying.{Finish, goes_on, stops, finish_of, has_fault, act, Replays}
 use Rattle.ped_steps.specs.ped_laws.proofs.FlowRunLaws.Names.{sorted_among}
 use Rattle.ped_steps.specs.ped_laws.proofs.RunLaws.Told.{found_reads_first, replays_behind, replays_stopped, replays_act, replays_on}

@@ -15,17 +15,17 @@ use Rattle.ped_steps.specs.ped_flow.specs.ped_tree.specs.Tree.{ExprTree, ExprTre
 use Rattle.ped_steps.specs.ped_flow.specs.ped_tree.specs.NamesIn.{expr_names, exprs_names, cond_names, item_names}
 use Rattle.ped_steps.specs.ped_sums.specs.Sums.{plus_of, minus_of}
 use Rattle.ped_steps.specs.ped_affine.specs.Assigned.{assigned_left}
-use Rattle.ped_steps.specs.ped_laws.specs.ped_store.specs.Cells as cells
-use Rattle.ped_steps.specs.ped_laws.specs.ped_store.specs.Cells.{Cell}
-use Rattle.ped_steps.specs.ped_laws.specs.ped_store.specs.Storage.{is_within}
-use Rattle.ped_steps.specs.ped_laws.specs.ped_store.specs.Stores.{Store, number_read, storable, outside_bounds}
-use Rattle.ped_steps.specs.ped_laws.specs.ped_store.specs.Races.{is_lines}
+use Rattle.ped_steps.specs.ped_store.specs.Cells as cells
+use Rattle.ped_steps.specs.ped_store.specs.Cells.{Cell}
+use Rattle.ped_steps.specs.ped_store.specs.Storage.{is_within}
+use Rattle.ped_steps.specs.ped_store.specs.Stores.{Store, number_read, storable, outside_bounds}
+use Rattle.ped_steps.specs.ped_store.specs.Races.{is_lines}
 use Rattle.ped_steps.specs.ped_laws.proofs.ActLaws.SameCells.{text_itself}
-use Rattle.ped_steps.specs.ped_laws.specs.ped_eval.specs.Scopes.{Setting, Scope, cell_of, index_value, Names, names_in}
-use Rattle.ped_steps.specs.ped_laws.specs.ped_eval.specs.Evaluation.{Seen, cell_seen, index_seen, Evaluated, having_seen, onward, ◌>>>◌, given, by_number, read_cell, read_index}
-use Rattle.ped_steps.specs.ped_laws.specs.ped_eval.specs.Values.{of_intrinsic, variable_value, name_value, is_rank, element_cell, binary, value, values, relation_holds, truth, target}
-use Rattle.ped_steps.specs.ped_laws.specs.ped_eval.specs.Statements.{Stored, assigned, item_text, item_texts, printed_line}
-use Rattle.ped_steps.specs.ped_laws.specs.ped_eval.specs.Loops.{in_bounds, limits}
+use Rattle.ped_steps.specs.ped_eval.specs.Scopes.{Setting, Scope, cell_of, index_value, Names, names_in}
+use Rattle.ped_steps.specs.ped_eval.specs.Evaluation.{Seen, cell_seen, index_seen, Evaluated, having_seen, onward, ◌>>>◌, given, by_number, read_cell, read_index}
+use Rattle.ped_steps.specs.ped_eval.specs.Values.{of_intrinsic, variable_value, name_value, is_rank, element_cell, binary, value, values, relation_holds, truth, target}
+use Rattle.ped_steps.specs.ped_eval.specs.Statements.{Stored, assigned, item_text, item_texts, printed_line}
+use Rattle.ped_steps.specs.ped_eval.specs.Loops.{in_bounds, limits}
 use Rattle.ped_steps.specs.ped_laws.specs.Runs.Seeing.{ComesTo}
 use Rattle.ped_steps.specs.ped_laws.proofs.RunLaws.Sight.{holds_first, holds_rest, value_told}
 use Rattle.ped_steps.specs.ped_laws.proofs.RunLaws.SeenCells.{AllSeen, value_seen}

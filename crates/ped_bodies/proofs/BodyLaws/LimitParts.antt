@@ -1,11 +1,11 @@
 -- The limits of a DO come from the values of its bounds.
 use Rattle.std.proofs.Common.{◌≡◌, ℕ, ℤ, List, ◌++◌, Bool, true, false, Result, Ok, Err, refl, sym, ap, ◌∙◌, append-nil, if◌then◌else◌}
 use Rattle.ped_steps.specs.ped_flow.specs.ped_tree.specs.Tree.{Head}
-use Rattle.ped_steps.specs.ped_laws.specs.ped_store.specs.Stores.{Store, out_of_range}
-use Rattle.ped_steps.specs.ped_laws.specs.ped_eval.specs.Scopes.{Names}
-use Rattle.ped_steps.specs.ped_laws.specs.ped_eval.specs.Evaluation.{Seen, Evaluated, having_seen, onward, ◌>>>◌, given}
-use Rattle.ped_steps.specs.ped_laws.specs.ped_eval.specs.Loops.{is_bound, in_bounds, Limits, limits}
-use Rattle.ped_steps.specs.ped_laws.specs.ped_eval.specs.Values.{value}
+use Rattle.ped_steps.specs.ped_store.specs.Stores.{Store, out_of_range}
+use Rattle.ped_steps.specs.ped_eval.specs.Scopes.{Names}
+use Rattle.ped_steps.specs.ped_eval.specs.Evaluation.{Seen, Evaluated, having_seen, onward, ◌>>>◌, given}
+use Rattle.ped_steps.specs.ped_eval.specs.Loops.{is_bound, in_bounds, Limits, limits}
+use Rattle.ped_steps.specs.ped_eval.specs.Values.{value}
 use Rattle.ped_steps.specs.ped_laws.specs.Runs.Seeing.{ComesTo}
 use Rattle.ped_steps.specs.ped_laws.proofs.RunLaws.Sight.{holds_append, holds_first, holds_rest, value_told}
 use Rattle.ped_bodies.specs.Trips.{HasLimits}

@@ -3,10 +3,10 @@ use Rattle.std.proofs.Common.{◌≡◌, ℕ, ◌+◌, ◌-◌, ◌<◌, List, [
 use Rattle.std.specs.Prelude.{◌==◌, ◌/◌, ◌%◌}
 use Rattle.std.proofs.lemmas.List.{map-append, length-append, length-map}
 use Rattle.ped_steps.specs.ped_flow.specs.ped_base.specs.Lists.{is_among}
-use Rattle.ped_steps.specs.ped_laws.specs.ped_store.specs.Cells.{Cell, Private, Iteration, same_iteration}
-use Rattle.ped_steps.specs.ped_laws.specs.ped_store.specs.Acts.{Turn, iterations_of}
+use Rattle.ped_steps.specs.ped_store.specs.Cells.{Cell, Private, Iteration, same_iteration}
+use Rattle.ped_steps.specs.ped_store.specs.Acts.{Turn, iterations_of}
 use Rattle.ped_steps.specs.ped_laws.specs.Acts.Renaming.{own_name}
-use Rattle.ped_steps.specs.ped_laws.specs.ped_eval.specs.Scopes.{Frame, Scope, turns_of, cell_of}
+use Rattle.ped_steps.specs.ped_eval.specs.Scopes.{Frame, Scope, turns_of, cell_of}
 use Rattle.ped_steps.specs.Runs.Exchanging.{IsExchange, AreExchanged}
 use Rattle.ped_steps.specs.Runs.Renumbering.{renumbered_iteration}
 use Rattle.ped_bodies.specs.Likewise.{NamesScalars, Meet}

@@ -3,7 +3,7 @@ use Rattle.std.proofs.Common.{◌≡◌, ℕ, ◌+◌, ◌-◌, ◌*◌, ◌≤�
 use Rattle.std.specs.Prelude.{◌==◌, ◌/◌, ◌%◌}
 use Rattle.std.proofs.lemmas.Bool.{and_parts}
 use Rattle.std.proofs.Math.Nat.{div-add-mod}
-use Rattle.ped_steps.specs.ped_laws.specs.ped_store.specs.Cells.{Scalar, Element, Private, In, Out, Iteration, same_iteration}
+use Rattle.ped_steps.specs.ped_store.specs.Cells.{Scalar, Element, Private, In, Out, Iteration, same_iteration}
 use Rattle.ped_steps.specs.Runs.Renumbering.{renumbered_iteration}
 use Rattle.ped_bodies.specs.Moving.{behind_front, with_rest, moved_behind, turned, transposed, in_strips, peeled, in_loop, IsOfTrips, IsInsideTrips, IsOfPairs, NamesApart, TellNumbers}
 use Rattle.ped_bodies.proofs.BodyLaws.MovedCells.{behind_itself, is_there}

@@ -13,11 +13,11 @@ use Rattle.ped_steps.specs.ped_flow.specs.ped_tree.specs.Constants.NamedConstant
 use Rattle.ped_steps.specs.ped_flow.specs.ped_tree.specs.Tree.{ExprTree, Int, Var, Neg, Add, Sub, Mul}
 use Rattle.ped_steps.specs.ped_sums.specs.Sums.{literal, times_of}
 use Rattle.ped_steps.specs.ped_sums.specs.Substitution.{substituted}
-use Rattle.ped_steps.specs.ped_laws.specs.ped_store.specs.Cells.{Cell}
-use Rattle.ped_steps.specs.ped_laws.specs.ped_store.specs.Stores.{Store}
-use Rattle.ped_steps.specs.ped_laws.specs.ped_eval.specs.Scopes.{Setting, Scope, cell_of, index_value, names_in}
-use Rattle.ped_steps.specs.ped_laws.specs.ped_eval.specs.Evaluation.{Seen, cell_seen, index_seen, Evaluated, onward, given, by_number}
-use Rattle.ped_steps.specs.ped_laws.specs.ped_eval.specs.Values.{unary, binary, variable_value, name_value, value}
+use Rattle.ped_steps.specs.ped_store.specs.Cells.{Cell}
+use Rattle.ped_steps.specs.ped_store.specs.Stores.{Store}
+use Rattle.ped_steps.specs.ped_eval.specs.Scopes.{Setting, Scope, cell_of, index_value, names_in}
+use Rattle.ped_steps.specs.ped_eval.specs.Evaluation.{Seen, cell_seen, index_seen, Evaluated, onward, given, by_number}
+use Rattle.ped_steps.specs.ped_eval.specs.Values.{unary, binary, variable_value, name_value, value}
 use Rattle.ped_bodies.specs.Rewriting.{unchanged}
 use Rattle.ped_bodies.specs.Standing.{SeesNoCell, IsTold, HaveVariablesIn, EvaluateLikewise, StandLikewise}
 use Rattle.ped_bodies.specs.Likewise.{Meet}

@@ -4,15 +4,15 @@ use Rattle.std.specs.Prelude.{◌==◌, ◌&&◌, not}
 use Rattle.std.specs.List.{flat_map, range_with_len}
 use Rattle.std.proofs.lemmas.Bool.{both_ways}
 use Rattle.ped_steps.specs.ped_flow.specs.ped_tree.specs.Tree.{Head, StmtTrees, Do}
-use Rattle.ped_steps.specs.ped_laws.specs.ped_store.specs.Stores.{Store}
-use Rattle.ped_steps.specs.ped_laws.specs.ped_store.specs.Acts.{Place, Act, ended_turn, closed}
+use Rattle.ped_steps.specs.ped_store.specs.Stores.{Store}
+use Rattle.ped_steps.specs.ped_store.specs.Acts.{Place, Act, ended_turn, closed}
 use Rattle.ped_steps.specs.ped_laws.specs.Acts.Fitting.{store_after}
 use Rattle.ped_steps.specs.ped_laws.proofs.ActLaws.Stores.{after_append}
-use Rattle.ped_steps.specs.ped_laws.specs.ped_eval.specs.Scopes.{Setting, Frame, Scope, names_in, place_of}
-use Rattle.ped_steps.specs.ped_laws.specs.ped_eval.specs.Evaluation.{Seen}
-use Rattle.ped_steps.specs.ped_laws.specs.ped_eval.specs.Loops.{Limits, limits, Entered, frame, exit_touches, exit_when_none}
-use Rattle.ped_steps.specs.ped_laws.specs.ped_eval.specs.Runs.{Run, turns, parallel_turns, run_entered, run}
-use Rattle.ped_steps.specs.ped_laws.specs.ped_eval.specs.Turns.{body_run}
+use Rattle.ped_steps.specs.ped_eval.specs.Scopes.{Setting, Frame, Scope, names_in, place_of}
+use Rattle.ped_steps.specs.ped_eval.specs.Evaluation.{Seen}
+use Rattle.ped_steps.specs.ped_eval.specs.Loops.{Limits, limits, Entered, frame, exit_touches, exit_when_none}
+use Rattle.ped_steps.specs.ped_eval.specs.Runs.{Run, turns, parallel_turns, run_entered, run}
+use Rattle.ped_steps.specs.ped_eval.specs.Turns.{body_run}
 use Rattle.ped_steps.specs.ped_laws.specs.Runs.Seeing.{ComesTo}
 use Rattle.ped_steps.specs.ped_laws.specs.Runs.Replaying.{Finish, goes_on, stops, faults, finish_of, is_going, act, behind, Replays, IsEntered}
 use Rattle.ped_steps.specs.ped_laws.proofs.RunLaws.Sight.{limits_told}

@@ -4,13 +4,13 @@ use Rattle.std.specs.Prelude.{nat_le}
 use Rattle.std.proofs.lemmas.Bool.{and_parts, both_ways}
 use Rattle.std.proofs.lemmas.Bool.Decides.{nat_tests}
 use Rattle.ped_steps.specs.ped_flow.specs.ped_tree.specs.Tree.{Head, StmtTrees}
-use Rattle.ped_steps.specs.ped_laws.specs.ped_store.specs.Cells.{Cell}
-use Rattle.ped_steps.specs.ped_laws.specs.ped_store.specs.Stores.{Store}
-use Rattle.ped_steps.specs.ped_laws.specs.ped_store.specs.Acts.{Act}
-use Rattle.ped_steps.specs.ped_laws.specs.ped_eval.specs.Scopes.{Setting, Scope, turns_of, place_of}
-use Rattle.ped_steps.specs.ped_laws.specs.ped_eval.specs.Evaluation.{Seen}
-use Rattle.ped_steps.specs.ped_laws.specs.ped_eval.specs.Loops.{Entered, frame}
-use Rattle.ped_steps.specs.ped_laws.specs.ped_eval.specs.Turns.{body_run}
+use Rattle.ped_steps.specs.ped_store.specs.Cells.{Cell}
+use Rattle.ped_steps.specs.ped_store.specs.Stores.{Store}
+use Rattle.ped_steps.specs.ped_store.specs.Acts.{Act}
+use Rattle.ped_steps.specs.ped_eval.specs.Scopes.{Setting, Scope, turns_of, place_of}
+use Rattle.ped_steps.specs.ped_eval.specs.Evaluation.{Seen}
+use Rattle.ped_steps.specs.ped_eval.specs.Loops.{Entered, frame}
+use Rattle.ped_steps.specs.ped_eval.specs.Turns.{body_run}
 use Rattle.ped_steps.specs.ped_laws.specs.Runs.Replaying.{goes_on, Replays, IsEntered}
 use Rattle.ped_bodies.specs.Likewise.{AreLikewise, DoesLikewise}
 use Rattle.ped_bodies.specs.Trips.{OfTrips, entered_from, bounds_seen, store_before, IsTrip, IsMadeOfTrips, MakesTripsLikewise, DoTripsLikewise}

@@ -2,13 +2,13 @@
 use Rattle.std.proofs.Common.{Bool, List, [], ap, arith, eqb, eqb-true, false, if◌then◌else◌, inl, inr, length, map, refl, suc, sym, true, ℕ, ◌&&◌, ◌++◌, ◌||◌, ◌∙◌, ◌∷◌, ◌≡◌, ◌⊎◌}
 use Rattle.std.proofs.lemmas.Bool.{and_parts, both_ways}
 use Rattle.std.proofs.lemmas.List.{map-append}
-use Rattle.ped_loop_runs.specs.ped_bodies.specs.ped_steps.specs.ped_laws.specs.ped_flow.specs.ped_tree.specs.Nests.{Loop}
-use Rattle.ped_loop_runs.specs.ped_bodies.specs.ped_steps.specs.Runs.Pasting.{AreTurnsOf}
-use Rattle.ped_loop_runs.specs.ped_bodies.specs.ped_steps.specs.ped_laws.proofs.RunLaws.Touches.{Fine}
-use Rattle.ped_loop_runs.specs.ped_bodies.specs.ped_steps.specs.ped_laws.proofs.RunLaws.Turning.{At, Front}
-use Rattle.ped_loop_runs.specs.ped_bodies.specs.ped_steps.specs.ped_laws.specs.ped_store.specs.Acts.{Manner, Turn, is_told, iterations_of, reads, writes}
-use Rattle.ped_loop_runs.specs.ped_bodies.specs.ped_steps.specs.ped_laws.specs.ped_store.specs.Cells.{Cell, Iteration}
-use Rattle.ped_loop_runs.specs.ped_bodies.specs.ped_steps.specs.ped_laws.specs.ped_store.specs.Races.{are_apart}
+use Rattle.ped_bodies.specs.ped_flow.specs.ped_tree.specs.Nests.{Loop}
+use Rattle.ped_bodies.specs.ped_steps.specs.Runs.Pasting.{AreTurnsOf}
+use Rattle.ped_bodies.specs.ped_laws.proofs.RunLaws.Touches.{Fine}
+use Rattle.ped_bodies.specs.ped_laws.proofs.RunLaws.Turning.{At, Front}
+use Rattle.ped_bodies.specs.ped_store.specs.Acts.{Manner, Turn, is_told, iterations_of, reads, writes}
+use Rattle.ped_bodies.specs.ped_store.specs.Cells.{Cell, Iteration}
+use Rattle.ped_bodies.specs.ped_store.specs.Races.{are_apart}
 
 pub number_itself : (n : ℕ) → eqb n n ≡ true
 number_itself n = grind (arith, eqb-true)

@@ -1,15 +1,15 @@
 -- Two accesses of a list of acts of which parts were changed: each of them stands in a part that stays, or in a changed one, and what the two give is told kind by kind.
 use Rattle.std.proofs.Common.{◌≡◌, ◌⊎◌, List, [], ◌∷◌, ◌++◌, subst, inl, inr}
 use Rattle.std.proofs.lemmas.Grind.{flat_map-append}
-use Rattle.ped_loop_runs.specs.ped_bodies.specs.ped_steps.specs.ped_laws.specs.ped_store.specs.Stores.{Store}
-use Rattle.ped_loop_runs.specs.ped_bodies.specs.ped_steps.specs.ped_laws.specs.ped_store.specs.Acts.{Act}
-use Rattle.ped_loop_runs.specs.ped_bodies.specs.ped_steps.specs.ped_laws.specs.ped_store.specs.Races.{Access, accesses_of, accesses}
-use Rattle.ped_loop_runs.specs.ped_bodies.specs.ped_steps.specs.ped_laws.specs.Acts.Fitting.{store_after}
-use Rattle.ped_loop_runs.specs.ped_bodies.specs.ped_steps.specs.ped_laws.specs.Acts.Orders.{IsIn, StandsBefore}
-use Rattle.ped_loop_runs.specs.ped_bodies.specs.ped_steps.specs.ped_laws.specs.Acts.Pieces.{Part, same, changed, old_parts, new_parts}
-use Rattle.ped_loop_runs.specs.ped_bodies.specs.ped_steps.specs.ped_laws.proofs.ActLaws.Lists.{in_left, in_right, in_parts, first_in, second_in, before_parts}
-use Rattle.ped_loop_runs.specs.ped_bodies.specs.ped_steps.specs.ped_laws.proofs.ActLaws.Conflicting.{accesses_in}
-use Rattle.ped_loop_runs.specs.ped_bodies.specs.ped_steps.proofs.RunLaws.PrivatisedRacesOrigins.{accesses_from}
+use Rattle.ped_bodies.specs.ped_store.specs.Stores.{Store}
+use Rattle.ped_bodies.specs.ped_store.specs.Acts.{Act}
+use Rattle.ped_bodies.specs.ped_store.specs.Races.{Access, accesses_of, accesses}
+use Rattle.ped_bodies.specs.ped_laws.specs.Acts.Fitting.{store_after}
+use Rattle.ped_bodies.specs.ped_laws.specs.Acts.Orders.{IsIn, StandsBefore}
+use Rattle.ped_bodies.specs.ped_laws.specs.Acts.Pieces.{Part, same, changed, old_parts, new_parts}
+use Rattle.ped_bodies.specs.ped_laws.proofs.ActLaws.Lists.{in_left, in_right, in_parts, first_in, second_in, before_parts}
+use Rattle.ped_bodies.specs.ped_laws.proofs.ActLaws.Conflicting.{accesses_in}
+use Rattle.ped_bodies.specs.ped_steps.proofs.RunLaws.PrivatisedRacesOrigins.{accesses_from}
 use Rattle.ped_loop_runs.specs.Pasting.{AreChangedBy}
 
 -- the accesses of acts are among those of more acts

@@ -1,27 +1,27 @@
 -- The laws at work: a loop that carries nothing, whose iterations conflict on the variable of an inner loop alone; and a bound in two stores.
 use Rattle.std.proofs.Common.{◌≡◌, ℕ, ℤ, pos, List, [], ◌∷◌, ◌++◌, take, drop, Bool, true, false, ◌||◌, inl, inr, refl, sym, ap, subst, ◌∙◌, arith, Some, None, Ok, if◌then◌else◌}
 use Rattle.std.specs.Prelude.{codes}
-use Rattle.ped_loop_runs.specs.ped_bodies.specs.ped_steps.specs.ped_laws.specs.ped_flow.proofs.Truths.{untrue}
-use Rattle.ped_loop_runs.specs.ped_bodies.specs.ped_steps.specs.ped_laws.specs.ped_flow.specs.ped_base.specs.Lists.{is_same_text}
-use Rattle.ped_loop_runs.specs.ped_bodies.specs.ped_steps.specs.ped_laws.specs.ped_flow.specs.ped_tree.specs.Tree.{ExprTree, Int, Var, Head, Assign, Do, StmtTrees, no_stmts, more_stmts, ProgramTree}
-use Rattle.ped_loop_runs.specs.ped_bodies.specs.ped_steps.specs.ped_laws.specs.ped_flow.specs.Events.{has_value}
-use Rattle.ped_loop_runs.specs.ped_bodies.specs.ped_steps.specs.ped_laws.specs.ped_flow.specs.PlainBounds.{IsFixed}
-use Rattle.ped_loop_runs.specs.ped_bodies.specs.ped_steps.specs.ped_laws.specs.ped_flow.specs.Questions.{LoopOf, IsAssignedBefore}
-use Rattle.ped_loop_runs.specs.ped_bodies.specs.ped_steps.specs.ped_laws.specs.ped_graph.specs.ped_symbols.specs.NameRefusals.{IsValid}
-use Rattle.ped_loop_runs.specs.ped_bodies.specs.ped_steps.specs.ped_laws.specs.ped_graph.specs.Dependences.{AreEdges}
-use Rattle.ped_loop_runs.specs.ped_bodies.specs.ped_steps.specs.ped_laws.specs.ped_store.specs.Stores.{Store, store_at_start}
-use Rattle.ped_loop_runs.specs.ped_bodies.specs.ped_steps.specs.ped_laws.specs.ped_store.specs.Acts.{did, Touch, Act}
-use Rattle.ped_loop_runs.specs.ped_bodies.specs.ped_steps.specs.ped_laws.specs.ped_eval.specs.Scopes.{Scope, names_in}
-use Rattle.ped_loop_runs.specs.ped_bodies.specs.ped_steps.specs.ped_laws.specs.ped_eval.specs.Values.{value}
-use Rattle.ped_loop_runs.specs.ped_bodies.specs.ped_steps.specs.ped_laws.specs.ped_eval.specs.Runs.{run}
-use Rattle.ped_loop_runs.specs.ped_bodies.specs.ped_steps.specs.ped_laws.specs.ped_eval.specs.Outcomes.{setting_of, run_of}
-use Rattle.ped_loop_runs.specs.ped_bodies.specs.ped_steps.specs.ped_laws.specs.Acts.Conflicts.{blocks_conflict_outside}
-use Rattle.ped_loop_runs.specs.ped_bodies.specs.ped_steps.specs.ped_laws.specs.Acts.Fitting.{store_after}
-use Rattle.ped_loop_runs.specs.ped_bodies.specs.ped_steps.specs.ped_laws.specs.Acts.Sets.{nothing}
-use Rattle.ped_loop_runs.specs.ped_bodies.specs.ped_steps.specs.ped_laws.specs.Runs.Touching.{is_own_store, StoresWithin}
-use Rattle.ped_loop_runs.specs.ped_bodies.specs.ped_steps.specs.ped_laws.specs.FlowRuns.Covering.{is_cell_of}
-use Rattle.ped_loop_runs.specs.ped_bodies.specs.ped_steps.specs.ped_laws.specs.Plain.Executions.{IsPlaceWith, IsDuring}
-use Rattle.ped_loop_runs.specs.ped_bodies.specs.ped_steps.specs.ped_laws.proofs.ConflictLaws.CoveringRuns.{MakingLaw, SequenceLaw}
+use Rattle.ped_bodies.specs.ped_flow.proofs.Truths.{untrue}
+use Rattle.ped_bodies.specs.ped_flow.specs.ped_base.specs.Lists.{is_same_text}
+use Rattle.ped_bodies.specs.ped_flow.specs.ped_tree.specs.Tree.{ExprTree, Int, Var, Head, Assign, Do, StmtTrees, no_stmts, more_stmts, ProgramTree}
+use Rattle.ped_bodies.specs.ped_flow.specs.Events.{has_value}
+use Rattle.ped_bodies.specs.ped_flow.specs.PlainBounds.{IsFixed}
+use Rattle.ped_bodies.specs.ped_flow.specs.Questions.{LoopOf, IsAssignedBefore}
+use Rattle.ped_bodies.specs.ped_symbols.specs.NameRefusals.{IsValid}
+use Rattle.ped_bodies.specs.ped_graph.specs.Dependences.{AreEdges}
+use Rattle.ped_bodies.specs.ped_store.specs.Stores.{Store, store_at_start}
+use Rattle.ped_bodies.specs.ped_store.specs.Acts.{did, Touch, Act}
+use Rattle.ped_bodies.specs.ped_eval.specs.Scopes.{Scope, names_in}
+use Rattle.ped_bodies.specs.ped_eval.specs.Values.{value}
+use Rattle.ped_bodies.specs.ped_eval.specs.Runs.{run}
+use Rattle.ped_bodies.specs.ped_eval.specs.Outcomes.{setting_of, run_of}
+use Rattle.ped_bodies.specs.ped_laws.specs.Acts.Conflicts.{blocks_conflict_outside}
+use Rattle.ped_bodies.specs.ped_laws.specs.Acts.Fitting.{store_after}
+use Rattle.ped_bodies.specs.ped_laws.specs.Acts.Sets.{nothing}
+use Rattle.ped_bodies.specs.ped_laws.specs.Runs.Touching.{is_own_store, StoresWithin}
+use Rattle.ped_bodies.specs.ped_laws.specs.FlowRuns.Covering.{is_cell_of}
+use Rattle.ped_bodies.specs.ped_laws.specs.Plain.Executions.{IsPlaceWith, IsDuring}
+use Rattle.ped_bodies.specs.ped_laws.proofs.ConflictLaws.CoveringRuns.{MakingLaw, SequenceLaw}
 use Rattle.ped_loop_runs.specs.Carried.{AreTrips, AllStoreWithin}
 use Rattle.ped_loop_runs.proofs.LoopLaws.Trips.{trips_apart}
 use Rattle.ped_loop_runs.proofs.LoopLaws.PlainReads.{plain_again}

@@ -1,10 +1,10 @@
 -- The laws of bounds one loop further out at work: the bound of the inner loop names the outer variable, and its other side is plain in front of the outer loop, though that has no iteration.
 use Rattle.std.proofs.Common.{ℕ, List, [], ◌++◌, false, inl, inr, refl, ap, ◌∙◌, arith}
 use Rattle.std.specs.Prelude.{codes}
-use Rattle.ped_loop_runs.specs.ped_bodies.specs.ped_steps.specs.ped_laws.specs.ped_flow.specs.ped_tree.specs.Tree.{ExprTree, Int, Var, Add, Head, Assign, Do, StmtTrees, no_stmts, more_stmts, ProgramTree}
-use Rattle.ped_loop_runs.specs.ped_bodies.specs.ped_steps.specs.ped_laws.specs.ped_flow.specs.Events.{has_value}
-use Rattle.ped_loop_runs.specs.ped_bodies.specs.ped_steps.specs.ped_laws.specs.ped_flow.specs.PlainBounds.{IsFixed, IsPlain}
-use Rattle.ped_loop_runs.specs.ped_bodies.specs.ped_steps.specs.ped_laws.specs.ped_flow.specs.Questions.{LoopOf, IsAssignedBefore}
+use Rattle.ped_bodies.specs.ped_flow.specs.ped_tree.specs.Tree.{ExprTree, Int, Var, Add, Head, Assign, Do, StmtTrees, no_stmts, more_stmts, ProgramTree}
+use Rattle.ped_bodies.specs.ped_flow.specs.Events.{has_value}
+use Rattle.ped_bodies.specs.ped_flow.specs.PlainBounds.{IsFixed, IsPlain}
+use Rattle.ped_bodies.specs.ped_flow.specs.Questions.{LoopOf, IsAssignedBefore}
 use Rattle.ped_loop_runs.specs.OneOut.{IsNextIn}
 use Rattle.ped_loop_runs.proofs.LoopLaws.OneOut.{plain_out, sum_sides}
 

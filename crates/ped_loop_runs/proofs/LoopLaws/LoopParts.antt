@@ -2,15 +2,15 @@
 use Rattle.std.proofs.Common.{◌≡◌, ◌⊎◌, ℕ, zero, suc, ◌+◌, ◌-◌, ◌≤◌, ◌<◌, List, [], ◌∷◌, ◌++◌, Bool, true, false, ◌&&◌, ◌==◌, not, if◌then◌else◌, refl, sym, ap, ◌∙◌, subst, inl, inr, arith}
 use Rattle.std.specs.List.{flat_map, range_with_len}
 use Rattle.std.proofs.lemmas.Bool.Decides.{nat_tests}
-use Rattle.ped_loop_runs.specs.ped_bodies.specs.ped_steps.specs.ped_laws.specs.ped_store.specs.Cells.{Cell}
-use Rattle.ped_loop_runs.specs.ped_bodies.specs.ped_steps.specs.ped_laws.specs.ped_store.specs.Acts.{reads, writes, Touch, Place, closed, ended_turn, Act}
-use Rattle.ped_loop_runs.specs.ped_bodies.specs.ped_steps.specs.ped_laws.specs.ped_eval.specs.Evaluation.{Seen, cell_seen, index_seen, numbered, number_behind}
-use Rattle.ped_loop_runs.specs.ped_bodies.specs.ped_steps.specs.ped_laws.specs.ped_eval.specs.Loops.{Entered, exit_touches, exit_when_none, undefined_by, undefined_all}
-use Rattle.ped_loop_runs.specs.ped_bodies.specs.ped_steps.specs.ped_laws.specs.ped_eval.specs.Scopes.{Scope, cell_of}
-use Rattle.ped_loop_runs.specs.ped_bodies.specs.ped_steps.specs.ped_laws.specs.Acts.Orders.{IsIn}
-use Rattle.ped_loop_runs.specs.ped_bodies.specs.ped_steps.specs.ped_laws.specs.Runs.Replaying.{act}
-use Rattle.ped_loop_runs.specs.ped_bodies.specs.ped_steps.specs.ped_laws.proofs.ActLaws.Lists.{in_left, in_right, in_parts}
-use Rattle.ped_loop_runs.specs.ped_bodies.specs.Trips.{loop_entry, trip_end, trips, loop_close, loop_acts}
+use Rattle.ped_bodies.specs.ped_store.specs.Cells.{Cell}
+use Rattle.ped_bodies.specs.ped_store.specs.Acts.{reads, writes, Touch, Place, closed, ended_turn, Act}
+use Rattle.ped_bodies.specs.ped_eval.specs.Evaluation.{Seen, cell_seen, index_seen, numbered, number_behind}
+use Rattle.ped_bodies.specs.ped_eval.specs.Loops.{Entered, exit_touches, exit_when_none, undefined_by, undefined_all}
+use Rattle.ped_bodies.specs.ped_eval.specs.Scopes.{Scope, cell_of}
+use Rattle.ped_bodies.specs.ped_laws.specs.Acts.Orders.{IsIn}
+use Rattle.ped_bodies.specs.ped_laws.specs.Runs.Replaying.{act}
+use Rattle.ped_bodies.specs.ped_laws.proofs.ActLaws.Lists.{in_left, in_right, in_parts}
+use Rattle.ped_bodies.specs.Trips.{loop_entry, trip_end, trips, loop_close, loop_acts}
 
 -- items of lists for some numbers, one behind the other
 in_flat : {X : Type 0} (g : ℕ → List X) (x : X) (from count k : ℕ) → from ≤ k → k < from + count → IsIn x (g k) → IsIn x (flat_map g (range_with_len from count))

@@ -1,26 +1,26 @@
 -- The DO loops round a reference are those round each of them in turn, and the reference stands in the body of each.
 use Rattle.std.proofs.Common.{◌≡◌, ℕ, suc, ◌+◌, ◌<◌, ◌≤◌, List, [], ◌∷◌, ◌++◌, length, Bool, true, ◌&&◌, refl, sym, ap, ◌∙◌, subst, inl, inr, arith, Some, nat_le, append_assoc, append-nil}
 use Rattle.std.proofs.lemmas.Bool.{lt-ltb, le-leb}
-use Rattle.ped_loop_runs.specs.ped_bodies.specs.ped_steps.specs.ped_laws.specs.ped_flow.specs.ped_tree.specs.Tree.{Head, StmtTree, StmtTrees, Assign, If, Do, Print, Read, Stop, Comment, no_stmts, more_stmts, ProgramTree}
-use Rattle.ped_loop_runs.specs.ped_bodies.specs.ped_steps.specs.ped_laws.specs.ped_flow.specs.ped_tree.specs.Accesses.{own_accesses, constant_names}
-use Rattle.ped_loop_runs.specs.ped_bodies.specs.ped_steps.specs.ped_laws.specs.ped_flow.specs.ped_tree.specs.Nests.{Loop, indices_of}
-use Rattle.ped_loop_runs.specs.ped_bodies.specs.ped_steps.specs.ped_laws.specs.ped_flow.specs.ped_tree.specs.Numbering.{numbered, all_numbered, at_place, statement_with, statement_count, statements_count}
-use Rattle.ped_loop_runs.specs.ped_bodies.specs.ped_steps.specs.ped_laws.specs.ped_flow.specs.ped_tree.proofs.Numbers.{length-numbered, length-all_numbered, at_place-front, at_place-back}
-use Rattle.ped_loop_runs.specs.ped_bodies.specs.ped_steps.specs.ped_laws.specs.ped_flow.specs.PlainBounds.{loops_round, all_loops_round, nest_round}
-use Rattle.ped_loop_runs.specs.ped_bodies.specs.ped_steps.specs.ped_laws.specs.ped_flow.specs.Questions.{LoopOf}
-use Rattle.ped_loop_runs.specs.ped_bodies.specs.ped_steps.specs.ped_laws.specs.ped_graph.specs.ped_refs.specs.References.{Reference, numbered_accesses, statement_references, statements_references, references, outermost}
-use Rattle.ped_loop_runs.specs.ped_bodies.specs.ped_steps.specs.ped_laws.specs.ped_graph.specs.Dependences.{setting_in}
-use Rattle.ped_loop_runs.specs.ped_bodies.specs.ped_steps.specs.ped_laws.specs.ped_store.specs.Stores.{Store}
-use Rattle.ped_loop_runs.specs.ped_bodies.specs.ped_steps.specs.ped_laws.specs.ped_store.specs.Acts.{Turn}
-use Rattle.ped_loop_runs.specs.ped_bodies.specs.ped_steps.specs.ped_laws.specs.ped_store.specs.Races as races
-use Rattle.ped_loop_runs.specs.ped_bodies.specs.ped_steps.specs.ped_laws.specs.ped_eval.specs.Scopes.{Scope}
-use Rattle.ped_loop_runs.specs.ped_bodies.specs.ped_steps.specs.ped_laws.specs.Acts.Orders.{IsIn}
-use Rattle.ped_loop_runs.specs.ped_bodies.specs.ped_steps.specs.ped_laws.specs.Conflicts.Making.{IsMade}
-use Rattle.ped_loop_runs.specs.ped_bodies.specs.ped_steps.specs.ped_laws.proofs.ActLaws.Lists.{in_parts}
-use Rattle.ped_loop_runs.specs.ped_bodies.specs.ped_steps.proofs.RunLaws.LoopsRound.{none_before, all_none_before, none_from, all_none_from, one_more}
-use Rattle.ped_loop_runs.specs.ped_bodies.specs.ped_steps.specs.ped_laws.proofs.ConflictLaws.CoveringNests.{IsOf, AreOf, reached_are}
-use Rattle.ped_loop_runs.specs.ped_bodies.specs.ped_steps.specs.ped_laws.proofs.ConflictLaws.CoveringWrites.{own_access}
-use Rattle.ped_loop_runs.specs.ped_bodies.specs.ped_steps.specs.ped_laws.proofs.ConflictLaws.MakingParts.{stand_whole}
+use Rattle.ped_bodies.specs.ped_flow.specs.ped_tree.specs.Tree.{Head, StmtTree, StmtTrees, Assign, If, Do, Print, Read, Stop, Comment, no_stmts, more_stmts, ProgramTree}
+use Rattle.ped_bodies.specs.ped_flow.specs.ped_tree.specs.Accesses.{own_accesses, constant_names}
+use Rattle.ped_bodies.specs.ped_flow.specs.ped_tree.specs.Nests.{Loop, indices_of}
+use Rattle.ped_bodies.specs.ped_flow.specs.ped_tree.specs.Numbering.{numbered, all_numbered, at_place, statement_with, statement_count, statements_count}
+use Rattle.ped_bodies.specs.ped_flow.specs.ped_tree.proofs.Numbers.{length-numbered, length-all_numbered, at_place-front, at_place-back}
+use Rattle.ped_bodies.specs.ped_flow.specs.PlainBounds.{loops_round, all_loops_round, nest_round}
+use Rattle.ped_bodies.specs.ped_flow.specs.Questions.{LoopOf}
+use Rattle.ped_bodies.specs.ped_refs.specs.References.{Reference, numbered_accesses, statement_references, statements_references, references, outermost}
+use Rattle.ped_bodies.specs.ped_graph.specs.Dependences.{setting_in}
+use Rattle.ped_bodies.specs.ped_store.specs.Stores.{Store}
+use Rattle.ped_bodies.specs.ped_store.specs.Acts.{Turn}
+use Rattle.ped_bodies.specs.ped_store.specs.Races as races
+use Rattle.ped_bodies.specs.ped_eval.specs.Scopes.{Scope}
+use Rattle.ped_bodies.specs.ped_laws.specs.Acts.Orders.{IsIn}
+use Rattle.ped_bodies.specs.ped_laws.specs.Conflicts.Making.{IsMade}
+use Rattle.ped_bodies.specs.ped_laws.proofs.ActLaws.Lists.{in_parts}
+use Rattle.ped_bodies.specs.ped_steps.proofs.RunLaws.LoopsRound.{none_before, all_none_before, none_from, all_none_from, one_more}
+use Rattle.ped_bodies.specs.ped_laws.proofs.ConflictLaws.CoveringNests.{IsOf, AreOf, reached_are}
+use Rattle.ped_bodies.specs.ped_laws.proofs.ConflictLaws.CoveringWrites.{own_access}
+use Rattle.ped_bodies.specs.ped_laws.proofs.ConflictLaws.MakingParts.{stand_whole}
 use Rattle.ped_loop_runs.specs.Carried.{is_in_body}
 
 -- a DO of the nest of a statement, with the loops round it: it stands among statements of which the first has number n, and the statement stands in its body

@@ -1,19 +1,19 @@
 -- The loops round the first statement in a DO are those round the DO, and it. The paths to the outermost DO round both are the same.
 use Rattle.std.proofs.Common.{◌≡◌, ℕ, ◌+◌, ◌<◌, ◌≤◌, List, [], ◌∷◌, ◌++◌, inl, inr, sym, ap, subst, ◌∙◌, arith, append-nil}
-use Rattle.ped_loop_runs.specs.ped_bodies.specs.ped_steps.specs.ped_laws.specs.ped_flow.specs.ped_tree.specs.Tree.{Head, StmtTree, StmtTrees, Assign, If, Do, Print, Read, Stop, Comment, no_stmts, more_stmts, ProgramTree}
-use Rattle.ped_loop_runs.specs.ped_bodies.specs.ped_steps.specs.ped_laws.specs.ped_flow.specs.ped_tree.specs.Accesses.{constant_names}
-use Rattle.ped_loop_runs.specs.ped_bodies.specs.ped_steps.specs.ped_laws.specs.ped_flow.specs.ped_tree.specs.Nests.{Loop}
-use Rattle.ped_loop_runs.specs.ped_bodies.specs.ped_steps.specs.ped_laws.specs.ped_flow.specs.ped_tree.specs.Numbering.{statement_count, statements_count}
-use Rattle.ped_loop_runs.specs.ped_bodies.specs.ped_steps.specs.ped_laws.specs.ped_flow.specs.Events.{Event}
-use Rattle.ped_loop_runs.specs.ped_bodies.specs.ped_steps.specs.ped_laws.specs.ped_flow.specs.Paths.{paths_before, all_paths_before}
-use Rattle.ped_loop_runs.specs.ped_bodies.specs.ped_steps.specs.ped_laws.specs.ped_flow.specs.PlainBounds.{all_loops_round}
-use Rattle.ped_loop_runs.specs.ped_bodies.specs.ped_steps.specs.ped_laws.specs.ped_flow.specs.Questions.{LoopOf, IsAssignedBefore}
-use Rattle.ped_loop_runs.specs.ped_bodies.specs.ped_steps.specs.ped_laws.specs.Covering.Nested.{loop}
-use Rattle.ped_loop_runs.specs.ped_bodies.specs.ped_steps.specs.Replacing.{alone, program_with}
-use Rattle.ped_loop_runs.specs.ped_bodies.specs.ped_steps.specs.Runs.Gaps.{Gap, at_front, past, in_then, in_else, in_body, filled, number_at}
-use Rattle.ped_loop_runs.specs.ped_bodies.specs.ped_steps.proofs.RunLaws.FilledGaps.{number_from, number_room}
-use Rattle.ped_loop_runs.specs.ped_bodies.specs.ped_steps.proofs.RunLaws.LoopsRound.{none_before, all_none_before, all_none_from, one_more}
-use Rattle.ped_loop_runs.specs.ped_bodies.specs.ped_steps.proofs.RunLaws.ReplacedTrees.{HasGap, program_gap}
+use Rattle.ped_bodies.specs.ped_flow.specs.ped_tree.specs.Tree.{Head, StmtTree, StmtTrees, Assign, If, Do, Print, Read, Stop, Comment, no_stmts, more_stmts, ProgramTree}
+use Rattle.ped_bodies.specs.ped_flow.specs.ped_tree.specs.Accesses.{constant_names}
+use Rattle.ped_bodies.specs.ped_flow.specs.ped_tree.specs.Nests.{Loop}
+use Rattle.ped_bodies.specs.ped_flow.specs.ped_tree.specs.Numbering.{statement_count, statements_count}
+use Rattle.ped_bodies.specs.ped_flow.specs.Events.{Event}
+use Rattle.ped_bodies.specs.ped_flow.specs.Paths.{paths_before, all_paths_before}
+use Rattle.ped_bodies.specs.ped_flow.specs.PlainBounds.{all_loops_round}
+use Rattle.ped_bodies.specs.ped_flow.specs.Questions.{LoopOf, IsAssignedBefore}
+use Rattle.ped_bodies.specs.ped_laws.specs.Covering.Nested.{loop}
+use Rattle.ped_bodies.specs.ped_steps.specs.Replacing.{alone, program_with}
+use Rattle.ped_bodies.specs.ped_steps.specs.Runs.Gaps.{Gap, at_front, past, in_then, in_else, in_body, filled, number_at}
+use Rattle.ped_bodies.specs.ped_steps.proofs.RunLaws.FilledGaps.{number_from, number_room}
+use Rattle.ped_bodies.specs.ped_steps.proofs.RunLaws.LoopsRound.{none_before, all_none_before, all_none_from, one_more}
+use Rattle.ped_bodies.specs.ped_steps.proofs.RunLaws.ReplacedTrees.{HasGap, program_gap}
 use Rattle.ped_loop_runs.specs.OneOut.{IsNextIn}
 
 pub first_alone : (a b c : List Loop) → b ≡ [] → c ≡ [] → (a ++ b) ++ c ≡ a

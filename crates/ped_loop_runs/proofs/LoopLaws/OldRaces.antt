@@ -1,23 +1,23 @@
 -- Accesses of a new run that race, and what stands outside the execution of a DO: the accesses that they come from race in the old run.
 use Rattle.std.proofs.Common.{List, [], ap, arith, inl, inr, refl, subst, sym, true, ℕ, ◌&&◌, ◌++◌, ◌<◌, ◌||◌, ◌∙◌, ◌∷◌, ◌≡◌, ◌⊎◌}
 use Rattle.std.specs.Str.Lines.{lines}
-use Rattle.ped_loop_runs.specs.ped_bodies.specs.ped_steps.specs.ped_laws.specs.ped_flow.specs.ped_tree.specs.Tree.{StmtTrees, ProgramTree}
-use Rattle.ped_loop_runs.specs.ped_bodies.specs.ped_steps.specs.ped_laws.specs.ped_store.specs.Stores.{Store, store_at_start}
-use Rattle.ped_loop_runs.specs.ped_bodies.specs.ped_steps.specs.ped_laws.specs.ped_store.specs.Acts.{Turn, Place, Act, iterations_of}
-use Rattle.ped_loop_runs.specs.ped_bodies.specs.ped_steps.specs.ped_laws.specs.ped_store.specs.Races.{Access, accesses, are_apart}
-use Rattle.ped_loop_runs.specs.ped_bodies.specs.ped_steps.specs.ped_laws.specs.ped_eval.specs.Scopes.{Setting, Scope, turns_of}
-use Rattle.ped_loop_runs.specs.ped_bodies.specs.ped_steps.specs.ped_laws.specs.ped_eval.specs.Outcomes.{setting_of, run_of}
-use Rattle.ped_loop_runs.specs.ped_bodies.specs.ped_steps.specs.ped_laws.specs.ped_eval.specs.Runs.{run_all}
-use Rattle.ped_loop_runs.specs.ped_bodies.specs.ped_steps.specs.ped_laws.specs.Acts.Orders.{IsIn}
-use Rattle.ped_loop_runs.specs.ped_bodies.specs.ped_steps.specs.ped_laws.proofs.ActLaws.Lists.{in_right}
-use Rattle.ped_loop_runs.specs.ped_bodies.specs.ped_steps.specs.ped_laws.proofs.ActLaws.SameCells.{is_cell}
-use Rattle.ped_loop_runs.specs.ped_bodies.specs.ped_steps.specs.ped_laws.proofs.ActLaws.Conflicting.{access_place}
-use Rattle.ped_loop_runs.specs.ped_bodies.specs.ped_steps.specs.ped_laws.proofs.ActLaws.RaceFree.{apart_flip}
-use Rattle.ped_loop_runs.specs.ped_bodies.specs.ped_steps.specs.ped_laws.proofs.RunLaws.Turning.{At}
-use Rattle.ped_loop_runs.specs.ped_bodies.specs.ped_steps.specs.ped_laws.proofs.RunLaws.Placing.{kinds_of_run}
-use Rattle.ped_loop_runs.specs.ped_bodies.specs.ped_steps.proofs.RunLaws.PrivatisedRacesOrigins.{accesses_from}
-use Rattle.ped_loop_runs.specs.ped_bodies.specs.ped_steps.proofs.RunLaws.ExpandedRacesOrigins.{touch_of}
-use Rattle.ped_loop_runs.specs.ped_bodies.specs.ped_steps.specs.ped_weaves.specs.Sources.{RaceSomewhere}
+use Rattle.ped_bodies.specs.ped_flow.specs.ped_tree.specs.Tree.{StmtTrees, ProgramTree}
+use Rattle.ped_bodies.specs.ped_store.specs.Stores.{Store, store_at_start}
+use Rattle.ped_bodies.specs.ped_store.specs.Acts.{Turn, Place, Act, iterations_of}
+use Rattle.ped_bodies.specs.ped_store.specs.Races.{Access, accesses, are_apart}
+use Rattle.ped_bodies.specs.ped_eval.specs.Scopes.{Setting, Scope, turns_of}
+use Rattle.ped_bodies.specs.ped_eval.specs.Outcomes.{setting_of, run_of}
+use Rattle.ped_bodies.specs.ped_eval.specs.Runs.{run_all}
+use Rattle.ped_bodies.specs.ped_laws.specs.Acts.Orders.{IsIn}
+use Rattle.ped_bodies.specs.ped_laws.proofs.ActLaws.Lists.{in_right}
+use Rattle.ped_bodies.specs.ped_laws.proofs.ActLaws.SameCells.{is_cell}
+use Rattle.ped_bodies.specs.ped_laws.proofs.ActLaws.Conflicting.{access_place}
+use Rattle.ped_bodies.specs.ped_laws.proofs.ActLaws.RaceFree.{apart_flip}
+use Rattle.ped_bodies.specs.ped_laws.proofs.RunLaws.Turning.{At}
+use Rattle.ped_bodies.specs.ped_laws.proofs.RunLaws.Placing.{kinds_of_run}
+use Rattle.ped_bodies.specs.ped_steps.proofs.RunLaws.PrivatisedRacesOrigins.{accesses_from}
+use Rattle.ped_bodies.specs.ped_steps.proofs.RunLaws.ExpandedRacesOrigins.{touch_of}
+use Rattle.ped_bodies.specs.ped_weaves.specs.Sources.{RaceSomewhere}
 use Rattle.ped_loop_runs.specs.Executions.{StandsInside, LeaveCopies}
 use Rattle.ped_loop_runs.proofs.LoopLaws.ApartTurns.{apart_first, apart_split, at_of, iterations_append, none_within, or_turned}
 use Rattle.ped_loop_runs.proofs.LoopLaws.RacesByReferences.{act_good}

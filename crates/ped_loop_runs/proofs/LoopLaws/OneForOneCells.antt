@@ -2,31 +2,31 @@
 use Rattle.std.proofs.Common.{◌≡◌, ℕ, suc, ◌+◌, ◌-◌, ◌<◌, ◌≤◌, List, [], ◌∷◌, ◌++◌, Bool, true, false, eqb, eqb-true, Option, Some, None, refl, sym, ap, subst, ◌∙◌, ◌⊎◌, inl, inr, arith, append-nil, if◌then◌else◌}
 use Rattle.std.specs.Prelude.{◌&&◌}
 use Rattle.std.proofs.lemmas.Bool.{and_parts, both_ways}
-use Rattle.ped_loop_runs.specs.ped_bodies.specs.ped_steps.specs.ped_laws.specs.ped_flow.specs.ped_base.specs.Lists.{is_same_text, is_among}
-use Rattle.ped_loop_runs.specs.ped_bodies.specs.ped_steps.specs.ped_laws.specs.ped_store.specs.Cells.{Cell, Scalar, Element, Private, In, Out, Iteration, same_cell}
-use Rattle.ped_loop_runs.specs.ped_bodies.specs.ped_steps.specs.ped_laws.specs.ped_store.specs.Stores.{Undefined}
-use Rattle.ped_loop_runs.specs.ped_bodies.specs.ped_steps.specs.ped_laws.specs.ped_store.specs.Acts.{Manner, reads, writes, is_told, Touch, Turn, Act, iterations_of}
-use Rattle.ped_loop_runs.specs.ped_bodies.specs.ped_steps.specs.ped_laws.specs.Acts.Fitting.{touches_of, of_cells, has_cell}
-use Rattle.ped_loop_runs.specs.ped_bodies.specs.ped_steps.specs.ped_laws.specs.Acts.Sets.{nothing, read_first, needed_by, needs}
-use Rattle.ped_loop_runs.specs.ped_bodies.specs.ped_steps.specs.ped_laws.specs.Acts.Conflicts.{IsNoReadOf, LeaveUnread, ReadNone, touches_without}
-use Rattle.ped_loop_runs.specs.ped_bodies.specs.ped_steps.specs.ped_laws.specs.Acts.Orders.{IsIn}
-use Rattle.ped_loop_runs.specs.ped_bodies.specs.ped_steps.specs.ped_laws.specs.Acts.Renaming.{AreRenamed, touched_by, touch}
-use Rattle.ped_loop_runs.specs.ped_bodies.specs.ped_steps.specs.ped_laws.proofs.ActLaws.SameCells.{text_itself, cell_is}
-use Rattle.ped_loop_runs.specs.ped_bodies.specs.ped_steps.specs.ped_laws.proofs.ActLaws.Lists.{in_parts}
-use Rattle.ped_loop_runs.specs.ped_bodies.specs.ped_steps.specs.ped_laws.proofs.ActLaws.Renamings.{or_left, or_right, or_either}
-use Rattle.ped_loop_runs.specs.ped_bodies.specs.ped_steps.specs.ped_laws.proofs.ActLaws.Outside.{kept_first, dropped_first, without_append, unread_append, unread_touches}
-use Rattle.ped_loop_runs.specs.ped_bodies.specs.ped_steps.specs.ped_laws.specs.FlowRuns.Covering.{is_cell_of}
-use Rattle.ped_loop_runs.specs.ped_bodies.specs.ped_steps.specs.ped_laws.proofs.FlowRunLaws.Names.{no_copy_within}
-use Rattle.ped_loop_runs.specs.ped_bodies.specs.ped_steps.specs.ped_laws.specs.ped_eval.specs.Scopes.{Setting, Scope, turns_of, cell_of}
-use Rattle.ped_loop_runs.specs.ped_bodies.specs.ped_steps.specs.ped_laws.specs.ped_eval.specs.Statements.{write_touch}
-use Rattle.ped_loop_runs.specs.ped_bodies.specs.ped_steps.specs.ped_laws.specs.ped_eval.specs.Loops.{Entered, undefined_by, undefined_all, left_in_variable, exit_touches}
-use Rattle.ped_loop_runs.specs.ped_bodies.specs.ped_steps.specs.Runs.Exchanging.{is_of_scalar}
+use Rattle.ped_bodies.specs.ped_flow.specs.ped_base.specs.Lists.{is_same_text, is_among}
+use Rattle.ped_bodies.specs.ped_store.specs.Cells.{Cell, Scalar, Element, Private, In, Out, Iteration, same_cell}
+use Rattle.ped_bodies.specs.ped_store.specs.Stores.{Undefined}
+use Rattle.ped_bodies.specs.ped_store.specs.Acts.{Manner, reads, writes, is_told, Touch, Turn, Act, iterations_of}
+use Rattle.ped_bodies.specs.ped_laws.specs.Acts.Fitting.{touches_of, of_cells, has_cell}
+use Rattle.ped_bodies.specs.ped_laws.specs.Acts.Sets.{nothing, read_first, needed_by, needs}
+use Rattle.ped_bodies.specs.ped_laws.specs.Acts.Conflicts.{IsNoReadOf, LeaveUnread, ReadNone, touches_without}
+use Rattle.ped_bodies.specs.ped_laws.specs.Acts.Orders.{IsIn}
+use Rattle.ped_bodies.specs.ped_laws.specs.Acts.Renaming.{AreRenamed, touched_by, touch}
+use Rattle.ped_bodies.specs.ped_laws.proofs.ActLaws.SameCells.{text_itself, cell_is}
+use Rattle.ped_bodies.specs.ped_laws.proofs.ActLaws.Lists.{in_parts}
+use Rattle.ped_bodies.specs.ped_laws.proofs.ActLaws.Renamings.{or_left, or_right, or_either}
+use Rattle.ped_bodies.specs.ped_laws.proofs.ActLaws.Outside.{kept_first, dropped_first, without_append, unread_append, unread_touches}
+use Rattle.ped_bodies.specs.ped_laws.specs.FlowRuns.Covering.{is_cell_of}
+use Rattle.ped_bodies.specs.ped_laws.proofs.FlowRunLaws.Names.{no_copy_within}
+use Rattle.ped_bodies.specs.ped_eval.specs.Scopes.{Setting, Scope, turns_of, cell_of}
+use Rattle.ped_bodies.specs.ped_eval.specs.Statements.{write_touch}
+use Rattle.ped_bodies.specs.ped_eval.specs.Loops.{Entered, undefined_by, undefined_all, left_in_variable, exit_touches}
+use Rattle.ped_bodies.specs.ped_steps.specs.Runs.Exchanging.{is_of_scalar}
 use Rattle.ped_loop_runs.specs.Executions.{IsCopyInside}
 use Rattle.ped_loop_runs.proofs.PastingLaws.LeftCopies.{IsOwn}
-use Rattle.ped_loop_runs.specs.ped_bodies.specs.Likewise.{Meet, AllMeet, AreLikewise}
-use Rattle.ped_loop_runs.specs.ped_bodies.specs.Moving.{is_cell_among, behind_front, with_rest, turned, IsOfTrips, LiesBehind}
-use Rattle.ped_loop_runs.specs.ped_bodies.proofs.BodyLaws.MovedCells.{behind_itself, moved_is, place_stays}
-use Rattle.ped_loop_runs.specs.ped_bodies.proofs.BodyLaws.NamesApart.{behind_is, reversed_apart}
+use Rattle.ped_bodies.specs.Likewise.{Meet, AllMeet, AreLikewise}
+use Rattle.ped_bodies.specs.Moving.{is_cell_among, behind_front, with_rest, turned, IsOfTrips, LiesBehind}
+use Rattle.ped_bodies.proofs.BodyLaws.MovedCells.{behind_itself, moved_is, place_stays}
+use Rattle.ped_bodies.proofs.BodyLaws.NamesApart.{behind_is, reversed_apart}
 use Rattle.ped_loop_runs.specs.OneForOne.{trip_names, trip_idle}
 
 number_itself : (n : ℕ) → eqb n n ≡ true

@@ -4,13 +4,13 @@ use Rattle.std.specs.Prelude.{◌==◌, ◌||◌, nat_le}
 use Rattle.std.specs.List.{flat_map, range_with_len}
 use Rattle.std.proofs.Math.Nat.{eq-or-lt_of_le}
 use Rattle.std.proofs.lemmas.Bool.Decides.{nat_tests}
-use Rattle.ped_loop_runs.specs.ped_bodies.specs.ped_steps.specs.ped_laws.specs.ped_store.specs.Acts.{Touch, Place, Act, ended_turn, closed}
-use Rattle.ped_loop_runs.specs.ped_bodies.specs.ped_steps.specs.ped_laws.specs.Acts.Fitting.{touches_of}
-use Rattle.ped_loop_runs.specs.ped_bodies.specs.ped_steps.specs.ped_laws.specs.ped_eval.specs.Scopes.{Scope}
-use Rattle.ped_loop_runs.specs.ped_bodies.specs.ped_steps.specs.ped_laws.specs.ped_eval.specs.Loops.{Entered, exit_touches, exit_when_none}
-use Rattle.ped_loop_runs.specs.ped_bodies.specs.ped_steps.specs.ped_laws.specs.Runs.Replaying.{act}
-use Rattle.ped_loop_runs.specs.ped_bodies.specs.Trips.{trip_end, trips, loop_close}
-use Rattle.ped_loop_runs.specs.ped_bodies.proofs.BodyLaws.TripLists.{end_in_order, end_parallel, close_in_order, close_of_none, close_parallel}
+use Rattle.ped_bodies.specs.ped_store.specs.Acts.{Touch, Place, Act, ended_turn, closed}
+use Rattle.ped_bodies.specs.ped_laws.specs.Acts.Fitting.{touches_of}
+use Rattle.ped_bodies.specs.ped_eval.specs.Scopes.{Scope}
+use Rattle.ped_bodies.specs.ped_eval.specs.Loops.{Entered, exit_touches, exit_when_none}
+use Rattle.ped_bodies.specs.ped_laws.specs.Runs.Replaying.{act}
+use Rattle.ped_bodies.specs.Trips.{trip_end, trips, loop_close}
+use Rattle.ped_bodies.proofs.BodyLaws.TripLists.{end_in_order, end_parallel, close_in_order, close_of_none, close_parallel}
 
 pub le_true : (k n : ℕ) → k ≤ n → nat_le k n ≡ true
 le_true k n h = grind (arith, nat_tests, h)

@@ -6,62 +6,62 @@ use Rattle.std.specs.List.{flat_map, range_with_len}
 use Rattle.std.proofs.Math.Nat.{eq-or-lt_of_le}
 use Rattle.std.proofs.lemmas.Bool.{and_parts, both_ways}
 use Rattle.std.proofs.lemmas.List.Concat.{flat_map_single}
-use Rattle.ped_loop_runs.specs.ped_bodies.specs.ped_steps.specs.ped_laws.specs.ped_flow.specs.ped_base.specs.Lists.{is_same_text, is_among}
-use Rattle.ped_loop_runs.specs.ped_bodies.specs.ped_steps.specs.ped_laws.specs.ped_flow.specs.ped_tree.specs.Tree.{Head, StmtTree, StmtTrees, Do, ProgramTree}
-use Rattle.ped_loop_runs.specs.ped_bodies.specs.ped_steps.specs.ped_laws.specs.ped_flow.specs.ped_tree.specs.NamesIn.{loop_variables, all_loop_variables}
-use Rattle.ped_loop_runs.specs.ped_bodies.specs.ped_steps.specs.ped_laws.specs.ped_flow.specs.ped_tree.specs.Numbering.{statements_count}
-use Rattle.ped_loop_runs.specs.ped_bodies.specs.ped_steps.specs.ped_laws.specs.ped_store.specs.Cells.{Cell}
-use Rattle.ped_loop_runs.specs.ped_bodies.specs.ped_steps.specs.ped_laws.specs.ped_store.specs.Stores.{Store, store_at_start}
-use Rattle.ped_loop_runs.specs.ped_bodies.specs.ped_steps.specs.ped_laws.specs.ped_store.specs.Acts.{Manner, reads, writes, is_told, Touch, Turn, Place, Act, closed, ended_turn, iterations_of}
-use Rattle.ped_loop_runs.specs.ped_bodies.specs.ped_steps.specs.ped_laws.specs.ped_store.specs.Races.{is_write}
-use Rattle.ped_loop_runs.specs.ped_bodies.specs.ped_steps.specs.ped_laws.specs.Acts.Fitting.{Fits, store_after, touches_of, of_cells}
-use Rattle.ped_loop_runs.specs.ped_bodies.specs.ped_steps.specs.ped_laws.specs.Acts.Sets.{nothing, AgreeIn, needs, written, wants}
-use Rattle.ped_loop_runs.specs.ped_bodies.specs.ped_steps.specs.ped_laws.specs.Acts.Conflicts.{touches_without, without, blocks_conflict_outside, ReadNone, WriteWithin}
-use Rattle.ped_loop_runs.specs.ped_bodies.specs.ped_steps.specs.ped_laws.specs.Acts.Changes.{AreSameOutside}
-use Rattle.ped_loop_runs.specs.ped_bodies.specs.ped_steps.specs.ped_laws.specs.Acts.Orders.{IsIn, EachOnce, IsReordered, KeepsOrder, Block, block_conflict}
-use Rattle.ped_loop_runs.specs.ped_bodies.specs.ped_steps.specs.ped_laws.specs.Acts.Grids.{block_at}
-use Rattle.ped_loop_runs.specs.ped_bodies.specs.ped_steps.specs.ped_laws.specs.Acts.Pieces.{StandsFor}
-use Rattle.ped_loop_runs.specs.ped_bodies.specs.ped_steps.specs.ped_laws.specs.Acts.Renaming.{own_name, AreRenamed, Renamed, touch}
-use Rattle.ped_loop_runs.specs.ped_bodies.specs.ped_steps.specs.ped_laws.proofs.ActLaws.Lists.{in_parts}
-use Rattle.ped_loop_runs.specs.ped_bodies.specs.ped_steps.specs.ped_laws.proofs.ActLaws.Renamings.{or_left, or_right, after_other}
-use Rattle.ped_loop_runs.specs.ped_bodies.specs.ped_steps.specs.ped_laws.proofs.ActLaws.Appending.{needs_append}
-use Rattle.ped_loop_runs.specs.ped_bodies.specs.ped_steps.specs.ped_laws.proofs.ActLaws.Outside.{none_append}
-use Rattle.ped_loop_runs.specs.ped_bodies.specs.ped_steps.specs.ped_laws.proofs.ActLaws.SameCells.{text_itself}
-use Rattle.ped_loop_runs.specs.ped_bodies.specs.ped_steps.specs.ped_laws.proofs.ActLaws.Exchanging.{needed_wanted, wanted_before}
-use Rattle.ped_loop_runs.specs.ped_bodies.specs.ped_steps.specs.ped_laws.specs.Runs.Showing.{shown_at_end}
-use Rattle.ped_loop_runs.specs.ped_bodies.specs.ped_steps.specs.ped_laws.specs.Runs.Replaying.{goes_on, has_fault, finish_of, ending_with, act, Replays}
-use Rattle.ped_loop_runs.specs.ped_bodies.specs.ped_steps.specs.ped_laws.proofs.RunLaws.StatementsTold.{run_told}
-use Rattle.ped_loop_runs.specs.ped_bodies.specs.ped_steps.specs.ped_laws.proofs.RunLaws.Touches.{Fine, all_good}
-use Rattle.ped_loop_runs.specs.ped_bodies.specs.ped_steps.specs.ped_laws.specs.FlowRuns.Covering.{is_cell_of}
-use Rattle.ped_loop_runs.specs.ped_bodies.specs.ped_steps.specs.ped_laws.proofs.FlowRunLaws.TripReads.{contained_unread}
-use Rattle.ped_loop_runs.specs.ped_bodies.specs.ped_steps.specs.ped_laws.proofs.ConflictLaws.CoveringRuns.{MakingLaw, SequenceLaw}
-use Rattle.ped_loop_runs.specs.ped_bodies.specs.ped_steps.specs.ped_laws.specs.ped_eval.specs.Evaluation.{Seen, cell_seen, index_seen, numbered}
-use Rattle.ped_loop_runs.specs.ped_bodies.specs.ped_steps.specs.ped_laws.specs.ped_eval.specs.Scopes.{Setting, Scope, turns_of, cell_of, place_of}
-use Rattle.ped_loop_runs.specs.ped_bodies.specs.ped_steps.specs.ped_laws.specs.ped_eval.specs.Loops.{Entered, inner_variables, frame, exit_touches, exit_when_none}
-use Rattle.ped_loop_runs.specs.ped_bodies.specs.ped_steps.specs.ped_laws.specs.ped_eval.specs.Runs.{Ending, going, stopped, failed, Run, nothing_done, followed_by, run, run_all}
-use Rattle.ped_loop_runs.specs.ped_bodies.specs.ped_steps.specs.ped_laws.specs.ped_eval.specs.Outcomes.{setting_of, run_of, Ends}
-use Rattle.ped_loop_runs.specs.ped_bodies.specs.ped_steps.specs.ped_laws.specs.ped_flow.specs.Questions.{LoopOf}
-use Rattle.ped_loop_runs.specs.ped_bodies.specs.ped_steps.specs.ped_laws.proofs.RunLaws.Turning.{inner_among}
-use Rattle.ped_loop_runs.specs.ped_bodies.specs.ped_steps.specs.Replacing.{alone}
-use Rattle.ped_loop_runs.specs.ped_bodies.specs.ped_steps.proofs.RunLaws.RunPlaces.{stands_in}
-use Rattle.ped_loop_runs.specs.ped_bodies.specs.ped_steps.proofs.RunLaws.ExpandedRacesOrigins.{write_in}
-use Rattle.ped_loop_runs.specs.ped_bodies.specs.ped_steps.specs.ped_weaves.specs.Puttings.{Suit, IsPutFor}
-use Rattle.ped_loop_runs.specs.ped_bodies.specs.ped_steps.specs.ped_weaves.specs.Weaves.{Knot, block, control, Weave, blocks_in, old_list, new_list, counted, IsWoven, AreInverse, old_trips, new_trips}
-use Rattle.ped_loop_runs.specs.ped_bodies.specs.ped_steps.specs.ped_weaves.proofs.WeaveLaws.KnotRows.{knotted_rows, blocks_rows, in_row}
-use Rattle.ped_loop_runs.specs.ped_bodies.specs.ped_steps.specs.ped_weaves.proofs.WeaveLaws.TripOrders.{trips_stand}
-use Rattle.ped_loop_runs.specs.ped_bodies.specs.ped_steps.specs.ped_weaves.proofs.WeaveLaws.CountedActs.{counted_touched, counted_needed}
-use Rattle.ped_loop_runs.specs.ped_bodies.specs.ped_steps.specs.ped_weaves.proofs.WeaveLaws.PutFor.{put_stands}
-use Rattle.ped_loop_runs.specs.ped_bodies.specs.ped_steps.specs.ped_weaves.proofs.WeaveLaws.AgreedApart.{both_stand}
-use Rattle.ped_loop_runs.specs.ped_bodies.specs.ped_steps.specs.ped_weaves.proofs.WeaveLaws.Woven.{woven_stands}
+use Rattle.ped_bodies.specs.ped_flow.specs.ped_base.specs.Lists.{is_same_text, is_among}
+use Rattle.ped_bodies.specs.ped_flow.specs.ped_tree.specs.Tree.{Head, StmtTree, StmtTrees, Do, ProgramTree}
+use Rattle.ped_bodies.specs.ped_flow.specs.ped_tree.specs.NamesIn.{loop_variables, all_loop_variables}
+use Rattle.ped_bodies.specs.ped_flow.specs.ped_tree.specs.Numbering.{statements_count}
+use Rattle.ped_bodies.specs.ped_store.specs.Cells.{Cell}
+use Rattle.ped_bodies.specs.ped_store.specs.Stores.{Store, store_at_start}
+use Rattle.ped_bodies.specs.ped_store.specs.Acts.{Manner, reads, writes, is_told, Touch, Turn, Place, Act, closed, ended_turn, iterations_of}
+use Rattle.ped_bodies.specs.ped_store.specs.Races.{is_write}
+use Rattle.ped_bodies.specs.ped_laws.specs.Acts.Fitting.{Fits, store_after, touches_of, of_cells}
+use Rattle.ped_bodies.specs.ped_laws.specs.Acts.Sets.{nothing, AgreeIn, needs, written, wants}
+use Rattle.ped_bodies.specs.ped_laws.specs.Acts.Conflicts.{touches_without, without, blocks_conflict_outside, ReadNone, WriteWithin}
+use Rattle.ped_bodies.specs.ped_laws.specs.Acts.Changes.{AreSameOutside}
+use Rattle.ped_bodies.specs.ped_laws.specs.Acts.Orders.{IsIn, EachOnce, IsReordered, KeepsOrder, Block, block_conflict}
+use Rattle.ped_bodies.specs.ped_laws.specs.Acts.Grids.{block_at}
+use Rattle.ped_bodies.specs.ped_laws.specs.Acts.Pieces.{StandsFor}
+use Rattle.ped_bodies.specs.ped_laws.specs.Acts.Renaming.{own_name, AreRenamed, Renamed, touch}
+use Rattle.ped_bodies.specs.ped_laws.proofs.ActLaws.Lists.{in_parts}
+use Rattle.ped_bodies.specs.ped_laws.proofs.ActLaws.Renamings.{or_left, or_right, after_other}
+use Rattle.ped_bodies.specs.ped_laws.proofs.ActLaws.Appending.{needs_append}
+use Rattle.ped_bodies.specs.ped_laws.proofs.ActLaws.Outside.{none_append}
+use Rattle.ped_bodies.specs.ped_laws.proofs.ActLaws.SameCells.{text_itself}
+use Rattle.ped_bodies.specs.ped_laws.proofs.ActLaws.Exchanging.{needed_wanted, wanted_before}
+use Rattle.ped_bodies.specs.ped_laws.specs.Runs.Showing.{shown_at_end}
+use Rattle.ped_bodies.specs.ped_laws.specs.Runs.Replaying.{goes_on, has_fault, finish_of, ending_with, act, Replays}
+use Rattle.ped_bodies.specs.ped_laws.proofs.RunLaws.StatementsTold.{run_told}
+use Rattle.ped_bodies.specs.ped_laws.proofs.RunLaws.Touches.{Fine, all_good}
+use Rattle.ped_bodies.specs.ped_laws.specs.FlowRuns.Covering.{is_cell_of}
+use Rattle.ped_bodies.specs.ped_laws.proofs.FlowRunLaws.TripReads.{contained_unread}
+use Rattle.ped_bodies.specs.ped_laws.proofs.ConflictLaws.CoveringRuns.{MakingLaw, SequenceLaw}
+use Rattle.ped_bodies.specs.ped_eval.specs.Evaluation.{Seen, cell_seen, index_seen, numbered}
+use Rattle.ped_bodies.specs.ped_eval.specs.Scopes.{Setting, Scope, turns_of, cell_of, place_of}
+use Rattle.ped_bodies.specs.ped_eval.specs.Loops.{Entered, inner_variables, frame, exit_touches, exit_when_none}
+use Rattle.ped_bodies.specs.ped_eval.specs.Runs.{Ending, going, stopped, failed, Run, nothing_done, followed_by, run, run_all}
+use Rattle.ped_bodies.specs.ped_eval.specs.Outcomes.{setting_of, run_of, Ends}
+use Rattle.ped_bodies.specs.ped_flow.specs.Questions.{LoopOf}
+use Rattle.ped_bodies.specs.ped_laws.proofs.RunLaws.Turning.{inner_among}
+use Rattle.ped_bodies.specs.ped_steps.specs.Replacing.{alone}
+use Rattle.ped_bodies.specs.ped_steps.proofs.RunLaws.RunPlaces.{stands_in}
+use Rattle.ped_bodies.specs.ped_steps.proofs.RunLaws.ExpandedRacesOrigins.{write_in}
+use Rattle.ped_bodies.specs.ped_weaves.specs.Puttings.{Suit, IsPutFor}
+use Rattle.ped_bodies.specs.ped_weaves.specs.Weaves.{Knot, block, control, Weave, blocks_in, old_list, new_list, counted, IsWoven, AreInverse, old_trips, new_trips}
+use Rattle.ped_bodies.specs.ped_weaves.proofs.WeaveLaws.KnotRows.{knotted_rows, blocks_rows, in_row}
+use Rattle.ped_bodies.specs.ped_weaves.proofs.WeaveLaws.TripOrders.{trips_stand}
+use Rattle.ped_bodies.specs.ped_weaves.proofs.WeaveLaws.CountedActs.{counted_touched, counted_needed}
+use Rattle.ped_bodies.specs.ped_weaves.proofs.WeaveLaws.PutFor.{put_stands}
+use Rattle.ped_bodies.specs.ped_weaves.proofs.WeaveLaws.AgreedApart.{both_stand}
+use Rattle.ped_bodies.specs.ped_weaves.proofs.WeaveLaws.Woven.{woven_stands}
 use Rattle.ped_loop_runs.specs.Executions.{IsCopyInside, IsExecuted}
 use Rattle.ped_loop_runs.specs.Copies.{IsTheirs}
 use Rattle.ped_loop_runs.proofs.PastingLaws.LeftCopies.{IsOwn, own_apart, body_reaches, exit_own, entry_own}
 use Rattle.ped_loop_runs.proofs.PastingLaws.TheirCopies.{theirs, theirs_unneeded}
-use Rattle.ped_loop_runs.specs.ped_bodies.specs.Moving.{own_number, is_cell_among}
-use Rattle.ped_loop_runs.specs.ped_bodies.specs.Likewise.{AreLikewise}
-use Rattle.ped_loop_runs.specs.ped_bodies.specs.Trips.{loop_entry, trips, loop_close, bounds_seen, entered_from, IsTrip, IsMadeOfTrips, MakesTripsLikewise}
-use Rattle.ped_loop_runs.specs.ped_bodies.proofs.BodyLaws.LikewiseActs.{likewise_stripped}
-use Rattle.ped_loop_runs.specs.ped_bodies.proofs.BodyLaws.TripLists.{loop_apart}
+use Rattle.ped_bodies.specs.Moving.{own_number, is_cell_among}
+use Rattle.ped_bodies.specs.Likewise.{AreLikewise}
+use Rattle.ped_bodies.specs.Trips.{loop_entry, trips, loop_close, bounds_seen, entered_from, IsTrip, IsMadeOfTrips, MakesTripsLikewise}
+use Rattle.ped_bodies.proofs.BodyLaws.LikewiseActs.{likewise_stripped}
+use Rattle.ped_bodies.proofs.BodyLaws.TripLists.{loop_apart}
 use Rattle.ped_loop_runs.specs.Carried.{StandIn, AreTrips, AllStoreWithin}
 use Rattle.ped_loop_runs.specs.OneForOne.{trip_of, trip_names, trip_idle, HasSameTrips, IsOneForOne, IsMadeInstead}
 use Rattle.ped_loop_runs.proofs.LoopLaws.Trips.{trips_apart}

@@ -3,24 +3,24 @@ use Rattle.std.proofs.Common.{◌≡◌, ℕ, ◌+◌, ◌-◌, ◌≤◌, List,
 use Rattle.std.specs.Prelude.{◌||◌}
 use Rattle.std.proofs.lemmas.Bool.{or_parts}
 use Rattle.std.proofs.lemmas.List.Folds.{list_any-append}
-use Rattle.ped_loop_runs.specs.ped_bodies.specs.ped_steps.specs.ped_laws.specs.ped_flow.specs.ped_base.specs.Lists.{is_same_text, is_among}
-use Rattle.ped_loop_runs.specs.ped_bodies.specs.ped_steps.specs.ped_laws.specs.ped_flow.specs.ped_tree.specs.Tree.{Head, StmtTrees, Do}
-use Rattle.ped_loop_runs.specs.ped_bodies.specs.ped_steps.specs.ped_laws.specs.ped_flow.specs.ped_tree.specs.NamesIn.{loop_variables, all_loop_variables, stmts_names}
-use Rattle.ped_loop_runs.specs.ped_bodies.specs.ped_steps.specs.ped_laws.specs.ped_store.specs.Cells.{Iteration}
-use Rattle.ped_loop_runs.specs.ped_bodies.specs.ped_steps.specs.ped_laws.specs.ped_store.specs.Stores.{Store}
-use Rattle.ped_loop_runs.specs.ped_bodies.specs.ped_steps.specs.ped_laws.specs.ped_store.specs.Acts.{iterations_of}
-use Rattle.ped_loop_runs.specs.ped_bodies.specs.ped_steps.specs.ped_laws.specs.ped_eval.specs.Evaluation.{Seen}
-use Rattle.ped_loop_runs.specs.ped_bodies.specs.ped_steps.specs.ped_laws.specs.ped_eval.specs.Scopes.{Setting, Scope, turns_of, index_value, names_in}
-use Rattle.ped_loop_runs.specs.ped_bodies.specs.ped_steps.specs.ped_laws.specs.ped_eval.specs.Loops.{limits, inner_variables, Entered, value_in, copied_names, frame}
-use Rattle.ped_loop_runs.specs.ped_bodies.specs.ped_steps.specs.ped_laws.specs.Runs.Seeing.{ComesTo}
-use Rattle.ped_loop_runs.specs.ped_bodies.specs.ped_steps.specs.ped_laws.specs.Runs.Replaying.{IsEntered}
-use Rattle.ped_loop_runs.specs.ped_bodies.specs.ped_steps.specs.ped_laws.proofs.RunLaws.Sight.{limits_told}
-use Rattle.ped_loop_runs.specs.ped_bodies.specs.ped_steps.specs.ped_laws.proofs.RunLaws.Turning.{once_among}
-use Rattle.ped_loop_runs.specs.ped_bodies.specs.Standing.{SettingsAgree}
-use Rattle.ped_loop_runs.specs.ped_bodies.specs.Moving.{own_number, HaveSameCopies, TellTheSame}
-use Rattle.ped_loop_runs.specs.ped_bodies.specs.Trips.{bounds_seen, entered_from, IsMadeOfTrips, MakesTripsLikewise, DoTripsLikewise}
-use Rattle.ped_loop_runs.specs.ped_bodies.proofs.BodyLaws.Instances.{reversed_body, with_other_copies}
-use Rattle.ped_loop_runs.specs.ped_bodies.proofs.BodyLaws.TripsLikewise.{trips_made}
+use Rattle.ped_bodies.specs.ped_flow.specs.ped_base.specs.Lists.{is_same_text, is_among}
+use Rattle.ped_bodies.specs.ped_flow.specs.ped_tree.specs.Tree.{Head, StmtTrees, Do}
+use Rattle.ped_bodies.specs.ped_flow.specs.ped_tree.specs.NamesIn.{loop_variables, all_loop_variables, stmts_names}
+use Rattle.ped_bodies.specs.ped_store.specs.Cells.{Iteration}
+use Rattle.ped_bodies.specs.ped_store.specs.Stores.{Store}
+use Rattle.ped_bodies.specs.ped_store.specs.Acts.{iterations_of}
+use Rattle.ped_bodies.specs.ped_eval.specs.Evaluation.{Seen}
+use Rattle.ped_bodies.specs.ped_eval.specs.Scopes.{Setting, Scope, turns_of, index_value, names_in}
+use Rattle.ped_bodies.specs.ped_eval.specs.Loops.{limits, inner_variables, Entered, value_in, copied_names, frame}
+use Rattle.ped_bodies.specs.ped_laws.specs.Runs.Seeing.{ComesTo}
+use Rattle.ped_bodies.specs.ped_laws.specs.Runs.Replaying.{IsEntered}
+use Rattle.ped_bodies.specs.ped_laws.proofs.RunLaws.Sight.{limits_told}
+use Rattle.ped_bodies.specs.ped_laws.proofs.RunLaws.Turning.{once_among}
+use Rattle.ped_bodies.specs.Standing.{SettingsAgree}
+use Rattle.ped_bodies.specs.Moving.{own_number, HaveSameCopies, TellTheSame}
+use Rattle.ped_bodies.specs.Trips.{bounds_seen, entered_from, IsMadeOfTrips, MakesTripsLikewise, DoTripsLikewise}
+use Rattle.ped_bodies.proofs.BodyLaws.Instances.{reversed_body, with_other_copies}
+use Rattle.ped_bodies.proofs.BodyLaws.TripsLikewise.{trips_made}
 use Rattle.ped_loop_runs.specs.OneForOne.{trip_of, trip_names, trip_idle, HasSameTrips}
 
 or_false : (b : Bool) → b || false ≡ b

@@ -4,32 +4,32 @@ use Rattle.std.specs.Map.{lookup}
 use Rattle.std.specs.Str.Lines.{lines}
 use Rattle.std.proofs.lemmas.Bool.{or_parts}
 use Rattle.std.proofs.lemmas.List.Folds.{list_any-append}
-use Rattle.ped_loop_runs.specs.ped_bodies.specs.ped_steps.specs.ped_laws.specs.ped_flow.specs.ped_base.specs.Lists.{is_same_text, is_among}
-use Rattle.ped_loop_runs.specs.ped_bodies.specs.ped_steps.specs.ped_laws.specs.ped_flow.specs.ped_base.proofs.NameEquality.{same_itself, same_is}
-use Rattle.ped_loop_runs.specs.ped_bodies.specs.ped_steps.specs.ped_laws.specs.ped_flow.proofs.Truths.{untrue}
-use Rattle.ped_loop_runs.specs.ped_bodies.specs.ped_steps.specs.ped_laws.specs.ped_graph.specs.ped_views.specs.declared.intervals.Interval.{Interval}
-use Rattle.ped_loop_runs.specs.ped_bodies.specs.ped_steps.specs.ped_laws.specs.ped_graph.specs.ped_symbols.specs.NameRefusals.{IsValid}
-use Rattle.ped_loop_runs.specs.ped_bodies.specs.ped_steps.specs.ped_laws.specs.ped_flow.specs.ped_affine.specs.IntervalArithmetic.{interval_sum, interval_difference, interval_negation, interval_product}
-use Rattle.ped_loop_runs.specs.ped_bodies.specs.ped_steps.specs.ped_laws.specs.ped_flow.specs.ped_affine.specs.Ranges.{Setting, Around, constant_or, of_one, of_two, variable_by, onto, call_interval, interval_of, intervals_of, near_or_all, bound_interval, loop_range, between_ends, inside}
-use Rattle.ped_loop_runs.specs.ped_bodies.specs.ped_steps.specs.ped_laws.specs.ped_flow.specs.ped_tree.specs.Tree.{ExprTree, ExprTrees, Int, Var, Element, Neg, Add, Sub, Mul, Div, Pow, Call, no_exprs, more_exprs, ProgramTree}
-use Rattle.ped_loop_runs.specs.ped_bodies.specs.ped_steps.specs.ped_laws.specs.ped_flow.specs.ped_tree.specs.NamesIn.{expr_names, exprs_names, all_loop_variables}
-use Rattle.ped_loop_runs.specs.ped_bodies.specs.ped_steps.specs.ped_laws.specs.ped_flow.specs.ped_tree.specs.Nests.{Loop, indices_of}
-use Rattle.ped_loop_runs.specs.ped_bodies.specs.ped_steps.specs.ped_laws.specs.ped_flow.specs.ped_tree.specs.Numbering.{statement_with}
-use Rattle.ped_loop_runs.specs.ped_bodies.specs.ped_steps.specs.ped_laws.specs.ped_flow.specs.ped_tree.specs.Constants.ConstantExpressions.{constant_value}
-use Rattle.ped_loop_runs.specs.ped_bodies.specs.ped_steps.specs.ped_laws.specs.ped_flow.specs.ped_tree.specs.Grammar.Fits.{expr_fits}
-use Rattle.ped_loop_runs.specs.ped_bodies.specs.ped_steps.specs.ped_laws.specs.ped_flow.specs.PlainBounds.{Values, nest_round, setting_round, outermost_or, assigned_by, around_with, IsFixed, IsPlainlyBuilt, ArePlainlyBuilt, IsPlain}
-use Rattle.ped_loop_runs.specs.ped_bodies.specs.ped_steps.specs.ped_laws.specs.ped_flow.specs.Questions.{LoopOf}
-use Rattle.ped_loop_runs.specs.ped_bodies.specs.ped_steps.specs.ped_laws.specs.ped_store.specs.Stores.{store_at_start}
-use Rattle.ped_loop_runs.specs.ped_bodies.specs.ped_steps.specs.ped_laws.specs.ped_store.specs.Acts.{Act}
-use Rattle.ped_loop_runs.specs.ped_bodies.specs.ped_steps.specs.ped_laws.specs.ped_eval.specs.Scopes.{Frame, Scope, index_value}
-use Rattle.ped_loop_runs.specs.ped_bodies.specs.ped_steps.specs.ped_laws.specs.ped_eval.specs.Outcomes.{setting_of}
-use Rattle.ped_loop_runs.specs.ped_bodies.specs.ped_steps.specs.ped_laws.specs.Acts.Fitting.{store_after}
-use Rattle.ped_loop_runs.specs.ped_bodies.specs.ped_steps.specs.ped_laws.specs.Covering.Nested.{loop}
-use Rattle.ped_loop_runs.specs.ped_bodies.specs.ped_steps.specs.ped_laws.specs.FlowRuns.Entries.{IsEntry}
-use Rattle.ped_loop_runs.specs.ped_bodies.specs.ped_steps.specs.ped_laws.specs.Plain.PlainValues.{around_loop}
-use Rattle.ped_loop_runs.specs.ped_bodies.specs.ped_steps.specs.ped_laws.specs.Plain.Executions.{IsInside, IsPlaceWith, LieInRanges, HasValueDuring}
-use Rattle.ped_loop_runs.specs.ped_bodies.specs.ped_steps.specs.ped_laws.proofs.PlainLaws.Standing.{value_during}
-use Rattle.ped_loop_runs.specs.ped_bodies.specs.ped_steps.specs.ped_laws.proofs.PlainLaws.ValidPrograms.{no_stop_in_loops, have_values}
+use Rattle.ped_bodies.specs.ped_flow.specs.ped_base.specs.Lists.{is_same_text, is_among}
+use Rattle.ped_bodies.specs.ped_flow.specs.ped_base.proofs.NameEquality.{same_itself, same_is}
+use Rattle.ped_bodies.specs.ped_flow.proofs.Truths.{untrue}
+use Rattle.ped_bodies.specs.ped_views.specs.declared.intervals.Interval.{Interval}
+use Rattle.ped_bodies.specs.ped_symbols.specs.NameRefusals.{IsValid}
+use Rattle.ped_bodies.specs.ped_affine.specs.IntervalArithmetic.{interval_sum, interval_difference, interval_negation, interval_product}
+use Rattle.ped_bodies.specs.ped_affine.specs.Ranges.{Setting, Around, constant_or, of_one, of_two, variable_by, onto, call_interval, interval_of, intervals_of, near_or_all, bound_interval, loop_range, between_ends, inside}
+use Rattle.ped_bodies.specs.ped_flow.specs.ped_tree.specs.Tree.{ExprTree, ExprTrees, Int, Var, Element, Neg, Add, Sub, Mul, Div, Pow, Call, no_exprs, more_exprs, ProgramTree}
+use Rattle.ped_bodies.specs.ped_flow.specs.ped_tree.specs.NamesIn.{expr_names, exprs_names, all_loop_variables}
+use Rattle.ped_bodies.specs.ped_flow.specs.ped_tree.specs.Nests.{Loop, indices_of}
+use Rattle.ped_bodies.specs.ped_flow.specs.ped_tree.specs.Numbering.{statement_with}
+use Rattle.ped_bodies.specs.ped_flow.specs.ped_tree.specs.Constants.ConstantExpressions.{constant_value}
+use Rattle.ped_bodies.specs.ped_flow.specs.ped_tree.specs.Grammar.Fits.{expr_fits}
+use Rattle.ped_bodies.specs.ped_flow.specs.PlainBounds.{Values, nest_round, setting_round, outermost_or, assigned_by, around_with, IsFixed, IsPlainlyBuilt, ArePlainlyBuilt, IsPlain}
+use Rattle.ped_bodies.specs.ped_flow.specs.Questions.{LoopOf}
+use Rattle.ped_bodies.specs.ped_store.specs.Stores.{store_at_start}
+use Rattle.ped_bodies.specs.ped_store.specs.Acts.{Act}
+use Rattle.ped_bodies.specs.ped_eval.specs.Scopes.{Frame, Scope, index_value}
+use Rattle.ped_bodies.specs.ped_eval.specs.Outcomes.{setting_of}
+use Rattle.ped_bodies.specs.ped_laws.specs.Acts.Fitting.{store_after}
+use Rattle.ped_bodies.specs.ped_laws.specs.Covering.Nested.{loop}
+use Rattle.ped_bodies.specs.ped_laws.specs.FlowRuns.Entries.{IsEntry}
+use Rattle.ped_bodies.specs.ped_laws.specs.Plain.PlainValues.{around_loop}
+use Rattle.ped_bodies.specs.ped_laws.specs.Plain.Executions.{IsInside, IsPlaceWith, LieInRanges, HasValueDuring}
+use Rattle.ped_bodies.specs.ped_laws.proofs.PlainLaws.Standing.{value_during}
+use Rattle.ped_bodies.specs.ped_laws.proofs.PlainLaws.ValidPrograms.{no_stop_in_loops, have_values}
 use Rattle.ped_loop_runs.specs.OneOut.{IsNextIn}
 use Rattle.ped_loop_runs.proofs.LoopLaws.NextIn.{assigned_out}
 

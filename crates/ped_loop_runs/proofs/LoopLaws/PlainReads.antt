@@ -1,28 +1,28 @@
 -- A plain bound reads scalars alone that keep their values, so it comes to the same wherever places tell the same.
 use Rattle.std.proofs.Common.{◌≡◌, ℕ, ℤ, pos, List, [], ◌∷◌, ◌++◌, false, ◌⊎◌, inl, inr, refl, sym, ap, ◌∙◌, subst, IsTrue, Option, Some, None, Result, Ok, Err, option_and_then}
 use Rattle.std.specs.Result.{result_ok}
-use Rattle.ped_loop_runs.specs.ped_bodies.specs.ped_steps.specs.ped_laws.specs.ped_flow.specs.ped_base.specs.Lists.{is_among}
-use Rattle.ped_loop_runs.specs.ped_bodies.specs.ped_steps.specs.ped_laws.specs.ped_flow.specs.ped_base.specs.declared.arithmetic.faults.Fault.{Fault}
-use Rattle.ped_loop_runs.specs.ped_bodies.specs.ped_steps.specs.ped_laws.specs.ped_flow.specs.ped_base.specs.Arithmetic.Arithmetic.{sum_of, difference_of, negation_of, product_of, quotient_of, power_of}
-use Rattle.ped_loop_runs.specs.ped_bodies.specs.ped_steps.specs.ped_laws.specs.ped_flow.specs.ped_tree.specs.declared.expressions.Intrinsic.{Intrinsic}
-use Rattle.ped_loop_runs.specs.ped_bodies.specs.ped_steps.specs.ped_laws.specs.ped_flow.specs.ped_tree.specs.Tree.{ExprTree, ExprTrees, Int, Var, Element, Neg, Add, Sub, Mul, Div, Pow, Call, no_exprs, more_exprs, Do, ProgramTree}
-use Rattle.ped_loop_runs.specs.ped_bodies.specs.ped_steps.specs.ped_laws.specs.ped_flow.specs.ped_tree.specs.Nests.{indices_of}
-use Rattle.ped_loop_runs.specs.ped_bodies.specs.ped_steps.specs.ped_laws.specs.ped_flow.specs.ped_tree.specs.Constants.NamedConstants.{value_named}
-use Rattle.ped_loop_runs.specs.ped_bodies.specs.ped_steps.specs.ped_laws.specs.ped_flow.specs.ped_tree.specs.Constants.ConstantExpressions.{unary_value, binary_value, onto, intrinsic_result, constant_value, constant_values}
-use Rattle.ped_loop_runs.specs.ped_bodies.specs.ped_steps.specs.ped_laws.specs.ped_flow.specs.PlainBounds.{Values, nest_round, setting_round, outermost_or, assigned_by, IsConstant, IsFixed, IsPlainlyBuilt, ArePlainlyBuilt}
-use Rattle.ped_loop_runs.specs.ped_bodies.specs.ped_steps.specs.ped_laws.specs.ped_flow.specs.Questions.{LoopOf}
-use Rattle.ped_loop_runs.specs.ped_bodies.specs.ped_steps.specs.ped_laws.specs.ped_store.specs.Cells.{Cell, Scalar}
-use Rattle.ped_loop_runs.specs.ped_bodies.specs.ped_steps.specs.ped_laws.specs.ped_store.specs.Stores.{Store, number_read}
-use Rattle.ped_loop_runs.specs.ped_bodies.specs.ped_steps.specs.ped_laws.specs.ped_eval.specs.Scopes.{Setting, Scope, Names, names_in}
-use Rattle.ped_loop_runs.specs.ped_bodies.specs.ped_steps.specs.ped_laws.specs.ped_eval.specs.Evaluation.{Seen, cell_seen, index_seen, Evaluated, onward, ◌>>>◌, given, by_number}
-use Rattle.ped_loop_runs.specs.ped_bodies.specs.ped_steps.specs.ped_laws.specs.ped_eval.specs.Values.{unary, binary, of_intrinsic, variable_value, name_value, value, values}
-use Rattle.ped_loop_runs.specs.ped_bodies.specs.ped_steps.specs.ped_laws.specs.ped_eval.specs.Runs.{run}
-use Rattle.ped_loop_runs.specs.ped_bodies.specs.ped_steps.specs.ped_laws.specs.Acts.Sets.{written}
-use Rattle.ped_loop_runs.specs.ped_bodies.specs.ped_steps.specs.ped_laws.specs.Plain.Executions.{IsPlaceWith, IsDuring}
-use Rattle.ped_loop_runs.specs.ped_bodies.specs.ped_steps.specs.ped_laws.proofs.CoveringLaws.Comings.{some_one}
-use Rattle.ped_loop_runs.specs.ped_bodies.specs.ped_steps.specs.ped_laws.specs.ped_flow.specs.ped_base.proofs.NameEquality.{same_itself}
-use Rattle.ped_loop_runs.specs.ped_bodies.specs.ped_steps.specs.ped_laws.proofs.FlowRunLaws.Writing.{unassigned}
-use Rattle.ped_loop_runs.specs.ped_bodies.specs.ped_steps.specs.ped_laws.proofs.PlainLaws.Standing.{untold, own_cell, kept_during}
+use Rattle.ped_bodies.specs.ped_flow.specs.ped_base.specs.Lists.{is_among}
+use Rattle.ped_bodies.specs.ped_flow.specs.ped_base.specs.declared.arithmetic.faults.Fault.{Fault}
+use Rattle.ped_bodies.specs.ped_flow.specs.ped_base.specs.Arithmetic.Arithmetic.{sum_of, difference_of, negation_of, product_of, quotient_of, power_of}
+use Rattle.ped_bodies.specs.ped_flow.specs.ped_tree.specs.declared.expressions.Intrinsic.{Intrinsic}
+use Rattle.ped_bodies.specs.ped_flow.specs.ped_tree.specs.Tree.{ExprTree, ExprTrees, Int, Var, Element, Neg, Add, Sub, Mul, Div, Pow, Call, no_exprs, more_exprs, Do, ProgramTree}
+use Rattle.ped_bodies.specs.ped_flow.specs.ped_tree.specs.Nests.{indices_of}
+use Rattle.ped_bodies.specs.ped_flow.specs.ped_tree.specs.Constants.NamedConstants.{value_named}
+use Rattle.ped_bodies.specs.ped_flow.specs.ped_tree.specs.Constants.ConstantExpressions.{unary_value, binary_value, onto, intrinsic_result, constant_value, constant_values}
+use Rattle.ped_bodies.specs.ped_flow.specs.PlainBounds.{Values, nest_round, setting_round, outermost_or, assigned_by, IsConstant, IsFixed, IsPlainlyBuilt, ArePlainlyBuilt}
+use Rattle.ped_bodies.specs.ped_flow.specs.Questions.{LoopOf}
+use Rattle.ped_bodies.specs.ped_store.specs.Cells.{Cell, Scalar}
+use Rattle.ped_bodies.specs.ped_store.specs.Stores.{Store, number_read}
+use Rattle.ped_bodies.specs.ped_eval.specs.Scopes.{Setting, Scope, Names, names_in}
+use Rattle.ped_bodies.specs.ped_eval.specs.Evaluation.{Seen, cell_seen, index_seen, Evaluated, onward, ◌>>>◌, given, by_number}
+use Rattle.ped_bodies.specs.ped_eval.specs.Values.{unary, binary, of_intrinsic, variable_value, name_value, value, values}
+use Rattle.ped_bodies.specs.ped_eval.specs.Runs.{run}
+use Rattle.ped_bodies.specs.ped_laws.specs.Acts.Sets.{written}
+use Rattle.ped_bodies.specs.ped_laws.specs.Plain.Executions.{IsPlaceWith, IsDuring}
+use Rattle.ped_bodies.specs.ped_laws.proofs.CoveringLaws.Comings.{some_one}
+use Rattle.ped_bodies.specs.ped_flow.specs.ped_base.proofs.NameEquality.{same_itself}
+use Rattle.ped_bodies.specs.ped_laws.proofs.FlowRunLaws.Writing.{unassigned}
+use Rattle.ped_bodies.specs.ped_laws.proofs.PlainLaws.Standing.{untold, own_cell, kept_during}
 use Rattle.ped_loop_runs.specs.Bounds.{IsOfFixed, ReadTheSame, ComeToTheSame}
 
 -- an evaluation that reads nothing comes to this, where the expression is constant and has this value

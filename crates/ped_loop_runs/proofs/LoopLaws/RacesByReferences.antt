@@ -3,25 +3,25 @@ use Rattle.std.proofs.Common.{◌≡◌, ℕ, ◌<◌, List, [], Bool, true, fal
 use Rattle.std.specs.Str.Lines.{lines}
 use Rattle.std.proofs.lemmas.Bool.{and_parts, both_ways}
 use Rattle.std.proofs.lemmas.Bool.Decides.{nat_tests}
-use Rattle.ped_loop_runs.specs.ped_bodies.specs.ped_steps.specs.ped_laws.specs.ped_flow.specs.ped_tree.specs.Tree.{StmtTrees, ProgramTree}
-use Rattle.ped_loop_runs.specs.ped_bodies.specs.ped_steps.specs.ped_laws.specs.ped_graph.specs.ped_symbols.specs.NameRefusals.{IsValid}
-use Rattle.ped_loop_runs.specs.ped_bodies.specs.ped_steps.specs.ped_laws.specs.ped_store.specs.Cells.{Cell, same_cell}
-use Rattle.ped_loop_runs.specs.ped_bodies.specs.ped_steps.specs.ped_laws.specs.ped_store.specs.Stores.{Store, store_at_start}
-use Rattle.ped_loop_runs.specs.ped_bodies.specs.ped_steps.specs.ped_laws.specs.ped_store.specs.Acts.{Manner, reads, writes, is_told, Touch, Turn, Act}
-use Rattle.ped_loop_runs.specs.ped_bodies.specs.ped_steps.specs.ped_laws.specs.ped_store.specs.Races.{Access, is_lines, is_write, is_access, accesses, conflict, are_apart, race}
-use Rattle.ped_loop_runs.specs.ped_bodies.specs.ped_steps.specs.ped_laws.specs.ped_eval.specs.Outcomes.{setting_of, run_of}
-use Rattle.ped_loop_runs.specs.ped_bodies.specs.ped_steps.specs.ped_laws.specs.ped_eval.specs.Scopes.{Setting, Scope}
-use Rattle.ped_loop_runs.specs.ped_bodies.specs.ped_steps.specs.ped_laws.specs.ped_eval.specs.Runs.{run_all}
-use Rattle.ped_loop_runs.specs.ped_bodies.specs.ped_steps.specs.ped_laws.specs.Acts.Orders.{IsIn}
-use Rattle.ped_loop_runs.specs.ped_bodies.specs.ped_steps.specs.ped_laws.proofs.ActLaws.SameCells.{cell_flip}
-use Rattle.ped_loop_runs.specs.ped_bodies.specs.ped_steps.specs.ped_laws.proofs.ActLaws.Conflicting.{access_place}
-use Rattle.ped_loop_runs.specs.ped_bodies.specs.ped_steps.specs.ped_laws.proofs.ActLaws.RaceFree.{apart_flip}
-use Rattle.ped_loop_runs.specs.ped_bodies.specs.ped_steps.specs.ped_laws.proofs.RunLaws.Touches.{Fine, Good, all_good}
-use Rattle.ped_loop_runs.specs.ped_bodies.specs.ped_steps.specs.ped_laws.proofs.RunLaws.Meetings.{accesses_of_run}
-use Rattle.ped_loop_runs.specs.ped_bodies.specs.ped_steps.specs.ped_laws.proofs.RunLaws.Placing.{kinds_of_run}
-use Rattle.ped_loop_runs.specs.ped_bodies.specs.ped_steps.proofs.RunLaws.PrivatisedRacesOrigins.{accesses_from}
-use Rattle.ped_loop_runs.specs.ped_bodies.specs.ped_steps.proofs.RunLaws.ExpandedRacesOrigins.{IsTold, touch_of}
-use Rattle.ped_loop_runs.specs.ped_bodies.specs.ped_steps.proofs.RunLaws.ToldRaces.{told_races_not}
+use Rattle.ped_bodies.specs.ped_flow.specs.ped_tree.specs.Tree.{StmtTrees, ProgramTree}
+use Rattle.ped_bodies.specs.ped_symbols.specs.NameRefusals.{IsValid}
+use Rattle.ped_bodies.specs.ped_store.specs.Cells.{Cell, same_cell}
+use Rattle.ped_bodies.specs.ped_store.specs.Stores.{Store, store_at_start}
+use Rattle.ped_bodies.specs.ped_store.specs.Acts.{Manner, reads, writes, is_told, Touch, Turn, Act}
+use Rattle.ped_bodies.specs.ped_store.specs.Races.{Access, is_lines, is_write, is_access, accesses, conflict, are_apart, race}
+use Rattle.ped_bodies.specs.ped_eval.specs.Outcomes.{setting_of, run_of}
+use Rattle.ped_bodies.specs.ped_eval.specs.Scopes.{Setting, Scope}
+use Rattle.ped_bodies.specs.ped_eval.specs.Runs.{run_all}
+use Rattle.ped_bodies.specs.ped_laws.specs.Acts.Orders.{IsIn}
+use Rattle.ped_bodies.specs.ped_laws.proofs.ActLaws.SameCells.{cell_flip}
+use Rattle.ped_bodies.specs.ped_laws.proofs.ActLaws.Conflicting.{access_place}
+use Rattle.ped_bodies.specs.ped_laws.proofs.ActLaws.RaceFree.{apart_flip}
+use Rattle.ped_bodies.specs.ped_laws.proofs.RunLaws.Touches.{Fine, Good, all_good}
+use Rattle.ped_bodies.specs.ped_laws.proofs.RunLaws.Meetings.{accesses_of_run}
+use Rattle.ped_bodies.specs.ped_laws.proofs.RunLaws.Placing.{kinds_of_run}
+use Rattle.ped_bodies.specs.ped_steps.proofs.RunLaws.PrivatisedRacesOrigins.{accesses_from}
+use Rattle.ped_bodies.specs.ped_steps.proofs.RunLaws.ExpandedRacesOrigins.{IsTold, touch_of}
+use Rattle.ped_bodies.specs.ped_steps.proofs.RunLaws.ToldRaces.{told_races_not}
 
 abbrev Any : List Turn → Cell → Type 0
 Any ts c = Unit {0}

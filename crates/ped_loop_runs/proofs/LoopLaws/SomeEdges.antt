@@ -1,10 +1,10 @@
 -- That a program has no dependences can't be: each vector is excluded or not. So whatever is shown false of all lists of its dependences is false.
 use Rattle.std.proofs.Common.{List, [], ◌∷◌, ◌++◌, length, refl, inl, inr}
-use Rattle.ped_loop_runs.specs.ped_bodies.specs.ped_steps.specs.ped_laws.specs.ped_graph.specs.ped_views.specs.Vectors.{all_vectors, AreThose, IsPossible}
-use Rattle.ped_loop_runs.specs.ped_bodies.specs.ped_steps.specs.ped_laws.specs.ped_flow.specs.ped_tree.specs.Tree.{ProgramTree}
-use Rattle.ped_loop_runs.specs.ped_bodies.specs.ped_steps.specs.ped_laws.specs.ped_graph.specs.ped_refs.specs.References.{Reference, references, pairs}
-use Rattle.ped_loop_runs.specs.ped_bodies.specs.ped_steps.specs.ped_laws.specs.ped_graph.specs.Dependences.{facts_of, view_of, edges_by, PairEdges, EdgesOfPairs, AreEdges}
-use Rattle.ped_loop_runs.specs.ped_bodies.specs.ped_steps.specs.ped_laws.specs.ped_edges.specs.Edges.{Edge}
+use Rattle.ped_bodies.specs.ped_views.specs.Vectors.{all_vectors, AreThose, IsPossible}
+use Rattle.ped_bodies.specs.ped_flow.specs.ped_tree.specs.Tree.{ProgramTree}
+use Rattle.ped_bodies.specs.ped_refs.specs.References.{Reference, references, pairs}
+use Rattle.ped_bodies.specs.ped_graph.specs.Dependences.{facts_of, view_of, edges_by, PairEdges, EdgesOfPairs, AreEdges}
+use Rattle.ped_bodies.specs.ped_edges.specs.Edges.{Edge}
 
 those_are : {X : Type 0} (P : X → Type 0) (xs : List X) → ((chosen : List X) → AreThose P xs chosen → ⊥) → ⊥
 those_are P [] none = none [] refl

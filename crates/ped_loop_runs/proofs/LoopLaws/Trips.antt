@@ -3,30 +3,30 @@ use Rattle.std.proofs.Common.{◌≡◌, ℕ, ◌+◌, ◌<◌, List, [], ◌∷
 use Rattle.std.specs.Str.Lines.{lines}
 use Rattle.std.proofs.lemmas.Bool.{both_ways}
 use Rattle.std.proofs.lemmas.Grind.{flat_map-append}
-use Rattle.ped_loop_runs.specs.ped_bodies.specs.ped_steps.specs.ped_laws.specs.ped_flow.specs.ped_tree.specs.Tree.{ProgramTree}
-use Rattle.ped_loop_runs.specs.ped_bodies.specs.ped_steps.specs.ped_laws.specs.ped_flow.specs.PlainBounds.{nest_round}
-use Rattle.ped_loop_runs.specs.ped_bodies.specs.ped_steps.specs.ped_laws.specs.ped_flow.specs.Questions.{LoopOf}
-use Rattle.ped_loop_runs.specs.ped_bodies.specs.ped_steps.specs.ped_laws.specs.ped_graph.specs.ped_symbols.specs.NameRefusals.{IsValid}
-use Rattle.ped_loop_runs.specs.ped_bodies.specs.ped_steps.specs.ped_laws.specs.ped_graph.specs.ped_refs.specs.References.{references, pairs}
-use Rattle.ped_loop_runs.specs.ped_bodies.specs.ped_steps.specs.ped_laws.specs.ped_edges.specs.Edges.{Edge}
-use Rattle.ped_loop_runs.specs.ped_bodies.specs.ped_steps.specs.ped_laws.specs.ped_graph.specs.Dependences.{AreEdges}
-use Rattle.ped_loop_runs.specs.ped_bodies.specs.ped_steps.specs.ped_laws.specs.ped_store.specs.Cells.{Cell}
-use Rattle.ped_loop_runs.specs.ped_bodies.specs.ped_steps.specs.ped_laws.specs.ped_store.specs.Stores.{store_at_start}
-use Rattle.ped_loop_runs.specs.ped_bodies.specs.ped_steps.specs.ped_laws.specs.ped_store.specs.Acts.{Turn, Act}
-use Rattle.ped_loop_runs.specs.ped_bodies.specs.ped_steps.specs.ped_laws.specs.ped_store.specs.Races.{Access, accesses_of, accesses, conflict}
-use Rattle.ped_loop_runs.specs.ped_bodies.specs.ped_steps.specs.ped_laws.specs.ped_eval.specs.Outcomes.{setting_of, run_of}
-use Rattle.ped_loop_runs.specs.ped_bodies.specs.ped_steps.specs.ped_laws.specs.Acts.Conflicts.{blocks_conflict_outside}
-use Rattle.ped_loop_runs.specs.ped_bodies.specs.ped_steps.specs.ped_laws.specs.Acts.Orders.{IsIn}
-use Rattle.ped_loop_runs.specs.ped_bodies.specs.ped_steps.specs.ped_laws.specs.Conflicts.Directions.{share_a_loop}
-use Rattle.ped_loop_runs.specs.ped_bodies.specs.ped_steps.specs.ped_laws.specs.Conflicts.Sequence.{ComesBefore}
-use Rattle.ped_loop_runs.specs.ped_bodies.specs.ped_steps.specs.ped_laws.specs.Conflicts.Covered.{ComeInRun}
-use Rattle.ped_loop_runs.specs.ped_bodies.specs.ped_steps.specs.ped_laws.proofs.ActLaws.Lists.{in_left, in_right, split_at}
-use Rattle.ped_loop_runs.specs.ped_bodies.specs.ped_steps.specs.ped_laws.proofs.ActLaws.Conflicting.{acts_of_blocks}
-use Rattle.ped_loop_runs.specs.ped_bodies.specs.ped_steps.specs.ped_laws.proofs.RunLaws.Meetings.{outside_of_run}
-use Rattle.ped_loop_runs.specs.ped_bodies.specs.ped_steps.specs.ped_laws.proofs.ConflictLaws.Scoping.{touch_of_access}
-use Rattle.ped_loop_runs.specs.ped_bodies.specs.ped_steps.specs.ped_laws.proofs.ConflictLaws.CoveringDirections.{same_numbers}
-use Rattle.ped_loop_runs.specs.ped_bodies.specs.ped_steps.specs.ped_laws.proofs.ConflictLaws.CoveringConflicts.{pair_listed}
-use Rattle.ped_loop_runs.specs.ped_bodies.specs.ped_steps.specs.ped_laws.proofs.ConflictLaws.CoveringRuns.{MakingLaw, SequenceLaw, makers}
+use Rattle.ped_bodies.specs.ped_flow.specs.ped_tree.specs.Tree.{ProgramTree}
+use Rattle.ped_bodies.specs.ped_flow.specs.PlainBounds.{nest_round}
+use Rattle.ped_bodies.specs.ped_flow.specs.Questions.{LoopOf}
+use Rattle.ped_bodies.specs.ped_symbols.specs.NameRefusals.{IsValid}
+use Rattle.ped_bodies.specs.ped_refs.specs.References.{references, pairs}
+use Rattle.ped_bodies.specs.ped_edges.specs.Edges.{Edge}
+use Rattle.ped_bodies.specs.ped_graph.specs.Dependences.{AreEdges}
+use Rattle.ped_bodies.specs.ped_store.specs.Cells.{Cell}
+use Rattle.ped_bodies.specs.ped_store.specs.Stores.{store_at_start}
+use Rattle.ped_bodies.specs.ped_store.specs.Acts.{Turn, Act}
+use Rattle.ped_bodies.specs.ped_store.specs.Races.{Access, accesses_of, accesses, conflict}
+use Rattle.ped_bodies.specs.ped_eval.specs.Outcomes.{setting_of, run_of}
+use Rattle.ped_bodies.specs.ped_laws.specs.Acts.Conflicts.{blocks_conflict_outside}
+use Rattle.ped_bodies.specs.ped_laws.specs.Acts.Orders.{IsIn}
+use Rattle.ped_bodies.specs.ped_laws.specs.Conflicts.Directions.{share_a_loop}
+use Rattle.ped_bodies.specs.ped_laws.specs.Conflicts.Sequence.{ComesBefore}
+use Rattle.ped_bodies.specs.ped_laws.specs.Conflicts.Covered.{ComeInRun}
+use Rattle.ped_bodies.specs.ped_laws.proofs.ActLaws.Lists.{in_left, in_right, split_at}
+use Rattle.ped_bodies.specs.ped_laws.proofs.ActLaws.Conflicting.{acts_of_blocks}
+use Rattle.ped_bodies.specs.ped_laws.proofs.RunLaws.Meetings.{outside_of_run}
+use Rattle.ped_bodies.specs.ped_laws.proofs.ConflictLaws.Scoping.{touch_of_access}
+use Rattle.ped_bodies.specs.ped_laws.proofs.ConflictLaws.CoveringDirections.{same_numbers}
+use Rattle.ped_bodies.specs.ped_laws.proofs.ConflictLaws.CoveringConflicts.{pair_listed}
+use Rattle.ped_bodies.specs.ped_laws.proofs.ConflictLaws.CoveringRuns.{MakingLaw, SequenceLaw, makers}
 use Rattle.ped_loop_runs.specs.Carried.{MakeConflict, is_level, is_in_body, is_carried_by, AreInTrips, IsCarriedByLoop, AreTrips, AllStoreWithin, NoneCarriedBy}
 use Rattle.ped_loop_runs.proofs.LoopLaws.Carrying.{share_trips, successive, carried_inside}
 use Rattle.ped_loop_runs.proofs.LoopLaws.Nested.{in_loop_body}

@@ -4,19 +4,19 @@ use Rattle.std.specs.Prelude.{not, nat_le}
 use Rattle.std.specs.List.{list_all}
 use Rattle.std.proofs.lemmas.Bool.{and_parts, not-true}
 use Rattle.std.proofs.lemmas.List.Folds.{list_any-append}
-use Rattle.ped_loop_runs.specs.ped_bodies.specs.ped_steps.specs.ped_laws.specs.ped_flow.specs.ped_base.specs.Lists.{has_some, is_same_text, is_among}
-use Rattle.ped_loop_runs.specs.ped_bodies.specs.ped_steps.specs.ped_laws.specs.ped_flow.specs.ped_base.proofs.NameEquality.{same_is}
-use Rattle.ped_loop_runs.specs.ped_bodies.specs.ped_steps.specs.ped_laws.specs.ped_flow.specs.ped_tree.specs.Tree.{Head, StmtTree, StmtTrees, Assign, If, Do, Print, Read, Stop, Comment, no_stmts, more_stmts}
-use Rattle.ped_loop_runs.specs.ped_bodies.specs.ped_steps.specs.ped_laws.specs.ped_flow.specs.ped_tree.specs.Numbering.{statement_count, statements_count}
-use Rattle.ped_loop_runs.specs.ped_bodies.specs.ped_steps.specs.ped_laws.specs.ped_flow.specs.ped_tree.specs.Printing.{private_text}
-use Rattle.ped_loop_runs.specs.ped_bodies.specs.ped_steps.specs.ped_laws.specs.ped_flow.specs.ped_tree.specs.Grammar.LimitNumbers.{most_characters}
-use Rattle.ped_loop_runs.specs.ped_bodies.specs.ped_steps.specs.ped_laws.specs.ped_flow.specs.ped_tree.specs.Grammar.StatementForms.{are_names}
-use Rattle.ped_loop_runs.specs.ped_bodies.specs.ped_steps.specs.ped_laws.specs.ped_flow.specs.ped_tree.specs.Grammar.Words.{is_name}
-use Rattle.ped_loop_runs.specs.ped_bodies.specs.ped_steps.specs.ped_laws.specs.ped_flow.specs.ped_tree.specs.Grammar.ProgramRefusals.{meets}
-use Rattle.ped_loop_runs.specs.ped_bodies.specs.ped_steps.specs.ped_laws.specs.ped_flow.specs.ped_tree.specs.Grammar.Fits.{Surroundings, moved, in_if, in_loop, private_fits, loop_fits, stmt_fits, stmts_fit}
-use Rattle.ped_loop_runs.specs.ped_bodies.specs.ped_steps.specs.ped_laws.specs.ped_flow.specs.ped_tree.specs.NamesIn.{loop_variables, all_loop_variables}
-use Rattle.ped_loop_runs.specs.ped_bodies.specs.ped_steps.specs.ped_laws.proofs.ConflictLaws.MakingParts.{among_first, among_right}
-use Rattle.ped_loop_runs.specs.ped_bodies.specs.ped_steps.proofs.RunLaws.ExpandedPlacesParts.{not_true}
+use Rattle.ped_bodies.specs.ped_flow.specs.ped_base.specs.Lists.{has_some, is_same_text, is_among}
+use Rattle.ped_bodies.specs.ped_flow.specs.ped_base.proofs.NameEquality.{same_is}
+use Rattle.ped_bodies.specs.ped_flow.specs.ped_tree.specs.Tree.{Head, StmtTree, StmtTrees, Assign, If, Do, Print, Read, Stop, Comment, no_stmts, more_stmts}
+use Rattle.ped_bodies.specs.ped_flow.specs.ped_tree.specs.Numbering.{statement_count, statements_count}
+use Rattle.ped_bodies.specs.ped_flow.specs.ped_tree.specs.Printing.{private_text}
+use Rattle.ped_bodies.specs.ped_flow.specs.ped_tree.specs.Grammar.LimitNumbers.{most_characters}
+use Rattle.ped_bodies.specs.ped_flow.specs.ped_tree.specs.Grammar.StatementForms.{are_names}
+use Rattle.ped_bodies.specs.ped_flow.specs.ped_tree.specs.Grammar.Words.{is_name}
+use Rattle.ped_bodies.specs.ped_flow.specs.ped_tree.specs.Grammar.ProgramRefusals.{meets}
+use Rattle.ped_bodies.specs.ped_flow.specs.ped_tree.specs.Grammar.Fits.{Surroundings, moved, in_if, in_loop, private_fits, loop_fits, stmt_fits, stmts_fit}
+use Rattle.ped_bodies.specs.ped_flow.specs.ped_tree.specs.NamesIn.{loop_variables, all_loop_variables}
+use Rattle.ped_bodies.specs.ped_laws.proofs.ConflictLaws.MakingParts.{among_first, among_right}
+use Rattle.ped_bodies.specs.ped_steps.proofs.RunLaws.ExpandedPlacesParts.{not_true}
 
 none_of : (a b : Bool) → a || b ≡ false → (a ≡ false) × (b ≡ false)
 none_of true b e = absurd cc

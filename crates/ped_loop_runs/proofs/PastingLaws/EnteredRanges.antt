@@ -3,38 +3,38 @@ use Rattle.std.proofs.Common.{◌≡◌, ℕ, ℤ, pos, List, [], ◌∷◌, ◌
 use Rattle.std.specs.Prelude.{unwrap_or}
 use Rattle.std.specs.Map.{lookup}
 use Rattle.std.specs.Str.Lines.{lines}
-use Rattle.ped_bodies.specs.ped_steps.specs.ped_flow.specs.ped_base.specs.Lists.{is_same_text, is_among}
-use Rattle.ped_bodies.specs.ped_steps.specs.ped_laws.specs.ped_graph.specs.ped_views.specs.declared.intervals.Interval.{Interval}
-use Rattle.ped_bodies.specs.ped_steps.specs.ped_laws.specs.ped_graph.specs.ped_views.specs.Intervals.{Lies}
-use Rattle.ped_bodies.specs.ped_steps.specs.ped_flow.specs.ped_tree.specs.Tree.{Head, Do, ProgramTree}
-use Rattle.ped_bodies.specs.ped_steps.specs.ped_flow.specs.ped_tree.specs.Nests.{Loop}
-use Rattle.ped_bodies.specs.ped_steps.specs.ped_flow.specs.ped_tree.specs.Numbering.{all_numbered, statement_with}
-use Rattle.ped_bodies.specs.ped_steps.specs.ped_laws.specs.ped_graph.specs.Dependences.{setting_in}
-use Rattle.ped_bodies.specs.ped_steps.specs.ped_laws.specs.ped_graph.specs.ped_symbols.specs.NameRefusals.{IsValid}
-use Rattle.ped_bodies.specs.ped_steps.specs.ped_laws.specs.ped_graph.specs.ped_symbols.specs.RightUses.RightLoops.{step_is_right}
-use Rattle.ped_bodies.specs.ped_steps.specs.ped_laws.specs.ped_graph.specs.ped_symbols.specs.RightUses.RightPrograms.{IsRight}
-use Rattle.ped_bodies.specs.ped_steps.specs.ped_laws.specs.ped_flow.specs.ped_affine.specs.Ranges as ranges
-use Rattle.ped_bodies.specs.ped_steps.specs.ped_laws.specs.ped_flow.specs.ped_affine.specs.Ranges.{Around, inside, loop_range}
-use Rattle.ped_bodies.specs.ped_steps.specs.ped_laws.specs.ped_flow.specs.ped_affine.specs.PairViews.{heads_of}
-use Rattle.ped_bodies.specs.ped_steps.specs.ped_laws.specs.ped_flow.specs.PlainBounds as bounds
-use Rattle.ped_bodies.specs.ped_steps.specs.ped_laws.specs.ped_flow.specs.PlainBounds.{nest_round, setting_round, outermost_or}
-use Rattle.ped_bodies.specs.ped_steps.specs.ped_laws.specs.ped_store.specs.Stores.{Store, store_at_start}
-use Rattle.ped_bodies.specs.ped_steps.specs.ped_laws.specs.ped_store.specs.Acts.{Act}
-use Rattle.ped_bodies.specs.ped_steps.specs.ped_laws.specs.ped_eval.specs.Scopes.{Setting, Frame, Scope, turns_of, index_value}
-use Rattle.ped_bodies.specs.ped_steps.specs.ped_laws.specs.ped_eval.specs.Evaluation.{Evaluated}
-use Rattle.ped_bodies.specs.ped_steps.specs.ped_laws.specs.ped_eval.specs.Loops.{Limits, entered_with, frame}
-use Rattle.ped_bodies.specs.ped_steps.specs.ped_laws.specs.ped_eval.specs.Runs.{run}
-use Rattle.ped_bodies.specs.ped_steps.specs.ped_laws.specs.ped_eval.specs.Outcomes.{setting_of, run_of}
-use Rattle.ped_bodies.specs.ped_steps.specs.ped_laws.specs.Acts.Fitting.{store_after}
-use Rattle.ped_bodies.specs.ped_steps.specs.ped_laws.specs.Acts.Orders.{IsIn}
-use Rattle.ped_bodies.specs.ped_steps.specs.ped_laws.specs.Covering.Within.{HoldsStorable}
-use Rattle.ped_bodies.specs.ped_steps.specs.ped_laws.specs.Covering.Nested.{Match, IsInNest, loop}
-use Rattle.ped_bodies.specs.ped_steps.specs.ped_laws.specs.Plain.Executions.{LieInRanges}
-use Rattle.ped_bodies.specs.ped_steps.specs.ped_laws.proofs.ActLaws.Lists.{in_left, in_right}
-use Rattle.ped_bodies.specs.ped_steps.specs.ped_laws.proofs.ActLaws.Stores.{after_append}
-use Rattle.ped_bodies.specs.ped_steps.specs.ped_laws.proofs.ConflictLaws.Scoping.{variables_of, index_untold}
-use Rattle.ped_bodies.specs.ped_steps.specs.ped_laws.proofs.CoveringLaws.Comings.{some_one}
-use Rattle.ped_bodies.specs.ped_steps.specs.ped_laws.proofs.CoveringLaws.Nesting.{one_deeper}
+use Rattle.ped_bodies.specs.ped_flow.specs.ped_base.specs.Lists.{is_same_text, is_among}
+use Rattle.ped_bodies.specs.ped_views.specs.declared.intervals.Interval.{Interval}
+use Rattle.ped_bodies.specs.ped_views.specs.Intervals.{Lies}
+use Rattle.ped_bodies.specs.ped_flow.specs.ped_tree.specs.Tree.{Head, Do, ProgramTree}
+use Rattle.ped_bodies.specs.ped_flow.specs.ped_tree.specs.Nests.{Loop}
+use Rattle.ped_bodies.specs.ped_flow.specs.ped_tree.specs.Numbering.{all_numbered, statement_with}
+use Rattle.ped_bodies.specs.ped_graph.specs.Dependences.{setting_in}
+use Rattle.ped_bodies.specs.ped_symbols.specs.NameRefusals.{IsValid}
+use Rattle.ped_bodies.specs.ped_symbols.specs.RightUses.RightLoops.{step_is_right}
+use Rattle.ped_bodies.specs.ped_symbols.specs.RightUses.RightPrograms.{IsRight}
+use Rattle.ped_bodies.specs.ped_affine.specs.Ranges as ranges
+use Rattle.ped_bodies.specs.ped_affine.specs.Ranges.{Around, inside, loop_range}
+use Rattle.ped_bodies.specs.ped_affine.specs.PairViews.{heads_of}
+use Rattle.ped_bodies.specs.ped_flow.specs.PlainBounds as bounds
+use Rattle.ped_bodies.specs.ped_flow.specs.PlainBounds.{nest_round, setting_round, outermost_or}
+use Rattle.ped_bodies.specs.ped_store.specs.Stores.{Store, store_at_start}
+use Rattle.ped_bodies.specs.ped_store.specs.Acts.{Act}
+use Rattle.ped_bodies.specs.ped_eval.specs.Scopes.{Setting, Frame, Scope, turns_of, index_value}
+use Rattle.ped_bodies.specs.ped_eval.specs.Evaluation.{Evaluated}
+use Rattle.ped_bodies.specs.ped_eval.specs.Loops.{Limits, entered_with, frame}
+use Rattle.ped_bodies.specs.ped_eval.specs.Runs.{run}
+use Rattle.ped_bodies.specs.ped_eval.specs.Outcomes.{setting_of, run_of}
+use Rattle.ped_bodies.specs.ped_laws.specs.Acts.Fitting.{store_after}
+use Rattle.ped_bodies.specs.ped_laws.specs.Acts.Orders.{IsIn}
+use Rattle.ped_bodies.specs.ped_laws.specs.Covering.Within.{HoldsStorable}
+use Rattle.ped_bodies.specs.ped_laws.specs.Covering.Nested.{Match, IsInNest, loop}
+use Rattle.ped_bodies.specs.ped_laws.specs.Plain.Executions.{LieInRanges}
+use Rattle.ped_bodies.specs.ped_laws.proofs.ActLaws.Lists.{in_left, in_right}
+use Rattle.ped_bodies.specs.ped_laws.proofs.ActLaws.Stores.{after_append}
+use Rattle.ped_bodies.specs.ped_laws.proofs.ConflictLaws.Scoping.{variables_of, index_untold}
+use Rattle.ped_bodies.specs.ped_laws.proofs.CoveringLaws.Comings.{some_one}
+use Rattle.ped_bodies.specs.ped_laws.proofs.CoveringLaws.Nesting.{one_deeper}
 use Rattle.ped_bodies.specs.ped_steps.specs.Runs.Pasting.{AreTurnsOf}
 use Rattle.ped_loop_runs.specs.Executions.{AreEntered, IsExecuted}
 use Rattle.ped_loop_runs.specs.Places.{told_at}

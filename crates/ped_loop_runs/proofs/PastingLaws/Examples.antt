@@ -1,23 +1,23 @@
 -- The laws of cut and paste at work: a program in which statements give way to themselves shows all that a step has to show.
 use Rattle.std.proofs.Common.{◌≡◌, ℕ, ◌<◌, List, [], ◌∷◌, ◌++◌, false, refl, sym, subst, ◌∙◌}
 use Rattle.std.specs.Str.Lines.{lines}
-use Rattle.ped_bodies.specs.ped_steps.specs.ped_flow.specs.ped_tree.specs.Tree.{StmtTrees, ProgramTree}
-use Rattle.ped_bodies.specs.ped_steps.specs.ped_flow.specs.ped_tree.specs.Numbering.{statements_count}
-use Rattle.ped_bodies.specs.ped_steps.specs.ped_laws.specs.ped_store.specs.Stores.{Store, store_at_start}
-use Rattle.ped_bodies.specs.ped_steps.specs.ped_laws.specs.ped_store.specs.Acts.{Act}
-use Rattle.ped_bodies.specs.ped_steps.specs.ped_laws.specs.ped_store.specs.Races.{accesses, HasNoRace}
-use Rattle.ped_bodies.specs.ped_steps.specs.ped_laws.specs.Acts.Fitting.{store_after, touches_of, of_cells}
-use Rattle.ped_bodies.specs.ped_steps.specs.ped_laws.specs.Acts.Sets.{wants}
-use Rattle.ped_bodies.specs.ped_steps.specs.ped_laws.specs.Acts.Pieces.{Part, same, changed, old_parts, new_parts}
-use Rattle.ped_bodies.specs.ped_steps.specs.ped_laws.proofs.ActLaws.Renamings.{own_names}
-use Rattle.ped_bodies.specs.ped_steps.specs.ped_laws.proofs.ActLaws.Exchanging.{same_stands, needed_wanted, wanted_before}
-use Rattle.ped_bodies.specs.ped_steps.specs.ped_laws.specs.FlowRuns.Covering.{some_stop}
-use Rattle.ped_bodies.specs.ped_steps.specs.ped_laws.specs.Runs.Showing.{shown_at_end}
-use Rattle.ped_bodies.specs.ped_steps.specs.ped_laws.specs.Runs.Replaying.{Finish, Replays}
-use Rattle.ped_bodies.specs.ped_steps.specs.ped_laws.proofs.RunLaws.StatementsTold.{all_told}
-use Rattle.ped_bodies.specs.ped_steps.specs.ped_laws.specs.ped_eval.specs.Scopes.{Setting, Scope}
-use Rattle.ped_bodies.specs.ped_steps.specs.ped_laws.specs.ped_eval.specs.Runs.{run_all}
-use Rattle.ped_bodies.specs.ped_steps.specs.ped_laws.specs.ped_eval.specs.Outcomes.{setting_of}
+use Rattle.ped_bodies.specs.ped_flow.specs.ped_tree.specs.Tree.{StmtTrees, ProgramTree}
+use Rattle.ped_bodies.specs.ped_flow.specs.ped_tree.specs.Numbering.{statements_count}
+use Rattle.ped_bodies.specs.ped_store.specs.Stores.{Store, store_at_start}
+use Rattle.ped_bodies.specs.ped_store.specs.Acts.{Act}
+use Rattle.ped_bodies.specs.ped_store.specs.Races.{accesses, HasNoRace}
+use Rattle.ped_bodies.specs.ped_laws.specs.Acts.Fitting.{store_after, touches_of, of_cells}
+use Rattle.ped_bodies.specs.ped_laws.specs.Acts.Sets.{wants}
+use Rattle.ped_bodies.specs.ped_laws.specs.Acts.Pieces.{Part, same, changed, old_parts, new_parts}
+use Rattle.ped_bodies.specs.ped_laws.proofs.ActLaws.Renamings.{own_names}
+use Rattle.ped_bodies.specs.ped_laws.proofs.ActLaws.Exchanging.{same_stands, needed_wanted, wanted_before}
+use Rattle.ped_bodies.specs.ped_laws.specs.FlowRuns.Covering.{some_stop}
+use Rattle.ped_bodies.specs.ped_laws.specs.Runs.Showing.{shown_at_end}
+use Rattle.ped_bodies.specs.ped_laws.specs.Runs.Replaying.{Finish, Replays}
+use Rattle.ped_bodies.specs.ped_laws.proofs.RunLaws.StatementsTold.{all_told}
+use Rattle.ped_bodies.specs.ped_eval.specs.Scopes.{Setting, Scope}
+use Rattle.ped_bodies.specs.ped_eval.specs.Runs.{run_all}
+use Rattle.ped_bodies.specs.ped_eval.specs.Outcomes.{setting_of}
 use Rattle.ped_bodies.specs.ped_steps.specs.Runs.Gaps.{Gap, filled, number_at}
 use Rattle.ped_bodies.specs.ped_steps.specs.Runs.Meaning.{Keeps}
 use Rattle.ped_loop_runs.specs.Pasting.{AreExchanged}

@@ -3,22 +3,22 @@ use Rattle.std.proofs.Common.{◌≡◌, ℕ, List, [], ◌∷◌, ◌++◌, Boo
 use Rattle.std.proofs.lemmas.Bool.{both_ways}
 use Rattle.std.proofs.lemmas.List.{append-nil}
 use Rattle.std.proofs.lemmas.List.Folds.{list_any-append}
-use Rattle.ped_bodies.specs.ped_steps.specs.ped_flow.specs.ped_base.specs.Lists.{is_same_text, is_among}
-use Rattle.ped_bodies.specs.ped_steps.specs.ped_flow.specs.ped_base.proofs.NameEquality.{same_is}
-use Rattle.ped_bodies.specs.ped_steps.specs.ped_flow.specs.ped_tree.specs.Tree.{ProgramTree}
-use Rattle.ped_bodies.specs.ped_steps.specs.ped_laws.specs.ped_store.specs.Cells.{Cell, same_cell}
-use Rattle.ped_bodies.specs.ped_steps.specs.ped_laws.specs.ped_store.specs.Stores.{Undefined, Store, put}
-use Rattle.ped_bodies.specs.ped_steps.specs.ped_laws.specs.ped_store.specs.Acts.{Touch, Place, Act, store_behind}
-use Rattle.ped_bodies.specs.ped_steps.specs.ped_laws.specs.Acts.Fitting.{Find, Fits, store_after}
-use Rattle.ped_bodies.specs.ped_steps.specs.ped_laws.specs.Acts.Pieces.{StandsFor}
-use Rattle.ped_bodies.specs.ped_steps.specs.ped_laws.specs.Acts.Sets.{AgreeIn, writes_to, written_by, written}
-use Rattle.ped_bodies.specs.ped_steps.specs.ped_laws.specs.Runs.Replaying.{act}
-use Rattle.ped_bodies.specs.ped_steps.specs.ped_laws.specs.ped_eval.specs.Scopes.{Setting, Scope, cell_of, place_of}
-use Rattle.ped_bodies.specs.ped_steps.specs.ped_laws.specs.ped_eval.specs.Loops.{undefined_all}
-use Rattle.ped_bodies.specs.ped_steps.specs.ped_laws.proofs.ActLaws.Renamings.{or_either, agreeing_fits, agreeing_leaves}
-use Rattle.ped_bodies.specs.ped_steps.specs.ped_laws.proofs.ActLaws.SameCells.{cell_itself, cell_is}
-use Rattle.ped_bodies.specs.ped_steps.specs.ped_laws.proofs.ActLaws.Stores.{put_same, put_other, behind_append, find_append, find_first, fits_first, fits_rest}
-use Rattle.ped_bodies.specs.ped_steps.specs.ped_laws.proofs.RunLaws.StatementsTold.{all_told}
+use Rattle.ped_bodies.specs.ped_flow.specs.ped_base.specs.Lists.{is_same_text, is_among}
+use Rattle.ped_bodies.specs.ped_flow.specs.ped_base.proofs.NameEquality.{same_is}
+use Rattle.ped_bodies.specs.ped_flow.specs.ped_tree.specs.Tree.{ProgramTree}
+use Rattle.ped_bodies.specs.ped_store.specs.Cells.{Cell, same_cell}
+use Rattle.ped_bodies.specs.ped_store.specs.Stores.{Undefined, Store, put}
+use Rattle.ped_bodies.specs.ped_store.specs.Acts.{Touch, Place, Act, store_behind}
+use Rattle.ped_bodies.specs.ped_laws.specs.Acts.Fitting.{Find, Fits, store_after}
+use Rattle.ped_bodies.specs.ped_laws.specs.Acts.Pieces.{StandsFor}
+use Rattle.ped_bodies.specs.ped_laws.specs.Acts.Sets.{AgreeIn, writes_to, written_by, written}
+use Rattle.ped_bodies.specs.ped_laws.specs.Runs.Replaying.{act}
+use Rattle.ped_bodies.specs.ped_eval.specs.Scopes.{Setting, Scope, cell_of, place_of}
+use Rattle.ped_bodies.specs.ped_eval.specs.Loops.{undefined_all}
+use Rattle.ped_bodies.specs.ped_laws.proofs.ActLaws.Renamings.{or_either, agreeing_fits, agreeing_leaves}
+use Rattle.ped_bodies.specs.ped_laws.proofs.ActLaws.SameCells.{cell_itself, cell_is}
+use Rattle.ped_bodies.specs.ped_laws.proofs.ActLaws.Stores.{put_same, put_other, behind_append, find_append, find_first, fits_first, fits_rest}
+use Rattle.ped_bodies.specs.ped_laws.proofs.RunLaws.StatementsTold.{all_told}
 use Rattle.ped_loop_runs.specs.Meaning.{SuitEnds}
 use Rattle.ped_loop_runs.specs.OtherCopies.{IsOtherExit, AskNothing}
 use Rattle.ped_loop_runs.proofs.PastingLaws.NearPlaces.{first_among, rest_among, named_same}

@@ -1,18 +1,18 @@
 -- Parts of a run, of which some are changed: how they come together.
 use Rattle.std.proofs.Common.{◌≡◌, ℕ, List, [], ◌∷◌, ◌++◌, Result, Ok, Err, ◌⊎◌, inl, inr, refl, sym, ap, subst, ◌∙◌}
 use Rattle.std.proofs.lemmas.List.{append-nil, append_assoc}
-use Rattle.ped_bodies.specs.ped_steps.specs.ped_laws.specs.ped_store.specs.Stores.{Store}
-use Rattle.ped_bodies.specs.ped_steps.specs.ped_laws.specs.ped_store.specs.Acts.{Touch, Act, Place, Step, store_behind}
-use Rattle.ped_bodies.specs.ped_steps.specs.ped_laws.specs.Acts.Fitting.{Find, store_after}
-use Rattle.ped_bodies.specs.ped_steps.specs.ped_laws.specs.Acts.Pieces.{Part, same, changed, old_parts, new_parts}
-use Rattle.ped_bodies.specs.ped_steps.specs.ped_laws.proofs.ActLaws.Stores.{after_append}
-use Rattle.ped_bodies.specs.ped_steps.specs.ped_laws.specs.ped_eval.specs.Evaluation.{Seen, Evaluated}
-use Rattle.ped_bodies.specs.ped_steps.specs.ped_laws.specs.ped_eval.specs.Runs.{Ending, going, stopped, failed, Run, nothing_done, followed_by, then_run, does, on_value, on}
-use Rattle.ped_bodies.specs.ped_steps.specs.ped_laws.specs.ped_eval.specs.Outcomes.{Ends}
-use Rattle.ped_bodies.specs.ped_steps.specs.ped_laws.specs.Runs.Seeing.{Holds, ComesTo}
-use Rattle.ped_bodies.specs.ped_steps.specs.ped_laws.specs.Runs.Replaying.{Finish, goes_on, stops, faults, finish_of, ending_with, act, Replays, IsToldByActs}
-use Rattle.ped_bodies.specs.ped_steps.specs.ped_laws.proofs.RunLaws.Told.{own_run, replays_behind, replays_stopped, replays_act, replays_on}
-use Rattle.ped_bodies.specs.ped_steps.specs.ped_laws.proofs.RunLaws.Joined.{replays_nothing}
+use Rattle.ped_bodies.specs.ped_store.specs.Stores.{Store}
+use Rattle.ped_bodies.specs.ped_store.specs.Acts.{Touch, Act, Place, Step, store_behind}
+use Rattle.ped_bodies.specs.ped_laws.specs.Acts.Fitting.{Find, store_after}
+use Rattle.ped_bodies.specs.ped_laws.specs.Acts.Pieces.{Part, same, changed, old_parts, new_parts}
+use Rattle.ped_bodies.specs.ped_laws.proofs.ActLaws.Stores.{after_append}
+use Rattle.ped_bodies.specs.ped_eval.specs.Evaluation.{Seen, Evaluated}
+use Rattle.ped_bodies.specs.ped_eval.specs.Runs.{Ending, going, stopped, failed, Run, nothing_done, followed_by, then_run, does, on_value, on}
+use Rattle.ped_bodies.specs.ped_eval.specs.Outcomes.{Ends}
+use Rattle.ped_bodies.specs.ped_laws.specs.Runs.Seeing.{Holds, ComesTo}
+use Rattle.ped_bodies.specs.ped_laws.specs.Runs.Replaying.{Finish, goes_on, stops, faults, finish_of, ending_with, act, Replays, IsToldByActs}
+use Rattle.ped_bodies.specs.ped_laws.proofs.RunLaws.Told.{own_run, replays_behind, replays_stopped, replays_act, replays_on}
+use Rattle.ped_bodies.specs.ped_laws.proofs.RunLaws.Joined.{replays_nothing}
 use Rattle.ped_loop_runs.specs.Pasting.{AreChangedBy}
 
 old_append : (ps qs : List Part) → old_parts (ps ++ qs) ≡ old_parts ps ++ old_parts qs

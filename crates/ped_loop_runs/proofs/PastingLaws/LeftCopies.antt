@@ -2,25 +2,25 @@
 use Rattle.std.proofs.Common.{◌≡◌, ℕ, zero, suc, ◌+◌, ◌≤◌, ◌<◌, List, [], ◌∷◌, ◌++◌, Bool, true, false, eqb, refl, sym, ap, ◌∙◌, ◌⊎◌, inl, inr, append_assoc, arith, if◌then◌else◌}
 use Rattle.std.proofs.lemmas.Bool.{both_ways}
 use Rattle.std.proofs.lemmas.List.{map-append}
-use Rattle.ped_bodies.specs.ped_steps.specs.ped_flow.specs.ped_base.specs.Lists.{is_among}
-use Rattle.ped_bodies.specs.ped_steps.specs.ped_flow.specs.ped_tree.specs.Tree.{CondTree, Head, StmtTree, StmtTrees, Assign, If, Do, Print, Read, Stop, Comment, no_stmts, more_stmts}
-use Rattle.ped_bodies.specs.ped_steps.specs.ped_flow.specs.ped_tree.specs.Numbering.{statement_count, statements_count}
-use Rattle.ped_bodies.specs.ped_steps.specs.ped_laws.specs.ped_store.specs.Cells.{Cell, Scalar, Element, Private, In, Out, Iteration}
-use Rattle.ped_bodies.specs.ped_steps.specs.ped_laws.specs.ped_store.specs.Stores.{Undefined, Number, Store}
-use Rattle.ped_bodies.specs.ped_steps.specs.ped_laws.specs.ped_store.specs.Acts.{is_told, Touch, Step, Place, Act, ended_turn, iterations_of}
-use Rattle.ped_bodies.specs.ped_steps.specs.ped_laws.specs.Acts.Orders.{IsIn}
-use Rattle.ped_bodies.specs.ped_steps.specs.ped_laws.specs.FlowRuns.Exits.{IsOneToOne}
-use Rattle.ped_bodies.specs.ped_steps.specs.ped_laws.specs.Runs.Replaying.{act}
-use Rattle.ped_bodies.specs.ped_steps.specs.ped_laws.specs.ped_eval.specs.Scopes.{Setting, Frame, Scope, turns_of, cell_of, names_in}
-use Rattle.ped_bodies.specs.ped_steps.specs.ped_laws.specs.ped_eval.specs.Evaluation.{Seen, cell_seen, index_seen, numbered}
-use Rattle.ped_bodies.specs.ped_steps.specs.ped_laws.specs.ped_eval.specs.Values.{truth}
-use Rattle.ped_bodies.specs.ped_steps.specs.ped_laws.specs.ped_eval.specs.Statements.{read_touch, write_touch}
-use Rattle.ped_bodies.specs.ped_steps.specs.ped_laws.specs.ped_eval.specs.Loops.{Limits, limits, Entered, entered_with, frame, undefined_by, undefined_all, left_in_variable, exit_touches, exit_when_none, entry_touches}
-use Rattle.ped_bodies.specs.ped_steps.specs.ped_laws.specs.ped_eval.specs.Runs.{Run, does, turns, parallel_turns, run, run_all}
-use Rattle.ped_bodies.specs.ped_steps.specs.ped_laws.proofs.FlowRunLaws.Names.{no_copy_within}
-use Rattle.ped_bodies.specs.ped_steps.specs.ped_laws.proofs.FlowRunLaws.Apart.{same_behind}
-use Rattle.ped_bodies.specs.ped_steps.specs.ped_laws.proofs.RunLaws.SeenCells.{AllSeen, truth_seen, limits_seen}
-use Rattle.ped_bodies.specs.ped_steps.specs.ped_laws.proofs.RunLaws.Touches.{Each, each_none, each_more, each_append, then_each, does_each}
+use Rattle.ped_bodies.specs.ped_flow.specs.ped_base.specs.Lists.{is_among}
+use Rattle.ped_bodies.specs.ped_flow.specs.ped_tree.specs.Tree.{CondTree, Head, StmtTree, StmtTrees, Assign, If, Do, Print, Read, Stop, Comment, no_stmts, more_stmts}
+use Rattle.ped_bodies.specs.ped_flow.specs.ped_tree.specs.Numbering.{statement_count, statements_count}
+use Rattle.ped_bodies.specs.ped_store.specs.Cells.{Cell, Scalar, Element, Private, In, Out, Iteration}
+use Rattle.ped_bodies.specs.ped_store.specs.Stores.{Undefined, Number, Store}
+use Rattle.ped_bodies.specs.ped_store.specs.Acts.{is_told, Touch, Step, Place, Act, ended_turn, iterations_of}
+use Rattle.ped_bodies.specs.ped_laws.specs.Acts.Orders.{IsIn}
+use Rattle.ped_bodies.specs.ped_laws.specs.FlowRuns.Exits.{IsOneToOne}
+use Rattle.ped_bodies.specs.ped_laws.specs.Runs.Replaying.{act}
+use Rattle.ped_bodies.specs.ped_eval.specs.Scopes.{Setting, Frame, Scope, turns_of, cell_of, names_in}
+use Rattle.ped_bodies.specs.ped_eval.specs.Evaluation.{Seen, cell_seen, index_seen, numbered}
+use Rattle.ped_bodies.specs.ped_eval.specs.Values.{truth}
+use Rattle.ped_bodies.specs.ped_eval.specs.Statements.{read_touch, write_touch}
+use Rattle.ped_bodies.specs.ped_eval.specs.Loops.{Limits, limits, Entered, entered_with, frame, undefined_by, undefined_all, left_in_variable, exit_touches, exit_when_none, entry_touches}
+use Rattle.ped_bodies.specs.ped_eval.specs.Runs.{Run, does, turns, parallel_turns, run, run_all}
+use Rattle.ped_bodies.specs.ped_laws.proofs.FlowRunLaws.Names.{no_copy_within}
+use Rattle.ped_bodies.specs.ped_laws.proofs.FlowRunLaws.Apart.{same_behind}
+use Rattle.ped_bodies.specs.ped_laws.proofs.RunLaws.SeenCells.{AllSeen, truth_seen, limits_seen}
+use Rattle.ped_bodies.specs.ped_laws.proofs.RunLaws.Touches.{Each, each_none, each_more, each_append, then_each, does_each}
 use Rattle.ped_bodies.specs.ped_steps.specs.Runs.Exchanging.{is_of_scalar}
 use Rattle.ped_bodies.specs.ped_steps.proofs.RunLaws.RunCells.{EachDo, EachDos, run_keeps, all_keep}
 use Rattle.ped_bodies.specs.ped_steps.proofs.RunLaws.RunPlaces.{run_each, all_each}

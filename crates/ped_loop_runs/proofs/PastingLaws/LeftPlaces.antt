@@ -1,18 +1,18 @@
 -- Acts that are done elsewhere: those of other statements in the same iterations, and those of other iterations of a DO. They leave copies alone, too.
 use Rattle.std.proofs.Common.{◌≡◌, ℕ, zero, suc, ◌+◌, ◌≤◌, ◌<◌, List, [], ◌∷◌, ◌++◌, ◌⊎◌, inl, inr, refl, sym, ap, ◌∙◌, append_assoc, arith}
-use Rattle.ped_bodies.specs.ped_steps.specs.ped_flow.specs.ped_tree.specs.Tree.{Head, StmtTree, StmtTrees, ProgramTree}
-use Rattle.ped_bodies.specs.ped_steps.specs.ped_flow.specs.ped_tree.specs.Numbering.{numbered, all_numbered, statement_count, statements_count}
-use Rattle.ped_bodies.specs.ped_steps.specs.ped_laws.specs.ped_store.specs.Stores.{Store}
-use Rattle.ped_bodies.specs.ped_steps.specs.ped_laws.specs.ped_store.specs.Acts.{Turn, Touch, Step, Act, ended_turn}
-use Rattle.ped_bodies.specs.ped_steps.specs.ped_laws.specs.FlowRuns.Exits.{IsOneToOne}
-use Rattle.ped_bodies.specs.ped_steps.specs.ped_laws.specs.Runs.Replaying.{act}
-use Rattle.ped_bodies.specs.ped_steps.specs.ped_laws.specs.ped_eval.specs.Scopes.{Setting, Frame, Scope, turns_of, place_of}
-use Rattle.ped_bodies.specs.ped_steps.specs.ped_laws.specs.ped_eval.specs.Evaluation.{Seen}
-use Rattle.ped_bodies.specs.ped_steps.specs.ped_laws.specs.ped_eval.specs.Loops.{Limits, entered_with, frame, exit_when_none}
-use Rattle.ped_bodies.specs.ped_steps.specs.ped_laws.specs.ped_eval.specs.Runs.{Run, does, turns, parallel_turns, run, run_all}
-use Rattle.ped_bodies.specs.ped_steps.specs.ped_laws.proofs.FlowRunLaws.Apart.{same_behind}
-use Rattle.ped_bodies.specs.ped_steps.specs.ped_laws.proofs.FlowRunLaws.Standing.{Stand}
-use Rattle.ped_bodies.specs.ped_steps.specs.ped_laws.proofs.RunLaws.Touches.{Each, each_none, each_more, each_append, then_each, does_each}
+use Rattle.ped_bodies.specs.ped_flow.specs.ped_tree.specs.Tree.{Head, StmtTree, StmtTrees, ProgramTree}
+use Rattle.ped_bodies.specs.ped_flow.specs.ped_tree.specs.Numbering.{numbered, all_numbered, statement_count, statements_count}
+use Rattle.ped_bodies.specs.ped_store.specs.Stores.{Store}
+use Rattle.ped_bodies.specs.ped_store.specs.Acts.{Turn, Touch, Step, Act, ended_turn}
+use Rattle.ped_bodies.specs.ped_laws.specs.FlowRuns.Exits.{IsOneToOne}
+use Rattle.ped_bodies.specs.ped_laws.specs.Runs.Replaying.{act}
+use Rattle.ped_bodies.specs.ped_eval.specs.Scopes.{Setting, Frame, Scope, turns_of, place_of}
+use Rattle.ped_bodies.specs.ped_eval.specs.Evaluation.{Seen}
+use Rattle.ped_bodies.specs.ped_eval.specs.Loops.{Limits, entered_with, frame, exit_when_none}
+use Rattle.ped_bodies.specs.ped_eval.specs.Runs.{Run, does, turns, parallel_turns, run, run_all}
+use Rattle.ped_bodies.specs.ped_laws.proofs.FlowRunLaws.Apart.{same_behind}
+use Rattle.ped_bodies.specs.ped_laws.proofs.FlowRunLaws.Standing.{Stand}
+use Rattle.ped_bodies.specs.ped_laws.proofs.RunLaws.Touches.{Each, each_none, each_more, each_append, then_each, does_each}
 use Rattle.ped_bodies.specs.ped_steps.proofs.RunLaws.RunPlaces.{stands_in}
 use Rattle.ped_loop_runs.specs.Executions.{IsActInside, LeaveCopies, LeavePlaces}
 use Rattle.ped_loop_runs.proofs.PastingLaws.ActNumbers.{IsActIn, run_in, all_in}

@@ -2,27 +2,27 @@
 use Rattle.std.proofs.Common.{◌≡◌, ℕ, suc, ◌+◌, ◌<◌, List, [], ◌∷◌, ◌++◌, map, length, Bool, true, false, eqb, Some, Ok, inl, inr, ◌⊎◌, refl, sym, ap, subst, ◌∙◌, arith, if◌then◌else◌}
 use Rattle.std.specs.Prelude.{◌||◌}
 use Rattle.std.proofs.lemmas.Bool.{both_ways, or_right}
-use Rattle.ped_bodies.specs.ped_steps.specs.ped_flow.specs.ped_base.specs.Lists.{is_same_text, is_among}
-use Rattle.ped_bodies.specs.ped_steps.specs.ped_flow.specs.ped_base.proofs.NameEquality.{same_itself}
-use Rattle.ped_bodies.specs.ped_steps.specs.ped_flow.specs.ped_tree.specs.Tree.{CondTree, Head, StmtTree, StmtTrees, Assign, If, Do, Print, Read, Stop, Comment, no_stmts, more_stmts}
-use Rattle.ped_bodies.specs.ped_steps.specs.ped_flow.specs.ped_tree.specs.Numbering.{statement_count, statements_count}
-use Rattle.ped_bodies.specs.ped_steps.specs.ped_laws.specs.ped_store.specs.Cells.{Cell, Scalar, Element, Private, In, Out, same_cell}
-use Rattle.ped_bodies.specs.ped_steps.specs.ped_laws.specs.ped_store.specs.Stores.{Undefined, Number, Store}
-use Rattle.ped_bodies.specs.ped_steps.specs.ped_laws.specs.ped_store.specs.Acts.{is_told, Turn, Touch, Act, iterations_of}
-use Rattle.ped_bodies.specs.ped_steps.specs.ped_laws.specs.Acts.Orders.{IsIn}
-use Rattle.ped_bodies.specs.ped_steps.specs.ped_laws.specs.Runs.Seeing.{Holds, ComesTo, IsToldBySight}
-use Rattle.ped_bodies.specs.ped_steps.specs.ped_laws.specs.Runs.Replaying.{Finish, finish_of, Replays}
-use Rattle.ped_bodies.specs.ped_steps.specs.ped_laws.specs.ped_eval.specs.Scopes.{Setting, Frame, Scope, turns_of, cell_of, index_value, names_in}
-use Rattle.ped_bodies.specs.ped_steps.specs.ped_laws.specs.ped_eval.specs.Evaluation.{Seen, cell_seen, index_seen, Evaluated, numbered}
-use Rattle.ped_bodies.specs.ped_steps.specs.ped_laws.specs.ped_eval.specs.Values.{truth}
-use Rattle.ped_bodies.specs.ped_steps.specs.ped_laws.specs.ped_eval.specs.Statements.{read_touch, write_touch}
-use Rattle.ped_bodies.specs.ped_steps.specs.ped_laws.specs.ped_eval.specs.Loops.{Limits, limits, Entered, entered_with, frame, undefined_by, undefined_all, left_in_variable, exit_touches, exit_when_none}
-use Rattle.ped_bodies.specs.ped_steps.specs.ped_laws.specs.ped_eval.specs.Runs.{Run, run, run_all}
-use Rattle.ped_bodies.specs.ped_steps.specs.ped_laws.proofs.ActLaws.Lists.{in_left, in_right}
-use Rattle.ped_bodies.specs.ped_steps.specs.ped_laws.proofs.RunLaws.SeenCells.{AllSeen, truth_seen, limits_seen}
-use Rattle.ped_bodies.specs.ped_steps.specs.ped_laws.proofs.RunLaws.Sight.{truth_told, limits_told}
-use Rattle.ped_bodies.specs.ped_steps.specs.ped_laws.proofs.RunLaws.StatementsTold.{run_told}
-use Rattle.ped_bodies.specs.ped_steps.specs.ped_laws.proofs.RunLaws.Touches.{Each}
+use Rattle.ped_bodies.specs.ped_flow.specs.ped_base.specs.Lists.{is_same_text, is_among}
+use Rattle.ped_bodies.specs.ped_flow.specs.ped_base.proofs.NameEquality.{same_itself}
+use Rattle.ped_bodies.specs.ped_flow.specs.ped_tree.specs.Tree.{CondTree, Head, StmtTree, StmtTrees, Assign, If, Do, Print, Read, Stop, Comment, no_stmts, more_stmts}
+use Rattle.ped_bodies.specs.ped_flow.specs.ped_tree.specs.Numbering.{statement_count, statements_count}
+use Rattle.ped_bodies.specs.ped_store.specs.Cells.{Cell, Scalar, Element, Private, In, Out, same_cell}
+use Rattle.ped_bodies.specs.ped_store.specs.Stores.{Undefined, Number, Store}
+use Rattle.ped_bodies.specs.ped_store.specs.Acts.{is_told, Turn, Touch, Act, iterations_of}
+use Rattle.ped_bodies.specs.ped_laws.specs.Acts.Orders.{IsIn}
+use Rattle.ped_bodies.specs.ped_laws.specs.Runs.Seeing.{Holds, ComesTo, IsToldBySight}
+use Rattle.ped_bodies.specs.ped_laws.specs.Runs.Replaying.{Finish, finish_of, Replays}
+use Rattle.ped_bodies.specs.ped_eval.specs.Scopes.{Setting, Frame, Scope, turns_of, cell_of, index_value, names_in}
+use Rattle.ped_bodies.specs.ped_eval.specs.Evaluation.{Seen, cell_seen, index_seen, Evaluated, numbered}
+use Rattle.ped_bodies.specs.ped_eval.specs.Values.{truth}
+use Rattle.ped_bodies.specs.ped_eval.specs.Statements.{read_touch, write_touch}
+use Rattle.ped_bodies.specs.ped_eval.specs.Loops.{Limits, limits, Entered, entered_with, frame, undefined_by, undefined_all, left_in_variable, exit_touches, exit_when_none}
+use Rattle.ped_bodies.specs.ped_eval.specs.Runs.{Run, run, run_all}
+use Rattle.ped_bodies.specs.ped_laws.proofs.ActLaws.Lists.{in_left, in_right}
+use Rattle.ped_bodies.specs.ped_laws.proofs.RunLaws.SeenCells.{AllSeen, truth_seen, limits_seen}
+use Rattle.ped_bodies.specs.ped_laws.proofs.RunLaws.Sight.{truth_told, limits_told}
+use Rattle.ped_bodies.specs.ped_laws.proofs.RunLaws.StatementsTold.{run_told}
+use Rattle.ped_bodies.specs.ped_laws.proofs.RunLaws.Touches.{Each}
 use Rattle.ped_bodies.specs.ped_steps.specs.Runs.Exchanging.{IsExchange, AreExchanged, exchanged_store, exchanged_touch, exchanged_acts, exchanged_run, is_of_scalar, swapped}
 use Rattle.ped_bodies.specs.ped_steps.proofs.RunLaws.ExchangedRuns.{run_in}
 use Rattle.ped_bodies.specs.ped_steps.proofs.RunLaws.ExchangedSight.{seen_in, seeing, itself, names_exchanged, truth_in, limits_in}

@@ -3,21 +3,21 @@ use Rattle.std.proofs.Common.{◌≡◌, ℕ, ◌+◌, List, [], ◌∷◌, ◌+
 use Rattle.std.specs.Prelude.{nat_lt}
 use Rattle.std.proofs.lemmas.Bool.{cases_lt, and_parts}
 use Rattle.std.proofs.lemmas.List.{append-nil}
-use Rattle.ped_bodies.specs.ped_steps.specs.ped_flow.specs.ped_base.specs.Lists.{is_among}
-use Rattle.ped_bodies.specs.ped_steps.specs.ped_flow.specs.ped_tree.specs.Tree.{Head, StmtTree, StmtTrees, Assign, If, Do, Print, Read, Stop, Comment, no_stmts, more_stmts, ProgramTree}
-use Rattle.ped_bodies.specs.ped_steps.specs.ped_flow.specs.ped_tree.specs.Nests.{Loop}
-use Rattle.ped_bodies.specs.ped_steps.specs.ped_flow.specs.ped_tree.specs.Numbering.{numbered, all_numbered, statement_with, statement_count, statements_count}
-use Rattle.ped_bodies.specs.ped_steps.specs.ped_flow.specs.ped_tree.specs.Grammar.Fits.{Surroundings, moved, in_if, in_loop, loop_fits, stmt_fits, stmts_fit, decls_fit, begins_with_statement, at_body}
-use Rattle.ped_bodies.specs.ped_steps.specs.ped_laws.specs.ped_graph.specs.ped_symbols.specs.NameRefusals.{IsValid}
-use Rattle.ped_bodies.specs.ped_steps.specs.ped_laws.specs.ped_graph.specs.ped_symbols.specs.RightUses.RightLoops.{step_is_right, stmt_steps_are_right, steps_are_right}
-use Rattle.ped_bodies.specs.ped_steps.specs.ped_laws.specs.ped_graph.specs.ped_symbols.specs.RightUses.RightPrograms.{IsRight}
-use Rattle.ped_bodies.specs.ped_steps.specs.ped_laws.specs.ped_flow.specs.PlainBounds.{loops_round, all_loops_round, nest_round}
-use Rattle.ped_bodies.specs.ped_steps.specs.ped_laws.specs.ped_eval.specs.Outcomes.{setting_of}
-use Rattle.ped_bodies.specs.ped_steps.specs.ped_laws.specs.Acts.Orders.{IsIn}
-use Rattle.ped_bodies.specs.ped_steps.specs.ped_laws.specs.Covering.Nested.{loop}
-use Rattle.ped_bodies.specs.ped_steps.specs.ped_laws.specs.Plain.Executions.{IsOneOf}
-use Rattle.ped_bodies.specs.ped_steps.specs.ped_laws.proofs.ConflictLaws.MakingSteps.{head_fits}
-use Rattle.ped_bodies.specs.ped_steps.specs.ped_laws.proofs.FlowRunLaws.Standing.{Stand, whole_stands, first_stands, rest_stands, inner_stands, else_stands, is_there}
+use Rattle.ped_bodies.specs.ped_flow.specs.ped_base.specs.Lists.{is_among}
+use Rattle.ped_bodies.specs.ped_flow.specs.ped_tree.specs.Tree.{Head, StmtTree, StmtTrees, Assign, If, Do, Print, Read, Stop, Comment, no_stmts, more_stmts, ProgramTree}
+use Rattle.ped_bodies.specs.ped_flow.specs.ped_tree.specs.Nests.{Loop}
+use Rattle.ped_bodies.specs.ped_flow.specs.ped_tree.specs.Numbering.{numbered, all_numbered, statement_with, statement_count, statements_count}
+use Rattle.ped_bodies.specs.ped_flow.specs.ped_tree.specs.Grammar.Fits.{Surroundings, moved, in_if, in_loop, loop_fits, stmt_fits, stmts_fit, decls_fit, begins_with_statement, at_body}
+use Rattle.ped_bodies.specs.ped_symbols.specs.NameRefusals.{IsValid}
+use Rattle.ped_bodies.specs.ped_symbols.specs.RightUses.RightLoops.{step_is_right, stmt_steps_are_right, steps_are_right}
+use Rattle.ped_bodies.specs.ped_symbols.specs.RightUses.RightPrograms.{IsRight}
+use Rattle.ped_bodies.specs.ped_flow.specs.PlainBounds.{loops_round, all_loops_round, nest_round}
+use Rattle.ped_bodies.specs.ped_eval.specs.Outcomes.{setting_of}
+use Rattle.ped_bodies.specs.ped_laws.specs.Acts.Orders.{IsIn}
+use Rattle.ped_bodies.specs.ped_laws.specs.Covering.Nested.{loop}
+use Rattle.ped_bodies.specs.ped_laws.specs.Plain.Executions.{IsOneOf}
+use Rattle.ped_bodies.specs.ped_laws.proofs.ConflictLaws.MakingSteps.{head_fits}
+use Rattle.ped_bodies.specs.ped_laws.proofs.FlowRunLaws.Standing.{Stand, whole_stands, first_stands, rest_stands, inner_stands, else_stands, is_there}
 use Rattle.ped_bodies.specs.ped_steps.proofs.RunLaws.LoopsRound.{none_before, all_none_before, all_none_from}
 
 -- a DO of the program, which is one of these statements

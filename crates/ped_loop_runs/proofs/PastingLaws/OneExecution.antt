@@ -1,18 +1,18 @@
 -- Two executions of statements at one place of a run are one.
 use Rattle.std.proofs.Common.{◌≡◌, ℕ, ◌+◌, ◌<◌, ◌≤◌, List, [], ◌∷◌, ◌++◌, Option, Some, None, Result, Ok, Err, inl, inr, refl, sym, ap, subst, ◌∙◌, append-nil, arith}
-use Rattle.ped_bodies.specs.ped_steps.specs.ped_flow.specs.ped_tree.specs.Tree.{StmtTree, StmtTrees, Assign, If, Do, Print, Read, Stop, Comment, no_stmts, more_stmts, ProgramTree}
-use Rattle.ped_bodies.specs.ped_steps.specs.ped_flow.specs.ped_tree.specs.Numbering.{statement_count, statements_count}
-use Rattle.ped_bodies.specs.ped_steps.specs.ped_laws.specs.ped_store.specs.Stores.{Store}
-use Rattle.ped_bodies.specs.ped_steps.specs.ped_laws.specs.ped_store.specs.Acts.{Touch, Step, Act, did, entered}
-use Rattle.ped_bodies.specs.ped_steps.specs.ped_laws.specs.Acts.Fitting.{store_after}
-use Rattle.ped_bodies.specs.ped_steps.specs.ped_laws.specs.Acts.Orders.{IsIn}
-use Rattle.ped_bodies.specs.ped_steps.specs.ped_laws.specs.ped_eval.specs.Scopes.{Setting, Scope, turns_of, names_in, place_of}
-use Rattle.ped_bodies.specs.ped_steps.specs.ped_laws.specs.ped_eval.specs.Evaluation.{Seen, numbered}
-use Rattle.ped_bodies.specs.ped_steps.specs.ped_laws.specs.ped_eval.specs.Values.{truth}
-use Rattle.ped_bodies.specs.ped_steps.specs.ped_laws.specs.ped_eval.specs.Statements.{Taking, assigned, assignment_touches, printed_line, print_touches, reading}
-use Rattle.ped_bodies.specs.ped_steps.specs.ped_laws.specs.ped_eval.specs.Loops.{limits, entered_with, entry_touches}
-use Rattle.ped_bodies.specs.ped_steps.specs.ped_laws.specs.ped_eval.specs.Runs.{Ending, going, stopped, failed, Run, followed_by, on_value, run_taking, run, run_all}
-use Rattle.ped_bodies.specs.ped_steps.specs.ped_laws.proofs.FlowRunLaws.Apart.{same_behind}
+use Rattle.ped_bodies.specs.ped_flow.specs.ped_tree.specs.Tree.{StmtTree, StmtTrees, Assign, If, Do, Print, Read, Stop, Comment, no_stmts, more_stmts, ProgramTree}
+use Rattle.ped_bodies.specs.ped_flow.specs.ped_tree.specs.Numbering.{statement_count, statements_count}
+use Rattle.ped_bodies.specs.ped_store.specs.Stores.{Store}
+use Rattle.ped_bodies.specs.ped_store.specs.Acts.{Touch, Step, Act, did, entered}
+use Rattle.ped_bodies.specs.ped_laws.specs.Acts.Fitting.{store_after}
+use Rattle.ped_bodies.specs.ped_laws.specs.Acts.Orders.{IsIn}
+use Rattle.ped_bodies.specs.ped_eval.specs.Scopes.{Setting, Scope, turns_of, names_in, place_of}
+use Rattle.ped_bodies.specs.ped_eval.specs.Evaluation.{Seen, numbered}
+use Rattle.ped_bodies.specs.ped_eval.specs.Values.{truth}
+use Rattle.ped_bodies.specs.ped_eval.specs.Statements.{Taking, assigned, assignment_touches, printed_line, print_touches, reading}
+use Rattle.ped_bodies.specs.ped_eval.specs.Loops.{limits, entered_with, entry_touches}
+use Rattle.ped_bodies.specs.ped_eval.specs.Runs.{Ending, going, stopped, failed, Run, followed_by, on_value, run_taking, run, run_all}
+use Rattle.ped_bodies.specs.ped_laws.proofs.FlowRunLaws.Apart.{same_behind}
 use Rattle.ped_loop_runs.specs.Executions.{IsActInside, IsExecuted}
 
 -- acts that begin with one of so many statements from number n on

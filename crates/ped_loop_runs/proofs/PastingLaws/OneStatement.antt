@@ -1,7 +1,7 @@
 -- One statement of a program that gives way to others.
 use Rattle.std.proofs.Common.{◌≡◌, ℕ, ◌<◌, Some, subst, arith}
-use Rattle.ped_bodies.specs.ped_steps.specs.ped_flow.specs.ped_tree.specs.Tree.{StmtTree, StmtTrees, ProgramTree}
-use Rattle.ped_bodies.specs.ped_steps.specs.ped_flow.specs.ped_tree.specs.Numbering.{statement_with, statement_count, statements_count}
+use Rattle.ped_bodies.specs.ped_flow.specs.ped_tree.specs.Tree.{StmtTree, StmtTrees, ProgramTree}
+use Rattle.ped_bodies.specs.ped_flow.specs.ped_tree.specs.Numbering.{statement_with, statement_count, statements_count}
 use Rattle.ped_bodies.specs.ped_steps.specs.Replacing.{alone}
 use Rattle.ped_bodies.specs.ped_steps.proofs.RunLaws.ReplacedTrees.{program_gap}
 use Rattle.ped_loop_runs.specs.Statements.{GivesWay}

@@ -4,29 +4,29 @@ use Rattle.std.specs.List.{list_any}
 use Rattle.std.proofs.lemmas.List.{append-nil, append_assoc}
 use Rattle.std.proofs.lemmas.List.Folds.{list_any-append}
 use Rattle.std.proofs.lemmas.Bool.{or_right}
-use Rattle.ped_bodies.specs.ped_steps.specs.ped_flow.specs.ped_tree.specs.Tree.{Head, StmtTree, StmtTrees, Do, no_stmts, more_stmts, ProgramTree}
-use Rattle.ped_bodies.specs.ped_steps.specs.ped_flow.specs.ped_tree.specs.Nests.{Loop}
-use Rattle.ped_bodies.specs.ped_steps.specs.ped_flow.specs.ped_tree.specs.Numbering.{all_numbered, statement_with, statement_count, statements_count}
-use Rattle.ped_bodies.specs.ped_steps.specs.ped_laws.specs.ped_store.specs.Stores.{Store}
-use Rattle.ped_bodies.specs.ped_steps.specs.ped_laws.specs.ped_store.specs.Acts.{Act, Touch, Turn, entered, ended_turn, closed, store_behind}
-use Rattle.ped_bodies.specs.ped_steps.specs.ped_laws.specs.Acts.Fitting.{store_after}
-use Rattle.ped_bodies.specs.ped_steps.specs.ped_laws.proofs.ActLaws.Stores.{after_append}
-use Rattle.ped_bodies.specs.ped_steps.specs.ped_laws.specs.ped_eval.specs.Scopes.{Setting, Frame, Scope, turns_of, names_in, place_of}
-use Rattle.ped_bodies.specs.ped_steps.specs.ped_laws.specs.ped_eval.specs.Evaluation.{Seen}
-use Rattle.ped_bodies.specs.ped_steps.specs.ped_laws.specs.ped_eval.specs.Loops.{Limits, limits, Entered, entered_with, frame, exit_touches, exit_when_none, entry_touches}
-use Rattle.ped_bodies.specs.ped_steps.specs.ped_laws.specs.ped_eval.specs.Runs.{Ending, going, stopped, failed, Run, nothing_done, followed_by, then_run, does, turns, parallel_turns, run_entered, run, run_all}
-use Rattle.ped_bodies.specs.ped_steps.specs.ped_laws.specs.ped_eval.specs.Outcomes.{Ends}
-use Rattle.ped_bodies.specs.ped_steps.specs.ped_laws.specs.Runs.Replaying.{goes_on, finish_of, act}
-use Rattle.ped_bodies.specs.ped_steps.specs.ped_laws.proofs.RunLaws.Touches.{Each}
-use Rattle.ped_bodies.specs.ped_steps.specs.ped_laws.proofs.RunLaws.StatementsTold.{parallel_told, all_told}
-use Rattle.ped_bodies.specs.ped_steps.specs.ped_laws.specs.ped_flow.specs.PlainBounds.{nest_round, outermost_or}
-use Rattle.ped_bodies.specs.ped_steps.specs.ped_laws.specs.FlowRuns.Exits.{IsOneToOne, AreIterationsOf}
-use Rattle.ped_bodies.specs.ped_steps.specs.ped_laws.proofs.FlowRunLaws.Unstopped.{IsUnstopped}
-use Rattle.ped_bodies.specs.ped_steps.specs.ped_laws.proofs.FlowRunLaws.Standing.{Stand, inner_stands, is_there}
+use Rattle.ped_bodies.specs.ped_flow.specs.ped_tree.specs.Tree.{Head, StmtTree, StmtTrees, Do, no_stmts, more_stmts, ProgramTree}
+use Rattle.ped_bodies.specs.ped_flow.specs.ped_tree.specs.Nests.{Loop}
+use Rattle.ped_bodies.specs.ped_flow.specs.ped_tree.specs.Numbering.{all_numbered, statement_with, statement_count, statements_count}
+use Rattle.ped_bodies.specs.ped_store.specs.Stores.{Store}
+use Rattle.ped_bodies.specs.ped_store.specs.Acts.{Act, Touch, Turn, entered, ended_turn, closed, store_behind}
+use Rattle.ped_bodies.specs.ped_laws.specs.Acts.Fitting.{store_after}
+use Rattle.ped_bodies.specs.ped_laws.proofs.ActLaws.Stores.{after_append}
+use Rattle.ped_bodies.specs.ped_eval.specs.Scopes.{Setting, Frame, Scope, turns_of, names_in, place_of}
+use Rattle.ped_bodies.specs.ped_eval.specs.Evaluation.{Seen}
+use Rattle.ped_bodies.specs.ped_eval.specs.Loops.{Limits, limits, Entered, entered_with, frame, exit_touches, exit_when_none, entry_touches}
+use Rattle.ped_bodies.specs.ped_eval.specs.Runs.{Ending, going, stopped, failed, Run, nothing_done, followed_by, then_run, does, turns, parallel_turns, run_entered, run, run_all}
+use Rattle.ped_bodies.specs.ped_eval.specs.Outcomes.{Ends}
+use Rattle.ped_bodies.specs.ped_laws.specs.Runs.Replaying.{goes_on, finish_of, act}
+use Rattle.ped_bodies.specs.ped_laws.proofs.RunLaws.Touches.{Each}
+use Rattle.ped_bodies.specs.ped_laws.proofs.RunLaws.StatementsTold.{parallel_told, all_told}
+use Rattle.ped_bodies.specs.ped_flow.specs.PlainBounds.{nest_round, outermost_or}
+use Rattle.ped_bodies.specs.ped_laws.specs.FlowRuns.Exits.{IsOneToOne, AreIterationsOf}
+use Rattle.ped_bodies.specs.ped_laws.proofs.FlowRunLaws.Unstopped.{IsUnstopped}
+use Rattle.ped_bodies.specs.ped_laws.proofs.FlowRunLaws.Standing.{Stand, inner_stands, is_there}
 use Rattle.ped_bodies.specs.ped_steps.specs.Replacing.{followed}
 use Rattle.ped_bodies.specs.ped_steps.specs.Runs.Pasting.{AreTurnsOf, IsPlaceOf, IsPartOf, IsInExecution, IsInOutermost, is_in_parallel}
-use Rattle.ped_bodies.specs.ped_steps.specs.ped_laws.specs.Acts.Orders.{IsIn}
-use Rattle.ped_bodies.specs.ped_steps.specs.ped_laws.proofs.ActLaws.Lists.{in_right}
+use Rattle.ped_bodies.specs.ped_laws.specs.Acts.Orders.{IsIn}
+use Rattle.ped_bodies.specs.ped_laws.proofs.ActLaws.Lists.{in_right}
 use Rattle.ped_loop_runs.specs.Executions.{IsEntered, AreEntered, AreEnteredIn}
 use Rattle.ped_loop_runs.proofs.PastingLaws.JoinedParts.{AreJoined, joined_nothing, joined_then, joined_act, joined_changed}
 use Rattle.ped_loop_runs.proofs.PastingLaws.LeftPlaces.{LeaveAll, left_narrow, left_inward, left_append, left_body, left_end, left_turns, left_parallel}

@@ -1,29 +1,29 @@
 -- A program in which statements have been exchanged for others: its run is made of that of the old one, and each execution knows what it is. Round it, the iterations of PARALLEL DO loops may have other copies.
 use Rattle.std.proofs.Common.{◌==◌, ◌⊎◌, ◌≡◌, ℕ, suc, ◌+◌, ◌-◌, ◌≤◌, ◌<◌, List, [], ◌∷◌, ◌++◌, Bool, true, false, Some, inl, inr, if◌then◌else◌, refl, sym, ap, subst, ◌∙◌, arith}
 use Rattle.std.proofs.lemmas.List.{append-nil, append_assoc}
-use Rattle.ped_bodies.specs.ped_steps.specs.ped_flow.specs.ped_tree.specs.Tree.{CondTree, Head, StmtTree, StmtTrees, If, Do, no_stmts, more_stmts, ProgramTree}
-use Rattle.ped_bodies.specs.ped_steps.specs.ped_flow.specs.ped_tree.specs.NamesIn.{cond_names, head_names, stmt_names, stmts_names}
-use Rattle.ped_bodies.specs.ped_steps.specs.ped_flow.specs.ped_tree.specs.Numbering.{numbered, all_numbered, statement_with, statement_count, statements_count}
-use Rattle.ped_bodies.specs.ped_steps.specs.ped_laws.specs.ped_store.specs.Stores.{Store}
-use Rattle.ped_bodies.specs.ped_steps.specs.ped_laws.specs.ped_store.specs.Acts.{Act, Touch, did, entered, ended_turn, closed, store_behind}
-use Rattle.ped_bodies.specs.ped_steps.specs.ped_laws.specs.Acts.Fitting.{store_after}
-use Rattle.ped_bodies.specs.ped_steps.specs.ped_laws.specs.Acts.Pieces.{Part, changed, old_parts, new_parts}
-use Rattle.ped_bodies.specs.ped_steps.specs.ped_laws.specs.ped_eval.specs.Scopes.{Setting, Frame, Scope, turns_of, names_in, place_of}
-use Rattle.ped_bodies.specs.ped_steps.specs.ped_laws.specs.ped_eval.specs.Evaluation.{Seen, numbered as numbered_reads, number_behind}
-use Rattle.ped_bodies.specs.ped_steps.specs.ped_laws.specs.ped_eval.specs.Values.{truth}
-use Rattle.ped_bodies.specs.ped_steps.specs.ped_laws.specs.ped_eval.specs.Loops.{Limits, limits, increment, iteration_count, Entered, entered_with, frame, inner_variables, exit_touches, exit_when_none, entry_touches}
-use Rattle.ped_bodies.specs.ped_steps.specs.ped_laws.specs.ped_eval.specs.Runs.{Run, then_run, does, on, run_if, run_entered, run_from_entry, run_do, run, run_all}
-use Rattle.ped_bodies.specs.ped_steps.specs.ped_laws.specs.ped_eval.specs.Outcomes.{Ends}
-use Rattle.ped_bodies.specs.ped_steps.specs.ped_laws.specs.Runs.Replaying.{Finish, goes_on, finish_of, act, Replays, IsToldByActs}
-use Rattle.ped_bodies.specs.ped_steps.specs.ped_laws.proofs.RunLaws.Touches.{Each}
-use Rattle.ped_bodies.specs.ped_steps.specs.ped_laws.proofs.RunLaws.Told.{found_reads, found_reads_first}
-use Rattle.ped_bodies.specs.ped_steps.specs.ped_laws.proofs.RunLaws.StatementsTold.{run_told, all_told}
-use Rattle.ped_bodies.specs.ped_steps.specs.ped_laws.proofs.RunLaws.Numbers.{run_same, all_same}
-use Rattle.ped_bodies.specs.ped_steps.specs.ped_laws.specs.ped_flow.specs.PlainBounds.{loops_round, all_loops_round, nest_round, outermost_or}
-use Rattle.ped_bodies.specs.ped_steps.specs.ped_laws.specs.FlowRuns.Covering.{some_stop}
-use Rattle.ped_bodies.specs.ped_steps.specs.ped_laws.specs.FlowRuns.Exits.{IsOneToOne}
-use Rattle.ped_bodies.specs.ped_steps.specs.ped_laws.proofs.FlowRunLaws.Unstopped.{all_unstopped}
-use Rattle.ped_bodies.specs.ped_steps.specs.ped_laws.proofs.FlowRunLaws.Standing.{Stand, whole_stands, first_stands, rest_stands, inner_stands, else_stands, is_there}
+use Rattle.ped_bodies.specs.ped_flow.specs.ped_tree.specs.Tree.{CondTree, Head, StmtTree, StmtTrees, If, Do, no_stmts, more_stmts, ProgramTree}
+use Rattle.ped_bodies.specs.ped_flow.specs.ped_tree.specs.NamesIn.{cond_names, head_names, stmt_names, stmts_names}
+use Rattle.ped_bodies.specs.ped_flow.specs.ped_tree.specs.Numbering.{numbered, all_numbered, statement_with, statement_count, statements_count}
+use Rattle.ped_bodies.specs.ped_store.specs.Stores.{Store}
+use Rattle.ped_bodies.specs.ped_store.specs.Acts.{Act, Touch, did, entered, ended_turn, closed, store_behind}
+use Rattle.ped_bodies.specs.ped_laws.specs.Acts.Fitting.{store_after}
+use Rattle.ped_bodies.specs.ped_laws.specs.Acts.Pieces.{Part, changed, old_parts, new_parts}
+use Rattle.ped_bodies.specs.ped_eval.specs.Scopes.{Setting, Frame, Scope, turns_of, names_in, place_of}
+use Rattle.ped_bodies.specs.ped_eval.specs.Evaluation.{Seen, numbered as numbered_reads, number_behind}
+use Rattle.ped_bodies.specs.ped_eval.specs.Values.{truth}
+use Rattle.ped_bodies.specs.ped_eval.specs.Loops.{Limits, limits, increment, iteration_count, Entered, entered_with, frame, inner_variables, exit_touches, exit_when_none, entry_touches}
+use Rattle.ped_bodies.specs.ped_eval.specs.Runs.{Run, then_run, does, on, run_if, run_entered, run_from_entry, run_do, run, run_all}
+use Rattle.ped_bodies.specs.ped_eval.specs.Outcomes.{Ends}
+use Rattle.ped_bodies.specs.ped_laws.specs.Runs.Replaying.{Finish, goes_on, finish_of, act, Replays, IsToldByActs}
+use Rattle.ped_bodies.specs.ped_laws.proofs.RunLaws.Touches.{Each}
+use Rattle.ped_bodies.specs.ped_laws.proofs.RunLaws.Told.{found_reads, found_reads_first}
+use Rattle.ped_bodies.specs.ped_laws.proofs.RunLaws.StatementsTold.{run_told, all_told}
+use Rattle.ped_bodies.specs.ped_laws.proofs.RunLaws.Numbers.{run_same, all_same}
+use Rattle.ped_bodies.specs.ped_flow.specs.PlainBounds.{loops_round, all_loops_round, nest_round, outermost_or}
+use Rattle.ped_bodies.specs.ped_laws.specs.FlowRuns.Covering.{some_stop}
+use Rattle.ped_bodies.specs.ped_laws.specs.FlowRuns.Exits.{IsOneToOne}
+use Rattle.ped_bodies.specs.ped_laws.proofs.FlowRunLaws.Unstopped.{all_unstopped}
+use Rattle.ped_bodies.specs.ped_laws.proofs.FlowRunLaws.Standing.{Stand, whole_stands, first_stands, rest_stands, inner_stands, else_stands, is_there}
 use Rattle.ped_bodies.specs.ped_steps.specs.Replacing.{followed}
 use Rattle.ped_bodies.specs.ped_steps.specs.Runs.Gaps.{Gap, at_front, past, in_then, in_else, in_body, filled, number_at}
 use Rattle.ped_bodies.specs.ped_steps.specs.Runs.Pasting.{AgreeInBounds, IsPlaceOf, IsPartOf, is_in_parallel, HaveSameIndices}
@@ -37,22 +37,22 @@ use Rattle.ped_loop_runs.proofs.PastingLaws.JoinedParts.{IsJoined, AreJoined, jo
 use Rattle.ped_loop_runs.proofs.PastingLaws.LeftPlaces.{LeaveAll, left_none, left_own, left_run, left_all}
 use Rattle.ped_loop_runs.proofs.PastingLaws.LeftCopies.{IsOwn, condition_own}
 use Rattle.std.proofs.lemmas.Bool.{both_ways}
-use Rattle.ped_bodies.specs.ped_steps.specs.ped_flow.specs.ped_base.specs.Lists.{is_among}
-use Rattle.ped_bodies.specs.ped_steps.specs.ped_flow.specs.ped_tree.specs.NamesIn.{all_loop_variables}
-use Rattle.ped_bodies.specs.ped_steps.specs.ped_laws.specs.ped_store.specs.Cells.{Cell}
-use Rattle.ped_bodies.specs.ped_steps.specs.ped_laws.specs.ped_store.specs.Acts.{Place, Step}
-use Rattle.ped_bodies.specs.ped_steps.specs.ped_laws.specs.Acts.Orders.{IsIn}
-use Rattle.ped_bodies.specs.ped_steps.specs.ped_laws.specs.Acts.Sets.{nothing}
-use Rattle.ped_bodies.specs.ped_steps.specs.ped_laws.specs.FlowRuns.Exits.{AreIterationsOf, is_exit}
-use Rattle.ped_bodies.specs.ped_steps.specs.ped_laws.specs.Runs.Touching.{is_own_store}
-use Rattle.ped_bodies.specs.ped_steps.specs.ped_laws.specs.ped_eval.specs.Scopes.{cell_of}
-use Rattle.ped_bodies.specs.ped_steps.specs.ped_laws.specs.ped_eval.specs.Evaluation.{cell_seen, index_seen}
-use Rattle.ped_bodies.specs.ped_steps.specs.ped_laws.specs.ped_eval.specs.Statements.{write_touch}
-use Rattle.ped_bodies.specs.ped_steps.specs.ped_laws.specs.ped_eval.specs.Loops.{undefined_by, undefined_all, left_in_variable}
-use Rattle.ped_bodies.specs.ped_steps.specs.ped_laws.proofs.ActLaws.Lists.{in_left, in_right}
+use Rattle.ped_bodies.specs.ped_flow.specs.ped_base.specs.Lists.{is_among}
+use Rattle.ped_bodies.specs.ped_flow.specs.ped_tree.specs.NamesIn.{all_loop_variables}
+use Rattle.ped_bodies.specs.ped_store.specs.Cells.{Cell}
+use Rattle.ped_bodies.specs.ped_store.specs.Acts.{Place, Step}
+use Rattle.ped_bodies.specs.ped_laws.specs.Acts.Orders.{IsIn}
+use Rattle.ped_bodies.specs.ped_laws.specs.Acts.Sets.{nothing}
+use Rattle.ped_bodies.specs.ped_laws.specs.FlowRuns.Exits.{AreIterationsOf, is_exit}
+use Rattle.ped_bodies.specs.ped_laws.specs.Runs.Touching.{is_own_store}
+use Rattle.ped_bodies.specs.ped_eval.specs.Scopes.{cell_of}
+use Rattle.ped_bodies.specs.ped_eval.specs.Evaluation.{cell_seen, index_seen}
+use Rattle.ped_bodies.specs.ped_eval.specs.Statements.{write_touch}
+use Rattle.ped_bodies.specs.ped_eval.specs.Loops.{undefined_by, undefined_all, left_in_variable}
+use Rattle.ped_bodies.specs.ped_laws.proofs.ActLaws.Lists.{in_left, in_right}
 use Rattle.ped_loop_runs.specs.OtherCopies.{AreNear, HaveSameIndicesBut, OfParallelRound, HasOtherCopies, IsPastedBut, IsOfThese, IsParallelRound, LeavesParallel, LeaveApart, IsOtherExit, IsExchangedNear, DoNear}
 use Rattle.ped_loop_runs.specs.Pasting.{IsExchanged, AreChangedBy}
-use Rattle.ped_bodies.specs.ped_steps.specs.ped_laws.proofs.RunLaws.Turning.{once_among}
+use Rattle.ped_bodies.specs.ped_laws.proofs.RunLaws.Turning.{once_among}
 use Rattle.ped_loop_runs.proofs.PastingLaws.ActNumbers.{IsActIn, run_in, all_in}
 use Rattle.ped_loop_runs.proofs.PastingLaws.FilledIndices.{index_filled, copied_same, inner_same_name}
 use Rattle.ped_loop_runs.proofs.PastingLaws.NearPlaces.{LeaveTouches, LeaveActs, all_near, run_near, truth_near, limits_near, exit_when_near, named_same, private_near, near_more, near_itself}

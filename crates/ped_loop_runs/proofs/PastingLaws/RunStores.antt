@@ -2,35 +2,35 @@
 use Rattle.std.proofs.Common.{◌≡◌, ℕ, ◌+◌, List, [], ◌∷◌, ◌++◌, true, not, refl, sym, ap, ◌∙◌, subst, inl, inr}
 use Rattle.std.specs.Str.Lines.{lines}
 use Rattle.std.proofs.lemmas.Bool.{and_parts}
-use Rattle.ped_bodies.specs.ped_steps.specs.ped_flow.specs.ped_tree.specs.Names.Collecting.{with_names}
-use Rattle.ped_bodies.specs.ped_steps.specs.ped_flow.specs.ped_tree.proofs.NameLaws.Collected.{among_collected}
-use Rattle.ped_bodies.specs.ped_steps.specs.ped_flow.specs.ped_tree.specs.Tree.{StmtTree, StmtTrees, Assign, If, Do, Print, Read, Stop, Comment, no_stmts, more_stmts, ProgramTree}
-use Rattle.ped_bodies.specs.ped_steps.specs.ped_flow.specs.ped_tree.specs.Nests.{Loop}
-use Rattle.ped_bodies.specs.ped_steps.specs.ped_flow.specs.ped_tree.specs.Numbering.{statement_count, statements_count}
-use Rattle.ped_bodies.specs.ped_steps.specs.ped_flow.specs.ped_tree.specs.Grammar.Fits.{Surroundings, moved, in_if, in_loop, decls_fit, stmts_fit, begins_with_statement, at_body}
-use Rattle.ped_bodies.specs.ped_steps.specs.ped_laws.specs.ped_graph.specs.Dependences.{setting_in}
-use Rattle.ped_bodies.specs.ped_steps.specs.ped_laws.specs.ped_graph.specs.ped_symbols.specs.NameRefusals.{IsValid}
-use Rattle.ped_bodies.specs.ped_steps.specs.ped_laws.specs.ped_graph.specs.ped_symbols.specs.Kinds.{table_of}
-use Rattle.ped_bodies.specs.ped_steps.specs.ped_laws.specs.ped_graph.specs.ped_symbols.specs.RightUses.RightPrograms.{IsRight}
-use Rattle.ped_bodies.specs.ped_steps.specs.ped_laws.specs.ped_flow.specs.ped_affine.specs.Assigned.{assigned_in_all}
-use Rattle.ped_bodies.specs.ped_steps.specs.ped_flow.specs.ped_tree.specs.NamesIn.{all_loop_variables}
-use Rattle.ped_bodies.specs.ped_steps.specs.ped_laws.specs.ped_flow.specs.ped_affine.specs.Ranges as ranges
-use Rattle.ped_bodies.specs.ped_steps.specs.ped_laws.specs.ped_store.specs.Cells.{Cell, Scalar, Element, Private, In, Out}
-use Rattle.ped_bodies.specs.ped_steps.specs.ped_laws.specs.ped_store.specs.Stores.{Store, store_at_start}
-use Rattle.ped_bodies.specs.ped_steps.specs.ped_laws.specs.ped_store.specs.Acts.{Touch, Step, Act, store_behind}
-use Rattle.ped_bodies.specs.ped_steps.specs.ped_laws.specs.Acts.Fitting.{store_after}
-use Rattle.ped_bodies.specs.ped_steps.specs.ped_laws.specs.Acts.Orders.{IsIn}
-use Rattle.ped_bodies.specs.ped_steps.specs.ped_laws.proofs.ActLaws.Lists.{in_left}
-use Rattle.ped_bodies.specs.ped_steps.specs.ped_laws.specs.Covering.Within.{is_storing, HoldsStorable}
-use Rattle.ped_bodies.specs.ped_steps.specs.ped_laws.specs.Conflicts.Reaching.{IsStoreIn}
-use Rattle.ped_bodies.specs.ped_steps.specs.ped_laws.specs.ped_eval.specs.Scopes.{Scope, Setting, names_in, place_of}
-use Rattle.ped_bodies.specs.ped_steps.specs.ped_laws.specs.ped_eval.specs.Loops.{limits, entered_with, frame}
-use Rattle.ped_bodies.specs.ped_steps.specs.ped_laws.specs.ped_eval.specs.Runs.{run, run_all}
-use Rattle.ped_bodies.specs.ped_steps.specs.ped_laws.specs.ped_eval.specs.Outcomes.{setting_of, run_of}
-use Rattle.ped_bodies.specs.ped_steps.specs.ped_laws.proofs.RunLaws.Touches.{Each}
-use Rattle.ped_bodies.specs.ped_steps.specs.ped_laws.proofs.ConflictLaws.MakingParts.{Part, Parts, stand_whole, first_part, rest_parts, then_parts, else_parts, body_parts}
-use Rattle.ped_bodies.specs.ped_steps.specs.ped_laws.proofs.ConflictLaws.MakingTouches.{Keeps, Good, kept, good_keeps}
-use Rattle.ped_bodies.specs.ped_steps.specs.ped_laws.proofs.ConflictLaws.MakingSteps.{Done, then_done, nothing_is_done, assignment_done, print_done, read_done, stop_done, if_done, do_done}
+use Rattle.ped_bodies.specs.ped_flow.specs.ped_tree.specs.Names.Collecting.{with_names}
+use Rattle.ped_bodies.specs.ped_flow.specs.ped_tree.proofs.NameLaws.Collected.{among_collected}
+use Rattle.ped_bodies.specs.ped_flow.specs.ped_tree.specs.Tree.{StmtTree, StmtTrees, Assign, If, Do, Print, Read, Stop, Comment, no_stmts, more_stmts, ProgramTree}
+use Rattle.ped_bodies.specs.ped_flow.specs.ped_tree.specs.Nests.{Loop}
+use Rattle.ped_bodies.specs.ped_flow.specs.ped_tree.specs.Numbering.{statement_count, statements_count}
+use Rattle.ped_bodies.specs.ped_flow.specs.ped_tree.specs.Grammar.Fits.{Surroundings, moved, in_if, in_loop, decls_fit, stmts_fit, begins_with_statement, at_body}
+use Rattle.ped_bodies.specs.ped_graph.specs.Dependences.{setting_in}
+use Rattle.ped_bodies.specs.ped_symbols.specs.NameRefusals.{IsValid}
+use Rattle.ped_bodies.specs.ped_symbols.specs.Kinds.{table_of}
+use Rattle.ped_bodies.specs.ped_symbols.specs.RightUses.RightPrograms.{IsRight}
+use Rattle.ped_bodies.specs.ped_affine.specs.Assigned.{assigned_in_all}
+use Rattle.ped_bodies.specs.ped_flow.specs.ped_tree.specs.NamesIn.{all_loop_variables}
+use Rattle.ped_bodies.specs.ped_affine.specs.Ranges as ranges
+use Rattle.ped_bodies.specs.ped_store.specs.Cells.{Cell, Scalar, Element, Private, In, Out}
+use Rattle.ped_bodies.specs.ped_store.specs.Stores.{Store, store_at_start}
+use Rattle.ped_bodies.specs.ped_store.specs.Acts.{Touch, Step, Act, store_behind}
+use Rattle.ped_bodies.specs.ped_laws.specs.Acts.Fitting.{store_after}
+use Rattle.ped_bodies.specs.ped_laws.specs.Acts.Orders.{IsIn}
+use Rattle.ped_bodies.specs.ped_laws.proofs.ActLaws.Lists.{in_left}
+use Rattle.ped_bodies.specs.ped_laws.specs.Covering.Within.{is_storing, HoldsStorable}
+use Rattle.ped_bodies.specs.ped_laws.specs.Conflicts.Reaching.{IsStoreIn}
+use Rattle.ped_bodies.specs.ped_eval.specs.Scopes.{Scope, Setting, names_in, place_of}
+use Rattle.ped_bodies.specs.ped_eval.specs.Loops.{limits, entered_with, frame}
+use Rattle.ped_bodies.specs.ped_eval.specs.Runs.{run, run_all}
+use Rattle.ped_bodies.specs.ped_eval.specs.Outcomes.{setting_of, run_of}
+use Rattle.ped_bodies.specs.ped_laws.proofs.RunLaws.Touches.{Each}
+use Rattle.ped_bodies.specs.ped_laws.proofs.ConflictLaws.MakingParts.{Part, Parts, stand_whole, first_part, rest_parts, then_parts, else_parts, body_parts}
+use Rattle.ped_bodies.specs.ped_laws.proofs.ConflictLaws.MakingTouches.{Keeps, Good, kept, good_keeps}
+use Rattle.ped_bodies.specs.ped_laws.proofs.ConflictLaws.MakingSteps.{Done, then_done, nothing_is_done, assignment_done, print_done, read_done, stop_done, if_done, do_done}
 
 module _ (t : ProgramTree) (valid : IsValid t) (s : ranges.Setting) (first : Store) where
   abbrev p : Setting

@@ -1,13 +1,13 @@
 -- Executions in a list of acts: what is known of each holds of all.
 use Rattle.std.proofs.Common.{◌≡◌, ℕ, List, [], ◌∷◌, ◌++◌, Bool, ◌⊎◌, inl, inr, sym, subst, append-nil}
-use Rattle.ped_bodies.specs.ped_steps.specs.ped_flow.specs.ped_tree.specs.Tree.{ProgramTree}
-use Rattle.ped_bodies.specs.ped_steps.specs.ped_laws.specs.ped_store.specs.Cells.{Cell}
-use Rattle.ped_bodies.specs.ped_steps.specs.ped_laws.specs.ped_store.specs.Stores.{Store}
-use Rattle.ped_bodies.specs.ped_steps.specs.ped_laws.specs.ped_store.specs.Acts.{Act}
-use Rattle.ped_bodies.specs.ped_steps.specs.ped_laws.specs.Acts.Fitting.{store_after}
-use Rattle.ped_bodies.specs.ped_steps.specs.ped_laws.specs.Acts.Pieces.{Part, same, changed, old_parts, StandsFor}
-use Rattle.ped_bodies.specs.ped_steps.specs.ped_laws.specs.ped_eval.specs.Scopes.{Setting, Scope}
-use Rattle.ped_bodies.specs.ped_steps.specs.ped_laws.specs.ped_eval.specs.Runs.{Run}
+use Rattle.ped_bodies.specs.ped_flow.specs.ped_tree.specs.Tree.{ProgramTree}
+use Rattle.ped_bodies.specs.ped_store.specs.Cells.{Cell}
+use Rattle.ped_bodies.specs.ped_store.specs.Stores.{Store}
+use Rattle.ped_bodies.specs.ped_store.specs.Acts.{Act}
+use Rattle.ped_bodies.specs.ped_laws.specs.Acts.Fitting.{store_after}
+use Rattle.ped_bodies.specs.ped_laws.specs.Acts.Pieces.{Part, same, changed, old_parts, StandsFor}
+use Rattle.ped_bodies.specs.ped_eval.specs.Scopes.{Setting, Scope}
+use Rattle.ped_bodies.specs.ped_eval.specs.Runs.{Run}
 use Rattle.ped_loop_runs.specs.Meaning.{SuitEnds}
 use Rattle.ped_loop_runs.specs.OtherCopies.{IsOtherExit, IsExchangedNear, AreExchangedNear, StandNear, AskNothing}
 use Rattle.ped_loop_runs.specs.Pasting.{StandInstead, PartsStandBy, IsExchanged, AreChangedBy, AreExchanged}

@@ -2,13 +2,13 @@
 use Rattle.std.proofs.Common.{◌≡◌, ℕ, List, [], ◌∷◌, Bool, true, false, ◌⊎◌, inl, inr, refl, ap, subst, ◌∙◌, pos}
 use Rattle.std.specs.Prelude.{codes, ◌||◌}
 use Rattle.std.proofs.lemmas.Bool.{both_ways}
-use Rattle.ped_bodies.specs.ped_steps.specs.ped_flow.specs.ped_tree.specs.Tree.{Int, Head, Do, StmtTrees, no_stmts, more_stmts}
-use Rattle.ped_bodies.specs.ped_steps.specs.ped_flow.specs.ped_tree.specs.NamesIn.{all_loop_variables}
-use Rattle.ped_bodies.specs.ped_steps.specs.ped_flow.specs.ped_base.proofs.NameEquality.{same_is}
-use Rattle.ped_bodies.specs.ped_steps.specs.ped_flow.specs.ped_base.specs.Lists.{is_same_text, is_among}
-use Rattle.ped_bodies.specs.ped_steps.specs.ped_laws.specs.ped_store.specs.Cells.{Cell, Scalar, Private}
-use Rattle.ped_bodies.specs.ped_steps.specs.ped_laws.specs.ped_eval.specs.Scopes.{Setting, Scope, cell_of}
-use Rattle.ped_bodies.specs.ped_steps.specs.ped_laws.specs.ped_eval.specs.Loops.{Limits, entered_with, frame}
+use Rattle.ped_bodies.specs.ped_flow.specs.ped_tree.specs.Tree.{Int, Head, Do, StmtTrees, no_stmts, more_stmts}
+use Rattle.ped_bodies.specs.ped_flow.specs.ped_tree.specs.NamesIn.{all_loop_variables}
+use Rattle.ped_bodies.specs.ped_flow.specs.ped_base.proofs.NameEquality.{same_is}
+use Rattle.ped_bodies.specs.ped_flow.specs.ped_base.specs.Lists.{is_same_text, is_among}
+use Rattle.ped_bodies.specs.ped_store.specs.Cells.{Cell, Scalar, Private}
+use Rattle.ped_bodies.specs.ped_eval.specs.Scopes.{Setting, Scope, cell_of}
+use Rattle.ped_bodies.specs.ped_eval.specs.Loops.{Limits, entered_with, frame}
 use Rattle.ped_bodies.specs.ped_steps.specs.Runs.Gaps.{Gap, at_front, filled}
 use Rattle.ped_bodies.specs.ped_steps.proofs.RunLaws.Swapped.{cell_name, named_so}
 use Rattle.ped_loop_runs.specs.OtherCopies.{AreNear, HasOtherCopies}

@@ -2,19 +2,19 @@
 use Rattle.std.proofs.Common.{◌≡◌, ℕ, List, Bool, true, false, ◌&&◌, ◌||◌, refl, sym, ap, ◌∙◌}
 use Rattle.std.specs.Prelude.{not}
 use Rattle.std.proofs.lemmas.Bool.{both_ways}
-use Rattle.ped_bodies.specs.ped_steps.specs.ped_flow.specs.ped_tree.specs.Tree.{StmtTrees, ProgramTree}
-use Rattle.ped_bodies.specs.ped_steps.specs.ped_laws.specs.ped_store.specs.Cells.{Cell}
-use Rattle.ped_bodies.specs.ped_steps.specs.ped_laws.specs.ped_store.specs.Stores.{Undefined, Number, Store, store_at_start}
-use Rattle.ped_bodies.specs.ped_steps.specs.ped_laws.specs.ped_store.specs.Acts.{Act}
-use Rattle.ped_bodies.specs.ped_steps.specs.ped_laws.specs.ped_store.specs.Races.{is_lines}
-use Rattle.ped_bodies.specs.ped_steps.specs.ped_laws.specs.Acts.Fitting.{touches_of}
-use Rattle.ped_bodies.specs.ped_steps.specs.ped_laws.specs.Acts.Renaming.{touch}
-use Rattle.ped_bodies.specs.ped_steps.specs.ped_laws.specs.Acts.Sets.{needs, written}
-use Rattle.ped_bodies.specs.ped_steps.specs.ped_laws.proofs.ActLaws.Renamings.{needed_touched, written_touched, after_other}
-use Rattle.ped_bodies.specs.ped_steps.specs.ped_laws.specs.Runs.Replaying.{finish_of, has_fault}
-use Rattle.ped_bodies.specs.ped_steps.specs.ped_laws.proofs.RunLaws.Defined.{numbers_needed}
-use Rattle.ped_bodies.specs.ped_steps.specs.ped_laws.specs.ped_eval.specs.Scopes.{Setting, Scope}
-use Rattle.ped_bodies.specs.ped_steps.specs.ped_laws.specs.ped_eval.specs.Runs.{run_all}
+use Rattle.ped_bodies.specs.ped_flow.specs.ped_tree.specs.Tree.{StmtTrees, ProgramTree}
+use Rattle.ped_bodies.specs.ped_store.specs.Cells.{Cell}
+use Rattle.ped_bodies.specs.ped_store.specs.Stores.{Undefined, Number, Store, store_at_start}
+use Rattle.ped_bodies.specs.ped_store.specs.Acts.{Act}
+use Rattle.ped_bodies.specs.ped_store.specs.Races.{is_lines}
+use Rattle.ped_bodies.specs.ped_laws.specs.Acts.Fitting.{touches_of}
+use Rattle.ped_bodies.specs.ped_laws.specs.Acts.Renaming.{touch}
+use Rattle.ped_bodies.specs.ped_laws.specs.Acts.Sets.{needs, written}
+use Rattle.ped_bodies.specs.ped_laws.proofs.ActLaws.Renamings.{needed_touched, written_touched, after_other}
+use Rattle.ped_bodies.specs.ped_laws.specs.Runs.Replaying.{finish_of, has_fault}
+use Rattle.ped_bodies.specs.ped_laws.proofs.RunLaws.Defined.{numbers_needed}
+use Rattle.ped_bodies.specs.ped_eval.specs.Scopes.{Setting, Scope}
+use Rattle.ped_bodies.specs.ped_eval.specs.Runs.{run_all}
 use Rattle.ped_bodies.specs.ped_steps.proofs.RunLaws.Uncopied.{untouched_acts}
 use Rattle.ped_loop_runs.specs.Executions.{IsCopyInside, LeaveCopies, IsExecuted}
 use Rattle.ped_loop_runs.specs.Copies.{IsTheirs}

@@ -2,22 +2,22 @@
 use Rattle.std.proofs.Common.{◌≡◌, ℕ, ℤ, pos, List, [], ◌∷◌, ◌++◌, Bool, true, false, ◌||◌, ◌⊎◌, inl, inr, Option, Some, IsTrue, refl, sym, ap, subst, ◌∙◌}
 use Rattle.std.specs.Prelude.{unwrap_or}
 use Rattle.std.proofs.lemmas.Bool.{or_left, or_right}
-use Rattle.ped_bodies.specs.ped_steps.specs.ped_flow.specs.ped_base.specs.Lists.{is_same_text, is_among}
-use Rattle.ped_bodies.specs.ped_steps.specs.ped_flow.specs.ped_tree.specs.Tree.{Head, StmtTree, StmtTrees, Do, ProgramTree}
-use Rattle.ped_bodies.specs.ped_steps.specs.ped_flow.specs.ped_tree.specs.Nests.{Loop, indices_of}
-use Rattle.ped_bodies.specs.ped_steps.specs.ped_flow.specs.ped_tree.specs.Numbering.{numbered, statement_with}
-use Rattle.ped_bodies.specs.ped_steps.specs.ped_laws.specs.ped_flow.specs.PlainBounds.{nest_round, setting_round, outermost_or}
-use Rattle.ped_bodies.specs.ped_steps.specs.ped_laws.specs.ped_flow.specs.Questions.{LoopOf}
-use Rattle.ped_bodies.specs.ped_steps.specs.ped_laws.specs.ped_store.specs.Acts.{Turn}
-use Rattle.ped_bodies.specs.ped_steps.specs.ped_laws.specs.ped_eval.specs.Scopes.{Setting, Scope, turns_of}
-use Rattle.ped_bodies.specs.ped_steps.specs.ped_laws.specs.ped_eval.specs.Loops.{Limits}
-use Rattle.ped_bodies.specs.ped_steps.specs.ped_laws.specs.Acts.Orders.{IsIn}
-use Rattle.ped_bodies.specs.ped_steps.specs.ped_laws.specs.FlowRuns.Exits.{IsOneToOne, AreIterationsOf}
-use Rattle.ped_bodies.specs.ped_steps.specs.ped_laws.specs.Plain.Executions.{IsOneOf, IsInside, AreInside, IsPlaceWith}
-use Rattle.ped_bodies.specs.ped_steps.specs.ped_laws.proofs.ActLaws.Lists.{in_left, in_right}
-use Rattle.ped_bodies.specs.ped_steps.specs.ped_laws.proofs.ConflictLaws.Scoping.{variables_of, index_told}
-use Rattle.ped_bodies.specs.ped_steps.specs.ped_laws.proofs.CoveringLaws.Comings.{some_one}
-use Rattle.ped_bodies.specs.ped_steps.specs.ped_laws.proofs.PlainLaws.Insides.{inside_iteration}
+use Rattle.ped_bodies.specs.ped_flow.specs.ped_base.specs.Lists.{is_same_text, is_among}
+use Rattle.ped_bodies.specs.ped_flow.specs.ped_tree.specs.Tree.{Head, StmtTree, StmtTrees, Do, ProgramTree}
+use Rattle.ped_bodies.specs.ped_flow.specs.ped_tree.specs.Nests.{Loop, indices_of}
+use Rattle.ped_bodies.specs.ped_flow.specs.ped_tree.specs.Numbering.{numbered, statement_with}
+use Rattle.ped_bodies.specs.ped_flow.specs.PlainBounds.{nest_round, setting_round, outermost_or}
+use Rattle.ped_bodies.specs.ped_flow.specs.Questions.{LoopOf}
+use Rattle.ped_bodies.specs.ped_store.specs.Acts.{Turn}
+use Rattle.ped_bodies.specs.ped_eval.specs.Scopes.{Setting, Scope, turns_of}
+use Rattle.ped_bodies.specs.ped_eval.specs.Loops.{Limits}
+use Rattle.ped_bodies.specs.ped_laws.specs.Acts.Orders.{IsIn}
+use Rattle.ped_bodies.specs.ped_laws.specs.FlowRuns.Exits.{IsOneToOne, AreIterationsOf}
+use Rattle.ped_bodies.specs.ped_laws.specs.Plain.Executions.{IsOneOf, IsInside, AreInside, IsPlaceWith}
+use Rattle.ped_bodies.specs.ped_laws.proofs.ActLaws.Lists.{in_left, in_right}
+use Rattle.ped_bodies.specs.ped_laws.proofs.ConflictLaws.Scoping.{variables_of, index_told}
+use Rattle.ped_bodies.specs.ped_laws.proofs.CoveringLaws.Comings.{some_one}
+use Rattle.ped_bodies.specs.ped_laws.proofs.PlainLaws.Insides.{inside_iteration}
 use Rattle.ped_bodies.specs.ped_steps.specs.Runs.Pasting.{AreTurnsOf, IsPlaceOf}
 use Rattle.ped_loop_runs.specs.Places.{told_at}
 use Rattle.ped_loop_runs.proofs.PastingLaws.NestsRound.{IsLoopIn, nest_is_round}

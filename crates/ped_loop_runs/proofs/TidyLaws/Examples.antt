@@ -1,17 +1,17 @@
 -- Programs with and without C$PED REJECT, and one that stays tidy.
 use Rattle.std.proofs.Common.{◌≡◌, ℕ, List, [], ◌∷◌, Bool, true, false, ◌&&◌, Some, inl, inr, refl, sym, ap, ◌∙◌}
-use Rattle.ped_loop_runs.specs.ped_bodies.specs.ped_steps.specs.ped_flow.specs.ped_tree.specs.Tree.{Int, Var, Neg, Value, Head, StmtTree, StmtTrees, Assign, Do, Print, Read, Stop, no_stmts, more_stmts, ProgramTree}
-use Rattle.ped_loop_runs.specs.ped_bodies.specs.ped_steps.specs.ped_flow.specs.ped_tree.specs.Accesses.{write_of}
-use Rattle.ped_loop_runs.specs.ped_bodies.specs.ped_steps.specs.ped_views.specs.Views.{View}
-use Rattle.ped_loop_runs.specs.ped_bodies.specs.ped_steps.specs.ped_refs.specs.References.{Reference, references}
-use Rattle.ped_loop_runs.specs.ped_bodies.specs.ped_steps.specs.ped_flow.specs.Summaries.{sum_behind_all}
-use Rattle.ped_loop_runs.specs.ped_bodies.specs.ped_steps.specs.ped_flow.proofs.Truths.{untrue}
-use Rattle.ped_loop_runs.specs.ped_bodies.specs.ped_steps.specs.ped_laws.specs.ped_graph.specs.ped_edges.specs.Edges.{pending, rejected}
-use Rattle.ped_loop_runs.specs.ped_bodies.specs.ped_steps.specs.ped_laws.specs.ped_graph.specs.Marks.{mark_of}
-use Rattle.ped_loop_runs.specs.ped_bodies.specs.ped_steps.specs.ped_laws.specs.Acts.Orders.{IsIn}
-use Rattle.ped_loop_runs.specs.ped_bodies.specs.ped_steps.specs.Replacing.{alone}
-use Rattle.ped_loop_runs.specs.ped_bodies.specs.ped_steps.specs.Runs.Gaps.{at_front, past}
-use Rattle.ped_loop_runs.specs.ped_bodies.specs.ped_steps.specs.Tidy.{IsTidy}
+use Rattle.ped_bodies.specs.ped_flow.specs.ped_tree.specs.Tree.{Int, Var, Neg, Value, Head, StmtTree, StmtTrees, Assign, Do, Print, Read, Stop, no_stmts, more_stmts, ProgramTree}
+use Rattle.ped_bodies.specs.ped_flow.specs.ped_tree.specs.Accesses.{write_of}
+use Rattle.ped_bodies.specs.ped_views.specs.Views.{View}
+use Rattle.ped_bodies.specs.ped_refs.specs.References.{Reference, references}
+use Rattle.ped_bodies.specs.ped_flow.specs.Summaries.{sum_behind_all}
+use Rattle.ped_bodies.specs.ped_flow.proofs.Truths.{untrue}
+use Rattle.ped_bodies.specs.ped_edges.specs.Edges.{pending, rejected}
+use Rattle.ped_bodies.specs.ped_graph.specs.Marks.{mark_of}
+use Rattle.ped_bodies.specs.ped_laws.specs.Acts.Orders.{IsIn}
+use Rattle.ped_bodies.specs.ped_steps.specs.Replacing.{alone}
+use Rattle.ped_bodies.specs.ped_steps.specs.Runs.Gaps.{at_front, past}
+use Rattle.ped_bodies.specs.ped_steps.specs.Tidy.{IsTidy}
 use Rattle.ped_loop_runs.specs.Unrejected.{some_rejection}
 use Rattle.ped_loop_runs.specs.Exchanges.{Exchange, IsExchanged, LeavesAlone}
 use Rattle.ped_loop_runs.proofs.TidyLaws.TidyPathsPrivate.{cleared_private}

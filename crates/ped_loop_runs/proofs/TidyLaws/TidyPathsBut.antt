@@ -1,10 +1,10 @@
 -- Summaries of paths, one of which leaves no more of a scalar than another or a third: where it leaves the scalar as it is, so does one of these.
 use Rattle.std.proofs.Common.{◌≡◌, ℕ, Bool, true, false, ◌&&◌, ◌||◌, List, None, inl, inr, refl, subst}
-use Rattle.ped_loop_runs.specs.ped_bodies.specs.ped_steps.specs.ped_flow.specs.ped_tree.specs.Tree.{Head, StmtTrees}
-use Rattle.ped_loop_runs.specs.ped_bodies.specs.ped_steps.specs.ped_flow.specs.Events.{copied, start_events, exit_events}
-use Rattle.ped_loop_runs.specs.ped_bodies.specs.ped_steps.specs.ped_flow.specs.Summaries.{unreached, sum_in_turn, sum_either, sum_events, sum_loop}
-use Rattle.ped_loop_runs.specs.ped_bodies.specs.ped_steps.specs.ped_flow.proofs.SumLaws.{either-in_turn}
-use Rattle.ped_loop_runs.specs.ped_bodies.specs.ped_steps.specs.ped_flow.proofs.Truths.{untrue, or_split, and_split}
+use Rattle.ped_bodies.specs.ped_flow.specs.ped_tree.specs.Tree.{Head, StmtTrees}
+use Rattle.ped_bodies.specs.ped_flow.specs.Events.{copied, start_events, exit_events}
+use Rattle.ped_bodies.specs.ped_flow.specs.Summaries.{unreached, sum_in_turn, sum_either, sum_events, sum_loop}
+use Rattle.ped_bodies.specs.ped_flow.proofs.SumLaws.{either-in_turn}
+use Rattle.ped_bodies.specs.ped_flow.proofs.Truths.{untrue, or_split, and_split}
 use Rattle.ped_loop_runs.proofs.TidyLaws.TidyPathsSums.{Summary, IsNoMore, ClearsAll, no_more_by, unreached_more, in_turn_more, events_pass, cleared_more, copied_more, loop_more}
 
 -- the paths of the first leave the scalar as it is only where those of the second or of the third do

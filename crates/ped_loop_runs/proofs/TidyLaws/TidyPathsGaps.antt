@@ -1,14 +1,14 @@
 -- What the paths from the exit of a DO leave of a scalar, in programs that differ in one gap.
 use Rattle.std.proofs.Common.{◌≡◌, ℕ, ◌+◌, ◌<◌, ◌≤◌, false, ◌==◌, List, ◌++◌, refl, sym, ap, subst, ◌∙◌, arith}
 use Rattle.std.proofs.lemmas.List.{append_assoc}
-use Rattle.ped_loop_runs.specs.ped_bodies.specs.ped_steps.specs.ped_flow.specs.ped_base.specs.Lists.{is_same_text, is_among}
-use Rattle.ped_loop_runs.specs.ped_bodies.specs.ped_steps.specs.ped_flow.specs.ped_tree.specs.Tree.{Head, StmtTree, StmtTrees, Assign, If, Do, Print, Read, Stop, Comment, no_stmts, more_stmts}
-use Rattle.ped_loop_runs.specs.ped_bodies.specs.ped_steps.specs.ped_flow.specs.ped_tree.specs.Numbering.{statement_count, statements_count}
-use Rattle.ped_loop_runs.specs.ped_bodies.specs.ped_steps.specs.ped_flow.specs.ped_tree.specs.NamesIn.{loop_variables, all_loop_variables}
-use Rattle.ped_loop_runs.specs.ped_bodies.specs.ped_steps.specs.ped_flow.specs.Summaries.{unreached, sum_in_turn, sum_either, sum_loop, sum_of, sum_of_all, sum_at_once, sum_behind, sum_behind_all}
-use Rattle.ped_loop_runs.specs.ped_bodies.specs.ped_steps.specs.ped_flow.proofs.SumLaws.{in_turn-assoc, either-in_turn, either-assoc}
-use Rattle.ped_loop_runs.specs.ped_bodies.specs.ped_steps.specs.Replacing.{followed}
-use Rattle.ped_loop_runs.specs.ped_bodies.specs.ped_steps.specs.Runs.Gaps.{Gap, at_front, past, in_then, in_else, in_body, filled, number_at}
+use Rattle.ped_bodies.specs.ped_flow.specs.ped_base.specs.Lists.{is_same_text, is_among}
+use Rattle.ped_bodies.specs.ped_flow.specs.ped_tree.specs.Tree.{Head, StmtTree, StmtTrees, Assign, If, Do, Print, Read, Stop, Comment, no_stmts, more_stmts}
+use Rattle.ped_bodies.specs.ped_flow.specs.ped_tree.specs.Numbering.{statement_count, statements_count}
+use Rattle.ped_bodies.specs.ped_flow.specs.ped_tree.specs.NamesIn.{loop_variables, all_loop_variables}
+use Rattle.ped_bodies.specs.ped_flow.specs.Summaries.{unreached, sum_in_turn, sum_either, sum_loop, sum_of, sum_of_all, sum_at_once, sum_behind, sum_behind_all}
+use Rattle.ped_bodies.specs.ped_flow.proofs.SumLaws.{in_turn-assoc, either-in_turn, either-assoc}
+use Rattle.ped_bodies.specs.ped_steps.specs.Replacing.{followed}
+use Rattle.ped_bodies.specs.ped_steps.specs.Runs.Gaps.{Gap, at_front, past, in_then, in_else, in_body, filled, number_at}
 use Rattle.ped_loop_runs.proofs.TidyLaws.TidyPathsSums.{Summary, IsNoMore, AreNoMore, or_more, append_more, no_more, same_no_more, in_turn_more, either_more, same_head_clears, loop_more, do_more, if_more, more_more, any_number, any_numbers}
 
 -- two numbers stand alike to statements of which the first has the one number before and the other behind

@@ -1,14 +1,14 @@
 -- What paths leave of a scalar, in programs that differ in one gap where the old statements end with a DO: a path that passes the gap ends behind it, so behind that DO, too.
 use Rattle.std.proofs.Common.{◌≡◌, ℕ, ◌+◌, ◌<◌, ◌≤◌, ◌==◌, List, true, false, sym, ap, subst, ◌∙◌, arith}
-use Rattle.ped_loop_runs.specs.ped_bodies.specs.ped_steps.specs.ped_flow.specs.ped_tree.specs.Tree.{CondTree, StmtTree, StmtTrees, If, Do}
-use Rattle.ped_loop_runs.specs.ped_bodies.specs.ped_steps.specs.ped_flow.specs.ped_tree.specs.Numbering.{statement_count, statements_count}
-use Rattle.ped_loop_runs.specs.ped_bodies.specs.ped_steps.specs.ped_flow.specs.ped_tree.specs.NamesIn.{all_loop_variables}
-use Rattle.ped_loop_runs.specs.ped_bodies.specs.ped_steps.specs.ped_flow.specs.Events.{own_events}
-use Rattle.ped_loop_runs.specs.ped_bodies.specs.ped_steps.specs.ped_flow.specs.Summaries.{sum_in_turn, sum_either, sum_events, sum_loop, sum_of, sum_of_all, sum_at_once, sum_behind, sum_behind_all}
-use Rattle.ped_loop_runs.specs.ped_bodies.specs.ped_steps.specs.ped_flow.proofs.Truths.{untrue}
-use Rattle.ped_loop_runs.specs.ped_bodies.specs.ped_steps.specs.ped_laws.specs.FlowRuns.Covering.{some_stop}
-use Rattle.ped_loop_runs.specs.ped_bodies.specs.ped_steps.specs.Replacing.{followed}
-use Rattle.ped_loop_runs.specs.ped_bodies.specs.ped_steps.specs.Runs.Gaps.{Gap, at_front, past, in_then, in_else, in_body, filled, number_at}
+use Rattle.ped_bodies.specs.ped_flow.specs.ped_tree.specs.Tree.{CondTree, StmtTree, StmtTrees, If, Do}
+use Rattle.ped_bodies.specs.ped_flow.specs.ped_tree.specs.Numbering.{statement_count, statements_count}
+use Rattle.ped_bodies.specs.ped_flow.specs.ped_tree.specs.NamesIn.{all_loop_variables}
+use Rattle.ped_bodies.specs.ped_flow.specs.Events.{own_events}
+use Rattle.ped_bodies.specs.ped_flow.specs.Summaries.{sum_in_turn, sum_either, sum_events, sum_loop, sum_of, sum_of_all, sum_at_once, sum_behind, sum_behind_all}
+use Rattle.ped_bodies.specs.ped_flow.proofs.Truths.{untrue}
+use Rattle.ped_bodies.specs.ped_laws.specs.FlowRuns.Covering.{some_stop}
+use Rattle.ped_bodies.specs.ped_steps.specs.Replacing.{followed}
+use Rattle.ped_bodies.specs.ped_steps.specs.Runs.Gaps.{Gap, at_front, past, in_then, in_else, in_body, filled, number_at}
 use Rattle.ped_loop_runs.proofs.TidyLaws.TidyPathsSums.{Summary, IsNoMore, AreNoMore, no_more_by, in_turn_more, same_head_clears, own_more, any_number, any_numbers}
 use Rattle.ped_loop_runs.proofs.TidyLaws.TidyPathsStops.{all_unstopped, all_behind_unstopped}
 use Rattle.ped_loop_runs.proofs.TidyLaws.TidyPathsGaps.{IsPlaced, at_once_more, gap_count, gap_from, gap_variables, behind_gap, followed_sum, followed_behind, behind_placed, all_behind_placed}

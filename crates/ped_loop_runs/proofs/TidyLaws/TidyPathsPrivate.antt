@@ -1,12 +1,12 @@
 -- What a DO leaves of a name that is no variable of it or of a DO in it: all, unless the name is in its PRIVATE list.
 use Rattle.std.proofs.Common.{◌≡◌, ℕ, Bool, true, false, not, ◌&&◌, ◌||◌, List, [], ◌∷◌, ◌++◌, refl, ap, ◌∙◌, if◌then◌else◌}
 use Rattle.std.proofs.lemmas.List.Folds.{list_any-append}
-use Rattle.ped_loop_runs.specs.ped_bodies.specs.ped_steps.specs.ped_flow.specs.ped_base.specs.Lists.{is_same_text, is_among}
-use Rattle.ped_loop_runs.specs.ped_bodies.specs.ped_steps.specs.ped_flow.specs.ped_tree.specs.Tree.{Head, StmtTrees, Do}
-use Rattle.ped_loop_runs.specs.ped_bodies.specs.ped_steps.specs.ped_flow.specs.ped_tree.specs.NamesIn.{loop_variables, all_loop_variables}
-use Rattle.ped_loop_runs.specs.ped_bodies.specs.ped_steps.specs.ped_flow.specs.Events.{copied, own_events, exit_events}
-use Rattle.ped_loop_runs.specs.ped_bodies.specs.ped_steps.specs.ped_flow.specs.Summaries.{sum_events, sum_of}
-use Rattle.ped_loop_runs.specs.ped_bodies.specs.ped_steps.specs.ped_flow.proofs.Truths.{or_none}
+use Rattle.ped_bodies.specs.ped_flow.specs.ped_base.specs.Lists.{is_same_text, is_among}
+use Rattle.ped_bodies.specs.ped_flow.specs.ped_tree.specs.Tree.{Head, StmtTrees, Do}
+use Rattle.ped_bodies.specs.ped_flow.specs.ped_tree.specs.NamesIn.{loop_variables, all_loop_variables}
+use Rattle.ped_bodies.specs.ped_flow.specs.Events.{copied, own_events, exit_events}
+use Rattle.ped_bodies.specs.ped_flow.specs.Summaries.{sum_events, sum_of}
+use Rattle.ped_bodies.specs.ped_flow.proofs.Truths.{or_none}
 use Rattle.ped_loop_runs.proofs.TidyLaws.TidyPathsSums.{own_exit, events_keep, own_overwrites, clear_all}
 
 module _ (cs : List (List ℕ)) (w : List ℕ) (h : Head) (body : StmtTrees) (n : ℕ) (variable : is_same_text w h.variable ≡ false) (inner : is_among w (all_loop_variables body) ≡ false) where

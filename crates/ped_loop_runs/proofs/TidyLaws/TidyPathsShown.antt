@@ -1,20 +1,20 @@
 -- What a program's end shows of a scalar, in programs that differ in one gap.
 use Rattle.std.proofs.Common.{◌≡◌, ℕ, ◌+◌, ◌<◌, ◌==◌, List, false, IsTrue, Some, inl, inr, sym, subst, ◌∙◌}
 use Rattle.std.specs.List.{flat_map}
-use Rattle.ped_loop_runs.specs.ped_bodies.specs.ped_steps.specs.ped_flow.specs.ped_base.specs.Lists.{is_among}
-use Rattle.ped_loop_runs.specs.ped_bodies.specs.ped_steps.specs.ped_flow.specs.ped_tree.specs.Tree.{StmtTree, StmtTrees, ProgramTree}
-use Rattle.ped_loop_runs.specs.ped_bodies.specs.ped_steps.specs.ped_flow.specs.ped_tree.specs.Numbering.{statements_count, statement_with}
-use Rattle.ped_loop_runs.specs.ped_bodies.specs.ped_steps.specs.ped_flow.specs.ped_tree.specs.Accesses.{constant_names}
-use Rattle.ped_loop_runs.specs.ped_bodies.specs.ped_steps.specs.ped_flow.specs.Events.{Event, overwrites}
-use Rattle.ped_loop_runs.specs.ped_bodies.specs.ped_steps.specs.ped_flow.specs.PathSets.{Whole}
-use Rattle.ped_loop_runs.specs.ped_bodies.specs.ped_steps.specs.ped_flow.specs.Paths.{paths_from_exit}
-use Rattle.ped_loop_runs.specs.ped_bodies.specs.ped_steps.specs.ped_flow.specs.Questions.{IsShownBehind}
-use Rattle.ped_loop_runs.specs.ped_bodies.specs.ped_steps.specs.ped_flow.specs.ped_tree.specs.NamesIn.{saved_in}
-use Rattle.ped_loop_runs.specs.ped_bodies.specs.ped_steps.specs.ped_flow.specs.Summaries.{AreSummed, sum_behind_all}
-use Rattle.ped_loop_runs.specs.ped_bodies.specs.ped_steps.specs.ped_flow.proofs.TreeSums.{all_behind-summed}
-use Rattle.ped_loop_runs.specs.ped_bodies.specs.ped_steps.specs.Replacing.{alone, program_with}
-use Rattle.ped_loop_runs.specs.ped_bodies.specs.ped_steps.specs.Runs.Gaps.{filled}
-use Rattle.ped_loop_runs.specs.ped_bodies.specs.ped_steps.proofs.RunLaws.ReplacedTrees.{HasGap, program_gap}
+use Rattle.ped_bodies.specs.ped_flow.specs.ped_base.specs.Lists.{is_among}
+use Rattle.ped_bodies.specs.ped_flow.specs.ped_tree.specs.Tree.{StmtTree, StmtTrees, ProgramTree}
+use Rattle.ped_bodies.specs.ped_flow.specs.ped_tree.specs.Numbering.{statements_count, statement_with}
+use Rattle.ped_bodies.specs.ped_flow.specs.ped_tree.specs.Accesses.{constant_names}
+use Rattle.ped_bodies.specs.ped_flow.specs.Events.{Event, overwrites}
+use Rattle.ped_bodies.specs.ped_flow.specs.PathSets.{Whole}
+use Rattle.ped_bodies.specs.ped_flow.specs.Paths.{paths_from_exit}
+use Rattle.ped_bodies.specs.ped_flow.specs.Questions.{IsShownBehind}
+use Rattle.ped_bodies.specs.ped_flow.specs.ped_tree.specs.NamesIn.{saved_in}
+use Rattle.ped_bodies.specs.ped_flow.specs.Summaries.{AreSummed, sum_behind_all}
+use Rattle.ped_bodies.specs.ped_flow.proofs.TreeSums.{all_behind-summed}
+use Rattle.ped_bodies.specs.ped_steps.specs.Replacing.{alone, program_with}
+use Rattle.ped_bodies.specs.ped_steps.specs.Runs.Gaps.{filled}
+use Rattle.ped_bodies.specs.ped_steps.proofs.RunLaws.ReplacedTrees.{HasGap, program_gap}
 use Rattle.ped_loop_runs.proofs.TidyLaws.TidyPathsSums.{IsNoMore}
 use Rattle.ped_loop_runs.proofs.TidyLaws.TidyPathsGaps.{LeaveNoMore, gap_behind}
 

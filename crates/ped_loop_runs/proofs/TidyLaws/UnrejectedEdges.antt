@@ -3,21 +3,21 @@ use Rattle.std.proofs.Common.{◌≡◌, ℕ, suc, zero, ◌+◌, ◌-◌, ◌==
 use Rattle.std.specs.Prelude.{slice_get}
 use Rattle.std.specs.List.{list_any, flat_map, range_with_len}
 use Rattle.std.proofs.lemmas.List.Folds.{list_any-append}
-use Rattle.ped_loop_runs.specs.ped_bodies.specs.ped_steps.specs.ped_flow.specs.ped_base.specs.Lists.{has_some, is_among}
-use Rattle.ped_loop_runs.specs.ped_bodies.specs.ped_steps.specs.ped_flow.specs.ped_tree.specs.Tree.{Head, StmtTree, StmtTrees, Assign, If, Do, Print, Read, Stop, Comment, no_stmts, more_stmts, ProgramTree}
-use Rattle.ped_loop_runs.specs.ped_bodies.specs.ped_steps.specs.ped_flow.specs.ped_tree.specs.Numbering.{statement_count, statements_count}
-use Rattle.ped_loop_runs.specs.ped_bodies.specs.ped_steps.specs.ped_flow.specs.ped_tree.specs.Accesses.{Access, own_accesses, constant_names}
-use Rattle.ped_loop_runs.specs.ped_bodies.specs.ped_steps.specs.ped_flow.specs.ped_tree.specs.Nests.{Loop, indices_of, common_nest}
-use Rattle.ped_loop_runs.specs.ped_bodies.specs.ped_steps.specs.ped_views.specs.declared.directions.Direction.{Direction}
-use Rattle.ped_loop_runs.specs.ped_bodies.specs.ped_steps.specs.ped_views.specs.Views.{View}
-use Rattle.ped_loop_runs.specs.ped_bodies.specs.ped_steps.specs.ped_refs.specs.References.{Reference, numbered_accesses, statement_references, statements_references, references, comes_before, is_pair, pairs}
-use Rattle.ped_loop_runs.specs.ped_bodies.specs.ped_steps.specs.ped_laws.specs.ped_graph.specs.ped_edges.specs.Edges.{rejected, Edge}
-use Rattle.ped_loop_runs.specs.ped_bodies.specs.ped_steps.specs.ped_laws.specs.ped_graph.specs.Marks.{rejects, is_rejected, is_proven, mark_by, mark_of}
-use Rattle.ped_loop_runs.specs.ped_bodies.specs.ped_steps.specs.ped_laws.specs.ped_graph.specs.Owners.{have_same_owner, owner_level, within_iteration}
-use Rattle.ped_loop_runs.specs.ped_bodies.specs.ped_steps.specs.ped_laws.specs.ped_graph.specs.Dependences.{Facts, kind_of, distances_of, place_of, vectors_of, edge_at, independent_edge, divided, edges_by, view_of, facts_of, EdgesOfPairs, AreEdges}
-use Rattle.ped_loop_runs.specs.ped_bodies.specs.ped_steps.specs.ped_flow.proofs.Truths.{untrue, or_none}
-use Rattle.ped_loop_runs.specs.ped_bodies.specs.ped_steps.specs.ped_laws.specs.Acts.Orders.{IsIn}
-use Rattle.ped_loop_runs.specs.ped_bodies.specs.ped_steps.specs.ped_laws.proofs.ActLaws.Lists.{in_parts}
+use Rattle.ped_bodies.specs.ped_flow.specs.ped_base.specs.Lists.{has_some, is_among}
+use Rattle.ped_bodies.specs.ped_flow.specs.ped_tree.specs.Tree.{Head, StmtTree, StmtTrees, Assign, If, Do, Print, Read, Stop, Comment, no_stmts, more_stmts, ProgramTree}
+use Rattle.ped_bodies.specs.ped_flow.specs.ped_tree.specs.Numbering.{statement_count, statements_count}
+use Rattle.ped_bodies.specs.ped_flow.specs.ped_tree.specs.Accesses.{Access, own_accesses, constant_names}
+use Rattle.ped_bodies.specs.ped_flow.specs.ped_tree.specs.Nests.{Loop, indices_of, common_nest}
+use Rattle.ped_bodies.specs.ped_views.specs.declared.directions.Direction.{Direction}
+use Rattle.ped_bodies.specs.ped_views.specs.Views.{View}
+use Rattle.ped_bodies.specs.ped_refs.specs.References.{Reference, numbered_accesses, statement_references, statements_references, references, comes_before, is_pair, pairs}
+use Rattle.ped_bodies.specs.ped_edges.specs.Edges.{rejected, Edge}
+use Rattle.ped_bodies.specs.ped_graph.specs.Marks.{rejects, is_rejected, is_proven, mark_by, mark_of}
+use Rattle.ped_bodies.specs.ped_graph.specs.Owners.{have_same_owner, owner_level, within_iteration}
+use Rattle.ped_bodies.specs.ped_graph.specs.Dependences.{Facts, kind_of, distances_of, place_of, vectors_of, edge_at, independent_edge, divided, edges_by, view_of, facts_of, EdgesOfPairs, AreEdges}
+use Rattle.ped_bodies.specs.ped_flow.proofs.Truths.{untrue, or_none}
+use Rattle.ped_bodies.specs.ped_laws.specs.Acts.Orders.{IsIn}
+use Rattle.ped_bodies.specs.ped_laws.proofs.ActLaws.Lists.{in_parts}
 use Rattle.ped_loop_runs.specs.Unrejected.{has_rejection, some_rejection}
 
 in_flat : {X Y : Type 0} (f : X → List Y) (y : Y) (xs : List X) → IsIn y (flat_map f xs) → (x : X) × IsIn x xs × IsIn y (f x)

@@ -1,15 +1,15 @@
 -- No PARALLEL DO of statements writes its variables: the same of each of them; and where others have come into a gap.
 use Rattle.std.proofs.Common.{◌≡◌, ℕ, ◌+◌, List, [], ◌∷◌, Bool, true, false, ◌&&◌, ◌||◌, ◌⊎◌, inl, inr, refl, sym, ap, ◌∙◌}
 use Rattle.std.specs.List.{list_any}
-use Rattle.ped_loop_runs.specs.ped_bodies.specs.ped_steps.specs.ped_flow.specs.ped_base.specs.Lists.{is_same_text, is_among}
-use Rattle.ped_loop_runs.specs.ped_bodies.specs.ped_steps.specs.ped_flow.specs.ped_base.proofs.NameEquality.{same_itself, same_is}
-use Rattle.ped_loop_runs.specs.ped_bodies.specs.ped_steps.specs.ped_flow.specs.ped_tree.specs.Tree.{Head, StmtTree, StmtTrees, Assign, If, Do, Print, Read, Stop, Comment, no_stmts, more_stmts}
-use Rattle.ped_loop_runs.specs.ped_bodies.specs.ped_steps.specs.ped_flow.specs.ped_tree.specs.Numbering.{statement_count, statements_count}
-use Rattle.ped_loop_runs.specs.ped_bodies.specs.ped_steps.specs.ped_flow.specs.ped_tree.specs.NamesIn.{all_loop_variables}
-use Rattle.ped_loop_runs.specs.ped_bodies.specs.ped_steps.specs.ped_flow.proofs.Truths.{untrue, or_none, or_split}
-use Rattle.ped_loop_runs.specs.ped_bodies.specs.ped_steps.specs.Replacing.{followed}
-use Rattle.ped_loop_runs.specs.ped_bodies.specs.ped_steps.specs.Runs.Gaps.{Gap, at_front, past, in_then, in_else, in_body, filled}
-use Rattle.ped_loop_runs.specs.ped_bodies.specs.ped_steps.proofs.RunLaws.RunCells.{EachDo, EachDos}
+use Rattle.ped_bodies.specs.ped_flow.specs.ped_base.specs.Lists.{is_same_text, is_among}
+use Rattle.ped_bodies.specs.ped_flow.specs.ped_base.proofs.NameEquality.{same_itself, same_is}
+use Rattle.ped_bodies.specs.ped_flow.specs.ped_tree.specs.Tree.{Head, StmtTree, StmtTrees, Assign, If, Do, Print, Read, Stop, Comment, no_stmts, more_stmts}
+use Rattle.ped_bodies.specs.ped_flow.specs.ped_tree.specs.Numbering.{statement_count, statements_count}
+use Rattle.ped_bodies.specs.ped_flow.specs.ped_tree.specs.NamesIn.{all_loop_variables}
+use Rattle.ped_bodies.specs.ped_flow.proofs.Truths.{untrue, or_none, or_split}
+use Rattle.ped_bodies.specs.ped_steps.specs.Replacing.{followed}
+use Rattle.ped_bodies.specs.ped_steps.specs.Runs.Gaps.{Gap, at_front, past, in_then, in_else, in_body, filled}
+use Rattle.ped_bodies.specs.ped_steps.proofs.RunLaws.RunCells.{EachDo, EachDos}
 use Rattle.ped_loop_runs.specs.Writing.{writes_itself, writes, all_write, writes_index, some_write_index}
 use Rattle.ped_loop_runs.proofs.TidyLaws.TidyPathsGaps.{gap_variables}
 use Rattle.ped_loop_runs.proofs.TidyLaws.TidyReferencesFilled.{filled_unwritten}

@@ -1,9 +1,9 @@
 -- Where a property of items is decided, the items with it can be chosen from a list; so each view has its vectors.
 use Rattle.std.proofs.Common.{refl, inl, inr, List, [], ◌∷◌, length}
-use Rattle.ped_reindex.specs.ped_loops.specs.ped_scalar.specs.ped_rules.specs.ped_loop_runs.specs.ped_bodies.specs.ped_steps.specs.ped_laws.specs.ped_graph.specs.ped_views.specs.declared.directions.Direction.{Direction}
-use Rattle.ped_reindex.specs.ped_loops.specs.ped_scalar.specs.ped_rules.specs.ped_loop_runs.specs.ped_bodies.specs.ped_steps.specs.ped_laws.specs.ped_graph.specs.ped_views.specs.Views.{View}
-use Rattle.ped_reindex.specs.ped_loops.specs.ped_scalar.specs.ped_rules.specs.ped_loop_runs.specs.ped_bodies.specs.ped_steps.specs.ped_laws.specs.ped_graph.specs.ped_views.specs.Excluded.{Excludes}
-use Rattle.ped_reindex.specs.ped_loops.specs.ped_scalar.specs.ped_rules.specs.ped_loop_runs.specs.ped_bodies.specs.ped_steps.specs.ped_laws.specs.ped_graph.specs.ped_views.specs.Vectors.{all_vectors, AreThose, IsPossible, AreVectors}
+use Rattle.ped_rules.specs.ped_views.specs.declared.directions.Direction.{Direction}
+use Rattle.ped_rules.specs.ped_views.specs.Views.{View}
+use Rattle.ped_rules.specs.ped_views.specs.Excluded.{Excludes}
+use Rattle.ped_rules.specs.ped_views.specs.Vectors.{all_vectors, AreThose, IsPossible, AreVectors}
 use Rattle.ped_splits.proofs.Existence.Sentences.{Decided}
 use Rattle.ped_splits.proofs.Existence.Deciding.{decided_not, all_decided}
 use Rattle.ped_splits.proofs.Existence.Excluding.{excludes_decided}

@@ -2,9 +2,9 @@
 use Rattle.std.proofs.Common.{◌≡◌, ◌⊎◌, refl, inl, inr, arith, ℤ, pos, ◌≤ℤ◌, ◌<ℤ◌, List, [], ◌∷◌, Bool, true, false, IsTrue, int_rem, int_div}
 use Rattle.std.specs.List.{AllByRecursion}
 use Rattle.std.proofs.lemmas.Int.{by_lt_z}
-use Rattle.ped_reindex.specs.ped_loops.specs.ped_scalar.specs.ped_rules.specs.ped_loop_runs.specs.ped_bodies.specs.ped_steps.specs.ped_laws.specs.ped_graph.specs.ped_views.specs.Whole.{Divides}
-use Rattle.ped_reindex.specs.ped_loops.specs.ped_scalar.specs.ped_rules.specs.ped_loop_runs.specs.ped_bodies.specs.ped_steps.specs.ped_laws.specs.ped_graph.specs.ped_views.proofs.Products.{linear, divides_by_rem, rem_by_divides}
-use Rattle.ped_reindex.specs.ped_loops.specs.ped_scalar.specs.ped_rules.specs.ped_loop_runs.specs.ped_bodies.specs.ped_steps.specs.ped_laws.specs.ped_graph.specs.ped_views.proofs.Dividing.{divides_by_zero, divides_zero}
+use Rattle.ped_rules.specs.ped_views.specs.Whole.{Divides}
+use Rattle.ped_rules.specs.ped_views.proofs.Products.{linear, divides_by_rem, rem_by_divides}
+use Rattle.ped_rules.specs.ped_views.proofs.Dividing.{divides_by_zero, divides_zero}
 use Rattle.ped_splits.proofs.Existence.Sentences.{Decided}
 
 pub decided_same : {P Q : Type 0} → (P → Q) → (Q → P) → Decided P → Decided Q

@@ -3,11 +3,11 @@
 use Rattle.std.proofs.Common.{◌≡◌, ◌⊎◌, refl, sym, ap, ◌∙◌, inl, inr, arith, ℤ, pos, ◌+ℤ◌, ◌-ℤ◌, ◌*ℤ◌, neg_ℤ, ◌≤ℤ◌, List, [], ◌∷◌, length, Bool, true, false, not, ◌&&◌, IsTrue}
 use Rattle.std.proofs.Math.IntN.{zero-*ℤ}
 use Rattle.std.proofs.lemmas.Bool.Decides.{Decides-int_eq, Decides-and}
-use Rattle.ped_reindex.specs.ped_loops.specs.ped_scalar.specs.ped_rules.specs.ped_loop_runs.specs.ped_bodies.specs.ped_steps.specs.ped_laws.specs.ped_graph.specs.ped_views.specs.declared.directions.Direction.{Direction}
-use Rattle.ped_reindex.specs.ped_loops.specs.ped_scalar.specs.ped_rules.specs.ped_loop_runs.specs.ped_bodies.specs.ped_steps.specs.ped_laws.specs.ped_graph.specs.ped_views.specs.Whole.{Divides, is_zero}
-use Rattle.ped_reindex.specs.ped_loops.specs.ped_scalar.specs.ped_rules.specs.ped_loop_runs.specs.ped_bodies.specs.ped_steps.specs.ped_laws.specs.ped_graph.specs.ped_views.specs.Views.{Range, SubscriptPair, View}
-use Rattle.ped_reindex.specs.ped_loops.specs.ped_scalar.specs.ped_rules.specs.ped_loop_runs.specs.ped_bodies.specs.ped_steps.specs.ped_laws.specs.ped_graph.specs.ped_views.specs.Excluded.{InRange, Stands, Indices, dot, difference, CommonInRange, InnerInRange, IsPoint, IsBeyondExtremes}
-use Rattle.ped_reindex.specs.ped_loops.specs.ped_scalar.specs.ped_rules.specs.ped_loop_runs.specs.ped_bodies.specs.ped_steps.specs.ped_laws.specs.ped_graph.specs.ped_views.proofs.Products.{linear}
+use Rattle.ped_rules.specs.ped_views.specs.declared.directions.Direction.{Direction}
+use Rattle.ped_rules.specs.ped_views.specs.Whole.{Divides, is_zero}
+use Rattle.ped_rules.specs.ped_views.specs.Views.{Range, SubscriptPair, View}
+use Rattle.ped_rules.specs.ped_views.specs.Excluded.{InRange, Stands, Indices, dot, difference, CommonInRange, InnerInRange, IsPoint, IsBeyondExtremes}
+use Rattle.ped_rules.specs.ped_views.proofs.Products.{linear}
 use Rattle.ped_splits.proofs.Existence.Sentences.{Decided}
 use Rattle.ped_splits.proofs.Existence.Deciding.{true_decided}
 use Rattle.ped_splits.proofs.Existence.Reaching.{Reach, Within, Sum, reach_same, reach_alone, reach_within, reach_sum, reach_turned, reach_multiples, reach_decides}

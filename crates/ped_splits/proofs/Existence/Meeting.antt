@@ -1,12 +1,12 @@
 -- Whether index values of one loop meet: over a finite range that is settled by looking at each pair of its values.
 use Rattle.std.proofs.Common.{◌≡◌, refl, ℤ, pos, ◌+ℤ◌, ◌-ℤ◌, ◌*ℤ◌, List, Bool, true, IsTrue}
 use Rattle.std.specs.List.{AllByRecursion}
-use Rattle.ped_reindex.specs.ped_loops.specs.ped_scalar.specs.ped_rules.specs.ped_loop_runs.specs.ped_bodies.specs.ped_steps.specs.ped_laws.specs.ped_graph.specs.ped_views.specs.declared.directions.Direction.{Direction}
-use Rattle.ped_reindex.specs.ped_loops.specs.ped_scalar.specs.ped_rules.specs.ped_loop_runs.specs.ped_bodies.specs.ped_steps.specs.ped_laws.specs.ped_graph.specs.ped_views.specs.declared.directions.Direction.TheVariants.{Before, Same, After}
-use Rattle.ped_reindex.specs.ped_loops.specs.ped_scalar.specs.ped_rules.specs.ped_loop_runs.specs.ped_bodies.specs.ped_steps.specs.ped_laws.specs.ped_graph.specs.ped_views.specs.declared.strong_rows.StrongRow.{StrongRow}
-use Rattle.ped_reindex.specs.ped_loops.specs.ped_scalar.specs.ped_rules.specs.ped_loop_runs.specs.ped_bodies.specs.ped_steps.specs.ped_laws.specs.ped_graph.specs.ped_views.specs.Whole.{Divides}
-use Rattle.ped_reindex.specs.ped_loops.specs.ped_scalar.specs.ped_rules.specs.ped_loop_runs.specs.ped_bodies.specs.ped_steps.specs.ped_laws.specs.ped_graph.specs.ped_views.specs.Views.{Range}
-use Rattle.ped_reindex.specs.ped_loops.specs.ped_scalar.specs.ped_rules.specs.ped_loop_runs.specs.ped_bodies.specs.ped_steps.specs.ped_laws.specs.ped_graph.specs.ped_views.specs.Excluded.{StandsByValue, by_value, Stands, InRange, NeverMeets, NeverMeetTogether}
+use Rattle.ped_rules.specs.ped_views.specs.declared.directions.Direction.{Direction}
+use Rattle.ped_rules.specs.ped_views.specs.declared.directions.Direction.TheVariants.{Before, Same, After}
+use Rattle.ped_rules.specs.ped_views.specs.declared.strong_rows.StrongRow.{StrongRow}
+use Rattle.ped_rules.specs.ped_views.specs.Whole.{Divides}
+use Rattle.ped_rules.specs.ped_views.specs.Views.{Range}
+use Rattle.ped_rules.specs.ped_views.specs.Excluded.{StandsByValue, by_value, Stands, InRange, NeverMeets, NeverMeetTogether}
 use Rattle.ped_splits.proofs.Existence.Sentences.{Decided}
 use Rattle.ped_splits.proofs.Existence.Deciding.{decided_same, decided_not, decided_both, decided_where, true_decided, less_decided, equal_decided, divides_decided, all_decided}
 use Rattle.ped_splits.proofs.Existence.Reaching.{Reach, Within, reach_same, reach_alone, reach_where, reach_within, some_decided}

@@ -3,8 +3,8 @@
 use Rattle.std.proofs.Common.{◌≡◌, ◌⊎◌, ℕ, zero, suc, refl, sym, ap, subst, ◌∙◌, inl, inr, arith, ℤ, pos, ◌+ℤ◌, ◌-ℤ◌, ◌*ℤ◌, neg_ℤ, ◌≤ℤ◌, ◌<ℤ◌, unsigned_abs, Bool, true, false, not}
 use Rattle.std.proofs.Math.IntN.{*ℤ_comm, zero-*ℤ}
 use Rattle.std.proofs.lemmas.Int.{by_lt_z, ints}
-use Rattle.ped_reindex.specs.ped_loops.specs.ped_scalar.specs.ped_rules.specs.ped_loop_runs.specs.ped_bodies.specs.ped_steps.specs.ped_laws.specs.ped_graph.specs.ped_views.specs.Whole.{Divides}
-use Rattle.ped_reindex.specs.ped_loops.specs.ped_scalar.specs.ped_rules.specs.ped_loop_runs.specs.ped_bodies.specs.ped_steps.specs.ped_laws.specs.ped_graph.specs.ped_views.proofs.Products.{linear, mul-neg, neg-mul, mul-le}
+use Rattle.ped_rules.specs.ped_views.specs.Whole.{Divides}
+use Rattle.ped_rules.specs.ped_views.proofs.Products.{linear, mul-neg, neg-mul, mul-le}
 use Rattle.ped_splits.proofs.Existence.Sentences.{Decided}
 use Rattle.ped_splits.proofs.Existence.Deciding.{at_most_decided}
 

@@ -2,8 +2,8 @@
 use Rattle.std.proofs.Common.{◌≡◌, ℕ, zero, suc, ◌≤◌, refl, sym, ap, ◌∙◌, inl, inr, arith, ℤ, pos, ◌+ℤ◌, ◌-ℤ◌, ◌*ℤ◌, neg_ℤ, unsigned_abs, int_div, int_rem}
 use Rattle.std.proofs.Math.IntN.{*ℤ_comm, zero-*ℤ}
 use Rattle.std.proofs.lemmas.Int.{ints, quot-rem, rem_below}
-use Rattle.ped_reindex.specs.ped_loops.specs.ped_scalar.specs.ped_rules.specs.ped_loop_runs.specs.ped_bodies.specs.ped_steps.specs.ped_laws.specs.ped_graph.specs.ped_views.specs.Whole.{Divides}
-use Rattle.ped_reindex.specs.ped_loops.specs.ped_scalar.specs.ped_rules.specs.ped_loop_runs.specs.ped_bodies.specs.ped_steps.specs.ped_laws.specs.ped_graph.specs.ped_views.proofs.Products.{linear, mul-add, mul-neg, mul-sub, mul-assoc, abs_some}
+use Rattle.ped_rules.specs.ped_views.specs.Whole.{Divides}
+use Rattle.ped_rules.specs.ped_views.proofs.Products.{linear, mul-add, mul-neg, mul-sub, mul-assoc, abs_some}
 use Rattle.ped_splits.proofs.Existence.Sentences.{Decided}
 use Rattle.ped_splits.proofs.Existence.Deciding.{equal_decided}
 use Rattle.ped_splits.proofs.Existence.Reaching.{Sum}

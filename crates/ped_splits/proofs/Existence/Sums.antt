@@ -1,7 +1,7 @@
 -- Sums of coefficients times indices: of one row, and of two rows over common loops. Both open loop by loop.
 use Rattle.std.proofs.Common.{◌≡◌, refl, ◌∙◌, arith, ℤ, pos, ◌+ℤ◌, ◌-ℤ◌, ◌*ℤ◌, neg_ℤ, List, [], ◌∷◌, length}
-use Rattle.ped_reindex.specs.ped_loops.specs.ped_scalar.specs.ped_rules.specs.ped_loop_runs.specs.ped_bodies.specs.ped_steps.specs.ped_laws.specs.ped_graph.specs.ped_views.specs.Excluded.{dot}
-use Rattle.ped_reindex.specs.ped_loops.specs.ped_scalar.specs.ped_rules.specs.ped_loop_runs.specs.ped_bodies.specs.ped_steps.specs.ped_laws.specs.ped_graph.specs.ped_views.proofs.Products.{linear}
+use Rattle.ped_rules.specs.ped_views.specs.Excluded.{dot}
+use Rattle.ped_rules.specs.ped_views.proofs.Products.{linear}
 use Rattle.ped_splits.proofs.Existence.Reaching.{Sum}
 
 -- a multiple of a by an index that stands so

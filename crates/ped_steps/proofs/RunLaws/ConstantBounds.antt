@@ -3,15 +3,15 @@ use Rattle.std.proofs.Common.{◌≡◌, ◌⊎◌, inl, inr, ℕ, zero, suc, �
 use Rattle.std.specs.Int.{int_min, int_max}
 use Rattle.std.proofs.Math.IntN.{*ℤ_comm}
 use Rattle.std.proofs.lemmas.Int.{ints, quot-rem, rem_below, by_lt_z}
-use Rattle.ped_weaves.specs.ped_laws.specs.ped_graph.specs.ped_views.proofs.Products.{linear, mul-sub, mul-le, neg-mul, small_multiple}
+use Rattle.ped_weaves.specs.ped_graph.specs.ped_views.proofs.Products.{linear, mul-sub, mul-le, neg-mul, small_multiple}
 use Rattle.ped_tree.specs.Tree.{ExprTree, Head, StmtTrees}
 use Rattle.ped_tree.specs.Constants.ConstantExpressions.{constant_value}
-use Rattle.ped_weaves.specs.ped_laws.specs.ped_store.specs.Stores.{Store, out_of_range}
-use Rattle.ped_weaves.specs.ped_laws.specs.ped_store.specs.Storage.{natural}
-use Rattle.ped_weaves.specs.ped_laws.specs.ped_eval.specs.Scopes.{Setting, Scope, Names, names_in}
-use Rattle.ped_weaves.specs.ped_laws.specs.ped_eval.specs.Evaluation.{Evaluated, ◌>>>◌, given}
-use Rattle.ped_weaves.specs.ped_laws.specs.ped_eval.specs.Values.{value}
-use Rattle.ped_weaves.specs.ped_laws.specs.ped_eval.specs.Loops.{is_bound, in_bounds, Limits, limits, increment, iteration_count, Entered, entered_with, value_in}
+use Rattle.ped_weaves.specs.ped_store.specs.Stores.{Store, out_of_range}
+use Rattle.ped_weaves.specs.ped_store.specs.Storage.{natural}
+use Rattle.ped_weaves.specs.ped_eval.specs.Scopes.{Setting, Scope, Names, names_in}
+use Rattle.ped_weaves.specs.ped_eval.specs.Evaluation.{Evaluated, ◌>>>◌, given}
+use Rattle.ped_weaves.specs.ped_eval.specs.Values.{value}
+use Rattle.ped_weaves.specs.ped_eval.specs.Loops.{is_bound, in_bounds, Limits, limits, increment, iteration_count, Entered, entered_with, value_in}
 use Rattle.ped_weaves.specs.ped_laws.proofs.CoveringLaws.Comings.{came, ok_one, constant_comes}
 use Rattle.ped_steps.specs.Runs.Expanding.{has_iteration, last_value}
 

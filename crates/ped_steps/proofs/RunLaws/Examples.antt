@@ -3,13 +3,13 @@ use Rattle.std.proofs.Common.{◌≡◌, ℕ, List, [], ◌∷◌, ◌++◌, fal
 use Rattle.std.specs.Prelude.{pos}
 use Rattle.ped_tree.specs.Tree.{Int, Var, Value, Head, StmtTree, Assign, Do, Print, no_stmts, more_stmts, ProgramTree}
 use Rattle.ped_tree.specs.Numbering.{statement_with}
-use Rattle.ped_weaves.specs.ped_laws.specs.ped_store.specs.Stores.{Store, store_at_start}
-use Rattle.ped_weaves.specs.ped_laws.specs.ped_store.specs.Acts.{Act}
+use Rattle.ped_weaves.specs.ped_store.specs.Stores.{Store, store_at_start}
+use Rattle.ped_weaves.specs.ped_store.specs.Acts.{Act}
 use Rattle.ped_weaves.specs.ped_laws.specs.Acts.Fitting.{store_after}
 use Rattle.ped_weaves.specs.ped_laws.specs.Acts.Pieces.{Part, same, changed, old_parts}
-use Rattle.ped_weaves.specs.ped_laws.specs.ped_eval.specs.Scopes.{Setting, Scope}
-use Rattle.ped_weaves.specs.ped_laws.specs.ped_eval.specs.Loops.{frame}
-use Rattle.ped_weaves.specs.ped_laws.specs.ped_eval.specs.Runs.{Run, run, run_all}
+use Rattle.ped_weaves.specs.ped_eval.specs.Scopes.{Setting, Scope}
+use Rattle.ped_weaves.specs.ped_eval.specs.Loops.{frame}
+use Rattle.ped_weaves.specs.ped_eval.specs.Runs.{Run, run, run_all}
 use Rattle.ped_weaves.specs.ped_laws.specs.Runs.Replaying.{goes_on, Replays}
 use Rattle.ped_weaves.specs.ped_laws.proofs.RunLaws.StatementsTold.{run_told}
 use Rattle.ped_weaves.specs.ped_laws.specs.FlowRuns.Covering.{has_stop}

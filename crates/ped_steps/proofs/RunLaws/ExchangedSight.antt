@@ -8,16 +8,16 @@ use Rattle.ped_base.specs.Arithmetic.Arithmetic.{sum_of, difference_of, negation
 use Rattle.ped_tree.specs.Constants.NamedConstants.{value_named}
 use Rattle.ped_tree.specs.Constants.ConstantExpressions.{intrinsic_result}
 use Rattle.ped_tree.specs.Tree.{ExprTree, ExprTrees, Int, Var, Element, Neg, Add, Sub, Mul, Div, Pow, Call, no_exprs, more_exprs, CondTree, Rel, Not, And, Or, ItemTree, Value, Text, Head}
-use Rattle.ped_weaves.specs.ped_laws.specs.ped_store.specs.Cells as cells
-use Rattle.ped_weaves.specs.ped_laws.specs.ped_store.specs.Cells.{Cell}
-use Rattle.ped_weaves.specs.ped_laws.specs.ped_store.specs.Storage.{is_within}
-use Rattle.ped_weaves.specs.ped_laws.specs.ped_store.specs.Stores.{Number, Store, number_read, storable, outside_bounds}
-use Rattle.ped_weaves.specs.ped_laws.specs.ped_store.specs.Acts.{reads, is_told}
-use Rattle.ped_weaves.specs.ped_laws.specs.ped_eval.specs.Scopes.{Setting, Scope, Names, names_in}
-use Rattle.ped_weaves.specs.ped_laws.specs.ped_eval.specs.Evaluation.{Seen, cell_seen, index_seen, Evaluated, having_seen, onward, ◌>>>◌, given, by_number, read_cell, numbered, number_behind}
-use Rattle.ped_weaves.specs.ped_laws.specs.ped_eval.specs.Values.{of_intrinsic, variable_value, name_value, is_rank, element_cell, value, values, relation_holds, truth, target}
-use Rattle.ped_weaves.specs.ped_laws.specs.ped_eval.specs.Statements.{Stored, assigned, item_text, item_texts, printed_line}
-use Rattle.ped_weaves.specs.ped_laws.specs.ped_eval.specs.Loops.{in_bounds, limits}
+use Rattle.ped_weaves.specs.ped_store.specs.Cells as cells
+use Rattle.ped_weaves.specs.ped_store.specs.Cells.{Cell}
+use Rattle.ped_weaves.specs.ped_store.specs.Storage.{is_within}
+use Rattle.ped_weaves.specs.ped_store.specs.Stores.{Number, Store, number_read, storable, outside_bounds}
+use Rattle.ped_weaves.specs.ped_store.specs.Acts.{reads, is_told}
+use Rattle.ped_weaves.specs.ped_eval.specs.Scopes.{Setting, Scope, Names, names_in}
+use Rattle.ped_weaves.specs.ped_eval.specs.Evaluation.{Seen, cell_seen, index_seen, Evaluated, having_seen, onward, ◌>>>◌, given, by_number, read_cell, numbered, number_behind}
+use Rattle.ped_weaves.specs.ped_eval.specs.Values.{of_intrinsic, variable_value, name_value, is_rank, element_cell, value, values, relation_holds, truth, target}
+use Rattle.ped_weaves.specs.ped_eval.specs.Statements.{Stored, assigned, item_text, item_texts, printed_line}
+use Rattle.ped_weaves.specs.ped_eval.specs.Loops.{in_bounds, limits}
 use Rattle.ped_steps.specs.Runs.Exchanging.{AreExchanged, exchanged_store, exchanged_touch}
 
 -- what is seen in renamed cells

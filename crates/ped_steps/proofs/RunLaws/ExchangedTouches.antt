@@ -2,16 +2,16 @@
 use Rattle.std.proofs.Common.{◌≡◌, ℕ, suc, ℤ, List, [], ◌∷◌, ◌++◌, map, Bool, true, false, Some, Result, Ok, Err, refl, sym, ap, ◌∙◌, if◌then◌else◌}
 use Rattle.std.proofs.lemmas.List.{map-append}
 use Rattle.ped_tree.specs.Tree.{ExprTree}
-use Rattle.ped_weaves.specs.ped_laws.specs.ped_store.specs.Cells.{Cell, Element, Out, same_cell}
-use Rattle.ped_weaves.specs.ped_laws.specs.ped_store.specs.Stores.{Content, Undefined, Number, Lines, Store, put, lines_in}
-use Rattle.ped_weaves.specs.ped_laws.specs.ped_store.specs.Acts.{Manner, reads, writes, is_told, Touch, touched, store_behind}
-use Rattle.ped_weaves.specs.ped_laws.specs.ped_store.specs.DataLines.{Data, Taken, next_value_of}
+use Rattle.ped_weaves.specs.ped_store.specs.Cells.{Cell, Element, Out, same_cell}
+use Rattle.ped_weaves.specs.ped_store.specs.Stores.{Content, Undefined, Number, Lines, Store, put, lines_in}
+use Rattle.ped_weaves.specs.ped_store.specs.Acts.{Manner, reads, writes, is_told, Touch, touched, store_behind}
+use Rattle.ped_weaves.specs.ped_store.specs.DataLines.{Data, Taken, next_value_of}
 use Rattle.ped_weaves.specs.ped_laws.proofs.ActLaws.SameCells.{cell_is, is_cell, other_cell, cells_differ}
-use Rattle.ped_weaves.specs.ped_laws.specs.ped_eval.specs.Scopes.{Scope, cell_of, Names}
-use Rattle.ped_weaves.specs.ped_laws.specs.ped_eval.specs.Evaluation.{Seen, Evaluated, numbered, number_behind}
-use Rattle.ped_weaves.specs.ped_laws.specs.ped_eval.specs.Values.{target}
-use Rattle.ped_weaves.specs.ped_laws.specs.ped_eval.specs.Statements.{Stored, assignment_touches, print_touches, read_touch, write_touch, Taking, having_touched, into_item, with_taken, taking, taking_from}
-use Rattle.ped_weaves.specs.ped_laws.specs.ped_eval.specs.Loops.{undefined_by, undefined_all}
+use Rattle.ped_weaves.specs.ped_eval.specs.Scopes.{Scope, cell_of, Names}
+use Rattle.ped_weaves.specs.ped_eval.specs.Evaluation.{Seen, Evaluated, numbered, number_behind}
+use Rattle.ped_weaves.specs.ped_eval.specs.Values.{target}
+use Rattle.ped_weaves.specs.ped_eval.specs.Statements.{Stored, assignment_touches, print_touches, read_touch, write_touch, Taking, having_touched, into_item, with_taken, taking, taking_from}
+use Rattle.ped_weaves.specs.ped_eval.specs.Loops.{undefined_by, undefined_all}
 use Rattle.ped_steps.specs.Runs.Exchanging.{exchanged_store, exchanged_touch}
 use Rattle.ped_steps.proofs.RunLaws.ExchangedSight.{seen_in, mapped, AreNames, numbered_in, behind_in, stored_in, target_in}
 

@@ -7,16 +7,16 @@ use Rattle.ped_base.specs.Arithmetic.Arithmetic.{in_range}
 use Rattle.ped_base.specs.declared.arithmetic.faults.Fault.TheVariants.{OutOfRange}
 use Rattle.ped_tree.specs.Tree.{Int, Var, Neg, Assign, no_stmts, more_stmts}
 use Rattle.ped_sums.specs.Sums.{literal}
-use Rattle.ped_weaves.specs.ped_laws.specs.ped_store.specs.Cells as cells
-use Rattle.ped_weaves.specs.ped_laws.specs.ped_store.specs.Cells.{Cell}
-use Rattle.ped_weaves.specs.ped_laws.specs.ped_store.specs.Stores.{Content, Number, Store, number_read, is_storable, storable, out_of_range, outside_bounds}
-use Rattle.ped_weaves.specs.ped_laws.specs.ped_store.specs.Storage.{is_within}
-use Rattle.ped_weaves.specs.ped_laws.specs.ped_store.specs.Acts.{Touch, did}
-use Rattle.ped_weaves.specs.ped_laws.specs.ped_eval.specs.Scopes.{Setting, Scope, Names, cell_of, names_in, place_of}
-use Rattle.ped_weaves.specs.ped_laws.specs.ped_eval.specs.Evaluation.{cell_seen, Evaluated, ◌>>>◌, given, by_number, read_cell}
-use Rattle.ped_weaves.specs.ped_laws.specs.ped_eval.specs.Values.{element_cell, value}
-use Rattle.ped_weaves.specs.ped_laws.specs.ped_eval.specs.Statements.{Stored, assigned, read_touch, write_touch}
-use Rattle.ped_weaves.specs.ped_laws.specs.ped_eval.specs.Runs.{run_all}
+use Rattle.ped_weaves.specs.ped_store.specs.Cells as cells
+use Rattle.ped_weaves.specs.ped_store.specs.Cells.{Cell}
+use Rattle.ped_weaves.specs.ped_store.specs.Stores.{Content, Number, Store, number_read, is_storable, storable, out_of_range, outside_bounds}
+use Rattle.ped_weaves.specs.ped_store.specs.Storage.{is_within}
+use Rattle.ped_weaves.specs.ped_store.specs.Acts.{Touch, did}
+use Rattle.ped_weaves.specs.ped_eval.specs.Scopes.{Setting, Scope, Names, cell_of, names_in, place_of}
+use Rattle.ped_weaves.specs.ped_eval.specs.Evaluation.{cell_seen, Evaluated, ◌>>>◌, given, by_number, read_cell}
+use Rattle.ped_weaves.specs.ped_eval.specs.Values.{element_cell, value}
+use Rattle.ped_weaves.specs.ped_eval.specs.Statements.{Stored, assigned, read_touch, write_touch}
+use Rattle.ped_weaves.specs.ped_eval.specs.Runs.{run_all}
 use Rattle.ped_weaves.specs.ped_laws.specs.Runs.Seeing.{ComesTo}
 use Rattle.ped_weaves.specs.ped_laws.specs.Runs.Replaying.{goes_on, act, Replays}
 use Rattle.ped_weaves.specs.ped_laws.proofs.RunLaws.Joined.{replays_nothing, statements_more, assignment_does}

@@ -5,10 +5,10 @@ use Rattle.std.proofs.lemmas.Bool.{both_ways, or_parts}
 use Rattle.ped_base.specs.Lists.{is_same_text, is_among}
 use Rattle.ped_tree.specs.Tree.{Head, StmtTrees, Do, no_stmts}
 use Rattle.ped_tree.specs.Numbering.{statement_count}
-use Rattle.ped_weaves.specs.ped_laws.specs.ped_store.specs.Cells.{Cell, Element, same_cell}
-use Rattle.ped_weaves.specs.ped_laws.specs.ped_store.specs.Stores.{Content, Number, Store, put, is_storable}
-use Rattle.ped_weaves.specs.ped_laws.specs.ped_store.specs.Storage.{is_within}
-use Rattle.ped_weaves.specs.ped_laws.specs.ped_store.specs.Acts.{Act, did, entered, store_behind}
+use Rattle.ped_weaves.specs.ped_store.specs.Cells.{Cell, Element, same_cell}
+use Rattle.ped_weaves.specs.ped_store.specs.Stores.{Content, Number, Store, put, is_storable}
+use Rattle.ped_weaves.specs.ped_store.specs.Storage.{is_within}
+use Rattle.ped_weaves.specs.ped_store.specs.Acts.{Act, did, entered, store_behind}
 use Rattle.ped_weaves.specs.ped_laws.specs.Acts.Fitting.{Fits, store_after}
 use Rattle.ped_weaves.specs.ped_laws.specs.Acts.Sets.{AgreeIn, needs, wants, written}
 use Rattle.ped_weaves.specs.ped_laws.specs.Acts.Renaming.{touch}
@@ -18,10 +18,10 @@ use Rattle.ped_weaves.specs.ped_laws.proofs.ActLaws.SameCells.{cell_is, other_ce
 use Rattle.ped_weaves.specs.ped_laws.proofs.ActLaws.Appending.{touch_append}
 use Rattle.ped_weaves.specs.ped_laws.proofs.ActLaws.Renamings.{agreeing_fits}
 use Rattle.ped_weaves.specs.ped_laws.proofs.ActLaws.Exchanging.{needed_wanted}
-use Rattle.ped_weaves.specs.ped_laws.specs.ped_eval.specs.Scopes.{Setting, Scope, names_in, place_of}
-use Rattle.ped_weaves.specs.ped_laws.specs.ped_eval.specs.Evaluation.{Seen}
-use Rattle.ped_weaves.specs.ped_laws.specs.ped_eval.specs.Loops.{Limits, limits, Entered, entered_with, value_in, inner_variables, entry_touches}
-use Rattle.ped_weaves.specs.ped_laws.specs.ped_eval.specs.Runs.{Run, run, run_all}
+use Rattle.ped_weaves.specs.ped_eval.specs.Scopes.{Setting, Scope, names_in, place_of}
+use Rattle.ped_weaves.specs.ped_eval.specs.Evaluation.{Seen}
+use Rattle.ped_weaves.specs.ped_eval.specs.Loops.{Limits, limits, Entered, entered_with, value_in, inner_variables, entry_touches}
+use Rattle.ped_weaves.specs.ped_eval.specs.Runs.{Run, run, run_all}
 use Rattle.ped_weaves.specs.ped_laws.specs.Runs.Seeing.{ComesTo}
 use Rattle.ped_weaves.specs.ped_laws.specs.Runs.Replaying.{goes_on, finish_of, act, Replays}
 use Rattle.ped_weaves.specs.ped_laws.proofs.RunLaws.Sight.{limits_told}

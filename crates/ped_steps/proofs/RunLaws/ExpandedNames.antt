@@ -11,21 +11,21 @@ use Rattle.ped_tree.specs.NamesIn.{expr_names, head_names, stmts_names, saved_in
 use Rattle.ped_tree.specs.Numbering.{statement_with}
 use Rattle.ped_tree.proofs.NameLaws.Collected.{among_append}
 use Rattle.ped_base.proofs.NameEquality.{same_is, same_flip}
-use Rattle.ped_weaves.specs.ped_laws.specs.ped_graph.specs.ped_symbols.specs.declared.symbols.Kind.{Kind}
-use Rattle.ped_weaves.specs.ped_laws.specs.ped_graph.specs.ped_symbols.specs.declared.symbols.Kind.TheVariants.{Scalar, Array, Constant}
-use Rattle.ped_weaves.specs.ped_laws.specs.ped_graph.specs.ped_symbols.specs.Sites.{stmt_sites, stmts_sites}
-use Rattle.ped_weaves.specs.ped_laws.specs.ped_graph.specs.ped_symbols.specs.Kinds.{kind_of, kind_in, names_of}
-use Rattle.ped_weaves.specs.ped_laws.specs.ped_graph.specs.ped_symbols.specs.RightUses.RightUses.{is_scalar, is_scalar_kind}
-use Rattle.ped_weaves.specs.ped_laws.specs.ped_store.specs.Cells as cells
-use Rattle.ped_weaves.specs.ped_laws.specs.ped_store.specs.Stores.{Store, lines_in}
-use Rattle.ped_weaves.specs.ped_laws.specs.ped_store.specs.Storage.{is_within}
-use Rattle.ped_weaves.specs.ped_laws.specs.ped_store.specs.Variables.{no_dimensions, values_of}
-use Rattle.ped_weaves.specs.ped_laws.specs.ped_eval.specs.Loops.{sorted_once}
-use Rattle.ped_weaves.specs.ped_laws.specs.ped_eval.specs.Runs.{Ending, going, stopped, failed}
-use Rattle.ped_weaves.specs.ped_laws.specs.ped_eval.specs.Outcomes as outcomes
-use Rattle.ped_weaves.specs.ped_laws.specs.ped_eval.specs.Outcomes.{bounds_of, setting_of, live_names, LiveRow, live_rows, outcome_of}
-use Rattle.ped_weaves.specs.ped_laws.specs.ped_flow.specs.Questions as flow
-use Rattle.ped_weaves.specs.ped_laws.specs.ped_flow.specs.Questions.{LoopOf}
+use Rattle.ped_weaves.specs.ped_graph.specs.ped_symbols.specs.declared.symbols.Kind.{Kind}
+use Rattle.ped_weaves.specs.ped_graph.specs.ped_symbols.specs.declared.symbols.Kind.TheVariants.{Scalar, Array, Constant}
+use Rattle.ped_weaves.specs.ped_graph.specs.ped_symbols.specs.Sites.{stmt_sites, stmts_sites}
+use Rattle.ped_weaves.specs.ped_graph.specs.ped_symbols.specs.Kinds.{kind_of, kind_in, names_of}
+use Rattle.ped_weaves.specs.ped_graph.specs.ped_symbols.specs.RightUses.RightUses.{is_scalar, is_scalar_kind}
+use Rattle.ped_weaves.specs.ped_store.specs.Cells as cells
+use Rattle.ped_weaves.specs.ped_store.specs.Stores.{Store, lines_in}
+use Rattle.ped_weaves.specs.ped_store.specs.Storage.{is_within}
+use Rattle.ped_weaves.specs.ped_store.specs.Variables.{no_dimensions, values_of}
+use Rattle.ped_weaves.specs.ped_eval.specs.Loops.{sorted_once}
+use Rattle.ped_weaves.specs.ped_eval.specs.Runs.{Ending, going, stopped, failed}
+use Rattle.ped_weaves.specs.ped_eval.specs.Outcomes as outcomes
+use Rattle.ped_weaves.specs.ped_eval.specs.Outcomes.{bounds_of, setting_of, live_names, LiveRow, live_rows, outcome_of}
+use Rattle.ped_weaves.specs.ped_flow.specs.Questions as flow
+use Rattle.ped_weaves.specs.ped_flow.specs.Questions.{LoopOf}
 use Rattle.ped_weaves.specs.ped_laws.proofs.FlowRunLaws.Names.{sorted_among}
 use Rattle.ped_weaves.specs.ped_laws.specs.Runs.Showing.{shown_at_end}
 use Rattle.ped_steps.specs.Replacing.{all_replaced}

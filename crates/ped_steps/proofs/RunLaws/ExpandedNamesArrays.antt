@@ -12,23 +12,23 @@ use Rattle.ped_tree.specs.Tree.{ExprTree, Int, Neg, StmtTree, StmtTrees, Assign,
 use Rattle.ped_tree.specs.Accesses.{constant_names}
 use Rattle.ped_tree.specs.NamesIn.{stmts_names, saved_in}
 use Rattle.ped_base.proofs.NameEquality.{same_itself}
-use Rattle.ped_weaves.specs.ped_laws.specs.ped_graph.specs.ped_symbols.proofs.RightUseLaws.Whole.{names_occur, others_unvalued}
-use Rattle.ped_weaves.specs.ped_laws.specs.ped_graph.specs.ped_symbols.specs.declared.symbols.Kind.TheVariants.{Array}
-use Rattle.ped_weaves.specs.ped_laws.specs.ped_eval.specs.Outcomes as outcomes
+use Rattle.ped_weaves.specs.ped_graph.specs.ped_symbols.proofs.RightUseLaws.Whole.{names_occur, others_unvalued}
+use Rattle.ped_weaves.specs.ped_graph.specs.ped_symbols.specs.declared.symbols.Kind.TheVariants.{Array}
+use Rattle.ped_weaves.specs.ped_eval.specs.Outcomes as outcomes
 use Rattle.std.specs.Int.{is_negative}
 use Rattle.ped_tree.specs.Grammar.LimitNumbers.{greatest_literal, most_dimensions}
 use Rattle.ped_tree.proofs.NameLaws.Collected.{among_append}
 use Rattle.ped_tree.specs.Constants.ConstantExpressions.{constant_value}
 use Rattle.ped_sums.specs.Sums.{literal}
-use Rattle.ped_weaves.specs.ped_laws.specs.ped_graph.specs.ped_symbols.specs.declared.uses.Role.TheVariants.{Named, Saved}
-use Rattle.ped_weaves.specs.ped_laws.specs.ped_graph.specs.ped_symbols.specs.declared.uses.Use.{Use}
-use Rattle.ped_weaves.specs.ped_laws.specs.ped_graph.specs.ped_symbols.specs.Uses.{used_as, expr_uses, bounds_uses, dimension_uses, type_uses, decl_uses}
-use Rattle.ped_weaves.specs.ped_laws.specs.ped_graph.specs.ped_symbols.specs.Entries.{entry_of}
-use Rattle.ped_weaves.specs.ped_laws.specs.ped_graph.specs.ped_symbols.specs.Sites.{Site, declaration, statement, private_site, stmt_sites, decl_sites, stmts_sites, site_uses}
-use Rattle.ped_weaves.specs.ped_laws.specs.ped_graph.specs.ped_symbols.specs.Values.{Values, within, fixed_value}
-use Rattle.ped_weaves.specs.ped_laws.specs.ped_graph.specs.ped_symbols.specs.Arrays.{Arrays, with_dimension, bounds_values, with_bounds, arrays_of, arrays_in}
-use Rattle.ped_weaves.specs.ped_laws.specs.ped_graph.specs.ped_symbols.specs.NameRefusals.{Before, at_first, behind_site, behind_sites}
-use Rattle.ped_weaves.specs.ped_laws.specs.ped_graph.specs.ped_symbols.specs.Kinds.{kind_by, kind_among, kind_of, names_at, names_of, at_last}
+use Rattle.ped_weaves.specs.ped_graph.specs.ped_symbols.specs.declared.uses.Role.TheVariants.{Named, Saved}
+use Rattle.ped_weaves.specs.ped_graph.specs.ped_symbols.specs.declared.uses.Use.{Use}
+use Rattle.ped_weaves.specs.ped_graph.specs.ped_symbols.specs.Uses.{used_as, expr_uses, bounds_uses, dimension_uses, type_uses, decl_uses}
+use Rattle.ped_weaves.specs.ped_graph.specs.ped_symbols.specs.Entries.{entry_of}
+use Rattle.ped_weaves.specs.ped_graph.specs.ped_symbols.specs.Sites.{Site, declaration, statement, private_site, stmt_sites, decl_sites, stmts_sites, site_uses}
+use Rattle.ped_weaves.specs.ped_graph.specs.ped_symbols.specs.Values.{Values, within, fixed_value}
+use Rattle.ped_weaves.specs.ped_graph.specs.ped_symbols.specs.Arrays.{Arrays, with_dimension, bounds_values, with_bounds, arrays_of, arrays_in}
+use Rattle.ped_weaves.specs.ped_graph.specs.ped_symbols.specs.NameRefusals.{Before, at_first, behind_site, behind_sites}
+use Rattle.ped_weaves.specs.ped_graph.specs.ped_symbols.specs.Kinds.{kind_by, kind_among, kind_of, names_at, names_of, at_last}
 use Rattle.ped_base.specs.declared.arithmetic.faults.Fault.TheVariants.{OutOfRange}
 use Rattle.ped_steps.specs.Runs.Expanding.{array_bounds, array_decl, with_array}
 use Rattle.ped_steps.proofs.RunLaws.NamesKept.{occurs, occurs_append}

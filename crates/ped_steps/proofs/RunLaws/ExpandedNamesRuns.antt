@@ -8,14 +8,14 @@ use Rattle.ped_tree.specs.Tree.{Head, StmtTree, StmtTrees, Assign, If, Do, Print
 use Rattle.ped_tree.specs.NamesIn.{stmt_names, stmts_names}
 use Rattle.ped_tree.specs.Numbering.{statement_count, statements_count}
 use Rattle.ped_base.proofs.NameEquality.{same_is, same_itself}
-use Rattle.ped_weaves.specs.ped_laws.specs.ped_store.specs.Cells.{Cell, Scalar, Element, Private, In, Out}
-use Rattle.ped_weaves.specs.ped_laws.specs.ped_store.specs.Stores.{Store}
-use Rattle.ped_weaves.specs.ped_laws.specs.ped_store.specs.Storage.{is_within}
-use Rattle.ped_weaves.specs.ped_laws.specs.ped_store.specs.Variables.{no_dimensions}
+use Rattle.ped_weaves.specs.ped_store.specs.Cells.{Cell, Scalar, Element, Private, In, Out}
+use Rattle.ped_weaves.specs.ped_store.specs.Stores.{Store}
+use Rattle.ped_weaves.specs.ped_store.specs.Storage.{is_within}
+use Rattle.ped_weaves.specs.ped_store.specs.Variables.{no_dimensions}
 use Rattle.ped_weaves.specs.ped_laws.specs.Acts.Renaming.{touch}
-use Rattle.ped_weaves.specs.ped_laws.specs.ped_eval.specs.Scopes.{Setting, Scope, cell_of}
-use Rattle.ped_weaves.specs.ped_laws.specs.ped_eval.specs.Values.{is_rank}
-use Rattle.ped_weaves.specs.ped_laws.specs.ped_eval.specs.Runs.{Run, run, run_all}
+use Rattle.ped_weaves.specs.ped_eval.specs.Scopes.{Setting, Scope, cell_of}
+use Rattle.ped_weaves.specs.ped_eval.specs.Values.{is_rank}
+use Rattle.ped_weaves.specs.ped_eval.specs.Runs.{Run, run, run_all}
 use Rattle.ped_steps.specs.Runs.Exchanging.{is_of_scalar}
 use Rattle.ped_steps.specs.Runs.Pasting.{AgreeInBounds}
 use Rattle.ped_steps.proofs.RunLaws.OwnBounds.{with_bounds, run_bounds, all_bounds}

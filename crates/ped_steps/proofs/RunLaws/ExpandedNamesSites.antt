@@ -5,12 +5,12 @@ use Rattle.std.proofs.lemmas.List.{map-append}
 use Rattle.std.proofs.lemmas.Grind.{flat_map-append}
 use Rattle.ped_tree.specs.Tree.{ExprTree, ExprTrees, Int, Var, Element, Neg, Add, Sub, Mul, Div, Pow, Call, no_exprs, more_exprs, CondTree, Rel, Not, And, Or, ItemTree, Value, Text, Head, StmtTree, StmtTrees, Assign, If, Do, Print, Read, Stop, Comment, no_stmts, more_stmts}
 use Rattle.ped_tree.specs.NamesIn.{expr_names, exprs_names, cond_names, item_names, stmt_names, stmts_names}
-use Rattle.ped_weaves.specs.ped_laws.specs.ped_graph.specs.ped_symbols.specs.declared.uses.Role.{Role}
-use Rattle.ped_weaves.specs.ped_laws.specs.ped_graph.specs.ped_symbols.specs.declared.uses.Role.TheVariants.{Rejected, Private, Index}
-use Rattle.ped_weaves.specs.ped_laws.specs.ped_graph.specs.ped_symbols.specs.declared.uses.Use.{Use}
-use Rattle.ped_weaves.specs.ped_laws.specs.ped_graph.specs.ped_symbols.specs.Uses.{used_as, expr_uses, exprs_uses, cond_uses, target_uses, item_uses, own_uses}
-use Rattle.ped_weaves.specs.ped_laws.specs.ped_graph.specs.ped_symbols.specs.Sites.{Site, statement, private_site, stmt_sites, stmts_sites, site_uses}
-use Rattle.ped_weaves.specs.ped_laws.specs.ped_graph.specs.ped_symbols.specs.Kinds.{names_at}
+use Rattle.ped_weaves.specs.ped_graph.specs.ped_symbols.specs.declared.uses.Role.{Role}
+use Rattle.ped_weaves.specs.ped_graph.specs.ped_symbols.specs.declared.uses.Role.TheVariants.{Rejected, Private, Index}
+use Rattle.ped_weaves.specs.ped_graph.specs.ped_symbols.specs.declared.uses.Use.{Use}
+use Rattle.ped_weaves.specs.ped_graph.specs.ped_symbols.specs.Uses.{used_as, expr_uses, exprs_uses, cond_uses, target_uses, item_uses, own_uses}
+use Rattle.ped_weaves.specs.ped_graph.specs.ped_symbols.specs.Sites.{Site, statement, private_site, stmt_sites, stmts_sites, site_uses}
+use Rattle.ped_weaves.specs.ped_graph.specs.ped_symbols.specs.Kinds.{names_at}
 
 -- the names of uses
 abbrev pub used_names : List Use → List (List ℕ)

@@ -4,9 +4,9 @@ use Rattle.std.proofs.lemmas.Bool.{both_ways, or_parts}
 use Rattle.ped_base.specs.Lists.{is_same_text, is_among}
 use Rattle.ped_tree.specs.Tree.{Head, StmtTrees, Do, ProgramTree}
 use Rattle.ped_sums.specs.Substitution.{statements_substituted}
-use Rattle.ped_weaves.specs.ped_laws.specs.ped_store.specs.Cells.{Cell, Element}
-use Rattle.ped_weaves.specs.ped_laws.specs.ped_store.specs.Stores.{Undefined, Store, put}
-use Rattle.ped_weaves.specs.ped_laws.specs.ped_store.specs.Acts.{Act}
+use Rattle.ped_weaves.specs.ped_store.specs.Cells.{Cell, Element}
+use Rattle.ped_weaves.specs.ped_store.specs.Stores.{Undefined, Store, put}
+use Rattle.ped_weaves.specs.ped_store.specs.Acts.{Act}
 use Rattle.ped_weaves.specs.ped_laws.specs.Acts.Fitting.{Fits, store_after}
 use Rattle.ped_weaves.specs.ped_laws.specs.Acts.Sets.{needs, wants, written}
 use Rattle.ped_weaves.specs.ped_laws.specs.Acts.Renaming.{touch}
@@ -15,12 +15,12 @@ use Rattle.ped_weaves.specs.ped_laws.proofs.ActLaws.SameCells.{cell_itself, othe
 use Rattle.ped_weaves.specs.ped_laws.proofs.ActLaws.Stores.{put_same, put_other}
 use Rattle.ped_weaves.specs.ped_laws.proofs.ActLaws.Appending.{touch_append}
 use Rattle.ped_weaves.specs.ped_laws.proofs.ActLaws.Renamings.{agreeing_fits, after_other}
-use Rattle.ped_weaves.specs.ped_laws.specs.ped_eval.specs.Scopes.{Setting, Scope, cell_of, names_in}
-use Rattle.ped_weaves.specs.ped_laws.specs.ped_eval.specs.Evaluation.{Seen, Evaluated}
-use Rattle.ped_weaves.specs.ped_laws.specs.ped_eval.specs.Loops.{Limits, limits, entered_with, frame, value_in}
-use Rattle.ped_weaves.specs.ped_laws.specs.ped_eval.specs.Runs.{Run, run, run_all}
-use Rattle.ped_weaves.specs.ped_laws.specs.ped_eval.specs.Outcomes.{Ends}
-use Rattle.ped_weaves.specs.ped_laws.specs.ped_flow.specs.Questions.{LoopOf}
+use Rattle.ped_weaves.specs.ped_eval.specs.Scopes.{Setting, Scope, cell_of, names_in}
+use Rattle.ped_weaves.specs.ped_eval.specs.Evaluation.{Seen, Evaluated}
+use Rattle.ped_weaves.specs.ped_eval.specs.Loops.{Limits, limits, entered_with, frame, value_in}
+use Rattle.ped_weaves.specs.ped_eval.specs.Runs.{Run, run, run_all}
+use Rattle.ped_weaves.specs.ped_eval.specs.Outcomes.{Ends}
+use Rattle.ped_weaves.specs.ped_flow.specs.Questions.{LoopOf}
 use Rattle.ped_weaves.specs.ped_laws.specs.FlowRuns.Covering.{is_number}
 use Rattle.ped_weaves.specs.ped_laws.specs.FlowRuns.Exits.{IsExit}
 use Rattle.ped_weaves.specs.ped_laws.specs.Runs.Replaying.{Finish, goes_on, has_fault, finish_of, ending_with, Replays}

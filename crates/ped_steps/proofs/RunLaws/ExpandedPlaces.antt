@@ -5,11 +5,11 @@ use Rattle.ped_base.specs.Lists.{is_same_text, is_among}
 use Rattle.ped_tree.specs.Tree.{Head, StmtTree, StmtTrees, Assign, If, Do, Print, Read, Stop, Comment, no_stmts, more_stmts, ProgramTree}
 use Rattle.ped_tree.specs.Nests.{Loop, indices_of}
 use Rattle.ped_tree.specs.Numbering.{statement_count, statements_count, numbered, all_numbered, statement_with}
-use Rattle.ped_weaves.specs.ped_laws.specs.ped_flow.specs.PlainBounds.{loops_round, all_loops_round, nest_round}
-use Rattle.ped_weaves.specs.ped_laws.specs.ped_flow.proofs.Truths.{or_none}
+use Rattle.ped_weaves.specs.ped_flow.specs.PlainBounds.{loops_round, all_loops_round, nest_round}
+use Rattle.ped_weaves.specs.ped_flow.proofs.Truths.{or_none}
 use Rattle.ped_weaves.specs.ped_laws.proofs.FlowRunLaws.Standing.{Stand, whole_stands, first_stands, rest_stands, inner_stands, else_stands, is_there}
-use Rattle.ped_weaves.specs.ped_laws.specs.ped_store.specs.Acts.{Turn}
-use Rattle.ped_weaves.specs.ped_laws.specs.ped_eval.specs.Scopes.{Setting, Scope, turns_of, index_value}
+use Rattle.ped_weaves.specs.ped_store.specs.Acts.{Turn}
+use Rattle.ped_weaves.specs.ped_eval.specs.Scopes.{Setting, Scope, turns_of, index_value}
 use Rattle.ped_weaves.specs.ped_laws.specs.FlowRuns.Exits.{IsOneToOne, IsIterationOf, AreIterationsOf}
 use Rattle.ped_steps.specs.Runs.Pasting.{AreTurnsOf, IsPlaceOf}
 

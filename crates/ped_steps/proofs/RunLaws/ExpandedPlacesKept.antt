@@ -4,19 +4,19 @@ use Rattle.ped_base.specs.Lists.{is_among}
 use Rattle.ped_tree.specs.Tree.{Head, StmtTrees, ProgramTree}
 use Rattle.ped_tree.specs.Accesses.{constant_names}
 use Rattle.ped_tree.specs.NamesIn.{all_loop_variables}
-use Rattle.ped_weaves.specs.ped_laws.specs.ped_store.specs.Cells.{Cell}
-use Rattle.ped_weaves.specs.ped_laws.specs.ped_store.specs.Stores.{Content, Undefined, Number, Lines, Store, put, is_storable}
-use Rattle.ped_weaves.specs.ped_laws.specs.ped_store.specs.Acts.{Act}
+use Rattle.ped_weaves.specs.ped_store.specs.Cells.{Cell}
+use Rattle.ped_weaves.specs.ped_store.specs.Stores.{Content, Undefined, Number, Lines, Store, put, is_storable}
+use Rattle.ped_weaves.specs.ped_store.specs.Acts.{Act}
 use Rattle.ped_weaves.specs.ped_laws.specs.Acts.Fitting.{store_after, touches_of}
 use Rattle.ped_weaves.specs.ped_laws.specs.Acts.Sets.{written}
 use Rattle.ped_weaves.specs.ped_laws.proofs.ActLaws.SameCells.{cell_itself}
 use Rattle.ped_weaves.specs.ped_laws.proofs.ActLaws.Stores.{put_same}
 use Rattle.ped_weaves.specs.ped_laws.proofs.ActLaws.Renamings.{agreeing_leaves}
-use Rattle.ped_weaves.specs.ped_laws.specs.ped_eval.specs.Scopes.{Setting, Scope, cell_of}
-use Rattle.ped_weaves.specs.ped_laws.specs.ped_eval.specs.Evaluation.{Seen}
-use Rattle.ped_weaves.specs.ped_laws.specs.ped_eval.specs.Loops.{Limits, entered_with, frame}
-use Rattle.ped_weaves.specs.ped_laws.specs.ped_eval.specs.Runs.{Ending, going, stopped, failed, run_all}
-use Rattle.ped_weaves.specs.ped_laws.specs.ped_flow.specs.Questions.{LoopOf, IsExposed, IsAssignedThrough}
+use Rattle.ped_weaves.specs.ped_eval.specs.Scopes.{Setting, Scope, cell_of}
+use Rattle.ped_weaves.specs.ped_eval.specs.Evaluation.{Seen}
+use Rattle.ped_weaves.specs.ped_eval.specs.Loops.{Limits, entered_with, frame}
+use Rattle.ped_weaves.specs.ped_eval.specs.Runs.{Ending, going, stopped, failed, run_all}
+use Rattle.ped_weaves.specs.ped_flow.specs.Questions.{LoopOf, IsExposed, IsAssignedThrough}
 use Rattle.ped_weaves.specs.ped_laws.specs.FlowRuns.Covering.{is_number, some_stop}
 use Rattle.ped_weaves.specs.ped_laws.proofs.FlowRunLaws.Cells.{cell_named}
 use Rattle.ped_weaves.specs.ped_laws.proofs.FlowRunLaws.Covered.{none_in_loops}

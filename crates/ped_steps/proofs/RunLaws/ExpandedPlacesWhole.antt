@@ -7,18 +7,18 @@ use Rattle.ped_base.specs.Lists.{is_same_text, is_among}
 use Rattle.ped_tree.specs.Tree.{Head, StmtTrees, Do, ProgramTree}
 use Rattle.ped_tree.specs.Nests.{indices_of}
 use Rattle.ped_tree.specs.Constants.ConstantExpressions.{constant_value}
-use Rattle.ped_weaves.specs.ped_laws.specs.ped_graph.specs.ped_symbols.specs.Kinds.{kind_in, names_of}
-use Rattle.ped_weaves.specs.ped_laws.specs.ped_graph.specs.ped_symbols.specs.NameRefusals.{IsValid}
-use Rattle.ped_weaves.specs.ped_laws.specs.ped_graph.specs.ped_symbols.specs.RightUses.RightUses.{is_scalar}
+use Rattle.ped_weaves.specs.ped_graph.specs.ped_symbols.specs.Kinds.{kind_in, names_of}
+use Rattle.ped_weaves.specs.ped_graph.specs.ped_symbols.specs.NameRefusals.{IsValid}
+use Rattle.ped_weaves.specs.ped_graph.specs.ped_symbols.specs.RightUses.RightUses.{is_scalar}
 use Rattle.ped_tree.specs.NamesIn.{loop_variables, all_loop_variables}
-use Rattle.ped_weaves.specs.ped_laws.specs.ped_store.specs.Stores.{Store}
-use Rattle.ped_weaves.specs.ped_laws.specs.ped_store.specs.Storage.{is_within}
-use Rattle.ped_weaves.specs.ped_laws.specs.ped_eval.specs.Scopes.{Setting, Scope, names_in}
-use Rattle.ped_weaves.specs.ped_laws.specs.ped_eval.specs.Loops.{Limits, limits, entered_with, frame, value_in}
-use Rattle.ped_weaves.specs.ped_laws.specs.ped_eval.specs.Outcomes.{setting_of}
-use Rattle.ped_weaves.specs.ped_laws.specs.ped_flow.specs.PlainBounds.{nest_round}
-use Rattle.ped_weaves.specs.ped_laws.specs.ped_flow.specs.Questions.{LoopOf, IsExposed, IsAssignedThrough}
-use Rattle.ped_weaves.specs.ped_laws.specs.ped_flow.proofs.Truths.{or_none}
+use Rattle.ped_weaves.specs.ped_store.specs.Stores.{Store}
+use Rattle.ped_weaves.specs.ped_store.specs.Storage.{is_within}
+use Rattle.ped_weaves.specs.ped_eval.specs.Scopes.{Setting, Scope, names_in}
+use Rattle.ped_weaves.specs.ped_eval.specs.Loops.{Limits, limits, entered_with, frame, value_in}
+use Rattle.ped_weaves.specs.ped_eval.specs.Outcomes.{setting_of}
+use Rattle.ped_weaves.specs.ped_flow.specs.PlainBounds.{nest_round}
+use Rattle.ped_weaves.specs.ped_flow.specs.Questions.{LoopOf, IsExposed, IsAssignedThrough}
+use Rattle.ped_weaves.specs.ped_flow.proofs.Truths.{or_none}
 use Rattle.ped_weaves.specs.ped_laws.specs.FlowRuns.Exits.{IsOneToOne}
 use Rattle.ped_weaves.specs.ped_laws.proofs.FlowRunLaws.Stopping.{fitting_stops, loop_stops}
 use Rattle.ped_steps.specs.Runs.Pasting.{IsPlaceOf}

@@ -8,24 +8,24 @@ use Rattle.ped_tree.specs.Tree.{Head, StmtTree, StmtTrees, Do, ProgramTree}
 use Rattle.ped_tree.specs.NamesIn.{stmt_names, stmts_names, saved_in}
 use Rattle.ped_tree.specs.Accesses.{constant_names}
 use Rattle.ped_tree.specs.Numbering.{statement_count, statements_count}
-use Rattle.ped_weaves.specs.ped_laws.specs.ped_graph.specs.ped_symbols.specs.NameRefusals.{IsValid}
-use Rattle.ped_weaves.specs.ped_laws.specs.ped_store.specs.Cells as cells
-use Rattle.ped_weaves.specs.ped_laws.specs.ped_store.specs.Cells.{Element}
-use Rattle.ped_weaves.specs.ped_laws.specs.ped_store.specs.Stores.{Store, store_at_start}
-use Rattle.ped_weaves.specs.ped_laws.specs.ped_store.specs.Acts.{Act}
-use Rattle.ped_weaves.specs.ped_laws.specs.ped_store.specs.Races.{accesses, HasNoRace}
+use Rattle.ped_weaves.specs.ped_graph.specs.ped_symbols.specs.NameRefusals.{IsValid}
+use Rattle.ped_weaves.specs.ped_store.specs.Cells as cells
+use Rattle.ped_weaves.specs.ped_store.specs.Cells.{Element}
+use Rattle.ped_weaves.specs.ped_store.specs.Stores.{Store, store_at_start}
+use Rattle.ped_weaves.specs.ped_store.specs.Acts.{Act}
+use Rattle.ped_weaves.specs.ped_store.specs.Races.{accesses, HasNoRace}
 use Rattle.ped_weaves.specs.ped_laws.specs.Acts.Fitting.{store_after}
 use Rattle.ped_weaves.specs.ped_laws.specs.Acts.Sets.{AgreeIn}
 use Rattle.ped_weaves.specs.ped_laws.specs.Acts.Renaming.{touch}
 use Rattle.ped_weaves.specs.ped_laws.specs.Acts.Pieces.{Part, old_parts, new_parts}
-use Rattle.ped_weaves.specs.ped_laws.specs.ped_eval.specs.Scopes.{Setting, Scope, cell_of, names_in}
-use Rattle.ped_weaves.specs.ped_laws.specs.ped_eval.specs.Loops.{Limits, limits, entered_with, frame, value_in}
+use Rattle.ped_weaves.specs.ped_eval.specs.Scopes.{Setting, Scope, cell_of, names_in}
+use Rattle.ped_weaves.specs.ped_eval.specs.Loops.{Limits, limits, entered_with, frame, value_in}
 use Rattle.ped_tree.specs.NamesIn.{all_loop_variables}
-use Rattle.ped_weaves.specs.ped_laws.specs.ped_eval.specs.Runs.{Ending, Run, run, run_all}
-use Rattle.ped_weaves.specs.ped_laws.specs.ped_eval.specs.Outcomes as outcomes
-use Rattle.ped_weaves.specs.ped_laws.specs.ped_eval.specs.Outcomes.{setting_of, run_of, outcome_of, outcome, Ends, IsRaceFree}
-use Rattle.ped_weaves.specs.ped_laws.specs.ped_flow.specs.Questions as flow
-use Rattle.ped_weaves.specs.ped_laws.specs.ped_flow.specs.Questions.{LoopOf, IsExposed, IsLiveAfter}
+use Rattle.ped_weaves.specs.ped_eval.specs.Runs.{Ending, Run, run, run_all}
+use Rattle.ped_weaves.specs.ped_eval.specs.Outcomes as outcomes
+use Rattle.ped_weaves.specs.ped_eval.specs.Outcomes.{setting_of, run_of, outcome_of, outcome, Ends, IsRaceFree}
+use Rattle.ped_weaves.specs.ped_flow.specs.Questions as flow
+use Rattle.ped_weaves.specs.ped_flow.specs.Questions.{LoopOf, IsExposed, IsLiveAfter}
 use Rattle.ped_weaves.specs.ped_laws.specs.FlowRuns.Exits.{IsOneToOne}
 use Rattle.ped_weaves.specs.ped_laws.proofs.FlowRunLaws.Stopping.{fitting_stops, loop_stops}
 use Rattle.ped_weaves.specs.ped_laws.proofs.FlowRunLaws.TripReads.{unexposed_unneeded}

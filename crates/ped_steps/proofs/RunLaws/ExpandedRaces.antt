@@ -4,11 +4,11 @@ use Rattle.std.specs.Prelude.{◌&&◌, ◌||◌}
 use Rattle.std.proofs.lemmas.Bool.{and_parts, both_ways}
 use Rattle.ped_base.specs.Lists.{is_among}
 use Rattle.ped_tree.specs.Tree.{Head, StmtTrees, Do, ProgramTree}
-use Rattle.ped_weaves.specs.ped_laws.specs.ped_graph.specs.ped_symbols.specs.NameRefusals.{IsValid}
-use Rattle.ped_weaves.specs.ped_laws.specs.ped_store.specs.Cells.{Scalar, Element, same_cell}
-use Rattle.ped_weaves.specs.ped_laws.specs.ped_store.specs.Stores.{Store}
-use Rattle.ped_weaves.specs.ped_laws.specs.ped_store.specs.Acts.{Turn, Act}
-use Rattle.ped_weaves.specs.ped_laws.specs.ped_store.specs.Races.{Access, accesses_of, accesses, conflict, are_apart, race, HasNoRace}
+use Rattle.ped_weaves.specs.ped_graph.specs.ped_symbols.specs.NameRefusals.{IsValid}
+use Rattle.ped_weaves.specs.ped_store.specs.Cells.{Scalar, Element, same_cell}
+use Rattle.ped_weaves.specs.ped_store.specs.Stores.{Store}
+use Rattle.ped_weaves.specs.ped_store.specs.Acts.{Turn, Act}
+use Rattle.ped_weaves.specs.ped_store.specs.Races.{Access, accesses_of, accesses, conflict, are_apart, race, HasNoRace}
 use Rattle.ped_weaves.specs.ped_laws.specs.Acts.Fitting.{store_after}
 use Rattle.ped_weaves.specs.ped_laws.specs.Acts.Orders.{IsIn, StandsBefore}
 use Rattle.ped_weaves.specs.ped_laws.specs.Acts.Renaming.{touch}
@@ -18,11 +18,11 @@ use Rattle.ped_weaves.specs.ped_laws.proofs.ActLaws.SameCells.{cell_is, is_cell}
 use Rattle.ped_weaves.specs.ped_laws.proofs.ActLaws.Renamings.{or_left, or_right}
 use Rattle.ped_weaves.specs.ped_laws.proofs.ActLaws.Conflicting.{access_place}
 use Rattle.ped_weaves.specs.ped_laws.proofs.ActLaws.RaceFree.{no_race_before, no_race_from, apart_flip}
-use Rattle.ped_weaves.specs.ped_laws.specs.ped_eval.specs.Scopes.{Setting, Scope, cell_of, names_in}
-use Rattle.ped_weaves.specs.ped_laws.specs.ped_eval.specs.Loops.{Limits, limits, entered_with}
-use Rattle.ped_weaves.specs.ped_laws.specs.ped_eval.specs.Outcomes.{setting_of}
-use Rattle.ped_weaves.specs.ped_laws.specs.ped_eval.specs.Runs.{Run, run, run_all}
-use Rattle.ped_weaves.specs.ped_laws.specs.ped_flow.specs.Questions.{LoopOf}
+use Rattle.ped_weaves.specs.ped_eval.specs.Scopes.{Setting, Scope, cell_of, names_in}
+use Rattle.ped_weaves.specs.ped_eval.specs.Loops.{Limits, limits, entered_with}
+use Rattle.ped_weaves.specs.ped_eval.specs.Outcomes.{setting_of}
+use Rattle.ped_weaves.specs.ped_eval.specs.Runs.{Run, run, run_all}
+use Rattle.ped_weaves.specs.ped_flow.specs.Questions.{LoopOf}
 use Rattle.ped_weaves.specs.ped_laws.specs.FlowRuns.Exits.{IsOneToOne}
 use Rattle.ped_weaves.specs.ped_laws.specs.Runs.Replaying.{goes_on, finish_of}
 use Rattle.ped_weaves.specs.ped_laws.proofs.RunLaws.Placing.{kinds_of_run}

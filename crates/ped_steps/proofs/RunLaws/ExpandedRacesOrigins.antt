@@ -3,10 +3,10 @@ use Rattle.std.proofs.Common.{◌≡◌, ℕ, ℤ, List, [], ◌∷◌, ◌++◌
 use Rattle.std.specs.Prelude.{not, ◌&&◌, ◌||◌}
 use Rattle.std.specs.List.{filter, list_any}
 use Rattle.std.proofs.lemmas.Bool.{both_ways, and_parts}
-use Rattle.ped_weaves.specs.ped_laws.specs.ped_store.specs.Cells.{Cell, Scalar, Element, Private, In, Out, same_cell}
-use Rattle.ped_weaves.specs.ped_laws.specs.ped_store.specs.Stores.{Content}
-use Rattle.ped_weaves.specs.ped_laws.specs.ped_store.specs.Acts.{Manner, reads, writes, is_told, Touch, Turn, Place, did, Act}
-use Rattle.ped_weaves.specs.ped_laws.specs.ped_store.specs.Races.{Access, is_lines, is_write, is_access, accesses_of, accesses}
+use Rattle.ped_weaves.specs.ped_store.specs.Cells.{Cell, Scalar, Element, Private, In, Out, same_cell}
+use Rattle.ped_weaves.specs.ped_store.specs.Stores.{Content}
+use Rattle.ped_weaves.specs.ped_store.specs.Acts.{Manner, reads, writes, is_told, Touch, Turn, Place, did, Act}
+use Rattle.ped_weaves.specs.ped_store.specs.Races.{Access, is_lines, is_write, is_access, accesses_of, accesses}
 use Rattle.ped_weaves.specs.ped_laws.specs.Acts.Fitting.{touches_of, has_cell, of_cells}
 use Rattle.ped_weaves.specs.ped_laws.specs.Acts.Orders.{IsIn}
 use Rattle.ped_weaves.specs.ped_laws.specs.Acts.Renaming.{AreRenamed, touch}
@@ -15,7 +15,7 @@ use Rattle.ped_weaves.specs.ped_laws.proofs.ActLaws.Lists.{in_left, in_right, in
 use Rattle.ped_weaves.specs.ped_laws.proofs.ActLaws.SameCells.{cell_is, is_cell}
 use Rattle.ped_weaves.specs.ped_laws.proofs.ActLaws.Renamings.{or_left, or_right, or_either}
 use Rattle.ped_weaves.specs.ped_laws.proofs.ActLaws.Conflicting.{access_by, access_in, accesses_in}
-use Rattle.ped_weaves.specs.ped_laws.specs.ped_eval.specs.Scopes.{Scope, turns_of, cell_of}
+use Rattle.ped_weaves.specs.ped_eval.specs.Scopes.{Scope, turns_of, cell_of}
 use Rattle.ped_weaves.specs.ped_laws.specs.Runs.Replaying.{act}
 use Rattle.ped_steps.specs.Runs.Exchanging.{swapped}
 use Rattle.ped_steps.specs.Runs.Substituting.{IsSameOn, AreSameOn}

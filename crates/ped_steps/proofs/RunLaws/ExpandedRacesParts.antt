@@ -3,19 +3,19 @@ use Rattle.std.proofs.Common.{◌≡◌, ℕ, zero, suc, ◌+◌, ◌≤◌, ℤ
 use Rattle.ped_base.specs.Lists.{is_among}
 use Rattle.ped_tree.specs.Tree.{Head, StmtTrees, Do}
 use Rattle.ped_tree.specs.Numbering.{statement_count}
-use Rattle.ped_weaves.specs.ped_laws.specs.ped_store.specs.Cells.{Cell, Scalar, Element}
-use Rattle.ped_weaves.specs.ped_laws.specs.ped_store.specs.Stores.{Store}
-use Rattle.ped_weaves.specs.ped_laws.specs.ped_store.specs.Acts.{Act}
-use Rattle.ped_weaves.specs.ped_laws.specs.ped_store.specs.Races.{Access, accesses_of}
+use Rattle.ped_weaves.specs.ped_store.specs.Cells.{Cell, Scalar, Element}
+use Rattle.ped_weaves.specs.ped_store.specs.Stores.{Store}
+use Rattle.ped_weaves.specs.ped_store.specs.Acts.{Act}
+use Rattle.ped_weaves.specs.ped_store.specs.Races.{Access, accesses_of}
 use Rattle.ped_weaves.specs.ped_laws.specs.Acts.Orders.{IsIn}
 use Rattle.ped_weaves.specs.ped_laws.specs.Acts.Renaming.{touch}
 use Rattle.ped_weaves.specs.ped_laws.specs.Acts.Sets.{written}
 use Rattle.ped_weaves.specs.ped_laws.proofs.ActLaws.Lists.{in_left, in_right, in_parts}
 use Rattle.ped_weaves.specs.ped_laws.proofs.ActLaws.Conflicting.{access_by, access_in, accesses_in}
-use Rattle.ped_weaves.specs.ped_laws.specs.ped_eval.specs.Scopes.{Setting, Scope, turns_of, cell_of, names_in, place_of}
-use Rattle.ped_weaves.specs.ped_laws.specs.ped_eval.specs.Evaluation.{Seen}
-use Rattle.ped_weaves.specs.ped_laws.specs.ped_eval.specs.Loops.{Limits, limits, frame, value_in}
-use Rattle.ped_weaves.specs.ped_laws.specs.ped_eval.specs.Runs.{Run, run}
+use Rattle.ped_weaves.specs.ped_eval.specs.Scopes.{Setting, Scope, turns_of, cell_of, names_in, place_of}
+use Rattle.ped_weaves.specs.ped_eval.specs.Evaluation.{Seen}
+use Rattle.ped_weaves.specs.ped_eval.specs.Loops.{Limits, limits, frame, value_in}
+use Rattle.ped_weaves.specs.ped_eval.specs.Runs.{Run, run}
 use Rattle.ped_weaves.specs.ped_laws.specs.Runs.Replaying.{goes_on, has_fault, finish_of}
 use Rattle.ped_steps.specs.Runs.Substituting.{AreSameOn}
 use Rattle.ped_steps.specs.Runs.Expanding.{body_with}

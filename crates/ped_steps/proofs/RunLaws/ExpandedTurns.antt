@@ -4,9 +4,9 @@ use Rattle.std.specs.Prelude.{◌||◌}
 use Rattle.std.proofs.lemmas.Bool.{both_ways, or_from, or_parts}
 use Rattle.ped_base.specs.Lists.{is_same_text, is_among}
 use Rattle.ped_tree.specs.Tree.{Head, StmtTrees}
-use Rattle.ped_weaves.specs.ped_laws.specs.ped_store.specs.Cells.{Cell, Element, Private}
-use Rattle.ped_weaves.specs.ped_laws.specs.ped_store.specs.Stores.{Content, Store}
-use Rattle.ped_weaves.specs.ped_laws.specs.ped_store.specs.Acts.{Touch, Place, Act, ended_turn, iterations_of, store_behind}
+use Rattle.ped_weaves.specs.ped_store.specs.Cells.{Cell, Element, Private}
+use Rattle.ped_weaves.specs.ped_store.specs.Stores.{Content, Store}
+use Rattle.ped_weaves.specs.ped_store.specs.Acts.{Touch, Place, Act, ended_turn, iterations_of, store_behind}
 use Rattle.ped_weaves.specs.ped_laws.specs.Acts.Fitting.{Fits, store_after, of_cells}
 use Rattle.ped_weaves.specs.ped_laws.specs.Acts.Sets.{needs, written, written_by}
 use Rattle.ped_weaves.specs.ped_laws.specs.Acts.Renaming.{AreRenamed, Renamed, touch}
@@ -14,11 +14,11 @@ use Rattle.ped_weaves.specs.ped_laws.proofs.ActLaws.SameCells.{text_itself, othe
 use Rattle.ped_weaves.specs.ped_laws.proofs.ActLaws.Stores.{after_append, fits_append}
 use Rattle.ped_weaves.specs.ped_laws.proofs.ActLaws.Appending.{touch_append, renamed_append}
 use Rattle.ped_weaves.specs.ped_laws.proofs.ActLaws.Renamings.{renamed_leaves, behind_other}
-use Rattle.ped_weaves.specs.ped_laws.specs.ped_eval.specs.Scopes.{Setting, Scope, turns_of, cell_of, place_of}
-use Rattle.ped_weaves.specs.ped_laws.specs.ped_eval.specs.Evaluation.{Seen}
-use Rattle.ped_weaves.specs.ped_laws.specs.ped_eval.specs.Loops.{Limits, Entered, entered_with, frame, value_in, inner_variables, undefined_by, undefined_all, exit_touches, exit_when_none}
-use Rattle.ped_weaves.specs.ped_laws.specs.ped_eval.specs.Runs.{Run, turns}
-use Rattle.ped_weaves.specs.ped_laws.specs.ped_eval.specs.Turns.{body_run}
+use Rattle.ped_weaves.specs.ped_eval.specs.Scopes.{Setting, Scope, turns_of, cell_of, place_of}
+use Rattle.ped_weaves.specs.ped_eval.specs.Evaluation.{Seen}
+use Rattle.ped_weaves.specs.ped_eval.specs.Loops.{Limits, Entered, entered_with, frame, value_in, inner_variables, undefined_by, undefined_all, exit_touches, exit_when_none}
+use Rattle.ped_weaves.specs.ped_eval.specs.Runs.{Run, turns}
+use Rattle.ped_weaves.specs.ped_eval.specs.Turns.{body_run}
 use Rattle.ped_weaves.specs.ped_laws.specs.Runs.Replaying.{Finish, goes_on, has_fault, finish_of, act, Replays}
 use Rattle.ped_weaves.specs.ped_laws.proofs.RunLaws.Joined.{replays_nothing, turns_more}
 use Rattle.ped_weaves.specs.ped_laws.proofs.RunLaws.StatementsTold.{all_told}

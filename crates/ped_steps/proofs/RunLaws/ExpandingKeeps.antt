@@ -6,12 +6,12 @@ use Rattle.ped_tree.specs.Tree.{StmtTree, StmtTrees, Do, ProgramTree}
 use Rattle.ped_tree.specs.NamesIn.{stmt_names}
 use Rattle.ped_tree.specs.Numbering.{statements_count}
 use Rattle.ped_base.specs.Lists.{is_same_text, is_among}
-use Rattle.ped_weaves.specs.ped_laws.specs.ped_graph.specs.ped_symbols.specs.NameRefusals.{IsValid}
-use Rattle.ped_weaves.specs.ped_laws.specs.ped_store.specs.Storage.{is_within}
-use Rattle.ped_weaves.specs.ped_laws.specs.ped_eval.specs.Scopes.{Setting}
-use Rattle.ped_weaves.specs.ped_laws.specs.ped_eval.specs.Outcomes.{setting_of}
-use Rattle.ped_weaves.specs.ped_laws.specs.ped_flow.specs.Questions.{LoopOf}
-use Rattle.ped_weaves.specs.ped_laws.specs.ped_flow.proofs.Truths.{or_none}
+use Rattle.ped_weaves.specs.ped_graph.specs.ped_symbols.specs.NameRefusals.{IsValid}
+use Rattle.ped_weaves.specs.ped_store.specs.Storage.{is_within}
+use Rattle.ped_weaves.specs.ped_eval.specs.Scopes.{Setting}
+use Rattle.ped_weaves.specs.ped_eval.specs.Outcomes.{setting_of}
+use Rattle.ped_weaves.specs.ped_flow.specs.Questions.{LoopOf}
+use Rattle.ped_weaves.specs.ped_flow.proofs.Truths.{or_none}
 use Rattle.ped_tree.specs.NamesIn.{all_loop_variables}
 use Rattle.ped_steps.specs.Runs.Meaning.{Keeps}
 use Rattle.ped_steps.specs.Runs.Expanding.{new_statements, last_value, expanded_by, MayExpand}
@@ -21,7 +21,7 @@ use Rattle.ped_steps.proofs.RunLaws.ExpandedNumbers.{one_moved}
 use Rattle.ped_steps.proofs.RunLaws.ExpandedPrograms.{old_setting, expanded_keeps}
 use Rattle.ped_steps.proofs.RunLaws.ExpandedPlacesWhole.{private_apart, may, kept}
 use Rattle.ped_steps.proofs.RunLaws.ExpandedNames as names
-use Rattle.ped_weaves.specs.ped_laws.specs.ped_graph.specs.ped_symbols.proofs.RightUseLaws.Whole.{names_occur}
+use Rattle.ped_weaves.specs.ped_graph.specs.ped_symbols.proofs.RightUseLaws.Whole.{names_occur}
 use Rattle.ped_steps.proofs.RunLaws.ExpandedPlacesParts.{not_true, part_at}
 use Rattle.ped_steps.proofs.RunLaws.ExpandedNamesSites.{stmt_at}
 use Rattle.ped_steps.proofs.RunLaws.ExpandedNamesRuns.{element_untouched}

@@ -5,7 +5,7 @@ use Rattle.std.proofs.lemmas.Bool.{ltb-true, lt-ltb, leb-true, le-leb}
 use Rattle.ped_tree.specs.Tree.{Head, StmtTree, StmtTrees, Assign, If, Do, Print, Read, Stop, Comment, no_stmts, more_stmts}
 use Rattle.ped_tree.specs.Nests.{Loop}
 use Rattle.ped_tree.specs.Numbering.{statement_count, statements_count}
-use Rattle.ped_weaves.specs.ped_laws.specs.ped_flow.specs.PlainBounds.{loops_round, all_loops_round}
+use Rattle.ped_weaves.specs.ped_flow.specs.PlainBounds.{loops_round, all_loops_round}
 
 module _ (l : ℕ) where
   abbrev One : ℕ → Head → StmtTrees → List Loop

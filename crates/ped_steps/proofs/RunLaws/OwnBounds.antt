@@ -12,19 +12,19 @@ use Rattle.ped_tree.specs.Constants.ConstantExpressions.{intrinsic_result}
 use Rattle.ped_tree.specs.Tree.{ExprTree, ExprTrees, Int, Var, Element, Neg, Add, Sub, Mul, Div, Pow, Call, no_exprs, more_exprs, CondTree, Rel, Not, And, Or, ItemTree, Value, Text, Head, StmtTree, StmtTrees, Assign, If, Do, Print, Read, Stop, Comment, no_stmts, more_stmts}
 use Rattle.ped_tree.specs.NamesIn.{expr_names, exprs_names, cond_names, item_names, head_names, stmt_names, stmts_names}
 use Rattle.ped_tree.specs.Numbering.{statement_count, statements_count}
-use Rattle.ped_weaves.specs.ped_laws.specs.ped_store.specs.Acts.{did}
+use Rattle.ped_weaves.specs.ped_store.specs.Acts.{did}
 use Rattle.ped_base.proofs.NameEquality.{same_itself}
-use Rattle.ped_weaves.specs.ped_laws.specs.ped_store.specs.Cells as cells
-use Rattle.ped_weaves.specs.ped_laws.specs.ped_store.specs.Cells.{In}
-use Rattle.ped_weaves.specs.ped_laws.specs.ped_store.specs.Stores.{Number, Store, put, lines_in, outside_bounds, storable}
-use Rattle.ped_weaves.specs.ped_laws.specs.ped_store.specs.Storage.{is_within}
-use Rattle.ped_weaves.specs.ped_laws.specs.ped_store.specs.DataLines.{Data, begun, next_value_of}
-use Rattle.ped_weaves.specs.ped_laws.specs.ped_eval.specs.Scopes.{Setting, Frame, Scope, Names, names_in, place_of}
-use Rattle.ped_weaves.specs.ped_laws.specs.ped_eval.specs.Evaluation.{◌>>>◌, given, numbered, read_cell}
-use Rattle.ped_weaves.specs.ped_laws.specs.ped_eval.specs.Values.{unary, binary, of_intrinsic, name_value, is_rank, element_cell, relation_holds, value, values, truth, target}
-use Rattle.ped_weaves.specs.ped_laws.specs.ped_eval.specs.Statements.{assigned, assignment_touches, print_touches, item_text, item_texts, printed_line, into_item, with_taken, taking, taking_from, reading}
-use Rattle.ped_weaves.specs.ped_laws.specs.ped_eval.specs.Loops.{limits, in_bounds, entered_with}
-use Rattle.ped_weaves.specs.ped_laws.specs.ped_eval.specs.Runs.{on, does, nothing_done, run_taking, then_run, run_from_entry, run, run_all}
+use Rattle.ped_weaves.specs.ped_store.specs.Cells as cells
+use Rattle.ped_weaves.specs.ped_store.specs.Cells.{In}
+use Rattle.ped_weaves.specs.ped_store.specs.Stores.{Number, Store, put, lines_in, outside_bounds, storable}
+use Rattle.ped_weaves.specs.ped_store.specs.Storage.{is_within}
+use Rattle.ped_weaves.specs.ped_store.specs.DataLines.{Data, begun, next_value_of}
+use Rattle.ped_weaves.specs.ped_eval.specs.Scopes.{Setting, Frame, Scope, Names, names_in, place_of}
+use Rattle.ped_weaves.specs.ped_eval.specs.Evaluation.{◌>>>◌, given, numbered, read_cell}
+use Rattle.ped_weaves.specs.ped_eval.specs.Values.{unary, binary, of_intrinsic, name_value, is_rank, element_cell, relation_holds, value, values, truth, target}
+use Rattle.ped_weaves.specs.ped_eval.specs.Statements.{assigned, assignment_touches, print_touches, item_text, item_texts, printed_line, into_item, with_taken, taking, taking_from, reading}
+use Rattle.ped_weaves.specs.ped_eval.specs.Loops.{limits, in_bounds, entered_with}
+use Rattle.ped_weaves.specs.ped_eval.specs.Runs.{on, does, nothing_done, run_taking, then_run, run_from_entry, run, run_all}
 use Rattle.ped_steps.specs.Runs.Pasting.{AgreeInBounds}
 
 module _ (bounds others : List ℕ → Dimensions) where

@@ -5,15 +5,15 @@ use Rattle.std.proofs.lemmas.List.Folds.{list_any-append}
 use Rattle.ped_base.specs.Lists.{is_same_text, is_among}
 use Rattle.ped_tree.specs.Tree.{ProgramTree}
 use Rattle.ped_tree.specs.Nests.{Loop}
-use Rattle.ped_weaves.specs.ped_laws.specs.ped_store.specs.Cells.{Scalar, Private}
-use Rattle.ped_weaves.specs.ped_laws.specs.ped_store.specs.Acts.{Turn, iterations_of}
+use Rattle.ped_weaves.specs.ped_store.specs.Cells.{Scalar, Private}
+use Rattle.ped_weaves.specs.ped_store.specs.Acts.{Turn, iterations_of}
 use Rattle.ped_weaves.specs.ped_laws.specs.Acts.Orders.{IsIn}
 use Rattle.ped_weaves.specs.ped_laws.proofs.ActLaws.Lists.{in_left, in_right}
-use Rattle.ped_weaves.specs.ped_laws.specs.ped_eval.specs.Scopes.{Setting, Scope, turns_of, cell_of}
-use Rattle.ped_weaves.specs.ped_laws.specs.ped_eval.specs.Loops.{inner_variables}
+use Rattle.ped_weaves.specs.ped_eval.specs.Scopes.{Setting, Scope, turns_of, cell_of}
+use Rattle.ped_weaves.specs.ped_eval.specs.Loops.{inner_variables}
 use Rattle.ped_tree.specs.NamesIn.{all_loop_variables}
-use Rattle.ped_weaves.specs.ped_laws.specs.ped_flow.specs.PlainBounds.{nest_round}
-use Rattle.ped_weaves.specs.ped_laws.specs.ped_flow.specs.Questions.{LoopOf}
+use Rattle.ped_weaves.specs.ped_flow.specs.PlainBounds.{nest_round}
+use Rattle.ped_weaves.specs.ped_flow.specs.Questions.{LoopOf}
 use Rattle.ped_weaves.specs.ped_laws.specs.FlowRuns.Exits.{IsOneToOne, AreIterationsOf}
 use Rattle.ped_weaves.specs.ped_laws.proofs.RunLaws.Turning.{inner_among}
 use Rattle.ped_steps.specs.Runs.Pasting.{AreTurnsOf, IsPlaceOf}

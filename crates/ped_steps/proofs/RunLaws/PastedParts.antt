@@ -2,16 +2,16 @@
 use Rattle.std.proofs.Common.{◌≡◌, ℕ, zero, suc, ◌+◌, List, [], ◌∷◌, ◌++◌, Bool, true, false, Result, Ok, Err, refl, sym, ap, subst, ◌∙◌}
 use Rattle.std.proofs.lemmas.List.{append-nil, append_assoc}
 use Rattle.ped_tree.specs.Tree.{ProgramTree}
-use Rattle.ped_weaves.specs.ped_laws.specs.ped_store.specs.Stores.{Store}
-use Rattle.ped_weaves.specs.ped_laws.specs.ped_store.specs.Acts.{Touch, Act, Place, Step, ended_turn, closed, store_behind}
+use Rattle.ped_weaves.specs.ped_store.specs.Stores.{Store}
+use Rattle.ped_weaves.specs.ped_store.specs.Acts.{Touch, Act, Place, Step, ended_turn, closed, store_behind}
 use Rattle.ped_weaves.specs.ped_laws.specs.Acts.Fitting.{Find, store_after}
 use Rattle.ped_weaves.specs.ped_laws.specs.Acts.Pieces.{Part, same, changed, old_parts, new_parts}
 use Rattle.ped_weaves.specs.ped_laws.proofs.ActLaws.Stores.{after_append}
-use Rattle.ped_weaves.specs.ped_laws.specs.ped_eval.specs.Scopes.{Setting, Frame, Scope}
-use Rattle.ped_weaves.specs.ped_laws.specs.ped_eval.specs.Evaluation.{Seen, Evaluated}
-use Rattle.ped_weaves.specs.ped_laws.specs.ped_eval.specs.Loops.{Entered, frame, exit_touches, exit_when_none}
-use Rattle.ped_weaves.specs.ped_laws.specs.ped_eval.specs.Runs.{Ending, going, stopped, failed, Run, nothing_done, followed_by, then_run, does, on_value, on, turns, parallel_turns, run_entered}
-use Rattle.ped_weaves.specs.ped_laws.specs.ped_eval.specs.Outcomes.{Ends}
+use Rattle.ped_weaves.specs.ped_eval.specs.Scopes.{Setting, Frame, Scope}
+use Rattle.ped_weaves.specs.ped_eval.specs.Evaluation.{Seen, Evaluated}
+use Rattle.ped_weaves.specs.ped_eval.specs.Loops.{Entered, frame, exit_touches, exit_when_none}
+use Rattle.ped_weaves.specs.ped_eval.specs.Runs.{Ending, going, stopped, failed, Run, nothing_done, followed_by, then_run, does, on_value, on, turns, parallel_turns, run_entered}
+use Rattle.ped_weaves.specs.ped_eval.specs.Outcomes.{Ends}
 use Rattle.ped_weaves.specs.ped_laws.specs.Runs.Seeing.{Holds, ComesTo, IsToldBySight}
 use Rattle.ped_weaves.specs.ped_laws.specs.Runs.Replaying.{Finish, goes_on, stops, faults, finish_of, ending_with, act, Replays, IsToldByActs}
 use Rattle.ped_weaves.specs.ped_laws.proofs.RunLaws.Told.{own_run, replays_behind, replays_stopped, replays_act, replays_on}

@@ -9,23 +9,23 @@ use Rattle.ped_tree.specs.Tree.{CondTree, Head, StmtTree, StmtTrees, If, Do, no_
 use Rattle.ped_tree.specs.Nests.{Loop}
 use Rattle.ped_tree.specs.NamesIn.{cond_names, head_names, stmt_names, stmts_names}
 use Rattle.ped_tree.specs.Numbering.{numbered, all_numbered, statement_with, statement_count, statements_count}
-use Rattle.ped_weaves.specs.ped_laws.specs.ped_store.specs.Stores.{Store}
-use Rattle.ped_weaves.specs.ped_laws.specs.ped_store.specs.Acts.{Act, Turn, did, entered}
+use Rattle.ped_weaves.specs.ped_store.specs.Stores.{Store}
+use Rattle.ped_weaves.specs.ped_store.specs.Acts.{Act, Turn, did, entered}
 use Rattle.ped_weaves.specs.ped_laws.specs.Acts.Fitting.{store_after}
 use Rattle.ped_weaves.specs.ped_laws.proofs.ActLaws.Stores.{after_append}
 use Rattle.ped_weaves.specs.ped_laws.specs.Acts.Pieces.{Part, changed, old_parts, new_parts}
-use Rattle.ped_weaves.specs.ped_laws.specs.ped_eval.specs.Scopes.{Setting, Frame, Scope, turns_of, names_in, place_of}
-use Rattle.ped_weaves.specs.ped_laws.specs.ped_eval.specs.Evaluation.{Seen, numbered as numbered_reads, number_behind}
-use Rattle.ped_weaves.specs.ped_laws.specs.ped_eval.specs.Values.{truth}
-use Rattle.ped_weaves.specs.ped_laws.specs.ped_eval.specs.Loops.{Limits, limits, increment, iteration_count, entered_with, frame, inner_variables, entry_touches}
-use Rattle.ped_weaves.specs.ped_laws.specs.ped_eval.specs.Runs.{Ending, going, stopped, failed, Run, nothing_done, followed_by, then_run, does, on, run_if, run_entered, run_from_entry, run_do, run, run_all}
-use Rattle.ped_weaves.specs.ped_laws.specs.ped_eval.specs.Outcomes.{Ends}
+use Rattle.ped_weaves.specs.ped_eval.specs.Scopes.{Setting, Frame, Scope, turns_of, names_in, place_of}
+use Rattle.ped_weaves.specs.ped_eval.specs.Evaluation.{Seen, numbered as numbered_reads, number_behind}
+use Rattle.ped_weaves.specs.ped_eval.specs.Values.{truth}
+use Rattle.ped_weaves.specs.ped_eval.specs.Loops.{Limits, limits, increment, iteration_count, entered_with, frame, inner_variables, entry_touches}
+use Rattle.ped_weaves.specs.ped_eval.specs.Runs.{Ending, going, stopped, failed, Run, nothing_done, followed_by, then_run, does, on, run_if, run_entered, run_from_entry, run_do, run, run_all}
+use Rattle.ped_weaves.specs.ped_eval.specs.Outcomes.{Ends}
 use Rattle.ped_weaves.specs.ped_laws.specs.Runs.Replaying.{Finish, goes_on, finish_of, Replays, IsToldByActs}
 use Rattle.ped_weaves.specs.ped_laws.proofs.RunLaws.Told.{found_reads, found_reads_first}
 use Rattle.ped_weaves.specs.ped_laws.proofs.RunLaws.Sight.{truth_told, limits_told}
 use Rattle.ped_weaves.specs.ped_laws.proofs.RunLaws.StatementsTold.{run_told, all_told}
 use Rattle.ped_weaves.specs.ped_laws.proofs.RunLaws.Numbers.{run_same, all_same}
-use Rattle.ped_weaves.specs.ped_laws.specs.ped_flow.specs.PlainBounds.{loops_round, all_loops_round, nest_round, outermost_or}
+use Rattle.ped_weaves.specs.ped_flow.specs.PlainBounds.{loops_round, all_loops_round, nest_round, outermost_or}
 use Rattle.ped_weaves.specs.ped_laws.specs.FlowRuns.Covering.{some_stop}
 use Rattle.ped_weaves.specs.ped_laws.specs.FlowRuns.Exits.{AreIterationsOf}
 use Rattle.ped_weaves.specs.ped_laws.proofs.FlowRunLaws.Unstopped.{IsUnstopped, all_unstopped}

@@ -5,23 +5,23 @@ use Rattle.std.proofs.lemmas.List.{append_assoc}
 use Rattle.ped_tree.specs.Tree.{Head, StmtTrees, Do, ProgramTree}
 use Rattle.ped_tree.specs.Nests.{Loop}
 use Rattle.ped_tree.specs.Numbering.{statement_with, statements_count}
-use Rattle.ped_weaves.specs.ped_laws.specs.ped_store.specs.Cells.{Cell}
-use Rattle.ped_weaves.specs.ped_laws.specs.ped_store.specs.Stores.{Store}
-use Rattle.ped_weaves.specs.ped_laws.specs.ped_store.specs.Acts.{Place, Act, entered, ended_turn, closed, store_behind}
+use Rattle.ped_weaves.specs.ped_store.specs.Cells.{Cell}
+use Rattle.ped_weaves.specs.ped_store.specs.Stores.{Store}
+use Rattle.ped_weaves.specs.ped_store.specs.Acts.{Place, Act, entered, ended_turn, closed, store_behind}
 use Rattle.ped_weaves.specs.ped_laws.specs.Acts.Fitting.{Fits, store_after}
 use Rattle.ped_weaves.specs.ped_laws.specs.Acts.Sets.{AgreeIn, wants}
 use Rattle.ped_weaves.specs.ped_laws.specs.Acts.Pieces.{Part, same, changed, old_parts, new_parts, StandsFor, PartsStand}
 use Rattle.ped_weaves.specs.ped_laws.proofs.ActLaws.Stores.{after_append}
 use Rattle.ped_weaves.specs.ped_laws.proofs.ActLaws.Exchanging.{parts_fit, parts_leave}
-use Rattle.ped_weaves.specs.ped_laws.specs.ped_eval.specs.Scopes.{Setting, Frame, Scope, names_in, place_of}
-use Rattle.ped_weaves.specs.ped_laws.specs.ped_eval.specs.Evaluation.{Seen}
-use Rattle.ped_weaves.specs.ped_laws.specs.ped_eval.specs.Loops.{Limits, limits, Entered, entered_with, frame, exit_touches, exit_when_none, entry_touches}
-use Rattle.ped_weaves.specs.ped_laws.specs.ped_eval.specs.Runs.{Ending, going, stopped, failed, Run, nothing_done, followed_by, does, on_value, turns, parallel_turns, run_entered, run_from_entry, run, run_all}
-use Rattle.ped_weaves.specs.ped_laws.specs.ped_eval.specs.Outcomes.{Ends}
+use Rattle.ped_weaves.specs.ped_eval.specs.Scopes.{Setting, Frame, Scope, names_in, place_of}
+use Rattle.ped_weaves.specs.ped_eval.specs.Evaluation.{Seen}
+use Rattle.ped_weaves.specs.ped_eval.specs.Loops.{Limits, limits, Entered, entered_with, frame, exit_touches, exit_when_none, entry_touches}
+use Rattle.ped_weaves.specs.ped_eval.specs.Runs.{Ending, going, stopped, failed, Run, nothing_done, followed_by, does, on_value, turns, parallel_turns, run_entered, run_from_entry, run, run_all}
+use Rattle.ped_weaves.specs.ped_eval.specs.Outcomes.{Ends}
 use Rattle.ped_weaves.specs.ped_laws.specs.Runs.Replaying.{Finish, goes_on, finish_of, ending_with, act}
 use Rattle.ped_weaves.specs.ped_laws.proofs.RunLaws.StatementsTold.{all_told}
-use Rattle.ped_weaves.specs.ped_laws.specs.ped_flow.specs.Questions.{LoopOf}
-use Rattle.ped_weaves.specs.ped_laws.specs.ped_flow.specs.PlainBounds.{nest_round, outermost_or}
+use Rattle.ped_weaves.specs.ped_flow.specs.Questions.{LoopOf}
+use Rattle.ped_weaves.specs.ped_flow.specs.PlainBounds.{nest_round, outermost_or}
 use Rattle.ped_weaves.specs.ped_laws.specs.FlowRuns.Entries.{IsEntry}
 use Rattle.ped_weaves.specs.ped_laws.specs.FlowRuns.Exits.{is_exit, IsExit}
 use Rattle.ped_steps.specs.Runs.Pasting.{AreTurnsOf, IsPlaceOf, IsPartOf, IsDone, IsInExecution, AreExecutions, StandInstead}

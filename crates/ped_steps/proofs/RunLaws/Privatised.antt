@@ -3,9 +3,9 @@ use Rattle.std.proofs.Common.{◌≡◌, ℕ, suc, List, [], ◌∷◌, ◌++◌
 use Rattle.std.specs.Prelude.{◌||◌, not, ◌&&◌}
 use Rattle.std.proofs.lemmas.Bool.{both_ways, or_parts}
 use Rattle.std.proofs.lemmas.List.{map-append}
-use Rattle.ped_weaves.specs.ped_laws.specs.ped_store.specs.Cells.{Cell, same_cell}
-use Rattle.ped_weaves.specs.ped_laws.specs.ped_store.specs.Stores.{Undefined, Store}
-use Rattle.ped_weaves.specs.ped_laws.specs.ped_store.specs.Acts.{Touch, Act, store_behind}
+use Rattle.ped_weaves.specs.ped_store.specs.Cells.{Cell, same_cell}
+use Rattle.ped_weaves.specs.ped_store.specs.Stores.{Undefined, Store}
+use Rattle.ped_weaves.specs.ped_store.specs.Acts.{Touch, Act, store_behind}
 use Rattle.ped_weaves.specs.ped_laws.specs.Acts.Fitting.{Find, Fits, store_after, touches_of, of_cells, has_cell}
 use Rattle.ped_weaves.specs.ped_laws.specs.Acts.Sets.{needs, written, wants}
 use Rattle.ped_weaves.specs.ped_laws.specs.Acts.Renaming.{AreRenamed, Renamed, touch}
@@ -14,9 +14,9 @@ use Rattle.ped_weaves.specs.ped_laws.proofs.ActLaws.Stores.{find_append}
 use Rattle.ped_weaves.specs.ped_laws.proofs.ActLaws.Appending.{touch_append}
 use Rattle.ped_weaves.specs.ped_laws.proofs.ActLaws.Renamings.{needed_touched, renamed_fits, renamed_leaves, agreeing_leaves}
 use Rattle.ped_weaves.specs.ped_laws.proofs.ActLaws.Exchanging.{needed_wanted, wanted_before}
-use Rattle.ped_weaves.specs.ped_laws.specs.ped_eval.specs.Scopes.{Scope, cell_of}
-use Rattle.ped_weaves.specs.ped_laws.specs.ped_eval.specs.Statements.{write_touch}
-use Rattle.ped_weaves.specs.ped_laws.specs.ped_eval.specs.Loops.{Entered, undefined_by, undefined_all, left_in_variable, exit_touches, exit_when_none}
+use Rattle.ped_weaves.specs.ped_eval.specs.Scopes.{Scope, cell_of}
+use Rattle.ped_weaves.specs.ped_eval.specs.Statements.{write_touch}
+use Rattle.ped_weaves.specs.ped_eval.specs.Loops.{Entered, undefined_by, undefined_all, left_in_variable, exit_touches, exit_when_none}
 use Rattle.ped_steps.specs.Runs.Exchanging.{exchanged_touch, exchanged_acts, swapped}
 use Rattle.ped_steps.proofs.RunLaws.Swapped.{swapped_other, twice}
 

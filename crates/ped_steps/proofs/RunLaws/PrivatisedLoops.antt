@@ -2,9 +2,9 @@
 use Rattle.std.proofs.Common.{◌≡◌, ℕ, zero, suc, ◌+◌, List, [], ◌∷◌, ◌++◌, Bool, true, false, eqb, Ok, refl, sym, ap, subst, ◌∙◌, append_assoc, append-nil, if◌then◌else◌}
 use Rattle.ped_base.specs.Lists.{is_among}
 use Rattle.ped_tree.specs.Tree.{Head, StmtTrees, Do}
-use Rattle.ped_weaves.specs.ped_laws.specs.ped_store.specs.Cells.{Cell, Private, same_cell}
-use Rattle.ped_weaves.specs.ped_laws.specs.ped_store.specs.Stores.{Undefined, Store}
-use Rattle.ped_weaves.specs.ped_laws.specs.ped_store.specs.Acts.{Touch, Place, Act, entered, ended_turn, iterations_of, store_behind}
+use Rattle.ped_weaves.specs.ped_store.specs.Cells.{Cell, Private, same_cell}
+use Rattle.ped_weaves.specs.ped_store.specs.Stores.{Undefined, Store}
+use Rattle.ped_weaves.specs.ped_store.specs.Acts.{Touch, Place, Act, entered, ended_turn, iterations_of, store_behind}
 use Rattle.ped_weaves.specs.ped_laws.specs.Acts.Fitting.{Fits, store_after}
 use Rattle.ped_weaves.specs.ped_laws.specs.Acts.Sets.{AgreeIn, needs, wants}
 use Rattle.ped_weaves.specs.ped_laws.specs.Acts.Renaming.{touch}
@@ -15,12 +15,12 @@ use Rattle.ped_weaves.specs.ped_laws.proofs.ActLaws.SameCells.{other_cell}
 use Rattle.ped_weaves.specs.ped_laws.proofs.ActLaws.Appending.{touch_append}
 use Rattle.ped_weaves.specs.ped_laws.proofs.ActLaws.Renamings.{agreeing_fits}
 use Rattle.ped_weaves.specs.ped_laws.proofs.ActLaws.Exchanging.{needed_wanted}
-use Rattle.ped_weaves.specs.ped_laws.specs.ped_eval.specs.Scopes.{Setting, Scope, turns_of, cell_of, names_in, place_of}
-use Rattle.ped_weaves.specs.ped_laws.specs.ped_eval.specs.Evaluation.{Seen, numbered}
-use Rattle.ped_weaves.specs.ped_laws.specs.ped_eval.specs.Statements.{write_touch}
-use Rattle.ped_weaves.specs.ped_laws.specs.ped_eval.specs.Loops.{Limits, limits, Entered, entered_with, frame, inner_variables, left_in_variable, undefined_by, undefined_all, exit_touches, exit_when_none, entry_touches}
-use Rattle.ped_weaves.specs.ped_laws.specs.ped_eval.specs.Runs.{Run, turns, run_entered, run}
-use Rattle.ped_weaves.specs.ped_laws.specs.ped_eval.specs.Turns.{body_run}
+use Rattle.ped_weaves.specs.ped_eval.specs.Scopes.{Setting, Scope, turns_of, cell_of, names_in, place_of}
+use Rattle.ped_weaves.specs.ped_eval.specs.Evaluation.{Seen, numbered}
+use Rattle.ped_weaves.specs.ped_eval.specs.Statements.{write_touch}
+use Rattle.ped_weaves.specs.ped_eval.specs.Loops.{Limits, limits, Entered, entered_with, frame, inner_variables, left_in_variable, undefined_by, undefined_all, exit_touches, exit_when_none, entry_touches}
+use Rattle.ped_weaves.specs.ped_eval.specs.Runs.{Run, turns, run_entered, run}
+use Rattle.ped_weaves.specs.ped_eval.specs.Turns.{body_run}
 use Rattle.ped_weaves.specs.ped_laws.specs.Runs.Seeing.{ComesTo}
 use Rattle.ped_weaves.specs.ped_laws.specs.Runs.Replaying.{Finish, goes_on, stops, faults, is_going, finish_of, act, behind, Replays}
 use Rattle.ped_weaves.specs.ped_laws.proofs.RunLaws.Sight.{limits_told}

@@ -12,30 +12,30 @@ use Rattle.ped_tree.specs.Accesses.{constant_names}
 use Rattle.ped_tree.specs.Numbering.{statement_count, statements_count, statement_with}
 use Rattle.ped_tree.specs.Constants.NamedConstants.{value_named}
 use Rattle.ped_tree.specs.NamesIn.{saved_in}
-use Rattle.ped_weaves.specs.ped_laws.specs.ped_graph.specs.ped_symbols.specs.declared.uses.Role.TheVariants.{Private}
-use Rattle.ped_weaves.specs.ped_laws.specs.ped_graph.specs.ped_symbols.specs.declared.uses.Use.{Use}
-use Rattle.ped_weaves.specs.ped_laws.specs.ped_graph.specs.ped_symbols.specs.Uses.{used_as}
-use Rattle.ped_weaves.specs.ped_laws.specs.ped_graph.specs.ped_symbols.specs.Entries.{entry_of}
-use Rattle.ped_weaves.specs.ped_laws.specs.ped_graph.specs.ped_symbols.specs.Sites.{statement, private_site, stmt_sites, stmts_sites}
-use Rattle.ped_weaves.specs.ped_laws.specs.ped_graph.specs.ped_symbols.specs.Kinds.{kind_by, kind_of, kind_in, names_of, at_last}
-use Rattle.ped_weaves.specs.ped_laws.specs.ped_graph.specs.ped_symbols.specs.NameRefusals.{IsValid}
-use Rattle.ped_weaves.specs.ped_laws.specs.ped_graph.specs.ped_symbols.specs.RightUses.RightUses.{is_scalar, is_scalar_kind}
-use Rattle.ped_weaves.specs.ped_laws.specs.ped_graph.specs.ped_symbols.proofs.RightUseLaws.Whole.{constants_valued, same_values, same_kinds}
-use Rattle.ped_weaves.specs.ped_laws.specs.ped_store.specs.Cells as cells
-use Rattle.ped_weaves.specs.ped_laws.specs.ped_store.specs.Cells.{Cell}
-use Rattle.ped_weaves.specs.ped_laws.specs.ped_store.specs.Stores.{Store, store_at_start, lines_in}
-use Rattle.ped_weaves.specs.ped_laws.specs.ped_store.specs.Acts.{Act}
-use Rattle.ped_weaves.specs.ped_laws.specs.ped_store.specs.Races.{accesses, HasNoRace}
-use Rattle.ped_weaves.specs.ped_laws.specs.ped_store.specs.Variables.{values_of}
+use Rattle.ped_weaves.specs.ped_graph.specs.ped_symbols.specs.declared.uses.Role.TheVariants.{Private}
+use Rattle.ped_weaves.specs.ped_graph.specs.ped_symbols.specs.declared.uses.Use.{Use}
+use Rattle.ped_weaves.specs.ped_graph.specs.ped_symbols.specs.Uses.{used_as}
+use Rattle.ped_weaves.specs.ped_graph.specs.ped_symbols.specs.Entries.{entry_of}
+use Rattle.ped_weaves.specs.ped_graph.specs.ped_symbols.specs.Sites.{statement, private_site, stmt_sites, stmts_sites}
+use Rattle.ped_weaves.specs.ped_graph.specs.ped_symbols.specs.Kinds.{kind_by, kind_of, kind_in, names_of, at_last}
+use Rattle.ped_weaves.specs.ped_graph.specs.ped_symbols.specs.NameRefusals.{IsValid}
+use Rattle.ped_weaves.specs.ped_graph.specs.ped_symbols.specs.RightUses.RightUses.{is_scalar, is_scalar_kind}
+use Rattle.ped_weaves.specs.ped_graph.specs.ped_symbols.proofs.RightUseLaws.Whole.{constants_valued, same_values, same_kinds}
+use Rattle.ped_weaves.specs.ped_store.specs.Cells as cells
+use Rattle.ped_weaves.specs.ped_store.specs.Cells.{Cell}
+use Rattle.ped_weaves.specs.ped_store.specs.Stores.{Store, store_at_start, lines_in}
+use Rattle.ped_weaves.specs.ped_store.specs.Acts.{Act}
+use Rattle.ped_weaves.specs.ped_store.specs.Races.{accesses, HasNoRace}
+use Rattle.ped_weaves.specs.ped_store.specs.Variables.{values_of}
 use Rattle.ped_weaves.specs.ped_laws.specs.Acts.Fitting.{store_after}
 use Rattle.ped_weaves.specs.ped_laws.specs.Acts.Sets.{AgreeIn}
 use Rattle.ped_weaves.specs.ped_laws.specs.Acts.Pieces.{Part, old_parts, new_parts}
-use Rattle.ped_weaves.specs.ped_laws.specs.ped_eval.specs.Scopes.{Setting, Scope, cell_of}
-use Rattle.ped_weaves.specs.ped_laws.specs.ped_eval.specs.Runs.{Ending, going, stopped, failed, Run, run, run_all}
-use Rattle.ped_weaves.specs.ped_laws.specs.ped_eval.specs.Outcomes as outcomes
-use Rattle.ped_weaves.specs.ped_laws.specs.ped_eval.specs.Outcomes.{bounds_of, setting_of, run_of, live_names, live_rows, outcome_of, outcome, Ends, IsRaceFree}
-use Rattle.ped_weaves.specs.ped_laws.specs.ped_flow.specs.Questions as flow
-use Rattle.ped_weaves.specs.ped_laws.specs.ped_flow.specs.Questions.{LoopOf, IsExposed, IsLiveAfter}
+use Rattle.ped_weaves.specs.ped_eval.specs.Scopes.{Setting, Scope, cell_of}
+use Rattle.ped_weaves.specs.ped_eval.specs.Runs.{Ending, going, stopped, failed, Run, run, run_all}
+use Rattle.ped_weaves.specs.ped_eval.specs.Outcomes as outcomes
+use Rattle.ped_weaves.specs.ped_eval.specs.Outcomes.{bounds_of, setting_of, run_of, live_names, live_rows, outcome_of, outcome, Ends, IsRaceFree}
+use Rattle.ped_weaves.specs.ped_flow.specs.Questions as flow
+use Rattle.ped_weaves.specs.ped_flow.specs.Questions.{LoopOf, IsExposed, IsLiveAfter}
 use Rattle.ped_weaves.specs.ped_laws.specs.FlowRuns.Exits.{IsOneToOne}
 use Rattle.ped_weaves.specs.ped_laws.proofs.FlowRunLaws.Stopping.{fitting_stops, loop_stops}
 use Rattle.ped_weaves.specs.ped_laws.proofs.FlowRunLaws.Names.{sorted_among}

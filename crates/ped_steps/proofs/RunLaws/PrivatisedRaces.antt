@@ -6,10 +6,10 @@ use Rattle.std.proofs.lemmas.Bool.{and_parts, or_parts, both_ways}
 use Rattle.ped_base.specs.Lists.{is_among}
 use Rattle.ped_tree.specs.Tree.{Do, ProgramTree}
 use Rattle.ped_tree.specs.Nests.{Loop}
-use Rattle.ped_weaves.specs.ped_laws.specs.ped_store.specs.Cells.{Cell, Private, Iteration, same_cell}
-use Rattle.ped_weaves.specs.ped_laws.specs.ped_store.specs.Stores.{Store}
-use Rattle.ped_weaves.specs.ped_laws.specs.ped_store.specs.Acts.{Turn, Place, Act, iterations_of}
-use Rattle.ped_weaves.specs.ped_laws.specs.ped_store.specs.Races.{Access, accesses, conflict, are_apart, race, HasNoRace}
+use Rattle.ped_weaves.specs.ped_store.specs.Cells.{Cell, Private, Iteration, same_cell}
+use Rattle.ped_weaves.specs.ped_store.specs.Stores.{Store}
+use Rattle.ped_weaves.specs.ped_store.specs.Acts.{Turn, Place, Act, iterations_of}
+use Rattle.ped_weaves.specs.ped_store.specs.Races.{Access, accesses, conflict, are_apart, race, HasNoRace}
 use Rattle.ped_weaves.specs.ped_laws.specs.Acts.Orders.{IsIn, StandsBefore}
 use Rattle.ped_weaves.specs.ped_laws.specs.Acts.Origins.{AreOfOneKind}
 use Rattle.ped_weaves.specs.ped_laws.specs.Acts.Pieces.{Part, old_parts, new_parts}
@@ -17,11 +17,11 @@ use Rattle.ped_weaves.specs.ped_laws.proofs.ActLaws.Lists.{first_in, second_in, 
 use Rattle.ped_weaves.specs.ped_laws.proofs.ActLaws.SameCells.{cell_is, is_cell}
 use Rattle.ped_weaves.specs.ped_laws.proofs.ActLaws.Conflicting.{access_place}
 use Rattle.ped_weaves.specs.ped_laws.proofs.ActLaws.RaceFree.{no_race_before, no_race_from, apart_flip}
-use Rattle.ped_weaves.specs.ped_laws.specs.ped_eval.specs.Scopes.{Setting, Scope, turns_of, names_in}
-use Rattle.ped_weaves.specs.ped_laws.specs.ped_eval.specs.Loops.{Limits, limits}
-use Rattle.ped_weaves.specs.ped_laws.specs.ped_eval.specs.Runs.{run, run_all}
-use Rattle.ped_weaves.specs.ped_laws.specs.ped_flow.specs.Questions.{LoopOf}
-use Rattle.ped_weaves.specs.ped_laws.specs.ped_flow.specs.PlainBounds.{nest_round}
+use Rattle.ped_weaves.specs.ped_eval.specs.Scopes.{Setting, Scope, turns_of, names_in}
+use Rattle.ped_weaves.specs.ped_eval.specs.Loops.{Limits, limits}
+use Rattle.ped_weaves.specs.ped_eval.specs.Runs.{run, run_all}
+use Rattle.ped_weaves.specs.ped_flow.specs.Questions.{LoopOf}
+use Rattle.ped_weaves.specs.ped_flow.specs.PlainBounds.{nest_round}
 use Rattle.ped_weaves.specs.ped_laws.specs.FlowRuns.Exits.{IsOneToOne}
 use Rattle.ped_weaves.specs.ped_laws.proofs.RunLaws.Placing.{kinds_of_run}
 use Rattle.ped_steps.specs.Runs.Pasting.{AreTurnsOf, AreExecutions}

@@ -4,10 +4,10 @@ use Rattle.std.proofs.lemmas.List.{map-append}
 use Rattle.ped_base.specs.Lists.{is_among}
 use Rattle.ped_tree.specs.Tree.{Do, ProgramTree}
 use Rattle.ped_tree.specs.Numbering.{statement_with}
-use Rattle.ped_weaves.specs.ped_laws.specs.ped_store.specs.Cells.{Private, Iteration}
-use Rattle.ped_weaves.specs.ped_laws.specs.ped_store.specs.Acts.{Turn, iterations_of}
-use Rattle.ped_weaves.specs.ped_laws.specs.ped_eval.specs.Scopes.{Setting, Frame, Scope, turns_of, cell_of}
-use Rattle.ped_weaves.specs.ped_laws.specs.ped_eval.specs.Loops.{inner_variables}
+use Rattle.ped_weaves.specs.ped_store.specs.Cells.{Private, Iteration}
+use Rattle.ped_weaves.specs.ped_store.specs.Acts.{Turn, iterations_of}
+use Rattle.ped_weaves.specs.ped_eval.specs.Scopes.{Setting, Frame, Scope, turns_of, cell_of}
+use Rattle.ped_weaves.specs.ped_eval.specs.Loops.{inner_variables}
 use Rattle.ped_weaves.specs.ped_laws.specs.FlowRuns.Exits.{IsOneToOne, IsIterationOf, AreIterationsOf}
 
 -- lists with one more item at the end

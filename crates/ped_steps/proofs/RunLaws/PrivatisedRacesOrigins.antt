@@ -5,21 +5,21 @@ use Rattle.std.specs.List.{filter}
 use Rattle.std.proofs.lemmas.Bool.{both_ways}
 use Rattle.ped_base.specs.Lists.{is_among}
 use Rattle.ped_tree.specs.Tree.{Head, StmtTrees, Do, ProgramTree}
-use Rattle.ped_weaves.specs.ped_laws.specs.ped_store.specs.Cells.{Cell, Scalar, Element, Private, In, Out}
-use Rattle.ped_weaves.specs.ped_laws.specs.ped_store.specs.Stores.{Store}
-use Rattle.ped_weaves.specs.ped_laws.specs.ped_store.specs.Acts.{Touch, Act, entered, ended_turn, iterations_of}
-use Rattle.ped_weaves.specs.ped_laws.specs.ped_store.specs.Races.{Access, is_lines, is_write, is_access, accesses_of, accesses}
+use Rattle.ped_weaves.specs.ped_store.specs.Cells.{Cell, Scalar, Element, Private, In, Out}
+use Rattle.ped_weaves.specs.ped_store.specs.Stores.{Store}
+use Rattle.ped_weaves.specs.ped_store.specs.Acts.{Touch, Act, entered, ended_turn, iterations_of}
+use Rattle.ped_weaves.specs.ped_store.specs.Races.{Access, is_lines, is_write, is_access, accesses_of, accesses}
 use Rattle.ped_weaves.specs.ped_laws.specs.Acts.Fitting.{store_after}
 use Rattle.ped_weaves.specs.ped_laws.specs.Acts.Orders.{IsIn}
 use Rattle.ped_weaves.specs.ped_laws.specs.Acts.Pieces.{Part, same, changed, old_parts, new_parts}
 use Rattle.ped_weaves.specs.ped_laws.proofs.ActLaws.Lists.{in_left, in_right, in_parts}
 use Rattle.ped_weaves.specs.ped_laws.proofs.ActLaws.Conflicting.{access_by, access_from, access_place, accesses_in}
-use Rattle.ped_weaves.specs.ped_laws.specs.ped_eval.specs.Scopes.{Setting, Scope, turns_of, cell_of, names_in, place_of}
-use Rattle.ped_weaves.specs.ped_laws.specs.ped_eval.specs.Evaluation.{Seen}
-use Rattle.ped_weaves.specs.ped_laws.specs.ped_eval.specs.Loops.{Limits, limits, entered_with, frame, entry_touches, exit_when_none}
-use Rattle.ped_weaves.specs.ped_laws.specs.ped_eval.specs.Runs.{Run, run, run_all}
-use Rattle.ped_weaves.specs.ped_laws.specs.ped_eval.specs.Turns.{body_run}
-use Rattle.ped_weaves.specs.ped_laws.specs.ped_flow.specs.Questions.{LoopOf}
+use Rattle.ped_weaves.specs.ped_eval.specs.Scopes.{Setting, Scope, turns_of, cell_of, names_in, place_of}
+use Rattle.ped_weaves.specs.ped_eval.specs.Evaluation.{Seen}
+use Rattle.ped_weaves.specs.ped_eval.specs.Loops.{Limits, limits, entered_with, frame, entry_touches, exit_when_none}
+use Rattle.ped_weaves.specs.ped_eval.specs.Runs.{Run, run, run_all}
+use Rattle.ped_weaves.specs.ped_eval.specs.Turns.{body_run}
+use Rattle.ped_weaves.specs.ped_flow.specs.Questions.{LoopOf}
 use Rattle.ped_weaves.specs.ped_laws.specs.Runs.Replaying.{goes_on, finish_of, act}
 use Rattle.ped_weaves.specs.ped_laws.specs.FlowRuns.Exits.{IsOneToOne, AreIterationsOf}
 use Rattle.ped_weaves.specs.ped_laws.proofs.FlowRunLaws.Standing.{whole_stands}

@@ -5,13 +5,13 @@ use Rattle.std.specs.List.{AllByRecursion}
 use Rattle.std.proofs.lemmas.List.Elements.{All-from_recursion, recursion_from_All}
 use Rattle.std.proofs.lemmas.List.{map-append}
 use Rattle.ped_tree.specs.Tree.{ProgramTree}
-use Rattle.ped_weaves.specs.ped_laws.specs.ped_store.specs.Cells.{Cell, Scalar, Element, Private, In, Out}
-use Rattle.ped_weaves.specs.ped_laws.specs.ped_store.specs.Stores.{Store, store_at_start}
-use Rattle.ped_weaves.specs.ped_laws.specs.ped_store.specs.Acts.{Touch, Turn, Act}
-use Rattle.ped_weaves.specs.ped_laws.specs.ped_store.specs.Races.{Access, is_lines, is_write, is_access, accesses_of, accesses, are_apart, race, HasNoRace}
-use Rattle.ped_weaves.specs.ped_laws.specs.ped_eval.specs.Scopes.{Setting}
-use Rattle.ped_weaves.specs.ped_laws.specs.ped_eval.specs.Runs.{Ending, going, stopped, failed, run_all}
-use Rattle.ped_weaves.specs.ped_laws.specs.ped_eval.specs.Outcomes.{Ends, outcome_of}
+use Rattle.ped_weaves.specs.ped_store.specs.Cells.{Cell, Scalar, Element, Private, In, Out}
+use Rattle.ped_weaves.specs.ped_store.specs.Stores.{Store, store_at_start}
+use Rattle.ped_weaves.specs.ped_store.specs.Acts.{Touch, Turn, Act}
+use Rattle.ped_weaves.specs.ped_store.specs.Races.{Access, is_lines, is_write, is_access, accesses_of, accesses, are_apart, race, HasNoRace}
+use Rattle.ped_weaves.specs.ped_eval.specs.Scopes.{Setting}
+use Rattle.ped_weaves.specs.ped_eval.specs.Runs.{Ending, going, stopped, failed, run_all}
+use Rattle.ped_weaves.specs.ped_eval.specs.Outcomes.{Ends, outcome_of}
 use Rattle.ped_weaves.specs.ped_laws.specs.Runs.Showing.{shown_at_end}
 use Rattle.ped_weaves.specs.ped_laws.specs.Runs.Replaying.{goes_on, stops}
 use Rattle.ped_weaves.specs.ped_laws.proofs.RunLaws.Shown.{outcome_same}

@@ -5,16 +5,16 @@ use Rattle.std.proofs.lemmas.List.{map-append}
 use Rattle.ped_base.specs.Lists.{is_same_text, is_among}
 use Rattle.ped_tree.specs.Tree.{ExprTree, CondTree, ItemTree, Head, StmtTree, StmtTrees, Assign, If, Do, Print, Read, Stop, Comment, no_stmts, more_stmts}
 use Rattle.ped_tree.specs.Numbering.{statement_count, statements_count}
-use Rattle.ped_weaves.specs.ped_laws.specs.ped_store.specs.Cells.{Cell, Scalar, Element, Private, In, Out, Iteration, same_cell}
-use Rattle.ped_weaves.specs.ped_laws.specs.ped_store.specs.Stores.{Store, lines_in}
-use Rattle.ped_weaves.specs.ped_laws.specs.ped_store.specs.Acts.{Touch, Turn, Place, Step, did, entered, ended_turn, closed, faulted, Act, store_behind, iterations_of}
-use Rattle.ped_weaves.specs.ped_laws.specs.ped_store.specs.DataLines.{begun}
-use Rattle.ped_weaves.specs.ped_laws.specs.ped_eval.specs.Scopes.{Setting, Frame, Scope, turns_of, cell_of, index_value, Names, names_in, place_of}
-use Rattle.ped_weaves.specs.ped_laws.specs.ped_eval.specs.Evaluation.{Seen, Evaluated, numbered}
-use Rattle.ped_weaves.specs.ped_laws.specs.ped_eval.specs.Values.{truth}
-use Rattle.ped_weaves.specs.ped_laws.specs.ped_eval.specs.Statements.{assigned, assignment_touches, printed_line, print_touches, write_touch, Taking, reading, reading_touches}
-use Rattle.ped_weaves.specs.ped_laws.specs.ped_eval.specs.Loops.{Limits, limits, increment, iteration_count, inner_variables, Entered, entered_with, frame, undefined_by, undefined_all, left_in_variable, exit_touches, exit_when_none, entry_touches}
-use Rattle.ped_weaves.specs.ped_laws.specs.ped_eval.specs.Runs.{Ending, going, stopped, failed, Run, nothing_done, followed_by, then_run, does, fails, on, run_assignment, run_print, run_taking, run_read, run_stop, run_if, turns, parallel_turns, run_entered, run_from_entry, run_do, run, run_all}
+use Rattle.ped_weaves.specs.ped_store.specs.Cells.{Cell, Scalar, Element, Private, In, Out, Iteration, same_cell}
+use Rattle.ped_weaves.specs.ped_store.specs.Stores.{Store, lines_in}
+use Rattle.ped_weaves.specs.ped_store.specs.Acts.{Touch, Turn, Place, Step, did, entered, ended_turn, closed, faulted, Act, store_behind, iterations_of}
+use Rattle.ped_weaves.specs.ped_store.specs.DataLines.{begun}
+use Rattle.ped_weaves.specs.ped_eval.specs.Scopes.{Setting, Frame, Scope, turns_of, cell_of, index_value, Names, names_in, place_of}
+use Rattle.ped_weaves.specs.ped_eval.specs.Evaluation.{Seen, Evaluated, numbered}
+use Rattle.ped_weaves.specs.ped_eval.specs.Values.{truth}
+use Rattle.ped_weaves.specs.ped_eval.specs.Statements.{assigned, assignment_touches, printed_line, print_touches, write_touch, Taking, reading, reading_touches}
+use Rattle.ped_weaves.specs.ped_eval.specs.Loops.{Limits, limits, increment, iteration_count, inner_variables, Entered, entered_with, frame, undefined_by, undefined_all, left_in_variable, exit_touches, exit_when_none, entry_touches}
+use Rattle.ped_weaves.specs.ped_eval.specs.Runs.{Ending, going, stopped, failed, Run, nothing_done, followed_by, then_run, does, fails, on, run_assignment, run_print, run_taking, run_read, run_stop, run_if, turns, parallel_turns, run_entered, run_from_entry, run_do, run, run_all}
 use Rattle.ped_steps.specs.Runs.Exchanging.{exchanged_touch}
 use Rattle.ped_steps.specs.Runs.Renumbering.{renumbered_iteration, renumbered_cell, old_store, renumbered_turn, renumbered_place, renumbered_act, EndsAs, IsRenumbered, IsToldBack, renumbered}
 use Rattle.ped_steps.proofs.RunLaws.ExchangedTouches.{told_apart, taken_in, assignment_touches_in, print_touches_in, left_in, taking_from_in, undefined_by_in, undefined_all_in}

@@ -1,10 +1,10 @@
 -- What is done on renamed cells is done again from each store that it fits.
 use Rattle.std.proofs.Common.{◌≡◌, ℕ, refl, ap, subst, ◌∙◌}
 use Rattle.ped_tree.specs.Tree.{StmtTrees}
-use Rattle.ped_weaves.specs.ped_laws.specs.ped_store.specs.Cells.{Cell}
-use Rattle.ped_weaves.specs.ped_laws.specs.ped_store.specs.Stores.{Store}
-use Rattle.ped_weaves.specs.ped_laws.specs.ped_eval.specs.Scopes.{Setting, Scope}
-use Rattle.ped_weaves.specs.ped_laws.specs.ped_eval.specs.Runs.{Ending, going, stopped, failed, Run, run_all}
+use Rattle.ped_weaves.specs.ped_store.specs.Cells.{Cell}
+use Rattle.ped_weaves.specs.ped_store.specs.Stores.{Store}
+use Rattle.ped_weaves.specs.ped_eval.specs.Scopes.{Setting, Scope}
+use Rattle.ped_weaves.specs.ped_eval.specs.Runs.{Ending, going, stopped, failed, Run, run_all}
 use Rattle.ped_weaves.specs.ped_laws.specs.Runs.Replaying.{Finish, finish_of, Replays}
 use Rattle.ped_weaves.specs.ped_laws.proofs.RunLaws.StatementsTold.{all_told}
 use Rattle.ped_steps.specs.Runs.Exchanging.{IsExchange, AreExchanged, exchanged_store, exchanged_acts, exchanged_ending, exchanged_run}

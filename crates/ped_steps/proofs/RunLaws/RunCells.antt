@@ -3,17 +3,17 @@ use Rattle.std.proofs.Common.{◌≡◌, ℕ, zero, suc, ◌+◌, ℤ, List, [],
 use Rattle.std.specs.Prelude.{◌&&◌}
 use Rattle.ped_tree.specs.Tree.{ExprTree, CondTree, ItemTree, Head, StmtTree, StmtTrees, Assign, If, Do, Print, Read, Stop, Comment, no_stmts, more_stmts}
 use Rattle.ped_tree.specs.Numbering.{statement_count, statements_count}
-use Rattle.ped_weaves.specs.ped_laws.specs.ped_store.specs.Cells.{Cell, Element, In, Out}
-use Rattle.ped_weaves.specs.ped_laws.specs.ped_store.specs.Stores.{Undefined, Number, Lines, Store, put, lines_in}
-use Rattle.ped_weaves.specs.ped_laws.specs.ped_store.specs.Acts.{is_told, Touch, Act, did, entered, ended_turn, closed}
-use Rattle.ped_weaves.specs.ped_laws.specs.ped_store.specs.Storage.{is_within}
-use Rattle.ped_weaves.specs.ped_laws.specs.ped_store.specs.DataLines.{Data, begun, Taken, next_value_of}
-use Rattle.ped_weaves.specs.ped_laws.specs.ped_eval.specs.Scopes.{Setting, Frame, Scope, cell_of, names_in, place_of}
-use Rattle.ped_weaves.specs.ped_laws.specs.ped_eval.specs.Evaluation.{Seen, cell_seen, index_seen, numbered, number_behind}
-use Rattle.ped_weaves.specs.ped_laws.specs.ped_eval.specs.Values.{is_rank, truth, target}
-use Rattle.ped_weaves.specs.ped_laws.specs.ped_eval.specs.Statements.{Stored, assigned, printed_line, into_item, with_taken, taking, taking_from, reading, reading_touches, read_touch, write_touch}
-use Rattle.ped_weaves.specs.ped_laws.specs.ped_eval.specs.Loops.{Limits, limits, Entered, entered_with, frame, undefined_by, undefined_all, left_in_variable, exit_touches, exit_when_none}
-use Rattle.ped_weaves.specs.ped_laws.specs.ped_eval.specs.Runs.{Run, nothing_done, does, run_assignment, run_print, run_taking, run_if, run_do, turns, parallel_turns, run_entered, run, run_all}
+use Rattle.ped_weaves.specs.ped_store.specs.Cells.{Cell, Element, In, Out}
+use Rattle.ped_weaves.specs.ped_store.specs.Stores.{Undefined, Number, Lines, Store, put, lines_in}
+use Rattle.ped_weaves.specs.ped_store.specs.Acts.{is_told, Touch, Act, did, entered, ended_turn, closed}
+use Rattle.ped_weaves.specs.ped_store.specs.Storage.{is_within}
+use Rattle.ped_weaves.specs.ped_store.specs.DataLines.{Data, begun, Taken, next_value_of}
+use Rattle.ped_weaves.specs.ped_eval.specs.Scopes.{Setting, Frame, Scope, cell_of, names_in, place_of}
+use Rattle.ped_weaves.specs.ped_eval.specs.Evaluation.{Seen, cell_seen, index_seen, numbered, number_behind}
+use Rattle.ped_weaves.specs.ped_eval.specs.Values.{is_rank, truth, target}
+use Rattle.ped_weaves.specs.ped_eval.specs.Statements.{Stored, assigned, printed_line, into_item, with_taken, taking, taking_from, reading, reading_touches, read_touch, write_touch}
+use Rattle.ped_weaves.specs.ped_eval.specs.Loops.{Limits, limits, Entered, entered_with, frame, undefined_by, undefined_all, left_in_variable, exit_touches, exit_when_none}
+use Rattle.ped_weaves.specs.ped_eval.specs.Runs.{Run, nothing_done, does, run_assignment, run_print, run_taking, run_if, run_do, turns, parallel_turns, run_entered, run, run_all}
 use Rattle.ped_weaves.specs.ped_laws.proofs.RunLaws.SeenCells.{AllSeen, OfResult}
 use Rattle.ped_weaves.specs.ped_laws.proofs.RunLaws.Touches.{Each, each_none, each_more, each_append, then_each, does_each, on_each, any_result}
 use Rattle.ped_steps.proofs.RunLaws.SeenElements.{truth_seen, target_seen, target_is, line_seen, limits_seen, assigned_seen, assigned_is}

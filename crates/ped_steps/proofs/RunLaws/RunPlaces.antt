@@ -2,15 +2,15 @@
 use Rattle.std.proofs.Common.{◌≡◌, ℕ, zero, suc, ◌+◌, List, [], ◌∷◌, ◌++◌, Bool, true, false, Option, Some, None, sym, ◌∙◌, append_assoc, append-nil, if◌then◌else◌}
 use Rattle.ped_tree.specs.Tree.{Head, StmtTree, StmtTrees, Assign, If, Do, Print, Read, Stop, Comment, no_stmts, more_stmts}
 use Rattle.ped_tree.specs.Numbering.{statement_count, statements_count}
-use Rattle.ped_weaves.specs.ped_laws.specs.ped_store.specs.Stores.{Store}
-use Rattle.ped_weaves.specs.ped_laws.specs.ped_store.specs.Acts.{Touch, Turn, Step, Act, did, entered, ended_turn, closed, faulted}
+use Rattle.ped_weaves.specs.ped_store.specs.Stores.{Store}
+use Rattle.ped_weaves.specs.ped_store.specs.Acts.{Touch, Turn, Step, Act, did, entered, ended_turn, closed, faulted}
 use Rattle.ped_weaves.specs.ped_laws.specs.Acts.Orders.{IsIn}
-use Rattle.ped_weaves.specs.ped_laws.specs.ped_eval.specs.Scopes.{Setting, Frame, Scope, turns_of, names_in, place_of}
-use Rattle.ped_weaves.specs.ped_laws.specs.ped_eval.specs.Evaluation.{Seen, numbered}
-use Rattle.ped_weaves.specs.ped_laws.specs.ped_eval.specs.Values.{truth}
-use Rattle.ped_weaves.specs.ped_laws.specs.ped_eval.specs.Statements.{Taking, assigned, printed_line, reading}
-use Rattle.ped_weaves.specs.ped_laws.specs.ped_eval.specs.Loops.{Limits, limits, Entered, entered_with, frame, exit_touches, exit_when_none, entry_touches}
-use Rattle.ped_weaves.specs.ped_laws.specs.ped_eval.specs.Runs.{Run, nothing_done, does, run_taking, turns, parallel_turns, run_entered, run, run_all}
+use Rattle.ped_weaves.specs.ped_eval.specs.Scopes.{Setting, Frame, Scope, turns_of, names_in, place_of}
+use Rattle.ped_weaves.specs.ped_eval.specs.Evaluation.{Seen, numbered}
+use Rattle.ped_weaves.specs.ped_eval.specs.Values.{truth}
+use Rattle.ped_weaves.specs.ped_eval.specs.Statements.{Taking, assigned, printed_line, reading}
+use Rattle.ped_weaves.specs.ped_eval.specs.Loops.{Limits, limits, Entered, entered_with, frame, exit_touches, exit_when_none, entry_touches}
+use Rattle.ped_weaves.specs.ped_eval.specs.Runs.{Run, nothing_done, does, run_taking, turns, parallel_turns, run_entered, run, run_all}
 use Rattle.ped_weaves.specs.ped_laws.specs.Runs.Replaying.{act}
 use Rattle.ped_weaves.specs.ped_laws.proofs.RunLaws.Touches.{Each, each_none, each_more, then_each, does_each, on_each, any_result}
 use Rattle.ped_steps.proofs.RunLaws.RunCells.{EachDo, EachDos}

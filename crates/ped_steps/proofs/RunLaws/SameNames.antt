@@ -9,7 +9,7 @@ use Rattle.std.proofs.lemmas.Map.Lookups.{exact_bytes}
 use Rattle.ped_base.specs.Lists.{is_same_text, is_among}
 use Rattle.ped_tree.specs.Tree.{StmtTrees}
 use Rattle.ped_base.proofs.NameEquality.{same_is, same_itself}
-use Rattle.ped_weaves.specs.ped_laws.specs.ped_eval.specs.Loops.{with_name_by, with_sorted, sorted_once}
+use Rattle.ped_weaves.specs.ped_eval.specs.Loops.{with_name_by, with_sorted, sorted_once}
 use Rattle.ped_tree.specs.NamesIn.{all_loop_variables}
 use Rattle.ped_weaves.specs.ped_laws.proofs.RunLaws.Turning.{once_among}
 

@@ -9,27 +9,27 @@ use Rattle.std.proofs.lemmas.Bool.{both_ways, or_parts}
 use Rattle.ped_base.specs.Lists.{is_same_text, is_among}
 use Rattle.ped_tree.specs.Tree.{ExprTree, CondTree, ItemTree, Head, StmtTree, StmtTrees, Assign, If, Do, Print, Read, Stop, Comment, no_stmts, more_stmts}
 use Rattle.ped_tree.specs.Numbering.{statement_count, statements_count}
-use Rattle.ped_weaves.specs.ped_laws.specs.ped_graph.specs.ped_symbols.specs.declared.uses.Use.{Use}
-use Rattle.ped_weaves.specs.ped_laws.specs.ped_graph.specs.ped_symbols.specs.declared.uses.Role.TheVariants.{Rejected, Index}
-use Rattle.ped_weaves.specs.ped_laws.specs.ped_graph.specs.ped_symbols.specs.Uses.{used_as, expr_uses, cond_uses, target_uses, item_uses}
-use Rattle.ped_weaves.specs.ped_laws.specs.ped_graph.specs.ped_symbols.specs.Sites.{Site, private_site, stmt_sites, stmts_sites, site_uses}
+use Rattle.ped_weaves.specs.ped_graph.specs.ped_symbols.specs.declared.uses.Use.{Use}
+use Rattle.ped_weaves.specs.ped_graph.specs.ped_symbols.specs.declared.uses.Role.TheVariants.{Rejected, Index}
+use Rattle.ped_weaves.specs.ped_graph.specs.ped_symbols.specs.Uses.{used_as, expr_uses, cond_uses, target_uses, item_uses}
+use Rattle.ped_weaves.specs.ped_graph.specs.ped_symbols.specs.Sites.{Site, private_site, stmt_sites, stmts_sites, site_uses}
 use Rattle.ped_tree.specs.NamesIn.{loop_variables, all_loop_variables}
 use Rattle.ped_sums.specs.Substitution.{substituted, condition_substituted, item_substituted, head_substituted, statement_substituted, statements_substituted}
-use Rattle.ped_weaves.specs.ped_laws.specs.ped_store.specs.Cells as cells
-use Rattle.ped_weaves.specs.ped_laws.specs.ped_store.specs.Cells.{Cell, Private, In, Out, same_cell}
-use Rattle.ped_weaves.specs.ped_laws.specs.ped_store.specs.Stores.{Content, Number, Lines, Store, put, lines_in}
-use Rattle.ped_weaves.specs.ped_laws.specs.ped_store.specs.Acts.{Touch, Place, Step, did, entered, ended_turn, closed, Act, store_behind, iterations_of}
-use Rattle.ped_weaves.specs.ped_laws.specs.ped_store.specs.DataLines.{Data, begun, Taken, next_value_of}
+use Rattle.ped_weaves.specs.ped_store.specs.Cells as cells
+use Rattle.ped_weaves.specs.ped_store.specs.Cells.{Cell, Private, In, Out, same_cell}
+use Rattle.ped_weaves.specs.ped_store.specs.Stores.{Content, Number, Lines, Store, put, lines_in}
+use Rattle.ped_weaves.specs.ped_store.specs.Acts.{Touch, Place, Step, did, entered, ended_turn, closed, Act, store_behind, iterations_of}
+use Rattle.ped_weaves.specs.ped_store.specs.DataLines.{Data, begun, Taken, next_value_of}
 use Rattle.ped_weaves.specs.ped_laws.specs.Acts.Fitting.{of_cells}
 use Rattle.ped_weaves.specs.ped_laws.proofs.ActLaws.SameCells.{text_itself}
 use Rattle.ped_weaves.specs.ped_laws.proofs.ActLaws.OfCells.{behind_cells}
 use Rattle.ped_weaves.specs.ped_laws.proofs.ActLaws.Renamings.{renamed_alike}
-use Rattle.ped_weaves.specs.ped_laws.specs.ped_eval.specs.Scopes.{Setting, Frame, Scope, turns_of, cell_of, index_value, Names, names_in, place_of}
-use Rattle.ped_weaves.specs.ped_laws.specs.ped_eval.specs.Evaluation.{Seen, Evaluated, numbered, number_behind}
-use Rattle.ped_weaves.specs.ped_laws.specs.ped_eval.specs.Values.{truth, target}
-use Rattle.ped_weaves.specs.ped_laws.specs.ped_eval.specs.Statements.{assigned, assignment_touches, printed_line, print_touches, read_touch, write_touch, Taking, into_item, with_taken, taking, taking_from, reading, reading_touches}
-use Rattle.ped_weaves.specs.ped_laws.specs.ped_eval.specs.Loops.{Limits, limits, increment, iteration_count, sorted_once, inner_variables, Entered, entered_with, frame, undefined_by, undefined_all, exit_touches, exit_when_none, entry_touches}
-use Rattle.ped_weaves.specs.ped_laws.specs.ped_eval.specs.Runs.{Ending, going, stopped, failed, Run, nothing_done, followed_by, then_run, does, on, run_assignment, run_print, run_taking, run_read, run_stop, run_if, turns, parallel_turns, run_entered, run_from_entry, run_do, run, run_all}
+use Rattle.ped_weaves.specs.ped_eval.specs.Scopes.{Setting, Frame, Scope, turns_of, cell_of, index_value, Names, names_in, place_of}
+use Rattle.ped_weaves.specs.ped_eval.specs.Evaluation.{Seen, Evaluated, numbered, number_behind}
+use Rattle.ped_weaves.specs.ped_eval.specs.Values.{truth, target}
+use Rattle.ped_weaves.specs.ped_eval.specs.Statements.{assigned, assignment_touches, printed_line, print_touches, read_touch, write_touch, Taking, into_item, with_taken, taking, taking_from, reading, reading_touches}
+use Rattle.ped_weaves.specs.ped_eval.specs.Loops.{Limits, limits, increment, iteration_count, sorted_once, inner_variables, Entered, entered_with, frame, undefined_by, undefined_all, exit_touches, exit_when_none, entry_touches}
+use Rattle.ped_weaves.specs.ped_eval.specs.Runs.{Ending, going, stopped, failed, Run, nothing_done, followed_by, then_run, does, on, run_assignment, run_print, run_taking, run_read, run_stop, run_if, turns, parallel_turns, run_entered, run_from_entry, run_do, run, run_all}
 use Rattle.ped_weaves.specs.ped_laws.specs.Runs.Replaying.{finish_of, has_fault}
 use Rattle.ped_weaves.specs.ped_laws.proofs.FlowRunLaws.Names.{inner_among}
 use Rattle.ped_steps.specs.Runs.Exchanging.{exchanged_store, exchanged_ending, swapped, is_of_scalar}

@@ -13,23 +13,23 @@ use Rattle.ped_tree.specs.Constants.NamedConstants.{value_named}
 use Rattle.ped_tree.specs.Constants.ConstantExpressions.{intrinsic_result}
 use Rattle.ped_base.proofs.NameEquality.{same_is}
 use Rattle.ped_tree.specs.Tree.{ExprTree, ExprTrees, Int, Var, Element, Neg, Add, Sub, Mul, Div, Pow, Call, no_exprs, more_exprs, CondTree, Rel, Not, And, Or, ItemTree, Value, Text, Head}
-use Rattle.ped_weaves.specs.ped_laws.specs.ped_graph.specs.ped_symbols.specs.declared.uses.Use.{Use}
-use Rattle.ped_weaves.specs.ped_laws.specs.ped_graph.specs.ped_symbols.specs.Uses.{expr_uses, exprs_uses, cond_uses, target_uses, item_uses}
+use Rattle.ped_weaves.specs.ped_graph.specs.ped_symbols.specs.declared.uses.Use.{Use}
+use Rattle.ped_weaves.specs.ped_graph.specs.ped_symbols.specs.Uses.{expr_uses, exprs_uses, cond_uses, target_uses, item_uses}
 use Rattle.ped_sums.specs.Sums.{plus_of, minus_of}
 use Rattle.ped_sums.specs.Substitution.{has_scalar, is_scalar, substituted, all_substituted, condition_substituted, item_substituted, head_substituted}
-use Rattle.ped_weaves.specs.ped_laws.specs.ped_store.specs.Cells as cells
-use Rattle.ped_weaves.specs.ped_laws.specs.ped_store.specs.Cells.{Cell, Private, In, Out, Iteration}
-use Rattle.ped_weaves.specs.ped_laws.specs.ped_store.specs.Storage.{is_within}
-use Rattle.ped_weaves.specs.ped_laws.specs.ped_store.specs.Stores.{Number, Store, number_read, storable, outside_bounds}
-use Rattle.ped_weaves.specs.ped_laws.specs.ped_store.specs.Acts.{reads, is_told, Touch}
+use Rattle.ped_weaves.specs.ped_store.specs.Cells as cells
+use Rattle.ped_weaves.specs.ped_store.specs.Cells.{Cell, Private, In, Out, Iteration}
+use Rattle.ped_weaves.specs.ped_store.specs.Storage.{is_within}
+use Rattle.ped_weaves.specs.ped_store.specs.Stores.{Number, Store, number_read, storable, outside_bounds}
+use Rattle.ped_weaves.specs.ped_store.specs.Acts.{reads, is_told, Touch}
 use Rattle.ped_weaves.specs.ped_laws.specs.Acts.Fitting.{of_cells}
 use Rattle.ped_weaves.specs.ped_laws.specs.Acts.Renaming.{AreRenamed}
 use Rattle.ped_weaves.specs.ped_laws.proofs.ActLaws.OfCells.{cells_append}
-use Rattle.ped_weaves.specs.ped_laws.specs.ped_eval.specs.Scopes.{Setting, Scope, cell_of, index_value, Names, names_in}
-use Rattle.ped_weaves.specs.ped_laws.specs.ped_eval.specs.Evaluation.{Seen, cell_seen, index_seen, Evaluated, having_seen, onward, ◌>>>◌, given, by_number, read_cell, numbered, number_behind}
-use Rattle.ped_weaves.specs.ped_laws.specs.ped_eval.specs.Values.{of_intrinsic, variable_value, name_value, is_rank, element_cell, binary, value, values, relation_holds, truth, target}
-use Rattle.ped_weaves.specs.ped_laws.specs.ped_eval.specs.Statements.{Stored, assigned, item_text, item_texts, printed_line}
-use Rattle.ped_weaves.specs.ped_laws.specs.ped_eval.specs.Loops.{in_bounds, limits}
+use Rattle.ped_weaves.specs.ped_eval.specs.Scopes.{Setting, Scope, cell_of, index_value, Names, names_in}
+use Rattle.ped_weaves.specs.ped_eval.specs.Evaluation.{Seen, cell_seen, index_seen, Evaluated, having_seen, onward, ◌>>>◌, given, by_number, read_cell, numbered, number_behind}
+use Rattle.ped_weaves.specs.ped_eval.specs.Values.{of_intrinsic, variable_value, name_value, is_rank, element_cell, binary, value, values, relation_holds, truth, target}
+use Rattle.ped_weaves.specs.ped_eval.specs.Statements.{Stored, assigned, item_text, item_texts, printed_line}
+use Rattle.ped_weaves.specs.ped_eval.specs.Loops.{in_bounds, limits}
 use Rattle.ped_steps.specs.Runs.Exchanging.{exchanged_store}
 use Rattle.ped_steps.specs.Runs.Substituting.{element_at}
 use Rattle.ped_steps.proofs.RunLaws.ExchangedSight.{itself}

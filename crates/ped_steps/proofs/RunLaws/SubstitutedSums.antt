@@ -8,10 +8,10 @@ use Rattle.ped_base.specs.declared.arithmetic.faults.Fault.TheVariants.{OutOfRan
 use Rattle.ped_base.specs.Arithmetic.Arithmetic.{is_in_range, in_range, sum_of, difference_of}
 use Rattle.ped_tree.specs.Tree.{ExprTree, Int, Var, Element, Neg, Add, Sub, Mul, Div, Pow, Call}
 use Rattle.ped_sums.specs.Sums.{literal_value, literal, of_both, small, computed, literal_or, is_zero, added, subtracted, plus_of, minus_of}
-use Rattle.ped_weaves.specs.ped_laws.specs.ped_store.specs.Stores.{Store}
-use Rattle.ped_weaves.specs.ped_laws.specs.ped_eval.specs.Scopes.{Names}
-use Rattle.ped_weaves.specs.ped_laws.specs.ped_eval.specs.Evaluation.{Seen, Evaluated, given, by_number}
-use Rattle.ped_weaves.specs.ped_laws.specs.ped_eval.specs.Values.{binary, value}
+use Rattle.ped_weaves.specs.ped_store.specs.Stores.{Store}
+use Rattle.ped_weaves.specs.ped_eval.specs.Scopes.{Names}
+use Rattle.ped_weaves.specs.ped_eval.specs.Evaluation.{Seen, Evaluated, given, by_number}
+use Rattle.ped_weaves.specs.ped_eval.specs.Values.{binary, value}
 
 -- an evaluation by its parts
 abbrev pub evaluated : {A : Type 0} → List Seen → Result A ℕ → Evaluated A

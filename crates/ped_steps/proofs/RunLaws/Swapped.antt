@@ -4,11 +4,11 @@ use Rattle.std.specs.Prelude.{◌||◌}
 use Rattle.std.proofs.lemmas.Bool.{both_ways, or_right}
 use Rattle.std.proofs.lemmas.List.Folds.{list_any-append}
 use Rattle.ped_base.specs.Lists.{is_same_text, is_among}
-use Rattle.ped_weaves.specs.ped_laws.specs.ped_store.specs.Cells.{Cell, Scalar, Element, Private, In, Out, same_cell}
-use Rattle.ped_weaves.specs.ped_laws.specs.ped_store.specs.Acts.{Turn, iterations_of}
+use Rattle.ped_weaves.specs.ped_store.specs.Cells.{Cell, Scalar, Element, Private, In, Out, same_cell}
+use Rattle.ped_weaves.specs.ped_store.specs.Acts.{Turn, iterations_of}
 use Rattle.ped_weaves.specs.ped_laws.proofs.ActLaws.SameCells.{text_itself, cell_itself, cell_is, other_cell}
 use Rattle.ped_base.proofs.NameEquality.{same_is}
-use Rattle.ped_weaves.specs.ped_laws.specs.ped_eval.specs.Scopes.{Frame, Scope, turns_of, cell_of, index_value}
+use Rattle.ped_weaves.specs.ped_eval.specs.Scopes.{Frame, Scope, turns_of, cell_of, index_value}
 use Rattle.ped_steps.specs.Runs.Exchanging.{IsExchange, AreExchanged, swapped, is_of_scalar}
 
 -- the name of a cell, and how many iterations a copy belongs to

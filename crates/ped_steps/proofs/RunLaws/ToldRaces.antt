@@ -5,23 +5,23 @@ use Rattle.ped_base.specs.Lists.{is_same_text}
 use Rattle.ped_base.proofs.NameEquality.{same_itself}
 use Rattle.ped_tree.specs.Tree.{Head, StmtTrees, Do, ProgramTree}
 use Rattle.ped_tree.specs.Numbering.{statement_with}
-use Rattle.ped_weaves.specs.ped_laws.specs.ped_graph.specs.ped_symbols.specs.Kinds.{kind_in}
-use Rattle.ped_weaves.specs.ped_laws.specs.ped_graph.specs.ped_symbols.specs.NameRefusals.{IsValid}
-use Rattle.ped_weaves.specs.ped_laws.specs.ped_store.specs.Cells.{Cell, Scalar, Element, Private, In, Out, Iteration, same_cell}
-use Rattle.ped_weaves.specs.ped_laws.specs.ped_store.specs.Stores.{Store}
-use Rattle.ped_weaves.specs.ped_laws.specs.ped_store.specs.Acts.{Manner, reads, writes, is_told, Touch, Turn, Act, iterations_of}
-use Rattle.ped_weaves.specs.ped_laws.specs.ped_store.specs.Races.{Access, is_write, accesses, conflict, are_apart, race}
+use Rattle.ped_weaves.specs.ped_graph.specs.ped_symbols.specs.Kinds.{kind_in}
+use Rattle.ped_weaves.specs.ped_graph.specs.ped_symbols.specs.NameRefusals.{IsValid}
+use Rattle.ped_weaves.specs.ped_store.specs.Cells.{Cell, Scalar, Element, Private, In, Out, Iteration, same_cell}
+use Rattle.ped_weaves.specs.ped_store.specs.Stores.{Store}
+use Rattle.ped_weaves.specs.ped_store.specs.Acts.{Manner, reads, writes, is_told, Touch, Turn, Act, iterations_of}
+use Rattle.ped_weaves.specs.ped_store.specs.Races.{Access, is_write, accesses, conflict, are_apart, race}
 use Rattle.ped_weaves.specs.ped_laws.specs.Acts.Sets.{written}
 use Rattle.ped_weaves.specs.ped_laws.specs.Acts.Orders.{IsIn}
 use Rattle.ped_weaves.specs.ped_laws.proofs.ActLaws.Lists.{in_left, in_right, in_parts}
 use Rattle.ped_weaves.specs.ped_laws.proofs.ActLaws.SameCells.{cell_is, cell_flip}
 use Rattle.ped_weaves.specs.ped_laws.proofs.ActLaws.Conflicting.{access_place}
 use Rattle.ped_weaves.specs.ped_laws.proofs.ActLaws.RaceFree.{apart_flip}
-use Rattle.ped_weaves.specs.ped_laws.specs.ped_eval.specs.Scopes.{Setting, Frame, Scope, turns_of}
-use Rattle.ped_weaves.specs.ped_laws.specs.ped_eval.specs.Evaluation.{Seen}
-use Rattle.ped_weaves.specs.ped_laws.specs.ped_eval.specs.Loops.{Limits, entered_with, frame}
-use Rattle.ped_weaves.specs.ped_laws.specs.ped_eval.specs.Outcomes.{setting_of}
-use Rattle.ped_weaves.specs.ped_laws.specs.ped_eval.specs.Runs.{run_all}
+use Rattle.ped_weaves.specs.ped_eval.specs.Scopes.{Setting, Frame, Scope, turns_of}
+use Rattle.ped_weaves.specs.ped_eval.specs.Evaluation.{Seen}
+use Rattle.ped_weaves.specs.ped_eval.specs.Loops.{Limits, entered_with, frame}
+use Rattle.ped_weaves.specs.ped_eval.specs.Outcomes.{setting_of}
+use Rattle.ped_weaves.specs.ped_eval.specs.Runs.{run_all}
 use Rattle.ped_weaves.specs.ped_laws.specs.FlowRuns.Covering.{is_cell_of}
 use Rattle.ped_weaves.specs.ped_laws.proofs.FlowRunLaws.Writing.{all_unassigned}
 use Rattle.ped_weaves.specs.ped_laws.proofs.RunLaws.Touches.{Fine, Good, all_good}

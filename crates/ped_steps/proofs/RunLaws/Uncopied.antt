@@ -5,17 +5,17 @@ use Rattle.std.proofs.lemmas.Bool.{both_ways, or_from}
 use Rattle.std.proofs.lemmas.List.Folds.{list_any-append}
 use Rattle.ped_base.specs.Lists.{is_among}
 use Rattle.ped_tree.specs.Tree.{Head, StmtTrees}
-use Rattle.ped_weaves.specs.ped_laws.specs.ped_store.specs.Cells.{Cell, Scalar, Element, Private, In, Out, Iteration, same_cell}
-use Rattle.ped_weaves.specs.ped_laws.specs.ped_store.specs.Stores.{Store}
-use Rattle.ped_weaves.specs.ped_laws.specs.ped_store.specs.Acts.{Touch, Turn, Act, iterations_of}
+use Rattle.ped_weaves.specs.ped_store.specs.Cells.{Cell, Scalar, Element, Private, In, Out, Iteration, same_cell}
+use Rattle.ped_weaves.specs.ped_store.specs.Stores.{Store}
+use Rattle.ped_weaves.specs.ped_store.specs.Acts.{Touch, Turn, Act, iterations_of}
 use Rattle.ped_weaves.specs.ped_laws.specs.Acts.Fitting.{touches_of, has_cell}
 use Rattle.ped_weaves.specs.ped_laws.specs.Acts.Orders.{IsIn}
 use Rattle.ped_weaves.specs.ped_laws.specs.Acts.Renaming.{touched_by, touch}
 use Rattle.ped_weaves.specs.ped_laws.proofs.ActLaws.SameCells.{other_cell}
-use Rattle.ped_weaves.specs.ped_laws.specs.ped_eval.specs.Scopes.{Setting, Scope, turns_of, cell_of}
-use Rattle.ped_weaves.specs.ped_laws.specs.ped_eval.specs.Evaluation.{Seen}
-use Rattle.ped_weaves.specs.ped_laws.specs.ped_eval.specs.Loops.{Limits, entered_with, frame}
-use Rattle.ped_weaves.specs.ped_laws.specs.ped_eval.specs.Runs.{run_all}
+use Rattle.ped_weaves.specs.ped_eval.specs.Scopes.{Setting, Scope, turns_of, cell_of}
+use Rattle.ped_weaves.specs.ped_eval.specs.Evaluation.{Seen}
+use Rattle.ped_weaves.specs.ped_eval.specs.Loops.{Limits, entered_with, frame}
+use Rattle.ped_weaves.specs.ped_eval.specs.Runs.{run_all}
 use Rattle.ped_weaves.specs.ped_laws.proofs.RunLaws.Touches.{Each}
 use Rattle.ped_steps.proofs.RunLaws.RunCells.{EachDos, all_keep}
 use Rattle.ped_steps.proofs.RunLaws.Swapped.{cell_name}

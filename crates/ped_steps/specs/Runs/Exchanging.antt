@@ -1,10 +1,10 @@
 -- Runs in which two cells have changed places: what is done to the one is done to the other (this project).
 use Rattle.std.specs.Prelude.{◌≡◌, ◌<◌, ℕ, ℤ, List, map, length, Bool, true, false, if◌then◌else◌}
-use Rattle.ped_weaves.specs.ped_laws.specs.ped_store.specs.Cells.{Cell, Scalar, Element, Private, In, Out, Iteration, same_cell}
-use Rattle.ped_weaves.specs.ped_laws.specs.ped_store.specs.Stores.{Store}
-use Rattle.ped_weaves.specs.ped_laws.specs.ped_store.specs.Acts.{Touch, Act}
-use Rattle.ped_weaves.specs.ped_laws.specs.ped_eval.specs.Scopes.{Scope, turns_of, cell_of, index_value}
-use Rattle.ped_weaves.specs.ped_laws.specs.ped_eval.specs.Runs.{Ending, going, stopped, failed, Run}
+use Rattle.ped_weaves.specs.ped_store.specs.Cells.{Cell, Scalar, Element, Private, In, Out, Iteration, same_cell}
+use Rattle.ped_weaves.specs.ped_store.specs.Stores.{Store}
+use Rattle.ped_weaves.specs.ped_store.specs.Acts.{Touch, Act}
+use Rattle.ped_weaves.specs.ped_eval.specs.Scopes.{Scope, turns_of, cell_of, index_value}
+use Rattle.ped_weaves.specs.ped_eval.specs.Runs.{Ending, going, stopped, failed, Run}
 
 -- cells get other names, twice their own: elements, the data and the output keep theirs (this project)
 pub record IsExchange (name : Cell → Cell) : Type 0 where

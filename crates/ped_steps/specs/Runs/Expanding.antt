@@ -6,15 +6,15 @@ use Rattle.ped_base.specs.Lists.{is_among}
 use Rattle.ped_tree.specs.Tree.{ExprTree, Var, Element, no_exprs, more_exprs, Head, StmtTree, StmtTrees, Assign, Do, no_stmts, more_stmts, DeclTree, Integer, ProgramTree}
 use Rattle.ped_tree.specs.Nests.{Loop, indices_of}
 use Rattle.ped_tree.specs.Constants.ConstantExpressions.{constant_value}
-use Rattle.ped_weaves.specs.ped_laws.specs.ped_graph.specs.ped_symbols.specs.Kinds.{kind_in, names_of, table_of}
-use Rattle.ped_weaves.specs.ped_laws.specs.ped_graph.specs.ped_symbols.specs.RightUses.RightUses.{is_scalar}
+use Rattle.ped_weaves.specs.ped_graph.specs.ped_symbols.specs.Kinds.{kind_in, names_of, table_of}
+use Rattle.ped_weaves.specs.ped_graph.specs.ped_symbols.specs.RightUses.RightUses.{is_scalar}
 use Rattle.ped_tree.specs.NamesIn.{loop_variables}
 use Rattle.ped_sums.specs.Sums.{literal}
 use Rattle.ped_sums.specs.Substitution.{statements_substituted}
 use Rattle.ped_weaves.specs.ped_laws.specs.Acts.Orders.{IsIn}
 use Rattle.ped_tree.specs.NamesIn.{all_loop_variables}
-use Rattle.ped_weaves.specs.ped_laws.specs.ped_flow.specs.PlainBounds.{nest_round}
-use Rattle.ped_weaves.specs.ped_laws.specs.ped_flow.specs.Questions.{LoopOf, IsExposed, IsLiveAfter, IsAssignedThrough}
+use Rattle.ped_weaves.specs.ped_flow.specs.PlainBounds.{nest_round}
+use Rattle.ped_weaves.specs.ped_flow.specs.Questions.{LoopOf, IsExposed, IsLiveAfter, IsAssignedThrough}
 use Rattle.ped_steps.specs.Replacing.{all_replaced}
 use Rattle.ped_steps.specs.Runs.Substituting.{element_at}
 use Rattle.ped_tree.specs.NamesIn.{private_names_in}

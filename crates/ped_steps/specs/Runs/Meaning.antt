@@ -2,7 +2,7 @@
 use Rattle.std.specs.Prelude.{◌≡◌, ℕ, List}
 use Rattle.std.specs.List.{flat_map}
 use Rattle.ped_tree.specs.Tree.{ProgramTree}
-use Rattle.ped_weaves.specs.ped_laws.specs.ped_eval.specs.Outcomes.{outcome, IsRaceFree}
+use Rattle.ped_weaves.specs.ped_eval.specs.Outcomes.{outcome, IsRaceFree}
 use Rattle.ped_tree.specs.NamesIn.{saved_in}
 
 -- a program keeps the meaning of another: on all data on which the old one runs without a fault and without a race, the new one has the same outcome and no race; and the same names are saved (Allen and Kennedy, section 2.2.3; ParaScope; this project)

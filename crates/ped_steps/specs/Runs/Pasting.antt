@@ -7,18 +7,18 @@ use Rattle.ped_tree.specs.Tree.{StmtTree, StmtTrees, Do, ProgramTree}
 use Rattle.ped_tree.specs.Nests.{Loop}
 use Rattle.ped_tree.specs.NamesIn.{stmts_names}
 use Rattle.ped_tree.specs.Numbering.{statement_with, statement_count, statements_count}
-use Rattle.ped_weaves.specs.ped_laws.specs.ped_store.specs.Cells.{Cell}
-use Rattle.ped_weaves.specs.ped_laws.specs.ped_store.specs.Stores.{Store}
-use Rattle.ped_weaves.specs.ped_laws.specs.ped_store.specs.Acts.{Turn, Act}
+use Rattle.ped_weaves.specs.ped_store.specs.Cells.{Cell}
+use Rattle.ped_weaves.specs.ped_store.specs.Stores.{Store}
+use Rattle.ped_weaves.specs.ped_store.specs.Acts.{Turn, Act}
 use Rattle.ped_weaves.specs.ped_laws.specs.Acts.Fitting.{store_after}
 use Rattle.ped_weaves.specs.ped_laws.specs.Acts.Sets.{wants}
 use Rattle.ped_weaves.specs.ped_laws.specs.Acts.Pieces.{Part, same, changed, StandsFor}
-use Rattle.ped_weaves.specs.ped_laws.specs.ped_eval.specs.Scopes.{Setting, Scope, turns_of}
+use Rattle.ped_weaves.specs.ped_eval.specs.Scopes.{Setting, Scope, turns_of}
 use Rattle.ped_tree.specs.NamesIn.{all_loop_variables}
-use Rattle.ped_weaves.specs.ped_laws.specs.ped_eval.specs.Runs.{Run, run, run_all}
-use Rattle.ped_weaves.specs.ped_laws.specs.ped_eval.specs.Outcomes.{Ends}
-use Rattle.ped_weaves.specs.ped_laws.specs.ped_flow.specs.PlainBounds.{nest_round, outermost_or}
-use Rattle.ped_weaves.specs.ped_laws.specs.ped_flow.specs.Questions.{LoopOf}
+use Rattle.ped_weaves.specs.ped_eval.specs.Runs.{Run, run, run_all}
+use Rattle.ped_weaves.specs.ped_eval.specs.Outcomes.{Ends}
+use Rattle.ped_weaves.specs.ped_flow.specs.PlainBounds.{nest_round, outermost_or}
+use Rattle.ped_weaves.specs.ped_flow.specs.Questions.{LoopOf}
 use Rattle.ped_weaves.specs.ped_laws.specs.FlowRuns.Covering.{has_stop, some_stop}
 use Rattle.ped_weaves.specs.ped_laws.specs.FlowRuns.Exits.{AreIterationsOf}
 use Rattle.ped_weaves.specs.ped_laws.specs.Runs.Replaying.{goes_on, finish_of, Replays}

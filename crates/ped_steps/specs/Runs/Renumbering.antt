@@ -1,10 +1,10 @@
 -- Runs in which statements count under other numbers (this project).
 use Rattle.std.specs.Prelude.{◌≡◌, ℕ, map}
-use Rattle.ped_weaves.specs.ped_laws.specs.ped_store.specs.Cells.{Cell, Scalar, Element, Private, In, Out, Iteration}
-use Rattle.ped_weaves.specs.ped_laws.specs.ped_store.specs.Stores.{Store}
-use Rattle.ped_weaves.specs.ped_laws.specs.ped_store.specs.Acts.{Touch, Turn, Place, Act}
-use Rattle.ped_weaves.specs.ped_laws.specs.ped_eval.specs.Scopes.{Setting}
-use Rattle.ped_weaves.specs.ped_laws.specs.ped_eval.specs.Runs.{Ending, going, stopped, failed, Run}
+use Rattle.ped_weaves.specs.ped_store.specs.Cells.{Cell, Scalar, Element, Private, In, Out, Iteration}
+use Rattle.ped_weaves.specs.ped_store.specs.Stores.{Store}
+use Rattle.ped_weaves.specs.ped_store.specs.Acts.{Touch, Turn, Place, Act}
+use Rattle.ped_weaves.specs.ped_eval.specs.Scopes.{Setting}
+use Rattle.ped_weaves.specs.ped_eval.specs.Runs.{Ending, going, stopped, failed, Run}
 
 -- an iteration under the DO's new number (this project)
 abbrev pub renumbered_iteration : (ℕ → ℕ) → Iteration → Iteration

@@ -3,15 +3,15 @@ use Rattle.std.specs.Prelude.{◌≡◌, ℕ, ℤ, List, [], ◌∷◌, ◌++◌
 use Rattle.ped_base.specs.Lists.{is_among}
 use Rattle.ped_tree.specs.Tree.{ExprTree, Var, Element, no_exprs, more_exprs, StmtTree, StmtTrees, Assign, If, Do, Print, Read, Stop, Comment, no_stmts, more_stmts}
 use Rattle.ped_tree.specs.Constants.NamedConstants.{value_named}
-use Rattle.ped_weaves.specs.ped_laws.specs.ped_graph.specs.ped_symbols.specs.Sites.{stmts_sites}
-use Rattle.ped_weaves.specs.ped_laws.specs.ped_graph.specs.ped_symbols.specs.Kinds.{names_at}
+use Rattle.ped_weaves.specs.ped_graph.specs.ped_symbols.specs.Sites.{stmts_sites}
+use Rattle.ped_weaves.specs.ped_graph.specs.ped_symbols.specs.Kinds.{names_at}
 use Rattle.ped_tree.specs.NamesIn.{all_loop_variables, all_private_names_in}
-use Rattle.ped_weaves.specs.ped_laws.specs.ped_store.specs.Cells.{Cell}
-use Rattle.ped_weaves.specs.ped_laws.specs.ped_store.specs.Acts.{Act}
-use Rattle.ped_weaves.specs.ped_laws.specs.ped_store.specs.Storage.{is_within}
+use Rattle.ped_weaves.specs.ped_store.specs.Cells.{Cell}
+use Rattle.ped_weaves.specs.ped_store.specs.Acts.{Act}
+use Rattle.ped_weaves.specs.ped_store.specs.Storage.{is_within}
 use Rattle.ped_weaves.specs.ped_laws.specs.Acts.Fitting.{of_cells}
 use Rattle.ped_weaves.specs.ped_laws.specs.Acts.Renaming.{AreRenamed}
-use Rattle.ped_weaves.specs.ped_laws.specs.ped_eval.specs.Scopes.{Setting, Scope, index_value}
+use Rattle.ped_weaves.specs.ped_eval.specs.Scopes.{Setting, Scope, index_value}
 
 -- two acts do the same on renamed cells: one step at one place, and the same reads and writes in the same order; what their places give may differ (this project)
 pub record IsSameOn (name : Cell → Cell) (a b : Act) : Type 0 where

@@ -4,8 +4,8 @@ ghost use Rattle.std.specs.Prelude.{◌≡◌, ℕ, List};
 ghost use Rattle.ped_base.specs.Dimensions.{Dimensions};
 ghost use Rattle.ped_tree.specs.Tree.{StmtTree, StmtTrees};
 ghost use Rattle.ped_tree.specs.NamesIn.{stmt_names, stmts_names};
-ghost use Rattle.ped_weaves.specs.ped_laws.specs.ped_eval.specs.Scopes.{Setting, Scope};
-ghost use Rattle.ped_weaves.specs.ped_laws.specs.ped_eval.specs.Runs.{run, run_all};
+ghost use Rattle.ped_weaves.specs.ped_eval.specs.Scopes.{Setting, Scope};
+ghost use Rattle.ped_weaves.specs.ped_eval.specs.Runs.{run, run_all};
 ghost use Rattle.ped_steps.specs.Runs.Pasting.{AgreeInBounds};
 
 /// A piece of a run depends on the bounds of those arrays alone that its statements name. For statements that stay in a

@@ -2,10 +2,10 @@
 
 ghost use Rattle.std.specs.Prelude.{◌≡◌, ℕ};
 ghost use Rattle.ped_tree.specs.Tree.{StmtTrees};
-ghost use Rattle.ped_weaves.specs.ped_laws.specs.ped_store.specs.Cells.{Cell};
-ghost use Rattle.ped_weaves.specs.ped_laws.specs.ped_store.specs.Stores.{Store};
-ghost use Rattle.ped_weaves.specs.ped_laws.specs.ped_eval.specs.Scopes.{Setting, Scope};
-ghost use Rattle.ped_weaves.specs.ped_laws.specs.ped_eval.specs.Runs.{run_all};
+ghost use Rattle.ped_weaves.specs.ped_store.specs.Cells.{Cell};
+ghost use Rattle.ped_weaves.specs.ped_store.specs.Stores.{Store};
+ghost use Rattle.ped_weaves.specs.ped_eval.specs.Scopes.{Setting, Scope};
+ghost use Rattle.ped_weaves.specs.ped_eval.specs.Runs.{run_all};
 ghost use Rattle.ped_weaves.specs.ped_laws.specs.Runs.Replaying.{finish_of, Replays};
 ghost use Rattle.ped_steps.specs.Runs.Exchanging.{IsExchange, AreExchanged, exchanged_store, exchanged_acts, exchanged_run};
 

@@ -3,10 +3,10 @@
 ghost use Rattle.std.specs.Prelude.{◌≡◌, ℕ, ℤ, List, Bool, [], ◌∷◌, ◌++◌, false, true};
 ghost use Rattle.ped_base.specs.Lists.{is_among};
 ghost use Rattle.ped_tree.specs.Tree.{Head, StmtTree, StmtTrees, Do, ProgramTree};
-ghost use Rattle.ped_weaves.specs.ped_laws.specs.ped_graph.specs.ped_symbols.specs.NameRefusals.{IsValid};
-ghost use Rattle.ped_weaves.specs.ped_laws.specs.ped_graph.specs.ped_symbols.specs.Kinds.{kind_in};
-ghost use Rattle.ped_weaves.specs.ped_laws.specs.ped_graph.specs.ped_symbols.specs.RightUses.RightUses.{is_scalar};
-ghost use Rattle.ped_weaves.specs.ped_laws.specs.ped_flow.specs.Questions.{LoopOf, IsExposed, IsLiveAfter};
+ghost use Rattle.ped_weaves.specs.ped_graph.specs.ped_symbols.specs.NameRefusals.{IsValid};
+ghost use Rattle.ped_weaves.specs.ped_graph.specs.ped_symbols.specs.Kinds.{kind_in};
+ghost use Rattle.ped_weaves.specs.ped_graph.specs.ped_symbols.specs.RightUses.RightUses.{is_scalar};
+ghost use Rattle.ped_weaves.specs.ped_flow.specs.Questions.{LoopOf, IsExposed, IsLiveAfter};
 ghost use Rattle.ped_steps.specs.Replacing.{alone, program_with};
 ghost use Rattle.ped_steps.specs.Runs.Meaning.{Keeps};
 ghost use Rattle.ped_steps.specs.Runs.Pasting.{is_in_parallel};

@@ -2,17 +2,17 @@
 
 ghost use Rattle.std.specs.Prelude.{◌≡◌, ℕ, List, [], Bool};
 ghost use Rattle.ped_tree.specs.Tree.{StmtTree, StmtTrees, Do, ProgramTree};
-ghost use Rattle.ped_weaves.specs.ped_laws.specs.ped_store.specs.Cells.{Cell};
-ghost use Rattle.ped_weaves.specs.ped_laws.specs.ped_store.specs.Stores.{Store};
-ghost use Rattle.ped_weaves.specs.ped_laws.specs.ped_store.specs.Acts.{Act};
+ghost use Rattle.ped_weaves.specs.ped_store.specs.Cells.{Cell};
+ghost use Rattle.ped_weaves.specs.ped_store.specs.Stores.{Store};
+ghost use Rattle.ped_weaves.specs.ped_store.specs.Acts.{Act};
 ghost use Rattle.ped_weaves.specs.ped_laws.specs.Acts.Fitting.{store_after};
 ghost use Rattle.ped_weaves.specs.ped_laws.specs.Acts.Sets.{AgreeIn};
 ghost use Rattle.ped_weaves.specs.ped_laws.specs.Acts.Pieces.{Part, old_parts, new_parts, PartsStand};
-ghost use Rattle.ped_weaves.specs.ped_laws.specs.ped_eval.specs.Scopes.{Setting, Scope};
-ghost use Rattle.ped_weaves.specs.ped_laws.specs.ped_eval.specs.Runs.{Run, run, run_all};
-ghost use Rattle.ped_weaves.specs.ped_laws.specs.ped_eval.specs.Outcomes.{Ends};
+ghost use Rattle.ped_weaves.specs.ped_eval.specs.Scopes.{Setting, Scope};
+ghost use Rattle.ped_weaves.specs.ped_eval.specs.Runs.{Run, run, run_all};
+ghost use Rattle.ped_weaves.specs.ped_eval.specs.Outcomes.{Ends};
 ghost use Rattle.ped_weaves.specs.ped_laws.specs.Runs.Replaying.{goes_on, finish_of, ending_with, Replays};
-ghost use Rattle.ped_weaves.specs.ped_laws.specs.ped_flow.specs.Questions.{LoopOf};
+ghost use Rattle.ped_weaves.specs.ped_flow.specs.Questions.{LoopOf};
 ghost use Rattle.ped_weaves.specs.ped_laws.specs.FlowRuns.Entries.{IsEntry};
 ghost use Rattle.ped_weaves.specs.ped_laws.specs.FlowRuns.Exits.{IsExit};
 ghost use Rattle.ped_steps.specs.Replacing.{program_with};

@@ -1,7 +1,7 @@
 use Rattle.std.proofs.Common.{ap, ap₂, ◌∙◌, sym, ℕ, List, map}
-use Rattle.ped_session.specs.ped_order.specs.ped_eval.specs.Outcomes.{Ended}
-use Rattle.ped_session.specs.ped_order.specs.ped_eval.specs.OutcomeViews.{outcome_view, row_view}
-use Rattle.ped_session.specs.ped_order.specs.ped_eval.specs.declared.outcomes.LiveRow as code_row
+use Rattle.ped_session.specs.ped_rules.specs.ped_eval.specs.Outcomes.{Ended}
+use Rattle.ped_session.specs.ped_rules.specs.ped_eval.specs.OutcomeViews.{outcome_view, row_view}
+use Rattle.ped_session.specs.ped_rules.specs.ped_eval.specs.declared.outcomes.LiveRow as code_row
 use Rattle.ped_answer.proofs.SameEnds.{alike_by, never_alike}
 use Rattle.ped_answer.proofs.endings.end_alike.Goals as goal
 

@@ -1,9 +1,9 @@
 use Rattle.std.proofs.Common.{◌≡◌, ℕ, List, map, false, sym, subst}
 use Rattle.std.specs.Prelude.{IsTrue, ◌↔◌}
-use Rattle.ped_session.specs.ped_order.specs.ped_eval.specs.Outcomes.{Ended}
-use Rattle.ped_session.specs.ped_order.specs.ped_eval.specs.OutcomeViews.{outcome_view, row_view}
-use Rattle.ped_session.specs.ped_order.specs.ped_eval.specs.declared.outcomes.LiveRow as code_row
-use Rattle.ped_session.specs.ped_order.specs.ped_eval.specs.declared.outcomes.Outcome as code
+use Rattle.ped_session.specs.ped_rules.specs.ped_eval.specs.Outcomes.{Ended}
+use Rattle.ped_session.specs.ped_rules.specs.ped_eval.specs.OutcomeViews.{outcome_view, row_view}
+use Rattle.ped_session.specs.ped_rules.specs.ped_eval.specs.declared.outcomes.LiveRow as code_row
+use Rattle.ped_session.specs.ped_rules.specs.ped_eval.specs.declared.outcomes.Outcome as code
 use Rattle.ped_answer.proofs.SameEnds.{ended_so, not_ended}
 use Rattle.ped_answer.proofs.endings.has_ended.Goals as goal
 

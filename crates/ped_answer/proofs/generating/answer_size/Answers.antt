@@ -1,7 +1,7 @@
 use Rattle.std.proofs.Common.{◌≡◌, ◌+◌, ◌≤◌, ℕ, List, ◌∙◌, sym, subst}
-use Rattle.ped_session.specs.ped_tree.specs.Tree.{ProgramTree}
-use Rattle.ped_session.specs.ped_tree.specs.Grammar.Refusal.{Finding}
-use Rattle.ped_session.specs.ped_tree.specs.Grammar.RefusalViews.{finding_of}
+use Rattle.ped_tree.specs.Tree.{ProgramTree}
+use Rattle.ped_tree.specs.Grammar.Refusal.{Finding}
+use Rattle.ped_tree.specs.Grammar.RefusalViews.{finding_of}
 use Rattle.ped_session.specs.ped_refs.specs.References.{references, pair_count}
 use Rattle.ped_session.specs.ped_valid.specs.Refusals.{IsRefusalOf}
 use Rattle.ped_session.specs.ped_valid.specs.Validity.{ReadsValid, RefusesText}

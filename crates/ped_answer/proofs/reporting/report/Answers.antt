@@ -1,5 +1,5 @@
 use Rattle.std.proofs.lemmas.Result.{IfOk-weaker}
-use Rattle.ped_session.specs.ped_order.specs.ped_eval.specs.OutcomeViews.{outcome_view}
+use Rattle.ped_session.specs.ped_rules.specs.ped_eval.specs.OutcomeViews.{outcome_view}
 use Rattle.ped_answer.proofs.Reports.{reported}
 use Rattle.ped_answer.proofs.reporting.report.Goals as goal
 

@@ -1,5 +1,5 @@
 use Rattle.std.proofs.Common.{ℕ, ◌++◌, length, codes, ap, ◌∙◌}
-use Rattle.ped_session.specs.ped_order.specs.ped_eval.specs.OutcomeViews.{outcome_view}
+use Rattle.ped_session.specs.ped_rules.specs.ped_eval.specs.OutcomeViews.{outcome_view}
 use Rattle.ped_answer.specs.Generated.{figure_line}
 use Rattle.ped_answer.proofs.Reports.{eight_lines, of_last}
 use Rattle.ped_answer.proofs.reporting.report_last.Goals as goal

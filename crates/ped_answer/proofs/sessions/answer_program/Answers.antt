@@ -1,5 +1,5 @@
 use Rattle.std.proofs.Common.{subst, arith}
-use Rattle.ped_session.specs.ped_tree.specs.Views.{program_tree}
+use Rattle.ped_tree.specs.Views.{program_tree}
 use Rattle.ped_session.specs.States.{State, opened}
 use Rattle.ped_answer.specs.Serving.{AnswersFrom}
 use Rattle.ped_answer.proofs.Counting.{is_session_tested, opened_ticks}

@@ -1,5 +1,5 @@
 use Rattle.std.proofs.Common.{List, ◌≡◌, ◌+◌, ◌∙◌, sym, subst, IfOk}
-use Rattle.ped_session.specs.ped_transformations.specs.ped_script.specs.declared.items.Item.{Item}
+use Rattle.ped_script.specs.declared.items.Item.{Item}
 use Rattle.ped_session.specs.declared.answers.Answered.{Answered}
 use Rattle.ped_session.specs.Scripts.{Said, AnswersItems}
 use Rattle.ped_answer.proofs.sessions.script_answer.Goals as goal

@@ -1,5 +1,5 @@
 use Rattle.std.proofs.Common.{◌∙◌, sym, subst}
-use Rattle.ped_session.specs.ped_tree.specs.Views.{program_tree}
+use Rattle.ped_tree.specs.Views.{program_tree}
 use Rattle.ped_answer.specs.declared.answering.Status.TheVariants.{Done}
 use Rattle.ped_session.specs.Panes.{ArePanes}
 use Rattle.ped_answer.specs.Answer.{IsJust, ShowsTree}

@@ -1,5 +1,5 @@
 use Rattle.std.proofs.Common.{subst}
-use Rattle.ped_session.specs.ped_tree.specs.Views.{program_tree}
+use Rattle.ped_tree.specs.Views.{program_tree}
 use Rattle.ped_call_runs.specs.ped_calls.specs.ped_units.specs.Views.{unit_finding_of, IsUnitRefusalOf}
 use Rattle.ped_answer.specs.declared.answering.Status.TheVariants.{Done, ProgramRefused}
 use Rattle.ped_answer.specs.Refusals.{refused_line}

@@ -1,5 +1,5 @@
 use Rattle.std.proofs.Common.{◌≡◌, ◌∙◌, ◌+◌, ◌≤◌, refl, ap, sym, subst, arith, Option, take}
-use Rattle.ped_session.specs.ped_transformations.specs.ped_script.specs.declared.items.Command.{Command}
+use Rattle.ped_script.specs.declared.items.Command.{Command}
 use Rattle.ped_session.specs.States.{State}
 use Rattle.ped_answer.specs.declared.tallies.Tally as code
 use Rattle.ped_answer.specs.Generated.{Tally, tally_both, bad_command_tally, AppliesCommand, Applies}

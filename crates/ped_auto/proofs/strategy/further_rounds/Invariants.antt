@@ -1,5 +1,5 @@
 use Rattle.std.proofs.Common.{ℕ, ◌+◌, ◌-◌, ◌≤◌, length}
-use Rattle.ped_reduce.specs.ped_splits.specs.ped_reindex.specs.ped_loops.specs.ped_scalar.specs.ped_rules.specs.ped_loop_runs.specs.ped_bodies.specs.ped_steps.specs.ped_flow.specs.ped_tree.specs.Tree.{ProgramTree}
+use Rattle.ped_rules.specs.ped_flow.specs.ped_tree.specs.Tree.{ProgramTree}
 use Rattle.ped_auto.specs.SerialLoops.{serial_loops}
 use Rattle.ped_auto.specs.CodeStages.{stage}
 use Rattle.ped_auto.proofs.FurtherRounding.{IsOnRounds}

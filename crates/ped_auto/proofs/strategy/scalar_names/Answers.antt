@@ -1,8 +1,8 @@
 use Rattle.std.proofs.Common.{◌≡◌, ◌≢◌, ℕ, List, [], map, true, false, Option, refl, sym, ap, subst, ◌∙◌, arith}
 use Rattle.std.specs.List.{list_all}
 use Rattle.std.proofs.lemmas.List.{take_all}
-use Rattle.ped_reduce.specs.ped_splits.specs.ped_reindex.specs.ped_loops.specs.ped_scalar.specs.ped_rules.specs.ped_loop_runs.specs.ped_bodies.specs.ped_steps.specs.ped_refs.specs.Occurrences.{name_text}
-use Rattle.ped_reduce.specs.ped_splits.specs.ped_reindex.specs.ped_loops.specs.ped_scalar.specs.ped_rules.specs.ped_loop_runs.specs.ped_bodies.specs.ped_steps.specs.ped_refs.specs.declared.references.RefName.{RefName}
+use Rattle.ped_refs.specs.Occurrences.{name_text}
+use Rattle.ped_refs.specs.declared.references.RefName.{RefName}
 use Rattle.ped_auto.specs.CarriedNames.{are_scalars}
 use Rattle.ped_auto.specs.CodeStages.{IsScalarName}
 use Rattle.ped_auto.proofs.ScalarNames.{passes, none_of, none_there, all_there}

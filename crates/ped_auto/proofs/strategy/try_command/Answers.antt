@@ -1,5 +1,5 @@
 use Rattle.std.proofs.Common.{◌-◌, Option, subst}
-use Rattle.ped_reduce.specs.ped_splits.specs.ped_reindex.specs.ped_loops.specs.ped_scalar.specs.ped_rules.specs.ped_loop_runs.specs.ped_bodies.specs.ped_steps.specs.declared.causes.Refused.{Refused}
+use Rattle.ped_rules.specs.ped_steps.specs.declared.causes.Refused.{Refused}
 use Rattle.ped_auto.specs.Editing.{Answers}
 use Rattle.ped_auto.specs.Strategy.{Tries}
 use Rattle.ped_auto.specs.CodeStages.{AnyOutcome, CutsOff}

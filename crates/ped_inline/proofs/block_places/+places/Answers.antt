@@ -3,7 +3,7 @@ use Rattle.std.proofs.lemmas.Result.{on_ok_weaker}
 use Rattle.ped_tree.specs.Tree.{StmtTree, Do}
 use Rattle.ped_tree.specs.Views.{head_of, stmt_tree, stmt_trees}
 use Rattle.ped_tree.specs.declared.statements.Stmt.{Stmt}
-use Rattle.ped_splits.specs.ped_reindex.specs.ped_loops.specs.ped_scalar.specs.ped_rules.specs.ped_loop_runs.specs.ped_bodies.specs.ped_steps.specs.ped_laws.specs.ped_flow.proofs.Known.{tree-Do}
+use Rattle.ped_rules.specs.ped_flow.proofs.Known.{tree-Do}
 use Rattle.ped_inline.specs.Folding.{blocks_in}
 use Rattle.ped_inline.specs.CodeFolding.{places_seen}
 use Rattle.ped_inline.proofs.PlacedBlocks.{do_placed}

@@ -1,5 +1,5 @@
 use Rattle.ped_tree.specs.Views.{program_tree}
-use Rattle.ped_splits.specs.ped_reindex.specs.ped_loops.specs.ped_scalar.specs.ped_rules.specs.ped_loop_runs.specs.ped_bodies.specs.ped_steps.specs.declared.rules.Rule.TheVariants.{NoCall}
+use Rattle.ped_rules.specs.ped_steps.specs.declared.rules.Rule.TheVariants.{NoCall}
 use Rattle.ped_inline.proofs.InlineRules.{no_call_first}
 use Rattle.ped_inline.proofs.InlineAnswers.{refused}
 use Rattle.ped_inline.proofs.inlining.inline.Goals as goal

@@ -1,5 +1,5 @@
 use Rattle.ped_tree.specs.Views.{program_tree, stmt_trees}
-use Rattle.ped_splits.specs.ped_reindex.specs.ped_loops.specs.ped_scalar.specs.ped_rules.specs.ped_loop_runs.specs.ped_bodies.specs.ped_steps.specs.declared.rules.Rule.TheVariants.{Limit}
+use Rattle.ped_rules.specs.ped_steps.specs.declared.rules.Rule.TheVariants.{Limit}
 use Rattle.ped_inline.specs.Inlining.{inlined, inline_kept}
 use Rattle.ped_inline.proofs.InlineRules.{limit_first, nothing_stands}
 use Rattle.ped_inline.proofs.InlineAnswers.{refused, accepted, some_made, none_made}

@@ -1,6 +1,6 @@
 use Rattle.std.proofs.Common.{ℕ, ◌+◌, List, [], ◌∷◌, ◌++◌, sym, ap, ◌∙◌, arith}
 use Rattle.std.proofs.lemmas.List.FromFn.{map-range_with_len_more}
-use Rattle.ped_splits.specs.Neighbours.{opened_at}
+use Rattle.ped_rules.specs.KeepMaps.{opened_at}
 use Rattle.ped_inline.proofs.inlining.kept_up_to.Goals as goal
 
 pub loop-n-preserved : goal.loop-n-preserved

@@ -2,8 +2,8 @@ use Rattle.std.proofs.Common.{List, ◌++◌, map, ap, ◌∙◌}
 use Rattle.ped_tree.specs.Tree.{StmtTree, StmtTrees}
 use Rattle.ped_tree.specs.Views.{decl_tree, stmt_trees, program_tree}
 use Rattle.ped_tree.specs.declared.declarations.Decl.{Decl}
-use Rattle.ped_splits.specs.ped_reindex.specs.ped_loops.specs.ped_scalar.specs.ped_rules.specs.ped_loop_runs.specs.ped_bodies.specs.ped_steps.specs.Replacing.{all_replaced}
-use Rattle.ped_splits.specs.ped_reindex.specs.Settling.{front_comments, behind_comments, settled}
+use Rattle.ped_rules.specs.ped_steps.specs.Replacing.{all_replaced}
+use Rattle.ped_rules.specs.Settling.{front_comments, behind_comments, settled}
 use Rattle.ped_inline.proofs.InlineAnswers.{program_opened}
 use Rattle.ped_inline.proofs.inlining.with_body.Goals as goal
 

@@ -1,9 +1,9 @@
 use Rattle.std.proofs.Common.{ℕ, List, ◌++◌, ap, ◌∙◌}
 use Rattle.std.proofs.lemmas.Result.{on_ok_weaker}
 use Rattle.std.specs.Fmt.{decimal}
-use Rattle.ped_splits.specs.ped_reindex.specs.ped_loops.specs.ped_scalar.specs.ped_rules.specs.ped_loop_runs.specs.ped_bodies.specs.ped_steps.specs.ped_refs.specs.Occurrences.{name_text}
-use Rattle.ped_splits.specs.ped_reindex.specs.ped_loops.specs.ped_scalar.specs.ped_rules.specs.ped_loop_runs.specs.ped_bodies.specs.ped_steps.specs.ped_laws.specs.ped_graph.specs.ped_edges.specs.CodeEdges.{kind_of}
-use Rattle.ped_splits.specs.ped_reindex.specs.ped_loops.specs.ped_scalar.specs.ped_rules.specs.ped_loop_runs.specs.ped_bodies.specs.ped_steps.specs.ped_laws.specs.ped_graph.specs.ped_edges.specs.Rows.{kind_text, level_text}
+use Rattle.ped_refs.specs.Occurrences.{name_text}
+use Rattle.ped_edges.specs.CodeEdges.{kind_of}
+use Rattle.ped_edges.specs.Rows.{kind_text, level_text}
 use Rattle.ped_inline.proofs.PushedLines.{five_pushed}
 use Rattle.ped_inline.proofs.pane.push_row.Goals as goal
 

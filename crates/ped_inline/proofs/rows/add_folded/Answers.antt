@@ -1,7 +1,7 @@
 use Rattle.std.proofs.Common.{◌≡◌, ◌++◌, [], ◌∷◌, map, true, false, sym, ap, ◌∙◌, subst}
 use Rattle.std.specs.BTreeSet.{insert_key}
 use Rattle.std.specs.List.Sorted.{IsStrictlySortedBy}
-use Rattle.ped_splits.specs.ped_reindex.specs.ped_loops.specs.ped_scalar.specs.ped_rules.specs.ped_loop_runs.specs.ped_bodies.specs.ped_steps.specs.ped_laws.specs.ped_graph.specs.ped_edges.specs.CodeEdges.{edge_of}
+use Rattle.ped_edges.specs.CodeEdges.{edge_of}
 use Rattle.ped_inline.specs.Folding.{block_at, is_folded_by, is_folded, number_by, row_of, row_cmp, AreRows}
 use Rattle.ped_inline.specs.CodeFolding.{places_seen, row_seen}
 use Rattle.ped_inline.specs.declared.rows.FoldedRow.{FoldedRow}

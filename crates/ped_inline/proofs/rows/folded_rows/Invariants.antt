@@ -1,5 +1,5 @@
 use Rattle.std.proofs.Common.{map, take}
-use Rattle.ped_splits.specs.ped_reindex.specs.ped_loops.specs.ped_scalar.specs.ped_rules.specs.ped_loop_runs.specs.ped_bodies.specs.ped_steps.specs.ped_laws.specs.ped_graph.specs.ped_edges.specs.CodeEdges.{edge_of}
+use Rattle.ped_edges.specs.CodeEdges.{edge_of}
 use Rattle.ped_inline.specs.Folding.{AreRows}
 use Rattle.ped_inline.specs.CodeFolding.{places_seen, row_seen}
 use Rattle.ped_inline.proofs.rows.folded_rows.Given as goal

@@ -1,4 +1,4 @@
-use Rattle.ped_loop_runs.specs.ped_bodies.specs.ped_steps.specs.ped_laws.proofs.PlainLaws.ValidPrograms.{loop_bounds_fit}
+use Rattle.ped_bodies.specs.ped_laws.proofs.PlainLaws.ValidPrograms.{loop_bounds_fit}
 use Rattle.ped_loop_runs.proofs.LoopLaws.NextIn.{first_is_next}
 use Rattle.ped_loop_runs.proofs.LoopLaws.OneOut.{plain_out, same_interval, sum_sides, difference_sides, place_further_in, value_out}
 use Rattle.ped_loop_runs.proofs.one_out.plain_one_out.Goals as goal

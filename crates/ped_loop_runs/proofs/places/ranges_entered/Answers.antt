@@ -1,4 +1,4 @@
-use Rattle.ped_bodies.specs.ped_steps.specs.ped_laws.specs.ped_graph.specs.ped_symbols.proofs.RightUseLaws.Whole.{right_program}
+use Rattle.ped_bodies.specs.ped_symbols.proofs.RightUseLaws.Whole.{right_program}
 use Rattle.ped_loop_runs.proofs.PastingLaws.EnteredRanges.{in_nest_round, in_nest_setting, told_lie}
 use Rattle.ped_loop_runs.proofs.places.ranges_entered.Goals as goal
 

@@ -1,4 +1,4 @@
-use Rattle.ped_bodies.specs.ped_steps.specs.ped_laws.specs.ped_graph.specs.ped_symbols.proofs.RightUseLaws.Whole.{right_program}
+use Rattle.ped_bodies.specs.ped_symbols.proofs.RightUseLaws.Whole.{right_program}
 use Rattle.ped_loop_runs.proofs.PastingLaws.RunStores.{storable_after, all_storable_after}
 use Rattle.ped_loop_runs.proofs.stores.stores_hold_storable.Goals as goal
 

@@ -1,7 +1,7 @@
 use Rattle.std.proofs.Common.{Bool, subst, ◌+◌, arith}
 use Rattle.ped_tree.specs.Views.{program_tree, stmt_trees, head_of}
-use Rattle.ped_loops.specs.CodePlain.{TellsPlain}
-use Rattle.ped_loops.proofs.LoopPlaces.{inner_there}
+use Rattle.ped_rules.specs.Rules.{TellsPlain}
+use Rattle.ped_rules.proofs.NestLaws.InnerPlaces.{inner_there}
 use Rattle.ped_loops.proofs.InterchangeAnswers.{few_inner, outer_unplain, inner_unplain, both_plain}
 use Rattle.ped_loops.proofs.interchanging.first_unplain.Goals as goal
 

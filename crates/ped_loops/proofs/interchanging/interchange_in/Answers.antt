@@ -1,8 +1,8 @@
 use Rattle.std.proofs.Common.{List, sym, ap, ◌∙◌}
 use Rattle.ped_tree.specs.Views.{program_tree, stmt_trees, head_of}
 use Rattle.ped_tree.specs.declared.statements.Stmt.{Stmt}
-use Rattle.ped_scalar.specs.ped_rules.specs.OnlyLoops.{only_loop}
-use Rattle.ped_scalar.specs.ped_rules.specs.ped_loop_runs.specs.ped_bodies.specs.ped_steps.specs.declared.rules.Rule.TheVariants.{NotPerfect}
+use Rattle.ped_rules.specs.OnlyLoops.{only_loop}
+use Rattle.ped_rules.specs.ped_steps.specs.declared.rules.Rule.TheVariants.{NotPerfect}
 use Rattle.ped_loops.proofs.InterchangeRules.{perfect_first}
 use Rattle.ped_loops.proofs.InterchangeAnswers.{refused, none_perfect}
 use Rattle.ped_loops.proofs.interchanging.interchange_in.Goals as goal

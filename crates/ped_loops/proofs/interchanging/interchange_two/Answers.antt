@@ -1,6 +1,6 @@
 use Rattle.std.proofs.Common.{sym, ◌∙◌}
 use Rattle.ped_tree.specs.Views.{program_tree, stmt_trees, head_of}
-use Rattle.ped_scalar.specs.ped_rules.specs.ped_loop_runs.specs.ped_bodies.specs.ped_steps.specs.declared.rules.Rule.TheVariants.{ParallelState, HasPrivate, IndexEscapes}
+use Rattle.ped_rules.specs.ped_steps.specs.declared.rules.Rule.TheVariants.{ParallelState, HasPrivate, IndexEscapes}
 use Rattle.ped_loops.proofs.InterchangeRules as rules
 use Rattle.ped_loops.proofs.InterchangeAnswers.{refused, first_state, upto_state, first_list, upto_list}
 use Rattle.ped_loops.proofs.interchanging.interchange_two.Goals as goal

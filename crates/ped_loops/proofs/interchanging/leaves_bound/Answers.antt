@@ -1,9 +1,9 @@
 use Rattle.std.proofs.Common.{Bool, ◌||◌, sym, ap, ◌∙◌}
 use Rattle.std.proofs.lemmas.Result.{IfOk-weaker}
 use Rattle.ped_tree.specs.Views.{program_tree, head_of}
-use Rattle.ped_scalar.specs.ped_rules.specs.Rules.{leaves, setting_at}
-use Rattle.ped_scalar.specs.ped_rules.specs.ped_loop_runs.specs.ped_bodies.specs.ped_steps.specs.ped_affine.specs.PairViews.{heads_of}
-use Rattle.ped_scalar.specs.ped_rules.specs.ped_loop_runs.specs.ped_bodies.specs.ped_steps.specs.ped_refs.specs.Loops.{nest_of}
+use Rattle.ped_rules.specs.Rules.{leaves, setting_at}
+use Rattle.ped_rules.specs.ped_affine.specs.PairViews.{heads_of}
+use Rattle.ped_refs.specs.Loops.{nest_of}
 use Rattle.ped_loops.proofs.interchanging.leaves_bound.Goals as goal
 
 pub returns-then-branch : goal.returns-then-branch

@@ -3,13 +3,13 @@ use Rattle.std.proofs.lemmas.Result.{IfOk-weaker}
 use Rattle.ped_tree.specs.Tree.{Head}
 use Rattle.ped_tree.specs.Views.{program_tree, stmt_trees, head_of}
 use Rattle.ped_tree.specs.declared.statements.Stmt.{Stmt}
-use Rattle.ped_scalar.specs.ped_rules.specs.OnlyLoops.{only_loop}
-use Rattle.ped_scalar.specs.ped_rules.specs.Rules.{leaves, setting_at, heads_round}
-use Rattle.ped_scalar.specs.ped_rules.specs.ped_loop_runs.specs.ped_bodies.specs.ped_steps.proofs.Answering.{few_numbers}
-use Rattle.ped_scalar.specs.ped_rules.specs.ped_loop_runs.specs.ped_bodies.specs.ped_steps.specs.ped_affine.specs.PairViews.{heads_of}
-use Rattle.ped_scalar.specs.ped_rules.specs.ped_loop_runs.specs.ped_bodies.specs.ped_steps.specs.ped_refs.specs.Loops.{nest_of}
-use Rattle.ped_scalar.specs.ped_rules.specs.ped_loop_runs.specs.ped_bodies.specs.ped_steps.specs.ped_refs.specs.declared.loops.Loop.{Loop}
-use Rattle.ped_scalar.specs.ped_rules.proofs.NestDepths.{loops_short}
+use Rattle.ped_rules.specs.OnlyLoops.{only_loop}
+use Rattle.ped_rules.specs.Rules.{leaves, setting_at, heads_round}
+use Rattle.ped_rules.specs.ped_steps.proofs.Answering.{few_numbers}
+use Rattle.ped_rules.specs.ped_affine.specs.PairViews.{heads_of}
+use Rattle.ped_refs.specs.Loops.{nest_of}
+use Rattle.ped_refs.specs.declared.loops.Loop.{Loop}
+use Rattle.ped_rules.proofs.NestDepths.{loops_short}
 use Rattle.ped_loops.specs.Interchanging.{makes_far}
 use Rattle.ped_loops.proofs.InterchangeAnswers.{far_outside, far_found, new_only, round_short, heads_pushed}
 use Rattle.ped_loops.proofs.interchanging.leaves_either.Goals as goal

@@ -1,8 +1,8 @@
 use Rattle.std.proofs.Common.{Option, refl, subst}
 use Rattle.ped_tree.specs.Views.{program_tree}
-use Rattle.ped_scalar.specs.ped_rules.specs.Carried.{crossing, IsFirstOf}
-use Rattle.ped_scalar.specs.ped_rules.specs.ped_loop_runs.specs.ped_bodies.specs.ped_steps.specs.ped_laws.specs.ped_graph.specs.ped_edges.specs.declared.edges.Edge.{Edge}
-use Rattle.ped_scalar.specs.ped_rules.specs.ped_loop_runs.specs.ped_bodies.specs.ped_steps.specs.declared.causes.Refused.TheVariants as variant
+use Rattle.ped_rules.specs.Carried.{crossing, IsFirstOf}
+use Rattle.ped_edges.specs.declared.edges.Edge.{Edge}
+use Rattle.ped_rules.specs.ped_steps.specs.declared.causes.Refused.TheVariants as variant
 use Rattle.ped_loops.proofs.InterchangeAnswers.{forbidden, accepted}
 use Rattle.ped_loops.proofs.interchanging.unless_crossing.Goals as goal
 

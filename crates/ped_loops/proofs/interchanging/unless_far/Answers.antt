@@ -1,7 +1,7 @@
 use Rattle.std.proofs.Common.{◌+◌, sym, ◌∙◌}
 use Rattle.ped_tree.specs.Views.{program_tree, stmt_trees, head_of}
-use Rattle.ped_scalar.specs.ped_rules.specs.KeepMaps.{all_but}
-use Rattle.ped_scalar.specs.ped_rules.specs.ped_loop_runs.specs.ped_bodies.specs.ped_steps.specs.declared.rules.Rule.TheVariants.{Range, Limit}
+use Rattle.ped_rules.specs.KeepMaps.{all_but}
+use Rattle.ped_rules.specs.ped_steps.specs.declared.rules.Rule.TheVariants.{Range, Limit}
 use Rattle.ped_loops.specs.Interchanging.{interchanged}
 use Rattle.ped_loops.proofs.FlagAnswers.{some_made, none_made}
 use Rattle.ped_loops.proofs.InterchangeRules as rules

@@ -1,7 +1,7 @@
 use Rattle.std.proofs.Common.{ap, ◌∙◌}
 use Rattle.ped_tree.specs.Views.{program_tree, stmt_trees, head_of}
-use Rattle.ped_scalar.specs.ped_rules.specs.ped_loop_runs.specs.ped_bodies.specs.ped_steps.specs.ped_symbols.specs.Kinds.{Table}
-use Rattle.ped_scalar.specs.ped_rules.specs.ped_loop_runs.specs.ped_bodies.specs.ped_steps.specs.declared.rules.Rule.TheVariants.{StepShape}
+use Rattle.ped_rules.specs.ped_symbols.specs.Kinds.{Table}
+use Rattle.ped_rules.specs.ped_steps.specs.declared.rules.Rule.TheVariants.{StepShape}
 use Rattle.ped_loops.proofs.InterchangeAnswers.{refused, first_stepping, upto_units}
 use Rattle.ped_loops.proofs.interchanging.unless_stepping.Goals as goal
 

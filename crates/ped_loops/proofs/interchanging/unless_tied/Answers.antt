@@ -1,6 +1,6 @@
 use Rattle.std.proofs.Common.{sym, ◌∙◌}
 use Rattle.ped_tree.specs.Views.{program_tree, stmt_trees, head_of}
-use Rattle.ped_scalar.specs.ped_rules.specs.ped_loop_runs.specs.ped_bodies.specs.ped_steps.specs.declared.rules.Rule.TheVariants.{BoundsShape}
+use Rattle.ped_rules.specs.ped_steps.specs.declared.rules.Rule.TheVariants.{BoundsShape}
 use Rattle.ped_loops.specs.CodeShapes.{shape_in}
 use Rattle.ped_loops.specs.Shapes.{isnt_shaped}
 use Rattle.ped_loops.proofs.InterchangeAnswers.{refused, first_tied, upto_tied, are_shaped}

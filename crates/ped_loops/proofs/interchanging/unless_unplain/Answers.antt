@@ -1,5 +1,5 @@
 use Rattle.ped_tree.specs.Views.{program_tree, stmt_trees, head_of}
-use Rattle.ped_scalar.specs.ped_rules.specs.ped_loop_runs.specs.ped_bodies.specs.ped_steps.specs.declared.rules.Rule.TheVariants.{BoundNotPlain}
+use Rattle.ped_rules.specs.ped_steps.specs.declared.rules.Rule.TheVariants.{BoundNotPlain}
 use Rattle.ped_loops.proofs.InterchangeRules as rules
 use Rattle.ped_loops.proofs.InterchangeAnswers.{refused, some_unplain, none_unplain_found}
 use Rattle.ped_loops.proofs.interchanging.unless_unplain.Goals as goal

@@ -1,4 +1,4 @@
-use Rattle.ped_loops.proofs.FlagsLawful.{lawful_serial}
+use Rattle.ped_loops.proofs.SerialLawful.{lawful_serial}
 use Rattle.ped_loops.proofs.laws.serial_is_lawful.Goals as goal
 
 pub returns : goal.returns

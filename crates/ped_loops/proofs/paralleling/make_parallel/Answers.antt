@@ -1,8 +1,8 @@
 use Rattle.ped_tree.specs.Views.{program_tree}
 use Rattle.std.proofs.Common.{true}
-use Rattle.ped_scalar.specs.ped_rules.specs.Rules.{is_parallel}
-use Rattle.ped_scalar.specs.ped_rules.specs.ped_loop_runs.specs.ped_bodies.specs.ped_steps.specs.declared.rules.Rule.TheVariants.{NoLoop}
-use Rattle.ped_loops.proofs.FlagRules.{no_loop_first}
+use Rattle.ped_rules.specs.Rules.{is_parallel}
+use Rattle.ped_rules.specs.ped_steps.specs.declared.rules.Rule.TheVariants.{NoLoop}
+use Rattle.ped_rules.proofs.HeadLaws.FlagRules.{no_loop_first}
 use Rattle.ped_loops.proofs.FlagAnswers.{parallel_refused}
 use Rattle.ped_loops.proofs.paralleling.make_parallel.Goals as goal
 

@@ -1,7 +1,7 @@
 use Rattle.std.proofs.Common.{Option, subst}
 use Rattle.ped_tree.specs.Views.{program_tree}
-use Rattle.ped_scalar.specs.ped_rules.specs.Carried.{carried, IsFirstOf}
-use Rattle.ped_scalar.specs.ped_rules.specs.ped_loop_runs.specs.ped_bodies.specs.ped_steps.specs.ped_laws.specs.ped_graph.specs.ped_edges.specs.declared.edges.Edge.{Edge}
+use Rattle.ped_rules.specs.Carried.{carried, IsFirstOf}
+use Rattle.ped_edges.specs.declared.edges.Edge.{Edge}
 use Rattle.ped_loops.proofs.FlagAnswers.{parallel_forbidden, parallel_accepted}
 use Rattle.ped_loops.proofs.paralleling.unless_carried.Goals as goal
 

@@ -1,7 +1,7 @@
 use Rattle.std.proofs.Common.{◌≡◌, drop}
 use Rattle.std.specs.List.{list_any}
-use Rattle.ped_scalar.specs.ped_rules.specs.ped_loop_runs.specs.ped_bodies.specs.ped_steps.specs.ped_laws.specs.ped_graph.specs.ped_edges.specs.CodeEdges.{edge_of}
-use Rattle.ped_scalar.specs.ped_rules.specs.ped_loop_runs.specs.ped_bodies.specs.ped_steps.specs.ped_laws.specs.ped_graph.specs.ped_edges.specs.declared.edges.Edge.{Edge}
+use Rattle.ped_edges.specs.CodeEdges.{edge_of}
+use Rattle.ped_edges.specs.declared.edges.Edge.{Edge}
 use Rattle.ped_loops.specs.Rejecting.{is_pending_of}
 use Rattle.ped_loops.proofs.rejecting.is_some_pending.Given as goal
 

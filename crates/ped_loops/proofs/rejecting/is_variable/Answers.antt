@@ -1,6 +1,6 @@
 use Rattle.std.proofs.Common.{sym, ap, ◌∙◌}
 use Rattle.ped_base.proofs.NameEquality.{name_same}
-use Rattle.ped_scalar.specs.ped_rules.specs.ped_loop_runs.specs.ped_bodies.specs.ped_steps.specs.ped_refs.specs.Occurrences.{name_text}
+use Rattle.ped_refs.specs.Occurrences.{name_text}
 use Rattle.ped_loops.specs.Rejecting.{is_variable}
 use Rattle.ped_loops.proofs.RejectAnswers.{variable_by}
 use Rattle.ped_loops.proofs.rejecting.is_variable.Goals as goal

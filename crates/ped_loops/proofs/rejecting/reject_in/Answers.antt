@@ -1,6 +1,6 @@
 use Rattle.std.proofs.Common.{sym, ◌∙◌}
 use Rattle.ped_tree.specs.Views.{program_tree, stmt_trees, head_of}
-use Rattle.ped_scalar.specs.ped_rules.specs.ped_loop_runs.specs.ped_bodies.specs.ped_steps.specs.declared.rules.Rule.TheVariants.{NothingToReject}
+use Rattle.ped_rules.specs.ped_steps.specs.declared.rules.Rule.TheVariants.{NothingToReject}
 use Rattle.ped_loops.proofs.RejectRules as rules
 use Rattle.ped_loops.proofs.RejectAnswers.{refused, accepted}
 use Rattle.ped_loops.proofs.rejecting.reject_in.Goals as goal

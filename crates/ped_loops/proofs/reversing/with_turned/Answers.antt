@@ -3,7 +3,7 @@ use Rattle.std.specs.Int.{w64}
 use Rattle.std.proofs.lemmas.Result.{IfOk-weaker}
 use Rattle.ped_tree.specs.Views.{program_tree, stmt_trees, head_of}
 use Rattle.ped_tree.specs.declared.statements.Stmt.{Stmt}
-use Rattle.ped_scalar.specs.ped_rules.specs.Rules.{is_unit}
+use Rattle.ped_rules.specs.Rules.{is_unit}
 use Rattle.ped_loops.proofs.ReverseAnswers.{turned_program, unit_negated, unit_turned}
 use Rattle.ped_loops.proofs.reversing.with_turned.Goals as goal
 

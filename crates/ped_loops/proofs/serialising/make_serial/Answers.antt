@@ -1,8 +1,8 @@
 use Rattle.ped_tree.specs.Views.{program_tree}
 use Rattle.std.proofs.Common.{false}
-use Rattle.ped_scalar.specs.ped_rules.specs.Rules.{is_serial}
-use Rattle.ped_scalar.specs.ped_rules.specs.ped_loop_runs.specs.ped_bodies.specs.ped_steps.specs.declared.rules.Rule.TheVariants.{NoLoop}
-use Rattle.ped_loops.proofs.FlagRules.{no_loop_first}
+use Rattle.ped_rules.specs.Rules.{is_serial}
+use Rattle.ped_rules.specs.ped_steps.specs.declared.rules.Rule.TheVariants.{NoLoop}
+use Rattle.ped_rules.proofs.HeadLaws.FlagRules.{no_loop_first}
 use Rattle.ped_loops.proofs.FlagAnswers.{serial_refused}
 use Rattle.ped_loops.proofs.serialising.make_serial.Goals as goal
 

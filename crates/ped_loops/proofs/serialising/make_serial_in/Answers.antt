@@ -1,10 +1,10 @@
 use Rattle.std.proofs.Common.{false, not, ap}
 use Rattle.ped_tree.specs.Views.{program_tree, stmt_trees, head_of}
-use Rattle.ped_scalar.specs.ped_rules.specs.Rules.{is_serial}
-use Rattle.ped_scalar.specs.ped_rules.specs.ped_loop_runs.specs.ped_bodies.specs.ped_steps.specs.declared.rules.Rule.TheVariants.{ParallelState, IndexEscapes, Limit}
-use Rattle.ped_scalar.specs.ped_rules.specs.ped_loop_runs.specs.ped_bodies.specs.ped_steps.specs.Replacing.{all_kept}
-use Rattle.ped_loops.specs.Flags.{flagged}
-use Rattle.ped_loops.proofs.FlagRules as rules
+use Rattle.ped_rules.specs.Rules.{is_serial}
+use Rattle.ped_rules.specs.ped_steps.specs.declared.rules.Rule.TheVariants.{ParallelState, IndexEscapes, Limit}
+use Rattle.ped_rules.specs.ped_steps.specs.Replacing.{all_kept}
+use Rattle.ped_rules.specs.Flags.{flagged}
+use Rattle.ped_rules.proofs.HeadLaws.FlagRules as rules
 use Rattle.ped_loops.proofs.FlagAnswers.{some_made, none_made, serial_refused, serial_accepted}
 use Rattle.ped_loops.proofs.serialising.make_serial_in.Goals as goal
 

@@ -3,7 +3,7 @@ use Rattle.std.proofs.lemmas.Result.{IfOk-at_ok, IfOk-weaker}
 use Rattle.ped_tree.specs.Views.{expr_tree, stmt_trees}
 use Rattle.ped_tree.specs.declared.expressions.Expr.{Expr}
 use Rattle.ped_tree.specs.declared.statements.Stmt.{Stmt}
-use Rattle.ped_scalar.specs.ped_rules.specs.ped_loop_runs.specs.ped_bodies.specs.ped_steps.specs.Replacing.{alone}
+use Rattle.ped_rules.specs.ped_steps.specs.Replacing.{alone}
 use Rattle.ped_loops.specs.CodeInterchanging.{each_around}
 use Rattle.ped_loops.specs.CodeShapes.{outer_of, inner_of}
 use Rattle.ped_loops.specs.Shapes.{new_inner, new_outer}

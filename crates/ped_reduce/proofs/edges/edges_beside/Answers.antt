@@ -1,11 +1,11 @@
 use Rattle.std.proofs.Common.{ℕ, not, ap, ◌∙◌}
 use Rattle.ped_base.specs.Lists.{is_among}
 use Rattle.ped_tree.specs.Views.{program_tree}
-use Rattle.ped_splits.specs.ped_reindex.specs.ped_loops.specs.ped_scalar.specs.ped_rules.specs.ped_loop_runs.specs.ped_bodies.specs.ped_steps.specs.ped_laws.specs.ped_graph.specs.DependencePane.{edges_at}
-use Rattle.ped_splits.specs.ped_reindex.specs.ped_loops.specs.ped_scalar.specs.ped_rules.specs.Carried.{is_carried_by, carried}
+use Rattle.ped_rules.specs.ped_graph.specs.DependencePane.{edges_at}
+use Rattle.ped_rules.specs.Carried.{is_carried_by, carried}
 use Rattle.ped_edges.specs.Edges.{is_rejected}
-use Rattle.ped_splits.specs.ped_reindex.specs.ped_loops.specs.ped_scalar.specs.ped_rules.specs.CodeCarried.{AreThose}
-use Rattle.ped_splits.specs.ped_reindex.specs.ped_loops.specs.ped_scalar.specs.ped_rules.proofs.CarriedEdges.{both_tests}
+use Rattle.ped_rules.specs.CodeCarried.{AreThose}
+use Rattle.ped_rules.proofs.CarriedEdges.{both_tests}
 use Rattle.ped_reduce.proofs.edges.edges_beside.Goals as goal
 
 pub returns : goal.returns

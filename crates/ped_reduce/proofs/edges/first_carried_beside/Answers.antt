@@ -1,5 +1,5 @@
 use Rattle.ped_tree.specs.Views.{program_tree}
-use Rattle.ped_splits.specs.ped_reindex.specs.ped_loops.specs.ped_scalar.specs.ped_rules.proofs.CarriedEdges.{found_first}
+use Rattle.ped_rules.proofs.CarriedEdges.{found_first}
 use Rattle.ped_reduce.specs.Reducing.{carried_beside}
 use Rattle.ped_reduce.proofs.edges.first_carried_beside.Goals as goal
 

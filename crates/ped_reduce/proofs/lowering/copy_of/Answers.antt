@@ -3,8 +3,8 @@ use Rattle.std.proofs.lemmas.List.{drop_all}
 use Rattle.ped_tree.specs.Views.{program_tree, stmt_tree, stmt_trees, decl_tree}
 use Rattle.ped_tree.specs.declared.declarations.Decl.{Decl}
 use Rattle.ped_tree.specs.declared.statements.Stmt.{Stmt}
-use Rattle.ped_splits.specs.ped_reindex.specs.ped_loops.specs.ped_scalar.specs.ped_rules.specs.ped_loop_runs.specs.ped_bodies.specs.ped_steps.specs.Replacing.{followed}
-use Rattle.ped_splits.specs.ped_reindex.specs.ped_loops.specs.ped_scalar.specs.ped_rules.specs.ped_loop_runs.specs.ped_bodies.specs.ped_steps.proofs.Followed.{followed-none}
+use Rattle.ped_rules.specs.ped_steps.specs.Replacing.{followed}
+use Rattle.ped_rules.specs.ped_steps.proofs.Followed.{followed-none}
 use Rattle.ped_reduce.proofs.SummedCode.{pushed}
 use Rattle.ped_reduce.proofs.LoweringCode.{copied_next, same_program}
 use Rattle.ped_reduce.proofs.lowering.copy_of.Goals as goal

@@ -3,8 +3,8 @@ use Rattle.std.specs.List.{list_any}
 use Rattle.std.proofs.lemmas.List.{drop_all}
 use Rattle.ped_tree.specs.Nests.{Loop}
 use Rattle.ped_tree.specs.Views.{program_tree}
-use Rattle.ped_splits.specs.ped_reindex.specs.ped_loops.specs.ped_scalar.specs.ped_rules.specs.ped_loop_runs.specs.ped_bodies.specs.ped_steps.specs.ped_refs.specs.Loops.{loop_of, nest_of}
-use Rattle.ped_splits.specs.ped_reindex.specs.ped_loops.specs.ped_scalar.specs.ped_rules.specs.ped_loop_runs.specs.ped_bodies.specs.ped_steps.specs.ped_refs.specs.declared.loops.Loop.{Loop as CodeLoop}
+use Rattle.ped_refs.specs.Loops.{loop_of, nest_of}
+use Rattle.ped_refs.specs.declared.loops.Loop.{Loop as CodeLoop}
 use Rattle.ped_reduce.specs.Reducing.{is_live, is_in_live}
 use Rattle.ped_reduce.specs.CodeLowered.{lowered_view}
 use Rattle.ped_reduce.proofs.LoweringCode.{live_here, live_later}

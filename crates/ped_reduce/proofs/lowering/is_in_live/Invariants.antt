@@ -1,7 +1,7 @@
 use Rattle.std.proofs.Common.{◌≡◌, drop}
 use Rattle.std.specs.List.{list_any}
 use Rattle.ped_tree.specs.Views.{program_tree}
-use Rattle.ped_splits.specs.ped_reindex.specs.ped_loops.specs.ped_scalar.specs.ped_rules.specs.ped_loop_runs.specs.ped_bodies.specs.ped_steps.specs.ped_refs.specs.Loops.{nest_of}
+use Rattle.ped_refs.specs.Loops.{nest_of}
 use Rattle.ped_reduce.specs.Reducing.{is_live, is_in_live}
 use Rattle.ped_reduce.specs.CodeLowered.{lowered_view}
 use Rattle.ped_reduce.proofs.lowering.is_in_live.Given as goal

@@ -2,7 +2,7 @@ use Rattle.std.proofs.Common.{List, ap, arith}
 use Rattle.ped_tree.specs.Numbering.{statements_count}
 use Rattle.ped_tree.specs.Views.{program_tree, stmt_trees}
 use Rattle.ped_tree.specs.declared.statements.Stmt.{Stmt}
-use Rattle.ped_splits.specs.ped_reindex.specs.ped_loops.specs.ped_scalar.specs.ped_rules.specs.ped_loop_runs.specs.ped_bodies.specs.ped_steps.proofs.Answering.{few_numbers}
+use Rattle.ped_rules.specs.ped_steps.proofs.Answering.{few_numbers}
 use Rattle.ped_reduce.proofs.lowering.lower.Goals as goal
 
 pub count_statements-requires : goal.count_statements-requires

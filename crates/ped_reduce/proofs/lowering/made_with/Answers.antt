@@ -2,12 +2,12 @@ use Rattle.std.proofs.Common.{◌≡◌, ℕ, ℤ, ◌+◌, List, map, true, Opt
 use Rattle.std.specs.Global.{Vec}
 use Rattle.std.proofs.lemmas.List.{length-map}
 use Rattle.ped_tree.specs.Views.{program_tree, stmt_trees, head_of}
-use Rattle.ped_splits.specs.ped_reindex.specs.ped_loops.specs.ped_scalar.specs.ped_rules.specs.ped_loop_runs.specs.ped_bodies.specs.ped_steps.specs.ped_symbols.specs.Kinds.{Table}
-use Rattle.ped_splits.specs.ped_reindex.specs.ped_loops.specs.ped_scalar.specs.ped_rules.specs.ped_loop_runs.specs.ped_bodies.specs.ped_steps.specs.ped_symbols.specs.RightUses.RightLoops.{step_is_right}
-use Rattle.ped_splits.specs.ped_reindex.specs.ped_loops.specs.ped_scalar.specs.ped_rules.specs.CodeSpans.{IsCourse, span_in}
-use Rattle.ped_splits.specs.ped_reindex.specs.ped_loops.specs.ped_scalar.specs.ped_rules.specs.Spans.{span_of}
-use Rattle.ped_splits.specs.ped_reindex.specs.ped_loops.specs.ped_scalar.specs.ped_rules.specs.declared.spans.Course.TheVariants.{Near}
-use Rattle.ped_splits.specs.ped_reindex.specs.ped_loops.specs.ped_scalar.specs.ped_rules.proofs.RightSteps.{right_step}
+use Rattle.ped_rules.specs.ped_symbols.specs.Kinds.{Table}
+use Rattle.ped_rules.specs.ped_symbols.specs.RightUses.RightLoops.{step_is_right}
+use Rattle.ped_rules.specs.CodeSpans.{IsCourse, span_in}
+use Rattle.ped_rules.specs.Spans.{span_of}
+use Rattle.ped_rules.specs.declared.spans.Course.TheVariants.{Near}
+use Rattle.ped_rules.proofs.RightSteps.{right_step}
 use Rattle.ped_reduce.specs.declared.partials.Partials.{Partials as CodePartials}
 use Rattle.ped_reduce.specs.Lowering.{fresh_arrays, partials_of, lowered_with}
 use Rattle.ped_reduce.specs.CodeLowering.{partials_view}

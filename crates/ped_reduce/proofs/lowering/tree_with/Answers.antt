@@ -4,9 +4,9 @@ use Rattle.ped_tree.specs.Numbering.{statements_count}
 use Rattle.ped_tree.specs.Views.{program_tree, stmt_trees, decl_tree, head_of}
 use Rattle.ped_tree.specs.declared.declarations.Decl.{Decl}
 use Rattle.ped_tree.specs.declared.statements.Stmt.{Stmt}
-use Rattle.ped_splits.specs.ped_reindex.specs.ped_loops.specs.ped_scalar.specs.ped_rules.specs.ped_loop_runs.specs.ped_bodies.specs.ped_steps.specs.Replacing.{all_replaced}
-use Rattle.ped_splits.specs.ped_reindex.specs.ped_loops.specs.ped_scalar.specs.ped_rules.specs.ped_loop_runs.specs.ped_bodies.specs.ped_steps.proofs.Answering.{few_numbers}
-use Rattle.ped_splits.specs.ped_reindex.specs.ped_loops.specs.ped_scalar.specs.ped_rules.specs.CodeSpans.{span_in}
+use Rattle.ped_rules.specs.ped_steps.specs.Replacing.{all_replaced}
+use Rattle.ped_rules.specs.ped_steps.proofs.Answering.{few_numbers}
+use Rattle.ped_rules.specs.CodeSpans.{span_in}
 use Rattle.ped_reduce.specs.Lowering.{declarations, lowered_with}
 use Rattle.ped_reduce.specs.CodeLowering.{partials_view}
 use Rattle.ped_reduce.specs.CodeLowered.{lowered_view}

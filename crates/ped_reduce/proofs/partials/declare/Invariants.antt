@@ -1,6 +1,6 @@
 use Rattle.std.proofs.Common.{◌≡◌, ◌++◌, map, drop}
 use Rattle.ped_tree.specs.Views.{decl_tree}
-use Rattle.ped_splits.specs.ped_reindex.specs.ped_loops.specs.ped_scalar.specs.ped_rules.specs.CodeSpans.{span_in}
+use Rattle.ped_rules.specs.CodeSpans.{span_in}
 use Rattle.ped_reduce.specs.Lowering.{declarations}
 use Rattle.ped_reduce.specs.CodeLowering.{partials_view}
 use Rattle.ped_reduce.proofs.partials.declare.Given as goal

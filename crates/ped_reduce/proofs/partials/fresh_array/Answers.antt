@@ -1,7 +1,7 @@
 use Rattle.std.proofs.Common.{◌≡◌, ℕ, ◌+◌, ◌<◌, ◌∷◌, List, true, false, sym, ap, ◌∙◌, arith}
 use Rattle.ped_tree.specs.Views.{program_tree}
-use Rattle.ped_splits.specs.ped_reindex.specs.ped_loops.specs.ped_scalar.specs.ped_rules.specs.Fresh.{occurs, most_numbered}
-use Rattle.ped_splits.specs.ped_reindex.specs.ped_loops.specs.ped_scalar.specs.ped_rules.proofs.FreshNames.{most_is}
+use Rattle.ped_rules.specs.Fresh.{occurs, most_numbered}
+use Rattle.ped_rules.proofs.FreshNames.{most_is}
 use Rattle.ped_reduce.specs.CodeLowering.{fresh_from}
 use Rattle.ped_reduce.proofs.FreshArrays.{numbered, taken, free, no_more}
 use Rattle.ped_reduce.proofs.partials.fresh_array.Goals as goal

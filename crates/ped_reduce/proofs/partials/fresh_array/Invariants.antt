@@ -1,6 +1,6 @@
 use Rattle.std.proofs.Common.{◌≡◌, ◌+◌, ◌-◌}
 use Rattle.ped_tree.specs.Views.{program_tree}
-use Rattle.ped_splits.specs.ped_reindex.specs.ped_loops.specs.ped_scalar.specs.ped_rules.specs.Fresh.{most_numbered}
+use Rattle.ped_rules.specs.Fresh.{most_numbered}
 use Rattle.ped_reduce.specs.CodeLowering.{fresh_from}
 use Rattle.ped_reduce.proofs.partials.fresh_array.Given as goal
 

@@ -2,8 +2,8 @@ use Rattle.std.proofs.Common.{◌≡◌, ◌++◌, List, ℕ, sym, ap, ◌∙◌
 use Rattle.std.specs.Prelude.{codes}
 use Rattle.std.specs.Fmt.{decimal}
 use Rattle.ped_base.specs.Letters.{name_of}
-use Rattle.ped_splits.specs.ped_reindex.specs.ped_loops.specs.ped_scalar.specs.ped_rules.specs.declared.fresh.NewName.TheVariants.{Array}
-use Rattle.ped_splits.specs.ped_reindex.specs.ped_loops.specs.ped_scalar.specs.ped_rules.proofs.FreshNames.{numbered_name}
+use Rattle.ped_rules.specs.declared.fresh.NewName.TheVariants.{Array}
+use Rattle.ped_rules.proofs.FreshNames.{numbered_name}
 use Rattle.ped_reduce.proofs.partials.numbered.Goals as goal
 
 pub unreachable-requires : goal.unreachable-requires

@@ -1,5 +1,5 @@
 use Rattle.std.proofs.Common.{◌≡◌, drop}
-use Rattle.ped_splits.specs.ped_reindex.specs.ped_loops.specs.ped_scalar.specs.ped_rules.specs.ped_loop_runs.specs.ped_bodies.specs.ped_steps.specs.ped_symbols.specs.NameRefusals.{has_twice}
+use Rattle.ped_rules.specs.ped_symbols.specs.NameRefusals.{has_twice}
 use Rattle.ped_reduce.proofs.privacy.has_twice.Given as goal
 
 abbrev pub invariant-loop-place : goal.invariant-loop-place

@@ -5,7 +5,7 @@ use Rattle.ped_tree.specs.NamesIn.{private_names_in}
 use Rattle.ped_tree.specs.Nests.{Loop}
 use Rattle.ped_tree.specs.Tree.{Do}
 use Rattle.ped_tree.specs.Views.{head_of, stmt_trees}
-use Rattle.ped_splits.specs.ped_reindex.specs.ped_loops.specs.ped_scalar.specs.ped_rules.specs.ped_loop_runs.specs.ped_bodies.specs.ped_steps.specs.ped_refs.specs.Loops.{nest_of}
+use Rattle.ped_refs.specs.Loops.{nest_of}
 use Rattle.ped_reduce.proofs.privacy.is_some_private.Given as goal
 
 abbrev pub invariant-loop-name : goal.invariant-loop-name

@@ -1,7 +1,7 @@
 use Rattle.std.proofs.Common.{Option, sym, ◌∙◌, subst}
 use Rattle.ped_tree.specs.Views.{program_tree, stmt_trees, head_of}
-use Rattle.ped_splits.specs.ped_reindex.specs.ped_loops.specs.ped_scalar.specs.ped_rules.specs.ped_loop_runs.specs.ped_bodies.specs.ped_steps.specs.ped_laws.specs.ped_graph.specs.ped_edges.specs.declared.edges.Edge.{Edge}
-use Rattle.ped_splits.specs.ped_reindex.specs.ped_loops.specs.ped_scalar.specs.ped_rules.specs.Carried.{IsFirstOf as IsFirstEdge}
+use Rattle.ped_edges.specs.declared.edges.Edge.{Edge}
+use Rattle.ped_rules.specs.Carried.{IsFirstOf as IsFirstEdge}
 use Rattle.ped_reduce.specs.CodeRules.{IsFirstOf, behind_limit}
 use Rattle.ped_reduce.specs.Reducing.{carried_beside, IsUnlowerable}
 use Rattle.ped_reduce.proofs.ReducingAnswers as answers

@@ -1,7 +1,7 @@
 use Rattle.std.proofs.Common.{subst}
 use Rattle.ped_tree.specs.Views.{program_tree, stmt_trees, head_of}
-use Rattle.ped_splits.specs.ped_reindex.specs.ped_loops.specs.ped_scalar.specs.ped_rules.specs.Chains.{no_rules}
-use Rattle.ped_splits.specs.ped_reindex.specs.ped_loops.specs.ped_scalar.specs.ped_rules.specs.ped_loop_runs.specs.ped_bodies.specs.ped_steps.specs.Replacing.{all_kept}
+use Rattle.ped_rules.specs.Chains.{no_rules}
+use Rattle.ped_rules.specs.ped_steps.specs.Replacing.{all_kept}
 use Rattle.ped_reduce.specs.CodeRules.{IsFirstOf}
 use Rattle.ped_reduce.specs.Reducing.{also_against_sums, with_reduction}
 use Rattle.ped_reduce.proofs.ReducingAnswers as answers

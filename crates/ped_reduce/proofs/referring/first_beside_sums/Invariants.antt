@@ -2,7 +2,7 @@ use Rattle.std.proofs.Common.{◌≡◌, drop}
 use Rattle.std.specs.Prelude.{option_map}
 use Rattle.std.specs.List.{find}
 use Rattle.ped_tree.specs.Views.{program_tree}
-use Rattle.ped_splits.specs.ped_reindex.specs.ped_loops.specs.ped_scalar.specs.ped_rules.specs.ped_loop_runs.specs.ped_bodies.specs.ped_steps.specs.ped_refs.specs.Occurrences.{references_of}
+use Rattle.ped_refs.specs.Occurrences.{references_of}
 use Rattle.ped_reduce.specs.Reducing.{is_beside_sums, first_beside_sums}
 use Rattle.ped_reduce.proofs.referring.first_beside_sums.Given as goal
 

@@ -1,10 +1,10 @@
 use Rattle.std.proofs.Common.{Some, is_none, ap, ◌∙◌, subst}
 use Rattle.ped_tree.specs.Views.{program_tree, stmt_trees, head_of}
-use Rattle.ped_splits.specs.ped_reindex.specs.ped_loops.specs.ped_scalar.specs.ped_rules.specs.ped_loop_runs.specs.ped_bodies.specs.ped_steps.specs.ped_symbols.specs.Kinds.{table_of}
-use Rattle.ped_splits.specs.ped_reindex.specs.ped_loops.specs.ped_scalar.specs.ped_rules.specs.Spans.{span_of, spans_far}
-use Rattle.ped_splits.specs.ped_reindex.specs.ped_loops.specs.ped_scalar.specs.ped_rules.specs.CodeSpans.{IsCourse}
-use Rattle.ped_splits.specs.ped_reindex.specs.ped_loops.specs.ped_scalar.specs.Expanding.{of_span}
-use Rattle.ped_splits.specs.ped_reindex.specs.ped_loops.specs.ped_scalar.proofs.ExpandRules.{known_near}
+use Rattle.ped_rules.specs.ped_symbols.specs.Kinds.{table_of}
+use Rattle.ped_rules.specs.Spans.{span_of, spans_far}
+use Rattle.ped_rules.specs.CodeSpans.{IsCourse}
+use Rattle.ped_rules.specs.Scalars.{of_span}
+use Rattle.ped_rules.proofs.KnownSpans.{known_near}
 use Rattle.ped_reduce.proofs.SummingRules as rules
 use Rattle.ped_reduce.proofs.rules.early_by_course.Goals as goal
 

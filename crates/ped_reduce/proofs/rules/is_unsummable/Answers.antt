@@ -5,8 +5,8 @@ use Rattle.ped_tree.specs.NamesIn.{all_loop_variables}
 use Rattle.ped_tree.specs.Views.{program_tree, stmt_trees}
 use Rattle.ped_tree.specs.declared.statements.Stmt.{Stmt}
 use Rattle.ped_tree.specs.Numbering.{statements_count}
-use Rattle.ped_splits.specs.ped_reindex.specs.ped_loops.specs.ped_scalar.specs.ped_rules.specs.ped_loop_runs.specs.ped_bodies.specs.ped_steps.specs.ped_refs.specs.Occurrences.{references_of}
-use Rattle.ped_splits.specs.ped_reindex.specs.ped_loops.specs.ped_scalar.specs.Scalars.{is_reference_in}
+use Rattle.ped_refs.specs.Occurrences.{references_of}
+use Rattle.ped_rules.specs.Scalars.{is_reference_in}
 use Rattle.ped_reduce.specs.declared.referring.Extent.{Extent}
 use Rattle.ped_reduce.proofs.UnsummableAnswers.{not_scalar, an_index, referred}
 use Rattle.ped_reduce.proofs.rules.is_unsummable.Goals as goal

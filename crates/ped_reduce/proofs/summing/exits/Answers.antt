@@ -1,8 +1,8 @@
 use Rattle.std.proofs.Common.{List, map, sym, ap, ◌∙◌, arith}
 use Rattle.std.proofs.lemmas.List.{drop_all}
 use Rattle.ped_tree.specs.Views.{stmt_trees}
-use Rattle.ped_splits.specs.ped_reindex.specs.ped_loops.specs.ped_scalar.specs.ped_rules.specs.ped_loop_runs.specs.ped_bodies.specs.ped_steps.specs.Replacing.{followed}
-use Rattle.ped_splits.specs.ped_reindex.specs.ped_loops.specs.ped_scalar.specs.ped_rules.specs.ped_loop_runs.specs.ped_bodies.specs.ped_steps.proofs.Followed.{followed-none}
+use Rattle.ped_rules.specs.ped_steps.specs.Replacing.{followed}
+use Rattle.ped_rules.specs.ped_steps.proofs.Followed.{followed-none}
 use Rattle.ped_reduce.specs.declared.partials.Partials.{Partials}
 use Rattle.ped_reduce.specs.Lowering.{exit, exits}
 use Rattle.ped_reduce.specs.CodeLowering.{partials_view}

@@ -1,6 +1,6 @@
 use Rattle.std.proofs.Common.{◌≡◌, map, drop}
 use Rattle.ped_tree.specs.Views.{stmt_trees}
-use Rattle.ped_splits.specs.ped_reindex.specs.ped_loops.specs.ped_scalar.specs.ped_rules.specs.ped_loop_runs.specs.ped_bodies.specs.ped_steps.specs.Replacing.{followed}
+use Rattle.ped_rules.specs.ped_steps.specs.Replacing.{followed}
 use Rattle.ped_reduce.specs.Lowering.{exits}
 use Rattle.ped_reduce.specs.CodeLowering.{partials_view}
 use Rattle.ped_reduce.proofs.summing.exits.Given as goal

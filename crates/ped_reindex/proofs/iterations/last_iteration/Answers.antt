@@ -1,8 +1,8 @@
 use Rattle.std.proofs.Common.{◌≡◌, ◌<◌, ℤ, pos, negsuc, ◌-ℤ◌, int_lt, int_rem, unsigned_abs, FitsSigned, to_z, of_z, Bool, false, ◌||◌, sym, ap, ◌∙◌, subst}
 use Rattle.std.specs.Int.{w128}
 use Rattle.std.proofs.lemmas.Int.{to_z-of_z}
-use Rattle.ped_loops.specs.ped_scalar.specs.ped_rules.specs.Spans.{is_far, last_value}
-use Rattle.ped_loops.specs.ped_scalar.specs.ped_rules.proofs.RightSteps.{step_parts, left_fits, near_is}
+use Rattle.ped_rules.specs.Spans.{is_far, last_value}
+use Rattle.ped_rules.proofs.RightSteps.{step_parts, left_fits, near_is}
 use Rattle.ped_reindex.proofs.OneTaken.{found_at, step_apart}
 use Rattle.ped_reindex.proofs.Remainders.{not_less}
 use Rattle.ped_reindex.proofs.iterations.last_iteration.Goals as goal

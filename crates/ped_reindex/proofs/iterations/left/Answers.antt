@@ -1,8 +1,8 @@
 use Rattle.std.proofs.Common.{◌≡◌, ◌<◌, ℤ, ◌-ℤ◌, int_rem, unsigned_abs, to_z, of_z, sym, ap, ◌∙◌, subst}
 use Rattle.std.specs.Int.{w128}
 use Rattle.std.proofs.lemmas.Int.{to_z-of_z, rem_below}
-use Rattle.ped_loops.specs.ped_scalar.specs.ped_rules.proofs.RightSteps.{step_parts, left_fits}
-use Rattle.ped_loops.specs.ped_scalar.specs.ped_rules.specs.ped_loop_runs.specs.ped_bodies.specs.ped_steps.specs.ped_views.proofs.Products.{abs_some}
+use Rattle.ped_rules.proofs.RightSteps.{step_parts, left_fits}
+use Rattle.ped_rules.specs.ped_views.proofs.Products.{abs_some}
 use Rattle.ped_reindex.specs.CodePeeling.{towards}
 use Rattle.ped_reindex.proofs.Remainders.{towards_left}
 use Rattle.ped_reindex.proofs.iterations.left.Goals as goal

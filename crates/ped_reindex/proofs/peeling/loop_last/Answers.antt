@@ -4,9 +4,9 @@ use Rattle.std.proofs.lemmas.Int.{to_z-of_z}
 use Rattle.ped_tree.specs.Tree.{Do}
 use Rattle.ped_tree.specs.Views.{stmt_trees, head_of}
 use Rattle.ped_tree.specs.declared.statements.Stmt.{Stmt}
-use Rattle.ped_loops.specs.ped_scalar.specs.ped_rules.specs.ped_loop_runs.specs.ped_bodies.specs.ped_steps.proofs.Followed.{stmt_trees-append}
-use Rattle.ped_loops.specs.ped_scalar.specs.ped_rules.specs.ped_loop_runs.specs.ped_bodies.specs.ped_steps.specs.Replacing.{followed, alone}
-use Rattle.ped_loops.specs.ped_scalar.specs.ped_rules.specs.ped_loop_runs.specs.ped_bodies.specs.ped_steps.specs.ped_sums.specs.Sums.{literal}
+use Rattle.ped_rules.specs.ped_steps.proofs.Followed.{stmt_trees-append}
+use Rattle.ped_rules.specs.ped_steps.specs.Replacing.{followed, alone}
+use Rattle.ped_sums.specs.Sums.{literal}
 use Rattle.ped_reindex.specs.Peeling.{iteration_of}
 use Rattle.ped_reindex.proofs.Sizes.{literal_fits}
 use Rattle.ped_reindex.proofs.peeling.loop_last.Goals as goal

@@ -1,9 +1,9 @@
 use Rattle.std.proofs.Common.{ℕ, ℤ, List, IsTrue, None, sym, ap, ◌∙◌, subst}
 use Rattle.ped_tree.specs.Views.{program_tree, stmt_trees, head_of}
-use Rattle.ped_loops.specs.ped_scalar.specs.ped_rules.specs.ped_loop_runs.specs.ped_bodies.specs.ped_steps.specs.ped_symbols.specs.Kinds.{Table, table_of}
-use Rattle.ped_loops.specs.ped_scalar.specs.ped_rules.specs.ped_loop_runs.specs.ped_bodies.specs.ped_steps.specs.ped_symbols.specs.RightUses.RightLoops.{step_is_right}
-use Rattle.ped_loops.specs.ped_scalar.specs.ped_rules.specs.ped_loop_runs.specs.ped_bodies.specs.ped_steps.specs.declared.rules.Rule.TheVariants.{Range, NotConstant}
-use Rattle.ped_loops.specs.ped_scalar.specs.ped_rules.proofs.RightSteps.{right_step}
+use Rattle.ped_rules.specs.ped_symbols.specs.Kinds.{Table, table_of}
+use Rattle.ped_rules.specs.ped_symbols.specs.RightUses.RightLoops.{step_is_right}
+use Rattle.ped_rules.specs.ped_steps.specs.declared.rules.Rule.TheVariants.{Range, NotConstant}
+use Rattle.ped_rules.proofs.RightSteps.{right_step}
 use Rattle.ped_reindex.specs.declared.iterations.Iteration.TheVariants.{Unknown, Far, Near}
 use Rattle.ped_reindex.specs.CodePeeling.{IsFound}
 use Rattle.ped_reindex.specs.Peeling.{peeled_of, has_far}

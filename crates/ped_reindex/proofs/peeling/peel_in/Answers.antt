@@ -1,6 +1,6 @@
 use Rattle.std.proofs.Common.{sym, ◌∙◌}
 use Rattle.ped_tree.specs.Views.{program_tree, stmt_trees, head_of}
-use Rattle.ped_loops.specs.ped_scalar.specs.ped_rules.specs.ped_loop_runs.specs.ped_bodies.specs.ped_steps.specs.declared.rules.Rule.TheVariants.{ParallelState, HasPrivate, IndexEscapes}
+use Rattle.ped_rules.specs.ped_steps.specs.declared.rules.Rule.TheVariants.{ParallelState, HasPrivate, IndexEscapes}
 use Rattle.ped_reindex.proofs.PeelRules as rules
 use Rattle.ped_reindex.proofs.PeelAnswers.{refused}
 use Rattle.ped_reindex.proofs.peeling.peel_in.Goals as goal

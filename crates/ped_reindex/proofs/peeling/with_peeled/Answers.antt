@@ -2,9 +2,9 @@ use Rattle.std.proofs.Common.{List, ◌++◌, map, ap, ◌∙◌}
 use Rattle.ped_tree.specs.Tree.{StmtTree, StmtTrees}
 use Rattle.ped_tree.specs.Views.{decl_tree, stmt_trees, program_tree, head_of}
 use Rattle.ped_tree.specs.declared.declarations.Decl.{Decl}
-use Rattle.ped_loops.specs.ped_scalar.specs.ped_rules.specs.ped_loop_runs.specs.ped_bodies.specs.ped_steps.specs.Replacing.{all_replaced}
+use Rattle.ped_rules.specs.ped_steps.specs.Replacing.{all_replaced}
 use Rattle.ped_reindex.specs.CodePeeling.{peeled_in}
-use Rattle.ped_reindex.specs.Settling.{front_comments, behind_comments}
+use Rattle.ped_rules.specs.Settling.{front_comments, behind_comments}
 use Rattle.ped_reindex.proofs.PeelAnswers.{peeled_program}
 use Rattle.ped_reindex.proofs.peeling.with_peeled.Goals as goal
 

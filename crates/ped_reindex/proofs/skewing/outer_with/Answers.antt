@@ -4,7 +4,7 @@ use Rattle.std.proofs.lemmas.Int.{to_z-of_z}
 use Rattle.ped_tree.specs.Tree.{StmtTree, Do}
 use Rattle.ped_tree.specs.Views.{stmt_trees, head_of}
 use Rattle.ped_tree.specs.declared.statements.Stmt.{Stmt}
-use Rattle.ped_loops.specs.ped_scalar.specs.ped_rules.specs.ped_loop_runs.specs.ped_bodies.specs.ped_steps.specs.Replacing.{alone}
+use Rattle.ped_rules.specs.ped_steps.specs.Replacing.{alone}
 use Rattle.ped_reindex.specs.CodeSkewing.{all_skewed}
 use Rattle.ped_reindex.proofs.SkewAnswers.{only_one_skewed}
 use Rattle.ped_reindex.proofs.skewing.outer_with.Goals as goal

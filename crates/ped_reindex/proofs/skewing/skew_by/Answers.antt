@@ -4,12 +4,12 @@ use Rattle.std.specs.Int.{w64}
 use Rattle.std.proofs.lemmas.Int.{to_z-of_z}
 use Rattle.ped_tree.specs.Tree.{Head, StmtTrees}
 use Rattle.ped_tree.specs.Views.{program_tree, stmt_trees, head_of}
-use Rattle.ped_loops.specs.ped_scalar.specs.ped_rules.specs.OnlyLoops.{of_loop}
-use Rattle.ped_loops.specs.ped_scalar.specs.ped_rules.specs.Rules.{is_parallel}
-use Rattle.ped_loops.specs.ped_scalar.specs.ped_rules.specs.ped_loop_runs.specs.ped_bodies.specs.ped_steps.specs.declared.rules.Rule.TheVariants.{Range, Limit}
-use Rattle.ped_loops.specs.ped_scalar.specs.ped_rules.specs.ped_loop_runs.specs.ped_bodies.specs.ped_steps.specs.Replacing.{all_kept}
-use Rattle.ped_loops.specs.ped_scalar.specs.ped_rules.specs.ped_loop_runs.specs.ped_bodies.specs.ped_steps.specs.ped_symbols.specs.NameRefusals.{IsValid}
-use Rattle.ped_loops.specs.ped_scalar.specs.ped_rules.specs.ped_loop_runs.specs.ped_bodies.specs.ped_steps.specs.Changes.{IsChange}
+use Rattle.ped_rules.specs.OnlyLoops.{of_loop}
+use Rattle.ped_rules.specs.Rules.{is_parallel}
+use Rattle.ped_rules.specs.ped_steps.specs.declared.rules.Rule.TheVariants.{Range, Limit}
+use Rattle.ped_rules.specs.ped_steps.specs.Replacing.{all_kept}
+use Rattle.ped_rules.specs.ped_symbols.specs.NameRefusals.{IsValid}
+use Rattle.ped_rules.specs.ped_steps.specs.Changes.{IsChange}
 use Rattle.ped_reindex.specs.Skewing.{skew_leaves, skewed}
 use Rattle.ped_reindex.proofs.Answering.{some_made, none_made}
 use Rattle.ped_reindex.proofs.SkewRules as rules

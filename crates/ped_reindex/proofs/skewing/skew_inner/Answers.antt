@@ -4,9 +4,9 @@ use Rattle.std.specs.Int.{w64}
 use Rattle.std.proofs.lemmas.Int.{to_z-of_z}
 use Rattle.ped_tree.specs.Tree.{Head, StmtTrees}
 use Rattle.ped_tree.specs.Views.{program_tree, stmt_trees, head_of}
-use Rattle.ped_loops.specs.ped_scalar.specs.ped_rules.specs.OnlyLoops.{of_loop}
-use Rattle.ped_loops.specs.ped_scalar.specs.ped_rules.specs.Rules.{is_parallel}
-use Rattle.ped_loops.specs.ped_scalar.specs.ped_rules.specs.ped_loop_runs.specs.ped_bodies.specs.ped_steps.specs.declared.rules.Rule.TheVariants.{ParallelState, IndexEscapes, BadFactor}
+use Rattle.ped_rules.specs.OnlyLoops.{of_loop}
+use Rattle.ped_rules.specs.Rules.{is_parallel}
+use Rattle.ped_rules.specs.ped_steps.specs.declared.rules.Rule.TheVariants.{ParallelState, IndexEscapes, BadFactor}
 use Rattle.ped_reindex.specs.Skewing.{is_bad_factor}
 use Rattle.ped_reindex.proofs.SkewRules as rules
 use Rattle.ped_reindex.proofs.SkewAnswers.{refused}

@@ -2,10 +2,10 @@ use Rattle.std.proofs.Common.{◌≤◌, List, length, sym, ap, ◌∙◌, subst
 use Rattle.std.specs.Int.{w64}
 use Rattle.std.proofs.lemmas.Int.{to_z-of_z}
 use Rattle.ped_tree.specs.Views.{program_tree, stmt_trees, head_of}
-use Rattle.ped_loops.specs.ped_scalar.specs.ped_rules.specs.ped_loop_runs.specs.ped_bodies.specs.ped_steps.specs.ped_affine.specs.PairViews.{heads_of}
-use Rattle.ped_loops.specs.ped_scalar.specs.ped_rules.specs.ped_loop_runs.specs.ped_bodies.specs.ped_steps.specs.ped_refs.specs.declared.loops.Loop.{Loop}
-use Rattle.ped_loops.specs.ped_scalar.specs.ped_rules.specs.ped_loop_runs.specs.ped_bodies.specs.ped_steps.specs.ped_refs.specs.Loops.{nest_of}
-use Rattle.ped_loops.specs.ped_scalar.specs.ped_rules.specs.ped_loop_runs.specs.ped_bodies.specs.ped_steps.proofs.Answering.{few_numbers}
+use Rattle.ped_rules.specs.ped_affine.specs.PairViews.{heads_of}
+use Rattle.ped_refs.specs.declared.loops.Loop.{Loop}
+use Rattle.ped_refs.specs.Loops.{nest_of}
+use Rattle.ped_rules.specs.ped_steps.proofs.Answering.{few_numbers}
 use Rattle.ped_reindex.proofs.NestRooms.{pushed_short, heads_pushed}
 use Rattle.ped_reindex.proofs.SkewAnswers.{leaves_is}
 use Rattle.ped_reindex.proofs.skewing.skew_leaves.Goals as goal

@@ -1,10 +1,10 @@
 use Rattle.std.proofs.Common.{◌≡◌, ℕ, ◌≤◌, List, length, sym, ◌∙◌, subst}
 use Rattle.std.specs.Prelude.{IfOk}
 use Rattle.ped_tree.specs.Views.{program_tree, expr_tree}
-use Rattle.ped_loops.specs.ped_scalar.specs.ped_rules.specs.Rules.{leaves, setting_at}
-use Rattle.ped_loops.specs.ped_scalar.specs.ped_rules.specs.ped_loop_runs.specs.ped_bodies.specs.ped_steps.specs.ped_affine.specs.PairViews.{heads_of}
-use Rattle.ped_loops.specs.ped_scalar.specs.ped_rules.specs.ped_loop_runs.specs.ped_bodies.specs.ped_steps.specs.ped_refs.specs.Loops.{nest_of}
-use Rattle.ped_loops.specs.ped_scalar.specs.ped_rules.specs.ped_loop_runs.specs.ped_bodies.specs.ped_steps.specs.ped_refs.specs.declared.loops.Loop.{Loop}
+use Rattle.ped_rules.specs.Rules.{leaves, setting_at}
+use Rattle.ped_rules.specs.ped_affine.specs.PairViews.{heads_of}
+use Rattle.ped_refs.specs.Loops.{nest_of}
+use Rattle.ped_refs.specs.declared.loops.Loop.{Loop}
 use Rattle.ped_reindex.proofs.stripping.leaves_inside.Goals as goal
 
 pub leaves-requires-clause-nest : goal.leaves-requires-clause-nest

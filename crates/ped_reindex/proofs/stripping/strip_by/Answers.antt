@@ -2,8 +2,8 @@ use Rattle.std.proofs.Common.{ℤ, IfOk, sym, ◌∙◌, subst}
 use Rattle.std.specs.Int.{w64}
 use Rattle.std.proofs.lemmas.Int.{to_z-of_z}
 use Rattle.ped_tree.specs.Views.{program_tree, stmt_trees, head_of}
-use Rattle.ped_loops.specs.ped_scalar.specs.ped_rules.specs.ped_loop_runs.specs.ped_bodies.specs.ped_steps.specs.declared.rules.Rule.TheVariants.{Limit}
-use Rattle.ped_loops.specs.ped_scalar.specs.ped_rules.specs.Steps.{Answers}
+use Rattle.ped_rules.specs.ped_steps.specs.declared.rules.Rule.TheVariants.{Limit}
+use Rattle.ped_rules.specs.Steps.{Answers}
 use Rattle.ped_reindex.specs.Stripping.{stripping}
 use Rattle.ped_reindex.proofs.StripRules as rules
 use Rattle.ped_reindex.proofs.StripAnswers.{refused}

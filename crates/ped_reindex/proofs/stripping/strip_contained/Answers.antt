@@ -2,9 +2,9 @@ use Rattle.std.proofs.Common.{◌≡◌, ℕ, ℤ, List, Bool, true, false, not,
 use Rattle.std.specs.Int.{w64}
 use Rattle.std.proofs.lemmas.Int.{to_z-of_z}
 use Rattle.ped_tree.specs.Views.{program_tree, stmt_trees, head_of}
-use Rattle.ped_loops.specs.ped_scalar.specs.ped_rules.specs.Rules.{is_one, has_other_step}
-use Rattle.ped_loops.specs.ped_scalar.specs.ped_rules.specs.ped_loop_runs.specs.ped_bodies.specs.ped_steps.specs.ped_symbols.specs.Kinds.{Table}
-use Rattle.ped_loops.specs.ped_scalar.specs.ped_rules.specs.ped_loop_runs.specs.ped_bodies.specs.ped_steps.specs.declared.rules.Rule.TheVariants.{BoundNotPlain, StepShape, BadFactor}
+use Rattle.ped_rules.specs.Rules.{is_one, has_other_step}
+use Rattle.ped_rules.specs.ped_symbols.specs.Kinds.{Table}
+use Rattle.ped_rules.specs.ped_steps.specs.declared.rules.Rule.TheVariants.{BoundNotPlain, StepShape, BadFactor}
 use Rattle.ped_reindex.specs.Stripping.{is_bad_size}
 use Rattle.ped_reindex.proofs.StripRules as rules
 use Rattle.ped_reindex.proofs.StripAnswers.{refused}

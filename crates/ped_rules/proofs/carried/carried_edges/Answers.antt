@@ -1,6 +1,6 @@
 use Rattle.std.proofs.Common.{ℕ, not, ap, ◌∙◌}
 use Rattle.ped_tree.specs.Views.{program_tree}
-use Rattle.ped_loop_runs.specs.ped_bodies.specs.ped_steps.specs.ped_laws.specs.ped_graph.specs.DependencePane.{edges_at}
+use Rattle.ped_loop_runs.specs.ped_graph.specs.DependencePane.{edges_at}
 use Rattle.ped_rules.specs.Carried.{is_carried_by}
 use Rattle.ped_edges.specs.Edges.{is_rejected}
 use Rattle.ped_rules.specs.CodeCarried.{AreThose}

@@ -1,6 +1,6 @@
 use Rattle.std.proofs.Common.{ℕ, filter, ap, ◌∙◌}
 use Rattle.ped_tree.specs.Views.{program_tree}
-use Rattle.ped_loop_runs.specs.ped_bodies.specs.ped_steps.specs.ped_laws.specs.ped_graph.specs.ped_edges.specs.CodeEdges.{edge_of}
+use Rattle.ped_edges.specs.CodeEdges.{edge_of}
 use Rattle.ped_rules.specs.Carried.{level_at, carried, has_after, crossing}
 use Rattle.ped_rules.proofs.CarriedEdges.{both_tests, found_first}
 use Rattle.ped_rules.proofs.carried.first_crossing.Goals as goal

@@ -1,6 +1,6 @@
 use Rattle.std.proofs.Common.{arith}
 use Rattle.ped_tree.specs.Views.{program_tree}
-use Rattle.ped_loop_runs.specs.ped_bodies.specs.ped_steps.proofs.Answering.{few_numbers}
+use Rattle.ped_loop_runs.specs.ped_steps.proofs.Answering.{few_numbers}
 use Rattle.ped_rules.proofs.NestDepths.{loops_short}
 use Rattle.ped_rules.proofs.carried.level_at.Goals as goal
 

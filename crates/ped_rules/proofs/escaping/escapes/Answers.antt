@@ -2,8 +2,8 @@ use Rattle.std.proofs.Common.{◌+◌, ◌<◌, ◌^◌, sym, subst}
 use Rattle.ped_tree.specs.Tree.{ProgramTree}
 use Rattle.ped_tree.specs.Views.{program_tree}
 use Rattle.ped_tree.specs.Numbering.{statements_count}
-use Rattle.ped_loop_runs.specs.ped_bodies.specs.ped_steps.specs.ped_flow.specs.Answers.{IsEscape}
-use Rattle.ped_loop_runs.specs.ped_bodies.specs.ped_steps.proofs.Answering.{few_numbers}
+use Rattle.ped_loop_runs.specs.ped_flow.specs.Answers.{IsEscape}
+use Rattle.ped_loop_runs.specs.ped_steps.proofs.Answering.{few_numbers}
 use Rattle.ped_rules.proofs.escaping.escapes.Goals as goal
 
 pub escapes-requires : goal.escapes-requires

@@ -1,6 +1,6 @@
 use Rattle.std.proofs.Common.{Option, subst}
-use Rattle.ped_loop_runs.specs.ped_bodies.specs.ped_steps.specs.ped_flow.specs.Answers.{IsEscape}
-use Rattle.ped_loop_runs.specs.ped_bodies.specs.ped_steps.specs.ped_flow.specs.declared.flows.Reader.{Reader}
+use Rattle.ped_loop_runs.specs.ped_flow.specs.Answers.{IsEscape}
+use Rattle.ped_loop_runs.specs.ped_flow.specs.declared.flows.Reader.{Reader}
 use Rattle.ped_rules.proofs.EscapeRule.{by_nothing}
 use Rattle.ped_rules.proofs.escaping.named.Goals as goal
 

@@ -3,10 +3,10 @@ use Rattle.std.specs.List.{flat_map}
 use Rattle.ped_base.specs.Lists.{is_among}
 use Rattle.ped_tree.specs.Views.{decl_tree, program_tree}
 use Rattle.ped_tree.specs.declared.declarations.Decl.{Decl}
-use Rattle.ped_loop_runs.specs.ped_bodies.specs.ped_steps.specs.ped_symbols.specs.declared.symbols.Kind.{Kind}
-use Rattle.ped_loop_runs.specs.ped_bodies.specs.ped_steps.specs.ped_symbols.specs.Entries.{entry_of}
-use Rattle.ped_loop_runs.specs.ped_bodies.specs.ped_steps.specs.ped_symbols.specs.Kinds.{Table}
-use Rattle.ped_loop_runs.specs.ped_bodies.specs.ped_steps.specs.ped_symbols.proofs.RightUseLaws.Found.{found_in_program}
+use Rattle.ped_loop_runs.specs.ped_symbols.specs.declared.symbols.Kind.{Kind}
+use Rattle.ped_loop_runs.specs.ped_symbols.specs.Entries.{entry_of}
+use Rattle.ped_loop_runs.specs.ped_symbols.specs.Kinds.{Table}
+use Rattle.ped_loop_runs.specs.ped_symbols.proofs.RightUseLaws.Found.{found_in_program}
 use Rattle.ped_rules.specs.Fresh.{program_name}
 use Rattle.ped_rules.proofs.FreshNames.{kind_occurs}
 use Rattle.ped_rules.proofs.fresh.occurs.Goals as goal

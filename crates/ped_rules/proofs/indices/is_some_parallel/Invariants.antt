@@ -1,7 +1,7 @@
 use Rattle.std.proofs.Common.{◌≡◌, drop}
 use Rattle.std.specs.List.{list_any}
 use Rattle.ped_tree.specs.Nests.{Loop}
-use Rattle.ped_loop_runs.specs.ped_bodies.specs.ped_steps.specs.ped_refs.specs.Loops.{nest_of}
+use Rattle.ped_refs.specs.Loops.{nest_of}
 use Rattle.ped_rules.proofs.indices.is_some_parallel.Given as goal
 
 abbrev pub invariant-loop-l : goal.invariant-loop-l

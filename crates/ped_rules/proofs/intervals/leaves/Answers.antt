@@ -6,10 +6,10 @@ use Rattle.ped_tree.specs.NamesIn.{all_loop_variables}
 use Rattle.ped_tree.specs.Names.Collecting.{with_names}
 use Rattle.ped_tree.proofs.NameLaws.Collected.{among_collected}
 use Rattle.ped_base.specs.Lists.{is_among}
-use Rattle.ped_loop_runs.specs.ped_bodies.specs.ped_steps.specs.ped_views.specs.declared.intervals.Interval.{Interval}
-use Rattle.ped_loop_runs.specs.ped_bodies.specs.ped_steps.specs.ped_affine.specs.PairViews.{heads_of}
-use Rattle.ped_loop_runs.specs.ped_bodies.specs.ped_steps.specs.ped_refs.specs.Loops.{nest_of}
-use Rattle.ped_loop_runs.specs.ped_bodies.specs.ped_steps.specs.ped_symbols.specs.Kinds.{Table}
+use Rattle.ped_views.specs.declared.intervals.Interval.{Interval}
+use Rattle.ped_affine.specs.PairViews.{heads_of}
+use Rattle.ped_refs.specs.Loops.{nest_of}
+use Rattle.ped_loop_runs.specs.ped_symbols.specs.Kinds.{Table}
 use Rattle.ped_rules.specs.Rules.{setting_at}
 use Rattle.ped_rules.proofs.SameIntervals.{same_in_loops}
 use Rattle.ped_rules.proofs.intervals.leaves.Goals as goal

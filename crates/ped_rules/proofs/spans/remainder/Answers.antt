@@ -1,7 +1,7 @@
 use Rattle.std.proofs.Common.{◌<◌, ℤ, unsigned_abs, sym, subst}
 use Rattle.std.specs.Int.{w128}
 use Rattle.std.proofs.lemmas.Int.{rem_is, rem_below}
-use Rattle.ped_loop_runs.specs.ped_bodies.specs.ped_steps.specs.ped_views.proofs.Products.{abs_some}
+use Rattle.ped_views.proofs.Products.{abs_some}
 use Rattle.ped_rules.proofs.spans.remainder.Goals as goal
 
 pub returns-clause-value : goal.returns-clause-value

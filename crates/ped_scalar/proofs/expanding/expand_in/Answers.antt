@@ -1,14 +1,14 @@
 use Rattle.std.proofs.Common.{ℕ, ℤ, List, IsTrue, sym, ap, ◌∙◌, subst}
 use Rattle.ped_tree.specs.Views.{program_tree, stmt_trees}
 use Rattle.ped_tree.specs.Views.{head_of}
-use Rattle.ped_rules.specs.ped_loop_runs.specs.ped_bodies.specs.ped_steps.specs.ped_symbols.specs.Kinds.{Table}
-use Rattle.ped_rules.specs.ped_loop_runs.specs.ped_bodies.specs.ped_steps.specs.ped_symbols.specs.RightUses.RightLoops.{step_is_right}
-use Rattle.ped_rules.specs.ped_loop_runs.specs.ped_bodies.specs.ped_steps.specs.declared.rules.Rule.TheVariants.{ParallelState, Range}
+use Rattle.ped_rules.specs.ped_symbols.specs.Kinds.{Table}
+use Rattle.ped_rules.specs.ped_symbols.specs.RightUses.RightLoops.{step_is_right}
+use Rattle.ped_rules.specs.ped_steps.specs.declared.rules.Rule.TheVariants.{ParallelState, Range}
 use Rattle.ped_rules.specs.Spans.{span_of, spans_far}
 use Rattle.ped_rules.specs.CodeSpans.{IsCourse}
 use Rattle.ped_rules.specs.declared.spans.Course.TheVariants.{Far, Near, Unknown}
 use Rattle.ped_rules.proofs.RightSteps.{right_step}
-use Rattle.ped_scalar.specs.Expanding.{of_span}
+use Rattle.ped_rules.specs.Scalars.{of_span}
 use Rattle.ped_scalar.proofs.ExpandRules as rules
 use Rattle.ped_scalar.proofs.expanding.expand_in.Goals as goal
 

@@ -1,10 +1,11 @@
 use Rattle.std.proofs.Common.{Some, is_none, sym, ap, ◌∙◌}
 use Rattle.ped_tree.specs.Views.{program_tree, stmt_trees}
 use Rattle.ped_tree.specs.Views.{head_of}
-use Rattle.ped_rules.specs.ped_loop_runs.specs.ped_bodies.specs.ped_steps.specs.declared.rules.Rule.TheVariants.{Limit}
-use Rattle.ped_rules.specs.ped_loop_runs.specs.ped_bodies.specs.ped_steps.specs.ped_symbols.specs.Kinds.{table_of}
+use Rattle.ped_rules.specs.ped_steps.specs.declared.rules.Rule.TheVariants.{Limit}
+use Rattle.ped_rules.specs.ped_symbols.specs.Kinds.{table_of}
 use Rattle.ped_rules.specs.Spans.{span_of}
 use Rattle.ped_scalar.proofs.ExpandRules as rules
+use Rattle.ped_rules.proofs.KnownSpans.{known_near}
 use Rattle.ped_scalar.proofs.expanding.expand_over.Goals as goal
 
 pub fresh_name-requires : goal.fresh_name-requires
@@ -18,7 +19,7 @@ returns-in-None g c =
     let h = head_of c.args.d.now in
     let body = stmt_trees c.args.d.now.body.items in
     let found = span_of (table_of t).constants h in
-    let literal = rules.known_near found (Some c.args.span) c.requires.span in
+    let literal = known_near found (Some c.args.span) c.requires.span in
     rules.refused s x t Limit s c.against.result c.against.ensures
     (rules.name_first s x t h body c.requires.is c.requires.serial literal c.requires.kept c.requires.fit (ap is_none c.requires.span.0) (sym c.in_ok-array.ensures ∙ c.in-None.is))
 

@@ -2,9 +2,9 @@ use Rattle.std.proofs.Common.{ℕ, ◌+◌, ◌<◌, ◌^◌, Some, None, MatchO
 use Rattle.ped_tree.specs.Tree.{ProgramTree}
 use Rattle.ped_tree.specs.Views.{program_tree}
 use Rattle.ped_tree.specs.Numbering.{statements_count}
-use Rattle.ped_rules.specs.ped_loop_runs.specs.ped_bodies.specs.ped_steps.specs.ped_flow.specs.Questions.{IsFirst, IsExposed, IsAssignedThrough}
-use Rattle.ped_rules.specs.ped_loop_runs.specs.ped_bodies.specs.ped_steps.proofs.Answering.{few_numbers}
-use Rattle.ped_scalar.specs.Scalars.{IsLiveBy, is_scalar}
+use Rattle.ped_rules.specs.ped_flow.specs.Questions.{IsFirst, IsExposed, IsAssignedThrough}
+use Rattle.ped_rules.specs.ped_steps.proofs.Answering.{few_numbers}
+use Rattle.ped_rules.specs.Scalars.{IsLiveBy, is_scalar}
 use Rattle.ped_scalar.proofs.FlowAnswers.{true_not_false}
 use Rattle.ped_scalar.proofs.LostAnswers.{kept_answer, lost_answer}
 use Rattle.ped_scalar.proofs.expanding.lost_by.Goals as goal

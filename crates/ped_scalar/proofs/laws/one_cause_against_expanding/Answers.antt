@@ -1,5 +1,5 @@
-use Rattle.ped_rules.specs.ped_loop_runs.specs.ped_bodies.specs.ped_steps.specs.Causes.{none_forbids}
-use Rattle.ped_rules.specs.ped_loop_runs.specs.ped_bodies.specs.ped_steps.proofs.OneCause.{one_cause}
+use Rattle.ped_rules.specs.ped_steps.specs.Causes.{none_forbids}
+use Rattle.ped_rules.specs.ped_steps.proofs.OneCause.{one_cause}
 use Rattle.ped_scalar.specs.Expanding.{StandsAgainstExpanding}
 use Rattle.ped_scalar.proofs.ExpandRules.{chain}
 use Rattle.ped_scalar.proofs.laws.one_cause_against_expanding.Goals as goal

@@ -2,10 +2,10 @@ use Rattle.std.proofs.Common.{ℕ, List, Option, MatchOption, subst, arith}
 use Rattle.std.specs.Prelude.{IfOk}
 use Rattle.ped_tree.specs.Tree.{ProgramTree}
 use Rattle.ped_tree.specs.Views.{program_tree}
-use Rattle.ped_rules.specs.ped_loop_runs.specs.ped_bodies.specs.ped_steps.specs.ped_symbols.specs.NameRefusals.{IsValid}
-use Rattle.ped_rules.specs.ped_loop_runs.specs.ped_bodies.specs.ped_steps.specs.Changes.{IsChange}
-use Rattle.ped_rules.specs.ped_loop_runs.specs.ped_bodies.specs.ped_steps.specs.declared.changes.Change.{Change}
-use Rattle.ped_rules.specs.ped_loop_runs.specs.ped_bodies.specs.ped_steps.proofs.Answering.{few_numbers}
+use Rattle.ped_rules.specs.ped_symbols.specs.NameRefusals.{IsValid}
+use Rattle.ped_rules.specs.ped_steps.specs.Changes.{IsChange}
+use Rattle.ped_rules.specs.ped_steps.specs.declared.changes.Change.{Change}
+use Rattle.ped_rules.specs.ped_steps.proofs.Answering.{few_numbers}
 use Rattle.ped_scalar.specs.Privatising.{privatised}
 use Rattle.ped_scalar.proofs.privatising.privatised.Goals as goal
 

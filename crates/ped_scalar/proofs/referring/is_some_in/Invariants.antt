@@ -1,7 +1,7 @@
 use Rattle.std.proofs.Common.{◌≡◌, drop}
 use Rattle.std.specs.List.{list_any}
-use Rattle.ped_rules.specs.ped_loop_runs.specs.ped_bodies.specs.ped_steps.specs.ped_refs.specs.Occurrences.{references_of}
-use Rattle.ped_scalar.specs.Scalars.{is_reference_in}
+use Rattle.ped_refs.specs.Occurrences.{references_of}
+use Rattle.ped_rules.specs.Scalars.{is_reference_in}
 use Rattle.ped_scalar.proofs.referring.is_some_in.Given as goal
 
 abbrev pub invariant-loop-occurrence : goal.invariant-loop-occurrence

@@ -3,9 +3,9 @@ use Rattle.ped_base.specs.Lists.{is_among}
 use Rattle.ped_tree.specs.Nests.{Loop, indices_of}
 use Rattle.ped_tree.specs.Views.{program_tree, stmt_trees}
 use Rattle.ped_tree.specs.Views.{head_of}
-use Rattle.ped_rules.specs.ped_loop_runs.specs.ped_bodies.specs.ped_steps.specs.ped_symbols.proofs.FewReferences.{few_references}
-use Rattle.ped_rules.specs.ped_loop_runs.specs.ped_bodies.specs.ped_steps.specs.ped_flow.proofs.Answering.{loop_fits}
-use Rattle.ped_rules.specs.ped_loop_runs.specs.ped_bodies.specs.ped_steps.proofs.Answering.{few_numbers}
+use Rattle.ped_rules.specs.ped_symbols.proofs.FewReferences.{few_references}
+use Rattle.ped_rules.specs.ped_flow.proofs.Answering.{loop_fits}
+use Rattle.ped_rules.specs.ped_steps.proofs.Answering.{few_numbers}
 use Rattle.ped_scalar.proofs.FlowAnswers.{no_scalar}
 use Rattle.ped_scalar.proofs.scalars.is_unfit.Goals as goal
 

@@ -1,5 +1,5 @@
 use Rattle.std.proofs.Common.{◌≡◌, ◌∙◌, ◌+◌, ◌≤◌, ℕ, List, ◌++◌, Bool, ◌||◌, refl, ap, sym, subst, arith, Option, take}
-use Rattle.ped_session.specs.ped_transformations.specs.ped_script.specs.declared.items.Command.{Command}
+use Rattle.ped_script.specs.declared.items.Command.{Command}
 use Rattle.ped_session.specs.States.{State}
 use Rattle.ped_session.specs.declared.answers.Answered.{Answered}
 use Rattle.ped_session.specs.Scripts.{Said, AnswersCommand, AnswersItems, said_both, bad_command_said}

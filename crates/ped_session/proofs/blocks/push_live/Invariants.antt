@@ -1,6 +1,6 @@
 use Rattle.std.proofs.Common.{◌≡◌, ◌++◌, drop, map}
 use Rattle.std.specs.List.{flat_map}
-use Rattle.ped_order.specs.ped_eval.specs.OutcomeViews.{row_view}
+use Rattle.ped_eval.specs.OutcomeViews.{row_view}
 use Rattle.ped_session.specs.Blocks.{live_row}
 use Rattle.ped_session.proofs.blocks.push_live.Given as goal
 

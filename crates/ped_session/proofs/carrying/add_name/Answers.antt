@@ -2,8 +2,8 @@ use Rattle.std.proofs.Common.{◌∙◌, List, [], ◌∷◌, map, sym, ap}
 use Rattle.std.specs.List.{list_any}
 use Rattle.std.proofs.lemmas.List.{map-append}
 use Rattle.ped_base.specs.Lists.{is_same_text}
-use Rattle.ped_session.specs.ped_refs.specs.Occurrences.{name_text}
-use Rattle.ped_session.specs.ped_refs.specs.declared.references.RefName.{RefName}
+use Rattle.ped_refs.specs.Occurrences.{name_text}
+use Rattle.ped_refs.specs.declared.references.RefName.{RefName}
 use Rattle.ped_session.proofs.CarriedTexts.{there_by_text, name_there, name_new}
 use Rattle.ped_session.proofs.carrying.add_name.Goals as goal
 

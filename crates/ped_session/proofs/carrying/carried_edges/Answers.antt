@@ -1,10 +1,10 @@
 use Rattle.std.proofs.Common.{ℕ, not, ap, ◌∙◌}
-use Rattle.ped_session.specs.ped_tree.specs.Views.{program_tree}
-use Rattle.ped_session.specs.ped_graph.specs.DependencePane.{edges_at}
-use Rattle.ped_transformations.specs.ped_reindex.specs.ped_loops.specs.ped_scalar.specs.ped_rules.specs.Carried.{is_carried_by}
+use Rattle.ped_tree.specs.Views.{program_tree}
+use Rattle.ped_transformations.specs.ped_graph.specs.DependencePane.{edges_at}
+use Rattle.ped_transformations.specs.ped_rules.specs.Carried.{is_carried_by}
 use Rattle.ped_edges.specs.Edges.{is_rejected}
-use Rattle.ped_transformations.specs.ped_reindex.specs.ped_loops.specs.ped_scalar.specs.ped_rules.specs.CodeCarried.{AreThose}
-use Rattle.ped_transformations.specs.ped_reindex.specs.ped_loops.specs.ped_scalar.specs.ped_rules.proofs.CarriedEdges.{both_tests}
+use Rattle.ped_transformations.specs.ped_rules.specs.CodeCarried.{AreThose}
+use Rattle.ped_transformations.specs.ped_rules.proofs.CarriedEdges.{both_tests}
 use Rattle.ped_session.proofs.carrying.carried_edges.Goals as goal
 
 pub returns : goal.returns

@@ -1,10 +1,10 @@
 use Rattle.std.proofs.Common.{◌∙◌, List, [], map, ap}
 use Rattle.std.proofs.lemmas.Result.{IfOk-weaker}
-use Rattle.ped_session.specs.ped_refs.specs.Occurrences.{name_text}
-use Rattle.ped_session.specs.ped_tree.specs.Names.Collecting.{with_names}
-use Rattle.ped_session.specs.ped_graph.specs.ped_edges.specs.Edges.{Edge}
-use Rattle.ped_session.specs.ped_graph.specs.ped_edges.specs.CodeEdges.{edge_of}
-use Rattle.ped_session.specs.ped_graph.specs.ped_edges.specs.declared.edges.Edge.{Edge as CodeEdge}
+use Rattle.ped_refs.specs.Occurrences.{name_text}
+use Rattle.ped_tree.specs.Names.Collecting.{with_names}
+use Rattle.ped_edges.specs.Edges.{Edge}
+use Rattle.ped_edges.specs.CodeEdges.{edge_of}
+use Rattle.ped_edges.specs.declared.edges.Edge.{Edge as CodeEdge}
 use Rattle.ped_transformations.specs.ped_auto.specs.CarriedNames.{files_last}
 use Rattle.ped_session.proofs.CarriedTexts.{names_of_edges}
 use Rattle.ped_session.proofs.carrying.carried_names.Goals as goal

@@ -1,7 +1,7 @@
 use Rattle.std.proofs.Common.{arith}
-use Rattle.ped_session.specs.ped_tree.specs.Views.{program_tree}
-use Rattle.ped_transformations.specs.ped_reindex.specs.ped_loops.specs.ped_scalar.specs.ped_rules.specs.ped_loop_runs.specs.ped_bodies.specs.ped_steps.proofs.Answering.{few_numbers}
-use Rattle.ped_transformations.specs.ped_reindex.specs.ped_loops.specs.ped_scalar.specs.ped_rules.proofs.NestDepths.{loops_short}
+use Rattle.ped_tree.specs.Views.{program_tree}
+use Rattle.ped_transformations.specs.ped_steps.proofs.Answering.{few_numbers}
+use Rattle.ped_transformations.specs.ped_rules.proofs.NestDepths.{loops_short}
 use Rattle.ped_session.proofs.carrying.level_at.Goals as goal
 
 pub loops_round-requires : goal.loops_round-requires

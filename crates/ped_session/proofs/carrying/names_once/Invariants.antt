@@ -1,7 +1,7 @@
 use Rattle.std.proofs.Common.{◌≡◌, [], drop, map}
-use Rattle.ped_session.specs.ped_refs.specs.Occurrences.{name_text}
-use Rattle.ped_session.specs.ped_tree.specs.Names.Collecting.{with_names}
-use Rattle.ped_session.specs.ped_graph.specs.ped_edges.specs.CodeEdges.{edge_of}
+use Rattle.ped_refs.specs.Occurrences.{name_text}
+use Rattle.ped_tree.specs.Names.Collecting.{with_names}
+use Rattle.ped_edges.specs.CodeEdges.{edge_of}
 use Rattle.ped_session.proofs.carrying.names_once.Given as goal
 
 abbrev pub invariant-loop-edge : goal.invariant-loop-edge

@@ -1,5 +1,5 @@
 use Rattle.std.proofs.Common.{◌≡◌, ◌++◌, drop, filter, not}
-use Rattle.ped_session.specs.ped_refs.specs.Occurrences.{name_text}
+use Rattle.ped_refs.specs.Occurrences.{name_text}
 use Rattle.ped_transformations.specs.ped_auto.specs.CarriedNames.{is_file}
 use Rattle.ped_session.proofs.carrying.push_variables.Given as goal
 

@@ -1,5 +1,5 @@
 use Rattle.std.proofs.Common.{arith}
-use Rattle.ped_session.specs.ped_tree.specs.Views.{program_tree}
+use Rattle.ped_tree.specs.Views.{program_tree}
 use Rattle.ped_session.proofs.KeptEnds.{few_begun}
 use Rattle.ped_session.proofs.keeping.edit_keep.Goals as goal
 

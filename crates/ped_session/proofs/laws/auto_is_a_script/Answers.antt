@@ -1,5 +1,5 @@
 use Rattle.std.proofs.Common.{List, sym, subst}
-use Rattle.ped_session.specs.ped_transformations.specs.ped_script.specs.declared.items.Item.{Item}
+use Rattle.ped_script.specs.declared.items.Item.{Item}
 use Rattle.ped_session.specs.Scripts.{AnswersItems}
 use Rattle.ped_session.specs.AutoScripts.{items_on, all_accepted}
 use Rattle.ped_session.proofs.AutoRows.{script_again}

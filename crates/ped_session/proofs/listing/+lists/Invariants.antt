@@ -1,5 +1,5 @@
 use Rattle.std.proofs.Common.{◌≡◌, drop}
-use Rattle.ped_session.specs.ped_tree.specs.Views.{stmt_trees}
+use Rattle.ped_tree.specs.Views.{stmt_trees}
 use Rattle.ped_session.specs.Listing.{some_holds_list}
 use Rattle.ped_session.proofs.listing.+lists.Given as goal
 

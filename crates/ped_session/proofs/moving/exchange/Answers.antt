@@ -1,6 +1,6 @@
 use Rattle.std.proofs.Common.{subst, sym}
-use Rattle.ped_session.specs.ped_graph.specs.Held.{Held, held_of}
-use Rattle.ped_session.specs.ped_graph.specs.Update.Deltas.{TakesTo}
+use Rattle.ped_transformations.specs.ped_graph.specs.Held.{Held, held_of}
+use Rattle.ped_transformations.specs.ped_graph.specs.Update.Deltas.{TakesTo}
 use Rattle.ped_session.specs.Holding.{tree_of}
 use Rattle.ped_session.proofs.moving.exchange.Goals as goal
 

@@ -1,4 +1,4 @@
-use Rattle.ped_transformations.specs.ped_reindex.specs.ped_loops.specs.ped_scalar.specs.ped_rules.specs.ped_loop_runs.specs.ped_bodies.specs.ped_steps.proofs.Answering.{few_numbers}
+use Rattle.ped_transformations.specs.ped_steps.proofs.Answering.{few_numbers}
 use Rattle.ped_session.specs.Holding.{tree_of}
 use Rattle.ped_session.proofs.running.lower_version.Goals as goal
 

@@ -1,4 +1,4 @@
-use Rattle.ped_order.specs.ped_eval.specs.OutcomeViews.{outcome_view}
+use Rattle.ped_eval.specs.OutcomeViews.{outcome_view}
 use Rattle.ped_session.proofs.running.run_lowered.Goals as goal
 
 pub returns : goal.returns

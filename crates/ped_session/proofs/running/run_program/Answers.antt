@@ -1,10 +1,10 @@
 use Rattle.std.proofs.Common.{◌≡◌, ℕ, List, [], ◌∷◌, length, ◌==◌, true, false, refl, sym, ◌∙◌, subst, arith}
 use Rattle.std.proofs.lemmas.Bool.Decides.{nat_tests}
 use Rattle.std.proofs.lemmas.Result.{IfOk-weaker}
-use Rattle.ped_session.specs.ped_tree.specs.Tree.{ProgramTree}
-use Rattle.ped_session.specs.ped_tree.specs.Views.{program_tree}
-use Rattle.ped_order.specs.ped_eval.specs.Outcomes.{Outcome}
-use Rattle.ped_order.specs.ped_eval.specs.OutcomeViews.{outcome_view}
+use Rattle.ped_tree.specs.Tree.{ProgramTree}
+use Rattle.ped_tree.specs.Views.{program_tree}
+use Rattle.ped_eval.specs.Outcomes.{Outcome}
+use Rattle.ped_eval.specs.OutcomeViews.{outcome_view}
 use Rattle.ped_order.specs.ped_interleavings.specs.Interleavings.{Standing, IsInterleavedFrom, at_start, IsInterleaved}
 use Rattle.ped_machine.specs.Roots.{held}
 use Rattle.ped_session.proofs.running.run_program.Goals as goal

@@ -1,8 +1,8 @@
 use Rattle.std.proofs.Common.{List, sym, ap, ◌∙◌}
 use Rattle.std.proofs.lemmas.Result.{IfOk-weaker}
-use Rattle.ped_session.specs.ped_tree.specs.declared.statements.Stmt.{Stmt}
-use Rattle.ped_session.specs.ped_tree.specs.Views.{stmt_trees}
-use Rattle.ped_order.specs.ped_eval.specs.OutcomeViews.{outcome_view}
+use Rattle.ped_tree.specs.declared.statements.Stmt.{Stmt}
+use Rattle.ped_tree.specs.Views.{stmt_trees}
+use Rattle.ped_eval.specs.OutcomeViews.{outcome_view}
 use Rattle.ped_transformations.specs.ped_reduce.specs.CodeLowered.{lowered_view}
 use Rattle.ped_session.specs.Holding.{tree_of}
 use Rattle.ped_session.specs.Listing.{some_holds_list}

@@ -1,5 +1,5 @@
 use Rattle.std.proofs.Common.{◌+◌, map, take}
-use Rattle.ped_reindex.specs.ped_loops.specs.ped_scalar.specs.ped_rules.specs.ped_loop_runs.specs.ped_bodies.specs.ped_steps.specs.ped_laws.specs.ped_graph.specs.ped_edges.specs.CodeEdges.{edge_of}
+use Rattle.ped_edges.specs.CodeEdges.{edge_of}
 use Rattle.ped_splits.specs.CodeUnits.{leads_between}
 use Rattle.ped_splits.proofs.ArrowLaws.{taken, added_more}
 use Rattle.ped_splits.proofs.arrows.add_dependences.Goals as goal

@@ -2,7 +2,7 @@ use Rattle.std.proofs.Common.{ℕ, List, [], ◌∷◌, ◌++◌, Bool, ◌&&◌
 use Rattle.std.specs.List.{list_any}
 use Rattle.std.proofs.lemmas.List.{take_all, take_more}
 use Rattle.ped_bits.specs.Places.{Has}
-use Rattle.ped_reindex.specs.ped_loops.specs.ped_scalar.specs.ped_rules.specs.ped_loop_runs.specs.ped_bodies.specs.ped_steps.specs.ped_refs.specs.Occurrences.{references_of}
+use Rattle.ped_refs.specs.Occurrences.{references_of}
 use Rattle.ped_splits.specs.CodeUnits.{refers_by}
 use Rattle.ped_splits.proofs.ArrowLaws.{Adds, adds_same, added_more}
 use Rattle.ped_splits.proofs.ReferenceRows.{both_refer}

@@ -1,6 +1,6 @@
 use Rattle.std.proofs.Common.{◌&&◌, take, IsTrue}
 use Rattle.std.specs.List.{list_any}
-use Rattle.ped_reindex.specs.ped_loops.specs.ped_scalar.specs.ped_rules.specs.ped_loop_runs.specs.ped_bodies.specs.ped_steps.specs.ped_refs.specs.Occurrences.{references_of}
+use Rattle.ped_refs.specs.Occurrences.{references_of}
 use Rattle.ped_splits.specs.CodeUnits.{refers_by}
 use Rattle.ped_splits.proofs.ArrowLaws.{HasAdded}
 use Rattle.ped_splits.proofs.arrows.add_links.Given as goal

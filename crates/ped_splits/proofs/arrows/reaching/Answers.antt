@@ -2,11 +2,11 @@ use Rattle.std.proofs.Common.{◌≡◌, ℕ, List, Bool, map, length, IsTrue, s
 use Rattle.std.proofs.lemmas.List.{length-replicate, length-map}
 use Rattle.ped_tree.specs.Tree.{StmtTrees}
 use Rattle.ped_tree.specs.Views.{program_tree, head_of}
-use Rattle.ped_reindex.specs.ped_loops.specs.ped_scalar.specs.ped_rules.specs.ped_loop_runs.specs.ped_bodies.specs.ped_steps.specs.ped_laws.specs.ped_graph.specs.Dependences.{AreEdges}
-use Rattle.ped_reindex.specs.ped_loops.specs.ped_scalar.specs.ped_rules.specs.ped_loop_runs.specs.ped_bodies.specs.ped_steps.specs.ped_laws.specs.ped_graph.specs.ped_edges.specs.CodeEdges.{edge_of}
-use Rattle.ped_reindex.specs.ped_loops.specs.ped_scalar.specs.ped_rules.specs.ped_loop_runs.specs.ped_bodies.specs.ped_steps.specs.ped_laws.specs.ped_graph.specs.ped_edges.specs.declared.edges.Edge.{Edge}
-use Rattle.ped_reindex.specs.ped_loops.specs.ped_scalar.specs.ped_rules.specs.ped_loop_runs.specs.ped_bodies.specs.ped_steps.specs.ped_refs.specs.Occurrences.{references_of}
-use Rattle.ped_reindex.specs.ped_loops.specs.ped_scalar.specs.ped_rules.specs.ped_loop_runs.specs.ped_bodies.specs.ped_steps.specs.ped_symbols.proofs.FewReferences.{few_statements, few_references}
+use Rattle.ped_rules.specs.ped_graph.specs.Dependences.{AreEdges}
+use Rattle.ped_edges.specs.CodeEdges.{edge_of}
+use Rattle.ped_edges.specs.declared.edges.Edge.{Edge}
+use Rattle.ped_refs.specs.Occurrences.{references_of}
+use Rattle.ped_rules.specs.ped_symbols.proofs.FewReferences.{few_statements, few_references}
 use Rattle.ped_splits.specs.Units.{units}
 use Rattle.ped_splits.specs.CodeUnits.{AreBelow, body_of, unit_tree}
 use Rattle.ped_splits.proofs.ArrowLaws.{Adds}

@@ -1,7 +1,7 @@
 use Rattle.std.proofs.Common.{ℕ, List, Bool, ◌<◌, length, slice_index_or, false, sym, ap, subst, ◌∙◌, true}
 use Rattle.std.proofs.lemmas.List.{take_all, length-set}
-use Rattle.ped_reindex.specs.ped_loops.specs.ped_scalar.specs.ped_rules.specs.ped_loop_runs.specs.ped_bodies.specs.ped_steps.specs.ped_refs.specs.Occurrences.{references_of}
-use Rattle.ped_reindex.specs.ped_loops.specs.ped_scalar.specs.ped_rules.specs.ped_loop_runs.specs.ped_bodies.specs.ped_steps.specs.ped_refs.specs.declared.occurring.Occurrence.{Occurrence}
+use Rattle.ped_refs.specs.Occurrences.{references_of}
+use Rattle.ped_refs.specs.declared.occurring.Occurrence.{Occurrence}
 use Rattle.ped_splits.specs.CodeUnits.{refers_by}
 use Rattle.ped_splits.proofs.ReferenceRows.{other_name, no_home, with_unit, home_below}
 use Rattle.ped_splits.proofs.arrows.units_with.Goals as goal

@@ -1,5 +1,5 @@
 use Rattle.std.proofs.Common.{◌≡◌, ℕ, length, take, slice_index_or, false}
-use Rattle.ped_reindex.specs.ped_loops.specs.ped_scalar.specs.ped_rules.specs.ped_loop_runs.specs.ped_bodies.specs.ped_steps.specs.ped_refs.specs.Occurrences.{references_of}
+use Rattle.ped_refs.specs.Occurrences.{references_of}
 use Rattle.ped_splits.specs.CodeUnits.{refers_by}
 use Rattle.ped_splits.proofs.arrows.units_with.Given as goal
 

@@ -1,6 +1,6 @@
 use Rattle.std.proofs.Common.{◌≡◌, drop}
 use Rattle.ped_tree.specs.Views.{stmt_trees}
-use Rattle.ped_reindex.specs.ped_loops.specs.ped_scalar.specs.ped_rules.specs.ped_loop_runs.specs.ped_bodies.specs.ped_steps.specs.Replacing.{followed}
+use Rattle.ped_rules.specs.ped_steps.specs.Replacing.{followed}
 use Rattle.ped_splits.proofs.distributing.add_copies.Given as goal
 
 abbrev pub invariant-loop-statement : goal.invariant-loop-statement

@@ -1,5 +1,5 @@
 use Rattle.ped_tree.specs.Views.{program_tree, stmt_trees, head_of}
-use Rattle.ped_reindex.specs.ped_loops.specs.ped_scalar.specs.ped_rules.specs.ped_loop_runs.specs.ped_bodies.specs.ped_steps.specs.declared.rules.Rule.TheVariants.{ParallelState, IndexEscapes}
+use Rattle.ped_rules.specs.ped_steps.specs.declared.rules.Rule.TheVariants.{ParallelState, IndexEscapes}
 use Rattle.ped_splits.proofs.DistributeRules as rules
 use Rattle.ped_splits.proofs.DistributeAnswers.{refused}
 use Rattle.ped_splits.proofs.distributing.distribute_in.Goals as goal

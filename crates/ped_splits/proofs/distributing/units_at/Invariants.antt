@@ -1,7 +1,7 @@
 use Rattle.std.proofs.Common.{◌≡◌, ℕ, drop, map, slice_index_or}
 use Rattle.ped_tree.specs.Tree.{no_stmts}
 use Rattle.ped_tree.specs.Views.{stmt_trees}
-use Rattle.ped_reindex.specs.ped_loops.specs.ped_scalar.specs.ped_rules.specs.ped_loop_runs.specs.ped_bodies.specs.ped_steps.specs.Replacing.{followed}
+use Rattle.ped_rules.specs.ped_steps.specs.Replacing.{followed}
 use Rattle.ped_splits.specs.CodeUnits.{unit_trees}
 use Rattle.ped_splits.specs.Distributing.{joined}
 use Rattle.ped_splits.proofs.distributing.units_at.Given as goal

@@ -1,7 +1,7 @@
 use Rattle.std.proofs.Common.{ℕ, Option, MatchOption, subst}
 use Rattle.ped_tree.specs.Views.{program_tree, stmt_trees, head_of}
-use Rattle.ped_reindex.specs.ped_loops.specs.ped_scalar.specs.ped_rules.specs.ped_loop_runs.specs.ped_bodies.specs.ped_steps.specs.declared.rules.Rule.TheVariants.{IndexEscapes}
-use Rattle.ped_reindex.specs.ped_loops.specs.ped_scalar.specs.ped_rules.specs.ped_loop_runs.specs.ped_bodies.specs.ped_steps.proofs.Answering.{few_numbers}
+use Rattle.ped_rules.specs.ped_steps.specs.declared.rules.Rule.TheVariants.{IndexEscapes}
+use Rattle.ped_rules.specs.ped_steps.proofs.Answering.{few_numbers}
 use Rattle.ped_splits.specs.Fusing.{WhereFusionEscapes}
 use Rattle.ped_splits.proofs.FuseFirst as rules
 use Rattle.ped_splits.proofs.FuseAnswers.{refused, loop_of_pair}

@@ -1,8 +1,8 @@
 use Rattle.std.proofs.Common.{ℕ, IfOk, subst}
 use Rattle.ped_tree.specs.Views.{program_tree}
-use Rattle.ped_reindex.specs.ped_loops.specs.ped_scalar.specs.ped_rules.specs.Steps.{Answers}
+use Rattle.ped_rules.specs.Steps.{Answers}
 use Rattle.ped_splits.specs.Fusing.{fusing}
-use Rattle.ped_reindex.specs.ped_loops.specs.ped_scalar.specs.ped_rules.specs.ped_loop_runs.specs.ped_bodies.specs.ped_steps.proofs.Answering.{few_numbers}
+use Rattle.ped_rules.specs.ped_steps.proofs.Answering.{few_numbers}
 use Rattle.ped_splits.proofs.fusing.fuse_in.Goals as goal
 
 pub pair_at-requires : goal.pair_at-requires

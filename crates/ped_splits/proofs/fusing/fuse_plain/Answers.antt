@@ -1,10 +1,10 @@
 use Rattle.std.proofs.Common.{ℕ, List, ap, subst, ◌∙◌, arith}
 use Rattle.ped_tree.specs.Views.{program_tree, stmt_trees, head_of}
-use Rattle.ped_reindex.specs.ped_loops.specs.ped_scalar.specs.ped_rules.specs.ped_loop_runs.specs.ped_bodies.specs.ped_steps.specs.declared.rules.Rule.TheVariants.{Limit}
-use Rattle.ped_reindex.specs.ped_loops.specs.ped_scalar.specs.ped_rules.specs.ped_loop_runs.specs.ped_bodies.specs.ped_steps.proofs.Answering.{few_numbers}
-use Rattle.ped_reindex.specs.ped_loops.specs.ped_scalar.specs.ped_rules.specs.ped_loop_runs.specs.ped_bodies.specs.ped_steps.specs.ped_symbols.specs.NameRefusals.{IsValid}
+use Rattle.ped_rules.specs.ped_steps.specs.declared.rules.Rule.TheVariants.{Limit}
+use Rattle.ped_rules.specs.ped_steps.proofs.Answering.{few_numbers}
+use Rattle.ped_rules.specs.ped_symbols.specs.NameRefusals.{IsValid}
 use Rattle.ped_tree.specs.Tree.{ProgramTree}
-use Rattle.ped_reindex.specs.ped_loops.specs.ped_scalar.specs.ped_rules.specs.ped_loop_runs.specs.ped_bodies.specs.ped_steps.specs.Changes.{IsChange}
+use Rattle.ped_rules.specs.ped_steps.specs.Changes.{IsChange}
 use Rattle.ped_splits.specs.Neighbours.{next_number, kept_without}
 use Rattle.ped_splits.proofs.DistributeAnswers.{some_made, none_made}
 use Rattle.ped_splits.proofs.FuseFirst as rules

@@ -1,8 +1,8 @@
 use Rattle.std.proofs.Common.{ℕ, Option, sym, subst, arith}
 use Rattle.ped_tree.specs.Views.{program_tree}
-use Rattle.ped_reindex.specs.ped_loops.specs.ped_scalar.specs.ped_rules.specs.ped_loop_runs.specs.ped_bodies.specs.ped_steps.proofs.Answering.{few_numbers}
-use Rattle.ped_reindex.specs.ped_loops.specs.ped_scalar.specs.ped_rules.specs.ped_loop_runs.specs.ped_bodies.specs.ped_steps.specs.ped_flow.specs.Questions.{IsBrokenBy, IsShown}
-use Rattle.ped_reindex.specs.ped_loops.specs.ped_scalar.specs.ped_rules.specs.ped_loop_runs.specs.ped_bodies.specs.ped_steps.specs.ped_flow.specs.declared.flows.Reader.{Reader}
+use Rattle.ped_rules.specs.ped_steps.proofs.Answering.{few_numbers}
+use Rattle.ped_rules.specs.ped_flow.specs.Questions.{IsBrokenBy, IsShown}
+use Rattle.ped_rules.specs.ped_flow.specs.declared.flows.Reader.{Reader}
 use Rattle.ped_splits.specs.CodeFusing.{IsReaderOf, IsBrokenInTwo, IsShownInTwo}
 use Rattle.ped_splits.proofs.FuseAnswers.{pair_fits}
 use Rattle.ped_splits.proofs.FuseReaders.{earlier_reader}

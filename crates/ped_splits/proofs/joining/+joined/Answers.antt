@@ -3,8 +3,8 @@ use Rattle.std.proofs.lemmas.List.{drop_all, take_all, length-drop}
 use Rattle.ped_tree.specs.Tree.{StmtTree}
 use Rattle.ped_tree.specs.Views.{stmt_trees, do_tree}
 use Rattle.ped_tree.specs.declared.statements.Stmt.{Stmt}
-use Rattle.ped_reindex.specs.ped_loops.specs.ped_scalar.specs.ped_rules.specs.ped_loop_runs.specs.ped_bodies.specs.ped_steps.specs.Replacing.{followed, alone}
-use Rattle.ped_reindex.specs.ped_loops.specs.ped_scalar.specs.ped_rules.specs.ped_loop_runs.specs.ped_bodies.specs.ped_steps.proofs.Followed.{followed-none}
+use Rattle.ped_rules.specs.ped_steps.specs.Replacing.{followed, alone}
+use Rattle.ped_rules.specs.ped_steps.proofs.Followed.{followed-none}
 use Rattle.ped_splits.specs.CodePairs.{behind_next, all_joined}
 use Rattle.ped_splits.proofs.JointLoops.{joined_next, joined_here, count_next}
 use Rattle.ped_splits.proofs.joining.+joined.Goals as goal

@@ -1,7 +1,7 @@
 use Rattle.std.proofs.Common.{◌≡◌, ◌+◌, drop}
 use Rattle.ped_tree.specs.Views.{stmt_trees, do_tree}
 use Rattle.ped_tree.specs.Numbering.{statements_count}
-use Rattle.ped_reindex.specs.ped_loops.specs.ped_scalar.specs.ped_rules.specs.ped_loop_runs.specs.ped_bodies.specs.ped_steps.specs.Replacing.{followed}
+use Rattle.ped_rules.specs.ped_steps.specs.Replacing.{followed}
 use Rattle.ped_splits.specs.CodePairs.{all_joined}
 use Rattle.ped_splits.proofs.joining.+joined.Given as goal
 

@@ -2,7 +2,7 @@ use Rattle.std.proofs.Common.{List, map, sym, ap, ◌∙◌}
 use Rattle.ped_tree.specs.Tree.{Head, StmtTree, StmtTrees, Do}
 use Rattle.ped_tree.specs.Views.{stmt_trees, decl_tree}
 use Rattle.ped_tree.specs.declared.declarations.Decl.{Decl}
-use Rattle.ped_reindex.specs.ped_loops.specs.ped_scalar.specs.ped_rules.specs.ped_loop_runs.specs.ped_bodies.specs.ped_steps.specs.Replacing.{followed}
+use Rattle.ped_rules.specs.ped_steps.specs.Replacing.{followed}
 use Rattle.ped_splits.specs.Neighbours.{joined_head, renamed_body}
 use Rattle.ped_splits.specs.CodePairs.{all_joined}
 use Rattle.ped_splits.proofs.Joints.{joined_gap}

@@ -1,8 +1,8 @@
 use Rattle.std.proofs.Common.{ap, ◌∙◌}
 use Rattle.ped_tree.specs.Tree.{StmtTrees, Do}
 use Rattle.ped_tree.specs.Views.{stmt_trees, head_of}
-use Rattle.ped_reindex.specs.ped_loops.specs.ped_scalar.specs.ped_rules.specs.ped_loop_runs.specs.ped_bodies.specs.ped_steps.specs.Replacing.{followed}
-use Rattle.ped_reindex.specs.ped_loops.specs.ped_scalar.specs.ped_rules.specs.ped_loop_runs.specs.ped_bodies.specs.ped_steps.proofs.Followed.{followed-assoc, stmt_trees-append}
+use Rattle.ped_rules.specs.ped_steps.specs.Replacing.{followed}
+use Rattle.ped_rules.specs.ped_steps.proofs.Followed.{followed-assoc, stmt_trees-append}
 use Rattle.ped_splits.specs.Neighbours.{renamed_body}
 use Rattle.ped_splits.proofs.Joints.{rejoined}
 use Rattle.ped_splits.proofs.joining.joined_loop.Goals as goal

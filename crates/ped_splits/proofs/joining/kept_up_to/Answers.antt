@@ -1,7 +1,7 @@
 use Rattle.std.proofs.Common.{◌+◌, ◌==◌, ℕ, List, [], ◌∷◌, ◌++◌, map, filter, not, Bool, sym, ap, ◌∙◌, arith, if◌then◌else◌}
 use Rattle.std.specs.List.{range_with_len}
 use Rattle.std.proofs.lemmas.List.FromFn.{filter_of_map_range_with_len_more}
-use Rattle.ped_splits.specs.Neighbours.{closed_up}
+use Rattle.ped_rules.specs.KeepMaps.{closed_up}
 use Rattle.ped_splits.proofs.KeptWithout.{unless_kept}
 use Rattle.ped_splits.proofs.joining.kept_up_to.Goals as goal
 

@@ -1,6 +1,6 @@
 use Rattle.std.proofs.Common.{◌≡◌, ◌==◌, ℕ, map, filter, not}
 use Rattle.std.specs.List.{range_with_len}
-use Rattle.ped_splits.specs.Neighbours.{closed_up}
+use Rattle.ped_rules.specs.KeepMaps.{closed_up}
 use Rattle.ped_splits.proofs.joining.kept_up_to.Given as goal
 
 abbrev pub invariant-loop-n : goal.invariant-loop-n

@@ -2,7 +2,7 @@ use Rattle.std.proofs.Common.{ℕ, List, length, ap, ◌∙◌, arith}
 use Rattle.ped_tree.specs.Numbering.{statements_count}
 use Rattle.ped_tree.specs.Views.{program_tree, head_of, stmt_trees}
 use Rattle.ped_tree.specs.declared.statements.Stmt.{Stmt}
-use Rattle.ped_reindex.specs.ped_loops.specs.ped_scalar.specs.ped_rules.specs.ped_loop_runs.specs.ped_bodies.specs.ped_steps.specs.ped_flow.proofs.Answering.{loop_fits}
+use Rattle.ped_rules.specs.ped_flow.proofs.Answering.{loop_fits}
 use Rattle.ped_splits.specs.Units.{units}
 use Rattle.ped_splits.specs.CodeUnits.{body_of}
 use Rattle.ped_splits.proofs.UnitSizes.{homes_long, units_sum}

@@ -1,5 +1,5 @@
 use Rattle.std.proofs.Common.{ℕ, List, sym, subst}
-use Rattle.ped_reindex.specs.ped_loops.specs.ped_scalar.specs.ped_rules.specs.Lawful.{IsFaithful}
+use Rattle.ped_rules.specs.Lawful.{IsFaithful}
 use Rattle.ped_splits.proofs.Determined.{determined_distribution}
 use Rattle.ped_splits.proofs.DistributeRules as rules
 use Rattle.ped_splits.proofs.DistributeTrusted.{stays_trusted_distributed}

@@ -1,5 +1,5 @@
 use Rattle.std.proofs.Common.{ℕ, List, sym, subst}
-use Rattle.ped_reindex.specs.ped_loops.specs.ped_scalar.specs.ped_rules.specs.Lawful.{IsFaithful}
+use Rattle.ped_rules.specs.Lawful.{IsFaithful}
 use Rattle.ped_splits.proofs.CoverMeets.{none_crosses}
 use Rattle.ped_splits.proofs.Determined.{determined_fusion}
 use Rattle.ped_splits.proofs.FusableFacts.{is_fusable}

@@ -1,7 +1,7 @@
 use Rattle.std.proofs.Common.{List, [], ◌∷◌, Option, None, subst, ◌∙◌, arith}
 use Rattle.std.proofs.lemmas.List.{take_all}
-use Rattle.ped_reindex.specs.ped_loops.specs.ped_scalar.specs.ped_rules.specs.ped_loop_runs.specs.ped_bodies.specs.ped_steps.specs.ped_refs.specs.References.{Reference, references, pairs}
-use Rattle.ped_reindex.specs.ped_loops.specs.ped_scalar.specs.ped_rules.specs.ped_loop_runs.specs.ped_bodies.specs.ped_steps.specs.ped_laws.specs.ped_graph.specs.ped_edges.specs.declared.edges.Edge.{Edge as CodeEdge}
+use Rattle.ped_refs.specs.References.{Reference, references, pairs}
+use Rattle.ped_edges.specs.declared.edges.Edge.{Edge as CodeEdge}
 use Rattle.ped_splits.specs.CodeFusing.{IsFirstBack}
 use Rattle.ped_splits.proofs.BackAmong.{still_none, first_here, pairs_held}
 use Rattle.ped_splits.proofs.returning.first_among.Goals as goal

@@ -1,7 +1,7 @@
 use Rattle.std.proofs.Common.{◌≡◌, take, None}
 use Rattle.ped_tree.specs.Tree.{ProgramTree}
-use Rattle.ped_reindex.specs.ped_loops.specs.ped_scalar.specs.ped_rules.specs.ped_loop_runs.specs.ped_bodies.specs.ped_steps.specs.ped_laws.specs.ped_graph.specs.Held.{held_of}
-use Rattle.ped_reindex.specs.ped_loops.specs.ped_scalar.specs.ped_rules.specs.ped_loop_runs.specs.ped_bodies.specs.ped_steps.specs.ped_refs.specs.References.{references, pairs}
+use Rattle.ped_rules.specs.ped_graph.specs.Held.{held_of}
+use Rattle.ped_refs.specs.References.{references, pairs}
 use Rattle.ped_splits.specs.CodeFusing.{IsFirstBack}
 use Rattle.ped_splits.proofs.returning.first_among.Given as goal
 

@@ -1,6 +1,6 @@
 use Rattle.std.proofs.Common.{map, sym, ◌∙◌, arith}
-use Rattle.ped_reindex.specs.ped_loops.specs.ped_scalar.specs.ped_rules.specs.ped_loop_runs.specs.ped_bodies.specs.ped_steps.specs.ped_refs.specs.References.{references, pairs}
-use Rattle.ped_reindex.specs.ped_loops.specs.ped_scalar.specs.ped_rules.specs.ped_loop_runs.specs.ped_bodies.specs.ped_steps.specs.ped_laws.specs.ped_graph.specs.ped_edges.specs.CodeEdges.{edge_of}
+use Rattle.ped_refs.specs.References.{references, pairs}
+use Rattle.ped_edges.specs.CodeEdges.{edge_of}
 use Rattle.ped_splits.proofs.BackAmong.{there, pairs_held, views_held, key_back, not_back, of_pair, edges_inside}
 use Rattle.ped_splits.proofs.returning.first_at.Goals as goal
 

@@ -1,5 +1,5 @@
 use Rattle.std.proofs.Common.{arith}
-use Rattle.ped_reindex.specs.ped_loops.specs.ped_scalar.specs.ped_rules.specs.ped_loop_runs.specs.ped_bodies.specs.ped_steps.specs.ped_laws.specs.ped_graph.specs.ped_edges.specs.CodeEdges.{HasAtMostSixLoops}
+use Rattle.ped_edges.specs.CodeEdges.{HasAtMostSixLoops}
 use Rattle.ped_splits.specs.CodeFusing.{StandsInside}
 use Rattle.ped_splits.proofs.BackAmong.{kept_none, kept_some, kept_has}
 use Rattle.ped_splits.proofs.returning.first_of.Goals as goal

@@ -1,8 +1,8 @@
 use Rattle.std.proofs.Common.{◌≡◌, ◌+◌, ◌++◌, drop}
 use Rattle.ped_tree.specs.Views.{stmt_trees}
 use Rattle.ped_tree.specs.Numbering.{statements_count}
-use Rattle.ped_weaves.specs.ped_laws.specs.ped_graph.specs.ped_refs.specs.Loops.{nest_of}
-use Rattle.ped_weaves.specs.ped_laws.specs.ped_flow.specs.PlainBounds.{all_loops_round}
+use Rattle.ped_refs.specs.Loops.{nest_of}
+use Rattle.ped_weaves.specs.ped_flow.specs.PlainBounds.{all_loops_round}
 use Rattle.ped_steps.proofs.rounds.+round.Given as goal
 
 abbrev pub invariant-add_all-loop-statement : goal.invariant-add_all-loop-statement

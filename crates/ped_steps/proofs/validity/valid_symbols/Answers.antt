@@ -3,9 +3,9 @@ use Rattle.ped_tree.specs.Views.{program_tree}
 use Rattle.ped_tree.specs.Grammar.Fits as grammar
 use Rattle.ped_tree.specs.Grammar.Refusal.{Finding, first_of}
 use Rattle.ped_tree.specs.Grammar.RefusalViews.{finding_of}
-use Rattle.ped_weaves.specs.ped_laws.specs.ped_graph.specs.ped_symbols.specs.NameRefusals.{name_refusals}
-use Rattle.ped_weaves.specs.ped_laws.specs.ped_graph.specs.ped_symbols.specs.Refused.{IsFirstOf}
-use Rattle.ped_weaves.specs.ped_laws.specs.ped_graph.specs.ped_symbols.proofs.FewReferences.{few_statements, few_references}
+use Rattle.ped_weaves.specs.ped_graph.specs.ped_symbols.specs.NameRefusals.{name_refusals}
+use Rattle.ped_weaves.specs.ped_graph.specs.ped_symbols.specs.Refused.{IsFirstOf}
+use Rattle.ped_weaves.specs.ped_graph.specs.ped_symbols.proofs.FewReferences.{few_statements, few_references}
 use Rattle.ped_steps.proofs.validity.valid_symbols.Goals as goal
 
 -- where nothing is refused nothing is the first

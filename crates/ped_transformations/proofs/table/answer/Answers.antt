@@ -3,10 +3,10 @@ use Rattle.std.specs.Prelude.{IfOk}
 use Rattle.std.specs.Int.{w64}
 use Rattle.std.proofs.lemmas.Int.{to_z-of_z}
 use Rattle.ped_tree.specs.Views.{program_tree}
-use Rattle.ped_auto.specs.ped_reduce.specs.ped_splits.specs.ped_reindex.specs.ped_loops.specs.ped_scalar.specs.ped_rules.specs.Steps.{Answers}
-use Rattle.ped_auto.specs.ped_reduce.specs.ped_splits.specs.ped_reindex.specs.Skewing.{skewing}
-use Rattle.ped_auto.specs.ped_reduce.specs.ped_splits.specs.ped_reindex.specs.Stripping.{stripping}
-use Rattle.ped_auto.specs.ped_reduce.specs.Reducing.{reducing}
+use Rattle.ped_auto.specs.ped_rules.specs.Steps.{Answers}
+use Rattle.ped_reindex.specs.Skewing.{skewing}
+use Rattle.ped_reindex.specs.Stripping.{stripping}
+use Rattle.ped_reduce.specs.Reducing.{reducing}
 use Rattle.ped_transformations.proofs.StepAnswers.{answered}
 use Rattle.ped_transformations.proofs.table.answer.Goals as goal
 

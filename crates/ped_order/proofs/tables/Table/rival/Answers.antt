@@ -17,5 +17,5 @@ loop-level-preserved c seen r =
     let path = c.as_slice-path.result.now in
     c.earlier_of-found.ensures
     ∙ (λ i. earlier_of (c.loop-level.invariant seen r i) (c.in_ok-here.ensures i))
-    ∙ asked_further c.args.self.now seen r b (map turn_view (take c.loop-level.level path)) _
+    ∙ asked_further c.args.self.now seen r b c.touched-known.result c.touched-known.ensures (map turn_view (take c.loop-level.level path)) _
     ∙ ap (λ (ts : List Turn). first_sighting (λ a. race a (cut ts b)) 0 seen) (sym (one_more path c.loop-level.level _ c.loop-level-test.true))

@@ -4,8 +4,8 @@ use Rattle.ped_tree.specs.declared.statements.Stmt.{Stmt}
 use Rattle.ped_tree.specs.declared.declarations.Decl.{Decl}
 use Rattle.ped_tree.specs.Views.{head_of}
 use Rattle.ped_tree.specs.Tree.{StmtTree}
-use Rattle.ped_rules.specs.ped_loop_runs.specs.ped_bodies.specs.ped_steps.specs.Replacing.{all_replaced}
-use Rattle.ped_scalar.specs.Expanding.{declaration}
+use Rattle.ped_rules.specs.ped_steps.specs.Replacing.{all_replaced}
+use Rattle.ped_rules.specs.ScalarArrays.{declaration}
 use Rattle.ped_rules.specs.CodeSpans.{span_in}
 use Rattle.ped_scalar.proofs.ExpandedPrograms.{replaced_body, expanded_is, declared_is}
 use Rattle.ped_scalar.proofs.elements.Elements.expand.Goals as goal

@@ -1,6 +1,6 @@
 use Rattle.std.proofs.Common.{ap, subst}
-use Rattle.ped_transformations.specs.ped_reindex.specs.ped_loops.specs.ped_scalar.specs.ped_rules.specs.ped_loop_runs.specs.ped_bodies.specs.ped_steps.proofs.Answering.{few_numbers}
-use Rattle.ped_transformations.specs.ped_reindex.specs.ped_loops.specs.ped_scalar.specs.ped_rules.specs.Steps.{Answers}
+use Rattle.ped_transformations.specs.ped_steps.proofs.Answering.{few_numbers}
+use Rattle.ped_transformations.specs.ped_rules.specs.Steps.{Answers}
 use Rattle.ped_transformations.specs.Table.{step_of}
 use Rattle.ped_transformations.specs.CodeKinds.{AnswersStep}
 use Rattle.ped_transformations.proofs.ByPlace.{some_then, out_of_some}

@@ -1,4 +1,4 @@
-use Rattle.ped_session.specs.ped_tree.specs.Views.{program_tree}
+use Rattle.ped_tree.specs.Views.{program_tree}
 use Rattle.ped_session.proofs.States.{opened_by}
 use Rattle.ped_session.proofs.session.Session.begin.Goals as goal
 

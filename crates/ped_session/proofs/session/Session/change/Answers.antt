@@ -1,7 +1,7 @@
 use Rattle.std.proofs.Common.{ℕ, ◌+◌, ◌≤◌, refl, ap, subst, ◌∙◌}
-use Rattle.ped_session.specs.ped_tree.specs.Views.{program_tree}
-use Rattle.ped_session.specs.ped_tree.specs.Printing.{program_text}
-use Rattle.ped_session.specs.ped_graph.specs.Update.Fresh.{tested_pairs}
+use Rattle.ped_tree.specs.Views.{program_tree}
+use Rattle.ped_tree.specs.Printing.{program_text}
+use Rattle.ped_transformations.specs.ped_graph.specs.Update.Fresh.{tested_pairs}
 use Rattle.ped_session.specs.declared.versions.Version.{Version}
 use Rattle.ped_session.specs.Holding.{tree_of}
 use Rattle.ped_session.specs.States.{State}

@@ -1,6 +1,6 @@
 use Rattle.std.proofs.Common.{map, ap, length, sym, ◌∙◌}
 use Rattle.std.proofs.lemmas.List.{length-map}
-use Rattle.ped_session.specs.ped_graph.specs.ped_edges.specs.CodeEdges.{edge_of}
+use Rattle.ped_edges.specs.CodeEdges.{edge_of}
 use Rattle.ped_session.specs.States.{State}
 use Rattle.ped_session.proofs.PresentProgram.{graph_of, as_many}
 use Rattle.ped_session.proofs.session.Session.edges.Goals as goal

@@ -1,8 +1,8 @@
 use Rattle.std.proofs.Common.{ap, sym, subst}
 use Rattle.std.proofs.lemmas.Result.{IfOk-weaker}
-use Rattle.ped_session.specs.ped_tree.specs.Views.{program_tree}
-use Rattle.ped_valid.specs.ped_symbols.proofs.FewReferences.{few_statements}
-use Rattle.ped_session.specs.ped_graph.specs.Update.Fresh.{IsOneToOne}
+use Rattle.ped_tree.specs.Views.{program_tree}
+use Rattle.ped_transformations.specs.ped_symbols.proofs.FewReferences.{few_statements}
+use Rattle.ped_transformations.specs.ped_graph.specs.Update.Fresh.{IsOneToOne}
 use Rattle.ped_session.specs.Holding.{tree_of}
 use Rattle.ped_session.specs.States.{State}
 use Rattle.ped_session.proofs.KeptEnds.{edit_one_to_one}

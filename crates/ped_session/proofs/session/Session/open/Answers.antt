@@ -1,7 +1,7 @@
 use Rattle.std.proofs.Common.{◌≡◌, ◌+◌, ◌≤◌, subst}
-use Rattle.ped_session.specs.ped_tree.specs.Tree.{ProgramTree}
-use Rattle.ped_session.specs.ped_tree.specs.Views.{program_tree}
-use Rattle.ped_session.specs.ped_graph.specs.ped_refs.specs.References.{references, pair_count}
+use Rattle.ped_tree.specs.Tree.{ProgramTree}
+use Rattle.ped_tree.specs.Views.{program_tree}
+use Rattle.ped_refs.specs.References.{references, pair_count}
 use Rattle.ped_session.proofs.Accepted.{one_valid}
 use Rattle.ped_session.proofs.OneStep.{not_both}
 use Rattle.ped_session.proofs.session.Session.open.Goals as goal

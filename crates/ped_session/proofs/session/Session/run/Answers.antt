@@ -1,7 +1,7 @@
 use Rattle.std.proofs.Common.{ap, sym, subst}
 use Rattle.std.proofs.lemmas.Result.{IfOk-weaker}
-use Rattle.ped_session.specs.ped_tree.specs.Tree.{ProgramTree}
-use Rattle.ped_order.specs.ped_eval.specs.OutcomeViews.{outcome_view}
+use Rattle.ped_tree.specs.Tree.{ProgramTree}
+use Rattle.ped_eval.specs.OutcomeViews.{outcome_view}
 use Rattle.ped_session.specs.Holding.{tree_of}
 use Rattle.ped_session.specs.LoweredRuns.{IsLoweredRun}
 use Rattle.ped_session.specs.States.{State}

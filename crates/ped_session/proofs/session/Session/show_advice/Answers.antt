@@ -1,5 +1,5 @@
 use Rattle.std.proofs.Common.{ap, ◌∙◌, sym}
-use Rattle.ped_transformations.specs.ped_reindex.specs.ped_loops.specs.ped_scalar.specs.ped_rules.specs.ped_loop_runs.specs.ped_bodies.specs.ped_steps.proofs.Answering.{few_numbers}
+use Rattle.ped_transformations.specs.ped_steps.proofs.Answering.{few_numbers}
 use Rattle.ped_transformations.specs.Advice.{IsAdvice}
 use Rattle.ped_session.specs.States.{State}
 use Rattle.ped_session.specs.Holding.{tree_of}

@@ -1,5 +1,5 @@
 use Rattle.std.proofs.Common.{ap}
-use Rattle.ped_session.specs.ped_graph.specs.DependencePane.{IsDependencePane}
+use Rattle.ped_transformations.specs.ped_graph.specs.DependencePane.{IsDependencePane}
 use Rattle.ped_session.specs.States.{State}
 use Rattle.ped_session.specs.Holding.{tree_of}
 use Rattle.ped_session.proofs.Shown.{shown}

@@ -1,5 +1,5 @@
 use Rattle.std.proofs.Common.{ap}
-use Rattle.ped_order.specs.ped_eval.specs.OutcomeViews.{outcome_view}
+use Rattle.ped_eval.specs.OutcomeViews.{outcome_view}
 use Rattle.ped_session.specs.States.{State}
 use Rattle.ped_session.specs.Blocks.{IsRunBlock}
 use Rattle.ped_session.proofs.Shown.{shown}

@@ -1,7 +1,7 @@
 use Rattle.std.proofs.Common.{sym, subst}
 use Rattle.std.proofs.lemmas.Result.{IfOk-weaker}
-use Rattle.ped_session.specs.ped_tree.specs.Views.{program_tree}
-use Rattle.ped_session.specs.ped_tree.specs.declared.grammar.refusals.Refusal as of_text
+use Rattle.ped_tree.specs.Views.{program_tree}
+use Rattle.ped_tree.specs.declared.grammar.refusals.Refusal as of_text
 use Rattle.ped_valid.specs.Refusals.{IsRefusalOf}
 use Rattle.ped_session.specs.declared.replies.Refusal.TheVariants.{BadEdit}
 use Rattle.ped_session.specs.declared.replies.Reply.TheVariants.{Refused}

@@ -1,6 +1,6 @@
 use Rattle.std.proofs.Common.{ℕ, is_some, ap, sym, ◌∙◌, subst}
 use Rattle.std.proofs.lemmas.Result.{IfOk-weaker}
-use Rattle.ped_session.specs.ped_tree.specs.Numbering.{statement_with}
+use Rattle.ped_tree.specs.Numbering.{statement_with}
 use Rattle.ped_transformations.specs.Table.{step_of}
 use Rattle.ped_transformations.proofs.ByPlace.{with_some, some_then, out_of_some}
 use Rattle.ped_session.specs.declared.changes.Change.{Change}

@@ -1,5 +1,5 @@
 use Rattle.std.proofs.Common.{[]}
-use Rattle.ped_weaves.specs.ped_laws.specs.ped_eval.specs.Runs.{run, run_all}
+use Rattle.ped_weaves.specs.ped_eval.specs.Runs.{run, run_all}
 use Rattle.ped_weaves.specs.ped_laws.specs.Runs.Replaying.{finish_of}
 use Rattle.ped_steps.specs.Replacing.{program_with}
 use Rattle.ped_steps.specs.Runs.Gaps.{number_at}

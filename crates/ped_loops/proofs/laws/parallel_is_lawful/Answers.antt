@@ -1,5 +1,0 @@
-use Rattle.ped_loops.proofs.FlagsLawful.{lawful_parallel}
-use Rattle.ped_loops.proofs.laws.parallel_is_lawful.Goals as goal
-
-pub returns : goal.returns
-returns c = lawful_parallel c.one_for_one.ensures c.stays_trusted.ensures c.private_names_cleared.ensures c.indices_unwritten.ensures c.none_rejected.ensures.edges

@@ -14,7 +14,7 @@ from typing import Dict, List, Optional
 from ..lines import Place
 from ..server.messages import BadMessage, read_message, write_message
 from ..server.places import as_bytes, column_of, position
-from .support import EXAMPLES, TOP, fortran, ped_path
+from .support import TOP, fortran, ped_path
 
 Json = Dict[str, object]
 

@@ -290,7 +290,7 @@ class Looking(Played):
     def test_help_takes_keys(self) -> None:
         player = self.play(TWICE)
         player.press("?")
-        player.wait("interchange  have the loop and the one in it change places")
+        player.wait("parallel     make the loop a PARALLEL DO")
         player.press("p")
         player.wait("parallel 1: ok")
 

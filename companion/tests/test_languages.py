@@ -64,7 +64,7 @@ class Calls(Calling):
     def test_files_in_free_form(self) -> None:
         name = self.file("p.f90", "end\n")
         for command in ("edit", "tune", "calls", "check", "graph"):
-            self.ends(Status.PROGRAM_REFUSED, [command, name], f"{name} is in free form, which loops, why, omp, model and")
+            self.ends(Status.PROGRAM_REFUSED, [command, name], f"{name} is in free form, which loops, profile, why, omp,")
 
     def test_refused_programs_of_the_profile(self) -> None:
         """What has words of the profile isn't read as anything else."""

@@ -199,9 +199,9 @@ class Called(Calling):
 
     def test_other_language(self) -> None:
         name = self.file("p.f90", "end\n")
-        self.ends(Status.PROGRAM_REFUSED, ["profile", name], "profile takes programs of ped's profile")
+        self.ends(Status.FAULT, ["profile", name], "the run has counted nothing")
         real = self.file("p.f", "      X = 1.5\n      END\n")
-        self.ends(Status.PROGRAM_REFUSED, ["profile", real], "7 Syntax")
+        self.assertIn("1 file, 0 loops", self.ends(Status.DONE, ["profile", real], "so it is read as Fortran"))
 
 
 def disagreements(seed: str) -> List[str]:

@@ -32,6 +32,8 @@ if ! python3 -c 'import sys; sys.exit(sys.version_info < (3, 8))'; then
     stop "python3 is $(python3 --version 2>&1), and 3.8 or later is wanted"
 fi
 command -v gfortran >/dev/null || printf 'companion: gfortran is not there, so no translated program is compiled\n'
+command -v chromium >/dev/null || printf 'companion: skipped: no page is opened, since the package chromium is not installed\n'
+command -v nvim >/dev/null || printf 'companion: skipped: no editor is served, since the package neovim is not installed\n'
 
 cd -- "$top"
 work=$(mktemp)

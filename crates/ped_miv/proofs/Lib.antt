@@ -7,4 +7,5 @@ mod Multiples
 mod Parted
 mod Points
 mod Steps
+mod Sums
 mod Unknowns

@@ -10,5 +10,5 @@ mod rows;
 mod solutions;
 
 pub use banerjee::{banerjee_excludes, may_refine};
-pub use parts::{LoopParts, loop_parts, parts_exclude};
+pub use parts::{LoopParts, loop_parts, no_rest, rest_from, sum_at_start, sum_with, sums_exclude};
 pub use solutions::gcd_excludes;

@@ -1,11 +1,12 @@
-//! What the common loops add to the difference of two subscripts, found once for each direction, and Banerjee's test by it.
+//! What the loops add to the difference of two subscripts, found once for each direction, and Banerjee's test of
+//! the fronts of vectors by it: what the loops of a front add is carried along, and what those behind it add is
+//! known.
 
-ghost use Rattle.std.specs.Prelude.{◌≡◌, ◌<◌, ◌≤◌, ◌^◌, ◌↔◌, length, IfSome, IsTrue};
+ghost use Rattle.std.specs.Prelude.{◌≡◌, ◌<◌, ◌≤◌, ◌↔◌, ◌++◌, ◌∷◌, [], ◌+◌, length, IsTrue};
 ghost use Rattle.ped_views.specs.Limits.{IsSmallCoefficient, FitsLoops};
-ghost use Rattle.ped_views.specs.Intervals.{IsWithin};
 ghost use Rattle.ped_views.specs.Excluded.{IsBeyondExtremes};
-ghost use Rattle.ped_miv.specs.Values.{AreExtremes, LoopValue, CommonValue, DifferenceValue};
-ghost use Rattle.ped_miv.specs.Parts.{AreParts, ArePartsAt, AreAllParts};
+ghost use Rattle.ped_miv.specs.Values.{AreExtremes, DifferenceValue};
+ghost use Rattle.ped_miv.specs.Parts.{AreParts, ArePartsAt, IsRest, IsSum, MaySum, part_of};
 
 use crate::differences::{combined, sink_part, source_part};
 use crate::extremes::loop_extremes;
@@ -51,115 +52,134 @@ fn parts_of(range: &LoopRange, a: i64, b: i64) -> LoopParts
     }
 }
 
-/// Whether the extremes of the difference of its two subscripts exclude these directions at a position, as
-/// `banerjee_excludes` tells, by what each common loop adds.
-pub fn parts_exclude(
-    view: &PairView,
-    position: &Position,
-    parts: &[LoopParts],
-    directions: &[Direction],
-) -> bool
+/// What the common loops behind the last add: nothing.
+pub fn no_rest(_view: &PairView, _position: &Position) -> Option<Interval>
+    ensures { IsRest _view.now _position.now (length _view.now.loops) result }
+{
+    Some(Interval { lo: 0, hi: 0 })
+}
+
+/// What the common loops from a place on add in any directions, where those after it add `rest`.
+pub fn rest_from(
+    _view: &PairView,
+    _position: &Position,
+    _place: usize,
+    rest: Option<Interval>,
+    parts: &LoopParts,
+) -> Option<Interval>
+    requires few { _place < 6 }
+    requires place { _place < length _view.now.loops }
     requires fits { FitsLoops
+        (length _view.now.loops)
+        (length _view.now.source_inner)
+        (length _view.now.sink_inner)
+        _position.now }
+    requires rest { IsRest _view.now _position.now (_place + 1) rest }
+    requires parts { ArePartsAt
+        _view.now.loops
+        _position.now.source.common
+        _position.now.sink.common
+        _place
+        parts.now }
+    ensures { IsRest _view.now _position.now _place result }
+{
+    let behind = rest?;
+    let here = parts.any?;
+    Some(behind.add(here))
+}
+
+/// What is added before any common loop has a direction: by the further loops of both sides, and by the constants.
+pub fn sum_at_start(view: &PairView, position: &Position) -> Option<Interval>
+    requires { FitsLoops
         (length view.now.loops)
         (length view.now.source_inner)
         (length view.now.sink_inner)
         position.now }
-    requires parts { AreAllParts view.now.loops position.now.source.common position.now.sink.common parts.now }
-    ensures { IsTrue result ↔ IsBeyondExtremes view.now position.now directions.now }
+    ensures { MaySum view.now position.now [] result }
 {
-    match difference_by(view, position, parts, directions) {
+    let source = source_part(view, position)?;
+    let sink = sink_part(view, position)?;
+    Some(combined(
+        Interval { lo: 0, hi: 0 },
+        source,
+        sink,
+        constant_difference(position),
+    ))
+}
+
+/// The sum of a front with a direction of one more loop, which has these parts.
+pub fn sum_with(
+    _view: &PairView,
+    _position: &Position,
+    _front: &[Direction],
+    sum: Interval,
+    parts: &LoopParts,
+    direction: Direction,
+) -> Option<Interval>
+    requires few { length _front.now < 6 }
+    requires place { length _front.now < length _view.now.loops }
+    requires fits { FitsLoops
+        (length _view.now.loops)
+        (length _view.now.source_inner)
+        (length _view.now.sink_inner)
+        _position.now }
+    requires sum { IsSum _view.now _position.now _front.now sum }
+    requires parts { ArePartsAt
+        _view.now.loops
+        _position.now.source.common
+        _position.now.sink.common
+        (length _front.now)
+        parts.now }
+    ensures { MaySum _view.now _position.now (_front.now ++ direction ∷ []) result }
+{
+    let part = part_under(parts, direction)?;
+    Some(sum.add(part))
+}
+
+/// What a loop adds in a direction.
+fn part_under(parts: &LoopParts, direction: Direction) -> Option<Interval>
+    ensures { result ≡ part_of direction parts.now }
+{
+    match direction {
+        Direction::Before => parts.before,
+        Direction::Same => parts.same,
+        Direction::After => parts.after,
+    }
+}
+
+/// Whether the extremes of the difference of its two subscripts exclude a front at a position, as
+/// `banerjee_excludes` tells, by the sum of the front and by what the loops behind it add.
+pub fn sums_exclude(
+    view: &PairView,
+    position: &Position,
+    front: &[Direction],
+    sum: Interval,
+    rest: Option<Interval>,
+) -> bool
+    requires few { length front.now ≤ 6 }
+    requires sum { IsSum view.now position.now front.now sum }
+    requires rest { IsRest view.now position.now (length front.now) rest }
+    ensures { IsTrue result ↔ IsBeyondExtremes view.now position.now front.now }
+{
+    match total_of(view, position, front, sum, rest) {
         None => true,
         Some(extremes) => 0 < extremes.lo || extremes.hi < 0,
     }
 }
 
-/// The least and the greatest difference of the two subscripts, by what each common loop adds.
-fn difference_by(
-    view: &PairView,
-    position: &Position,
-    parts: &[LoopParts],
-    directions: &[Direction],
+/// The extremes of the difference under a front, by its sum and by what the loops behind it add.
+fn total_of(
+    _view: &PairView,
+    _position: &Position,
+    _front: &[Direction],
+    sum: Interval,
+    rest: Option<Interval>,
 ) -> Option<Interval>
-    requires fits { FitsLoops
-        (length view.now.loops)
-        (length view.now.source_inner)
-        (length view.now.sink_inner)
-        position.now }
-    requires parts { AreAllParts view.now.loops position.now.source.common position.now.sink.common parts.now }
-    ensures { AreExtremes (DifferenceValue view.now position.now directions.now) result }
+    requires few { length _front.now ≤ 6 }
+    requires sum { IsSum _view.now _position.now _front.now sum }
+    requires rest { IsRest _view.now _position.now (length _front.now) rest }
+    ensures { AreExtremes (DifferenceValue _view.now _position.now _front.now) result }
 {
-    let common = common_by(view, position, parts, directions)?;
-    let source = source_part(view, position)?;
-    let sink = sink_part(view, position)?;
-    Some(combined(common, source, sink, constant_difference(position)))
-}
-
-/// What the common loops add.
-fn common_by(
-    view: &PairView,
-    position: &Position,
-    parts: &[LoopParts],
-    directions: &[Direction],
-) -> Option<Interval>
-    requires source { length position.now.source.common ≡ length view.now.loops }
-    requires sink { length position.now.sink.common ≡ length view.now.loops }
-    requires parts { AreAllParts view.now.loops position.now.source.common position.now.sink.common parts.now }
-    ensures extremes { AreExtremes
-        (CommonValue
-        view.now.loops
-        directions.now
-        position.now.source.common
-        position.now.sink.common)
-        result }
-    ensures small { IfSome result (λ x. IsWithin (2 ^ 97) x) }
-{
-    let source = common_coefficients(&position.source);
-    let sink = common_coefficients(&position.sink);
-    sum_of_parts(&view.loops, parts, directions, source, sink)
-}
-
-/// The sum of what the common loops add, each in its direction.
-fn sum_of_parts(
-    loops: &[LoopRange],
-    parts: &[LoopParts],
-    directions: &[Direction],
-    source: &[i64],
-    sink: &[i64],
-) -> Option<Interval>
-    requires few { length loops.now ≤ 6 }
-    requires source { length source.now ≡ length loops.now }
-    requires sink { length sink.now ≡ length loops.now }
-    requires parts { AreAllParts loops.now source.now sink.now parts.now }
-    ensures extremes { AreExtremes (CommonValue loops.now directions.now source.now sink.now) result }
-    ensures small { IfSome result (λ x. IsWithin (2 ^ 97) x) }
-{
-    let mut sum = Interval { lo: 0, hi: 0 };
-    for (k, range) in loops.iter().enumerate() {
-        let direction = directions.get(k).copied();
-        let part = part_under(&parts[k], direction, range, source[k], sink[k])?;
-        sum = sum.add(part);
-    }
-    Some(sum)
-}
-
-/// What a loop with this range and these coefficients adds in a direction, or in any where there is none.
-fn part_under(
-    parts: &LoopParts,
-    direction: Option<Direction>,
-    _range: &LoopRange,
-    _a: i64,
-    _b: i64,
-) -> Option<Interval>
-    requires { AreParts _range.now _a _b parts.now }
-    ensures extremes { AreExtremes (LoopValue _range.now direction _a _b) result }
-    ensures small { IfSome result (λ x. IsWithin (2 ^ 94) x) }
-{
-    match direction {
-        None => parts.any,
-        Some(d) => match d {
-            Direction::Before => parts.before,
-            Direction::Same => parts.same,
-            Direction::After => parts.after,
-        },
-    }
+    let behind = rest?;
+    Some(sum.add(behind))
 }

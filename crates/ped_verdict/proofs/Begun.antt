@@ -1,25 +1,22 @@
 -- Once all loops that occur in a position have their directions in a front, it excludes all vectors that begin with the front, or none.
-use Rattle.std.proofs.Common.{◌≡◌, ℕ, zero, suc, ◌+◌, ◌-◌, ◌<◌, ◌≤◌, ℤ, pos, ◌+ℤ◌, ◌-ℤ◌, ◌*ℤ◌, List, [], ◌∷◌, ◌++◌, length, take, drop, replicate, get_or, slice_get, Option, Some, IfSome, Bool, true, false, ◌&&◌, not, IsTrue, ◌↔◌, refl, sym, ap, subst, ◌∙◌, inl, inr, arith}
-use Rattle.std.specs.List.{All, list_all}
-use Rattle.std.proofs.lemmas.Bool.{cases_Bool, cases_lt, false≢true}
+use Rattle.std.proofs.Common.{◌≡◌, ◌⊎◌, ℕ, zero, suc, ◌+◌, ◌<◌, ◌≤◌, ℤ, pos, ◌+ℤ◌, ◌-ℤ◌, ◌*ℤ◌, List, [], ◌∷◌, ◌++◌, length, drop, get_or, None, Bool, true, false, ◌&&◌, not, IsTrue, refl, sym, ap, subst, ◌∙◌, inl, inr, arith}
+use Rattle.std.specs.List.{list_all}
+use Rattle.std.proofs.lemmas.Bool.{cases_Bool, cases_lt}
 use Rattle.std.proofs.lemmas.Bool.Decides.{Decides-int_eq}
-use Rattle.std.proofs.lemmas.List.{append-nil, append_assoc, length_push, drop_all, drop_more, take-replicate, get_or_append_left}
-use Rattle.std.proofs.lemmas.List.Elements.{All-from_recursion, recursion_from_All}
-use Rattle.std.proofs.lemmas.Option.{slice_get-get_or, slice_get_past}
+use Rattle.std.proofs.lemmas.List.{append-nil, get_or_append_left}
 use Rattle.ped_views.specs.declared.directions.Direction.{Direction}
 use Rattle.ped_views.specs.declared.directions.Direction.TheVariants.{Before, Same, After}
 use Rattle.ped_views.specs.Whole.{is_zero}
 use Rattle.ped_views.specs.Views.{Range, SubscriptPair, View}
 use Rattle.ped_views.specs.Forms.{Occurrence, occurring, Form, ziv, strong_siv, weak_zero_siv, weak_crossing_siv, other_form, form_of}
-use Rattle.ped_views.specs.Limits.{IsPosition, FitsLoops, IsView}
-use Rattle.ped_views.specs.Excluded.{NeverMeets, NeverMeetTogether, group_of, dot, subscript_value, SharesIndices, HasNoSolution, CommonInRange, IsPoint, IsBeyondExtremes, FormExcludes, Excludes, loop_at, direction_at}
-use Rattle.ped_views.specs.Vectors.{IsPossible}
+use Rattle.ped_views.specs.Limits.{IsPosition}
+use Rattle.ped_views.specs.Excluded.{NeverMeets, NeverMeetTogether, group_of, difference, dot, subscript_value, SharesIndices, HasNoSolution, CommonInRange, IsPoint, IsBeyondExtremes, FormExcludes, Excludes, loop_at, direction_at}
 use Rattle.ped_views.proofs.Products.{linear}
-use Rattle.ped_verdict.specs.Fronts.{is_done, IsUnasked, IsFree, IsFine, AreFine, IsOpen, IsReady, IsShut}
-use Rattle.ped_verdict.proofs.Answering.{at_place, of_place}
+use Rattle.ped_miv.specs.Parts.{MaySum}
+use Rattle.ped_verdict.specs.Fronts.{is_done}
 use Rattle.ped_verdict.proofs.FormFacts.{both, occurring-none, occurring-some, IsOne, Facts, facts}
 use Rattle.ped_verdict.proofs.Points.{nothing}
-use Rattle.ped_verdict.proofs.DeadEnds.{point_in_front, dead_end}
+use Rattle.ped_verdict.proofs.DeadEnds.{point_in_front, beyond_front}
 
 pub not_held : (b : Bool) → not b ≡ true → b ≡ false
 not_held true e = absurd (cc)
@@ -185,127 +182,57 @@ module _ (v : View) (p : SubscriptPair) (front : List Direction) (long : IsPosit
     pub same_exclusion : Excludes v p (front ++ rest) → Excludes v p (front ++ other)
     same_exclusion x = (x.0, by_form (form_of p) (facts p) x.1)
 
--- the positions of a front, where they were so one loop before
-pub opened : (v : View) (front : List Direction) → IsReady v front → AreFine v front → IsOpen v front
-opened v front (inl e) fine k p is done rest = elim (fine k p is) [
-  | inl u ↦ let none = (u done).0 in let n = ap length e in absurd (omega arith)
-  | inr f ↦ f done rest
-]
-opened v front (inr (before, d, e, held)) fine k p is done rest = elim (fine k p is) [
-  | inl u ↦
-      let n : length front - 1 ≡ length before = let l = ap length e in let m = length_push before d in omega arith in
-      let was = subst (λ (m : ℕ). IsTrue (is_done m p)) n (u done).1 in
-      subst (λ (xs : List Direction). ¬ (Excludes v p xs)) (sym (append_assoc before (d ∷ []) rest) ∙ ap (λ (xs : List Direction). xs ++ rest) (sym e)) (held k p is was (d ∷ rest))
-  | inr f ↦ f done rest
-]
+-- what subscripts in several indices exclude
+module _ (v : View) (p : SubscriptPair) (usable : IsTrue p.usable) (form : other_form ≡ form_of p) where
+  pub into_excludes : (vector : List Direction) → HasNoSolution p vector ⊎ IsBeyondExtremes v p vector → Excludes v p vector
+  into_excludes vector h = (usable, subst (λ (f : Form). FormExcludes f v p vector) form h)
 
-module _ (v : View) (fit : All (FitsLoops (length v.loops) (length v.source_inner) (length v.sink_inner)) v.positions) (front : List Direction) where
-  -- a whole vector that is open is possible
-  pub possible_whole : length front ≡ length v.loops → IsOpen v front → IsPossible v front
-  possible_whole l held = recursion_from_All (λ p. ¬ (Excludes v p front)) v.positions one
-    where
-      all_done : (row : List ℤ) → length row ≡ length v.loops → drop (length front) row ≡ []
-      all_done row e = drop_all (length front) row (omega arith)
+  pub out_of_excludes : (vector : List Direction) → Excludes v p vector → HasNoSolution p vector ⊎ IsBeyondExtremes v p vector
+  out_of_excludes vector h = subst (λ (f : Form). FormExcludes f v p vector) (sym form) h.1
 
-      one : (k : ℕ) (d : SubscriptPair) → k < length v.positions → ¬ (Excludes v (get_or v.positions k d) front)
-      one k d below =
-          let p = get_or v.positions k d in
-          let s = fit k d below in
-          let x : list_all is_zero (drop (length front) p.source.common) ≡ true = ap (list_all is_zero) (all_done p.source.common s.source_common) in
-          let y : list_all is_zero (drop (length front) p.sink.common) ≡ true = ap (list_all is_zero) (all_done p.sink.common s.sink_common) in
-          let done : IsTrue (is_done (length front) p) = ap (λ (z : Bool). z && list_all is_zero (drop (length front) p.sink.common)) x ∙ y in
-          subst (λ (xs : List Direction). ¬ (Excludes v p xs)) (append-nil front) (held k p (slice_get-get_or v.positions k d below) done [])
+  module _ (front : List Direction) where
+    -- without values under a front there are none under any vector with it
+    pub shut_without : MaySum v p front None → (rest : List Direction) → Excludes v p (front ++ rest)
+    shut_without none rest = into_excludes (front ++ rest) (inr (λ low high a b x y. none rest (difference p low) (low, a, refl)))
 
-  module _ (k : ℕ) (p : SubscriptPair) (below : k < length v.positions) (is : get_or v.positions k p ≡ p) where
-    fits : FitsLoops (length v.loops) (length v.source_inner) (length v.sink_inner) p
-    fits = subst (FitsLoops (length v.loops) (length v.source_inner) (length v.sink_inner)) is (fit k p below)
+    pub shut_beyond : IsBeyondExtremes v p front → (rest : List Direction) → Excludes v p (front ++ rest)
+    shut_beyond beyond rest = into_excludes (front ++ rest) (inr (beyond_front v p front (front ++ rest) (rest, refl) beyond))
 
-    long : IsPosition p
-    long = let s = fits.source_common in let t = fits.sink_common in omega arith
+    -- once all loops that occur have their directions, the front tells of all vectors with it
+    module _ (long : IsPosition p) (stage : ℕ) (done : IsTrue (is_done stage p)) (at : length front ≡ stage) where
+      there : IsTrue (is_done (length front) p)
+      there = subst (λ (m : ℕ). IsTrue (is_done m p)) (sym at) done
 
-    module _ (done : IsTrue (is_done (length front) p)) (pad : List Direction) where
-      -- what excludes one vector excludes all
-      pub shut_excluded : Excludes v p (front ++ pad) → IsShut v front
-      shut_excluded x vector l (rest, e) possible =
-          let free = subst (λ (q : SubscriptPair). ¬ (Excludes v q vector)) is (All-from_recursion (λ q. ¬ (Excludes v q vector)) v.positions possible k p below) in
-          free (subst (λ (xs : List Direction). Excludes v p xs) e (same_exclusion v p front long done pad rest x))
+      pub shut_unsolved : HasNoSolution p front → (rest : List Direction) → Excludes v p (front ++ rest)
+      shut_unsolved never rest = same_exclusion v p front long there [] rest (into_excludes (front ++ []) (inl (subst (HasNoSolution p) (sym (append-nil front)) never)))
 
-      -- what doesn't exclude one vector excludes none
-      pub free_padded : ¬ (Excludes v p (front ++ pad)) → IsFree v front p
-      free_padded n again rest x = n (same_exclusion v p front long done rest pad x)
+      pub free_front : ¬ (IsBeyondExtremes v p front) → ¬ (HasNoSolution p front) → (rest : List Direction) → ¬ (Excludes v p (front ++ rest))
+      free_front near some rest x =
+          elim (out_of_excludes front (subst (Excludes v p) (append-nil front) (same_exclusion v p front long there rest [] x))) [ inl s ↦ some s | inr b ↦ near b ]
 
-    -- behind a dead end there is none
-    pub shut_beyond : IsTrue p.usable → IsBeyondExtremes v p front → IsShut v front
-    shut_beyond usable beyond vector l begins = dead_end v front vector fit (k, p, below, is, (usable, beyond)) begins
+-- the loops up to the last that occurs, found one by one: those from m up to n don't occur
+abbrev pub ZeroBetween : ℕ → ℕ → List ℤ → Type 0
+ZeroBetween m n row = (j : ℕ) → m ≤ j → j < n → get_or row j (pos 0) ≡ pos 0
 
--- what the code finds at a position
-module _ (v now : View) (shown : v ≡ now) (view : IsView v) (k : ℕ) (p : SubscriptPair) (below : k < length now.positions) (is : p ≡ get_or v.positions k p) (front : List Direction) where
-  there : get_or now.positions k p ≡ p
-  there = sym (is ∙ ap (λ (w : View). get_or w.positions k p) shown)
+pub zero_none : (m : ℕ) (row : List ℤ) → ZeroBetween m m row
+zero_none m row j from below = absurd (omega arith)
 
-  fit : All (FitsLoops (length now.loops) (length now.source_inner) (length now.sink_inner)) now.positions
-  fit = (subst IsView shown view).positions
-
-  pub fine_unasked : IsUnasked (length front) p → IfSome (slice_get now.positions k) (IsFine now front)
-  fine_unasked u = at_place v now shown view k p below is (IsFine now front) (inl u)
-
-  pub fine_undone : is_done (length front) p ≡ false → IfSome (slice_get now.positions k) (IsFine now front)
-  fine_undone n = at_place v now shown view k p below is (IsFine now front) (inr (λ done rest. absurd (false≢true (sym n ∙ done))))
-
-  pub shut_there : (t : Bool) → IsTrue t → (IsTrue t → IsTrue p.usable) → (IsTrue t → IsBeyondExtremes now p front) → IsShut now front
-  shut_there t holds usable beyond = shut_beyond now fit front k p below there (usable holds) (beyond holds)
-
-  module _ (done : IsTrue (is_done (length front) p)) (w pad : List Direction) (e : w ≡ front ++ pad) (t : Bool) (h : IfSome (slice_get now.positions k) (λ q. IsTrue t ↔ Excludes now q w)) where
-    own : IsTrue t ↔ Excludes now p w
-    own = of_place v now shown view k p below is (λ q. IsTrue t ↔ Excludes now q w) h
-
-    pub fine_asked : t ≡ false → IfSome (slice_get now.positions k) (IsFine now front)
-    fine_asked n = at_place v now shown view k p below is (IsFine now front) (inr (free_padded now fit front k p below there done pad
-        (λ x. false≢true (sym n ∙ own.1 (subst (λ (xs : List Direction). Excludes now p xs) (sym e) x)))))
-
-    pub shut_asked : IsTrue t → IsShut now front
-    shut_asked holds = shut_excluded now fit front k p below there done pad (subst (λ (xs : List Direction). Excludes now p xs) e (own.0 holds))
-
--- what the code asks of a position
-pub unasked_none : (m : ℕ) (p : SubscriptPair) (t : Bool) → m ≡ 0 → t ≡ is_done 0 p → t ≡ false → IsUnasked m p
-unasked_none m p t e is n done = absurd (false≢true (sym n ∙ is ∙ ap (λ (k : ℕ). is_done k p) (sym e) ∙ done))
-
-one_more : (m : ℕ) (row : List ℤ) → 0 < m → get_or row (m - 1) (pos 0) ≡ pos 0 → AllZero (drop m row) → AllZero (drop (m - 1) row)
-one_more m row some e z = elim (cases_lt (m - 1) (length row)) [
-  | inl below ↦
-      let next : m - 1 + 1 ≡ m = omega arith in
-      let split : drop (m - 1) row ≡ get_or row (m - 1) (pos 0) ∷ drop m row = drop_more row (m - 1) (pos 0) below ∙ ap (λ (k : ℕ). get_or row (m - 1) (pos 0) ∷ drop k row) next in
-      let head : is_zero (get_or row (m - 1) (pos 0)) ≡ true = (Decides-int_eq (get_or row (m - 1) (pos 0)) (pos 0)).1 e in
-      ap (list_all is_zero) split ∙ ap (λ (x : Bool). x && list_all is_zero (drop m row)) head ∙ z
-  | inr past ↦ ap (list_all is_zero) (drop_all (m - 1) row past)
+pub zero_more : (m n : ℕ) (row : List ℤ) → ZeroBetween m n row → get_or row n (pos 0) ≡ pos 0 → ZeroBetween m (n + 1) row
+zero_more m n row before here j from below = elim (cases_lt j n) [
+  | inl less ↦ before j from less
+  | inr past ↦ (let e : j ≡ n = omega arith in ap (λ (k : ℕ). get_or row k (pos 0)) e ∙ here)
 ]
 
-pub unasked_some : (m : ℕ) (p : SubscriptPair) → 0 < m → get_or p.source.common (m - 1) (pos 0) ≡ pos 0 → get_or p.sink.common (m - 1) (pos 0) ≡ pos 0 → IsUnasked m p
-unasked_some m p some e f done =
-    let s = both (list_all is_zero (drop m p.source.common)) (list_all is_zero (drop m p.sink.common)) done in
-    (some, ap (λ (x : Bool). x && list_all is_zero (drop (m - 1) p.sink.common)) (one_more m p.source.common some e s.0) ∙ one_more m p.sink.common some f s.1)
+zeros_from : (row : List ℤ) (m : ℕ) → ((j : ℕ) → m ≤ j → j < length row → get_or row j (pos 0) ≡ pos 0) → AllZero (drop m row)
+zeros_from [] zero h = refl
+zeros_from [] (suc m) h = refl
+zeros_from (a ∷ row) zero h =
+    let head : is_zero a ≡ true = (Decides-int_eq a (pos 0)).1 (h 0 (omega arith) (omega arith)) in
+    ap (λ (x : Bool). x && list_all is_zero row) head ∙ zeros_from row zero (λ j from below. h (suc j) (omega arith) (omega arith))
+zeros_from (a ∷ row) (suc m) h = zeros_from row m (λ j from below. h (suc j) (omega arith) (omega arith))
 
--- no position so far rules the front out
-pub fine_more : (v : View) (front : List Direction) (k : ℕ) → ((j : ℕ) (p : SubscriptPair) → j < k → slice_get v.positions j ≡ Some p → IsFine v front p) → IfSome (slice_get v.positions k) (IsFine v front)
-    → (j : ℕ) (p : SubscriptPair) → j < k + 1 → slice_get v.positions j ≡ Some p → IsFine v front p
-fine_more v front k before at j p below is = elim (cases_lt j k) [
-  | inl less ↦ before j p less is
-  | inr past ↦
-      let e : j ≡ k = omega arith in
-      subst (λ (o : Option SubscriptPair). IfSome o (IsFine v front)) (ap (λ (n : ℕ). slice_get v.positions n) (sym e) ∙ is) at
-]
-
-pub all_fine : (v : View) (front : List Direction) (k : ℕ) → ((j : ℕ) (p : SubscriptPair) → j < k → slice_get v.positions j ≡ Some p → IsFine v front p) → length v.positions ≤ k → AreFine v front
-all_fine v front k before past j p is = elim (cases_lt j (length v.positions)) [
-  | inl below ↦ before j p (omega arith) is
-  | inr beyond ↦ let n = slice_get_past v.positions j beyond in absurd (cc)
-]
-
--- the directions of a vector that is kept, with some of those behind them
-pub padded_is : (a n m : ℕ) (xs : List Direction) → a ≤ n → n ≤ a + m → drop a xs ≡ replicate m Same → a ≤ length xs → take n xs ≡ take a xs ++ replicate (n - a) Same
-padded_is zero n m xs h k e l = ap (take n) e ∙ take-replicate n m Same (omega arith) ∙ ap (λ (i : ℕ). replicate i Same) (omega arith)
-padded_is (suc a) zero m xs h k e l = absurd (omega arith)
-padded_is (suc a) (suc n) m [] h k e l = absurd (omega arith)
-padded_is (suc a) (suc n) m (x ∷ xs) h k e l =
-    let c : n - a ≡ suc n - suc a = omega arith in
-    ap (λ (ys : List Direction). x ∷ ys) (padded_is a n m xs (omega arith) (omega arith) e (omega arith) ∙ ap (λ (i : ℕ). take a xs ++ replicate i Same) c)
+pub zero_done : (p : SubscriptPair) (m n : ℕ) → IsPosition p → length p.source.common ≤ n → ZeroBetween m n p.source.common → ZeroBetween m n p.sink.common → IsTrue (is_done m p)
+zero_done p m n long past s t =
+    let source = zeros_from p.source.common m (λ j from below. s j from (omega arith)) in
+    let sink = zeros_from p.sink.common m (λ j from below. t j from (omega arith)) in
+    ap (λ (x : Bool). x && list_all is_zero (drop m p.sink.common)) source ∙ sink

@@ -1,16 +1,13 @@
 -- The rows of the groups of a view, found position by position.
-use Rattle.std.proofs.Common.{◌≡◌, ℕ, zero, suc, ◌<◌, ℤ, pos, All, List, [], ◌∷◌, ◌++◌, length, get_or, slice_get, Some, Bool, true, false, ◌&&◌, ◌==◌, if◌then◌else◌, IsTrue, refl, sym, ap, subst, ◌∙◌, arith}
+use Rattle.std.proofs.Common.{◌≡◌, ℕ, zero, suc, ◌<◌, ℤ, pos, All, List, [], ◌∷◌, ◌++◌, length, get_or, Bool, true, false, ◌&&◌, ◌==◌, if◌then◌else◌, IsTrue, refl, ap, ◌∙◌, arith}
 use Rattle.std.specs.List.{AllByRecursion}
-use Rattle.std.specs.Global.{Vec}
 use Rattle.std.proofs.lemmas.Bool.Decides.{Decides-eqb}
-use Rattle.std.proofs.lemmas.Option.{slice_get-get_or}
 use Rattle.std.proofs.lemmas.List.Elements.{All-from_recursion}
 use Rattle.std.proofs.lemmas.List.{length-append}
 use Rattle.ped_views.specs.declared.strong_rows.StrongRow.{StrongRow}
-use Rattle.ped_views.specs.Views.{SubscriptPair, View}
+use Rattle.ped_views.specs.Views.{SubscriptPair}
 use Rattle.ped_views.specs.Forms.{Occurrence, Form, ziv, strong_siv, weak_zero_siv, weak_crossing_siv, other_form, form_of}
 use Rattle.ped_views.specs.Excluded.{rows_in, group_of}
-use Rattle.ped_verdict.specs.Groups.{AreGroups}
 use Rattle.ped_verdict.proofs.FormFacts.{Facts, facts}
 
 -- the row of a pair with these constants
@@ -22,30 +19,6 @@ pub own_row : (o : Occurrence) (p : SubscriptPair) → IsTrue p.usable → form_
 own_row o p usable form =
     let t : (p.usable && o.place == o.place) ≡ true = ap (λ b. b && o.place == o.place) usable ∙ (Decides-eqb o.place o.place).1 refl in
     ap (λ (f : Form). rows_in o.place f p) form ∙ ap (λ b. if b then row o.at_source p ∷ [] else []) t
-
--- groups of the first n loops
-pub record FirstGroups (n : ℕ) (positions : List SubscriptPair) (groups : List (Vec StrongRow)) : Type 0 where
-  pub as_many : length groups ≡ n
-  pub each : (k : ℕ) (rows : Vec StrongRow) → slice_get groups k ≡ Some rows → rows.items ≡ group_of k positions
-
--- the group that was read
-pub group_read : (v : View) (groups : List (Vec StrongRow)) (k : ℕ) (rows none : Vec StrongRow) → AreGroups v groups → k < length v.loops → rows ≡ get_or groups k none → rows.items ≡ group_of k v.positions
-group_read v groups k rows none h below e = h.each k rows (slice_get-get_or groups k none (let l = h.as_many in omega arith) ∙ ap Some (sym e))
-
--- the rows of a front and of what is behind it
-front : (P : StrongRow → Type 0) (xs ys : List StrongRow) → AllByRecursion P (xs ++ ys) → AllByRecursion P xs
-front P [] ys h = tt
-front P (x ∷ xs) ys h = (h.0, front P xs ys h.1)
-
-back : (P : StrongRow → Type 0) (xs ys : List StrongRow) → AllByRecursion P (xs ++ ys) → AllByRecursion P ys
-back P [] ys h = h
-back P (x ∷ xs) ys h = back P xs ys h.1
-
--- where a test holds of each row of a group, it holds of the row of each position of the group
-pub row_has : (P : StrongRow → Type 0) (k : ℕ) (positions : List SubscriptPair) (at : ℕ) (p : SubscriptPair) → at < length positions → get_or positions at p ≡ p → AllByRecursion P (group_of k positions) → AllByRecursion P (rows_in k (form_of p) p)
-row_has P k [] at p below e h = absurd (omega arith)
-row_has P k (q ∷ positions) zero p below e h = front P (rows_in k (form_of p) p) (group_of k positions) (subst (λ (x : SubscriptPair). AllByRecursion P (rows_in k (form_of x) x ++ group_of k positions)) e h)
-row_has P k (q ∷ positions) (suc at) p below e h = row_has P k positions at p (omega arith) e (back P (rows_in k (form_of q) q) (group_of k positions) h)
 
 -- a group that has a position has a row
 pub group_some : (k : ℕ) (positions : List SubscriptPair) (at : ℕ) (p : SubscriptPair) → at < length positions → get_or positions at p ≡ p → 0 < length (rows_in k (form_of p) p) → 0 < length (group_of k positions)

@@ -1,3 +1,4 @@
+mod Added
 mod Answering
 mod Begun
 mod Chosen
@@ -9,3 +10,4 @@ mod Ordered
 mod Points
 mod Possible
 mod Sighted
+mod Walked

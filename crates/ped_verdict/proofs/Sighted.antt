@@ -1,15 +1,15 @@
--- What is found once of each position of a view.
-use Rattle.std.proofs.Common.{◌≡◌, ℕ, zero, suc, ◌+◌, ◌-◌, ◌<◌, ◌≤◌, ℤ, List, [], ◌∷◌, ◌++◌, length, replicate, get_or, Bool, true, not, IsTrue, ◌↔◌, sym, ap, subst, ◌∙◌, inl, inr, arith}
+-- What is found once of a position of a view.
+use Rattle.std.proofs.Common.{◌≡◌, ℕ, zero, suc, ◌+◌, ◌-◌, ◌<◌, ◌≤◌, ℤ, List, [], ◌∷◌, ◌++◌, length, replicate, get_or, Bool, true, not, Option, IsTrue, ◌↔◌, sym, ap, subst, ◌∙◌, inl, inr, arith}
 use Rattle.std.proofs.lemmas.Bool.{cases_lt, false≢true}
-use Rattle.std.proofs.lemmas.List.{length_push, get_or_append_left, get_or-append_right, get_or_default}
+use Rattle.std.proofs.lemmas.List.{length_push, get_or_append_left, get_or-append_right}
 use Rattle.ped_views.specs.declared.directions.Direction.{Direction}
 use Rattle.ped_views.specs.declared.directions.Direction.TheVariants.{Before, Same, After}
+use Rattle.ped_views.specs.declared.intervals.Interval.{Interval}
 use Rattle.ped_views.specs.Views.{Range, SubscriptPair, View}
 use Rattle.ped_views.specs.Excluded.{SharesIndices, HasNoSolution}
 use Rattle.ped_miv.specs.declared.parts.LoopParts.{LoopParts}
-use Rattle.ped_miv.specs.Parts.{ArePartsAt, AreAllParts}
-use Rattle.ped_verdict.specs.declared.sights.Sight.{Sight}
-use Rattle.ped_verdict.specs.Sights.{IsSight, AreSights}
+use Rattle.ped_miv.specs.Parts.{ArePartsAt, AreAllParts, IsRest}
+use Rattle.ped_verdict.specs.Sights.{AreRests}
 use Rattle.ped_verdict.proofs.Begun.{not_held}
 
 -- indices that are equal in all loops are so in those with `=`
@@ -53,30 +53,32 @@ more_parts n loops source sink parts more x e at h = record {
   each = pushed_item (ArePartsAt loops source sink) parts more x n h.as_many e h.each at;
 }
 
--- what is found of the first n positions
-pub record FirstSights (n : ℕ) (v : View) (sights : List Sight) : Type 0 where
-  pub as_many : length sights ≡ n
-  pub each : (k : ℕ) (s : Sight) → k < n → s ≡ get_or sights k s → (p : SubscriptPair) → p ≡ get_or v.positions k p → IsSight v p s
-
-pub more_sights : (n : ℕ) (v : View) (sights more : List Sight) (s : Sight) → more ≡ sights ++ s ∷ [] → ((p : SubscriptPair) → p ≡ get_or v.positions n p → IsSight v p s) → FirstSights n v sights → FirstSights (n + 1) v more
-more_sights n v sights more s e at h = record {
-  as_many = ap length e ∙ length_push sights s ∙ (let l = h.as_many in omega arith);
-  each = pushed_item (λ k x. (p : SubscriptPair) → p ≡ get_or v.positions k p → IsSight v p x) sights more s n h.as_many e h.each at;
-}
-
 pub all_first_parts : (n : ℕ) (loops : List Range) (source sink : List ℤ) (parts : List LoopParts) → FirstParts n loops source sink parts → n ≡ length loops → AreAllParts loops source sink parts
 all_first_parts n loops source sink parts h e = record {
   as_many = h.as_many ∙ e;
   each = λ k x below is. h.each k x (omega (arith, below, e)) is;
 }
 
-pub all_first_sights : (n : ℕ) (v : View) (sights : List Sight) → FirstSights n v sights → n ≡ length v.positions → AreSights v sights
-all_first_sights n v sights h e = record {
-  as_many = h.as_many ∙ e;
-  each = λ k p s below at is. h.each k s (omega (arith, below, e)) is p at;
+-- what the last loops add, up to so many
+pub record FirstRests (n : ℕ) (v : View) (p : SubscriptPair) (rests : List (Option Interval)) : Type 0 where
+  pub as_many : length rests ≡ n
+  pub each : (j : ℕ) (x : Option Interval) → j < n → x ≡ get_or rests j x → IsRest v p (length v.loops - j) x
+
+pub first_rest : (v : View) (p : SubscriptPair) (rests more : List (Option Interval)) (x : Option Interval) → rests ≡ [] → more ≡ rests ++ x ∷ [] → IsRest v p (length v.loops) x → FirstRests 1 v p more
+first_rest v p rests more x none e h =
+    let start : length v.loops ≡ length v.loops - 0 = omega arith in record {
+      as_many = ap length e ∙ length_push rests x ∙ (let l = ap length none in omega arith);
+      each = pushed_item (λ j y. IsRest v p (length v.loops - j) y) rests more x 0 (ap length none) e (λ j y below is. absurd (omega (arith, below))) (subst (λ (j : ℕ). IsRest v p j x) start h);
+    }
+
+pub more_rests : (n : ℕ) (v : View) (p : SubscriptPair) (rests more : List (Option Interval)) (x : Option Interval) → more ≡ rests ++ x ∷ [] → IsRest v p (length v.loops - n) x → FirstRests n v p rests → FirstRests (n + 1) v p more
+more_rests n v p rests more x e at h = record {
+  as_many = ap length e ∙ length_push rests x ∙ (let l = h.as_many in omega arith);
+  each = pushed_item (λ j y. IsRest v p (length v.loops - j) y) rests more x n h.as_many e h.each at;
 }
 
--- what is found of the position that was read is found of the one at its place
-pub seen_at : (v now : View) → v ≡ now → (k : ℕ) → k < length now.positions → (q : SubscriptPair) → q ≡ get_or v.positions k q → (s : Sight) → IsSight now q s → (p : SubscriptPair) → p ≡ get_or now.positions k p → IsSight now p s
-seen_at v now shown k below q e s h p is =
-    subst (λ (x : SubscriptPair). IsSight now x s) (e ∙ ap (λ (w : View). get_or w.positions k q) shown ∙ get_or_default now.positions k q p below ∙ sym is) h
+pub all_first_rests : (n : ℕ) (v : View) (p : SubscriptPair) (rests : List (Option Interval)) → FirstRests n v p rests → n ≡ length v.loops + 1 → AreRests v p rests
+all_first_rests n v p rests h e = record {
+  as_many = h.as_many ∙ e;
+  each = λ j x below is. h.each j x (omega (arith, below, e)) is;
+}

@@ -2,7 +2,6 @@ pub mod CodeForms
 pub mod Dependence
 pub mod Exactness
 pub mod Fronts
-pub mod Groups
 pub mod Kept
 pub mod Marked
 pub mod Sights

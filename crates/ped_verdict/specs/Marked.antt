@@ -1,8 +1,9 @@
--- How the possible vectors of a view are marked in a row of 3^n places. Only contracts of private functions use it.
-use Rattle.std.specs.Prelude.{◌≡◌, ◌⊎◌, ◌↔◌, ℕ, ◌+◌, ◌*◌, ◌^◌, ◌≤◌, List, [], ◌∷◌, ◌++◌, length, Bool}
+-- How the possible vectors of a view are marked in a row of 3^n places, and the excluded ones. Only contracts of private functions use it.
+use Rattle.std.specs.Prelude.{◌≡◌, ◌⊎◌, ◌↔◌, ℕ, ◌+◌, ◌*◌, ◌^◌, ◌<◌, ◌≤◌, List, [], ◌∷◌, ◌++◌, length, Some, slice_get, Bool}
 use Rattle.ped_views.specs.declared.directions.Direction.{Direction}
 use Rattle.ped_views.specs.declared.directions.Direction.TheVariants.{Before, Same, After}
-use Rattle.ped_views.specs.Views.{View}
+use Rattle.ped_views.specs.Views.{SubscriptPair, View}
+use Rattle.ped_views.specs.Excluded.{Excludes}
 use Rattle.ped_views.specs.Vectors.{IsPossible}
 use Rattle.ped_bits.specs.Places.{Has}
 
@@ -27,8 +28,24 @@ pub record AreMarked (v : View) (row : List Bool) : Type 0 where
   pub wide : length row ≡ 3 ^ length v.loops
   pub marks : (vector : List Direction) → length vector ≡ length v.loops → Has row (place_of vector) ↔ IsPossible v vector
 
--- the row has got the places of the possible vectors with this front, and no others
-pub record AreAdded (v : View) (front : List Direction) (old new : List Bool) : Type 0 where
+-- the row has the places of the vectors that one of the first k positions excludes
+pub record AreExcluded (v : View) (k : ℕ) (row : List Bool) : Type 0 where
+  pub wide : length row ≡ 3 ^ length v.loops
+  pub marked : (vector : List Direction) → length vector ≡ length v.loops → Has row (place_of vector) → ¬ (IsPossible v vector)
+  pub unmarked : (vector : List Direction) → length vector ≡ length v.loops → ¬ (Has row (place_of vector))
+      → (j : ℕ) (p : SubscriptPair) → j < k → slice_get v.positions j ≡ Some p → ¬ (Excludes v p vector)
+
+-- the row has got the places of the vectors over n loops with this front that have E, and no others
+pub record AreAdded (n : ℕ) (front : List Direction) (E : List Direction → Type 0) (old new : List Bool) : Type 0 where
   pub wide : length new ≡ length old
-  pub marks : (vector : List Direction) → length vector ≡ length v.loops
-      → Has new (place_of vector) ↔ (Has old (place_of vector) ⊎ (BeginsWith front vector × IsPossible v vector))
+  pub marks : (vector : List Direction) → length vector ≡ n → Has new (place_of vector) ↔ (Has old (place_of vector) ⊎ (BeginsWith front vector × E vector))
+
+-- every vector
+abbrev pub Each : List Direction → Type 0
+Each vector = Unit {0}
+
+-- the one of three answers that is for a direction
+abbrev pub chosen : Bool → Bool → Bool → Direction → Bool
+chosen before same after Before = before
+chosen before same after Same = same
+chosen before same after After = after

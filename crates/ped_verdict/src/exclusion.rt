@@ -1,93 +1,105 @@
-//! Whether the positions of a view exclude a direction vector. Each is tested by its form, and those that are strong
-//! SIV in one loop are tested together.
+//! The vectors that a position of a view excludes. Each is tested by its form, and those that are strong SIV in one
+//! loop are tested together.
 
-ghost use Rattle.std.specs.Prelude.{◌≡◌, ◌↔◌, ◌⊎◌, ◌<◌, ◌≤◌, pos, neg_ℤ, length, slice_get, IfSome, IsTrue};
+ghost use Rattle.std.specs.Prelude.{◌≡◌, ◌<◌, ◌≤◌, ◌^◌, ◌↔◌, pos, neg_ℤ, length, [], Some, slice_get, IfOk, IfSome, IsTrue};
 ghost use Rattle.ped_views.specs.Forms as plain;
-ghost use Rattle.ped_views.specs.Forms.{other_form};
+ghost use Rattle.ped_views.specs.Forms.{strong_siv, weak_zero_siv, weak_crossing_siv};
 ghost use Rattle.ped_views.specs.Limits.{FitsLoops};
-ghost use Rattle.ped_views.specs.Excluded.{NeverMeets, HasNoSolution, IsBeyondExtremes, FormExcludes, Excludes};
-ghost use Rattle.ped_verdict.specs.CodeForms.{HasOneZero};
-ghost use Rattle.ped_verdict.specs.Groups.{AreGroups};
-ghost use Rattle.ped_verdict.specs.Sights.{IsSight, AreSights};
+ghost use Rattle.ped_views.specs.Excluded.{NeverMeets, Excludes, group_of};
+ghost use Rattle.ped_verdict.specs.CodeForms.{occurrence_shown, HasOneZero};
+ghost use Rattle.ped_verdict.specs.Marked.{AreAdded};
 
 use crate::forms::{Form, Occurrence, form_of};
-use crate::sights::Sight;
-use ped_miv::{gcd_excludes, parts_exclude};
+use crate::fronts::{mark_directions, mark_front};
+use crate::groups::group;
+use crate::sights::exclude_other;
+use crate::vectors::Vector;
+use ped_base::NoMemory;
+use ped_bits::Row;
 use ped_siv::{
     StrongRow, group_excludes, weak_crossing_excludes, weak_zero_excludes, ziv_excludes,
 };
 use ped_views::{Direction, LoopRange, PairView, Position};
+use std::alloc::Global;
 
-/// Whether the position at this place excludes the vector. One that isn't usable excludes nothing.
-pub(crate) fn excludes(
+/// Adds the vectors that the position at this place excludes. One that isn't usable excludes nothing.
+pub(crate) fn exclude_by(
+    alloc: Global,
     view: &PairView,
-    groups: &[Vec<StrongRow>],
-    sights: &[Sight],
     position: usize,
-    vector: &[Direction],
-) -> bool
-    requires groups { AreGroups view.now groups.now }
-    requires sights { AreSights view.now sights.now }
+    excluded: &mut Row,
+) -> Result<(), NoMemory>
     requires place { position < length view.now.positions }
-    requires vector { length vector.now ≡ length view.now.loops }
-    ensures { IfSome
+    requires wide { length excluded.old ≡ 3 ^ length view.now.loops }
+    ensures { IfOk result (λ done. IfSome
         (slice_get view.now.positions position)
-        (λ p. IsTrue result ↔ Excludes view.now p vector.now) }
-{
-    view.positions[position].usable && form_excludes(view, groups, sights, position, vector)
-}
-
-/// Whether the subscripts at this place, which are usable, exclude the vector, by the test of their form.
-fn form_excludes(
-    view: &PairView,
-    groups: &[Vec<StrongRow>],
-    sights: &[Sight],
-    position: usize,
-    vector: &[Direction],
-) -> bool
-    requires groups { AreGroups view.now groups.now }
-    requires sights { AreSights view.now sights.now }
-    requires place { position < length view.now.positions }
-    requires usable { IfSome (slice_get view.now.positions position) (λ p. IsTrue p.usable) }
-    requires vector { length vector.now ≡ length view.now.loops }
-    ensures { IfSome
-        (slice_get view.now.positions position)
-        (λ p. IsTrue result ↔ FormExcludes (plain.form_of p) view.now p vector.now) }
+        (λ p. AreAdded (length view.now.loops) [] (Excludes view.now p) excluded.old excluded.new)) }
 {
     let pair = &view.positions[position];
-    match form_of(pair) {
-        Form::Ziv => ziv(pair),
-        Form::Strong(one) => {
-            group_excludes(
-                &groups[one.place],
-                &view.loops[one.place],
-                vector[one.place],
-            )
-        }
-        Form::WeakZero(one) => weak_zero(pair, one, &view.loops[one.place], vector[one.place]),
-        Form::WeakCrossing(one) => {
-            weak_crossing(pair, one, &view.loops[one.place], vector[one.place])
-        }
-        Form::Other => other_excludes(view, pair, &sights[position], vector),
+    if pair.usable {
+        return exclude_usable(alloc, view, position, pair, excluded);
     }
+    Ok(())
 }
 
-/// Whether subscripts in several indices exclude the vector, by Banerjee's test or the GCD test.
-fn other_excludes(view: &PairView, pair: &Position, sight: &Sight, vector: &[Direction]) -> bool
+/// Adds the vectors that usable subscripts exclude, by the test of their form.
+fn exclude_usable(
+    alloc: Global,
+    view: &PairView,
+    position: usize,
+    pair: &Position,
+    excluded: &mut Row,
+) -> Result<(), NoMemory>
+    requires inside { position < length view.now.positions }
+    requires there { slice_get view.now.positions position ≡ Some pair.now }
+    requires few { length view.now.loops ≤ 6 }
     requires fits { FitsLoops
         (length view.now.loops)
         (length view.now.source_inner)
         (length view.now.sink_inner)
         pair.now }
-    requires sight { IsSight view.now pair.now sight.now }
-    requires other { other_form ≡ plain.form_of pair.now }
-    requires vector { length vector.now ≤ 6 }
-    ensures { IsTrue result ↔ (HasNoSolution pair.now vector.now ⊎ IsBeyondExtremes view.now pair.now vector.now) }
+    requires usable { IsTrue pair.now.usable }
+    requires wide { length excluded.old ≡ 3 ^ length view.now.loops }
+    ensures { IfOk result (λ done. AreAdded
+        (length view.now.loops)
+        []
+        (Excludes view.now pair.now)
+        excluded.old
+        excluded.new) }
 {
-    if parts_exclude(view, pair, &sight.parts, vector) {
-        return true;
+    match form_of(pair) {
+        Form::Ziv => {
+            exclude_ziv(view, pair, excluded);
+            Ok(())
+        }
+        Form::Strong(one) => exclude_strong(alloc, view, position, pair, one, excluded),
+        Form::WeakZero(one) => {
+            exclude_weak_zero(view, pair, one, excluded);
+            Ok(())
+        }
+        Form::WeakCrossing(one) => {
+            exclude_weak_crossing(view, pair, one, excluded);
+            Ok(())
+        }
+        Form::Other => exclude_other(alloc, view, pair, excluded),
     }
-    !sight.is_solved && gcd_excludes(pair, vector)
+}
+
+/// Subscripts without an index exclude every vector, or none.
+fn exclude_ziv(view: &PairView, pair: &Position, excluded: &mut Row)
+    requires usable { IsTrue pair.now.usable }
+    requires form { plain.ziv ≡ plain.form_of pair.now }
+    requires wide { length excluded.old ≡ 3 ^ length view.now.loops }
+    ensures { AreAdded
+        (length view.now.loops)
+        []
+        (Excludes view.now pair.now)
+        excluded.old
+        excluded.new }
+{
+    if ziv(pair) {
+        mark_front(view.loops.len(), &Vector::empty(), excluded);
+    }
 }
 
 /// Whether subscripts without an index exclude every vector.
@@ -95,6 +107,106 @@ fn ziv(pair: &Position) -> bool
     ensures { IsTrue result ↔ ¬ (pair.now.source.constant ≡ pair.now.sink.constant) }
 {
     ziv_excludes(pair.source.constant, pair.sink.constant)
+}
+
+/// Subscripts that are strong SIV in a loop exclude the directions that their group excludes.
+fn exclude_strong(
+    alloc: Global,
+    view: &PairView,
+    position: usize,
+    pair: &Position,
+    one: Occurrence,
+    excluded: &mut Row,
+) -> Result<(), NoMemory>
+    requires inside { position < length view.now.positions }
+    requires there { slice_get view.now.positions position ≡ Some pair.now }
+    requires usable { IsTrue pair.now.usable }
+    requires form { strong_siv (occurrence_shown one) ≡ plain.form_of pair.now }
+    requires place { one.place < length view.now.loops }
+    requires wide { length excluded.old ≡ 3 ^ length view.now.loops }
+    ensures { IfOk result (λ done. AreAdded
+        (length view.now.loops)
+        []
+        (Excludes view.now pair.now)
+        excluded.old
+        excluded.new) }
+{
+    let rows = group(alloc, &view.positions, one.place)?;
+    exclude_group(view, position, pair, one, &rows, excluded);
+    Ok(())
+}
+
+/// A position excludes the directions that its group excludes.
+fn exclude_group(
+    view: &PairView,
+    _position: usize,
+    pair: &Position,
+    one: Occurrence,
+    rows: &[StrongRow],
+    excluded: &mut Row,
+)
+    requires inside { _position < length view.now.positions }
+    requires there { slice_get view.now.positions _position ≡ Some pair.now }
+    requires usable { IsTrue pair.now.usable }
+    requires form { strong_siv (occurrence_shown one) ≡ plain.form_of pair.now }
+    requires place { one.place < length view.now.loops }
+    requires group { rows.now ≡ group_of one.place view.now.positions }
+    requires wide { length excluded.old ≡ 3 ^ length view.now.loops }
+    ensures { AreAdded
+        (length view.now.loops)
+        []
+        (Excludes view.now pair.now)
+        excluded.old
+        excluded.new }
+{
+    let range = &view.loops[one.place];
+    let before = group_excludes(rows, range, Direction::Before);
+    let same = group_excludes(rows, range, Direction::Same);
+    let after = group_excludes(rows, range, Direction::After);
+    mark_directions(view.loops.len(), one.place, before, same, after, excluded);
+}
+
+/// Subscripts in one common index, on one side alone, exclude directions of its loop.
+fn exclude_weak_zero(view: &PairView, pair: &Position, one: Occurrence, excluded: &mut Row)
+    requires usable { IsTrue pair.now.usable }
+    requires form { weak_zero_siv (occurrence_shown one) ≡ plain.form_of pair.now }
+    requires zero { HasOneZero one.at_source one.at_sink }
+    requires place { one.place < length view.now.loops }
+    requires wide { length excluded.old ≡ 3 ^ length view.now.loops }
+    ensures { AreAdded
+        (length view.now.loops)
+        []
+        (Excludes view.now pair.now)
+        excluded.old
+        excluded.new }
+{
+    let range = &view.loops[one.place];
+    let before = weak_zero(pair, one, range, Direction::Before);
+    let same = weak_zero(pair, one, range, Direction::Same);
+    let after = weak_zero(pair, one, range, Direction::After);
+    mark_directions(view.loops.len(), one.place, before, same, after, excluded);
+}
+
+/// Subscripts in one common index, with opposite coefficients, exclude directions of its loop.
+fn exclude_weak_crossing(view: &PairView, pair: &Position, one: Occurrence, excluded: &mut Row)
+    requires usable { IsTrue pair.now.usable }
+    requires form { weak_crossing_siv (occurrence_shown one) ≡ plain.form_of pair.now }
+    requires some { ¬ (one.at_source ≡ pos 0) }
+    requires opposite { one.at_source ≡ neg_ℤ one.at_sink }
+    requires place { one.place < length view.now.loops }
+    requires wide { length excluded.old ≡ 3 ^ length view.now.loops }
+    ensures { AreAdded
+        (length view.now.loops)
+        []
+        (Excludes view.now pair.now)
+        excluded.old
+        excluded.new }
+{
+    let range = &view.loops[one.place];
+    let before = weak_crossing(pair, one, range, Direction::Before);
+    let same = weak_crossing(pair, one, range, Direction::Same);
+    let after = weak_crossing(pair, one, range, Direction::After);
+    mark_directions(view.loops.len(), one.place, before, same, after, excluded);
 }
 
 /// Whether subscripts in one common index, on one side alone, exclude a direction of its loop.

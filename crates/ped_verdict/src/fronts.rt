@@ -1,142 +1,101 @@
-//! Whether vectors that begin with a given front may be possible. A position is tested once the front has the
-//! directions of all loops that occur in it, since the other loops don't matter to it.
+//! Marks all vectors with a front, or with a direction in one loop.
 
-ghost use Rattle.std.specs.Prelude.{◌≡◌, ◌≤◌, ◌<◌, pos, length, drop, slice_get, slice_index_or, IfSome, IsTrue};
-ghost use Rattle.std.specs.Bool.{IsFalse};
-ghost use Rattle.std.specs.List.{list_all};
-ghost use Rattle.ped_views.specs.Whole.{is_zero};
-ghost use Rattle.ped_views.specs.Limits.{FitsLoops};
-ghost use Rattle.ped_views.specs.Excluded.{IsBeyondExtremes};
-ghost use Rattle.ped_verdict.specs.Groups.{AreGroups};
-ghost use Rattle.ped_verdict.specs.Sights.{IsSight, AreSights};
-ghost use Rattle.ped_verdict.specs.Fronts as Spec;
-ghost use Rattle.ped_verdict.specs.Fronts.{IsUnasked, IsFine, AreFine, IsShut};
+ghost use Rattle.std.specs.Prelude.{◌≡◌, ◌*◌, ◌<◌, ◌≤◌, ◌^◌, [], length, IsTrue};
+ghost use Rattle.ped_views.specs.Excluded.{direction_at};
+ghost use Rattle.ped_verdict.specs.Marked.{AreAdded, Each, chosen};
 
-use crate::exclusion::excludes;
-use crate::sights::Sight;
+use crate::places::{place_of, vector_count};
 use crate::vectors::Vector;
-use ped_miv::parts_exclude;
-use ped_siv::StrongRow;
-use ped_views::{Direction, PairView, Position};
+use ped_bits::Row;
+use ped_views::Direction;
 
-/// Whether vectors that begin with this front may be possible. Where they may, no position excludes one that has all its
-/// directions in the front, unless it had them one loop before.
-pub(crate) fn is_open(
-    view: &PairView,
-    groups: &[Vec<StrongRow>],
-    sights: &[Sight],
-    front: &Vector,
-) -> bool
-    requires groups { AreGroups view.now groups.now }
-    requires sights { AreSights view.now sights.now }
-    requires front { length front.now ≤ length view.now.loops }
-    ensures fine { IsTrue result → AreFine view.now front.now }
-    ensures shut { IsFalse result → IsShut view.now front.now }
+/// Marks all vectors over this many loops that begin with a front.
+pub(crate) fn mark_front(loops: usize, front: &Vector, row: &mut Row)
+    requires few { loops ≤ 6 }
+    requires front { length front.now ≤ loops }
+    requires wide { length row.old ≡ 3 ^ loops }
+    ensures { AreAdded loops front.now Each row.old row.new }
 {
-    for position in 0..view.positions.len() {
-        if !leaves_open(view, groups, sights, position, front) {
-            return false;
-        }
+    let behind = vector_count(loops - front.len());
+    let first = first_place(place_of(front.directions()), behind);
+    for place in first..first + behind {
+        row.set(place);
     }
-    true
 }
 
-/// Whether the position at this place leaves it open.
-fn leaves_open(
-    view: &PairView,
-    groups: &[Vec<StrongRow>],
-    sights: &[Sight],
-    position: usize,
-    front: &Vector,
-) -> bool
-    requires groups { AreGroups view.now groups.now }
-    requires sights { AreSights view.now sights.now }
-    requires place { position < length view.now.positions }
-    requires front { length front.now ≤ length view.now.loops }
-    ensures fine { IsTrue result → IfSome (slice_get view.now.positions position) (IsFine view.now front.now) }
-    ensures shut { IsFalse result → IsShut view.now front.now }
+/// The first place of so many that begin with the front at this place.
+fn first_place(front: usize, behind: usize) -> usize
+    requires front { front < 729 }
+    requires behind { behind ≤ 729 }
+    ensures value { result ≡ front * behind }
+    ensures small { result ≤ 531441 }
 {
-    let pair = &view.positions[position];
-    let loops = front.len();
-    if !is_asked(pair, loops) {
-        return true;
-    }
-    if is_done(pair, loops) {
-        return !excludes(
-            view,
-            groups,
-            sights,
-            position,
-            front.padded(view.loops.len()),
-        );
-    }
-    !is_dead_end(view, pair, &sights[position], front.directions())
+    front * behind
 }
 
-/// Whether the extremes at a usable position rule the front out, whatever directions follow. They are asked
-/// where the form of the position is none of a single index.
-fn is_dead_end(view: &PairView, pair: &Position, sight: &Sight, front: &[Direction]) -> bool
-    requires fits { FitsLoops
-        (length view.now.loops)
-        (length view.now.source_inner)
-        (length view.now.sink_inner)
-        pair.now }
-    requires sight { IsSight view.now pair.now sight.now }
-    ensures usable { IsTrue result → IsTrue pair.now.usable }
-    ensures beyond { IsTrue result → IsBeyondExtremes view.now pair.now front.now }
+/// Marks all vectors over this many loops that have a direction in the loop at a place for which one of three
+/// answers says so.
+pub(crate) fn mark_directions(
+    loops: usize,
+    place: usize,
+    before: bool,
+    same: bool,
+    after: bool,
+    row: &mut Row,
+)
+    requires few { loops ≤ 6 }
+    requires place { place < loops }
+    requires wide { length row.old ≡ 3 ^ loops }
+    ensures { AreAdded
+        loops
+        []
+        (λ vector. IsTrue (chosen before same after (direction_at vector place)))
+        row.old
+        row.new }
 {
-    pair.usable && sight.is_other && parts_exclude(view, pair, &sight.parts, front)
+    mark_where(before, loops, place, Direction::Before, row);
+    mark_where(same, loops, place, Direction::Same, row);
+    mark_where(after, loops, place, Direction::After, row);
 }
 
-/// Whether the last of this many common loops occurs in a position. Where there are none: whether none of all does.
-fn is_asked(pair: &Position, loops: usize) -> bool
-    ensures { IsFalse result → IsUnasked loops pair.now }
+/// Marks all vectors with this direction in the loop at a place, where an answer says so.
+fn mark_where(marks: bool, loops: usize, place: usize, direction: Direction, row: &mut Row)
+    requires few { loops ≤ 6 }
+    requires place { place < loops }
+    requires wide { length row.old ≡ 3 ^ loops }
+    ensures { AreAdded
+        loops
+        []
+        (λ vector. IsTrue marks × (direction_at vector place ≡ direction))
+        row.old
+        row.new }
 {
-    if loops == 0 {
-        is_done(pair, 0)
+    if marks {
+        mark_direction(loops, place, direction, Vector::empty(), row);
+    }
+}
+
+/// Marks all vectors that begin with a front and have this direction in the loop at a place behind it.
+fn mark_direction(loops: usize, place: usize, direction: Direction, front: Vector, row: &mut Row)
+    requires few { loops ≤ 6 }
+    requires place { place < loops }
+    requires front { length front ≤ place }
+    requires wide { length row.old ≡ 3 ^ loops }
+    ensures { AreAdded
+        loops
+        front
+        (λ vector. direction_at vector place ≡ direction)
+        row.old
+        row.new }
+{
+    if front.len() == place {
+        mark_front(loops, &front.with(direction), row);
     } else {
-        occurs(pair, loops - 1)
+        let longer = front.with(Direction::Before);
+        mark_direction(loops, place, direction, longer, row);
+        let longer = front.with(Direction::Same);
+        mark_direction(loops, place, direction, longer, row);
+        let longer = front.with(Direction::After);
+        mark_direction(loops, place, direction, longer, row);
     }
-}
-
-/// Whether the common loop at a place occurs in a position.
-fn occurs(pair: &Position, place: usize) -> bool
-    ensures source { IsFalse result → slice_index_or pair.now.source.common place (pos 0) ≡ pos 0 }
-    ensures sink { IsFalse result → slice_index_or pair.now.sink.common place (pos 0) ≡ pos 0 }
-{
-    has_some_at(&pair.source.common, place) || has_some_at(&pair.sink.common, place)
-}
-
-/// Whether no common loop after this many occurs in a position.
-fn is_done(pair: &Position, loops: usize) -> bool
-    ensures { result ≡ Spec.is_done loops pair.now }
-{
-    is_zero_from(&pair.source.common, loops) && is_zero_from(&pair.sink.common, loops)
-}
-
-/// Whether a row has a coefficient at a place that isn't 0.
-fn has_some_at(row: &[i64], place: usize) -> bool
-    ensures { IsFalse result → slice_index_or row.now place (pos 0) ≡ pos 0 }
-{
-    match row.get(place) {
-        Some(a) => *a != 0,
-        None => false,
-    }
-}
-
-/// Whether all coefficients from a place on are 0.
-fn is_zero_from(row: &[i64], place: usize) -> bool
-    ensures { result ≡ list_all is_zero (drop place row.now) }
-{
-    if place < row.len() {
-        is_zero_row(&row[place..])
-    } else {
-        true
-    }
-}
-
-fn is_zero_row(row: &[i64]) -> bool
-    ensures { result ≡ list_all is_zero row.now }
-{
-    row.iter().all(|a| *a == 0)
 }

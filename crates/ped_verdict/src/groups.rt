@@ -2,27 +2,19 @@
 
 ghost use Rattle.std.specs.Prelude.{◌≡◌, IfOk};
 ghost use Rattle.ped_views.specs.Excluded.{group_of};
-ghost use Rattle.ped_verdict.specs.Groups.{AreGroups};
 
 use crate::distances::strong_coefficient;
 use ped_base::NoMemory;
 use ped_siv::StrongRow;
-use ped_views::{PairView, Position};
+use ped_views::Position;
 use std::alloc::Global;
 
-/// The groups of the common loops of a view, the outermost first.
-pub(crate) fn groups(alloc: Global, view: &PairView) -> Result<Vec<Vec<StrongRow>>, NoMemory>
-    ensures { IfOk result (λ groups. AreGroups view.now groups.items) }
-{
-    let mut groups = Vec::new(alloc);
-    for place in 0..view.loops.len() {
-        groups.push(group(alloc, &view.positions, place)?)?;
-    }
-    Ok(groups)
-}
-
 /// The rows of the positions that are usable and strong SIV in the loop at this place.
-fn group(alloc: Global, positions: &[Position], place: usize) -> Result<Vec<StrongRow>, NoMemory>
+pub(crate) fn group(
+    alloc: Global,
+    positions: &[Position],
+    place: usize,
+) -> Result<Vec<StrongRow>, NoMemory>
     ensures { IfOk result (λ rows. rows.items ≡ group_of place positions.now) }
 {
     let mut rows = Vec::new(alloc);

@@ -1,63 +1,36 @@
-//! The possible vectors of a view, refined from `*` (Allen and Kennedy, section 3.3.3).
+//! The possible vectors of a view: all but those that its positions exclude (Allen and Kennedy, section 3.3.3).
 
-ghost use Rattle.std.specs.Prelude.{◌≡◌, ◌≤◌, ◌^◌, length, IfOk};
-ghost use Rattle.ped_verdict.specs.Fronts.{IsReady};
-ghost use Rattle.ped_verdict.specs.Groups.{AreGroups};
-ghost use Rattle.ped_verdict.specs.Sights.{AreSights};
-ghost use Rattle.ped_verdict.specs.Marked.{AreMarked, AreAdded};
+ghost use Rattle.std.specs.Prelude.{length, IfOk};
+ghost use Rattle.ped_verdict.specs.Marked.{AreMarked, AreExcluded};
 
-use crate::fronts::is_open;
-use crate::groups::groups;
-use crate::places::{place_of, vector_count};
-use crate::sights::{Sight, sights};
+use crate::exclusion::exclude_by;
+use crate::fronts::mark_front;
+use crate::places::vector_count;
 use crate::vectors::Vector;
 use ped_base::NoMemory;
 use ped_bits::Row;
-use ped_siv::StrongRow;
-use ped_views::{Direction, PairView};
+use ped_views::PairView;
 use std::alloc::Global;
 
 /// The places of the possible vectors of a view.
 pub(crate) fn possible_vectors(alloc: Global, view: &PairView) -> Result<Row, NoMemory>
     ensures { IfOk result (λ row. AreMarked view.now row) }
 {
-    let groups = groups(alloc, view)?;
-    let sights = sights(alloc, view)?;
-    let mut possible = Row::new(alloc, vector_count(view.loops.len()))?;
-    refine(view, &groups, &sights, Vector::empty(), &mut possible);
+    let loops = view.loops.len();
+    let mut possible = Row::new(alloc, vector_count(loops))?;
+    mark_front(loops, &Vector::empty(), &mut possible);
+    let excluded = excluded_vectors(alloc, view)?;
+    excluded.and_not_into(&mut possible);
     Ok(possible)
 }
 
-/// Adds the places of the possible vectors that begin with this front. Where a position already rules the front out,
-/// whatever directions follow, there is none.
-fn refine(
-    view: &PairView,
-    groups: &[Vec<StrongRow>],
-    sights: &[Sight],
-    front: Vector,
-    possible: &mut Row,
-)
-    requires groups { AreGroups view.now groups.now }
-    requires sights { AreSights view.now sights.now }
-    requires front { length front ≤ length view.now.loops }
-    requires ready { IsReady view.now front }
-    requires wide { length possible.old ≡ 3 ^ length view.now.loops }
-    ensures { AreAdded view.now front possible.old possible.new }
+/// The places of the vectors of a view that some position or group excludes.
+fn excluded_vectors(alloc: Global, view: &PairView) -> Result<Row, NoMemory>
+    ensures { IfOk result (λ row. AreExcluded view.now (length view.now.positions) row) }
 {
-    if !is_open(view, groups, sights, &front) {
-        return;
+    let mut excluded = Row::new(alloc, vector_count(view.loops.len()))?;
+    for position in 0..view.positions.len() {
+        exclude_by(alloc, view, position, &mut excluded)?;
     }
-    if front.len() == view.loops.len() {
-        possible.set(place_of(front.directions()));
-    } else {
-        refine(
-            view,
-            groups,
-            sights,
-            front.with(Direction::Before),
-            possible,
-        );
-        refine(view, groups, sights, front.with(Direction::Same), possible);
-        refine(view, groups, sights, front.with(Direction::After), possible);
-    }
+    Ok(excluded)
 }

@@ -1,7 +1,6 @@
 //! Direction vectors that allocate no memory.
 
-ghost use Rattle.std.specs.Prelude.{◌≡◌, ◌<◌, ◌≤◌, ◌-◌, length, replicate, [], ◌∷◌, ◌++◌};
-ghost use Rattle.ped_views.specs.declared.directions.Direction.TheVariants.{Same};
+ghost use Rattle.std.specs.Prelude.{◌≡◌, ◌<◌, ◌≤◌, length, [], ◌∷◌, ◌++◌};
 
 use ped_views::Direction;
 use std::marker::Model;
@@ -60,15 +59,6 @@ impl Vector {
         ensures { result ≡ length self.now }
     {
         self.len as usize
-    }
-
-    /// The directions, and `=` for each further one of this many loops.
-    pub(crate) fn padded(&self, loops: usize) -> &[Direction]
-        requires most { length self.now ≤ loops }
-        requires few { loops ≤ 6 }
-        ensures { result.now ≡ self.now ++ replicate (loops - length self.now) Same }
-    {
-        &self.directions[..loops]
     }
 
     /// The directions, the outermost loop first.

@@ -12,14 +12,13 @@ ghost use Rattle.ped_affine.specs.PairViews as Spec;
 ghost use Rattle.ped_affine.specs.Arguments.{setting_of, site};
 ghost use Rattle.ped_affine.specs.Pairs.{depths_kept, IsPair, Covers};
 
-use crate::coefficients::add_zeros;
 use crate::forms::{Form, Terms};
 use crate::others::other_variables;
 use crate::settings::{Place, Setting};
 use crate::subscripts::affine;
 use ped_base::NoMemory;
 use ped_tree::Expr;
-use ped_views::{AffRow, Position};
+use ped_views::{AffRow, Coefficients, Position, coefficients};
 use std::alloc::Global;
 
 /// How many loops a pair has.
@@ -65,31 +64,28 @@ pub(crate) fn position(alloc: Global, pair: &Pair, e: &Expr, g: &Expr) -> Result
     };
     let a = affine(alloc, &source, e)?;
     let b = affine(alloc, &sink, g)?;
-    subscript_pair(alloc, &pair.depths, a, b)
+    Ok(subscript_pair(&pair.depths, a, b))
 }
 
 /// Two forms as the subscripts at a position, which is usable where both are there and have the same coefficients of
 /// the other variables.
-fn subscript_pair(
-    alloc: Global,
-    depths: &Depths,
-    a: Option<Form>,
-    b: Option<Form>,
-) -> Result<Position, NoMemory>
+fn subscript_pair(depths: &Depths, a: Option<Form>, b: Option<Form>) -> Position
+    requires source { depths.now.common + depths.now.source ≤ 6 }
+    requires sink { depths.now.common + depths.now.sink ≤ 6 }
     requires first { ForSome a (Covers (depths.now.common + depths.now.source)) }
     requires second { ForSome b (Covers (depths.now.common + depths.now.sink)) }
-    ensures value { IfOk result (λ p. p ≡ Spec.subscript_pair (depths_kept depths.now) (option_map plain_form a) (option_map plain_form b)) }
-    ensures fits { IfOk result (FitsLoops depths.now.common depths.now.source depths.now.sink) }
+    ensures value { result ≡ Spec.subscript_pair (depths_kept depths.now) (option_map plain_form a) (option_map plain_form b) }
+    ensures fits { FitsLoops depths.now.common depths.now.source depths.now.sink result }
 {
     match (a, b) {
         (Some(a), Some(b)) => {
             if have_same_others(depths, &a, &b) {
-                usable(alloc, depths, a, b)
+                usable(depths, &a, &b)
             } else {
-                unusable(alloc, depths)
+                unusable(depths)
             }
         }
-        _ => unusable(alloc, depths),
+        _ => unusable(depths),
     }
 }
 
@@ -115,73 +111,68 @@ fn same(left: &[i64], right: &[i64]) -> bool
 }
 
 /// A position that the tests look at.
-fn usable(alloc: Global, depths: &Depths, a: Form, b: Form) -> Result<Position, NoMemory>
-    requires first { Covers (depths.now.common + depths.now.source) a }
-    requires second { Covers (depths.now.common + depths.now.sink) b }
-    ensures value { IfOk result (λ p. p ≡ Spec.usable_pair (depths_kept depths.now) (plain_form a) (plain_form b)) }
-    ensures fits { IfOk result (FitsLoops depths.now.common depths.now.source depths.now.sink) }
+fn usable(depths: &Depths, a: &Form, b: &Form) -> Position
+    requires source { depths.now.common + depths.now.source ≤ 6 }
+    requires sink { depths.now.common + depths.now.sink ≤ 6 }
+    requires first { Covers (depths.now.common + depths.now.source) a.now }
+    requires second { Covers (depths.now.common + depths.now.sink) b.now }
+    ensures value { result ≡ Spec.usable_pair (depths_kept depths.now) (plain_form a.now) (plain_form b.now) }
+    ensures fits { FitsLoops depths.now.common depths.now.source depths.now.sink result }
 {
-    let source = row(alloc, depths.common, depths.source, a)?;
-    let sink = row(alloc, depths.common, depths.sink, b)?;
-    Ok(Position {
+    Position {
         usable: true,
-        source,
-        sink,
-    })
+        source: row(depths.common, depths.source, a),
+        sink: row(depths.common, depths.sink, b),
+    }
 }
 
 /// A position that the tests don't look at.
-fn unusable(alloc: Global, depths: &Depths) -> Result<Position, NoMemory>
-    ensures value { IfOk result (λ p. p ≡ Spec.unusable (depths_kept depths.now)) }
-    ensures fits { IfOk result (FitsLoops depths.now.common depths.now.source depths.now.sink) }
+fn unusable(depths: &Depths) -> Position
+    requires source { depths.now.common + depths.now.source ≤ 6 }
+    requires sink { depths.now.common + depths.now.sink ≤ 6 }
+    ensures value { result ≡ Spec.unusable (depths_kept depths.now) }
+    ensures fits { FitsLoops depths.now.common depths.now.source depths.now.sink result }
 {
-    let source = zero_row(alloc, depths.common, depths.source)?;
-    let sink = zero_row(alloc, depths.common, depths.sink)?;
-    Ok(Position {
+    Position {
         usable: false,
-        source,
-        sink,
-    })
+        source: zero_row(depths.common, depths.source),
+        sink: zero_row(depths.common, depths.sink),
+    }
 }
 
 /// A form by its coefficients of the common loops and of this many further ones.
-fn row(alloc: Global, common: usize, further: usize, f: Form) -> Result<AffRow, NoMemory>
-    requires { Covers (common + further) f }
-    ensures value { IfOk result (λ r. r ≡ Spec.row_of common further (plain_form f)) }
-    ensures common { IfOk result (λ r. length r.common ≡ common) }
-    ensures further { IfOk result (λ r. length r.inner ≡ further) }
+fn row(common: usize, further: usize, f: &Form) -> AffRow
+    requires covers { Covers (common + further) f.now }
+    requires few { common + further ≤ 6 }
+    ensures value { result ≡ Spec.row_of common further (plain_form f.now) }
+    ensures common { length result.common ≡ common }
+    ensures further { length result.inner ≡ further }
 {
-    let Form {
-        mut coefficients,
-        constant,
-    } = f;
-    let inner = coefficients[common..common + further].to_vec(alloc)?;
-    coefficients.truncate(common);
-    Ok(AffRow {
-        common: coefficients,
-        inner,
-        constant,
-    })
+    AffRow {
+        common: coefficients(&f.coefficients[..common]),
+        inner: coefficients(&f.coefficients[common..common + further]),
+        constant: f.constant,
+    }
 }
 
 /// A row of zeros.
-fn zero_row(alloc: Global, common: usize, further: usize) -> Result<AffRow, NoMemory>
-    ensures value { IfOk result (λ r. r ≡ Spec.zero_row common further) }
-    ensures common { IfOk result (λ r. length r.common ≡ common) }
-    ensures further { IfOk result (λ r. length r.inner ≡ further) }
+fn zero_row(common: usize, further: usize) -> AffRow
+    requires { common + further ≤ 6 }
+    ensures value { result ≡ Spec.zero_row common further }
+    ensures common { length result.common ≡ common }
+    ensures further { length result.inner ≡ further }
 {
-    Ok(AffRow {
-        common: zeros(alloc, common)?,
-        inner: zeros(alloc, further)?,
+    AffRow {
+        common: zeros(common),
+        inner: zeros(further),
         constant: 0,
-    })
+    }
 }
 
-/// A list of this many zeros.
-fn zeros(alloc: Global, count: usize) -> Result<Vec<i64>, NoMemory>
-    ensures { IfOk result (λ v. v.items ≡ replicate count (pos 0)) }
+/// This many zeros.
+fn zeros(count: usize) -> Coefficients
+    requires { count ≤ 6 }
+    ensures { result.items ≡ replicate count (pos 0) }
 {
-    let mut zeros = Vec::with_capacity(alloc, count)?;
-    add_zeros(&mut zeros, count)?;
-    Ok(zeros)
+    coefficients(&[0; 6][..count])
 }

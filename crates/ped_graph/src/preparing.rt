@@ -109,7 +109,7 @@ pub fn facts_of_pairs(alloc: Global, known: &Known, listed: &[Pair]) -> Result<V
     requires listed { map (pair_at (references_of known.now.found.now)) listed.now ≡ map Some (pairs (references (program_tree known.now.program.now))) }
     ensures { IfOk result (λ facts. map framed_of facts.items ≡ (frame_of (program_tree known.now.program.now)).pairs) }
 {
-    let mut facts = Vec::new(alloc);
+    let mut facts = Vec::with_capacity(alloc, listed.len())?;
     for pair in listed {
         add_facts(&mut facts, known, pair)?;
     }
@@ -124,7 +124,7 @@ fn views_of_pairs(alloc: Global, known: &Known, listed: &[Pair]) -> Result<Vec<P
     ensures { IfOk result (λ views. views.items ≡ views_of (program_tree known.now.program.now)) }
 {
     let sides = sides_of(alloc, known)?;
-    let mut views = Vec::new(alloc);
+    let mut views = Vec::with_capacity(alloc, listed.len())?;
     let mut round = Round {
         number: 0,
         assigned: NameSet::new(alloc),

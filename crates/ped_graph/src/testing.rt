@@ -20,7 +20,7 @@ pub fn test_all<L: Ledger>(
     ensures least { steps.old ≤ steps.new }
     ensures most { steps.new ≤ steps.old + length views.items }
 {
-    let mut slots = Vec::new(alloc);
+    let mut slots = Vec::with_capacity(alloc, views.len())?;
     for view in views {
         let slot = tested(alloc, view, steps)?;
         slots.push(slot)?;

@@ -11,7 +11,7 @@ ghost use Rattle.ped_graph.specs.Sides.{is_usable, IsOwnRow, IsOwnPosition, AreO
 
 use crate::sides::{Side, common_depth};
 use ped_base::NoMemory;
-use ped_views::{AffRow, LoopRange, PairView, Position};
+use ped_views::{AffRow, LoopRange, PairView, Position, coefficients};
 use std::alloc::Global;
 
 /// The view of the pair of these sides, none where they don't determine it.
@@ -104,8 +104,7 @@ fn positions(
     let count = shorter(position_count(source), position_count(sink));
     let mut found = Vec::with_capacity(alloc, count)?;
     for i in 0..count {
-        let position = position(alloc, common, source, sink, i)?;
-        found.push(position)?;
+        found.push(position(common, source, sink, i))?;
     }
     Ok(found)
 }
@@ -130,28 +129,20 @@ fn shorter(first: usize, second: usize) -> usize
 }
 
 /// The position at a place, of two subscripts that are affine forms.
-fn position(
-    alloc: Global,
-    common: usize,
-    source: &PairView,
-    sink: &PairView,
-    place: usize,
-) -> Result<Position, NoMemory>
+fn position(common: usize, source: &PairView, sink: &PairView, place: usize) -> Position
     requires source { common ≤ length source.now.loops }
     requires sink { common ≤ length sink.now.loops }
     requires in_source { place < length source.now.positions }
     requires in_sink { place < length sink.now.positions }
-    ensures fits { IfOk result (FitsLoops common (length source.now.loops - common) (length sink.now.loops - common)) }
-    ensures told { IfOk result (λ p. (a b : SubscriptPair) → slice_get source.now.positions place ≡ Some a → slice_get sink.now.positions place ≡ Some b
-        → IsTrue a.usable → IsTrue b.usable → IsOwnPosition common a b p) }
+    ensures fits { FitsLoops common (length source.now.loops - common) (length sink.now.loops - common) result }
+    ensures told { (a b : SubscriptPair) → slice_get source.now.positions place ≡ Some a → slice_get sink.now.positions place ≡ Some b
+        → IsTrue a.usable → IsTrue b.usable → IsOwnPosition common a b result }
 {
-    let first = divided(alloc, common, own_row(source, place))?;
-    let second = divided(alloc, common, own_row(sink, place))?;
-    Ok(Position {
+    Position {
         usable: true,
-        source: first,
-        sink: second,
-    })
+        source: divided(common, own_row(source, place)),
+        sink: divided(common, own_row(sink, place)),
+    }
 }
 
 /// The subscript at a place of a reference that is paired with itself.
@@ -164,15 +155,13 @@ fn own_row(view: &PairView, place: usize) -> &AffRow
 }
 
 /// A row of which all loops are common, divided after this many of them.
-fn divided(alloc: Global, common: usize, row: &AffRow) -> Result<AffRow, NoMemory>
+fn divided(common: usize, row: &AffRow) -> AffRow
     requires { common ≤ length row.now.common }
-    ensures { IfOk result (IsOwnRow common row.now) }
+    ensures { IsOwnRow common row.now result }
 {
-    let outer = row.common[..common].to_vec(alloc)?;
-    let inner = row.common[common..].to_vec(alloc)?;
-    Ok(AffRow {
-        common: outer,
-        inner,
+    AffRow {
+        common: coefficients(&row.common[..common]),
+        inner: coefficients(&row.common[common..]),
         constant: row.constant,
-    })
+    }
 }

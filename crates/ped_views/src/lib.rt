@@ -22,5 +22,5 @@ pub use laws::same_view_is_equality;
 pub use quotients::{divides, exact_quotient};
 pub use ranges::LoopRange;
 pub use strong_rows::StrongRow;
-pub use subscripts::{AffRow, PairView, Position};
+pub use subscripts::{AffRow, Coefficients, PairView, Position, coefficients};
 pub use wide::{difference, product};

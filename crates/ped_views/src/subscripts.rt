@@ -1,18 +1,34 @@
 //! Views of pairs of references.
 
-ghost use Rattle.std.specs.Prelude.{◌≡◌, ◌↔◌, length, IsTrue, IfOk};
+ghost use Rattle.std.specs.Prelude.{◌≡◌, ◌↔◌, ◌≤◌, length, IsTrue, IfOk};
 
 use crate::ranges::LoopRange;
+use arrayvec::ArrayVec;
 use std::marker::Model;
+
+/// The coefficients of at most six loops, which take no memory of their own.
+pub type Coefficients = ArrayVec<i64, 6>;
+
+/// These coefficients.
+pub fn coefficients(numbers: &[i64]) -> Coefficients
+    requires { length numbers.now ≤ 6 }
+    ensures { result.items ≡ numbers.now }
+{
+    let mut kept = ArrayVec::new();
+    for number in numbers {
+        kept.push(*number);
+    }
+    kept
+}
 
 /// One subscript as an affine form: a coefficient within 2^31 of zero for each loop, and a constant
 /// within 2^62 of zero.
 #[derive(Drop)]
 pub struct AffRow {
     /// The coefficients of the common loops, the outermost first.
-    pub common: Vec<i64>,
+    pub common: Coefficients,
     /// The coefficients of the further loops of this side.
-    pub inner: Vec<i64>,
+    pub inner: Coefficients,
     /// The constant.
     pub constant: i64,
 }
@@ -106,10 +122,18 @@ fn same_ranges(left: &[LoopRange], right: &[LoopRange]) -> bool
     left == right
 }
 
+fn same_numbers(left: &[i64], right: &[i64]) -> bool
+    ensures { IsTrue result ↔ (left.now ≡ right.now) }
+{
+    left == right
+}
+
 fn same_row(left: &AffRow, right: &AffRow) -> bool
     ensures { IsTrue result ↔ (left.now ≡ right.now) }
 {
-    left.common == right.common && left.inner == right.inner && left.constant == right.constant
+    same_numbers(&left.common, &right.common)
+        && same_numbers(&left.inner, &right.inner)
+        && left.constant == right.constant
 }
 
 fn same_position(left: &Position, right: &Position) -> bool

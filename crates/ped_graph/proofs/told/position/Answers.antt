@@ -8,6 +8,6 @@ returns-clause-told c = λ a b at_first at_second first second. record {
   first = first;
   second = second;
   usable = refl;
-  source = subst (λ (r : Row). IsOwnRow c.args.common r c.in_ok-first.first) (c.own_row.ensures.row a at_first) c.in_ok-first.ensures;
-  sink = subst (λ (r : Row). IsOwnRow c.args.common r c.in_ok-second.second) (c.own_row-2.ensures.row b at_second) c.in_ok-second.ensures;
+  source = subst (λ (r : Row). IsOwnRow c.args.common r c.divided.result) (c.own_row.ensures.row a at_first) c.divided.ensures;
+  sink = subst (λ (r : Row). IsOwnRow c.args.common r c.divided-2.result) (c.own_row-2.ensures.row b at_second) c.divided-2.ensures;
 }

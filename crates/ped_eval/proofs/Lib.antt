@@ -1,6 +1,7 @@
 pub mod Agreements
 pub mod Assignments
 mod CellForms
+mod ConstantLists
 pub mod Copies
 pub mod Endings
 pub mod Entries
@@ -14,6 +15,7 @@ mod Levels
 mod Lines
 pub mod Moments
 mod Notings
+mod OneSubscript
 pub mod Parts
 pub mod Plain
 mod Prints

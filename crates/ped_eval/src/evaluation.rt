@@ -5,7 +5,6 @@ ghost use Rattle.std.specs.Prelude.{◌≡◌, ◌<◌, ◌≤◌, ◌-◌, pos,
 ghost use Rattle.ped_tree.specs.Tree as Tree;
 ghost use Rattle.ped_tree.specs.Views.{expr_tree, cond_tree, pack_exprs};
 ghost use Rattle.ped_base.specs.Arithmetic.Arithmetic.{greatest_of, least_of};
-ghost use Rattle.ped_tree.specs.Constants.NamedConstants.{value_named};
 ghost use Rattle.ped_store.specs.CellViews.{cell_view, IsCell};
 ghost use Rattle.ped_store.specs.Keeping.{memory_of};
 ghost use Rattle.ped_eval.specs.Results.{value_at, values_at, target_at, truth_at, next_result, fault_or};
@@ -17,6 +16,7 @@ ghost use Rattle.ped_store.specs.Memories.{got};
 ghost use Rattle.ped_eval.specs.Scopes as Scopes;
 ghost use Rattle.ped_eval.specs.Targets.{bounded, IsNamedBy};
 
+use crate::named::constant_named;
 use crate::notes::Notes;
 use crate::operations::{
     Valued, absolute, added, both, denied, divided, either, multiplied, negative, raised, related,
@@ -25,7 +25,6 @@ use crate::operations::{
 use crate::surroundings::Surroundings;
 use ped_base::Name;
 use ped_store::{Cell, FaultKind, RunFault};
-use ped_tree::constants::Consts;
 use ped_tree::{Cond, Expr, Intrinsic};
 
 /// The value of an expression at a place of a run; notes are made of what it reads, up to its fault.
@@ -43,29 +42,29 @@ pub fn value_of(e: &Expr, around: &Surroundings, notes: &mut Notes) -> Valued
         Expr::Int(value) => return Ok(i128::from(*value)),
         Expr::Var(name) => return scalar_value(name, around, notes),
         Expr::Element(name, subscripts) => return element_value(name, subscripts, around, notes),
-        Expr::Neg(a) => return negative(value_of(a, around, notes)),
+        Expr::Neg(a) => return negative(operand_value(a, around, notes)),
         Expr::Add(a, b) => {
-            let left = value_of(a, around, notes);
+            let left = operand_value(a, around, notes);
             let right = next_value(&left, b, around, notes);
             return added(left, right);
         }
         Expr::Sub(a, b) => {
-            let left = value_of(a, around, notes);
+            let left = operand_value(a, around, notes);
             let right = next_value(&left, b, around, notes);
             return subtracted(left, right);
         }
         Expr::Mul(a, b) => {
-            let left = value_of(a, around, notes);
+            let left = operand_value(a, around, notes);
             let right = next_value(&left, b, around, notes);
             return multiplied(left, right);
         }
         Expr::Div(a, b) => {
-            let left = value_of(a, around, notes);
+            let left = operand_value(a, around, notes);
             let right = next_value(&left, b, around, notes);
             return divided(left, right);
         }
         Expr::Pow(a, b) => {
-            let left = value_of(a, around, notes);
+            let left = operand_value(a, around, notes);
             let right = next_value(&left, b, around, notes);
             return raised(left, right);
         }
@@ -75,18 +74,42 @@ pub fn value_of(e: &Expr, around: &Surroundings, notes: &mut Notes) -> Valued
 
 /// The value of an operand, where the one before it has come to a value; else the fault of that.
 #[cycle(value_of)]
+#[inline(always)]
 fn next_value(first: &Valued, e: &Expr, around: &Surroundings, notes: &mut Notes) -> Valued
     ensures value { result ≡ next_result first.now (value_at around.now (expr_tree e.now)) }
     ensures noted { HasNoted notes.old (seen_next first.now (seen_at around.now (expr_tree e.now))) notes.new }
 {
     match first {
-        Ok(_) => return value_of(e, around, notes),
+        Ok(_) => return operand_value(e, around, notes),
         Err(fault) => return Err(*fault),
+    }
+}
+
+/// The value of an operand. Most operands are numbers and scalars, for which `value_of` with all its cases needn't be
+/// entered.
+#[cycle(value_of)]
+#[inline(always)]
+pub(crate) fn operand_value(e: &Expr, around: &Surroundings, notes: &mut Notes) -> Valued
+    ensures value { result ≡ value_at around.now (expr_tree e.now) }
+    ensures noted { HasNoted notes.old (seen_at around.now (expr_tree e.now)) notes.new }
+{
+    match e {
+        Expr::Int(value) => return Ok(i128::from(*value)),
+        Expr::Var(name) => return scalar_value(name, around, notes),
+        Expr::Element(_, _)
+        | Expr::Neg(_)
+        | Expr::Add(_, _)
+        | Expr::Sub(_, _)
+        | Expr::Mul(_, _)
+        | Expr::Div(_, _)
+        | Expr::Pow(_, _)
+        | Expr::Call(_, _) => return value_of(e, around, notes),
     }
 }
 
 /// The value of a scalar or of a named constant. A variable of a DO has in the DO's body the value that the place
 /// gives.
+#[inline(never)]
 fn scalar_value(name: &Name, around: &Surroundings, notes: &mut Notes) -> Valued
     ensures value { result ≡ value_at around.now (Tree.Var name.now) }
     ensures noted { HasNoted notes.old (seen_at around.now (Tree.Var name.now)) notes.new }
@@ -95,16 +118,6 @@ fn scalar_value(name: &Name, around: &Surroundings, notes: &mut Notes) -> Valued
         Some(constant) => return Ok(constant),
         None => return variable_value(name, around, notes),
     }
-}
-
-/// The value of a named constant, none where the name is none. Without constants no name is looked up.
-fn constant_named(name: &Name, consts: &Consts) -> Option<i128>
-    ensures { result ≡ value_named consts.now name.now }
-{
-    if consts.is_empty() {
-        return None;
-    }
-    Some(i128::from(consts.get(name)?))
 }
 
 /// The value of a scalar variable. The variable of a DO in its body is read by no reference.
@@ -166,6 +179,7 @@ fn cell_value(name: &Name, around: &Surroundings, notes: &mut Notes) -> Valued
 /// The value of an element: its subscripts are evaluated in order, then their bounds are tested, then it is read. Its cell
 /// is made for kept notes alone.
 #[cycle(value_of)]
+#[inline(never)]
 fn element_value(
     name: &Name,
     subscripts: &[Expr],
@@ -214,7 +228,7 @@ fn unnoted_element(
     let [index] = indices else {
         return element_by_more(name, indices, around, notes);
     };
-    match value_of(index, around, notes) {
+    match operand_value(index, around, notes) {
         Ok(place) => return around.store.get_element(name, &[place]),
         Err(fault) => return Err(fault),
     }
@@ -236,7 +250,7 @@ fn element_by_more(
     let [first, second] = indices else {
         return element_by_many(name, indices, around, notes);
     };
-    let row = value_of(first, around, notes);
+    let row = operand_value(first, around, notes);
     let column = next_value(&row, second, around, notes);
     match row {
         Ok(row) => match column {
@@ -543,7 +557,7 @@ pub fn truth_of(
 {
     match condition {
         Cond::Rel(relation, a, b) => {
-            let left = value_of(a, around, notes);
+            let left = operand_value(a, around, notes);
             let right = next_value(&left, b, around, notes);
             return related(relation, left, right);
         }

@@ -9,6 +9,7 @@ mod exit_notes;
 mod exits;
 mod inner_names;
 mod live;
+mod named;
 mod notes;
 mod operations;
 mod outcomes;

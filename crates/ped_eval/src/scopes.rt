@@ -11,7 +11,7 @@ ghost use Rattle.ped_eval.specs.AccessViews.{turn_view};
 
 use crate::accesses::Turn;
 use ped_base::{Listed, Name, Names, NoMemory, is_among};
-use ped_store::{Cell, Iteration, Iterations, PrivateCopy};
+use ped_store::{Cell, Iteration, Iterations, PrivateCopy, is_same_name};
 use ped_tree::copy_names;
 use std::alloc::Global;
 use std::marker::Model;
@@ -305,7 +305,7 @@ fn index_in(frames: &[Frame], name: &Name) -> Option<i128>
 {
     let mut left = frames;
     while let Some((innermost, outer)) = split_innermost(left) {
-        if *name == innermost.variable {
+        if is_same_name(name, &innermost.variable) {
             return Some(innermost.value);
         }
         left = outer;

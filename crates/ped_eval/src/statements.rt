@@ -24,7 +24,7 @@ ghost use Rattle.ped_eval.specs.StatementNotes.{assignment_noted};
 ghost use Rattle.ped_eval.specs.Watched.{Watched, turns_run};
 ghost use Rattle.ped_eval.specs.Told.{Ran, TellsFrom, StaysReady, OnGoing, OnStopped};
 
-use crate::evaluation::{first_places, ranked_places, target_cell, value_of};
+use crate::evaluation::{first_places, operand_value, ranked_places, target_cell, value_of};
 use crate::exits::leave_loop;
 use crate::notes::Notes;
 use crate::plans::{Plan, plan_of};
@@ -317,8 +317,44 @@ fn assign_other(
     }
 }
 
-/// Stores the value of the right side in an element. No notes are kept.
+/// Stores the value of the right side in an element. No notes are kept. One subscript needs no room for seven.
 fn assign_element(
+    symbols: &Symbols,
+    state: &mut State,
+    name: &Name,
+    indices: &[Expr],
+    right: &Expr,
+    notes: &mut Notes,
+) -> Result<(), RunFault>
+    requires right { target_is_right (kinds_by symbols.now) (Element name.now (pack_exprs (map expr_tree indices.now))) ≡ true }
+    requires kept { notes.old.kept ≡ false }
+    requires ready { IsReady symbols.now state.old.scope (memory_of state.old.store) }
+    ensures ok { OnOk result ((w : Stored) × ((assigned (names_at (memory_of state.old.store) state.old.scope symbols.now.constants) (Element name.now (pack_exprs (map expr_tree indices.now))) (expr_tree right.now) (memory_of state.old.store).cells).result ≡ Ok w)
+        × (memory_of state.new.store ≡ with_content w.cell (Number w.number) (memory_of state.old.store))) }
+    ensures err { IfErr result (λ n. (assigned (names_at (memory_of state.old.store) state.old.scope symbols.now.constants) (Element name.now (pack_exprs (map expr_tree indices.now))) (expr_tree right.now) (memory_of state.old.store).cells).result ≡ Err n) }
+    ensures scope { state.new.scope ≡ state.old.scope }
+    ensures noted { HasAdded notes.old (assignment_noted notes.old.next (assigned (names_at (memory_of state.old.store) state.old.scope symbols.now.constants) (Element name.now (pack_exprs (map expr_tree indices.now))) (expr_tree right.now) (memory_of state.old.store).cells)) notes.new }
+{
+    let [index] = indices else {
+        return assign_by_more(symbols, state, name, indices, right, notes);
+    };
+    let around = Surroundings {
+        store: &state.store,
+        scope: &state.scope,
+        consts: symbols.consts(),
+    };
+    match value_of(right, &around, notes) {
+        Ok(value) => match operand_value(index, &around, notes) {
+            Ok(place) => return state.store.set_element(name, &[place], &value),
+            Err(fault) => return Err(fault),
+        },
+        Err(fault) => return Err(fault),
+    }
+}
+
+/// Stores the value of the right side in an element that hasn't one subscript. No notes are kept.
+#[inline(never)]
+fn assign_by_more(
     symbols: &Symbols,
     state: &mut State,
     name: &Name,

@@ -1,8 +1,7 @@
 -- Slots one behind the other hold different cells at different places.
-use Rattle.std.proofs.Common.{◌≡◌, ℕ, ◌+◌, ◌<◌, ◌≤◌, List, [], ◌∷◌, Bool, true, false, ◌&&◌, Some, if◌then◌else◌, refl, sym, ap, ◌∙◌, arith, eqb, eqb-true}
-use Rattle.std.proofs.lemmas.Bool.{and_parts}
+use Rattle.std.proofs.Common.{◌≡◌, ℕ, ◌+◌, ◌<◌, ◌≤◌, List, [], ◌∷◌, Bool, true, false, Some, if◌then◌else◌, refl, sym, ◌∙◌, arith}
 use Rattle.ped_base.specs.Lists.{is_same_text}
-use Rattle.ped_base.proofs.NameEquality.{same_is, same_itself}
+use Rattle.ped_base.proofs.NameEquality.{same_is}
 use Rattle.ped_store.specs.declared.slots.Slot.{Slot}
 use Rattle.ped_store.specs.Slots.{slot_count, slot_of, IsLaid}
 

@@ -1,5 +1,5 @@
 -- The places of elements.
-use Rattle.std.proofs.Common.{◌≡◌, ℕ, ◌+◌, ◌*◌, ◌/◌, ◌%◌, ◌<◌, ◌≤◌, ◌≤ℤ◌, ℤ, pos, negsuc, ◌-ℤ◌, List, [], ◌∷◌, Bool, true, false, ◌&&◌, Some, None, if◌then◌else◌, refl, sym, ap, ◌∙◌, arith}
+use Rattle.std.proofs.Common.{◌≡◌, ℕ, ◌+◌, ◌*◌, ◌/◌, ◌%◌, ◌<◌, ◌≤◌, ◌≤ℤ◌, ℤ, pos, negsuc, ◌-ℤ◌, List, [], ◌∷◌, length, Bool, true, false, ◌&&◌, Some, None, if◌then◌else◌, refl, sym, ap, ◌∙◌, arith}
 use Rattle.std.specs.Prelude.{int_le}
 use Rattle.std.proofs.lemmas.Bool.{and_parts}
 use Rattle.std.proofs.lemmas.Int.{ints}
@@ -130,3 +130,13 @@ place_same (l ∷ ls) (u ∷ us) (x ∷ js) (y ∷ ks) h k e =
 pub place_in_below : (bounds : Dimensions) (js : List ℤ) (r : ℕ) → Some r ≡ place_in bounds js → r < count bounds.lower bounds.upper
 place_in_below bounds [] r h = absurd cc
 place_in_below bounds (j ∷ js) r h = place_below bounds.lower bounds.upper (j ∷ js) r h
+
+no_more : (b : Bool) (n : ℕ) → None ≡ (if b && false then Some n else None)
+no_more true n = refl
+no_more false n = refl
+
+-- one subscript lies in no array with more lower bounds
+pub one_of_lowers : (l u j : ℤ) (ls us : List ℤ) → 0 < length ls → None ≡ place_within (l ∷ ls) (u ∷ us) (j ∷ [])
+one_of_lowers l u j [] us h = absurd (omega (arith, h))
+one_of_lowers l u j (x ∷ ls) [] h = no_more (int_le l j && int_le j u) (place (l ∷ x ∷ ls) (u ∷ []) (j ∷ []))
+one_of_lowers l u j (x ∷ ls) (y ∷ us) h = no_more (int_le l j && int_le j u) (place (l ∷ x ∷ ls) (u ∷ y ∷ us) (j ∷ []))

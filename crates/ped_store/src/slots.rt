@@ -1,7 +1,7 @@
 //! Where the cells of scalars and of arrays are: each name has a slot, and the elements of an array are contiguous, in
 //! storage order.
 
-ghost use Rattle.std.specs.Prelude.{◌≡◌, ℕ, ◌+◌, ◌<◌, ◌^◌, min, List, [], length, IfOk, OnOk, IfSome, Some, None, MatchOption, if◌then◌else◌};
+ghost use Rattle.std.specs.Prelude.{◌≡◌, ℕ, ◌+◌, ◌<◌, ◌^◌, min, List, [], ◌∷◌, length, IfOk, OnOk, IfSome, Some, None, MatchOption, if◌then◌else◌};
 ghost use Rattle.std.specs.Option.{option_or};
 ghost use Rattle.ped_base.specs.Lists.{is_same_text};
 ghost use Rattle.ped_store.specs.Cells.{Scalar, Element};
@@ -9,6 +9,7 @@ ghost use Rattle.ped_store.specs.Storage as Storage;
 ghost use Rattle.ped_store.specs.Slots.{count, offset_within, scalar_in, element_in, slot_count, slot_of, slot_bounds, first_bounds, IsLaid};
 ghost use Rattle.ped_store.specs.Slots as Slots;
 
+use crate::same_names::is_same_name;
 use crate::shapes::Shape;
 use indexmap::IndexMap;
 use ped_base::{Bounds, Name, NoMemory};
@@ -181,22 +182,32 @@ fn near_number(name: &Name) -> usize
 }
 
 /// The slot of a name.
+#[inline(always)]
 pub fn find_slot<'a>(slots: &'a SlotTable, near: &NearPlaces, name: &Name) -> Option<&'a Slot>
     ensures { MatchOption result (None ≡ slot_of slots.now.entries name.now) (λ slot. Some slot.now ≡ slot_of slots.now.entries name.now) }
 {
     match near_slot(slots, near, name) {
         Some(slot) => return Some(slot),
-        None => return slots.get(name),
+        None => return hashed_slot(slots, name),
     }
 }
 
+/// The slot of a name, found by its hash.
+#[inline(never)]
+fn hashed_slot<'a>(slots: &'a SlotTable, name: &Name) -> Option<&'a Slot>
+    ensures { MatchOption result (None ≡ slot_of slots.now.entries name.now) (λ slot. Some slot.now ≡ slot_of slots.now.entries name.now) }
+{
+    slots.get(name)
+}
+
 /// The slot of a name, where it is at its probable place.
+#[inline(always)]
 fn near_slot<'a>(slots: &'a SlotTable, near: &NearPlaces, name: &Name) -> Option<&'a Slot>
     ensures { IfSome result (λ slot. Some slot.now ≡ slot_of slots.now.entries name.now) }
 {
     let place = near.places.get(near_number(name))?;
     let (key, slot) = slots.get_index(*place)?;
-    if *name == *key {
+    if is_same_name(name, key) {
         return Some(slot);
     }
     None
@@ -227,6 +238,9 @@ fn place_within(lower: &[i64], upper: &[i64], subscripts: &[i128]) -> Option<usi
     requires { count lower.now upper.now < 2 ^ 63 }
     ensures { result ≡ Slots.place_within lower.now upper.now subscripts.now }
 {
+    if subscripts.len() == 1 {
+        return place_by_one(lower, upper, &subscripts[0]);
+    }
     let Some((first_lower, lowers)) = lower.split_first() else {
         return place_of_scalar(upper, subscripts);
     };
@@ -235,6 +249,26 @@ fn place_within(lower: &[i64], upper: &[i64], subscripts: &[i128]) -> Option<usi
     let offset = offset(first_lower, first_upper, subscript)?;
     let rest = place_within(lowers, uppers, others)?;
     Some(rest * extent(first_lower, first_upper) + offset)
+}
+
+/// The place of an element with one subscript, as `place_within` gives it.
+#[inline(always)]
+fn place_by_one(lower: &[i64], upper: &[i64], subscript: &i128) -> Option<usize>
+    ensures { result ≡ Slots.place_within lower.now upper.now (subscript.now ∷ []) }
+{
+    let Some((first_lower, lowers)) = lower.split_first() else {
+        return None;
+    };
+    let Some((first_upper, uppers)) = upper.split_first() else {
+        return None;
+    };
+    if !lowers.is_empty() {
+        return None;
+    }
+    if !uppers.is_empty() {
+        return None;
+    }
+    offset(first_lower, first_upper, subscript)
 }
 
 /// The place where no bounds are left.

@@ -55,18 +55,18 @@ value_of-returns-in-Element-clause-noted t c =
 pub value_of-returns-in-Neg-clause-value : goal.value_of-returns-in-Neg-clause-value
 value_of-returns-in-Neg-clause-value t c =
     c.negative.ensures
-    ∙ ap (of_one (λ u. by_number (negation_of u))) (c.value_of.ensures.value ∙ ap (λ (a : Expr). value_at c.args.around.now (expr_tree a)) c.deref-in-Neg.ensures)
+    ∙ ap (of_one (λ u. by_number (negation_of u))) (c.operand_value.ensures.value ∙ ap (λ (a : Expr). value_at c.args.around.now (expr_tree a)) c.deref-in-Neg.ensures)
     ∙ sym (neg_at c.args.around.now (expr_tree c.in-Neg.a.value))
     ∙ seen_as c.args.around.now c.args.e.now _ _ c.in-Neg.is (tree-Neg c.in-Neg.a)
 
 pub value_of-returns-in-Neg-clause-noted : goal.value_of-returns-in-Neg-clause-noted
 value_of-returns-in-Neg-clause-noted t c =
-    noted_as c.args.notes.now c.value_of.new.notes _ _
-    (sym (ap (seen_at c.args.around.now) (ap expr_tree c.in-Neg.is ∙ tree-Neg c.in-Neg.a) ∙ neg_seen c.args.around.now (expr_tree c.in-Neg.a.value) ∙ ap (λ (a : Expr). seen_at c.args.around.now (expr_tree a)) (sym c.deref-in-Neg.ensures))) c.value_of.ensures.noted
+    noted_as c.args.notes.now c.operand_value.new.notes _ _
+    (sym (ap (seen_at c.args.around.now) (ap expr_tree c.in-Neg.is ∙ tree-Neg c.in-Neg.a) ∙ neg_seen c.args.around.now (expr_tree c.in-Neg.a.value) ∙ ap (λ (a : Expr). seen_at c.args.around.now (expr_tree a)) (sym c.deref-in-Neg.ensures))) c.operand_value.ensures.noted
 
 pub value_of-returns-in-Add-clause-value : goal.value_of-returns-in-Add-clause-value
 value_of-returns-in-Add-clause-value t c =
-    let a = c.value_of-left.ensures.value ∙ ap (λ (a : Expr). value_at c.args.around.now (expr_tree a)) c.deref-in-Add.ensures in
+    let a = c.operand_value-left.ensures.value ∙ ap (λ (a : Expr). value_at c.args.around.now (expr_tree a)) c.deref-in-Add.ensures in
     let b = c.next_value-right.ensures.value ∙ (λ i. next_result (a i) (value_at c.args.around.now (expr_tree (c.deref-in-Add-2.ensures i)))) in
     c.added.ensures ∙ (λ i. of_two (λ u v. by_number (sum_of u v)) (a i) (b i))
     ∙ of_next (λ u v. by_number (sum_of u v)) (value_at c.args.around.now (expr_tree c.in-Add.a.value)) (value_at c.args.around.now (expr_tree c.in-Add.b.value))
@@ -75,13 +75,13 @@ value_of-returns-in-Add-clause-value t c =
 
 pub value_of-returns-in-Add-clause-noted : goal.value_of-returns-in-Add-clause-noted
 value_of-returns-in-Add-clause-noted t c =
-    operands_noted c.args.around.now Add (add_seen c.args.around.now) c.args.notes.now c.value_of-left.new.notes c.next_value-right.new.notes c.args.e.now c.in-Add.a.value c.in-Add.b.value
-    c.deref-in-Add.result.now c.deref-in-Add.result.now c.deref-in-Add-2.result.now c.value_of-left.result (ap expr_tree c.in-Add.is ∙ tree-Add c.in-Add.a c.in-Add.b)
-    c.deref-in-Add.ensures c.deref-in-Add.ensures c.deref-in-Add-2.ensures c.value_of-left.ensures.value c.value_of-left.ensures.noted c.next_value-right.ensures.noted
+    operands_noted c.args.around.now Add (add_seen c.args.around.now) c.args.notes.now c.operand_value-left.new.notes c.next_value-right.new.notes c.args.e.now c.in-Add.a.value c.in-Add.b.value
+    c.deref-in-Add.result.now c.deref-in-Add.result.now c.deref-in-Add-2.result.now c.operand_value-left.result (ap expr_tree c.in-Add.is ∙ tree-Add c.in-Add.a c.in-Add.b)
+    c.deref-in-Add.ensures c.deref-in-Add.ensures c.deref-in-Add-2.ensures c.operand_value-left.ensures.value c.operand_value-left.ensures.noted c.next_value-right.ensures.noted
 
 pub value_of-returns-in-Sub-clause-value : goal.value_of-returns-in-Sub-clause-value
 value_of-returns-in-Sub-clause-value t c =
-    let a = c.value_of-left-in-Sub.ensures.value ∙ ap (λ (a : Expr). value_at c.args.around.now (expr_tree a)) c.deref-in-Sub.ensures in
+    let a = c.operand_value-left-in-Sub.ensures.value ∙ ap (λ (a : Expr). value_at c.args.around.now (expr_tree a)) c.deref-in-Sub.ensures in
     let b = c.next_value-right-in-Sub.ensures.value ∙ (λ i. next_result (a i) (value_at c.args.around.now (expr_tree (c.deref-in-Sub-2.ensures i)))) in
     c.subtracted.ensures ∙ (λ i. of_two (λ u v. by_number (difference_of u v)) (a i) (b i))
     ∙ of_next (λ u v. by_number (difference_of u v)) (value_at c.args.around.now (expr_tree c.in-Sub.a.value)) (value_at c.args.around.now (expr_tree c.in-Sub.b.value))
@@ -90,13 +90,13 @@ value_of-returns-in-Sub-clause-value t c =
 
 pub value_of-returns-in-Sub-clause-noted : goal.value_of-returns-in-Sub-clause-noted
 value_of-returns-in-Sub-clause-noted t c =
-    operands_noted c.args.around.now Sub (sub_seen c.args.around.now) c.args.notes.now c.value_of-left-in-Sub.new.notes c.next_value-right-in-Sub.new.notes c.args.e.now c.in-Sub.a.value c.in-Sub.b.value
-    c.deref-in-Sub.result.now c.deref-in-Sub.result.now c.deref-in-Sub-2.result.now c.value_of-left-in-Sub.result (ap expr_tree c.in-Sub.is ∙ tree-Sub c.in-Sub.a c.in-Sub.b)
-    c.deref-in-Sub.ensures c.deref-in-Sub.ensures c.deref-in-Sub-2.ensures c.value_of-left-in-Sub.ensures.value c.value_of-left-in-Sub.ensures.noted c.next_value-right-in-Sub.ensures.noted
+    operands_noted c.args.around.now Sub (sub_seen c.args.around.now) c.args.notes.now c.operand_value-left-in-Sub.new.notes c.next_value-right-in-Sub.new.notes c.args.e.now c.in-Sub.a.value c.in-Sub.b.value
+    c.deref-in-Sub.result.now c.deref-in-Sub.result.now c.deref-in-Sub-2.result.now c.operand_value-left-in-Sub.result (ap expr_tree c.in-Sub.is ∙ tree-Sub c.in-Sub.a c.in-Sub.b)
+    c.deref-in-Sub.ensures c.deref-in-Sub.ensures c.deref-in-Sub-2.ensures c.operand_value-left-in-Sub.ensures.value c.operand_value-left-in-Sub.ensures.noted c.next_value-right-in-Sub.ensures.noted
 
 pub value_of-returns-in-Mul-clause-value : goal.value_of-returns-in-Mul-clause-value
 value_of-returns-in-Mul-clause-value t c =
-    let a = c.value_of-left-in-Mul.ensures.value ∙ ap (λ (a : Expr). value_at c.args.around.now (expr_tree a)) c.deref-in-Mul.ensures in
+    let a = c.operand_value-left-in-Mul.ensures.value ∙ ap (λ (a : Expr). value_at c.args.around.now (expr_tree a)) c.deref-in-Mul.ensures in
     let b = c.next_value-right-in-Mul.ensures.value ∙ (λ i. next_result (a i) (value_at c.args.around.now (expr_tree (c.deref-in-Mul-2.ensures i)))) in
     c.multiplied.ensures ∙ (λ i. of_two (λ u v. by_number (product_of u v)) (a i) (b i))
     ∙ of_next (λ u v. by_number (product_of u v)) (value_at c.args.around.now (expr_tree c.in-Mul.a.value)) (value_at c.args.around.now (expr_tree c.in-Mul.b.value))
@@ -105,13 +105,13 @@ value_of-returns-in-Mul-clause-value t c =
 
 pub value_of-returns-in-Mul-clause-noted : goal.value_of-returns-in-Mul-clause-noted
 value_of-returns-in-Mul-clause-noted t c =
-    operands_noted c.args.around.now Mul (mul_seen c.args.around.now) c.args.notes.now c.value_of-left-in-Mul.new.notes c.next_value-right-in-Mul.new.notes c.args.e.now c.in-Mul.a.value c.in-Mul.b.value
-    c.deref-in-Mul.result.now c.deref-in-Mul.result.now c.deref-in-Mul-2.result.now c.value_of-left-in-Mul.result (ap expr_tree c.in-Mul.is ∙ tree-Mul c.in-Mul.a c.in-Mul.b)
-    c.deref-in-Mul.ensures c.deref-in-Mul.ensures c.deref-in-Mul-2.ensures c.value_of-left-in-Mul.ensures.value c.value_of-left-in-Mul.ensures.noted c.next_value-right-in-Mul.ensures.noted
+    operands_noted c.args.around.now Mul (mul_seen c.args.around.now) c.args.notes.now c.operand_value-left-in-Mul.new.notes c.next_value-right-in-Mul.new.notes c.args.e.now c.in-Mul.a.value c.in-Mul.b.value
+    c.deref-in-Mul.result.now c.deref-in-Mul.result.now c.deref-in-Mul-2.result.now c.operand_value-left-in-Mul.result (ap expr_tree c.in-Mul.is ∙ tree-Mul c.in-Mul.a c.in-Mul.b)
+    c.deref-in-Mul.ensures c.deref-in-Mul.ensures c.deref-in-Mul-2.ensures c.operand_value-left-in-Mul.ensures.value c.operand_value-left-in-Mul.ensures.noted c.next_value-right-in-Mul.ensures.noted
 
 pub value_of-returns-in-Div-clause-value : goal.value_of-returns-in-Div-clause-value
 value_of-returns-in-Div-clause-value t c =
-    let a = c.value_of-left-in-Div.ensures.value ∙ ap (λ (a : Expr). value_at c.args.around.now (expr_tree a)) c.deref-in-Div.ensures in
+    let a = c.operand_value-left-in-Div.ensures.value ∙ ap (λ (a : Expr). value_at c.args.around.now (expr_tree a)) c.deref-in-Div.ensures in
     let b = c.next_value-right-in-Div.ensures.value ∙ (λ i. next_result (a i) (value_at c.args.around.now (expr_tree (c.deref-in-Div-2.ensures i)))) in
     c.divided.ensures ∙ (λ i. of_two (λ u v. by_number (quotient_of u v)) (a i) (b i))
     ∙ of_next (λ u v. by_number (quotient_of u v)) (value_at c.args.around.now (expr_tree c.in-Div.a.value)) (value_at c.args.around.now (expr_tree c.in-Div.b.value))
@@ -120,13 +120,13 @@ value_of-returns-in-Div-clause-value t c =
 
 pub value_of-returns-in-Div-clause-noted : goal.value_of-returns-in-Div-clause-noted
 value_of-returns-in-Div-clause-noted t c =
-    operands_noted c.args.around.now Div (div_seen c.args.around.now) c.args.notes.now c.value_of-left-in-Div.new.notes c.next_value-right-in-Div.new.notes c.args.e.now c.in-Div.a.value c.in-Div.b.value
-    c.deref-in-Div.result.now c.deref-in-Div.result.now c.deref-in-Div-2.result.now c.value_of-left-in-Div.result (ap expr_tree c.in-Div.is ∙ tree-Div c.in-Div.a c.in-Div.b)
-    c.deref-in-Div.ensures c.deref-in-Div.ensures c.deref-in-Div-2.ensures c.value_of-left-in-Div.ensures.value c.value_of-left-in-Div.ensures.noted c.next_value-right-in-Div.ensures.noted
+    operands_noted c.args.around.now Div (div_seen c.args.around.now) c.args.notes.now c.operand_value-left-in-Div.new.notes c.next_value-right-in-Div.new.notes c.args.e.now c.in-Div.a.value c.in-Div.b.value
+    c.deref-in-Div.result.now c.deref-in-Div.result.now c.deref-in-Div-2.result.now c.operand_value-left-in-Div.result (ap expr_tree c.in-Div.is ∙ tree-Div c.in-Div.a c.in-Div.b)
+    c.deref-in-Div.ensures c.deref-in-Div.ensures c.deref-in-Div-2.ensures c.operand_value-left-in-Div.ensures.value c.operand_value-left-in-Div.ensures.noted c.next_value-right-in-Div.ensures.noted
 
 pub value_of-returns-in-Pow-clause-value : goal.value_of-returns-in-Pow-clause-value
 value_of-returns-in-Pow-clause-value t c =
-    let a = c.value_of-left-in-Pow.ensures.value ∙ ap (λ (a : Expr). value_at c.args.around.now (expr_tree a)) c.deref-in-Pow.ensures in
+    let a = c.operand_value-left-in-Pow.ensures.value ∙ ap (λ (a : Expr). value_at c.args.around.now (expr_tree a)) c.deref-in-Pow.ensures in
     let b = c.next_value-right-in-Pow.ensures.value ∙ (λ i. next_result (a i) (value_at c.args.around.now (expr_tree (c.deref-in-Pow-2.ensures i)))) in
     c.raised.ensures ∙ (λ i. of_two (λ u v. by_number (power_of u v)) (a i) (b i))
     ∙ of_next (λ u v. by_number (power_of u v)) (value_at c.args.around.now (expr_tree c.in-Pow.a.value)) (value_at c.args.around.now (expr_tree c.in-Pow.b.value))
@@ -135,9 +135,9 @@ value_of-returns-in-Pow-clause-value t c =
 
 pub value_of-returns-in-Pow-clause-noted : goal.value_of-returns-in-Pow-clause-noted
 value_of-returns-in-Pow-clause-noted t c =
-    operands_noted c.args.around.now Pow (pow_seen c.args.around.now) c.args.notes.now c.value_of-left-in-Pow.new.notes c.next_value-right-in-Pow.new.notes c.args.e.now c.in-Pow.a.value c.in-Pow.b.value
-    c.deref-in-Pow.result.now c.deref-in-Pow.result.now c.deref-in-Pow-2.result.now c.value_of-left-in-Pow.result (ap expr_tree c.in-Pow.is ∙ tree-Pow c.in-Pow.a c.in-Pow.b)
-    c.deref-in-Pow.ensures c.deref-in-Pow.ensures c.deref-in-Pow-2.ensures c.value_of-left-in-Pow.ensures.value c.value_of-left-in-Pow.ensures.noted c.next_value-right-in-Pow.ensures.noted
+    operands_noted c.args.around.now Pow (pow_seen c.args.around.now) c.args.notes.now c.operand_value-left-in-Pow.new.notes c.next_value-right-in-Pow.new.notes c.args.e.now c.in-Pow.a.value c.in-Pow.b.value
+    c.deref-in-Pow.result.now c.deref-in-Pow.result.now c.deref-in-Pow-2.result.now c.operand_value-left-in-Pow.result (ap expr_tree c.in-Pow.is ∙ tree-Pow c.in-Pow.a c.in-Pow.b)
+    c.deref-in-Pow.ensures c.deref-in-Pow.ensures c.deref-in-Pow-2.ensures c.operand_value-left-in-Pow.ensures.value c.operand_value-left-in-Pow.ensures.noted c.next_value-right-in-Pow.ensures.noted
 
 pub value_of-returns-in-Call-clause-value : goal.value_of-returns-in-Call-clause-value
 value_of-returns-in-Call-clause-value t c =
@@ -151,11 +151,11 @@ value_of-returns-in-Call-clause-noted t c =
 
 pub next_value-returns-in-Ok-clause-value : goal.next_value-returns-in-Ok-clause-value
 next_value-returns-in-Ok-clause-value t c =
-    c.value_of.ensures.value ∙ ap (λ r. next_result r (value_at c.args.around.now (expr_tree c.args.e.now))) (sym c.in-Ok.is)
+    c.operand_value.ensures.value ∙ ap (λ r. next_result r (value_at c.args.around.now (expr_tree c.args.e.now))) (sym c.in-Ok.is)
 
 pub next_value-returns-in-Ok-clause-noted : goal.next_value-returns-in-Ok-clause-noted
 next_value-returns-in-Ok-clause-noted t c =
-    next_noted c.args.notes.now c.value_of.new.notes c.args.first.now c.in-Ok.field-0 (seen_at c.args.around.now (expr_tree c.args.e.now)) c.in-Ok.is c.value_of.ensures.noted
+    next_noted c.args.notes.now c.operand_value.new.notes c.args.first.now c.in-Ok.field-0 (seen_at c.args.around.now (expr_tree c.args.e.now)) c.in-Ok.is c.operand_value.ensures.noted
 
 pub next_value-returns-in-Err-clause-value : goal.next_value-returns-in-Err-clause-value
 next_value-returns-in-Err-clause-value t c =
@@ -164,6 +164,23 @@ next_value-returns-in-Err-clause-value t c =
 pub next_value-returns-in-Err-clause-noted : goal.next_value-returns-in-Err-clause-noted
 next_value-returns-in-Err-clause-noted t c =
     fault_noted c.args.notes.now c.args.first.now c.in-Err.fault (seen_at c.args.around.now (expr_tree c.args.e.now)) c.in-Err.is
+
+pub operand_value-returns-in-Int-clause-value : goal.operand_value-returns-in-Int-clause-value
+operand_value-returns-in-Int-clause-value t c =
+    let fits : FitsSigned w128 c.from.result = search rules in
+    ap Ok (to_z-of_z w128 c.from.result fits ∙ c.from.ensures) ∙ sym (int_at c.args.around.now c.in-Int.value) ∙ seen_as c.args.around.now c.args.e.now _ _ c.in-Int.is (tree-Int c.in-Int.value)
+
+pub operand_value-returns-in-Int-clause-noted : goal.operand_value-returns-in-Int-clause-noted
+operand_value-returns-in-Int-clause-noted t c =
+    noted_as c.args.notes.now c.args.notes.now _ _ (sym (ap (seen_at c.args.around.now) (ap expr_tree c.in-Int.is ∙ tree-Int _) ∙ int_seen c.args.around.now _)) (none_noted c.args.notes.now)
+
+pub operand_value-returns-in-Var-clause-value : goal.operand_value-returns-in-Var-clause-value
+operand_value-returns-in-Var-clause-value t c =
+    c.scalar_value.ensures.value ∙ seen_as c.args.around.now c.args.e.now _ _ c.in-Var.is (tree-Var c.in-Var.name)
+
+pub operand_value-returns-in-Var-clause-noted : goal.operand_value-returns-in-Var-clause-noted
+operand_value-returns-in-Var-clause-noted t c =
+    noted_as c.args.notes.now c.scalar_value.new.notes _ _ (sym (ap (seen_at c.args.around.now) (ap expr_tree c.in-Var.is ∙ tree-Var c.in-Var.name))) c.scalar_value.ensures.noted
 
 pub noted_element-returns-in-Ok-clause-value : goal.noted_element-returns-in-Ok-clause-value
 noted_element-returns-in-Ok-clause-value t c =
@@ -190,24 +207,24 @@ unnoted_element-returns-in-Ok-clause-value t c =
     let one : length c.args.indices.now ≡ 1 = omega arith in
     c.get_element.ensures
     ∙ ap (λ (u : ℤ). got (memory_of c.args.around.now.store.now) (cells.Element c.args.name.now (u ∷ []))) (to_z-of_z w128 c.in-Ok.place fits)
-    ∙ sym (element_known c.args.around.now c.args.name.now c.args.indices.now (c.in-Ok.place ∷ []) (values_one_known c.args.around.now c.args.indices.now c.index-item.result c.in-Ok.place one c.index-item.is (sym c.value_of.ensures.value ∙ c.in-Ok.is)) (ap is_rank one))
+    ∙ sym (element_known c.args.around.now c.args.name.now c.args.indices.now (c.in-Ok.place ∷ []) (values_one_known c.args.around.now c.args.indices.now c.index-item.result c.in-Ok.place one c.index-item.is (sym c.operand_value.ensures.value ∙ c.in-Ok.is)) (ap is_rank one))
 
 pub unnoted_element-returns-in-Ok-clause-noted : goal.unnoted_element-returns-in-Ok-clause-noted
-unnoted_element-returns-in-Ok-clause-noted t c = λ k. absurd (true≢false (sym (c.value_of.ensures.noted k).kept ∙ c.requires))
+unnoted_element-returns-in-Ok-clause-noted t c = λ k. absurd (true≢false (sym (c.operand_value.ensures.noted k).kept ∙ c.requires))
 
 pub unnoted_element-returns-in-Err-clause-value : goal.unnoted_element-returns-in-Err-clause-value
 unnoted_element-returns-in-Err-clause-value t c =
-    sym (element_faulted c.args.around.now c.args.name.now c.args.indices.now c.in-Err.fault (values_first_faulted c.args.around.now c.args.indices.now c.index-item.result c.in-Err.fault (omega arith) c.index-item.is (sym c.value_of.ensures.value ∙ c.in-Err.is)))
+    sym (element_faulted c.args.around.now c.args.name.now c.args.indices.now c.in-Err.fault (values_first_faulted c.args.around.now c.args.indices.now c.index-item.result c.in-Err.fault (omega arith) c.index-item.is (sym c.operand_value.ensures.value ∙ c.in-Err.is)))
 
 pub unnoted_element-returns-in-Err-clause-noted : goal.unnoted_element-returns-in-Err-clause-noted
-unnoted_element-returns-in-Err-clause-noted t c = λ k. absurd (true≢false (sym (c.value_of.ensures.noted k).kept ∙ c.requires))
+unnoted_element-returns-in-Err-clause-noted t c = λ k. absurd (true≢false (sym (c.operand_value.ensures.noted k).kept ∙ c.requires))
 
 pub element_by_more-returns-in-Ok-column-clause-value : goal.element_by_more-returns-in-Ok-column-clause-value
 element_by_more-returns-in-Ok-column-clause-value t c =
     let around = c.args.around.now in
     let es = c.args.indices.now in
     let two : length es ≡ 2 = omega arith in
-    let v : value_at around (expr_tree c.first-item.result) ≡ Ok c.in-Ok.row = sym c.value_of-row.ensures.value ∙ c.in-Ok.is in
+    let v : value_at around (expr_tree c.first-item.result) ≡ Ok c.in-Ok.row = sym c.operand_value-row.ensures.value ∙ c.in-Ok.is in
     let w : value_at around (expr_tree c.second-item.result) ≡ Ok c.in-Ok-column.column = ap (λ r. next_result r (value_at around (expr_tree c.second-item.result))) (sym c.in-Ok.is) ∙ sym c.next_value-column.ensures.value ∙ c.in-Ok-column.is in
     let one_fits : FitsSigned w128 c.in-Ok.row = search rules in
     let other_fits : FitsSigned w128 c.in-Ok-column.column = search rules in
@@ -220,13 +237,13 @@ element_by_more-returns-in-Err-column-clause-value t c =
     let around = c.args.around.now in
     let es = c.args.indices.now in
     let two : length es ≡ 2 = omega arith in
-    let v : value_at around (expr_tree c.first-item.result) ≡ Ok c.in-Ok.row = sym c.value_of-row.ensures.value ∙ c.in-Ok.is in
+    let v : value_at around (expr_tree c.first-item.result) ≡ Ok c.in-Ok.row = sym c.operand_value-row.ensures.value ∙ c.in-Ok.is in
     let w : value_at around (expr_tree c.second-item.result) ≡ Err c.in-Err-column.fault = ap (λ r. next_result r (value_at around (expr_tree c.second-item.result))) (sym c.in-Ok.is) ∙ sym c.next_value-column.ensures.value ∙ c.in-Err-column.is in
     sym (element_faulted around c.args.name.now es c.in-Err-column.fault (values_second_faulted around es c.first-item.result c.second-item.result c.in-Ok.row c.in-Err-column.fault two c.first-item.is c.second-item.is v w))
 
 pub element_by_more-returns-in-Err-clause-value : goal.element_by_more-returns-in-Err-clause-value
 element_by_more-returns-in-Err-clause-value t c =
-    sym (element_faulted c.args.around.now c.args.name.now c.args.indices.now c.in-Err.fault (values_first_faulted c.args.around.now c.args.indices.now c.first-item.result c.in-Err.fault (omega arith) c.first-item.is (sym c.value_of-row.ensures.value ∙ c.in-Err.is)))
+    sym (element_faulted c.args.around.now c.args.name.now c.args.indices.now c.in-Err.fault (values_first_faulted c.args.around.now c.args.indices.now c.first-item.result c.in-Err.fault (omega arith) c.first-item.is (sym c.operand_value-row.ensures.value ∙ c.in-Err.is)))
 
 pub element_by_many-returns-in-Ok-clause-value : goal.element_by_many-returns-in-Ok-clause-value
 element_by_many-returns-in-Ok-clause-value t c =

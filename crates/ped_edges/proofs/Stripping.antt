@@ -1,7 +1,8 @@
 -- What stands behind a product of signs, sign by sign.
-use Rattle.std.proofs.Common.{◌≡◌, Bool, true, false, List, [], ◌∷◌, ◌++◌, map, Option, Some, None, Bor, refl, sym, ap, ◌∙◌, subst, append_assoc}
+use Rattle.std.proofs.Common.{◌≡◌, Bool, true, false, eqb, length, arith, List, [], ◌∷◌, ◌++◌, map, Option, Some, None, Bor, refl, sym, ap, ◌∙◌, subst, append_assoc}
 use Rattle.std.specs.Prelude.{MatchOption, if◌then◌else◌}
 use Rattle.std.specs.List.{flat_map}
+use Rattle.std.proofs.lemmas.Bool.{eqb-true}
 use Rattle.std.proofs.lemmas.List.{append-nil, map-append, append_cancel_left}
 use Rattle.std.proofs.lemmas.List.Concat.{flat_map-append}
 use Rattle.ped_views.specs.declared.directions.Direction.{Direction}
@@ -118,3 +119,16 @@ third_stripped front f1 f2 f3 s rest places vectors behind last r p e1 e2 e3 v w
     subst (λ (these : List (List Direction)). MatchOption r (DontBegin these vectors) (λ x. vectors ≡ these ++ x.now))
     (parts front f1 f2 f3 s rest places p e1 e2 e3)
     (either (a ++ b) c vectors last r (next a b vectors behind last v w) h)
+
+none_left : (rest : List Signs) → length rest ≡ 0 → rest ≡ []
+none_left [] e = refl
+none_left (v ∷ rest) e = absurd (omega (arith, e))
+
+-- a product with one place left
+pub only_place : (front : List Direction) (s : Signs) (rest places : List Signs) (vectors : List (List Direction)) (r : Option (Bor (List (List Direction)))) (b : Bool)
+    → places ≡ s ∷ rest → b ≡ eqb (length rest) 0 → b ≡ true
+    → MatchOption r (DontBegin (begun_with front (signs_of s ∷ [])) vectors) (λ x. vectors ≡ begun_with front (signs_of s ∷ []) ++ x.now)
+    → MatchOption r (DontBegin (begun_with front (map signs_of places)) vectors) (λ x. vectors ≡ begun_with front (map signs_of places) ++ x.now)
+only_place front s rest places vectors r b p e t h =
+    subst (λ (ps : List Signs). MatchOption r (DontBegin (begun_with front (map signs_of ps)) vectors) (λ x. vectors ≡ begun_with front (map signs_of ps) ++ x.now))
+    (sym (p ∙ ap (λ (more : List Signs). s ∷ more) (none_left rest (eqb-true (length rest) 0 (sym e ∙ t))))) h

@@ -1,5 +1,5 @@
 -- Only contracts of private functions use how the code keeps the signs of a place and the front of a vector (this project).
-use Rattle.std.specs.Prelude.{◌≡◌, ◌++◌, List, [], ◌∷◌, map, take, if◌then◌else◌}
+use Rattle.std.specs.Prelude.{ℕ, ◌≡◌, ◌++◌, List, [], ◌∷◌, map, take, if◌then◌else◌}
 use Rattle.ped_views.specs.declared.directions.Direction.{Direction}
 use Rattle.ped_views.specs.declared.directions.Direction.TheVariants.{Before, Same, After}
 use Rattle.ped_edges.specs.Rows.{product}
@@ -24,3 +24,9 @@ begun_with front places = map (λ v. front ++ v) (product places)
 -- the vectors don't begin with these (plain words)
 abbrev pub DontBegin : List (List Direction) → List (List Direction) → Type 0
 DontBegin these vectors = (rest : List (List Direction)) → ¬ (vectors ≡ these ++ rest)
+
+-- the byte of a direction's sign (Allen and Kennedy, section 2.2.4)
+abbrev pub sign_of : Direction → ℕ
+sign_of Before = 60
+sign_of Same = 61
+sign_of After = 62

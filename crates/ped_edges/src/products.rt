@@ -64,6 +64,9 @@ fn strip_product<'a>(front: Front, places: &[Signs], vectors: &'a [Vector]) -> O
     let Some((first, further)) = places.split_first() else {
         return strip_vector(&front, vectors);
     };
+    if further.is_empty() {
+        return strip_last(front, *first, vectors);
+    }
     let rest = strip_where(
         first.before,
         front.with(Direction::Before),
@@ -88,6 +91,30 @@ fn strip_where<'a>(
 {
     if stands {
         strip_product(front, places, vectors)
+    } else {
+        Some(vectors)
+    }
+}
+
+/// The vectors after those that are the front and one of the signs of the last place; none where these don't come first.
+fn strip_last<'a>(front: Front, signs: Signs, vectors: &'a [Vector]) -> Option<&'a [Vector]>
+    requires { front.len < 6 }
+    ensures { let these = begun_with (front_of front) (signs_of signs ∷ []) in
+        MatchOption result (DontBegin these vectors.now) (λ rest. vectors.now ≡ these ++ rest.now) }
+{
+    let rest = strip_one(signs.before, front.with(Direction::Before), vectors)?;
+    let rest = strip_one(signs.same, front.with(Direction::Same), rest)?;
+    strip_one(signs.after, front.with(Direction::After), rest)
+}
+
+/// The vectors after the front where its last sign occurs at all, else all vectors.
+fn strip_one<'a>(stands: bool, front: Front, vectors: &'a [Vector]) -> Option<&'a [Vector]>
+    requires { front.len ≤ 6 }
+    ensures { let these = (if stands then begun_with (front_of front) [] else []) in
+        MatchOption result (DontBegin these vectors.now) (λ rest. vectors.now ≡ these ++ rest.now) }
+{
+    if stands {
+        strip_vector(&front, vectors)
     } else {
         Some(vectors)
     }

@@ -1,9 +1,10 @@
 //! The direction vectors of a dependence: if they are a product, a single one with the signs of each place; else one
 //! after another.
 
-ghost use Rattle.std.specs.Prelude.{◌≡◌, ◌≤◌, ◌++◌, [], ◌∷◌, map, OnOk, IfSome};
+ghost use Rattle.std.specs.Prelude.{◌≡◌, ◌≤◌, ◌++◌, [], ◌∷◌, length, map, OnOk, MatchOption};
 ghost use Rattle.std.specs.List.{flat_map};
 ghost use Rattle.ped_edges.specs.Rows.{direction_text, vectors_text, vector_text};
+ghost use Rattle.ped_edges.specs.CodeSigns.{sign_of};
 
 use crate::lists::{Shown, push_list};
 use crate::products::are_product;
@@ -29,12 +30,11 @@ pub(crate) fn push_vectors(
 
 /// The vector, where it is the only one.
 fn only_one(vectors: &[Vector]) -> Option<&Vector>
-    ensures { IfSome result (λ vector. vectors.now ≡ vector.now ∷ []) }
+    ensures { MatchOption result (¬ (length vectors.now ≡ 1)) (λ vector. vectors.now ≡ vector.now ∷ []) }
 {
-    let (first, rest) = vectors.split_first()?;
-    match rest.split_first() {
-        Some(_) => None,
-        None => Some(first),
+    match vectors.split_first() {
+        Some((first, rest)) => { if rest.is_empty() { Some(first) } else { None } }
+        None => None,
     }
 }
 
@@ -66,7 +66,62 @@ fn push_each(out: &mut Bytes, vectors: &[Vector]) -> Result<(), NoMemory>
 fn push_vector(out: &mut Bytes, vector: &Vector) -> Result<(), NoMemory>
     ensures { OnOk result (out.new ≡ out.old ++ vector_text (map (λ d. d ∷ []) vector.now)) }
 {
+    match vector.directions() {
+        [a, b] => push_two(out, *a, *b),
+        [a, b, c, d, e, f] => push_six(out, (*a, *b, *c), (*d, *e, *f)),
+        _ => push_each_sign(out, vector),
+    }
+}
+
+/// Adds a vector over two loops at once.
+fn push_two(out: &mut Bytes, outer: Direction, inner: Direction) -> Result<(), NoMemory>
+    ensures { OnOk result (out.new ≡ out.old ++ vector_text (map (λ d. d ∷ []) (outer ∷ inner ∷ []))) }
+{
+    out.extend_from_slice(&[b'(', sign(outer), b',', sign(inner), b')'])
+}
+
+/// Adds a vector over six loops at once.
+fn push_six(
+    out: &mut Bytes,
+    outer: (Direction, Direction, Direction),
+    inner: (Direction, Direction, Direction),
+) -> Result<(), NoMemory>
+    ensures { OnOk result (out.new ≡ out.old ++ vector_text (map (λ d. d ∷ [])
+        (outer.0 ∷ outer.1 ∷ outer.2 ∷ inner.0 ∷ inner.1 ∷ inner.2 ∷ []))) }
+{
+    out.extend_from_slice(&[
+        b'(',
+        sign(outer.0),
+        b',',
+        sign(outer.1),
+        b',',
+        sign(outer.2),
+        b',',
+        sign(inner.0),
+        b',',
+        sign(inner.1),
+        b',',
+        sign(inner.2),
+        b')',
+    ])
+}
+
+/// Adds a vector sign by sign.
+fn push_each_sign(out: &mut Bytes, vector: &Vector) -> Result<(), NoMemory>
+    ensures { OnOk result (out.new ≡ out.old ++ vector_text (map (λ d. d ∷ []) vector.now)) }
+{
     push_list(out, vector.directions())
+}
+
+/// The sign of a direction.
+fn sign(direction: Direction) -> u8
+    ensures { result ≡ sign_of direction }
+{
+    match direction {
+        Direction::Before => b'<',
+        Direction::Same => b'=',
+        Direction::After => b'>',
+    }
 }
 
 impl Shown for Direction {

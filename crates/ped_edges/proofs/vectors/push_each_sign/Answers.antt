@@ -4,7 +4,7 @@ use Rattle.std.proofs.lemmas.Result.{on_ok_weaker}
 use Rattle.ped_views.specs.declared.directions.Direction.{Direction}
 use Rattle.ped_edges.specs.Rows.{direction_text}
 use Rattle.ped_edges.proofs.Joined.{single_vector}
-use Rattle.ped_edges.proofs.vectors.push_vector.Goals as goal
+use Rattle.ped_edges.proofs.vectors.push_each_sign.Goals as goal
 
 pub returns : goal.returns
 returns c =

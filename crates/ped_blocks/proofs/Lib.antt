@@ -4,6 +4,7 @@ pub mod BlocksNest
 pub mod BlocksOneTree
 pub mod Counts
 pub mod Fronted
+pub mod Items
 pub mod Notes
 pub mod OpenBlocks
 pub mod Repeated

@@ -1,6 +1,7 @@
 -- What the open blocks of the code stand for. Only contracts of private functions use this.
-use Rattle.std.specs.Prelude.{ℕ, List, map, reverse, Bool, false, Some}
+use Rattle.std.specs.Prelude.{ℕ, List, [], map, reverse, Bool, false, Option, Some}
 use Rattle.ped_tree.specs.Views.{cond_tree, head_of, stmt_tree, decl_tree}
+use Rattle.ped_tree.specs.Grammar.Statement as whole
 use Rattle.ped_tree.specs.Grammar.BlockForms.{has_label}
 use Rattle.ped_blocks.specs.Machine as plain
 use Rattle.ped_blocks.specs.declared.frames.Arm.{Arm}
@@ -40,3 +41,7 @@ nesting_of n = plain.nest (blocks_of n.frames.items) (map stmt_tree n.current.it
 -- the declarations so far, and how the executable statements so far nest
 abbrev pub built_of : Built → plain.Built
 built_of b = record { declarations = map decl_tree b.decls.items; nesting = nesting_of b.nesting }
+
+-- a statement with this label and these directives: nothing else of it counts where what it says is taken
+abbrev pub statement_with : Option ℕ → List whole.Note → whole.Statement
+statement_with label directives = record { line = 0; label = label; text = []; comments = []; directives = directives }

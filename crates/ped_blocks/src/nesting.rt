@@ -8,7 +8,7 @@ ghost use Rattle.ped_tree.specs.Grammar.Occurrences as Spec;
 ghost use Rattle.ped_tree.specs.Grammar.StatementViews.{note_of, statement_of};
 ghost use Rattle.ped_tree.specs.Grammar.ItemViews.{behind_logical, do_head, item_of};
 ghost use Rattle.ped_blocks.specs.Machine;
-ghost use Rattle.ped_blocks.specs.BlockViews.{blocks_of, frame_of, nesting_of};
+ghost use Rattle.ped_blocks.specs.BlockViews.{blocks_of, frame_of, nesting_of, statement_with};
 
 use crate::directives::rejected_names;
 use crate::frames::{ElseBlock, Frame, LoopBlock, ThenBlock, alone};
@@ -39,7 +39,7 @@ impl Nesting {
     }
 
     /// The nesting after an executable statement that says this, with the comments before it.
-    #[tactic(auto, using(crate::proofs::OpenBlocks::no_blocks))]
+    #[tactic(auto, using(crate::proofs::Items::by_label))]
     pub fn with_item(
         self,
         alloc: Global,
@@ -60,24 +60,38 @@ impl Nesting {
             drop(item);
             return Err(NoMemory);
         };
+        nesting.with_content(alloc, label, &directives, item)
+    }
+
+    /// The nesting after what a statement says that has this label and these directives.
+    fn with_content(
+        self,
+        alloc: Global,
+        label: Option<u32>,
+        directives: &Listed<NoteLine>,
+        item: Item,
+    ) -> Result<Nesting, NoMemory>
+        ensures { IfOk result (λ n. nesting_of n ≡ Machine.nest_item (statement_with label (map note_of directives.now)) (item_of item)
+            (blocks_of self.frames.items) (map stmt_tree self.current.items)) }
+    {
         match item {
-            Item::Simple(stmt) => nesting.with_statement(label, stmt),
-            Item::Continue => nesting.with_label(label),
+            Item::Simple(stmt) => self.with_statement(label, stmt),
+            Item::Continue => self.with_label(label),
             Item::LogicalIf(condition, behind) => {
-                nesting.with_logical_if(alloc, label, condition, behind)
+                self.with_logical_if(alloc, label, condition, behind)
             }
-            Item::BlockIf(condition) => nesting.begin_if(alloc, condition),
-            Item::ElseIf(condition) => nesting.begin_else_if(alloc, condition),
-            Item::Else => nesting.begin_else(alloc),
-            Item::EndIf => nesting.end_if(alloc),
-            Item::Do(statement) => nesting.begin_do(alloc, statement, &directives),
-            Item::EndDo => nesting.end_do(label),
-            Item::Private(names) => nesting.with_private(names),
+            Item::BlockIf(condition) => self.begin_if(alloc, condition),
+            Item::ElseIf(condition) => self.begin_else_if(alloc, condition),
+            Item::Else => self.begin_else(alloc),
+            Item::EndIf => self.end_if(alloc),
+            Item::Do(statement) => self.begin_do(alloc, statement, directives),
+            Item::EndDo => self.end_do(label),
+            Item::Private(names) => self.with_private(names),
             Item::Declaration(decl) => {
                 drop(decl);
-                Ok(nesting)
+                Ok(self)
             }
-            Item::SaveAll | Item::End => Ok(nesting),
+            Item::SaveAll | Item::End => Ok(self),
         }
     }
 

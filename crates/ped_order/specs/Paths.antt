@@ -1,7 +1,12 @@
 -- Paths: outer iterations that accesses have in common (this project).
 use Rattle.std.specs.Prelude.{ℕ, suc, pos, List, [], ◌∷◌, Bool, ◌==◌, ◌&&◌, not, if◌then◌else◌}
 use Rattle.ped_store.specs.Acts.{Turn}
+use Rattle.ped_laws.specs.ped_eval.specs.declared.accesses.Turn as code
 use Rattle.ped_order.specs.declared.paths.Level.{Level}
+
+-- an iteration that an access is in, without the value of the DO's variable
+abbrev pub level_of : code.Turn → Level
+level_of t = record { statement = t.statement; parallel = t.parallel; number = t.number }
 
 -- an iteration, of which the value of the DO's variable isn't kept
 abbrev pub level_view : Level → Turn

@@ -75,16 +75,12 @@ impl Path {
     }
 
     /// The outermost of these iterations, as many as there is room for.
-    pub(crate) fn of(turns: &[Turn]) -> Path {
+    pub(crate) fn of(turns: &[Turn]) -> Path
+        ensures { result ≡ map Spec.level_of (take 6 turns.now) }
+    {
         let mut path = Path::new();
-        for turn in turns {
-            if path.len() < 6 {
-                path.push(Level {
-                    statement: turn.statement,
-                    parallel: turn.parallel,
-                    number: turn.number,
-                });
-            }
+        for turn in outer(turns) {
+            path.push(level_of(turn));
         }
         path
     }
@@ -148,6 +144,27 @@ impl Path {
             })?;
         }
         Ok(turns)
+    }
+}
+
+/// The outermost of these iterations, at most six.
+fn outer(turns: &[Turn]) -> &[Turn]
+    ensures { result.now ≡ take 6 turns.now }
+{
+    match turns.get(..6) {
+        Some(outer) => outer,
+        None => turns,
+    }
+}
+
+/// An iteration, without the value of the DO's variable.
+fn level_of(turn: &Turn) -> Level
+    ensures { result ≡ Spec.level_of turn.now }
+{
+    Level {
+        statement: turn.statement,
+        parallel: turn.parallel,
+        number: turn.number,
     }
 }
 

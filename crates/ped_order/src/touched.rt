@@ -4,7 +4,7 @@ ghost use Rattle.std.specs.Prelude.{◌≡◌, ◌≤◌, ◌||◌, Bool, Some, 
 ghost use Rattle.ped_laws.specs.ped_eval.specs.AccessViews.{turn_view};
 ghost use Rattle.ped_order.specs.Keys.{iteration_of};
 ghost use Rattle.ped_order.specs.Keys as Keys;
-ghost use Rattle.ped_order.specs.Paths.{level_view};
+ghost use Rattle.ped_order.specs.Paths.{level_of, level_view};
 ghost use Rattle.ped_order.specs.Sightings.{first_of};
 ghost use Rattle.ped_order.specs.Sightings as Sightings;
 
@@ -25,7 +25,8 @@ pub(crate) struct Touched {
 impl Touched {
     /// No access yet; the first will be in these turns.
     pub(crate) fn none(turns: &[Turn]) -> Touched
-        ensures { result.seen ≡ None }
+        ensures path { result.path ≡ map level_of (take 6 turns.now) }
+        ensures seen { result.seen ≡ None }
     {
         Touched {
             path: Path::of(turns),

@@ -1,0 +1,9 @@
+mod Adding
+mod Closing
+mod Ones
+mod Parts
+mod Products
+mod Stepping
+mod Totals
+mod Values
+mod Walking

@@ -1,0 +1,4 @@
+pub mod Rows
+pub mod Certificates
+pub mod Limits
+pub mod Branches

@@ -45,9 +45,8 @@ most_steps_of_a_crate=2500
 most_lemma_files=364
 most_lemma_imports=3038
 most_needless_doors=122
-# An import names the crates on its way, as Rattle.ped_rules.specs.ped_laws.specs.Runs: at most three, but in some files, mostly of
-# ped_units and ped_calls.
-most_long_imports=53
+# An import names the crates on its way, as Rattle.ped_rules.specs.ped_laws.specs.Runs: at most three.
+most_long_imports=0
 
 edits() {
     find crates/*/must-fail -name '*.edit' 2>/dev/null

@@ -9,7 +9,7 @@ use Rattle.ped_tree.specs.Tree.{ProgramTree}
 use Rattle.ped_tree.specs.Grammar.Characters.{is_printable, is_quoted, kept}
 use Rattle.ped_tree.specs.Grammar.Columns.{is_comment, statement_columns}
 use Rattle.ped_tree.specs.Grammar.Reading.{Reads}
-use Rattle.ped_session.specs.ped_valid.specs.ped_parse.specs.ped_lines.proofs.PrintedLaws.Lines.{IsLine, printable_line, lines_written}
+use Rattle.ped_session.specs.ped_parse.specs.ped_lines.proofs.PrintedLaws.Lines.{IsLine, printable_line, lines_written}
 use Rattle.ped_answer.proofs.MadeScripts.{decimal_printable}
 use Rattle.ped_answer.proofs.BareTexts.{AreBare, IsBareLine, joined, bare_program}
 

@@ -9,7 +9,7 @@ use Rattle.std.proofs.Math.Nat.{mod-lt}
 use Rattle.std.proofs.lemmas.Bool.{lt-ltb, le-leb, and_from}
 use Rattle.ped_gen.specs.Generated.{commands, script}
 use Rattle.ped_tree.specs.Grammar.Characters.{is_printable}
-use Rattle.ped_session.specs.ped_valid.specs.ped_parse.specs.ped_lines.proofs.PrintedLaws.Lines.{IsLine, printable_line, lines_written}
+use Rattle.ped_session.specs.ped_parse.specs.ped_lines.proofs.PrintedLaws.Lines.{IsLine, printable_line, lines_written}
 use Rattle.ped_script.specs.Words.{Text, words_of, number_of}
 use Rattle.ped_script.specs.Rows.{done, number, command_of}
 use Rattle.ped_script.specs.Items.{whole_command, taken_lines, item_at, items_from, commands_of}

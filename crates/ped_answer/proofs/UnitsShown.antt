@@ -18,7 +18,7 @@ use Rattle.ped_script.specs.declared.items.Item.{Item}
 use Rattle.ped_session.specs.declared.replies.Reply.{Reply}
 use Rattle.ped_session.specs.declared.replies.Reply.TheVariants.{Shown}
 use Rattle.ped_session.specs.States.{State, opened}
-use Rattle.ped_session.specs.Blocks.{block, IsRunBlock}
+use Rattle.ped_session.specs.OutcomeTexts.{outcome_text, IsRunText}
 use Rattle.ped_session.specs.LoweredRuns.{IsLoweredRun}
 use Rattle.ped_session.specs.Steps.{Shows, IsStep}
 use Rattle.ped_session.specs.Scripts.{Said, AnswersCommand}
@@ -57,18 +57,18 @@ RunsInOrder = (t : ProgramTree) (data_bytes : List ℕ) (o : Outcome) → IsInte
 -- so a run without choices of such a program shows its run in order
 abbrev pub RunInOrder : Type 0
 RunInOrder = (data_bytes : List ℕ) (s next : State) (reply : Reply) → IsStep (Run []) data_bytes s reply next
-    → ((t : ProgramTree) → ReadsValid s.present t → HasNoLiveList t) → Shows (λ t bytes. bytes ≡ block (outcome t data_bytes)) s reply next
+    → ((t : ProgramTree) → ReadsValid s.present t → HasNoLiveList t) → Shows (λ t bytes. bytes ≡ outcome_text (outcome t data_bytes)) s reply next
 
 pub run_in_order : RunsUnlowered → RunsInOrder → RunInOrder
 run_in_order unlowered order d s next reply h none =
-    let shows : Shows (IsRunBlock [] d) s reply next = h in
+    let shows : Shows (IsRunText [] d) s reply next = h in
     let run : IsLoweredRun [] d shows.tree shows.so.0 = shows.so.1 in
     let as_it_is = unlowered [] d shows.tree run.lowered shows.so.0 run.lowers (none shows.tree shows.reads run.lowered run.lowers) in
     record {
       tree = shows.tree;
       reads = shows.reads;
       bytes = shows.bytes;
-      so = shows.so.2 ∙ ap block (order shows.tree d shows.so.0 (as_it_is.0 run));
+      so = shows.so.2 ∙ ap outcome_text (order shows.tree d shows.so.0 (as_it_is.0 run));
       prints = shows.prints;
     }
 
@@ -86,11 +86,11 @@ same_on_all alike fault_alike text t = record {
 }
 
 -- the run of the source on which the session opened
-shown_in_order : RunInOrder → (t : ProgramTree) → IsValid t → (line : ℕ) (d : List ℕ) (s next : State) (said : Said) → AnswersCommand line (Some (Run [])) d s said next → s.present ≡ program_text t → HasNoLiveList t → said.bytes ≡ block (outcome t d)
+shown_in_order : RunInOrder → (t : ProgramTree) → IsValid t → (line : ℕ) (d : List ℕ) (s next : State) (said : Said) → AnswersCommand line (Some (Run [])) d s said next → s.present ≡ program_text t → HasNoLiveList t → said.bytes ≡ outcome_text (outcome t d)
 shown_in_order order t valid line d s next said (inl h) is none =
     let same : (u : ProgramTree) → ReadsValid s.present u → u ≡ t = λ u reads. one_tree s.present u t reads (reads_as s.present t valid is) in
     let shown = order d s next h.0 h.1 (λ u reads. subst HasNoLiveList (sym (same u reads)) none) in
-    bytes_of line h.0 (Shown shown.bytes) next said h.2 shown.prints.0 ∙ shown.so ∙ ap (λ (u : ProgramTree). block (outcome u d)) (same shown.tree shown.reads)
+    bytes_of line h.0 (Shown shown.bytes) next said h.2 shown.prints.0 ∙ shown.so ∙ ap (λ (u : ProgramTree). outcome_text (outcome u d)) (same shown.tree shown.reads)
 shown_in_order order t valid line d s next said (inr h) is none = absurd (let e : Run [] ≡ Auto = h.0 in cc)
 
 -- what a command shows, where it is `run`
@@ -102,9 +102,9 @@ shows_units alike order text t line command d s next said answers before = λ ch
       alike = same;
       in_order = λ none present without.
           shown_in_order order t e.valid line d s next said (subst (λ (c : Option Command). AnswersCommand line c d s said next) (is ∙ ap (λ (cs : List ℕ). Some (Run cs)) none) answers) present without
-          ∙ ap block same;
+          ∙ ap outcome_text same;
       behind = λ comes trusted race_free.
-          before choices is (program_text t) t comes (reads_as (program_text t) t e.valid refl) trusted race_free ∙ ap block same;
+          before choices is (program_text t) t comes (reads_as (program_text t) t e.valid refl) trusted race_free ∙ ap outcome_text same;
     }
 
 -- and so it is of each item

@@ -41,7 +41,7 @@ use Rattle.ped_session.specs.Steps.{IsMove}
 use Rattle.ped_session.specs.AutoAnswers.{auto_text, AcceptsAll}
 use Rattle.ped_session.specs.AutoScripts.{script_of, items_on}
 use Rattle.ped_session.specs.Scripts.{Said, nothing_said, said_both, AnswersItem}
-use Rattle.ped_session.specs.Blocks.{block}
+use Rattle.ped_session.specs.OutcomeTexts.{outcome_text}
 use Rattle.ped_session.specs.LoweredRuns.{IsLoweredRun}
 use Rattle.ped_session.specs.Meanings.{IsMeaningKept, ComesFrom}
 use Rattle.ped_session.specs.RunsAsBefore.{RunsAsBefore}
@@ -244,8 +244,8 @@ HasNoLiveList t = (q : Lowered) → IsLowered t q → q.live ≡ []
 -- where program units run on the data without a fault, the program that they expand to has their outcome; and so a `run` with these choices shows it: without choices where the present source is the one on which the session opened, and no list of sums in it is live; and with any where the present source has come from that one by transformations alone, if that one is tidy and without C$PED REJECT and runs without a race (ANSI X3.9-1978, section 15.6; ParaScope; this project)
 pub record ShowsUnits (units : ProgramUnits) (first : ProgramTree) (choices data_bytes : List ℕ) (s : State) (shown : List ℕ) : Type 0 where
   pub alike : outcome first data_bytes ≡ outcome_of_units units data_bytes
-  pub in_order : choices ≡ [] → s.present ≡ program_text first → HasNoLiveList first → shown ≡ block (outcome_of_units units data_bytes)
-  pub behind : ComesFrom s.present s.past (program_text first) → IsTrusted first → IsRaceFree first data_bytes → shown ≡ block (outcome_of_units units data_bytes)
+  pub in_order : choices ≡ [] → s.present ≡ program_text first → HasNoLiveList first → shown ≡ outcome_text (outcome_of_units units data_bytes)
+  pub behind : ComesFrom s.present s.past (program_text first) → IsTrusted first → IsRaceFree first data_bytes → shown ≡ outcome_text (outcome_of_units units data_bytes)
 
 -- so it is of each `run`, by the program units of the file (this project)
 abbrev pub RunsUnits : List ℕ → ProgramTree → ItemFact

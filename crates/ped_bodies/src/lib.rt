@@ -16,7 +16,7 @@ pub use bodies::{
 };
 pub use likewise::{bodies_likewise, statements_likewise};
 pub use ped_steps::{
-    Change, Flow, Keep, PairKey, Prepared, Reader, Refused, Rule, Scene, Symbols,
+    Change, Flow, Keep, PairKey, Prepared, Reader, Refused, Rule, Scene, StepAnswer, Symbols,
     accesses_are_made, accesses_in_sequence, all_kept, body_with, cause_words, change_to,
     conflicts_are_covered, flow_of, loop_at, loops_round, prepare, program_with, valid_symbols,
 };

@@ -21,7 +21,7 @@ use Rattle.ped_steps.specs.ped_symbols.specs.NameRefusals.{subscripts_of, differ
 use Rattle.ped_steps.specs.ped_symbols.specs.Sites.{private_site, stmt_sites, stmts_sites}
 use Rattle.ped_steps.specs.ped_symbols.specs.Uses.{used_as, expr_count, expr_uses, exprs_uses, cond_uses, target_uses, item_uses, own_uses}
 use Rattle.ped_steps.specs.ped_symbols.specs.Values.{Values, within, fixed_value, is_bad_step}
-use Rattle.ped_calls.specs.ped_valid.specs.ped_parse.specs.ped_printed.proofs.ProgramLaws.Fits.{simple_parts, if_parts, do_parts}
+use Rattle.ped_calls.specs.ped_parse.specs.ped_printed.proofs.ProgramLaws.Fits.{simple_parts, if_parts, do_parts}
 use Rattle.ped_calls.specs.ped_units.specs.Forms.{Called}
 use Rattle.ped_calls.specs.ped_units.specs.Units.{ProgramUnit, ProgramUnits, call_of, instead_of, with_calls, all_with_calls}
 use Rattle.ped_calls.specs.ped_units.specs.Refusals.{dimensioned, plain_arguments, condition_of, using_arguments, for_names}

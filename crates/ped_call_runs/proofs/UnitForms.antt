@@ -23,7 +23,7 @@ use Rattle.ped_calls.specs.ped_units.specs.Units.{ProgramUnit, ProgramUnits, all
 use Rattle.ped_calls.specs.ped_units.specs.Reading.{UnitEntry, AreUnitEntries, Segment, ends, begins, own_entries, further_segments, segments_of, is_end_next, as_reading, as_entries, is_subroutine, stand_in, seen_entries, IsUnitOf, AreUnitsOf}
 use Rattle.ped_calls.specs.ped_units.specs.Refusals.{at_all_directives, at_subroutine_entry, at_call, at_head, other_refusals, segment_refusals, before_another, segments_refusals, ReadsUnits}
 use Rattle.ped_calls.specs.ped_units.specs.Linking.{IsIn}
-use Rattle.ped_calls.specs.ped_valid.specs.ped_parse.specs.ped_blocks.proofs.BlocksFound.{none_stands, left_empty, right_empty, first_none}
+use Rattle.ped_calls.specs.ped_parse.specs.ped_blocks.proofs.BlocksFound.{none_stands, left_empty, right_empty, first_none}
 
 -- no more dimensions than an array may have
 abbrev pub FewBounds : DeclaratorTree → Type 0

@@ -11,7 +11,7 @@ use Rattle.ped_tree.specs.NamesIn.{expr_names, exprs_names, cond_names, item_nam
 use Rattle.ped_tree.specs.Numbering.{statement_count, statements_count}
 use Rattle.ped_tree.specs.Tree.{ExprTree, ExprTrees, Int, Var, Element, Neg, Add, Sub, Mul, Div, Pow, Call, no_exprs, more_exprs, CondTree, Rel, Not, And, Or, ItemTree, Value, Text, Head, StmtTree, StmtTrees, Assign, If, Do, Print, Read, Stop, Comment, no_stmts, more_stmts, DeclaratorTree, DeclTree, Program, Implicit, Integer, Dimension, Parameter, Save, Remark}
 use Rattle.ped_steps.specs.ped_symbols.specs.Values.{declarators}
-use Rattle.ped_calls.specs.ped_valid.specs.ped_parse.specs.ped_printed.proofs.ProgramLaws.Fits.{simple_parts, if_parts, do_parts, private_parts, declaration_parts}
+use Rattle.ped_calls.specs.ped_parse.specs.ped_printed.proofs.ProgramLaws.Fits.{simple_parts, if_parts, do_parts, private_parts, declaration_parts}
 use Rattle.ped_call_runs.proofs.EachNames.{Each, each_joined}
 use Rattle.ped_call_runs.proofs.OwnNames.{IsNoOwn}
 

@@ -8,7 +8,7 @@ use Rattle.ped_tree.specs.Views.{pack_exprs, pack_stmts, stmt_tree}
 use Rattle.ped_tree.specs.Accesses.{listed}
 use Rattle.ped_tree.specs.Numbering.{statement_count, statements_count}
 use Rattle.ped_tree.specs.Grammar.LimitNumbers.{most_blocks_nested}
-use Rattle.ped_links.specs.ped_valid.specs.ped_symbols.specs.Values.{Values}
+use Rattle.ped_links.specs.ped_symbols.specs.Values.{Values}
 use Rattle.ped_links.specs.ped_units.specs.Forms.{Called}
 use Rattle.ped_links.specs.ped_units.specs.Units.{ProgramUnit, ProgramUnits, unit_of}
 use Rattle.ped_links.specs.ped_units.specs.Expanding.{Given, Meanings, Bound, Expanded, AllExpanded, all_expanded_in, block_of, block_with, behind_stmts, bound_arguments, bound_expanded, unit_expanded, call_expanded, call_comment, with_formals}

@@ -5,8 +5,8 @@ use Rattle.std.proofs.lemmas.List.{drop-drop, drop_all, at_drop_more}
 use Rattle.std.proofs.lemmas.Option.{none-some, slice_get_within, slice_get_cases, get_or_from_slice_get}
 use Rattle.ped_tree.specs.Tree.{ExprTree, StmtTree, StmtTrees}
 use Rattle.ped_tree.specs.Numbering.{statements_count}
-use Rattle.ped_links.specs.ped_valid.specs.ped_symbols.specs.Entries.{with_entry}
-use Rattle.ped_links.specs.ped_valid.specs.ped_symbols.specs.Values.{Values, fixed_value}
+use Rattle.ped_links.specs.ped_symbols.specs.Entries.{with_entry}
+use Rattle.ped_links.specs.ped_symbols.specs.Values.{Values, fixed_value}
 use Rattle.ped_links.specs.ped_units.specs.Expanding.{Given, Meanings, Bound, standing, bound_by, bound_arguments, is_variable_name, with_new, with_formals, with_constants, behind_stmts}
 use Rattle.ped_calls.specs.Binding.{BindsOn}
 

@@ -9,7 +9,7 @@ use Rattle.ped_tree.specs.Nests.{indices_of}
 use Rattle.ped_tree.specs.Printing.{exprs_text}
 use Rattle.ped_tree.specs.Grammar.Literals.{have_large_literal}
 use Rattle.ped_tree.specs.Grammar.LimitNumbers.{most_characters}
-use Rattle.ped_links.specs.ped_valid.specs.ped_symbols.specs.ped_refs.specs.References.{numbered_accesses, statement_references}
+use Rattle.ped_links.specs.ped_symbols.specs.ped_refs.specs.References.{numbered_accesses, statement_references}
 use Rattle.ped_links.specs.ped_units.specs.Forms.{Called}
 use Rattle.ped_links.specs.ped_units.specs.Units.{reference_of, call_statement, with_calls, arguments_text}
 use Rattle.ped_links.specs.ped_units.specs.Refusals.{call_text, call_passes_limit, is_whole_array, plain_arguments, is_zero, and_zeros, condition_of, using_arguments}

@@ -8,7 +8,7 @@ use Rattle.ped_tree.specs.Accesses.{Access, own_accesses, expr_reads, private_wr
 use Rattle.ped_tree.specs.Nests.{Loop, indices_of}
 use Rattle.ped_tree.specs.Printing.{do_text, private_text, own_text}
 use Rattle.ped_tree.specs.Grammar.ProgramRefusals.{listed_stmts}
-use Rattle.ped_links.specs.ped_valid.specs.ped_symbols.specs.ped_refs.specs.References.{numbered_accesses, statement_references, statements_references}
+use Rattle.ped_links.specs.ped_symbols.specs.ped_refs.specs.References.{numbered_accesses, statement_references, statements_references}
 use Rattle.ped_links.specs.ped_units.specs.Forms.{Called}
 use Rattle.ped_links.specs.ped_units.specs.Units.{with_calls, all_with_calls}
 use Rattle.ped_calls.proofs.ReadCharacters.{do_few, private_few, if_few}

@@ -6,7 +6,7 @@ use Rattle.ped_tree.specs.Tree.{ExprTree, CondTree, Head, StmtTree, StmtTrees, A
 use Rattle.ped_tree.specs.Numbering.{statement_count, statements_count}
 use Rattle.ped_tree.specs.Grammar.Fits.{moved, in_if, in_loop, is_within, loop_fits, cond_fits, stmt_fits, stmts_fit}
 use Rattle.ped_tree.specs.Grammar.LimitNumbers.{most_blocks_nested}
-use Rattle.ped_links.specs.ped_valid.specs.ped_symbols.specs.Values.{Values}
+use Rattle.ped_links.specs.ped_symbols.specs.Values.{Values}
 use Rattle.ped_links.specs.ped_units.specs.Forms.{Called}
 use Rattle.ped_links.specs.ped_units.specs.Units.{ProgramUnit, ProgramUnits, unit_of, call_of}
 use Rattle.ped_links.specs.ped_units.specs.Expanding.{Given, Meanings, Expanded, call_comment, block_of, behind_stmts, replaced, expanded_or, expanded_in, all_expanded_in, call_expanded, unit_expanded}

@@ -21,8 +21,8 @@ use Rattle.ped_tree.specs.Grammar.Occurrences.{saved_names}
 use Rattle.ped_tree.specs.Grammar.ProgramForms.{ProgramForm, decl_entry, program_entries, behind_front, all_trees, program_form_tree}
 use Rattle.ped_tree.specs.Grammar.BlockForms.{entry, body_entries, body_trees, comments_of}
 use Rattle.ped_tree.specs.Grammar.ProgramRefusals.{where_it_says, is_too_large, are_too_many, is_too_deep, has_many_references, is_too_long, passes_limit, private_behind, at_statement, at_statements, at_end, program_refusals}
-use Rattle.ped_links.specs.ped_valid.specs.ped_parse.specs.ped_blocks.proofs.BlocksFound.{none_stands, left_empty, right_empty, first_none}
-use Rattle.ped_links.specs.ped_valid.specs.ped_symbols.specs.ped_refs.specs.References.{statements_references}
+use Rattle.ped_links.specs.ped_parse.specs.ped_blocks.proofs.BlocksFound.{none_stands, left_empty, right_empty, first_none}
+use Rattle.ped_links.specs.ped_symbols.specs.ped_refs.specs.References.{statements_references}
 use Rattle.ped_links.specs.ped_units.specs.Forms.{Called, UnitItem, plain, calls, calls_if, begins_unit, returns, IsUnitItem}
 use Rattle.ped_links.specs.ped_units.specs.Units.{ProgramUnit, ProgramUnits, all_units, call_of, call_statement, instead_of, with_calls, all_with_calls}
 use Rattle.ped_links.specs.ped_units.specs.Reading.{UnitEntry, AreUnitEntries, Segment, ends, begins, own_entries, further_segments, segments_of, is_end_next, as_reading, as_entries, is_subroutine, stand_in, seen_entries, IsUnitOf, AreUnitsOf}

@@ -6,7 +6,7 @@ use Rattle.ped_tree.specs.Tree.{ExprTree, Head, StmtTree, StmtTrees, Assign, If,
 use Rattle.ped_tree.specs.Views.{stmt_tree}
 use Rattle.ped_tree.specs.declared.statements.Stmt.{Stmt}
 use Rattle.ped_tree.specs.Numbering.{statement_count, statements_count}
-use Rattle.ped_links.specs.ped_valid.specs.ped_symbols.specs.Sites.{private_site, stmt_sites, stmts_sites}
+use Rattle.ped_links.specs.ped_symbols.specs.Sites.{private_site, stmt_sites, stmts_sites}
 use Rattle.ped_links.specs.ped_units.specs.Forms.{Called}
 use Rattle.ped_links.specs.ped_units.specs.Units.{call_of}
 use Rattle.ped_links.specs.ped_units.specs.Linking.{placed, calls_in, all_calls_in}

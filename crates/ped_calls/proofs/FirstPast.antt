@@ -7,8 +7,8 @@ use Rattle.ped_tree.specs.Numbering.{statements_count}
 use Rattle.ped_tree.specs.Grammar.LimitNumbers.{most_statements}
 use Rattle.ped_tree.specs.Grammar.Fits.{fits}
 use Rattle.ped_tree.specs.Grammar.Refusal.{Refusal}
-use Rattle.ped_links.specs.ped_valid.specs.ped_symbols.specs.NameRefusals.{name_refusals, IsValid}
-use Rattle.ped_links.specs.ped_valid.specs.ped_symbols.specs.ped_refs.proofs.SizeLaws.Small.{small_program}
+use Rattle.ped_links.specs.ped_symbols.specs.NameRefusals.{name_refusals, IsValid}
+use Rattle.ped_links.specs.ped_symbols.specs.ped_refs.proofs.SizeLaws.Small.{small_program}
 use Rattle.ped_links.specs.ped_units.specs.Units.{ProgramUnits}
 use Rattle.ped_links.specs.ped_units.specs.Linking.{Placed, calls_of}
 use Rattle.ped_links.specs.ped_units.specs.Expanding.{constants_of, main_call_expanded, nothing_given, main_expanded, with_statements, expansion}

@@ -8,7 +8,7 @@ use Rattle.ped_tree.specs.Grammar.LimitNumbers.{most_statements}
 use Rattle.ped_tree.specs.Grammar.Fits.{fits}
 use Rattle.ped_tree.specs.Grammar.Refusal.{Refusal, Tab, BadLabel, TooManyContinuations, ContinuationFirst, BadCharacter, OpenConstant, Syntax, NotInProfile, OpenBlock, BadTerminal, IndexAssigned, StopPlace, RealName, DeclaredTwice, NotConstant, RankDiffers, BoundsEmpty, Limit, StorageLimit}
 use Rattle.ped_links.specs.ped_valid.specs.declared.opening.Opened.{Opened}
-use Rattle.ped_links.specs.ped_valid.specs.ped_symbols.specs.NameRefusals.{IsValid}
+use Rattle.ped_links.specs.ped_symbols.specs.NameRefusals.{IsValid}
 use Rattle.ped_links.specs.ped_units.specs.Units.{ProgramUnits}
 use Rattle.ped_links.specs.ped_units.specs.Expanding.{main_expanded, with_statements, main_call_expanded, nothing_given, constants_of}
 use Rattle.ped_links.specs.ped_units.specs.Verdicts.{calls_count, first_calls, partial, IsPast}

@@ -16,13 +16,13 @@ use Rattle.ped_tree.specs.Grammar.BlockForms.{entry, body_entries, body_keeps_la
 use Rattle.ped_tree.specs.Grammar.ProgramForms.{ProgramForm, decl_entry, program_entries, decl_trees, front_remarks, behind_front, all_trees, program_form_tree}
 use Rattle.ped_tree.specs.Grammar.ProgramRefusals.{at_statements, at_end, program_refusals}
 use Rattle.ped_tree.specs.Grammar.Reading.{IsReading}
-use Rattle.ped_links.specs.ped_valid.specs.ped_parse.specs.ped_blocks.proofs.BlocksFound.{left_empty, right_empty, first_none}
-use Rattle.ped_links.specs.ped_valid.specs.ped_parse.specs.ped_printed.proofs.ProgramLaws.FitBodyLists.{CommentsFit, IsSourced, Sourced, first_sourced, rest_sourced, Accepted, accepted_behind, At}
-use Rattle.ped_links.specs.ped_valid.specs.ped_parse.specs.ped_printed.proofs.ProgramLaws.FitBodyWhole.{StatementSourced, front_fit, begins_behind_front, body_place, all_fit, whole_body_fits}
-use Rattle.ped_links.specs.ped_valid.specs.ped_parse.specs.ped_printed.proofs.ProgramLaws.FitDeclsNames.{Named, saved_named}
-use Rattle.ped_links.specs.ped_valid.specs.ped_parse.specs.ped_printed.proofs.ProgramLaws.FitDecls.{declarations_both, declarations_fit, constants_both, behind_declarations, front_constants}
-use Rattle.ped_links.specs.ped_valid.specs.ped_parse.specs.ped_printed.proofs.ProgramLaws.Sources.{statements_sourced}
-use Rattle.ped_links.specs.ped_valid.specs.ped_symbols.specs.NameRefusals.{name_refusals}
+use Rattle.ped_links.specs.ped_parse.specs.ped_blocks.proofs.BlocksFound.{left_empty, right_empty, first_none}
+use Rattle.ped_links.specs.ped_parse.specs.ped_printed.proofs.ProgramLaws.FitBodyLists.{CommentsFit, IsSourced, Sourced, first_sourced, rest_sourced, Accepted, accepted_behind, At}
+use Rattle.ped_links.specs.ped_parse.specs.ped_printed.proofs.ProgramLaws.FitBodyWhole.{StatementSourced, front_fit, begins_behind_front, body_place, all_fit, whole_body_fits}
+use Rattle.ped_links.specs.ped_parse.specs.ped_printed.proofs.ProgramLaws.FitDeclsNames.{Named, saved_named}
+use Rattle.ped_links.specs.ped_parse.specs.ped_printed.proofs.ProgramLaws.FitDecls.{declarations_both, declarations_fit, constants_both, behind_declarations, front_constants}
+use Rattle.ped_links.specs.ped_parse.specs.ped_printed.proofs.ProgramLaws.Sources.{statements_sourced}
+use Rattle.ped_links.specs.ped_symbols.specs.NameRefusals.{name_refusals}
 use Rattle.ped_links.specs.ped_valid.proofs.WithoutLines.{none_on_any}
 use Rattle.ped_links.specs.ped_units.specs.Forms.{Called, UnitItem, plain, calls, calls_if, begins_unit, returns, IsUnitItem}
 use Rattle.ped_links.specs.ped_units.specs.Units.{ProgramUnits, all_units, call_statement}

@@ -10,11 +10,11 @@ use Rattle.ped_tree.specs.Grammar.LimitNumbers.{most_statements}
 use Rattle.ped_tree.specs.NamesIn.{first_occurrences}
 use Rattle.ped_tree.specs.Names.Collecting.{with_name, with_names}
 use Rattle.ped_tree.specs.Views.{decl_tree, stmt_trees}
-use Rattle.ped_links.specs.ped_valid.specs.ped_symbols.specs.declared.symbols.Kind.{Kind}
-use Rattle.ped_links.specs.ped_valid.specs.ped_symbols.specs.Declarations.{program_name}
+use Rattle.ped_links.specs.ped_symbols.specs.declared.symbols.Kind.{Kind}
+use Rattle.ped_links.specs.ped_symbols.specs.Declarations.{program_name}
 use Rattle.ped_base.specs.Lists.{is_same_text}
-use Rattle.ped_links.specs.ped_valid.specs.ped_symbols.specs.Kinds.{Table, table_of, kind_of, names_of}
-use Rattle.ped_links.specs.ped_valid.specs.ped_symbols.specs.Values.{Values}
+use Rattle.ped_links.specs.ped_symbols.specs.Kinds.{Table, table_of, kind_of, names_of}
+use Rattle.ped_links.specs.ped_symbols.specs.Values.{Values}
 use Rattle.ped_links.specs.ped_units.specs.Units.{ProgramUnits, unit_of, unit_among}
 use Rattle.ped_links.specs.ped_units.specs.Units as units
 use Rattle.ped_links.specs.Numbers.{number_among, number_of_unit}

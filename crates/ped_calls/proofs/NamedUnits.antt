@@ -4,7 +4,7 @@ use Rattle.std.specs.Prelude.{IsTrue, ◌&&◌, ◌||◌, if◌then◌else◌}
 use Rattle.ped_tree.specs.Grammar.Statement.{Statement}
 use Rattle.ped_tree.specs.Grammar.Words.{is_name}
 use Rattle.ped_tree.specs.Grammar.Grouping.{statements_of}
-use Rattle.ped_links.specs.ped_valid.specs.ped_symbols.specs.Kinds.{Table}
+use Rattle.ped_links.specs.ped_symbols.specs.Kinds.{Table}
 use Rattle.ped_links.specs.ped_units.specs.Forms.{UnitItem, plain, calls, calls_if, begins_unit, returns, UnitForm, call, if_call, subroutine, a_return, unit_form_item, IsUnitItem}
 use Rattle.ped_links.specs.ped_units.specs.Units.{ProgramUnit, ProgramUnits, all_units}
 use Rattle.ped_links.specs.ped_units.specs.Reading.{UnitEntry, AreUnitEntries, ends, begins, further_segments, own_entries, Segment, name_in, IsHeaded, AreUnitsOf}

@@ -6,9 +6,9 @@ use Rattle.ped_tree.specs.Grammar.Refusal.{Finding, first_of}
 use Rattle.ped_tree.specs.Grammar.Statement.{Statement}
 use Rattle.ped_tree.specs.Grammar.Grouping.{statements_of}
 use Rattle.ped_tree.specs.Grammar.LineRefusals.{first_line_refusal}
-use Rattle.ped_links.specs.ped_valid.specs.ped_parse.specs.ped_statements.proofs.OneReading.{reading_is}
-use Rattle.ped_links.specs.ped_valid.specs.ped_parse.specs.ped_blocks.proofs.BlocksFound.{first_none}
-use Rattle.ped_links.specs.ped_valid.specs.ped_symbols.specs.NameRefusals.{name_refusals, IsValid}
+use Rattle.ped_links.specs.ped_parse.specs.ped_statements.proofs.OneReading.{reading_is}
+use Rattle.ped_links.specs.ped_parse.specs.ped_blocks.proofs.BlocksFound.{first_none}
+use Rattle.ped_links.specs.ped_symbols.specs.NameRefusals.{name_refusals, IsValid}
 use Rattle.ped_links.specs.ped_units.specs.Units.{ProgramUnits, all_units}
 use Rattle.ped_links.specs.ped_units.specs.Reading.{UnitEntry, AreUnitEntries, IsCutIntoUnits}
 use Rattle.ped_links.specs.ped_units.specs.Refusals.{first_segments_refusal, ReadsUnits, units_name_refusals}

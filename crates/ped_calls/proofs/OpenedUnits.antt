@@ -4,8 +4,8 @@ use Rattle.std.specs.Prelude.{All}
 use Rattle.ped_tree.specs.Tree.{ProgramTree}
 use Rattle.ped_tree.specs.Grammar.Refusal.{first_of}
 use Rattle.ped_tree.specs.Grammar.RefusalViews.{finding_of}
-use Rattle.ped_links.specs.ped_valid.specs.ped_symbols.specs.Kinds.{Table}
-use Rattle.ped_links.specs.ped_valid.specs.ped_symbols.specs.NameRefusals.{IsValid}
+use Rattle.ped_links.specs.ped_symbols.specs.Kinds.{Table}
+use Rattle.ped_links.specs.ped_symbols.specs.NameRefusals.{IsValid}
 use Rattle.ped_links.specs.ped_units.specs.Units.{ProgramUnit, ProgramUnits, all_units}
 use Rattle.ped_links.specs.ped_units.specs.Refusals.{ReadsUnits, units_name_refusals}
 use Rattle.ped_links.specs.ped_units.specs.Linking.{IsLinked}

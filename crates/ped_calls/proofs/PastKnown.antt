@@ -4,7 +4,7 @@ use Rattle.std.specs.Prelude.{◌||◌, not}
 use Rattle.std.proofs.lemmas.Bool.{cases_lt}
 use Rattle.ped_tree.specs.Grammar.Fits.{fits}
 use Rattle.ped_tree.specs.Grammar.Refusal.{Finding, Refusal, Tab, BadLabel, TooManyContinuations, ContinuationFirst, BadCharacter, OpenConstant, Syntax, NotInProfile, OpenBlock, BadTerminal, IndexAssigned, StopPlace, RealName, DeclaredTwice, NotConstant, RankDiffers, BoundsEmpty, Limit, StorageLimit}
-use Rattle.ped_links.specs.ped_valid.specs.ped_symbols.specs.NameRefusals.{name_refusals, IsValid}
+use Rattle.ped_links.specs.ped_symbols.specs.NameRefusals.{name_refusals, IsValid}
 use Rattle.ped_links.specs.ped_units.specs.Units.{ProgramUnits}
 use Rattle.ped_links.specs.ped_units.specs.Linking.{Placed, calls_of}
 use Rattle.ped_links.specs.ped_units.specs.Expanding.{expansion}

@@ -10,7 +10,7 @@ use Rattle.ped_tree.specs.Grammar.Occurrences.{saved_names}
 use Rattle.ped_tree.specs.Grammar.ProgramForms.{first_lines}
 use Rattle.ped_tree.specs.Grammar.ProgramRefusals.{is_left_out, is_behind_end, breaks_syntax, at_statement, at_statements, at_end, program_refusals}
 use Rattle.ped_tree.specs.Grammar.Reading.{IsReading, AreEntries}
-use Rattle.ped_links.specs.ped_valid.specs.ped_parse.specs.ped_blocks.proofs.BlocksFound.{none_stands, left_empty, right_empty, first_none}
+use Rattle.ped_links.specs.ped_parse.specs.ped_blocks.proofs.BlocksFound.{none_stands, left_empty, right_empty, first_none}
 use Rattle.ped_links.specs.ped_valid.specs.Validity.{ReadsValid}
 use Rattle.ped_links.specs.ped_valid.proofs.WithoutLines.{none_on_any}
 use Rattle.ped_links.specs.ped_units.specs.Forms.{plain, IsUnitItem}

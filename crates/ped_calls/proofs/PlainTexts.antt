@@ -9,7 +9,7 @@ use Rattle.ped_tree.specs.Grammar.ProgramRefusals.{program_refusals}
 use Rattle.ped_tree.specs.Grammar.Reading.{AreEntries, Reads, Refuses}
 use Rattle.ped_tree.specs.Grammar.Reading as reading
 use Rattle.ped_tree.proofs.GrammarLaws.OneReading.{one_entries}
-use Rattle.ped_links.specs.ped_valid.specs.ped_parse.specs.ped_statements.proofs.OneStatement.{one_item}
+use Rattle.ped_links.specs.ped_parse.specs.ped_statements.proofs.OneStatement.{one_item}
 use Rattle.ped_links.specs.ped_valid.specs.Validity.{ReadsValid, RefusesNames, RefusesText}
 use Rattle.ped_links.specs.ped_valid.specs.Validity as texts
 use Rattle.ped_links.specs.ped_units.specs.Units.{ProgramUnits}

@@ -17,8 +17,8 @@ use Rattle.ped_tree.specs.Grammar.ProgramForms.{program_form_tree, first_lines}
 use Rattle.ped_tree.specs.Grammar.ProgramRefusals.{meets, program_refusals}
 use Rattle.ped_tree.specs.Grammar.Reading.{IsReading, AreEntries, IsCutInto, Reads, HasFirstLines}
 use Rattle.ped_tree.proofs.GrammarLaws.OneReading.{one_entries}
-use Rattle.ped_links.specs.ped_valid.specs.ped_parse.specs.ped_statements.proofs.OneStatement.{one_item}
-use Rattle.ped_links.specs.ped_valid.specs.ped_symbols.specs.NameRefusals.{name_refusals, has_twice}
+use Rattle.ped_links.specs.ped_parse.specs.ped_statements.proofs.OneStatement.{one_item}
+use Rattle.ped_links.specs.ped_symbols.specs.NameRefusals.{name_refusals, has_twice}
 use Rattle.ped_links.specs.ped_units.specs.Forms.{Called, UnitItem, plain, calls, calls_if, begins_unit, returns, UnitForm, call, if_call, subroutine, a_return, unit_form_text, unit_form_item, IsUnitItem}
 use Rattle.ped_links.specs.ped_units.specs.Units.{ProgramUnit, ProgramUnits, all_units, call_of, call_statement, instead_of, with_calls, all_with_calls}
 use Rattle.ped_links.specs.ped_units.specs.Reading.{UnitEntry, AreUnitEntries, IsCutIntoUnits, ends, begins, own_entries, further_segments, Segment, segments_of, is_end_next, as_reading, as_entries, stand_in, seen_entries, kept_entries, IsUnitOf, AreUnitsOf}

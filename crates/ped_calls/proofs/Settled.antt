@@ -11,7 +11,7 @@ use Rattle.ped_tree.specs.Grammar.Contexts.{decl_rank}
 use Rattle.ped_tree.specs.Grammar.LimitNumbers.{most_characters}
 use Rattle.ped_tree.specs.Grammar.ProgramRefusals.{is_out_of_order}
 use Rattle.ped_tree.specs.Grammar.Fits.{Surroundings, at_body, moved, comment_fits, decl_fits, decls_fit, stmts_fit, begins_with_statement, fits}
-use Rattle.ped_links.specs.ped_valid.specs.ped_symbols.specs.Values.{Values}
+use Rattle.ped_links.specs.ped_symbols.specs.Values.{Values}
 use Rattle.ped_links.specs.ped_units.specs.Forms.{Called}
 use Rattle.ped_links.specs.ped_units.specs.Units.{ProgramUnit, ProgramUnits, unit_of, call_of}
 use Rattle.ped_links.specs.ped_units.specs.Expanding.{Given, Meanings, Expanded, replaced, expanded_or, all_expanded_in, call_expanded, unit_expanded}

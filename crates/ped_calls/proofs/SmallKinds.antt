@@ -8,13 +8,13 @@ use Rattle.ped_base.specs.Lists.{is_same_text, is_among, has_some}
 use Rattle.ped_tree.specs.Tree.{ExprTree, BoundTree, DeclaratorTree, ProgramTree}
 use Rattle.ped_tree.specs.Grammar.LimitNumbers.{greatest_literal, most_dimensions}
 use Rattle.ped_tree.specs.Constants.ConstantExpressions.{constant_value}
-use Rattle.ped_links.specs.ped_valid.specs.ped_symbols.specs.declared.symbols.Kind.{Kind}
-use Rattle.ped_links.specs.ped_valid.specs.ped_symbols.specs.Entries.{entry_of}
-use Rattle.ped_links.specs.ped_valid.specs.ped_symbols.specs.Values.{Values, within, fixed_value, with_value, behind_items, items, declarators}
-use Rattle.ped_links.specs.ped_valid.specs.ped_symbols.specs.Arrays.{Arrays, with_dimension, bounds_values, with_bounds, arrays_of, arrays_in}
-use Rattle.ped_links.specs.ped_valid.specs.ped_symbols.specs.Sites.{Site, declaration, statement, private_names, program_sites}
-use Rattle.ped_links.specs.ped_valid.specs.ped_symbols.specs.NameRefusals.{Before, at_first, behind_site, behind_sites}
-use Rattle.ped_links.specs.ped_valid.specs.ped_symbols.specs.Kinds.{at_last, kind_by, kind_of, kind_in, names_of, table_of}
+use Rattle.ped_links.specs.ped_symbols.specs.declared.symbols.Kind.{Kind}
+use Rattle.ped_links.specs.ped_symbols.specs.Entries.{entry_of}
+use Rattle.ped_links.specs.ped_symbols.specs.Values.{Values, within, fixed_value, with_value, behind_items, items, declarators}
+use Rattle.ped_links.specs.ped_symbols.specs.Arrays.{Arrays, with_dimension, bounds_values, with_bounds, arrays_of, arrays_in}
+use Rattle.ped_links.specs.ped_symbols.specs.Sites.{Site, declaration, statement, private_names, program_sites}
+use Rattle.ped_links.specs.ped_symbols.specs.NameRefusals.{Before, at_first, behind_site, behind_sites}
+use Rattle.ped_links.specs.ped_symbols.specs.Kinds.{at_last, kind_by, kind_of, kind_in, names_of, table_of}
 use Rattle.ped_links.specs.ped_valid.specs.ped_symbols.proofs.RightUseLaws.Found.{found_in_program}
 use Rattle.ped_calls.specs.Giving.{IsSmall, HasSmallBounds, HasSmallKind}
 

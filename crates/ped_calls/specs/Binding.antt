@@ -1,9 +1,9 @@
 -- What the names of a subroutine stand for, as the code reports. Only contracts of private functions use it.
 use Rattle.std.specs.Prelude.{◌≡◌, ◌++◌, ℕ, ℤ, List, drop, Option, is_some, All, if◌then◌else◌}
 use Rattle.ped_tree.specs.Tree.{ExprTree, StmtTree}
-use Rattle.ped_links.specs.ped_valid.specs.ped_symbols.specs.declared.symbols.Kind.{Kind}
-use Rattle.ped_links.specs.ped_valid.specs.ped_symbols.specs.Entries.{entry_of}
-use Rattle.ped_links.specs.ped_valid.specs.ped_symbols.specs.Values.{Values}
+use Rattle.ped_links.specs.ped_symbols.specs.declared.symbols.Kind.{Kind}
+use Rattle.ped_links.specs.ped_symbols.specs.Entries.{entry_of}
+use Rattle.ped_links.specs.ped_symbols.specs.Values.{Values}
 use Rattle.ped_links.specs.ped_units.specs.Units.{ProgramUnit}
 use Rattle.ped_calls.specs.Giving.{IsSmall}
 use Rattle.ped_links.specs.ped_units.specs.Expanding.{Given, Meanings, Renamed, with_constants, constants_of, body_names, renamed, with_renamed, with_formals, bound_arguments}

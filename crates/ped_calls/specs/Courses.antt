@@ -5,7 +5,7 @@ use Rattle.ped_tree.specs.Views.{pack_exprs}
 use Rattle.ped_tree.specs.Numbering.{statements_count}
 use Rattle.ped_tree.specs.Grammar.Fits.{Surroundings, stmt_fits, stmts_fit}
 use Rattle.ped_tree.specs.Grammar.LimitNumbers.{most_statements}
-use Rattle.ped_links.specs.ped_valid.specs.ped_symbols.specs.Kinds.{table_of}
+use Rattle.ped_links.specs.ped_symbols.specs.Kinds.{table_of}
 use Rattle.ped_links.specs.ped_units.specs.Units.{ProgramUnit, ProgramUnits, unit_of}
 use Rattle.ped_links.specs.ped_units.specs.Forms.{Called}
 use Rattle.ped_links.specs.ped_units.specs.Refusals.{for_names}

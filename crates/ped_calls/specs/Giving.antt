@@ -5,8 +5,8 @@ use Rattle.ped_base.specs.Lists.{is_among}
 use Rattle.ped_tree.specs.Tree.{DeclTree}
 use Rattle.ped_tree.specs.Views.{decl_tree}
 use Rattle.ped_tree.specs.declared.declarations.Decl.{Decl}
-use Rattle.ped_links.specs.ped_valid.specs.ped_symbols.specs.declared.symbols.Kind.{Kind}
-use Rattle.ped_links.specs.ped_valid.specs.ped_symbols.specs.declared.symbols.Kind.TheVariants.{Scalar, Array, Constant}
+use Rattle.ped_links.specs.ped_symbols.specs.declared.symbols.Kind.{Kind}
+use Rattle.ped_links.specs.ped_symbols.specs.declared.symbols.Kind.TheVariants.{Scalar, Array, Constant}
 use Rattle.ped_links.specs.ped_units.specs.Expanding as plain
 use Rattle.ped_links.specs.ped_units.specs.Expanding.{numbered_name}
 use Rattle.ped_calls.specs.declared.giving.Given.{Given}

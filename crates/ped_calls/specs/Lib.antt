@@ -1,6 +1,8 @@
 pub use Rattle.ped_links
 pub use Rattle.ped_links.specs.ped_units
 pub use Rattle.ped_links.specs.ped_valid
+pub use Rattle.ped_links.specs.ped_parse
+pub use Rattle.ped_links.specs.ped_symbols
 pub mod Laws
 pub mod Meaning
 pub mod Giving

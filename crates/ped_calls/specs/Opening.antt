@@ -6,8 +6,8 @@ use Rattle.ped_tree.specs.Numbering.{statements_count}
 use Rattle.ped_tree.specs.Grammar.LimitNumbers.{most_statements}
 use Rattle.ped_tree.specs.Grammar.Fits.{fits, begins_with_statement}
 use Rattle.ped_tree.specs.Grammar.Refusal.{Refusal}
-use Rattle.ped_links.specs.ped_valid.specs.ped_symbols.specs.Kinds.{table_of}
-use Rattle.ped_links.specs.ped_valid.specs.ped_symbols.specs.NameRefusals.{name_refusals, IsValid}
+use Rattle.ped_links.specs.ped_symbols.specs.Kinds.{table_of}
+use Rattle.ped_links.specs.ped_symbols.specs.NameRefusals.{name_refusals, IsValid}
 use Rattle.ped_links.specs.ped_units.specs.Units.{ProgramUnits}
 use Rattle.ped_links.specs.ped_units.specs.Expanding.{main_expanded, with_statements, behind_stmts}
 use Rattle.ped_links.specs.ped_units.specs.Verdicts.{front_comments, behind_comments, settled, calls_count, partial, IsPast, of_text, IsFirstPast}

@@ -4,9 +4,9 @@
 ghost use Rattle.std.specs.Prelude.{◌≡◌, ◌+◌, ◌++◌, ◌∷◌, [], IfOk, IfSome, OnOk, map, drop};
 ghost use Rattle.ped_tree.specs.Tree.{Var, Assign};
 ghost use Rattle.ped_tree.specs.Views.{expr_tree, stmt_tree};
-ghost use Rattle.ped_links.specs.ped_valid.specs.ped_symbols.specs.Kinds.{table_of};
-ghost use Rattle.ped_links.specs.ped_valid.specs.ped_symbols.specs.Values as Values;
-ghost use Rattle.ped_links.specs.ped_valid.specs.ped_symbols.specs.Entries.{entry_of};
+ghost use Rattle.ped_links.specs.ped_symbols.specs.Kinds.{table_of};
+ghost use Rattle.ped_links.specs.ped_symbols.specs.Values as Values;
+ghost use Rattle.ped_links.specs.ped_symbols.specs.Entries.{entry_of};
 ghost use Rattle.ped_links.specs.ped_units.specs.Refusals.{for_names};
 ghost use Rattle.ped_links.specs.ped_units.specs.Expanding as Spec;
 ghost use Rattle.ped_links.specs.ped_units.specs.Expanding.{free_name, with_new, with_formals, with_constants, bound_arguments};

@@ -6,7 +6,7 @@ ghost use Rattle.ped_tree.specs.Views.{expr_tree, pack_exprs, cond_tree, stmt_tr
 ghost use Rattle.ped_tree.specs.Numbering as Numbering;
 ghost use Rattle.ped_tree.specs.Grammar.LimitNumbers.{most_blocks_nested};
 ghost use Rattle.ped_print.specs.Lengths.{limited};
-ghost use Rattle.ped_links.specs.ped_valid.specs.ped_symbols.specs.Kinds.{table_of};
+ghost use Rattle.ped_links.specs.ped_symbols.specs.Kinds.{table_of};
 ghost use Rattle.ped_links.specs.ped_units.specs.Units as Units;
 ghost use Rattle.ped_links.specs.ped_units.specs.Refusals.{for_names};
 ghost use Rattle.ped_links.specs.ped_units.specs.Expanding as Spec;

@@ -3,7 +3,7 @@
 ghost use Rattle.std.specs.Prelude.{◌≡◌, [], Ok, IfOk, OnOk, is_some, map};
 ghost use Rattle.ped_tree.specs.Tree as Tree;
 ghost use Rattle.ped_tree.specs.Views.{expr_tree, pack_exprs, cond_tree, item_tree, stmt_tree, stmt_trees, do_tree, head_of};
-ghost use Rattle.ped_links.specs.ped_valid.specs.ped_symbols.specs.Entries.{entry_of, with_entry};
+ghost use Rattle.ped_links.specs.ped_symbols.specs.Entries.{entry_of, with_entry};
 ghost use Rattle.ped_links.specs.ped_units.specs.Expanding as Spec;
 ghost use Rattle.ped_calls.specs.Meaning.{meanings_of, with_control, with_operands as with_operands_tree};
 

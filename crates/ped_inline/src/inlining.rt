@@ -15,7 +15,7 @@ ghost use Rattle.ped_inline.specs.Inlining as Spec;
 use crate::blocks::block_at;
 use ped_base::{Listed, NoMemory};
 use ped_rules::{
-    Change, Keep, Refused, Rule, Scene, against, behind_comments, body_with, change_to,
+    Change, Keep, Rule, Scene, StepAnswer, against, behind_comments, body_with, change_to,
 };
 use ped_tree::{Program, Stmt, copy_decls, count_statements};
 use std::alloc::Global;
@@ -28,11 +28,7 @@ use std::sync::ledger::Ledger;
 ///
 /// `Refused` exactly where a rule forbids the step, with the rule of the least number: Limit or NoCall. No dependence
 /// forbids the step.
-pub fn inline<L: Ledger>(
-    alloc: Global,
-    scene: &Scene<L>,
-    number: u32,
-) -> Result<Result<Change, Refused>, NoMemory>
+pub fn inline<L: Ledger>(alloc: Global, scene: &Scene<L>, number: u32) -> StepAnswer
     requires { IsSceneOf (program_tree scene.now.tree.now) scene.now }
     ensures { IfOk result (Answers (Spec.inlining number) (program_tree scene.now.tree.now)) }
 {
@@ -52,7 +48,7 @@ fn inline_block<L: Ledger>(
     scene: &Scene<L>,
     number: u32,
     body: &[Stmt],
-) -> Result<Result<Change, Refused>, NoMemory>
+) -> StepAnswer
     requires scene { IsSceneOf (program_tree scene.now.tree.now) scene.now }
     requires is { IsBlock (program_tree scene.now.tree.now) number (stmt_trees body.now) }
     ensures { IfOk result (Answers (Spec.inlining number) (program_tree scene.now.tree.now)) }

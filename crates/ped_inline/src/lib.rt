@@ -15,4 +15,4 @@ pub use inlining::inline;
 pub use laws::inline_is_lawful;
 pub use pane::calls_pane;
 pub use pane_laws::{calls_are_covered, one_calls_pane};
-pub use ped_rules::{Change, Refused, Scene, cause_words, loop_at, loops_round};
+pub use ped_rules::{Change, Refused, Scene, StepAnswer, cause_words, loop_at, loops_round};

@@ -1,5 +1,7 @@
 pub use Rattle.ped_units
 pub use Rattle.ped_units.specs.ped_valid
+pub use Rattle.ped_units.specs.ped_parse
+pub use Rattle.ped_units.specs.ped_symbols
 pub mod Reaching
 pub mod Ranking
 pub mod Placing

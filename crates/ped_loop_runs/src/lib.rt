@@ -34,7 +34,7 @@ pub use numbers::numbers_kept;
 pub use one_out::plain_one_out;
 pub use other_copies::{exchanged_near_keeps, executions_pasted_near, parts_stand_near};
 pub use ped_bodies::{
-    Change, Flow, Keep, PairKey, Prepared, Reader, Refused, Rule, Scene, Symbols,
+    Change, Flow, Keep, PairKey, Prepared, Reader, Refused, Rule, Scene, StepAnswer, Symbols,
     accesses_are_made, accesses_in_sequence, all_kept, body_with, cause_words, change_to,
     conflicts_are_covered, flow_of, loop_at, loops_round, prepare, program_with, valid_symbols,
 };

@@ -26,8 +26,8 @@ use crate::shapes::{Pair, exchanged, names_outer, pair_of};
 use ped_base::NoMemory;
 use ped_refs::Loop;
 use ped_rules::{
-    Change, Refused, Rule, Scene, against, all_but, are_plain, change_to, escapes, first_crossing,
-    has_step_one, leaves, loop_at, loops_round, only_loop, program_with,
+    Change, Refused, Rule, Scene, StepAnswer, against, all_but, are_plain, change_to, escapes,
+    first_crossing, has_step_one, leaves, loop_at, loops_round, only_loop, program_with,
 };
 use ped_tree::constants::Consts;
 use ped_tree::{Do, Program, Stmt};
@@ -43,11 +43,7 @@ use std::sync::ledger::Ledger;
 /// ParallelState, HasPrivate, IndexEscapes, BoundNotPlain, BoundsShape, StepShape, Range or Limit; and else where the
 /// DO carries a dependence that the user hasn't rejected and of which the sink is in an earlier iteration of the inner
 /// DO, with the first one in the order of the pane.
-pub fn interchange<L: Ledger>(
-    alloc: Global,
-    scene: &Scene<L>,
-    number: u32,
-) -> Result<Result<Change, Refused>, NoMemory>
+pub fn interchange<L: Ledger>(alloc: Global, scene: &Scene<L>, number: u32) -> StepAnswer
     requires { IsSceneOf (program_tree scene.now.tree.now) scene.now }
     ensures { IfOk result (Answers (Spec.interchanging number) (program_tree scene.now.tree.now)) }
 {
@@ -62,12 +58,7 @@ pub fn interchange<L: Ledger>(
 }
 
 /// The same, where the statement is this DO.
-fn interchange_in<L: Ledger>(
-    alloc: Global,
-    scene: &Scene<L>,
-    number: u32,
-    outer: &Do,
-) -> Result<Result<Change, Refused>, NoMemory>
+fn interchange_in<L: Ledger>(alloc: Global, scene: &Scene<L>, number: u32, outer: &Do) -> StepAnswer
     requires scene { IsSceneOf (program_tree scene.now.tree.now) scene.now }
     requires is { IsLoop (program_tree scene.now.tree.now) number (head_of outer.now) (stmt_trees outer.now.body.items) }
     ensures { IfOk result (Answers (Spec.interchanging number) (program_tree scene.now.tree.now)) }
@@ -89,7 +80,7 @@ fn interchange_two<L: Ledger>(
     number: u32,
     outer: &Do,
     inner: &Do,
-) -> Result<Result<Change, Refused>, NoMemory>
+) -> StepAnswer
     requires scene { IsSceneOf (program_tree scene.now.tree.now) scene.now }
     requires is { IsLoop (program_tree scene.now.tree.now) number (head_of outer.now) (stmt_trees outer.now.body.items) }
     requires only { only_loop (stmt_trees outer.now.body.items) ≡ Some (head_of inner.now, stmt_trees inner.now.body.items) }
@@ -139,7 +130,7 @@ fn unless_unplain<L: Ledger>(
     number: u32,
     outer: &Do,
     inner: &Do,
-) -> Result<Result<Change, Refused>, NoMemory>
+) -> StepAnswer
     requires scene { IsSceneOf (program_tree scene.now.tree.now) scene.now }
     requires is { IsLoop (program_tree scene.now.tree.now) number (head_of outer.now) (stmt_trees outer.now.body.items) }
     requires only { only_loop (stmt_trees outer.now.body.items) ≡ Some (head_of inner.now, stmt_trees inner.now.body.items) }
@@ -186,7 +177,7 @@ fn unless_tied<L: Ledger>(
     number: u32,
     outer: &Do,
     inner: &Do,
-) -> Result<Result<Change, Refused>, NoMemory>
+) -> StepAnswer
     requires scene { IsSceneOf (program_tree scene.now.tree.now) scene.now }
     requires is { IsLoop (program_tree scene.now.tree.now) number (head_of outer.now) (stmt_trees outer.now.body.items) }
     requires only { only_loop (stmt_trees outer.now.body.items) ≡ Some (head_of inner.now, stmt_trees inner.now.body.items) }
@@ -211,7 +202,7 @@ fn unless_stepping<L: Ledger>(
     outer: &Do,
     inner: &Do,
     pair: &Pair,
-) -> Result<Result<Change, Refused>, NoMemory>
+) -> StepAnswer
     requires scene { IsSceneOf (program_tree scene.now.tree.now) scene.now }
     requires is { IsLoop (program_tree scene.now.tree.now) number (head_of outer.now) (stmt_trees outer.now.body.items) }
     requires only { only_loop (stmt_trees outer.now.body.items) ≡ Some (head_of inner.now, stmt_trees inner.now.body.items) }
@@ -253,7 +244,7 @@ fn unless_far<L: Ledger>(
     outer: &Do,
     inner: &Do,
     new: &Do,
-) -> Result<Result<Change, Refused>, NoMemory>
+) -> StepAnswer
     requires scene { IsSceneOf (program_tree scene.now.tree.now) scene.now }
     requires is { IsLoop (program_tree scene.now.tree.now) number (head_of outer.now) (stmt_trees outer.now.body.items) }
     requires only { only_loop (stmt_trees outer.now.body.items) ≡ Some (head_of inner.now, stmt_trees inner.now.body.items) }
@@ -331,7 +322,7 @@ fn unless_crossing<L: Ledger>(
     scene: &Scene<L>,
     number: u32,
     change: Change,
-) -> Result<Result<Change, Refused>, NoMemory>
+) -> StepAnswer
     requires scene { IsSceneOf (program_tree scene.now.tree.now) scene.now }
     requires free { NoRule (Spec.StandsAgainstInterchange number (program_tree scene.now.tree.now)) }
     requires is { IsChange (Spec.interchanged (program_tree scene.now.tree.now) number) (KeepMaps.all_but number (number + 1) (program_tree scene.now.tree.now)) change }

@@ -13,7 +13,9 @@ ghost use Rattle.ped_rules.specs.Paralleling as Spec;
 
 use crate::flags::flagged;
 use ped_base::NoMemory;
-use ped_rules::{Change, Refused, Rule, Scene, against, escapes, first_carried, loop_at};
+use ped_rules::{
+    Change, Refused, Rule, Scene, StepAnswer, against, escapes, first_carried, loop_at,
+};
 use ped_tree::Do;
 use std::alloc::Global;
 use std::sync::ledger::Ledger;
@@ -26,11 +28,7 @@ use std::sync::ledger::Ledger;
 /// `Refused` exactly where a rule forbids the step, with the rule of the least number: NoLoop, ParallelState,
 /// IndexEscapes or Limit; and else where the DO carries a dependence that the user hasn't rejected, with the first one
 /// in the order of the pane.
-pub fn make_parallel<L: Ledger>(
-    alloc: Global,
-    scene: &Scene<L>,
-    number: u32,
-) -> Result<Result<Change, Refused>, NoMemory>
+pub fn make_parallel<L: Ledger>(alloc: Global, scene: &Scene<L>, number: u32) -> StepAnswer
     requires { IsSceneOf (program_tree scene.now.tree.now) scene.now }
     ensures { IfOk result (Answers (Spec.paralleling number) (program_tree scene.now.tree.now)) }
 {
@@ -45,12 +43,7 @@ pub fn make_parallel<L: Ledger>(
 }
 
 /// The same, where the statement is this DO.
-fn make_parallel_in<L: Ledger>(
-    alloc: Global,
-    scene: &Scene<L>,
-    number: u32,
-    d: &Do,
-) -> Result<Result<Change, Refused>, NoMemory>
+fn make_parallel_in<L: Ledger>(alloc: Global, scene: &Scene<L>, number: u32, d: &Do) -> StepAnswer
     requires scene { IsSceneOf (program_tree scene.now.tree.now) scene.now }
     requires is { IsLoop (program_tree scene.now.tree.now) number (head_of d.now) (stmt_trees d.now.body.items) }
     ensures { IfOk result (Answers (Spec.paralleling number) (program_tree scene.now.tree.now)) }
@@ -77,7 +70,7 @@ fn unless_carried<L: Ledger>(
     scene: &Scene<L>,
     number: u32,
     change: Change,
-) -> Result<Result<Change, Refused>, NoMemory>
+) -> StepAnswer
     requires scene { IsSceneOf (program_tree scene.now.tree.now) scene.now }
     requires free { NoRule (Spec.StandsAgainstParallel number (program_tree scene.now.tree.now)) }
     requires is { IsChange (Flags.flagged (program_tree scene.now.tree.now) number true) (all_kept (program_tree scene.now.tree.now)) change }

@@ -21,7 +21,7 @@ use ped_base::{Name, NoMemory};
 use ped_edges::{Edge, Mark};
 use ped_refs::RefName;
 use ped_rules::{
-    Change, Refused, Rule, Scene, against, all_kept, change_to, level_at, loop_at, program_with,
+    Change, Rule, Scene, StepAnswer, against, all_kept, change_to, level_at, loop_at, program_with,
 };
 use ped_tree::{Do, Program, Stmt};
 use std::alloc::Global;
@@ -34,12 +34,7 @@ use std::sync::ledger::Ledger;
 ///
 /// `Refused` exactly where a rule forbids the step: NoLoop, or NothingToReject where the DO carries no pending
 /// dependence on the name. No dependence forbids the step.
-pub fn reject<L: Ledger>(
-    alloc: Global,
-    scene: &Scene<L>,
-    number: u32,
-    name: &Name,
-) -> Result<Result<Change, Refused>, NoMemory>
+pub fn reject<L: Ledger>(alloc: Global, scene: &Scene<L>, number: u32, name: &Name) -> StepAnswer
     requires { IsSceneOf (program_tree scene.now.tree.now) scene.now }
     ensures { IfOk result (Answers (Spec.rejecting number name.now) (program_tree scene.now.tree.now)) }
 {
@@ -60,7 +55,7 @@ fn reject_in<L: Ledger>(
     number: u32,
     d: &Do,
     name: &Name,
-) -> Result<Result<Change, Refused>, NoMemory>
+) -> StepAnswer
     requires scene { IsSceneOf (program_tree scene.now.tree.now) scene.now }
     requires is { IsLoop (program_tree scene.now.tree.now) number (head_of d.now) (stmt_trees d.now.body.items) }
     ensures { IfOk result (Answers (Spec.rejecting number name.now) (program_tree scene.now.tree.now)) }

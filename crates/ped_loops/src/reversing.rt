@@ -19,8 +19,8 @@ ghost use Rattle.ped_loops.specs.Reversing as Spec;
 
 use ped_base::{NoMemory, both};
 use ped_rules::{
-    Change, Refused, Rule, Scene, against, all_kept, change_to, escapes, first_carried, literal,
-    loop_at, program_with, unit_step,
+    Change, Refused, Rule, Scene, StepAnswer, against, all_kept, change_to, escapes, first_carried,
+    literal, loop_at, program_with, unit_step,
 };
 use ped_tree::{Do, Program, Stmt};
 use std::alloc::Global;
@@ -34,11 +34,7 @@ use std::sync::ledger::Ledger;
 /// `Refused` exactly where a rule forbids the step, with the rule of the least number: NoLoop, ParallelState,
 /// IndexEscapes, StepShape or Limit; and else where the DO carries a dependence that the user hasn't rejected, with the
 /// first one in the order of the pane.
-pub fn reverse<L: Ledger>(
-    alloc: Global,
-    scene: &Scene<L>,
-    number: u32,
-) -> Result<Result<Change, Refused>, NoMemory>
+pub fn reverse<L: Ledger>(alloc: Global, scene: &Scene<L>, number: u32) -> StepAnswer
     requires { IsSceneOf (program_tree scene.now.tree.now) scene.now }
     ensures { IfOk result (Answers (Spec.reversing number) (program_tree scene.now.tree.now)) }
 {
@@ -53,12 +49,7 @@ pub fn reverse<L: Ledger>(
 }
 
 /// The same, where the statement is this DO.
-fn reverse_in<L: Ledger>(
-    alloc: Global,
-    scene: &Scene<L>,
-    number: u32,
-    d: &Do,
-) -> Result<Result<Change, Refused>, NoMemory>
+fn reverse_in<L: Ledger>(alloc: Global, scene: &Scene<L>, number: u32, d: &Do) -> StepAnswer
     requires scene { IsSceneOf (program_tree scene.now.tree.now) scene.now }
     requires is { IsLoop (program_tree scene.now.tree.now) number (head_of d.now) (stmt_trees d.now.body.items) }
     ensures { IfOk result (Answers (Spec.reversing number) (program_tree scene.now.tree.now)) }
@@ -86,7 +77,7 @@ fn reverse_by<L: Ledger>(
     number: u32,
     d: &Do,
     step: i64,
-) -> Result<Result<Change, Refused>, NoMemory>
+) -> StepAnswer
     requires scene { IsSceneOf (program_tree scene.now.tree.now) scene.now }
     requires is { IsLoop (program_tree scene.now.tree.now) number (head_of d.now) (stmt_trees d.now.body.items) }
     requires serial { (head_of d.now).parallel ≡ false }
@@ -111,7 +102,7 @@ fn unless_carried<L: Ledger>(
     scene: &Scene<L>,
     number: u32,
     change: Change,
-) -> Result<Result<Change, Refused>, NoMemory>
+) -> StepAnswer
     requires scene { IsSceneOf (program_tree scene.now.tree.now) scene.now }
     requires free { NoRule (Spec.StandsAgainstReversal number (program_tree scene.now.tree.now)) }
     requires is { IsChange (Spec.reversed (program_tree scene.now.tree.now) number) (Replacing.all_kept (program_tree scene.now.tree.now)) change }

@@ -8,8 +8,7 @@ ghost use Rattle.ped_rules.specs.ped_flow.specs.Questions.{IsLoop};
 ghost use Rattle.ped_loops.specs.Serialising as Spec;
 
 use crate::flags::flagged;
-use ped_base::NoMemory;
-use ped_rules::{Change, Refused, Rule, Scene, against, escapes, loop_at};
+use ped_rules::{Rule, Scene, StepAnswer, against, escapes, loop_at};
 use ped_tree::Do;
 use std::alloc::Global;
 use std::sync::ledger::Ledger;
@@ -21,11 +20,7 @@ use std::sync::ledger::Ledger;
 ///
 /// `Refused` exactly where a rule forbids the step, with the rule of the least number: NoLoop, ParallelState,
 /// IndexEscapes or Limit. No dependence forbids the step.
-pub fn make_serial<L: Ledger>(
-    alloc: Global,
-    scene: &Scene<L>,
-    number: u32,
-) -> Result<Result<Change, Refused>, NoMemory>
+pub fn make_serial<L: Ledger>(alloc: Global, scene: &Scene<L>, number: u32) -> StepAnswer
     requires { IsSceneOf (program_tree scene.now.tree.now) scene.now }
     ensures { IfOk result (Answers (Spec.serialising number) (program_tree scene.now.tree.now)) }
 {
@@ -40,12 +35,7 @@ pub fn make_serial<L: Ledger>(
 }
 
 /// The same, where the statement is this DO.
-fn make_serial_in<L: Ledger>(
-    alloc: Global,
-    scene: &Scene<L>,
-    number: u32,
-    d: &Do,
-) -> Result<Result<Change, Refused>, NoMemory>
+fn make_serial_in<L: Ledger>(alloc: Global, scene: &Scene<L>, number: u32, d: &Do) -> StepAnswer
     requires scene { IsSceneOf (program_tree scene.now.tree.now) scene.now }
     requires is { IsLoop (program_tree scene.now.tree.now) number (head_of d.now) (stmt_trees d.now.body.items) }
     ensures { IfOk result (Answers (Spec.serialising number) (program_tree scene.now.tree.now)) }

@@ -21,7 +21,7 @@ use crate::lowering::{is_in_live, is_lowerable, lower_front};
 use crate::rules::{early, late};
 use ped_base::{Name, NoMemory};
 use ped_rules::{
-    Change, Refused, Rule, Scene, against, all_kept, change_to, loop_at, program_with,
+    Change, Refused, Rule, Scene, StepAnswer, against, all_kept, change_to, loop_at, program_with,
 };
 use ped_tree::{Do, Program, Stmt};
 use std::alloc::Global;
@@ -35,12 +35,7 @@ use std::sync::ledger::Ledger;
 /// `Refused` exactly where a rule forbids the step, with the rule of the least number: NoLoop, ParallelState,
 /// IndexEscapes, Range, NotScalar, NotConstant, Limit, AlreadyPrivate or NotSum; and else where the DO carries a
 /// dependence on another name that the user hasn't rejected, with the first one in the order of the pane.
-pub fn reduce<L: Ledger>(
-    alloc: Global,
-    scene: &Scene<L>,
-    number: u32,
-    names: &[Name],
-) -> Result<Result<Change, Refused>, NoMemory>
+pub fn reduce<L: Ledger>(alloc: Global, scene: &Scene<L>, number: u32, names: &[Name]) -> StepAnswer
     requires { IsSceneOf (program_tree scene.now.tree.now) scene.now }
     ensures { IfOk result (Answers (Spec.reducing number names.now) (program_tree scene.now.tree.now)) }
 {
@@ -61,7 +56,7 @@ fn reduce_in<L: Ledger>(
     number: u32,
     d: &Do,
     names: &[Name],
-) -> Result<Result<Change, Refused>, NoMemory>
+) -> StepAnswer
     requires scene { IsSceneOf (program_tree scene.now.tree.now) scene.now }
     requires is { IsLoop (program_tree scene.now.tree.now) number (head_of d.now) (stmt_trees d.now.body.items) }
     ensures { IfOk result (Answers (Spec.reducing number names.now) (program_tree scene.now.tree.now)) }
@@ -88,7 +83,7 @@ fn unless_unlowerable<L: Ledger>(
     d: &Do,
     names: &[Name],
     change: Change,
-) -> Result<Result<Change, Refused>, NoMemory>
+) -> StepAnswer
     requires scene { IsSceneOf (program_tree scene.now.tree.now) scene.now }
     requires is { IsLoop (program_tree scene.now.tree.now) number (head_of d.now) (stmt_trees d.now.body.items) }
     requires clear { NoRule (Spec.also_against_sums number names.now (program_tree scene.now.tree.now) no_rules) }

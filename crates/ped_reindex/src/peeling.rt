@@ -19,7 +19,7 @@ use crate::iterations::{Iteration, TakenOut, iteration_of};
 use crate::lists::has_list;
 use ped_base::{NoMemory, both};
 use ped_rules::{
-    Change, Keep, Refused, Rule, Scene, against, behind_comments, body_with, change_to, escapes,
+    Change, Keep, Rule, Scene, StepAnswer, against, behind_comments, body_with, change_to, escapes,
     literal, loop_at, moved_by,
 };
 use ped_sums::substitute_in_statements;
@@ -35,12 +35,7 @@ use std::sync::ledger::Ledger;
 ///
 /// `Refused` exactly where a rule forbids the step, with the rule of the least number: NoLoop, ParallelState,
 /// HasPrivate, IndexEscapes, Range, NotConstant or Limit. No dependence forbids the step.
-pub fn peel<L: Ledger>(
-    alloc: Global,
-    scene: &Scene<L>,
-    number: u32,
-    last: bool,
-) -> Result<Result<Change, Refused>, NoMemory>
+pub fn peel<L: Ledger>(alloc: Global, scene: &Scene<L>, number: u32, last: bool) -> StepAnswer
     requires { IsSceneOf (program_tree scene.now.tree.now) scene.now }
     ensures { IfOk result (Answers (Spec.peeling number last) (program_tree scene.now.tree.now)) }
 {
@@ -61,7 +56,7 @@ fn peel_in<L: Ledger>(
     number: u32,
     d: &Do,
     last: bool,
-) -> Result<Result<Change, Refused>, NoMemory>
+) -> StepAnswer
     requires scene { IsSceneOf (program_tree scene.now.tree.now) scene.now }
     requires is { IsLoop (program_tree scene.now.tree.now) number (head_of d.now) (stmt_trees d.now.body.items) }
     ensures { IfOk result (Answers (Spec.peeling number last) (program_tree scene.now.tree.now)) }
@@ -85,7 +80,7 @@ fn peel_contained<L: Ledger>(
     number: u32,
     d: &Do,
     last: bool,
-) -> Result<Result<Change, Refused>, NoMemory>
+) -> StepAnswer
     requires scene { IsSceneOf (program_tree scene.now.tree.now) scene.now }
     requires is { IsLoop (program_tree scene.now.tree.now) number (head_of d.now) (stmt_trees d.now.body.items) }
     requires serial { (head_of d.now).parallel ≡ false }
@@ -114,7 +109,7 @@ fn peel_off<L: Ledger>(
     d: &Do,
     last: bool,
     taken: TakenOut,
-) -> Result<Result<Change, Refused>, NoMemory>
+) -> StepAnswer
     requires scene { IsSceneOf (program_tree scene.now.tree.now) scene.now }
     requires is { IsLoop (program_tree scene.now.tree.now) number (head_of d.now) (stmt_trees d.now.body.items) }
     requires serial { (head_of d.now).parallel ≡ false }

@@ -22,7 +22,7 @@ ghost use Rattle.ped_reindex.specs.CodeSkewing.{skewed_statement, all_skewed};
 use ped_base::{Name, NoMemory, both};
 use ped_refs::Loop;
 use ped_rules::{
-    Change, Refused, Rule, Scene, against, all_kept, change_to, escapes, leaves, loop_at,
+    Change, Rule, Scene, StepAnswer, against, all_kept, change_to, escapes, leaves, loop_at,
     loops_round, only_loop, program_with,
 };
 use ped_sums::{minus, plus, substitute_in_statements, times};
@@ -38,12 +38,7 @@ use std::sync::ledger::Ledger;
 ///
 /// `Refused` exactly where a rule forbids the step, with the rule of the least number: NoLoop, NotPerfect,
 /// ParallelState, IndexEscapes, Range, Limit or BadFactor. No dependence forbids the step.
-pub fn skew<L: Ledger>(
-    alloc: Global,
-    scene: &Scene<L>,
-    number: u32,
-    factor: i64,
-) -> Result<Result<Change, Refused>, NoMemory>
+pub fn skew<L: Ledger>(alloc: Global, scene: &Scene<L>, number: u32, factor: i64) -> StepAnswer
     requires { IsSceneOf (program_tree scene.now.tree.now) scene.now }
     ensures { IfOk result (Answers (Spec.skewing number factor) (program_tree scene.now.tree.now)) }
 {
@@ -64,7 +59,7 @@ fn skew_in<L: Ledger>(
     number: u32,
     d: &Do,
     factor: i64,
-) -> Result<Result<Change, Refused>, NoMemory>
+) -> StepAnswer
     requires scene { IsSceneOf (program_tree scene.now.tree.now) scene.now }
     requires is { IsLoop (program_tree scene.now.tree.now) number (head_of d.now) (stmt_trees d.now.body.items) }
     ensures { IfOk result (Answers (Spec.skewing number factor) (program_tree scene.now.tree.now)) }
@@ -87,7 +82,7 @@ fn skew_inner<L: Ledger>(
     d: &Do,
     inner: &Do,
     factor: i64,
-) -> Result<Result<Change, Refused>, NoMemory>
+) -> StepAnswer
     requires scene { IsSceneOf (program_tree scene.now.tree.now) scene.now }
     requires is { IsLoop (program_tree scene.now.tree.now) number (head_of d.now) (stmt_trees d.now.body.items) }
     requires only { Only.only_loop (stmt_trees d.now.body.items) ≡ Some (head_of inner.now, stmt_trees inner.now.body.items) }
@@ -127,7 +122,7 @@ fn skew_by<L: Ledger>(
     d: &Do,
     inner: &Do,
     factor: i64,
-) -> Result<Result<Change, Refused>, NoMemory>
+) -> StepAnswer
     requires scene { IsSceneOf (program_tree scene.now.tree.now) scene.now }
     requires is { IsLoop (program_tree scene.now.tree.now) number (head_of d.now) (stmt_trees d.now.body.items) }
     requires only { Only.only_loop (stmt_trees d.now.body.items) ≡ Some (head_of inner.now, stmt_trees inner.now.body.items) }

@@ -23,8 +23,8 @@ use crate::lists::has_list;
 use ped_base::{Name, Names, NoMemory, both};
 use ped_refs::Loop;
 use ped_rules::{
-    Change, NewName, Refused, Rule, Scene, against, change_to, escapes, fresh_name, has_step_one,
-    is_plain, leaves, literal, loop_at, loops_round, moved_by, program_with,
+    Change, NewName, Rule, Scene, StepAnswer, against, change_to, escapes, fresh_name,
+    has_step_one, is_plain, leaves, literal, loop_at, loops_round, moved_by, program_with,
 };
 use ped_sums::plus;
 use ped_tree::{Do, Expr, Intrinsic, Program, Stmt};
@@ -39,12 +39,7 @@ use std::sync::ledger::Ledger;
 ///
 /// `Refused` exactly where a rule forbids the step, with the rule of the least number: NoLoop, ParallelState,
 /// HasPrivate, IndexEscapes, BoundNotPlain, StepShape, Range, Limit or BadFactor. No dependence forbids the step.
-pub fn strip<L: Ledger>(
-    alloc: Global,
-    scene: &Scene<L>,
-    number: u32,
-    size: i64,
-) -> Result<Result<Change, Refused>, NoMemory>
+pub fn strip<L: Ledger>(alloc: Global, scene: &Scene<L>, number: u32, size: i64) -> StepAnswer
     requires { IsSceneOf (program_tree scene.now.tree.now) scene.now }
     ensures { IfOk result (Answers (Spec.stripping number size) (program_tree scene.now.tree.now)) }
 {
@@ -65,7 +60,7 @@ fn strip_in<L: Ledger>(
     number: u32,
     d: &Do,
     size: i64,
-) -> Result<Result<Change, Refused>, NoMemory>
+) -> StepAnswer
     requires scene { IsSceneOf (program_tree scene.now.tree.now) scene.now }
     requires is { IsLoop (program_tree scene.now.tree.now) number (head_of d.now) (stmt_trees d.now.body.items) }
     ensures { IfOk result (Answers (Spec.stripping number size) (program_tree scene.now.tree.now)) }
@@ -89,7 +84,7 @@ fn strip_contained<L: Ledger>(
     number: u32,
     d: &Do,
     size: i64,
-) -> Result<Result<Change, Refused>, NoMemory>
+) -> StepAnswer
     requires scene { IsSceneOf (program_tree scene.now.tree.now) scene.now }
     requires is { IsLoop (program_tree scene.now.tree.now) number (head_of d.now) (stmt_trees d.now.body.items) }
     requires serial { (head_of d.now).parallel ≡ false }
@@ -123,7 +118,7 @@ fn strip_by<L: Ledger>(
     number: u32,
     d: &Do,
     size: i64,
-) -> Result<Result<Change, Refused>, NoMemory>
+) -> StepAnswer
     requires scene { IsSceneOf (program_tree scene.now.tree.now) scene.now }
     requires is { IsLoop (program_tree scene.now.tree.now) number (head_of d.now) (stmt_trees d.now.body.items) }
     requires serial { (head_of d.now).parallel ≡ false }
@@ -152,7 +147,7 @@ fn strip_named<L: Ledger>(
     d: &Do,
     size: i64,
     name: Name,
-) -> Result<Result<Change, Refused>, NoMemory>
+) -> StepAnswer
     requires scene { IsSceneOf (program_tree scene.now.tree.now) scene.now }
     requires is { IsLoop (program_tree scene.now.tree.now) number (head_of d.now) (stmt_trees d.now.body.items) }
     requires serial { (head_of d.now).parallel ≡ false }

@@ -32,7 +32,7 @@ pub use laws::parallel_is_lawful;
 pub use literals::literal;
 pub use only_loops::{are_comments, is_comment, only_loop};
 pub use ped_loop_runs::{
-    Change, Flow, Keep, PairKey, Prepared, Reader, Refused, Rule, Scene, Symbols,
+    Change, Flow, Keep, PairKey, Prepared, Reader, Refused, Rule, Scene, StepAnswer, Symbols,
     accesses_are_made, accesses_in_sequence, all_kept, body_with, cause_words, change_to,
     conflicts_are_covered, flow_of, indices_unwritten, loop_at, loops_round, none_rejected,
     one_for_one, prepare, private_names_cleared, program_with, stays_trusted, valid_symbols,

@@ -22,10 +22,10 @@ ghost use Rattle.ped_scalar.specs.Expanding as Spec;
 use crate::elements::Elements;
 use crate::keeping::expand_kept;
 use crate::scalars::{is_unfit, live_by};
-use ped_base::{Name, NoMemory};
+use ped_base::Name;
 use ped_refs::Loop;
 use ped_rules::{
-    Change, Course, NewName, Refused, Rule, Scene, Span, against, change_to, course_of, fresh_name,
+    Course, NewName, Rule, Scene, Span, StepAnswer, against, change_to, course_of, fresh_name,
     is_private_in, is_private_round, loop_at, loops_round,
 };
 use ped_tree::Do;
@@ -39,12 +39,7 @@ use std::sync::ledger::Ledger;
 ///
 /// `Refused` exactly where a rule forbids the step, with the rule of the least number: NoLoop, ParallelState, Range,
 /// ExposedOrLive, NotScalar, NotConstant, Limit or AlreadyPrivate. No dependence forbids the step.
-pub fn expand<L: Ledger>(
-    alloc: Global,
-    scene: &Scene<L>,
-    number: u32,
-    name: &Name,
-) -> Result<Result<Change, Refused>, NoMemory>
+pub fn expand<L: Ledger>(alloc: Global, scene: &Scene<L>, number: u32, name: &Name) -> StepAnswer
     requires { IsSceneOf (program_tree scene.now.tree.now) scene.now }
     ensures { IfOk result (Answers (Spec.expanding number name.now) (program_tree scene.now.tree.now)) }
 {
@@ -65,7 +60,7 @@ fn expand_in<L: Ledger>(
     number: u32,
     d: &Do,
     name: &Name,
-) -> Result<Result<Change, Refused>, NoMemory>
+) -> StepAnswer
     requires scene { IsSceneOf (program_tree scene.now.tree.now) scene.now }
     requires is { IsLoop (program_tree scene.now.tree.now) number (head_of d.now) (stmt_trees d.now.body.items) }
     ensures { IfOk result (Answers (Spec.expanding number name.now) (program_tree scene.now.tree.now)) }
@@ -95,7 +90,7 @@ fn expand_known<L: Ledger>(
     d: &Do,
     name: &Name,
     span: Option<Span>,
-) -> Result<Result<Change, Refused>, NoMemory>
+) -> StepAnswer
     requires scene { IsSceneOf (program_tree scene.now.tree.now) scene.now }
     requires is { IsLoop (program_tree scene.now.tree.now) number (head_of d.now) (stmt_trees d.now.body.items) }
     requires span { IsKnown (Spans.span_of (table_of (program_tree scene.now.tree.now)).constants (head_of d.now)) span }
@@ -129,7 +124,7 @@ fn expand_over<L: Ledger>(
     name: &Name,
     span: Span,
     round: &[Loop],
-) -> Result<Result<Change, Refused>, NoMemory>
+) -> StepAnswer
     requires scene { IsSceneOf (program_tree scene.now.tree.now) scene.now }
     requires is { IsLoop (program_tree scene.now.tree.now) number (head_of d.now) (stmt_trees d.now.body.items) }
     requires span { IsKnown (Spans.span_of (table_of (program_tree scene.now.tree.now)).constants (head_of d.now)) (Some span) }
@@ -163,7 +158,7 @@ fn expand_to<L: Ledger>(
     d: &Do,
     elements: &Elements,
     round: &[Loop],
-) -> Result<Result<Change, Refused>, NoMemory>
+) -> StepAnswer
     requires scene { IsSceneOf (program_tree scene.now.tree.now) scene.now }
     requires is { IsLoop (program_tree scene.now.tree.now) number (head_of d.now) (stmt_trees d.now.body.items) }
     requires round { nest_of round.now ≡ nest_round (program_tree scene.now.tree.now) number }

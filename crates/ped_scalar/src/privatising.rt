@@ -18,7 +18,7 @@ use crate::scalars::{is_unfit, live_by};
 use ped_base::{Name, NoMemory, is_among};
 use ped_refs::Loop;
 use ped_rules::{
-    Change, Refused, Rule, Scene, against, all_kept, change_to, is_some_parallel, loop_at,
+    Change, Rule, Scene, StepAnswer, against, all_kept, change_to, is_some_parallel, loop_at,
     loops_round, program_with,
 };
 use ped_tree::{Do, Program, Stmt};
@@ -32,12 +32,7 @@ use std::sync::ledger::Ledger;
 ///
 /// `Refused` exactly where a rule forbids the step, with the rule of the least number: NoLoop, ParallelState,
 /// ExposedOrLive, NotScalar, Limit or AlreadyPrivate. No dependence forbids the step.
-pub fn privatise<L: Ledger>(
-    alloc: Global,
-    scene: &Scene<L>,
-    number: u32,
-    name: &Name,
-) -> Result<Result<Change, Refused>, NoMemory>
+pub fn privatise<L: Ledger>(alloc: Global, scene: &Scene<L>, number: u32, name: &Name) -> StepAnswer
     requires { IsSceneOf (program_tree scene.now.tree.now) scene.now }
     ensures { IfOk result (Answers (Spec.privatising number name.now) (program_tree scene.now.tree.now)) }
 {
@@ -58,7 +53,7 @@ fn privatise_in<L: Ledger>(
     number: u32,
     d: &Do,
     name: &Name,
-) -> Result<Result<Change, Refused>, NoMemory>
+) -> StepAnswer
     requires scene { IsSceneOf (program_tree scene.now.tree.now) scene.now }
     requires is { IsLoop (program_tree scene.now.tree.now) number (head_of d.now) (stmt_trees d.now.body.items) }
     ensures { IfOk result (Answers (Spec.privatising number name.now) (program_tree scene.now.tree.now)) }

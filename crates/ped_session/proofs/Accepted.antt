@@ -12,7 +12,7 @@ use Rattle.ped_valid.specs.Validity.{ReadsValid, RefusesText}
 use Rattle.ped_valid.proofs.OneVerdict.{one_of_both}
 use Rattle.ped_transformations.specs.ped_graph.specs.Held.{Held, held_of}
 use Rattle.ped_transformations.specs.ped_graph.specs.Update.Fresh.{fresh_pairs, tested_pairs}
-use Rattle.ped_session.specs.declared.changes.Change.TheVariants.{Edit}
+use Rattle.ped_session.specs.declared.changes.ChangeKind.TheVariants.{Edit}
 use Rattle.ped_session.specs.declared.replies.Reply.{Reply}
 use Rattle.ped_session.specs.declared.replies.Reply.TheVariants.{Refused}
 use Rattle.ped_session.specs.declared.replies.Refusal.TheVariants.{BadEdit, NoSuchLine}

@@ -10,7 +10,7 @@ use Rattle.ped_tree.specs.declared.grammar.refusals.RefusalKind.TheVariants.{Ope
 use Rattle.ped_session.specs.declared.replies.Refusal.TheVariants.{BadEdit, NothingToUndo, NothingToRedo, NoSuchStatement, NoSuchLine}
 use Rattle.ped_session.specs.declared.replies.Reply.TheVariants.{Changed, Shown, Refused}
 use Rattle.ped_session.specs.Splices.{text_of_lines, spliced, are_lines, is_place}
-use Rattle.ped_session.specs.Blocks.{block}
+use Rattle.ped_session.specs.OutcomeTexts.{outcome_text}
 use Rattle.ped_session.specs.RaceRows.{race_row}
 use Rattle.ped_session.specs.Replies.{reply_text, bad_command_row}
 
@@ -60,13 +60,13 @@ front_of_nothing = refl
 abbrev ended : Outcome
 ended = Ended (codes "2" ∷ [] ∷ []) (record { name = codes "A"; values = Some (pos 1) ∷ None ∷ Some (negsuc 2) ∷ [] } ∷ [])
 
-block_of_ended : block ended ≡ text_of_lines (codes "| 2" ∷ codes "| " ∷ codes "ended" ∷ codes "live A 1 ? -3" ∷ [])
+text_of_ended : outcome_text ended ≡ text_of_lines (codes "| 2" ∷ codes "| " ∷ codes "ended" ∷ codes "live A 1 ? -3" ∷ [])
 unfolding digits
-block_of_ended = refl
+text_of_ended = refl
 
-block_of_fault : block (Fault 3 12) ≡ text_of_lines (codes "fault 3 at 12" ∷ [])
+text_of_fault : outcome_text (Fault 3 12) ≡ text_of_lines (codes "fault 3 at 12" ∷ [])
 unfolding digits
-block_of_fault = refl
+text_of_fault = refl
 
 changed : reply_text 4 Changed ≡ text_of_lines (codes "4: ok" ∷ [])
 unfolding digits

@@ -4,14 +4,14 @@ use Rattle.ped_transformations.specs.ped_graph.specs.Held.{Held, held_of}
 use Rattle.ped_transformations.specs.ped_graph.specs.Update.Deltas.{TakesTo}
 use Rattle.ped_session.specs.declared.versions.Version.{Version}
 use Rattle.ped_session.specs.declared.versions.Entry.{Entry}
-use Rattle.ped_session.specs.declared.changes.Change.{Change}
+use Rattle.ped_session.specs.declared.changes.ChangeKind.{ChangeKind}
 use Rattle.ped_session.specs.Holding.{tree_of, other_of, IsVersion, Leads, IsConsistent}
 use Rattle.ped_session.specs.Meanings.{IsKept, IsPastKept, IsFutureKept}
 
 -- the same change between the same programs
-kept_between : (c d : Change) (from to earlier later : Version) → c ≡ d → from ≡ earlier → to ≡ later → IsKept d earlier.text later.text → IsKept c from.text to.text
+kept_between : (c d : ChangeKind) (from to earlier later : Version) → c ≡ d → from ≡ earlier → to ≡ later → IsKept d earlier.text later.text → IsKept c from.text to.text
 kept_between c d from to earlier later change before behind kept =
-    subst (λ (x : Change). IsKept x from.text to.text) (sym change)
+    subst (λ (x : ChangeKind). IsKept x from.text to.text) (sym change)
     (subst (λ (v : Version). IsKept d v.text to.text) (sym before)
     (subst (λ (v : Version). IsKept d earlier.text v.text) (sym behind) kept))
 

@@ -23,11 +23,11 @@ use Rattle.ped_transformations.specs.ped_graph.specs.Held.{Held}
 use Rattle.ped_session.specs.declared.versions.Version.{Version}
 use Rattle.ped_session.specs.declared.versions.Entry.{Entry}
 use Rattle.ped_session.specs.Holding.{other_of, IsConsistent}
-use Rattle.ped_session.specs.declared.changes.Change.{Change}
+use Rattle.ped_session.specs.declared.changes.ChangeKind.{ChangeKind}
 use Rattle.ped_session.specs.declared.replies.Reply.{Reply}
 use Rattle.ped_session.specs.declared.replies.Reply.TheVariants.{Changed}
 use Rattle.ped_session.specs.States.{Other, State, opened}
-use Rattle.ped_session.specs.Blocks.{block, IsRunBlock}
+use Rattle.ped_session.specs.OutcomeTexts.{outcome_text, IsRunText}
 use Rattle.ped_session.specs.LoweredRuns.{told_by, IsLoweredRun}
 use Rattle.ped_transformations.specs.ped_rules.specs.Steps.{StepKind, transformation, rejection, StepAt}
 use Rattle.ped_session.specs.Steps.{Edits, accepted, refused, change_by, Transforms, missing, forbidden, transformed, GoesBack, GoesForward, Shows, IsStep}
@@ -70,7 +70,7 @@ pub came : (source : List ℕ) (past : List Other) (earlier : List ℕ) (t u : P
 came source [] earlier t u kept is from to trusted = the_same source earlier t u is from to trusted
 came source (other ∷ past) earlier t u kept (inl is) from to trusted = the_same source earlier t u is from to trusted
 came source (other ∷ past) earlier t u kept (inr comes) from to trusted =
-    let last : MeansTheSame other.0 source = subst (λ (c : Change). IsKept c other.0 source) comes.0 kept.0 in
+    let last : MeansTheSame other.0 source = subst (λ (c : ChangeKind). IsKept c other.0 source) comes.0 kept.0 in
     let front = came other.0 past earlier t last.before kept.1 comes.1 from last.reads_before trusted in
     let behind = last.kept front.trusted in
     subst (IsFaithful t) (one_tree source last.behind u last.reads_behind to)
@@ -155,9 +155,9 @@ opened_keeps t = record { past = tt; future = tt }
 
 run_shows : Agree → LoweringKeeps → (line : ℕ) (choices d : List ℕ) (s next : State) (said : Said) → IsMeaningKept s → AnswersReply line (Run choices) d s said next → ShowsAsBefore s d said.bytes
 run_shows agree lower line choices d s next said k h = λ earlier t comes from trusted free.
-    let shows : Shows (IsRunBlock choices d) s h.0 next = h.1 in
+    let shows : Shows (IsRunText choices d) s h.0 next = h.1 in
     ap (λ (x : Said). x.bytes) (h.2 ∙ ap (λ (r : Reply). said_by line r next) shows.prints.0) ∙ shows.so.2
-    ∙ ap block (as_before agree lower s d choices shows.tree shows.so.0 k shows.reads shows.so.1 earlier t comes from trusted free)
+    ∙ ap outcome_text (as_before agree lower s d choices shows.tree shows.so.0 k shows.reads shows.so.1 earlier t comes from trusted free)
 
 -- a `run` shows what the earlier programs show
 line_shows : Agree → LoweringKeeps → (line : ℕ) (command : Option Command) (d : List ℕ) (s next : State) (said : Said) → IsMeaningKept s → AnswersCommand line command d s said next → RunsAsBefore command d s said

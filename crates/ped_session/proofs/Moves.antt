@@ -2,8 +2,8 @@
 use Rattle.std.proofs.Common.{◌≡◌, inl, inr, ℕ, zero, suc, List, [], ◌∷◌, refl, sym, ap, ◌∙◌, subst}
 use Rattle.ped_script.specs.declared.items.Command.{Command}
 use Rattle.ped_script.specs.declared.items.Command.TheVariants.{Undo, Redo}
-use Rattle.ped_session.specs.declared.changes.Change.{Change}
-use Rattle.ped_session.specs.declared.changes.Change.TheVariants.{Edit}
+use Rattle.ped_session.specs.declared.changes.ChangeKind.{ChangeKind}
+use Rattle.ped_session.specs.declared.changes.ChangeKind.TheVariants.{Edit}
 use Rattle.ped_session.specs.declared.replies.Refusal.{Refusal}
 use Rattle.ped_session.specs.declared.replies.Reply.{Reply}
 use Rattle.ped_session.specs.declared.replies.Reply.TheVariants.{Changed, Refused}
@@ -103,7 +103,7 @@ undone (suc n) d s forth a =
 
 -- a change leaves the former source as the newest of the past
 pub record Leaves (s next : State) : Type 0 where
-  pub change : Change
+  pub change : ChangeKind
   pub past_is : next.past ≡ (s.present, change) ∷ s.past
 
 edit_leaves : (kept gone : ℕ) (edited : List ℕ) (s next : State) → Edits kept gone edited s Changed next → Leaves s next

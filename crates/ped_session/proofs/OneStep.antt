@@ -18,13 +18,13 @@ use Rattle.ped_transformations.specs.ped_inline.proofs.OnePane.{one_pane_of_call
 use Rattle.ped_transformations.specs.ped_steps.specs.Causes.{Cause}
 use Rattle.ped_script.specs.declared.items.Command.{Command}
 use Rattle.ped_script.specs.declared.items.Command.TheVariants.{Source, Deps, Show, Calls, Print, Advise, Replace, Insert, Delete, Interchange, Reverse, Skew, Strip, Peel, Distribute, Fuse, Inline, Expand, Privatise, Reduce, Parallel, Serial, Reject, Auto, Undo, Redo, Run, Races, Tested}
-use Rattle.ped_session.specs.declared.changes.Change.TheVariants.{Edit}
+use Rattle.ped_session.specs.declared.changes.ChangeKind.TheVariants.{Edit}
 use Rattle.ped_session.specs.declared.replies.Refusal.{Refusal}
 use Rattle.ped_session.specs.declared.replies.Refusal.TheVariants.{BadEdit, Step, NothingToUndo, NothingToRedo, NoSuchStatement, NoSuchLine}
 use Rattle.ped_session.specs.declared.replies.Reply.{Reply}
 use Rattle.ped_session.specs.declared.replies.Reply.TheVariants.{Shown, Refused}
 use Rattle.ped_session.specs.States.{Other, State, changed_to}
-use Rattle.ped_session.specs.Blocks.{block, IsRunBlock}
+use Rattle.ped_session.specs.OutcomeTexts.{outcome_text, IsRunText}
 use Rattle.ped_session.specs.RaceRows.{race_row, IsRaceRow}
 use Rattle.ped_session.specs.Panes.{IsSourcePane, ArePanes}
 use Rattle.ped_session.specs.Splices.{are_lines, is_place, edit_keep}
@@ -124,9 +124,9 @@ one_forward : (future : List Other) (s : State) (p q : Reply) (m n : State) → 
 one_forward [] s p q m n a b = one_refuses NothingToRedo s p q m n a b
 one_forward (other ∷ future) s p q m n a b = (a.0 ∙ sym b.0, a.1 ∙ sym b.1)
 
-one_run : (choices data_bytes : List ℕ) (s : State) (p q : Reply) (m n : State) → Shows (IsRunBlock choices data_bytes) s p m → Shows (IsRunBlock choices data_bytes) s q n → (p ≡ q) × (m ≡ n)
-one_run choices data_bytes s p q m n a b = one_shows (IsRunBlock choices data_bytes)
-    (λ t x y e f. e.2 ∙ ap block (one_lowered_run choices data_bytes t e.0 f.0 e.1 f.1) ∙ sym f.2) s p q m n a b
+one_run : (choices data_bytes : List ℕ) (s : State) (p q : Reply) (m n : State) → Shows (IsRunText choices data_bytes) s p m → Shows (IsRunText choices data_bytes) s q n → (p ≡ q) × (m ≡ n)
+one_run choices data_bytes s p q m n a b = one_shows (IsRunText choices data_bytes)
+    (λ t x y e f. e.2 ∙ ap outcome_text (one_lowered_run choices data_bytes t e.0 f.0 e.1 f.1) ∙ sym f.2) s p q m n a b
 
 -- a step, whose first cause is one
 one_transform : (at : StepAt) (s : State) (p q : Reply) (m n : State) → IsDetermined at → Transforms at s p m → Transforms at s q n → (p ≡ q) × (m ≡ n)

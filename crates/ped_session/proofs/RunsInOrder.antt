@@ -11,7 +11,7 @@ use Rattle.ped_transformations.specs.ped_reduce.specs.Reducing.{IsLowered}
 use Rattle.ped_transformations.specs.ped_reduce.proofs.LoweringLaws.{stays_itself}
 use Rattle.ped_session.specs.declared.replies.Reply.{Reply}
 use Rattle.ped_session.specs.States.{State}
-use Rattle.ped_session.specs.Blocks.{block, IsRunBlock}
+use Rattle.ped_session.specs.OutcomeTexts.{outcome_text, IsRunText}
 use Rattle.ped_session.specs.LoweredRuns.{HasNoList, told_by, IsLoweredRun, IsLoweredInOrder}
 use Rattle.ped_session.specs.Steps.{Shows}
 use Rattle.ped_session.proofs.OneRun.{as_it_is}
@@ -31,8 +31,8 @@ lowered_in_order same d t o run = record {
   told = run.tells.2 ∙ ap (told_by run.lowered) (same run.lowered.tree d run.tells.0 run.tells.1);
 }
 
-pub in_order : RunsInOrder → (d : List ℕ) (s next : State) (reply : Reply) → Shows (IsRunBlock [] d) s reply next
-    → Shows (λ t bytes. (o : Outcome) × IsLoweredInOrder d t o × (bytes ≡ block o)) s reply next
+pub in_order : RunsInOrder → (d : List ℕ) (s next : State) (reply : Reply) → Shows (IsRunText [] d) s reply next
+    → Shows (λ t bytes. (o : Outcome) × IsLoweredInOrder d t o × (bytes ≡ outcome_text o)) s reply next
 in_order same d s next reply shows = record {
   tree = shows.tree;
   reads = shows.reads;
@@ -41,8 +41,8 @@ in_order same d s next reply shows = record {
   prints = shows.prints;
 }
 
-pub plain_order : RunsInOrder → (d : List ℕ) (s next : State) (reply : Reply) → Shows (IsRunBlock [] d) s reply next
-    → ((t : ProgramTree) → ReadsValid s.present t → HasNoList t) → Shows (λ t bytes. bytes ≡ block (outcome t d)) s reply next
+pub plain_order : RunsInOrder → (d : List ℕ) (s next : State) (reply : Reply) → Shows (IsRunText [] d) s reply next
+    → ((t : ProgramTree) → ReadsValid s.present t → HasNoList t) → Shows (λ t bytes. bytes ≡ outcome_text (outcome t d)) s reply next
 plain_order same d s next reply shows none =
     let t = shows.tree in
     let o = shows.so.0 in
@@ -50,6 +50,6 @@ plain_order same d s next reply shows none =
       tree = t;
       reads = shows.reads;
       bytes = shows.bytes;
-      so = shows.so.2 ∙ ap block (same t d o ((as_it_is [] d t o (lowered_to_itself t (none t shows.reads))).0 shows.so.1));
+      so = shows.so.2 ∙ ap outcome_text (same t d o ((as_it_is [] d t o (lowered_to_itself t (none t shows.reads))).0 shows.so.1));
       prints = shows.prints;
     }

@@ -10,8 +10,8 @@ use Rattle.ped_transformations.specs.ped_graph.specs.Update.Fresh.{IsOneToOne, t
 use Rattle.ped_transformations.specs.ped_steps.specs.declared.causes.Refused.{Refused}
 use Rattle.ped_transformations.specs.ped_steps.specs.declared.changes.Change as step
 use Rattle.ped_transformations.specs.ped_steps.specs.CodeCauses.{cause_of, IsShort}
-use Rattle.ped_session.specs.declared.changes.Change.{Change}
-use Rattle.ped_session.specs.declared.changes.Change.TheVariants.{Edit}
+use Rattle.ped_session.specs.declared.changes.ChangeKind.{ChangeKind}
+use Rattle.ped_session.specs.declared.changes.ChangeKind.TheVariants.{Edit}
 use Rattle.ped_session.specs.declared.replies.Refusal.TheVariants as refusal
 use Rattle.ped_session.specs.declared.replies.Reply.{Reply}
 use Rattle.ped_session.specs.declared.replies.Reply.TheVariants.{Changed}
@@ -24,7 +24,7 @@ use Rattle.ped_script.specs.declared.items.Command.{Command}
 use Rattle.ped_session.specs.Steps.{Refuses, change_by}
 
 -- the printed text of a program has become the present source by a change that keeps these statements
-abbrev pub Changes : ProgramTree → List (ℕ × ℕ) → Change → State → Reply → State → Type 0
+abbrev pub Changes : ProgramTree → List (ℕ × ℕ) → ChangeKind → State → Reply → State → Type 0
 Changes new keep change s reply next =
     (reply ≡ Changed) × (old : ProgramTree) × ReadsValid s.present old × (next ≡ changed_to (program_text new) change (tested_pairs old new keep) s)
 
@@ -40,18 +40,18 @@ IsStepAnswer at s (Ok change) =
 IsStepAnswer at s (Err why) = (t : ProgramTree) × ReadsValid s.present t × at.IsCause t (Some (cause_of why))
 
 -- what a step answers can be taken by a change of this kind: a valid program that keeps the meaning of the present one where the change has to, or a cause that can be printed
-abbrev pub IsTakeable : Change → State → Result step.Change Refused → Type 0
+abbrev pub IsTakeable : ChangeKind → State → Result step.Change Refused → Type 0
 IsTakeable kind s (Ok change) =
     IsValid (program_tree change.tree) × (change.symbols ≡ table_of (program_tree change.tree)) × IsOneToOne change.keep × IsKept kind s.present (program_text (program_tree change.tree))
 IsTakeable kind s (Err why) = IsShort why
 
 -- what a step answers is taken by a change of this kind: its program becomes the present one, or the session refuses it for its cause
-abbrev pub Takes : Change → Result step.Change Refused → State → Reply → State → Type 0
+abbrev pub Takes : ChangeKind → Result step.Change Refused → State → Reply → State → Type 0
 Takes kind (Ok change) s reply next = Changes (program_tree change.tree) change.keep kind s reply next
 Takes kind (Err why) s reply next = Refuses (refusal.Step (cause_of why)) s reply next
 
 -- what the step of a command answers, and how the history takes it down, where the command has a step
-abbrev pub IsAnswerTo : Command → Change → State → Result step.Change Refused → Type 0
+abbrev pub IsAnswerTo : Command → ChangeKind → State → Result step.Change Refused → Type 0
 IsAnswerTo command kind s answer = MatchStep (step_of command) ⊥ (λ at. (change_by at.kind ≡ kind) × IsStepAnswer at s answer)
 
 -- how many pairs may be tested at the most where what a step answers is taken in a session whose present program is this

@@ -9,13 +9,14 @@ pub use Rattle.ped_transformations.specs.ped_refs
 pub use Rattle.ped_tree
 pub use Rattle.ped_valid.specs.ped_symbols
 pub use Rattle.ped_valid
+pub use Rattle.ped_valid.specs.ped_parse
 pub use Rattle.ped_order
 pub mod Adding
 pub mod AutoAnswers
 pub mod AutoEditing
 pub mod AutoEditingLaws
 pub mod AutoScripts
-pub mod Blocks
+pub mod OutcomeTexts
 pub mod Changing
 pub mod CodeStepReplies
 pub mod Histories

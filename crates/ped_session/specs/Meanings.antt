@@ -5,10 +5,10 @@ use Rattle.ped_valid.specs.Validity.{ReadsValid}
 use Rattle.ped_eval.specs.Outcomes.{Outcome, outcome, IsRaceFree}
 use Rattle.ped_transformations.specs.ped_loop_runs.specs.Unrejected.{IsTrusted}
 use Rattle.ped_transformations.specs.ped_rules.specs.Lawful.{IsFaithful}
-use Rattle.ped_session.specs.declared.changes.Change.{Change}
-use Rattle.ped_session.specs.declared.changes.Change.TheVariants.{Edit, Rejection, Transformation}
+use Rattle.ped_session.specs.declared.changes.ChangeKind.{ChangeKind}
+use Rattle.ped_session.specs.declared.changes.ChangeKind.TheVariants.{Edit, Rejection, Transformation}
 use Rattle.ped_session.specs.States.{Other, State}
-use Rattle.ped_session.specs.Blocks.{block}
+use Rattle.ped_session.specs.OutcomeTexts.{outcome_text}
 
 -- where the program of the earlier source may be trusted, so may that of the later one, which keeps its meaning. A program may be trusted where it has no C$PED REJECT line and is tidy: where no reference in a PARALLEL DO writes the variable of it or of a DO in it, and each path from that PARALLEL DO's exit to the end overwrites such a variable that is saved (ParaScope; this project)
 pub record MeansTheSame (earlier later : List ℕ) : Type 0 where
@@ -19,7 +19,7 @@ pub record MeansTheSame (earlier later : List ℕ) : Type 0 where
   pub kept : IsTrusted before → IsFaithful before behind
 
 -- where the change between two sources is a transformation, it keeps the meaning; an edit and a rejection needn't (ParaScope)
-abbrev pub IsKept : Change → List ℕ → List ℕ → Type 0
+abbrev pub IsKept : ChangeKind → List ℕ → List ℕ → Type 0
 IsKept Transformation earlier later = MeansTheSame earlier later
 IsKept Edit earlier later = ⊤
 IsKept Rejection earlier later = ⊤
@@ -48,6 +48,6 @@ ComesFrom source (other ∷ past) earlier = (earlier ≡ source) ⊎ ((other.1 �
 abbrev pub IsAsBefore : State → List ℕ → Outcome → Type 0
 IsAsBefore s data_bytes o = (earlier : List ℕ) (t : ProgramTree) → ComesFrom s.present s.past earlier → ReadsValid earlier t → IsTrusted t → IsRaceFree t data_bytes → o ≡ outcome t data_bytes
 
--- what is shown of a run of the present program is the block of the outcome of each such program, where that one is tidy and without C$PED REJECT and runs on the data without a fault and without a race (ParaScope; this project)
+-- what is shown of a run of the present program is the text of the outcome of each such program, where that one is tidy and without C$PED REJECT and runs on the data without a fault and without a race (ParaScope; this project)
 abbrev pub ShowsAsBefore : State → List ℕ → List ℕ → Type 0
-ShowsAsBefore s data_bytes shown = (earlier : List ℕ) (t : ProgramTree) → ComesFrom s.present s.past earlier → ReadsValid earlier t → IsTrusted t → IsRaceFree t data_bytes → shown ≡ block (outcome t data_bytes)
+ShowsAsBefore s data_bytes shown = (earlier : List ℕ) (t : ProgramTree) → ComesFrom s.present s.past earlier → ReadsValid earlier t → IsTrusted t → IsRaceFree t data_bytes → shown ≡ outcome_text (outcome t data_bytes)

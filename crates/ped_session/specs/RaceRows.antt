@@ -5,7 +5,7 @@ use Rattle.std.specs.List.{flat_map}
 use Rattle.ped_tree.specs.Tree.{ProgramTree}
 use Rattle.ped_store.specs.Cells.{Cell, Scalar, Element, Private, In, Out}
 use Rattle.ped_order.specs.Reports.{Report, NoRace, Race, Fault, IsReport}
-use Rattle.ped_session.specs.Blocks.{fault_row}
+use Rattle.ped_session.specs.OutcomeTexts.{fault_row}
 
 -- a subscript after another one
 abbrev pub next_subscript : ℤ → List ℕ

@@ -3,11 +3,11 @@ use Rattle.std.specs.Prelude.{ℕ, List, [], ◌∷◌}
 use Rattle.ped_tree.specs.Tree.{ProgramTree}
 use Rattle.ped_tree.specs.Printing.{program_text}
 use Rattle.ped_refs.specs.References.{references, pair_count}
-use Rattle.ped_session.specs.declared.changes.Change.{Change}
+use Rattle.ped_session.specs.declared.changes.ChangeKind.{ChangeKind}
 
 -- another source of a session, with the change between it and the next source towards the present
 abbrev pub Other : Type 0
-Other = List ℕ × Change
+Other = List ℕ × ChangeKind
 
 -- the past sources, the newest first; the present source; the future sources, the next first; and how many pairs of references the last accepted change, `undo` or `redo` tested, or the opening
 pub record State : Type 0 where
@@ -21,7 +21,7 @@ abbrev pub opened : ProgramTree → State
 opened t = record { past = []; present = program_text t; future = []; tested = pair_count (references t) }
 
 -- an accepted change puts the present source into the past and drops the future
-abbrev pub changed_to : List ℕ → Change → ℕ → State → State
+abbrev pub changed_to : List ℕ → ChangeKind → ℕ → State → State
 changed_to text change tested s = record { past = (s.present, change) ∷ s.past; present = text; future = []; tested = tested }
 
 -- the newest past source becomes the present one, and the present one the next of the future

@@ -12,8 +12,8 @@ use Rattle.ped_transformations.specs.ped_graph.specs.Update.Fresh.{tested_pairs}
 use Rattle.ped_transformations.specs.ped_steps.specs.Causes.{Cause}
 use Rattle.ped_script.specs.declared.items.Command.{Command}
 use Rattle.ped_script.specs.declared.items.Command.TheVariants.{Source, Deps, Show, Calls, Print, Advise, Replace, Insert, Delete, Undo, Redo, Run, Races, Tested}
-use Rattle.ped_session.specs.declared.changes.Change.{Change}
-use Rattle.ped_session.specs.declared.changes.Change.TheVariants.{Edit, Rejection, Transformation}
+use Rattle.ped_session.specs.declared.changes.ChangeKind.{ChangeKind}
+use Rattle.ped_session.specs.declared.changes.ChangeKind.TheVariants.{Edit, Rejection, Transformation}
 use Rattle.ped_session.specs.declared.replies.Refusal.TheVariants.{BadEdit, Step, NothingToUndo, NothingToRedo, NoSuchStatement, NoSuchLine}
 use Rattle.ped_session.specs.declared.replies.Reply.{Reply}
 use Rattle.ped_session.specs.declared.replies.Reply.TheVariants.{Changed, Shown, Refused}
@@ -21,7 +21,7 @@ use Rattle.ped_session.specs.declared.replies.Refusal.{Refusal}
 use Rattle.ped_session.specs.States.{Other, State, changed_to, gone_back_to, gone_forward_to}
 use Rattle.ped_session.specs.Splices.{spliced, are_lines, is_place, edit_keep}
 use Rattle.ped_session.specs.Panes.{IsSourcePane, ArePanes, tested_row}
-use Rattle.ped_session.specs.Blocks.{IsRunBlock}
+use Rattle.ped_session.specs.OutcomeTexts.{IsRunText}
 use Rattle.ped_session.specs.RaceRows.{IsRaceRow}
 use Rattle.ped_transformations.specs.ped_rules.specs.Steps.{StepKind, transformation, rejection, StepAt, MatchStep}
 use Rattle.ped_transformations.specs.ped_inline.specs.CallsPane.{IsCallsPane}
@@ -72,7 +72,7 @@ Inserts after new s reply next =
     MatchBool (is_place s.present after) (Edits after 0 (spliced s.present after 0 new) s reply next) (Refuses NoSuchLine s reply next)
 
 -- how the history takes down a step of a kind (ParaScope)
-abbrev pub change_by : StepKind → Change
+abbrev pub change_by : StepKind → ChangeKind
 change_by transformation = Transformation
 change_by rejection = Rejection
 
@@ -107,7 +107,7 @@ IsOther (Insert after lines) data_bytes s reply next = Inserts after lines s rep
 IsOther (Delete first last) data_bytes s reply next = Replaces first last [] s reply next
 IsOther Undo data_bytes s reply next = GoesBack s.past s reply next
 IsOther Redo data_bytes s reply next = GoesForward s.future s reply next
-IsOther (Run choices) data_bytes s reply next = Shows (IsRunBlock choices data_bytes) s reply next
+IsOther (Run choices) data_bytes s reply next = Shows (IsRunText choices data_bytes) s reply next
 IsOther Races data_bytes s reply next = Shows (IsRaceRow data_bytes) s reply next
 IsOther Tested data_bytes s reply next = Prints (tested_row s.tested) s reply next
 IsOther command data_bytes s reply next = ⊥

@@ -2,7 +2,7 @@
 
 /// The kind of a change between two sources of a session.
 #[derive(Clone, Copy, PartialEq, Eq)]
-pub enum Change {
+pub enum ChangeKind {
     /// Lines were edited.
     Edit,
     /// Dependences of a variable were rejected.

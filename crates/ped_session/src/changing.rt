@@ -12,7 +12,7 @@ ghost use Rattle.ped_session.specs.Changing.{Changes};
 ghost use Rattle.ped_session.specs.Meanings.{IsKept};
 ghost use Rattle.ped_session.specs.Scripts.{tests_of};
 
-use crate::changes::Change;
+use crate::changes::ChangeKind;
 use crate::replies::Reply;
 use crate::session::Session;
 use crate::versions::{Entry, Version};
@@ -33,7 +33,7 @@ impl<L: Ledger> Session<L> {
         alloc: Global,
         new: Opened,
         keep: &Keep,
-        change: Change,
+        change: ChangeKind,
         steps: &mut Steps<L>,
     ) -> Result<Reply, NoMemory>
         requires valid { IsValid (program_tree new.program) }

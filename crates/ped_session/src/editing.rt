@@ -14,7 +14,7 @@ ghost use Rattle.ped_session.specs.Splices as Splices;
 ghost use Rattle.ped_session.specs.Steps.{Edits, Replaces, Inserts};
 ghost use Rattle.ped_session.specs.Scripts.{tests_of};
 
-use crate::changes::Change;
+use crate::changes::ChangeKind;
 use crate::keeping::edit_keep;
 use crate::replies::{Refusal, Reply};
 use crate::session::Session;
@@ -110,7 +110,7 @@ impl<L: Ledger> Session<L> {
         ensures most { (old : ProgramTree) → ReadsValid self.old.present old → steps.new ≤ steps.old + tested_pairs old (program_tree new.program) (Splices.edit_keep old (program_tree new.program) kept gone) }
     {
         let keep = edit_keep(alloc, &self.present.program, &new.program, kept, gone)?;
-        self.change(alloc, new, &keep, Change::Edit, steps)
+        self.change(alloc, new, &keep, ChangeKind::Edit, steps)
     }
 }
 

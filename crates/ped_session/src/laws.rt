@@ -17,7 +17,7 @@ ghost use Rattle.ped_session.specs.declared.replies.Refusal as code_refusal;
 ghost use Rattle.ped_session.specs.declared.replies.Reply as code_reply;
 ghost use Rattle.ped_session.specs.declared.replies.Reply.TheVariants.{Changed, Refused};
 ghost use Rattle.ped_session.specs.States.{State, opened};
-ghost use Rattle.ped_session.specs.Blocks.{block};
+ghost use Rattle.ped_session.specs.OutcomeTexts.{outcome_text};
 ghost use Rattle.ped_session.specs.LoweredRuns.{HasNoList, IsLoweredRun, IsLoweredInOrder};
 ghost use Rattle.ped_session.specs.Steps.{Shows, IsStep, IsMove};
 ghost use Rattle.ped_session.specs.Scripts.{Said, AnswersItems};
@@ -167,9 +167,9 @@ pub fn auto_keeps_the_meaning()
 /// or faults at; and where no DO has a list of sums, that of the run in order of the present program.
 pub fn runs_in_order()
     ensures lowered { (data_bytes : List ℕ) (s next : State) (reply : code_reply.Reply) → IsStep (Run []) data_bytes s reply next →
-        Shows (λ t bytes. (o : Outcome) × IsLoweredInOrder data_bytes t o × (bytes ≡ block o)) s reply next }
+        Shows (λ t bytes. (o : Outcome) × IsLoweredInOrder data_bytes t o × (bytes ≡ outcome_text o)) s reply next }
     ensures plain { (data_bytes : List ℕ) (s next : State) (reply : code_reply.Reply) → IsStep (Run []) data_bytes s reply next →
-        ((t : ProgramTree) → ReadsValid s.present t → HasNoList t) → Shows (λ t bytes. bytes ≡ block (outcome t data_bytes)) s reply next }
+        ((t : ProgramTree) → ReadsValid s.present t → HasNoList t) → Shows (λ t bytes. bytes ≡ outcome_text (outcome t data_bytes)) s reply next }
 {
     without_choices();
 }

@@ -7,7 +7,6 @@
 mod answers;
 mod auto_texts;
 mod automatic;
-mod blocks;
 mod carrying;
 mod changes;
 mod changing;
@@ -16,6 +15,7 @@ mod keeping;
 mod laws;
 mod listing;
 mod moving;
+mod outcome_texts;
 mod race_rows;
 mod replies;
 mod running;
@@ -27,7 +27,7 @@ mod transforming;
 mod versions;
 
 pub use answers::{Answered, answer_items};
-pub use changes::Change;
+pub use changes::ChangeKind;
 pub use laws::{
     auto_is_a_script, auto_is_undone, auto_keeps_the_meaning, auto_replays,
     interleavings_keep_the_meaning, moves_restore_each_other, one_answer, one_step,

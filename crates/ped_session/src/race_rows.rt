@@ -6,7 +6,7 @@ ghost use Rattle.ped_store.specs.CellViews.{cell_view};
 ghost use Rattle.ped_order.specs.ReportViews.{report_view};
 ghost use Rattle.ped_session.specs.RaceRows as Spec;
 
-use crate::blocks::push_fault;
+use crate::outcome_texts::push_fault;
 use ped_base::{Bytes, NoMemory, push_number, push_signed};
 use ped_order::RaceReport;
 use ped_store::Cell;

@@ -6,12 +6,12 @@ ghost use Rattle.ped_transformations.specs.Advice.{IsAdvice};
 ghost use Rattle.ped_transformations.specs.ped_inline.specs.CallsPane.{IsCallsPane};
 ghost use Rattle.ped_session.specs.Panes.{IsSourcePane, ArePanes};
 ghost use Rattle.ped_session.specs.Panes as Panes;
-ghost use Rattle.ped_session.specs.Blocks.{IsRunBlock};
+ghost use Rattle.ped_session.specs.OutcomeTexts.{IsRunText};
 ghost use Rattle.ped_session.specs.RaceRows.{IsRaceRow};
 ghost use Rattle.ped_session.specs.Steps.{Shows, ShowsStatement, Prints, IsStep};
 ghost use Rattle.ped_script.specs.declared.items.Command.TheVariants as commands;
 
-use crate::blocks::block;
+use crate::outcome_texts::outcome_text;
 use crate::race_rows::race_row;
 use crate::replies::{Refusal, Reply};
 use crate::running::run_version;
@@ -124,10 +124,10 @@ impl<L: Ledger> Session<L> {
         choices: &[u64],
         input: &[u8],
     ) -> Result<Reply, NoMemory>
-        ensures { IfOk result (λ reply. Shows (IsRunBlock choices.now input.now) self.now reply self.now) }
+        ensures { IfOk result (λ reply. Shows (IsRunText choices.now input.now) self.now reply self.now) }
     {
         let outcome = run_version(alloc, &self.present, &self.graph, input, choices)?;
-        Ok(Reply::Shown(block(alloc, &outcome)?))
+        Ok(Reply::Shown(outcome_text(alloc, &outcome)?))
     }
 
     /// The first race of the present program on these data, a fault that comes before any, or that there is neither.

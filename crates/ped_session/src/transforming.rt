@@ -12,13 +12,13 @@ ghost use Rattle.ped_session.specs.Steps.{Transforms, change_by};
 ghost use Rattle.ped_session.specs.Changing.{IsAnswerTo, IsTakeable, Takes, most_tests};
 ghost use Rattle.ped_session.specs.Scripts.{tests_of};
 
-use crate::changes::Change;
+use crate::changes::ChangeKind;
 use crate::replies::{FirstCause, Refusal, Reply};
 use crate::session::Session;
 use ped_base::NoMemory;
 use ped_order::flow_of;
 use ped_script::Command;
-use ped_transformations::{Kind, Place, Refused, Scene, every_step_is_lawful};
+use ped_transformations::{Kind, Place, Refused, Scene, StepAnswer, every_step_is_lawful};
 use ped_valid::Opened;
 use ped_verdict::Steps;
 use std::alloc::Global;
@@ -50,12 +50,7 @@ impl<L: Ledger> Session<L> {
     }
 
     /// What the step of a command makes of the present program, or the first cause against it.
-    fn answer(
-        &self,
-        alloc: Global,
-        command: &Command,
-        place: Place,
-    ) -> Result<Result<ped_transformations::Change, Refused>, NoMemory>
+    fn answer(&self, alloc: Global, command: &Command, place: Place) -> StepAnswer
         requires { IsPlace (step_of command.now) (Some place) }
         ensures answers { IfOk result (IsAnswerTo command.now (change_by (kind_of place.kind)) self.now) }
         ensures takeable { IfOk result (IsTakeable (change_by (kind_of place.kind)) self.now) }
@@ -81,7 +76,7 @@ impl<L: Ledger> Session<L> {
     fn take(
         &mut self,
         alloc: Global,
-        kind: Change,
+        kind: ChangeKind,
         answer: Result<ped_transformations::Change, Refused>,
         steps: &mut Steps<L>,
     ) -> Result<Reply, NoMemory>
@@ -106,11 +101,11 @@ impl<L: Ledger> Session<L> {
 }
 
 /// How the history takes down a step of a kind.
-fn change_of(kind: Kind) -> Change
+fn change_of(kind: Kind) -> ChangeKind
     ensures { result ≡ change_by (kind_of kind) }
 {
     match kind {
-        Kind::Transformation => Change::Transformation,
-        Kind::Rejection => Change::Rejection,
+        Kind::Transformation => ChangeKind::Transformation,
+        Kind::Rejection => ChangeKind::Rejection,
     }
 }

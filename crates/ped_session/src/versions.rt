@@ -1,6 +1,6 @@
 //! Programs of a session.
 
-use crate::changes::Change;
+use crate::changes::ChangeKind;
 use ped_base::Bytes;
 use ped_order::Delta;
 use ped_tree::Program;
@@ -24,7 +24,7 @@ pub(crate) struct Entry<L: Ledger> {
     /// The program on its other side.
     pub(crate) other: Version,
     /// Its kind.
-    pub(crate) change: Change,
+    pub(crate) change: ChangeKind,
     /// What takes the graph there.
     pub(crate) delta: Delta<L>,
 }

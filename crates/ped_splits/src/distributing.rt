@@ -24,7 +24,7 @@ use crate::keeping::kept;
 use crate::units::{Parted, Unit, homes_of, units_of};
 use ped_base::{Listed, NoMemory};
 use ped_rules::{
-    Change, Refused, Rule, Scene, against, change_to, escapes, is_plain, loop_at, program_with,
+    Change, Rule, Scene, StepAnswer, against, change_to, escapes, is_plain, loop_at, program_with,
 };
 use ped_tree::{Do, Stmt};
 use std::alloc::Global;
@@ -37,11 +37,7 @@ use std::sync::ledger::Ledger;
 ///
 /// `Refused` exactly where a rule forbids the step, with the rule of the least number: NoLoop, ParallelState,
 /// IndexEscapes, BoundNotPlain, OneBlock or Limit. No dependence forbids the step.
-pub fn distribute<L: Ledger>(
-    alloc: Global,
-    scene: &Scene<L>,
-    number: u32,
-) -> Result<Result<Change, Refused>, NoMemory>
+pub fn distribute<L: Ledger>(alloc: Global, scene: &Scene<L>, number: u32) -> StepAnswer
     requires { IsSceneOf (program_tree scene.now.tree.now) scene.now }
     ensures { IfOk result (Answers (Spec.distributing number) (program_tree scene.now.tree.now)) }
 {
@@ -56,12 +52,7 @@ pub fn distribute<L: Ledger>(
 }
 
 /// The same, where the statement is this DO.
-fn distribute_in<L: Ledger>(
-    alloc: Global,
-    scene: &Scene<L>,
-    number: u32,
-    d: &Do,
-) -> Result<Result<Change, Refused>, NoMemory>
+fn distribute_in<L: Ledger>(alloc: Global, scene: &Scene<L>, number: u32, d: &Do) -> StepAnswer
     requires scene { IsSceneOf (program_tree scene.now.tree.now) scene.now }
     requires is { IsLoop (program_tree scene.now.tree.now) number (head_of d.now) (stmt_trees d.now.body.items) }
     ensures { IfOk result (Answers (Spec.distributing number) (program_tree scene.now.tree.now)) }
@@ -81,7 +72,7 @@ fn distribute_contained<L: Ledger>(
     scene: &Scene<L>,
     number: u32,
     d: &Do,
-) -> Result<Result<Change, Refused>, NoMemory>
+) -> StepAnswer
     requires scene { IsSceneOf (program_tree scene.now.tree.now) scene.now }
     requires is { IsLoop (program_tree scene.now.tree.now) number (head_of d.now) (stmt_trees d.now.body.items) }
     requires serial { (head_of d.now).parallel ≡ false }
@@ -100,12 +91,7 @@ fn distribute_contained<L: Ledger>(
 }
 
 /// The same, where only the rules OneBlock and Limit may forbid the step.
-fn distribute_plain<L: Ledger>(
-    alloc: Global,
-    scene: &Scene<L>,
-    number: u32,
-    d: &Do,
-) -> Result<Result<Change, Refused>, NoMemory>
+fn distribute_plain<L: Ledger>(alloc: Global, scene: &Scene<L>, number: u32, d: &Do) -> StepAnswer
     requires scene { IsSceneOf (program_tree scene.now.tree.now) scene.now }
     requires is { IsLoop (program_tree scene.now.tree.now) number (head_of d.now) (stmt_trees d.now.body.items) }
     requires serial { (head_of d.now).parallel ≡ false }
@@ -126,11 +112,7 @@ fn distribute_plain<L: Ledger>(
 }
 
 /// The same, where these are the units of the DO.
-fn distribute_parted<L: Ledger>(
-    alloc: Global,
-    scene: &Scene<L>,
-    parted: &Parted,
-) -> Result<Result<Change, Refused>, NoMemory>
+fn distribute_parted<L: Ledger>(alloc: Global, scene: &Scene<L>, parted: &Parted) -> StepAnswer
     requires scene { IsSceneOf (program_tree scene.now.tree.now) scene.now }
     requires parted { IsParted (program_tree scene.now.tree.now) parted.now }
     requires serial { (head_of parted.now.statement.now).parallel ≡ false }

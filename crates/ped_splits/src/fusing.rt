@@ -25,7 +25,8 @@ use crate::returning::first_back;
 use ped_base::NoMemory;
 use ped_edges::Edge;
 use ped_rules::{
-    Change, Reader, Refused, Rule, Scene, against, change_to, flow_of, is_plain, level_at, loop_at,
+    Change, Reader, Refused, Rule, Scene, StepAnswer, against, change_to, flow_of, is_plain,
+    level_at, loop_at,
 };
 use ped_tree::{Do, Program};
 use std::alloc::Global;
@@ -40,11 +41,7 @@ use std::sync::ledger::Ledger;
 /// HasPrivate, IndexEscapes, BoundNotPlain, NoNeighbour or Limit; and else where the new DO would carry a dependence
 /// from the second body to the first one that the user hasn't rejected, with the first one in the order of the pane,
 /// under the present numbers.
-pub fn fuse<L: Ledger>(
-    alloc: Global,
-    scene: &Scene<L>,
-    number: u32,
-) -> Result<Result<Change, Refused>, NoMemory>
+pub fn fuse<L: Ledger>(alloc: Global, scene: &Scene<L>, number: u32) -> StepAnswer
     requires { IsSceneOf (program_tree scene.now.tree.now) scene.now }
     ensures { IfOk result (Answers (Spec.fusing number) (program_tree scene.now.tree.now)) }
 {
@@ -59,12 +56,7 @@ pub fn fuse<L: Ledger>(
 }
 
 /// The same, where the statement is this DO.
-fn fuse_in<L: Ledger>(
-    alloc: Global,
-    scene: &Scene<L>,
-    number: u32,
-    own: &Do,
-) -> Result<Result<Change, Refused>, NoMemory>
+fn fuse_in<L: Ledger>(alloc: Global, scene: &Scene<L>, number: u32, own: &Do) -> StepAnswer
     requires scene { IsSceneOf (program_tree scene.now.tree.now) scene.now }
     requires is { IsLoop (program_tree scene.now.tree.now) number (head_of own.now) (stmt_trees own.now.body.items) }
     ensures { IfOk result (Answers (Spec.fusing number) (program_tree scene.now.tree.now)) }
@@ -80,12 +72,7 @@ fn fuse_in<L: Ledger>(
 }
 
 /// The rule that forbids the step where no DO comes next.
-fn refused_alone<L: Ledger>(
-    alloc: Global,
-    scene: &Scene<L>,
-    number: u32,
-    own: &Do,
-) -> Result<Result<Change, Refused>, NoMemory>
+fn refused_alone<L: Ledger>(alloc: Global, scene: &Scene<L>, number: u32, own: &Do) -> StepAnswer
     requires scene { IsSceneOf (program_tree scene.now.tree.now) scene.now }
     requires is { IsLoop (program_tree scene.now.tree.now) number (head_of own.now) (stmt_trees own.now.body.items) }
     requires none { Neighbour (program_tree scene.now.tree.now) number → ⊥ }
@@ -104,12 +91,7 @@ fn refused_alone<L: Ledger>(
 }
 
 /// The rule that forbids the step where none before BoundNotPlain does, and no DO comes next that is alike.
-fn no_neighbour<L: Ledger>(
-    alloc: Global,
-    scene: &Scene<L>,
-    number: u32,
-    own: &Do,
-) -> Result<Result<Change, Refused>, NoMemory>
+fn no_neighbour<L: Ledger>(alloc: Global, scene: &Scene<L>, number: u32, own: &Do) -> StepAnswer
     requires scene { IsSceneOf (program_tree scene.now.tree.now) scene.now }
     requires is { IsLoop (program_tree scene.now.tree.now) number (head_of own.now) (stmt_trees own.now.body.items) }
     requires serial { (n : ℕ) → Spec.WhereEither (program_tree scene.now.tree.now) number is_parallel n → ⊥ }
@@ -130,11 +112,7 @@ fn no_neighbour<L: Ledger>(
 }
 
 /// The same, where these are the DO and the next one.
-fn fuse_pair<L: Ledger>(
-    alloc: Global,
-    scene: &Scene<L>,
-    pair: &Pair,
-) -> Result<Result<Change, Refused>, NoMemory>
+fn fuse_pair<L: Ledger>(alloc: Global, scene: &Scene<L>, pair: &Pair) -> StepAnswer
     requires scene { IsSceneOf (program_tree scene.now.tree.now) scene.now }
     requires pair { IsPair (program_tree scene.now.tree.now) pair.now }
     ensures { IfOk result (Answers (Spec.fusing pair.now.number) (program_tree scene.now.tree.now)) }
@@ -174,11 +152,7 @@ fn has_list(d: &Do) -> bool
 }
 
 /// The rule that forbids the step where the two aren't alike.
-fn refused_unlike<L: Ledger>(
-    alloc: Global,
-    scene: &Scene<L>,
-    pair: &Pair,
-) -> Result<Result<Change, Refused>, NoMemory>
+fn refused_unlike<L: Ledger>(alloc: Global, scene: &Scene<L>, pair: &Pair) -> StepAnswer
     requires scene { IsSceneOf (program_tree scene.now.tree.now) scene.now }
     requires pair { IsPair (program_tree scene.now.tree.now) pair.now }
     requires serial { (n : ℕ) → Spec.WhereEither (program_tree scene.now.tree.now) pair.now.number is_parallel n → ⊥ }
@@ -193,11 +167,7 @@ fn refused_unlike<L: Ledger>(
 }
 
 /// The same, where the two are alike.
-fn fuse_alike<L: Ledger>(
-    alloc: Global,
-    scene: &Scene<L>,
-    pair: &Pair,
-) -> Result<Result<Change, Refused>, NoMemory>
+fn fuse_alike<L: Ledger>(alloc: Global, scene: &Scene<L>, pair: &Pair) -> StepAnswer
     requires scene { IsSceneOf (program_tree scene.now.tree.now) scene.now }
     requires pair { IsPair (program_tree scene.now.tree.now) pair.now }
     requires serial { (n : ℕ) → Spec.WhereEither (program_tree scene.now.tree.now) pair.now.number is_parallel n → ⊥ }
@@ -218,7 +188,7 @@ fn fuse_contained<L: Ledger>(
     scene: &Scene<L>,
     pair: &Pair,
     tree: Program,
-) -> Result<Result<Change, Refused>, NoMemory>
+) -> StepAnswer
     requires scene { IsSceneOf (program_tree scene.now.tree.now) scene.now }
     requires pair { IsPair (program_tree scene.now.tree.now) pair.now }
     requires serial { (n : ℕ) → Spec.WhereEither (program_tree scene.now.tree.now) pair.now.number is_parallel n → ⊥ }
@@ -241,12 +211,7 @@ fn fuse_contained<L: Ledger>(
 }
 
 /// The same, where only the rule Limit or a dependence may forbid the step.
-fn fuse_plain<L: Ledger>(
-    alloc: Global,
-    scene: &Scene<L>,
-    pair: &Pair,
-    tree: Program,
-) -> Result<Result<Change, Refused>, NoMemory>
+fn fuse_plain<L: Ledger>(alloc: Global, scene: &Scene<L>, pair: &Pair, tree: Program) -> StepAnswer
     requires scene { IsSceneOf (program_tree scene.now.tree.now) scene.now }
     requires pair { IsPair (program_tree scene.now.tree.now) pair.now }
     requires serial { (n : ℕ) → Spec.WhereEither (program_tree scene.now.tree.now) pair.now.number is_parallel n → ⊥ }
@@ -275,7 +240,7 @@ fn unless_back<L: Ledger>(
     scene: &Scene<L>,
     pair: &Pair,
     change: Change,
-) -> Result<Result<Change, Refused>, NoMemory>
+) -> StepAnswer
     requires scene { IsSceneOf (program_tree scene.now.tree.now) scene.now }
     requires pair { IsPair (program_tree scene.now.tree.now) pair.now }
     requires alike { AreAlike (head_of pair.now.own.now) (head_of pair.now.next.now) (stmt_trees pair.now.next.now.body.items) }

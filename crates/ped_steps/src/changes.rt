@@ -5,6 +5,7 @@ ghost use Rattle.ped_tree.specs.Views.{program_tree};
 ghost use Rattle.ped_tree.specs.Numbering.{statements_count};
 ghost use Rattle.ped_steps.specs.Replacing as Spec;
 
+use crate::causes::Refused;
 use ped_base::{Listed, NoMemory};
 use ped_tree::{Program, count_statements};
 use ped_weaves::{Keep, Symbols};
@@ -20,6 +21,9 @@ pub struct Change {
     /// The statements that the step keeps: the number of each before the step, and its number after it.
     pub keep: Keep,
 }
+
+/// What a step answers: the change that it makes of a program, or what refuses it. The only error is running out of memory.
+pub type StepAnswer = Result<Result<Change, Refused>, NoMemory>;
 
 /// Each statement of a program with the same number after the step.
 pub fn all_kept(alloc: Global, program: &Program) -> Result<Keep, NoMemory>

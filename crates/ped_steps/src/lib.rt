@@ -13,7 +13,7 @@ mod scenes;
 mod validity;
 
 pub use causes::{Refused, cause_words};
-pub use changes::{Change, all_kept};
+pub use changes::{Change, StepAnswer, all_kept};
 pub use laws::one_replacement;
 pub use ped_weaves::{
     Flow, Keep, PairKey, Prepared, Reader, Symbols, accesses_are_made, accesses_in_sequence,

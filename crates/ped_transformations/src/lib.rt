@@ -11,7 +11,8 @@ pub use advising::advice;
 pub use laws::every_step_is_lawful;
 pub use ped_auto::{AutoReport, Editor, accepted_are_commands, auto};
 pub use ped_inline::{
-    Change, Refused, Scene, calls_are_covered, calls_pane, cause_words, loop_at, loops_round,
+    Change, Refused, Scene, StepAnswer, calls_are_covered, calls_pane, cause_words, loop_at,
+    loops_round,
 };
 pub use ped_reduce::{Lowered, has_list, lower, lowering_keeps_the_meaning, one_lowering};
 pub use table::{Kind, Place, answer, place_of};

@@ -8,7 +8,7 @@ ghost use Rattle.ped_transformations.specs.Table.{step_of};
 ghost use Rattle.ped_transformations.specs.CodeKinds.{IsPlace, AnswersStep, some_of};
 
 use ped_base::NoMemory;
-use ped_inline::{Change, Refused, Scene, inline};
+use ped_inline::{Change, Refused, Scene, StepAnswer, inline};
 use ped_loops::{interchange, make_parallel, make_serial, reject, reverse};
 use ped_reduce::reduce;
 use ped_reindex::{peel, skew, strip};
@@ -114,9 +114,7 @@ pub fn answer<L: Ledger>(
 }
 
 /// What a step answers, as the answer of a command that takes one.
-fn of_step(
-    found: Result<Result<Change, Refused>, NoMemory>,
-) -> Result<Option<Result<Change, Refused>>, NoMemory>
+fn of_step(found: StepAnswer) -> Result<Option<Result<Change, Refused>>, NoMemory>
     ensures { result ≡ some_of found }
 {
     match found {

@@ -4,7 +4,7 @@ use Rattle.std.proofs.lemmas.List.{map_push}
 use Rattle.ped_tree.specs.Grammar.Statement.{Statement}
 use Rattle.ped_tree.specs.Grammar.StatementViews.{statement_of}
 use Rattle.ped_tree.specs.declared.grammar.statements.Statement as lines
-use Rattle.ped_valid.specs.ped_parse.specs.ped_statements.specs.ped_expressions.specs.ExpressionReading.{saturated}
+use Rattle.ped_expressions.specs.ExpressionReading.{saturated}
 use Rattle.ped_units.specs.Reading.{UnitEntry, AreUnitEntries}
 use Rattle.ped_units.specs.UnitReading.{IsItemReadAs}
 use Rattle.ped_units.specs.Seeing.{entry_with_literals, AreItemsReadAs}

@@ -15,10 +15,10 @@ use Rattle.ped_valid.specs.ped_parse.specs.ped_blocks.specs.Machine.{nothing_bui
 use Rattle.ped_valid.specs.ped_parse.specs.ped_blocks.proofs.BlocksFound.{left_empty, right_empty, first_none}
 use Rattle.ped_valid.specs.ped_parse.specs.ped_blocks.proofs.BlocksNest.{one_tree_of}
 use Rattle.ped_valid.specs.ped_parse.specs.ped_statements.proofs.OneStatement.{one_item}
-use Rattle.ped_valid.specs.ped_parse.specs.ped_statements.specs.ped_expressions.proofs.Basics.{some_is}
-use Rattle.ped_valid.specs.ped_parse.specs.ped_statements.specs.ped_expressions.proofs.Whole.{with_same}
-use Rattle.ped_valid.specs.ped_parse.specs.ped_statements.specs.ped_expressions.proofs.CondWhole.{cond_with_same}
-use Rattle.ped_valid.specs.ped_parse.specs.ped_statements.specs.ped_expressions.specs.ExpressionReading.{all_with_literals}
+use Rattle.ped_expressions.proofs.Basics.{some_is}
+use Rattle.ped_expressions.proofs.Whole.{with_same}
+use Rattle.ped_expressions.proofs.CondWhole.{cond_with_same}
+use Rattle.ped_expressions.specs.ExpressionReading.{all_with_literals}
 use Rattle.ped_units.specs.Forms.{Called, UnitItem, plain, calls, calls_if, begins_unit, returns, UnitForm, call, if_call, subroutine, a_return, call_form_called, unit_form_item, ReadsUnitItem, HasNoUnitForm, IsUnitItem, OneUnitItem}
 use Rattle.ped_units.specs.Units.{ProgramUnit, ProgramUnits, all_units}
 use Rattle.ped_units.specs.Reading.{UnitEntry, AreUnitEntries, IsCutIntoUnits, Segment, segments_of, seen_entries, kept_entries, name_in, formals_in, IsHeaded, IsUnitOf, AreUnitsOf}

@@ -14,8 +14,8 @@ use Rattle.ped_tree.specs.Grammar.ProgramForms.{first_lines}
 use Rattle.ped_tree.specs.Grammar.ProgramRefusals.{listed_stmts, where_it_says, is_too_large, passes_limit, at_statement, at_statements, at_end, program_refusals}
 use Rattle.ped_valid.specs.ped_parse.specs.ped_blocks.specs.Machine.{nothing_built, take_entries, built_program}
 use Rattle.ped_valid.specs.ped_parse.specs.ped_blocks.proofs.BlocksFound.{none_stands, left_empty, right_empty, first_none}
-use Rattle.ped_valid.specs.ped_parse.specs.ped_statements.specs.ped_expressions.specs.ExpressionReading.{saturated}
-use Rattle.ped_valid.specs.ped_parse.specs.ped_statements.specs.ped_expressions.proofs.Large.{neither, cond_small_saturated}
+use Rattle.ped_expressions.specs.ExpressionReading.{saturated}
+use Rattle.ped_expressions.proofs.Large.{neither, cond_small_saturated}
 use Rattle.ped_valid.specs.ped_parse.proofs.LargeItems.{small_same}
 use Rattle.ped_tree.specs.Grammar.RefusalViews.{finding_of, found_of}
 use Rattle.ped_tree.specs.Grammar.StatementViews.{statement_of, statements_view}

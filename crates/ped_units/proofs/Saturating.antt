@@ -12,9 +12,9 @@ use Rattle.ped_tree.specs.Grammar.Statement.{Statements}
 use Rattle.ped_tree.specs.Grammar.Items.{Item, declares, saves_all, does, continues, logical_if, block_if, else_if, else_line, end_if, begins_do, ends_do, keeps_private, ends_program, Reading, says, outside_profile, no_form}
 use Rattle.ped_tree.specs.Grammar.Occurrences.{is_end_entry}
 use Rattle.ped_tree.specs.Grammar.ProgramRefusals.{stops, program_refusals}
-use Rattle.ped_valid.specs.ped_parse.specs.ped_statements.specs.ped_expressions.specs.ExpressionReading.{saturated, with_literals, all_with_literals}
-use Rattle.ped_valid.specs.ped_parse.specs.ped_statements.specs.ped_expressions.specs.ConditionReading.{cond_with_literals}
-use Rattle.ped_valid.specs.ped_parse.specs.ped_statements.specs.ped_expressions.proofs.Large.{cond_large_saturated}
+use Rattle.ped_expressions.specs.ExpressionReading.{saturated, with_literals, all_with_literals}
+use Rattle.ped_expressions.specs.ConditionReading.{cond_with_literals}
+use Rattle.ped_expressions.proofs.Large.{cond_large_saturated}
 use Rattle.ped_valid.specs.ped_parse.specs.ped_statements.specs.Saturated as plain_entries
 use Rattle.ped_valid.specs.ped_parse.specs.ped_statements.specs.Saturated.{reading_with_literals}
 use Rattle.ped_valid.specs.ped_parse.proofs.OtherLiterals.{names_with, is_end_with, stops_with, flat_with}

@@ -13,13 +13,13 @@ use Rattle.ped_tree.specs.Grammar.ExpressionForms.{ExprForm, ExprsForm, one, mor
 use Rattle.ped_tree.specs.Grammar.ConditionForms.{CondForm, cond_form_text, cond_form_tree}
 use Rattle.ped_tree.specs.Grammar.Items.{Reading, says, outside_profile, no_form}
 use Rattle.ped_tree.specs.Grammar.Reading.{HasNoForm, IsReading}
-use Rattle.ped_valid.specs.ped_parse.specs.ped_statements.specs.ped_expressions.specs.Scanning.{◌>>=◌, go_on, after}
-use Rattle.ped_valid.specs.ped_parse.specs.ped_statements.specs.ped_expressions.specs.ExpressionReading.{with_literals, all_with_literals, expr_of}
-use Rattle.ped_valid.specs.ped_parse.specs.ped_statements.specs.ped_expressions.specs.ConditionReading.{cond_of, cond_with_literals}
-use Rattle.ped_valid.specs.ped_parse.specs.ped_statements.specs.ped_expressions.proofs.Again.{stops}
-use Rattle.ped_valid.specs.ped_parse.specs.ped_statements.specs.ped_expressions.proofs.Basics.{some_is, bind_some, stops_or_goes, chosen, guarded, after_is}
-use Rattle.ped_valid.specs.ped_parse.specs.ped_statements.specs.ped_expressions.proofs.CondAgain.{cond_again, ors_stop}
-use Rattle.ped_valid.specs.ped_parse.specs.ped_statements.specs.ped_expressions.proofs.CondSound.{FoundCond, cond_found}
+use Rattle.ped_expressions.specs.Scanning.{◌>>=◌, go_on, after}
+use Rattle.ped_expressions.specs.ExpressionReading.{with_literals, all_with_literals, expr_of}
+use Rattle.ped_expressions.specs.ConditionReading.{cond_of, cond_with_literals}
+use Rattle.ped_expressions.proofs.Again.{stops}
+use Rattle.ped_expressions.proofs.Basics.{some_is, bind_some, stops_or_goes, chosen, guarded, after_is}
+use Rattle.ped_expressions.proofs.CondAgain.{cond_again, ors_stop}
+use Rattle.ped_expressions.proofs.CondSound.{FoundCond, cond_found}
 use Rattle.ped_valid.specs.ped_parse.specs.ped_statements.specs.Listing.{is_end, several}
 use Rattle.ped_valid.specs.ped_parse.specs.ped_statements.specs.Saturated.{reading_with_literals, IsReadAs}
 use Rattle.ped_valid.specs.ped_parse.specs.ped_statements.specs.StatementReading.{name_at}

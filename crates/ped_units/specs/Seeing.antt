@@ -8,7 +8,7 @@ use Rattle.ped_tree.specs.Grammar.ProgramForms.{first_lines}
 use Rattle.ped_tree.specs.Grammar.Refusal.{Finding, earlier, first_of}
 use Rattle.ped_tree.specs.Grammar.RefusalViews.{found_of}
 use Rattle.ped_valid.specs.ped_parse.specs.ped_blocks.specs.Machine.{nothing_built, take_entries, built_program}
-use Rattle.ped_valid.specs.ped_parse.specs.ped_statements.specs.ped_expressions.specs.ExpressionReading.{saturated}
+use Rattle.ped_expressions.specs.ExpressionReading.{saturated}
 use Rattle.ped_units.specs.Forms as forms
 use Rattle.ped_units.specs.Units as units
 use Rattle.ped_units.specs.Reading.{UnitEntry, AreUnitEntries, Segment, own_entries, further_segments, is_end_next, is_subroutine, as_reading, as_entries, stand_in, seen_entries, kept_entries, IsHeaded}

@@ -4,9 +4,9 @@ use Rattle.ped_base.specs.Lists.{is_same_text}
 use Rattle.ped_tree.specs.Tree.{ExprTree}
 use Rattle.ped_tree.specs.Views.{pack_exprs}
 use Rattle.ped_tree.specs.Grammar.Items.{Reading, says, outside_profile, no_form}
-use Rattle.ped_valid.specs.ped_parse.specs.ped_statements.specs.ped_expressions.specs.Scanning.{◌>>=◌, go_on, after}
-use Rattle.ped_valid.specs.ped_parse.specs.ped_statements.specs.ped_expressions.specs.ExpressionReading.{expr_of, all_with_literals}
-use Rattle.ped_valid.specs.ped_parse.specs.ped_statements.specs.ped_expressions.specs.ConditionReading.{cond_of, cond_with_literals}
+use Rattle.ped_expressions.specs.Scanning.{◌>>=◌, go_on, after}
+use Rattle.ped_expressions.specs.ExpressionReading.{expr_of, all_with_literals}
+use Rattle.ped_expressions.specs.ConditionReading.{cond_of, cond_with_literals}
 use Rattle.ped_valid.specs.ped_parse.specs.ped_statements.specs.Listing.{is_end, several}
 use Rattle.ped_valid.specs.ped_parse.specs.ped_statements.specs.StatementReading.{name_at}
 use Rattle.ped_valid.specs.ped_parse.specs.ped_statements.specs.Saturated.{reading_with_literals}

@@ -5,11 +5,11 @@ ghost use Rattle.std.specs.Prelude.{◌≡◌, IfOk, if◌then◌else◌, Some, 
 ghost use Rattle.ped_base.specs.Lists.{is_same_text};
 ghost use Rattle.ped_tree.specs.Views.{expr_tree};
 ghost use Rattle.ped_tree.specs.Grammar.ItemViews.{reading_of};
-ghost use Rattle.ped_valid.specs.ped_parse.specs.ped_statements.specs.ped_expressions.specs.ExpressionReading.{expr_of, saturated};
-ghost use Rattle.ped_valid.specs.ped_parse.specs.ped_statements.specs.ped_expressions.specs.Scanning.{go_on};
+ghost use Rattle.ped_expressions.specs.ExpressionReading.{expr_of, saturated};
+ghost use Rattle.ped_expressions.specs.Scanning.{go_on};
 ghost use Rattle.ped_valid.specs.ped_parse.specs.ped_statements.specs.Listing.{several};
 ghost use Rattle.ped_valid.specs.ped_parse.specs.ped_statements.specs.StatementReading.{name_at};
-ghost use Rattle.ped_valid.specs.ped_parse.specs.ped_statements.specs.ped_expressions.specs.Views.{Gives};
+ghost use Rattle.ped_expressions.specs.Views.{Gives};
 ghost use Rattle.ped_units.specs.UnitReading as Spec;
 ghost use Rattle.ped_units.specs.UnitReading.{IsItemReadAs};
 ghost use Rattle.ped_units.specs.Views.{called_of, unit_item_of};

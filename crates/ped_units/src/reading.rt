@@ -7,7 +7,7 @@ ghost use Rattle.ped_tree.specs.Grammar.Refusal.{first_of};
 ghost use Rattle.ped_tree.specs.Grammar.RefusalViews.{finding_of, found_of};
 ghost use Rattle.ped_tree.specs.Grammar.Statement.{Statements as PlainStatements};
 ghost use Rattle.ped_tree.specs.Grammar.StatementViews.{note_of, statement_of, statements_view};
-ghost use Rattle.ped_valid.specs.ped_parse.specs.ped_statements.specs.ped_expressions.specs.ExpressionReading.{saturated};
+ghost use Rattle.ped_expressions.specs.ExpressionReading.{saturated};
 ghost use Rattle.ped_valid.specs.ped_parse.specs.ped_lines.specs.Errors.{IsErrorOf};
 ghost use Rattle.ped_units.specs.Units.{ProgramUnit as PlainUnit, ProgramUnits, all_units};
 ghost use Rattle.ped_units.specs.Reading.{Segment as PlainSegment, segments_of, is_subroutine, IsHeaded};

@@ -19,7 +19,7 @@ use Rattle.ped_session.specs.ped_transformations.specs.ped_inline.specs.CallsPan
 use Rattle.ped_script.specs.declared.items.Command.{Command}
 use Rattle.ped_script.specs.declared.items.Command.TheVariants.{Source, Deps, Show, Calls, Print, Advise, Replace, Insert, Delete, Interchange, Reverse, Skew, Strip, Peel, Distribute, Fuse, Inline, Expand, Privatise, Reduce, Parallel, Serial, Reject, Auto, Undo, Redo, Run, Races, Tested}
 use Rattle.ped_script.specs.declared.items.Item.{Item}
-use Rattle.ped_session.specs.declared.changes.Change.TheVariants.{Edit}
+use Rattle.ped_session.specs.declared.changes.ChangeKind.TheVariants.{Edit}
 use Rattle.ped_session.specs.declared.replies.Refusal.{Refusal}
 use Rattle.ped_session.specs.declared.replies.Refusal.TheVariants.{BadEdit, Step, NothingToUndo, NothingToRedo, NoSuchStatement, NoSuchLine}
 use Rattle.ped_session.specs.declared.replies.Reply.{Reply}
@@ -27,7 +27,7 @@ use Rattle.ped_session.specs.declared.replies.Reply.TheVariants.{Changed, Shown,
 use Rattle.ped_session.specs.States.{Other, State, opened, changed_to, gone_back_to, gone_forward_to}
 use Rattle.ped_session.specs.Splices.{spliced, are_lines, is_place, edit_keep}
 use Rattle.ped_session.specs.Panes.{IsSourcePane, ArePanes, tested_row}
-use Rattle.ped_session.specs.Blocks.{block, IsRunBlock}
+use Rattle.ped_session.specs.OutcomeTexts.{outcome_text, IsRunText}
 use Rattle.ped_session.specs.LoweredRuns.{told_by, IsLoweredRun}
 use Rattle.ped_session.specs.RaceRows.{race_row, IsRaceRow}
 use Rattle.ped_session.specs.ped_rules.specs.Steps.{StepAt, MaybeStep, no_step, some_step, MatchStep}
@@ -163,8 +163,8 @@ module _ (comes : SomeOutcome) (s : State) (all : ArePrinted s) where
   }
 
   -- with whatever choices
-  run_block : (choices data_bytes : List ℕ) (t : ProgramTree) → (bytes : List ℕ) × IsRunBlock choices data_bytes t bytes
-  run_block choices data_bytes t = let o = lowered_outcome comes choices data_bytes t in (block o.0, (o.0, o.1, refl))
+  run_text : (choices data_bytes : List ℕ) (t : ProgramTree) → (bytes : List ℕ) × IsRunText choices data_bytes t bytes
+  run_text choices data_bytes t = let o = lowered_outcome comes choices data_bytes t in (outcome_text o.0, (o.0, o.1, refl))
 
   -- a command that takes no step
   others : (c : Command) → (c ≡ Auto → ⊥) → (data_bytes : List ℕ) → MatchStep (table.step_of c) (Answered (λ reply. λ next. IsOther c data_bytes s reply next)) (λ at. ⊤)
@@ -179,7 +179,7 @@ module _ (comes : SomeOutcome) (s : State) (all : ArePrinted s) where
   others (Delete first last) other d = edits_where (are_lines s.present first last) (first - 1) (last + 1 - first) (spliced s.present (first - 1) (last + 1 - first) [])
   others Undo other d = goes_back s.past all.past
   others Redo other d = goes_forward s.future all.future
-  others (Run choices) other d = shows (IsRunBlock choices d) (run_block choices d)
+  others (Run choices) other d = shows (IsRunText choices d) (run_text choices d)
   others Races other d = shows (IsRaceRow d) (race_rows d)
   others (Advise number) other d = shows_statement (λ t. IsAdvice t number) (λ t. advice_of t number) number
   others (Interchange number) other d = tt

@@ -1,8 +1,8 @@
 use Rattle.std.proofs.Common.{◌≡◌, ◌+◌, ℕ, List, drop, Option, sym, ap, subst, ◌∙◌}
 use Rattle.ped_links.specs.ped_valid.specs.ped_symbols.proofs.RightUseLaws.Found.{found_in_program}
-use Rattle.ped_links.specs.ped_valid.specs.ped_symbols.specs.declared.symbols.Kind.{Kind}
-use Rattle.ped_links.specs.ped_valid.specs.ped_symbols.specs.Entries.{entry_of}
-use Rattle.ped_links.specs.ped_valid.specs.ped_symbols.specs.Kinds.{Table, kind_in}
+use Rattle.ped_links.specs.ped_symbols.specs.declared.symbols.Kind.{Kind}
+use Rattle.ped_links.specs.ped_symbols.specs.Entries.{entry_of}
+use Rattle.ped_links.specs.ped_symbols.specs.Kinds.{Table, kind_in}
 use Rattle.ped_links.specs.ped_units.specs.Refusals.{for_names}
 use Rattle.ped_links.specs.ped_units.specs.Expanding.{Renamed, renamed}
 use Rattle.ped_calls.specs.Binding.{renamed_one}

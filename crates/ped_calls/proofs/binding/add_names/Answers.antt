@@ -1,6 +1,6 @@
 use Rattle.std.proofs.Common.{sym, ap, subst, ◌∙◌}
-use Rattle.ped_links.specs.ped_valid.specs.ped_symbols.specs.Kinds.{Table}
-use Rattle.ped_links.specs.ped_valid.specs.ped_symbols.specs.Values.{Values}
+use Rattle.ped_links.specs.ped_symbols.specs.Kinds.{Table}
+use Rattle.ped_links.specs.ped_symbols.specs.Values.{Values}
 use Rattle.ped_links.specs.ped_units.specs.Refusals.{for_names}
 use Rattle.ped_calls.specs.Binding.{AreSmall}
 use Rattle.ped_links.specs.ped_units.specs.Views.{program_unit_of}

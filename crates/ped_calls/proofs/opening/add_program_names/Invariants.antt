@@ -2,7 +2,7 @@ use Rattle.std.proofs.Common.{◌≡◌, map, drop}
 use Rattle.std.specs.List.{flat_map}
 use Rattle.ped_tree.specs.Names.Collecting.{with_names}
 use Rattle.ped_tree.specs.Views.{decl_tree}
-use Rattle.ped_links.specs.ped_valid.specs.ped_symbols.specs.Declarations.{program_name}
+use Rattle.ped_links.specs.ped_symbols.specs.Declarations.{program_name}
 use Rattle.ped_calls.proofs.opening.add_program_names.Given as goal
 
 abbrev pub invariant-loop-decl : goal.invariant-loop-decl

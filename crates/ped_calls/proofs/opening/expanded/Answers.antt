@@ -3,8 +3,8 @@ use Rattle.ped_tree.specs.Tree.{ProgramTree}
 use Rattle.ped_tree.specs.Numbering.{statements_count}
 use Rattle.ped_tree.specs.Views.{stmt_trees}
 use Rattle.ped_tree.specs.declared.statements.Stmt.{Stmt}
-use Rattle.ped_links.specs.ped_valid.specs.ped_symbols.specs.Kinds.{table_of}
-use Rattle.ped_links.specs.ped_valid.specs.ped_symbols.specs.NameRefusals.{IsValid}
+use Rattle.ped_links.specs.ped_symbols.specs.Kinds.{table_of}
+use Rattle.ped_links.specs.ped_symbols.specs.NameRefusals.{IsValid}
 use Rattle.ped_calls.specs.Courses.{units_of}
 use Rattle.ped_calls.specs.Opening.{Judges}
 use Rattle.ped_calls.specs.declared.opening.Judgement.{Judgement}

@@ -2,7 +2,7 @@ use Rattle.std.proofs.Common.{◌≡◌, List, map, subst}
 use Rattle.std.proofs.lemmas.Result.{IfOk-weaker, IfErr-weaker}
 use Rattle.ped_tree.specs.Views.{program_tree}
 use Rattle.ped_links.specs.ped_valid.specs.declared.opening.Opened.{Opened}
-use Rattle.ped_links.specs.ped_valid.specs.ped_symbols.specs.NameRefusals.{IsValid}
+use Rattle.ped_links.specs.ped_symbols.specs.NameRefusals.{IsValid}
 use Rattle.ped_calls.specs.Courses.{units_of}
 use Rattle.ped_links.specs.ped_units.specs.Expanding.{expansion}
 use Rattle.ped_links.specs.Numbers.{AreNumbers}

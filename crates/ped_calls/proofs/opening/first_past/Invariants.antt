@@ -1,5 +1,5 @@
 use Rattle.std.proofs.Common.{◌≤◌, ◌<◌, ◌-◌, length}
-use Rattle.ped_links.specs.ped_valid.specs.ped_symbols.specs.NameRefusals.{IsValid}
+use Rattle.ped_links.specs.ped_symbols.specs.NameRefusals.{IsValid}
 use Rattle.ped_links.specs.ped_units.specs.Verdicts.{IsWithin, partial}
 use Rattle.ped_calls.specs.Courses.{units_of}
 use Rattle.ped_calls.proofs.opening.first_past.Given as goal

@@ -3,8 +3,8 @@ use Rattle.ped_tree.specs.Views.{program_tree}
 use Rattle.ped_tree.specs.Grammar.Fits as grammar
 use Rattle.ped_tree.specs.Grammar.Refusal.{Finding, first_of}
 use Rattle.ped_tree.specs.Grammar.RefusalViews.{finding_of}
-use Rattle.ped_links.specs.ped_valid.specs.ped_symbols.specs.NameRefusals.{name_refusals}
-use Rattle.ped_links.specs.ped_valid.specs.ped_symbols.specs.Refused.{IsFirstOf}
+use Rattle.ped_links.specs.ped_symbols.specs.NameRefusals.{name_refusals}
+use Rattle.ped_links.specs.ped_symbols.specs.Refused.{IsFirstOf}
 use Rattle.ped_links.specs.ped_valid.specs.ped_symbols.proofs.FewReferences.{few_statements, few_references}
 use Rattle.ped_calls.proofs.opening.judged_program.Goals as goal
 

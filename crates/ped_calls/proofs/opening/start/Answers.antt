@@ -4,8 +4,8 @@ use Rattle.std.proofs.Common.{◌∙◌, ap, sym, []}
 use Rattle.ped_tree.specs.NamesIn.{first_occurrences}
 use Rattle.ped_tree.specs.Views.{decl_tree}
 use Rattle.ped_tree.specs.declared.declarations.Decl.{Decl}
-use Rattle.ped_links.specs.ped_valid.specs.ped_symbols.specs.Declarations.{program_name}
-use Rattle.ped_links.specs.ped_valid.specs.ped_symbols.specs.Kinds.{Table}
+use Rattle.ped_links.specs.ped_symbols.specs.Declarations.{program_name}
+use Rattle.ped_links.specs.ped_symbols.specs.Kinds.{Table}
 use Rattle.ped_links.specs.ped_units.specs.declared.units.ProgramUnit.{ProgramUnit}
 use Rattle.ped_calls.proofs.MainSteps.{nothing_yet}
 use Rattle.ped_calls.proofs.opening.start.Goals as goal

@@ -2,8 +2,8 @@ use Rattle.std.proofs.Common.{◌≡◌, ℕ, List, [], ◌++◌, map, ap, ◌�
 use Rattle.std.specs.List.{flat_map}
 use Rattle.ped_tree.specs.Names.Collecting.{with_names}
 use Rattle.ped_tree.specs.Views.{decl_tree}
-use Rattle.ped_links.specs.ped_valid.specs.ped_symbols.specs.declared.symbols.Kind.{Kind}
-use Rattle.ped_links.specs.ped_valid.specs.ped_symbols.specs.Declarations.{program_name}
+use Rattle.ped_links.specs.ped_symbols.specs.declared.symbols.Kind.{Kind}
+use Rattle.ped_links.specs.ped_symbols.specs.Declarations.{program_name}
 use Rattle.ped_links.specs.ped_units.proofs.CollectedNames.{collected}
 use Rattle.ped_calls.proofs.MainSteps.{with_both}
 use Rattle.ped_calls.proofs.opening.taken.Goals as goal

@@ -4,10 +4,10 @@ use Rattle.std.proofs.lemmas.Result.{err_from_is_err_and}
 use Rattle.ped_tree.specs.Tree.{ExprTree}
 use Rattle.ped_tree.specs.declared.expressions.Expr.{Expr}
 use Rattle.ped_tree.specs.Views.{expr_tree}
-use Rattle.ped_valid.specs.ped_parse.specs.ped_statements.specs.ped_expressions.specs.ExpressionReading.{expr_of, saturated}
-use Rattle.ped_valid.specs.ped_parse.specs.ped_statements.specs.ped_expressions.specs.Views.{Gives, expr_and_rest}
-use Rattle.ped_valid.specs.ped_parse.specs.ped_statements.specs.ped_expressions.specs.declared.readings.Failure.{Failure}
-use Rattle.ped_valid.specs.ped_parse.specs.ped_statements.specs.ped_expressions.specs.declared.readings.Failure.TheVariants.{NoForm, OutOfMemory}
+use Rattle.ped_expressions.specs.ExpressionReading.{expr_of, saturated}
+use Rattle.ped_expressions.specs.Views.{Gives, expr_and_rest}
+use Rattle.ped_expressions.specs.declared.readings.Failure.{Failure}
+use Rattle.ped_expressions.specs.declared.readings.Failure.TheVariants.{NoForm, OutOfMemory}
 use Rattle.ped_valid.specs.ped_parse.specs.ped_statements.specs.Listing.{several}
 use Rattle.ped_valid.specs.ped_parse.specs.ped_statements.proofs.Gathered.{ahead, several_more, several_last, several_fails}
 use Rattle.ped_units.proofs.UnitForms.{exprs_shrink}

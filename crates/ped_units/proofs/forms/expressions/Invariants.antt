@@ -1,6 +1,6 @@
 use Rattle.std.proofs.Common.{◌≡◌, map, length, ◌≤◌}
 use Rattle.ped_tree.specs.Views.{expr_tree}
-use Rattle.ped_valid.specs.ped_parse.specs.ped_statements.specs.ped_expressions.specs.ExpressionReading.{expr_of, saturated}
+use Rattle.ped_expressions.specs.ExpressionReading.{expr_of, saturated}
 use Rattle.ped_valid.specs.ped_parse.specs.ped_statements.specs.Listing.{several}
 use Rattle.ped_valid.specs.ped_parse.specs.ped_statements.proofs.Gathered.{ahead}
 use Rattle.ped_units.proofs.forms.expressions.Given as goal

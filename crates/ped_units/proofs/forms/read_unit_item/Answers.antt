@@ -3,7 +3,7 @@ use Rattle.ped_tree.specs.Grammar.Items.{Reading, outside_profile, no_form}
 use Rattle.ped_tree.specs.Grammar.ItemViews.{reading_of}
 use Rattle.ped_tree.specs.declared.grammar.items.StatementReading.{StatementReading}
 use Rattle.ped_tree.specs.declared.grammar.items.StatementReading.TheVariants.{Says, OutsideProfile, NoForm}
-use Rattle.ped_valid.specs.ped_parse.specs.ped_statements.specs.ped_expressions.specs.ExpressionReading.{saturated}
+use Rattle.ped_expressions.specs.ExpressionReading.{saturated}
 use Rattle.ped_valid.specs.ped_parse.specs.ped_statements.specs.Saturated.{IsReadAs}
 use Rattle.ped_units.specs.UnitReading.{or_unit_item, IsItemReadAs}
 use Rattle.ped_units.specs.Views.{unit_item_of}

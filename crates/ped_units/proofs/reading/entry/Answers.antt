@@ -1,5 +1,5 @@
 use Rattle.std.proofs.Common.{ℕ, List, refl, subst}
-use Rattle.ped_valid.specs.ped_parse.specs.ped_statements.specs.ped_expressions.specs.ExpressionReading.{saturated}
+use Rattle.ped_expressions.specs.ExpressionReading.{saturated}
 use Rattle.ped_units.specs.UnitReading.{IsItemReadAs}
 use Rattle.ped_units.specs.Views.{unit_item_of}
 use Rattle.ped_units.proofs.reading.entry.Goals as goal

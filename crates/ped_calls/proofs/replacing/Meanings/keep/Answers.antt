@@ -2,7 +2,7 @@ use Rattle.std.proofs.Common.{◌≡◌, [], ◌∷◌, ◌++◌, Bool, true, fa
 use Rattle.ped_base.specs.contracts.identifiers.NamePartialEq.TheImpl as code
 use Rattle.indexmap.proofs.CallerLemmas.{insert_entry-new}
 use Rattle.ped_tree.specs.Views.{expr_tree, value_tree}
-use Rattle.ped_links.specs.ped_valid.specs.ped_symbols.specs.Entries.{entry_of}
+use Rattle.ped_links.specs.ped_symbols.specs.Entries.{entry_of}
 use Rattle.ped_links.proofs.Meant.{table_finds, there_meant, kept_meant, none_found}
 use Rattle.ped_calls.proofs.replacing.Meanings.keep.Goals as goal
 

@@ -4,7 +4,7 @@ use Rattle.ped_transformations.specs.ped_rules.specs.Steps.{Answers}
 use Rattle.ped_transformations.specs.Table.{step_of}
 use Rattle.ped_transformations.specs.CodeKinds.{AnswersStep}
 use Rattle.ped_transformations.proofs.ByPlace.{some_then, out_of_some}
-use Rattle.ped_session.specs.declared.changes.Change.{Change}
+use Rattle.ped_session.specs.declared.changes.ChangeKind.{ChangeKind}
 use Rattle.ped_session.specs.Holding.{tree_of}
 use Rattle.ped_session.specs.States.{State}
 use Rattle.ped_session.specs.Steps.{change_by}
@@ -29,7 +29,7 @@ returns-in-Some-clause-takeable g c =
     let s = c.args.self.now in
     let found = subst (AnswersStep (step_of c.args.command.now) (tree_of v)) c.in-Some.is c.in_ok-answer.ensures in
     out_of_some c.args.place (step_of c.args.command.now) ⊥ ⊥ _ (λ at. Answers at (tree_of v) c.in-Some.answer) (λ at. Answers at (tree_of v) c.in-Some.answer) (c.every_step_is_lawful.ensures c.args.command.now) c.requires found found
-    (λ at lawful is h same. subst (λ (k : Change). IsTakeable k s c.in-Some.answer) (ap change_by is.1)
+    (λ at lawful is h same. subst (λ (k : ChangeKind). IsTakeable k s c.in-Some.answer) (ap change_by is.1)
     (takeable at v s c.self.invariant.version (ap (λ (u : State). u.present) c.self.view_is) lawful c.in-Some.answer h))
 
 pub unreachable-requires : goal.unreachable-requires

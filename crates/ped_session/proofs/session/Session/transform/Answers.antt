@@ -3,7 +3,7 @@ use Rattle.std.proofs.lemmas.Result.{IfOk-weaker}
 use Rattle.ped_tree.specs.Numbering.{statement_with}
 use Rattle.ped_transformations.specs.Table.{step_of}
 use Rattle.ped_transformations.proofs.ByPlace.{with_some, some_then, out_of_some}
-use Rattle.ped_session.specs.declared.changes.Change.{Change}
+use Rattle.ped_session.specs.declared.changes.ChangeKind.{ChangeKind}
 use Rattle.ped_session.specs.Holding.{tree_of}
 use Rattle.ped_session.specs.States.{State}
 use Rattle.ped_session.specs.Changing.{Takes}
@@ -27,7 +27,7 @@ returns-clause-answers g c =
     some_then c.args.place (step_of c.args.command.now) ⊥ ⊥ _ _ c.requires c.in_ok-answer.ensures.answers
     (λ at is h. takes at s c.take.new.self r c.in_ok-answer.answer
     (is_there at.statement v s c.self.invariant.version text (ap (λ (n : ℕ). is_some (statement_with n (tree_of v))) is.0 ∙ there))
-    h.1 (subst (λ (k : Change). Takes k c.in_ok-answer.answer s r c.take.new.self) (c.change_of-kind.ensures ∙ sym h.0) taken))) c.take.ensures.answers
+    h.1 (subst (λ (k : ChangeKind). Takes k c.in_ok-answer.answer s r c.take.new.self) (c.change_of-kind.ensures ∙ sym h.0) taken))) c.take.ensures.answers
 
 pub returns-clause-most : goal.returns-clause-most
 returns-clause-most g c reply next h =

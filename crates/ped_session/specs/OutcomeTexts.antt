@@ -24,10 +24,10 @@ abbrev pub fault_row : ℕ → ℕ → List ℕ
 fault_row number statement = codes "fault " ++ decimal number ++ codes " at " ++ decimal statement ++ 10 ∷ []
 
 -- an outcome: the printed lines, `ended` and the live-out variables; or the fault with its statement
-abbrev pub block : Outcome → List ℕ
-block (Ended output live) = flat_map output_row output ++ codes "ended" ++ 10 ∷ flat_map live_row live
-block (Fault number statement) = fault_row number statement
+abbrev pub outcome_text : Outcome → List ℕ
+outcome_text (Ended output live) = flat_map output_row output ++ codes "ended" ++ 10 ∷ flat_map live_row live
+outcome_text (Fault number statement) = fault_row number statement
 
--- the block of the outcome with which a program ends on its data, where these choices, and 0 after their end, pick which iteration of an open PARALLEL DO does the next step; where it has live lists of sums, what it is lowered to runs (this project)
-abbrev pub IsRunBlock : (choices data_bytes : List ℕ) → ProgramTree → List ℕ → Type 0
-IsRunBlock choices data_bytes t bytes = (o : Outcome) × IsLoweredRun choices data_bytes t o × (bytes ≡ block o)
+-- the text of the outcome with which a program ends on its data, where these choices, and 0 after their end, pick which iteration of an open PARALLEL DO does the next step; where it has live lists of sums, what it is lowered to runs (this project)
+abbrev pub IsRunText : (choices data_bytes : List ℕ) → ProgramTree → List ℕ → Type 0
+IsRunText choices data_bytes t bytes = (o : Outcome) × IsLoweredRun choices data_bytes t o × (bytes ≡ outcome_text o)

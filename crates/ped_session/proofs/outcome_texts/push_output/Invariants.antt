@@ -1,7 +1,7 @@
 use Rattle.std.proofs.Common.{◌≡◌, ◌++◌, drop}
 use Rattle.std.specs.List.{flat_map}
-use Rattle.ped_session.specs.Blocks.{output_row}
-use Rattle.ped_session.proofs.blocks.push_output.Given as goal
+use Rattle.ped_session.specs.OutcomeTexts.{output_row}
+use Rattle.ped_session.proofs.outcome_texts.push_output.Given as goal
 
 abbrev pub invariant-loop-line : goal.invariant-loop-line
 invariant-loop-line l = l.out ++ flat_map output_row (drop l.line-index l.lines) ≡ l.fn.out ++ flat_map output_row l.lines

@@ -3,7 +3,7 @@
 ghost use Rattle.std.specs.Prelude.{◌≡◌, ◌++◌, map, IfOk, OnOk};
 ghost use Rattle.std.specs.List.{flat_map};
 ghost use Rattle.ped_eval.specs.OutcomeViews.{outcome_view, row_view};
-ghost use Rattle.ped_session.specs.Blocks as Spec;
+ghost use Rattle.ped_session.specs.OutcomeTexts as Spec;
 
 use ped_base::{Bytes, NoMemory, push_number, push_signed};
 use ped_eval::{LiveRow, Outcome};
@@ -11,8 +11,8 @@ use ped_store::RunFault;
 use std::alloc::Global;
 
 /// The printed lines, `ended` and the live-out variables; or the fault with its statement.
-pub(crate) fn block(alloc: Global, outcome: &Outcome) -> Result<Bytes, NoMemory>
-    ensures { IfOk result (λ bytes. bytes ≡ Spec.block (outcome_view outcome.now)) }
+pub(crate) fn outcome_text(alloc: Global, outcome: &Outcome) -> Result<Bytes, NoMemory>
+    ensures { IfOk result (λ bytes. bytes ≡ Spec.outcome_text (outcome_view outcome.now)) }
 {
     let mut out = Bytes::new(alloc);
     match outcome {

@@ -8,7 +8,7 @@ import subprocess
 import tempfile
 from contextlib import contextmanager
 from pathlib import Path
-from typing import Dict, Iterator, List, Optional, Tuple
+from typing import Any, Callable, Dict, Iterator, List, Optional, Tuple
 
 from . import files
 from .lines import split_lines
@@ -70,18 +70,29 @@ def read_file(name: str) -> str:
     return data.decode(ENCODING)
 
 
+#: How a program is run: as `subprocess.run` does.
+Runner = Callable[..., "subprocess.CompletedProcess[Any]"]
+
+
 class Ped:
     """The program ped."""
 
-    def __init__(self, program: str, is_quiet: bool = False) -> None:
+    def __init__(self, program: str, is_quiet: bool = False, run: Runner = subprocess.run) -> None:
         self._program = program
+        self._runner = run
         #: Whether what it writes to standard error is dropped, as it would spoil what a terminal shows.
         self._is_quiet = is_quiet
         self._environment: Optional[Dict[str, str]] = None
 
     def quiet(self) -> Ped:
         """The same program, without what it writes to standard error."""
-        return Ped(self._program, is_quiet=True)
+        return Ped(self._program, is_quiet=True, run=self._runner)
+
+    def run_by(self, run: Runner) -> Ped:
+        """The same program, run in another way."""
+        other = Ped(self._program, self._is_quiet, run)
+        other._environment = self._environment
+        return other
 
     def direct(self) -> Ped:
         """The program that a launcher would start, for thousands of calls; the same where there is no launcher.
@@ -99,7 +110,7 @@ class Ped:
             return self
         name = done.stdout.decode(ENCODING).rstrip("\n")
         is_program = done.returncode == 0 and os.path.isabs(name) and os.path.isfile(name) and os.access(name, os.X_OK)
-        return Ped(name, self._is_quiet) if is_program else self
+        return Ped(name, self._is_quiet, self._runner) if is_program else self
 
     def show(self, source: str) -> Panes:
         """Both panes of a program."""
@@ -135,7 +146,7 @@ class Ped:
     def _run(self, words: List[str], folder: str) -> Tuple[int, str]:
         program = os.path.abspath(self._program) if os.sep in self._program else self._program
         try:
-            done = subprocess.run(
+            done = self._runner(
                 [program, *words], cwd=folder, stdin=subprocess.DEVNULL, stdout=subprocess.PIPE,
                 stderr=subprocess.DEVNULL if self._is_quiet else None, check=False, env=self._environment,
             )

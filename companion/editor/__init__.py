@@ -9,6 +9,7 @@ The modules, from the program up to the keys, over `companion.outline`, the loop
 - `filters`, `desk`: what is looked at: the present line and loop, the dependences that are shown;
 - `pictures`: what the terminal shows of it, as text;
 - `keys`, `terminal`, `prompts`, `pages`: the keys, and what is asked and told;
-- `advice`, `free_edits`, `saving`, `compiling`: what single keys do;
+- `working`: what takes time, in a thread of its own while keys are served;
+- `lists`, `advice`, `free_edits`, `saving`, `compiling`: what single keys do;
 - `editor`: the loop over the keys.
 """

@@ -22,12 +22,11 @@ from ..replies import Advised
 from ..trials import carried_names, rows_by_name
 from ..tuning import attempts, results
 from ..views import View
+from .pages import KEYS, Listed
 
 _ACCEPTED = re.compile(r"try (`[^`]*`(?:(?:,| and) `[^`]*`)*): ped accepts")
 _STEP = re.compile(r"`([^`]*)`")
 _REJECT = "C$PED REJECT"
-#: The keys that carry out a piece of advice; `q` closes the page.
-KEYS = "123456789abcdefghijklmnop"
 
 
 @dataclass(frozen=True)
@@ -90,28 +89,33 @@ def _refused_together(steps: Sequence[Advised], refusal: str) -> str:
     return f"{commands}: {refused(refusal)}"
 
 
-def advice_page(view: View, loop: Loop, advice: List[Advice]) -> List[str]:
-    """The advice as a page; what can be carried out has a key."""
+def advice_page(view: View, loop: Loop, advice: List[Advice]) -> Listed:
+    """The advice as a list; what can be carried out has a key."""
     names = carried_names(view.carried_by(loop))
-    lines = [f"Loop {loop.number} carries {listed(names) or 'nothing'}.", ""]
+    page = Listed([f"Loop {loop.number} carries {listed(names) or 'nothing'}.", ""], [], [])
     keys = iter(KEYS)
     for one in advice:
-        lines.append(f"{next(keys, ''):>3}  {one.words}" if one.steps else f"  -  {one.words}")
+        if one.steps:
+            page.chosen.append(", ".join(one.steps))
+            page.places.append(len(page.lines))
+        page.lines.append(f"{next(keys, ''):>3}  {one.words}" if one.steps else f"  -  {one.words}")
     if any(_REJECT in one.words for one in advice):
-        lines.append("     (the key j does that)")
+        page.lines.append("     (the key j does that)")
     if not advice:
-        lines.append("There is nothing that can be tried here by itself.")
-    return lines
+        page.lines.append("There is nothing that can be tried here by itself.")
+    return page
 
 
-def calls_page(calls: Calls, outline: Outline) -> List[str]:
-    """The CALLs as a page, each with a key that inlines it, and what depends on them."""
-    lines: List[str] = []
+def calls_page(calls: Calls, outline: Outline) -> Listed:
+    """The CALLs as a list, each with a key that inlines it, and what depends on them."""
+    page = Listed([], [], [])
     keys = iter(KEYS)
     for number, call in calls.calls.items():
-        lines.append(f"{next(keys, ''):>3}  {number} {call}")
-        lines.extend(f"       {words}" for words in calls.about(number, outline.nests))
-    return lines or ["The program has no CALL."]
+        page.chosen.append(f"inline {number}")
+        page.places.append(len(page.lines))
+        page.lines.append(f"{next(keys, ''):>3}  {number} {call}")
+        page.lines.extend(f"       {words}" for words in calls.about(number, outline.nests))
+    return page if page.lines else Listed(["The program has no CALL."], [], [])
 
 
 def _accepted(words: str) -> Tuple[str, ...]:

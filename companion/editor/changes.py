@@ -47,8 +47,8 @@ def script_of(changes: Sequence[Change]) -> str:
 
 def edit_between(old: Sequence[str], new: Sequence[str]) -> Lines:
     """The edit that makes new lines of the old ones, and touches as few of them as can be; nothing where none does."""
-    front = _common(old, new)
-    back = _common(old[front:][::-1], new[front:][::-1])
+    front = common(old, new)
+    back = common(old[front:][::-1], new[front:][::-1])
     taken = old[front:len(old) - back]
     put = new[front:len(new) - back]
     if _END_OF_TEXT in put:
@@ -62,7 +62,7 @@ def edit_between(old: Sequence[str], new: Sequence[str]) -> Lines:
     return (command, *put, _END_OF_TEXT)
 
 
-def _common(one: Sequence[str], other: Sequence[str]) -> int:
+def common(one: Sequence[str], other: Sequence[str]) -> int:
     """How many lines two texts have in common at their fronts."""
     pairs = zip(one, other)
     return next((count for count, (left, right) in enumerate(pairs) if left != right), min(len(one), len(other)))

@@ -3,7 +3,7 @@
 from __future__ import annotations
 
 import re
-from typing import Dict, List, Optional, Tuple
+from typing import Dict, List, Optional, Sequence, Tuple
 
 from ..lines import FIRST_COLUMN, LAST_COLUMN
 from ..messages import listed
@@ -11,10 +11,19 @@ from ..panes import Dependence, read_dependence
 from ..trials import carried_names
 from .filters import ALL, Filters
 from ..outline import LoopLines, Outline
+from .changes import common
 from .session import Present
 
 _STATEMENTS = re.compile(r"\bat (\d+)|\band (\d+)")
 _EDGE = "edge "
+
+
+def line_in(old: Sequence[str], new: Sequence[str], line: int) -> int:
+    """Where a line of a text stands in a later one: as far from the front, or the end, where that is as it was."""
+    if line <= common(old, new):
+        return line
+    back = common(old[::-1], new[::-1])
+    return line + len(new) - len(old) if line > len(old) - back else line
 
 
 class Desk:
@@ -23,6 +32,7 @@ class Desk:
     def __init__(self, present: Present) -> None:
         self._present = present
         self._rows: Optional[List[Dependence]] = None
+        self._count: Optional[int] = None
         self._filters = Filters()
         #: The present line, counted from 1; the first loop is looked at first.
         self.line = 1
@@ -83,8 +93,16 @@ class Desk:
         """The rows that are shown."""
         if self._rows is None:
             self._rows = self._filters.chosen(self._present, self.loop)
+            self._count = None
             self.row = max(0, min(self.row, len(self._rows) - 1))
         return self._rows
+
+    @property
+    def count(self) -> int:
+        """How many rows touch the present loop, shown or not."""
+        if self._rows is None or self._count is None:
+            self._count = len(Filters(level=ALL).chosen(self._present, self.loop))
+        return self._count
 
     @property
     def chosen(self) -> Optional[Dependence]:
@@ -92,13 +110,17 @@ class Desk:
         return self.rows[self.row] if self.in_rows and self.rows else None
 
     def put(self, present: Present, statement: Optional[int] = None) -> None:
-        """Puts another program on the desk; the loop at a statement, or the next one behind it, is looked at then."""
+        """Puts another program on the desk; the loop at a statement, or the next one behind it, is looked at then.
+
+        Without a statement the present line stays, where it is still there.
+        """
+        before, lines = self.loop, self._present.lines
         self._present = present
         self._rows = None
         self.in_rows = False
         self.named = {}
-        lines = [loop.first_line for loop in self.outline.loops.values() if statement and loop.number >= statement]
-        self.go(min(lines) if lines else self.line)
+        starts = [loop.first_line for loop in self.outline.loops.values() if statement and loop.number >= statement]
+        self._look(min(starts) if starts else line_in(lines, present.lines, self.line), before)
 
     def say(self, message: str) -> None:
         """Shows an answer, and nothing of an earlier one."""
@@ -129,12 +151,18 @@ class Desk:
 
     def go(self, line: int) -> None:
         """Goes to a line."""
-        before = self.loop
+        self._look(line, self.loop)
+
+    def _look(self, line: int, before: Optional[LoopLines]) -> None:
+        """Goes to a line from a loop; with the loop its filters end, but the order of the rows stays."""
         self.line = max(1, min(line, len(self._present.lines)))
         after = self.loop
-        if before is not after:
-            self._rows = None
-            self.row = 0
+        if before is after:
+            return
+        self._rows = None
+        self.row = 0
+        if before is None or after is None or before.number != after.number:
+            self._filters = Filters(order=self._filters.order)
 
     def move(self, count: int) -> None:
         """Goes some lines, or rows, down; up where the number is negative."""
@@ -173,11 +201,16 @@ class Desk:
         outer = loop if self.line != loop.first_line else self.outline.loops[loop.nest[-2]]
         self.go(outer.first_line)
 
+    @property
+    def is_unread(self) -> bool:
+        """Whether a row is chosen, and its references can't be marked before the program is read."""
+        return self.chosen is not None and not self._present.is_read
+
     def marked(self) -> Dict[int, List[Tuple[int, int]]]:
         """For each line the columns of the two references of the chosen row, from 0 on, the last one not among them."""
         found: Dict[int, List[Tuple[int, int]]] = {}
         row = self.chosen
-        for key in (row.source, row.sink) if row is not None else ():
+        for key in (row.source, row.sink) if row is not None and not self.is_unread else ():
             start, end = self._present.view.program.reference(key).span
             for line in range(start.line, end.line + 1):
                 first = start.column - 1 if line == start.line else FIRST_COLUMN - 1

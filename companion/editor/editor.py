@@ -3,8 +3,9 @@
 from __future__ import annotations
 
 import os
-from contextlib import contextmanager, suppress
-from typing import Callable, Dict, Iterator, List, Optional, Sequence, Tuple
+import signal
+from contextlib import suppress
+from typing import Any, Callable, Dict, List, Optional, Sequence, Tuple, TypeVar
 
 from .. import files
 from ..blocks import block_at, blocks_of
@@ -17,34 +18,45 @@ from ..faults import FAULTS
 from ..lines import split_lines
 from ..messages import counted, listed
 from ..openmp import Wishes
+from ..panes import Dependence
 from ..ped import ENCODING, argument, cause, read_file, shown
 from ..refusals import refused
 from ..replies import Fault, Reply
 from ..statuses import CompanionError
 from ..trials import carried_names, rows_by_name
 from . import keys
-from .advice import KEYS, advice_page, advised, calls_page
+from .advice import advice_page, advised, calls_page
 from .changes import NoChange
 from .compiling import compile_command, compiled, run_compiled
 from .desk import Desk
-from .filters import Filters
+from .filters import ALL, Filters
 from .free_edits import TEXT, Draft, NoEditor, about_refusal, refused_line
-from .lists import Listed, loops_list, variables_list
-from .keys import BLOCK_STEPS, STEPS, Asks, Step
-from .pages import show_page
-from .pictures import Painter, Row
+from .keys import BLOCK_STEPS, EXPAND, PRIVATISE, REDUCE, STEPS, Asks, Step
+from .lists import changes_list, loops_list, scalars_of, variables_list
+from .pages import Listed, show_list, show_page
+from .pictures import HINT, Painter, Row
 from .prompts import ask, pick
 from .rescuing import Rescue, has_text_alone, remove, rescued
 from .saving import Names, What
 from .session import Session
 from .terminal import (
-    DOWN, END, ENTER, ESCAPE, HOME, INTERRUPTED, OTHER, PAGE_DOWN, PAGE_UP, PRESSED, RESIZED, TAB, UP, WHEEL_DOWN, WHEEL_UP,
-    Terminal,
+    DOWN, END, ENTER, ESCAPE, HOME, INTERRUPTED, OTHER, PAGE_DOWN, PAGE_UP, PRESSED, RESIZED, TAB, UP, WHEEL_DOWN,
+    WHEEL_UP, Terminal,
 )
+from .working import GivenUp, Programs, Work
 
 _ENDLESS = 10 ** 9
 #: How many rows are explained at once.
 _EXPLAINED = 50
+#: Work that takes longer, in seconds, is shown; before that keys wait. And how often what is shown is looked at.
+_SOON, _TURN = 0.3, 0.1
+#: Ctrl-\, which ends the editor while it's at work, as it ends programs that have no such key.
+_END = "\x1c"
+
+_CLOSES = "another key closes the page, and is carried out"
+_ON_VARIABLES = "v privatise, x expand, + reduce; Enter shows its dependences; another key closes"
+
+T = TypeVar("T")
 
 
 class Editor:
@@ -62,22 +74,32 @@ class Editor:
         #: What was searched last.
         self._sought = ""
         self._is_done = False
+        #: What goes on, and the keys that are to be served behind it.
+        self._work_now: Optional[Work[Any]] = None
+        self._kept: List[str] = []
         #: What was rescued and is part of the changes now; it may go once they are saved.
         self._taken: List[str] = []
-        self._actions = self._table()
+        self._moves = self._moving_keys()
+        self._actions = self._other_keys()
 
     def run(self, greeting: str = "") -> None:
         """Does what the keys say until the user ends it."""
         if not self._offer_rescued():
             self._desk.say(greeting or "? tells the keys, n goes to the next loop, a tells what to do with it")
         while not self._is_done:
+            self._read_when_wanted()
             self._draw()
-            self._act(self._terminal.key())
+            self._act(self._kept.pop(0) if self._kept else self._terminal.key())
 
     def _act(self, key: str) -> None:
         """Does what a key says."""
+        if self._work_now is not None:
+            self._act_meanwhile(self._work_now, key)
+            return
         try:
-            if key in STEPS:
+            if key in self._moves:
+                self._moves[key]()
+            elif key in STEPS:
                 self._step(STEPS[key])
             elif key in BLOCK_STEPS:
                 self._step_of_block(BLOCK_STEPS[key])
@@ -90,30 +112,93 @@ class Editor:
         except KeyboardInterrupt:
             self._desk.say("interrupted")
 
-    def _table(self) -> Dict[str, Callable[[], object]]:
+    def _moving_keys(self) -> Dict[str, Callable[[], object]]:
+        """The keys that are served while ped works, too."""
         desk = self._desk
-        page = max(1, self._terminal.size[0] // 2)
         return {
             UP: lambda: desk.move(-1), DOWN: lambda: desk.move(1),
-            PAGE_UP: lambda: desk.move(-page), PAGE_DOWN: lambda: desk.move(page),
+            PAGE_UP: lambda: desk.move(-self._half), PAGE_DOWN: lambda: desk.move(self._half),
             HOME: lambda: desk.move(-_ENDLESS), END: lambda: desk.move(_ENDLESS),
             keys.NEXT_LOOP: lambda: desk.go_to_loop(True), keys.PREVIOUS_LOOP: lambda: desk.go_to_loop(False),
             WHEEL_UP: lambda: desk.move(-3), WHEEL_DOWN: lambda: desk.move(3), PRESSED: self._press,
             keys.LOOPS: self._list_loops, keys.SEARCH: self._search, keys.GO: self._go,
-            keys.VARIABLES: self._list_variables,
-            keys.OUTER_LOOP: desk.go_out, TAB: self._change_pane, ESCAPE: self._to_source,
-            keys.ADVICE: self._advise, keys.CALLS: self._show_calls, ENTER: self._why,
+            keys.OUTER_LOOP: desk.go_out, TAB: self._change_pane,
             keys.LEVEL: lambda: self._filter(desk.filters.with_next_level(desk.outline.depth)),
             keys.KIND: lambda: self._filter(desk.filters.with_next_kind()),
             keys.MARK: lambda: self._filter(desk.filters.with_next_mark()),
             keys.ORDER: lambda: self._filter(desk.filters.with_next_order()),
             keys.NAME: self._filter_name, keys.NO_FILTERS: lambda: self._filter(Filters()),
+            keys.HELP: self._help,
+        }
+
+    def _other_keys(self) -> Dict[str, Callable[[], object]]:
+        return {
+            ESCAPE: self._to_source, keys.VARIABLES: self._list_variables, keys.CHANGES: self._list_changes,
+            keys.ADVICE: self._advise, keys.CALLS: self._show_calls, ENTER: self._why,
             keys.AUTO: self._automatic, keys.EDIT: self._edit, keys.UNDO: self._undo, keys.REDO: self._redo,
             keys.RUN: self._run, keys.RACES: self._races, keys.DATA: self._choose_data,
             keys.SAVE: self._save_script, keys.WRITE: self._write_program, keys.OPENMP: self._openmp,
-            keys.HELP: lambda: self._page("The keys of pedx edit", list(keys.help_lines())),
-            keys.QUIT: self._quit, INTERRUPTED: self._quit,
+            keys.QUIT: self._quit, INTERRUPTED: self._interrupt,
         }
+
+    @property
+    def _half(self) -> int:
+        """How many lines a page key goes."""
+        return max(1, self._terminal.size[0] // 2)
+
+    # What takes time
+
+    def _work(self, words: str, act: Callable[[Session], T]) -> T:
+        """Has something done to the session that takes time, and takes what has come of it.
+
+        Meanwhile the user may move, and give it up; then a GivenUp is raised, and the session is as it was.
+        """
+        def try_it(programs: Programs) -> Tuple[Session, T]:
+            session = self._session.trial(programs.run)
+            return session, act(session)
+
+        session, result = self._followed(Work(words, try_it))
+        self._session.adopt(session)
+        return result
+
+    def _followed(self, work: Work[T]) -> T:
+        """Serves keys until some work is done, and answers what has come of it."""
+        self._work_now = work
+        try:
+            work.wait(_SOON)
+            while not work.is_done:
+                self._draw()
+                key = self._terminal.key_within(_TURN)
+                if key is not None:
+                    self._act_meanwhile(work, key)
+            return work.result()
+        finally:
+            self._work_now = None
+            work.give_up()
+
+    def _act_meanwhile(self, work: Work[T], key: str) -> None:
+        """Does what a key says while some work goes on; a key that isn't served then is told, or waits for a moment."""
+        if key in self._moves:
+            self._moves[key]()
+        elif key in (ESCAPE, INTERRUPTED):
+            # What was done just before is done.
+            if not work.is_done:
+                raise GivenUp(work.words, work.seconds)
+        elif work.is_done:
+            self._kept.append(key)
+        elif key == _END:
+            os.kill(os.getpid(), signal.SIGQUIT)
+        elif key not in (RESIZED, OTHER):
+            self._desk.say(f"ped is working: {work.words}; the key {key} does nothing until it's done")
+
+    def _read_when_wanted(self) -> None:
+        """Reads the program where the references of a row are to be shown."""
+        if self._desk.is_unread:
+            try:
+                self._work("the program is read", lambda session: session.present.view)
+            except CompanionError as error:
+                self._desk.in_rows = False
+                self._desk.say(error.message)
 
     # What is shown and asked
 
@@ -121,18 +206,18 @@ class Editor:
         changes = counted(len(self._session.changes), "change")
         state = changes if self._session.is_saved else f"{changes}, not saved"
         height, width = self._terminal.size
-        return self._painter.picture(self._desk, state, height, width)
+        return self._painter.picture(self._desk, state, height, width, self._hint())
+
+    def _hint(self) -> str:
+        """What the last row says: what goes on, and for how long, or some keys."""
+        work = self._work_now
+        if work is None:
+            return HINT
+        about = f" .. {int(work.seconds)} s; Esc gives it up"
+        return f"{work.words[:max(8, self._terminal.size[1] - len(about))]}{about}; keys that move are served"
 
     def _draw(self) -> None:
         self._terminal.draw(self._picture())
-
-    @contextmanager
-    def _busy(self, words: str) -> Iterator[None]:
-        """Shows what is being done, and lets it be interrupted."""
-        self._desk.say(f"{words} ..")
-        self._draw()
-        with self._terminal.interruptible():
-            yield
 
     def _background(self) -> List[Row]:
         return self._picture()[:-1]
@@ -151,9 +236,15 @@ class Editor:
 
     def _page(self, title: str, lines: Sequence[str]) -> None:
         """Shows a page. The key that closes it is carried out, but for those that only close it."""
-        key = show_page(self._terminal, title, lines)
-        if key not in (ENTER, ESCAPE, TAB, keys.QUIT, keys.HELP):
+        self._press_behind(show_page(self._terminal, title, lines))
+
+    def _press_behind(self, key: str) -> None:
+        """Carries out the key that has closed a page, but for those that only close it."""
+        if key not in (ENTER, ESCAPE, TAB, INTERRUPTED, keys.QUIT, keys.HELP):
             self._act(key)
+
+    def _help(self) -> None:
+        self._page("The keys of pedx edit", keys.help_lines(self._terminal.size[1]))
 
     # Looking
 
@@ -202,20 +293,44 @@ class Editor:
         if loop is None:
             self._desk.say("stand on a loop for its variables; n goes to the next one")
             return
-        with self._busy("the program is read"):
-            view = self._session.present.view
-        self._desk.say("")
-        found = variables_list(view, view.program.loops[loop.number])
-        chosen = self._choose(f"The variables of loop {loop.number}, {loop.header}", found, "carries out a step")
-        if chosen is not None:
-            self._carry_out(chosen, loop.number)
+        number = loop.number
+        found = self._work("the variables are looked up", lambda session: _variables(session, number))
+        title = f"The variables of loop {number}, {loop.header}"
+        answer = show_list(self._terminal, title, found, _ON_VARIABLES if found.chosen else _CLOSES)
+        if answer.choice is None or answer.key not in (ENTER, PRIVATISE, EXPAND, REDUCE):
+            self._press_behind(answer.key)
+            return
+        name = found.chosen[answer.choice]
+        if answer.key == ENTER:
+            self._filter(Filters(level=ALL, name=name, order=self._desk.filters.order))
+            self._desk.in_rows = bool(self._desk.rows)
+            return
+        view = self._session.present.view
+        scalars = scalars_of(answer.key, name, view, view.program.loops[number])
+        self._carry_out(f"{STEPS[answer.key].word} {number} {scalars}", number)
+
+    def _list_changes(self) -> None:
+        chosen = self._choose("The changes", changes_list(self._session), "goes there, back or forth")
+        if chosen is None:
+            return
+        count = int(chosen)
+        before = len(self._session.changes)
+        if count == before:
+            self._desk.say("the program is there already")
+            return
+        self._work("back to a change" if count < before else "forth to a change", lambda session: session.go_to(count))
+        self._desk.put(self._session.present)
+        last = f" is the last one: {self._session.changes[-1].command}" if count else ": the program is as it was"
+        self._desk.say(f"change {count}{last}" if count else f"no change{last}")
 
     def _choose(self, title: str, found: Listed, what: str) -> Optional[str]:
-        """Shows a list, and answers what the key that was pressed stands for."""
-        hint = f"a key at the left {what}; another one closes the page" if found.chosen else "any key closes the page"
-        key = show_page(self._terminal, title, found.lines, hint)
-        place = KEYS.find(key) if len(key) == 1 else -1
-        return found.chosen[place] if 0 <= place < len(found.chosen) else None
+        """Shows a list, and answers what is chosen from it; another key that closes it is carried out."""
+        hint = f"the key at the left, Enter or a click {what}; another key closes it"
+        answer = show_list(self._terminal, title, found, hint if found.chosen else _CLOSES)
+        if answer.choice is not None and answer.key == ENTER:
+            return found.chosen[answer.choice]
+        self._press_behind(answer.key)
+        return None
 
     def _filter_name(self) -> None:
         names = list(dict.fromkeys(row.name for row in self._desk.rows))
@@ -228,12 +343,7 @@ class Editor:
         if not rows:
             self._desk.say("there is no dependence to be explained")
             return
-        with self._busy("the program is read"):
-            view = self._session.present.view
-        self._desk.say("")
-        lines: List[str] = []
-        for row in rows[:_EXPLAINED]:
-            lines.extend([*explained(view, row), ""])
+        lines = self._work("the rows are explained", lambda session: _explained(session, rows[:_EXPLAINED]))
         self._page("Why these dependences are there" if len(rows) > 1 else "Why this dependence is there", lines)
 
     def _advise(self) -> None:
@@ -241,32 +351,18 @@ class Editor:
         if loop is None:
             self._desk.say("stand on a loop for advice; n goes to the next one")
             return
-        with self._busy(f"ped is asked what it accepts at loop {loop.number}"):
-            view = self._session.present.view
-            advice = advised(self._session.ped, view, view.program.loops[loop.number])
-        self._desk.say("")
-        lines = advice_page(view, view.program.loops[loop.number], advice)
-        offered = [one.steps for one in advice if one.steps]
-        hint = "any key closes the page"
-        if offered:
-            hint = "the key before a step carries it out; another one closes the page"
-        key = show_page(self._terminal, f"Advice for loop {loop.number}, {loop.header}", lines, hint)
-        place = KEYS.find(key) if len(key) == 1 else -1
-        if 0 <= place < len(offered):
-            for step in offered[place]:
-                self._carry_out(step, loop.number)
+        number = loop.number
+        found = self._work(f"advice for loop {number}", lambda session: _advice(session, number))
+        chosen = self._choose(f"Advice for loop {number}, {loop.header}", found, "carries a step out")
+        for step in chosen.split(", ") if chosen is not None else ():
+            self._carry_out(step, number)
 
     def _show_calls(self) -> None:
-        with self._busy("calls"):
-            found = read_calls(self._session.answer("calls").rows)
-        self._desk.say("")
-        numbers = list(found.calls)
-        lines = calls_page(found, self._desk.outline)
-        hint = "the key before a CALL inlines it; another one closes the page" if numbers else "any key closes the page"
-        key = show_page(self._terminal, "The CALLs, and what depends on them", lines, hint)
-        place = KEYS.find(key) if len(key) == 1 else -1
-        if 0 <= place < len(numbers):
-            self._carry_out(f"inline {numbers[place]}", numbers[place])
+        found = self._work("calls", lambda session: read_calls(session.answer("calls").rows))
+        listed = calls_page(found, self._desk.outline)
+        chosen = self._choose("The CALLs, and what depends on them", listed, "inlines a CALL")
+        if chosen is not None:
+            self._carry_out(chosen, int(chosen.split()[1]))
 
     # Changing
 
@@ -299,17 +395,18 @@ class Editor:
             return ["first", "last"]
         rows = self._desk.carried
         if asks is Asks.VARIABLE:
-            program = self._desk.present.view.program
-            return [name for name, mine in rows_by_name(rows).items() if may_reject(program, mine)]
+            view = self._work("the program is read", lambda session: session.present.view)
+            return [name for name, mine in rows_by_name(rows).items() if may_reject(view.program, mine)]
         names = [name for name in carried_names(rows) if not name.startswith("(")]
         scalars = [name for name in names if name not in self._desk.outline.arrays]
         return [" ".join(scalars), *scalars] if asks is Asks.SUMS and len(scalars) > 1 else scalars
 
     def _carry_out(self, command: str, statement: int) -> None:
-        with self._busy(command):
-            refusal = self._session.step(command)
+        line = self._desk.line
+        refusal = self._work(command, lambda session: session.step(command))
         if refusal is None:
-            self._desk.put(self._session.present, statement)
+            # Who has gone elsewhere meanwhile stays there.
+            self._desk.put(self._session.present, statement if self._desk.line == line else None)
             self._desk.say(f"{command}: ok{self._what_next(command.split()[0])}")
         else:
             cause = refused(refusal, command.split()[0])
@@ -327,8 +424,7 @@ class Editor:
         return f"; loop {loop.number} {self._desk.verdict}{hint}"
 
     def _automatic(self) -> None:
-        with self._busy("auto"):
-            reply = self._session.automatic()
+        reply = self._work("auto", lambda session: session.automatic())
         self._desk.put(self._session.present)
         left = [str(loop.number) for loop in reply.left]
         loops = f"loop{'s' if len(left) > 1 else ''} {listed(left)}" if left else "no loop"
@@ -360,8 +456,7 @@ class Editor:
         try:
             with self._terminal.set_aside():
                 draft.edit(line)
-            with self._busy("edit"):
-                refusal = self._session.edit(draft.lines)
+            refusal = self._work("the edit", lambda session: session.edit(draft.lines))
         except NoEditor as error:
             return str(error), line
         except NoChange as error:
@@ -388,13 +483,11 @@ class Editor:
                 self._desk.say(error.message)
 
     def _undo(self) -> None:
-        with self._busy("undo"):
-            change = self._session.undo()
+        change = self._work("undo", lambda session: session.undo())
         self._after_move("undone", change.command if change else None, "there is nothing to undo")
 
     def _redo(self) -> None:
-        with self._busy("redo"):
-            change = self._session.redo()
+        change = self._work("redo", lambda session: session.redo())
         self._after_move("done again", change.command if change else None, "there is nothing to redo")
 
     def _after_move(self, what: str, command: Optional[str], otherwise: str) -> None:
@@ -412,8 +505,7 @@ class Editor:
             return
         self._choices = choices
         command = f"run {choices}".strip()
-        with self._busy(command):
-            reply = self._session.answer(command)
+        reply = self._work(command, lambda session: session.answer(command))
         if reply.refusal is not None:
             self._desk.say(f"{command}: {refused(reply.refusal)}")
         elif reply.fault is not None:
@@ -423,8 +515,7 @@ class Editor:
             self._page(f"{command}{self._on_data()}", reply.rows)
 
     def _races(self) -> None:
-        with self._busy("races"):
-            reply = self._session.answer("races")
+        reply = self._work("races", lambda session: session.answer("races"))
         if reply.fault is not None:
             self._say_fault("races", reply, reply.fault)
             return
@@ -444,8 +535,8 @@ class Editor:
         name = self._ask("data from which file? (none: no data)", [self._data_name])
         if name is None:
             return
-        with self._busy(f"{shown(name)} is read"):
-            text = read_file(name) if name else None
+        file: str = name
+        text = self._work(f"{shown(file)} is read", lambda _: read_file(file)) if file else None
         self.take_data(name, text)
         self._desk.say(f"data: {shown(name) or 'none'}")
 
@@ -485,8 +576,8 @@ class Editor:
         self._session.mark_saved()
         self._drop_taken()
         try:
-            with self._busy("the script is replayed"):
-                proof = "replays to this program" if self._session.replays() else "DOESN'T replay to this program"
+            is_proved = self._work("the script is replayed", lambda session: session.replays())
+            proof = "replays to this program" if is_proved else "DOESN'T replay to this program"
         except CompanionError as error:
             proof = f"can't be replayed: {error.message}"
         self._desk.say(f"{shown(name)} holds {counted(len(self._session.changes), 'change')} and {proof}")
@@ -497,13 +588,13 @@ class Editor:
         self._names.program = name or self._names.program
 
     def _openmp(self) -> None:
-        present = self._session.present
         live = self._pick("print the variables in SAVE at its end? (y, n)", "yn")
         if not live:
             self._desk.say("nothing was done")
             return
-        with self._busy("the program is translated"):
-            export = export_of(self._session.ped, present.view, Wishes(live == "y"), self._session.data)
+        export = self._work("the program is translated", lambda session: export_of(
+            session.ped, session.present.view, Wishes(live == "y"), session.data
+        ))
         if export.doubts:
             show_page(self._terminal, "Not all is sure of the OpenMP program", export.doubts, "a key closes the page")
             if not self._confirm("not all is sure of it: write it all the same?"):
@@ -523,8 +614,7 @@ class Editor:
         line = shown(" ".join(command))
         if not self._confirm(f"{line}: compile it?") or not self._may_write(What.COMPILED, command[-2]):
             return
-        with self._busy(line):
-            complaints = compiled(command)
+        complaints = self._followed(Work(line, lambda programs: compiled(command, programs.run)))
         self._names.own(What.COMPILED, command[-2])
         if complaints:
             self._desk.say("the compiler complains")
@@ -532,10 +622,15 @@ class Editor:
             return
         self._desk.say(f"compiled: {line}")
         if self._confirm("run it with four threads?"):
-            with self._busy(shown(command[-2])):
-                rows = run_compiled(name, self._session.data)
+            data = self._session.data
+            rows = self._followed(Work(shown(command[-2]), lambda programs: run_compiled(name, data, programs.run)))
             self._desk.say(f"{shown(command[-2])} has run")
             self._page(f"{shown(command[-2])}{self._on_data()}", rows)
+
+    def _interrupt(self) -> None:
+        """Asks before it ends: the key may have been meant for work that was done just then."""
+        if not self._session.is_saved or self._confirm("quit?"):
+            self._quit()
 
     def _quit(self) -> None:
         if self._session.is_saved:
@@ -574,8 +669,7 @@ class Editor:
         return False
 
     def _take_script(self, name: str) -> bool:
-        with self._busy(shown(name)):
-            refusals = self._session.load(read_file(name), is_saved=False)
+        refusals = self._work(shown(name), lambda session: session.load(read_file(name), is_saved=False))
         self._desk.put(self._session.present)
         changes = counted(len(self._session.changes), "change")
         self._desk.say(f"{shown(name)}: {changes}; refused: {counted(len(refusals), 'line')}")
@@ -596,3 +690,17 @@ class Editor:
                 if has_text_alone(name):
                     remove(name)
         self._taken = []
+
+
+def _variables(session: Session, loop: int) -> Listed:
+    view = session.present.view
+    return variables_list(view, view.program.loops[loop])
+
+
+def _advice(session: Session, loop: int) -> Listed:
+    view = session.present.view
+    return advice_page(view, view.program.loops[loop], advised(session.ped, view, view.program.loops[loop]))
+
+
+def _explained(session: Session, rows: Sequence[Dependence]) -> List[str]:
+    return [line for row in rows for line in (*explained(session.present.view, row), "")]

@@ -3,9 +3,7 @@
 from __future__ import annotations
 
 from enum import Enum
-from typing import Dict, Iterator, NamedTuple, Tuple
-
-from .terminal import DOWN, END, ENTER, ESCAPE, HOME, PAGE_DOWN, PAGE_UP, TAB, UP
+from typing import Dict, List, NamedTuple, Sequence, Tuple
 
 
 class Asks(Enum):
@@ -28,73 +26,89 @@ class Step(NamedTuple):
     about: str
 
 
+PRIVATISE, EXPAND, REDUCE = "v", "x", "+"
+
 #: The steps by their keys, as docs/COMMANDS.md tells them.
 STEPS: Dict[str, Step] = {
-    "p": Step("parallel", Asks.NOTHING, "make the loop a PARALLEL DO"),
-    "s": Step("serial", Asks.NOTHING, "make the PARALLEL DO a DO"),
-    "v": Step("privatise", Asks.SCALAR, "give each iteration a scalar of its own"),
-    "x": Step("expand", Asks.SCALAR, "make an array of a scalar, an element for each iteration"),
-    "+": Step("reduce", Asks.SUMS, "do the iterations of a loop that sums up in any order"),
-    "i": Step("interchange", Asks.NOTHING, "have the loop and the one in it change places"),
-    "r": Step("reverse", Asks.NOTHING, "go through the iterations in the opposite order"),
-    "k": Step("skew", Asks.FACTOR, "add the variable, times a factor, to the inner bounds"),
-    "t": Step("strip", Asks.SIZE, "do the iterations in strips"),
-    "l": Step("peel", Asks.ITERATION, "take the first or the last iteration out of the loop"),
-    "d": Step("distribute", Asks.NOTHING, "take the loop apart, so that what is free is set free"),
-    "f": Step("fuse", Asks.NOTHING, "make one loop of this one and the next"),
-    "j": Step("reject", Asks.VARIABLE, "say that pending dependences aren't there"),
+    "p": Step("parallel", Asks.NOTHING, "make it a PARALLEL DO"),
+    "s": Step("serial", Asks.NOTHING, "make it a DO again"),
+    PRIVATISE: Step("privatise", Asks.SCALAR, "each has its own scalar"),
+    EXPAND: Step("expand", Asks.SCALAR, "an array for a scalar"),
+    REDUCE: Step("reduce", Asks.SUMS, "sums in any order"),
+    "i": Step("interchange", Asks.NOTHING, "swap with the inner one"),
+    "r": Step("reverse", Asks.NOTHING, "go the other way"),
+    "k": Step("skew", Asks.FACTOR, "shift the inner bounds"),
+    "t": Step("strip", Asks.SIZE, "do it in strips"),
+    "l": Step("peel", Asks.ITERATION, "first or last iteration"),
+    "d": Step("distribute", Asks.NOTHING, "take the loop apart"),
+    "f": Step("fuse", Asks.NOTHING, "join it with the next"),
+    "j": Step("reject", Asks.VARIABLE, "say: no such dependence"),
 }
 
 #: The steps at the block of a CALL.
 BLOCK_STEPS: Dict[str, Step] = {
-    "I": Step("inline", Asks.NOTHING, "put the statements of the CALL at the line in its place"),
+    "I": Step("inline", Asks.NOTHING, "the CALL at the line"),
 }
 
 NEXT_LOOP, PREVIOUS_LOOP, OUTER_LOOP = "n", "b", "o"
 ADVICE, CALLS, AUTO, EDIT, UNDO, REDO = "a", "c", "A", "e", "u", "y"
-LOOPS, VARIABLES, SEARCH, GO = "g", "V", "/", ":"
+LOOPS, VARIABLES, CHANGES, SEARCH, GO = "g", "V", "H", "/", ":"
 LEVEL, KIND, MARK, NAME, NO_FILTERS, ORDER = "L", "K", "M", "N", "0", "S"
 RUN, RACES, DATA = "R", "C", "D"
 SAVE, WRITE, OPENMP = "w", "W", "O"
 HELP, QUIT = "?", "q"
 
-_OTHERS: Tuple[Tuple[str, str], ...] = (
+#: Headings with the keys below them.
+_LOOKING: Tuple[Tuple[str, str], ...] = (
     ("Moving", ""),
-    (f"{UP} {DOWN}", "a line; the present loop is the innermost one at the line"),
-    (f"{PAGE_UP}, {PAGE_DOWN}", "a page"),
-    (f"{HOME}, {END}", "the first line, the last line"),
-    (f"{NEXT_LOOP} {PREVIOUS_LOOP} {OUTER_LOOP}", "the next loop, the one before, the one round this one"),
-    (LOOPS, "all loops with what they carry, with keys that go there"),
-    (f"{SEARCH} {GO}", "the next line with a text; a line by its number"),
-    (f"{TAB}, {ESCAPE}", "into the dependences (^ source, ~ sink), and back"),
+    ("arrows", "and pages: lines, dependences"),
+    (f"{NEXT_LOOP} {PREVIOUS_LOOP} {OUTER_LOOP}", "next, previous, outer loop"),
+    (LOOPS, "all loops, to go to one"),
+    (f"{SEARCH} {GO}", "find a text, go to a line"),
+    ("Tab Esc", "into the dependences, back"),
+    ("mouse", "click: go, choose; wheel too"),
     ("Looking", ""),
-    (ADVICE, "advice for the present loop, with keys that carry it out"),
-    (VARIABLES, "the variables of the loop: shared, private, sum, carried"),
-    (CALLS, "the CALLs and what depends on them, with keys that inline"),
-    (ENTER, "why the chosen dependence is there, or those of the loop"),
-    (f"{LEVEL} {KIND} {MARK} {NAME}", "filter the dependences by level, kind, mark, name"),
-    (NO_FILTERS, "take the filters away"),
-    (ORDER, "sort the dependences by source, sink, name, kind, level"),
-    ("mouse", "a click: go to a line, choose a dependence; wheel: scroll"),
-    ("Changing", ""),
-    (AUTO, "auto: take steps that make loops parallel, each a change"),
-    (EDIT, "edit the program in $EDITOR"),
-    (f"{UNDO} {REDO}", "undo the last change, redo what was undone last"),
+    (ADVICE, "advice: what ped accepts"),
+    (VARIABLES, "variables, with keys v x +"),
+    ("Enter", "why a dependence is there"),
+    (CALLS, "CALLs, what depends on them"),
+    (f"{LEVEL} {KIND} {MARK} {NAME}", "filter: level kind mark name"),
+    (f"{NO_FILTERS} {ORDER}", "no filters; sort the rows"),
     ("Running", ""),
-    (RUN, "run; with choices, PARALLEL DO loops in another order"),
-    (RACES, "look for a race in a run"),
-    (DATA, "choose the data for runs"),
+    (f"{RUN} {RACES} {DATA}", "run; find races; choose data"),
     ("Saving", ""),
-    (f"{SAVE} {WRITE}", "save the script of the changes, write the program"),
-    (OPENMP, "write the program for OpenMP, and compile it"),
-    (f"{HELP} {QUIT}", "these keys, the end"),
+    (f"{SAVE} {WRITE}", "save script; write program"),
+    (OPENMP, "OpenMP: write, compile, run"),
+    (f"{HELP} {QUIT}", "these keys; quit"),
+    ("While ped works, keys that move are", ""),
+    ("served; Esc or Ctrl-C gives it up", ""),
 )
+_OTHER_CHANGES: Tuple[Tuple[str, str], ...] = (
+    (AUTO, "auto: make loops parallel"),
+    (EDIT, "edit the program in $EDITOR"),
+    ("Back and forth", ""),
+    (f"{UNDO} {REDO}", "undo, redo"),
+    (CHANGES, "all changes, to go to one"),
+)
+#: The width of one of two columns, and the least width of a terminal that has both.
+_COLUMN, _WIDE = 40, 80
 
 
-def help_lines() -> Iterator[str]:
-    """The keys, one on a line."""
-    for keys, about in _OTHERS:
-        yield f"  {keys:19} {about}" if about else keys
-        if keys == "Changing":
-            for key, step in {**STEPS, **BLOCK_STEPS}.items():
-                yield f"  {key:6} {step.word:12} {step.about}"
+def help_lines(width: int) -> List[str]:
+    """The keys, in two columns where there is room: then 24 lines show them all."""
+    left = [_row(keys, about) for keys, about in _LOOKING]
+    steps = [(key, f"{step.word:11} {step.about}") for key, step in {**STEPS, **BLOCK_STEPS}.items()]
+    right = ["Changing the present loop", *(_row(keys, about, 3) for keys, about in (*steps, *_OTHER_CHANGES))]
+    if width < _WIDE:
+        return [*left, *right]
+    return [f"{one:{_COLUMN}}{other}".rstrip() for one, other in zip(*_as_long(left, right))]
+
+
+def _row(keys: str, about: str, width: int = 7) -> str:
+    return f" {keys:{width}} {about}" if about else keys
+
+
+def _as_long(left: Sequence[str], right: Sequence[str]) -> Tuple[List[str], List[str]]:
+    """Two columns of one length."""
+    length = max(len(left), len(right))
+    return [*left, *[""] * (length - len(left))], [*right, *[""] * (length - len(right))]

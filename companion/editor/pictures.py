@@ -17,7 +17,7 @@ LEAST_HEIGHT = 10
 LEAST_WIDTH = 30
 
 _MESSAGE_ROWS = 2
-_HINT = "? keys  n next  a advice  e edit  u undo  R run  w save  O OpenMP  q quit"
+HINT = "? keys  n next  a advice  e edit  u undo  R run  w save  O OpenMP  q quit"
 
 
 class Style(Enum):
@@ -84,7 +84,7 @@ class Painter:
         #: How many rows of the screen the source has, and the dependences.
         self._heights = (0, 0)
 
-    def picture(self, desk: Desk, state: str, height: int, width: int) -> List[Row]:
+    def picture(self, desk: Desk, state: str, height: int, width: int, hint: str = HINT) -> List[Row]:
         """The whole screen. The state says how many changes there are, and whether they are saved."""
         if height < LEAST_HEIGHT or width < LEAST_WIDTH:
             return [Row("the window is too small"[:width])]
@@ -94,10 +94,10 @@ class Painter:
         return [
             Row(_title(f" {self._name}: {state}", "pedx edit ", width), Style.BAR),
             *self._source(desk, rest - below, width),
-            Row(_title(f" {_about_loop(desk)}", f"{_about_rows(desk)} ", width), Style.BAR),
+            Row(_bar(desk, width), Style.BAR),
             *self._rows(desk, below, width),
             *_message(desk, width),
-            Row(_HINT[:width], Style.PLAIN),
+            Row(visible(hint)[:width], Style.PLAIN if hint is HINT else Style.LOOP),
         ]
 
     def at(self, desk: Desk, y: int) -> On:
@@ -140,6 +140,15 @@ def _title(left: str, right: str, width: int) -> str:
     return f"{left}{' ' * room}{right}" if room > 0 else left[:width].ljust(width)
 
 
+def _bar(desk: Desk, width: int) -> str:
+    """What the loop carries, and which rows are shown; filters are told even where little room is left for the loop."""
+    left, right = f" {_about_loop(desk)}", f" {_about_rows(desk)} "
+    if desk.filters != Filters() and len(left) + len(right) > width:
+        left = left[:max(0, width - len(right) - 2)] + ".."
+        right = right[:width - 2]
+    return _title(left, right[1:], width)
+
+
 def _about_loop(desk: Desk) -> str:
     loop = desk.loop
     if loop is None:
@@ -149,7 +158,9 @@ def _about_loop(desk: Desk) -> str:
 
 
 def _about_rows(desk: Desk) -> str:
-    return f"{counted(len(desk.rows), 'row')}, {desk.filters.words}"
+    shown, count = len(desk.rows), desk.count
+    are_all = desk.filters == Filters() or shown == count
+    return f"{'' if are_all else f'{shown} of '}{counted(shown if are_all else count, 'row')}, {desk.filters.words}"
 
 
 def _about_none(desk: Desk) -> str:

@@ -7,11 +7,11 @@ are those of the printed program is ped's own promise, and `replays` tries it on
 
 from __future__ import annotations
 
-from functools import cached_property
+import copy
 from typing import Dict, List, Optional, Sequence
 
 from ..panes import Dependence, Panes, read_panes
-from ..ped import Ped, understood
+from ..ped import Ped, Runner, understood
 from ..replies import Reply
 from ..statuses import CompanionError, Status
 from ..views import View, view_of_panes
@@ -30,29 +30,55 @@ class Present:
             self.outline = outline_of(panes.source)
             #: For each loop the rows that it carries, in the order of the pane.
             self.carried = _carried(self.outline, panes.dependences)
+        self._view: Optional[View] = None
 
     @property
     def text(self) -> str:
         """The program as a file."""
         return _text(self.lines)
 
-    @cached_property
+    @property
+    def is_read(self) -> bool:
+        """Whether the expressions are read."""
+        return self._view is not None
+
+    @property
     def view(self) -> View:
-        """The program with its expressions, which are read once something asks for them."""
-        return view_of_panes(self.panes)
+        """The program with its expressions, which are read once something asks for them; that takes time."""
+        if self._view is None:
+            self._view = view_of_panes(self.panes)
+        return self._view
 
 
 class Session:
     """What a user does to a program."""
 
-    def __init__(self, ped: Ped, source: str, data: Optional[str] = None) -> None:
+    def __init__(self, ped: Ped, source: str, panes: Optional[Panes] = None) -> None:
         self._ped = ped
         self._source = source
         self._undone: List[Change] = []
         self._saved: List[Change] = []
-        self.data = data
+        #: The data for runs.
+        self.data: Optional[str] = None
         self.changes: List[Change] = []
-        self.present = Present(ped.show(source))
+        self.present = Present(panes or ped.show(source))
+
+    def trial(self, run: Runner) -> Session:
+        """A session as this one, to be tried on; it runs ped in a way of its own. `adopt` takes what has come of it."""
+        other = copy.copy(self)
+        other._ped = self._ped.run_by(run)
+        other.adopt(self)
+        return other
+
+    def adopt(self, other: Session) -> None:
+        """Has all changes that another session has."""
+        self.present = other.present
+        self.changes, self._undone, self._saved = list(other.changes), list(other._undone), list(other._saved)
+
+    @property
+    def undone(self) -> List[Change]:
+        """What was undone and can be done again, the next one first."""
+        return self._undone[::-1]
 
     @property
     def script(self) -> str:
@@ -102,13 +128,8 @@ class Session:
         """Takes the last change back, and answers it; none where there is none."""
         if not self.changes:
             return None
-        change = self.changes[-1]
-        if change.before is None:
-            self.present = self._replayed(self.changes[:-1])
-        else:
-            self.present = Present(self._ped.show(_text(change.before)))
-        self._undone.append(self.changes.pop())
-        return change
+        self.go_to(len(self.changes) - 1)
+        return self._undone[-1]
 
     def redo(self) -> Optional[Change]:
         """Does the change again that was taken back last, and answers it; none where there is none."""
@@ -120,6 +141,19 @@ class Session:
             raise CompanionError(Status.NO_PED, f"ped doesn't do {change.command} again: {refusal}")
         self._undone = rest
         return change
+
+    def go_to(self, count: int) -> None:
+        """Takes changes back, or does some again, until so many stand."""
+        while len(self.changes) < count and self.redo() is not None:
+            pass
+        if count < len(self.changes):
+            before = self.changes[count].before
+            if before is None:
+                self.present = self._replayed(self.changes[:count])
+            else:
+                self.present = Present(self._ped.show(_text(before)))
+            self._undone.extend(reversed(self.changes[count:]))
+            del self.changes[count:]
 
     def answer(self, command: str) -> Reply:
         """What ped answers to a command that changes nothing, on the data that are chosen."""

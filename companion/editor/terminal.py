@@ -6,8 +6,10 @@ import curses
 import os
 import select
 import signal
+import threading
+import time
 from contextlib import contextmanager, suppress
-from typing import Callable, Dict, Iterator, Sequence, Tuple
+from typing import Callable, Dict, Iterator, Optional, Sequence, Tuple, Union
 
 from ..output import printable, terminal_encoding
 from ..statuses import CompanionError, Status
@@ -20,6 +22,8 @@ _ESCAPE_DELAY = "25"
 _SUSPEND = "\x1a"
 #: So often in turn a key may not be read before the terminal counts as gone.
 _FAILURES = 1000
+#: How long a key is waited for at once while other threads run, in seconds: they may get a signal instead of this one.
+_TURN = 0.2
 
 #: The names of keys that are no character.
 UP, DOWN, PAGE_UP, PAGE_DOWN, HOME, END = "up", "down", "page up", "page down", "home", "end"
@@ -30,6 +34,7 @@ ENTER, ESCAPE, TAB, BACKSPACE, RESIZED, INTERRUPTED, OTHER = (
 #: The keys of the mouse: its wheel, and a press, whose place `Terminal.pressed` has.
 WHEEL_UP, WHEEL_DOWN, PRESSED = "wheel up", "wheel down", "pressed"
 #: Curses calls the wheel buttons 4 and 5; the latter has no name before Python 3.10.
+_BUTTON: int = curses.BUTTON1_CLICKED | curses.BUTTON1_PRESSED
 _WHEEL_UP: int = curses.BUTTON4_PRESSED
 _WHEEL_DOWN: int = getattr(curses, "BUTTON5_PRESSED", 1 << 21)
 
@@ -77,9 +82,9 @@ class Terminal:
         self._styles = {**dict.fromkeys(_COLOURS, curses.A_NORMAL), **_STYLES, **_colours()}
         #: Where the mouse was pressed last: the row of the screen, counted from 0.
         self.pressed = 0
-        curses.mousemask(curses.BUTTON1_CLICKED | curses.BUTTON1_PRESSED | _WHEEL_UP | _WHEEL_DOWN)
+        curses.mousemask(_BUTTON | _WHEEL_UP | _WHEEL_DOWN)
         curses.mouseinterval(0)
-        # Ctrl-C is a key like others; only what takes time can be interrupted.
+        # Ctrl-C is a key like others.
         curses.raw()
         self._show_cursor(False)
 
@@ -107,15 +112,32 @@ class Terminal:
 
     def key(self) -> str:
         """Waits for a key: a character, or the name of another key."""
+        while True:
+            key = self.key_within(_TURN if threading.active_count() > 1 else None)
+            if key is not None:
+                return key
+
+    def key_within(self, seconds: Optional[float]) -> Optional[str]:
+        """Waits for a key some time; none where none comes. Without a time it waits for ever."""
+        self._window.timeout(-1 if seconds is None else int(1000 * seconds))
+        begin = time.monotonic()
         try:
             key = self._window.get_wch()
         except curses.error:
+            if _is_gone():
+                raise Ended(signal.SIGHUP) from None
+            if seconds is not None and time.monotonic() - begin > seconds / 2:
+                return None
             # The wait was cut off by a signal, that of a resize perhaps, or the terminal has gone away.
             self._failures += 1
-            if self._failures > _FAILURES or _is_gone():
+            if self._failures > _FAILURES:
                 raise Ended(signal.SIGHUP) from None
             return RESIZED
         self._failures = 0
+        return self._named(key)
+
+    def _named(self, key: Union[int, str]) -> str:
+        """The name of a key that curses has read."""
         if key == _SUSPEND:
             with self.set_aside():
                 os.kill(os.getpid(), signal.SIGTSTP)
@@ -135,20 +157,9 @@ class Terminal:
             return OTHER
         if buttons & _WHEEL_UP:
             return WHEEL_UP
-        return WHEEL_DOWN if buttons & _WHEEL_DOWN else PRESSED
-
-    @contextmanager
-    def interruptible(self) -> Iterator[None]:
-        """Has Ctrl-C interrupt what is done, by a KeyboardInterrupt, also where pedx was started with Ctrl-C ignored."""
-        before = signal.signal(signal.SIGINT, signal.default_int_handler)
-        curses.noraw()
-        curses.cbreak()
-        try:
-            yield
-        finally:
-            signal.signal(signal.SIGINT, before)
-            with suppress(curses.error):
-                curses.raw()
+        if buttons & _WHEEL_DOWN:
+            return WHEEL_DOWN
+        return PRESSED if buttons & _BUTTON else OTHER
 
     @contextmanager
     def set_aside(self) -> Iterator[None]:

@@ -2,6 +2,8 @@
 // The page is drawn from the data alone. All text gets into it as text, never as markup.
 const data = JSON.parse(document.getElementById('data').textContent);
 const SHAPES = {carries: '\u25cf', free: '\u25cb', parallel: '\u2225'};
+const KINDS = {flow: '\u25b6', anti: '\u25b7', output: '\u25c6'};
+const MARKS = {proven: '\u2501', pending: '\u2505', rejected: '\u2508'};
 const MOST = 400;
 const COLUMNS = [['source', 0], ['sink', 1], ['name', 2], ['kind', 3], ['level', 4], ['vectors', 6], ['distances', 7], ['mark', 8]];
 const state = {loop: null, row: null, order: null, down: false, all: false};
@@ -82,8 +84,13 @@ function drawLoop() {
   at('verdict').textContent = loop ? `${SHAPES[loop.state]} ${loop.verdict}`
     : `${counted(data.loops.length, 'loop')}: \u25cf ${of('carries')} carry something, \u25cb ${of('free')} are free, \u2225 ${of('parallel')} are parallel`;
   at('verdict').className = loop ? loop.state : '';
-  at('advice').replaceChildren(...(loop ? loop.advice : []).map(words => made('li', '', words)));
+  at('advice').replaceChildren(...(loop ? loop.advice : []).map(words => made('li', '', ...phrases(words))));
   drawVariables(loop ? loop.variables : []);
+}
+
+// The words as nodes: what stands between backquotes is code.
+function phrases(words) {
+  return words.split('`').map((part, place) => place % 2 ? made('code', '', part) : part);
 }
 
 function drawVariables(variables) {
@@ -115,7 +122,9 @@ function drawnRow({row, number}) {
     const cell = row[place];
     if (word === 'vectors') return made('td', '', cell.map(vector => `(${vector})`).join(' '));
     if (word === 'distances') return made('td', '', `(${cell})`);
-    return made('td', word === 'mark' ? 'mark' : '', cell === null ? '-' : String(cell));
+    if (word === 'kind') return made('td', cell, `${KINDS[cell]} ${cell}`);
+    if (word === 'mark') return made('td', 'mark', `${MARKS[cell]} ${cell}`);
+    return made('td', '', cell === null ? '-' : String(cell));
   });
   const line = made('tr', row[8], ...cells);
   line.tabIndex = 0;
@@ -173,10 +182,15 @@ function drawArrow(row) {
   const [y1, y2] = from.y > to.y ? [from.y, to.y + to.height] : from.y < to.y ? [from.y + from.height, to.y] : [from.y, to.y];
   const bend = y1 === y2 ? y1 - 26 : (y1 + y2) / 2;
   const path = drawn('path', {d: `M ${x1} ${y1} C ${x1} ${bend}, ${x2} ${bend}, ${x2} ${y2}`, class: row[8]});
-  const tip = y1 < y2 || y1 === y2 ? -7 : 7;
-  const head = drawn('polygon', {points: `${x2},${y2} ${x2 - 4},${y2 + tip} ${x2 + 4},${y2 + tip}`});
-  pane.append(drawn('svg', {id: 'arrow', class: 'carries', width: 1, height: 1}, path, head));
+  pane.append(drawn('svg', {id: 'arrow', class: row[3], width: 1, height: 1}, path, head(row[3], x2, y2, 0, y1 <= y2 ? -1 : 1)));
   pane.querySelector('mark').scrollIntoView({block: 'nearest'});
+}
+
+/** The head of an arrow, which comes from the side (across, down): full for flow, hollow for anti, a diamond for output. */
+function head(kind, x, y, across, down) {
+  const at = (along, aside) => `${x + 8 * along * across + 4 * aside * down},${y + 8 * along * down + 4 * aside * across}`;
+  const corners = kind === 'output' ? [at(0, 0), at(0.5, 1), at(1, 0), at(0.5, -1)] : [at(0, 0), at(1, 1), at(1, -1)];
+  return drawn('polygon', {points: corners.join(' '), class: `${kind} head`});
 }
 
 /** The statements one below the other, with an arc for all rows between two of them; an arc to itself is a ring. */
@@ -204,8 +218,8 @@ function drawGraph() {
     const end = y1 === y2 ? y1 + 5 : y2;
     const label = free(labels, 294 + 0.75 * (out - 290), (y1 + y2) / 2 + 4);
     width = Math.max(width, label.x + 150);
-    parts.push(drawn('path', {d, class: mark}), drawn('polygon', {points: `290,${end} 297,${end - 4} 297,${end + 4}`}),
-      drawn('text', {...label, class: mark}, `${name} ${kind}${count > 1 ? ' \u00d7' + count : ''}`));
+    parts.push(drawn('path', {d, class: `${kind} ${mark}`}), head(kind, 290, end, 1, 0),
+      drawn('text', {...label, class: `${kind} ${mark}`}, `${name} ${kind}${count > 1 ? ' \u00d7' + count : ''}`));
   });
   at('picture').replaceChildren(drawn('svg', {width, height: 60 + shown.length * 56, role: 'img'}, ...parts));
 }

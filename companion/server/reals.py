@@ -3,12 +3,12 @@
 from __future__ import annotations
 
 from dataclasses import dataclass
-from typing import Dict, List
+from typing import Dict, List, Sequence, Tuple
 
 from ..commands.real import Opened, Reading, opened
 from ..ped import Ped
 from ..progress import Progress
-from ..real import report
+from ..real import assumptions, exporting, report
 from ..real.explaining import Explainer, Wanted
 from ..real.verdicts import Verdict as RealVerdict
 from .programs import Verdict
@@ -31,6 +31,14 @@ class RealProgram:
         explainer = Explainer(self.opened.name, self.opened.file, self.opened.reading.columns, _NOTHING)
         here = [one for one in self.found if not one.place.file and one.place.line == line]
         return "\n".join(row.rstrip() for one in here for row in explainer.explained(one, Wanted()))
+
+    def exported(self) -> Tuple[str, Sequence[str]]:
+        """The text with OpenMP directives, and what that assumes."""
+        one = self.opened
+        chosen = exporting.chosen(one.file, self.found, one.reading.openmp)
+        cited = {name for verdict in chosen.verdicts for name in verdict.assumes}
+        words = [f"assumed: {assumptions.cited(cited)} ({report.PAGE})"] if cited else []
+        return exporting.exported(one.text, one.file, chosen.verdicts), words
 
 
 _NOTHING: Dict[str, List[str]] = {}

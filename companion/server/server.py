@@ -63,6 +63,8 @@ class Server:
         self._documents: Dict[str, Document] = {}
         self._is_ending = False
         self._number = 0
+        #: Whether the editor makes new files that an edit asks for.
+        self._creates = False
         self._requests: Dict[str, Callable[[Json], object]] = {
             "initialize": self._initialize,
             "shutdown": self._shutdown,
@@ -132,7 +134,8 @@ class Server:
 
     # --- Requests ----------------------------------------------------------------------------------------------------
 
-    def _initialize(self, _: Json) -> Json:
+    def _initialize(self, words: Json) -> Json:
+        self._creates = "create" in str(_part(words, "capabilities", "workspace", "workspaceEdit", "resourceOperations"))
         return {
             "capabilities": {
                 "textDocumentSync": {"openClose": True, "change": 1},
@@ -179,30 +182,39 @@ class Server:
         ]
 
     def _execute(self, words: Json) -> str:
-        """Has the editor make a file NAME.omp.f, where there is none, with the program and its directives."""
+        """The program with its directives. An editor that can makes a file of it beside the present one, where there is none."""
         if words.get("command") != EXPORT:
             raise WrongWords(f"pedx has no command {words.get('command')}")
         uri = words["arguments"][0]  # type: ignore[index]
         document = self._documents[uri]
         self._look_at(uri, document)
-        if not isinstance(document.known, Program) or document.known.view is None:
+        known, (name, _, suffix) = document.known, uri.rpartition(".")
+        if isinstance(known, RealProgram):
+            text, doubts = known.exported()
+        elif known is not None and known.view is not None:
+            text, doubts = exported(self._ped, known.view)
+            suffix = "f"
+        else:
             raise WrongWords("the program isn't one that ped takes")
-        text, doubts = exported(self._ped, document.known.view)
-        made = f"{uri.rpartition('.')[0]}.omp.f"
+        if self._creates:
+            self._make(f"{name}.omp.{suffix}", as_text(text))
+        for doubt in doubts:
+            self._tell(_WARNING, as_text(doubt))
+        return as_text(text)
+
+    def _make(self, uri: str, text: str) -> None:
+        """Has the editor make a file with a text, where there is none."""
         start = {"line": 0, "character": 0}
         changes = [
-            {"kind": "create", "uri": made, "options": {"overwrite": False, "ignoreIfExists": False}},
-            {"textDocument": {"uri": made, "version": None},
-             "edits": [{"range": {"start": start, "end": start}, "newText": as_text(text)}]},
+            {"kind": "create", "uri": uri, "options": {"overwrite": False, "ignoreIfExists": False}},
+            {"textDocument": {"uri": uri, "version": None},
+             "edits": [{"range": {"start": start, "end": start}, "newText": text}]},
         ]
         self._number += 1
         self._send({
             "id": f"pedx-{self._number}", "method": "workspace/applyEdit",
             "params": {"label": "OpenMP", "edit": {"documentChanges": changes}},
         })
-        for doubt in doubts:
-            self._tell(_WARNING, as_text(doubt))
-        return as_text(text)
 
     # --- Open files --------------------------------------------------------------------------------------------------
 
@@ -287,6 +299,13 @@ def _known(ped: Ped, document: Document) -> Union[Program, RealProgram]:
     except CompanionError:
         return program
     return real if real.opened.is_fortran else program
+
+
+def _part(value: object, *keys: str) -> object:
+    """A part of what an editor has sent; none where it isn't there."""
+    for key in keys:
+        value = value.get(key) if isinstance(value, dict) else None
+    return value
 
 
 def _name(uri: str) -> str:

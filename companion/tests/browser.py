@@ -68,6 +68,17 @@ class Browser:
         assert isinstance(metrics, list)
         return float(next(one["value"] for one in metrics if one["name"] == "TaskDuration"))
 
+    def picture(self, width: int, height: int) -> str:
+        """What the page looks like in a window of this size: a PNG in base 64."""
+        self._ask("Emulation.setDeviceMetricsOverride", width=width, height=height, deviceScaleFactor=1, mobile=False)
+        drawn = "new Promise(done => requestAnimationFrame(() => requestAnimationFrame(done)))"
+        self.value(f"document.fonts.ready.then(() => {drawn})")
+        return str(self._ask("Page.captureScreenshot", format="png")["data"])
+
+    def look(self, media: str, scheme: str) -> None:
+        """Has the page look as on a screen or on paper, and in light or dark colours."""
+        self._ask("Emulation.setEmulatedMedia", media=media, features=[{"name": "prefers-color-scheme", "value": scheme}])
+
     def press(self, key: str) -> None:
         """Presses a key."""
         text = key if len(key) == 1 else None

@@ -1,6 +1,7 @@
 """A terminal for the tests: pedx runs in a pseudo-terminal, and what it writes is kept as rows of characters.
 
-The terminal is a VT100 as far as the library curses uses one. A sequence that it doesn't know is an error.
+The terminal is a VT100, or an xterm with colours and a mouse, as far as the library curses uses one. A sequence that it
+doesn't know is an error.
 """
 
 from __future__ import annotations
@@ -15,7 +16,7 @@ import struct
 import sys
 import termios
 import time
-from typing import Callable, Dict, List, Optional, Sequence, Tuple
+from typing import Callable, Dict, FrozenSet, List, NamedTuple, Optional, Sequence, Tuple
 
 from .support import TOP, ped_path
 
@@ -24,10 +25,10 @@ _PATIENCE = 120.0
 #: How long nothing may come before the screen counts as drawn.
 _QUIET = 0.05
 
-#: The terminal that the tests are.
-_TERMINAL = "vt100"
+#: The terminals that the tests are: one without colours and a mouse, and one with both.
+PLAIN, COLOURED = "vt100", "xterm-256color"
 
-_SEQUENCE = re.compile(r"\x1b(?:\[[?>]?([\d;]*)([A-Za-z])|[()][0AB]|([=>78DM]))")
+_SEQUENCE = re.compile(r"\x1b(?:\[[?>]?([\d;]*)([A-Za-z@])|[()][0AB]|([=>78DM])|\][\d;]*\x07)")
 
 UP, DOWN, ESCAPE, ENTER, TAB, BACKSPACE = "\x1bOA", "\x1bOB", "\x1b", "\r", "\t", "\x7f"
 INTERRUPT = "\x03"
@@ -36,18 +37,30 @@ NAMED_KEYS = {"Up": UP, "Down": DOWN, "Esc": ESCAPE, "Enter": ENTER, "Tab": TAB}
 HINT = "? keys"
 
 
-def has_terminal() -> bool:
-    """Whether the library curses is there, and knows a VT100."""
+def has_terminal(name: str = PLAIN) -> bool:
+    """Whether the library curses is there, and knows a terminal."""
     try:
         import curses
     except ImportError:
         return False
     with open(os.devnull, "wb") as nowhere:
         try:
-            curses.setupterm(_TERMINAL, nowhere.fileno())
+            curses.setupterm(name, nowhere.fileno())
         except curses.error:
             return False
     return True
+
+
+class Pen(NamedTuple):
+    """How characters are written: their colour and that behind them, where they have some, and their attributes."""
+
+    colour: Optional[int] = None
+    behind: Optional[int] = None
+    attributes: FrozenSet[str] = frozenset()
+
+
+_ATTRIBUTES = {1: "bold", 4: "underlined", 7: "reversed"}
+_NO_ATTRIBUTES = {22: "bold", 24: "underlined", 27: "reversed"}
 
 
 class Screen:
@@ -61,6 +74,9 @@ class Screen:
         """Gives the terminal another size, and clears it."""
         self.height, self.width = height, width
         self._cells = [[" "] * width for _ in range(height)]
+        self._pens = [[Pen()] * width for _ in range(height)]
+        self._pen = Pen()
+        self._last = " "
         self._row = self._column = 0
         self._top, self._bottom = 0, height - 1
 
@@ -68,6 +84,15 @@ class Screen:
     def rows(self) -> List[str]:
         """The rows, without blanks at their ends."""
         return ["".join(cells).rstrip() for cells in self._cells]
+
+    def pens(self, row: int, text: str) -> List[Pen]:
+        """How a text in a row is written, each of its characters."""
+        first = self.rows[row].index(text)
+        return self._pens[row][first:first + len(text)]
+
+    def all_pens(self) -> List[List[Pen]]:
+        """How all characters are written, row by row."""
+        return self._pens
 
     def feed(self, text: str) -> None:
         """Takes what a program has written."""
@@ -104,7 +129,9 @@ class Screen:
                 self._column = 0
                 self._line_feed()
             self._cells[self._row][self._column] = letter
+            self._pens[self._row][self._column] = self._pen
             self._column += 1
+            self._last = letter
 
     def _line_feed(self) -> None:
         if self._row == self._bottom:
@@ -120,8 +147,9 @@ class Screen:
 
     def _scroll(self, take: int, put: int) -> None:
         """Takes a row away, and puts a blank one in."""
-        del self._cells[take]
+        del self._cells[take], self._pens[take]
         self._cells.insert(put, [" "] * self.width)
+        self._pens.insert(put, [Pen()] * self.width)
 
     def _control(self, numbers: str, letter: str) -> None:
         values = [int(number) if number else 0 for number in numbers.split(";")]
@@ -130,6 +158,7 @@ class Screen:
             "H": lambda: (count - 1, max(values[1] if len(values) > 1 else 1, 1) - 1),
             "A": lambda: (self._row - count, self._column), "B": lambda: (self._row + count, self._column),
             "C": lambda: (self._row, self._column + count), "D": lambda: (self._row, self._column - count),
+            "G": lambda: (self._row, count - 1), "d": lambda: (count - 1, self._column),
         }
         if letter in moves:
             row, column = moves[letter]()
@@ -143,20 +172,72 @@ class Screen:
             self._top = count - 1
             self._bottom = (values[1] if len(values) > 1 and values[1] else self.height) - 1
             self._row = self._column = 0
-        elif letter not in "mhl":
-            raise AssertionError(f"no sequence of a VT100: {numbers}{letter}")
+        elif letter == "m":
+            self._take_pen(values)
+        elif letter in "X@Pb":
+            self._change_row(letter, count)
+        elif letter in "LMST":
+            self._move_rows(letter, count)
+        elif letter not in "hlt":
+            raise AssertionError(f"no sequence of a terminal: {numbers}{letter}")
+
+    def _take_pen(self, values: Sequence[int]) -> None:
+        """Takes another pen; the colours are the first eight, or the terminal's own one."""
+        for value in values:
+            colour, behind, attributes = self._pen
+            if value in _ATTRIBUTES:
+                attributes |= {_ATTRIBUTES[value]}
+            elif value in _NO_ATTRIBUTES:
+                attributes -= {_NO_ATTRIBUTES[value]}
+            elif 30 <= value <= 39:
+                colour = value - 30 if value < 38 else None
+            elif 40 <= value <= 49:
+                behind = value - 40 if value < 48 else None
+            elif value != 0:
+                raise AssertionError(f"no way to write: {value}")
+            self._pen = Pen(colour, behind, attributes) if value else Pen()
+
+    def _change_row(self, letter: str, count: int) -> None:
+        """Erases, inserts, deletes or repeats characters at the cursor."""
+        cells, pens = self._cells[self._row], self._pens[self._row]
+        place = self._column
+        if letter == "b":
+            for _ in range(count):
+                self._put(self._last)
+            return
+        end = min(place + count, self.width)
+        if letter == "X":
+            cells[place:end], pens[place:end] = [" "] * (end - place), [Pen()] * (end - place)
+        elif letter == "@":
+            cells[place:place], pens[place:place] = [" "] * count, [Pen()] * count
+        else:
+            del cells[place:end], pens[place:end]
+        cells.extend([" "] * (self.width - len(cells)))
+        pens.extend([Pen()] * (self.width - len(pens)))
+        del cells[self.width:], pens[self.width:]
+
+    def _move_rows(self, letter: str, count: int) -> None:
+        """Inserts or deletes rows, at the cursor or at the top of what is scrolled."""
+        first = self._row if letter in "LM" else self._top
+        for _ in range(min(count, self._bottom - first + 1)):
+            if letter in "LT":
+                self._scroll(self._bottom, first)
+            else:
+                self._scroll(first, self._bottom)
 
     def _erase_in_row(self, part: int) -> None:
-        cells = self._cells[self._row]
         first = self._column if part == 0 else 0
         last = self._column + 1 if part == 1 else self.width
-        cells[first:last] = [" "] * (min(last, self.width) - first)
+        count = min(last, self.width) - first
+        self._cells[self._row][first:last] = [" "] * count
+        self._pens[self._row][first:last] = [Pen()] * count
 
     def _erase(self, part: int) -> None:
         self._erase_in_row(part)
         rows = {0: range(self._row + 1, self.height), 1: range(self._row), 2: range(self.height)}[part]
         for row in rows:
             self._cells[row] = [" "] * self.width
+            self._pens[row] = [Pen()] * self.width
 
 
 class Player:
@@ -179,9 +260,11 @@ class Player:
         try:
             os.chdir(folder)
             variables = {key: value for key, value in os.environ.items() if key not in ("LINES", "COLUMNS", "VISUAL")}
-            variables.update({"TERM": _TERMINAL, "PEDX_PED": os.path.abspath(ped_path()), "LC_ALL": "C.UTF-8"})
+            variables.update({"TERM": PLAIN, "PEDX_PED": os.path.abspath(ped_path()), "LC_ALL": "C.UTF-8"})
             variables.update(environment)
             sys.stdin.readline()
+            # A shell has programs in the background ignore Ctrl-C, and what they start, too.
+            signal.signal(signal.SIGINT, signal.SIG_DFL)
             os.execve(sys.executable, [sys.executable, str(TOP / "pedx"), *words], variables)
         finally:
             os._exit(127)
@@ -199,6 +282,19 @@ class Player:
         """Presses keys, one after the other."""
         for key in keys:
             os.write(self._terminal, key.encode())
+
+    def row_of(self, text: str) -> int:
+        """The row that has a text."""
+        return next(place for place, row in enumerate(self.screen.rows) if text in row)
+
+    def click(self, text: str) -> None:
+        """Clicks on the first row that has a text: the button goes down, and up again."""
+        place = f"{self.screen.rows[self.row_of(text)].index(text) + 1};{self.row_of(text) + 1}"
+        self.press(f"\x1b[<0;{place}M\x1b[<0;{place}m")
+
+    def turn_wheel(self, down: bool) -> None:
+        """Turns the wheel of the mouse by one notch."""
+        self.press(f"\x1b[<{65 if down else 64};5;5M")
 
     def wait(self, text: str) -> List[str]:
         """Waits until a text is on the screen, and the screen is drawn; answers its rows."""

@@ -91,7 +91,7 @@ class Keys(Played):
         player.press("u")
         player.wait("undone: inline 2")
         player.press("?", " ")
-        player.wait("inline       put the statements of the CALL at the line in its place")
+        player.wait("inline      the CALL at the line")
         player.press(ESCAPE)
         player.wait("? keys")
         self.quit(player)

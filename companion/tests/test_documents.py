@@ -167,6 +167,8 @@ class Tables(unittest.TestCase):
 
 def _write() -> None:
     def replaced(match: Match[str]) -> str:
+        if needs_library(match.group(1)) and not has_library():
+            return match.group(0)
         return f"```\n{printed(match.group(1))}```"
 
     def drawn(match: Match[str]) -> str:

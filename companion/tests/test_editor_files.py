@@ -135,7 +135,7 @@ class Saving(Files):
         self.step(player, "D", "data from which file?")
         player.press(*"data", ENTER)
         player.wait("data is read ..")
-        self.step(player, INTERRUPT, "interrupted")
+        self.step(player, INTERRUPT, "data is read: given up")
 
     @unittest.skipUnless(shutil.which("gfortran"), "gfortran is not there")
     def test_compiled_program(self) -> None:

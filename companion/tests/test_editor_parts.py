@@ -7,7 +7,8 @@ from ..editor.advice import Advice, advice_page, advised
 from ..editor.changes import NoChange, edit_between
 from ..editor.desk import Desk
 from ..editor.filters import Filters
-from ..editor.lists import loops_list, variables_list
+from ..editor.keys import help_lines
+from ..editor.lists import changes_list, loops_list, scalars_of, variables_list
 from ..editor.pictures import LEAST_HEIGHT, LEAST_WIDTH, Painter, first_shown, folded
 from ..editor.session import Present, Session
 from ..outline import outline_of
@@ -98,6 +99,32 @@ class Desks(unittest.TestCase):
         self.assertEqual(desk.filters.words, "level=carried mark=pending name=A")
         self.assertEqual(desk.rows, [])
 
+    def test_filters_end_with_the_loop(self) -> None:
+        """Another loop shows what it carries; the order of the rows stays, and a step at the loop changes nothing."""
+        desk = desk_of(NEST)
+        desk.filters = Filters(kind="flow", order="name")
+        desk.move(1)
+        self.assertEqual(desk.filters.kind, "flow")
+        session = Session(ped(), NEST)
+        session.step("privatise 1 K")
+        desk.put(session.present, 1)
+        self.assertEqual(desk.filters, Filters(kind="flow", order="name"))
+        desk.go_to_loop(True)
+        self.assertEqual(desk.filters, Filters(order="name"))
+
+    def test_place_in_a_changed_program(self) -> None:
+        """The present line stays where the program was changed above it or below."""
+        desk, session = desk_of(NEST), Session(ped(), NEST)
+        session.step("privatise 1 K")
+        for line in (1, 2, 9):
+            desk.go(line)
+            text = desk.present.lines[line - 1]
+            before = desk.present
+            desk.put(session.present)
+            self.assertEqual(desk.present.lines[desk.line - 1], text)
+            desk.put(before)
+            self.assertEqual(desk.line, line)
+
     def test_levels(self) -> None:
         levels = []
         filters = Filters()
@@ -130,6 +157,9 @@ class Desks(unittest.TestCase):
         desk = desk_of(NEST)
         self.assertEqual(desk.marked(), {})
         desk.filters, desk.in_rows = Filters(name="A"), True
+        self.assertTrue(desk.is_unread)
+        self.assertEqual(desk.marked(), {})
+        self.assertEqual(desk.present.view.program.arrays, {"A": ("9", "9")})
         (line, parts), = desk.marked().items()
         text = desk.present.lines[line - 1]
         self.assertEqual([text[first:last] for first, last in parts], ["A(I,J)", "A(I-1,J)"])
@@ -146,21 +176,55 @@ class Lists(unittest.TestCase):
         self.assertEqual(found.chosen, ["2", "4", "8"])
         self.assertEqual(loops_list(desk_of(fortran("END"))).lines, ["The program has no loops."])
 
+    def test_keys(self) -> None:
+        """Behind the last key loops have none, and can be chosen all the same."""
+        found = loops_list(desk_of(fortran(*["DO I = 1, 9", "END DO"] * 30, "END")))
+        self.assertEqual(len(found.chosen), 30)
+        self.assertEqual(sum(line[2] != " " for line in found.lines), 25)
+
     def test_variables(self) -> None:
+        """Each has its role, the keys of the steps that are meant for it, and who wants its value."""
         present = desk_of(NEST).present
         found = variables_list(present.view, present.view.program.loops[1])
-        self.assertEqual(found.chosen, ["privatise 1 K", "expand 1 K"])
-        self.assertEqual(found.lines[0].split()[:2], ["K", "carried"])
-        present = desk_of(fortran("DO I = 1, 9", "K = K+I", "END DO", "PRINT *, K", "END")).present
-        found = variables_list(present.view, present.view.program.loops[1])
-        self.assertEqual(found.chosen, ["reduce 1 K"])
-        self.assertIn("read after by statement 3", found.lines[0])
+        self.assertEqual(dict(zip(found.chosen, (line.split()[1:4] for line in found.lines))), {
+            "K": ["carried", "v", "x"], "A": ["carried", "the", "loop"], "I": ["index", "the", "variable"],
+            "J": ["index", "the", "variable"],
+        })
+        present = desk_of(fortran("DO I = 1, 9", "K = K+I", "L = L+K", "END DO", "PRINT *, K", "END")).present
+        loop = present.view.program.loops[1]
+        found = variables_list(present.view, loop)
+        self.assertIn("wanted after by statement 4", found.lines[found.chosen.index("K")])
+        present = desk_of(fortran("DO I = 1, 9", "K = K+I", "L = L+I", "END DO", "PRINT *, K", "END")).present
+        loop = present.view.program.loops[1]
+        found = variables_list(present.view, loop)
+        self.assertEqual([line.split()[:3] for line in found.lines[:2]], [["K", "sum", "+"], ["L", "sum", "+"]])
+        self.assertEqual(scalars_of("+", "L", present.view, loop), "K L")
+        self.assertEqual(scalars_of("v", "L", present.view, loop), "L")
 
-    def test_each_step_has_a_key(self) -> None:
-        present = desk_of(fortran("DO I = 1, 9", *[f"K{n} = I" for n in range(20)], "END DO", "END")).present
-        found = variables_list(present.view, present.view.program.loops[1])
-        self.assertEqual(len(found.chosen), 25)
-        self.assertEqual(sum(line[2] != " " for line in found.lines), 25)
+    def test_changes(self) -> None:
+        session = Session(ped(), NEST)
+        for step in ("privatise 1 K", "parallel 3", "parallel 5"):
+            session.step(step)
+        session.go_to(1)
+        found = changes_list(session)
+        self.assertEqual(found.lines, [
+            "  1       the program as it was", "  2     1 privatise 1 K  <- here", "  3     2 parallel 3  (undone)",
+            "  4     3 parallel 5  (undone)",
+        ])
+        self.assertEqual((found.chosen, found.first), (["0", "1", "2", "3"], 1))
+
+
+class Help(unittest.TestCase):
+    def test_one_screen(self) -> None:
+        """24 rows of 80 columns show all keys, with a title and a last row; no key has two meanings."""
+        lines = help_lines(80)
+        self.assertLessEqual(len(lines), 22)
+        self.assertLessEqual(max(map(len, lines)), 80)
+        self.assertTrue(all(line[38:40].strip() == "" for line in lines))
+        self.assertLessEqual(max(map(len, help_lines(60))), 40)
+        told = " ".join(line[:8].strip() for line in help_lines(60) if line.startswith(" ")).split()
+        single = [key for key in told if len(key) == 1]
+        self.assertEqual(sorted(set(single)), sorted(single))
 
 
 class Clicks(unittest.TestCase):
@@ -221,6 +285,15 @@ class Sessions(unittest.TestCase):
 
 
 class Pictures(unittest.TestCase):
+    def test_filters_are_told(self) -> None:
+        """The bar tells the filters, and how many rows there are, even where the header of the loop is long."""
+        desk = desk_of(NEST.replace("I = 2, 9", "I = 1+1+1+1-2, 9+9+9+9+9-36+10000-10000"))
+        self.assertNotIn("level=carried", Painter("p.f").picture(desk, "", 24, 80)[13].text)
+        desk.filters = Filters(kind="flow", mark="proven", name="A")
+        bar = Painter("p.f").picture(desk, "", 24, 80)[13].text
+        self.assertRegex(bar, r"^ loop 1, DO I = .*\.\. 1 of \d+ rows, level=carried kind=flow mark=proven name=A $")
+        self.assertEqual(len(bar), 80)
+
     def test_sizes(self) -> None:
         """Each picture has as many rows as the terminal, and none is too wide."""
         desk = desk_of(NEST)
@@ -302,10 +375,12 @@ class Pieces(unittest.TestCase):
         """Each piece that can be carried out has a key of its own, and none closes the page."""
         view = example_view("steps/squares")
         pieces = [Advice(f"try `privatise 3 T{number}`: ped accepts it", ("step",)) for number in range(30)]
-        page = advice_page(view, view.program.loops[3], [*pieces, Advice("otherwise")])
+        listed = advice_page(view, view.program.loops[3], [*pieces, Advice("otherwise")])
+        page = listed.lines
         self.assertEqual([row[:5] for row in page[2:12]], [f"  {key}  " for key in "123456789a"])
         self.assertEqual(len(set(row[:5] for row in page[2:27])), 25)
         self.assertEqual([row[:5] for row in page[27:]], ["     "] * 5 + ["  -  "])
+        self.assertEqual((len(listed.chosen), listed.places), (30, list(range(2, 32))))
 
 
 if __name__ == "__main__":

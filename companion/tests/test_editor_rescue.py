@@ -22,7 +22,8 @@ QUESTIONS: Sequence[Tuple[Tuple[str, ...], str]] = (
     (("w",), "save the script as"), (("w", "x", ENTER), "x is there; write over it?"), (("W",), "write the program to"),
     (("O",), "print the variables in SAVE"), (("O", "y"), "write the OpenMP program to"),
     (("q",), "the changes aren't saved"), (("q", "w"), "save the script as"), (("?",), "The keys of pedx edit"),
-    (("a",), "Advice for loop 1"), (("e",), "edit on, write the text to a file, or drop it?"),
+    (("a",), "Advice for loop 1"), (("V",), "The variables of loop 1"), (("H",), "The changes"),
+    (("e",), "edit on, write the text to a file, or drop it?"),
     (("e", "w"), "write the text to"),
 )
 

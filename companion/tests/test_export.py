@@ -55,8 +55,11 @@ class Export(unittest.TestCase):
     def test_schema(self) -> None:
         """The manual's tables name exactly the keys of the document."""
         page = (TOP / "docs" / "COMPANION.md").read_text()
-        schema = page[page.index("### The schema"):]
-        named = set(re.findall(r"^\| `(\w+)` \|", schema, re.MULTILINE))
+        schema = page[page.index("### The schema"):page.index("## Real Fortran")]
+        named = set()
+        for keys_of_row, value in re.findall(r"^\| (`[^|]+) \| ([^|]+) \|", schema, re.MULTILINE):
+            also = value[value.index("objects with"):] if "objects with" in value else ""
+            named |= set(re.findall(r"`(\w+)`", keys_of_row + also))
         said = json.loads(export(example_view("panes/chains")))
         keys = set(said)
         for value in said.values():

@@ -153,6 +153,48 @@ class Shown(unittest.TestCase):
             browser.value("new Promise(done => setTimeout(done, 100))")
             self.assertTrue(browser.value("document.querySelectorAll('#picture path').length > 3"))
 
+    def test_kinds_and_marks_have_colours_and_shapes(self) -> None:
+        with opened(example_view("panes/chains")) as browser:
+            cells = "[...document.querySelectorAll('#rows tbody tr')].map(row => row.cells[{}].textContent).join(' ')"
+            for place, shapes in ((3, {"flow": "\u25b6", "anti": "\u25b7", "output": "\u25c6"}),
+                                  (7, {"proven": "\u2501", "pending": "\u2505", "rejected": "\u2508"})):
+                words = str(browser.value(cells.format(place))).split()
+                self.assertEqual({word: shape for shape, word in zip(words[::2], words[1::2])}, shapes)
+            colour = "getComputedStyle(document.querySelector('#rows td.{}')).color"
+            self.assertEqual(len({browser.value(colour.format(kind)) for kind in ("flow", "anti", "output")}), 3)
+            heads, dashes = {}, {}
+            for number, kind, mark in json.loads(str(browser.value(
+                "JSON.stringify(data.rows.map((row, number) => [number, row[3], row[8]]))"
+            ))):
+                if kind in heads and mark in dashes:
+                    continue
+                browser.value(f"chooseRow({number})")
+                heads[kind] = browser.value("(() => { const head = document.querySelector('#arrow polygon');"
+                                            "return head.points.length + getComputedStyle(head).fill; })()")
+                dashes[mark] = browser.value("getComputedStyle(document.querySelector('#arrow path')).strokeDasharray")
+            self.assertEqual((len(set(heads.values())), len(set(dashes.values()))), (3, 3))
+
+    def test_a_row_to_itself_is_a_ring(self) -> None:
+        with opened(example_view("panes/recurrence"), "#loop=1&row=0") as browser:
+            self.assertTrue(browser.value("document.querySelector('#arrow path').getTotalLength() > 20"))
+            browser.press("g")
+            browser.value("new Promise(done => setTimeout(done, 100))")
+            box = "document.querySelector('#picture path').getBBox()"
+            self.assertTrue(browser.value(f"{box}.width > 20 && {box}.height > 15"))
+            self.assertEqual(browser.value("document.querySelectorAll('#picture text')[1].textContent"), "A flow")
+
+    def test_light_dark_and_paper(self) -> None:
+        with opened(example_view("panes/stencil"), "#loop=6") as browser:
+            paper = "getComputedStyle(document.body).backgroundColor"
+            light = browser.value(paper)
+            browser.look("screen", "dark")
+            self.assertNotEqual(browser.value(paper), light)
+            browser.look("print", "light")
+            self.assertEqual(browser.value("getComputedStyle(document.getElementById('help')).display"), "none")
+            for pane in ("source", "side"):
+                whole = f"(pane => pane.scrollHeight <= pane.clientHeight + 1)(document.getElementById('{pane}'))"
+                self.assertTrue(browser.value(whole), pane)
+
     def test_hostile_text_does_nothing(self) -> None:
         with opened(Text()._hostile()) as browser:
             self.assertNotEqual(browser.value("document.title"), "hit")

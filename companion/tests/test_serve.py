@@ -3,6 +3,7 @@
 import io
 import json
 import os
+import shlex
 import shutil
 import subprocess
 import sys
@@ -26,11 +27,11 @@ def command() -> List[str]:
 class Client:
     """An editor that has a server of its own."""
 
-    def __init__(self) -> None:
+    def __init__(self, capabilities: Optional[Json] = None) -> None:
         self._process = subprocess.Popen(command(), stdin=subprocess.PIPE, stdout=subprocess.PIPE, stderr=subprocess.DEVNULL)
         self._number = 0
         self.notices: List[Json] = []
-        self.ask("initialize", capabilities={}, processId=None, rootUri=None)
+        self.ask("initialize", capabilities=capabilities or {}, processId=None, rootUri=None)
 
     def __enter__(self) -> "Client":
         return self
@@ -133,7 +134,7 @@ class Answers(unittest.TestCase):
             self.assertIn("may race", str(found[0]["message"]))
 
     def test_openmp_makes_a_file_beside(self) -> None:
-        with Client() as client:
+        with Client({"workspace": {"workspaceEdit": {"resourceOperations": ["create"]}}}) as client:
             client.open(fortran(
                 "INTEGER A(200000)", "PARALLEL DO I = 1, 200000", "A(I) = I*3+I/7", "END DO", "PRINT *, A(9)", "END"
             ))
@@ -146,12 +147,25 @@ class Answers(unittest.TestCase):
             })
             self.assertEqual(insert["edits"][0]["newText"], text)
 
+    def test_an_editor_that_makes_no_files_gets_the_text_alone(self) -> None:
+        with Client() as client:
+            client.open(RECURRENCE)
+            text = client.ask("workspace/executeCommand", command="pedx.omp", arguments=["file:///p.f"])
+            self.assertIn("WRITTEN BY PEDX OMP", str(text))
+            self.assertNotIn("workspace/applyEdit", [one.get("method") for one in client.notices])
+
     def test_real_fortran(self) -> None:
         text = "subroutine s(a, n)\n  integer n, i\n  real a(n)\n  do i = 1, n\n    a(i) = 2*a(i)\n  end do\nend\n"
         with Client() as client:
             client.open(text, "file:///s.f90")
             self.assertEqual([one.partition(":")[0] for one in client.lenses("file:///s.f90")], ["3"])
             self.assertIsNotNone(client.at("textDocument/hover", 3, 3, "file:///s.f90"))
+            self.assertEqual(client.at("textDocument/codeAction", 3, 3, "file:///s.f90"), [])
+            made = client.ask("workspace/executeCommand", command="pedx.omp", arguments=["file:///s.f90"])
+            self.assertEqual(str(made).replace("  !$omp parallel do\n", ""), text)
+            self.assertIn("!$omp parallel do", str(made))
+            told = [one["params"]["message"] for one in client.notices if one["method"] == "window/showMessage"]  # type: ignore
+            self.assertIn("pedx: assumed: A1 ", told[-1])
 
     def test_wrong_words(self) -> None:
         with Client() as client:
@@ -198,6 +212,43 @@ class InNeovim(unittest.TestCase):
         self.assertEqual(told["after"], ["7 Syntax"])
 
 
+def has_eglot() -> bool:
+    """Whether Emacs is there with eglot, which is its part since version 29."""
+    if not shutil.which("emacs"):
+        return False
+    return subprocess.run(["emacs", "--batch", "-l", "eglot"], capture_output=True, check=False).returncode == 0
+
+
+@unittest.skipUnless(has_eglot(), "the packages emacs-nox and elpa-eglot are not installed")
+class InEmacs(unittest.TestCase):
+    def test_end_to_end(self) -> None:
+        """Diagnostics, verdicts, why, a step, and an export, through the file that users are given."""
+        with tempfile.TemporaryDirectory() as folder:
+            path = Path(folder) / "p.f"
+            path.write_text(RECURRENCE, encoding="ascii")
+            script = Path(folder) / "test.el"
+            script.write_text(_LISP, encoding="ascii")
+            # What a user has on the path is a program `pedx`.
+            program = Path(folder) / "pedx"
+            program.write_text("#!/bin/sh\nexec " + " ".join(map(shlex.quote, command()[:2])) + ' "$@"\n', encoding="utf-8")
+            program.chmod(0o755)
+            done = subprocess.run(
+                ["emacs", "--batch", "-l", f"{TOP}/editors/emacs/pedx.el", "-l", str(script)],
+                env={**os.environ, "HOME": folder, "PEDX_PED": ped_path(), "PATH": f"{folder}:{os.environ['PATH']}"},
+                cwd=folder, check=False, timeout=240, capture_output=True,
+            )
+            self.assertEqual(done.returncode, 0, done.stderr.decode())
+            told = json.loads((Path(folder) / "told.json").read_text(encoding="utf-8"))
+        self.assertEqual(told["verdicts"], ["2: carries A", "5: carries K"])
+        self.assertEqual(told["hidden"], 0)
+        self.assertIn("flow of A", told["hover"])
+        self.assertIn("ped: privatise 3 K", told["actions"])
+        self.assertIn("PRIVATE K", told["text"])
+        self.assertIn("WRITTEN BY PEDX OMP", told["omp"])
+        self.assertEqual(told["before"], 0)
+        self.assertEqual(told["after"], 1)
+
+
 _LUA = """
 local file = vim.api.nvim_buf_get_name(0)
 local folder = vim.fn.fnamemodify(file, ':h')
@@ -221,6 +272,53 @@ told.after = vim.tbl_map(function(one) return one.code end, vim.diagnostic.get(0
 local out = io.open(folder .. '/told.json', 'w')
 out:write(vim.json.encode(told))
 out:close()
+"""
+
+_LISP = r"""
+(defun until (is)
+  (let ((end (+ (float-time) 60)))
+    (while (and (not (funcall is)) (< (float-time) end)) (accept-process-output nil 0.1))))
+(defun shown ()
+  (mapcar (lambda (one) (format "%d: %s" (line-number-at-pos (overlay-start one)) (string-trim (overlay-get one 'before-string))))
+          (sort (seq-filter (lambda (one) (overlay-get one 'pedx)) (overlays-in (point-min) (point-max)))
+                (lambda (a b) (< (overlay-start a) (overlay-start b))))))
+(defun marks ()
+  (until (lambda () (not (eq (if (boundp 'eglot--diagnostics) eglot--diagnostics t) t))))
+  (if (boundp 'eglot--diagnostics) eglot--diagnostics (flymake-diagnostics)))
+(defun told-of (place)
+  (plist-get (plist-get (pedx--ask :textDocument/hover :textDocument (list :uri (pedx--uri)) :position place) :contents) :value))
+(let (told file)
+  (find-file "p.f")
+  (setq file (current-buffer))
+  (apply #'eglot (eglot--guess-contact))
+  (until #'eglot-current-server)
+  (pedx-verdicts)
+  (push (cons 'verdicts (vconcat (shown))) told)
+  (pedx-verdicts)
+  (push (cons 'hidden (length (shown))) told)
+  (push (cons 'hover (told-of '(:line 2 :character 14))) told)
+  (push (cons 'before (length (marks))) told)
+  (goto-char (point-min))
+  (forward-line 4)
+  (forward-char 8)
+  (let* ((place (eglot--pos-to-lsp-position))
+         (actions (pedx--ask :textDocument/codeAction :textDocument (list :uri (pedx--uri))
+                             :range (list :start place :end place) :context (list :diagnostics [])))
+         (step (seq-find (lambda (one) (equal (plist-get one :title) "ped: privatise 3 K")) actions)))
+    (push (cons 'actions (vconcat (mapcar (lambda (one) (plist-get one :title)) actions))) told)
+    (eglot--apply-workspace-edit (plist-get step :edit)))
+  (push (cons 'text (buffer-string)) told)
+  (pedx-omp)
+  (push (cons 'omp (buffer-string)) told)
+  (switch-to-buffer file)
+  (goto-char (point-min))
+  (search-forward "DO I = ")
+  (insert "(")
+  (pedx--ask :textDocument/codeLens :textDocument (list :uri (pedx--uri)))
+  (push (cons 'after (length (marks))) told)
+  (with-temp-file "told.json" (insert (json-encode told)))
+  (dolist (buffer (buffer-list)) (with-current-buffer buffer (set-buffer-modified-p nil)))
+  (kill-emacs 0))
 """
 
 if __name__ == "__main__":

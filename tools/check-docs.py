@@ -226,7 +226,7 @@ def why_not_started(takes_unproved):
 
 def main(words):
     takes_unproved = words[:1] == ["--unproved"]
-    patterns = ("*.md", "docs/*.md", "cases/*.md", "examples/**/*.md", "companion/*.md", "crates/*/README.md")
+    patterns = ("*.md", "docs/*.md", "cases/*.md", "examples/**/*.md", "companion/*.md", "editors/*.md", "crates/*/README.md")
     pages_of_all = [str(path.relative_to(TOP)) for pattern in patterns for path in sorted(TOP.glob(pattern))]
     paths = words[takes_unproved:] or pages_of_all
     reason = why_not_started(takes_unproved)

@@ -24,7 +24,7 @@ run() {
 }
 
 mapfile -t shell < <(grep -lE '^#!.*\bbash' .ci/run ped prove tools/* 2>/dev/null)
-mapfile -t python < <(grep -lE '^#!.*\bpython3' pedx tools/* 2>/dev/null; printf '%s\n' tools/pages.py)
+mapfile -t python < <(grep -lE '^#!.*\bpython3' pedx tools/* editors/*/* 2>/dev/null; printf '%s\n' tools/pages.py)
 ! has shellcheck shellcheck || run shellcheck shellcheck --external-sources --severity=warning "${shell[@]}"
 ! has pyflakes3 pyflakes3 || run pyflakes pyflakes3 companion "${python[@]}"
 ! has mypy mypy || run mypy mypy --cache-dir=/dev/null companion tools/pages.py

@@ -5,7 +5,7 @@ use Rattle.ped_tree.specs.Tree.{StmtTree, StmtTrees, ProgramTree}
 use Rattle.ped_tree.specs.Numbering.{statements_count}
 use Rattle.ped_rules.specs.Settling.{settled}
 use Rattle.ped_rules.specs.Chains.{no_rules, also}
-use Rattle.ped_rules.specs.Steps.{transformation, StepAt}
+use Rattle.ped_rules.specs.Steps.{transformation, StepAt, asks_no_more}
 use Rattle.ped_rules.specs.ped_symbols.specs.NameRefusals.{IsValid}
 use Rattle.ped_rules.specs.ped_steps.specs.declared.rules.Rule.TheVariants.{Limit, NoCall}
 use Rattle.ped_rules.specs.ped_steps.specs.Causes.{Rules, IsFirstCause, none_forbids}
@@ -53,4 +53,5 @@ inlining s = record {
   kind = transformation;
   IsCause = λ t. IsFirstCause t (StandsAgainstInlining s t) none_forbids;
   Makes = MakesInlined s;
+  IsTrueFor = asks_no_more;
 }

@@ -1,11 +1,12 @@
 -- Dependences that a loop carries, and accesses in its trips (Allen and Kennedy, section 2.2.5).
-use Rattle.std.specs.Prelude.{◌≡◌, ◌<◌, ℕ, ◌+◌, List, ◌∷◌, ◌++◌, map, length, nat_lt, nat_le, Bool, true, false, ◌==◌, ◌&&◌, Option, Some, None}
+use Rattle.std.specs.Prelude.{◌≡◌, ◌<◌, ℕ, ◌+◌, List, [], ◌∷◌, ◌++◌, map, length, nat_lt, nat_le, Bool, true, false, ◌==◌, ◌&&◌, Option, Some, None}
 use Rattle.ped_bodies.specs.ped_views.specs.declared.directions.Direction.{Direction}
 use Rattle.ped_bodies.specs.ped_views.specs.declared.directions.Direction.TheVariants.{Before, Same}
 use Rattle.ped_bodies.specs.ped_flow.specs.ped_tree.specs.Tree.{StmtTrees, ProgramTree}
 use Rattle.ped_bodies.specs.ped_flow.specs.ped_tree.specs.Numbering.{statements_count}
 use Rattle.ped_bodies.specs.ped_flow.specs.PlainBounds.{nest_round}
-use Rattle.ped_bodies.specs.ped_refs.specs.References.{Reference}
+use Rattle.ped_bodies.specs.ped_refs.specs.References.{Reference, references}
+use Rattle.ped_bodies.specs.ped_refs.specs.TextPlaces.{place_of}
 use Rattle.ped_bodies.specs.ped_edges.specs.Edges.{Edge}
 use Rattle.ped_bodies.specs.ped_store.specs.Cells.{Cell}
 use Rattle.ped_bodies.specs.ped_store.specs.Stores.{Store}
@@ -15,9 +16,9 @@ use Rattle.ped_bodies.specs.ped_eval.specs.Scopes.{Scope}
 use Rattle.ped_bodies.specs.ped_eval.specs.Outcomes.{run_of}
 use Rattle.ped_bodies.specs.ped_laws.specs.Acts.Orders.{IsIn}
 use Rattle.ped_bodies.specs.ped_laws.specs.Runs.Touching.{StoresWithin}
-use Rattle.ped_bodies.specs.ped_laws.specs.Conflicts.Directions.{StandInDirections}
+use Rattle.ped_bodies.specs.ped_laws.specs.Conflicts.Directions.{StandInDirections, share_a_loop}
 use Rattle.ped_bodies.specs.ped_laws.specs.Conflicts.Making.{IsMade}
-use Rattle.ped_bodies.specs.ped_laws.specs.Conflicts.Covered.{IsCovered}
+use Rattle.ped_bodies.specs.ped_laws.specs.Conflicts.Covered.{ComeInRun, IsCovered}
 
 -- two references make accesses that conflict, in an execution of an outermost DO that begins with this store (Allen and Kennedy, section 2.2.1)
 pub record MakeConflict (t : ProgramTree) (first : Store) (a b : Access) (source sink : Reference) : Type 0 where
@@ -89,6 +90,11 @@ pub record AreTrips (t : ProgramTree) (data_bytes : List ℕ) (l : ℕ) (earlier
 abbrev pub AllStoreWithin : (Cell → Bool) → List Act → Type 0
 AllStoreWithin d acts = (a : Act) → IsIn a acts → StoresWithin d a
 
--- none of these dependences is carried by the DO with number l (Allen and Kennedy, section 2.2.5)
-abbrev pub NoneCarriedBy : ProgramTree → List Edge → (l : ℕ) → StmtTrees → Type 0
-NoneCarriedBy t edges l body = (e : Edge) → IsIn e edges → is_carried_by t l body e ≡ false
+-- no two accesses that conflict in the run on these data are covered by one of these dependences that the DO with number l carries: it carries none of them, or those that it carries don't occur there (Allen and Kennedy, sections 2.2.1, 2.2.5; this project)
+abbrev pub NoneMeetOn : ProgramTree → List Edge → (data_bytes : List ℕ) → (l : ℕ) → StmtTrees → Type 0
+NoneMeetOn t edges data_bytes l body =
+    (a b : Access) → ComeInRun t data_bytes a b → conflict a b ≡ true → share_a_loop a.place.turns b.place.turns ≡ true → (c : IsCovered t edges a b) → is_carried_by t l body c.edge ≡ true → ⊥
+
+-- none of these dependences that begins at a reference without subscripts is carried by the DO with number l (Allen and Kennedy, section 2.2.5)
+abbrev pub NoneOfScalarsCarriedBy : ProgramTree → List Edge → (l : ℕ) → StmtTrees → Type 0
+NoneOfScalarsCarriedBy t edges l body = (r : Reference) → IsIn r (references t) → r.access.subscripts ≡ [] → (e : Edge) → IsIn e edges → e.source ≡ place_of r → is_carried_by t l body e ≡ false

@@ -21,6 +21,7 @@ pub mod Statements
 pub mod Places
 pub mod OtherCopies
 pub mod Unrejected
+pub mod TrueRejections
 pub mod Exchanges
 pub mod Writing
 pub mod Carried

@@ -15,7 +15,7 @@ use Rattle.ped_bodies.specs.ped_symbols.specs.Kinds.{kind_in}
 use Rattle.ped_bodies.specs.ped_laws.specs.Runs.Showing.{shown_at_end}
 use Rattle.ped_bodies.specs.ped_eval.specs.Scopes.{Setting, Scope}
 use Rattle.ped_bodies.specs.ped_eval.specs.Runs.{Run, run_all}
-use Rattle.ped_bodies.specs.ped_eval.specs.Outcomes.{setting_of, live_names, IsRaceFree}
+use Rattle.ped_bodies.specs.ped_eval.specs.Outcomes.{setting_of, live_names, outcome, IsRaceFree}
 use Rattle.ped_bodies.specs.ped_flow.specs.ped_tree.specs.NamesIn.{saved_in}
 use Rattle.ped_bodies.specs.ped_steps.specs.Runs.Gaps.{Gap, number_at}
 use Rattle.ped_bodies.specs.ped_steps.specs.Runs.Renumbering.{IsToldBack, renumbered}
@@ -32,17 +32,22 @@ abbrev pub RaceFreeInstead : (p : Setting) (t : ProgramTree) (start : Store) (l 
 RaceFreeInstead p t start l count piece fresh program =
     (parts : List Part) → old_parts parts ≡ (run_all p t.body 1 [] start).acts → new_parts parts ≡ (program start).acts → AreExchanged p t start l count piece fresh [] parts [] start → HasNoRace (accesses (old_parts parts)) → HasNoRace (accesses (new_parts parts))
 
--- a program in which statements are exchanged for others, and what a step shows of it: the same names are saved, and are of the same kinds; statements of the new one count under numbers that determine them, those that stay under their old ones; and on all data on which the old program runs without a fault and without a race, the new statements do the new acts in each execution, these may stand for the old ones, and they make no race (ParaScope; this project)
-pub record IsExchange (gap : Gap) (old new : StmtTrees) (t u : ProgramTree) : Type 0 where
+-- on these data a program has the outcome of another and no race: what a step keeps where that one runs on them without a fault and without a race (Allen and Kennedy, section 2.2.3; this project)
+pub record KeepsOn (t u : ProgramTree) (data_bytes : List ℕ) : Type 0 where
+  pub same : outcome u data_bytes ≡ outcome t data_bytes
+  pub race_free : IsRaceFree u data_bytes
+
+-- a program in which statements are exchanged for others, and what a step shows of it on data on which the old program runs without a fault and without a race: the same names are saved, and are of the same kinds; statements of the new one count under numbers that determine them, those that stay under their old ones; and in the run on these data the new statements do the new acts in each execution, these may stand for the old ones, and they make no race (ParaScope; this project)
+pub record IsExchange (gap : Gap) (old new : StmtTrees) (t u : ProgramTree) (data_bytes : List ℕ) : Type 0 where
   pub saved : flat_map saved_in u.decls ≡ flat_map saved_in t.decls
   pub kinds : (x : List ℕ) → is_among x (live_names t) ≡ true → kind_in u x ≡ kind_in t x
   pub counted : ℕ → ℕ
   pub told : ℕ → ℕ
   pub back : IsToldBack counted told
   pub pasted : IsPasted (setting_of t) (renumbered counted (setting_of u)) gap old new t u
-  pub agreed : List ℕ → List Act → Cell → Bool
-  pub suit : (data_bytes : List ℕ) → SuitEnds (shown_at_end t) (agreed data_bytes)
-  pub fresh : List ℕ → Scope → Store → List Act
-  pub instead : (data_bytes : List ℕ) → IsRaceFree t data_bytes → DoInstead (setting_of t) (renumbered counted (setting_of u)) t (store_at_start (lines data_bytes)) (number_at gap 1) (statements_count old) (run_all (setting_of t) old (number_at gap 1)) new (fresh data_bytes)
-  pub stand : (data_bytes : List ℕ) → IsRaceFree t data_bytes → StandInstead (agreed data_bytes) (setting_of t) t (store_at_start (lines data_bytes)) (number_at gap 1) (statements_count old) (run_all (setting_of t) old (number_at gap 1)) (fresh data_bytes)
-  pub free : (data_bytes : List ℕ) → IsRaceFree t data_bytes → RaceFreeInstead (setting_of t) t (store_at_start (lines data_bytes)) (number_at gap 1) (statements_count old) (run_all (setting_of t) old (number_at gap 1)) (fresh data_bytes) (run_all (renumbered counted (setting_of u)) u.body 1 [])
+  pub agreed : List Act → Cell → Bool
+  pub suit : SuitEnds (shown_at_end t) agreed
+  pub fresh : Scope → Store → List Act
+  pub instead : DoInstead (setting_of t) (renumbered counted (setting_of u)) t (store_at_start (lines data_bytes)) (number_at gap 1) (statements_count old) (run_all (setting_of t) old (number_at gap 1)) new fresh
+  pub stand : StandInstead agreed (setting_of t) t (store_at_start (lines data_bytes)) (number_at gap 1) (statements_count old) (run_all (setting_of t) old (number_at gap 1)) fresh
+  pub free : RaceFreeInstead (setting_of t) t (store_at_start (lines data_bytes)) (number_at gap 1) (statements_count old) (run_all (setting_of t) old (number_at gap 1)) fresh (run_all (renumbered counted (setting_of u)) u.body 1 [])

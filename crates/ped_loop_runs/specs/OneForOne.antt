@@ -4,10 +4,8 @@ use Rattle.ped_bodies.specs.ped_flow.specs.ped_base.specs.Lists.{is_among}
 use Rattle.ped_bodies.specs.ped_flow.specs.ped_tree.specs.Tree.{Head, StmtTrees, Do, ProgramTree}
 use Rattle.ped_bodies.specs.ped_flow.specs.ped_tree.specs.NamesIn.{loop_variables}
 use Rattle.ped_bodies.specs.ped_flow.specs.Questions.{LoopOf, IsContained}
-use Rattle.ped_bodies.specs.ped_graph.specs.Dependences.{AreEdges}
 use Rattle.ped_bodies.specs.ped_symbols.specs.Kinds.{kind_in}
 use Rattle.ped_bodies.specs.ped_symbols.specs.NameRefusals.{IsValid}
-use Rattle.ped_bodies.specs.ped_edges.specs.Edges.{Edge}
 use Rattle.ped_bodies.specs.ped_store.specs.Cells.{Cell, Iteration}
 use Rattle.ped_bodies.specs.ped_store.specs.Stores.{Store}
 use Rattle.ped_bodies.specs.ped_store.specs.Acts.{iterations_of}
@@ -23,7 +21,6 @@ use Rattle.ped_bodies.specs.ped_steps.specs.Tidy.{is_written_in}
 use Rattle.ped_bodies.specs.ped_weaves.specs.Puttings.{ReadAmong}
 use Rattle.ped_bodies.specs.Moving.{own_number, is_cell_among, moved_behind, turned}
 use Rattle.ped_bodies.specs.Trips.{loop_acts, OfTrips, bounds_seen, entered_from, IsMadeOfTrips, MakesTripsLikewise}
-use Rattle.ped_loop_runs.specs.Carried.{NoneCarriedBy}
 
 -- which of n iterations of the old DO an iteration of the new one repeats (Allen and Kennedy, section 2.4)
 abbrev pub trip_of : (reversed : Bool) → (n k : ℕ) → ℕ
@@ -47,7 +44,11 @@ pub record HasSameTrips (p : Setting) (d h : Head) (body : StmtTrees) (l : ℕ) 
   pub values : OfTrips (entered_from p h body l scope s bounds) (λ k. value_in (entered_from p h body l scope s bounds) k ≡ value_in (entered_from p d body l scope s old) (trip_of reversed (entered_from p d body l scope s old).count k))
   pub among : ReadAmong (numbered 1 (bounds_seen p d scope s)) (numbered 1 (bounds_seen p h scope s))
 
--- a DO of a valid program gives way to one with another head, and names stand for what they stood for: the variable, the PRIVATE names and the body are the same, the DO is contained, and the new one has the same iterations, from the last to the first where neither is a PARALLEL DO, or else in the same order where one of the two is. It carries no dependence where their order changes, or where they are done in any order from now on; and where one of the two is a PARALLEL DO, no reference in it writes the variable of a DO of it (Allen and Kennedy, sections 2.2.3, 2.4; ParaScope; this project)
+-- iterations are done in another order from now on, the last first; or in any order, as the DO becomes a PARALLEL DO (Allen and Kennedy, sections 2.2.3, 2.4.1)
+abbrev pub IsReordered : (old new : Head) → (reversed : Bool) → Type 0
+IsReordered old new reversed = (reversed ≡ true) ⊎ ((old.parallel ≡ false) × (new.parallel ≡ true))
+
+-- a DO of a valid program gives way to one with another head, and names stand for what they stood for: the variable, the PRIVATE names and the body are the same, the DO is contained, and the new one has the same iterations, from the last to the first where neither is a PARALLEL DO, or else in the same order where one of the two is; and then no reference in it writes the variable of a DO of it (Allen and Kennedy, sections 2.2.3, 2.4; ParaScope; this project)
 pub record IsOneForOne (t u : ProgramTree) (l : ℕ) (loop : LoopOf t l) (h : Head) (reversed : Bool) : Type 0 where
   pub valid : IsValid t
   pub new_valid : IsValid u
@@ -59,7 +60,6 @@ pub record IsOneForOne (t u : ProgramTree) (l : ℕ) (loop : LoopOf t l) (h : He
   pub trips : (scope : Scope) (s : Store) (old : Limits) → (limits (names_in (setting_of t) scope) loop.head s).result ≡ Ok old → HasSameTrips (setting_of t) loop.head h loop.body l reversed scope s old
   pub in_turn : reversed ≡ true → (loop.head.parallel ≡ false) × (h.parallel ≡ false)
   pub differ : reversed ≡ false → h.parallel ≡ loop.head.parallel → ⊥
-  pub carries : (reversed ≡ true) ⊎ ((loop.head.parallel ≡ false) × (h.parallel ≡ true)) → (edges : List Edge) → AreEdges t edges → NoneCarriedBy t edges l loop.body
   pub unwritten : reversed ≡ false → (w : List ℕ) → is_among w (loop_variables (Do loop.head loop.body)) ≡ true → is_written_in t l loop.body w ≡ false
 
 -- in one execution the new DO is made of trips that do likewise what those of the old one did (this project)

@@ -17,7 +17,7 @@ ghost use Rattle.ped_bodies.specs.ped_laws.specs.Conflicts.Directions.{share_a_l
 ghost use Rattle.ped_bodies.specs.ped_laws.specs.Conflicts.Sequence.{IsBeforeInText, AreSuccessive};
 ghost use Rattle.ped_bodies.specs.ped_laws.specs.Conflicts.Covered.{ComeInRun};
 ghost use Rattle.ped_bodies.specs.ped_steps.specs.Tidy.{is_written_in};
-ghost use Rattle.ped_loop_runs.specs.Carried.{MakeConflict, IsCoveredAt, IsCarriedInside, AreInTrips, IsCarriedByLoop, AreTrips, AllStoreWithin, NoneCarriedBy};
+ghost use Rattle.ped_loop_runs.specs.Carried.{MakeConflict, IsCoveredAt, IsCarriedInside, AreInTrips, IsCarriedByLoop, AreTrips, AllStoreWithin, NoneMeetOn, NoneOfScalarsCarriedBy};
 
 use ped_bodies::{accesses_are_made, accesses_in_sequence};
 
@@ -42,20 +42,20 @@ pub fn trips_are_carried()
     accesses_in_sequence();
 }
 
-/// Where a DO carries no dependence, the acts of two of its iterations in one execution don't conflict, but on cells in
-/// which DO loops store of themselves. For iterations in another order, or all at once.
+/// Where no dependence that a DO carries occurs in a run, the acts of two of its iterations in one execution don't
+/// conflict there, but on cells in which DO loops store of themselves. For iterations in another order, or all at once.
 pub fn trips_dont_conflict()
-    ensures { (t : ProgramTree) (data_bytes : List ℕ) → IsValid t → (edges : List Edge) → AreEdges t edges → (l : ℕ) (loop : LoopOf t l) (idle : Cell → Bool) (earlier later : List Act) → NoneCarriedBy t edges l loop.body → AreTrips t data_bytes l earlier later → AllStoreWithin idle earlier → AllStoreWithin idle later → blocks_conflict_outside idle earlier later ≡ false }
+    ensures { (t : ProgramTree) (data_bytes : List ℕ) → IsValid t → (edges : List Edge) → AreEdges t edges → (l : ℕ) (loop : LoopOf t l) (idle : Cell → Bool) (earlier later : List Act) → NoneMeetOn t edges data_bytes l loop.body → AreTrips t data_bytes l earlier later → AllStoreWithin idle earlier → AllStoreWithin idle later → blocks_conflict_outside idle earlier later ≡ false }
 {
     accesses_are_made();
     accesses_in_sequence();
 }
 
-/// Where a DO carries no dependence, no reference in its body writes its variable, nor that of a DO in it. For such a
-/// write belongs to no DO, as no DO may have the variable of a DO around it or in it among its PRIVATE names, or else
-/// the DO that has it there writes it in its own header; and a write of a scalar that belongs to no DO depends on
-/// itself, from each iteration to the next (Allen and Kennedy, section 2.2.1). So a loop may become a PARALLEL DO,
+/// Where a DO carries no dependence of a scalar, no reference in its body writes its variable, nor that of a DO in it.
+/// For such a write belongs to no DO, as no DO may have the variable of a DO around it or in it among its PRIVATE names,
+/// or else the DO that has it there writes it in its own header; and a write of a scalar that belongs to no DO depends
+/// on itself, from each iteration to the next (Allen and Kennedy, section 2.2.1). So a loop may become a PARALLEL DO,
 /// whose iterations have copies of these variables.
 pub fn indices_unwritten()
-    ensures { (t : ProgramTree) → IsValid t → (edges : List Edge) → AreEdges t edges → (l : ℕ) (loop : LoopOf t l) → NoneCarriedBy t edges l loop.body → (w : List ℕ) → IsIndexIn t l w → is_written_in t l loop.body w ≡ false }
+    ensures { (t : ProgramTree) → IsValid t → (edges : List Edge) → AreEdges t edges → (l : ℕ) (loop : LoopOf t l) → NoneOfScalarsCarriedBy t edges l loop.body → (w : List ℕ) → IsIndexIn t l w → is_written_in t l loop.body w ≡ false }
 {}

@@ -9,13 +9,15 @@ ghost use Rattle.ped_bodies.specs.ped_refs.specs.References.{Reference, referenc
 ghost use Rattle.ped_bodies.specs.ped_steps.specs.Replacing.{program_with};
 ghost use Rattle.ped_bodies.specs.ped_steps.specs.Runs.Gaps.{Gap, filled};
 ghost use Rattle.ped_loop_runs.specs.Unrejected.{has_rejection, some_rejection};
+ghost use Rattle.ped_loop_runs.specs.TrueRejections.{IsTrueOn};
 
 /// No dependence of a program without C$PED REJECT is marked as rejected (ParaScope): so what forbids a step there, no
-/// line of the user puts aside. The same of any pairs of references of it.
+/// line of the user puts aside, and on all data it is true what these lines say. The same of any pairs of references of it.
 pub fn none_rejected()
     ensures edges { (t : ProgramTree) (edges : List Edge) → some_rejection t.body ≡ false → AreEdges t edges → (e : Edge) → IsIn e edges → e.mark ≡ rejected → ⊥ }
     ensures of_pairs { (t : ProgramTree) (ps : List (Reference × Reference)) (edges : List Edge) → some_rejection t.body ≡ false → ((p : Reference × Reference) → IsIn p ps → IsIn p.0 (references t)) → EdgesOfPairs t ps edges
         → (e : Edge) → IsIn e edges → e.mark ≡ rejected → ⊥ }
+    ensures true_on { (t : ProgramTree) (data_bytes : List ℕ) → some_rejection t.body ≡ false → IsTrueOn t data_bytes }
 {}
 
 /// A program without C$PED REJECT stays so where statements without it come in the place of others.

@@ -5,24 +5,19 @@ use Rattle.ped_rules.proofs.NestLaws.OnlyBodies.{pair}
 use Rattle.ped_rules.proofs.NestLaws.WovenLoops.{AreSwapped}
 use Rattle.ped_loops.specs.Interchanging.{exchanged_loops, interchanged, with_exchanged}
 use Rattle.ped_loops.specs.Shapes.{Shape, asked_above, asked_below, extreme_of, first_shape, free, last_shape, moved_bound, new_inner, new_outer, shape_or_free, shaped}
-use Rattle.ped_rules.specs.Carried.{has_after}
 use Rattle.ped_rules.specs.OnlyLoops.{change_only, on_loop, only_loop}
-use Rattle.ped_rules.specs.ped_loop_runs.specs.Carried.{is_carried_by}
 use Rattle.ped_rules.specs.ped_steps.proofs.OnePlace.{one_program}
 use Rattle.ped_rules.specs.ped_steps.specs.Replacing.{alone, program_with}
 use Rattle.ped_rules.specs.ped_flow.specs.PlainBounds.{IsPlain, nest_round}
 use Rattle.ped_rules.specs.ped_flow.specs.Questions.{IsContained, LoopOf}
-use Rattle.ped_rules.specs.ped_laws.specs.Acts.Orders.{IsIn}
 use Rattle.ped_rules.specs.ped_eval.specs.Outcomes.{setting_of}
-use Rattle.ped_rules.specs.ped_graph.specs.Dependences.{AreEdges}
-use Rattle.ped_edges.specs.Edges.{Edge}
 use Rattle.ped_rules.specs.ped_symbols.specs.Kinds.{kind_in}
 use Rattle.ped_rules.specs.ped_symbols.specs.NameRefusals.{IsValid}
 use Rattle.ped_tree.specs.NamesIn.{expr_names}
 use Rattle.ped_tree.specs.Nests.{indices_of}
 use Rattle.ped_tree.specs.Tree.{Do, Head, ProgramTree, StmtTree, StmtTrees}
 use Rattle.ped_tree.specs.declared.expressions.Intrinsic.TheVariants.{Max, Min}
-use Rattle.std.proofs.Common.{Bool, List, Some, [], ap, false, if◌then◌else◌, length, refl, sym, true, ℕ, ◌+◌, ◌∙◌, ◌≡◌}
+use Rattle.std.proofs.Common.{Bool, List, Some, [], ap, false, if◌then◌else◌, refl, sym, ℕ, ◌+◌, ◌∙◌, ◌≡◌}
 
 same_statement : (a b : StmtTree) → Some a ≡ Some b → a ≡ b
 same_statement a b e = cc
@@ -65,9 +60,8 @@ module _ (t : ProgramTree) (l : ℕ) (loop : LoopOf t l) (g : Head) (inside : St
     -- they are in each other's place
     pub free_swap : (valid : IsValid t) → IsValid (interchanged t l) → ((y : List ℕ) → kind_in (interchanged t l) y ≡ kind_in t y) → is_same_text loop.head.variable g.variable ≡ false → loop.head.parallel ≡ false → g.parallel ≡ false → loop.head.private ≡ [] → g.private ≡ [] → IsContained t l
         → IsPlain (setting_of t).constants t l loop.head.first → IsPlain (setting_of t).constants t l loop.head.last → IsPlain (setting_of t).constants t (l + 1) g.first → IsPlain (setting_of t).constants t (l + 1) g.last
-        → is_among loop.head.variable (indices_of (nest_round t l)) ≡ false → is_among g.variable (indices_of (nest_round t l)) ≡ false
-        → ((edges : List Edge) → AreEdges t edges → (e : Edge) → IsIn e edges → is_carried_by t l loop.body e ≡ true → has_after (length (nest_round t l) + 1) e ≡ false) → AreSwapped t (interchanged t l) l loop g h k inside only
-    free_swap valid new_valid kinds differ serial inner_serial private inner_private contained plain_first plain_last plain_inner_first plain_inner_last apart inner_apart uncrossed = record {
+        → is_among loop.head.variable (indices_of (nest_round t l)) ≡ false → is_among g.variable (indices_of (nest_round t l)) ≡ false → AreSwapped t (interchanged t l) l loop g h k inside only
+    free_swap valid new_valid kinds differ serial inner_serial private inner_private contained plain_first plain_last plain_inner_first plain_inner_last apart inner_apart = record {
       valid = valid;
       new_valid = new_valid;
       new = interchanged_is;
@@ -87,5 +81,4 @@ module _ (t : ProgramTree) (l : ℕ) (loop : LoopOf t l) (g : Head) (inside : St
       contained = contained;
       trips = λ data_bytes scope front behind s executed goes.
           free_trips t valid l loop g h k inside only outer_first outer_last refl refl inner_first inner_last refl serial private inner_serial inner_private plain_first plain_last plain_inner_first plain_inner_last free_first free_last apart inner_apart data_bytes scope front behind s executed goes;
-      uncrossed = uncrossed;
     }

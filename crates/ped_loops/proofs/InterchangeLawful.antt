@@ -1,15 +1,14 @@
 -- `interchange` is lawful.
 use Rattle.std.specs.Prelude.{not}
 use Rattle.std.proofs.lemmas.Bool.Decides.{Decides-int_eq}
-use Rattle.std.proofs.Common.{◌≡◌, ℕ, ℤ, pos, ◌+◌, List, [], ◌∷◌, ◌++◌, length, All, Bool, true, false, ◌||◌, ◌&&◌, unwrap_or, Option, Some, None, MatchOption, is_none, refl, sym, ap, ◌∙◌, subst, inl, inr}
+use Rattle.std.proofs.Common.{◌≡◌, ℕ, ℤ, pos, ◌+◌, List, [], ◌∷◌, ◌++◌, All, Bool, true, false, ◌||◌, ◌&&◌, unwrap_or, Option, Some, None, MatchOption, is_none, refl, sym, ap, ◌∙◌, subst, inl, inr}
 use Rattle.ped_base.specs.Lists.{has_some}
 use Rattle.ped_tree.specs.Tree.{ExprTree, Head, StmtTrees, Do, ProgramTree}
 use Rattle.ped_rules.specs.ped_laws.proofs.ConflictLaws.CoveringRuns.{MakingLaw, SequenceLaw}
-use Rattle.ped_rules.specs.ped_eval.specs.Outcomes.{setting_of}
+use Rattle.ped_rules.specs.ped_eval.specs.Outcomes.{setting_of, IsRaceFree}
 use Rattle.ped_rules.specs.ped_graph.specs.Dependences.{AreEdges}
 use Rattle.ped_edges.specs.Edges.{Edge}
 use Rattle.ped_rules.specs.ped_graph.specs.Update.Fresh.{IsOneToOne}
-use Rattle.ped_rules.specs.ped_laws.specs.Acts.Orders.{IsIn}
 use Rattle.ped_rules.specs.ped_symbols.specs.Kinds.{kind_in}
 use Rattle.ped_rules.specs.ped_symbols.specs.NameRefusals.{IsValid}
 use Rattle.ped_rules.specs.ped_flow.specs.PlainBounds.{IsPlain, around_with, nest_round, setting_round}
@@ -17,14 +16,15 @@ use Rattle.ped_rules.specs.ped_flow.specs.Questions.{LoopOf}
 use Rattle.ped_rules.specs.ped_steps.specs.Causes.{NoRule}
 use Rattle.ped_rules.specs.ped_steps.specs.Replacing.{alone, program_with}
 use Rattle.ped_rules.specs.ped_steps.proofs.OneCause.{one_cause}
+use Rattle.ped_rules.specs.ped_loop_runs.specs.Meaning.{KeepsOn}
+use Rattle.ped_rules.specs.ped_loop_runs.specs.TrueRejections.{IsTrueOn}
 use Rattle.ped_rules.specs.ped_loop_runs.specs.Unrejected.{IsTrusted}
-use Rattle.ped_rules.specs.Carried.{crossing, has_after}
+use Rattle.ped_rules.specs.Carried.{crossing}
 use Rattle.ped_rules.specs.KeepMaps.{all_but}
 use Rattle.ped_rules.specs.Lawful.{IsFaithful, IsLawful}
 use Rattle.ped_rules.specs.OnlyLoops.{change_only, only_loop, of_loop, either}
 use Rattle.ped_rules.specs.Rules.{HasUnplain, has_other_step, has_private, is_one, is_parallel, isnt_allowed, leaves}
 use Rattle.ped_rules.proofs.KeptNumbers.{but_one_to_one}
-use Rattle.ped_rules.specs.ped_loop_runs.specs.Carried.{is_carried_by}
 use Rattle.ped_rules.specs.Rules.{IsBoundOf}
 use Rattle.ped_loops.specs.Interchanging.{IsBoundOfEither, StandsAgainstInterchange, interchanged, interchanging, leaves_either}
 use Rattle.ped_loops.specs.Shapes.{is_named, isnt_shaped, names_outer, new_inner, new_outer, shape_of}
@@ -34,12 +34,12 @@ use Rattle.ped_rules.specs.ped_affine.specs.Ranges.{Around, Setting, interval_of
 use Rattle.ped_rules.specs.ped_eval.specs.Loops.{increment}
 use Rattle.ped_tree.specs.Constants.ConstantExpressions.{constant_value}
 use Rattle.ped_rules.proofs.LeastNumbers.{least}
-use Rattle.ped_rules.proofs.HeadLaws.ParallelLawful.{UnrejectedLaw}
+use Rattle.ped_rules.proofs.HeadLaws.ParallelLawful.{TrueLaw}
 use Rattle.ped_loops.proofs.FreeSwaps.{free_swap, interchanged_is}
 use Rattle.ped_rules.proofs.HeadLaws.PlainAnswers.{same_around}
 use Rattle.ped_loops.proofs.ShapedNames.{shaped_names}
 use Rattle.ped_loops.proofs.ShapedSwaps.{shaped_swap}
-use Rattle.ped_loops.proofs.SwappedKeeps.{swapped_keeps}
+use Rattle.ped_loops.proofs.SwappedKeeps.{swapped_keeps_on, swapped_keeps}
 use Rattle.ped_loops.proofs.InterchangeRules as rules
 use Rattle.ped_rules.proofs.NestLaws.IndicesApart.{inner_variable_apart, variable_apart, variables_differ}
 use Rattle.ped_rules.proofs.HeadLaws.OneHead.{TrustedLaw, ClearedLaw}
@@ -48,7 +48,7 @@ use Rattle.ped_rules.proofs.HeadLaws.PlainDecided.{OrNot, plain_decided}
 use Rattle.ped_rules.proofs.NestLaws.WovenKinds.{swapped_kinds}
 use Rattle.ped_rules.proofs.NestLaws.WovenLoops.{AreSwapped}
 use Rattle.ped_rules.proofs.NestLaws.WovenTrust.{stays_trusted_swap}
-use Rattle.ped_loops.proofs.UncrossedPairs.{uncrossed_pairs}
+use Rattle.ped_loops.proofs.UncrossedPairs.{none_crosses}
 
 or_neither : (a b : Bool) → a || b ≡ false → (a ≡ false) × (b ≡ false)
 or_neither true b e = absurd cc
@@ -167,34 +167,40 @@ module _ (t : ProgramTree) (valid : IsValid t) (s : ℕ) (none : NoRule (StandsA
       subst IsTrusted (sym made)
       (stays_trusted_swap t valid s loop (rules.is_contained s t none) g h k it.inside it.only refl refl refl refl serial.0 serial.1 serial.1 serial.0 unprivate.0 unprivate.1 unprivate.1 unprivate.0 law cleared before)
 
-  swap : ((edges : List Edge) → AreEdges t edges → (e : Edge) → IsIn e edges → is_carried_by t s loop.body e ≡ true → has_after (length (nest_round t s) + 1) e ≡ false) → AreSwapped t (interchanged t s) s loop g h k it.inside it.only
-  swap uncrossed = by (names_outer d g) refl
+  swap : AreSwapped t (interchanged t s) s loop g h k it.inside it.only
+  swap = by (names_outer d g) refl
     where
       by : (b : Bool) → names_outer d g ≡ b → AreSwapped t (interchanged t s) s loop g h k it.inside it.only
       by true named =
           let units = with_units named in
           shaped_swap t s loop g it.inside it.only valid (rules.is_valid s t none) kinds (variables_differ t valid s loop g it.inside it.only) serial.0 serial.1 unprivate.0 unprivate.1 (rules.is_contained s t none)
           (outer_plain d.first (inl refl)) (outer_plain d.last (inr refl)) (inner_plain g.first (inl refl)) (inner_plain g.last (inr refl)) shaped.0 shaped.1 units.0 units.1 (near h.first stay.0) (near h.last stay.1)
-          (variable_apart t valid s loop) (inner_variable_apart t valid s loop g it.inside it.only) uncrossed
+          (variable_apart t valid s loop) (inner_variable_apart t valid s loop g it.inside it.only)
       by false named =
           let free = or_neither (is_named d.variable g.first) (is_named d.variable g.last) named in
           free_swap t s loop g it.inside it.only free.0 free.1 valid (rules.is_valid s t none) kinds (variables_differ t valid s loop g it.inside it.only) serial.0 serial.1 unprivate.0 unprivate.1 (rules.is_contained s t none)
           (outer_plain d.first (inl refl)) (outer_plain d.last (inr refl)) (inner_plain g.first (inl refl)) (inner_plain g.last (inr refl))
-          (variable_apart t valid s loop) (inner_variable_apart t valid s loop g it.inside it.only) uncrossed
+          (variable_apart t valid s loop) (inner_variable_apart t valid s loop g it.inside it.only)
 
-  module _ (making : MakingLaw) (sequence : SequenceLaw) (trusted_law : TrustedLaw) (cleared : ClearedLaw) (unrejected : UnrejectedLaw) where
-    pub interchange_faithful : ((edges : List Edge) → AreEdges t edges → All (λ e. crossing t s e ≡ false) edges) → IsTrusted t → IsFaithful t (interchanged t s)
-    interchange_faithful uncrossed before = record {
+  module _ (making : MakingLaw) (sequence : SequenceLaw) (uncrossed : (edges : List Edge) → AreEdges t edges → All (λ e. crossing t s e ≡ false) edges) where
+    -- on data on which no rejected dependence occurs
+    pub interchange_keeps_on : (data_bytes : List ℕ) → IsTrueOn t data_bytes → IsRaceFree t data_bytes → KeepsOn t (interchanged t s) data_bytes
+    interchange_keeps_on data_bytes true_on = swapped_keeps_on making sequence t (interchanged t s) s loop g h k it.inside it.only swap data_bytes (λ edges are. none_crosses t s loop data_bytes true_on edges are (uncrossed edges are))
+
+    pub interchange_faithful : TrustedLaw → ClearedLaw → TrueLaw → IsTrusted t → IsFaithful t (interchanged t s)
+    interchange_faithful trusted_law cleared true_law before = record {
       trusted = trusted trusted_law cleared before;
-      keeps = swapped_keeps making sequence t (interchanged t s) s loop g h k it.inside it.only (swap (λ edges are. uncrossed_pairs unrejected t s loop edges before.unrejected are (uncrossed edges are)));
+      keeps = swapped_keeps making sequence t (interchanged t s) s loop g h k it.inside it.only swap (λ data_bytes edges are. none_crosses t s loop data_bytes (true_law t data_bytes before.unrejected) edges are (uncrossed edges are));
     }
 
-module _ (making : MakingLaw) (sequence : SequenceLaw) (trusted_law : TrustedLaw) (cleared : ClearedLaw) (unrejected : UnrejectedLaw) (s : ℕ) where
+module _ (making : MakingLaw) (sequence : SequenceLaw) (trusted_law : TrustedLaw) (cleared : ClearedLaw) (true_law : TrueLaw) (s : ℕ) where
   pub lawful_interchange : IsLawful (interchanging s)
   lawful_interchange = record {
     one_cause = λ t c d p q. one_cause t (StandsAgainstInterchange s t) (crossing t s) (rules.chain s t).one c d p q;
     one_made = rules.one_made s;
     one_to_one = λ t new keep p. subst IsOneToOne (sym p.1) (but_one_to_one t s (s + 1));
     some_made = λ t valid none. (interchanged t s, all_but s (s + 1) t, (refl, refl), rules.is_valid s t none.0);
-    keeps = λ t new keep valid none p before. subst (IsFaithful t) (sym p.0) (interchange_faithful t valid s none.0 making sequence trusted_law cleared unrejected none.1 before);
+    keeps = λ t new keep valid none p before. subst (IsFaithful t) (sym p.0) (interchange_faithful t valid s none.0 making sequence none.1 trusted_law cleared true_law before);
+    keeps_on = λ t new keep data_bytes valid none p kind tidy new_tidy true_on true_for free.
+        subst (λ (u : ProgramTree). KeepsOn t u data_bytes) (sym p.0) (interchange_keeps_on t valid s none.0 making sequence none.1 data_bytes true_on free);
   }

@@ -206,4 +206,5 @@ module _ (s : ℕ) (x : List ℕ) where
     one_to_one = λ t new keep p. subst IsOneToOne (sym p.1) (all_one_to_one t);
     some_made = λ t valid none. (with_directive t s x, all_kept t, (refl, refl), is_valid t valid none.0);
     keeps = λ t new keep valid none p. tt;
+    keeps_on = λ t new keep data_bytes valid none p kind. absurd cc;
   }

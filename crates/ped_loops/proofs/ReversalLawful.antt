@@ -4,7 +4,7 @@ use Rattle.std.proofs.lemmas.Bool.{both_ways}
 use Rattle.ped_tree.specs.Constants.ConstantExpressions.{constant_value}
 use Rattle.ped_tree.specs.Tree.{Head, StmtTree, StmtTrees, Do, ProgramTree}
 use Rattle.ped_rules.specs.ped_eval.specs.Loops.{Limits, limits, increment}
-use Rattle.ped_rules.specs.ped_eval.specs.Outcomes.{setting_of}
+use Rattle.ped_rules.specs.ped_eval.specs.Outcomes.{setting_of, IsRaceFree}
 use Rattle.ped_rules.specs.ped_eval.specs.Scopes.{Scope, names_in}
 use Rattle.ped_rules.specs.ped_store.specs.Stores.{Store}
 use Rattle.ped_rules.specs.ped_graph.specs.Dependences.{AreEdges}
@@ -25,11 +25,12 @@ use Rattle.ped_rules.specs.OnlyLoops.{on_loop}
 use Rattle.ped_rules.specs.Rules.{is_unit}
 use Rattle.ped_rules.specs.Spans.{Values}
 use Rattle.ped_rules.proofs.KeptNumbers.{all_one_to_one}
-use Rattle.ped_rules.specs.ped_loop_runs.specs.Carried.{NoneCarriedBy}
+use Rattle.ped_rules.specs.ped_loop_runs.specs.Meaning.{KeepsOn}
+use Rattle.ped_rules.specs.ped_loop_runs.specs.TrueRejections.{IsTrueOn}
 use Rattle.ped_rules.specs.ped_loop_runs.specs.OneForOne.{HasSameTrips, IsOneForOne}
 use Rattle.ped_rules.specs.ped_loop_runs.proofs.LoopLaws.OneForOneNames.{kinds_alike}
 use Rattle.ped_loops.specs.Reversing.{turned_head, with_turned, reversed, StandsAgainstReversal, reversing}
-use Rattle.ped_rules.proofs.HeadLaws.ParallelLawful.{KeepsLaw, UnrejectedLaw, none_carried}
+use Rattle.ped_rules.proofs.HeadLaws.ParallelLawful.{KeepsLaw, KeepsOnLaw, TrueLaw, none_meet}
 use Rattle.ped_rules.proofs.HeadLaws.OneHead.{TrustedLaw, ClearedLaw, stays_trusted_head}
 use Rattle.ped_loops.proofs.ReverseRules as rules
 use Rattle.ped_loops.proofs.ReversedLoops.{unit_is, turned_trips}
@@ -63,8 +64,8 @@ module _ (t : ProgramTree) (valid : IsValid t) (s : ℕ) (loop : LoopOf t s) whe
     trips scope v old come = turned_trips (setting_of t) d body s m step (unit_is m unit) scope v old come
 
     -- it gives way one for one
-    reversal_one_for_one : IsValid (reversed t s) → IsContained t s → d.parallel ≡ false → ((edges : List Edge) → AreEdges t edges → NoneCarriedBy t edges s body) → IsOneForOne t (reversed t s) s loop h true
-    reversal_one_for_one new_valid contained serial carries = record {
+    reversal_one_for_one : IsValid (reversed t s) → IsContained t s → d.parallel ≡ false → IsOneForOne t (reversed t s) s loop h true
+    reversal_one_for_one new_valid contained serial = record {
       valid = valid;
       new_valid = new_valid;
       new = reversed_is;
@@ -75,7 +76,6 @@ module _ (t : ProgramTree) (valid : IsValid t) (s : ℕ) (loop : LoopOf t s) whe
       trips = trips;
       in_turn = λ e. (serial, serial);
       differ = λ e. absurd (both_ways true e refl);
-      carries = λ e. carries;
       unwritten = λ e. absurd (both_ways true e refl);
     }
 
@@ -83,19 +83,28 @@ module _ (t : ProgramTree) (valid : IsValid t) (s : ℕ) (loop : LoopOf t s) whe
     stays_trusted_reversed : IsContained t s → TrustedLaw → ClearedLaw → IsTrusted t → IsTrusted (reversed t s)
     stays_trusted_reversed contained law cleared trusted = subst IsTrusted (sym reversed_is) (stays_trusted_head t valid s loop contained h refl refl refl (λ none. none) law cleared trusted)
 
-module _ (keeps_law : KeepsLaw) (trusted_law : TrustedLaw) (cleared : ClearedLaw) (unrejected : UnrejectedLaw) (s : ℕ) where
-  reversal_faithful : (t : ProgramTree) → IsValid t → NoRule (StandsAgainstReversal s t) → ((edges : List Edge) → AreEdges t edges → All (λ e. carried t s e ≡ false) edges) → IsTrusted t → IsFaithful t (reversed t s)
-  reversal_faithful t valid none free trusted = record {
-    trusted = stays_trusted_reversed t valid s loop step.0 step.1 step.2 (rules.is_contained s t none) trusted_law cleared trusted;
-    keeps = keeps_law t (reversed t s) s loop (turned_head (table_of t).constants loop.head) true
-        (reversal_one_for_one t valid s loop step.0 step.1 step.2 (rules.is_valid s t none) (rules.is_contained s t none) (rules.is_serial s t none loop) (λ edges are. none_carried unrejected t s loop edges trusted.unrejected are (free edges are)));
-  }
-    where
-      loop : LoopOf t s
-      loop = rules.its_loop s t none
+module _ (keeps_law : KeepsLaw) (on_law : KeepsOnLaw) (trusted_law : TrustedLaw) (cleared : ClearedLaw) (true_law : TrueLaw) (s : ℕ) where
+  module _ (t : ProgramTree) (valid : IsValid t) (none : NoRule (StandsAgainstReversal s t)) (free : (edges : List Edge) → AreEdges t edges → All (λ e. carried t s e ≡ false) edges) where
+    loop : LoopOf t s
+    loop = rules.its_loop s t none
 
-      step : (m : ℤ) × (constant_value (table_of t).constants loop.head.step ≡ Some m) × (is_unit m ≡ true)
-      step = rules.unit_value (constant_value (table_of t).constants loop.head.step) (rules.has_unit s t none loop)
+    step : (m : ℤ) × (constant_value (table_of t).constants loop.head.step ≡ Some m) × (is_unit m ≡ true)
+    step = rules.unit_value (constant_value (table_of t).constants loop.head.step) (rules.has_unit s t none loop)
+
+    instead : IsOneForOne t (reversed t s) s loop (turned_head (table_of t).constants loop.head) true
+    instead = reversal_one_for_one t valid s loop step.0 step.1 step.2 (rules.is_valid s t none) (rules.is_contained s t none) (rules.is_serial s t none loop)
+
+    -- on data on which no rejected dependence occurs
+    reversal_keeps_on : (data_bytes : List ℕ) → IsTrueOn t data_bytes → IsRaceFree t data_bytes → KeepsOn t (reversed t s) data_bytes
+    reversal_keeps_on data_bytes true_on = on_law t (reversed t s) s loop (turned_head (table_of t).constants loop.head) true instead data_bytes (λ reordered edges are. none_meet t s loop data_bytes true_on edges are (free edges are))
+
+    reversal_faithful : IsTrusted t → IsFaithful t (reversed t s)
+    reversal_faithful trusted = record {
+      trusted = stays_trusted_reversed t valid s loop step.0 step.1 step.2 (rules.is_contained s t none) trusted_law cleared trusted;
+      keeps =
+          keeps_law t (reversed t s) s loop (turned_head (table_of t).constants loop.head) true instead
+          (λ data_bytes reordered edges are. none_meet t s loop data_bytes (true_law t data_bytes trusted.unrejected) edges are (free edges are));
+    }
 
   pub lawful_reversal : IsLawful (reversing s)
   lawful_reversal = record {
@@ -104,4 +113,6 @@ module _ (keeps_law : KeepsLaw) (trusted_law : TrustedLaw) (cleared : ClearedLaw
     one_to_one = λ t new keep p. subst IsOneToOne (sym p.1) (all_one_to_one t);
     some_made = λ t valid none. (reversed t s, all_kept t, (refl, refl), rules.is_valid s t none.0);
     keeps = λ t new keep valid none p trusted. subst (IsFaithful t) (sym p.0) (reversal_faithful t valid none.0 none.1 trusted);
+    keeps_on = λ t new keep data_bytes valid none p kind tidy new_tidy true_on true_for free.
+        subst (λ (u : ProgramTree). KeepsOn t u data_bytes) (sym p.0) (reversal_keeps_on t valid none.0 none.1 data_bytes true_on free);
   }

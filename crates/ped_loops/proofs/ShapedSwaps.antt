@@ -6,22 +6,17 @@ use Rattle.ped_loops.proofs.ShapedBounds.{shaped_trips}
 use Rattle.ped_rules.proofs.NestLaws.WovenLoops.{AreSwapped}
 use Rattle.ped_loops.specs.Interchanging.{interchanged}
 use Rattle.ped_loops.specs.Shapes.{new_inner, new_outer, shape_of}
-use Rattle.ped_rules.specs.Carried.{has_after}
 use Rattle.ped_rules.specs.OnlyLoops.{only_loop}
-use Rattle.ped_rules.specs.ped_loop_runs.specs.Carried.{is_carried_by}
 use Rattle.ped_rules.specs.ped_affine.specs.Ranges.{interval_of}
 use Rattle.ped_rules.specs.ped_flow.specs.PlainBounds.{IsPlain, around_with, nest_round, setting_round}
 use Rattle.ped_rules.specs.ped_flow.specs.Questions.{IsContained, LoopOf}
-use Rattle.ped_rules.specs.ped_laws.specs.Acts.Orders.{IsIn}
 use Rattle.ped_rules.specs.ped_eval.specs.Loops.{increment}
 use Rattle.ped_rules.specs.ped_eval.specs.Outcomes.{setting_of}
-use Rattle.ped_rules.specs.ped_graph.specs.Dependences.{AreEdges}
-use Rattle.ped_edges.specs.Edges.{Edge}
 use Rattle.ped_rules.specs.ped_symbols.specs.Kinds.{kind_in}
 use Rattle.ped_rules.specs.ped_symbols.specs.NameRefusals.{IsValid}
 use Rattle.ped_tree.specs.Nests.{indices_of}
 use Rattle.ped_tree.specs.Tree.{Head, ProgramTree, StmtTrees}
-use Rattle.std.proofs.Common.{List, None, Some, [], false, length, pos, refl, true, ℕ, ◌+◌, ◌≡◌}
+use Rattle.std.proofs.Common.{List, None, Some, [], false, pos, refl, ℕ, ◌+◌, ◌≡◌}
 use Rattle.std.specs.Prelude.{is_none}
 
 module _ (t : ProgramTree) (l : ℕ) (loop : LoopOf t l) (g : Head) (inside : StmtTrees) (only : only_loop loop.body ≡ Some (pair g inside)) where
@@ -31,9 +26,8 @@ module _ (t : ProgramTree) (l : ℕ) (loop : LoopOf t l) (g : Head) (inside : St
       → is_none (shape_of loop.head.variable g.first) ≡ false → is_none (shape_of loop.head.variable g.last) ≡ false → increment (setting_of t).constants loop.head ≡ pos 1 → increment (setting_of t).constants g ≡ pos 1
       → (interval_of (setting_round (setting_of t).constants t l) (around_with (setting_round (setting_of t).constants t l) [] (nest_round t l)) (new_outer loop.head g).first ≡ None → ⊥)
       → (interval_of (setting_round (setting_of t).constants t l) (around_with (setting_round (setting_of t).constants t l) [] (nest_round t l)) (new_outer loop.head g).last ≡ None → ⊥)
-      → is_among loop.head.variable (indices_of (nest_round t l)) ≡ false → is_among g.variable (indices_of (nest_round t l)) ≡ false
-      → ((edges : List Edge) → AreEdges t edges → (e : Edge) → IsIn e edges → is_carried_by t l loop.body e ≡ true → has_after (length (nest_round t l) + 1) e ≡ false) → AreSwapped t (interchanged t l) l loop g (new_outer loop.head g) (new_inner loop.head g) inside only
-  shaped_swap valid new_valid kinds differ serial inner_serial private inner_private contained plain_first plain_last plain_inner_first plain_inner_last some_first some_last step inner_step near_first near_last apart inner_apart uncrossed = record {
+      → is_among loop.head.variable (indices_of (nest_round t l)) ≡ false → is_among g.variable (indices_of (nest_round t l)) ≡ false → AreSwapped t (interchanged t l) l loop g (new_outer loop.head g) (new_inner loop.head g) inside only
+  shaped_swap valid new_valid kinds differ serial inner_serial private inner_private contained plain_first plain_last plain_inner_first plain_inner_last some_first some_last step inner_step near_first near_last apart inner_apart = record {
     valid = valid;
     new_valid = new_valid;
     new = interchanged_is t l loop g inside only;
@@ -53,5 +47,4 @@ module _ (t : ProgramTree) (l : ℕ) (loop : LoopOf t l) (g : Head) (inside : St
     contained = contained;
     trips = λ data_bytes scope front behind s executed goes.
         shaped_trips t valid l loop g inside only serial private inner_serial inner_private plain_first plain_last plain_inner_first plain_inner_last some_first some_last step inner_step near_first near_last apart inner_apart data_bytes scope front behind s executed goes;
-    uncrossed = uncrossed;
   }

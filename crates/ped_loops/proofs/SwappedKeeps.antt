@@ -24,15 +24,18 @@ use Rattle.ped_rules.specs.ped_steps.specs.Runs.Meaning.{Keeps}
 use Rattle.ped_rules.specs.ped_steps.specs.Runs.Renumbering.{renumbered}
 use Rattle.ped_rules.specs.ped_loop_runs.specs.Executions.{IsExecuted}
 use Rattle.ped_rules.specs.ped_loop_runs.specs.Pasting.{DoInstead, StandInstead}
-use Rattle.ped_rules.specs.ped_loop_runs.specs.Meaning.{RaceFreeInstead, IsExchange}
+use Rattle.ped_rules.specs.ped_loop_runs.specs.Meaning.{RaceFreeInstead, KeepsOn, IsExchange}
 use Rattle.ped_rules.specs.ped_loop_runs.specs.Statements.{GivesWay}
-use Rattle.ped_rules.specs.ped_loop_runs.proofs.PastingLaws.KeptMeaning.{apart_suit, exchange_keeps}
+use Rattle.ped_rules.specs.ped_loop_runs.proofs.PastingLaws.KeptMeaning.{apart_suit, keeps_always, exchange_keeps_on}
 use Rattle.ped_rules.specs.ped_loop_runs.proofs.PastingLaws.OneStatement.{gives_way}
 use Rattle.ped_rules.specs.ped_loop_runs.proofs.LoopLaws.OneForOneStands.{run_alone}
 use Rattle.ped_rules.specs.ped_weaves.specs.Apart.{agreed}
 use Rattle.ped_rules.specs.OnlyLoops.{change_only, only_loop}
 use Rattle.ped_rules.specs.ped_store.specs.Cells.{Cell}
 use Rattle.ped_rules.proofs.NestLaws.OnlyBodies.{pair, only_changed, only_tells, only_counted}
+use Rattle.ped_rules.specs.ped_graph.specs.Dependences.{AreEdges}
+use Rattle.ped_edges.specs.Edges.{Edge}
+use Rattle.ped_rules.proofs.NestLaws.WovenConflicts.{NoneCrossesOn}
 use Rattle.ped_rules.proofs.NestLaws.WovenLoops.{AreSwapped}
 use Rattle.ped_rules.proofs.NestLaws.WovenStands.{stands_apart, stands_swapped, does_swapped}
 use Rattle.ped_rules.proofs.NestLaws.WovenAccesses.{free_swapped}
@@ -114,7 +117,10 @@ module _ (making : MakingLaw) (sequence : SequenceLaw) (t u : ProgramTree) (l : 
   as_many : statements_count new ≡ statements_count old
   as_many = let one = only_counted g inside loop.body only in let two = only_counted k inside its_body (only_changed g inside k loop.body only) in omega (arith, one, two)
 
-  module _ (data_bytes : List ℕ) (free : IsRaceFree t data_bytes) where
+  same_saved : flat_map saved_in u.decls ≡ flat_map saved_in t.decls
+  same_saved = ap (λ (ds : List DeclTree). flat_map saved_in ds) decls
+
+  module _ (data_bytes : List ℕ) (uncrossed : (edges : List Edge) → AreEdges t edges → NoneCrossesOn t edges data_bytes l loop.body) (free : IsRaceFree t data_bytes) where
     module _ (scope : Scope) (front behind : List Act) (s : Store) (executed : IsExecuted p t (start data_bytes) l count scope front (run_all p old l scope s).acts behind s) (goes : finish_of (run_all p old l scope s).ending ≡ goes_on) where
       executed_alone : IsExecuted p t (start data_bytes) l count scope front (run p (Do loop.head loop.body) l scope s).acts behind s
       executed_alone = subst (λ (r : Run). IsExecuted p t (start data_bytes) l count scope front r.acts behind s) (run_alone p (Do loop.head loop.body) l scope s) executed
@@ -128,18 +134,18 @@ module _ (making : MakingLaw) (sequence : SequenceLaw) (t u : ProgramTree) (l : 
       replayed : Replays (run_all p new l scope) (fresh scope s) goes_on
       replayed =
           subst (λ (f : Store → Run). Replays f (fresh scope s) goes_on) (sym (λ i v. run_alone p new_loop l scope v i))
-          (subst (λ (acts : List Act). Replays (run p new_loop l scope) acts goes_on) (sym new_acts) (does_swapped making sequence t u l loop g h k inside only x data_bytes free.0 scope front behind s executed_alone goes_alone))
+          (subst (λ (acts : List Act). Replays (run p new_loop l scope) acts goes_on) (sym new_acts) (does_swapped making sequence t u l loop g h k inside only x data_bytes uncrossed free.0 scope front behind s executed_alone goes_alone))
 
       stood : StandsFor (record { agreed = agreed apart (shown_at_end t) ((run_all p old l scope s).acts ++ behind); old = (run_all p old l scope s).acts; new = fresh scope s }) (agreed apart (shown_at_end t) behind) s
       stood =
           subst (λ (r : Run). StandsFor (record { agreed = agreed apart (shown_at_end t) (r.acts ++ behind); old = r.acts; new = fresh scope s }) (agreed apart (shown_at_end t) behind) s) (sym (run_alone p (Do loop.head loop.body) l scope s))
           (subst (λ (acts : List Act). StandsFor (record { agreed = agreed apart (shown_at_end t) ((run p (Do loop.head loop.body) l scope s).acts ++ behind); old = (run p (Do loop.head loop.body) l scope s).acts; new = acts }) (agreed apart (shown_at_end t) behind) s) (sym new_acts)
-          (stands_swapped making sequence t u l loop g h k inside only x data_bytes free.0 scope front behind s executed_alone goes_alone))
+          (stands_swapped making sequence t u l loop g h k inside only x data_bytes uncrossed free.0 scope front behind s executed_alone goes_alone))
 
       unraced : AreRaceFree t l scope (run_all p old l scope s).acts (fresh scope s)
       unraced =
           subst (λ (r : Run). AreRaceFree t l scope r.acts (fresh scope s)) (sym (run_alone p (Do loop.head loop.body) l scope s))
-          (subst (AreRaceFree t l scope (run p (Do loop.head loop.body) l scope s).acts) (sym new_acts) (free_swapped making sequence t u l loop g h k inside only x data_bytes free.0 scope front behind s executed_alone goes_alone))
+          (subst (AreRaceFree t l scope (run p (Do loop.head loop.body) l scope s).acts) (sym new_acts) (free_swapped making sequence t u l loop g h k inside only x data_bytes uncrossed free.0 scope front behind s executed_alone goes_alone))
 
     do_instead : DoInstead p q t (start data_bytes) first count (run_all p old first) new fresh
     do_instead =
@@ -152,31 +158,34 @@ module _ (making : MakingLaw) (sequence : SequenceLaw) (t u : ProgramTree) (l : 
     races : RaceFreeInstead p t (start data_bytes) l count (run_all p old l) fresh (run_all q u.body 1 [])
     races parts olds_are news_are exchanged unraced_before = exchanged_races t u x.valid x.new_valid l old (omega arith) fresh data_bytes unraced parts olds_are exchanged news_are unraced_before
 
-  swapped : IsExchange way.gap old new t u
-  swapped = record {
-    saved = ap (λ (ds : List DeclTree). flat_map saved_in ds) decls;
-    kinds = λ y k. x.kinds y;
-    counted = λ n. n;
-    told = λ n. n;
-    back = record { back = λ n. refl };
-    pasted = record {
-      old_body = way.old;
-      new_body = ap (λ (v : ProgramTree). v.body) x.new ∙ way.new;
-      bounds = λ y k. ap (λ (r : Setting). r.bounds y) (sym setting);
-      constants = ap (λ (r : Setting). r.constants) (sym setting);
-      one_each = λ m n e. e;
-      numbers = record { before = λ k less. refl; behind = λ k less. ap (λ (n : ℕ). first + n + k) as_many };
-      some = way.some;
-      unstopped = (λ i. loop_stops t l loop (fitting_stops t x.valid.fits) i || false);
-      indices = λ k. indices;
-    };
-    agreed = λ data_bytes. agreed apart (shown_at_end t);
-    suit = λ data_bytes. apart_suit apart (shown_at_end t);
-    fresh = λ data_bytes. fresh;
-    instead = do_instead;
-    stand = stand_instead;
-    free = λ data_bytes free. subst (λ (k : ℕ). RaceFreeInstead p t (start data_bytes) k count (run_all p old k) fresh (run_all q u.body 1 [])) (sym way.number) (races data_bytes free);
-  }
+    swapped : IsExchange way.gap old new t u data_bytes
+    swapped = record {
+      saved = same_saved;
+      kinds = λ y k. x.kinds y;
+      counted = λ n. n;
+      told = λ n. n;
+      back = record { back = λ n. refl };
+      pasted = record {
+        old_body = way.old;
+        new_body = ap (λ (v : ProgramTree). v.body) x.new ∙ way.new;
+        bounds = λ y k. ap (λ (r : Setting). r.bounds y) (sym setting);
+        constants = ap (λ (r : Setting). r.constants) (sym setting);
+        one_each = λ m n e. e;
+        numbers = record { before = λ k less. refl; behind = λ k less. ap (λ (n : ℕ). first + n + k) as_many };
+        some = way.some;
+        unstopped = (λ i. loop_stops t l loop (fitting_stops t x.valid.fits) i || false);
+        indices = λ k. indices;
+      };
+      agreed = agreed apart (shown_at_end t);
+      suit = apart_suit apart (shown_at_end t);
+      fresh = fresh;
+      instead = do_instead;
+      stand = stand_instead;
+      free = subst (λ (k : ℕ). RaceFreeInstead p t (start data_bytes) k count (run_all p old k) fresh (run_all q u.body 1 [])) (sym way.number) races;
+    }
 
-  pub swapped_keeps : Keeps t u
-  swapped_keeps = exchange_keeps way.gap old new t u swapped
+    pub swapped_keeps_on : KeepsOn t u data_bytes
+    swapped_keeps_on = exchange_keeps_on way.gap old new t u data_bytes free swapped
+
+  pub swapped_keeps : ((data_bytes : List ℕ) (edges : List Edge) → AreEdges t edges → NoneCrossesOn t edges data_bytes l loop.body) → Keeps t u
+  swapped_keeps uncrossed = keeps_always t u same_saved (λ data_bytes. swapped_keeps_on data_bytes (uncrossed data_bytes))

@@ -1,21 +1,27 @@
--- Where no dependence forbids `interchange`, none that the outer DO carries has its sink in an earlier iteration of the inner one, as none is rejected.
-use Rattle.std.proofs.Common.{◌≡◌, ℕ, ◌+◌, List, length, All, Bool, true, false, ◌&&◌, not, sym, ◌∙◌}
+-- Where no dependence forbids `interchange`, none that the outer DO carries has its sink in an earlier iteration of the inner one, but for rejected ones.
+use Rattle.std.proofs.Common.{◌≡◌, ℕ, ◌+◌, List, length, All, Bool, true, false, ◌&&◌, not, refl, sym, ◌∙◌}
+use Rattle.std.proofs.lemmas.Bool.{both_ways}
 use Rattle.ped_tree.specs.Tree.{ProgramTree}
-use Rattle.ped_rules.specs.ped_laws.specs.Acts.Orders.{IsIn}
 use Rattle.ped_rules.specs.ped_graph.specs.Dependences.{AreEdges}
-use Rattle.ped_edges.specs.Edges.{Edge, is_rejected}
+use Rattle.ped_edges.specs.Edges.{Mark, proven, pending, rejected, Edge, is_rejected}
 use Rattle.ped_rules.specs.ped_flow.specs.PlainBounds.{nest_round}
 use Rattle.ped_rules.specs.ped_flow.specs.Questions.{LoopOf}
-use Rattle.ped_rules.specs.ped_loop_runs.specs.Unrejected.{some_rejection}
+use Rattle.ped_rules.specs.ped_loop_runs.specs.TrueRejections.{IsTrueOn}
 use Rattle.ped_rules.specs.Carried.{level_at, is_carried_by, has_after, crossing}
-use Rattle.ped_rules.specs.ped_loop_runs.specs.Carried as runs
-use Rattle.ped_rules.proofs.HeadLaws.ParallelLawful.{UnrejectedLaw, each_of, same_carried, not_rejected}
+use Rattle.ped_rules.proofs.HeadLaws.ParallelLawful.{each_of, same_carried}
+use Rattle.ped_rules.proofs.NestLaws.WovenConflicts.{NoneCrossesOn, some_after}
 
-third_false : (a b c : Bool) → (a && not b) && c ≡ false → a ≡ true → b ≡ false → c ≡ false
-third_false true false c h e f = h
-third_false true true c h e f = absurd cc
-third_false false b c h e f = absurd cc
-
-pub uncrossed_pairs : UnrejectedLaw → (t : ProgramTree) (s : ℕ) (loop : LoopOf t s) (edges : List Edge) → some_rejection t.body ≡ false → AreEdges t edges → All (λ e. crossing t s e ≡ false) edges → (e : Edge) → IsIn e edges → runs.is_carried_by t s loop.body e ≡ true → has_after (length (nest_round t s) + 1) e ≡ false
-uncrossed_pairs law t s loop edges plain are none e i there =
-    third_false (is_carried_by t s e) (is_rejected e.mark) (has_after (level_at t s) e) (each_of (λ (z : Edge). crossing t s z ≡ false) edges e none i) (sym (same_carried t s loop e) ∙ there) (not_rejected e.mark (law t edges plain are e i))
+-- so none occurs on data on which no rejected one does
+pub none_crosses : (t : ProgramTree) (s : ℕ) (loop : LoopOf t s) (data_bytes : List ℕ) → IsTrueOn t data_bytes → (edges : List Edge) → AreEdges t edges → All (λ e. crossing t s e ≡ false) edges → NoneCrossesOn t edges data_bytes s loop.body
+none_crosses t s loop data_bytes true_on edges are none a b come meets share c there after =
+    true_on edges are a b come meets c
+    (marked c.edge.mark (is_carried_by t s c.edge) (has_after (level_at t s) c.edge) (sym (same_carried t s loop c.edge) ∙ there) (some_after (level_at t s) c.vector c.edge.vectors c.contains after) (each_of (λ (z : Edge). crossing t s z ≡ false) edges c.edge none c.listed))
+  where
+    marked : (m : Mark) (p q : Bool) → p ≡ true → q ≡ true → (p && not (is_rejected m)) && q ≡ false → m ≡ rejected
+    marked rejected p q e f h = refl
+    marked proven true true e f h = absurd (both_ways true h refl)
+    marked pending true true e f h = absurd (both_ways true h refl)
+    marked proven false q e f h = absurd (both_ways false refl e)
+    marked pending false q e f h = absurd (both_ways false refl e)
+    marked proven true false e f h = absurd (both_ways false refl f)
+    marked pending true false e f h = absurd (both_ways false refl f)

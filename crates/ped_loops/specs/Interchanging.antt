@@ -8,7 +8,7 @@ use Rattle.ped_rules.specs.KeepMaps.{all_but}
 use Rattle.ped_rules.specs.OnlyLoops.{only_loop, inner, either, on_loop, change_only}
 use Rattle.ped_rules.specs.Rules.{WhereNoLoop, isnt_perfect, is_parallel, has_private, WhereEscape, WhereUnplain, is_one, has_other_step, leaves, setting_at, heads_round, WhereLimit}
 use Rattle.ped_rules.specs.Spans.{Values}
-use Rattle.ped_rules.specs.Steps.{transformation, StepAt}
+use Rattle.ped_rules.specs.Steps.{transformation, StepAt, asks_no_more}
 use Rattle.ped_rules.specs.ped_flow.specs.Questions.{LoopOf}
 use Rattle.ped_rules.specs.ped_symbols.specs.Kinds.{table_of}
 use Rattle.ped_rules.specs.ped_steps.specs.declared.rules.Rule.TheVariants.{NoLoop, NotPerfect, ParallelState, HasPrivate, IndexEscapes, BoundNotPlain, BoundsShape, StepShape, Range, Limit}
@@ -76,4 +76,5 @@ interchanging s = record {
   kind = transformation;
   IsCause = λ t. IsFirstCause t (StandsAgainstInterchange s t) (crossing t s);
   Makes = MakesInterchanged s;
+  IsTrueFor = asks_no_more;
 }

@@ -7,7 +7,7 @@ use Rattle.ped_rules.specs.Carried.{is_carried_by}
 use Rattle.ped_rules.specs.Chains.{no_rules, also}
 use Rattle.ped_rules.specs.OnlyLoops.{on_loop}
 use Rattle.ped_rules.specs.Rules.{WhereNoLoop}
-use Rattle.ped_rules.specs.Steps.{rejection, StepAt}
+use Rattle.ped_rules.specs.Steps.{rejection, StepAt, asks_no_more}
 use Rattle.ped_rules.specs.ped_graph.specs.Dependences.{AreEdges}
 use Rattle.ped_edges.specs.Edges.{Mark, proven, pending, rejected, Edge}
 use Rattle.ped_rules.specs.ped_flow.specs.Questions.{LoopOf}
@@ -62,4 +62,5 @@ rejecting s x = record {
   kind = rejection;
   IsCause = λ t. IsFirstCause t (StandsAgainstRejection s x t) none_forbids;
   Makes = MakesRejection s x;
+  IsTrueFor = asks_no_more;
 }

@@ -7,7 +7,7 @@ use Rattle.ped_rules.specs.Chains.{no_rules, also, WhereLoop}
 use Rattle.ped_rules.specs.OnlyLoops.{on_loop}
 use Rattle.ped_rules.specs.Rules.{WhereNoLoop, is_parallel, WhereEscape, is_unit, has_other_step, WhereLimit}
 use Rattle.ped_rules.specs.Spans.{Values}
-use Rattle.ped_rules.specs.Steps.{transformation, StepAt}
+use Rattle.ped_rules.specs.Steps.{transformation, StepAt, asks_no_more}
 use Rattle.ped_rules.specs.ped_eval.specs.Loops.{increment}
 use Rattle.ped_rules.specs.ped_symbols.specs.Kinds.{table_of}
 use Rattle.ped_rules.specs.ped_steps.specs.declared.rules.Rule.TheVariants.{NoLoop, ParallelState, IndexEscapes, StepShape, Limit}
@@ -46,4 +46,5 @@ reversing s = record {
   kind = transformation;
   IsCause = λ t. IsFirstCause t (StandsAgainstReversal s t) (carried t s);
   Makes = MakesReversed s;
+  IsTrueFor = asks_no_more;
 }

@@ -3,7 +3,7 @@ use Rattle.std.specs.Prelude.{◌≡◌, ℕ, List, false}
 use Rattle.ped_tree.specs.Tree.{ProgramTree}
 use Rattle.ped_rules.specs.Chains.{no_rules, also, WhereLoop}
 use Rattle.ped_rules.specs.Rules.{WhereNoLoop, is_serial, WhereEscape, WhereLimit}
-use Rattle.ped_rules.specs.Steps.{transformation, StepAt}
+use Rattle.ped_rules.specs.Steps.{transformation, StepAt, asks_no_more}
 use Rattle.ped_rules.specs.ped_steps.specs.declared.rules.Rule.TheVariants.{NoLoop, ParallelState, IndexEscapes, Limit}
 use Rattle.ped_rules.specs.ped_steps.specs.Causes.{Rules, IsFirstCause, none_forbids}
 use Rattle.ped_rules.specs.ped_steps.specs.Replacing.{all_kept}
@@ -28,4 +28,5 @@ serialising s = record {
   kind = transformation;
   IsCause = λ t. IsFirstCause t (StandsAgainstSerial s t) none_forbids;
   Makes = MakesSerial s;
+  IsTrueFor = asks_no_more;
 }

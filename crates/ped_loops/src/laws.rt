@@ -14,7 +14,7 @@ use ped_rules::{
 
 /// `serial` has one first cause at most and makes one program. Where nothing forbids it, that one is valid if the old
 /// one is; and if the old one is also tidy and without C$PED REJECT, so is the new one, and it means the same
-/// (ParaScope).
+/// (ParaScope). With such lines it does on data on which they are true, if both are tidy.
 pub fn serial_is_lawful()
     ensures { (s : ℕ) → IsLawful (serialising s) }
 {
@@ -31,7 +31,7 @@ pub fn rejection_is_lawful()
 
 /// `reverse` has one first cause at most and makes one program. Where nothing forbids it, that one is valid if the old one
 /// is; and if the old one is also tidy and without C$PED REJECT, so is the new one, and it means the same (Allen and
-/// Kennedy, sections 2.2.3, 5.2).
+/// Kennedy, sections 2.2.3, 5.2). With such lines it does on data on which they are true, if both are tidy.
 pub fn reversal_is_lawful()
     ensures { (s : ℕ) → IsLawful (reversing s) }
 {
@@ -42,7 +42,8 @@ pub fn reversal_is_lawful()
 }
 
 /// `interchange` has one first cause at most and makes one program; where nothing forbids it, that one is valid, has no
-/// C$PED REJECT and is tidy if the old one is so, and means the same (Allen and Kennedy, section 5.2).
+/// C$PED REJECT and is tidy if the old one is so, and means the same (Allen and Kennedy, section 5.2). With such lines it
+/// does on data on which they are true, if both are tidy.
 pub fn interchange_is_lawful()
     ensures { (s : ℕ) → IsLawful (interchanging s) }
 {

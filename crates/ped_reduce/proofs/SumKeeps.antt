@@ -34,7 +34,7 @@ use Rattle.ped_rules.specs.ped_laws.specs.Acts.Sets.{wants}
 use Rattle.ped_rules.specs.ped_laws.specs.Runs.Replaying.{goes_on, finish_of, Replays}
 use Rattle.ped_rules.specs.ped_laws.specs.Runs.Showing.{shown_at_end}
 use Rattle.ped_rules.specs.ped_eval.specs.Loops.{increment, iteration_count}
-use Rattle.ped_rules.specs.ped_eval.specs.Outcomes.{bounds_of, setting_of, run_of, live_names}
+use Rattle.ped_rules.specs.ped_eval.specs.Outcomes.{bounds_of, setting_of, run_of, live_names, IsRaceFree}
 use Rattle.ped_rules.specs.ped_eval.specs.Runs.{Run, then_run, run_all}
 use Rattle.ped_rules.specs.ped_eval.specs.Scopes.{Setting, Scope, turns_of}
 use Rattle.ped_rules.specs.ped_laws.proofs.ActLaws.Lists.{in_left, in_right, first_in, second_in}
@@ -391,9 +391,12 @@ module _ (t u : ProgramTree) (s : ℕ) (loop : LoopOf t s) (ps : List Partials) 
   counts_alike : CountAlike o q (number_at way.gap 1) (statements_count old) (statements_count new) all
   counts_alike = subst (λ (l : ℕ). CountAlike o q l (statements_count old) (statements_count new) all) (sym way.number) (count_alike s (statements_count old) (statements_count new) all inside fits_in t u)
 
-  exchange : IsExchange way.gap old new t u
-  exchange = record {
-    saved = x.saved;
+  same_saved : flat_map saved_in u.decls ≡ flat_map saved_in t.decls
+  same_saved = x.saved
+
+  exchange : (data_bytes : List ℕ) → IsRaceFree t data_bytes → IsExchange way.gap old new t u data_bytes
+  exchange data_bytes free = record {
+    saved = same_saved;
     kinds = λ y k. x.kinds y (live_apart y k);
     counted = counted;
     told = told_by pairs;
@@ -409,12 +412,12 @@ module _ (t u : ProgramTree) (s : ℕ) (loop : LoopOf t s) (ps : List Partials) 
       unstopped = (λ i. loop_stops t s loop (fitting_stops t x.valid.fits) i || false);
       indices = λ k. absurd (both_ways (is_in_parallel t (number_at way.gap 1)) (ap (is_in_parallel t) way.number ∙ x.round) k);
     };
-    agreed = λ data_bytes. agreed_but ps (shown_at_end t);
-    suit = λ data_bytes. apart_suit (is_part ps) (shown_at_end t);
-    fresh = λ data_bytes. fresh;
-    instead = λ data_bytes free. do_instead data_bytes;
-    stand = λ data_bytes free. stand_instead data_bytes;
-    free = λ data_bytes free. subst (λ (k : ℕ). RaceFreeInstead o t (start data_bytes) k (statements_count (alone (Do loop.head loop.body))) (run_all o old k) fresh (run_all q u.body 1 [])) (sym way.number) (races data_bytes);
+    agreed = agreed_but ps (shown_at_end t);
+    suit = apart_suit (is_part ps) (shown_at_end t);
+    fresh = fresh;
+    instead = do_instead data_bytes;
+    stand = stand_instead data_bytes;
+    free = subst (λ (k : ℕ). RaceFreeInstead o t (start data_bytes) k (statements_count (alone (Do loop.head loop.body))) (run_all o old k) fresh (run_all q u.body 1 [])) (sym way.number) (races data_bytes);
   }
     where
       live_apart : (y : List ℕ) → is_among y (live_names t) ≡ true → is_array ps y ≡ false
@@ -425,4 +428,4 @@ module _ (t u : ProgramTree) (s : ℕ) (loop : LoopOf t s) (ps : List Partials) 
           go false e = e
 
   pub kept_apart_keeps : Keeps t u
-  kept_apart_keeps = exchange_keeps way.gap old new t u exchange
+  kept_apart_keeps = exchange_keeps way.gap old new t u same_saved exchange

@@ -19,7 +19,7 @@ use Rattle.ped_rules.specs.Carried.{carried}
 use Rattle.ped_rules.specs.Chains.{no_rules, also, WhereLoop}
 use Rattle.ped_rules.specs.OnlyLoops.{on_loop}
 use Rattle.ped_rules.specs.Rules.{WhereNoLoop, WhereEscape, WhereLimit, isnt_constant}
-use Rattle.ped_rules.specs.Steps.{transformation, StepAt}
+use Rattle.ped_rules.specs.Steps.{transformation, StepAt, asks_no_more}
 use Rattle.ped_rules.specs.Scalars.{is_scalar, is_referred}
 use Rattle.ped_rules.specs.Scalars.{is_in_parallel}
 use Rattle.ped_rules.specs.Scalars.{has_far_value, is_private_near}
@@ -152,4 +152,5 @@ reducing s names = record {
   kind = transformation;
   IsCause = λ t. IsFirstCause t (StandsAgainstReducing s names t) (carried_beside t s names);
   Makes = MakesReduction s names;
+  IsTrueFor = asks_no_more;
 }

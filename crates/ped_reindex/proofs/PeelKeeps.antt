@@ -59,11 +59,12 @@ use Rattle.ped_rules.specs.Settling.{behind_comments, settled}
 use Rattle.ped_tree.specs.Constants.ConstantExpressions.{constant_value}
 use Rattle.ped_tree.specs.Constants.NamedConstants.{value_named}
 use Rattle.ped_tree.specs.Grammar.Fits.{at_body, begins_with_statement, decls_fit, stmts_fit}
-use Rattle.ped_tree.specs.NamesIn.{all_loop_variables, loop_variables}
+use Rattle.ped_tree.specs.NamesIn.{all_loop_variables, loop_variables, saved_in}
 use Rattle.ped_tree.specs.Numbering.{statement_count, statements_count}
 use Rattle.ped_tree.specs.Tree.{Assign, Comment, Do, Head, If, Print, ProgramTree, Read, StmtTree, StmtTrees, Stop, more_stmts, no_stmts}
 use Rattle.std.proofs.Common.{Bool, IsTrue, List, None, Option, Some, [], ap, append-nil, arith, false, pos, refl, subst, sym, true, ℕ, ℤ, ◌&&◌, ◌++◌, ◌+◌, ◌<◌, ◌||◌, ◌∙◌, ◌≡◌, ◌≤◌, ◌⊎◌}
 use Rattle.std.proofs.lemmas.Bool.{and_parts}
+use Rattle.std.specs.List.{flat_map}
 use Rattle.std.specs.Str.Lines.{lines}
 
 -- increments in a valid program are constants with values
@@ -266,9 +267,12 @@ module _ (t : ProgramTree) (valid : IsValid t) (s : ℕ) (loop : LoopOf t s) (la
   indices : (y : List ℕ) → is_among y (all_loop_variables new) ≡ is_among y (all_loop_variables old)
   indices y = ap (is_among y) (settled_variables way.gap plain_new) ∙ same_variables t valid s loop last p y ∙ sym (ap (is_among y) (append-nil (loop_variables (Do d body))))
 
-  exchange : IsExchange way.gap old new t u
-  exchange = record {
-    saved = settled_saved raw;
+  same_saved : flat_map saved_in u.decls ≡ flat_map saved_in t.decls
+  same_saved = settled_saved raw
+
+  exchange : (data_bytes : List ℕ) → IsRaceFree t data_bytes → IsExchange way.gap old new t u data_bytes
+  exchange data_bytes free = record {
+    saved = same_saved;
     kinds = λ y k. kinds y;
     counted = counted;
     told = told_by (its_numbers last s sized all);
@@ -284,13 +288,13 @@ module _ (t : ProgramTree) (valid : IsValid t) (s : ℕ) (loop : LoopOf t s) (la
       unstopped = (λ i. loop_stops t s loop (fitting_stops t valid.fits) i || false);
       indices = λ k. indices;
     };
-    agreed = λ data_bytes. wants (shown_at_end t);
-    suit = λ data_bytes. wanted_suit (shown_at_end t);
-    fresh = λ data_bytes. fresh;
-    instead = do_instead;
-    stand = stand_instead;
-    free = λ data_bytes free. subst (λ (k : ℕ). RaceFreeInstead o t (start data_bytes) k count (run_all o old k) fresh (run_all (renumbered counted (setting_of u)) u.body 1 [])) (sym way.number) (races data_bytes free);
+    agreed = wants (shown_at_end t);
+    suit = wanted_suit (shown_at_end t);
+    fresh = fresh;
+    instead = do_instead data_bytes free;
+    stand = stand_instead data_bytes free;
+    free = subst (λ (k : ℕ). RaceFreeInstead o t (start data_bytes) k count (run_all o old k) fresh (run_all (renumbered counted (setting_of u)) u.body 1 [])) (sym way.number) (races data_bytes free);
   }
 
   pub peeled_keeps : Keeps t (peeled t s last p)
-  peeled_keeps = subst (Keeps t) (sym (peeled_is t valid s loop last p)) (exchange_keeps way.gap old new t u exchange)
+  peeled_keeps = subst (Keeps t) (sym (peeled_is t valid s loop last p)) (exchange_keeps way.gap old new t u same_saved exchange)

@@ -21,6 +21,8 @@ use Rattle.ped_rules.specs.ped_steps.proofs.RunLaws.ExpandedPlacesParts.{part_at
 use Rattle.ped_rules.specs.ped_steps.proofs.RunLaws.SubstitutedShapes.{counts_kept, indices_kept}
 use Rattle.ped_rules.specs.ped_loop_runs.specs.Unrejected.{IsTrusted}
 use Rattle.ped_rules.specs.ped_loop_runs.specs.Writing.{writes_left}
+use Rattle.ped_rules.specs.ped_steps.specs.Runs.Meaning.{Keeps}
+use Rattle.ped_rules.proofs.KeptOnData.{owes_by_tidiness}
 use Rattle.ped_rules.specs.Lawful.{IsFaithful, IsLawful}
 use Rattle.ped_rules.specs.OnlyLoops.{of_loop, only_loop, on_loop, change_only}
 use Rattle.ped_rules.specs.Rules.{is_parallel}
@@ -117,12 +119,15 @@ module _ (s : ℕ) (f : ℤ) (t : ProgramTree) (valid : IsValid t) (none : NoRul
       go true = refl
       go false = refl
 
+  pub skew_keeps : Keeps t (skewed t s f)
+  skew_keeps = inner_keeps t (skewed t s f) s loop g h it.inside others other_body change
+
   pub skew_faithful : TrustedLaw → ClearedLaw → IsTrusted t → IsFaithful t (skewed t s f)
   skew_faithful law cleared trusted = record {
     trusted = subst IsTrusted (sym made)
         (stays_trusted_skew t valid s loop (rules.is_contained s f t none) g h it.inside other_body by it.only new_only refl refl refl serial.0 serial.1 serial.1
         (same_loops (setting_of t) g h it.inside others refl refl refl loops nothing loop.body other_body it.only new_only) right no_left law cleared trusted);
-    keeps = inner_keeps t (skewed t s f) s loop g h it.inside others other_body change;
+    keeps = skew_keeps;
   }
 
 module _ (law : TrustedLaw) (cleared : ClearedLaw) (s : ℕ) (f : ℤ) where
@@ -133,4 +138,5 @@ module _ (law : TrustedLaw) (cleared : ClearedLaw) (s : ℕ) (f : ℤ) where
     one_to_one = λ t new keep p. subst IsOneToOne (sym p.1) (all_one_to_one t);
     some_made = (determined_skew s f).some_made;
     keeps = λ t new keep valid none p trusted. subst (IsFaithful t) (sym p.0) (skew_faithful s f t valid none.0 law cleared trusted);
+    keeps_on = λ t new keep data_bytes valid none p. owes_by_tidiness (skewing s f) t new data_bytes (λ tidy. subst (Keeps t) (sym p.0) (skew_keeps s f t valid none.0));
   }

@@ -191,9 +191,12 @@ module _ (t u : ProgramTree) (l : ℕ) (loop : LoopOf t l) (g h : Head) (inside 
         (race_before (subst (AreKept idle olds) news_are (subst (λ (acts : List Act). AreKept idle acts (new_parts parts)) olds_are (parts_kept [] parts [] (start data_bytes) exchanged))))
         (subst (λ (acts : List Act). HasNoRace (accesses acts)) olds_are none))
 
-  inner_change : IsExchange way.gap old new t u
-  inner_change = record {
-    saved = ap (λ (ds : List DeclTree). flat_map saved_in ds) decls;
+  same_saved : flat_map saved_in u.decls ≡ flat_map saved_in t.decls
+  same_saved = ap (λ (ds : List DeclTree). flat_map saved_in ds) decls
+
+  inner_change : (data_bytes : List ℕ) → IsRaceFree t data_bytes → IsExchange way.gap old new t u data_bytes
+  inner_change data_bytes free = record {
+    saved = same_saved;
     kinds = λ y k. x.kinds y;
     counted = λ n. n;
     told = λ n. n;
@@ -209,13 +212,13 @@ module _ (t u : ProgramTree) (l : ℕ) (loop : LoopOf t l) (g h : Head) (inside 
       unstopped = (λ i. loop_stops t l loop (fitting_stops t x.valid.fits) i || false);
       indices = λ k. indices;
     };
-    agreed = λ data_bytes. wants (shown_at_end t);
-    suit = λ data_bytes. wanted_suit (shown_at_end t);
-    fresh = λ data_bytes. fresh;
-    instead = do_instead;
-    stand = stand_instead;
-    free = λ data_bytes free. subst (λ (k : ℕ). RaceFreeInstead p t (start data_bytes) k count (run_all p old k) fresh (run_all q u.body 1 [])) (sym way.number) (races data_bytes free);
+    agreed = wants (shown_at_end t);
+    suit = wanted_suit (shown_at_end t);
+    fresh = fresh;
+    instead = do_instead data_bytes free;
+    stand = stand_instead data_bytes free;
+    free = subst (λ (k : ℕ). RaceFreeInstead p t (start data_bytes) k count (run_all p old k) fresh (run_all q u.body 1 [])) (sym way.number) (races data_bytes free);
   }
 
   pub inner_keeps : Keeps t u
-  inner_keeps = exchange_keeps way.gap old new t u inner_change
+  inner_keeps = exchange_keeps way.gap old new t u same_saved inner_change

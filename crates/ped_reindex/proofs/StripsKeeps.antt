@@ -9,7 +9,7 @@ use Rattle.ped_rules.proofs.NestLaws.WovenStands.{idle_apart, stands_apart}
 use Rattle.ped_rules.specs.ped_loop_runs.proofs.LoopLaws.OneForOneCells.{cell_among}
 use Rattle.ped_rules.specs.ped_loop_runs.proofs.LoopLaws.OneForOneStands.{run_alone}
 use Rattle.ped_rules.specs.ped_loop_runs.proofs.PastingLaws.CountedNumbers.{count_alike, in_row, inside_counts, row_apart, row_in, told_back}
-use Rattle.ped_rules.specs.ped_loop_runs.proofs.PastingLaws.KeptMeaning.{apart_suit, made_keeps}
+use Rattle.ped_rules.specs.ped_loop_runs.proofs.PastingLaws.KeptMeaning.{apart_suit, keeps_always, made_keeps}
 use Rattle.ped_rules.specs.ped_loop_runs.proofs.PastingLaws.OneStatement.{gives_way}
 use Rattle.ped_rules.specs.ped_loop_runs.proofs.PastingLaws.PastedRuns.{exchanged_near}
 use Rattle.ped_rules.specs.ped_loop_runs.proofs.PastingLaws.StandingParts.{all_stand_near}
@@ -419,18 +419,21 @@ module _ (t u : ProgramTree) (l : ℕ) (loop : LoopOf t l) (K : ℕ) (w : List �
   live_kinds : (y : List ℕ) → is_among y (live_names t) ≡ true → kind_in u y ≡ kind_in t y
   live_kinds y k = x.kinds y (not_among (flat_map saved_in t.decls) w y (unsaved_name t w x.absent) (sym (sorted_among y (flat_map saved_in t.decls)) ∙ k))
 
+  same_saved : flat_map saved_in u.decls ≡ flat_map saved_in t.decls
+  same_saved = ap (λ (ds : List DeclTree). flat_map saved_in ds) decls
+
   pub strips_keep : Keeps t u
-  strips_keep = made_keeps t u (record {
-    saved = ap (λ (ds : List DeclTree). flat_map saved_in ds) decls;
+  strips_keep = keeps_always t u same_saved (λ data_bytes free. made_keeps t u data_bytes free (record {
+    saved = same_saved;
     kinds = live_kinds;
     counted = counted;
     told = told;
     back = back;
-    agreed = λ data_bytes. agreed (stands_apart (w ∷ loop_variables (Do loop.head loop.body))) (shown_at_end t);
-    suit = λ data_bytes. apart_suit (stands_apart (w ∷ loop_variables (Do loop.head loop.body))) (shown_at_end t);
-    parts = λ data_bytes free. (made data_bytes free).0;
-    old_are = λ data_bytes free. (made data_bytes free).1;
-    stand = λ data_bytes free. stand data_bytes free;
-    replays = λ data_bytes free. (made data_bytes free).3;
-    free = λ data_bytes free same. no_race data_bytes free same;
-  })
+    agreed = agreed (stands_apart (w ∷ loop_variables (Do loop.head loop.body))) (shown_at_end t);
+    suit = apart_suit (stands_apart (w ∷ loop_variables (Do loop.head loop.body))) (shown_at_end t);
+    parts = (made data_bytes free).0;
+    old_are = (made data_bytes free).1;
+    stand = stand data_bytes free;
+    replays = (made data_bytes free).3;
+    free = no_race data_bytes free;
+  }))

@@ -12,6 +12,8 @@ use Rattle.ped_rules.proofs.HeadLaws.PlainDecided.{OrNot, plain_decided}
 use Rattle.ped_rules.proofs.FreshNames.{most_is, numbered_name}
 use Rattle.ped_rules.proofs.KeptNumbers.{moved_one_to_one}
 use Rattle.ped_rules.specs.Fresh.{first_free, most_numbered, numbered_names, occurs, program_name}
+use Rattle.ped_rules.specs.ped_steps.specs.Runs.Meaning.{Keeps}
+use Rattle.ped_rules.proofs.KeptOnData.{owes_by_tidiness}
 use Rattle.ped_rules.specs.Lawful.{IsFaithful, IsLawful}
 use Rattle.ped_rules.specs.OnlyLoops.{on_loop}
 use Rattle.ped_rules.specs.Rules.{is_one, isnt_allowed}
@@ -146,16 +148,21 @@ module _ (t : ProgramTree) (valid : IsValid t) (s : ℕ) (K : ℕ) (some : 2 ≤
           go true e = absurd (both_ways (is_same_text w y) apart (ap (is_same_text w) (same_is y w e) ∙ same_itself w))
           go false e = refl
 
-  strip_faithful : TrustedLaw → ClearedLaw → IsTrusted t → IsFaithful t (stripped t s (pos K) w)
-  strip_faithful law cleared trusted = record {
-    trusted = subst IsTrusted (sym made) (stays_trusted_strips t valid s loop contained K w (new_name t w fresh) (new_absent t w fresh) serial private law cleared trusted);
-    keeps = strips_keep t (stripped t s (pos K) w) s loop K w stripping_is;
-  }
+  strip_keeps : Keeps t (stripped t s (pos K) w)
+  strip_keeps = strips_keep t (stripped t s (pos K) w) s loop K w stripping_is
+
+  strip_trusted : TrustedLaw → ClearedLaw → IsTrusted t → IsTrusted (stripped t s (pos K) w)
+  strip_trusted law cleared trusted = subst IsTrusted (sym made) (stays_trusted_strips t valid s loop contained K w (new_name t w fresh) (new_absent t w fresh) serial private law cleared trusted)
 
 -- for each size that is allowed
-faithful : (t : ProgramTree) → IsValid t → (s : ℕ) (k : ℤ) → pos 2 ≤ℤ k → k ≤ℤ pos 1000 → NoRule (StandsAgainstStripping s k t) → (w : List ℕ) → strip_variable t ≡ Some w → TrustedLaw → ClearedLaw → IsTrusted t → IsFaithful t (stripped t s k w)
-faithful t valid s (pos K) low high none w fresh = strip_faithful t valid s K (omega (arith, ints, low)) (omega (arith, ints, high)) none w fresh
-faithful t valid s (negsuc n) low high none w fresh = absurd (omega (arith, ints, low))
+module _ (t : ProgramTree) (valid : IsValid t) (s : ℕ) where
+  keeps_it : (k : ℤ) → pos 2 ≤ℤ k → k ≤ℤ pos 1000 → NoRule (StandsAgainstStripping s k t) → (w : List ℕ) → strip_variable t ≡ Some w → Keeps t (stripped t s k w)
+  keeps_it (pos K) low high none w fresh = strip_keeps t valid s K (omega (arith, ints, low)) (omega (arith, ints, high)) none w fresh
+  keeps_it (negsuc n) low high none w fresh = absurd (omega (arith, ints, low))
+
+  may_be_trusted : (k : ℤ) → pos 2 ≤ℤ k → k ≤ℤ pos 1000 → NoRule (StandsAgainstStripping s k t) → (w : List ℕ) → strip_variable t ≡ Some w → TrustedLaw → ClearedLaw → IsTrusted t → IsTrusted (stripped t s k w)
+  may_be_trusted (pos K) low high none w fresh = strip_trusted t valid s K (omega (arith, ints, low)) (omega (arith, ints, high)) none w fresh
+  may_be_trusted (negsuc n) low high none w fresh = absurd (omega (arith, ints, low))
 
 pub lawful_strip : TrustedLaw → ClearedLaw → (s : ℕ) (k : ℤ) → IsLawful (stripping s k)
 lawful_strip law cleared s k =
@@ -167,5 +174,8 @@ lawful_strip law cleared s k =
       some_made = known.some_made;
       keeps = λ t new keep valid none p trusted.
           let sizes = strip_sizes k (rules.is_good s k t none.0) in
-          subst (IsFaithful t) (sym p.2) (faithful t valid s k sizes.0 sizes.1 none.0 p.0 p.1 law cleared trusted);
+          subst (IsFaithful t) (sym p.2) (record { trusted = may_be_trusted t valid s k sizes.0 sizes.1 none.0 p.0 p.1 law cleared trusted; keeps = keeps_it t valid s k sizes.0 sizes.1 none.0 p.0 p.1 });
+      keeps_on = λ t new keep data_bytes valid none p. owes_by_tidiness (stripping s k) t new data_bytes (λ tidy.
+          let sizes = strip_sizes k (rules.is_good s k t none.0) in
+          subst (Keeps t) (sym p.2) (keeps_it t valid s k sizes.0 sizes.1 none.0 p.0 p.1));
     }

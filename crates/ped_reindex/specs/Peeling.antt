@@ -7,7 +7,7 @@ use Rattle.ped_rules.specs.KeepMaps.{moved_by}
 use Rattle.ped_rules.specs.OnlyLoops.{on_loop}
 use Rattle.ped_rules.specs.Rules.{WhereNoLoop, is_parallel, has_private, WhereEscape, isnt_constant, WhereLimit}
 use Rattle.ped_rules.specs.Spans.{Values, Span, span_of, is_far}
-use Rattle.ped_rules.specs.Steps.{transformation, StepAt}
+use Rattle.ped_rules.specs.Steps.{transformation, StepAt, asks_no_more}
 use Rattle.ped_sums.specs.Sums.{literal}
 use Rattle.ped_sums.specs.Substitution.{statements_substituted}
 use Rattle.ped_rules.specs.ped_eval.specs.Loops.{increment}
@@ -90,4 +90,5 @@ peeling s last = record {
   kind = transformation;
   IsCause = λ t. IsFirstCause t (StandsAgainstPeeling s last t) none_forbids;
   Makes = MakesPeeled s last;
+  IsTrueFor = asks_no_more;
 }

@@ -6,7 +6,7 @@ use Rattle.ped_tree.specs.Tree.{ExprTree, Var, Add, Sub, Head, StmtTree, StmtTre
 use Rattle.ped_rules.specs.Chains.{no_rules, also, WhereLoop, Unless}
 use Rattle.ped_rules.specs.OnlyLoops.{inner, either, on_loop, change_only}
 use Rattle.ped_rules.specs.Rules.{WhereNoLoop, isnt_perfect, is_parallel, WhereEscape, leaves, setting_at, heads_round, WhereLimit}
-use Rattle.ped_rules.specs.Steps.{transformation, StepAt}
+use Rattle.ped_rules.specs.Steps.{transformation, StepAt, asks_no_more}
 use Rattle.ped_sums.specs.Sums.{plus_of, minus_of, times_of}
 use Rattle.ped_sums.specs.Substitution.{statements_substituted}
 use Rattle.ped_rules.specs.ped_steps.specs.declared.rules.Rule.TheVariants.{NoLoop, NotPerfect, ParallelState, IndexEscapes, Range, Limit, BadFactor}
@@ -77,4 +77,5 @@ skewing s f = record {
   kind = transformation;
   IsCause = λ t. IsFirstCause t (StandsAgainstSkewing s f t) none_forbids;
   Makes = MakesSkewed s f;
+  IsTrueFor = asks_no_more;
 }

@@ -7,7 +7,7 @@ use Rattle.ped_rules.specs.Fresh.{fresh_name}
 use Rattle.ped_rules.specs.KeepMaps.{moved_by}
 use Rattle.ped_rules.specs.OnlyLoops.{on_loop}
 use Rattle.ped_rules.specs.Rules.{WhereNoLoop, is_parallel, has_private, WhereEscape, WhereUnplain, is_one, has_other_step, leaves, setting_at, heads_round, WhereLimit}
-use Rattle.ped_rules.specs.Steps.{transformation, StepAt}
+use Rattle.ped_rules.specs.Steps.{transformation, StepAt, asks_no_more}
 use Rattle.ped_sums.specs.Sums.{literal, plus_of}
 use Rattle.ped_rules.specs.ped_symbols.specs.Kinds.{table_of}
 use Rattle.ped_rules.specs.ped_flow.specs.Questions.{LoopOf}
@@ -84,4 +84,5 @@ stripping s k = record {
   kind = transformation;
   IsCause = λ t. IsFirstCause t (StandsAgainstStripping s k t) none_forbids;
   Makes = MakesStripped s k;
+  IsTrueFor = asks_no_more;
 }

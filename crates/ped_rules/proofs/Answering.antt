@@ -10,7 +10,7 @@ use Rattle.ped_loop_runs.specs.ped_steps.specs.declared.causes.Refused.TheVarian
 use Rattle.ped_loop_runs.specs.ped_steps.specs.declared.changes.Change.{Change}
 use Rattle.ped_loop_runs.specs.ped_steps.specs.Causes.{Rules, NoRule, IsFirstRule, IsFirstCause, none_forbids}
 use Rattle.ped_loop_runs.specs.ped_steps.specs.Changes.{IsChange}
-use Rattle.ped_rules.specs.Steps.{StepKind, StepAt, Answers}
+use Rattle.ped_rules.specs.Steps.{StepKind, StepAt, asks_no_more, Answers}
 use Rattle.ped_rules.specs.Carried.{IsFirstOf}
 
 -- a step at a statement that rules and dependences forbid
@@ -20,6 +20,7 @@ step_by kind s stands forbids Makes = record {
   kind = kind;
   IsCause = λ t. IsFirstCause t (stands t) (forbids t);
   Makes = Makes;
+  IsTrueFor = asks_no_more;
 }
 
 module _ (kind : StepKind) (s : ℕ) (stands : ProgramTree → Rules) (forbids : ProgramTree → Edge → Bool) (Makes : ProgramTree → ProgramTree → List (ℕ × ℕ) → Type 0) (t : ProgramTree) where

@@ -4,6 +4,7 @@ pub mod OneLoop
 pub mod Decided
 pub mod Answering
 pub mod KeptNumbers
+pub mod KeptOnData
 pub mod CarriedEdges
 pub mod RightSteps
 pub mod FreshNames

@@ -4,7 +4,7 @@ use Rattle.ped_tree.specs.Tree.{ProgramTree}
 use Rattle.ped_rules.specs.Carried.{carried}
 use Rattle.ped_rules.specs.Chains.{no_rules, also, WhereLoop}
 use Rattle.ped_rules.specs.Rules.{WhereNoLoop, is_parallel, WhereEscape, WhereLimit}
-use Rattle.ped_rules.specs.Steps.{transformation, StepAt}
+use Rattle.ped_rules.specs.Steps.{transformation, StepAt, asks_no_more}
 use Rattle.ped_loop_runs.specs.ped_steps.specs.declared.rules.Rule.TheVariants.{NoLoop, ParallelState, IndexEscapes, Limit}
 use Rattle.ped_loop_runs.specs.ped_steps.specs.Causes.{Rules, IsFirstCause}
 use Rattle.ped_loop_runs.specs.ped_steps.specs.Replacing.{all_kept}
@@ -29,4 +29,5 @@ paralleling s = record {
   kind = transformation;
   IsCause = λ t. IsFirstCause t (StandsAgainstParallel s t) (carried t s);
   Makes = MakesParallel s;
+  IsTrueFor = asks_no_more;
 }

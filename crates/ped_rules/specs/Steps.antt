@@ -1,5 +1,5 @@
 -- Steps of the editor: of which kind one is, what forbids it, what it makes of a program, and what its code answers (ParaScope; this project).
-use Rattle.std.specs.Prelude.{ℕ, List, Option, Some, None, Result, Ok, Err}
+use Rattle.std.specs.Prelude.{ℕ, List, Option, Some, None, Result, Ok, Err, ⊤}
 use Rattle.ped_tree.specs.Tree.{ProgramTree}
 use Rattle.ped_loop_runs.specs.ped_steps.specs.declared.causes.Refused.{Refused}
 use Rattle.ped_loop_runs.specs.ped_steps.specs.declared.changes.Change.{Change}
@@ -12,12 +12,17 @@ pub data StepKind : Type 0 where
   transformation : StepKind
   rejection : StepKind
 
--- a step at a statement: its kind; the first cause against it in a program, or that there is none; and what it makes of a program: a new one, and the statements that it keeps, each with its number before and after the step. So it may ask the dependences of another program than the old one (ParaScope; this project)
+-- a step at a statement: its kind; the first cause against it in a program, or that there is none; and what it makes of a program: a new one, and the statements that it keeps, each with its number before and after the step. So it may ask the dependences of another program than the old one; and of data it may ask more than that no rejected dependence of the old one occurs there: that none does of those that it asks (ParaScope; this project)
 pub record StepAt : Type 1 where
   pub statement : ℕ
   pub kind : StepKind
   pub IsCause : ProgramTree → Option Cause → Type 0
   pub Makes : ProgramTree → ProgramTree → List (ℕ × ℕ) → Type 0
+  pub IsTrueFor : ProgramTree → (data_bytes : List ℕ) → Type 0
+
+-- what a step asks of data that asks the dependences of the old program alone: nothing more (this project)
+abbrev pub asks_no_more : ProgramTree → (data_bytes : List ℕ) → Type 0
+asks_no_more t data_bytes = ⊤
 
 -- the step that a command takes, where it takes one (ParaScope; this project)
 pub data MaybeStep : Type 1 where

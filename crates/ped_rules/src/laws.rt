@@ -10,7 +10,7 @@ use ped_loop_runs::{
 
 /// `parallel` has one first cause at most and makes one program. Where nothing forbids it, that one is valid if the old
 /// one is; and if the old one is also tidy and without C$PED REJECT, so is the new one, and it means the same (Allen
-/// and Kennedy, section 2.4.1; ParaScope).
+/// and Kennedy, section 2.4.1; ParaScope). With such lines it does on data on which they are true, if both are tidy.
 pub fn parallel_is_lawful()
     ensures { (s : ℕ) → IsLawful (paralleling s) }
 {

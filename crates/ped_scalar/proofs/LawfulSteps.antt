@@ -12,8 +12,10 @@ use Rattle.ped_rules.specs.ped_steps.specs.Causes.{NoRule, none_forbids}
 use Rattle.ped_rules.specs.ped_steps.specs.Replacing.{all_kept}
 use Rattle.ped_rules.specs.ped_steps.proofs.OneCause.{one_cause}
 use Rattle.ped_rules.specs.ped_loop_runs.specs.Unrejected.{IsTrusted}
+use Rattle.ped_rules.specs.ped_steps.specs.Runs.Meaning.{Keeps}
 use Rattle.ped_rules.specs.Lawful.{MakesSome, IsFaithful, IsLawful}
 use Rattle.ped_rules.specs.Spans.{Span, span_of}
+use Rattle.ped_rules.proofs.KeptOnData.{owes_by_tidiness}
 use Rattle.ped_rules.proofs.KeptNumbers.{one_to_one, all_one_to_one}
 use Rattle.ped_scalar.specs.Privatising.{privatised, StandsAgainstPrivatising, privatising}
 use Rattle.ped_scalar.specs.Expanding.{array_name, SaysLive, IsExpanded, StandsAgainstExpanding, expanded, moved_behind, expand_kept, expanding}
@@ -38,6 +40,7 @@ lawful_privatising s x = record {
   one_to_one = λ t new keep p. subst IsOneToOne (sym p.1) (all_one_to_one t);
   some_made = λ t valid none. (privatised t s x, all_kept t, (refl, refl), against_privatising.is_valid s x t none.0);
   keeps = λ t new keep valid none p trusted. subst (IsFaithful t) (sym p.0) (faithful_private s x t valid none.0 trusted);
+  keeps_on = λ t new keep data_bytes valid none p. owes_by_tidiness (privatising s x) t new data_bytes (λ tidy. subst (Keeps t) (sym p.0) (privatising_keeps_it t s x valid none.0));
 }
 
 moved_grows : (p q : Bool) (m n : ℕ) → (p ≡ true → q ≡ true) → m < n → (if p then m + 1 else m) < (if q then n + 1 else n)
@@ -84,4 +87,5 @@ lawful_expanding s x = record {
     trusted = record { tidy = expanded_tidy t new s p.0 x valid none.0 p.1 trusted.tidy; unrejected = expanded_unrejected t new s p.0 x p.1 trusted.unrejected };
     keeps = expanding_keeps_it t s x p.0 valid none.0 trusted.tidy new p.1;
   };
+  keeps_on = λ t new keep data_bytes valid none p. owes_by_tidiness (expanding s x) t new data_bytes (λ tidy. expanding_keeps_it t s x p.0 valid none.0 tidy new p.1);
 }

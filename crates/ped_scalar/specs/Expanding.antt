@@ -11,7 +11,7 @@ use Rattle.ped_sums.specs.Substitution.{statements_substituted}
 use Rattle.ped_rules.specs.ped_steps.specs.declared.rules.Rule.TheVariants.{NoLoop, ParallelState, Range, ExposedOrLive, NotScalar, NotConstant, Limit, AlreadyPrivate}
 use Rattle.ped_rules.specs.ped_steps.specs.Causes.{Rules, IsFirstCause, none_forbids}
 use Rattle.ped_rules.specs.ped_steps.specs.Replacing.{alone, all_replaced}
-use Rattle.ped_rules.specs.Steps.{transformation, StepAt}
+use Rattle.ped_rules.specs.Steps.{transformation, StepAt, asks_no_more}
 use Rattle.ped_rules.specs.Chains.{no_rules, also, WhereLoop}
 use Rattle.ped_rules.specs.Rules.{WhereNoLoop, is_parallel, isnt_constant}
 use Rattle.ped_rules.specs.Spans.{Span, span_of}
@@ -108,4 +108,5 @@ expanding s x = record {
   kind = transformation;
   IsCause = λ t. IsFirstCause t (StandsAgainstExpanding s x t) none_forbids;
   Makes = MakesExpanded s x;
+  IsTrueFor = asks_no_more;
 }

@@ -6,7 +6,7 @@ use Rattle.ped_rules.specs.ped_flow.specs.Questions.{LoopOf}
 use Rattle.ped_rules.specs.ped_steps.specs.declared.rules.Rule.TheVariants.{NoLoop, ParallelState, ExposedOrLive, NotScalar, Limit, AlreadyPrivate}
 use Rattle.ped_rules.specs.ped_steps.specs.Causes.{Rules, IsFirstCause, none_forbids}
 use Rattle.ped_rules.specs.ped_steps.specs.Replacing.{alone, program_with, all_kept}
-use Rattle.ped_rules.specs.Steps.{transformation, StepAt}
+use Rattle.ped_rules.specs.Steps.{transformation, StepAt, asks_no_more}
 use Rattle.ped_rules.specs.Chains.{no_rules, also, WhereLoop}
 use Rattle.ped_rules.specs.Rules.{WhereNoLoop, WhereLimit}
 use Rattle.ped_rules.specs.Scalars.{is_scalar, is_unfit, IsLiveBy, IsExposedBy, IsUnexposed}
@@ -71,4 +71,5 @@ privatising s x = record {
   kind = transformation;
   IsCause = λ t. IsFirstCause t (StandsAgainstPrivatising s x t) none_forbids;
   Makes = MakesPrivatised s x;
+  IsTrueFor = asks_no_more;
 }

@@ -1,10 +1,10 @@
 -- Two DO loops become one: accesses that cross in an execution of the two are covered by a dependence that the one DO carries, whatever forbids the step.
 use Rattle.std.proofs.Common.{◌≡◌, ◌⊎◌, ℕ, ◌+◌, ◌-◌, ◌<◌, ◌≤◌, ◌&&◌, ◌||◌, List, [], ◌∷◌, ◌++◌, length, map, true, Some, inl, inr, if◌then◌else◌, refl, sym, ap, ◌∙◌, subst, append_assoc, arith}
-use Rattle.std.specs.Str.Lines.{lines}
 use Rattle.std.proofs.lemmas.Bool.{and_parts}
 use Rattle.std.proofs.lemmas.List.{map-append}
 use Rattle.ped_tree.specs.Numbering.{statement_count, statements_count}
 use Rattle.ped_tree.specs.Tree.{Head, StmtTrees, Do, ProgramTree}
+use Rattle.ped_rules.specs.Carried.{is_carried_by}
 use Rattle.ped_rules.specs.ped_bodies.proofs.BodyLaws.TripLists.{loop_apart}
 use Rattle.ped_rules.specs.ped_bodies.specs.Trips.{IsMadeOfTrips, bounds_seen, entered_from}
 use Rattle.ped_rules.specs.ped_steps.proofs.RunLaws.RunPlaces.{stands_in}
@@ -13,7 +13,6 @@ use Rattle.ped_rules.specs.ped_loop_runs.proofs.LoopLaws.ApartTurns.{or_turned}
 use Rattle.ped_rules.specs.ped_loop_runs.proofs.LoopLaws.LoopParts.{IsOfTrip, act_of_loop}
 use Rattle.ped_rules.specs.ped_loop_runs.proofs.PastingLaws.ActNumbers.{all_in as acts_in}
 use Rattle.ped_rules.specs.ped_loop_runs.specs.Carried.{IsCarriedInside, IsCoveredAt}
-use Rattle.ped_rules.specs.ped_loop_runs.specs.Executions.{IsExecuted}
 use Rattle.ped_edges.specs.Edges.{Edge}
 use Rattle.ped_rules.specs.ped_graph.specs.Dependences.{AreEdges}
 use Rattle.ped_rules.specs.ped_laws.proofs.ActLaws.Lists.{in_parts}
@@ -22,7 +21,6 @@ use Rattle.ped_rules.specs.ped_laws.proofs.ConflictLaws.CoveringDirections.{same
 use Rattle.ped_rules.specs.ped_laws.proofs.ConflictLaws.Scoping.{act_of_access, touch_of_access}
 use Rattle.ped_rules.specs.ped_laws.specs.Acts.Orders.{IsIn}
 use Rattle.ped_rules.specs.ped_laws.specs.Conflicts.Directions.{StandInDirections}
-use Rattle.ped_rules.specs.ped_laws.specs.Runs.Replaying.{finish_of, goes_on}
 use Rattle.ped_rules.specs.ped_laws.specs.Runs.Touching.{Meeting}
 use Rattle.ped_rules.specs.ped_eval.specs.Loops.{Entered, frame}
 use Rattle.ped_rules.specs.ped_eval.specs.Outcomes.{Ends, run_of, setting_of}
@@ -31,7 +29,7 @@ use Rattle.ped_rules.specs.ped_eval.specs.Scopes.{Setting, Scope, place_of, turn
 use Rattle.ped_rules.specs.ped_store.specs.Acts.{Act, Place, Turn}
 use Rattle.ped_rules.specs.ped_store.specs.Races.{Access, accesses, accesses_of, conflict}
 use Rattle.ped_rules.specs.ped_store.specs.Cells.{same_cell}
-use Rattle.ped_rules.specs.ped_store.specs.Stores.{Store, store_at_start}
+use Rattle.ped_rules.specs.ped_store.specs.Stores.{Store}
 use Rattle.ped_splits.proofs.CoverFacts.{MayFuse}
 use Rattle.ped_splits.proofs.CoverKinds.{setting_alike}
 use Rattle.ped_splits.proofs.CoverMade as made
@@ -40,8 +38,8 @@ use Rattle.ped_splits.proofs.CoverMeets.{SameInitial}
 use Rattle.ped_splits.proofs.CoverNumbers.{AreBelow, as_first, below_first, gap_below, in_body_of, its_number, less_no, less_yes, test_no, turns_below}
 use Rattle.ped_splits.proofs.CoverTrips.{first_goes_on, pair_acts, second_goes_on}
 use Rattle.ped_splits.proofs.CoverTurns.{AreWithin, StandsWithin, stands_within}
-use Rattle.ped_splits.proofs.JoinCrossing.{renamed_head, second_body, store_between}
-use Rattle.ped_splits.specs.Fusing.{Match}
+use Rattle.ped_splits.proofs.JoinCrossing.{CrossBetween, renamed_head, second_body, store_between}
+use Rattle.ped_splits.specs.Fusing.{AreBack, Match}
 use Rattle.ped_splits.specs.Neighbours.{Neighbour, fused, next_number}
 use Rattle.ped_rules.specs.KeepMaps.{closed_up}
 use Rattle.ped_splits.specs.OneVariable.{in_one, number_in_one, renamed, renamed_next, renamed_pair}
@@ -92,28 +90,6 @@ module _ (p : Setting) (d : Head) (body : StmtTrees) (k : ℕ) (scope : Scope) (
             there = r.there;
             is = heads j (frame entered r.number).turn js stood.0 (behind_front (turns_of scope) (j ∷ js) ((frame entered r.number).turn ∷ stood.0) (sym at ∙ stood.1 ∙ append_assoc (turns_of scope) ((frame entered r.number).turn ∷ []) stood.0));
           }
-
--- in an execution of the two DO loops that goes on behind both, in a run of the program in which both have one variable, two accesses conflict that references make: one in an iteration of the second DO, and one in a later iteration of the first
-pub record CrossBetween {t : ProgramTree} {s : ℕ} (x : Neighbour t s) (data_bytes : List ℕ) (scope : Scope) (a b : Access) : Type 0 where
-  pub front : List Act
-  pub behind : List Act
-  pub store : Store
-  pub executed : IsExecuted (setting_of (renamed x)) (renamed x) (store_at_start (lines data_bytes)) s (statements_count (renamed_pair x)) scope front (run_all (setting_of (renamed x)) (renamed_pair x) s scope store).acts behind store
-  pub goes : finish_of (run_all (setting_of (renamed x)) (renamed_pair x) s scope store).ending ≡ goes_on
-  pub source : IsIn a (accesses (run_all (setting_of (renamed x)) (renamed_pair x) s scope store).acts)
-  pub sink : IsIn b (accesses (run_all (setting_of (renamed x)) (renamed_pair x) s scope store).acts)
-  pub source_reference : 0 < a.reference
-  pub sink_reference : 0 < b.reference
-  pub conflicts : conflict a b ≡ true
-  pub j : Turn
-  pub js : List Turn
-  pub i : Turn
-  pub is : List Turn
-  pub at_source : a.place.turns ≡ turns_of scope ++ j ∷ js
-  pub at_sink : b.place.turns ≡ turns_of scope ++ i ∷ is
-  pub of_source : j.statement ≡ next_number x
-  pub of_sink : i.statement ≡ s
-  pub earlier : j.number < i.number
 
 module _ (t0 : ProgramTree) (s : ℕ) (m : Match t0 s) (x : MayFuse t0 s m) (start_alike : SameInitial m.neighbour) (data_bytes : List ℕ) (ends : Ends (run_of (renamed m.neighbour) data_bytes).ending) (scope : Scope) (a b : Access) (c : CrossBetween m.neighbour data_bytes scope a b) where
   abbrev n : Neighbour t0 s
@@ -286,24 +262,34 @@ module _ (t0 : ProgramTree) (s : ℕ) (m : Match t0 s) (x : MayFuse t0 s m) (sta
     place_alike : renumbered_place f a.place ≡ renumbered_place g a.place
     place_alike = λ i. record { statement = statement_alike i; turns = turns_alike i }
 
-    covered_by : (edges : List Edge) (inner inner_first : List Turn) (moved : Access) → IsCarriedInside u edges (turns_of scope) inner inner_first moved b → moved.place ≡ renumbered_place f a.place → moved.reference ≡ a.reference → IsCoveredAt u edges (Some (length (turns_of scope) + 1)) (in_one n a) b
+    covered_by : (edges : List Edge) (inner inner_first : List Turn) (moved : Access) → (c' : IsCarriedInside u edges (turns_of scope) inner inner_first moved b) → moved.place ≡ renumbered_place f a.place → moved.reference ≡ a.reference → (k : IsCoveredAt u edges (Some (length (turns_of scope) + 1)) (in_one n a) b) × (k.0.edge ≡ c'.covered.edge)
     covered_by edges inner inner_first moved c' there by =
         let alike : moved.place ≡ renumbered_place g a.place = there ∙ place_alike in (
-          record {
-            edge = c'.covered.edge;
-            listed = c'.covered.listed;
-            source = c'.covered.source ∙ (λ i. ((alike i).statement, by i));
-            sink = c'.covered.sink;
-            vector = c'.covered.vector;
-            contains = c'.covered.contains;
-            stands = subst (λ (q : Place). StandInDirections u q.turns b.place.turns c'.covered.vector) alike c'.covered.stands;
-          },
-          c'.level,
+          (
+            record {
+              edge = c'.covered.edge;
+              listed = c'.covered.listed;
+              source = c'.covered.source ∙ (λ i. ((alike i).statement, by i));
+              sink = c'.covered.sink;
+              vector = c'.covered.vector;
+              contains = c'.covered.contains;
+              stands = subst (λ (q : Place). StandInDirections u q.turns b.place.turns c'.covered.vector) alike c'.covered.stands;
+            },
+            c'.level,
+          ),
+          refl,
         )
 
   -- so a dependence covers them, which the one DO carries
   pub crossing_covered : (edges : List Edge) → AreEdges u edges → IsCoveredAt u edges (Some (length (turns_of scope) + 1)) (in_one n a) b
   crossing_covered edges are =
-      covered_by _ (next.are source_turn.trip source_turn.from source_turn.to).is edges _ _ _
+      (covered_by _ (next.are source_turn.trip source_turn.from source_turn.to).is edges _ _ _
       (meets.covered_there t0 s m x same data_bytes scope c.front c.behind c.store c.executed c.goes first next initial sink_turn.trip source_turn.trip source_turn.from less sink_turn.to source_turn.to sink.act source.act sink_turn.there source_turn.there meeting edges are)
-      refl refl
+      refl refl).0
+
+  -- and so does one among those alone that lead back
+  pub crossing_back : (edges : List Edge) → AreBack n edges → (k : IsCoveredAt u edges (Some (length (turns_of scope) + 1)) (in_one n a) b) × (is_carried_by u s k.0.edge ≡ true)
+  crossing_back edges are =
+      let back = meets.back_there t0 s m x same data_bytes scope c.front c.behind c.store c.executed c.goes first next initial sink_turn.trip source_turn.trip source_turn.from less sink_turn.to source_turn.to sink.act source.act sink_turn.there source_turn.there meeting edges are in
+      let k = covered_by _ (next.are source_turn.trip source_turn.from source_turn.to).is edges _ _ _ back.0 refl refl in
+      (k.0, ap (is_carried_by u s) k.1 ∙ back.1)

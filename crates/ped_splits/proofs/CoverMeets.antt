@@ -1,5 +1,5 @@
--- Two DO loops become one: in an execution of the two no iteration of the first conflicts with an earlier one of the second, but on cells of the variables of DO loops.
-use Rattle.std.proofs.Common.{◌≡◌, ℕ, ◌+◌, ◌-◌, ◌≤◌, ◌<◌, ◌||◌, ◌&&◌, ◌⊎◌, ℤ, pos, List, [], ◌∷◌, ◌++◌, length, map, All, Bool, true, false, inl, inr, refl, sym, ap, ◌∙◌, subst, append_assoc, arith, if◌then◌else◌}
+-- Two DO loops become one: in an execution of the two an iteration of the first that conflicts with an earlier one of the second, on cells but those of the variables of DO loops, does so by accesses that cross; and these are covered.
+use Rattle.std.proofs.Common.{◌≡◌, ℕ, ◌+◌, ◌-◌, ◌≤◌, ◌<◌, ◌||◌, ◌&&◌, ◌⊎◌, ℤ, pos, List, [], ◌∷◌, ◌++◌, length, map, Bool, true, false, inl, inr, refl, sym, ap, ◌∙◌, subst, append_assoc, arith, if◌then◌else◌}
 use Rattle.std.specs.Prelude.{◌+ℤ◌, ◌*ℤ◌, not}
 use Rattle.std.specs.Option.{unwrap_or}
 use Rattle.std.proofs.lemmas.Bool.{and_parts}
@@ -27,12 +27,11 @@ use Rattle.ped_rules.specs.ped_loop_runs.proofs.PastingLaws.ActNumbers.{all_in a
 use Rattle.ped_rules.specs.ped_loop_runs.proofs.PastingLaws.LeftCopies.{IsOwn, IsOfTrip, body_reaches}
 use Rattle.ped_rules.specs.ped_loop_runs.specs.Carried.{AllStoreWithin, IsCarriedInside, MakeConflict}
 use Rattle.ped_rules.specs.ped_loop_runs.specs.Executions.{IsExecuted}
-use Rattle.ped_rules.specs.ped_loop_runs.specs.Unrejected.{some_rejection}
 use Rattle.ped_rules.specs.ped_affine.specs.Ranges as ranges
 use Rattle.ped_rules.specs.ped_graph.specs.DependencePane.{extent_by, extent_of}
 use Rattle.ped_rules.specs.ped_graph.specs.Dependences.{AreEdges, setting_in}
 use Rattle.ped_edges.specs.Edges.{Edge}
-use Rattle.ped_rules.specs.ped_laws.proofs.ActLaws.Conflicting.{access_in, acts_of_blocks}
+use Rattle.ped_rules.specs.ped_laws.proofs.ActLaws.Conflicting.{access_in, accesses_in, acts_of_blocks}
 use Rattle.ped_rules.specs.ped_laws.proofs.ActLaws.Lists.{in_left, in_right}
 use Rattle.ped_rules.specs.ped_laws.proofs.ActLaws.Renamings.{or_left, or_right}
 use Rattle.ped_rules.specs.ped_laws.proofs.ActLaws.SameCells.{cell_is, cell_itself}
@@ -60,18 +59,17 @@ use Rattle.ped_rules.specs.ped_store.specs.Cells.{Cell, Iteration, Scalar, Eleme
 use Rattle.ped_rules.specs.ped_store.specs.Races.{Access, accesses_of, conflict, is_lines, is_write}
 use Rattle.ped_rules.specs.ped_store.specs.Stores.{Store, store_at_start}
 use Rattle.ped_splits.proofs.CoverBodies as body
-use Rattle.ped_splits.proofs.CoverDependences.{IsMeeting, covered_by_all, none_meet}
+use Rattle.ped_splits.proofs.CoverDependences.{IsCarriedBack, IsMeeting, covered_by_all, meets_back}
 use Rattle.ped_splits.proofs.CoverGaps.{followed_numbered}
-use Rattle.ped_splits.proofs.CoverKinds.{fused_unrejected, setting_alike}
 use Rattle.ped_splits.proofs.CoverMade as made
 use Rattle.ped_splits.proofs.CoverMade.{HasCome, followed_variables, has_come, stands, new_nest}
 use Rattle.ped_splits.proofs.CoverNumbers.{as_first, as_second, gap_below, its_number, in_body_of, scope_stays, store_back, told_back}
 use Rattle.ped_splits.proofs.CoverTrips.{pair_acts, trips_before}
-use Rattle.ped_splits.proofs.CoverFacts.{MayFuse, may_fuse}
-use Rattle.ped_splits.proofs.FuseFacts.{IsFusable, renamed, renamed_next, renamed_pair}
-use Rattle.ped_splits.proofs.JoinCrossing.{NoneCrosses, joined_variables, renamed_head, second_body, store_between}
+use Rattle.ped_splits.proofs.CoverFacts.{MayFuse}
+use Rattle.ped_splits.proofs.FuseFacts.{renamed, renamed_next, renamed_pair}
+use Rattle.ped_splits.proofs.JoinCrossing.{CrossBetween, joined_variables, renamed_head, second_body, store_between}
 use Rattle.ped_sums.specs.Substitution.{statements_substituted}
-use Rattle.ped_splits.specs.Fusing.{AreBack, Match, forbids_fusion}
+use Rattle.ped_splits.specs.Fusing.{AreBack, Match}
 use Rattle.ped_splits.specs.Neighbours.{Neighbour, fused, next_number}
 
 -- a touch under new numbers, among those of an act
@@ -219,8 +217,8 @@ module _ (t0 : ProgramTree) (s : ℕ) (m : Match t0 s) (x : MayFuse t0 s m) (sam
       subst (IsStoreIn set come.first) (after_append first_acts (next_front j) v)
       (come.stored (first_acts ++ next_front j) _ (both ∙ ap (λ (zs : List Act). first_acts ++ zs) (next.acts ∙ parts) ∙ sym (append_assoc first_acts (next_front j) _)))
 
-  in_pair : (a : Act) → IsIn a (first_acts ++ next_acts) → IsIn a (run_all p t.body 1 [] (store_at_start (lines data_bytes))).acts
-  in_pair a i = subst (IsIn a) (sym executed.whole) (in_right a front _ (in_left a (run_all p (renamed_pair n) s scope v).acts behind (subst (IsIn a) (sym both) i)))
+  in_run : (a : Act) → IsIn a (run_all p (renamed_pair n) s scope v).acts → IsIn a (run_all p t.body 1 [] (store_at_start (lines data_bytes))).acts
+  in_run a i = subst (IsIn a) (sym executed.whole) (in_right a front _ (in_left a (run_all p (renamed_pair n) s scope v).acts behind i))
 
   -- the iterations of the second are those of the one DO, under their new numbers
   stays : AreRenumbered f g (told_back s number size before) scope scope
@@ -330,6 +328,16 @@ module _ (t0 : ProgramTree) (s : ℕ) (m : Match t0 s) (x : MayFuse t0 s m) (sam
     in_next_trip : (b : Act) → IsIn b (next.trip j) → IsIn b (run_all p (second_body n) (number + 1) (frame z j ∷ scope) (next_store j)).acts
     in_next_trip b k = subst (IsIn b) (next.are j from within).is k
 
+    first_in_pair : (a : Act) → IsIn a (first.trip i) → IsIn a (run_all p (renamed_pair n) s scope v).acts
+    first_in_pair a k =
+        subst (IsIn a) (sym both)
+        (in_left a first_acts next_acts (subst (IsIn a) (sym first.acts) (trip_among (bounds_seen p n.own scope v) e scope (place_of p s scope) first.trip i (omega (arith, from, less)) to a k)))
+
+    next_in_pair : (b : Act) → IsIn b (next.trip j) → IsIn b (run_all p (renamed_pair n) s scope v).acts
+    next_in_pair b k =
+        subst (IsIn b) (sym both)
+        (in_right b first_acts next_acts (subst (IsIn b) (sym next.acts) (trip_among (bounds_seen p (renamed_head n) scope (store_between n scope v)) z scope (place_of p number scope) next.trip j from within b k)))
+
     -- accesses of two acts that conflict, one of the first in a later iteration and one of the second in an earlier one
     module _ (a b : Act) (k : IsIn a (first.trip i)) (l : IsIn b (next.trip j)) (q : Meeting a b) where
       one : (w : Touch) × IsIn w a.touches × (q.first ≡ access_by a.place w)
@@ -434,12 +442,37 @@ module _ (t0 : ProgramTree) (s : ℕ) (m : Match t0 s) (x : MayFuse t0 s m) (sam
       pub are_made : AreMade
       are_made = meets (first_made made_turns.0 made_turns.1 q.of_first q.first_reference (one_place ∙ made_turns.2)) (next_made moved_turns.0 moved_turns.1 (moved_access f b q.second q.of_second) q.second_reference (other_place ∙ moved_turns.2))
 
-      none_there : some_rejection (fused m.neighbour).body ≡ false → ((edges : List Edge) → AreBack m.neighbour edges → All (λ e. forbids_fusion m.neighbour e ≡ false) edges) → ⊥
-      none_there plain unforbidden = none_meet t0 s n come.first (moved f q.second) q.first are_made.source are_made.sink are_made.pair (turns_of scope) are_made.inner are_made.inner_first (frame joined j).turn (frame joined i).turn are_made.meeting room plain unforbidden
-
       -- whatever forbids the step, a dependence between them is carried by the one DO
       pub covered_there : (edges : List Edge) → AreEdges u edges → IsCarriedInside u edges (turns_of scope) are_made.inner are_made.inner_first (moved f q.second) q.first
       covered_there = covered_by_all t0 s n come.first (moved f q.second) q.first are_made.source are_made.sink are_made.pair (turns_of scope) are_made.inner are_made.inner_first (frame joined j).turn (frame joined i).turn are_made.meeting
+
+      -- and so is one among those that lead back
+      pub back_there : (edges : List Edge) → AreBack n edges → IsCarriedBack n edges (turns_of scope) are_made.inner are_made.inner_first (moved f q.second) q.first
+      back_there = meets_back t0 s n come.first (moved f q.second) q.first are_made.source are_made.sink are_made.pair (turns_of scope) are_made.inner are_made.inner_first (frame joined j).turn (frame joined i).turn are_made.meeting room
+
+      -- they cross in this execution
+      pub they_cross : CrossBetween n data_bytes scope q.second q.first
+      they_cross = record {
+        front = front;
+        behind = behind;
+        store = v;
+        executed = executed;
+        goes = goes;
+        source = accesses_in (run_all p (renamed_pair n) s scope v).acts b q.second (next_in_pair b l) q.of_second;
+        sink = accesses_in (run_all p (renamed_pair n) s scope v).acts a q.first (first_in_pair a k) q.of_first;
+        source_reference = q.second_reference;
+        sink_reference = q.first_reference;
+        conflicts = (λ y. (ap (λ (c : Cell). same_cell q.second.cell c) cells ∙ cell_itself q.second.cell) y && or_turned q.first.writes q.second.writes parts.1 y);
+        j = (frame z j).turn;
+        js = other_more.0;
+        i = (frame e i).turn;
+        is = one_more.0;
+        at_source = ap (λ (y : Access). y.place.turns) other.2 ∙ other_more.1 ∙ append_assoc (turns_of scope) ((frame z j).turn ∷ []) other_more.0;
+        at_sink = ap (λ (y : Access). y.place.turns) one.2 ∙ one_more.1 ∙ append_assoc (turns_of scope) ((frame e i).turn ∷ []) one_more.0;
+        of_source = refl;
+        of_sink = refl;
+        earlier = less;
+      }
 
     abbrev idle : Cell → Bool
     idle = is_cell_among (joined_variables m.neighbour)
@@ -462,18 +495,15 @@ module _ (t0 : ProgramTree) (s : ℕ) (m : Match t0 s) (x : MayFuse t0 s m) (sam
             ∙ or_right (is_among y (all_loop_variables n.own_body)) (is_among y (all_loop_variables (followed n.between (second_body n))))
             (followed_variables y n.between (second_body n) ∙ or_right (is_among y (all_loop_variables n.between)) (is_among y (all_loop_variables (second_body n))) h))
 
-    pub uncrossed : some_rejection (fused m.neighbour).body ≡ false → ((edges : List Edge) → AreBack m.neighbour edges → All (λ e. forbids_fusion m.neighbour e ≡ false) edges) → blocks_conflict_outside idle (first.trip i) (next.trip j) ≡ false
-    uncrossed plain unforbidden = go (blocks_conflict_outside idle (first.trip i) (next.trip j)) refl
+    -- where none cross, these two iterations don't conflict
+    pub uncrossed : ((a b : Access) → CrossBetween n data_bytes scope a b → ⊥) → blocks_conflict_outside idle (first.trip i) (next.trip j) ≡ false
+    uncrossed never = go (blocks_conflict_outside idle (first.trip i) (next.trip j)) refl
       where
         go : (b : Bool) → blocks_conflict_outside idle (first.trip i) (next.trip j) ≡ b → blocks_conflict_outside idle (first.trip i) (next.trip j) ≡ false
         go false h = h
         go true h =
             let q = acts_of_blocks idle (first.trip i) (next.trip j) h in
-            let one = in_pair q.0 (in_left q.0 first_acts next_acts (subst (IsIn q.0) (sym first.acts) (trip_among (bounds_seen p n.own scope v) e scope (place_of p s scope) first.trip i (omega (arith, from, less)) to q.0 q.2))) in
-            let other = in_pair q.1 (in_right q.1 first_acts next_acts (subst (IsIn q.1) (sym next.acts) (trip_among (bounds_seen p (renamed_head n) scope (store_between n scope v)) z scope (place_of p number scope) next.trip j from within q.1 q.3))) in
-            absurd (none_there q.0 q.1 q.2 q.3 (outside_of_run p t.body 1 [] (store_at_start (lines data_bytes)) idle q.0 q.1 one other (first_within q.0 q.2) (next_within q.1 q.3) q.4).0 plain unforbidden)
-
--- so none crosses
-pub none_crosses : (t0 : ProgramTree) (s : ℕ) (m : Match t0 s) → IsFusable t0 s m → SameInitial m.neighbour → NoneCrosses m.neighbour
-none_crosses t0 s m x initial data_bytes ends scope front behind v executed goes first next i j from less to within =
-    uncrossed t0 s m (may_fuse t0 s m x) (setting_alike t0 s m (may_fuse t0 s m x)) data_bytes scope front behind v executed goes first next (initial data_bytes ends scope front behind v executed goes first next) i j from less to within (fused_unrejected m.neighbour x.trusted.unrejected) x.unforbidden
+            let one = in_run q.0 (first_in_pair q.0 q.2) in
+            let other = in_run q.1 (next_in_pair q.1 q.3) in
+            let met = (outside_of_run p t.body 1 [] (store_at_start (lines data_bytes)) idle q.0 q.1 one other (first_within q.0 q.2) (next_within q.1 q.3) q.4).0 in
+            absurd (never met.second met.first (they_cross q.0 q.1 q.2 q.3 met))

@@ -14,13 +14,13 @@ use Rattle.ped_rules.specs.ped_steps.proofs.RunLaws.FilledGaps.{counted}
 use Rattle.ped_rules.specs.ped_steps.specs.Causes.{NoRule}
 use Rattle.ped_rules.specs.ped_steps.specs.Replacing.{alone}
 use Rattle.ped_rules.specs.ped_steps.specs.Runs.Pasting.{AreTurnsOf}
-use Rattle.ped_rules.specs.ped_steps.specs.Tidy.{IsTidy}
 use Rattle.ped_rules.specs.ped_symbols.specs.NameRefusals.{IsValid}
 use Rattle.ped_rules.specs.ped_laws.proofs.ActLaws.Conflicting.{accesses_in}
 use Rattle.ped_rules.specs.ped_laws.proofs.ActLaws.Lists.{in_parts}
 use Rattle.ped_rules.specs.ped_laws.proofs.ConflictLaws.CoveringRuns.{MakingLaw}
 use Rattle.ped_rules.specs.ped_laws.proofs.ConflictLaws.Scoping.{act_of_access, touch_of_access}
 use Rattle.ped_rules.specs.ped_laws.specs.Acts.Orders.{IsIn}
+use Rattle.ped_rules.specs.ped_laws.specs.Acts.Sets.{nothing}
 use Rattle.ped_rules.specs.ped_laws.specs.FlowRuns.Covering.{some_stop}
 use Rattle.ped_rules.specs.ped_eval.specs.Outcomes.{Ends, run_of, setting_of}
 use Rattle.ped_rules.specs.ped_eval.specs.Runs.{run_all}
@@ -30,7 +30,7 @@ use Rattle.ped_edges.specs.Edges.{Edge}
 use Rattle.ped_rules.specs.ped_store.specs.Acts.{Act, Place, Turn}
 use Rattle.ped_rules.specs.ped_store.specs.Races.{Access, accesses, accesses_of}
 use Rattle.ped_rules.specs.ped_store.specs.Stores.{Store, store_at_start}
-use Rattle.ped_splits.proofs.CoverConflicts.{CrossBetween, crossing_covered}
+use Rattle.ped_splits.proofs.CoverConflicts.{crossing_covered}
 use Rattle.ped_splits.proofs.CoverFacts.{MayFuse}
 use Rattle.ped_splits.proofs.CoverFound.{IsFound, IsPlaced, each_placed}
 use Rattle.ped_splits.proofs.CoverGaps.{gap_loops, gap_nest}
@@ -38,7 +38,7 @@ use Rattle.ped_splits.proofs.CoverNumbers.{AreBelow, gap_below, turns_below}
 use Rattle.ped_splits.proofs.CoverTurns.{AreOutside, not_outside, same_round, stands_led}
 use Rattle.ped_splits.proofs.FusableFacts.{both_contained, no_rule_forbids}
 use Rattle.ped_splits.proofs.FusedKeeps.{renamed_same}
-use Rattle.ped_splits.proofs.JoinCrossing.{second_body}
+use Rattle.ped_splits.proofs.JoinCrossing.{CrossBetween, second_body}
 use Rattle.ped_splits.proofs.JoinInitial.{initial_alike}
 use Rattle.ped_splits.proofs.JoinSame.{none_stops}
 use Rattle.ped_splits.proofs.JoinedFacts.{are_joined}
@@ -46,11 +46,12 @@ use Rattle.ped_splits.proofs.RenameActs.{referred}
 use Rattle.ped_splits.proofs.RenameFacts.{renaming_may}
 use Rattle.ped_splits.proofs.RenameKeeps.{renaming_alike, renaming_ends}
 use Rattle.ped_splits.proofs.RenameRaces.{in_kept, kept_in}
+use Rattle.ped_splits.proofs.RenameShown.{nothing_shown}
 use Rattle.ped_splits.specs.Fusing.{Match, StandsAgainstFusion}
 use Rattle.ped_splits.specs.Neighbours.{Neighbour, fused, next_number}
-use Rattle.ped_splits.specs.OneVariable.{Cross, in_one, renamed, renamed_next, renamed_pair}
+use Rattle.ped_splits.specs.OneVariable.{IsUnwritten, Cross, in_one, renamed, renamed_next, renamed_pair}
 
-module _ (making : MakingLaw) (t : ProgramTree) (s : ℕ) (m : Match t s) (valid : IsValid t) (tidy : IsTidy t) (none : NoRule (StandsAgainstFusion s t)) (data_bytes : List ℕ) (ends : Ends (run_of t data_bytes).ending) where
+module _ (making : MakingLaw) (t : ProgramTree) (s : ℕ) (m : Match t s) (valid : IsValid t) (either : (m.neighbour.own.variable ≡ m.neighbour.next.variable) ⊎ IsUnwritten t m.neighbour.next.variable) (none : NoRule (StandsAgainstFusion s t)) (data_bytes : List ℕ) (ends : Ends (run_of t data_bytes).ending) where
   abbrev n : Neighbour t s
   n = m.neighbour
 
@@ -88,6 +89,10 @@ module _ (making : MakingLaw) (t : ProgramTree) (s : ℕ) (m : Match t s) (valid
   absent_by differ (inl same) = absurd (differ same)
   absent_by differ (inr absent) = absent
 
+  unwritten_by : (m.neighbour.own.variable ≡ m.neighbour.next.variable → ⊥) → (m.neighbour.own.variable ≡ m.neighbour.next.variable) ⊎ IsUnwritten t m.neighbour.next.variable → IsUnwritten t m.neighbour.next.variable
+  unwritten_by differ (inl same) = absurd (differ same)
+  unwritten_by differ (inr unwritten) = unwritten
+
   by_names : (b : Bool) → is_same_text m.neighbour.own.variable m.neighbour.next.variable ≡ b → IsAlike
   by_names true e =
       let same : t ≡ renamed m.neighbour = sym (renamed_same t s m.neighbour (same_is m.neighbour.own.variable m.neighbour.next.variable e)) in
@@ -96,8 +101,8 @@ module _ (making : MakingLaw) (t : ProgramTree) (s : ℕ) (m : Match t s) (valid
       let differ : m.neighbour.own.variable ≡ m.neighbour.next.variable → ⊥ =
       λ same. both_ways (is_same_text m.neighbour.own.variable m.neighbour.next.variable) e (ap (is_same_text m.neighbour.own.variable) (sym same) ∙ same_itself m.neighbour.own.variable) in
       let both = both_contained t s m none in
-      let r = renaming_may t s m may tidy both.0 both.1 differ (absent_by differ m.alike.variable) in
-      record { same_end = renaming_ends making t s m.neighbour r data_bytes ends; same_accesses = renaming_alike making t s m.neighbour r data_bytes ends }
+      let r = renaming_may t s m may (unwritten_by differ either) both.0 both.1 differ (absent_by differ m.alike.variable) in
+      record { same_end = renaming_ends making t s m.neighbour r nothing (nothing_shown t) data_bytes ends; same_accesses = renaming_alike making t s m.neighbour r nothing (nothing_shown t) data_bytes ends }
 
   alike : IsAlike
   alike = by_names (is_same_text m.neighbour.own.variable m.neighbour.next.variable) refl

@@ -8,7 +8,7 @@ use Rattle.ped_rules.proofs.Chains.{not_this, not_those}
 use Rattle.ped_rules.proofs.Decided.{some_loop, limit_valid}
 use Rattle.ped_rules.specs.Rules.{WhereNoLoop, is_parallel, has_private, WhereUnplain}
 use Rattle.ped_rules.specs.Chains.{no_rules}
-use Rattle.ped_rules.specs.ped_loop_runs.specs.Unrejected.{IsTrusted}
+use Rattle.ped_rules.specs.ped_steps.specs.Tidy.{IsTidy}
 use Rattle.ped_rules.specs.ped_steps.specs.Causes.{NoRule}
 use Rattle.ped_rules.specs.ped_steps.specs.declared.rules.Rule.TheVariants.{NoLoop, ParallelState, HasPrivate, IndexEscapes, BoundNotPlain, NoNeighbour, Limit}
 use Rattle.ped_rules.specs.ped_flow.specs.PlainBounds.{IsPlain}
@@ -128,12 +128,12 @@ both_contained t s m none = (
   contained_by t (next_number m.neighbour) (λ n b. unbroken t s none n (inr (inl (m.neighbour, b)))) (λ shown. unshown t s none (inr (inl (m.neighbour, shown)))),
 )
 
--- two DO loops that no rule and no dependence forbids to become one
-pub is_fusable : (t : ProgramTree) (s : ℕ) (m : Match t s) → IsValid t → IsTrusted t → IsFusionCause s t None → IsFusable t s m
-is_fusable t s m valid trusted none = record {
+-- two DO loops of a tidy program that no rule and no dependence forbids to become one
+pub is_fusable : (t : ProgramTree) (s : ℕ) (m : Match t s) → IsValid t → IsTidy t → IsFusionCause s t None → IsFusable t s m
+is_fusable t s m valid tidy none = record {
   valid = valid;
   new_valid = is_valid t s none.0 m;
-  trusted = trusted;
+  tidy = tidy;
   own_serial = own_fails t s none.0 m is_parallel (no_state t s none.0 m);
   next_serial = next_fails t s none.0 m is_parallel (no_state t s none.0 m);
   own_unprivate = none_in m.neighbour.own.private (own_fails t s none.0 m has_private (no_private t s none.0 m));

@@ -3,7 +3,7 @@ use Rattle.std.proofs.Common.{◌≡◌, ℕ, List, [], false}
 use Rattle.std.proofs.Common.{All}
 use Rattle.ped_tree.specs.Tree.{ExprTree, ProgramTree}
 use Rattle.ped_rules.specs.Rules.{IsBoundOf}
-use Rattle.ped_rules.specs.ped_loop_runs.specs.Unrejected.{IsTrusted}
+use Rattle.ped_rules.specs.ped_steps.specs.Tidy.{IsTidy}
 use Rattle.ped_rules.specs.ped_flow.specs.PlainBounds.{IsPlain}
 use Rattle.ped_rules.specs.ped_flow.specs.Questions.{IsContained}
 use Rattle.ped_rules.specs.ped_eval.specs.Outcomes.{setting_of}
@@ -13,11 +13,11 @@ use Rattle.ped_splits.specs.Neighbours.{fused, next_number}
 use Rattle.ped_splits.specs.Fusing.{Match, AreBack, forbids_fusion}
 pub use Rattle.ped_splits.specs.OneVariable.{renamed_next, renamed_pair, renamed}
 
--- two DO loops that may become one: none is parallel or has PRIVATE names, both are contained, and so is the one that they become, the bounds are plain, and no dependence leads back
+-- two DO loops of a tidy program that may become one: none is parallel or has PRIVATE names, both are contained, and so is the one that they become, the bounds are plain, and no dependence leads back
 pub record IsFusable (t : ProgramTree) (s : ℕ) (m : Match t s) : Type 0 where
   pub valid : IsValid t
   pub new_valid : IsValid (fused m.neighbour)
-  pub trusted : IsTrusted t
+  pub tidy : IsTidy t
   pub own_serial : m.neighbour.own.parallel ≡ false
   pub next_serial : m.neighbour.next.parallel ≡ false
   pub own_unprivate : m.neighbour.own.private ≡ []

@@ -147,7 +147,7 @@ module _ (t : ProgramTree) (s : ℕ) (m : Match t s) (f : IsFusable t s m) where
       fields.old_unshown t s n f.valid f.new_valid m.alike f.own_unprivate f.next_unprivate f.own_serial f.next_serial f.own_contained f.next_contained w there (subst (λ (k : ℕ). IsShownBehind t k w) at_next shown)
 
   tidy : IsTidy t
-  tidy = f.trusted.tidy
+  tidy = f.tidy
 
   -- no PARALLEL DO of the new program writes its variables
   new_unwritten : some_write_index cs' u.body ≡ false
@@ -318,10 +318,10 @@ module _ (t : ProgramTree) (s : ℕ) (m : Match t s) (f : IsFusable t s m) where
   tidy_still k p parallel w index = record { unwritten = loop_unwritten k p parallel w index; unshown = λ shown. loop_unshown k p parallel w index shown }
 
   -- so the new program may be trusted as the old one
-  pub stays_trusted_fused : IsTrusted u
-  stays_trusted_fused = record {
+  pub stays_trusted_fused : some_rejection t.body ≡ false → IsTrusted u
+  stays_trusted_fused unrejected = record {
     tidy = tidy_still;
     unrejected =
         filled_unrejected m.neighbour.gap (old_of exchange) (joined_loop n) (fields.rejections_none t s n f.valid f.new_valid m.alike f.own_unprivate f.next_unprivate f.own_serial f.next_serial)
-        (ap some_rejection (sym m.neighbour.stands) ∙ f.trusted.unrejected);
+        (ap some_rejection (sym m.neighbour.stands) ∙ unrejected);
   }

@@ -79,10 +79,10 @@ module _ {t u : ProgramTree} {s : ℕ} (x : AreJoined t u s) where
   abbrev pub one_loop : StmtTrees
   one_loop = alone (Do (record x.own { rejected = x.rejected }) (followed x.own_body (followed x.between x.next_body)))
 
--- in a run that ends no iteration of the first DO conflicts with an earlier one of the second, but on cells of variables of DO loops
-abbrev pub NoneCross : (t u : ProgramTree) (s : ℕ) → AreJoined t u s → Type 0
-NoneCross t u s x =
-    (data_bytes : List ℕ) → Ends (run_of t data_bytes).ending
+-- where the run on these data ends no iteration of the first DO conflicts with an earlier one of the second, but on cells of variables of DO loops
+abbrev pub NoneCross : (t u : ProgramTree) (s : ℕ) → AreJoined t u s → (data_bytes : List ℕ) → Type 0
+NoneCross t u s x data_bytes =
+    Ends (run_of t data_bytes).ending
     → (scope : Scope) (front behind : List Act) (v : Store)
     → IsExecuted (setting_of t) t (store_at_start (lines data_bytes)) s (statements_count (both_loops x)) scope front (run_all (setting_of t) (both_loops x) s scope v).acts behind v
     → finish_of (run_all (setting_of t) (both_loops x) s scope v).ending ≡ goes_on

@@ -2,9 +2,9 @@
 use Rattle.std.proofs.Common.{ap, ℕ}
 use Rattle.ped_rules.specs.ped_eval.specs.Loops.{Limits}
 use Rattle.ped_tree.specs.Tree.{ProgramTree}
-use Rattle.ped_splits.proofs.CoverFacts.{MayFuse, may_fuse}
+use Rattle.ped_splits.proofs.CoverFacts.{MayFuse}
 use Rattle.ped_splits.proofs.CoverMeets.{SameInitial}
-use Rattle.ped_splits.proofs.FuseFacts.{IsFusable, renamed}
+use Rattle.ped_splits.proofs.FuseFacts.{renamed}
 use Rattle.ped_splits.proofs.JoinBounds.{limits_alike}
 use Rattle.ped_splits.proofs.JoinedFacts.{are_joined}
 use Rattle.ped_splits.specs.Fusing.{Match}
@@ -13,6 +13,3 @@ use Rattle.ped_splits.specs.Neighbours.{fused}
 pub initial_alike : (t : ProgramTree) (s : ℕ) (m : Match t s) → MayFuse t s m → SameInitial m.neighbour
 initial_alike t s m f data_bytes ends scope front behind v executed goes one other =
     ap (λ (l : Limits). l.first) (limits_alike (renamed m.neighbour) (fused m.neighbour) s (are_joined t s m f) data_bytes scope front behind v executed goes one other)
-
-pub same_initial : (t : ProgramTree) (s : ℕ) (m : Match t s) → IsFusable t s m → SameInitial m.neighbour
-same_initial t s m f = initial_alike t s m (may_fuse t s m f)

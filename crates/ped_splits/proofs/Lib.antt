@@ -100,6 +100,7 @@ pub mod Determined
 mod RenameGaps
 mod RenameUnread
 mod RenameActs
+mod RenameShown
 mod RenameFacts
 mod RenamePaths
 mod RenameTrips

@@ -1,4 +1,4 @@
--- Behind a PARALLEL DO of a tidy program nobody asks for the variables of the DO loops in it: they are undefined, and not shown at the end.
+-- Behind a PARALLEL DO nobody asks for the variables of the DO loops in it: they are undefined, and of these cells none is shown at the end.
 use Rattle.std.proofs.Common.{◌≡◌, ◌⊎◌, ℕ, ℤ, ◌+◌, List, [], ◌∷◌, ◌++◌, Bool, true, false, ◌&&◌, ◌||◌, ◌==◌, not, IsTrue, inl, inr, refl, sym, ap, subst, ◌∙◌, arith, if◌then◌else◌}
 use Rattle.std.specs.List.{flat_map}
 use Rattle.std.specs.Str.Lines.{lines}
@@ -11,7 +11,6 @@ use Rattle.ped_rules.specs.ped_loop_runs.proofs.LoopLaws.OneForOneNames.{variabl
 use Rattle.ped_rules.specs.ped_loop_runs.proofs.LoopLaws.OneForOneStands.{false_unless}
 use Rattle.ped_rules.specs.ped_loop_runs.specs.OtherCopies.{IsOtherExit}
 use Rattle.ped_rules.specs.ped_steps.proofs.RunLaws.PrivatisedPrograms.{shown_scalar}
-use Rattle.ped_rules.specs.ped_steps.specs.Tidy.{IsTidy}
 use Rattle.ped_rules.specs.ped_symbols.specs.NameRefusals.{IsValid}
 use Rattle.ped_rules.specs.ped_laws.proofs.ActLaws.Lists.{in_parts, in_right}
 use Rattle.ped_rules.specs.ped_laws.proofs.ActLaws.SameCells.{cell_itself, cell_is}
@@ -26,7 +25,6 @@ use Rattle.ped_rules.specs.ped_laws.specs.Acts.Orders.{IsIn}
 use Rattle.ped_rules.specs.ped_laws.specs.Acts.Sets.{needed_by, needs, read_first, wants, written}
 use Rattle.ped_rules.specs.ped_laws.specs.FlowRuns.Exits.{Follows, IsExit, IsOneToOne, leaves}
 use Rattle.ped_rules.specs.ped_laws.specs.Runs.Replaying.{act, finish_of, has_fault}
-use Rattle.ped_rules.specs.ped_laws.specs.Runs.Showing.{shown_at_end}
 use Rattle.ped_rules.specs.ped_eval.specs.Loops.{undefined_all}
 use Rattle.ped_rules.specs.ped_eval.specs.Outcomes.{Ends, run_of, setting_of}
 use Rattle.ped_rules.specs.ped_eval.specs.Runs.{Ending, failed, going, stopped}
@@ -38,6 +36,7 @@ use Rattle.ped_rules.specs.ped_store.specs.Stores.{Number, Store, Undefined, put
 use Rattle.ped_rules.specs.ped_flow.specs.Events.{Event, overwrites}
 use Rattle.ped_rules.specs.ped_flow.specs.PathSets.{Whole}
 use Rattle.ped_rules.specs.ped_flow.specs.Paths.{paths_from_exit}
+use Rattle.ped_splits.proofs.RenameShown.{MayBeShown}
 
 -- touches find what the store holds, so a cell that they need holds a number, where each of their reads of it finds one
 pub needed_number : (ts : List Touch) (s : Store) (c : Cell) → ((t : Touch) → IsIn t ts → t.manner ≡ reads → t.cell ≡ c → (n : ℤ) × (t.content ≡ Number n)) → Find ts s → needed_by ts c ≡ true → (n : ℤ) × (s c ≡ Number n)
@@ -99,16 +98,13 @@ scalar_line (f ∷ S) w = go (is_among w f.private) (scalar_line S w)
     go true more = refl
     go false more = more
 
-module _ (t : ProgramTree) (valid : IsValid t) (tidy : IsTidy t) (data_bytes : List ℕ) (ends : Ends (run_of t data_bytes).ending) (names : List (List ℕ)) (apart : Cell → Bool) (l : ℕ) (front behind : List Act) (u : Store) (old new : List Act)
+module _ (t : ProgramTree) (valid : IsValid t) (shown : Cell → Bool) (may : MayBeShown t shown) (data_bytes : List ℕ) (ends : Ends (run_of t data_bytes).ending) (names : List (List ℕ)) (apart : Cell → Bool) (l : ℕ) (front behind : List Act) (u : Store) (old new : List Act)
     (e : IsOtherExit names apart (setting_of t) t (store_at_start (lines data_bytes)) l front behind u old new) (w : List ℕ) (index : is_among w (all_loop_variables e.round.loop.body) ≡ true) where
   abbrev p : Setting
   p = setting_of t
 
   abbrev start : Store
   start = store_at_start (lines data_bytes)
-
-  abbrev shown : Cell → Bool
-  shown = shown_at_end t
 
   abbrev c : Cell
   c = cell_of e.scope w
@@ -172,7 +168,7 @@ module _ (t : ProgramTree) (valid : IsValid t) (tidy : IsTidy t) (data_bytes : L
   written_behind h = by (overwrites w path.0) refl
     where
       why : (is_among w (flat_map saved_in t.decls) ≡ true) × (c ≡ Scalar w)
-      why = shown_scalar t w e.scope h
+      why = shown_scalar t w e.scope (may.at_end c h)
 
       path : (path : List Event) × Whole (paths_from_exit t e.number) path × Follows w (Scalar w) c path (touches_of behind)
       path = exit_followed p one t w (variables_unnamed t valid e.number e.round.loop w among) (fitting_stops t valid.fits) start e.number e.scope behind exit
@@ -183,10 +179,11 @@ module _ (t : ProgramTree) (valid : IsValid t) (tidy : IsTidy t) (data_bytes : L
       by : (b : Bool) → overwrites w path.0 ≡ b → written behind c ≡ true
       by true q = path.2.written why.1 q
       by false q =
-          absurd ((tidy e.number e.round.loop e.round.parallel w (record { loop = e.round.loop; among = is_so (is_among w (loop_variables (Do e.round.loop.head e.round.loop.body))) among })).unshown
-          (record { saved = is_so (is_among w (flat_map saved_in t.decls)) why.0; path = path.0; leads = path.1; kept = q }))
+          absurd (may.unshown e.number e.round.loop e.round.parallel w (record { loop = e.round.loop; among = is_so (is_among w (loop_variables (Do e.round.loop.head e.round.loop.body))) among })
+          (record { saved = is_so (is_among w (flat_map saved_in t.decls)) why.0; path = path.0; leads = path.1; kept = q })
+          (subst (λ (z : Cell). shown z ≡ true) why.1 h))
 
-  pub unwanted_exit : wants (shown_at_end t) behind (cell_of e.scope w) ≡ false
+  pub unwanted_exit : wants shown behind (cell_of e.scope w) ≡ false
   unwanted_exit = (λ i. unneeded i || (shown c && not (written behind c))) ∙ by (shown c) refl
     where
       by : (b : Bool) → shown c ≡ b → shown c && not (written behind c) ≡ false

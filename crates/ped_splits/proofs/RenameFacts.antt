@@ -12,21 +12,22 @@ use Rattle.ped_rules.proofs.NestLaws.IndicesApart.{variable_apart}
 use Rattle.ped_rules.specs.ped_loop_runs.proofs.LoopLaws.OneForOneNames.{variables_unnamed}
 use Rattle.ped_rules.specs.ped_symbols.proofs.RightUseLaws.Whole.{others_unvalued}
 use Rattle.ped_rules.specs.ped_symbols.specs.NameRefusals.{IsValid}
-use Rattle.ped_rules.specs.ped_steps.specs.Tidy.{IsTidy}
 use Rattle.ped_rules.specs.ped_flow.specs.PlainBounds.{nest_round}
 use Rattle.ped_rules.specs.ped_flow.specs.Questions.{IsContained}
 use Rattle.ped_rules.specs.ped_eval.specs.Outcomes.{setting_of}
 use Rattle.ped_splits.proofs.CoverFacts.{MayFuse, may_fuse}
 use Rattle.ped_splits.proofs.FuseFacts.{IsFusable}
 use Rattle.ped_splits.proofs.RenameGaps.{next_loop, same_nest}
+use Rattle.ped_splits.proofs.RenameShown.{tidy_unwritten}
 use Rattle.ped_splits.proofs.RenameUnread.{plain_unnamed}
 use Rattle.ped_splits.specs.Fusing.{Match}
 use Rattle.ped_splits.specs.Neighbours.{Neighbour, next_number}
+use Rattle.ped_splits.specs.OneVariable.{IsUnwritten}
 
--- both DO loops are contained, the second isn't parallel and has no PRIVATE names, its bounds don't name its variable, and its body doesn't name that of the first, which is another
+-- both DO loops are contained, the second isn't parallel and has no PRIVATE names, its bounds don't name its variable, and its body doesn't name that of the first, which is another; and no PARALLEL DO writes the second variable, where its iterations have copies of it
 pub record IsRenaming (t : ProgramTree) (s : ℕ) (x : Neighbour t s) : Type 0 where
   pub valid : IsValid t
-  pub tidy : IsTidy t
+  pub unwritten : IsUnwritten t x.next.variable
   pub serial : x.next.parallel ≡ false
   pub private : x.next.private ≡ []
   pub contained : IsContained t (next_number x)
@@ -36,7 +37,7 @@ pub record IsRenaming (t : ProgramTree) (s : ℕ) (x : Neighbour t s) : Type 0 w
   pub first : is_among x.next.variable (expr_names x.next.first) ≡ false
   pub last : is_among x.next.variable (expr_names x.next.last) ≡ false
 
-module _ (t : ProgramTree) (s : ℕ) (m : Match t s) (f : MayFuse t s m) (tidy : IsTidy t) (own_contained : IsContained t s) (next_contained : IsContained t (next_number m.neighbour)) (differ : m.neighbour.own.variable ≡ m.neighbour.next.variable → ⊥)
+module _ (t : ProgramTree) (s : ℕ) (m : Match t s) (f : MayFuse t s m) (unwritten : IsUnwritten t m.neighbour.next.variable) (own_contained : IsContained t s) (next_contained : IsContained t (next_number m.neighbour)) (differ : m.neighbour.own.variable ≡ m.neighbour.next.variable → ⊥)
     (absent : is_among m.neighbour.own.variable (stmts_names m.neighbour.next_body) ≡ false) where
   abbrev x : Neighbour t s
   x = m.neighbour
@@ -66,7 +67,7 @@ module _ (t : ProgramTree) (s : ℕ) (m : Match t s) (f : MayFuse t s m) (tidy :
   pub renaming_may : IsRenaming t s m.neighbour
   renaming_may = record {
     valid = f.valid;
-    tidy = tidy;
+    unwritten = unwritten;
     serial = f.next_serial;
     private = f.next_unprivate;
     contained = next_contained;
@@ -78,4 +79,4 @@ module _ (t : ProgramTree) (s : ℕ) (m : Match t s) (f : MayFuse t s m) (tidy :
   }
 
 pub renaming : (t : ProgramTree) (s : ℕ) (m : Match t s) → IsFusable t s m → (m.neighbour.own.variable ≡ m.neighbour.next.variable → ⊥) → is_among m.neighbour.own.variable (stmts_names m.neighbour.next_body) ≡ false → IsRenaming t s m.neighbour
-renaming t s m f differ absent = renaming_may t s m (may_fuse t s m f) f.trusted.tidy f.own_contained f.next_contained differ absent
+renaming t s m f differ absent = renaming_may t s m (may_fuse t s m f) (tidy_unwritten t f.tidy m.neighbour.next.variable) f.own_contained f.next_contained differ absent

@@ -1,10 +1,10 @@
--- A program in which the second of two DO loops gets the variable of the first keeps its meaning.
+-- A program in which the second of two DO loops gets the variable of the first keeps its meaning, and by references it does the same.
 use Rattle.std.proofs.Common.{◌≡◌, ◌⊎◌, ℕ, ◌+◌, List, [], ◌∷◌, ◌++◌, Bool, true, false, ◌||◌, refl, sym, ap, subst, ◌∙◌, inl, inr, arith, append-nil, if◌then◌else◌}
 use Rattle.std.specs.Str.Lines.{lines}
 use Rattle.std.proofs.lemmas.Bool.{both_ways, or_parts}
 use Rattle.ped_base.proofs.NameEquality.{same_is}
 use Rattle.ped_base.specs.Lists.{is_among, is_same_text}
-use Rattle.ped_tree.specs.NamesIn.{all_loop_variables, stmts_names}
+use Rattle.ped_tree.specs.NamesIn.{all_loop_variables}
 use Rattle.ped_tree.specs.Numbering.{statement_with, statements_count}
 use Rattle.ped_tree.specs.Tree.{Do, ProgramTree, StmtTree, StmtTrees, Var}
 use Rattle.ped_rules.specs.ped_loop_runs.proofs.LoopLaws.OneForOneStands.{run_alone}
@@ -13,12 +13,12 @@ use Rattle.ped_rules.specs.ped_loop_runs.proofs.PastingLaws.KeptMeaning.{made_ke
 use Rattle.ped_rules.specs.ped_loop_runs.proofs.PastingLaws.PastedRuns.{exchanged_near}
 use Rattle.ped_rules.specs.ped_loop_runs.proofs.PastingLaws.StandingParts.{all_stand_near}
 use Rattle.ped_rules.specs.ped_loop_runs.specs.Executions.{IsExecuted}
+use Rattle.ped_rules.specs.ped_loop_runs.specs.Meaning.{KeepsOn}
 use Rattle.ped_rules.specs.ped_loop_runs.specs.OtherCopies.{AreExchangedNear, AreNear, AskNothing, DoNear, HasOtherCopies, IsExchangedNear, IsOtherExit, IsPastedBut, IsUndefinedInBoth, LeaveApart, OfParallelRound, StandNear}
 use Rattle.ped_rules.specs.ped_loop_runs.specs.Pasting.{PartsStandBy}
 use Rattle.ped_rules.specs.ped_steps.proofs.RunLaws.SubstitutedShapes.{counts_kept, indices_kept}
 use Rattle.ped_rules.specs.ped_steps.specs.Replacing.{alone}
 use Rattle.ped_rules.specs.ped_steps.specs.Runs.Gaps.{Gap, filled, number_at}
-use Rattle.ped_rules.specs.ped_steps.specs.Runs.Meaning.{Keeps}
 use Rattle.ped_rules.specs.ped_steps.specs.Runs.Renumbering.{renumbered}
 use Rattle.ped_sums.specs.Substitution.{statements_substituted}
 use Rattle.ped_rules.specs.ped_laws.proofs.FlowRunLaws.Stopping.{fitting_stops, loop_stops}
@@ -34,7 +34,7 @@ use Rattle.ped_rules.specs.ped_laws.specs.FlowRuns.Covering.{is_cell_of}
 use Rattle.ped_rules.specs.ped_laws.specs.Runs.Replaying.{Replays, act, ending_with, finish_of, goes_on}
 use Rattle.ped_rules.specs.ped_laws.specs.Runs.Showing.{shown_at_end}
 use Rattle.ped_rules.specs.ped_eval.specs.Loops.{entered_with, frame, undefined_all}
-use Rattle.ped_rules.specs.ped_eval.specs.Outcomes.{Ends, run_of, setting_of}
+use Rattle.ped_rules.specs.ped_eval.specs.Outcomes.{Ends, IsRaceFree, run_of, setting_of}
 use Rattle.ped_rules.specs.ped_eval.specs.Runs.{Ending, Run, failed, going, run, run_all, stopped}
 use Rattle.ped_rules.specs.ped_eval.specs.Scopes.{Scope, Setting, cell_of, place_of, turns_of}
 use Rattle.ped_rules.specs.ped_store.specs.Acts.{Act, Touch, iterations_of}
@@ -42,8 +42,8 @@ use Rattle.ped_rules.specs.ped_store.specs.Cells.{Cell, Private}
 use Rattle.ped_rules.specs.ped_store.specs.Races.{Access, HasNoRace, accesses}
 use Rattle.ped_rules.specs.ped_store.specs.Stores.{Store, store_at_start}
 use Rattle.ped_rules.proofs.NameLaws.ValuesBut.{AreBeside}
-use Rattle.ped_splits.proofs.FuseFacts.{IsFusable, renamed, renamed_next}
-use Rattle.ped_splits.proofs.RenameFacts.{IsRenaming, renaming}
+use Rattle.ped_splits.proofs.FuseFacts.{renamed, renamed_next}
+use Rattle.ped_splits.proofs.RenameFacts.{IsRenaming}
 use Rattle.ped_splits.proofs.RenameGaps.{next_gap, next_loop, next_new, next_numbered, next_old}
 use Rattle.ped_splits.proofs.RenameAsked.{unwanted_exit}
 use Rattle.ped_splits.proofs.RenameInside.{loses_inside, next_inside, own_inside}
@@ -54,9 +54,9 @@ use Rattle.ped_splits.proofs.RenameLost.{is_lost, lost_named, loses}
 use Rattle.ped_splits.proofs.RenameActs.{AreTurned, exits_referred, referred, referred_append, turned_referred}
 use Rattle.ped_splits.proofs.RenameRaces.{no_race_comes}
 use Rattle.ped_splits.proofs.RenameRound.{round_renamed}
+use Rattle.ped_splits.proofs.RenameShown.{MayBeShown}
 use Rattle.ped_splits.proofs.RenameStands.{does_renamed, stands_renamed, turned_renamed}
 use Rattle.ped_splits.proofs.RenameTold.{told_unraced}
-use Rattle.ped_splits.specs.Fusing.{Match}
 use Rattle.ped_splits.specs.Neighbours.{Neighbour, next_number}
 
 -- what ends as a run that ends
@@ -179,7 +179,8 @@ module _ (making : MakingLaw) (t : ProgramTree) (s : ℕ) (x : Neighbour t s) (r
     ];
   }
 
-  module _ (data_bytes : List ℕ) (ends : Ends (run_of t data_bytes).ending) where
+  -- with these cells shown at the end
+  module _ (shown : Cell → Bool) (may : MayBeShown t shown) (data_bytes : List ℕ) (ends : Ends (run_of t data_bytes).ending) where
     abbrev start : Store
     start = store_at_start (lines data_bytes)
 
@@ -199,32 +200,32 @@ module _ (making : MakingLaw) (t : ProgramTree) (s : ℕ) (x : Neighbour t s) (r
       replayed : Replays (run_all p new k other) (fresh scope other v) goes_on
       replayed =
           subst (λ (f : Store → Run). Replays f (fresh scope other v) goes_on) (sym (λ i w. run_alone p new_loop k other w i))
-          (subst (λ (acts : List Act). Replays (run p new_loop k other) acts goes_on) (sym new_acts) (does_renamed t s x r data_bytes ends scope other (beside scope other near) front behind v executed_alone goes_alone))
+          (subst (λ (acts : List Act). Replays (run p new_loop k other) acts goes_on) (sym new_acts) (does_renamed t s x r shown may data_bytes ends scope other (beside scope other near) front behind v executed_alone goes_alone))
 
-      stood : StandsFor (record { agreed = wants (shown_at_end t) ((run_all p old k scope v).acts ++ behind); old = (run_all p old k scope v).acts; new = fresh scope other v }) (wants (shown_at_end t) behind) v
+      stood : StandsFor (record { agreed = wants shown ((run_all p old k scope v).acts ++ behind); old = (run_all p old k scope v).acts; new = fresh scope other v }) (wants shown behind) v
       stood =
-          subst (λ (y : Run). StandsFor (record { agreed = wants (shown_at_end t) (y.acts ++ behind); old = y.acts; new = fresh scope other v }) (wants (shown_at_end t) behind) v) (sym (run_alone p old_loop k scope v))
-          (subst (λ (acts : List Act). StandsFor (record { agreed = wants (shown_at_end t) ((run p old_loop k scope v).acts ++ behind); old = (run p old_loop k scope v).acts; new = acts }) (wants (shown_at_end t) behind) v) (sym new_acts)
-          (stands_renamed t s x r data_bytes ends scope other (beside scope other near) front behind v executed_alone goes_alone))
+          subst (λ (y : Run). StandsFor (record { agreed = wants shown (y.acts ++ behind); old = y.acts; new = fresh scope other v }) (wants shown behind) v) (sym (run_alone p old_loop k scope v))
+          (subst (λ (acts : List Act). StandsFor (record { agreed = wants shown ((run p old_loop k scope v).acts ++ behind); old = (run p old_loop k scope v).acts; new = acts }) (wants shown behind) v) (sym new_acts)
+          (stands_renamed t s x r shown may data_bytes ends scope other (beside scope other near) front behind v executed_alone goes_alone))
 
     do_near : DoNear names apart p q t start first count (run_all p old first) new fresh
     do_near =
         subst (λ (z : Setting). DoNear names apart p z t start first count (run_all p old first) new fresh) (sym same_setting)
         (subst (λ (n : ℕ). DoNear names apart p p t start n count (run_all p old n) new fresh) (sym (next_numbered x)) (λ scope other front behind v near executed goes. replayed scope other front behind v near executed goes))
 
-    stand_near : StandNear (wants (shown_at_end t)) names apart p t start first count (run_all p old first) fresh
-    stand_near = subst (λ (n : ℕ). StandNear (wants (shown_at_end t)) names apart p t start n count (run_all p old n) fresh) (sym (next_numbered x)) (λ scope other front behind v near executed goes. stood scope other front behind v near executed goes)
+    stand_near : StandNear (wants shown) names apart p t start first count (run_all p old first) fresh
+    stand_near = subst (λ (n : ℕ). StandNear (wants shown) names apart p t start n count (run_all p old n) fresh) (sym (next_numbered x)) (λ scope other front behind v near executed goes. stood scope other front behind v near executed goes)
 
     -- other statements leave the lost copies alone
     quiet : LeaveApart apart p t first count (run_of t data_bytes).acts
     quiet = subst (λ (n : ℕ). LeaveApart apart p t n count (run_of t data_bytes).acts) (sym (next_numbered x)) (λ a i v j h. quiet_copies making t s x r data_bytes ends a i v j h)
 
     -- nobody asks for a variable of a PARALLEL DO behind it
-    asked : AskNothing (wants (shown_at_end t)) names apart p t start first
-    asked = subst (AskNothing (wants (shown_at_end t)) names apart p t start) (sym (next_numbered x)) (λ front behind v before after e y among. asked_of front behind v before after e y among)
+    asked : AskNothing (wants shown) names apart p t start first
+    asked = subst (AskNothing (wants shown) names apart p t start) (sym (next_numbered x)) (λ front behind v before after e y among. asked_of front behind v before after e y among)
       where
         asked_of : (front behind : List Act) (v : Store) (before after : List Act) → (e : IsOtherExit names apart p t start k front behind v before after) → (y : List ℕ) → is_among y names ≡ true
-            → IsUndefinedInBoth e y ⊎ ((is_among y e.undefined ≡ true → wants (shown_at_end t) behind (cell_of e.scope y) ≡ false) × (is_among y e.undefined_now ≡ true → wants (shown_at_end t) behind (cell_of e.other y) ≡ false))
+            → IsUndefinedInBoth e y ⊎ ((is_among y e.undefined ≡ true → wants shown behind (cell_of e.scope y) ≡ false) × (is_among y e.undefined_now ≡ true → wants shown behind (cell_of e.other y) ≡ false))
         asked_of front behind v before after e y among = inr ((λ there. old_one), new_one (e.near.cell y))
           where
             in_body : is_among y (all_loop_variables e.round.loop.body) ≡ true
@@ -233,8 +234,8 @@ module _ (making : MakingLaw) (t : ProgramTree) (s : ℕ) (x : Neighbour t s) (r
               | inr next ↦ ap (λ (z : List ℕ). is_among z (all_loop_variables e.round.loop.body)) next ∙ next_inside x e.number e.round.loop e.round.from e.round.to
             ]
 
-            old_one : wants (shown_at_end t) behind (cell_of e.scope y) ≡ false
-            old_one = unwanted_exit t r.valid r.tidy data_bytes ends names apart k front behind v before after e y in_body
+            old_one : wants shown behind (cell_of e.scope y) ≡ false
+            old_one = unwanted_exit t r.valid shown may data_bytes ends names apart k front behind v before after e y in_body
 
             leaving : Act
             leaving = act e.step (place_of p e.number e.scope) (e.first ++ undefined_all e.scope e.undefined)
@@ -258,8 +259,8 @@ module _ (making : MakingLaw) (t : ProgramTree) (s : ℕ) (x : Neighbour t s) (r
                 (λ S seen l n. ap (λ (z : List ℕ). apart (cell_of (frame (entered_with p e.number e.round.loop.head e.round.loop.body seen l) n ∷ S) z)) is
                 ∙ copy_lost t J k e.number e.round.loop.head e.round.loop.body e.round.parallel (ap (λ (z : List ℕ). is_among z (all_loop_variables e.round.loop.body)) (sym is) ∙ in_body) S seen l n ∙ lost_there h)
 
-            new_one : (cell_of e.other y ≡ cell_of e.scope y) ⊎ ((is_among y names ≡ true) × (apart (cell_of e.scope y) ≡ true)) → is_among y e.undefined_now ≡ true → wants (shown_at_end t) behind (cell_of e.other y) ≡ false
-            new_one (inl alike) there = ap (wants (shown_at_end t) behind) alike ∙ old_one
+            new_one : (cell_of e.other y ≡ cell_of e.scope y) ⊎ ((is_among y names ≡ true) × (apart (cell_of e.scope y) ≡ true)) → is_among y e.undefined_now ≡ true → wants shown behind (cell_of e.other y) ≡ false
+            new_one (inl alike) there = ap (wants shown behind) alike ∙ old_one
             new_one (inr n) there = absurd (both_ways (is_among y e.undefined_now) (gone n.1) there)
 
     -- the run is made of parts, and the new program does the new ones
@@ -271,8 +272,8 @@ module _ (making : MakingLaw) (t : ProgramTree) (s : ℕ) (x : Neighbour t s) (r
     made : Made
     made = exchanged_near names apart p q gap old new t u start fresh pasted quiet do_near ends
 
-    stand : PartsStandBy (wants (shown_at_end t)) made.0 start
-    stand = all_stand_near (shown_at_end t) (wants (shown_at_end t)) (wanted_suit (shown_at_end t)) names apart p t start first count (run_all p old first) fresh stand_near asked made.0 made.2
+    stand : PartsStandBy (wants shown) made.0 start
+    stand = all_stand_near shown (wants shown) (wanted_suit shown) names apart p t start first count (run_all p old first) fresh stand_near asked made.0 made.2
 
     -- by references both do the same
     none_referred : (S : Scope) (xs : List (List ℕ)) (v : Touch) → IsIn v (undefined_all S xs) → v.reference ≡ 0
@@ -291,7 +292,7 @@ module _ (making : MakingLaw) (t : ProgramTree) (s : ℕ) (x : Neighbour t s) (r
             turned_referred (cell_of scope J) (cell_of other I) (run_all p old k scope v).acts (fresh scope other v)
             (subst (λ (y : Run). AreTurned (cell_of scope J) (cell_of other I) y.acts (fresh scope other v)) (sym (run_alone p old_loop k scope v))
             (subst (AreTurned (cell_of scope J) (cell_of other I) (run p old_loop k scope v).acts) (sym (new_acts scope other front behind v near executed goes))
-            (turned_renamed t s x r data_bytes ends scope other (beside scope other near) front behind v (executed_alone scope other front behind v near executed goes) (goes_alone scope other front behind v near executed goes))))
+            (turned_renamed t s x r shown may data_bytes ends scope other (beside scope other near) front behind v (executed_alone scope other front behind v near executed goes) (goes_alone scope other front behind v near executed goes))))
             (told_is_unreferred p old k scope v) (told_is_unreferred p new k other v)
 
     parts_referred : (front : List Act) (parts : List Part) (behind : List Act) (v : Store) → AreExchangedNear names apart p t start first count (run_all p old first) fresh front parts behind v → referred (old_parts parts) ≡ referred (new_parts parts)
@@ -312,7 +313,7 @@ module _ (making : MakingLaw) (t : ProgramTree) (s : ℕ) (x : Neighbour t s) (r
     old_fits = subst (λ (acts : List Act). Fits acts start) (sym made.1) ((all_told p t.body 1 []).fits start)
 
     new_run : run_all q u.body 1 [] start ≡ record { acts = new_parts made.0; ending = ending_with (finish_of (run_of t data_bytes).ending) (store_after (new_parts made.0) start) }
-    new_run = made.3 start (parts_fit (shown_at_end t) (wants (shown_at_end t)) (wanted_suit (shown_at_end t)) made.0 start start stand (λ c m. refl) old_fits)
+    new_run = made.3 start (parts_fit shown (wants shown) (wanted_suit shown) made.0 start start stand (λ c m. refl) old_fits)
 
     pub renaming_ends : Ends (run_of (renamed x) data_bytes).ending
     renaming_ends = subst (λ (y : Run). Ends y.ending) (sym new_run) (ends_alike (run_of t data_bytes).ending (store_after (new_parts made.0) start) ends)
@@ -320,28 +321,23 @@ module _ (making : MakingLaw) (t : ProgramTree) (s : ℕ) (x : Neighbour t s) (r
     pub renaming_alike : referred (run_of t data_bytes).acts ≡ referred (run_of (renamed x) data_bytes).acts
     renaming_alike = ap referred (sym made.1) ∙ parts_referred [] made.0 [] start made.2 ∙ ap (λ (y : Run). referred y.acts) (sym new_run)
 
-  pub renaming_keeps : Keeps t (renamed x)
-  renaming_keeps = made_keeps t u (record {
-    saved = refl;
-    kinds = renamed_live t s x r;
-    counted = λ n. n;
-    told = λ n. n;
-    back = record { back = λ n. refl };
-    agreed = λ data_bytes. wants (shown_at_end t);
-    suit = λ data_bytes. wanted_suit (shown_at_end t);
-    parts = λ data_bytes free. (made data_bytes free.0).0;
-    old_are = λ data_bytes free. (made data_bytes free.0).1;
-    stand = λ data_bytes free. stand data_bytes free.0;
-    replays = λ data_bytes free. (made data_bytes free.0).3;
-    free = λ data_bytes free same none.
-        subst (λ (acts : List Act). HasNoRace (accesses acts)) (sym same) (no_race_comes t u data_bytes (told_unraced t s x r data_bytes (renaming_alike data_bytes free.0)) (renaming_alike data_bytes free.0) free.1);
-  })
+  -- so what is shown at the end stays, where it may be shown
+  module _ (may : MayBeShown t (shown_at_end t)) (data_bytes : List ℕ) (free : IsRaceFree t data_bytes) where
+    abbrev alike : referred (run_of t data_bytes).acts ≡ referred (run_of (renamed x) data_bytes).acts
+    alike = renaming_alike (shown_at_end t) may data_bytes free.0
 
--- two DO loops that may become one
-pub renamed_keeps : MakingLaw → (t : ProgramTree) (s : ℕ) (m : Match t s) → IsFusable t s m → (m.neighbour.own.variable ≡ m.neighbour.next.variable → ⊥) → is_among m.neighbour.own.variable (stmts_names m.neighbour.next_body) ≡ false → Keeps t (renamed m.neighbour)
-renamed_keeps making t s m f differ absent = renaming_keeps making t s m.neighbour (renaming t s m f differ absent)
-
--- and by references both programs do the same
-pub accesses_alike : MakingLaw → (t : ProgramTree) (s : ℕ) (m : Match t s) → IsFusable t s m → (m.neighbour.own.variable ≡ m.neighbour.next.variable → ⊥) → is_among m.neighbour.own.variable (stmts_names m.neighbour.next_body) ≡ false
-    → (data_bytes : List ℕ) → Ends (run_of t data_bytes).ending → referred (run_of t data_bytes).acts ≡ referred (run_of (renamed m.neighbour) data_bytes).acts
-accesses_alike making t s m f differ absent data_bytes ends = renaming_alike making t s m.neighbour (renaming t s m f differ absent) data_bytes ends
+    pub renaming_keeps : KeepsOn t (renamed x) data_bytes
+    renaming_keeps = made_keeps t u data_bytes free (record {
+      saved = refl;
+      kinds = renamed_live t s x r;
+      counted = λ n. n;
+      told = λ n. n;
+      back = record { back = λ n. refl };
+      agreed = wants (shown_at_end t);
+      suit = wanted_suit (shown_at_end t);
+      parts = (made (shown_at_end t) may data_bytes free.0).0;
+      old_are = (made (shown_at_end t) may data_bytes free.0).1;
+      stand = stand (shown_at_end t) may data_bytes free.0;
+      replays = (made (shown_at_end t) may data_bytes free.0).3;
+      free = λ same none. subst (λ (acts : List Act). HasNoRace (accesses acts)) (sym same) (no_race_comes t u data_bytes (told_unraced t s x r data_bytes alike) alike free.1);
+    })

@@ -260,7 +260,7 @@ module _ (making : MakingLaw) (t : ProgramTree) (s : ℕ) (x : Neighbour t s) (r
       let one : is_write_in lost.turn.statement (statements_count lost.inside.loop.body + 1) J q.0 ≡ true =
       (λ k. ((lt-ltb lost.turn.statement q.0.statement (omega (arith, number, low)) k && lt-ltb q.0.statement (lost.turn.statement + (statements_count lost.inside.loop.body + 1)) (omega (arith, number, high)) k) && own k) && writing k) in
       both_ways (is_written_in t lost.turn.statement lost.inside.loop.body J)
-      (r.tidy lost.turn.statement lost.inside.loop lost.loses.parallel J (record { loop = lost.inside.loop; among = is_so (is_among J (loop_variables (Do lost.inside.loop.head lost.inside.loop.body))) (or_right (is_same_text J lost.inside.loop.head.variable) (is_among J (all_loop_variables lost.inside.loop.body)) (J_index a v lost)) })).unwritten
+      (r.unwritten lost.turn.statement lost.inside.loop lost.loses.parallel (record { loop = lost.inside.loop; among = is_so (is_among J (loop_variables (Do lost.inside.loop.head lost.inside.loop.body))) (or_right (is_same_text J lost.inside.loop.head.variable) (is_among J (all_loop_variables lost.inside.loop.body)) (J_index a v lost)) }))
       (any_of (is_write_in lost.turn.statement (statements_count lost.inside.loop.body + 1) J) (references t) q.0 q.3.listed one)
     where
       is_so : (b : Bool) → b ≡ true → IsTrue b

@@ -63,6 +63,7 @@ use Rattle.ped_splits.proofs.RenameActs.{AreTurned, IsTurnedAct, turned_stripped
 use Rattle.ped_splits.proofs.RenameFacts.{IsRenaming}
 use Rattle.ped_splits.proofs.RenameGaps.{next_loop, own_loop}
 use Rattle.ped_splits.proofs.RenamePaths.{live_before}
+use Rattle.ped_splits.proofs.RenameShown.{MayBeShown, wanted_more}
 use Rattle.ped_splits.proofs.RenameTrips.{text_turned}
 use Rattle.ped_splits.proofs.RenameTrips as trips_of
 use Rattle.ped_splits.specs.Neighbours.{Neighbour, next_number}
@@ -87,7 +88,7 @@ rest_among y names (cells.Element w js) q i = absurd cc
 rest_among y names cells.In q i = absurd cc
 rest_among y names cells.Out q i = absurd cc
 
-module _ (t : ProgramTree) (s : ℕ) (x : Neighbour t s) (r : IsRenaming t s x) (data_bytes : List ℕ) (ends : Ends (run_of t data_bytes).ending) where
+module _ (t : ProgramTree) (s : ℕ) (x : Neighbour t s) (r : IsRenaming t s x) (shown : Cell → Bool) (may : MayBeShown t shown) (data_bytes : List ℕ) (ends : Ends (run_of t data_bytes).ending) where
   abbrev p : Setting
   p = setting_of t
 
@@ -126,9 +127,6 @@ module _ (t : ProgramTree) (s : ℕ) (x : Neighbour t s) (r : IsRenaming t s x) 
 
   abbrev start : Store
   start = store_at_start (lines data_bytes)
-
-  abbrev shown : Cell → Bool
-  shown = shown_at_end t
 
   abbrev count : ℕ
   count = statements_count (alone (Do x.next x.next_body))
@@ -247,11 +245,11 @@ module _ (t : ProgramTree) (s : ℕ) (x : Neighbour t s) (r : IsRenaming t s x) 
     its : (c : Cell) → IsCopyInside p scope k count c → IsTheirs front behind v c
     its c copy = theirs p scope k count c copy t (lines data_bytes) front (run p old_loop k scope v).acts behind v executed
 
-    hidden : (c : Cell) → IsCopyInside p scope k count c → shown c ≡ false
-    hidden c copy = ap shown copy.is
+    hidden : (c : Cell) → IsCopyInside p scope k count c → shown_at_end t c ≡ false
+    hidden c copy = ap (shown_at_end t) copy.is
 
-    unwanted_copy : (c : Cell) → IsCopyInside p scope k count c → wants shown behind c ≡ true → ⊥
-    unwanted_copy c copy m = both_ways (wants shown behind c) ((its c copy).unwanted shown (hidden c copy)) m
+    unwanted_copy : (c : Cell) → IsCopyInside p scope k count c → wants (shown_at_end t) behind c ≡ true → ⊥
+    unwanted_copy c copy m = both_ways (wants (shown_at_end t) behind c) ((its c copy).unwanted (shown_at_end t) (hidden c copy)) m
 
     -- nobody wants the variable of the first DO behind the second
     exit : IsExit p t start k scope behind
@@ -260,7 +258,7 @@ module _ (t : ProgramTree) (s : ℕ) (x : Neighbour t s) (r : IsRenaming t s x) 
     first_dead : wants shown behind (cell_of scope I) ≡ false
     first_dead =
         unwanted_behind p one t I I_constant unstopping start k scope behind exit
-        (λ live. (r.own_contained I (record { loop = own_loop x; among = is_so (is_among I (loop_variables (Do x.own x.own_body))) I_among })).1 (live_before t s x r.serial r.private I r.differ live)) shown (shown_scalar t I scope)
+        (λ live. (r.own_contained I (record { loop = own_loop x; among = is_so (is_among I (loop_variables (Do x.own x.own_body))) I_among })).1 (live_before t s x r.serial r.private I r.differ live)) shown (λ h. shown_scalar t I scope (may.at_end (cell_of scope I) h))
       where
         is_so : (b : Bool) → b ≡ true → IsTrue b
         is_so b q = q
@@ -354,7 +352,8 @@ module _ (t : ProgramTree) (s : ℕ) (x : Neighbour t s) (r : IsRenaming t s x) 
       where
         by : (b : Bool) → is_cell_of I c ≡ b → written (run p old_loop k scope v).acts c ≡ false
         by true q = unassigned p I old_loop k scope v c I_unassigned q
-        by false q = unwritten_there t r.valid k loop r.contained data_bytes ends scope front behind v executed goes unwanted_copy old_loop refl v c (rest_among I (loop_variables old_loop) c q i) m
+        by false q = unwritten_there t r.valid k loop r.contained data_bytes ends scope front behind v executed goes unwanted_copy old_loop refl v c (rest_among I (loop_variables old_loop) c q i)
+            (wanted_more shown (shown_at_end t) behind c (may.at_end c) m)
 
     new_unwritten : (c : Cell) → idle c ≡ true → wants shown behind c ≡ true → written new_acts c ≡ false
     new_unwritten c i m = false_unless (written new_acts c) (λ n.

@@ -13,6 +13,7 @@ use Rattle.ped_rules.specs.ped_loop_runs.proofs.LoopLaws.RacesByReferences.{told
 use Rattle.ped_rules.specs.ped_loop_runs.proofs.PastingLaws.LeftCopies.{body_reaches}
 use Rattle.ped_rules.specs.ped_loop_runs.specs.Executions.{IsExecuted}
 use Rattle.ped_rules.specs.ped_loop_runs.specs.Numbers.{counted_by}
+use Rattle.ped_rules.specs.ped_loop_runs.specs.TrueRejections.{IsTrueOn}
 use Rattle.ped_rules.specs.ped_bodies.proofs.BodyLaws.LikewiseAccesses.{likewise_accesses}
 use Rattle.ped_rules.specs.ped_bodies.proofs.BodyLaws.MovedCells.{moved_names}
 use Rattle.ped_rules.specs.ped_bodies.proofs.BodyLaws.NamesApart.{behind_is, distributed_apart}
@@ -41,7 +42,7 @@ use Rattle.ped_rules.specs.ped_store.specs.Races.{Access, accesses, accesses_of,
 use Rattle.ped_rules.specs.ped_store.specs.Stores.{Store, store_at_start}
 use Rattle.ped_splits.proofs.BlockLaws.{In as InList, in_back, in_front}
 use Rattle.ped_splits.proofs.Partitions.{flat}
-use Rattle.ped_splits.proofs.SplitFacts.{IsSplit, UnrejectedLaw}
+use Rattle.ped_splits.proofs.SplitFacts.{IsSplit}
 use Rattle.ped_splits.proofs.SplitNumbers.{split_numbers}
 use Rattle.ped_splits.proofs.SplitPieces.{trip_unit}
 use Rattle.ped_splits.proofs.SplitPlaces.{end_of, look, AllPlaced, AreFresh, ArePlaced, HaveNumbers, heads_numbered, units_placed}
@@ -430,8 +431,8 @@ module _ (t : ProgramTree) (s : ℕ) (l : LoopOf t s) (found : List (List ℕ)) 
       by b c cells writing apart (inr m) (inl h) = absurd (round_second (turns_of scope) (new_turn b m ∷ m.likewise.more) ((λ i. are_apart (sym (place b m) i) (sym h.place i)) ∙ apart))
       by b c cells writing apart (inr m) (inr n) = units_meet b c m n cells writing apart
 
-module _ (making : MakingLaw) (sequence : SequenceLaw) (law : UnrejectedLaw) (t : ProgramTree) (s : ℕ) (l : LoopOf t s) (found : List (List ℕ)) (x : IsSplit t s l found) (data_bytes : List ℕ) (ends : Ends (run_of t data_bytes).ending)
+module _ (making : MakingLaw) (sequence : SequenceLaw) (t : ProgramTree) (s : ℕ) (l : LoopOf t s) (found : List (List ℕ)) (x : IsSplit t s l found) (data_bytes : List ℕ) (holds : IsTrueOn t data_bytes) (ends : Ends (run_of t data_bytes).ending)
     (scope : Scope) (front behind : List Act) (v : Store) (executed : IsExecuted (setting_of t) t (store_at_start (lines data_bytes)) s (statements_count (alone (Do l.head l.body))) scope front (run (setting_of t) (Do l.head l.body) s scope v).acts behind v)
     (goes : finish_of (run (setting_of t) (Do l.head l.body) s scope v).ending ≡ goes_on) where
   pub free_split : AreRaceFree t s (statements_count (alone (Do l.head l.body))) scope (run (setting_of t) (Do l.head l.body) s scope v).acts (run_all (renumbered (counted_by (split_numbers t s l.body found)) (setting_of t)) (loops_of found l.head l.body) s scope v).acts
-  free_split = free_loops t s l found x scope v goes (made_is making sequence law t s l found x data_bytes ends scope front behind v executed goes)
+  free_split = free_loops t s l found x scope v goes (made_is making sequence t s l found x data_bytes holds ends scope front behind v executed goes)

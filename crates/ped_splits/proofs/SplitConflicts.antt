@@ -1,4 +1,4 @@
--- What two units do, in one iteration or in two, doesn't conflict where the unit that comes later stands in an earlier block: a dependence would lead back.
+-- What two units do, in one iteration or in two, doesn't conflict where the unit that comes later stands in an earlier block, on data on which no rejected dependence occurs: another one would lead back.
 use Rattle.std.proofs.Common.{◌≡◌, ◌⊎◌, ℕ, zero, suc, ◌+◌, ◌<◌, ◌≤◌, ◌==◌, List, [], ◌∷◌, ◌++◌, length, Bool, true, false, ◌&&◌, Option, Some, None, inl, inr, refl, sym, ap, subst, ◌∙◌, append_assoc, eqb-true, arith}
 use Rattle.std.specs.List.{range_with_len}
 use Rattle.std.specs.Prelude.{slice_index_or}
@@ -13,6 +13,7 @@ use Rattle.ped_rules.specs.Carried.{level_at}
 use Rattle.ped_rules.specs.ped_loop_runs.proofs.LoopLaws.Carrying.{independent_inside, share_trips}
 use Rattle.ped_rules.specs.ped_loop_runs.proofs.LoopLaws.Trips.{come_in_run, trips_carried}
 use Rattle.ped_rules.specs.ped_loop_runs.specs.Carried.{MakeConflict, IsCoveredAt, is_level, AreInTrips, IsCarriedByLoop, AllStoreWithin}
+use Rattle.ped_rules.specs.ped_loop_runs.specs.TrueRejections.{IsTrueOn}
 use Rattle.ped_rules.specs.ped_flow.specs.PlainBounds.{nest_round}
 use Rattle.ped_rules.specs.ped_flow.specs.Questions.{LoopOf}
 use Rattle.ped_rules.specs.ped_laws.proofs.ActLaws.Conflicting.{acts_of_blocks}
@@ -34,7 +35,7 @@ use Rattle.ped_rules.specs.ped_store.specs.Races.{Access, accesses, accesses_of,
 use Rattle.ped_rules.specs.ped_store.specs.Stores.{store_at_start}
 use Rattle.ped_splits.proofs.BlockLaws.{In, from_filter}
 use Rattle.ped_splits.proofs.KeptArrows.{kept_forward}
-use Rattle.ped_splits.proofs.SplitFacts.{IsSplit, UnrejectedLaw}
+use Rattle.ped_splits.proofs.SplitFacts.{IsSplit}
 use Rattle.ped_splits.proofs.SplitUnits.{offset, size_of_unit, numbers_are}
 use Rattle.ped_splits.specs.Units.{units, is_within, stands_in}
 
@@ -84,7 +85,7 @@ module _ (s : ℕ) (body : StmtTrees) where
     pub stand : (a : Act) → IsIn a acts → IsOfUnit k a.place.statement
     pub inside : (a : Act) → IsIn a acts → (inner : List Turn) × (a.place.turns ≡ outer ++ i ∷ inner) × ((v : Turn) (more : List Turn) → inner ≡ v ∷ more → IsOfUnit k v.statement)
 
-module _ (making : MakingLaw) (sequence : SequenceLaw) (law : UnrejectedLaw) (t : ProgramTree) (s : ℕ) (l : LoopOf t s) (found : List (List ℕ)) (x : IsSplit t s l found) (data_bytes : List ℕ) where
+module _ (making : MakingLaw) (sequence : SequenceLaw) (t : ProgramTree) (s : ℕ) (l : LoopOf t s) (found : List (List ℕ)) (x : IsSplit t s l found) (data_bytes : List ℕ) (holds : IsTrueOn t data_bytes) where
   abbrev OfUnit : ℕ → ℕ → Type 0
   OfUnit = IsOfUnit s l.body
 
@@ -103,10 +104,10 @@ module _ (making : MakingLaw) (sequence : SequenceLaw) (law : UnrejectedLaw) (t 
     pub second_is : second.statement ≡ s
     pub order : (first.number < second.number) ⊎ ((first ≡ second) × (k < j))
 
-  forward : (a b : Access) (level : Option ℕ) (k j y z : ℕ) → k < length (units l.body) → j < length (units l.body) → IsCoveredAt t x.are.edges level a b → is_within (level_at t s) level ≡ true → OfUnit k a.place.statement → OfUnit j b.place.statement
+  forward : (a b : Access) (level : Option ℕ) (k j y z : ℕ) → k < length (units l.body) → j < length (units l.body) → ComeInRun t data_bytes a b → conflict a b ≡ true → IsCoveredAt t x.are.edges level a b → is_within (level_at t s) level ≡ true → OfUnit k a.place.statement → OfUnit j b.place.statement
       → In k (slice_index_or found y []) → In j (slice_index_or found z []) → y ≤ z
-  forward a b level k j y z inside within c deep of to here there =
-      kept_forward t s l.head l.body found x.are c.0.edge c.0.listed (ap (is_within (level_at t s)) c.1 ∙ deep) (not_rejected c.0.edge.mark (law t x.are.edges x.unrejected x.are.are c.0.edge c.0.listed)) k j y z inside within
+  forward a b level k j y z inside within come meets c deep of to here there =
+      kept_forward t s l.head l.body found x.are c.0.edge c.0.listed (ap (is_within (level_at t s)) c.1 ∙ deep) (not_rejected c.0.edge.mark (holds x.are.edges x.are.are a b come meets c.0)) k j y z inside within
       (ap (λ (p : ℕ × ℕ). stands_in s l.body k p.0) c.0.source ∙ stands_there s l.body k a.place.statement inside of) (ap (λ (p : ℕ × ℕ). stands_in s l.body j p.0) c.0.sink ∙ stands_there s l.body j b.place.statement within to) here there
 
   itself_within : (n : ℕ) → is_within n (Some n) ≡ true
@@ -118,7 +119,7 @@ module _ (making : MakingLaw) (sequence : SequenceLaw) (law : UnrejectedLaw) (t 
   in_two a b k j y z inside within come meets one other outer i w is js trips of to here there =
       let c : IsCarriedByLoop t x.are.edges s l.body outer is js a b = trips_carried making sequence t data_bytes x.valid x.are.edges x.are.are s l a b outer i w is js come meets one other trips in
       let level : length outer + 1 ≡ length (nest_round t s) + 1 = same_level (length outer + 1) (length (nest_round t s) + 1) (ap (is_level (length (nest_round t s) + 1)) (sym c.0.level) ∙ level_of (is_level (length (nest_round t s) + 1) c.0.covered.edge.level) _ c.1) in
-      forward a b (Some (length outer + 1)) k j y z inside within (c.0.covered, c.0.level) (ap (λ (n : ℕ). is_within (level_at t s) (Some n)) level ∙ itself_within (level_at t s)) of to here there
+      forward a b (Some (length outer + 1)) k j y z inside within come meets (c.0.covered, c.0.level) (ap (λ (n : ℕ). is_within (level_at t s) (Some n)) level ∙ itself_within (level_at t s)) of to here there
     where
       same_level : (m n : ℕ) → is_level n (Some m) ≡ true → m ≡ n
       same_level m n h = eqb-true m n h
@@ -147,7 +148,7 @@ module _ (making : MakingLaw) (sequence : SequenceLaw) (law : UnrejectedLaw) (t 
       let m = by.met in
       let c : MakeConflict t by.first a b by.source by.sink = record { at_source = m.at_source; at_sink = m.at_sink; before = m.before; behind = m.behind; made = m.made; makes = m.makes; conflicts = meets } in
       let some : 0 < length (outer ++ i ∷ []) = (let long = length-append outer (i ∷ []) in omega (arith, long)) in
-      forward a b None k j y z inside within
+      forward a b None k j y z inside within come meets
       (independent_inside t by.first a b by.source by.sink c (pairs (references t)) x.are.edges (pair_listed t by.first a b by.source by.sink m) x.are.are (outer ++ i ∷ []) is js some
       (at_first ∙ sym (append_assoc outer (i ∷ []) is)) (at_second ∙ sym (append_assoc outer (i ∷ []) js)) (other_loops k j less inside is js inner_first inner_second) (inl (units_apart s l.body k j a.place.statement b.place.statement less inside of to))) refl of to here there
 

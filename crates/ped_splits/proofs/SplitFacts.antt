@@ -6,26 +6,17 @@ use Rattle.ped_rules.specs.Rules.{IsBoundOf}
 use Rattle.ped_rules.proofs.Chains.{not_this, not_those}
 use Rattle.ped_rules.specs.Rules.{WhereNoLoop, is_parallel, WhereEscape, WhereUnplain}
 use Rattle.ped_rules.specs.Chains.{WhereLoop}
-use Rattle.ped_rules.specs.ped_loop_runs.specs.Unrejected.{some_rejection}
 use Rattle.ped_rules.specs.ped_steps.specs.Causes.{NoRule}
 use Rattle.ped_rules.specs.ped_steps.specs.declared.rules.Rule.TheVariants.{NoLoop, ParallelState, IndexEscapes, BoundNotPlain}
 use Rattle.ped_rules.specs.ped_flow.specs.PlainBounds.{IsPlain}
 use Rattle.ped_rules.specs.ped_flow.specs.Questions.{LoopOf, IsContained}
 use Rattle.ped_rules.specs.ped_eval.specs.Outcomes.{setting_of}
 use Rattle.ped_rules.specs.ped_symbols.specs.NameRefusals.{IsValid}
-use Rattle.ped_rules.specs.ped_laws.specs.Acts.Orders.{IsIn}
-use Rattle.ped_rules.specs.ped_graph.specs.Dependences.{AreEdges}
-use Rattle.ped_edges.specs.Edges.{Edge}
-use Rattle.ped_edges.specs.Edges.{rejected}
 use Rattle.ped_splits.proofs.DistributeRules as rules
 use Rattle.ped_splits.specs.Blocks.{AreBlocks}
 use Rattle.ped_splits.specs.Distributing.{distributed, IsItsBound, StandsAgainstDistribution}
 
--- no dependence of a program without C$PED REJECT is rejected
-abbrev pub UnrejectedLaw : Type 0
-UnrejectedLaw = (t : ProgramTree) (edges : List Edge) → some_rejection t.body ≡ false → AreEdges t edges → (e : Edge) → IsIn e edges → e.mark ≡ rejected → ⊥
-
--- a DO that may be taken apart into DO loops of these blocks: it isn't parallel and is contained, its bounds are plain, and no dependence is rejected
+-- a DO that may be taken apart into DO loops of these blocks: it isn't parallel and is contained, and its bounds are plain
 pub record IsSplit (t : ProgramTree) (s : ℕ) (l : LoopOf t s) (found : List (List ℕ)) : Type 0 where
   pub valid : IsValid t
   pub new_valid : IsValid (distributed t s found)
@@ -34,10 +25,9 @@ pub record IsSplit (t : ProgramTree) (s : ℕ) (l : LoopOf t s) (found : List (L
   pub serial : l.head.parallel ≡ false
   pub contained : IsContained t s
   pub plain : (e : ExprTree) → IsBoundOf l.head e → IsPlain (setting_of t).constants t s e
-  pub unrejected : some_rejection t.body ≡ false
 
-pub is_split : (t : ProgramTree) (s : ℕ) (l : LoopOf t s) (found : List (List ℕ)) → IsValid t → NoRule (StandsAgainstDistribution s t) → AreBlocks t s l.head l.body found → some_rejection t.body ≡ false → IsSplit t s l found
-is_split t s l found valid none are unrejected = record {
+pub is_split : (t : ProgramTree) (s : ℕ) (l : LoopOf t s) (found : List (List ℕ)) → IsValid t → NoRule (StandsAgainstDistribution s t) → AreBlocks t s l.head l.body found → IsSplit t s l found
+is_split t s l found valid none are = record {
   valid = valid;
   new_valid = rules.is_valid s t none l found are;
   are = are;
@@ -45,7 +35,6 @@ is_split t s l found valid none are unrejected = record {
   serial = rules.is_serial s t none l;
   contained = rules.is_contained s t none;
   plain = λ e bound. by e bound (plain_decided (setting_of t).constants t s e);
-  unrejected = unrejected;
 }
   where
     none_but_escape : NoRule (rules.plain s t)

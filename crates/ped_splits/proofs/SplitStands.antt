@@ -6,6 +6,7 @@ use Rattle.ped_tree.specs.NamesIn.{loop_variables}
 use Rattle.ped_tree.specs.Numbering.{statements_count}
 use Rattle.ped_rules.specs.ped_loop_runs.specs.Executions.{IsExecuted}
 use Rattle.ped_rules.specs.ped_loop_runs.specs.Numbers.{counted_by}
+use Rattle.ped_rules.specs.ped_loop_runs.specs.TrueRejections.{IsTrueOn}
 use Rattle.ped_rules.specs.ped_steps.specs.Replacing.{alone}
 use Rattle.ped_rules.specs.ped_steps.specs.Runs.Renumbering.{renumbered}
 use Rattle.ped_rules.specs.ped_flow.specs.Questions.{LoopOf}
@@ -22,13 +23,13 @@ use Rattle.ped_rules.specs.ped_store.specs.Cells.{Cell}
 use Rattle.ped_rules.specs.ped_store.specs.Stores.{Store, store_at_start}
 use Rattle.ped_rules.specs.ped_weaves.specs.Apart.{agreed}
 use Rattle.ped_rules.proofs.NestLaws.WovenStands.{stands_apart}
-use Rattle.ped_splits.proofs.SplitFacts.{IsSplit, UnrejectedLaw}
+use Rattle.ped_splits.proofs.SplitFacts.{IsSplit}
 use Rattle.ped_splits.proofs.SplitNumbers.{split_numbers}
 use Rattle.ped_splits.proofs.SplitRuns as runs
 use Rattle.ped_splits.proofs.SplitWoven.{stands_made}
 use Rattle.ped_splits.specs.Distributing.{loops_of}
 
-module _ (making : MakingLaw) (sequence : SequenceLaw) (law : UnrejectedLaw) (t : ProgramTree) (s : ℕ) (l : LoopOf t s) (found : List (List ℕ)) (x : IsSplit t s l found) (data_bytes : List ℕ) (ends : Ends (run_of t data_bytes).ending)
+module _ (making : MakingLaw) (sequence : SequenceLaw) (t : ProgramTree) (s : ℕ) (l : LoopOf t s) (found : List (List ℕ)) (x : IsSplit t s l found) (data_bytes : List ℕ) (holds : IsTrueOn t data_bytes) (ends : Ends (run_of t data_bytes).ending)
     (scope : Scope) (front behind : List Act) (v : Store) (executed : IsExecuted (setting_of t) t (store_at_start (lines data_bytes)) s (statements_count (alone (Do l.head l.body))) scope front (run (setting_of t) (Do l.head l.body) s scope v).acts behind v)
     (goes : finish_of (run (setting_of t) (Do l.head l.body) s scope v).ending ≡ goes_on) where
   abbrev p : Setting
@@ -57,7 +58,7 @@ module _ (making : MakingLaw) (sequence : SequenceLaw) (law : UnrejectedLaw) (t 
   wanted = agreed (stands_apart (loop_variables (Do l.head l.body))) (shown_at_end t) behind
 
   stood : StandsFor (record { agreed = before; old = old_acts; new = made }) wanted v
-  stood = stands_made making sequence law t s l found x data_bytes ends scope front behind v executed goes
+  stood = stands_made making sequence t s l found x data_bytes holds ends scope front behind v executed goes
 
   -- so the new DO loops do it
   made_here : run_all q (loops_of found l.head l.body) s scope v ≡ record { acts = made; ending = ending_with goes_on (store_after made v) }

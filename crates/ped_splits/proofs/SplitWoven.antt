@@ -40,6 +40,7 @@ use Rattle.ped_rules.specs.ped_laws.specs.FlowRuns.Exits.{IsExit}
 use Rattle.ped_rules.specs.ped_loop_runs.specs.Bounds.{IsOfFixed}
 use Rattle.ped_rules.specs.ped_loop_runs.specs.Carried.{AllStoreWithin}
 use Rattle.ped_rules.specs.ped_loop_runs.specs.Copies.{IsTheirs}
+use Rattle.ped_rules.specs.ped_loop_runs.specs.TrueRejections.{IsTrueOn}
 use Rattle.ped_rules.specs.ped_laws.specs.Acts.Pieces.{StandsFor}
 use Rattle.ped_rules.specs.ped_laws.specs.Runs.Replaying.{finish_of, goes_on, has_fault}
 use Rattle.ped_rules.specs.ped_laws.specs.Runs.Showing.{shown_at_end}
@@ -61,7 +62,7 @@ use Rattle.ped_rules.specs.ped_weaves.proofs.WeaveLaws.Woven.{woven_stands}
 use Rattle.ped_rules.specs.ped_weaves.specs.Weaves.{IsSteady, IsWoven, Knot, Weave, block, blocks_in, control, counted, knotted, new_list, old_list}
 use Rattle.ped_rules.proofs.NestLaws.WovenStands.{agreed_wanted, idle_apart, of_block, stands_apart, touches_in, without_from}
 use Rattle.ped_rules.specs.ped_loop_runs.proofs.LoopLaws.OneForOneStands.{not_so, run_alone}
-use Rattle.ped_splits.proofs.SplitFacts.{IsSplit, UnrejectedLaw}
+use Rattle.ped_splits.proofs.SplitFacts.{IsSplit}
 use Rattle.ped_splits.proofs.SplitNumbers.{split_numbers}
 use Rattle.ped_splits.proofs.SplitPlaces.{end_of}
 use Rattle.ped_splits.proofs.SplitConflicts.{AreTwoPieces, pieces_apart}
@@ -87,7 +88,7 @@ around a b c d f g h =
     ap (λ ys. a ++ ys) (append_assoc b (c ++ (d ++ (f ++ g))) h ∙ ap (λ ys. b ++ ys) (append_assoc c (d ++ (f ++ g)) h ∙ ap (λ ys. c ++ ys) (append_assoc d (f ++ g) h ∙ ap (λ ys. d ++ ys) (append_assoc f g h))))
     ∙ sym (append_assoc a b (c ++ (d ++ (f ++ (g ++ h)))))
 
-module _ (making : MakingLaw) (sequence : SequenceLaw) (law : UnrejectedLaw) (t : ProgramTree) (s : ℕ) (l : LoopOf t s) (found : List (List ℕ)) (x : IsSplit t s l found) (data_bytes : List ℕ) (ends : Ends (run_of t data_bytes).ending)
+module _ (making : MakingLaw) (sequence : SequenceLaw) (t : ProgramTree) (s : ℕ) (l : LoopOf t s) (found : List (List ℕ)) (x : IsSplit t s l found) (data_bytes : List ℕ) (holds : IsTrueOn t data_bytes) (ends : Ends (run_of t data_bytes).ending)
     (scope : Scope) (front behind : List Act) (v : Store) (executed : IsExecuted (setting_of t) t (store_at_start (lines data_bytes)) s (statements_count (alone (Do l.head l.body))) scope front (run (setting_of t) (Do l.head l.body) s scope v).acts behind v)
     (goes : finish_of (run (setting_of t) (Do l.head l.body) s scope v).ending ≡ goes_on) where
   abbrev p : Setting
@@ -169,9 +170,9 @@ module _ (making : MakingLaw) (sequence : SequenceLaw) (law : UnrejectedLaw) (t 
       subst (λ (bs : List Block). Ordered bs (blocks_in old_unit its_weave.new)) (sym (loop_blocks e scope (place_of p s scope) many_units old_unit seen (range_with_len 0 many_units)))
       (subst (Ordered (old_blocks e.count many_units old_unit)) (sym (blocks_are s found))
       (units_ordered e.count many_units old_unit found (found_apart t s l.head l.body found x.are) (found_rising t s l.head l.body found x.are) (rising_range 0 many_units) (each_placed t s l.head l.body found x.are) (runs.units_below t s l found x scope v goes) idle
-      (λ i k j h b c from to low high inside within order here there back. pieces_apart making sequence law t s l found x data_bytes idle k h b c (old_unit i k) (old_unit j h) inside within (two_pieces i k j h from to low high inside within order) (stores_idle i k from to inside) (stores_idle j h low high within) here there back)))
+      (λ i k j h b c from to low high inside within order here there back. pieces_apart making sequence t s l found x data_bytes holds idle k h b c (old_unit i k) (old_unit j h) inside within (two_pieces i k j h from to low high inside within order) (stores_idle i k from to inside) (stores_idle j h low high within) here there back)))
     where
-      two_pieces : (i k j h : ℕ) → 1 ≤ i → i ≤ e.count → 1 ≤ j → j ≤ e.count → k < many_units → h < many_units → (i < j) ⊎ ((i ≡ j) × (k < h)) → AreTwoPieces making sequence law t s l found x data_bytes k h (old_unit i k) (old_unit j h)
+      two_pieces : (i k j h : ℕ) → 1 ≤ i → i ≤ e.count → 1 ≤ j → j ≤ e.count → k < many_units → h < many_units → (i < j) ⊎ ((i ≡ j) × (k < h)) → AreTwoPieces making sequence t s l found x data_bytes holds k h (old_unit i k) (old_unit j h)
       two_pieces i k j h from to low high inside within order =
           let parts = parts_of_run t s l found x scope v goes i k j h from to low high inside within order in
           record {

@@ -7,7 +7,7 @@ use Rattle.ped_rules.specs.Rules.{IsBoundOf}
 use Rattle.ped_rules.specs.Chains.{no_rules, also, WhereLoop}
 use Rattle.ped_rules.specs.OnlyLoops.{on_loop}
 use Rattle.ped_rules.specs.Rules.{WhereNoLoop, is_parallel, WhereEscape, WhereUnplain, WhereLimit}
-use Rattle.ped_rules.specs.Steps.{transformation, StepAt}
+use Rattle.ped_rules.specs.Steps.{transformation, StepAt, asks_no_more}
 use Rattle.ped_rules.specs.ped_flow.specs.Questions.{LoopOf}
 use Rattle.ped_rules.specs.ped_steps.specs.declared.rules.Rule.TheVariants.{NoLoop, ParallelState, IndexEscapes, BoundNotPlain, OneBlock, Limit}
 use Rattle.ped_rules.specs.ped_steps.specs.Causes.{Rules, IsFirstCause, none_forbids}
@@ -91,4 +91,5 @@ distributing s = record {
   kind = transformation;
   IsCause = λ t. IsFirstCause t (StandsAgainstDistribution s t) none_forbids;
   Makes = MakesDistributed s;
+  IsTrueFor = asks_no_more;
 }

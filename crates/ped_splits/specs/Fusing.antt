@@ -1,5 +1,5 @@
 -- `fuse`: a DO and the next one in its list become one (Allen and Kennedy, section 6.2.5; ParaScope).
-use Rattle.std.specs.Prelude.{◌≡◌, ◌⊎◌, ℕ, ◌+◌, nat_le, nat_lt, List, filter, Bool, true, false, ◌&&◌, All, Option, Some, None}
+use Rattle.std.specs.Prelude.{◌≡◌, ◌⊎◌, ℕ, ◌+◌, nat_le, nat_lt, List, filter, length, Bool, true, false, ◌&&◌, All, Option, Some, None}
 use Rattle.ped_tree.specs.Tree.{Head, StmtTrees, ProgramTree}
 use Rattle.ped_tree.specs.Numbering.{statements_count}
 use Rattle.ped_rules.specs.Carried.{carried}
@@ -10,10 +10,13 @@ use Rattle.ped_rules.specs.ped_flow.specs.Questions.{LoopOf, IsFirst, IsBrokenBy
 use Rattle.ped_rules.specs.ped_steps.specs.declared.rules.Rule.TheVariants.{NoLoop, ParallelState, HasPrivate, IndexEscapes, BoundNotPlain, NoNeighbour, Limit}
 use Rattle.ped_rules.specs.ped_steps.specs.Causes.{Rules, Cause, rule, dependence, NoRule, IsFirstRule, IsFirstForbidding}
 use Rattle.ped_refs.specs.References.{Reference, references, pairs}
-use Rattle.ped_edges.specs.Edges.{Edge}
+use Rattle.ped_edges.specs.Edges.{Edge, rejected}
+use Rattle.ped_rules.specs.ped_store.specs.Races.{Access}
+use Rattle.ped_rules.specs.ped_loop_runs.specs.Carried.{IsCoveredAt}
 use Rattle.ped_rules.specs.ped_graph.specs.Dependences.{EdgesOfPairs}
 use Rattle.ped_splits.specs.Distributing.{IsItsBound}
 use Rattle.ped_splits.specs.Neighbours.{Neighbour, AreAlike, fused, next_number, kept_without}
+use Rattle.ped_splits.specs.OneVariable.{in_one, Cross}
 use Rattle.ped_rules.specs.KeepMaps.{opened_at}
 
 -- a DO comes next that is alike (ParaScope)
@@ -95,6 +98,12 @@ IsFusionCause s t (Some (dependence e)) =
 IsFusionCause s t None =
     NoRule (StandsAgainstFusion s t) × ((m : Match t s) (edges : List Edge) → AreBack m.neighbour edges → All (λ e. forbids_fusion m.neighbour e ≡ false) edges)
 
+-- no dependence of the program with the one DO that a C$PED REJECT line puts aside, and that leads from the second body to the first, covers what an iteration of the second DO does, in the run on these data, and a later iteration of the first (Allen and Kennedy, section 6.2.5; ParaScope; this project)
+abbrev pub IsTrueFused : (s : ℕ) → ProgramTree → (data_bytes : List ℕ) → Type 0
+IsTrueFused s t data_bytes =
+    (m : Match t s) (edges : List Edge) → AreBack m.neighbour edges → (a b : Access) (x : Cross m.neighbour data_bytes a b)
+    → (c : IsCoveredAt (fused m.neighbour) edges (Some (length x.round + 1)) (in_one m.neighbour a) b) → c.0.edge.mark ≡ rejected → ⊥
+
 -- `fuse s`: the DO with this number and the next one after it become one (Allen and Kennedy, section 6.2.5; ParaScope)
 abbrev pub fusing : ℕ → StepAt
 fusing s = record {
@@ -102,4 +111,5 @@ fusing s = record {
   kind = transformation;
   IsCause = IsFusionCause s;
   Makes = MakesFused s;
+  IsTrueFor = IsTrueFused s;
 }

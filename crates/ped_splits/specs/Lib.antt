@@ -4,8 +4,8 @@ pub mod Units
 pub mod Blocks
 pub mod Distributing
 pub mod Neighbours
-pub mod Fusing
 pub mod OneVariable
+pub mod Fusing
 pub mod CodeUnits
 pub mod CodeAlike
 pub mod CodePairs

@@ -1,9 +1,11 @@
 -- Two DO loops that may become one, where both have one variable already: the program between, and accesses that cross (this project).
-use Rattle.std.specs.Prelude.{◌≡◌, ◌<◌, ℕ, ◌==◌, List, ◌∷◌, ◌++◌, true, if◌then◌else◌}
+use Rattle.std.specs.Prelude.{◌≡◌, ◌<◌, ℕ, ◌==◌, List, ◌∷◌, ◌++◌, true, false, if◌then◌else◌}
 use Rattle.ped_tree.specs.Tree.{StmtTree, StmtTrees, Do, more_stmts, ProgramTree}
 use Rattle.ped_rules.specs.ped_steps.specs.Replacing.{followed, alone}
 use Rattle.ped_rules.specs.ped_steps.specs.Runs.Gaps.{filled}
 use Rattle.ped_rules.specs.ped_steps.specs.Runs.Renumbering.{renumbered_place}
+use Rattle.ped_rules.specs.ped_steps.specs.Tidy.{is_written_in}
+use Rattle.ped_rules.specs.ped_flow.specs.Questions.{LoopOf, IsIndexIn}
 use Rattle.ped_rules.specs.ped_laws.specs.Acts.Orders.{IsIn}
 use Rattle.ped_rules.specs.ped_eval.specs.Outcomes.{run_of}
 use Rattle.ped_rules.specs.ped_store.specs.Acts.{Turn}
@@ -30,6 +32,10 @@ number_in_one {t} {s} x k = if k == next_number x then s else closed_up (next_nu
 -- an access at the place that it has in the program with the one DO: iterations of the second DO are those of the one DO with the same numbers, and the statements have their new numbers (this project)
 abbrev pub in_one : {t : ProgramTree} {s : ℕ} → Neighbour t s → Access → Access
 in_one x a = record a { place = renumbered_place (number_in_one x) a.place }
+
+-- no reference in a PARALLEL DO writes this name, where it is the variable of that DO or of a DO in it, of which its iterations have copies (this project)
+abbrev pub IsUnwritten : ProgramTree → List ℕ → Type 0
+IsUnwritten t x = (l : ℕ) (loop : LoopOf t l) → loop.head.parallel ≡ true → IsIndexIn t l x → is_written_in t l loop.body x ≡ false
 
 -- in a run of the program two accesses conflict that references make: one in an iteration of the second DO, and one in a later iteration of the first, both in the same iterations of the DO loops around the two (Allen and Kennedy, section 6.2.5)
 pub record Cross {t : ProgramTree} {s : ℕ} (x : Neighbour t s) (data_bytes : List ℕ) (a b : Access) : Type 0 where

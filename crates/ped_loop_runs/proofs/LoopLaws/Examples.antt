@@ -110,7 +110,7 @@ second_within a i = elim i [ inl e ↦ within_by a (first_of (drop 5 acts)) e se
 -- but on no other cell, as the program is valid
 module _ (made : MakingLaw) (sequence : SequenceLaw) (valid : IsValid program) where
   nothing_else : blocks_conflict_outside (is_cell_of j) first_trip second_trip ≡ false
-  nothing_else = trips_apart made sequence program [] valid [] no_edges 2 loop (is_cell_of j) first_trip second_trip (λ e i. absurd i) are_trips first_within second_within
+  nothing_else = trips_apart made sequence program [] valid [] no_edges 2 loop (is_cell_of j) first_trip second_trip (λ a b come meets share c carried. absurd c.listed) are_trips first_within second_within
 
 -- M is assigned on the one path to the outer loop
 before : IsAssignedBefore program 3 m

@@ -62,7 +62,9 @@ use Rattle.ped_bodies.specs.Likewise.{AreLikewise}
 use Rattle.ped_bodies.specs.Trips.{loop_entry, trips, loop_close, bounds_seen, entered_from, IsTrip, IsMadeOfTrips, MakesTripsLikewise}
 use Rattle.ped_bodies.proofs.BodyLaws.LikewiseActs.{likewise_stripped}
 use Rattle.ped_bodies.proofs.BodyLaws.TripLists.{loop_apart}
-use Rattle.ped_loop_runs.specs.Carried.{StandIn, AreTrips, AllStoreWithin}
+use Rattle.ped_bodies.specs.ped_graph.specs.Dependences.{AreEdges}
+use Rattle.ped_bodies.specs.ped_edges.specs.Edges.{Edge}
+use Rattle.ped_loop_runs.specs.Carried.{StandIn, AreTrips, AllStoreWithin, NoneMeetOn}
 use Rattle.ped_loop_runs.specs.OneForOne.{trip_of, trip_names, trip_idle, HasSameTrips, IsOneForOne, IsMadeInstead}
 use Rattle.ped_loop_runs.proofs.LoopLaws.Trips.{trips_apart}
 use Rattle.ped_loop_runs.proofs.LoopLaws.SomeEdges.{some_edges}
@@ -176,7 +178,8 @@ module _ (reversed : Bool) (n : ℕ) where
   pub turned_inverse : AreInverse (n + 1) turned_number turned_number
   turned_inverse = record { new = turned_within; old = turned_within }
 
-module _ (making : MakingLaw) (sequence : SequenceLaw) (t u : ProgramTree) (l : ℕ) (loop : LoopOf t l) (h : Head) (reversed : Bool) (x : IsOneForOne t u l loop h reversed) (data_bytes : List ℕ) (ends : Ends (run_of t data_bytes).ending) where
+module _ (making : MakingLaw) (sequence : SequenceLaw) (t u : ProgramTree) (l : ℕ) (loop : LoopOf t l) (h : Head) (reversed : Bool) (x : IsOneForOne t u l loop h reversed) (data_bytes : List ℕ)
+    (none : reversed ≡ true → (edges : List Edge) → AreEdges t edges → NoneMeetOn t edges data_bytes l loop.body) (ends : Ends (run_of t data_bytes).ending) where
   abbrev p : Setting
   p = setting_of t
 
@@ -445,7 +448,7 @@ module _ (making : MakingLaw) (sequence : SequenceLaw) (t u : ProgramTree) (l : 
     none_conflict turned k j from between hi = false_unless (blocks_conflict_outside idle (old.trip k) (old.trip j)) (λ m.
         some_edges t (λ edges are.
         both_ways (blocks_conflict_outside idle (old.trip k) (old.trip j))
-        (trips_apart making sequence t data_bytes x.valid edges are l loop idle (old.trip k) (old.trip j) (x.carries (inl turned) edges are) (two_trips k j from between hi) (stores k from (omega (arith, between, hi))) (stores j (omega (arith, from, between)) hi))
+        (trips_apart making sequence t data_bytes x.valid edges are l loop idle (old.trip k) (old.trip j) (none turned edges are) (two_trips k j from between hi) (stores k from (omega (arith, between, hi))) (stores j (omega (arith, from, between)) hi))
         m))
 
     apart : (k j : ℕ) → 1 ≤ k → k < j → j ≤ n + 1 → to j < to k → blocks_conflict_outside idle (w.acts k (to k)) (w.acts j (to j)) ≡ false

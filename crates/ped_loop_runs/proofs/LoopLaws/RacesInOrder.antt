@@ -12,7 +12,7 @@ use Rattle.ped_bodies.specs.ped_flow.specs.ped_tree.specs.Nests.{Loop}
 use Rattle.ped_bodies.specs.ped_flow.specs.ped_tree.specs.Numbering.{statement_with, statements_count}
 use Rattle.ped_bodies.specs.ped_flow.specs.Questions.{LoopOf}
 use Rattle.ped_bodies.specs.ped_refs.specs.References.{references, outermost}
-use Rattle.ped_bodies.specs.ped_graph.specs.Dependences.{setting_in}
+use Rattle.ped_bodies.specs.ped_graph.specs.Dependences.{setting_in, AreEdges}
 use Rattle.ped_bodies.specs.ped_store.specs.Cells.{Cell, In, Out, Scalar, Element, Private, same_cell}
 use Rattle.ped_bodies.specs.ped_store.specs.Stores.{Store, store_at_start}
 use Rattle.ped_bodies.specs.ped_store.specs.Acts.{Manner, reads, writes, is_told, Touch, Turn, Act}
@@ -46,11 +46,12 @@ use Rattle.ped_bodies.specs.Moving.{own_number, is_cell_among}
 use Rattle.ped_bodies.specs.Trips.{entered_from}
 use Rattle.ped_loop_runs.specs.Executions.{IsExecuted}
 use Rattle.ped_loop_runs.specs.Pasting.{AreExchanged}
-use Rattle.ped_loop_runs.specs.Carried.{is_in_body, is_carried_by}
+use Rattle.ped_bodies.specs.ped_edges.specs.Edges.{Edge}
+use Rattle.ped_loop_runs.specs.Carried.{is_in_body, AreInTrips, NoneMeetOn}
 use Rattle.ped_loop_runs.specs.OneForOne.{IsOneForOne, IsMadeInstead}
 use Rattle.ped_loop_runs.proofs.LoopLaws.Nested.{in_loop_body}
 use Rattle.ped_loop_runs.proofs.LoopLaws.SomeEdges.{some_edges}
-use Rattle.ped_loop_runs.proofs.LoopLaws.Trips.{trips_carried}
+use Rattle.ped_loop_runs.proofs.LoopLaws.Trips.{share_in_trips, trips_carried}
 use Rattle.ped_loop_runs.proofs.LoopLaws.Unwritten.{index_named}
 use Rattle.ped_loop_runs.proofs.LoopLaws.PlacedLoops.{placed_loop}
 use Rattle.ped_loop_runs.proofs.LoopLaws.RacesByReferences.{by_references, told_is_unreferred}
@@ -204,7 +205,8 @@ of_nest t (m ∷ ls) (j ∷ is) i h (inr k) = of_nest t ls is i h.1 k
 same_head : (g h : Head) (b c : StmtTrees) → Some (Do g b) ≡ Some (Do h c) → g ≡ h
 same_head g h b c e = cc
 
-module _ (made : MakingLaw) (sequence : SequenceLaw) (t u : ProgramTree) (l : ℕ) (loop : LoopOf t l) (h : Head) (x : IsOneForOne t u l loop h false) (data_bytes : List ℕ) where
+module _ (made : MakingLaw) (sequence : SequenceLaw) (t u : ProgramTree) (l : ℕ) (loop : LoopOf t l) (h : Head) (x : IsOneForOne t u l loop h false) (data_bytes : List ℕ)
+    (none : (loop.head.parallel ≡ false) × (h.parallel ≡ true) → (edges : List Edge) → AreEdges t edges → NoneMeetOn t edges data_bytes l loop.body) where
   abbrev p : Setting
   p = setting_of t
 
@@ -360,8 +362,9 @@ module _ (made : MakingLaw) (sequence : SequenceLaw) (t u : ProgramTree) (l : �
       let order = sequence t data_bytes y z x.valid come one other in
       let r = trips_of t y z l y.place.turns z.place.turns order critical in
       some_edges t (λ edges are.
-      let c = trips_carried made sequence t data_bytes x.valid edges are l loop y z r.0 r.1 r.2 r.3 r.4 come meets one other (record { at_first = r.5; at_second = r.6; of_first = r.7; of_second = r.8; earlier = r.9 }) in
-      both_ways (is_carried_by t l body c.0.covered.edge) (x.carries (inr (became flag, flag)) edges are c.0.covered.edge c.0.covered.listed) c.1)
+      let trips : AreInTrips l r.0 r.1 r.2 r.3 r.4 y z = record { at_first = r.5; at_second = r.6; of_first = r.7; of_second = r.8; earlier = r.9 } in
+      let c = trips_carried made sequence t data_bytes x.valid edges are l loop y z r.0 r.1 r.2 r.3 r.4 come meets one other trips in
+      none (became flag, flag) edges are y z come meets (share_in_trips y z r.0 r.1 r.2 r.3 r.4 trips) c.0.covered c.1)
 
   conflict_flip : (y z : Access) → conflict y z ≡ true → conflict z y ≡ true
   conflict_flip y z k =

@@ -1,7 +1,6 @@
 -- What two trips of one execution of a loop do: a dependence that the loop carries covers each conflict of references.
 use Rattle.std.proofs.Common.{◌≡◌, ℕ, ◌+◌, ◌<◌, List, [], ◌∷◌, ◌++◌, length, Bool, true, false, ◌&&◌, refl, sym, ap, ◌∙◌, subst, inl, inr, arith, Some, append_assoc}
 use Rattle.std.specs.Str.Lines.{lines}
-use Rattle.std.proofs.lemmas.Bool.{both_ways}
 use Rattle.std.proofs.lemmas.Grind.{flat_map-append}
 use Rattle.ped_bodies.specs.ped_flow.specs.ped_tree.specs.Tree.{ProgramTree}
 use Rattle.ped_bodies.specs.ped_flow.specs.PlainBounds.{nest_round}
@@ -27,7 +26,7 @@ use Rattle.ped_bodies.specs.ped_laws.proofs.ConflictLaws.Scoping.{touch_of_acces
 use Rattle.ped_bodies.specs.ped_laws.proofs.ConflictLaws.CoveringDirections.{same_numbers}
 use Rattle.ped_bodies.specs.ped_laws.proofs.ConflictLaws.CoveringConflicts.{pair_listed}
 use Rattle.ped_bodies.specs.ped_laws.proofs.ConflictLaws.CoveringRuns.{MakingLaw, SequenceLaw, makers}
-use Rattle.ped_loop_runs.specs.Carried.{MakeConflict, is_level, is_in_body, is_carried_by, AreInTrips, IsCarriedByLoop, AreTrips, AllStoreWithin, NoneCarriedBy}
+use Rattle.ped_loop_runs.specs.Carried.{MakeConflict, is_level, is_in_body, is_carried_by, AreInTrips, IsCarriedByLoop, AreTrips, AllStoreWithin, NoneMeetOn}
 use Rattle.ped_loop_runs.proofs.LoopLaws.Carrying.{share_trips, successive, carried_inside}
 use Rattle.ped_loop_runs.proofs.LoopLaws.Nested.{in_loop_body}
 
@@ -65,12 +64,16 @@ come_in_run t data_bytes front earlier between later behind x y is i j =
           ∙ arranged (accesses front) p.0 p.1 (accesses between) q.0 q.1 (accesses behind) x y;
     }
 
+-- accesses in two iterations of one execution are in one of their outermost common loop
+pub share_in_trips : {l : ℕ} (a b : Access) (outer : List Turn) (i j : Turn) (is js : List Turn) → AreInTrips l outer i j is js a b → share_a_loop a.place.turns b.place.turns ≡ true
+share_in_trips a b outer i j is js trips = (λ z. share_a_loop (trips.at_first z) (trips.at_second z)) ∙ share_trips outer i j is js (trips.of_first ∙ sym trips.of_second)
+
 module _ (made : MakingLaw) (sequence : SequenceLaw) (t : ProgramTree) (data_bytes : List ℕ) (valid : IsValid t) (edges : List Edge) (are : AreEdges t edges) (l : ℕ) (loop : LoopOf t l) where
   -- accesses in two iterations of one execution of the loop
   pub trips_carried : (a b : Access) (outer : List Turn) (i j : Turn) (is js : List Turn) → ComeInRun t data_bytes a b → conflict a b ≡ true → 0 < a.reference → 0 < b.reference → AreInTrips l outer i j is js a b → IsCarriedByLoop t edges l loop.body outer is js a b
   trips_carried a b outer i j is js come meets one other trips =
       let same : i.statement ≡ j.statement = trips.of_first ∙ sym trips.of_second in
-      let share : share_a_loop a.place.turns b.place.turns ≡ true = (λ z. share_a_loop (trips.at_first z) (trips.at_second z)) ∙ share_trips outer i j is js same in
+      let share : share_a_loop a.place.turns b.place.turns ≡ true = share_in_trips a b outer i j is js trips in
       let by = makers made sequence t data_bytes a b valid come meets one other share in
       let m = by.met in
       let order : ComesBefore t a b (outer ++ i ∷ is) (outer ++ j ∷ js) = subst (λ (x : List Turn). ComesBefore t a b x (outer ++ j ∷ js)) trips.at_first (subst (λ (y : List Turn). ComesBefore t a b a.place.turns y) trips.at_second m.order) in
@@ -84,8 +87,8 @@ module _ (made : MakingLaw) (sequence : SequenceLaw) (t : ProgramTree) (data_byt
       let to : c.covered.edge.sink.0 ≡ b.place.statement = ap (λ (z : ℕ × ℕ). z.0) c.covered.sink in
       (c, (λ z. is_level n (c.level z) && (is_in_body l loop.body (from z) && is_in_body l loop.body (to z))) ∙ (λ z. level z && (x.0 z && y.0 z)))
 
-  -- so, where the loop carries nothing, two of its trips conflict on no cell but those of own stores
-  pub trips_apart : (idle : Cell → Bool) (earlier later : List Act) → NoneCarriedBy t edges l loop.body → AreTrips t data_bytes l earlier later → AllStoreWithin idle earlier → AllStoreWithin idle later → blocks_conflict_outside idle earlier later ≡ false
+  -- so, where nothing that the loop carries occurs, two of its trips conflict on no cell but those of own stores
+  pub trips_apart : (idle : Cell → Bool) (earlier later : List Act) → NoneMeetOn t edges data_bytes l loop.body → AreTrips t data_bytes l earlier later → AllStoreWithin idle earlier → AllStoreWithin idle later → blocks_conflict_outside idle earlier later ≡ false
   trips_apart idle earlier later none trips first second = go (blocks_conflict_outside idle earlier later) refl
     where
       in_run : (a : Act) → IsIn a (trips.front ++ (earlier ++ (trips.between ++ (later ++ trips.behind)))) → IsIn a (run_of t data_bytes).acts
@@ -103,6 +106,7 @@ module _ (made : MakingLaw) (sequence : SequenceLaw) (t : ProgramTree) (data_byt
           let other = trips.in_second p.1 p.3 in
           let at_first = (touch_of_access m.first p.0 m.of_first).2 in
           let at_second = (touch_of_access m.second p.1 m.of_second).2 in
-          let c = trips_carried m.first m.second trips.outer trips.i trips.j one.0 other.0 come m.conflicts m.first_reference m.second_reference
-          (record { at_first = ap (λ (z : Access). z.place.turns) at_first ∙ one.1; at_second = ap (λ (z : Access). z.place.turns) at_second ∙ other.1; of_first = trips.of_first; of_second = trips.of_second; earlier = trips.order }) in
-          absurd (both_ways (is_carried_by t l loop.body c.0.covered.edge) (none c.0.covered.edge c.0.covered.listed) c.1)
+          let there : AreInTrips l trips.outer trips.i trips.j one.0 other.0 m.first m.second =
+          record { at_first = ap (λ (z : Access). z.place.turns) at_first ∙ one.1; at_second = ap (λ (z : Access). z.place.turns) at_second ∙ other.1; of_first = trips.of_first; of_second = trips.of_second; earlier = trips.order } in
+          let c = trips_carried m.first m.second trips.outer trips.i trips.j one.0 other.0 come m.conflicts m.first_reference m.second_reference there in
+          absurd (none m.first m.second come m.conflicts (share_in_trips m.first m.second trips.outer trips.i trips.j one.0 other.0 there) c.0.covered c.1)

@@ -39,7 +39,7 @@ use Rattle.ped_bodies.specs.ped_steps.proofs.RunLaws.PrivatisedPrograms.{scalar_
 use Rattle.ped_bodies.specs.ped_steps.proofs.RunLaws.ReplacedTrees as trees
 use Rattle.ped_loop_runs.specs.Writing.{all_write}
 use Rattle.ped_loop_runs.proofs.TidyLaws.TidyReferences.{written_is}
-use Rattle.ped_loop_runs.specs.Carried.{is_level, is_in_body, is_carried_by, NoneCarriedBy}
+use Rattle.ped_loop_runs.specs.Carried.{is_level, is_in_body, is_carried_by, NoneOfScalarsCarriedBy}
 use Rattle.ped_loop_runs.proofs.LoopLaws.Nested.{loop_round}
 use Rattle.ped_loop_runs.proofs.LoopLaws.UnprivateIndices.{indices_unprivate}
 use Rattle.ped_loop_runs.proofs.LoopLaws.FreeWrites.{more_free, all_free_write}
@@ -259,8 +259,8 @@ module _ (t : ProgramTree) (edges : List Edge) (are : AreEdges t edges) where
         (ap (is_of (Some (length front + 1))) (carried_at front (sames more) 1) ∙ same_numbers (length front + 1) (length front + 1) refl)
         (omega arith, omega (arith, loops, long))
 
-  -- so, where the DO carries nothing, its variables aren't written
-  pub index_unwritten : IsValid t → (l : ℕ) (loop : LoopOf t l) → NoneCarriedBy t edges l loop.body → (w : List ℕ) → IsIndexIn t l w → is_written_in t l loop.body w ≡ false
+  -- so, where the DO carries nothing of a scalar, its variables aren't written
+  pub index_unwritten : IsValid t → (l : ℕ) (loop : LoopOf t l) → NoneOfScalarsCarriedBy t edges l loop.body → (w : List ℕ) → IsIndexIn t l w → is_written_in t l loop.body w ≡ false
   index_unwritten valid l loop none w index = go (is_written_in t l loop.body w) refl
     where
       body : IsReached t l loop.head loop.body (references t)
@@ -297,7 +297,7 @@ module _ (t : ProgramTree) (edges : List Edge) (are : AreEdges t edges) where
           ap (is_level (length (nest_round t l) + 1)) b.of_level ∙ same_numbers (length body.nest + 1) (length (nest_round t l) + 1) (ap (λ (ls : List Loop). length ls + 1) (sym place.1)) in
           let there = ap (is_in_body l loop.body) number ∙ place.0 in
           let at_sink = ap (is_in_body l loop.body) sink ∙ place.0 in
-          both_ways (is_carried_by t l loop.body b.edge) (none b.edge b.listed) (λ i. level i && (there i && at_sink i))
+          both_ways (is_carried_by t l loop.body b.edge) (none f.reference listed f.bare b.edge b.listed b.from) (λ i. level i && (there i && at_sink i))
 
       go : (b : Bool) → is_written_in t l loop.body w ≡ b → is_written_in t l loop.body w ≡ false
       go false e = e

@@ -40,8 +40,8 @@ module _ (gap : Gap) (old : StmtTrees) (t : ProgramTree) (body : t.body ≡ fill
   same_parts start front (same acts ∷ parts) behind u h = λ i. acts ++ same_parts start (front ++ acts) parts behind (store_after acts u) h i
   same_parts start front (changed before after ∷ parts) behind u h = λ i. (h.0.new_is ∙ sym h.0.old_is) i ++ same_parts start (front ++ before) parts behind (store_after before u) h.1 i
 
-  itself : IsExchange gap old old t t
-  itself = record {
+  itself : (data_bytes : List ℕ) → IsExchange gap old old t t data_bytes
+  itself data_bytes = record {
     saved = refl;
     kinds = λ x k. refl;
     counted = λ n. n;
@@ -58,16 +58,16 @@ module _ (gap : Gap) (old : StmtTrees) (t : ProgramTree) (body : t.body ≡ fill
       unstopped = stop;
       indices = λ k x. refl;
     };
-    agreed = λ data_bytes. wants (shown_at_end t);
-    suit = λ data_bytes. wanted_suit (shown_at_end t);
-    fresh = λ data_bytes. acts_of;
-    instead = λ data_bytes free scope front behind u x goes. subst (λ (finish : Finish). Replays (run_all p old l scope) (acts_of scope u) finish) goes ((all_told p old l scope).replays u);
-    stand = λ data_bytes free scope front behind u x goes.
+    agreed = wants (shown_at_end t);
+    suit = wanted_suit (shown_at_end t);
+    fresh = acts_of;
+    instead = λ scope front behind u x goes. subst (λ (finish : Finish). Replays (run_all p old l scope) (acts_of scope u) finish) goes ((all_told p old l scope).replays u);
+    stand = λ scope front behind u x goes.
         same_stands (acts_of scope u) (acts_of scope u) (wants (shown_at_end t) (acts_of scope u ++ behind)) (wants (shown_at_end t) behind) u (own_names (of_cells (touches_of (acts_of scope u)))) ((all_told p old l scope).fits u)
         (needed_wanted (shown_at_end t) (acts_of scope u) behind) (wanted_before (shown_at_end t) (acts_of scope u) behind);
-    free = λ data_bytes free parts is same exchanged h. subst (λ (acts : List Act). HasNoRace (accesses acts)) (sym (same_parts (store_at_start (lines data_bytes)) [] parts [] (store_at_start (lines data_bytes)) exchanged)) h;
+    free = λ parts is same exchanged h. subst (λ (acts : List Act). HasNoRace (accesses acts)) (sym (same_parts (store_at_start (lines data_bytes)) [] parts [] (store_at_start (lines data_bytes)) exchanged)) h;
   }
 
   -- so it keeps its own meaning
   kept : Keeps t t
-  kept = exchange_keeps gap old old t t itself
+  kept = exchange_keeps gap old old t t refl (λ data_bytes free. itself data_bytes)

@@ -35,7 +35,7 @@ use Rattle.ped_bodies.specs.ped_steps.specs.Runs.Meaning.{Keeps}
 use Rattle.ped_bodies.specs.ped_steps.specs.Runs.Renumbering.{IsRenumbered, IsToldBack, renumbered}
 use Rattle.ped_bodies.specs.ped_steps.proofs.RunLaws.RenumberedPrograms.{program_renumbered, ends_back, no_race_back, outcome_renumbered}
 use Rattle.ped_loop_runs.specs.Pasting.{PartsStandBy}
-use Rattle.ped_loop_runs.specs.Meaning.{SuitEnds, IsExchange}
+use Rattle.ped_loop_runs.specs.Meaning.{SuitEnds, KeepsOn, IsExchange}
 use Rattle.ped_loop_runs.specs.OtherCopies.{AreExchangedNear, IsExchangeNear}
 use Rattle.ped_loop_runs.proofs.PastingLaws.PastedRuns.{Exchanged, exchanged, exchanged_near}
 use Rattle.ped_loop_runs.proofs.PastingLaws.StandingParts.{all_stand, all_stand_near}
@@ -105,78 +105,81 @@ module _ (t u : ProgramTree) (saved : flat_map saved_in u.decls ≡ flat_map sav
   shown_alike (stopped v) = ap (outcomes.Ended (lines_in (v cells.Out))) (rows v)
   shown_alike (failed fault n) = refl
 
--- a new program whose run is made of parts, which stand for those of the old one and make no race where they are its acts
-pub record IsMadeAnew (t u : ProgramTree) : Type 0 where
+-- a new program whose run on these data is made of parts, which stand for those of the old one and make no race where they are its acts
+pub record IsMadeAnew (t u : ProgramTree) (data_bytes : List ℕ) : Type 0 where
   pub saved : flat_map saved_in u.decls ≡ flat_map saved_in t.decls
   pub kinds : (x : List ℕ) → is_among x (live_names t) ≡ true → kind_in u x ≡ kind_in t x
   pub counted : ℕ → ℕ
   pub told : ℕ → ℕ
   pub back : IsToldBack counted told
-  pub agreed : List ℕ → List Act → Cell → Bool
-  pub suit : (data_bytes : List ℕ) → SuitEnds (shown_at_end t) (agreed data_bytes)
-  pub parts : (data_bytes : List ℕ) → IsRaceFree t data_bytes → List Part
-  pub old_are : (data_bytes : List ℕ) (free : IsRaceFree t data_bytes) → old_parts (parts data_bytes free) ≡ (run_of t data_bytes).acts
-  pub stand : (data_bytes : List ℕ) (free : IsRaceFree t data_bytes) → PartsStandBy (agreed data_bytes) (parts data_bytes free) (store_at_start (lines data_bytes))
-  pub replays : (data_bytes : List ℕ) (free : IsRaceFree t data_bytes) → Replays (run_all (renumbered counted (setting_of u)) u.body 1 []) (new_parts (parts data_bytes free)) (finish_of (run_of t data_bytes).ending)
-  pub free : (data_bytes : List ℕ) (free : IsRaceFree t data_bytes) → new_parts (parts data_bytes free) ≡ (run_all (renumbered counted (setting_of u)) u.body 1 [] (store_at_start (lines data_bytes))).acts → HasNoRace (accesses (old_parts (parts data_bytes free))) → HasNoRace (accesses (new_parts (parts data_bytes free)))
+  pub agreed : List Act → Cell → Bool
+  pub suit : SuitEnds (shown_at_end t) agreed
+  pub parts : List Part
+  pub old_are : old_parts parts ≡ (run_of t data_bytes).acts
+  pub stand : PartsStandBy agreed parts (store_at_start (lines data_bytes))
+  pub replays : Replays (run_all (renumbered counted (setting_of u)) u.body 1 []) (new_parts parts) (finish_of (run_of t data_bytes).ending)
+  pub free : new_parts parts ≡ (run_all (renumbered counted (setting_of u)) u.body 1 [] (store_at_start (lines data_bytes))).acts → HasNoRace (accesses (old_parts parts)) → HasNoRace (accesses (new_parts parts))
 
-module _ (t u : ProgramTree) (x : IsMadeAnew t u) where
+module _ (t u : ProgramTree) (data_bytes : List ℕ) (free : IsRaceFree t data_bytes) (x : IsMadeAnew t u data_bytes) where
   abbrev p : Setting
   p = setting_of t
 
   abbrev q : Setting
   q = renumbered x.counted (setting_of u)
 
-  module _ (data_bytes : List ℕ) (free : IsRaceFree t data_bytes) where
-    abbrev start : Store
-    start = store_at_start (lines data_bytes)
+  abbrev start : Store
+  start = store_at_start (lines data_bytes)
 
-    abbrev finish : Finish
-    finish = finish_of (run_of t data_bytes).ending
+  abbrev finish : Finish
+  finish = finish_of (run_of t data_bytes).ending
 
-    abbrev parts : List Part
-    parts = x.parts data_bytes free
+  abbrev parts : List Part
+  parts = x.parts
 
-    fit : Fits (old_parts parts) start
-    fit = subst (λ (acts : List Act). Fits acts start) (sym (x.old_are data_bytes free)) ((all_told p t.body 1 []).fits start)
+  fit : Fits (old_parts parts) start
+  fit = subst (λ (acts : List Act). Fits acts start) (sym x.old_are) ((all_told p t.body 1 []).fits start)
 
-    new_run : run_all q u.body 1 [] start ≡ record { acts = new_parts parts; ending = ending_with finish (store_after (new_parts parts) start) }
-    new_run = x.replays data_bytes free start (parts_fit (shown_at_end t) (x.agreed data_bytes) (x.suit data_bytes) parts start start (x.stand data_bytes free) (λ c k. refl) fit)
+  new_run : run_all q u.body 1 [] start ≡ record { acts = new_parts parts; ending = ending_with finish (store_after (new_parts parts) start) }
+  new_run = x.replays start (parts_fit (shown_at_end t) x.agreed x.suit parts start start x.stand (λ c k. refl) fit)
 
-    old_run : run_of t data_bytes ≡ record { acts = (run_of t data_bytes).acts; ending = ending_with finish (store_after (run_of t data_bytes).acts start) }
-    old_run = own_run (run_all p t.body 1 []) (all_told p t.body 1 []) start
+  old_run : run_of t data_bytes ≡ record { acts = (run_of t data_bytes).acts; ending = ending_with finish (store_after (run_of t data_bytes).acts start) }
+  old_run = own_run (run_all p t.body 1 []) (all_told p t.body 1 []) start
 
-    agree : AgreeIn (shown_at_end t) (store_after (run_of t data_bytes).acts start) (store_after (new_parts parts) start)
-    agree =
-        subst (λ (acts : List Act). AgreeIn (shown_at_end t) (store_after acts start) (store_after (new_parts parts) start)) (x.old_are data_bytes free)
-        (parts_leave (shown_at_end t) (x.agreed data_bytes) (x.suit data_bytes) parts start start (x.stand data_bytes free) (λ c k. refl) fit)
+  agree : AgreeIn (shown_at_end t) (store_after (run_of t data_bytes).acts start) (store_after (new_parts parts) start)
+  agree =
+      subst (λ (acts : List Act). AgreeIn (shown_at_end t) (store_after acts start) (store_after (new_parts parts) start)) x.old_are
+      (parts_leave (shown_at_end t) x.agreed x.suit parts start start x.stand (λ c k. refl) fit)
 
-    -- the new program under the numbers that tell the old ones
-    moved : IsRenumbered x.counted (run_all q u.body 1 [] start) (run_of u data_bytes)
-    moved = program_renumbered x.counted x.told x.back (setting_of u) u (lines data_bytes)
+  -- the new program under the numbers that tell the old ones
+  moved : IsRenumbered x.counted (run_all q u.body 1 [] start) (run_of u data_bytes)
+  moved = program_renumbered x.counted x.told x.back (setting_of u) u (lines data_bytes)
 
-    moved_ends : Ends (run_all q u.body 1 [] start).ending
-    moved_ends =
-        subst (λ (r : Run). Ends r.ending) (sym new_run)
-        (ends_so finish (store_after (run_of t data_bytes).acts start) (store_after (new_parts parts) start) (subst (λ (r : Run). Ends r.ending) old_run free.0))
+  moved_ends : Ends (run_all q u.body 1 [] start).ending
+  moved_ends =
+      subst (λ (r : Run). Ends r.ending) (sym new_run)
+      (ends_so finish (store_after (run_of t data_bytes).acts start) (store_after (new_parts parts) start) (subst (λ (r : Run). Ends r.ending) old_run free.0))
 
-    new_ends : Ends (run_of u data_bytes).ending
-    new_ends = ends_back x.counted x.told x.back (run_all q u.body 1 [] start).ending (run_of u data_bytes).ending moved.ending moved_ends
+  new_ends : Ends (run_of u data_bytes).ending
+  new_ends = ends_back x.counted x.told x.back (run_all q u.body 1 [] start).ending (run_of u data_bytes).ending moved.ending moved_ends
 
-    outcome_kept : outcome u data_bytes ≡ outcome t data_bytes
-    outcome_kept =
-        sym (outcome_renumbered x.counted u (run_all q u.body 1 [] start).ending (run_of u data_bytes).ending moved.ending new_ends)
-        ∙ ap (λ (r : Run). outcome_of u r.ending) new_run ∙ shown_alike t u x.saved x.kinds (ending_with finish (store_after (new_parts parts) start))
-        ∙ sym (outcome_same t (store_after (run_of t data_bytes).acts start) (store_after (new_parts parts) start) agree finish) ∙ ap (λ (r : Run). outcome_of t r.ending) (sym old_run)
+  outcome_kept : outcome u data_bytes ≡ outcome t data_bytes
+  outcome_kept =
+      sym (outcome_renumbered x.counted u (run_all q u.body 1 [] start).ending (run_of u data_bytes).ending moved.ending new_ends)
+      ∙ ap (λ (r : Run). outcome_of u r.ending) new_run ∙ shown_alike t u x.saved x.kinds (ending_with finish (store_after (new_parts parts) start))
+      ∙ sym (outcome_same t (store_after (run_of t data_bytes).acts start) (store_after (new_parts parts) start) agree finish) ∙ ap (λ (r : Run). outcome_of t r.ending) (sym old_run)
 
-    new_free : HasNoRace (accesses (run_of u data_bytes).acts)
-    new_free =
-        no_race_back x.counted x.told x.back (run_of u data_bytes).acts (run_all q u.body 1 [] start).acts moved.acts
-        (subst (λ (r : Run). HasNoRace (accesses r.acts)) (sym new_run)
-        (x.free data_bytes free (sym (ap (λ (r : Run). r.acts) new_run)) (subst (λ (acts : List Act). HasNoRace (accesses acts)) (sym (x.old_are data_bytes free)) free.1)))
+  new_free : HasNoRace (accesses (run_of u data_bytes).acts)
+  new_free =
+      no_race_back x.counted x.told x.back (run_of u data_bytes).acts (run_all q u.body 1 [] start).acts moved.acts
+      (subst (λ (r : Run). HasNoRace (accesses r.acts)) (sym new_run)
+      (x.free (sym (ap (λ (r : Run). r.acts) new_run)) (subst (λ (acts : List Act). HasNoRace (accesses acts)) (sym x.old_are) free.1)))
 
-  pub made_keeps : Keeps t u
-  made_keeps = record { saved = x.saved; same = outcome_kept; race_free = λ data_bytes free. (new_ends data_bytes free, new_free data_bytes free) }
+  pub made_keeps : KeepsOn t u data_bytes
+  made_keeps = record { same = outcome_kept; race_free = (new_ends, new_free) }
+
+-- what is kept on all data on which a program runs without a fault and without a race is its meaning
+pub keeps_always : (t u : ProgramTree) → flat_map saved_in u.decls ≡ flat_map saved_in t.decls → ((data_bytes : List ℕ) → IsRaceFree t data_bytes → KeepsOn t u data_bytes) → Keeps t u
+keeps_always t u saved kept = record { saved = saved; same = λ data_bytes free. (kept data_bytes free).same; race_free = λ data_bytes free. (kept data_bytes free).race_free }
 
 module _ (gap : Gap) (old new : StmtTrees) (t u : ProgramTree) where
   abbrev l : ℕ
@@ -186,45 +189,47 @@ module _ (gap : Gap) (old new : StmtTrees) (t u : ProgramTree) where
   from data_bytes = store_at_start (lines data_bytes)
 
   -- statements exchanged, where no name comes or goes
-  pub exchange_keeps : IsExchange gap old new t u → Keeps t u
-  exchange_keeps x = made_keeps t u (record {
-    saved = x.saved;
-    kinds = x.kinds;
-    counted = x.counted;
-    told = x.told;
-    back = x.back;
-    agreed = x.agreed;
-    suit = x.suit;
-    parts = λ data_bytes free. (made data_bytes free).0;
-    old_are = λ data_bytes free. (made data_bytes free).1;
-    stand = λ data_bytes free.
-        all_stand (x.agreed data_bytes) (setting_of t) t (from data_bytes) l (statements_count old) (run_all (setting_of t) old l) (x.fresh data_bytes) (x.stand data_bytes free) (made data_bytes free).0 (made data_bytes free).2;
-    replays = λ data_bytes free. (made data_bytes free).3;
-    free = λ data_bytes free same. x.free data_bytes free (made data_bytes free).0 (made data_bytes free).1 same (made data_bytes free).2;
-  })
-    where
-      made : (data_bytes : List ℕ) → IsRaceFree t data_bytes
-          → Exchanged (setting_of t) t (from data_bytes) l (statements_count old) (run_all (setting_of t) old l) (x.fresh data_bytes) (run_all (renumbered x.counted (setting_of u)) u.body 1 []) (finish_of (run_of t data_bytes).ending)
-      made data_bytes free = exchanged (setting_of t) (renumbered x.counted (setting_of u)) gap old new t u (from data_bytes) (x.fresh data_bytes) x.pasted (x.instead data_bytes free) free.0
+  module _ (data_bytes : List ℕ) (free : IsRaceFree t data_bytes) (x : IsExchange gap old new t u data_bytes) where
+    made : Exchanged (setting_of t) t (from data_bytes) l (statements_count old) (run_all (setting_of t) old l) x.fresh (run_all (renumbered x.counted (setting_of u)) u.body 1 []) (finish_of (run_of t data_bytes).ending)
+    made = exchanged (setting_of t) (renumbered x.counted (setting_of u)) gap old new t u (from data_bytes) x.fresh x.pasted x.instead free.0
+
+    pub exchange_keeps_on : KeepsOn t u data_bytes
+    exchange_keeps_on = made_keeps t u data_bytes free (record {
+      saved = x.saved;
+      kinds = x.kinds;
+      counted = x.counted;
+      told = x.told;
+      back = x.back;
+      agreed = x.agreed;
+      suit = x.suit;
+      parts = made.0;
+      old_are = made.1;
+      stand = all_stand x.agreed (setting_of t) t (from data_bytes) l (statements_count old) (run_all (setting_of t) old l) x.fresh x.stand made.0 made.2;
+      replays = made.3;
+      free = λ same. x.free made.0 made.1 same made.2;
+    })
+
+  pub exchange_keeps : flat_map saved_in u.decls ≡ flat_map saved_in t.decls → ((data_bytes : List ℕ) → IsRaceFree t data_bytes → IsExchange gap old new t u data_bytes) → Keeps t u
+  exchange_keeps saved exchange = keeps_always t u saved (λ data_bytes free. exchange_keeps_on data_bytes free (exchange data_bytes free))
 
   -- and where names come or go
   pub exchange_near_keeps : (names : List (List ℕ)) (apart : Cell → Bool) → IsExchangeNear names apart gap old new t u → Keeps t u
-  exchange_near_keeps names apart x = made_keeps t u (record {
+  exchange_near_keeps names apart x = keeps_always t u x.saved (λ data_bytes free. made_keeps t u data_bytes free (record {
     saved = x.saved;
     kinds = x.kinds;
     counted = x.counted;
     told = x.told;
     back = x.back;
-    agreed = x.agreed;
-    suit = x.suit;
-    parts = λ data_bytes free. (made data_bytes free).0;
-    old_are = λ data_bytes free. (made data_bytes free).1;
-    stand = λ data_bytes free.
+    agreed = x.agreed data_bytes;
+    suit = x.suit data_bytes;
+    parts = (made data_bytes free).0;
+    old_are = (made data_bytes free).1;
+    stand =
         all_stand_near (shown_at_end t) (x.agreed data_bytes) (x.suit data_bytes) names apart (setting_of t) t (from data_bytes) l (statements_count old) (run_all (setting_of t) old l) (x.fresh data_bytes)
         (x.stand data_bytes free) (x.asked data_bytes free) (made data_bytes free).0 (made data_bytes free).2;
-    replays = λ data_bytes free. (made data_bytes free).3;
-    free = λ data_bytes free same. x.free data_bytes free (made data_bytes free).0 (made data_bytes free).1 (made data_bytes free).2;
-  })
+    replays = (made data_bytes free).3;
+    free = λ same. x.free data_bytes free (made data_bytes free).0 (made data_bytes free).1 (made data_bytes free).2;
+  }))
     where
       made : (data_bytes : List ℕ) → IsRaceFree t data_bytes
           → (parts : List Part) × (old_parts parts ≡ (run_of t data_bytes).acts) × AreExchangedNear names apart (setting_of t) t (from data_bytes) l (statements_count old) (run_all (setting_of t) old l) (x.fresh data_bytes) [] parts [] (from data_bytes)

@@ -19,6 +19,7 @@ use Rattle.ped_bodies.specs.ped_flow.proofs.Truths.{untrue, or_none}
 use Rattle.ped_bodies.specs.ped_laws.specs.Acts.Orders.{IsIn}
 use Rattle.ped_bodies.specs.ped_laws.proofs.ActLaws.Lists.{in_parts}
 use Rattle.ped_loop_runs.specs.Unrejected.{has_rejection, some_rejection}
+use Rattle.ped_loop_runs.specs.TrueRejections.{IsTrueOn}
 
 in_flat : {X Y : Type 0} (f : X → List Y) (y : Y) (xs : List X) → IsIn y (flat_map f xs) → (x : X) × IsIn x xs × IsIn y (f x)
 in_flat f y [] i = absurd i
@@ -172,3 +173,7 @@ source_there refs p i =
 
 pub edges_unrejected : (t : ProgramTree) (edges : List Edge) → some_rejection t.body ≡ false → AreEdges t edges → (e : Edge) → IsIn e edges → e.mark ≡ rejected → ⊥
 edges_unrejected t edges none are = pairs_unrejected t (pairs (references t)) edges none (λ p i. source_there (references t) p i) are
+
+-- so what such lines say is true on all data
+pub unrejected_true : (t : ProgramTree) (data_bytes : List ℕ) → some_rejection t.body ≡ false → IsTrueOn t data_bytes
+unrejected_true t data_bytes none edges are a b come meets c marked = edges_unrejected t edges none are c.edge c.listed marked

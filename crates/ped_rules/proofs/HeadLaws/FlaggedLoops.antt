@@ -6,9 +6,8 @@ use Rattle.ped_base.specs.Lists.{is_same_text, is_among}
 use Rattle.ped_base.proofs.NameEquality.{same_itself}
 use Rattle.ped_tree.specs.Tree.{Head, StmtTree, StmtTrees, Do, ProgramTree}
 use Rattle.ped_tree.specs.NamesIn.{loop_variables, all_loop_variables}
+use Rattle.ped_tree.specs.Numbering.{statement_with}
 use Rattle.ped_tree.specs.Accesses.{constant_names}
-use Rattle.ped_loop_runs.specs.ped_graph.specs.Dependences.{AreEdges}
-use Rattle.ped_edges.specs.Edges.{Edge}
 use Rattle.ped_loop_runs.specs.ped_eval.specs.Loops.{Limits, limits}
 use Rattle.ped_loop_runs.specs.ped_eval.specs.Scopes.{Scope, names_in}
 use Rattle.ped_loop_runs.specs.ped_eval.specs.Outcomes.{setting_of}
@@ -18,14 +17,14 @@ use Rattle.ped_loop_runs.specs.ped_symbols.specs.NameRefusals.{IsValid}
 use Rattle.ped_loop_runs.specs.ped_flow.specs.Questions.{LoopOf, IsContained}
 use Rattle.ped_loop_runs.specs.ped_flow.proofs.Truths.{or_none}
 use Rattle.ped_loop_runs.specs.ped_steps.specs.Replacing.{alone, program_with}
-use Rattle.ped_loop_runs.specs.ped_steps.specs.Tidy.{is_written_in}
+use Rattle.ped_loop_runs.specs.ped_steps.specs.Tidy.{is_written_in, IsTidy}
 use Rattle.ped_loop_runs.specs.ped_steps.proofs.OnePlace.{one_program}
 use Rattle.ped_loop_runs.specs.Unrejected.{IsTrusted}
 use Rattle.ped_loop_runs.specs.Writing.{all_write, some_write_index}
 use Rattle.ped_loop_runs.proofs.TidyLaws.TidyReferences.{written_is}
 use Rattle.ped_rules.specs.OnlyLoops.{on_loop}
-use Rattle.ped_loop_runs.specs.Carried.{NoneCarriedBy}
-use Rattle.ped_loop_runs.specs.OneForOne.{HasSameTrips, IsOneForOne}
+use Rattle.ped_loop_runs.specs.OneForOne.{HasSameTrips, IsReordered, IsOneForOne}
+use Rattle.ped_loop_runs.proofs.LoopLaws.PlacedLoops.{placed_loop}
 use Rattle.ped_loop_runs.proofs.LoopLaws.OneForOneNames.{kinds_alike}
 use Rattle.ped_rules.specs.Flags.{with_flag, flagged}
 use Rattle.ped_rules.proofs.HeadLaws.OneHead.{TrustedLaw, ClearedLaw, stays_trusted_head}
@@ -70,9 +69,8 @@ module _ (t : ProgramTree) (valid : IsValid t) (s : ℕ) (loop : LoopOf t s) (fl
   }
 
   -- it gives way one for one
-  pub one_for_one_flag : IsValid u → IsContained t s → (flag ≡ d.parallel → ⊥) → ((d.parallel ≡ false) × (flag ≡ true) → (edges : List Edge) → AreEdges t edges → NoneCarriedBy t edges s body)
-      → ((w : List ℕ) → is_among w (loop_variables (Do d body)) ≡ true → is_written_in t s body w ≡ false) → IsOneForOne t u s loop h false
-  one_for_one_flag new_valid contained differ carries unwritten = record {
+  pub one_for_one_flag : IsValid u → IsContained t s → (flag ≡ d.parallel → ⊥) → ((w : List ℕ) → is_among w (loop_variables (Do d body)) ≡ true → is_written_in t s body w ≡ false) → IsOneForOne t u s loop h false
+  one_for_one_flag new_valid contained differ unwritten = record {
     valid = valid;
     new_valid = new_valid;
     new = flagged_is;
@@ -83,9 +81,20 @@ module _ (t : ProgramTree) (valid : IsValid t) (s : ℕ) (loop : LoopOf t s) (fl
     trips = same_trips;
     in_turn = λ e. absurd (both_ways false refl e);
     differ = λ e. differ;
-    carries = λ e. elim e [ inl never ↦ absurd (both_ways false refl never) | inr became ↦ carries became ];
     unwritten = λ e. unwritten;
   }
+
+  -- its iterations are in the same order; or they are done in any order, where it becomes a PARALLEL DO
+  pub became_parallel : IsReordered d h false → (d.parallel ≡ false) × (flag ≡ true)
+  became_parallel (inl never) = absurd (both_ways false refl never)
+  became_parallel (inr became) = became
+
+  -- where the new program is tidy, no reference in a DO that became a PARALLEL DO writes a variable of it
+  pub unwritten_by_tidy : flag ≡ true → IsTidy u → (w : List ℕ) → is_among w (loop_variables (Do d body)) ≡ true → is_written_in t s body w ≡ false
+  unwritten_by_tidy parallel tidy w among = written_is t s loop w ∙ sym (written_is u s new_loop w) ∙ (tidy s new_loop parallel w (record { loop = new_loop; among = among })).unwritten
+    where
+      new_loop : LoopOf u s
+      new_loop = record { head = h; body = body; is = ap (statement_with s) flagged_is ∙ placed_loop t s loop h }
 
   -- and what may be trusted stays so
   module _ (contained : IsContained t s) (unwritten : (w : List ℕ) → is_among w (loop_variables (Do d body)) ≡ true → is_written_in t s body w ≡ false) where

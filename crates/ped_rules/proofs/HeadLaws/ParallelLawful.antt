@@ -15,7 +15,7 @@ use Rattle.ped_loop_runs.specs.ped_flow.specs.Questions.{LoopOf, IsIndexIn, IsCo
 use Rattle.ped_loop_runs.specs.ped_steps.specs.Causes.{NoRule}
 use Rattle.ped_loop_runs.specs.ped_steps.specs.Replacing.{all_kept}
 use Rattle.ped_loop_runs.specs.ped_steps.specs.Runs.Meaning.{Keeps}
-use Rattle.ped_loop_runs.specs.ped_steps.specs.Tidy.{is_written_in}
+use Rattle.ped_loop_runs.specs.ped_steps.specs.Tidy.{is_written_in, IsTidy}
 use Rattle.ped_loop_runs.specs.ped_steps.proofs.OneCause.{one_cause}
 use Rattle.ped_loop_runs.specs.Unrejected.{some_rejection, IsTrusted}
 use Rattle.ped_rules.specs.Carried.{level_at, is_carried_by, carried}
@@ -24,25 +24,39 @@ use Rattle.ped_rules.specs.Rules.{is_parallel}
 use Rattle.ped_rules.proofs.CarriedEdges.{in_body}
 use Rattle.ped_rules.proofs.KeptNumbers.{all_one_to_one}
 use Rattle.ped_loop_runs.specs.Carried as runs
-use Rattle.ped_loop_runs.specs.Carried.{NoneCarriedBy}
-use Rattle.ped_loop_runs.specs.OneForOne.{IsOneForOne}
+use Rattle.ped_loop_runs.specs.Carried.{NoneMeetOn, NoneOfScalarsCarriedBy}
+use Rattle.ped_loop_runs.specs.Meaning.{KeepsOn}
+use Rattle.ped_loop_runs.specs.OneForOne.{IsReordered, IsOneForOne}
+use Rattle.ped_loop_runs.specs.TrueRejections.{IsTrueOn}
+use Rattle.ped_loop_runs.specs.ped_eval.specs.Outcomes.{IsRaceFree}
 use Rattle.ped_loop_runs.proofs.LoopLaws.SomeEdges.{some_edges}
 use Rattle.ped_rules.specs.Flags.{flagged}
 use Rattle.ped_rules.specs.Paralleling.{StandsAgainstParallel, paralleling}
 use Rattle.ped_rules.proofs.HeadLaws.FlagRules as rules
-use Rattle.ped_rules.proofs.HeadLaws.FlaggedLoops.{one_for_one_flag, stays_trusted_flag}
+use Rattle.ped_rules.proofs.HeadLaws.FlaggedLoops.{one_for_one_flag, became_parallel, unwritten_by_tidy, stays_trusted_flag}
 use Rattle.ped_rules.proofs.HeadLaws.OneHead.{TrustedLaw, ClearedLaw}
 use Rattle.ped_loop_runs.proofs.LoopLaws.OneForOneStands.{false_unless}
 
 -- the laws that are cited
 abbrev pub KeepsLaw : Type 0
-KeepsLaw = (t u : ProgramTree) (l : ℕ) (loop : LoopOf t l) (h : Head) (reversed : Bool) → IsOneForOne t u l loop h reversed → Keeps t u
+KeepsLaw =
+    (t u : ProgramTree) (l : ℕ) (loop : LoopOf t l) (h : Head) (reversed : Bool) → IsOneForOne t u l loop h reversed
+    → ((data_bytes : List ℕ) → IsReordered loop.head h reversed → (edges : List Edge) → AreEdges t edges → NoneMeetOn t edges data_bytes l loop.body) → Keeps t u
+
+abbrev pub KeepsOnLaw : Type 0
+KeepsOnLaw =
+    (t u : ProgramTree) (l : ℕ) (loop : LoopOf t l) (h : Head) (reversed : Bool) → IsOneForOne t u l loop h reversed
+    → (data_bytes : List ℕ) → (IsReordered loop.head h reversed → (edges : List Edge) → AreEdges t edges → NoneMeetOn t edges data_bytes l loop.body) → IsRaceFree t data_bytes → KeepsOn t u data_bytes
 
 abbrev pub UnwrittenLaw : Type 0
-UnwrittenLaw = (t : ProgramTree) → IsValid t → (edges : List Edge) → AreEdges t edges → (l : ℕ) (loop : LoopOf t l) → NoneCarriedBy t edges l loop.body → (w : List ℕ) → IsIndexIn t l w → is_written_in t l loop.body w ≡ false
+UnwrittenLaw =
+    (t : ProgramTree) → IsValid t → (edges : List Edge) → AreEdges t edges → (l : ℕ) (loop : LoopOf t l) → NoneOfScalarsCarriedBy t edges l loop.body → (w : List ℕ) → IsIndexIn t l w → is_written_in t l loop.body w ≡ false
 
 abbrev pub UnrejectedLaw : Type 0
 UnrejectedLaw = (t : ProgramTree) (edges : List Edge) → some_rejection t.body ≡ false → AreEdges t edges → (e : Edge) → IsIn e edges → e.mark ≡ rejected → ⊥
+
+abbrev pub TrueLaw : Type 0
+TrueLaw = (t : ProgramTree) (data_bytes : List ℕ) → some_rejection t.body ≡ false → IsTrueOn t data_bytes
 
 pub each_of : {X : Type 0} (P : X → Type 0) (xs : List X) (x : X) → All P xs → IsIn x xs → P x
 each_of P [] x all i = absurd i
@@ -59,48 +73,70 @@ same_carried t s loop e =
     let there = λ (k : ℕ). in_body t s loop.head loop.body k loop.is in
     λ i. same_level (level_at t s) e.level i && (sym (there e.source.0) i && sym (there e.sink.0) i)
 
-pub not_rejected : (m : Mark) → (m ≡ rejected → ⊥) → is_rejected m ≡ false
-not_rejected proven none = refl
-not_rejected pending none = refl
-not_rejected rejected none = absurd (none refl)
+-- a dependence that the DO carries, and that doesn't forbid the step, is rejected
+pub only_rejected : (t : ProgramTree) (s : ℕ) (loop : LoopOf t s) (edges : List Edge) → All (λ e. carried t s e ≡ false) edges → (e : Edge) → IsIn e edges → runs.is_carried_by t s loop.body e ≡ true → e.mark ≡ rejected
+only_rejected t s loop edges none e i there =
+    by e.mark (is_carried_by t s e) (sym (same_carried t s loop e) ∙ there) (each_of (λ (z : Edge). carried t s z ≡ false) edges e none i)
+  where
+    by : (m : Mark) (b : Bool) → b ≡ true → (b && not (is_rejected m)) ≡ false → m ≡ rejected
+    by rejected b h k = refl
+    by proven true h k = absurd (both_ways true k refl)
+    by pending true h k = absurd (both_ways true k refl)
+    by proven false h k = absurd (both_ways false refl h)
+    by pending false h k = absurd (both_ways false refl h)
 
-and_true : (a b : Bool) → (a && not b) ≡ false → b ≡ false → a ≡ false
-and_true true b e f = let wrong : true ≡ false = sym (ap not f) ∙ e in absurd (both_ways true wrong refl)
-and_true false b e f = refl
+-- where no dependence forbids the step, none that the DO carries occurs on data on which no rejected one does
+pub none_meet : (t : ProgramTree) (s : ℕ) (loop : LoopOf t s) (data_bytes : List ℕ) → IsTrueOn t data_bytes → (edges : List Edge) → AreEdges t edges → All (λ e. carried t s e ≡ false) edges → NoneMeetOn t edges data_bytes s loop.body
+none_meet t s loop data_bytes true_on edges are none a b come meets share c there = true_on edges are a b come meets c (only_rejected t s loop edges none c.edge c.listed there)
 
--- where no dependence forbids `parallel`, the DO carries none, as none is rejected
-pub none_carried : UnrejectedLaw → (t : ProgramTree) (s : ℕ) (loop : LoopOf t s) (edges : List Edge) → some_rejection t.body ≡ false → AreEdges t edges → All (λ e. carried t s e ≡ false) edges → NoneCarriedBy t edges s loop.body
-none_carried law t s loop edges plain are none e i =
-    same_carried t s loop e ∙ and_true (is_carried_by t s e) (is_rejected e.mark) (each_of (λ (z : Edge). carried t s z ≡ false) edges e none i) (not_rejected e.mark (law t edges plain are e i))
+-- and it carries none where none is rejected
+pub none_carried : UnrejectedLaw → (t : ProgramTree) (s : ℕ) (loop : LoopOf t s) (edges : List Edge) → some_rejection t.body ≡ false → AreEdges t edges → All (λ e. carried t s e ≡ false) edges → NoneOfScalarsCarriedBy t edges s loop.body
+none_carried law t s loop edges plain are none r listed bare e i from = false_unless (runs.is_carried_by t s loop.body e) (λ there. law t edges plain are e i (only_rejected t s loop edges none e i there))
+
+-- a DO that becomes a PARALLEL DO, or ceases to be one
+pub flag_keeps : KeepsLaw → (t : ProgramTree) → IsValid t → (s : ℕ) (loop : LoopOf t s) (flag : Bool) → IsValid (flagged t s flag) → IsContained t s → (flag ≡ loop.head.parallel → ⊥)
+    → ((data_bytes : List ℕ) → (loop.head.parallel ≡ false) × (flag ≡ true) → (edges : List Edge) → AreEdges t edges → NoneMeetOn t edges data_bytes s loop.body)
+    → ((w : List ℕ) → is_among w (loop_variables (Do loop.head loop.body)) ≡ true → is_written_in t s loop.body w ≡ false) → Keeps t (flagged t s flag)
+flag_keeps law t valid s loop flag new_valid contained differ none unwritten =
+    law t (flagged t s flag) s loop (record loop.head { parallel = flag }) false (one_for_one_flag t valid s loop flag new_valid contained differ unwritten) (λ data_bytes reordered. none data_bytes (became_parallel t valid s loop flag reordered))
 
 module _ (keeps_law : KeepsLaw) (trusted_law : TrustedLaw) (cleared : ClearedLaw) where
-  -- a DO that becomes a PARALLEL DO, or ceases to be one
-  pub faithful : (t : ProgramTree) → IsValid t → (s : ℕ) (loop : LoopOf t s) (flag : Bool) → IsValid (flagged t s flag) → IsContained t s → (flag ≡ loop.head.parallel → ⊥)
-      → ((loop.head.parallel ≡ false) × (flag ≡ true) → (edges : List Edge) → AreEdges t edges → NoneCarriedBy t edges s loop.body) → ((w : List ℕ) → is_among w (loop_variables (Do loop.head loop.body)) ≡ true → is_written_in t s loop.body w ≡ false)
-      → IsTrusted t → IsFaithful t (flagged t s flag)
-  faithful t valid s loop flag new_valid contained differ carries unwritten trusted = record {
-    trusted = stays_trusted_flag t valid s loop flag contained unwritten trusted_law cleared trusted;
-    keeps = keeps_law t (flagged t s flag) s loop (record loop.head { parallel = flag }) false (one_for_one_flag t valid s loop flag new_valid contained differ carries unwritten);
-  }
+  module _ (on_law : KeepsOnLaw) (unwritten_law : UnwrittenLaw) (unrejected : UnrejectedLaw) (true_law : TrueLaw) (s : ℕ) where
+    module _ (t : ProgramTree) (valid : IsValid t) (none : NoRule (StandsAgainstParallel s t)) (free : (edges : List Edge) → AreEdges t edges → All (λ e. carried t s e ≡ false) edges) where
+      loop : LoopOf t s
+      loop = rules.its_loop is_parallel true s t none
 
-  module _ (unwritten_law : UnwrittenLaw) (unrejected : UnrejectedLaw) (s : ℕ) where
-    parallel_faithful : (t : ProgramTree) → IsValid t → NoRule (StandsAgainstParallel s t) → ((edges : List Edge) → AreEdges t edges → All (λ e. carried t s e ≡ false) edges) → IsTrusted t → IsFaithful t (flagged t s true)
-    parallel_faithful t valid none free trusted = faithful t valid s loop true (rules.is_valid is_parallel true s t none) (rules.is_contained is_parallel true s t none) differ (λ became. carries) unwritten trusted
-      where
-        loop : LoopOf t s
-        loop = rules.its_loop is_parallel true s t none
+      serial : loop.head.parallel ≡ false
+      serial = rules.test_fails is_parallel true s t none loop
 
-        serial : loop.head.parallel ≡ false
-        serial = rules.test_fails is_parallel true s t none loop
+      differ : true ≡ loop.head.parallel → ⊥
+      differ e = both_ways loop.head.parallel serial (sym e)
 
-        differ : true ≡ loop.head.parallel → ⊥
-        differ e = both_ways loop.head.parallel serial (sym e)
+      new_valid : IsValid (flagged t s true)
+      new_valid = rules.is_valid is_parallel true s t none
 
-        carries : (edges : List Edge) → AreEdges t edges → NoneCarriedBy t edges s loop.body
-        carries edges are = none_carried unrejected t s loop edges trusted.unrejected are (free edges are)
+      contained : IsContained t s
+      contained = rules.is_contained is_parallel true s t none
 
-        unwritten : (w : List ℕ) → is_among w (loop_variables (Do loop.head loop.body)) ≡ true → is_written_in t s loop.body w ≡ false
-        unwritten w among = false_unless (is_written_in t s loop.body w) (λ written. some_edges t (λ edges are. both_ways (is_written_in t s loop.body w) (unwritten_law t valid edges are s loop (carries edges are) w (record { loop = loop; among = among })) written))
+      meet : (data_bytes : List ℕ) → IsTrueOn t data_bytes → (edges : List Edge) → AreEdges t edges → NoneMeetOn t edges data_bytes s loop.body
+      meet data_bytes true_on edges are = none_meet t s loop data_bytes true_on edges are (free edges are)
+
+      parallel_faithful : IsTrusted t → IsFaithful t (flagged t s true)
+      parallel_faithful trusted = record {
+        trusted = stays_trusted_flag t valid s loop true contained unwritten trusted_law cleared trusted;
+        keeps = flag_keeps keeps_law t valid s loop true new_valid contained differ (λ data_bytes became. meet data_bytes (true_law t data_bytes trusted.unrejected)) unwritten;
+      }
+        where
+          unwritten : (w : List ℕ) → is_among w (loop_variables (Do loop.head loop.body)) ≡ true → is_written_in t s loop.body w ≡ false
+          unwritten w among =
+              false_unless (is_written_in t s loop.body w) (λ written. some_edges t (λ edges are.
+              both_ways (is_written_in t s loop.body w) (unwritten_law t valid edges are s loop (none_carried unrejected t s loop edges trusted.unrejected are (free edges are)) w (record { loop = loop; among = among })) written))
+
+      -- with C$PED REJECT lines, on data on which they are true
+      parallel_keeps_on : (data_bytes : List ℕ) → IsTidy (flagged t s true) → IsTrueOn t data_bytes → IsRaceFree t data_bytes → KeepsOn t (flagged t s true) data_bytes
+      parallel_keeps_on data_bytes new_tidy true_on =
+          on_law t (flagged t s true) s loop (record loop.head { parallel = true }) false (one_for_one_flag t valid s loop true new_valid contained differ (unwritten_by_tidy t valid s loop true refl new_tidy)) data_bytes
+          (λ reordered. meet data_bytes true_on)
 
     pub lawful_parallel : IsLawful (paralleling s)
     lawful_parallel = record {
@@ -109,4 +145,6 @@ module _ (keeps_law : KeepsLaw) (trusted_law : TrustedLaw) (cleared : ClearedLaw
       one_to_one = λ t new keep p. subst IsOneToOne (sym p.1) (all_one_to_one t);
       some_made = λ t valid none. (flagged t s true, all_kept t, (refl, refl), rules.is_valid is_parallel true s t none.0);
       keeps = λ t new keep valid none p trusted. subst (IsFaithful t) (sym p.0) (parallel_faithful t valid none.0 none.1 trusted);
+      keeps_on = λ t new keep data_bytes valid none p kind tidy new_tidy true_on true_for free.
+          subst (λ (u : ProgramTree). KeepsOn t u data_bytes) (sym p.0) (parallel_keeps_on t valid none.0 none.1 data_bytes (subst IsTidy p.0 new_tidy) true_on free);
     }

@@ -2,6 +2,9 @@
 use Rattle.std.proofs.Common.{Bool, List, Some, [], ap, append-nil, append_assoc, arith, false, inl, inr, map, refl, subst, sym, true, ℕ, ◌++◌, ◌+◌, ◌-◌, ◌<◌, ◌||◌, ◌∙◌, ◌∷◌, ◌≡◌, ◌≤◌, ◌⊎◌}
 use Rattle.std.specs.Str.Lines.{lines}
 use Rattle.ped_rules.proofs.NestLaws.WovenStands as stands
+use Rattle.ped_loop_runs.specs.ped_graph.specs.Dependences.{AreEdges}
+use Rattle.ped_edges.specs.Edges.{Edge}
+use Rattle.ped_rules.proofs.NestLaws.WovenConflicts.{NoneCrossesOn}
 use Rattle.ped_loop_runs.proofs.LoopLaws.ApartTurns.{apart_further, apart_same, in_one_iteration, or_turned}
 use Rattle.ped_rules.proofs.NestLaws.ExchangedRaces.{AreRaceFree, ComesInside, RaceBefore, ReadsFixed, inside_leaves, only_second}
 use Rattle.ped_rules.proofs.NestLaws.LoopPairs.{Row}
@@ -99,7 +102,8 @@ pub same_turns : (more : List Turn) → map (renumbered_turn own_number) more �
 same_turns [] = refl
 same_turns (t ∷ more) = ap (λ (rest : List Turn). t ∷ rest) (same_turns more)
 
-module _ (making : MakingLaw) (sequence : SequenceLaw) (t u : ProgramTree) (l : ℕ) (loop : LoopOf t l) (g h k : Head) (inside : StmtTrees) (only : only_loop loop.body ≡ Some (pair g inside)) (x : AreSwapped t u l loop g h k inside only) (data_bytes : List ℕ) (ends : Ends (run_of t data_bytes).ending)
+module _ (making : MakingLaw) (sequence : SequenceLaw) (t u : ProgramTree) (l : ℕ) (loop : LoopOf t l) (g h k : Head) (inside : StmtTrees) (only : only_loop loop.body ≡ Some (pair g inside)) (x : AreSwapped t u l loop g h k inside only) (data_bytes : List ℕ)
+    (uncrossed : (edges : List Edge) → AreEdges t edges → NoneCrossesOn t edges data_bytes l loop.body) (ends : Ends (run_of t data_bytes).ending)
     (scope : Scope) (front behind : List Act) (s : Store) (executed : IsExecuted (setting_of t) t (store_at_start (lines data_bytes)) l (statements_count (alone (Do loop.head loop.body))) scope front (run (setting_of t) (Do loop.head loop.body) l scope s).acts behind s)
     (goes : finish_of (run (setting_of t) (Do loop.head loop.body) l scope s).ending ≡ goes_on) where
   abbrev p : Setting
@@ -115,25 +119,25 @@ module _ (making : MakingLaw) (sequence : SequenceLaw) (t u : ProgramTree) (l : 
   variables = loop_variables (Do loop.head loop.body)
 
   abbrev e0 : Entered
-  e0 = stands.e0 making sequence t u l loop g h k inside only x data_bytes ends scope front behind s executed goes
+  e0 = stands.e0 making sequence t u l loop g h k inside only x data_bytes uncrossed ends scope front behind s executed goes
 
   abbrev z0 : Entered
-  z0 = stands.z0 making sequence t u l loop g h k inside only x data_bytes ends scope front behind s executed goes
+  z0 = stands.z0 making sequence t u l loop g h k inside only x data_bytes uncrossed ends scope front behind s executed goes
 
   abbrev in_old : ℕ → Entered
-  in_old i = stands.in_old making sequence t u l loop g h k inside only x data_bytes ends scope front behind s executed goes i
+  in_old i = stands.in_old making sequence t u l loop g h k inside only x data_bytes uncrossed ends scope front behind s executed goes i
 
   abbrev in_new : ℕ → Entered
-  in_new a = stands.in_new making sequence t u l loop g h k inside only x data_bytes ends scope front behind s executed goes a
+  in_new a = stands.in_new making sequence t u l loop g h k inside only x data_bytes uncrossed ends scope front behind s executed goes a
 
   abbrev scope_old : ℕ → Scope
-  scope_old i = stands.scope_old making sequence t u l loop g h k inside only x data_bytes ends scope front behind s executed goes i
+  scope_old i = stands.scope_old making sequence t u l loop g h k inside only x data_bytes uncrossed ends scope front behind s executed goes i
 
   abbrev scope_new : ℕ → Scope
-  scope_new a = stands.scope_new making sequence t u l loop g h k inside only x data_bytes ends scope front behind s executed goes a
+  scope_new a = stands.scope_new making sequence t u l loop g h k inside only x data_bytes uncrossed ends scope front behind s executed goes a
 
   abbrev row_old : ℕ → Row
-  row_old i = stands.row_old making sequence t u l loop g h k inside only x data_bytes ends scope front behind s executed goes i
+  row_old i = stands.row_old making sequence t u l loop g h k inside only x data_bytes uncrossed ends scope front behind s executed goes i
 
   abbrev same : HasSwappedTrips t l loop.head g h k loop.body inside only scope s goes
   same = x.trips data_bytes scope front behind s executed goes
@@ -148,16 +152,16 @@ module _ (making : MakingLaw) (sequence : SequenceLaw) (t u : ProgramTree) (l : 
   names = its_names t l loop.head g h k loop.body inside only scope s goes same
 
   abbrev fresh_trip : ℕ → ℕ → List Act
-  fresh_trip = stands.fresh_trip making sequence t u l loop g h k inside only x data_bytes ends scope front behind s executed goes
+  fresh_trip = stands.fresh_trip making sequence t u l loop g h k inside only x data_bytes uncrossed ends scope front behind s executed goes
 
   abbrev w : Weave
-  w = stands.w making sequence t u l loop g h k inside only x data_bytes ends scope front behind s executed goes
+  w = stands.w making sequence t u l loop g h k inside only x data_bytes uncrossed ends scope front behind s executed goes
 
   abbrev seen_new : ℕ → List Seen
-  seen_new a = stands.seen_new making sequence t u l loop g h k inside only x data_bytes ends scope front behind s executed goes a
+  seen_new a = stands.seen_new making sequence t u l loop g h k inside only x data_bytes uncrossed ends scope front behind s executed goes a
 
   abbrev place_new : ℕ → Place
-  place_new a = stands.place_new making sequence t u l loop g h k inside only x data_bytes ends scope front behind s executed goes a
+  place_new a = stands.place_new making sequence t u l loop g h k inside only x data_bytes uncrossed ends scope front behind s executed goes a
 
   abbrev at : Place
   at = place_of p l scope
@@ -172,10 +176,10 @@ module _ (making : MakingLaw) (sequence : SequenceLaw) (t u : ProgramTree) (l : 
   no_inner f ts q = ap (λ (b : Bool). inner_variables b ts) q
 
   is_new : new_acts ≡ new_list w
-  is_new = new_run_is making sequence t u l loop g h k inside only x data_bytes ends scope front behind s executed goes
+  is_new = new_run_is making sequence t u l loop g h k inside only x data_bytes uncrossed ends scope front behind s executed goes
 
   unwritten : (c : Cell) → IsOfFixed p.constants t l c → written old_acts c ≡ false
-  unwritten c fixed = stands.fixed_unwritten making sequence t u l loop g h k inside only x data_bytes ends scope front behind s executed goes c fixed
+  unwritten c fixed = stands.fixed_unwritten making sequence t u l loop g h k inside only x data_bytes uncrossed ends scope front behind s executed goes c fixed
 
   -- an access of a control reads a scalar that keeps its value
   control_reads : (c : List Act) (a : Act) (b : Access) → IsIn (control c) w.new → IsIn a c → IsIn b (accesses_of a) → 0 < b.reference → ReadsFixed t l scope b
@@ -189,7 +193,7 @@ module _ (making : MakingLaw) (sequence : SequenceLaw) (t u : ProgramTree) (l : 
 
       read : v.0.manner ≡ reads → (extra : List Turn) → a.place.turns ≡ turns_of scope ++ extra → ((r : Turn) (more : List Turn) → extra ≡ r ∷ more → r.statement ≡ l) → ReadsFixed t l scope b
       read manner extra place whose =
-          let r = steady_read making sequence t u l loop g h k inside only x data_bytes ends scope front behind s executed goes c v.0 i (touch_in c a v.0 j v.1) manner in
+          let r = steady_read making sequence t u l loop g h k inside only x data_bytes uncrossed ends scope front behind s executed goes c v.0 i (touch_in c a v.0 j v.1) manner in
           record {
             fixed = subst (IsOfFixed p.constants t l) (ap (λ (z : Access). z.cell) (sym v.3)) r.fixed;
             reading = ap (λ (z : Access). z.writes) v.3 ∙ ap is_write manner;
@@ -209,13 +213,13 @@ module _ (making : MakingLaw) (sequence : SequenceLaw) (t u : ProgramTree) (l : 
 
       by : IsControlOf (bounds_seen p h scope s) z0 scope at seen_new in_new scope_new place_new new_first new_second c → ReadsFixed t l scope b
       by (outer_entry q) =
-          read (entry_referred variables z0 scope x.new_serial x.new_private (no_inner h (change_only (λ f z. Do k z) loop.body) x.new_serial) (stands.outer_new_named making sequence t u l loop g h k inside only x data_bytes ends) (bounds_seen p h scope s) at v.0 (touched (loop_entry (bounds_seen p h scope s) z0 scope at) q) some)
+          read (entry_referred variables z0 scope x.new_serial x.new_private (no_inner h (change_only (λ f z. Do k z) loop.body) x.new_serial) (stands.outer_new_named making sequence t u l loop g h k inside only x data_bytes uncrossed ends) (bounds_seen p h scope s) at v.0 (touched (loop_entry (bounds_seen p h scope s) z0 scope at) q) some)
           [] (ap (λ (z : Act). z.place.turns) (of_entry (loop_entry (bounds_seen p h scope s) z0 scope at) q) ∙ sym (append-nil (turns_of scope))) (λ r more e. absurd cc)
       by (inner_entry m from to q) =
-          read (entry_referred variables (in_new m) (scope_new m) x.new_inner_serial x.new_inner_private (no_inner k inside x.new_inner_serial) (stands.inner_new_named making sequence t u l loop g h k inside only x data_bytes ends) (seen_new m) (place_new m) v.0 (touched (loop_entry (seen_new m) (in_new m) (scope_new m) (place_new m)) q) some)
+          read (entry_referred variables (in_new m) (scope_new m) x.new_inner_serial x.new_inner_private (no_inner k inside x.new_inner_serial) (stands.inner_new_named making sequence t u l loop g h k inside only x data_bytes uncrossed ends) (seen_new m) (place_new m) v.0 (touched (loop_entry (seen_new m) (in_new m) (scope_new m) (place_new m)) q) some)
           ((frame z0 m).turn ∷ []) (ap (λ (z : Act). z.place.turns) (of_entry (loop_entry (seen_new m) (in_new m) (scope_new m) (place_new m)) q)) (λ r more e. (let turn : (frame z0 m).turn ≡ r = cc in ap (λ (z : Turn). z.statement) (sym turn)))
-      by (inner_end m n from to q) = absurd (of_end (trip_end (in_new m) (scope_new m) (place_new m) n) q (end_unreferred variables (in_new m) (scope_new m) x.new_inner_serial x.new_inner_private (no_inner k inside x.new_inner_serial) (stands.inner_new_named making sequence t u l loop g h k inside only x data_bytes ends) (place_new m) n v.0))
-      by (outer_end m from to q) = absurd (of_end (trip_end z0 scope at m) q (end_unreferred variables z0 scope x.new_serial x.new_private (no_inner h (change_only (λ f z. Do k z) loop.body) x.new_serial) (stands.outer_new_named making sequence t u l loop g h k inside only x data_bytes ends) at m v.0))
+      by (inner_end m n from to q) = absurd (of_end (trip_end (in_new m) (scope_new m) (place_new m) n) q (end_unreferred variables (in_new m) (scope_new m) x.new_inner_serial x.new_inner_private (no_inner k inside x.new_inner_serial) (stands.inner_new_named making sequence t u l loop g h k inside only x data_bytes uncrossed ends) (place_new m) n v.0))
+      by (outer_end m from to q) = absurd (of_end (trip_end z0 scope at m) q (end_unreferred variables z0 scope x.new_serial x.new_private (no_inner h (change_only (λ f z. Do k z) loop.body) x.new_serial) (stands.outer_new_named making sequence t u l loop g h k inside only x data_bytes uncrossed ends) at m v.0))
 
   -- an access of a new pair of iterations is made likewise in the old one
   record IsOfPair (b : Access) : Type 0 where
@@ -293,14 +297,14 @@ module _ (making : MakingLaw) (sequence : SequenceLaw) (t u : ProgramTree) (l : 
     found =
         let a = accesses_from ((row_old i).trip j) m.origin m.in_trip in
         accesses_in old_acts a.0 m.origin
-        (in_part old_acts ((row_old i).trip j) (pair_part making sequence t u l loop g h k inside only x data_bytes ends scope front behind s executed goes i j old_pair.0 old_pair.1 old_pair.2 old_pair.3) a.0 a.1) a.2
+        (in_part old_acts ((row_old i).trip j) (pair_part making sequence t u l loop g h k inside only x data_bytes uncrossed ends scope front behind s executed goes i j old_pair.0 old_pair.1 old_pair.2 old_pair.3) a.0 a.1) a.2
 
     reached : PairReached p scope l e0.count z0.count (λ n. (in_old n).count) (λ n. (in_new n).count) later below same.grouped m.origin.cell
     reached =
         let a = accesses_from ((row_old i).trip j) m.origin m.in_trip in
         let v = touch_of a.0 a.0.touches m.origin a.2 in
         subst (PairReached p scope l e0.count z0.count (λ n. (in_old n).count) (λ n. (in_new n).count) later below same.grouped) (ap (λ (z : Access). z.cell) (sym v.3))
-        (reached_trip making sequence t u l loop g h k inside only x data_bytes ends scope front behind s executed goes i j old_pair.0 old_pair.1 old_pair.2 old_pair.3 a.0 a.1 v.0 v.1)
+        (reached_trip making sequence t u l loop g h k inside only x data_bytes uncrossed ends scope front behind s executed goes i j old_pair.0 old_pair.1 old_pair.2 old_pair.3 a.0 a.1 v.0 v.1)
 
     comes_inside : ComesInside t l scope old_acts b
     comes_inside = record {

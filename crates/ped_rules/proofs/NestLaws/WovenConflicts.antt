@@ -5,10 +5,9 @@ use Rattle.std.specs.Bool.{MatchBool}
 use Rattle.std.specs.List.{list_any}
 use Rattle.std.specs.Prelude.{slice_get}
 use Rattle.std.specs.Str.Lines.{lines}
-use Rattle.ped_rules.proofs.NestLaws.OnlyBodies.{never}
-use Rattle.ped_rules.specs.Carried.{has_after, is_after}
-use Rattle.ped_loop_runs.proofs.LoopLaws.Trips.{come_in_run, of_act, trips_carried}
-use Rattle.ped_loop_runs.specs.Carried.{AllStoreWithin, AreTrips, IsCarriedByLoop, is_carried_by, is_in_body, is_level}
+use Rattle.ped_rules.specs.Carried.{is_after}
+use Rattle.ped_loop_runs.proofs.LoopLaws.Trips.{come_in_run, of_act, share_in_trips, trips_carried}
+use Rattle.ped_loop_runs.specs.Carried.{AllStoreWithin, AreInTrips, AreTrips, IsCarriedByLoop, is_carried_by, is_in_body, is_level}
 use Rattle.ped_loop_runs.specs.ped_flow.specs.PlainBounds.{nest_round}
 use Rattle.ped_loop_runs.specs.ped_flow.specs.Questions.{LoopOf}
 use Rattle.ped_loop_runs.specs.ped_laws.proofs.ActLaws.Conflicting.{acts_of_blocks}
@@ -21,21 +20,22 @@ use Rattle.ped_loop_runs.specs.ped_laws.proofs.ConflictLaws.Scoping.{touch_of_ac
 use Rattle.ped_loop_runs.specs.ped_laws.proofs.RunLaws.Meetings.{outside_of_run}
 use Rattle.ped_loop_runs.specs.ped_laws.specs.Acts.Conflicts.{blocks_conflict_outside}
 use Rattle.ped_loop_runs.specs.ped_laws.specs.Acts.Orders.{IsIn}
-use Rattle.ped_loop_runs.specs.ped_laws.specs.Conflicts.Directions.{StandInDirections, step_at}
+use Rattle.ped_loop_runs.specs.ped_laws.specs.Conflicts.Directions.{StandInDirections, share_a_loop, step_at}
+use Rattle.ped_loop_runs.specs.ped_laws.specs.Conflicts.Covered.{ComeInRun, IsCovered}
 use Rattle.ped_loop_runs.specs.ped_laws.specs.Conflicts.Sequence.{AreSuccessive}
 use Rattle.ped_loop_runs.specs.ped_eval.specs.Outcomes.{run_of, setting_of}
 use Rattle.ped_loop_runs.specs.ped_graph.specs.Dependences.{AreEdges}
 use Rattle.ped_edges.specs.Edges.{Edge}
 use Rattle.ped_loop_runs.specs.ped_store.specs.Acts.{Act, Turn}
 use Rattle.ped_loop_runs.specs.ped_store.specs.Cells.{Cell}
-use Rattle.ped_loop_runs.specs.ped_store.specs.Races.{Access}
+use Rattle.ped_loop_runs.specs.ped_store.specs.Races.{Access, conflict}
 use Rattle.ped_loop_runs.specs.ped_store.specs.Stores.{store_at_start}
 use Rattle.ped_loop_runs.specs.ped_symbols.specs.NameRefusals.{IsValid}
 use Rattle.ped_views.specs.Excluded.{StandsByValue, by_value, turned}
 use Rattle.ped_views.specs.declared.directions.Direction.{Direction}
 use Rattle.ped_views.specs.declared.directions.Direction.TheVariants.{After, Before, Same}
 use Rattle.ped_tree.specs.Nests.{Loop}
-use Rattle.ped_tree.specs.Tree.{ProgramTree}
+use Rattle.ped_tree.specs.Tree.{StmtTrees, ProgramTree}
 
 -- a value stands before another where that one stands behind it
 flipped : (step : ℤ) (d : Direction) (m n : ℤ) → StandsByValue (by_value step d) m n → StandsByValue (by_value step (turned d)) n m
@@ -67,13 +67,19 @@ at_level (i ∷ outer) a b rest =
     deeper : (ds : List Direction) (n : ℕ) → slice_get (Same ∷ ds) (suc n) ≡ slice_get ds n
     deeper ds n = refl
 
-some_after : (n : ℕ) (v : List Direction) (vs : List (List Direction)) → IsIn v vs → slice_get v n ≡ Some After → list_any (λ w. is_after (slice_get w n)) vs ≡ true
+pub some_after : (n : ℕ) (v : List Direction) (vs : List (List Direction)) → IsIn v vs → slice_get v n ≡ Some After → list_any (λ w. is_after (slice_get w n)) vs ≡ true
 some_after n v [] i e = absurd i
 some_after n v (w ∷ vs) (inl q) e = or_left (is_after (slice_get w n)) (list_any (λ u. is_after (slice_get u n)) vs) (ap (λ (u : List Direction). is_after (slice_get u n)) (sym q) ∙ ap is_after e)
 some_after n v (w ∷ vs) (inr i) e = or_right (is_after (slice_get w n)) (list_any (λ u. is_after (slice_get u n)) vs) (some_after n v vs i e)
 
 same_level : (m n : ℕ) → is_level n (Some m) ≡ true → m ≡ n
 same_level m n h = numbers_are m n h
+
+-- no two accesses that conflict in the run on these data are covered by one of these dependences that the DO with number l carries, in directions with `>` for the next DO in it (Allen and Kennedy, section 5.2)
+abbrev pub NoneCrossesOn : ProgramTree → List Edge → (data_bytes : List ℕ) → (l : ℕ) → StmtTrees → Type 0
+NoneCrossesOn t edges data_bytes l body =
+    (a b : Access) → ComeInRun t data_bytes a b → conflict a b ≡ true → share_a_loop a.place.turns b.place.turns ≡ true
+    → (c : IsCovered t edges a b) → is_carried_by t l body c.edge ≡ true → slice_get c.vector (length (nest_round t l) + 1) ≡ Some After → ⊥
 
 -- the acts of two pairs of iterations in a run: the first ones in an earlier iteration of the DO with number l, and in a later one of the DO in it
 pub record AreCrossing (t : ProgramTree) (data_bytes : List ℕ) (l : ℕ) (earlier later : List Act) : Type 0 where
@@ -85,10 +91,11 @@ pub record AreCrossing (t : ProgramTree) (data_bytes : List ℕ) (l : ℕ) (earl
   pub same : r.statement ≡ w.statement
   pub after : (d : Direction) → StandsByValue (by_value (step_at t r.statement) d) r.value w.value → d ≡ After
 
-module _ (made : MakingLaw) (sequence : SequenceLaw) (t : ProgramTree) (data_bytes : List ℕ) (valid : IsValid t) (edges : List Edge) (are : AreEdges t edges) (l : ℕ) (loop : LoopOf t l) (uncrossed : (e : Edge) → IsIn e edges → is_carried_by t l loop.body e ≡ true → has_after (length (nest_round t l) + 1) e ≡ false) where
+module _ (made : MakingLaw) (sequence : SequenceLaw) (t : ProgramTree) (data_bytes : List ℕ) (valid : IsValid t) (edges : List Edge) (are : AreEdges t edges) (l : ℕ) (loop : LoopOf t l) (uncrossed : NoneCrossesOn t edges data_bytes l loop.body) where
   -- such a dependence would be turned round
-  turned_round : (outer more rest : List Turn) (r w : Turn) (a b : Access) → r.statement ≡ w.statement → ((d : Direction) → StandsByValue (by_value (step_at t r.statement) d) r.value w.value → d ≡ After) → IsCarriedByLoop t edges l loop.body outer (r ∷ more) (w ∷ rest) a b → ⊥
-  turned_round outer more rest r w a b same after c = by (r.statement == w.statement) (same_numbers r.statement w.statement same) c.0.inside
+  turned_round : (outer more rest : List Turn) (r w : Turn) (a b : Access) → r.statement ≡ w.statement → ((d : Direction) → StandsByValue (by_value (step_at t r.statement) d) r.value w.value → d ≡ After)
+      → ComeInRun t data_bytes a b → conflict a b ≡ true → share_a_loop a.place.turns b.place.turns ≡ true → IsCarriedByLoop t edges l loop.body outer (r ∷ more) (w ∷ rest) a b → ⊥
+  turned_round outer more rest r w a b same after come meets share c = by (r.statement == w.statement) (same_numbers r.statement w.statement same) c.0.inside
     where
       Found : Type 0
       Found = (d : Direction) × (ds : List Direction) × (c.0.rest ≡ d ∷ ds) × StandsByValue (by_value (step_at t r.statement) d) r.value w.value × StandInDirections t more rest ds
@@ -101,11 +108,9 @@ module _ (made : MakingLaw) (sequence : SequenceLaw) (t : ProgramTree) (data_byt
 
       behind : (d : Direction) (ds : List Direction) → c.0.rest ≡ d ∷ ds → d ≡ After → ⊥
       behind d ds is so =
-          never (has_after (length (nest_round t l) + 1) c.0.covered.edge)
-          (some_after (length (nest_round t l) + 1) c.0.covered.vector c.0.covered.edge.vectors c.0.covered.contains
+          uncrossed a b come meets share c.0.covered c.1
           (ap (λ (v : List Direction). slice_get v (length (nest_round t l) + 1)) (c.0.vector ∙ (λ i. map (λ (z : Turn). Same) outer ++ Before ∷ (is ∙ ap (λ (x : Direction). x ∷ ds) so) i))
-          ∙ ap (slice_get (map (λ (z : Turn). Same) outer ++ Before ∷ (After ∷ ds))) (sym level) ∙ at_level outer Before After ds))
-          (uncrossed c.0.covered.edge c.0.covered.listed c.1)
+          ∙ ap (slice_get (map (λ (z : Turn). Same) outer ++ Before ∷ (After ∷ ds))) (sym level) ∙ at_level outer Before After ds)
 
       by : (b : Bool) → b ≡ true → MatchBool b Found (c.0.rest ≡ []) → ⊥
       by true e f = behind f.0 f.1 f.2 (after f.0 f.3)
@@ -132,6 +137,8 @@ module _ (made : MakingLaw) (sequence : SequenceLaw) (t : ProgramTree) (data_byt
           let other = cross.second_inside p.1 p.3 in
           let at_first = (touch_of_access m.first p.0 m.of_first).2 in
           let at_second = (touch_of_access m.second p.1 m.of_second).2 in
-          let c = trips_carried made sequence t data_bytes valid edges are l loop m.first m.second trips.outer trips.i trips.j (cross.r ∷ one.0) (cross.w ∷ other.0) come m.conflicts m.first_reference m.second_reference
-          (record { at_first = ap (λ (z : Access). z.place.turns) at_first ∙ one.1; at_second = ap (λ (z : Access). z.place.turns) at_second ∙ other.1; of_first = trips.of_first; of_second = trips.of_second; earlier = trips.order }) in
-          absurd (turned_round trips.outer one.0 other.0 cross.r cross.w m.first m.second cross.same cross.after c)
+          let there : AreInTrips l trips.outer trips.i trips.j (cross.r ∷ one.0) (cross.w ∷ other.0) m.first m.second =
+          record { at_first = ap (λ (z : Access). z.place.turns) at_first ∙ one.1; at_second = ap (λ (z : Access). z.place.turns) at_second ∙ other.1; of_first = trips.of_first; of_second = trips.of_second; earlier = trips.order } in
+          let share = share_in_trips m.first m.second trips.outer trips.i trips.j (cross.r ∷ one.0) (cross.w ∷ other.0) there in
+          let c = trips_carried made sequence t data_bytes valid edges are l loop m.first m.second trips.outer trips.i trips.j (cross.r ∷ one.0) (cross.w ∷ other.0) come m.conflicts m.first_reference m.second_reference there in
+          absurd (turned_round trips.outer one.0 other.0 cross.r cross.w m.first m.second cross.same cross.after come m.conflicts share c)

@@ -1,15 +1,13 @@
 -- Two loops in each other's place: what a step shows of them, and the new loops put together from what the old bodies did.
-use Rattle.std.proofs.Common.{Bool, List, Ok, Some, [], ap, arith, false, if◌then◌else◌, length, refl, subst, sym, true, ℕ, ◌++◌, ◌+◌, ◌-◌, ◌∙◌, ◌∷◌, ◌≡◌, ◌≤◌}
+use Rattle.std.proofs.Common.{Bool, List, Ok, Some, [], ap, arith, false, if◌then◌else◌, refl, subst, sym, ℕ, ◌++◌, ◌+◌, ◌-◌, ◌∙◌, ◌∷◌, ◌≡◌, ◌≤◌}
 use Rattle.std.specs.Str.Lines.{lines}
 use Rattle.ped_base.specs.Lists.{is_same_text}
 use Rattle.ped_rules.proofs.NestLaws.LoopPairs.{Row, chosen, chosen_are, inner_at, old_entered, pairs_made, row_at, rows_are, scope_at}
 use Rattle.ped_rules.proofs.NestLaws.OnlyBodies.{only_changed, pair}
 use Rattle.ped_rules.proofs.NestLaws.PairOrders.{IsRegrouped}
 use Rattle.ped_rules.proofs.NestLaws.WovenCells.{swapped_names}
-use Rattle.ped_rules.specs.Carried.{has_after}
 use Rattle.ped_rules.specs.OnlyLoops.{change_only, only_loop}
 use Rattle.ped_loop_runs.specs.Bounds.{IsOfFixed}
-use Rattle.ped_loop_runs.specs.Carried.{is_carried_by}
 use Rattle.ped_loop_runs.specs.Executions.{IsExecuted}
 use Rattle.ped_loop_runs.specs.ped_bodies.proofs.BodyLaws.Instances.{interchanged_body}
 use Rattle.ped_loop_runs.specs.ped_bodies.specs.Likewise.{AreLikewise, DoesLikewise}
@@ -17,7 +15,6 @@ use Rattle.ped_loop_runs.specs.ped_bodies.specs.Moving.{HaveNoCopies, own_number
 use Rattle.ped_loop_runs.specs.ped_bodies.specs.Standing.{GoLikewise, SettingsAgree}
 use Rattle.ped_loop_runs.specs.ped_bodies.specs.Trips.{IsTrip, bounds_seen, entered_from, loop_acts}
 use Rattle.ped_loop_runs.specs.ped_steps.specs.Replacing.{alone, program_with}
-use Rattle.ped_loop_runs.specs.ped_flow.specs.PlainBounds.{nest_round}
 use Rattle.ped_loop_runs.specs.ped_flow.specs.Questions.{IsContained, LoopOf}
 use Rattle.ped_loop_runs.specs.ped_laws.proofs.RunLaws.Sight.{limits_told}
 use Rattle.ped_loop_runs.specs.ped_laws.specs.Acts.Orders.{IsIn}
@@ -30,8 +27,6 @@ use Rattle.ped_loop_runs.specs.ped_eval.specs.Outcomes.{setting_of}
 use Rattle.ped_loop_runs.specs.ped_eval.specs.Runs.{run}
 use Rattle.ped_loop_runs.specs.ped_eval.specs.Scopes.{Scope, Setting, names_in, place_of, turns_of}
 use Rattle.ped_loop_runs.specs.ped_eval.specs.Turns.{body_run}
-use Rattle.ped_loop_runs.specs.ped_graph.specs.Dependences.{AreEdges}
-use Rattle.ped_edges.specs.Edges.{Edge}
 use Rattle.ped_loop_runs.specs.ped_store.specs.Acts.{Act, Place}
 use Rattle.ped_loop_runs.specs.ped_store.specs.Cells.{Cell}
 use Rattle.ped_loop_runs.specs.ped_store.specs.Stores.{Content, Store, store_at_start}
@@ -60,7 +55,7 @@ pub record HasSwappedTrips (t : ProgramTree) (l : ℕ) (d g h k : Head) (body in
       → b ≤ (entered_from (setting_of t) k inside (l + 1) (frame (entered_from (setting_of t) h (change_only (λ f z. Do k z) body) l scope s bounds) a ∷ scope) s (inner_bounds a)).count
       → value_in (entered_from (setting_of t) k inside (l + 1) (frame (entered_from (setting_of t) h (change_only (λ f z. Do k z) body) l scope s bounds) a ∷ scope) s (inner_bounds a)) b ≡ value_in (old_entered (setting_of t) d g body inside only l scope s goes) (below a + b)
 
--- two loops of a valid program are in each other's place, and names stand for what they stood for: the variables, the increments and the bodies are the same, none of the loops is a PARALLEL DO or has PRIVATE names, the outer one is contained, the pairs of iterations are the same, and no dependence that the outer one carries has its sink in an earlier iteration of the inner one (Allen and Kennedy, section 5.2)
+-- two loops of a valid program are in each other's place, and names stand for what they stood for: the variables, the increments and the bodies are the same, none of the loops is a PARALLEL DO or has PRIVATE names, the outer one is contained, and the pairs of iterations are the same (Allen and Kennedy, section 5.2)
 pub record AreSwapped (t u : ProgramTree) (l : ℕ) (loop : LoopOf t l) (g h k : Head) (inside : StmtTrees) (only : only_loop loop.body ≡ Some (pair g inside)) : Type 0 where
   pub valid : IsValid t
   pub new_valid : IsValid u
@@ -82,7 +77,6 @@ pub record AreSwapped (t u : ProgramTree) (l : ℕ) (loop : LoopOf t l) (g h k :
   pub trips : (data_bytes : List ℕ) (scope : Scope) (front behind : List Act) (s : Store)
       → IsExecuted (setting_of t) t (store_at_start (lines data_bytes)) l (statements_count (alone (Do loop.head loop.body))) scope front (run (setting_of t) (Do loop.head loop.body) l scope s).acts behind s
       → (goes : finish_of (run (setting_of t) (Do loop.head loop.body) l scope s).ending ≡ goes_on) → HasSwappedTrips t l loop.head g h k loop.body inside only scope s goes
-  pub uncrossed : (edges : List Edge) → AreEdges t edges → (e : Edge) → IsIn e edges → is_carried_by t l loop.body e ≡ true → has_after (length (nest_round t l) + 1) e ≡ false
 
 module _ (t : ProgramTree) (l : ℕ) (d g h k : Head) (body inside : StmtTrees) (only : only_loop body ≡ Some (pair g inside)) (scope : Scope) (s : Store) (goes : finish_of (run (setting_of t) (Do d body) l scope s).ending ≡ goes_on) (same : HasSwappedTrips t l d g h k body inside only scope s goes) where
   abbrev p : Setting

@@ -10,7 +10,9 @@ use Rattle.ped_rules.proofs.NestLaws.NestKnots.{IsControlOf, IsPair, control_of,
 use Rattle.ped_rules.proofs.NestLaws.OnlyBodies.{never, only_changed, only_counted, only_tells, pair}
 use Rattle.ped_rules.proofs.NestLaws.PairOrders.{new_blocks, old_blocks, pairs_ordered}
 use Rattle.ped_rules.proofs.NestLaws.WovenCells.{PairReached, swapped_apart, swapped_idle, swapped_inside, swapped_or_stays}
-use Rattle.ped_rules.proofs.NestLaws.WovenConflicts.{crossing_apart, stands_after}
+use Rattle.ped_loop_runs.specs.ped_graph.specs.Dependences.{AreEdges}
+use Rattle.ped_edges.specs.Edges.{Edge}
+use Rattle.ped_rules.proofs.NestLaws.WovenConflicts.{NoneCrossesOn, crossing_apart, stands_after}
 use Rattle.ped_rules.proofs.NestLaws.WovenLoops.{AreSwapped, HasSwappedTrips, its_names, new_in, new_likewise, new_place, new_replays, new_scope, new_seen, new_trip, new_whole, old_frames, old_in, old_scope, old_trip}
 use Rattle.ped_rules.proofs.NestLaws.WovenLists.{AreParts, IsPart, end_reads, end_within, entry_reads, entry_within, part_inside, parts_around, parts_inside, trip_in_loop, trips_in_loop}
 use Rattle.ped_rules.proofs.RightSteps.{right_step}
@@ -129,7 +131,8 @@ of_block (b ∷ bs) a i = elim (in_parts a b.acts (acts_in_blocks bs) i) [
   | inr k ↦ let r = of_block bs a k in (r.0, inr r.1, r.2)
 ]
 
-module _ (making : MakingLaw) (sequence : SequenceLaw) (t u : ProgramTree) (l : ℕ) (loop : LoopOf t l) (g h k : Head) (inside : StmtTrees) (only : only_loop loop.body ≡ Some (pair g inside)) (x : AreSwapped t u l loop g h k inside only) (data_bytes : List ℕ) (ends : Ends (run_of t data_bytes).ending) where
+module _ (making : MakingLaw) (sequence : SequenceLaw) (t u : ProgramTree) (l : ℕ) (loop : LoopOf t l) (g h k : Head) (inside : StmtTrees) (only : only_loop loop.body ≡ Some (pair g inside)) (x : AreSwapped t u l loop g h k inside only) (data_bytes : List ℕ)
+    (uncrossed : (edges : List Edge) → AreEdges t edges → NoneCrossesOn t edges data_bytes l loop.body) (ends : Ends (run_of t data_bytes).ending) where
   abbrev p : Setting
   p = setting_of t
 
@@ -516,7 +519,7 @@ module _ (making : MakingLaw) (sequence : SequenceLaw) (t u : ProgramTree) (l : 
         ∙ false_unless (blocks_conflict_outside idle ((row_old i).trip j) ((row_old m).trip n)) (λ clash.
         some_edges t (λ edges are.
         never (blocks_conflict_outside idle ((row_old i).trip j) ((row_old m).trip n)) clash
-        (crossing_apart making sequence t data_bytes x.valid edges are l loop (x.uncrossed edges are) idle ((row_old i).trip j) ((row_old m).trip n) (record {
+        (crossing_apart making sequence t data_bytes x.valid edges are l loop (uncrossed edges are) idle ((row_old i).trip j) ((row_old m).trip n) (record {
           trips = two_pairs i j m n from less its_to low high its_low its_high;
           r = (frame (in_old i) j).turn;
           w = (frame (in_old m) n).turn;

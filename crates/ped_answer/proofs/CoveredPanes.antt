@@ -25,12 +25,13 @@ use Rattle.ped_session.specs.ped_transformations.specs.ped_inline.specs.CoveredC
 use Rattle.ped_script.specs.Items.{commands_of}
 use Rattle.ped_script.specs.declared.items.Item.{Item}
 use Rattle.ped_script.specs.declared.items.Command.{Command}
-use Rattle.ped_script.specs.declared.items.Command.TheVariants.{Source, Deps, Show, Calls, Print, Advise, Replace, Insert, Delete, Interchange, Reverse, Skew, Strip, Peel, Distribute, Fuse, Inline, Expand, Privatise, Reduce, Parallel, Serial, Reject, Auto, Undo, Redo, Run, Races, Tested}
+use Rattle.ped_script.specs.declared.kinds.Query.{Query}
+use Rattle.ped_script.specs.declared.kinds.Query.TheVariants.{Source, Deps, Show, Calls, Print, Advise, Tested}
 use Rattle.ped_session.specs.Panes.{ArePanes}
 use Rattle.ped_session.specs.States.{State, opened}
 use Rattle.ped_session.specs.Scripts.{Said}
 use Rattle.ped_answer.specs.Covered.{OccursOnceLeft, CoverRuns, IsCoveringPane, AreCoveringPanes, touches, CoverRunsAt, IsCoveringPaneOf, HasRow, IsCoveringCalls}
-use Rattle.ped_answer.specs.Headline.{AnswersEach, EachItem, Afresh, IsOfStatement, ShowsAfresh, PanesRequest, Covers, CoveredRequest}
+use Rattle.ped_answer.specs.Headline.{AnswersEach, EachItem, Afresh, IsOfStatement, AnswersAfresh, ShowsAfresh, PanesRequest, CoversRuns, Covers, CoveredRequest}
 use Rattle.ped_answer.proofs.LoopAccesses.{so_or_by_loop}
 
 -- dependences cover conflicts
@@ -207,41 +208,22 @@ statement_so : (IsSo Covering : ProgramTree → List ℕ → Type 0) (line numbe
     → (t : ProgramTree) → IsValid t → (bytes : List ℕ) → IsOfStatement IsSo line number t bytes → IsOfStatement Covering line number t bytes
 statement_so IsSo Covering line number covers t valid bytes h = of_statement IsSo Covering line t bytes (covers t valid bytes) (statement_with number t) _ h
 
--- an item whose pane comes of reading afresh covers runs
-item_covers : Laws → (line : ℕ) (command : Option Command) (d : List ℕ) (s : State) (said : Said) (next : State) → ShowsAfresh line command d s said next → Covers line command d s said next
-item_covers laws line None d s said next h = tt
-item_covers laws line (Some (Deps None)) d s said next h = afresh_so IsDependencePane IsCoveringPane (pane_covers laws) s.present said.bytes h
-item_covers laws line (Some (Deps (Some number))) d s said next h =
+-- a pane that comes of reading afresh covers runs
+query_covers : Laws → (query : Query) (line : ℕ) (s : State) (bytes : List ℕ) → AnswersAfresh query line s bytes → CoversRuns query line s bytes
+query_covers laws (Deps None) line s bytes h = afresh_so IsDependencePane IsCoveringPane (pane_covers laws) s.present bytes h
+query_covers laws (Deps (Some number)) line s bytes h =
     afresh_so (IsOfStatement (λ t. IsDependencePaneOf t (Some number)) line number) (IsOfStatement (IsCoveringPaneOf number) line number)
-    (statement_so (λ t. IsDependencePaneOf t (Some number)) (IsCoveringPaneOf number) line number (pane_of_covers laws number)) s.present said.bytes h
-item_covers laws line (Some Show) d s said next h = afresh_so ArePanes AreCoveringPanes (panes_cover laws) s.present said.bytes h
-item_covers laws line (Some Calls) d s said next h = afresh_so IsCallsPane IsCoveringCalls (calls_cover laws) s.present said.bytes h
-item_covers laws line (Some Source) d s said next h = tt
-item_covers laws line (Some Print) d s said next h = tt
-item_covers laws line (Some (Advise number)) d s said next h = tt
-item_covers laws line (Some (Replace first last lines)) d s said next h = tt
-item_covers laws line (Some (Insert after lines)) d s said next h = tt
-item_covers laws line (Some (Delete first last)) d s said next h = tt
-item_covers laws line (Some (Interchange number)) d s said next h = tt
-item_covers laws line (Some (Reverse number)) d s said next h = tt
-item_covers laws line (Some (Skew number factor)) d s said next h = tt
-item_covers laws line (Some (Strip number size)) d s said next h = tt
-item_covers laws line (Some (Peel number last)) d s said next h = tt
-item_covers laws line (Some (Distribute number)) d s said next h = tt
-item_covers laws line (Some (Fuse number)) d s said next h = tt
-item_covers laws line (Some (Inline number)) d s said next h = tt
-item_covers laws line (Some (Expand number name)) d s said next h = tt
-item_covers laws line (Some (Privatise number name)) d s said next h = tt
-item_covers laws line (Some (Reduce number names)) d s said next h = tt
-item_covers laws line (Some (Parallel number)) d s said next h = tt
-item_covers laws line (Some (Serial number)) d s said next h = tt
-item_covers laws line (Some (Reject number name)) d s said next h = tt
-item_covers laws line (Some Auto) d s said next h = tt
-item_covers laws line (Some Undo) d s said next h = tt
-item_covers laws line (Some Redo) d s said next h = tt
-item_covers laws line (Some (Run choices)) d s said next h = tt
-item_covers laws line (Some Races) d s said next h = tt
-item_covers laws line (Some Tested) d s said next h = tt
+    (statement_so (λ t. IsDependencePaneOf t (Some number)) (IsCoveringPaneOf number) line number (pane_of_covers laws number)) s.present bytes h
+query_covers laws Show line s bytes h = afresh_so ArePanes AreCoveringPanes (panes_cover laws) s.present bytes h
+query_covers laws Calls line s bytes h = afresh_so IsCallsPane IsCoveringCalls (calls_cover laws) s.present bytes h
+query_covers laws Source line s bytes h = tt
+query_covers laws Print line s bytes h = tt
+query_covers laws (Advise number) line s bytes h = tt
+query_covers laws Tested line s bytes h = tt
+
+-- so does that of an item
+item_covers : Laws → (line : ℕ) (command : Option Command) (d : List ℕ) (s : State) (said : Said) (next : State) → ShowsAfresh line command d s said next → Covers line command d s said next
+item_covers laws line command d s said next h = λ query asks. query_covers laws query line s said.bytes (h query asks)
 
 -- and so does each
 each_covers : Laws → (items : List Item) (d : List ℕ) (s last : State) (said : Said) → AnswersEach ShowsAfresh items d s said last → AnswersEach Covers items d s said last

@@ -14,7 +14,12 @@ use Rattle.ped_session.specs.ped_transformations.specs.ped_inline.specs.CallsPan
 use Rattle.ped_session.specs.ped_transformations.specs.Advice.{IsAdvice}
 use Rattle.ped_script.specs.declared.items.Item.{Item}
 use Rattle.ped_script.specs.declared.items.Command.{Command}
-use Rattle.ped_script.specs.declared.items.Command.TheVariants.{Source, Deps, Show, Calls, Print, Advise, Replace, Insert, Delete, Interchange, Reverse, Skew, Strip, Peel, Distribute, Fuse, Inline, Expand, Privatise, Reduce, Parallel, Serial, Reject, Auto, Undo, Redo, Run, Races, Tested}
+use Rattle.ped_script.specs.declared.items.Command.TheVariants.{Auto}
+use Rattle.ped_script.specs.declared.kinds.Query.{Query}
+use Rattle.ped_script.specs.declared.kinds.Query.TheVariants.{Source, Deps, Show, Calls, Print, Advise, Tested}
+use Rattle.ped_script.specs.declared.kinds.CommandKind.{CommandKind}
+use Rattle.ped_script.specs.declared.kinds.CommandKind.TheVariants as kind
+use Rattle.ped_script.specs.Kinds.{kind_of}
 use Rattle.ped_session.specs.declared.replies.Reply.{Reply}
 use Rattle.ped_session.specs.declared.replies.Reply.TheVariants.{Shown, Refused}
 use Rattle.ped_session.specs.declared.replies.Refusal.TheVariants.{NoSuchStatement}
@@ -22,12 +27,12 @@ use Rattle.ped_session.specs.States.{State, opened}
 use Rattle.ped_session.specs.Panes.{IsSourcePane, ArePanes}
 use Rattle.ped_session.specs.Replies.{answer_row, reply_text}
 use Rattle.ped_session.specs.Histories.{IsPrinted, ArePrinted}
-use Rattle.ped_session.specs.Steps.{Shows, ShowsOf, ShowsStatement}
-use Rattle.ped_session.specs.Scripts.{Said, said_by, AnswersReply, AnswersCommand, AnswersItems}
+use Rattle.ped_session.specs.Steps.{Shows, ShowsOf, ShowsStatement, ShowsAnswer, IsStepOf}
+use Rattle.ped_session.specs.Scripts.{Said, said_by, AnswersCommand, AnswersItems}
 use Rattle.ped_answer.specs.declared.answering.Status.{Status}
 use Rattle.ped_answer.specs.declared.answering.Status.TheVariants.{Done, SomeRefused, BadWords, ReadFault, WriteFault, ProgramRefused, NoMemory, TooLong}
 use Rattle.ped_answer.specs.Answer.{IsWhole, source_input, IsShown, Answers}
-use Rattle.ped_answer.specs.Headline.{Afresh, IsOfStatement, ShowsAfresh, ShowsFile, PanesRequest}
+use Rattle.ped_answer.specs.Headline.{Afresh, IsOfStatement, Asks, AnswersAfresh, ShowsAfresh, ShowsFile, PanesRequest}
 use Rattle.ped_answer.proofs.OneAnswer.{one_tree}
 use Rattle.ped_answer.proofs.ExistenceLaws.Replying.{reads_as}
 use Rattle.ped_answer.proofs.WholeAnswers.{of_file}
@@ -62,42 +67,27 @@ shows_of : (IsSo : ProgramTree → List ℕ → Type 0) (line number : ℕ) (s n
 shows_of IsSo line number s next reply said printed h says =
     afresh (IsOfStatement IsSo line number) s.present said.bytes h.tree printed h.reads (rows_by IsSo line (statement_with number h.tree) s next reply said h.tree h.reads h.shows says)
 
-reply_shows : (line : ℕ) (command : Command) (d : List ℕ) (s next : State) (said : Said) → IsPrinted s.present → AnswersReply line command d s said next → ShowsAfresh line (Some command) d s said next
-reply_shows line Source d s next said printed h = shows IsSourcePane line s next h.0 said printed h.1 h.2
-reply_shows line (Deps None) d s next said printed h = shows IsDependencePane line s next h.0 said printed h.1 h.2
-reply_shows line (Deps (Some number)) d s next said printed h = shows_of (λ t. IsDependencePaneOf t (Some number)) line number s next h.0 said printed h.1 h.2
-reply_shows line Show d s next said printed h = shows ArePanes line s next h.0 said printed h.1 h.2
-reply_shows line Calls d s next said printed h = shows IsCallsPane line s next h.0 said printed h.1 h.2
-reply_shows line Print d s next said printed h = bytes_of line h.0 (Shown s.present) next said h.2 h.1.0
-reply_shows line (Advise number) d s next said printed h = shows_of (λ t. IsAdvice t number) line number s next h.0 said printed h.1 h.2
-reply_shows line (Replace first last lines) d s next said printed h = tt
-reply_shows line (Insert after lines) d s next said printed h = tt
-reply_shows line (Delete first last) d s next said printed h = tt
-reply_shows line (Interchange number) d s next said printed h = tt
-reply_shows line (Reverse number) d s next said printed h = tt
-reply_shows line (Skew number factor) d s next said printed h = tt
-reply_shows line (Strip number size) d s next said printed h = tt
-reply_shows line (Peel number last) d s next said printed h = tt
-reply_shows line (Distribute number) d s next said printed h = tt
-reply_shows line (Fuse number) d s next said printed h = tt
-reply_shows line (Inline number) d s next said printed h = tt
-reply_shows line (Expand number name) d s next said printed h = tt
-reply_shows line (Privatise number name) d s next said printed h = tt
-reply_shows line (Reduce number names) d s next said printed h = tt
-reply_shows line (Parallel number) d s next said printed h = tt
-reply_shows line (Serial number) d s next said printed h = tt
-reply_shows line (Reject number name) d s next said printed h = tt
-reply_shows line Auto d s next said printed h = tt
-reply_shows line Undo d s next said printed h = tt
-reply_shows line Redo d s next said printed h = tt
-reply_shows line (Run choices) d s next said printed h = tt
-reply_shows line Races d s next said printed h = tt
-reply_shows line Tested d s next said printed h = tt
+reply_shows : (query : Query) (line : ℕ) (s next : State) (reply : Reply) (said : Said) → IsPrinted s.present → ShowsAnswer query s reply next → said ≡ said_by line reply next → AnswersAfresh query line s said.bytes
+reply_shows Source line s next reply said printed h says = shows IsSourcePane line s next reply said printed h says
+reply_shows (Deps None) line s next reply said printed h says = shows IsDependencePane line s next reply said printed h says
+reply_shows (Deps (Some number)) line s next reply said printed h says = shows_of (λ t. IsDependencePaneOf t (Some number)) line number s next reply said printed h says
+reply_shows Show line s next reply said printed h says = shows ArePanes line s next reply said printed h says
+reply_shows Calls line s next reply said printed h says = shows IsCallsPane line s next reply said printed h says
+reply_shows Print line s next reply said printed h says = bytes_of line reply (Shown s.present) next said says h.0
+reply_shows (Advise number) line s next reply said printed h says = shows_of (λ t. IsAdvice t number) line number s next reply said printed h says
+reply_shows Tested line s next reply said printed h says = tt
+
+-- a command that asks is of this kind
+asks_is : (c : Command) (query : Query) → Asks (Some c) query → kind_of c ≡ kind.Ask query
+asks_is c query asks = cc
 
 line_shows : (line : ℕ) (command : Option Command) (d : List ℕ) (s next : State) (said : Said) → IsPrinted s.present → AnswersCommand line command d s said next → ShowsAfresh line command d s said next
-line_shows line None d s next said printed h = tt
-line_shows line (Some c) d s next said printed (inl h) = reply_shows line c d s next said printed h
-line_shows line (Some c) d s next said printed (inr (is, h)) = subst (λ (x : Command). ShowsAfresh line (Some x) d s said next) (sym is) tt
+line_shows line None d s next said printed h = λ query asks. absurd cc
+line_shows line (Some c) d s next said printed (inl h) = λ query asks.
+    reply_shows query line s next h.0 said printed (subst (λ (k : CommandKind). IsStepOf k d s h.0 next) (asks_is c query asks) h.1) h.2
+line_shows line (Some c) d s next said printed (inr (is, h)) = λ query asks.
+    let same : kind.Auto ≡ kind.Ask query = ap kind_of (sym is) ∙ asks_is c query asks in
+    absurd cc
 
 -- whatever a script does on a valid program, all sources are printed texts
 abbrev pub AllPrinted : Type 0

@@ -10,7 +10,7 @@ use Rattle.ped_session.specs.Meanings.{IsMeaningKept}
 use Rattle.ped_session.specs.RunsAsBefore.{AnswersAsBefore}
 use Rattle.ped_answer.specs.declared.answering.Status.{Status}
 use Rattle.ped_answer.specs.Answer.{IsWhole, Answers}
-use Rattle.ped_answer.specs.Headline.{AnswersEach, AgreesOnAllRuns, KeepsMeaning, RunsRequest}
+use Rattle.ped_answer.specs.Headline.{AnswersEach, AgreesOnAllRuns, AgreesOnTrueRuns, KeepsMeaning, RunsRequest}
 use Rattle.ped_answer.proofs.EachItems.{SoOfItems, session_items}
 use Rattle.ped_answer.proofs.MadeRuns.{Laws, generated_alike}
 
@@ -20,7 +20,7 @@ AsBefore = (t : ProgramTree) (items : List Item) (data_bytes : List ℕ) (said :
 
 -- and where they do, the present program has the outcomes of the earlier ones on all data and with all choices
 abbrev pub AgreeWhereKept : Type 0
-AgreeWhereKept = (s : State) → IsMeaningKept s → AgreesOnAllRuns s
+AgreeWhereKept = (s : State) → IsMeaningKept s → AgreesOnAllRuns s × AgreesOnTrueRuns s
 
 -- so it is before the first item
 kept_first : (items : List Item) (d : List ℕ) (s last : State) (said : Said) → AnswersAsBefore items d s said last → IsMeaningKept s
@@ -35,7 +35,7 @@ each_keeps agree (item ∷ items) d s last said h =
       h.1,
       h.2,
       h.3,
-      record { here = h.0; there = there; runs = h.4; all_here = agree s h.0; all_there = agree h.2 there },
+      record { here = h.0; there = there; runs = h.4; all_here = (agree s h.0).0; all_there = (agree h.2 there).0; true_here = (agree s h.0).1; true_there = (agree h.2 there).1 },
       h.5,
       each_keeps agree items d h.2 last h.5 h.6,
       h.7,

@@ -1,6 +1,6 @@
 -- Each command moves along the sources of a session as the history has them.
 use Rattle.std.proofs.Common.{◌≡◌, ℕ, suc, Bool, true, false, ◌+◌, inl, inr, List, [], ◌∷◌, ◌++◌, map, take, length, slice_get, Option, Some, None, refl, sym, ap, ◌∙◌, subst, arith, append_assoc}
-use Rattle.std.specs.Prelude.{MatchBool, reverse, codes}
+use Rattle.std.specs.Prelude.{MatchBool, MatchOption, reverse, codes}
 use Rattle.std.specs.Fmt.{decimal}
 use Rattle.std.specs.List.{flat_map}
 use Rattle.std.proofs.lemmas.List.{append_assoc, length-append, length-reverse, length-map, reverse-append}
@@ -9,15 +9,23 @@ use Rattle.ped_words.specs.Requests.{Request, show, session, generate}
 use Rattle.ped_tree.specs.Tree.{StmtTree, ProgramTree}
 use Rattle.ped_tree.specs.Numbering.{statement_with}
 use Rattle.ped_script.specs.declared.items.Command.{Command}
-use Rattle.ped_script.specs.declared.items.Command.TheVariants.{Source, Deps, Show, Calls, Print, Advise, Replace, Insert, Delete, Interchange, Reverse, Skew, Strip, Peel, Distribute, Fuse, Inline, Expand, Privatise, Reduce, Parallel, Serial, Reject, Auto, Undo, Redo, Run, Races, Tested}
-use Rattle.ped_session.specs.ped_rules.specs.Steps.{StepAt, MaybeStep, no_step, some_step, MatchStep}
+use Rattle.ped_script.specs.declared.kinds.StepCommand.{StepCommand}
+use Rattle.ped_script.specs.declared.kinds.Query.{Query}
+use Rattle.ped_script.specs.declared.kinds.Query.TheVariants.{Source, Deps, Show, Calls, Print, Advise, Tested}
+use Rattle.ped_script.specs.declared.kinds.LineEdit.TheVariants.{Replace, Insert}
+use Rattle.ped_script.specs.declared.kinds.HistoryMove.TheVariants.{Undo, Redo}
+use Rattle.ped_script.specs.declared.kinds.ProgramRun.TheVariants.{Run, Races}
+use Rattle.ped_script.specs.declared.kinds.CommandKind.{CommandKind}
+use Rattle.ped_script.specs.declared.kinds.CommandKind.TheVariants as kind
+use Rattle.ped_script.specs.Kinds.{kind_of, step_in, IsMove}
+use Rattle.ped_session.specs.ped_rules.specs.Steps.{StepAt}
 use Rattle.ped_session.specs.declared.replies.Refusal.{Refusal}
 use Rattle.ped_session.specs.declared.replies.Refusal.TheVariants.{NoSuchLine}
 use Rattle.ped_session.specs.declared.replies.Reply.{Reply}
 use Rattle.ped_session.specs.declared.replies.Reply.TheVariants.{Changed, Refused}
 use Rattle.ped_session.specs.States.{Other, State, gone_back_to, gone_forward_to}
 use Rattle.ped_session.specs.Splices.{are_lines, is_place}
-use Rattle.ped_session.specs.Steps.{Refuses, Prints, Shows, ShowsOf, ShowsStatement, Edits, accepted, refused, Transforms, missing, forbidden, transformed, GoesBack, GoesForward, IsStep, IsMove}
+use Rattle.ped_session.specs.Steps.{Refuses, Prints, Shows, ShowsOf, ShowsStatement, Edits, accepted, refused, Transforms, missing, forbidden, transformed, GoesBack, GoesForward, ShowsAnswer, IsStepOf}
 use Rattle.ped_session.specs.ped_auto.specs.Replay.{Replays}
 use Rattle.ped_session.specs.ped_transformations.specs.Table.{step_of}
 use Rattle.ped_session.specs.Replies.{answer_row}
@@ -115,85 +123,67 @@ puts s next left = (next.present, sources_are (sources_of next) (record { all = 
     all : (sources_of next).all ≡ take (suc (length s.past)) (sources_of s).all ++ next.present ∷ []
     all = whole ∙ sym (append_assoc (before_of s.past) (s.present ∷ []) (next.present ∷ [])) ∙ ap (λ (xs : List (List ℕ)). xs ++ next.present ∷ []) (sym front)
 
-refused_moves : (c : Command) (why : Refusal) (s next : State) (reply : Reply) → ¬ (IsMove c) → reply ≡ Refused why → next ≡ s → Moves c reply (sources_of s) (sources_of next)
-refused_moves c why s next reply still is same = by_refusal still why is (ap sources_of same)
+module _ (k : CommandKind) (s next : State) (reply : Reply) where
+  refused_moves : ¬ (IsMove k) → (why : Refusal) → reply ≡ Refused why → next ≡ s → Moves k reply (sources_of s) (sources_of next)
+  refused_moves still why is same = by_refusal still why is (ap sources_of same)
 
-edit_moves : (c : Command) (kept gone : ℕ) (text : List ℕ) (s next : State) (reply : Reply) → ¬ (IsMove c) → ¬ (IsShowing c) → Edits kept gone text s reply next → Moves c reply (sources_of s) (sources_of next)
-edit_moves c kept gone text s next reply still shows (accepted old new from to changed after) =
-    by_change still shows changed (puts s next (record { other = _; past_is = ap (λ (n : State). n.past) after; text_is = refl; future_is = ap (λ (n : State). n.future) after }))
-edit_moves c kept gone text s next reply still shows (refused why first stays) = refused_moves c _ s next reply still stays.0 stays.1
+  edit_moves : ¬ (IsMove k) → ¬ (IsShowing k) → (kept gone : ℕ) (text : List ℕ) → Edits kept gone text s reply next → Moves k reply (sources_of s) (sources_of next)
+  edit_moves still shows kept gone text (accepted old new from to changed after) =
+      by_change still shows changed (puts s next (record { other = _; past_is = ap (λ (n : State). n.past) after; text_is = refl; future_is = ap (λ (n : State). n.future) after }))
+  edit_moves still shows kept gone text (refused why first stays) = refused_moves still _ stays.0 stays.1
 
-step_moves : (c : Command) (at : StepAt) (s next : State) (reply : Reply) → ¬ (IsMove c) → ¬ (IsShowing c) → Transforms at s reply next → Moves c reply (sources_of s) (sources_of next)
-step_moves c at s next reply still shows (missing t reads none stays) = refused_moves c _ s next reply still stays.0 stays.1
-step_moves c at s next reply still shows (forbidden t reads some cause is stays) = refused_moves c _ s next reply still stays.0 stays.1
-step_moves c at s next reply still shows (transformed t new keep reads some none makes valid changed after) =
-    by_change still shows changed (puts s next (record { other = _; past_is = ap (λ (n : State). n.past) after; text_is = refl; future_is = ap (λ (n : State). n.future) after }))
+  lines_moves : ¬ (IsMove k) → ¬ (IsShowing k) → (there : Bool) (kept gone : ℕ) (text : List ℕ) → MatchBool there (Edits kept gone text s reply next) (Refuses NoSuchLine s reply next) → Moves k reply (sources_of s) (sources_of next)
+  lines_moves still shows true kept gone text h = edit_moves still shows kept gone text h
+  lines_moves still shows false kept gone text h = refused_moves still _ h.0 h.1
 
-printed_moves : (c : Command) (bytes : List ℕ) (s next : State) (reply : Reply) → IsShowing c → Prints bytes s reply next → Moves c reply (sources_of s) (sources_of next)
-printed_moves c bytes s next reply shows h = by_showing shows bytes h.0 (ap sources_of h.1)
+  step_moves : ¬ (IsMove k) → ¬ (IsShowing k) → (at : StepAt) → Transforms at s reply next → Moves k reply (sources_of s) (sources_of next)
+  step_moves still shows at (missing t reads none stays) = refused_moves still _ stays.0 stays.1
+  step_moves still shows at (forbidden t reads some cause is stays) = refused_moves still _ stays.0 stays.1
+  step_moves still shows at (transformed t new keep reads some none makes valid changed after) =
+      by_change still shows changed (puts s next (record { other = _; past_is = ap (λ (n : State). n.past) after; text_is = refl; future_is = ap (λ (n : State). n.future) after }))
 
-shown_moves : (c : Command) (IsSo : ProgramTree → List ℕ → Type 0) (s next : State) (reply : Reply) → IsShowing c → Shows IsSo s reply next → Moves c reply (sources_of s) (sources_of next)
-shown_moves c IsSo s next reply shows h = printed_moves c h.bytes s next reply shows h.prints
+  printed_moves : IsShowing k → (bytes : List ℕ) → Prints bytes s reply next → Moves k reply (sources_of s) (sources_of next)
+  printed_moves shows bytes h = by_showing shows bytes h.0 (ap sources_of h.1)
 
-rows_moves : (c : Command) (IsSo : ProgramTree → List ℕ → Type 0) (found : Option StmtTree) (s next : State) (reply : Reply) → ¬ (IsMove c) → IsShowing c → ShowsOf IsSo found s reply next → Moves c reply (sources_of s) (sources_of next)
-rows_moves c IsSo None s next reply still shows h = refused_moves c _ s next reply still h.0 h.1
-rows_moves c IsSo (Some statement) s next reply still shows h = shown_moves c IsSo s next reply shows h
+  shown_moves : IsShowing k → (IsSo : ProgramTree → List ℕ → Type 0) → Shows IsSo s reply next → Moves k reply (sources_of s) (sources_of next)
+  shown_moves shows IsSo h = printed_moves shows h.bytes h.prints
 
-of_statement_moves : (c : Command) (IsSo : ProgramTree → List ℕ → Type 0) (number : ℕ) (s next : State) (reply : Reply) → ¬ (IsMove c) → IsShowing c → ShowsStatement IsSo number s reply next → Moves c reply (sources_of s) (sources_of next)
-of_statement_moves c IsSo number s next reply still shows h = rows_moves c IsSo (statement_with number h.tree) s next reply still shows h.shows
+  rows_moves : ¬ (IsMove k) → IsShowing k → (IsSo : ProgramTree → List ℕ → Type 0) (found : Option StmtTree) → ShowsOf IsSo found s reply next → Moves k reply (sources_of s) (sources_of next)
+  rows_moves still shows IsSo None h = refused_moves still _ h.0 h.1
+  rows_moves still shows IsSo (Some statement) h = shown_moves shows IsSo h
 
-lines_moves : (c : Command) (there : Bool) (kept gone : ℕ) (text : List ℕ) (s next : State) (reply : Reply) → ¬ (IsMove c) → ¬ (IsShowing c) → MatchBool there (Edits kept gone text s reply next) (Refuses NoSuchLine s reply next)
-    → Moves c reply (sources_of s) (sources_of next)
-lines_moves c true kept gone text s next reply still shows h = edit_moves c kept gone text s next reply still shows h
-lines_moves c false kept gone text s next reply still shows h = refused_moves c _ s next reply still h.0 h.1
-
-still_by : (c : Command) → (c ≡ Undo → ⊥) → (c ≡ Redo → ⊥) → ¬ (IsMove c)
-still_by c undo redo (inl is) = undo is
-still_by c undo redo (inr is) = redo is
+  answer_moves : ¬ (IsMove k) → IsShowing k → (query : Query) → ShowsAnswer query s reply next → Moves k reply (sources_of s) (sources_of next)
+  answer_moves still shows Source h = shown_moves shows _ h
+  answer_moves still shows (Deps None) h = shown_moves shows _ h
+  answer_moves still shows (Deps (Some number)) h = rows_moves still shows _ (statement_with number h.tree) h.shows
+  answer_moves still shows Show h = shown_moves shows _ h
+  answer_moves still shows Calls h = shown_moves shows _ h
+  answer_moves still shows Print h = printed_moves shows _ h
+  answer_moves still shows (Advise number) h = rows_moves still shows _ (statement_with number h.tree) h.shows
+  answer_moves still shows Tested h = printed_moves shows _ h
 
 -- each command
-pub moves : (c : Command) (d : List ℕ) (s next : State) (reply : Reply) → IsStep c d s reply next → Moves c reply (sources_of s) (sources_of next)
-moves Undo d s next reply h = by_undo refl (moves_back s.past s next reply refl h)
-moves Redo d s next reply h = by_redo refl (moves_forward s.future s next reply refl h)
-moves Auto d s next reply h = absurd h
-moves Source d s next reply h = shown_moves Source _ s next reply tt h
-moves (Deps None) d s next reply h = shown_moves (Deps None) _ s next reply tt h
-moves (Deps (Some number)) d s next reply h = of_statement_moves (Deps (Some number)) _ number s next reply (still_by (Deps (Some number)) (λ e. cc) (λ e. cc)) tt h
-moves Show d s next reply h = shown_moves Show _ s next reply tt h
-moves Calls d s next reply h = shown_moves Calls _ s next reply tt h
-moves Print d s next reply h = printed_moves Print _ s next reply tt h
-moves Tested d s next reply h = printed_moves Tested _ s next reply tt h
-moves (Run choices) d s next reply h = shown_moves (Run choices) _ s next reply tt h
-moves Races d s next reply h = shown_moves Races _ s next reply tt h
-moves (Replace first last lines) d s next reply h = lines_moves (Replace first last lines) (are_lines s.present first last) _ _ _ s next reply (still_by (Replace first last lines) (λ e. cc) (λ e. cc)) (λ is. is) h
-moves (Insert after lines) d s next reply h = lines_moves (Insert after lines) (is_place s.present after) _ _ _ s next reply (still_by (Insert after lines) (λ e. cc) (λ e. cc)) (λ is. is) h
-moves (Delete first last) d s next reply h = lines_moves (Delete first last) (are_lines s.present first last) _ _ _ s next reply (still_by (Delete first last) (λ e. cc) (λ e. cc)) (λ is. is) h
-moves (Interchange number) d s next reply h = step_moves (Interchange number) _ s next reply (still_by (Interchange number) (λ e. cc) (λ e. cc)) (λ is. is) h
-moves (Reverse number) d s next reply h = step_moves (Reverse number) _ s next reply (still_by (Reverse number) (λ e. cc) (λ e. cc)) (λ is. is) h
-moves (Skew number factor) d s next reply h = step_moves (Skew number factor) _ s next reply (still_by (Skew number factor) (λ e. cc) (λ e. cc)) (λ is. is) h
-moves (Strip number size) d s next reply h = step_moves (Strip number size) _ s next reply (still_by (Strip number size) (λ e. cc) (λ e. cc)) (λ is. is) h
-moves (Peel number last) d s next reply h = step_moves (Peel number last) _ s next reply (still_by (Peel number last) (λ e. cc) (λ e. cc)) (λ is. is) h
-moves (Distribute number) d s next reply h = step_moves (Distribute number) _ s next reply (still_by (Distribute number) (λ e. cc) (λ e. cc)) (λ is. is) h
-moves (Expand number name) d s next reply h = step_moves (Expand number name) _ s next reply (still_by (Expand number name) (λ e. cc) (λ e. cc)) (λ is. is) h
-moves (Privatise number name) d s next reply h = step_moves (Privatise number name) _ s next reply (still_by (Privatise number name) (λ e. cc) (λ e. cc)) (λ is. is) h
-moves (Reduce number names) d s next reply h = step_moves (Reduce number names) _ s next reply (still_by (Reduce number names) (λ e. cc) (λ e. cc)) (λ is. is) h
-moves (Parallel number) d s next reply h = step_moves (Parallel number) _ s next reply (still_by (Parallel number) (λ e. cc) (λ e. cc)) (λ is. is) h
-moves (Serial number) d s next reply h = step_moves (Serial number) _ s next reply (still_by (Serial number) (λ e. cc) (λ e. cc)) (λ is. is) h
-moves (Reject number name) d s next reply h = step_moves (Reject number name) _ s next reply (still_by (Reject number name) (λ e. cc) (λ e. cc)) (λ is. is) h
-moves (Fuse number) d s next reply h = step_moves (Fuse number) _ s next reply (still_by (Fuse number) (λ e. cc) (λ e. cc)) (λ is. is) h
-moves (Inline number) d s next reply h = step_moves (Inline number) _ s next reply (still_by (Inline number) (λ e. cc) (λ e. cc)) (λ is. is) h
-moves (Advise number) d s next reply h = of_statement_moves (Advise number) _ number s next reply (still_by (Advise number) (λ e. cc) (λ e. cc)) tt h
+pub moves : (k : CommandKind) (d : List ℕ) (s next : State) (reply : Reply) → IsStepOf k d s reply next → Moves k reply (sources_of s) (sources_of next)
+moves (kind.Ask query) d s next reply h = answer_moves (kind.Ask query) s next reply (λ is. is) tt query h
+moves (kind.Edit (Replace first last lines)) d s next reply h = lines_moves (kind.Edit (Replace first last lines)) s next reply (λ is. is) (λ is. is) (are_lines s.present first last) _ _ _ h
+moves (kind.Edit (Insert after lines)) d s next reply h = lines_moves (kind.Edit (Insert after lines)) s next reply (λ is. is) (λ is. is) (is_place s.present after) _ _ _ h
+moves (kind.Step command) d s next reply h = step_moves (kind.Step command) s next reply (λ is. is) (λ is. is) (step_of command) h
+moves kind.Auto d s next reply h = absurd h
+moves (kind.Move Undo) d s next reply h = by_undo refl (moves_back s.past s next reply refl h)
+moves (kind.Move Redo) d s next reply h = by_redo refl (moves_forward s.future s next reply refl h)
+moves (kind.Run (Run choices)) d s next reply h = shown_moves (kind.Run (Run choices)) s next reply tt _ h
+moves (kind.Run Races) d s next reply h = shown_moves (kind.Run Races) s next reply tt _ h
 
 -- so is each step of `auto`
-taken_leaves : (step : MaybeStep) (s next : State) → MatchStep step ⊥ (TransformsTo s Changed next) → Leaves s next
-taken_leaves no_step s next h = absurd h
-taken_leaves (some_step at) s next h =
-    let a = taken at s next h.1 in
+taken_leaves : (o : Option StepCommand) (s next : State) → MatchOption o ⊥ (TransformsTo s Changed next) → Leaves s next
+taken_leaves None s next h = absurd h
+taken_leaves (Some c) s next h =
+    let a = taken (step_of c) s next h.1 in
     record { other = _; past_is = ap (λ (n : State). n.past) a.next_is; text_is = refl; future_is = ap (λ (n : State). n.future) a.next_is }
 
 puts_all : (cs : List Command) (s last : State) (tests : ℕ) → Replays session_editing s cs last tests → PutsAllBehind (length cs) (sources_of s) (sources_of last)
 puts_all [] s last tests h = ap sources_of h.0
-puts_all (c ∷ cs) s last tests h = (sources_of h.0, puts s h.0 (taken_leaves (step_of c) s h.0 h.3.0), puts_all cs h.0 last h.2 h.4)
+puts_all (c ∷ cs) s last tests h = (sources_of h.0, puts s h.0 (taken_leaves (step_in c) s h.0 h.3.0), puts_all cs h.0 last h.2 h.4)
 
 auto_moves : (line : ℕ) (s next : State) (said : Said) → SaysAuto line s said next → MovesByAuto line (sources_of s) said.bytes (sources_of next)
 auto_moves line s next said h =
@@ -209,7 +199,7 @@ auto_moves line s next said h =
 
 line_moves : (line : ℕ) (command : Option Command) (d : List ℕ) (s next : State) (said : Said) → AnswersCommand line command d s said next → KeepsHistory line command d s said next
 line_moves line None d s next said h = record { here = stands s; there = stands next; moves = (ap (λ (x : Said). x.bytes) h.0, ap sources_of h.1) }
-line_moves line (Some c) d s next said (inl h) = record { here = stands s; there = stands next; moves = inl (h.0, ap (λ (x : Said). x.bytes) h.2, moves c d s next h.0 h.1) }
+line_moves line (Some c) d s next said (inl h) = record { here = stands s; there = stands next; moves = inl (h.0, ap (λ (x : Said). x.bytes) h.2, moves (kind_of c) d s next h.0 h.1) }
 line_moves line (Some c) d s next said (inr (is, h)) = record { here = stands s; there = stands next; moves = inr (is, auto_moves line s next said h) }
 
 each_moves : SoOfValid KeepsHistory

@@ -1,19 +1,23 @@
 -- What `auto` tells in an answer.
 use Rattle.std.proofs.Common.{◌≡◌, inl, inr, ℕ, List, [], ◌∷◌, Option, Some, None, subst}
+use Rattle.std.specs.Prelude.{MatchOption}
 use Rattle.std.specs.List.{AllByRecursion}
 use Rattle.ped_io.specs.Outside.{Contents}
 use Rattle.ped_words.specs.Requests.{Request, show, session, generate}
 use Rattle.ped_tree.specs.Tree.{ProgramTree}
 use Rattle.ped_session.specs.ped_valid.specs.Validity.{ReadsValid}
 use Rattle.ped_session.specs.ped_rules.specs.Paralleling.{paralleling}
-use Rattle.ped_session.specs.ped_rules.specs.Steps.{transformation, MaybeStep, no_step, some_step, MatchStep}
+use Rattle.ped_session.specs.ped_rules.specs.Steps.{transformation}
 use Rattle.ped_session.specs.ped_steps.specs.Causes.{Cause}
 use Rattle.ped_session.specs.ped_auto.specs.Replay.{Replays}
 use Rattle.ped_session.specs.ped_auto.specs.Strategy.{Report, IsAuto}
 use Rattle.ped_session.specs.ped_transformations.specs.Table.{step_of}
 use Rattle.ped_script.specs.Items.{commands_of}
 use Rattle.ped_script.specs.declared.items.Command.{Command}
-use Rattle.ped_script.specs.declared.items.Command.TheVariants.{Source, Deps, Show, Calls, Print, Advise, Replace, Insert, Delete, Interchange, Reverse, Skew, Strip, Peel, Distribute, Fuse, Inline, Expand, Privatise, Reduce, Parallel, Serial, Reject, Auto, Undo, Redo, Run, Races, Tested}
+use Rattle.ped_script.specs.declared.items.Command.TheVariants.{Auto, Parallel}
+use Rattle.ped_script.specs.declared.kinds.WhichStep.TheVariants as step
+use Rattle.ped_script.specs.declared.kinds.StepCommand.{StepCommand}
+use Rattle.ped_script.specs.Kinds.{step_in}
 use Rattle.ped_session.specs.declared.replies.Refusal.TheVariants.{Step}
 use Rattle.ped_session.specs.declared.replies.Reply.{Reply}
 use Rattle.ped_session.specs.declared.replies.Reply.TheVariants.{Changed, Refused}
@@ -31,25 +35,25 @@ use Rattle.ped_answer.proofs.EachItems.{SoOfValid, session_each}
 use Rattle.ped_answer.proofs.ToldCauses.{are_causes}
 
 -- a DO is left for the first of all that forbids `parallel`
-left_for : (s : State) (t : ProgramTree) → ReadsValid s.present t → (number : ℕ) (why : Cause) → TakesStep (Parallel number) s (Refused (Step why)) s → Forbids (Parallel number) t why × (paralleling number).IsCause t (Some why)
+left_for : (s : State) (t : ProgramTree) → ReadsValid s.present t → (number : ℕ) (why : Cause) → TakesStep (Parallel number) s (Refused (Step why)) s → Forbids number step.Parallel t why × (paralleling number).IsCause t (Some why)
 left_for s t reads number why h =
     let r = refused_for (paralleling number) s s why h.1 in
     let is = subst (λ (u : ProgramTree). (paralleling number).IsCause u (Some why)) (one_program s.present r.tree t r.reads reads) r.is in
-    ((are_causes (Parallel number)).first t why is, is)
+    ((are_causes number step.Parallel).first t why is, is)
 
 all_left_for : (s : State) (t : ProgramTree) → ReadsValid s.present t → (left : List (ℕ × Cause)) → AllByRecursion (λ l. TakesStep (Parallel l.0) s (Refused (Step l.1)) s) left
-    → AllByRecursion (λ l. Forbids (Parallel l.0) t l.1 × (paralleling l.0).IsCause t (Some l.1)) left
+    → AllByRecursion (λ l. Forbids l.0 step.Parallel t l.1 × (paralleling l.0).IsCause t (Some l.1)) left
 all_left_for s t reads [] h = tt
 all_left_for s t reads (l ∷ left) h = (left_for s t reads l.0 l.1 h.0, all_left_for s t reads left h.1)
 
 -- a step that `auto` takes is a transformation
-of_step : (step : MaybeStep) (s next : State) (reply : Reply) → MatchStep step ⊥ (TransformsTo s reply next) → MatchStep step ⊥ (λ at. at.kind ≡ transformation)
-of_step no_step s next reply h = h
-of_step (some_step at) s next reply h = h.0
+of_step : (o : Option StepCommand) (s next : State) (reply : Reply) → MatchOption o ⊥ (TransformsTo s reply next) → MatchOption o ⊥ (λ c. (step_of c).kind ≡ transformation)
+of_step None s next reply h = h
+of_step (Some c) s next reply h = h.0
 
 all_transformations : (cs : List Command) (s last : State) (tests : ℕ) → Replays session_editing s cs last tests → AllByRecursion IsTransformation cs
 all_transformations [] s last tests h = tt
-all_transformations (c ∷ cs) s last tests h = (of_step (step_of c) s h.0 Changed h.3.0, all_transformations cs h.0 last h.2 h.4)
+all_transformations (c ∷ cs) s last tests h = (of_step (step_in c) s h.0 Changed h.3.0, all_transformations cs h.0 last h.2 h.4)
 
 -- the steps of `auto` are read from the script of them
 abbrev pub ReadsBack : Type 0
@@ -73,41 +77,13 @@ auto_told back line s next said h =
       says = h.0.says;
     }
 
-by_auto : ReadsBack → (line : ℕ) (d : List ℕ) (s next : State) (said : Said) → AnswersCommand line (Some Auto) d s said next → ParallelisesBy line (Some Auto) d s said next
+by_auto : ReadsBack → (line : ℕ) (d : List ℕ) (s next : State) (said : Said) → AnswersCommand line (Some Auto) d s said next → Parallelises line s said.bytes next
 by_auto back line d s next said (inl h) = absurd h.1
 by_auto back line d s next said (inr (is, h)) = auto_told back line s next said h
 
 each_told : ReadsBack → SoOfValid ParallelisesBy
-each_told back d t valid line None s next said came h = tt
-each_told back d t valid line (Some Auto) s next said came h = by_auto back line d s next said h
-each_told back d t valid line (Some Source) s next said came h = tt
-each_told back d t valid line (Some (Deps of)) s next said came h = tt
-each_told back d t valid line (Some Show) s next said came h = tt
-each_told back d t valid line (Some Calls) s next said came h = tt
-each_told back d t valid line (Some Print) s next said came h = tt
-each_told back d t valid line (Some (Advise number)) s next said came h = tt
-each_told back d t valid line (Some (Replace first last lines)) s next said came h = tt
-each_told back d t valid line (Some (Insert after lines)) s next said came h = tt
-each_told back d t valid line (Some (Delete first last)) s next said came h = tt
-each_told back d t valid line (Some (Interchange number)) s next said came h = tt
-each_told back d t valid line (Some (Reverse number)) s next said came h = tt
-each_told back d t valid line (Some (Skew number factor)) s next said came h = tt
-each_told back d t valid line (Some (Strip number size)) s next said came h = tt
-each_told back d t valid line (Some (Peel number last)) s next said came h = tt
-each_told back d t valid line (Some (Distribute number)) s next said came h = tt
-each_told back d t valid line (Some (Fuse number)) s next said came h = tt
-each_told back d t valid line (Some (Inline number)) s next said came h = tt
-each_told back d t valid line (Some (Expand number name)) s next said came h = tt
-each_told back d t valid line (Some (Privatise number name)) s next said came h = tt
-each_told back d t valid line (Some (Reduce number names)) s next said came h = tt
-each_told back d t valid line (Some (Parallel number)) s next said came h = tt
-each_told back d t valid line (Some (Serial number)) s next said came h = tt
-each_told back d t valid line (Some (Reject number name)) s next said came h = tt
-each_told back d t valid line (Some Undo) s next said came h = tt
-each_told back d t valid line (Some Redo) s next said came h = tt
-each_told back d t valid line (Some (Run choices)) s next said came h = tt
-each_told back d t valid line (Some Races) s next said came h = tt
-each_told back d t valid line (Some Tested) s next said came h = tt
+each_told back d t valid line command s next said came h = λ is.
+    by_auto back line d s next said (subst (λ (o : Option Command). AnswersCommand line o d s said next) is h)
 
 -- what `auto` tells in an answer
 pub request_auto : ReadsBack → (request : Option Request) (files : Contents) (s : Status) (b : List ℕ) → IsWhole s → Answers request files s b → AutoRequest request files b

@@ -1,15 +1,22 @@
 -- What is told of a step is the first cause that forbids it, or that nothing does.
-use Rattle.std.proofs.Common.{◌≡◌, ℕ, List, ◌∷◌, false, Option, Some, None, arith, refl, sym, ap, ◌∙◌, subst, inl, inr}
-use Rattle.std.specs.Prelude.{Contains, ⊤}
+use Rattle.std.proofs.Common.{◌≡◌, ℕ, List, ◌∷◌, Bool, true, false, is_some, Option, Some, None, arith, refl, sym, ap, ◌∙◌, subst, inl, inr}
+use Rattle.std.specs.Prelude.{Contains, MatchOption, ⊤}
 use Rattle.std.proofs.lemmas.List.Elements.{All-contains, Contains-append_right}
 use Rattle.ped_io.specs.Outside.{Contents}
 use Rattle.ped_words.specs.Requests.{Request, show, session, generate}
 use Rattle.ped_tree.specs.Tree.{ProgramTree}
+use Rattle.ped_tree.specs.Numbering.{statement_with}
 use Rattle.ped_session.specs.ped_valid.specs.Validity.{ReadsValid}
 use Rattle.ped_session.specs.ped_rules.specs.ped_edges.specs.Edges.{Edge}
 use Rattle.ped_script.specs.declared.items.Command.{Command}
-use Rattle.ped_script.specs.declared.items.Command.TheVariants.{Source, Deps, Show, Calls, Print, Advise, Replace, Insert, Delete, Interchange, Reverse, Skew, Strip, Peel, Distribute, Fuse, Inline, Expand, Privatise, Reduce, Parallel, Serial, Reject, Auto, Undo, Redo, Run, Races, Tested}
-use Rattle.ped_session.specs.ped_transformations.specs.Table.{step_of}
+use Rattle.ped_script.specs.declared.kinds.WhichStep.{WhichStep}
+use Rattle.ped_script.specs.declared.kinds.WhichStep.TheVariants.{Interchange, Reverse, Skew, Strip, Peel, Distribute, Fuse, Inline, Expand, Privatise, Reduce, Parallel, Serial, Reject}
+use Rattle.ped_script.specs.declared.kinds.StepCommand.{StepCommand}
+use Rattle.ped_script.specs.declared.kinds.CommandKind.{CommandKind}
+use Rattle.ped_script.specs.declared.kinds.CommandKind.TheVariants as kind
+use Rattle.ped_script.specs.Kinds.{kind_of, step_among}
+use Rattle.ped_session.specs.ped_transformations.specs.Table.{step_at, step_of}
+use Rattle.ped_session.specs.ped_transformations.proofs.StepKinds.{kind_is}
 use Rattle.ped_session.specs.ped_transformations.specs.ped_loops.specs.Interchanging.{StandsAgainstInterchange}
 use Rattle.ped_session.specs.ped_transformations.specs.ped_loops.specs.Reversing.{StandsAgainstReversal}
 use Rattle.ped_session.specs.ped_rules.specs.Paralleling.{StandsAgainstParallel}
@@ -25,14 +32,13 @@ use Rattle.ped_session.specs.ped_transformations.specs.ped_splits.specs.Fusing.{
 use Rattle.ped_session.specs.ped_transformations.specs.ped_scalar.specs.Privatising.{StandsAgainstPrivatising}
 use Rattle.ped_session.specs.ped_transformations.specs.ped_scalar.specs.Expanding.{StandsAgainstExpanding}
 use Rattle.ped_session.specs.ped_rules.specs.Carried.{carried, crossing}
-use Rattle.ped_session.specs.ped_rules.specs.Steps.{StepAt, MaybeStep, no_step, some_step, MatchStep}
 use Rattle.ped_session.specs.ped_steps.specs.Causes.{Cause, rule, dependence, none_forbids}
 use Rattle.ped_session.specs.declared.replies.Reply.{Reply}
 use Rattle.ped_session.specs.declared.replies.Reply.TheVariants.{Changed, Refused}
 use Rattle.ped_session.specs.declared.replies.Refusal.TheVariants.{Step, NoSuchStatement}
 use Rattle.ped_session.specs.States.{State}
 use Rattle.ped_session.specs.Replies.{reply_text}
-use Rattle.ped_session.specs.Steps.{Transforms, missing, transformed, IsOther}
+use Rattle.ped_session.specs.Steps.{Transforms, missing, transformed, IsStepOf}
 use Rattle.ped_session.specs.Steps as session_steps
 use Rattle.ped_session.specs.Scripts.{Said, said_by, AnswersCommand}
 use Rattle.ped_answer.specs.declared.answering.Status.{Status}
@@ -42,10 +48,10 @@ use Rattle.ped_answer.specs.Headline.{TellsOfStep, no_statement, forbidden, acce
 use Rattle.ped_answer.proofs.AmongCauses.{first_among, true_isnt_false, none_among}
 use Rattle.ped_answer.proofs.EachItems.{SoOfValid, session_each}
 
--- what forbids a step of a command is what its first causes are among, and where it has no first cause, nothing forbids it
-pub record AreCauses (command : Command) (at : StepAt) : Type 0 where
-  pub first : (t : ProgramTree) (c : Cause) → at.IsCause t (Some c) → Forbids command t c
-  pub none : (t : ProgramTree) → at.IsCause t None → (c : Cause) → Forbids command t c → ⊥
+-- what forbids a step is what its first causes are among, and where it has no first cause, nothing forbids it
+pub record AreCauses (number : ℕ) (step : WhichStep) : Type 0 where
+  pub first : (t : ProgramTree) (c : Cause) → (step_at number step).IsCause t (Some c) → Forbids number step t c
+  pub none : (t : ProgramTree) → (step_at number step).IsCause t None → (c : Cause) → Forbids number step t c → ⊥
 
 first_fused : (s : ℕ) (t : ProgramTree) (c : Cause) → IsFusionCause s t (Some c) → IsAmongFused s t c
 first_fused s t (rule r n) h = h.0
@@ -58,59 +64,51 @@ none_fused s t h (rule r n) is = h.0 r n is
 none_fused s t h (dependence e) is = true_isnt_false (forbids_fusion is.0.neighbour is.3) is.5 (All-contains (λ (f : Edge). forbids_fusion is.0.neighbour f ≡ false) is.1 is.3 (h.1 is.0 is.1 is.2) is.4)
 
 -- each step of the table
-pub are_causes : (command : Command) → MatchStep (step_of command) ⊤ (AreCauses command)
-are_causes (Interchange s) = record { first = λ t. first_among t (StandsAgainstInterchange s t) (crossing t s); none = λ t. none_among t (StandsAgainstInterchange s t) (crossing t s) }
-are_causes (Reverse s) = record { first = λ t. first_among t (StandsAgainstReversal s t) (carried t s); none = λ t. none_among t (StandsAgainstReversal s t) (carried t s) }
-are_causes (Parallel s) = record { first = λ t. first_among t (StandsAgainstParallel s t) (carried t s); none = λ t. none_among t (StandsAgainstParallel s t) (carried t s) }
-are_causes (Serial s) = record { first = λ t. first_among t (StandsAgainstSerial s t) none_forbids; none = λ t. none_among t (StandsAgainstSerial s t) none_forbids }
-are_causes (Skew s factor) = record { first = λ t. first_among t (StandsAgainstSkewing s factor t) none_forbids; none = λ t. none_among t (StandsAgainstSkewing s factor t) none_forbids }
-are_causes (Strip s size) = record { first = λ t. first_among t (StandsAgainstStripping s size t) none_forbids; none = λ t. none_among t (StandsAgainstStripping s size t) none_forbids }
-are_causes (Peel s last) = record { first = λ t. first_among t (StandsAgainstPeeling s last t) none_forbids; none = λ t. none_among t (StandsAgainstPeeling s last t) none_forbids }
-are_causes (Distribute s) = record { first = λ t. first_among t (StandsAgainstDistribution s t) none_forbids; none = λ t. none_among t (StandsAgainstDistribution s t) none_forbids }
-are_causes (Expand s x) = record { first = λ t. first_among t (StandsAgainstExpanding s x t) none_forbids; none = λ t. none_among t (StandsAgainstExpanding s x t) none_forbids }
-are_causes (Privatise s x) = record { first = λ t. first_among t (StandsAgainstPrivatising s x t) none_forbids; none = λ t. none_among t (StandsAgainstPrivatising s x t) none_forbids }
-are_causes (Reduce s names) = record { first = λ t. first_among t (StandsAgainstReducing s names t) (carried_beside t s names); none = λ t. none_among t (StandsAgainstReducing s names t) (carried_beside t s names) }
-are_causes (Reject s x) = record { first = λ t. first_among t (StandsAgainstRejection s x t) none_forbids; none = λ t. none_among t (StandsAgainstRejection s x t) none_forbids }
-are_causes (Inline s) = record { first = λ t. first_among t (StandsAgainstInlining s t) none_forbids; none = λ t. none_among t (StandsAgainstInlining s t) none_forbids }
-are_causes (Fuse s) = record { first = first_fused s; none = none_fused s }
-are_causes Source = tt
-are_causes (Deps of) = tt
-are_causes Show = tt
-are_causes Calls = tt
-are_causes Print = tt
-are_causes (Advise s) = tt
-are_causes (Replace first last lines) = tt
-are_causes (Insert after lines) = tt
-are_causes (Delete first last) = tt
-are_causes Auto = tt
-are_causes Undo = tt
-are_causes Redo = tt
-are_causes (Run choices) = tt
-are_causes Races = tt
-are_causes Tested = tt
+pub are_causes : (number : ℕ) (step : WhichStep) → AreCauses number step
+are_causes s Interchange = record { first = λ t. first_among t (StandsAgainstInterchange s t) (crossing t s); none = λ t. none_among t (StandsAgainstInterchange s t) (crossing t s) }
+are_causes s Reverse = record { first = λ t. first_among t (StandsAgainstReversal s t) (carried t s); none = λ t. none_among t (StandsAgainstReversal s t) (carried t s) }
+are_causes s Parallel = record { first = λ t. first_among t (StandsAgainstParallel s t) (carried t s); none = λ t. none_among t (StandsAgainstParallel s t) (carried t s) }
+are_causes s Serial = record { first = λ t. first_among t (StandsAgainstSerial s t) none_forbids; none = λ t. none_among t (StandsAgainstSerial s t) none_forbids }
+are_causes s (Skew factor) = record { first = λ t. first_among t (StandsAgainstSkewing s factor t) none_forbids; none = λ t. none_among t (StandsAgainstSkewing s factor t) none_forbids }
+are_causes s (Strip size) = record { first = λ t. first_among t (StandsAgainstStripping s size t) none_forbids; none = λ t. none_among t (StandsAgainstStripping s size t) none_forbids }
+are_causes s (Peel last) = record { first = λ t. first_among t (StandsAgainstPeeling s last t) none_forbids; none = λ t. none_among t (StandsAgainstPeeling s last t) none_forbids }
+are_causes s Distribute = record { first = λ t. first_among t (StandsAgainstDistribution s t) none_forbids; none = λ t. none_among t (StandsAgainstDistribution s t) none_forbids }
+are_causes s (Expand x) = record { first = λ t. first_among t (StandsAgainstExpanding s x t) none_forbids; none = λ t. none_among t (StandsAgainstExpanding s x t) none_forbids }
+are_causes s (Privatise x) = record { first = λ t. first_among t (StandsAgainstPrivatising s x t) none_forbids; none = λ t. none_among t (StandsAgainstPrivatising s x t) none_forbids }
+are_causes s (Reduce names) = record { first = λ t. first_among t (StandsAgainstReducing s names t) (carried_beside t s names); none = λ t. none_among t (StandsAgainstReducing s names t) (carried_beside t s names) }
+are_causes s (Reject x) = record { first = λ t. first_among t (StandsAgainstRejection s x t) none_forbids; none = λ t. none_among t (StandsAgainstRejection s x t) none_forbids }
+are_causes s Inline = record { first = λ t. first_among t (StandsAgainstInlining s t) none_forbids; none = λ t. none_among t (StandsAgainstInlining s t) none_forbids }
+are_causes s Fuse = record { first = first_fused s; none = none_fused s }
 
 -- the bytes of a reply
 bytes_of : (line : ℕ) (reply other : Reply) (next : State) (said : Said) → said ≡ said_by line reply next → reply ≡ other → said.bytes ≡ reply_text line other
 bytes_of line reply other next said says is = ap (λ (x : Said). x.bytes) says ∙ ap (reply_text line) is
 
-tells_of : (command : Command) (at : StepAt) → AreCauses command at → (line : ℕ) (s next : State) (reply : Reply) (said : Said) → Transforms at s reply next → said ≡ said_by line reply next
-    → (t : ProgramTree) × ReadsValid s.present t × TellsOfStep command at line t s said.bytes next
-tells_of command at are line s next reply said (missing t reads none stays) says =
-    (t, reads, no_statement none (bytes_of line reply (Refused NoSuchStatement) next said says stays.0) stays.1)
-tells_of command at are line s next reply said (session_steps.forbidden t reads some c is stays) says =
-    (t, reads, forbidden some c (are.first t c is) is (bytes_of line reply (Refused (Step c)) next said says stays.0) stays.1)
-tells_of command at are line s next reply said (transformed t new keep reads some none makes valid changed after) says =
-    (t, reads, accepted some (are.none t none) (bytes_of line reply Changed next said says changed))
+-- the statement of a command is that of its step
+here : (command : StepCommand) (b : Bool) (t : ProgramTree) → is_some (statement_with (step_of command).statement t) ≡ b → is_some (statement_with command.statement t) ≡ b
+here command b t is = subst (λ (n : ℕ). is_some (statement_with n t) ≡ b) (kind_is command.statement command.step).0 is
 
-tells_by : (command : Command) (step : MaybeStep) → MatchStep step ⊤ (AreCauses command) → (d : List ℕ) (line : ℕ) (s next : State) (reply : Reply) (said : Said)
-    → MatchStep step (IsOther command d s reply next) (λ at. Transforms at s reply next) → said ≡ said_by line reply next
-    → MatchStep step ⊤ (λ at. (t : ProgramTree) × ReadsValid s.present t × TellsOfStep command at line t s said.bytes next)
-tells_by command no_step are d line s next reply said h says = tt
-tells_by command (some_step at) are d line s next reply said h says = tells_of command at are line s next reply said h says
+tells_of : (command : StepCommand) (line : ℕ) (s next : State) (reply : Reply) (said : Said) → Transforms (step_of command) s reply next → said ≡ said_by line reply next
+    → (t : ProgramTree) × ReadsValid s.present t × TellsOfStep command line t s said.bytes next
+tells_of command line s next reply said (missing t reads none stays) says =
+    (t, reads, no_statement (here command false t none) (bytes_of line reply (Refused NoSuchStatement) next said says stays.0) stays.1)
+tells_of command line s next reply said (session_steps.forbidden t reads some c is stays) says =
+    (t, reads, forbidden (here command true t some) c ((are_causes command.statement command.step).first t c is) is (bytes_of line reply (Refused (Step c)) next said says stays.0) stays.1)
+tells_of command line s next reply said (transformed t new keep reads some none makes valid changed after) says =
+    (t, reads, accepted (here command true t some) ((are_causes command.statement command.step).none t none) (bytes_of line reply Changed next said says changed))
+
+tells_by : (k : CommandKind) (d : List ℕ) (line : ℕ) (s next : State) (reply : Reply) (said : Said) → IsStepOf k d s reply next → said ≡ said_by line reply next
+    → MatchOption (step_among k) ⊤ (λ step. (t : ProgramTree) × ReadsValid s.present t × TellsOfStep step line t s said.bytes next)
+tells_by (kind.Step command) d line s next reply said h says = tells_of command line s next reply said h says
+tells_by (kind.Ask query) d line s next reply said h says = tt
+tells_by (kind.Edit edit) d line s next reply said h says = tt
+tells_by kind.Auto d line s next reply said h says = tt
+tells_by (kind.Move way) d line s next reply said h says = tt
+tells_by (kind.Run run) d line s next reply said h says = tt
 
 line_tells : (line : ℕ) (command : Option Command) (d : List ℕ) (s next : State) (said : Said) → AnswersCommand line command d s said next → TellsCause line command d s said next
 line_tells line None d s next said h = tt
-line_tells line (Some c) d s next said (inl h) = tells_by c (step_of c) (are_causes c) d line s next h.0 said h.1 h.2
+line_tells line (Some c) d s next said (inl h) = tells_by (kind_of c) d line s next h.0 said h.1 h.2
 line_tells line (Some c) d s next said (inr (is, h)) = subst (λ (x : Command). TellsCause line (Some x) d s said next) (sym is) tt
 
 each_tells : SoOfValid TellsCause

@@ -30,7 +30,8 @@ use Rattle.ped_call_runs.specs.UnitRuns.{run_units, outcome_of_units}
 use Rattle.ped_call_runs.specs.UnitFaults.{FaultsInOwn, expanded_number}
 use Rattle.ped_answer.specs.declared.answering.Status.{Status}
 use Rattle.ped_answer.specs.Answer.{IsWhole, Answers}
-use Rattle.ped_answer.specs.Headline.{AnswersEach, HasNoLiveList, RunsUnits, IsExpandedAlike, UnitsRequest}
+use Rattle.ped_session.specs.LoweredRuns.{HasNoLiveList}
+use Rattle.ped_answer.specs.Headline.{AnswersEach, RunsUnits, IsExpandedAlike, UnitsRequest}
 use Rattle.ped_answer.proofs.OneAnswer.{one_tree}
 use Rattle.ped_answer.proofs.ExistenceLaws.Replying.{reads_as}
 use Rattle.ped_answer.proofs.EachItems.{session_files}
@@ -104,7 +105,7 @@ shows_units alike order text t line command d s next said answers before = λ ch
           shown_in_order order t e.valid line d s next said (subst (λ (c : Option Command). AnswersCommand line c d s said next) (is ∙ ap (λ (cs : List ℕ). Some (Run cs)) none) answers) present without
           ∙ ap outcome_text same;
       behind = λ comes trusted race_free.
-          before choices is (program_text t) t comes (reads_as (program_text t) t e.valid refl) trusted race_free ∙ ap outcome_text same;
+          (before choices is).trusted (program_text t) t comes (reads_as (program_text t) t e.valid refl) trusted race_free ∙ ap outcome_text same;
     }
 
 -- and so it is of each item

@@ -1,5 +1,5 @@
 -- The headline, clause by clause: what is so of the answer to each item of a script, and of both panes of a file (ParaScope; this project).
-use Rattle.std.specs.Prelude.{◌≡◌, ◌⊎◌, ℕ, zero, suc, ◌+◌, ◌<◌, List, [], ◌∷◌, ◌++◌, map, reverse, take, length, slice_get, codes, is_some, true, false, Option, Some, None, MatchOption, ⊤}
+use Rattle.std.specs.Prelude.{◌≡◌, ◌⊎◌, ℕ, zero, suc, ◌+◌, ◌<◌, List, [], ◌∷◌, ◌++◌, map, reverse, take, length, slice_get, codes, is_some, true, false, Option, Some, None, option_map, MatchOption, ⊤}
 use Rattle.std.specs.Fmt.{decimal}
 use Rattle.std.specs.List.{AllByRecursion}
 use Rattle.ped_io.specs.Outside.{Contents, content}
@@ -19,14 +19,20 @@ use Rattle.ped_session.specs.ped_transformations.specs.ped_inline.specs.CallsPan
 use Rattle.ped_script.specs.Items.{commands_of}
 use Rattle.ped_script.specs.declared.items.Item.{Item}
 use Rattle.ped_script.specs.declared.items.Command.{Command}
-use Rattle.ped_script.specs.declared.items.Command.TheVariants.{Source, Deps, Show, Calls, Print, Advise, Parallel, Auto, Undo, Redo, Run, Races, Tested}
+use Rattle.ped_script.specs.declared.items.Command.TheVariants.{Auto, Run}
+use Rattle.ped_script.specs.declared.kinds.WhichStep.TheVariants.{Parallel}
+use Rattle.ped_script.specs.declared.kinds.StepCommand.{StepCommand}
+use Rattle.ped_script.specs.declared.kinds.Query.{Query}
+use Rattle.ped_script.specs.declared.kinds.Query.TheVariants.{Source, Deps, Show, Calls, Print, Advise, Tested}
+use Rattle.ped_script.specs.declared.kinds.HistoryMove.TheVariants.{Undo, Redo}
+use Rattle.ped_script.specs.declared.kinds.CommandKind.{CommandKind}
+use Rattle.ped_script.specs.declared.kinds.CommandKind.TheVariants as kind
+use Rattle.ped_script.specs.Kinds.{kind_of, step_in, IsMove}
 use Rattle.ped_session.specs.ped_transformations.specs.Table.{step_of}
 use Rattle.ped_session.specs.ped_transformations.specs.Advice.{IsAdvice}
 use Rattle.ped_session.specs.ped_auto.specs.SerialLoops.{serial_loops}
-use Rattle.ped_session.specs.ped_transformations.specs.ped_reduce.specs.Lowering.{Lowered}
-use Rattle.ped_session.specs.ped_transformations.specs.ped_reduce.specs.Reducing.{IsLowered}
 use Rattle.ped_session.specs.ped_rules.specs.Paralleling.{paralleling}
-use Rattle.ped_session.specs.ped_rules.specs.Steps.{StepAt, MatchStep, transformation}
+use Rattle.ped_session.specs.ped_rules.specs.Steps.{transformation}
 use Rattle.ped_session.specs.ped_transformations.specs.ped_loop_runs.specs.Unrejected.{IsTrusted}
 use Rattle.ped_session.specs.ped_steps.specs.Causes.{Cause}
 use Rattle.ped_session.specs.ped_steps.specs.CauseWords.{cause_words}
@@ -37,13 +43,12 @@ use Rattle.ped_session.specs.declared.replies.Refusal.TheVariants.{NothingToUndo
 use Rattle.ped_session.specs.States.{Other, State, opened}
 use Rattle.ped_session.specs.Panes.{IsSourcePane, ArePanes}
 use Rattle.ped_session.specs.Replies.{answer_row, bad_command_row, reply_text}
-use Rattle.ped_session.specs.Steps.{IsMove}
 use Rattle.ped_session.specs.AutoAnswers.{auto_text, AcceptsAll}
 use Rattle.ped_session.specs.AutoScripts.{script_of, items_on}
 use Rattle.ped_session.specs.Scripts.{Said, nothing_said, said_both, AnswersItem}
 use Rattle.ped_session.specs.OutcomeTexts.{outcome_text}
-use Rattle.ped_session.specs.LoweredRuns.{IsLoweredRun}
-use Rattle.ped_session.specs.Meanings.{IsMeaningKept, ComesFrom}
+use Rattle.ped_session.specs.LoweredRuns.{HasNoLiveList, IsLoweredRun}
+use Rattle.ped_session.specs.Meanings.{IsMeaningKept, ComesFrom, ComesTrulyFrom}
 use Rattle.ped_session.specs.RunsAsBefore.{RunsAsBefore}
 use Rattle.ped_gen.specs.Generated as made
 use Rattle.ped_answer.specs.Answer.{AreData}
@@ -95,16 +100,24 @@ pub record Afresh (IsSo : ProgramTree → List ℕ → Type 0) (text bytes : Lis
 abbrev pub IsOfStatement : (ProgramTree → List ℕ → Type 0) → (line number : ℕ) → ProgramTree → List ℕ → Type 0
 IsOfStatement IsSo line number t bytes = MatchOption (statement_with number t) (bytes ≡ answer_row line (codes "refused NoSuchStatement")) (λ statement. IsSo t bytes)
 
+-- a command asks for this
+abbrev pub Asks : Option Command → Query → Type 0
+Asks command query = option_map kind_of command ≡ Some (kind.Ask query)
+
 -- `source`, `deps`, `deps S`, `show` and `calls` show the panes that come of reading the present source afresh, whatever was done before; `print` shows that source, and `advise S` the first causes against the steps in it (ParaScope)
+abbrev pub AnswersAfresh : Query → ℕ → State → List ℕ → Type 0
+AnswersAfresh Source line s bytes = Afresh IsSourcePane s.present bytes
+AnswersAfresh (Deps None) line s bytes = Afresh IsDependencePane s.present bytes
+AnswersAfresh (Deps (Some number)) line s bytes = Afresh (IsOfStatement (λ t. IsDependencePaneOf t (Some number)) line number) s.present bytes
+AnswersAfresh Show line s bytes = Afresh ArePanes s.present bytes
+AnswersAfresh Calls line s bytes = Afresh IsCallsPane s.present bytes
+AnswersAfresh Print line s bytes = bytes ≡ s.present
+AnswersAfresh (Advise number) line s bytes = Afresh (IsOfStatement (λ t. IsAdvice t number) line number) s.present bytes
+AnswersAfresh Tested line s bytes = ⊤
+
+-- so it is of each of these commands (ParaScope)
 abbrev pub ShowsAfresh : ℕ → Option Command → List ℕ → State → Said → State → Type 0
-ShowsAfresh line (Some Source) data_bytes s said next = Afresh IsSourcePane s.present said.bytes
-ShowsAfresh line (Some (Deps None)) data_bytes s said next = Afresh IsDependencePane s.present said.bytes
-ShowsAfresh line (Some (Deps (Some number))) data_bytes s said next = Afresh (IsOfStatement (λ t. IsDependencePaneOf t (Some number)) line number) s.present said.bytes
-ShowsAfresh line (Some Show) data_bytes s said next = Afresh ArePanes s.present said.bytes
-ShowsAfresh line (Some Calls) data_bytes s said next = Afresh IsCallsPane s.present said.bytes
-ShowsAfresh line (Some Print) data_bytes s said next = said.bytes ≡ s.present
-ShowsAfresh line (Some (Advise number)) data_bytes s said next = Afresh (IsOfStatement (λ t. IsAdvice t number) line number) s.present said.bytes
-ShowsAfresh line command data_bytes s said next = ⊤
+ShowsAfresh line command data_bytes s said next = (query : Query) → Asks command query → AnswersAfresh query line s said.bytes
 
 -- in mode `show` both panes are those that come of reading afresh the printed text of the program that the file's program units expand to (ParaScope)
 pub record ShowsFile (program : List ℕ) (files : Contents) (bytes : List ℕ) : Type 0 where
@@ -154,23 +167,19 @@ pub data GoesOneForward (reply : Reply) (before behind : Sources) : Type 0 where
 abbrev pub PutsBehind : Sources → Sources → Type 0
 PutsBehind before behind = (source : List ℕ) × (behind ≡ record { all = take (suc before.place) before.all ++ source ∷ []; place = suc before.place })
 
--- the commands that only show something; each other one is a change, `undo` or `redo` (this project)
-abbrev pub IsShowing : Command → Type 0
-IsShowing Source = ⊤
-IsShowing (Deps of) = ⊤
-IsShowing Show = ⊤
-IsShowing Calls = ⊤
-IsShowing Print = ⊤
-IsShowing (Advise number) = ⊤
-IsShowing (Run choices) = ⊤
-IsShowing Races = ⊤
-IsShowing Tested = ⊤
-IsShowing command = ⊥
+-- a command of this kind only shows something; each other one is a change, `undo` or `redo` (this project)
+abbrev pub IsShowing : CommandKind → Type 0
+IsShowing (kind.Ask query) = ⊤
+IsShowing (kind.Run run) = ⊤
+IsShowing (kind.Edit edit) = ⊥
+IsShowing (kind.Step step) = ⊥
+IsShowing kind.Auto = ⊥
+IsShowing (kind.Move way) = ⊥
 
 -- what a command does to the sources: `undo` and `redo` move along them; a command that only shows something leaves all as they are; any other one that is accepted is a change and puts a source after the present one; and one that is refused leaves all as they are (ParaScope)
-pub data Moves (command : Command) (reply : Reply) (before behind : Sources) : Type 0 where
-  by_undo : command ≡ Undo → GoesOneBack reply before behind → Moves command reply before behind
-  by_redo : command ≡ Redo → GoesOneForward reply before behind → Moves command reply before behind
+pub data Moves (command : CommandKind) (reply : Reply) (before behind : Sources) : Type 0 where
+  by_undo : command ≡ kind.Move Undo → GoesOneBack reply before behind → Moves command reply before behind
+  by_redo : command ≡ kind.Move Redo → GoesOneForward reply before behind → Moves command reply before behind
   by_showing : IsShowing command → (shown : List ℕ) → reply ≡ Shown shown → behind ≡ before → Moves command reply before behind
   by_change : ¬ (IsMove command) → ¬ (IsShowing command) → reply ≡ Changed → PutsBehind before behind → Moves command reply before behind
   by_refusal : ¬ (IsMove command) → (why : Refusal) → reply ≡ Refused why → behind ≡ before → Moves command reply before behind
@@ -191,7 +200,7 @@ pub record MovesByAuto (line : ℕ) (before : Sources) (bytes : List ℕ) (behin
 abbrev pub MovesBy : ℕ → Option Command → Sources → List ℕ → Sources → Type 0
 MovesBy line None before bytes behind = (bytes ≡ bad_command_row line) × (behind ≡ before)
 MovesBy line (Some command) before bytes behind =
-    ((reply : Reply) × (bytes ≡ reply_text line reply) × Moves command reply before behind)
+    ((reply : Reply) × (bytes ≡ reply_text line reply) × Moves (kind_of command) reply before behind)
     ⊎ ((command ≡ Auto) × MovesByAuto line before bytes behind)
 
 -- the sources before an item and after it (ParaScope)
@@ -215,13 +224,21 @@ AgreesOnAllRuns s =
     (earlier : List ℕ) (t u : ProgramTree) (data_bytes choices : List ℕ) (o : Outcome) → ComesFrom s.present s.past earlier → ReadsValid earlier t → ReadsValid s.present u
     → IsTrusted t → IsRaceFree t data_bytes → IsLoweredRun choices data_bytes u o → o ≡ outcome t data_bytes
 
--- before an item and after it, each transformation of the history keeps the meaning of a program that is tidy and without C$PED REJECT, and leaves it so; and a `run`, whatever choices it has, shows what the programs show from which the present one has come by transformations alone, where these are tidy and without C$PED REJECT and run on the data without a fault and without a race; sums of lists that are live may be done in any order. A program is tidy where no reference in a PARALLEL DO writes the variable of it or of a DO in it, and each path from that PARALLEL DO's exit to the end overwrites such a variable that is saved (ParaScope; this project)
+-- and whatever C$PED REJECT lines there are, where no list of sums of the present program is live, it is that of each program from which it has come by transformations alone through tidy programs, where in each of these that is transformed no rejected dependence occurs on these data, nor one of those that the step asks besides, and that program runs on them without a fault and without a race (ParaScope; this project)
+abbrev pub AgreesOnTrueRuns : State → Type 0
+AgreesOnTrueRuns s =
+    (earlier : List ℕ) (t u : ProgramTree) (data_bytes choices : List ℕ) (o : Outcome) → ComesTrulyFrom data_bytes s.present s.past earlier → ReadsValid earlier t → ReadsValid s.present u
+    → HasNoLiveList u → IsRaceFree t data_bytes → IsLoweredRun choices data_bytes u o → o ≡ outcome t data_bytes
+
+-- before an item and after it, each transformation of the history keeps the meaning of a program that is tidy and without C$PED REJECT, and leaves it so; and a `run`, whatever choices it has, shows what the programs show from which the present one has come by transformations alone, where these are tidy and without C$PED REJECT and run on the data without a fault and without a race; sums of lists that are live may be done in any order. So it does, whatever C$PED REJECT lines there are, on data on which they are true of each program on the way, where all these programs are tidy and the present one has no live list of sums. A program is tidy where no reference in a PARALLEL DO writes the variable of it or of a DO in it, and each path from that PARALLEL DO's exit to the end overwrites such a variable that is saved (ParaScope; this project)
 pub record KeepsMeaning (line : ℕ) (command : Option Command) (data_bytes : List ℕ) (s : State) (said : Said) (next : State) : Type 0 where
   pub here : IsMeaningKept s
   pub there : IsMeaningKept next
   pub runs : RunsAsBefore command data_bytes s said
   pub all_here : AgreesOnAllRuns s
   pub all_there : AgreesOnAllRuns next
+  pub true_here : AgreesOnTrueRuns s
+  pub true_there : AgreesOnTrueRuns next
 
 -- where the run of the program that is made ends, the report says that the program after the script's steps ends alike (this project)
 abbrev pub ReportsAlike : ℕ → List ℕ → Type 0
@@ -236,10 +253,6 @@ RunsRequest (Some (session program script data_file)) files bytes = EachItem Kee
 RunsRequest (Some (generate number)) files bytes = ReportsAlike number bytes
 
 -- Program units.
-
--- no list of sums in a program is live (Allen and Kennedy, section 5.6; this project)
-abbrev pub HasNoLiveList : ProgramTree → Type 0
-HasNoLiveList t = (q : Lowered) → IsLowered t q → q.live ≡ []
 
 -- where program units run on the data without a fault, the program that they expand to has their outcome; and so a `run` with these choices shows it: without choices where the present source is the one on which the session opened, and no list of sums in it is live; and with any where the present source has come from that one by transformations alone, if that one is tidy and without C$PED REJECT and runs without a race (ANSI X3.9-1978, section 15.6; ParaScope; this project)
 pub record ShowsUnits (units : ProgramUnits) (first : ProgramTree) (choices data_bytes : List ℕ) (s : State) (shown : List ℕ) : Type 0 where
@@ -268,15 +281,15 @@ UnitsRequest (Some (generate number)) files bytes = ⊤
 -- Causes.
 
 -- what is said of a step: the present program has no statement of that number; or something forbids the step, and what is said is the first such cause, a rule by its number before a dependence in the order of the pane; both leave the session as it was. Or nothing forbids the step, and it is accepted (ParaScope; this project)
-pub data TellsOfStep (command : Command) (at : StepAt) (line : ℕ) (t : ProgramTree) (s : State) (bytes : List ℕ) (next : State) : Type 0 where
-  no_statement : is_some (statement_with at.statement t) ≡ false → bytes ≡ answer_row line (codes "refused NoSuchStatement") → next ≡ s → TellsOfStep command at line t s bytes next
-  forbidden : is_some (statement_with at.statement t) ≡ true → (c : Cause) → Forbids command t c → at.IsCause t (Some c) → bytes ≡ answer_row line (codes "refused " ++ cause_words c) → next ≡ s → TellsOfStep command at line t s bytes next
-  accepted : is_some (statement_with at.statement t) ≡ true → ((c : Cause) → Forbids command t c → ⊥) → bytes ≡ answer_row line (codes "ok") → TellsOfStep command at line t s bytes next
+pub data TellsOfStep (command : StepCommand) (line : ℕ) (t : ProgramTree) (s : State) (bytes : List ℕ) (next : State) : Type 0 where
+  no_statement : is_some (statement_with command.statement t) ≡ false → bytes ≡ answer_row line (codes "refused NoSuchStatement") → next ≡ s → TellsOfStep command line t s bytes next
+  forbidden : is_some (statement_with command.statement t) ≡ true → (c : Cause) → Forbids command.statement command.step t c → (step_of command).IsCause t (Some c) → bytes ≡ answer_row line (codes "refused " ++ cause_words c) → next ≡ s → TellsOfStep command line t s bytes next
+  accepted : is_some (statement_with command.statement t) ≡ true → ((c : Cause) → Forbids command.statement command.step t c → ⊥) → bytes ≡ answer_row line (codes "ok") → TellsOfStep command line t s bytes next
 
 -- a transformation or `reject` at a statement that is there is refused by its first cause in the present program, and accepted where it has none; where it isn't there, that is reported (ParaScope)
 abbrev pub TellsCause : ℕ → Option Command → List ℕ → State → Said → State → Type 0
 TellsCause line None data_bytes s said next = ⊤
-TellsCause line (Some command) data_bytes s said next = MatchStep (step_of command) ⊤ (λ at. (t : ProgramTree) × ReadsValid s.present t × TellsOfStep command at line t s said.bytes next)
+TellsCause line (Some command) data_bytes s said next = MatchOption (step_in command) ⊤ (λ step. (t : ProgramTree) × ReadsValid s.present t × TellsOfStep step line t s said.bytes next)
 
 -- the causes in a session's answer
 abbrev pub CausesRequest : Option Request → Contents → List ℕ → Type 0
@@ -290,11 +303,11 @@ CausesRequest (Some (generate number)) files bytes = ⊤
 -- these are the DOs of the program that aren't PARALLEL DOs, in text order, each with the first of all that forbids `parallel` there (ParaScope; this project)
 pub record AreLeft (t : ProgramTree) (left : List (ℕ × Cause)) : Type 0 where
   pub loops : map (λ l. l.0) left ≡ serial_loops t
-  pub causes : AllByRecursion (λ l. Forbids (Parallel l.0) t l.1 × (paralleling l.0).IsCause t (Some l.1)) left
+  pub causes : AllByRecursion (λ l. Forbids l.0 Parallel t l.1 × (paralleling l.0).IsCause t (Some l.1)) left
 
 -- the command takes a step, and that is a transformation (ParaScope; this project)
 abbrev pub IsTransformation : Command → Type 0
-IsTransformation command = MatchStep (step_of command) ⊥ (λ at. at.kind ≡ transformation)
+IsTransformation command = MatchOption (step_in command) ⊥ (λ step. (step_of step).kind ≡ transformation)
 
 -- `auto` lists accepted steps, which lead one after another from the state before it to the one after it, and which are what a script of the listed lines is read as, and all of which are transformations; then the DOs that aren't PARALLEL DOs in its program, each with its first cause; and the source, which has come from the former one by transformations alone (ParaScope; this project)
 pub record Parallelises (line : ℕ) (s : State) (bytes : List ℕ) (next : State) : Type 0 where
@@ -311,8 +324,7 @@ pub record Parallelises (line : ℕ) (s : State) (bytes : List ℕ) (next : Stat
 
 -- so it is of each `auto` (ParaScope; this project)
 abbrev pub ParallelisesBy : ℕ → Option Command → List ℕ → State → Said → State → Type 0
-ParallelisesBy line (Some Auto) data_bytes s said next = Parallelises line s said.bytes next
-ParallelisesBy line command data_bytes s said next = ⊤
+ParallelisesBy line command data_bytes s said next = command ≡ Some Auto → Parallelises line s said.bytes next
 
 -- what `auto` lists in a session's answer
 abbrev pub AutoRequest : Option Request → Contents → List ℕ → Type 0
@@ -324,12 +336,16 @@ AutoRequest (Some (generate number)) files bytes = ⊤
 -- Coverage.
 
 -- `deps`, `deps S`, `show` and `calls` show panes that cover the conflicts of references in the run in order of the present program, on whatever data, and those of dependences its races, too: this program is the one that comes of reading the present source afresh (Allen and Kennedy, section 2.2.1; ParaScope)
+abbrev pub CoversRuns : Query → ℕ → State → List ℕ → Type 0
+CoversRuns (Deps None) line s bytes = Afresh IsCoveringPane s.present bytes
+CoversRuns (Deps (Some number)) line s bytes = Afresh (IsOfStatement (IsCoveringPaneOf number) line number) s.present bytes
+CoversRuns Show line s bytes = Afresh AreCoveringPanes s.present bytes
+CoversRuns Calls line s bytes = Afresh IsCoveringCalls s.present bytes
+CoversRuns query line s bytes = ⊤
+
+-- so it is of each of these commands (ParaScope)
 abbrev pub Covers : ℕ → Option Command → List ℕ → State → Said → State → Type 0
-Covers line (Some (Deps None)) data_bytes s said next = Afresh IsCoveringPane s.present said.bytes
-Covers line (Some (Deps (Some number))) data_bytes s said next = Afresh (IsOfStatement (IsCoveringPaneOf number) line number) s.present said.bytes
-Covers line (Some Show) data_bytes s said next = Afresh AreCoveringPanes s.present said.bytes
-Covers line (Some Calls) data_bytes s said next = Afresh IsCoveringCalls s.present said.bytes
-Covers line command data_bytes s said next = ⊤
+Covers line command data_bytes s said next = (query : Query) → Asks command query → CoversRuns query line s said.bytes
 
 -- the panes of an answer cover what references do in runs in order
 abbrev pub CoveredRequest : Option Request → Contents → List ℕ → Type 0

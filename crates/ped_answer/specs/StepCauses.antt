@@ -3,8 +3,8 @@ use Rattle.std.specs.Prelude.{◌≡◌, ℕ, List, Contains, Bool, true}
 use Rattle.ped_tree.specs.Tree.{ProgramTree}
 use Rattle.ped_session.specs.ped_rules.specs.ped_edges.specs.Edges.{Edge}
 use Rattle.ped_session.specs.ped_graph.specs.Dependences.{AreEdges}
-use Rattle.ped_script.specs.declared.items.Command.{Command}
-use Rattle.ped_script.specs.declared.items.Command.TheVariants.{Interchange, Reverse, Skew, Strip, Peel, Distribute, Fuse, Inline, Expand, Privatise, Reduce, Parallel, Serial, Reject}
+use Rattle.ped_script.specs.declared.kinds.WhichStep.{WhichStep}
+use Rattle.ped_script.specs.declared.kinds.WhichStep.TheVariants.{Interchange, Reverse, Skew, Strip, Peel, Distribute, Fuse, Inline, Expand, Privatise, Reduce, Parallel, Serial, Reject}
 use Rattle.ped_session.specs.ped_transformations.specs.ped_reduce.specs.Reducing.{StandsAgainstReducing, carried_beside}
 use Rattle.ped_session.specs.ped_transformations.specs.ped_inline.specs.Inlining.{StandsAgainstInlining}
 use Rattle.ped_session.specs.ped_transformations.specs.ped_splits.specs.Distributing.{StandsAgainstDistribution}
@@ -34,20 +34,19 @@ IsAmongFused s t (rule r n) = StandsAgainstFusion s t r n
 IsAmongFused s t (dependence e) =
     (m : Match t s) × (edges : List Edge) × AreBack m.neighbour edges × (f : Edge) × Contains edges f × (forbids_fusion m.neighbour f ≡ true) × (e ≡ with_present_numbers (next_number m.neighbour) f)
 
--- what forbids the step of a command in a program: a rule that holds, or a dependence that it may not pass over, which five steps have, since they change the order of iterations: `interchange`, `reverse`, `parallel`, `reduce` and `fuse`. One row for each step of the table of steps (Allen and Kennedy, sections 2.2.5, 5.2, 5.6; ParaScope)
-abbrev pub Forbids : Command → ProgramTree → Cause → Type 0
-Forbids (Interchange s) t c = IsAmong t (StandsAgainstInterchange s t) (crossing t s) c
-Forbids (Reverse s) t c = IsAmong t (StandsAgainstReversal s t) (carried t s) c
-Forbids (Parallel s) t c = IsAmong t (StandsAgainstParallel s t) (carried t s) c
-Forbids (Reduce s names) t c = IsAmong t (StandsAgainstReducing s names t) (carried_beside t s names) c
-Forbids (Serial s) t c = IsAmong t (StandsAgainstSerial s t) none_forbids c
-Forbids (Skew s factor) t c = IsAmong t (StandsAgainstSkewing s factor t) none_forbids c
-Forbids (Strip s size) t c = IsAmong t (StandsAgainstStripping s size t) none_forbids c
-Forbids (Peel s last) t c = IsAmong t (StandsAgainstPeeling s last t) none_forbids c
-Forbids (Distribute s) t c = IsAmong t (StandsAgainstDistribution s t) none_forbids c
-Forbids (Fuse s) t c = IsAmongFused s t c
-Forbids (Inline s) t c = IsAmong t (StandsAgainstInlining s t) none_forbids c
-Forbids (Expand s x) t c = IsAmong t (StandsAgainstExpanding s x t) none_forbids c
-Forbids (Privatise s x) t c = IsAmong t (StandsAgainstPrivatising s x t) none_forbids c
-Forbids (Reject s x) t c = IsAmong t (StandsAgainstRejection s x t) none_forbids c
-Forbids command t c = ⊥
+-- what forbids a step at a statement of a program: a rule that holds, or a dependence that it may not pass over, which five steps have, since they change the order of iterations: `interchange`, `reverse`, `parallel`, `reduce` and `fuse`. One row for each step of the table of steps (Allen and Kennedy, sections 2.2.5, 5.2, 5.6; ParaScope)
+abbrev pub Forbids : ℕ → WhichStep → ProgramTree → Cause → Type 0
+Forbids s Interchange t c = IsAmong t (StandsAgainstInterchange s t) (crossing t s) c
+Forbids s Reverse t c = IsAmong t (StandsAgainstReversal s t) (carried t s) c
+Forbids s Parallel t c = IsAmong t (StandsAgainstParallel s t) (carried t s) c
+Forbids s (Reduce names) t c = IsAmong t (StandsAgainstReducing s names t) (carried_beside t s names) c
+Forbids s Serial t c = IsAmong t (StandsAgainstSerial s t) none_forbids c
+Forbids s (Skew factor) t c = IsAmong t (StandsAgainstSkewing s factor t) none_forbids c
+Forbids s (Strip size) t c = IsAmong t (StandsAgainstStripping s size t) none_forbids c
+Forbids s (Peel last) t c = IsAmong t (StandsAgainstPeeling s last t) none_forbids c
+Forbids s Distribute t c = IsAmong t (StandsAgainstDistribution s t) none_forbids c
+Forbids s Fuse t c = IsAmongFused s t c
+Forbids s Inline t c = IsAmong t (StandsAgainstInlining s t) none_forbids c
+Forbids s (Expand x) t c = IsAmong t (StandsAgainstExpanding s x t) none_forbids c
+Forbids s (Privatise x) t c = IsAmong t (StandsAgainstPrivatising s x t) none_forbids c
+Forbids s (Reject x) t c = IsAmong t (StandsAgainstRejection s x t) none_forbids c

@@ -56,8 +56,9 @@ pub fn refusals_have_causes()
 
 /// In each answer to a session each `run` of its script shows what the programs show from which the present one has come
 /// by transformations alone, if they are tidy and without C$PED REJECT and run on the data without a fault and without a
-/// race. And so it is on all data and with all choices, whether a `run` shows it or not. The report of `generate` says that
-/// its programs end alike, if the run of the first one ends.
+/// race. They may have C$PED REJECT lines where no list of sums is live, if on the data these are true of each program on the
+/// way, and all these are tidy. And so it is on all data and with all choices, whether a `run` shows it or not. The report of
+/// `generate` says that its programs end alike, if the run of the first one ends.
 pub fn runs_are_as_before()
     ensures { (request : Option plain.Request) (files : Contents) (s : Status) (bytes : List ℕ) → IsWhole s →
         Answers request files s bytes → RunsRequest request files bytes }

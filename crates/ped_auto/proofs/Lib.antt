@@ -13,4 +13,5 @@ mod Rounding
 mod Falling
 mod FurtherRounding
 mod Accepted
+pub mod OfStrategy
 pub mod SomeCourse

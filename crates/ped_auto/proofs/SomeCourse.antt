@@ -7,7 +7,7 @@ use Rattle.ped_rules.specs.ped_flow.specs.ped_tree.specs.Tree.{ProgramTree}
 use Rattle.ped_rules.specs.ped_steps.specs.Causes.{Cause}
 use Rattle.ped_auto.specs.SerialLoops.{is_serial_loop, count_of, IsNumber, serial_loops}
 use Rattle.ped_auto.specs.CarriedNames.{AreCarried, are_scalars, are_few_scalars}
-use Rattle.ped_auto.specs.Editing.{Editing, IsOfStrategy, IsEditing, place_of, IsAt}
+use Rattle.ped_auto.specs.Editing.{Editing, IsOfStrategy, IsEditing, transformed_by, IsAt}
 use Rattle.ped_auto.specs.Strategy.{Stage, Takes, Tries, TriesEach, WithNames, TriesPrivate, Privatises, Reduces, OrElse, Attempts, Divides, Visits, VisitsAgain, Meets, RoundFrom, Round, AcceptsNothing, FurtherRounds, Report, starting, AreLeft, IsAuto}
 use Rattle.ped_auto.specs.CodeStages.{Leads}
 use Rattle.ped_auto.proofs.Leading.{leads_again, leads_round, leads_round_from}
@@ -20,7 +20,7 @@ IsSettled {S} e Good s c = ((next : S) × (tests : ℕ) × e.Accepts s c next te
 -- each state of which something holds has a present program, and each command of the strategy at a statement of it is settled; each DO carries some names
 pub record IsDecided {S : Type 0} (e : Editing S) (Good : S → Type 0) : Type 0 where
   pub program : (s : S) → Good s → (t : ProgramTree) × e.Reads s t
-  pub settled : (s : S) (c : Command) (t : ProgramTree) → Good s → IsOfStrategy c → e.Reads s t → IsAt t (place_of c) → IsSettled e Good s c
+  pub settled : (s : S) (c : Command) (t : ProgramTree) → Good s → IsOfStrategy c → e.Reads s t → IsAt t (transformed_by c) → IsSettled e Good s c
   pub names : (t : ProgramTree) (number : ℕ) → (names : List (List ℕ)) × AreCarried t number names
 
 -- a stage with a program that has a statement with this number
@@ -55,7 +55,7 @@ more_or_not (suc m) (suc n) = by (more_or_not m n)
 
 module _ {S : Type 0} (e : Editing S) (Good : S → Type 0) (laws : IsEditing e) (decided : IsDecided e Good) where
   -- a command at this statement
-  tries : (c : Command) (number : ℕ) → IsOfStrategy c → place_of c ≡ Some number → (p : Stage S) → Stands e Good number p → Outcome e Good number (Tries e c p)
+  tries : (c : Command) (number : ℕ) → IsOfStrategy c → transformed_by c ≡ Some number → (p : Stage S) → Stands e Good number p → Outcome e Good number (Tries e c p)
   tries c number ok place p st = by (decided.settled p.now c st.program st.good ok st.reads (subst (IsAt st.program) (sym place) st.there))
     where
       by : IsSettled e Good p.now c → Outcome e Good number (Tries e c p)

@@ -1,7 +1,8 @@
 -- What an editor means to the strategy: its present program, and what it makes of commands (ParaScope; this project).
-use Rattle.std.specs.Prelude.{◌≡◌, ℕ, ◌≤◌, ◌<◌, length, Option, Some, None, ⊤}
+use Rattle.std.specs.Prelude.{◌≡◌, ℕ, ◌≤◌, ◌<◌, length, Option, Some, None, option_and_then, if◌then◌else◌, ⊤}
 use Rattle.ped_script.specs.declared.items.Command.{Command}
-use Rattle.ped_script.specs.declared.items.Command.TheVariants.{Interchange, Reverse, Skew, Strip, Peel, Distribute, Fuse, Inline, Expand, Privatise, Parallel, Serial, Reduce}
+use Rattle.ped_script.specs.declared.items.Command.TheVariants.{Parallel, Privatise, Reduce, Distribute}
+use Rattle.ped_script.specs.Kinds.{step_in, is_rejection}
 use Rattle.ped_rules.specs.ped_flow.specs.ped_tree.specs.Tree.{ProgramTree}
 use Rattle.ped_rules.specs.ped_steps.specs.Causes.{Cause}
 use Rattle.ped_rules.specs.ped_steps.specs.CodeCauses.{cause_of, IsShort}
@@ -32,22 +33,9 @@ pub record IsEditing {S : Type 0} (e : Editing S) : Type 0 where
   pub grows : (s : S) (c : Command) (next : S) (n : ℕ) (t : ProgramTree) → IsOfStrategy c → e.Accepts s c next n → e.Reads s t → (u : ProgramTree) × e.Reads next u × (count_of t ≤ count_of u)
   pub falls : (s : S) (number : ℕ) (next : S) (n : ℕ) (t u : ProgramTree) → e.Accepts s (Parallel number) next n → e.Reads s t → e.Reads next u → length (serial_loops u) < length (serial_loops t)
 
--- the statement that a transformation transforms; none where the command is no transformation
-abbrev pub place_of : Command → Option ℕ
-place_of (Interchange number) = Some number
-place_of (Reverse number) = Some number
-place_of (Skew number factor) = Some number
-place_of (Strip number size) = Some number
-place_of (Peel number last) = Some number
-place_of (Distribute number) = Some number
-place_of (Fuse number) = Some number
-place_of (Inline number) = Some number
-place_of (Expand number name) = Some number
-place_of (Privatise number name) = Some number
-place_of (Parallel number) = Some number
-place_of (Serial number) = Some number
-place_of (Reduce number names) = Some number
-place_of command = None
+-- the statement that a command transforms; none where the command is no transformation
+abbrev pub transformed_by : Command → Option ℕ
+transformed_by c = option_and_then (λ command. if is_rejection command.step then None else Some command.statement) (step_in c)
 
 -- the command is a transformation of a statement that the program has
 abbrev pub IsAt : ProgramTree → Option ℕ → Type 0
@@ -56,7 +44,7 @@ IsAt t (Some number) = IsNumber t number
 
 -- the state has a present program, and the command is a transformation of a statement that it has
 abbrev pub CanTry : {S : Type 0} → Editing S → S → Command → Type 0
-CanTry e s c = (t : ProgramTree) × e.Reads s t × IsAt t (place_of c)
+CanTry e s c = (t : ProgramTree) × e.Reads s t × IsAt t (transformed_by c)
 
 -- what an editor answers to a command, and where it leads: nothing where the command is accepted; or the first cause against it, and then the editor is as it was and nothing is tested
 abbrev pub Answers : {S : Type 0} → Editing S → S → Command → Option Refused → S → ℕ → Type 0

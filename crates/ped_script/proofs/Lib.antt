@@ -1,6 +1,7 @@
 mod Choices
 mod Numbers
 mod OneCommand
+pub mod OnlyAuto
 mod Passing
 mod Split
 mod Table

@@ -3,6 +3,7 @@
 #![tactic(auto)]
 
 mod items;
+mod kinds;
 mod laws;
 mod lines;
 mod reading;
@@ -11,6 +12,7 @@ mod texts;
 mod words;
 
 pub use items::{Command, Item, Script};
+pub use kinds::{CommandKind, HistoryMove, LineEdit, ProgramRun, Query, StepCommand, WhichStep};
 pub use laws::{one_command, rows_are_commands};
 pub use lines::TextLines;
 pub use reading::commands;

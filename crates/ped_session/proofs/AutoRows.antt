@@ -11,8 +11,8 @@ use Rattle.std.proofs.lemmas.List.Elements.{All-from_recursion}
 use Rattle.ped_base.proofs.FirstLines.{more_parts}
 use Rattle.ped_base.specs.Letters.{is_letter, is_digit, is_alphanumeric, begins_with_letter}
 use Rattle.ped_transformations.specs.ped_auto.specs.Editing.{IsOfStrategy}
+use Rattle.ped_transformations.specs.ped_auto.proofs.OfStrategy.{so_of_strategy}
 use Rattle.ped_script.specs.declared.items.Command.{Command}
-use Rattle.ped_script.specs.declared.items.Command.TheVariants.{Source, Deps, Show, Calls, Print, Advise, Replace, Insert, Delete, Interchange, Reverse, Skew, Strip, Peel, Distribute, Fuse, Inline, Expand, Privatise, Reduce, Parallel, Serial, Reject, Auto, Undo, Redo, Run, Races, Tested}
 use Rattle.ped_script.specs.declared.items.Item.{Item}
 use Rattle.ped_script.specs.Words.{words_of}
 use Rattle.ped_script.specs.Rows.{command_of}
@@ -77,35 +77,12 @@ line_plain : (w : List ℕ) (words : List (List ℕ)) → IsPlain w → AllByRec
 line_plain w words h k = all_plain w (behind words) h (behind_plain words k)
 
 command_plain : (c : Command) → IsOfStrategy c → IsWritable c → IsPlain (command_text c)
-command_plain (Parallel n) is h = line_plain (codes "parallel") (decimal n ∷ []) refl (number_plain n h, tt)
-command_plain (Distribute n) is h = line_plain (codes "distribute") (decimal n ∷ []) refl (number_plain n h, tt)
-command_plain (Privatise n x) is h = line_plain (codes "privatise") (decimal n ∷ x ∷ []) refl (number_plain n h.0, (name_plain x h.1, tt))
-command_plain (Reduce n names) is h = line_plain (codes "reduce") (decimal n ∷ names) refl (number_plain n h.0, names_plain names h.1)
-command_plain Source is h = absurd is
-command_plain (Deps of) is h = absurd is
-command_plain Show is h = absurd is
-command_plain Calls is h = absurd is
-command_plain Print is h = absurd is
-command_plain (Advise n) is h = absurd is
-command_plain (Replace first last given) is h = absurd is
-command_plain (Insert after given) is h = absurd is
-command_plain (Delete first last) is h = absurd is
-command_plain (Interchange n) is h = absurd is
-command_plain (Reverse n) is h = absurd is
-command_plain (Skew n factor) is h = absurd is
-command_plain (Strip n size) is h = absurd is
-command_plain (Peel n last) is h = absurd is
-command_plain (Fuse n) is h = absurd is
-command_plain (Inline n) is h = absurd is
-command_plain (Expand n x) is h = absurd is
-command_plain (Serial n) is h = absurd is
-command_plain (Reject n x) is h = absurd is
-command_plain Auto is h = absurd is
-command_plain Undo is h = absurd is
-command_plain Redo is h = absurd is
-command_plain (Run choices) is h = absurd is
-command_plain Races is h = absurd is
-command_plain Tested is h = absurd is
+command_plain = so_of_strategy (λ c. IsWritable c → IsPlain (command_text c)) (record {
+  parallel = λ n h. line_plain (codes "parallel") (decimal n ∷ []) refl (number_plain n h, tt);
+  privatise = λ n x h. line_plain (codes "privatise") (decimal n ∷ x ∷ []) refl (number_plain n h.0, (name_plain x h.1, tt));
+  reduce = λ n names h. line_plain (codes "reduce") (decimal n ∷ names) refl (number_plain n h.0, names_plain names h.1);
+  distribute = λ n h. line_plain (codes "distribute") (decimal n ∷ []) refl (number_plain n h, tt);
+})
 
 -- such a line stands first among the lines of a text that begins with it
 feed_apart : (c : ℕ) → leb 32 c ≡ true → eqb c 10 ≡ false
@@ -130,36 +107,16 @@ first_line w rest h =
     ∙ ap (λ b. cond b (take (length w - 1) w) w ∷ lines rest) (no_return w h)
 
 -- a command of the strategy has no text on the lines behind it
-alone : (c : Command) → IsOfStrategy c → (following : List (List ℕ)) → (with_text c following ≡ Some c) × (taken_lines (Some c) following ≡ 0)
-alone (Parallel n) is following = (refl, refl)
-alone (Distribute n) is following = (refl, refl)
-alone (Privatise n x) is following = (refl, refl)
-alone (Reduce n names) is following = (refl, refl)
-alone Source is following = absurd is
-alone (Deps of) is following = absurd is
-alone Show is following = absurd is
-alone Calls is following = absurd is
-alone Print is following = absurd is
-alone (Advise n) is following = absurd is
-alone (Replace first last given) is following = absurd is
-alone (Insert after given) is following = absurd is
-alone (Delete first last) is following = absurd is
-alone (Interchange n) is following = absurd is
-alone (Reverse n) is following = absurd is
-alone (Skew n factor) is following = absurd is
-alone (Strip n size) is following = absurd is
-alone (Peel n last) is following = absurd is
-alone (Fuse n) is following = absurd is
-alone (Inline n) is following = absurd is
-alone (Expand n x) is following = absurd is
-alone (Serial n) is following = absurd is
-alone (Reject n x) is following = absurd is
-alone Auto is following = absurd is
-alone Undo is following = absurd is
-alone Redo is following = absurd is
-alone (Run choices) is following = absurd is
-alone Races is following = absurd is
-alone Tested is following = absurd is
+abbrev IsAlone : Command → Type 0
+IsAlone c = (following : List (List ℕ)) → (with_text c following ≡ Some c) × (taken_lines (Some c) following ≡ 0)
+
+alone : (c : Command) → IsOfStrategy c → IsAlone c
+alone = so_of_strategy IsAlone (record {
+  parallel = λ n following. (refl, refl);
+  privatise = λ n x following. (refl, refl);
+  reduce = λ n names following. (refl, refl);
+  distribute = λ n following. (refl, refl);
+})
 
 abbrev item : ℕ → Option Command → Item
 item n command = record { line = n; command = command }

@@ -1,15 +1,20 @@
 -- The steps that `auto` takes in a session, one behind another.
-use Rattle.std.proofs.Common.{◌≡◌, inl, inr, ℕ, List, [], ◌∷◌, refl, sym, ap, subst}
-use Rattle.ped_transformations.specs.ped_rules.specs.Steps.{transformation, StepAt, MaybeStep, no_step, some_step, MatchStep}
+use Rattle.std.proofs.Common.{◌≡◌, inl, inr, ℕ, List, [], ◌∷◌, Option, Some, None, refl, sym, ap, subst}
+use Rattle.std.specs.Prelude.{MatchOption}
+use Rattle.ped_transformations.specs.ped_rules.specs.Steps.{transformation, StepAt}
 use Rattle.ped_transformations.specs.ped_auto.specs.Replay.{Replays}
 use Rattle.ped_transformations.specs.ped_auto.specs.Strategy.{Report, IsAuto}
 use Rattle.ped_transformations.specs.ped_auto.proofs.OneCourse as course
 use Rattle.ped_transformations.specs.Table.{step_of}
 use Rattle.ped_script.specs.declared.items.Command.{Command}
+use Rattle.ped_script.specs.declared.kinds.StepCommand.{StepCommand}
+use Rattle.ped_script.specs.declared.kinds.CommandKind.{CommandKind}
+use Rattle.ped_script.specs.declared.kinds.CommandKind.TheVariants as kind
+use Rattle.ped_script.specs.Kinds.{kind_of, step_among, step_in}
 use Rattle.ped_session.specs.declared.replies.Reply.{Reply}
 use Rattle.ped_session.specs.declared.replies.Reply.TheVariants.{Changed}
 use Rattle.ped_session.specs.States.{Other, State}
-use Rattle.ped_session.specs.Steps.{Transforms, change_by, IsOther, IsStep}
+use Rattle.ped_session.specs.Steps.{change_by, IsStepOf, IsStep}
 use Rattle.ped_session.specs.Meanings.{ComesFrom}
 use Rattle.ped_session.specs.AutoEditing.{TransformsTo, TakesStep, session_editing}
 use Rattle.ped_session.specs.AutoEditingLaws.{IsTaken, taken, session_laws}
@@ -20,12 +25,16 @@ pub auto_steps : (s last : State) (report : Report) (tests : ℕ) → IsAuto ses
 auto_steps s last report tests h = course.auto_replays session_editing session_laws s last report tests h
 
 -- a transformation is a step, whatever the data are
-as_step : (step : MaybeStep) (P : Type 0) (s next : State) (reply : Reply) → MatchStep step ⊥ (TransformsTo s reply next) → MatchStep step P (λ at. Transforms at s reply next)
-as_step no_step P s next reply h = absurd h
-as_step (some_step at) P s next reply h = h.1
+as_step : (k : CommandKind) (d : List ℕ) (s next : State) (reply : Reply) → MatchOption (step_among k) ⊥ (TransformsTo s reply next) → IsStepOf k d s reply next
+as_step (kind.Step c) d s next reply h = h.1
+as_step (kind.Ask query) d s next reply h = absurd h
+as_step (kind.Edit edit) d s next reply h = absurd h
+as_step kind.Auto d s next reply h = absurd h
+as_step (kind.Move way) d s next reply h = absurd h
+as_step (kind.Run run) d s next reply h = absurd h
 
 pub is_step : (c : Command) (d : List ℕ) (s next : State) (reply : Reply) → TakesStep c s reply next → IsStep c d s reply next
-is_step c d s next reply h = as_step (step_of c) (IsOther c d s reply next) s next reply h
+is_step c d s next reply h = as_step (kind_of c) d s next reply h
 
 module _ (Is : State → Type 0) (keeps : (c : Command) (s next : State) → Is s → TakesStep c s Changed next → Is next) where
   -- what each step keeps, all keep
@@ -48,11 +57,11 @@ further_by : (at : StepAt) (s next : State) (earlier : List ℕ) → at.kind ≡
 further_by at s next earlier kind a h =
     subst (λ (n : State). ComesFrom n.present n.past earlier) (sym a.next_is) (inr (ap change_by kind, h))
 
-comes_by : (step : MaybeStep) (s next : State) (earlier : List ℕ) → MatchStep step ⊥ (TransformsTo s Changed next) → ComesFrom s.present s.past earlier → ComesFrom next.present next.past earlier
-comes_by no_step s next earlier h k = absurd h
-comes_by (some_step at) s next earlier h k = further_by at s next earlier h.0 (taken at s next h.1) k
+comes_by : (o : Option StepCommand) (s next : State) (earlier : List ℕ) → MatchOption o ⊥ (TransformsTo s Changed next) → ComesFrom s.present s.past earlier → ComesFrom next.present next.past earlier
+comes_by None s next earlier h k = absurd h
+comes_by (Some c) s next earlier h k = further_by (step_of c) s next earlier h.0 (taken (step_of c) s next h.1) k
 
 -- so its source has come from the former one
 pub auto_comes : (s last : State) (report : Report) (tests : ℕ) → IsAuto session_editing s report last tests → ComesFrom last.present last.past s.present
 auto_comes s last report tests h =
-    all_keep (λ n. ComesFrom n.present n.past s.present) (λ c m n k t. comes_by (step_of c) m n s.present t k) report.accepted s last tests (from_itself s.present s.past) (auto_steps s last report tests h)
+    all_keep (λ n. ComesFrom n.present n.past s.present) (λ c m n k t. comes_by (step_in c) m n s.present t k) report.accepted s last tests (from_itself s.present s.past) (auto_steps s last report tests h)

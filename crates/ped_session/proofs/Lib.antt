@@ -25,5 +25,4 @@ mod RunsInOrder
 mod ShortNames
 mod Shown
 mod States
-mod StepCommands
 mod Stepping

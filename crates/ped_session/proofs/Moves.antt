@@ -1,6 +1,8 @@
 -- `undo` and `redo` move along the sources, and take each other back.
-use Rattle.std.proofs.Common.{◌≡◌, inl, inr, ℕ, zero, suc, List, [], ◌∷◌, refl, sym, ap, ◌∙◌, subst}
+use Rattle.std.proofs.Common.{◌≡◌, ℕ, zero, suc, List, [], ◌∷◌, refl, sym, ap, ◌∙◌, subst}
 use Rattle.ped_script.specs.declared.items.Command.{Command}
+use Rattle.ped_script.specs.declared.kinds.CommandKind.{CommandKind}
+use Rattle.ped_script.specs.Kinds.{kind_of, IsMove}
 use Rattle.ped_script.specs.declared.items.Command.TheVariants.{Undo, Redo}
 use Rattle.ped_session.specs.declared.changes.ChangeKind.{ChangeKind}
 use Rattle.ped_session.specs.declared.changes.ChangeKind.TheVariants.{Edit}
@@ -9,7 +11,8 @@ use Rattle.ped_session.specs.declared.replies.Reply.{Reply}
 use Rattle.ped_session.specs.declared.replies.Reply.TheVariants.{Changed, Refused}
 use Rattle.ped_session.specs.States.{Other, State, gone_back_to, gone_forward_to}
 use Rattle.ped_transformations.specs.ped_rules.specs.Steps.{StepAt}
-use Rattle.ped_session.specs.Steps.{Edits, accepted, refused, change_by, Transforms, missing, forbidden, transformed, GoesBack, GoesForward, IsStep, IsMove}
+use Rattle.ped_transformations.specs.Table.{step_of}
+use Rattle.ped_session.specs.Steps.{Edits, accepted, refused, change_by, Transforms, missing, forbidden, transformed, GoesBack, GoesForward, IsStep}
 use Rattle.ped_session.specs.Histories.{HaveSameSources, Times}
 use Rattle.ped_session.proofs.Doing.{Does, by_nothing, by_edit, by_step, by_undo, by_redo, does}
 
@@ -115,18 +118,18 @@ step_leaves at s next (missing t reads none same) = absurd (no_refusal _ same.0)
 step_leaves at s next (forbidden t reads some c is same) = absurd (no_refusal _ same.0)
 step_leaves at s next (transformed t new keep reads some none makes valid reply after) = record { change = change_by at.kind; past_is = ap (λ (n : State). n.past) after }
 
-leaves_by : (c : Command) (s next : State) → ¬ (IsMove c) → Does c s Changed next → Leaves s next
-leaves_by c s next still (by_nothing changed is) = absurd (changed refl)
-leaves_by c s next still (by_edit kept gone text h) = edit_leaves kept gone text s next h
-leaves_by c s next still (by_step at lawful h) = step_leaves at s next h
-leaves_by c s next still (by_undo is h) = absurd (still (inl is))
-leaves_by c s next still (by_redo is h) = absurd (still (inr is))
+leaves_by : (k : CommandKind) (s next : State) → ¬ (IsMove k) → Does k s Changed next → Leaves s next
+leaves_by k s next still (by_nothing changed is) = absurd (changed refl)
+leaves_by k s next still (by_edit kept gone text h) = edit_leaves kept gone text s next h
+leaves_by k s next still (by_step command h) = step_leaves (step_of command) s next h
+leaves_by k s next still (by_undo is h) = absurd (still (subst IsMove (sym is) tt))
+leaves_by k s next still (by_redo is h) = absurd (still (subst IsMove (sym is) tt))
 
-leaves : (c : Command) (d : List ℕ) (s next : State) → ¬ (IsMove c) → IsStep c d s Changed next → Leaves s next
-leaves c d s next still h = leaves_by c s next still (does c d s next Changed h)
+leaves : (c : Command) (d : List ℕ) (s next : State) → ¬ (IsMove (kind_of c)) → IsStep c d s Changed next → Leaves s next
+leaves c d s next still h = leaves_by (kind_of c) s next still (does (kind_of c) d s next Changed h)
 
 -- `undo` behind a change is accepted, and gives the former source and the former past
-pub restored : (c : Command) (d : List ℕ) (s next : State) → ¬ (IsMove c) → IsStep c d s Changed next
+pub restored : (c : Command) (d : List ℕ) (s next : State) → ¬ (IsMove (kind_of c)) → IsStep c d s Changed next
     → (back : State) × IsStep Undo d next Changed back × (back.present ≡ s.present) × (back.past ≡ s.past)
 restored c d s next still a =
     let left = leaves c d s next still a in

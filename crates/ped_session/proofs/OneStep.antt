@@ -1,6 +1,6 @@
 -- A command has one reply in a state, and leads to one state.
 use Rattle.std.proofs.Common.{◌≡◌, inl, inr, ℕ, Bool, true, false, List, [], ◌∷◌, ◌++◌, Option, Some, None, is_some, sym, ap, ◌∙◌, subst}
-use Rattle.std.specs.Prelude.{MatchBool, ⊤}
+use Rattle.std.specs.Prelude.{MatchBool}
 use Rattle.ped_tree.specs.Tree.{StmtTree, ProgramTree}
 use Rattle.ped_tree.specs.Printing.{program_text}
 use Rattle.ped_tree.specs.SourcePane.{source_pane}
@@ -17,7 +17,14 @@ use Rattle.ped_transformations.specs.ped_inline.specs.CallsPane.{IsCallsPane}
 use Rattle.ped_transformations.specs.ped_inline.proofs.OnePane.{one_pane_of_calls}
 use Rattle.ped_transformations.specs.ped_steps.specs.Causes.{Cause}
 use Rattle.ped_script.specs.declared.items.Command.{Command}
-use Rattle.ped_script.specs.declared.items.Command.TheVariants.{Source, Deps, Show, Calls, Print, Advise, Replace, Insert, Delete, Interchange, Reverse, Skew, Strip, Peel, Distribute, Fuse, Inline, Expand, Privatise, Reduce, Parallel, Serial, Reject, Auto, Undo, Redo, Run, Races, Tested}
+use Rattle.ped_script.specs.declared.kinds.Query.{Query}
+use Rattle.ped_script.specs.declared.kinds.Query.TheVariants.{Source, Deps, Show, Calls, Print, Advise, Tested}
+use Rattle.ped_script.specs.declared.kinds.LineEdit.TheVariants.{Replace, Insert}
+use Rattle.ped_script.specs.declared.kinds.HistoryMove.TheVariants.{Undo, Redo}
+use Rattle.ped_script.specs.declared.kinds.ProgramRun.TheVariants.{Run, Races}
+use Rattle.ped_script.specs.declared.kinds.CommandKind.{CommandKind}
+use Rattle.ped_script.specs.declared.kinds.CommandKind.TheVariants as kind
+use Rattle.ped_script.specs.Kinds.{kind_of}
 use Rattle.ped_session.specs.declared.changes.ChangeKind.TheVariants.{Edit}
 use Rattle.ped_session.specs.declared.replies.Refusal.{Refusal}
 use Rattle.ped_session.specs.declared.replies.Refusal.TheVariants.{BadEdit, Step, NothingToUndo, NothingToRedo, NoSuchStatement, NoSuchLine}
@@ -28,8 +35,8 @@ use Rattle.ped_session.specs.OutcomeTexts.{outcome_text, IsRunText}
 use Rattle.ped_session.specs.RaceRows.{race_row, IsRaceRow}
 use Rattle.ped_session.specs.Panes.{IsSourcePane, ArePanes}
 use Rattle.ped_session.specs.Splices.{are_lines, is_place, edit_keep}
-use Rattle.ped_session.specs.Steps.{Refuses, Shows, ShowsOf, ShowsStatement, Edits, accepted, refused, change_by, Transforms, missing, forbidden, transformed, GoesBack, GoesForward, IsOther, IsStep}
-use Rattle.ped_transformations.specs.ped_rules.specs.Steps.{StepAt, MaybeStep, no_step, some_step, MatchStep}
+use Rattle.ped_session.specs.Steps.{Refuses, Shows, ShowsOf, ShowsStatement, Edits, accepted, refused, change_by, Transforms, missing, forbidden, transformed, GoesBack, GoesForward, ShowsAnswer, IsStepOf, IsStep}
+use Rattle.ped_transformations.specs.ped_rules.specs.Steps.{StepAt}
 use Rattle.ped_transformations.specs.ped_rules.specs.Lawful.{IsDetermined}
 use Rattle.ped_transformations.specs.Table.{step_of}
 use Rattle.ped_transformations.specs.Advice.{IsAdvice}
@@ -154,43 +161,27 @@ one_transform at s p q m n lawful (transformed t new keep reads some free makes 
 one_race_row : (data_bytes : List ℕ) (t : ProgramTree) (x y : List ℕ) → IsRaceRow data_bytes t x → IsRaceRow data_bytes t y → x ≡ y
 one_race_row data_bytes t x y a b = a.2 ∙ ap race_row (one_at_most t data_bytes a.0 b.0 a.1 b.1) ∙ sym b.2
 
-one_other : (c : Command) (data_bytes : List ℕ) (s m n : State) (p q : Reply) → IsOther c data_bytes s p m → IsOther c data_bytes s q n → (p ≡ q) × (m ≡ n)
-one_other Source d s m n p q a b = one_shows IsSourcePane one_source_pane s p q m n a b
-one_other (Deps None) d s m n p q a b = one_shows IsDependencePane one_pane s p q m n a b
-one_other (Deps (Some number)) d s m n p q a b = one_statement (λ t. IsDependencePaneOf t (Some number)) (λ t. one_pane_of t (Some number)) number s p q m n a b
-one_other Show d s m n p q a b = one_shows ArePanes one_panes s p q m n a b
-one_other Calls d s m n p q a b = one_shows IsCallsPane one_pane_of_calls s p q m n a b
-one_other Print d s m n p q a b = (a.0 ∙ sym b.0, a.1 ∙ sym b.1)
-one_other (Replace first last lines) d s m n p q a b = one_edit_by (are_lines s.present first last) _ _ _ s p q m n a b
-one_other (Insert after lines) d s m n p q a b = one_edit_by (is_place s.present after) _ _ _ s p q m n a b
-one_other (Delete first last) d s m n p q a b = one_edit_by (are_lines s.present first last) _ _ _ s p q m n a b
-one_other Undo d s m n p q a b = one_back s.past s p q m n a b
-one_other Redo d s m n p q a b = one_forward s.future s p q m n a b
-one_other (Run choices) d s m n p q a b = one_run choices d s p q m n a b
-one_other Races d s m n p q a b = one_shows (IsRaceRow d) (one_race_row d) s p q m n a b
-one_other (Advise number) d s m n p q a b = one_statement (λ t. IsAdvice t number) (λ t. one_advice t number) number s p q m n a b
-one_other (Interchange number) d s m n p q a b = absurd a
-one_other (Reverse number) d s m n p q a b = absurd a
-one_other (Skew number factor) d s m n p q a b = absurd a
-one_other (Strip number size) d s m n p q a b = absurd a
-one_other (Peel number last) d s m n p q a b = absurd a
-one_other (Distribute number) d s m n p q a b = absurd a
-one_other (Fuse number) d s m n p q a b = absurd a
-one_other (Inline number) d s m n p q a b = absurd a
-one_other (Expand number name) d s m n p q a b = absurd a
-one_other (Privatise number name) d s m n p q a b = absurd a
-one_other (Reduce number names) d s m n p q a b = absurd a
-one_other (Parallel number) d s m n p q a b = absurd a
-one_other (Serial number) d s m n p q a b = absurd a
-one_other (Reject number name) d s m n p q a b = absurd a
-one_other Auto d s m n p q a b = absurd a
-one_other Tested d s m n p q a b = (a.0 ∙ sym b.0, a.1 ∙ sym b.1)
+one_answer : (query : Query) (s m n : State) (p q : Reply) → ShowsAnswer query s p m → ShowsAnswer query s q n → (p ≡ q) × (m ≡ n)
+one_answer Source s m n p q a b = one_shows IsSourcePane one_source_pane s p q m n a b
+one_answer (Deps None) s m n p q a b = one_shows IsDependencePane one_pane s p q m n a b
+one_answer (Deps (Some number)) s m n p q a b = one_statement (λ t. IsDependencePaneOf t (Some number)) (λ t. one_pane_of t (Some number)) number s p q m n a b
+one_answer Show s m n p q a b = one_shows ArePanes one_panes s p q m n a b
+one_answer Calls s m n p q a b = one_shows IsCallsPane one_pane_of_calls s p q m n a b
+one_answer Print s m n p q a b = (a.0 ∙ sym b.0, a.1 ∙ sym b.1)
+one_answer (Advise number) s m n p q a b = one_statement (λ t. IsAdvice t number) (λ t. one_advice t number) number s p q m n a b
+one_answer Tested s m n p q a b = (a.0 ∙ sym b.0, a.1 ∙ sym b.1)
 
-one_by : (c : Command) (step : MaybeStep) (d : List ℕ) (s m n : State) (p q : Reply) → MatchStep step ⊤ IsDetermined
-    → MatchStep step (IsOther c d s p m) (λ at. Transforms at s p m) → MatchStep step (IsOther c d s q n) (λ at. Transforms at s q n) → (p ≡ q) × (m ≡ n)
-one_by c no_step d s m n p q lawful a b = one_other c d s m n p q a b
-one_by c (some_step at) d s m n p q lawful a b = one_transform at s p q m n lawful a b
+one_of_kind : (k : CommandKind) (d : List ℕ) (s m n : State) (p q : Reply) → IsStepOf k d s p m → IsStepOf k d s q n → (p ≡ q) × (m ≡ n)
+one_of_kind (kind.Ask query) d s m n p q a b = one_answer query s m n p q a b
+one_of_kind (kind.Edit (Replace first last lines)) d s m n p q a b = one_edit_by (are_lines s.present first last) _ _ _ s p q m n a b
+one_of_kind (kind.Edit (Insert after lines)) d s m n p q a b = one_edit_by (is_place s.present after) _ _ _ s p q m n a b
+one_of_kind (kind.Step command) d s m n p q a b = one_transform (step_of command) s p q m n (determined_step command.statement command.step) a b
+one_of_kind kind.Auto d s m n p q a b = absurd a
+one_of_kind (kind.Move Undo) d s m n p q a b = one_back s.past s p q m n a b
+one_of_kind (kind.Move Redo) d s m n p q a b = one_forward s.future s p q m n a b
+one_of_kind (kind.Run (Run choices)) d s m n p q a b = one_run choices d s p q m n a b
+one_of_kind (kind.Run Races) d s m n p q a b = one_shows (IsRaceRow d) (one_race_row d) s p q m n a b
 
 -- a command has one reply, and leads to one state
 pub one : (c : Command) (data_bytes : List ℕ) (s m n : State) (p q : Reply) → IsStep c data_bytes s p m → IsStep c data_bytes s q n → (p ≡ q) × (m ≡ n)
-one c d s m n p q a b = one_by c (step_of c) d s m n p q (determined_step c) a b
+one c d s m n p q a b = one_of_kind (kind_of c) d s m n p q a b

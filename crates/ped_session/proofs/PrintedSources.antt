@@ -4,11 +4,14 @@ use Rattle.std.proofs.lemmas.List.Elements.{All-nil, All-cons, All-head, All-tai
 use Rattle.ped_tree.specs.Tree.{ProgramTree}
 use Rattle.ped_transformations.specs.ped_symbols.specs.NameRefusals.{IsValid}
 use Rattle.ped_script.specs.declared.items.Command.{Command}
+use Rattle.ped_script.specs.declared.kinds.CommandKind.{CommandKind}
+use Rattle.ped_script.specs.Kinds.{kind_of}
 use Rattle.ped_script.specs.declared.items.Item.{Item}
 use Rattle.ped_session.specs.declared.replies.Reply.{Reply}
 use Rattle.ped_session.specs.declared.replies.Reply.TheVariants.{Changed}
 use Rattle.ped_session.specs.States.{Other, State, opened}
 use Rattle.ped_transformations.specs.ped_rules.specs.Steps.{StepAt}
+use Rattle.ped_transformations.specs.Table.{step_of}
 use Rattle.ped_session.specs.Steps.{Edits, accepted, refused, Transforms, missing, forbidden, transformed, GoesBack, GoesForward, IsStep}
 use Rattle.ped_session.specs.Scripts.{Said, AnswersCommand, AnswersItems}
 use Rattle.ped_session.specs.Histories.{IsPrinted, ArePrinted}
@@ -44,16 +47,16 @@ forward_prints : (future : List Other) (s next : State) (reply : Reply) → AreP
 forward_prints [] s next reply a all h = same s next a h.1
 forward_prints (o ∷ future) s next reply a all h = subst ArePrinted (sym h.1) (record { past = All-cons IsPrintedOther _ _ a.present a.past; present = All-head IsPrintedOther _ _ all; future = All-tail IsPrintedOther _ _ all })
 
-prints_by : (c : Command) (s next : State) (reply : Reply) → ArePrinted s → Does c s reply next → ArePrinted next
-prints_by c s next reply a (by_nothing changed is) = same s next a is
-prints_by c s next reply a (by_edit kept gone text h) = edit_prints kept gone text s next reply a h
-prints_by c s next reply a (by_step at lawful h) = step_prints at s next reply a h
-prints_by c s next reply a (by_undo is h) = back_prints s.past s next reply a a.past h
-prints_by c s next reply a (by_redo is h) = forward_prints s.future s next reply a a.future h
+prints_by : (k : CommandKind) (s next : State) (reply : Reply) → ArePrinted s → Does k s reply next → ArePrinted next
+prints_by k s next reply a (by_nothing changed is) = same s next a is
+prints_by k s next reply a (by_edit kept gone text h) = edit_prints kept gone text s next reply a h
+prints_by k s next reply a (by_step command h) = step_prints (step_of command) s next reply a h
+prints_by k s next reply a (by_undo is h) = back_prints s.past s next reply a a.past h
+prints_by k s next reply a (by_redo is h) = forward_prints s.future s next reply a a.future h
 
 -- a command keeps it
 pub command_prints_all : (c : Command) (data_bytes : List ℕ) (s next : State) (reply : Reply) → ArePrinted s → IsStep c data_bytes s reply next → ArePrinted next
-command_prints_all c d s next reply a h = prints_by c s next reply a (does c d s next reply h)
+command_prints_all c d s next reply a h = prints_by (kind_of c) s next reply a (does (kind_of c) d s next reply h)
 
 -- so does `auto`
 auto_prints : (s next : State) (report : Report) (tests : ℕ) → ArePrinted s → IsAuto session_editing s report next tests → ArePrinted next

@@ -1,10 +1,13 @@
 -- A refused command leaves the session as it was.
 use Rattle.std.proofs.Common.{◌≡◌, ℕ, List, [], ◌∷◌}
 use Rattle.ped_script.specs.declared.items.Command.{Command}
+use Rattle.ped_script.specs.declared.kinds.CommandKind.{CommandKind}
+use Rattle.ped_script.specs.Kinds.{kind_of}
 use Rattle.ped_session.specs.declared.replies.Refusal.{Refusal}
 use Rattle.ped_session.specs.declared.replies.Reply.TheVariants.{Refused}
 use Rattle.ped_session.specs.States.{Other, State}
 use Rattle.ped_transformations.specs.ped_rules.specs.Steps.{StepAt}
+use Rattle.ped_transformations.specs.Table.{step_of}
 use Rattle.ped_session.specs.Steps.{Edits, accepted, refused, Transforms, missing, forbidden, transformed, GoesBack, GoesForward, IsStep}
 use Rattle.ped_session.proofs.Doing.{Does, by_nothing, by_edit, by_step, by_undo, by_redo, no_refusal, does}
 
@@ -25,12 +28,12 @@ forward_stays : (future : List Other) (s next : State) (why : Refusal) → GoesF
 forward_stays [] s next why h = h.1
 forward_stays (other ∷ future) s next why h = absurd (no_refusal why h.0)
 
-stays_by : (c : Command) (s next : State) (why : Refusal) → Does c s (Refused why) next → next ≡ s
-stays_by c s next why (by_nothing same is) = is
-stays_by c s next why (by_edit kept gone text h) = edit_stays kept gone text s next why h
-stays_by c s next why (by_step at lawful h) = step_stays at s next why h
-stays_by c s next why (by_undo is h) = back_stays s.past s next why h
-stays_by c s next why (by_redo is h) = forward_stays s.future s next why h
+stays_by : (k : CommandKind) (s next : State) (why : Refusal) → Does k s (Refused why) next → next ≡ s
+stays_by k s next why (by_nothing same is) = is
+stays_by k s next why (by_edit kept gone text h) = edit_stays kept gone text s next why h
+stays_by k s next why (by_step command h) = step_stays (step_of command) s next why h
+stays_by k s next why (by_undo is h) = back_stays s.past s next why h
+stays_by k s next why (by_redo is h) = forward_stays s.future s next why h
 
 pub stays : (c : Command) (data_bytes : List ℕ) (s next : State) (why : Refusal) → IsStep c data_bytes s (Refused why) next → next ≡ s
-stays c d s next why h = stays_by c s next why (does c d s next (Refused why) h)
+stays c d s next why h = stays_by (kind_of c) s next why (does (kind_of c) d s next (Refused why) h)

@@ -1,15 +1,17 @@
 -- What is shown of the present program of a session.
-use Rattle.std.proofs.Common.{◌≡◌, ℕ, ◌+◌, List, refl, ap, true, false, Option, Some, None, is_some, arith}
+use Rattle.std.proofs.Common.{◌≡◌, ℕ, List, refl, ap, true, false, Option, Some, None, is_some}
 use Rattle.ped_tree.specs.Tree.{StmtTree, ProgramTree}
 use Rattle.ped_tree.specs.Numbering.{statement_with}
-use Rattle.ped_transformations.specs.ped_graph.specs.DependencePane.{IsDependencePane, IsDependencePaneOf}
-use Rattle.ped_script.specs.declared.items.Command.TheVariants.{Deps}
+use Rattle.ped_transformations.specs.ped_graph.specs.DependencePane.{IsDependencePaneOf}
+use Rattle.ped_transformations.specs.Advice.{IsAdvice}
+use Rattle.ped_script.specs.declared.kinds.Query.{Query}
+use Rattle.ped_script.specs.declared.kinds.Query.TheVariants.{Source, Deps, Show, Calls, Print, Advise, Tested}
 use Rattle.ped_session.specs.declared.versions.Version.{Version}
 use Rattle.ped_session.specs.declared.replies.Refusal.TheVariants.{NoSuchStatement}
 use Rattle.ped_session.specs.declared.replies.Reply.{Reply}
 use Rattle.ped_session.specs.declared.replies.Reply.TheVariants.{Shown, Refused}
 use Rattle.ped_session.specs.States.{State}
-use Rattle.ped_session.specs.Steps.{Shows, ShowsOf, ShowsStatement, IsStep}
+use Rattle.ped_session.specs.Steps.{Shows, ShowsOf, ShowsStatement, ShowsAnswer}
 use Rattle.ped_session.specs.Scripts.{tests_of}
 use Rattle.ped_session.specs.Holding.{tree_of, IsVersion}
 use Rattle.ped_session.proofs.PresentProgram.{reads_version}
@@ -51,15 +53,12 @@ untested_by : (IsSo : ProgramTree → List ℕ → Type 0) (o : Option StmtTree)
 untested_by IsSo None s next reply last refuses = ap (λ (r : Reply). tests_of r last) refuses.0
 untested_by IsSo (Some x) s next reply last shows = untested_shows IsSo s next reply last shows
 
-pub untested_statement : (IsSo : ProgramTree → List ℕ → Type 0) (number : ℕ) (s next : State) (reply : Reply) (last : State) (before : ℕ)
-    → ShowsStatement IsSo number s reply next → before ≡ before + tests_of reply last
-untested_statement IsSo number s next reply last before shows =
-    let none = untested_by IsSo (statement_with number shows.tree) s next reply last shows.shows in
-    omega arith
-
-pub untested_dependences : (of : Option ℕ) (data_bytes : List ℕ) (s next : State) (reply : Reply) (last : State) (before : ℕ)
-    → IsStep (Deps of) data_bytes s reply next → before ≡ before + tests_of reply last
-untested_dependences None data_bytes s next reply last before shows =
-    let none = untested_shows IsDependencePane s next reply last shows in
-    omega arith
-untested_dependences (Some number) data_bytes s next reply last before shows = untested_statement (λ t. IsDependencePaneOf t (Some number)) number s next reply last before shows
+pub untested_answer : (query : Query) (s next : State) (reply : Reply) (last : State) → ShowsAnswer query s reply next → tests_of reply last ≡ 0
+untested_answer Source s next reply last h = untested_shows _ s next reply last h
+untested_answer (Deps None) s next reply last h = untested_shows _ s next reply last h
+untested_answer (Deps (Some number)) s next reply last h = untested_by (λ t. IsDependencePaneOf t (Some number)) (statement_with number h.tree) s next reply last h.shows
+untested_answer Show s next reply last h = untested_shows _ s next reply last h
+untested_answer Calls s next reply last h = untested_shows _ s next reply last h
+untested_answer Print s next reply last h = ap (λ (r : Reply). tests_of r last) h.0
+untested_answer (Advise number) s next reply last h = untested_by (λ t. IsAdvice t number) (statement_with number h.tree) s next reply last h.shows
+untested_answer Tested s next reply last h = ap (λ (r : Reply). tests_of r last) h.0

@@ -20,12 +20,15 @@ use Rattle.ped_session.specs.States.{State, changed_to}
 use Rattle.ped_session.specs.Holding.{tree_of, IsVersion}
 use Rattle.ped_transformations.specs.ped_rules.specs.Steps.{StepAt, Answers}
 use Rattle.ped_transformations.specs.ped_rules.specs.Lawful.{IsLawful}
+use Rattle.ped_transformations.specs.Table.{step_of}
+use Rattle.ped_transformations.proofs.LawfulTable.{AllLawful}
+use Rattle.ped_script.specs.declared.kinds.StepCommand.{StepCommand}
 use Rattle.ped_session.specs.Steps.{change_by, Transforms, missing, forbidden, transformed}
 use Rattle.ped_session.specs.Changing.{IsStepAnswer, IsTakeable, Takes, most_tests}
 use Rattle.ped_session.specs.Scripts.{tests_of}
 use Rattle.ped_session.proofs.PresentProgram.{reads_version, only_version}
 use Rattle.ped_session.proofs.OneStep.{one_tree, none_and_some, no_cause}
-use Rattle.ped_session.proofs.KeptMeanings.{kept_by}
+use Rattle.ped_session.proofs.KeptMeanings.{kept_by_step}
 
 made : (at : StepAt) (t new : ProgramTree) (keep : List (ℕ × ℕ)) (change : step.Change) → at.Makes t new keep → IsChange new keep change → at.Makes t (program_tree change.tree) change.keep
 made at t new keep change makes is =
@@ -38,18 +41,19 @@ answered at v s is text (Ok change) h =
 answered at v s is text (Err why) h = (tree_of v, reads_version v is s.present text, h.0)
 
 -- it can be taken
-pub takeable : (at : StepAt) (v : Version) (s : State) → IsVersion v → v.text ≡ s.present → IsLawful at → (answer : Result step.Change Refused) → Answers at (tree_of v) answer → IsTakeable (change_by at.kind) s answer
-takeable at v s is text lawful (Ok change) h =
+pub takeable : AllLawful → (command : StepCommand) (v : Version) (s : State) → IsVersion v → v.text ≡ s.present → (answer : Result step.Change Refused) → Answers (step_of command) (tree_of v) answer
+    → IsTakeable (change_by (step_of command).kind) s answer
+takeable all command v s is text (Ok change) h =
     let t = tree_of v in
     let new = program_tree change.tree in
-    let makes = made at t h.1 h.2 change h.3 h.4 in
+    let makes = made (step_of command) t h.1 h.2 change h.3 h.4 in
     let valid : IsValid new = subst IsValid (sym h.4.tree) h.4.valid in (
       valid,
       h.4.symbols ∙ ap table_of (sym h.4.tree),
-      lawful.one_to_one t new change.keep makes,
-      kept_by at.kind s.present t new (reads_version v is s.present text) valid (lawful.keeps t new change.keep is.valid h.0 makes),
+      (all command).one_to_one t new change.keep makes,
+      kept_by_step all command s.present t new change.keep (reads_version v is s.present text) is.valid valid h.0 makes,
     )
-takeable at v s is text lawful (Err why) h = h.1
+takeable all command v s is text (Err why) h = h.1
 
 -- the program of a version has no such statement
 pub is_missing : (at : StepAt) (v : Version) (s : State) → IsVersion v → v.text ≡ s.present → is_some (statement_with at.statement (tree_of v)) ≡ false

@@ -1,5 +1,5 @@
 -- A session keeps what is true of every editor (ParaScope; this project).
-use Rattle.std.specs.Prelude.{◌≡◌, ℕ, ◌≤◌, ◌<◌, List, length, Option, Some, None, true, is_some, ⊤}
+use Rattle.std.specs.Prelude.{◌≡◌, ℕ, ◌≤◌, ◌<◌, List, length, Option, Some, None, true, is_some, MatchOption, ⊤}
 use Rattle.std.proofs.Common.{◌⊎◌, inl, inr, refl, sym, ap, subst, ◌∙◌}
 use Rattle.ped_tree.specs.Tree.{ProgramTree}
 use Rattle.ped_tree.specs.Numbering.{statement_with}
@@ -10,15 +10,16 @@ use Rattle.ped_valid.specs.Validity.{ReadsValid}
 use Rattle.ped_valid.proofs.OneVerdict.{one_of_both, valid_prints}
 use Rattle.ped_transformations.specs.ped_graph.specs.Update.Fresh.{tested_pairs}
 use Rattle.ped_transformations.specs.ped_steps.specs.Causes.{Cause}
-use Rattle.ped_transformations.specs.ped_rules.specs.Steps.{StepAt, MaybeStep, no_step, some_step, MatchStep}
+use Rattle.ped_transformations.specs.ped_rules.specs.Steps.{StepAt}
 use Rattle.ped_transformations.specs.ped_rules.specs.Lawful.{IsDetermined}
 use Rattle.ped_transformations.specs.ped_auto.specs.SerialLoops.{count_of, serial_loops}
 use Rattle.ped_transformations.specs.ped_auto.specs.Editing.{IsOfStrategy, IsEditing}
 use Rattle.ped_transformations.specs.Table.{step_of}
 use Rattle.ped_transformations.proofs.LawfulTable.{determined_step}
-use Rattle.ped_transformations.proofs.Growing.{step_grows, parallel_falls}
-use Rattle.ped_script.specs.declared.items.Command.{Command}
+use Rattle.ped_transformations.proofs.Growing.{Grows, step_grows, parallel_falls}
 use Rattle.ped_script.specs.declared.items.Command.TheVariants.{Parallel}
+use Rattle.ped_script.specs.declared.kinds.StepCommand.{StepCommand}
+use Rattle.ped_script.specs.Kinds.{step_in}
 use Rattle.ped_session.specs.declared.replies.Refusal.{Refusal}
 use Rattle.ped_session.specs.declared.replies.Refusal.TheVariants.{Step}
 use Rattle.ped_session.specs.declared.replies.Reply.{Reply}
@@ -100,18 +101,21 @@ taken_or_refused : (at : StepAt) → IsDetermined at → (s next : State) (c : C
 taken_or_refused at one s next c a b =
     no_cause c (one.one_cause a.tree (Some c) None (subst (λ (v : ProgramTree). at.IsCause v (Some c)) (one_program s.present b.tree a.tree b.reads a.reads) b.is) a.free)
 
+determined : (command : StepCommand) → IsDetermined (step_of command)
+determined command = determined_step command.statement command.step
+
 -- so does a command
-next_by : (step : MaybeStep) → MatchStep step ⊤ IsDetermined → (s m n : State) → MatchStep step ⊥ (TransformsTo s Changed m) → MatchStep step ⊥ (TransformsTo s Changed n) → m ≡ n
-next_by no_step one s m n a b = absurd a
-next_by (some_step at) one s m n a b = one_taken at one s m n (taken at s m a.1) (taken at s n b.1)
+next_by : (o : Option StepCommand) (s m n : State) → MatchOption o ⊥ (TransformsTo s Changed m) → MatchOption o ⊥ (TransformsTo s Changed n) → m ≡ n
+next_by None s m n a b = absurd a
+next_by (Some c) s m n a b = let at = step_of c in one_taken at (determined c) s m n (taken at s m a.1) (taken at s n b.1)
 
-cause_by : (step : MaybeStep) → MatchStep step ⊤ IsDetermined → (s : State) (c d : Cause) → MatchStep step ⊥ (TransformsTo s (Refused (Step c)) s) → MatchStep step ⊥ (TransformsTo s (Refused (Step d)) s) → c ≡ d
-cause_by no_step one s c d a b = absurd a
-cause_by (some_step at) one s c d a b = one_refused at one s c d (refused_for at s s c a.1) (refused_for at s s d b.1)
+cause_by : (o : Option StepCommand) (s : State) (x y : Cause) → MatchOption o ⊥ (TransformsTo s (Refused (Step x)) s) → MatchOption o ⊥ (TransformsTo s (Refused (Step y)) s) → x ≡ y
+cause_by None s x y a b = absurd a
+cause_by (Some c) s x y a b = let at = step_of c in one_refused at (determined c) s x y (refused_for at s s x a.1) (refused_for at s s y b.1)
 
-either_by : (step : MaybeStep) → MatchStep step ⊤ IsDetermined → (s next : State) (c : Cause) → MatchStep step ⊥ (TransformsTo s Changed next) → MatchStep step ⊥ (TransformsTo s (Refused (Step c)) s) → ⊥
-either_by no_step one s next c a b = a
-either_by (some_step at) one s next c a b = taken_or_refused at one s next c (taken at s next a.1) (refused_for at s s c b.1)
+either_by : (o : Option StepCommand) (s next : State) (x : Cause) → MatchOption o ⊥ (TransformsTo s Changed next) → MatchOption o ⊥ (TransformsTo s (Refused (Step x)) s) → ⊥
+either_by None s next x a b = a
+either_by (Some c) s next x a b = let at = step_of c in taken_or_refused at (determined c) s next x (taken at s next a.1) (refused_for at s s x b.1)
 
 -- the source after an accepted step reads as the program that the step makes
 reads_new : (at : StepAt) (s next : State) (a : IsTaken at s next) → ReadsValid next.present a.new
@@ -119,10 +123,11 @@ reads_new at s next a =
     subst (λ (text : List ℕ). ReadsValid text a.new) (sym (ap (λ (n : State). n.present) a.next_is)) ((valid_prints a.new a.valid a.new).1 refl)
 
 -- it has no fewer statements
-grows_by : (step : MaybeStep) → MatchStep step ⊤ (λ at. (t new : ProgramTree) (keep : List (ℕ × ℕ)) → is_some (statement_with at.statement t) ≡ true → at.IsCause t None → at.Makes t new keep → count_of t ≤ count_of new)
-    → (s next : State) (t : ProgramTree) → MatchStep step ⊥ (TransformsTo s Changed next) → ReadsValid s.present t → (u : ProgramTree) × ReadsValid next.present u × (count_of t ≤ count_of u)
-grows_by no_step grow s next t h reads = absurd h
-grows_by (some_step at) grow s next t h reads =
+grows_by : (o : Option StepCommand) → MatchOption o ⊤ (λ c. Grows (step_of c)) → (s next : State) (t : ProgramTree) → MatchOption o ⊥ (TransformsTo s Changed next) → ReadsValid s.present t
+    → (u : ProgramTree) × ReadsValid next.present u × (count_of t ≤ count_of u)
+grows_by None grow s next t h reads = absurd h
+grows_by (Some c) grow s next t h reads =
+    let at = step_of c in
     let a = taken at s next h.1 in (
       a.new,
       reads_new at s next a,
@@ -141,9 +146,9 @@ pub session_laws : IsEditing session_editing
 session_laws = record {
   one_program = λ s t u p q. one_program s.present t u p q;
   small = λ s t reads. (right_program t reads.valid).few_statements;
-  one_next = λ s c next other m n p q. let same = next_by (step_of c) (determined_step c) s next other p.0 q.0 in (same, p.1 ∙ ap (λ (z : State). z.tested) same ∙ sym q.1);
-  one_cause = λ s c a b p q. cause_by (step_of c) (determined_step c) s a b p q;
-  not_both = λ s c next n why p q. either_by (step_of c) (determined_step c) s next why p.0 q;
-  grows = λ s c next n t is p reads. grows_by (step_of c) (step_grows c is) s next t p.0 reads;
+  one_next = λ s c next other m n p q. let same = next_by (step_in c) s next other p.0 q.0 in (same, p.1 ∙ ap (λ (z : State). z.tested) same ∙ sym q.1);
+  one_cause = λ s c a b p q. cause_by (step_in c) s a b p q;
+  not_both = λ s c next n why p q. either_by (step_in c) s next why p.0 q;
+  grows = λ s c next n t is p reads. grows_by (step_in c) (step_grows c is) s next t p.0 reads;
   falls = λ s number next n t u p reads after. falls number s next t u p.0 reads after;
 }

@@ -18,10 +18,8 @@ use Rattle.ped_session.specs.declared.replies.Reply.TheVariants.{Changed}
 use Rattle.ped_session.specs.States.{State, changed_to}
 use Rattle.ped_session.specs.Splices.{edit_keep}
 use Rattle.ped_session.specs.Meanings.{IsKept}
-use Rattle.ped_transformations.specs.ped_rules.specs.Steps.{StepAt, MatchStep}
-use Rattle.ped_transformations.specs.Table.{step_of}
-use Rattle.ped_script.specs.declared.items.Command.{Command}
-use Rattle.ped_session.specs.Steps.{Refuses, change_by}
+use Rattle.ped_transformations.specs.ped_rules.specs.Steps.{StepAt}
+use Rattle.ped_session.specs.Steps.{Refuses}
 
 -- the printed text of a program has become the present source by a change that keeps these statements
 abbrev pub Changes : ProgramTree → List (ℕ × ℕ) → ChangeKind → State → Reply → State → Type 0
@@ -49,10 +47,6 @@ IsTakeable kind s (Err why) = IsShort why
 abbrev pub Takes : ChangeKind → Result step.Change Refused → State → Reply → State → Type 0
 Takes kind (Ok change) s reply next = Changes (program_tree change.tree) change.keep kind s reply next
 Takes kind (Err why) s reply next = Refuses (refusal.Step (cause_of why)) s reply next
-
--- what the step of a command answers, and how the history takes it down, where the command has a step
-abbrev pub IsAnswerTo : Command → ChangeKind → State → Result step.Change Refused → Type 0
-IsAnswerTo command kind s answer = MatchStep (step_of command) ⊥ (λ at. (change_by at.kind ≡ kind) × IsStepAnswer at s answer)
 
 -- how many pairs may be tested at the most where what a step answers is taken in a session whose present program is this
 abbrev pub most_tests : Result step.Change Refused → ProgramTree → ℕ

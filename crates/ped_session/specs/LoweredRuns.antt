@@ -1,5 +1,5 @@
 -- Runs of programs with lists of sums: what runs is what the program is lowered to (Allen and Kennedy, section 5.6; this project).
-use Rattle.std.specs.Prelude.{◌≡◌, ℕ, List, ◌∷◌, false, slice_index_or}
+use Rattle.std.specs.Prelude.{◌≡◌, ℕ, List, [], ◌∷◌, false, slice_index_or}
 use Rattle.ped_tree.specs.Tree.{ProgramTree}
 use Rattle.ped_eval.specs.Outcomes.{Outcome, Ended, Fault, outcome}
 use Rattle.ped_transformations.specs.ped_flow.specs.Questions.{LoopOf}
@@ -11,6 +11,10 @@ use Rattle.ped_transformations.specs.ped_reduce.specs.Reducing.{IsLowered}
 -- no DO of a program has a list of sums
 abbrev pub HasNoList : ProgramTree → Type 0
 HasNoList t = (s : ℕ) (l : LoopOf t s) → has_list l.head l.body ≡ false
+
+-- no list of sums in a program is live (Allen and Kennedy, section 5.6; this project)
+abbrev pub HasNoLiveList : ProgramTree → Type 0
+HasNoLiveList t = (q : Lowered) → IsLowered t q → q.live ≡ []
 
 -- the number of the statement from which a statement of a lowered program comes, by the numbers for all its statements, the first of which has the number 1; a number that no statement has is left as it is (this project)
 abbrev pub origin_at : List ℕ → ℕ → ℕ

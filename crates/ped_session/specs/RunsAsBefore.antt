@@ -7,7 +7,7 @@ use Rattle.ped_session.specs.States.{State}
 use Rattle.ped_session.specs.Meanings.{IsMeaningKept, ShowsAsBefore}
 use Rattle.ped_session.specs.Scripts.{Said, nothing_said, said_both, AnswersItem}
 
--- where a command is `run`, with whatever choices, it shows what each program shows from which the present one has come by transformations alone, if that one is tidy and without C$PED REJECT and runs without a fault and without a race (ParaScope; this project)
+-- where a command is `run`, with whatever choices, it shows what each program shows from which the present one has come by transformations alone, if that one is tidy and without C$PED REJECT and runs without a fault and without a race, or, where no list of sums of the present program is live, if that one so runs, and all programs on the way are tidy and their C$PED REJECT lines are true on the data (ParaScope; this project)
 abbrev pub RunsAsBefore : Option Command → List ℕ → State → Said → Type 0
 RunsAsBefore command data_bytes s said = (choices : List ℕ) → command ≡ Some (Run choices) → ShowsAsBefore s data_bytes said.bytes
 

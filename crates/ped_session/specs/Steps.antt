@@ -1,5 +1,5 @@
 -- What a command does: its reply, and the state of the session after it (ParaScope; this project).
-use Rattle.std.specs.Prelude.{◌≡◌, ◌⊎◌, ℕ, ◌-◌, ◌+◌, List, [], ◌∷◌, true, false, Option, Some, None, MatchBool, is_some}
+use Rattle.std.specs.Prelude.{◌≡◌, ℕ, ◌-◌, ◌+◌, List, [], ◌∷◌, true, false, Option, Some, None, MatchBool, is_some}
 use Rattle.ped_tree.specs.Tree.{StmtTree, ProgramTree}
 use Rattle.ped_tree.specs.Printing.{program_text}
 use Rattle.ped_tree.specs.Numbering.{statement_with}
@@ -11,7 +11,17 @@ use Rattle.ped_transformations.specs.ped_graph.specs.DependencePane.{IsDependenc
 use Rattle.ped_transformations.specs.ped_graph.specs.Update.Fresh.{tested_pairs}
 use Rattle.ped_transformations.specs.ped_steps.specs.Causes.{Cause}
 use Rattle.ped_script.specs.declared.items.Command.{Command}
-use Rattle.ped_script.specs.declared.items.Command.TheVariants.{Source, Deps, Show, Calls, Print, Advise, Replace, Insert, Delete, Undo, Redo, Run, Races, Tested}
+use Rattle.ped_script.specs.declared.kinds.Query.{Query}
+use Rattle.ped_script.specs.declared.kinds.Query.TheVariants.{Source, Deps, Show, Calls, Print, Advise, Tested}
+use Rattle.ped_script.specs.declared.kinds.LineEdit.{LineEdit}
+use Rattle.ped_script.specs.declared.kinds.LineEdit.TheVariants.{Replace, Insert}
+use Rattle.ped_script.specs.declared.kinds.HistoryMove.{HistoryMove}
+use Rattle.ped_script.specs.declared.kinds.HistoryMove.TheVariants.{Undo, Redo}
+use Rattle.ped_script.specs.declared.kinds.ProgramRun.{ProgramRun}
+use Rattle.ped_script.specs.declared.kinds.ProgramRun.TheVariants.{Run, Races}
+use Rattle.ped_script.specs.declared.kinds.CommandKind.{CommandKind}
+use Rattle.ped_script.specs.declared.kinds.CommandKind.TheVariants as kind
+use Rattle.ped_script.specs.Kinds.{kind_of}
 use Rattle.ped_session.specs.declared.changes.ChangeKind.{ChangeKind}
 use Rattle.ped_session.specs.declared.changes.ChangeKind.TheVariants.{Edit, Rejection, Transformation}
 use Rattle.ped_session.specs.declared.replies.Refusal.TheVariants.{BadEdit, Step, NothingToUndo, NothingToRedo, NoSuchStatement, NoSuchLine}
@@ -23,7 +33,7 @@ use Rattle.ped_session.specs.Splices.{spliced, are_lines, is_place, edit_keep}
 use Rattle.ped_session.specs.Panes.{IsSourcePane, ArePanes, tested_row}
 use Rattle.ped_session.specs.OutcomeTexts.{IsRunText}
 use Rattle.ped_session.specs.RaceRows.{IsRaceRow}
-use Rattle.ped_transformations.specs.ped_rules.specs.Steps.{StepKind, transformation, rejection, StepAt, MatchStep}
+use Rattle.ped_transformations.specs.ped_rules.specs.Steps.{StepKind, transformation, rejection, StepAt}
 use Rattle.ped_transformations.specs.ped_inline.specs.CallsPane.{IsCallsPane}
 use Rattle.ped_transformations.specs.Table.{step_of}
 use Rattle.ped_transformations.specs.Advice.{IsAdvice}
@@ -93,29 +103,41 @@ abbrev pub GoesForward : List Other → State → Reply → State → Type 0
 GoesForward [] s reply next = Refuses NothingToRedo s reply next
 GoesForward (other ∷ future) s reply next = (reply ≡ Changed) × (next ≡ gone_forward_to other future s)
 
--- what a command that takes no step does to a session whose programs are run on these data; one that takes a step does nothing else
-abbrev pub IsOther : Command → List ℕ → State → Reply → State → Type 0
-IsOther Source data_bytes s reply next = Shows IsSourcePane s reply next
-IsOther (Deps None) data_bytes s reply next = Shows IsDependencePane s reply next
-IsOther (Deps (Some number)) data_bytes s reply next = ShowsStatement (λ t. IsDependencePaneOf t (Some number)) number s reply next
-IsOther Show data_bytes s reply next = Shows ArePanes s reply next
-IsOther Calls data_bytes s reply next = Shows IsCallsPane s reply next
-IsOther Print data_bytes s reply next = Prints s.present s reply next
-IsOther (Advise number) data_bytes s reply next = ShowsStatement (λ t. IsAdvice t number) number s reply next
-IsOther (Replace first last lines) data_bytes s reply next = Replaces first last lines s reply next
-IsOther (Insert after lines) data_bytes s reply next = Inserts after lines s reply next
-IsOther (Delete first last) data_bytes s reply next = Replaces first last [] s reply next
-IsOther Undo data_bytes s reply next = GoesBack s.past s reply next
-IsOther Redo data_bytes s reply next = GoesForward s.future s reply next
-IsOther (Run choices) data_bytes s reply next = Shows (IsRunText choices data_bytes) s reply next
-IsOther Races data_bytes s reply next = Shows (IsRaceRow data_bytes) s reply next
-IsOther Tested data_bytes s reply next = Prints (tested_row s.tested) s reply next
-IsOther command data_bytes s reply next = ⊥
+-- what is asked for is shown
+abbrev pub ShowsAnswer : Query → State → Reply → State → Type 0
+ShowsAnswer Source s reply next = Shows IsSourcePane s reply next
+ShowsAnswer (Deps None) s reply next = Shows IsDependencePane s reply next
+ShowsAnswer (Deps (Some number)) s reply next = ShowsStatement (λ t. IsDependencePaneOf t (Some number)) number s reply next
+ShowsAnswer Show s reply next = Shows ArePanes s reply next
+ShowsAnswer Calls s reply next = Shows IsCallsPane s reply next
+ShowsAnswer Print s reply next = Prints s.present s reply next
+ShowsAnswer (Advise number) s reply next = ShowsStatement (λ t. IsAdvice t number) number s reply next
+ShowsAnswer Tested s reply next = Prints (tested_row s.tested) s reply next
 
--- what a command does to a session whose programs are run on these data: it takes its step, where it has one in the table of the steps. `auto`, which takes several, is no step
+-- the source is edited
+abbrev pub EditsLines : LineEdit → State → Reply → State → Type 0
+EditsLines (Replace first last lines) s reply next = Replaces first last lines s reply next
+EditsLines (Insert after lines) s reply next = Inserts after lines s reply next
+
+-- one step along the history
+abbrev pub GoesAlong : HistoryMove → State → Reply → State → Type 0
+GoesAlong Undo s reply next = GoesBack s.past s reply next
+GoesAlong Redo s reply next = GoesForward s.future s reply next
+
+-- the present program is run on these data
+abbrev pub ShowsRun : ProgramRun → List ℕ → State → Reply → State → Type 0
+ShowsRun (Run choices) data_bytes s reply next = Shows (IsRunText choices data_bytes) s reply next
+ShowsRun Races data_bytes s reply next = Shows (IsRaceRow data_bytes) s reply next
+
+-- what a command of a kind does to a session whose programs are run on these data. `auto` takes several steps, and is none
+abbrev pub IsStepOf : CommandKind → List ℕ → State → Reply → State → Type 0
+IsStepOf (kind.Ask query) data_bytes s reply next = ShowsAnswer query s reply next
+IsStepOf (kind.Edit edit) data_bytes s reply next = EditsLines edit s reply next
+IsStepOf (kind.Step command) data_bytes s reply next = Transforms (step_of command) s reply next
+IsStepOf kind.Auto data_bytes s reply next = ⊥
+IsStepOf (kind.Move way) data_bytes s reply next = GoesAlong way s reply next
+IsStepOf (kind.Run run) data_bytes s reply next = ShowsRun run data_bytes s reply next
+
+-- what a command does to a session whose programs are run on these data
 abbrev pub IsStep : Command → List ℕ → State → Reply → State → Type 0
-IsStep command data_bytes s reply next = MatchStep (step_of command) (IsOther command data_bytes s reply next) (λ at. Transforms at s reply next)
-
--- `undo` and `redo` move along the history
-abbrev pub IsMove : Command → Type 0
-IsMove command = (command ≡ Undo) ⊎ (command ≡ Redo)
+IsStep command data_bytes s reply next = IsStepOf (kind_of command) data_bytes s reply next

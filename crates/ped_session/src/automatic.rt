@@ -12,7 +12,7 @@ use crate::session::Session;
 use ped_base::{Name, NoMemory};
 use ped_refs::RefName;
 use ped_script::Command;
-use ped_transformations::{Editor, Refused, loop_at, place_of};
+use ped_transformations::{Editor, Refused, loop_at};
 use ped_tree::Program;
 use ped_verdict::Steps;
 use std::alloc::Global;
@@ -48,13 +48,8 @@ impl<L: Ledger> Editor<L> for Session<L> {
         command: &Command,
         steps: &mut Steps<L>,
     ) -> Result<Option<Refused>, NoMemory> {
-        match place_of(command) {
-            Some(place) => {
-                let reply = self.transform(alloc, command, place, steps)?;
-                return Ok(refused_by(reply));
-            }
-            None => unreachable!(),
-        }
+        let reply = self.apply(alloc, command, &[], steps)?;
+        Ok(refused_by(reply))
     }
 }
 

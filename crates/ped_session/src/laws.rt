@@ -7,6 +7,7 @@ ghost use Rattle.ped_valid.specs.Validity.{ReadsValid};
 ghost use Rattle.ped_eval.specs.Outcomes.{Outcome, outcome, IsRaceFree};
 ghost use Rattle.ped_order.specs.ped_interleavings.specs.Interleavings.{IsInterleaved};
 ghost use Rattle.ped_transformations.specs.ped_loop_runs.specs.Unrejected.{IsTrusted};
+ghost use Rattle.ped_transformations.specs.ped_loop_runs.specs.Meaning.{KeepsOn};
 ghost use Rattle.ped_transformations.specs.ped_reduce.specs.Lowering.{Lowered};
 ghost use Rattle.ped_transformations.specs.ped_reduce.specs.Reducing.{IsLowered};
 ghost use Rattle.ped_transformations.specs.ped_rules.specs.Lawful.{IsFaithful};
@@ -18,15 +19,16 @@ ghost use Rattle.ped_session.specs.declared.replies.Reply as code_reply;
 ghost use Rattle.ped_session.specs.declared.replies.Reply.TheVariants.{Changed, Refused};
 ghost use Rattle.ped_session.specs.States.{State, opened};
 ghost use Rattle.ped_session.specs.OutcomeTexts.{outcome_text};
-ghost use Rattle.ped_session.specs.LoweredRuns.{HasNoList, IsLoweredRun, IsLoweredInOrder};
-ghost use Rattle.ped_session.specs.Steps.{Shows, IsStep, IsMove};
+ghost use Rattle.ped_session.specs.LoweredRuns.{HasNoList, HasNoLiveList, IsLoweredRun, IsLoweredInOrder};
+ghost use Rattle.ped_session.specs.Steps.{Shows, IsStep};
 ghost use Rattle.ped_session.specs.Scripts.{Said, AnswersItems};
-ghost use Rattle.ped_session.specs.Meanings.{IsMeaningKept, ComesFrom};
+ghost use Rattle.ped_session.specs.Meanings.{IsMeaningKept, ComesFrom, ComesTrulyFrom};
 ghost use Rattle.ped_session.specs.RunsAsBefore.{AnswersAsBefore};
 ghost use Rattle.ped_session.specs.Histories.{ArePrinted, HaveSameSources, Times};
 ghost use Rattle.ped_transformations.specs.ped_auto.specs.Strategy.{Report, IsAuto};
 ghost use Rattle.ped_session.specs.AutoEditing.{session_editing};
 ghost use Rattle.ped_script.specs.Items.{commands_of};
+ghost use Rattle.ped_script.specs.Kinds.{kind_of, IsMove};
 ghost use Rattle.ped_session.specs.AutoAnswers.{AcceptsAll};
 ghost use Rattle.ped_session.specs.AutoScripts.{script_of, items_on, all_accepted};
 
@@ -65,7 +67,7 @@ pub fn sources_are_printed()
 
 /// `undo` after an accepted change is accepted, and gives the former source, byte for byte, and the former past.
 pub fn undo_restores()
-    ensures { (c : Command) (data_bytes : List ℕ) (s next : State) → ¬ (IsMove c) → IsStep c data_bytes s Changed next →
+    ensures { (c : Command) (data_bytes : List ℕ) (s next : State) → ¬ (IsMove (kind_of c)) → IsStep c data_bytes s Changed next →
         (back : State) × IsStep Undo data_bytes next Changed back × (back.present ≡ s.present) × (back.past ≡ s.past) }
 {}
 
@@ -94,8 +96,18 @@ pub fn sources_keep_the_meaning()
         ReadsValid earlier t → ReadsValid s.present u → IsTrusted t → IsFaithful t u }
 {}
 
+/// The same on data on which C$PED REJECT lines are true: where a program has come from another by transformations alone,
+/// through tidy programs, of each of which that is so, it has its outcome there and no race, if the other one runs there
+/// without a fault and without a race.
+pub fn sources_keep_it_on_data()
+    ensures { (s : State) (data_bytes earlier : List ℕ) (t u : ProgramTree) → IsMeaningKept s → ComesTrulyFrom data_bytes s.present s.past earlier →
+        ReadsValid earlier t → ReadsValid s.present u → IsRaceFree t data_bytes → KeepsOn t u data_bytes }
+{}
+
 /// Whatever a script does, each `run`, whatever its choices, shows what the programs show from which the present one has
 /// come by transformations alone, where these are tidy and without C$PED REJECT and run without a fault and without a race.
+/// Where no list of sums is live, they may have C$PED REJECT lines, if on the data these are true of each program on the way,
+/// and all these programs are tidy.
 pub fn runs_are_as_before()
     ensures { (t : ProgramTree) (items : List Item) (data_bytes : List ℕ) (said : Said) (last : State) →
         AnswersItems items data_bytes (opened t) said last → AnswersAsBefore items data_bytes (opened t) said last }
@@ -107,10 +119,14 @@ pub fn runs_are_as_before()
 
 /// Whatever choices are given to the present program, its outcome is that of the run in order of each program from which it
 /// has come by transformations alone, where that one is tidy and without C$PED REJECT and runs in order without a fault
-/// and without a race. Sums of lists that are live may be done in any order, too.
+/// and without a race. Sums of lists that are live may be done in any order, too. Where no list is live, these programs may
+/// have C$PED REJECT lines, if on the data these are true of each program on the way, and all these programs are tidy.
 pub fn interleavings_keep_the_meaning()
-    ensures { (s : State) (earlier : List ℕ) (t u : ProgramTree) (data_bytes choices : List ℕ) (o : Outcome) →
+    ensures trusted { (s : State) (earlier : List ℕ) (t u : ProgramTree) (data_bytes choices : List ℕ) (o : Outcome) →
         IsMeaningKept s → ComesFrom s.present s.past earlier → ReadsValid earlier t → ReadsValid s.present u → IsTrusted t →
+        IsRaceFree t data_bytes → IsLoweredRun choices data_bytes u o → o ≡ outcome t data_bytes }
+    ensures true_on { (s : State) (earlier : List ℕ) (t u : ProgramTree) (data_bytes choices : List ℕ) (o : Outcome) →
+        IsMeaningKept s → ComesTrulyFrom data_bytes s.present s.past earlier → ReadsValid earlier t → ReadsValid s.present u → HasNoLiveList u →
         IsRaceFree t data_bytes → IsLoweredRun choices data_bytes u o → o ≡ outcome t data_bytes }
 {
     interleavings_agree();

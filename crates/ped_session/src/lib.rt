@@ -32,7 +32,8 @@ pub use laws::{
     auto_is_a_script, auto_is_undone, auto_keeps_the_meaning, auto_replays,
     interleavings_keep_the_meaning, moves_restore_each_other, one_answer, one_step,
     refused_changes_nothing, runs_are_as_before, runs_in_order, sources_are_printed,
-    sources_keep_the_meaning, transformations_keep_the_meaning, undo_restores, without_lists,
+    sources_keep_it_on_data, sources_keep_the_meaning, transformations_keep_the_meaning,
+    undo_restores, without_lists,
 };
 pub use ped_eval::{LiveRow, Outcome};
 pub use ped_order::{

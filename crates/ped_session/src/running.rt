@@ -17,7 +17,7 @@ use crate::listing::some_holds_list;
 use crate::versions::Version;
 use ped_base::NoMemory;
 use ped_eval::{Outcome, run_in_order};
-use ped_machine::Machine;
+use ped_machine::run_by_choices;
 use ped_order::{Graph, an_interleaving, flow_of, without_choices};
 use ped_transformations::{Lowered, Scene, lower};
 use ped_tree::Program;
@@ -109,8 +109,7 @@ fn origin_at(origin: &[u32], number: u32) -> u32
     }
 }
 
-/// Runs a valid program, whose names these are, as it is. Where there are no choices, a run in order serves, which keeps the
-/// private copies of one iteration at a time.
+/// Runs a valid program, whose names these are, as it is. Where there are no choices, a run in order serves.
 fn run_program(
     alloc: Global,
     program: &Program,
@@ -127,6 +126,5 @@ fn run_program(
     if choices.is_empty() {
         return run_in_order(alloc, program, symbols, input);
     }
-    let mut machine = Machine::new(alloc, program, symbols, input)?;
-    machine.run(choices)
+    run_by_choices(alloc, program, symbols, input, choices)
 }

@@ -14,14 +14,14 @@ ghost use Rattle.ped_edges.specs.Edges as plain;
 ghost use Rattle.ped_transformations.specs.ped_graph.specs.Dependences.{AreEdges};
 ghost use Rattle.ped_eval.specs.OutcomeViews.{outcome_view};
 ghost use Rattle.ped_session.specs.declared.replies.Reply.{Reply};
-ghost use Rattle.ped_transformations.specs.Table.{step_of};
-ghost use Rattle.ped_transformations.specs.CodeKinds.{IsPlace};
 ghost use Rattle.ped_session.specs.LoweredRuns.{IsLoweredRun};
-ghost use Rattle.ped_session.specs.Meanings.{IsAsBefore};
+ghost use Rattle.ped_session.specs.Meanings.{IsAsBefore, IsTrulyAsBefore};
 ghost use Rattle.ped_session.specs.States.{State, opened};
-ghost use Rattle.ped_session.specs.Steps.{IsStep, IsOther, IsMove};
+ghost use Rattle.ped_session.specs.Steps.{IsStep, IsStepOf};
 ghost use Rattle.ped_session.specs.Scripts.{tests_of};
 ghost use Rattle.ped_script.specs.declared.items.Command.TheVariants as commands;
+ghost use Rattle.ped_script.specs.declared.kinds.CommandKind.TheVariants as kinds;
+ghost use Rattle.ped_script.specs.Kinds.{kind_of, IsMove};
 
 use crate::replies::Reply;
 use crate::running::run_version;
@@ -32,8 +32,8 @@ use ped_eval::Outcome;
 use ped_history::History;
 use ped_order::{Graph, interleavings_agree};
 use ped_print::print;
-use ped_script::Command;
-use ped_transformations::{lowering_keeps_the_meaning, place_of};
+use ped_script::{Command, CommandKind, HistoryMove, LineEdit, ProgramRun};
+use ped_transformations::lowering_keeps_the_meaning;
 use ped_valid::{OpenRefusal, Opened, open_program};
 use ped_verdict::Steps;
 use std::alloc::Global;
@@ -151,10 +151,12 @@ impl<L: Ledger> Session<L> {
     /// may be done in any order; a fault is reported with the statement of the present program. The choices pick which
     /// iteration of an open PARALLEL DO does the next step, and after their end 0 does. Whatever they are, the outcome
     /// is also that of the run in order of each program from which the present one has come by transformations alone,
-    /// where that one is tidy and without C$PED REJECT and runs in order without a fault and without a race.
+    /// where that one is tidy and without C$PED REJECT and runs in order without a fault and without a race. Where no list
+    /// is live, it may have such lines, if on the data these are true of each program on the way, and all are tidy.
     pub fn run(&self, alloc: Global, input: &[u8], choices: &[u64]) -> Result<Outcome, NoMemory>
         ensures outcome { IfOk result (λ o. (t : ProgramTree) → ReadsValid self.now.present t → IsLoweredRun choices.now input.now t (outcome_view o)) }
         ensures before { IfOk result (λ o. IsAsBefore self.now input.now (outcome_view o)) }
+        ensures truly_before { IfOk result (λ o. IsTrulyAsBefore self.now input.now (outcome_view o)) }
     {
         interleavings_agree();
         lowering_keeps_the_meaning();
@@ -180,53 +182,46 @@ impl<L: Ledger> Session<L> {
         ensures ticks { IfOk result (λ reply. steps.new ≡ steps.old + tests_of reply self.new) }
         ensures least { steps.old ≤ steps.new }
         ensures most { (reply : Reply) (next : State) → IsStep command.now input.now self.old reply next → steps.new ≤ steps.old + tests_of reply next }
-        ensures sure { IsMove command.now → is_ok result ≡ true }
+        ensures sure { IsMove (kind_of command.now) → is_ok result ≡ true }
     {
-        match place_of(command) {
-            Some(place) => return self.transform(alloc, command, place, steps),
-            None => return self.apply_other(alloc, command, input, steps),
-        }
+        let kind = command.kind(alloc)?;
+        let reply = self.apply_kind(alloc, &kind, input, steps);
+        drop(kind);
+        reply
     }
 
-    /// Answers a command that takes no step.
-    fn apply_other(
+    /// Answers a command of this kind.
+    fn apply_kind(
         &mut self,
         alloc: Global,
-        command: &Command,
+        kind: &CommandKind,
         input: &[u8],
         steps: &mut Steps<L>,
     ) -> Result<Reply, NoMemory>
-        requires place { IsPlace (step_of command.now) None }
-        requires other { command.now ≢ commands.Auto }
-        ensures answers { IfOk result (λ reply. IsOther command.now input.now self.old reply self.new) }
+        requires { kind.now ≢ kinds.Auto }
+        ensures answers { IfOk result (λ reply. IsStepOf kind.now input.now self.old reply self.new) }
         ensures kept { OnErr result (self.new ≡ self.old) }
         ensures ticks { IfOk result (λ reply. steps.new ≡ steps.old + tests_of reply self.new) }
         ensures least { steps.old ≤ steps.new }
-        ensures most { (reply : Reply) (next : State) → IsOther command.now input.now self.old reply next → steps.new ≤ steps.old + tests_of reply next }
-        ensures sure { IsMove command.now → is_ok result ≡ true }
+        ensures most { (reply : Reply) (next : State) → IsStepOf kind.now input.now self.old reply next → steps.new ≤ steps.old + tests_of reply next }
+        ensures sure { IsMove kind.now → is_ok result ≡ true }
     {
-        match command {
-            Command::Source => return self.show_source(alloc),
-            Command::Deps(of) => return self.show_dependences(alloc, *of),
-            Command::Show => return self.show_both(alloc),
-            Command::Calls => return self.show_calls(alloc),
-            Command::Print => return self.show_text(alloc),
-            Command::Advise(number) => return self.show_advice(alloc, *number),
-            Command::Replace { first, last, lines } => {
+        match kind {
+            CommandKind::Ask(query) => return self.show(alloc, *query),
+            CommandKind::Edit(LineEdit::Replace { first, last, lines }) => {
                 return self.replace(alloc, *first, *last, lines.as_slice(), steps);
             }
-            Command::Insert { after, lines } => {
+            CommandKind::Edit(LineEdit::Insert { after, lines }) => {
                 return self.insert(alloc, *after, lines.as_slice(), steps);
             }
-            Command::Delete { first, last } => {
-                return self.replace(alloc, *first, *last, &[], steps);
+            CommandKind::Step(command) => return self.transform(alloc, command, steps),
+            CommandKind::Auto => unreachable!(),
+            CommandKind::Move(HistoryMove::Undo) => return Ok(self.undo()),
+            CommandKind::Move(HistoryMove::Redo) => return Ok(self.redo()),
+            CommandKind::Run(ProgramRun::Run(choices)) => {
+                return self.show_run(alloc, choices.as_slice(), input);
             }
-            Command::Undo => return Ok(self.undo()),
-            Command::Redo => return Ok(self.redo()),
-            Command::Run(choices) => return self.show_run(alloc, choices.as_slice(), input),
-            Command::Races => return self.show_races(alloc, input),
-            Command::Tested => return self.show_tested(alloc),
-            _ => unreachable!(),
+            CommandKind::Run(ProgramRun::Races) => return self.show_races(alloc, input),
         }
     }
 }

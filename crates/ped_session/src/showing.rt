@@ -1,6 +1,6 @@
 //! What is shown of the present program. Nothing here changes the session.
 
-ghost use Rattle.std.specs.Prelude.{◌≡◌, IfOk, Option, Some, List, ℕ};
+ghost use Rattle.std.specs.Prelude.{◌≡◌, IfOk, Some};
 ghost use Rattle.ped_transformations.specs.ped_graph.specs.DependencePane.{IsDependencePane, IsDependencePaneOf};
 ghost use Rattle.ped_transformations.specs.Advice.{IsAdvice};
 ghost use Rattle.ped_transformations.specs.ped_inline.specs.CallsPane.{IsCallsPane};
@@ -8,8 +8,7 @@ ghost use Rattle.ped_session.specs.Panes.{IsSourcePane, ArePanes};
 ghost use Rattle.ped_session.specs.Panes as Panes;
 ghost use Rattle.ped_session.specs.OutcomeTexts.{IsRunText};
 ghost use Rattle.ped_session.specs.RaceRows.{IsRaceRow};
-ghost use Rattle.ped_session.specs.Steps.{Shows, ShowsStatement, Prints, IsStep};
-ghost use Rattle.ped_script.specs.declared.items.Command.TheVariants as commands;
+ghost use Rattle.ped_session.specs.Steps.{Shows, ShowsStatement, Prints, ShowsAnswer};
 
 use crate::outcome_texts::outcome_text;
 use crate::race_rows::race_row;
@@ -19,26 +18,33 @@ use crate::session::Session;
 use ped_base::{Bytes, NoMemory, push_number};
 use ped_order::{flow_of, races};
 use ped_print::source_pane;
+use ped_script::Query;
 use ped_transformations::{Scene, advice, calls_pane};
 use std::alloc::Global;
 use std::sync::ledger::Ledger;
 
 impl<L: Ledger> Session<L> {
+    /// What is asked for.
+    pub(crate) fn show(&self, alloc: Global, query: Query) -> Result<Reply, NoMemory>
+        ensures { IfOk result (λ reply. ShowsAnswer query self.now reply self.now) }
+    {
+        match query {
+            Query::Source => return self.show_source(alloc),
+            Query::Deps(None) => return self.show_all_dependences(alloc),
+            Query::Deps(Some(number)) => return self.show_dependences_of(alloc, number),
+            Query::Show => return self.show_both(alloc),
+            Query::Calls => return self.show_calls(alloc),
+            Query::Print => return self.show_text(alloc),
+            Query::Advise(number) => return self.show_advice(alloc, number),
+            Query::Tested => return self.show_tested(alloc),
+        }
+    }
+
     /// The source pane.
-    pub(crate) fn show_source(&self, alloc: Global) -> Result<Reply, NoMemory>
+    fn show_source(&self, alloc: Global) -> Result<Reply, NoMemory>
         ensures { IfOk result (λ reply. Shows IsSourcePane self.now reply self.now) }
     {
         Ok(Reply::Shown(source_pane(alloc, &self.present.program)?))
-    }
-
-    /// The dependence pane, of a statement where one is given.
-    pub(crate) fn show_dependences(&self, alloc: Global, of: Option<u32>) -> Result<Reply, NoMemory>
-        ensures { IfOk result (λ reply. (data_bytes : List ℕ) → IsStep (commands.Deps of) data_bytes self.now reply self.now) }
-    {
-        match of {
-            None => self.show_all_dependences(alloc),
-            Some(number) => self.show_dependences_of(alloc, number),
-        }
     }
 
     /// The dependence pane.
@@ -59,14 +65,14 @@ impl<L: Ledger> Session<L> {
     }
 
     /// How many pairs of references the last accepted change, undo or redo has tested, or the opening.
-    pub(crate) fn show_tested(&self, alloc: Global) -> Result<Reply, NoMemory>
+    fn show_tested(&self, alloc: Global) -> Result<Reply, NoMemory>
         ensures { IfOk result (λ reply. Prints (Panes.tested_row self.now.tested) self.now reply self.now) }
     {
         Ok(Reply::Shown(tested_row(alloc, self.tested)?))
     }
 
     /// Both panes.
-    pub(crate) fn show_both(&self, alloc: Global) -> Result<Reply, NoMemory>
+    fn show_both(&self, alloc: Global) -> Result<Reply, NoMemory>
         ensures { IfOk result (λ reply. Shows ArePanes self.now reply self.now) }
     {
         let mut panes = source_pane(alloc, &self.present.program)?;
@@ -76,7 +82,7 @@ impl<L: Ledger> Session<L> {
     }
 
     /// The pane of calls.
-    pub(crate) fn show_calls(&self, alloc: Global) -> Result<Reply, NoMemory>
+    fn show_calls(&self, alloc: Global) -> Result<Reply, NoMemory>
         ensures { IfOk result (λ reply. Shows IsCallsPane self.now reply self.now) }
     {
         let present = &self.present;
@@ -91,7 +97,7 @@ impl<L: Ledger> Session<L> {
     }
 
     /// The source lines alone.
-    pub(crate) fn show_text(&self, alloc: Global) -> Result<Reply, NoMemory>
+    fn show_text(&self, alloc: Global) -> Result<Reply, NoMemory>
         ensures { IfOk result (λ reply. Prints self.now.present self.now reply self.now) }
     {
         let mut text = Bytes::new(alloc);
@@ -100,7 +106,7 @@ impl<L: Ledger> Session<L> {
     }
 
     /// The advice on the statement with this number, where there is one.
-    pub(crate) fn show_advice(&self, alloc: Global, number: u32) -> Result<Reply, NoMemory>
+    fn show_advice(&self, alloc: Global, number: u32) -> Result<Reply, NoMemory>
         ensures { IfOk result (λ reply. ShowsStatement (λ t. IsAdvice t number) number self.now reply self.now) }
     {
         if !self.graph.has_statement(number) {

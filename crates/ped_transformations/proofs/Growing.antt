@@ -1,10 +1,10 @@
 -- The steps of `auto` make programs with no fewer statements, and `parallel` one with fewer DOs that aren't PARALLEL DOs.
 use Rattle.std.proofs.Common.{◌≡◌, inl, inr, ℕ, ◌≤◌, ◌<◌, List, length, Bool, true, false, Option, Some, None, is_some, refl, sym, ap, subst, ◌∙◌, arith}
-use Rattle.std.specs.Prelude.{⊤}
+use Rattle.std.specs.Prelude.{MatchOption, ⊤}
 use Rattle.ped_tree.specs.Tree.{Head, StmtTree, StmtTrees, Assign, If, Do, Print, Read, Stop, Comment, ProgramTree}
 use Rattle.ped_tree.specs.Numbering.{statement_with, statements_count}
 use Rattle.ped_auto.specs.ped_rules.specs.OnlyLoops.{on_loop}
-use Rattle.ped_auto.specs.ped_rules.specs.Steps.{MatchStep}
+use Rattle.ped_auto.specs.ped_rules.specs.Steps.{StepAt}
 use Rattle.ped_auto.specs.ped_rules.specs.ped_steps.specs.declared.rules.Rule.TheVariants.{NoLoop, ParallelState}
 use Rattle.ped_auto.specs.ped_rules.specs.ped_steps.specs.Causes.{NoRule}
 use Rattle.ped_auto.specs.ped_rules.specs.ped_steps.specs.Replacing.{alone, program_with}
@@ -19,9 +19,11 @@ use Rattle.ped_splits.proofs.DistributedCounts.{no_fewer}
 use Rattle.ped_reduce.specs.Reducing.{with_listed}
 use Rattle.ped_reduce.proofs.ListedComments.{listed_count}
 use Rattle.ped_script.specs.declared.items.Command.{Command}
-use Rattle.ped_script.specs.declared.items.Command.TheVariants.{Source, Deps, Show, Calls, Print, Advise, Replace, Insert, Delete, Interchange, Reverse, Skew, Strip, Peel, Distribute, Fuse, Inline, Expand, Privatise, Reduce, Parallel, Serial, Reject, Auto, Undo, Redo, Run, Races, Tested}
+use Rattle.ped_script.specs.declared.items.Command.TheVariants.{Privatise, Distribute, Reduce, Parallel}
+use Rattle.ped_script.specs.Kinds.{step_in}
 use Rattle.ped_auto.specs.SerialLoops.{count_of, serial_loops}
 use Rattle.ped_auto.specs.Editing.{IsOfStrategy}
+use Rattle.ped_auto.proofs.OfStrategy.{so_of_strategy}
 use Rattle.ped_transformations.specs.Table.{step_of}
 use Rattle.ped_transformations.proofs.SerialCounts.{one_fewer}
 
@@ -57,47 +59,28 @@ on_loop_count new h (Read items) = omega arith
 on_loop_count new h Stop = omega arith
 on_loop_count new h (Comment text) = omega arith
 
--- the step of such a command makes a program with no fewer statements
-pub step_grows : (c : Command) → IsOfStrategy c → MatchStep (step_of c) ⊤ (λ at. (t new : ProgramTree) (keep : List (ℕ × ℕ)) → is_some (statement_with at.statement t) ≡ true → at.IsCause t None → at.Makes t new keep → count_of t ≤ count_of new)
-step_grows (Parallel s) is = λ t new keep there free made.
-    let x = found_at (statement_with s t) there in
-    subst (λ (u : ProgramTree). count_of t ≤ count_of u) (sym made.0) (grown (on_loop (with_flag true)) s x.0 t x.1 (on_loop_count (with_flag true) (λ h b. omega arith) x.0))
-step_grows (Privatise s name) is = λ t new keep there free made.
-    let x = found_at (statement_with s t) there in
-    subst (λ (u : ProgramTree). count_of t ≤ count_of u) (sym made.0) (grown (with_private name) s x.0 t x.1 (with_private_count name x.0))
-step_grows (Reduce s names) is = λ t new keep there free made.
-    let x = found_at (statement_with s t) there in
-    subst (λ (u : ProgramTree). count_of t ≤ count_of u) (sym made.0)
-    (grown (on_loop (with_listed names)) s x.0 t x.1 (on_loop_count (with_listed names) (λ h b. let e = listed_count names b in omega (arith, e)) x.0))
-step_grows (Distribute s) is = λ t new keep there free made.
-    let l = made.0 in
-    subst (λ (u : ProgramTree). count_of t ≤ count_of u) (sym made.3)
-    (grown (on_loop (loops_of made.1)) s (Do l.head l.body) t l.is (no_fewer t s l made.1 made.2 free.0))
-step_grows Source is = absurd is
-step_grows (Deps of) is = absurd is
-step_grows Show is = absurd is
-step_grows Calls is = absurd is
-step_grows Print is = absurd is
-step_grows (Advise number) is = absurd is
-step_grows (Replace first last lines) is = absurd is
-step_grows (Insert after lines) is = absurd is
-step_grows (Delete first last) is = absurd is
-step_grows (Interchange number) is = absurd is
-step_grows (Reverse number) is = absurd is
-step_grows (Skew number factor) is = absurd is
-step_grows (Strip number size) is = absurd is
-step_grows (Peel number last) is = absurd is
-step_grows (Fuse number) is = absurd is
-step_grows (Inline number) is = absurd is
-step_grows (Expand number name) is = absurd is
-step_grows (Serial number) is = absurd is
-step_grows (Reject number name) is = absurd is
-step_grows Auto is = absurd is
-step_grows Undo is = absurd is
-step_grows Redo is = absurd is
-step_grows (Run choices) is = absurd is
-step_grows Races is = absurd is
-step_grows Tested is = absurd is
+-- a step makes programs with no fewer statements
+abbrev pub Grows : StepAt → Type 0
+Grows at = (t new : ProgramTree) (keep : List (ℕ × ℕ)) → is_some (statement_with at.statement t) ≡ true → at.IsCause t None → at.Makes t new keep → count_of t ≤ count_of new
+
+-- so does that of each command of the strategy
+pub step_grows : (c : Command) → IsOfStrategy c → MatchOption (step_in c) ⊤ (λ command. Grows (step_of command))
+step_grows = so_of_strategy (λ c. MatchOption (step_in c) ⊤ (λ command. Grows (step_of command))) (record {
+  parallel = λ s t new keep there free made.
+      let x = found_at (statement_with s t) there in
+      subst (λ (u : ProgramTree). count_of t ≤ count_of u) (sym made.0) (grown (on_loop (with_flag true)) s x.0 t x.1 (on_loop_count (with_flag true) (λ h b. omega arith) x.0));
+  privatise = λ s name t new keep there free made.
+      let x = found_at (statement_with s t) there in
+      subst (λ (u : ProgramTree). count_of t ≤ count_of u) (sym made.0) (grown (with_private name) s x.0 t x.1 (with_private_count name x.0));
+  reduce = λ s names t new keep there free made.
+      let x = found_at (statement_with s t) there in
+      subst (λ (u : ProgramTree). count_of t ≤ count_of u) (sym made.0)
+      (grown (on_loop (with_listed names)) s x.0 t x.1 (on_loop_count (with_listed names) (λ h b. let e = listed_count names b in omega (arith, e)) x.0));
+  distribute = λ s t new keep there free made.
+      let l = made.0 in
+      subst (λ (u : ProgramTree). count_of t ≤ count_of u) (sym made.3)
+      (grown (on_loop (loops_of made.1)) s (Do l.head l.body) t l.is (no_fewer t s l made.1 made.2 free.0));
+})
 
 -- `parallel` is refused where the statement is no DO, or is a PARALLEL DO
 serial_there : (t : ProgramTree) (s : ℕ) → NoRule (StandsAgainstParallel s t) → (x : StmtTree) → statement_with s t ≡ Some x → (h : Head) × (b : StmtTrees) × (x ≡ Do h b) × (h.parallel ≡ false)

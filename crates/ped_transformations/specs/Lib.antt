@@ -16,5 +16,4 @@ pub use Rattle.ped_scalar.specs.ped_rules.specs.ped_symbols
 pub use Rattle.ped_scalar.specs.ped_rules.specs.ped_refs
 pub mod Advice
 pub mod CodeAdvice
-pub mod CodeKinds
 pub mod Table

@@ -1,8 +1,7 @@
 //! Advice on a statement: which steps could be taken there, and what forbids the others.
 
-ghost use Rattle.std.specs.Prelude.{◌≡◌, [], ◌++◌, codes, option_map, ⊤, IfOk, OnOk};
+ghost use Rattle.std.specs.Prelude.{◌≡◌, [], ◌++◌, codes, option_map, IfOk, OnOk};
 ghost use Rattle.ped_tree.specs.Views.{program_tree};
-ghost use Rattle.ped_auto.specs.ped_rules.specs.Steps.{MatchStep};
 ghost use Rattle.ped_auto.specs.ped_rules.specs.ped_steps.specs.Scenes.{IsSceneOf};
 ghost use Rattle.ped_auto.specs.ped_rules.specs.ped_steps.specs.CauseWords as shown;
 ghost use Rattle.ped_auto.specs.ped_rules.specs.ped_steps.specs.CodeCauses.{cause_of, IsShort};
@@ -14,7 +13,7 @@ ghost use Rattle.ped_transformations.specs.CodeAdvice.{IsAgainst, IsTellable, Te
 use crate::table::answer;
 use ped_base::{Bytes, NoMemory};
 use ped_inline::{Change, Refused, Scene, cause_words};
-use ped_script::Command;
+use ped_script::{StepCommand, WhichStep};
 use std::alloc::Global;
 use std::sync::ledger::Ledger;
 
@@ -40,43 +39,38 @@ fn tell_all<L: Ledger>(
     requires empty { out.old ≡ [] }
     ensures { OnOk result (Spec.IsAdvice (program_tree scene.now.tree.now) statement out.new) }
 {
-    let interchange = Command::Interchange(statement);
-    tell(alloc, scene, b"interchange", interchange, out)?;
-    let reverse = Command::Reverse(statement);
-    tell(alloc, scene, b"reverse", reverse, out)?;
-    let distribute = Command::Distribute(statement);
-    tell(alloc, scene, b"distribute", distribute, out)?;
-    let fuse = Command::Fuse(statement);
-    tell(alloc, scene, b"fuse", fuse, out)?;
-    let parallel = Command::Parallel(statement);
-    tell(alloc, scene, b"parallel", parallel, out)?;
-    let serial = Command::Serial(statement);
-    tell(alloc, scene, b"serial", serial, out)?;
-    let first = Command::Peel {
-        statement,
-        last: false,
-    };
-    tell(alloc, scene, b"peel first", first, out)?;
-    let last = Command::Peel {
-        statement,
-        last: true,
-    };
-    tell(alloc, scene, b"peel last", last, out)?;
+    let interchange = WhichStep::Interchange;
+    tell(alloc, scene, statement, b"interchange", interchange, out)?;
+    let reverse = WhichStep::Reverse;
+    tell(alloc, scene, statement, b"reverse", reverse, out)?;
+    let distribute = WhichStep::Distribute;
+    tell(alloc, scene, statement, b"distribute", distribute, out)?;
+    let fuse = WhichStep::Fuse;
+    tell(alloc, scene, statement, b"fuse", fuse, out)?;
+    let parallel = WhichStep::Parallel;
+    tell(alloc, scene, statement, b"parallel", parallel, out)?;
+    let serial = WhichStep::Serial;
+    tell(alloc, scene, statement, b"serial", serial, out)?;
+    let first = WhichStep::Peel { last: false };
+    tell(alloc, scene, statement, b"peel first", first, out)?;
+    let last = WhichStep::Peel { last: true };
+    tell(alloc, scene, statement, b"peel last", last, out)?;
     Ok(())
 }
 
-/// Adds the line of the step that a command takes, after the words that name it. The command is dropped.
+/// Adds the line of a step at this statement, after the words that name it. The step is dropped.
 fn tell<L: Ledger>(
     alloc: Global,
     scene: &Scene<L>,
+    statement: u32,
     words: &[u8],
-    command: Command,
+    step: WhichStep,
     out: &mut Bytes,
 ) -> Result<(), NoMemory>
-    requires scene { IsSceneOf (program_tree scene.now.tree.now) scene.now }
-    requires step { MatchStep (step_of command) ⊥ (λ at. ⊤) }
-    ensures { OnOk result (Tells (program_tree scene.now.tree.now) (words.now, command) out.old out.new) }
+    requires { IsSceneOf (program_tree scene.now.tree.now) scene.now }
+    ensures { OnOk result (Tells (program_tree scene.now.tree.now) statement (words.now, step) out.old out.new) }
 {
+    let command = StepCommand { statement, step };
     let told = push_line(alloc, scene, words, &command, out);
     drop(command);
     told
@@ -87,12 +81,11 @@ fn push_line<L: Ledger>(
     alloc: Global,
     scene: &Scene<L>,
     words: &[u8],
-    command: &Command,
+    command: &StepCommand,
     out: &mut Bytes,
 ) -> Result<(), NoMemory>
-    requires scene { IsSceneOf (program_tree scene.now.tree.now) scene.now }
-    requires step { MatchStep (step_of command.now) ⊥ (λ at. ⊤) }
-    ensures { OnOk result (Tells (program_tree scene.now.tree.now) (words.now, command.now) out.old out.new) }
+    requires { IsSceneOf (program_tree scene.now.tree.now) scene.now }
+    ensures { OnOk result (Tells (program_tree scene.now.tree.now) command.now.statement (words.now, command.now.step) out.old out.new) }
 {
     let found = cause_against(alloc, scene, command)?;
     out.extend_from_slice(words)?;
@@ -104,19 +97,13 @@ fn push_line<L: Ledger>(
 fn cause_against<L: Ledger>(
     alloc: Global,
     scene: &Scene<L>,
-    command: &Command,
+    command: &StepCommand,
 ) -> Result<Option<Refused>, NoMemory>
-    requires scene { IsSceneOf (program_tree scene.now.tree.now) scene.now }
-    requires step { MatchStep (step_of command.now) ⊥ (λ at. ⊤) }
+    requires { IsSceneOf (program_tree scene.now.tree.now) scene.now }
     ensures { IfOk result (IsAgainst (step_of command.now) (program_tree scene.now.tree.now)) }
 {
-    match answer(alloc, scene, command)? {
-        Some(found) => {
-            let cause = cause_in(found);
-            return Ok(cause);
-        }
-        None => unreachable!(),
-    }
+    let found = answer(alloc, scene, command)?;
+    Ok(cause_in(found))
 }
 
 /// The cause in what a step answers, or that there is none.

@@ -1,8 +1,6 @@
 //! What is true of every step of the table. The function does nothing; its contract is the law.
 
-ghost use Rattle.std.specs.Prelude.{⊤};
-ghost use Rattle.ped_script.specs.declared.items.Command.{Command};
-ghost use Rattle.ped_auto.specs.ped_rules.specs.Steps.{MatchStep};
+ghost use Rattle.ped_script.specs.declared.kinds.StepCommand.{StepCommand};
 ghost use Rattle.ped_auto.specs.ped_rules.specs.Lawful.{IsLawful};
 ghost use Rattle.ped_transformations.specs.Table.{step_of};
 
@@ -15,11 +13,12 @@ use ped_reduce::reduction_is_lawful;
 use ped_reindex::{peeling_is_lawful, skewing_is_lawful, stripping_is_lawful};
 use ped_splits::{distribution_is_lawful, fusion_is_lawful};
 
-/// The step of each command is lawful, where it takes one: it has one first cause at most, makes one program, and where
+/// The step of each command that takes one is lawful: it has one first cause at most, makes one program, and where
 /// nothing forbids it there is one, which is valid; and a transformation of a program that may be trusted makes one that
-/// may be trusted and means the same (Allen and Kennedy, section 2.2.3; ParaScope).
+/// may be trusted and means the same (Allen and Kennedy, section 2.2.3; ParaScope). With C$PED REJECT lines it keeps the
+/// meaning on data on which these are true, if both programs are tidy.
 pub fn every_step_is_lawful()
-    ensures { (command : Command) → MatchStep (step_of command) ⊤ IsLawful }
+    ensures { (command : StepCommand) → IsLawful (step_of command) }
 {
     interchange_is_lawful();
     reversal_is_lawful();

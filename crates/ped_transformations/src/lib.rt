@@ -1,6 +1,5 @@
-//! The only table of the editor's steps: which step a command takes, at which statement and of which kind, what it
-//! answers, and that each is lawful. Advice uses this table, too. A new step is a row of `step_of` and one of each
-//! other function of the table.
+//! The only table of the editor's steps: what each is at a statement, what it answers, and that each is lawful. Advice
+//! uses this table, too. A new step is a row of `step_at` and one of `answer`.
 #![tactic(auto)]
 
 mod advising;
@@ -15,4 +14,4 @@ pub use ped_inline::{
     loops_round,
 };
 pub use ped_reduce::{Lowered, has_list, lower, lowering_keeps_the_meaning, one_lowering};
-pub use table::{Kind, Place, answer, place_of};
+pub use table::answer;

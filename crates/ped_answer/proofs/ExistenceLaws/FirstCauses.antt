@@ -1,14 +1,13 @@
 -- Each step has a first cause against it in a program, or none, and then it makes a program, which is valid.
 use Rattle.std.proofs.Common.{◌⊎◌, ℕ, inl, inr, List, Option, Some, None}
-use Rattle.std.specs.Prelude.{⊤}
 use Rattle.ped_tree.specs.Tree.{ProgramTree}
 use Rattle.ped_session.specs.ped_symbols.specs.NameRefusals.{IsValid}
 use Rattle.ped_session.specs.ped_steps.specs.Causes.{Cause}
-use Rattle.ped_script.specs.declared.items.Command.{Command}
-use Rattle.ped_script.specs.declared.items.Command.TheVariants.{Source, Deps, Show, Calls, Print, Advise, Replace, Insert, Delete, Interchange, Reverse, Skew, Strip, Peel, Distribute, Fuse, Inline, Expand, Privatise, Reduce, Parallel, Serial, Reject, Auto, Undo, Redo, Run, Races, Tested}
-use Rattle.ped_session.specs.ped_rules.specs.Steps.{StepAt, MaybeStep, no_step, some_step, MatchStep}
+use Rattle.ped_script.specs.declared.kinds.WhichStep.{WhichStep}
+use Rattle.ped_script.specs.declared.kinds.WhichStep.TheVariants.{Interchange, Reverse, Skew, Strip, Peel, Distribute, Fuse, Inline, Expand, Privatise, Reduce, Parallel, Serial, Reject}
+use Rattle.ped_session.specs.ped_rules.specs.Steps.{StepAt}
 use Rattle.ped_session.specs.ped_rules.specs.Lawful.{IsDetermined}
-use Rattle.ped_session.specs.ped_transformations.specs.Table.{step_of}
+use Rattle.ped_session.specs.ped_transformations.specs.Table.{step_at}
 use Rattle.ped_session.specs.ped_transformations.proofs.LawfulTable.{determined_step}
 use Rattle.ped_answer.proofs.ExistenceLaws.ReindexCauses.{skew_cause, strip_cause, peel_cause}
 use Rattle.ped_answer.proofs.ExistenceLaws.DistributeCauses.{distribute_cause}
@@ -35,41 +34,22 @@ goes_by at determined some t valid = by (some t)
     by (Some c, is) = inl (c, is)
     by (None, none) = let made = determined.some_made t valid none in inr (none, made.0, made.1, made.2, made.3)
 
-goes : (step : MaybeStep) → MatchStep step ⊤ IsDetermined → MatchStep step ⊤ HasCause → MatchStep step ⊤ (λ at. (t : ProgramTree) → IsValid t → Goes at t)
-goes no_step determined some = tt
-goes (some_step at) determined some = goes_by at determined some
-
 -- each step of the table has one
-pub each_cause : (command : Command) → MatchStep (step_of command) ⊤ HasCause
-each_cause (Expand number name) = λ t. expanding_cause t number name
-each_cause (Privatise number name) = λ t. privatising_cause t number name
-each_cause (Interchange number) = λ t. interchange_cause t number
-each_cause (Reverse number) = λ t. reversal_cause t number
-each_cause (Skew number factor) = λ t. skew_cause t number factor
-each_cause (Strip number size) = λ t. strip_cause t number size
-each_cause (Peel number last) = λ t. peel_cause t number last
-each_cause (Distribute number) = λ t. distribute_cause t number
-each_cause (Fuse number) = λ t. fuse_cause t number
-each_cause (Inline number) = λ t. inlining_cause t number
-each_cause (Reduce number names) = λ t. reducing_cause t number names
-each_cause (Parallel number) = λ t. parallel_cause t number
-each_cause (Serial number) = λ t. serial_cause t number
-each_cause (Reject number name) = λ t. rejection_cause t number name
-each_cause (Deps of) = tt
-each_cause (Advise number) = tt
-each_cause (Replace first last lines) = tt
-each_cause (Insert after lines) = tt
-each_cause (Delete first last) = tt
-each_cause (Run choices) = tt
-each_cause Source = tt
-each_cause Show = tt
-each_cause Calls = tt
-each_cause Print = tt
-each_cause Auto = tt
-each_cause Undo = tt
-each_cause Redo = tt
-each_cause Races = tt
-each_cause Tested = tt
+pub each_cause : (number : ℕ) (step : WhichStep) → HasCause (step_at number step)
+each_cause number (Expand name) = λ t. expanding_cause t number name
+each_cause number (Privatise name) = λ t. privatising_cause t number name
+each_cause number Interchange = λ t. interchange_cause t number
+each_cause number Reverse = λ t. reversal_cause t number
+each_cause number (Skew factor) = λ t. skew_cause t number factor
+each_cause number (Strip size) = λ t. strip_cause t number size
+each_cause number (Peel last) = λ t. peel_cause t number last
+each_cause number Distribute = λ t. distribute_cause t number
+each_cause number Fuse = λ t. fuse_cause t number
+each_cause number Inline = λ t. inlining_cause t number
+each_cause number (Reduce names) = λ t. reducing_cause t number names
+each_cause number Parallel = λ t. parallel_cause t number
+each_cause number Serial = λ t. serial_cause t number
+each_cause number (Reject name) = λ t. rejection_cause t number name
 
-pub each_goes : (command : Command) → MatchStep (step_of command) ⊤ (λ at. (t : ProgramTree) → IsValid t → Goes at t)
-each_goes command = goes (step_of command) (determined_step command) (each_cause command)
+pub each_goes : (number : ℕ) (step : WhichStep) (t : ProgramTree) → IsValid t → Goes (step_at number step) t
+each_goes number step = goes_by (step_at number step) (determined_step number step) (each_cause number step)

@@ -1,6 +1,6 @@
 -- Each command has a reply in each state whose sources are printed texts of valid programs, and leads to such a state.
 use Rattle.std.proofs.Common.{◌≡◌, ◌⊎◌, ℕ, ◌+◌, ◌-◌, refl, sym, subst, inl, inr, Bool, true, false, List, [], ◌∷◌, ◌++◌, All, Option, Some, None, is_some}
-use Rattle.std.specs.Prelude.{MatchBool, ⊤}
+use Rattle.std.specs.Prelude.{MatchBool}
 use Rattle.std.proofs.lemmas.List.Elements.{All-nil, All-cons, All-head, All-tail}
 use Rattle.ped_tree.specs.Tree.{StmtTree, ProgramTree}
 use Rattle.ped_tree.specs.Printing.{program_text}
@@ -17,7 +17,16 @@ use Rattle.ped_session.specs.ped_order.specs.ped_interleavings.specs.Interleavin
 use Rattle.ped_session.specs.ped_order.proofs.OneReport.{one_at_least}
 use Rattle.ped_session.specs.ped_transformations.specs.ped_inline.specs.CallsPane.{IsCallsPane}
 use Rattle.ped_script.specs.declared.items.Command.{Command}
-use Rattle.ped_script.specs.declared.items.Command.TheVariants.{Source, Deps, Show, Calls, Print, Advise, Replace, Insert, Delete, Interchange, Reverse, Skew, Strip, Peel, Distribute, Fuse, Inline, Expand, Privatise, Reduce, Parallel, Serial, Reject, Auto, Undo, Redo, Run, Races, Tested}
+use Rattle.ped_script.specs.declared.items.Command.TheVariants.{Auto}
+use Rattle.ped_script.specs.declared.kinds.Query.{Query}
+use Rattle.ped_script.specs.declared.kinds.Query.TheVariants.{Source, Deps, Show, Calls, Print, Advise, Tested}
+use Rattle.ped_script.specs.declared.kinds.LineEdit.TheVariants.{Replace, Insert}
+use Rattle.ped_script.specs.declared.kinds.HistoryMove.TheVariants.{Undo, Redo}
+use Rattle.ped_script.specs.declared.kinds.ProgramRun.TheVariants.{Run, Races}
+use Rattle.ped_script.specs.declared.kinds.CommandKind.{CommandKind}
+use Rattle.ped_script.specs.declared.kinds.CommandKind.TheVariants as kind
+use Rattle.ped_script.specs.Kinds.{kind_of}
+use Rattle.ped_script.proofs.OnlyAuto.{only_auto}
 use Rattle.ped_script.specs.declared.items.Item.{Item}
 use Rattle.ped_session.specs.declared.changes.ChangeKind.TheVariants.{Edit}
 use Rattle.ped_session.specs.declared.replies.Refusal.{Refusal}
@@ -30,10 +39,10 @@ use Rattle.ped_session.specs.Panes.{IsSourcePane, ArePanes, tested_row}
 use Rattle.ped_session.specs.OutcomeTexts.{outcome_text, IsRunText}
 use Rattle.ped_session.specs.LoweredRuns.{told_by, IsLoweredRun}
 use Rattle.ped_session.specs.RaceRows.{race_row, IsRaceRow}
-use Rattle.ped_session.specs.ped_rules.specs.Steps.{StepAt, MaybeStep, no_step, some_step, MatchStep}
-use Rattle.ped_session.specs.ped_transformations.specs.Table as table
+use Rattle.ped_session.specs.ped_rules.specs.Steps.{StepAt}
+use Rattle.ped_session.specs.ped_transformations.specs.Table.{step_of}
 use Rattle.ped_session.specs.ped_transformations.specs.Advice.{IsAdvice}
-use Rattle.ped_session.specs.Steps.{Refuses, Shows, ShowsOf, ShowsStatement, Edits, accepted, refused, change_by, Transforms, missing, forbidden, transformed, GoesBack, GoesForward, IsOther, IsStep}
+use Rattle.ped_session.specs.Steps.{Refuses, Shows, ShowsOf, ShowsStatement, Edits, accepted, refused, change_by, Transforms, missing, forbidden, transformed, GoesBack, GoesForward, ShowsAnswer, IsStepOf, IsStep}
 use Rattle.ped_session.specs.Histories.{IsPrinted, ArePrinted}
 use Rattle.ped_session.specs.Scripts.{Said, said_by, bad_command_said, nothing_said, said_both, AnswersCommand, AnswersItems}
 use Rattle.ped_session.specs.AutoAnswers.{auto_text}
@@ -166,49 +175,33 @@ module _ (comes : SomeOutcome) (s : State) (all : ArePrinted s) where
   run_text : (choices data_bytes : List ℕ) (t : ProgramTree) → (bytes : List ℕ) × IsRunText choices data_bytes t bytes
   run_text choices data_bytes t = let o = lowered_outcome comes choices data_bytes t in (outcome_text o.0, (o.0, o.1, refl))
 
-  -- a command that takes no step
-  others : (c : Command) → (c ≡ Auto → ⊥) → (data_bytes : List ℕ) → MatchStep (table.step_of c) (Answered (λ reply. λ next. IsOther c data_bytes s reply next)) (λ at. ⊤)
-  others Source other d = shows IsSourcePane (λ t. (source_pane t, refl))
-  others (Deps None) other d = shows IsDependencePane pane_of_program
-  others (Deps (Some number)) other d = shows_statement (λ t. IsDependencePaneOf t (Some number)) (λ t. pane_of_statement t (Some number)) number
-  others Show other d = shows ArePanes panes
-  others Calls other d = shows IsCallsPane calls_pane_of_program
-  others Print other d = record { reply = Shown s.present; next = s; is = (refl, refl); printed = all }
-  others (Replace first last lines) other d = edits_where (are_lines s.present first last) (first - 1) (last + 1 - first) (spliced s.present (first - 1) (last + 1 - first) lines)
-  others (Insert after lines) other d = edits_where (is_place s.present after) after 0 (spliced s.present after 0 lines)
-  others (Delete first last) other d = edits_where (are_lines s.present first last) (first - 1) (last + 1 - first) (spliced s.present (first - 1) (last + 1 - first) [])
-  others Undo other d = goes_back s.past all.past
-  others Redo other d = goes_forward s.future all.future
-  others (Run choices) other d = shows (IsRunText choices d) (run_text choices d)
-  others Races other d = shows (IsRaceRow d) (race_rows d)
-  others (Advise number) other d = shows_statement (λ t. IsAdvice t number) (λ t. advice_of t number) number
-  others (Interchange number) other d = tt
-  others (Reverse number) other d = tt
-  others (Skew number factor) other d = tt
-  others (Strip number size) other d = tt
-  others (Peel number last) other d = tt
-  others (Distribute number) other d = tt
-  others (Fuse number) other d = tt
-  others (Inline number) other d = tt
-  others (Expand number name) other d = tt
-  others (Privatise number name) other d = tt
-  others (Reduce number names) other d = tt
-  others (Parallel number) other d = tt
-  others (Serial number) other d = tt
-  others (Reject number name) other d = tt
-  others Auto other d = absurd (other refl)
-  others Tested other d = record { reply = Shown (tested_row s.tested); next = s; is = (refl, refl); printed = all }
+  -- what is asked for
+  answers : (query : Query) → Answered (λ reply. λ next. ShowsAnswer query s reply next)
+  answers Source = shows IsSourcePane (λ t. (source_pane t, refl))
+  answers (Deps None) = shows IsDependencePane pane_of_program
+  answers (Deps (Some number)) = shows_statement (λ t. IsDependencePaneOf t (Some number)) (λ t. pane_of_statement t (Some number)) number
+  answers Show = shows ArePanes panes
+  answers Calls = shows IsCallsPane calls_pane_of_program
+  answers Print = record { reply = Shown s.present; next = s; is = (refl, refl); printed = all }
+  answers (Advise number) = shows_statement (λ t. IsAdvice t number) (λ t. advice_of t number) number
+  answers Tested = record { reply = Shown (tested_row s.tested); next = s; is = (refl, refl); printed = all }
+
+  by_kind : (k : CommandKind) → (k ≡ kind.Auto → ⊥) → (d : List ℕ) → Answered (λ reply. λ next. IsStepOf k d s reply next)
+  by_kind (kind.Ask query) other d = answers query
+  by_kind (kind.Edit (Replace first last lines)) other d = edits_where (are_lines s.present first last) (first - 1) (last + 1 - first) (spliced s.present (first - 1) (last + 1 - first) lines)
+  by_kind (kind.Edit (Insert after lines)) other d = edits_where (is_place s.present after) after 0 (spliced s.present after 0 lines)
+  by_kind (kind.Step command) other d = transforms (step_of command) (each_goes command.statement command.step)
+  by_kind kind.Auto other d = absurd (other refl)
+  by_kind (kind.Move Undo) other d = goes_back s.past all.past
+  by_kind (kind.Move Redo) other d = goes_forward s.future all.future
+  by_kind (kind.Run (Run choices)) other d = shows (IsRunText choices d) (run_text choices d)
+  by_kind (kind.Run Races) other d = shows (IsRaceRow d) (race_rows d)
 
   pub replies : (c : Command) → (c ≡ Auto → ⊥) → (data_bytes : List ℕ) → Answered (λ reply. λ next. IsStep c data_bytes s reply next)
-  replies c not_auto d = by (table.step_of c) (others c not_auto d) (each_goes c)
-    where
-      by : (step : MaybeStep) → MatchStep step (Answered (λ reply. λ next. IsOther c d s reply next)) (λ at. ⊤) → MatchStep step ⊤ (λ at. (t : ProgramTree) → IsValid t → Goes at t)
-          → Answered (λ reply. λ next. MatchStep step (IsOther c d s reply next) (λ at. Transforms at s reply next))
-      by no_step other goes = other
-      by (some_step at) other goes = transforms at goes
+  replies c not_auto d = by_kind (kind_of c) (λ is. not_auto (only_auto c is)) d
 
-  pub step_of : (c : Command) → (c ≡ Auto → ⊥) → (data_bytes : List ℕ) → (reply : Reply) × (next : State) × IsStep c data_bytes s reply next
-  step_of c other d = let a = replies c other d in (a.reply, a.next, a.is)
+  pub reply_exists : (c : Command) → (c ≡ Auto → ⊥) → (data_bytes : List ℕ) → (reply : Reply) × (next : State) × IsStep c data_bytes s reply next
+  reply_exists c other d = let a = replies c other d in (a.reply, a.next, a.is)
 
 -- what a line answers, and the state behind it
 record Told (A : Said → State → Type 0) : Type 0 where

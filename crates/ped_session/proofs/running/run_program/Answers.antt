@@ -1,12 +1,9 @@
 use Rattle.std.proofs.Common.{◌≡◌, ℕ, List, [], ◌∷◌, length, ◌==◌, true, false, refl, sym, ◌∙◌, subst, arith}
 use Rattle.std.proofs.lemmas.Bool.Decides.{nat_tests}
 use Rattle.std.proofs.lemmas.Result.{IfOk-weaker}
-use Rattle.ped_tree.specs.Tree.{ProgramTree}
 use Rattle.ped_tree.specs.Views.{program_tree}
 use Rattle.ped_eval.specs.Outcomes.{Outcome}
-use Rattle.ped_eval.specs.OutcomeViews.{outcome_view}
-use Rattle.ped_order.specs.ped_interleavings.specs.Interleavings.{Standing, IsInterleavedFrom, at_start, IsInterleaved}
-use Rattle.ped_machine.specs.Roots.{held}
+use Rattle.ped_order.specs.ped_interleavings.specs.Interleavings.{at_start, IsInterleaved}
 use Rattle.ped_session.proofs.running.run_program.Goals as goal
 
 no_choices : (cs : List ℕ) → (length cs == 0) ≡ true → cs ≡ []
@@ -21,11 +18,3 @@ returns-then-is_empty c =
     let (o, comes) = c.an_interleaving.ensures t (at_start t d choices) in
     let in_order = c.without_choices.ensures t d o (subst (λ (cs : List ℕ). IsInterleaved t d cs o) (no_choices choices (sym c.is_empty.ensures ∙ c.if-is_empty.true)) comes) in
     IfOk-weaker c.run_in_order.result _ _ (λ found is. subst (λ (x : Outcome). IsInterleaved t d choices x) (in_order ∙ sym is) comes) c.run_in_order.ensures
-
-pub returns : goal.returns
-returns c =
-    let t = program_tree c.args.program.now in
-    let start = at_start t c.args.input.now c.args.choices.now in
-    IfOk-weaker c.run.result _ _ (λ o is.
-    subst (λ (u : ProgramTree). IsInterleavedFrom u start (outcome_view o)) c.in_ok-machine.ensures.tree
-    (subst (λ (st : Standing). IsInterleavedFrom (held c.in_ok-machine.machine).tree st (outcome_view o)) (c.in_ok-machine.ensures.stands c.args.choices.now) is)) c.run.ensures.outcome

@@ -11,5 +11,5 @@ push_verdict-requires g c = c.in_ok-found.ensures.1
 pub returns : goal.returns
 returns g c =
     on_ok_weaker c.push.result
-    (λ last. line_told (program_tree c.args.scene.now.tree.now) c.args.words.now c.args.command.now (option_map cause_of c.in_ok-found.found) _ _ _ _ c.in_ok-found.ensures.0 c.in_ok-extend_from_slice.ensures.ok c.in_ok-push_verdict.ensures last)
+    (λ last. line_told (program_tree c.args.scene.now.tree.now) c.args.command.now.statement c.args.words.now c.args.command.now.step (option_map cause_of c.in_ok-found.found) _ _ _ _ c.in_ok-found.ensures.0 c.in_ok-extend_from_slice.ensures.ok c.in_ok-push_verdict.ensures last)
     c.push.ensures.ok

@@ -12,64 +12,67 @@ use Rattle.ped_transformations.proofs.table.answer.Goals as goal
 
 pub returns-in-Privatise : goal.returns-in-Privatise
 returns-in-Privatise g c =
-    answered (program_tree c.args.scene.now.tree.now) _ c.args.command.now c.in-Privatise.is c.privatise.result _ c.of_step.ensures c.privatise.ensures
+    answered (program_tree c.args.scene.now.tree.now) c.args.command.now.statement _ c.args.command.now.step c.in-Privatise.is c.privatise.result c.privatise.ensures
 
 pub returns-in-Expand : goal.returns-in-Expand
 returns-in-Expand g c =
-    answered (program_tree c.args.scene.now.tree.now) _ c.args.command.now c.in-Expand.is c.expand.result _ c.of_step-in-Expand.ensures c.expand.ensures
-
-pub returns-in-Skew : goal.returns-in-Skew
-returns-in-Skew g c =
-    let t = program_tree c.args.scene.now.tree.now in
-    let fits : FitsSigned w64 c.in-Skew.factor = search rules in
-    let found = subst (λ (z : ℤ). IfOk c.skew.result (Answers (skewing c.in-Skew.number z) t)) (to_z-of_z w64 c.in-Skew.factor fits) c.skew.ensures in
-    answered t _ c.args.command.now c.in-Skew.is c.skew.result _ c.of_step-in-Skew.ensures found
-
-pub returns-in-Strip : goal.returns-in-Strip
-returns-in-Strip g c =
-    let t = program_tree c.args.scene.now.tree.now in
-    let fits : FitsSigned w64 c.in-Strip.size = search rules in
-    let found = subst (λ (z : ℤ). IfOk c.strip.result (Answers (stripping c.in-Strip.number z) t)) (to_z-of_z w64 c.in-Strip.size fits) c.strip.ensures in
-    answered t _ c.args.command.now c.in-Strip.is c.strip.result _ c.of_step-in-Strip.ensures found
+    answered (program_tree c.args.scene.now.tree.now) c.args.command.now.statement _ c.args.command.now.step c.in-Expand.is c.expand.result c.expand.ensures
 
 pub returns-in-Reduce : goal.returns-in-Reduce
 returns-in-Reduce g c =
     let t = program_tree c.args.scene.now.tree.now in
-    let found = subst (λ (names : List (List ℕ)). IfOk c.reduce.result (Answers (reducing c.in-Reduce.number names) t)) c.as_slice.ensures c.reduce.ensures in
-    answered t _ c.args.command.now c.in-Reduce.is c.reduce.result _ c.of_step-in-Reduce.ensures found
+    let number = c.args.command.now.statement in
+    let found = subst (λ (names : List (List ℕ)). IfOk c.reduce.result (Answers (reducing number names) t)) c.as_slice.ensures c.reduce.ensures in
+    answered t number _ c.args.command.now.step c.in-Reduce.is c.reduce.result found
 
 pub returns-in-Interchange : goal.returns-in-Interchange
 returns-in-Interchange g c =
-    answered (program_tree c.args.scene.now.tree.now) _ c.args.command.now c.in-Interchange.is c.interchange.result _ c.of_step-in-Interchange.ensures c.interchange.ensures
+    answered (program_tree c.args.scene.now.tree.now) c.args.command.now.statement _ c.args.command.now.step c.in-Interchange.is c.interchange.result c.interchange.ensures
 
 pub returns-in-Reverse : goal.returns-in-Reverse
 returns-in-Reverse g c =
-    answered (program_tree c.args.scene.now.tree.now) _ c.args.command.now c.in-Reverse.is c.reverse.result _ c.of_step-in-Reverse.ensures c.reverse.ensures
+    answered (program_tree c.args.scene.now.tree.now) c.args.command.now.statement _ c.args.command.now.step c.in-Reverse.is c.reverse.result c.reverse.ensures
+
+pub returns-in-Skew : goal.returns-in-Skew
+returns-in-Skew g c =
+    let t = program_tree c.args.scene.now.tree.now in
+    let number = c.args.command.now.statement in
+    let fits : FitsSigned w64 c.in-Skew.factor = search rules in
+    let found = subst (λ (z : ℤ). IfOk c.skew.result (Answers (skewing number z) t)) (to_z-of_z w64 c.in-Skew.factor fits) c.skew.ensures in
+    answered t number _ c.args.command.now.step c.in-Skew.is c.skew.result found
+
+pub returns-in-Strip : goal.returns-in-Strip
+returns-in-Strip g c =
+    let t = program_tree c.args.scene.now.tree.now in
+    let number = c.args.command.now.statement in
+    let fits : FitsSigned w64 c.in-Strip.size = search rules in
+    let found = subst (λ (z : ℤ). IfOk c.strip.result (Answers (stripping number z) t)) (to_z-of_z w64 c.in-Strip.size fits) c.strip.ensures in
+    answered t number _ c.args.command.now.step c.in-Strip.is c.strip.result found
 
 pub returns-in-Peel : goal.returns-in-Peel
 returns-in-Peel g c =
-    answered (program_tree c.args.scene.now.tree.now) _ c.args.command.now c.in-Peel.is c.peel.result _ c.of_step-in-Peel.ensures c.peel.ensures
+    answered (program_tree c.args.scene.now.tree.now) c.args.command.now.statement _ c.args.command.now.step c.in-Peel.is c.peel.result c.peel.ensures
 
 pub returns-in-Distribute : goal.returns-in-Distribute
 returns-in-Distribute g c =
-    answered (program_tree c.args.scene.now.tree.now) _ c.args.command.now c.in-Distribute.is c.distribute.result _ c.of_step-in-Distribute.ensures c.distribute.ensures
+    answered (program_tree c.args.scene.now.tree.now) c.args.command.now.statement _ c.args.command.now.step c.in-Distribute.is c.distribute.result c.distribute.ensures
 
 pub returns-in-Fuse : goal.returns-in-Fuse
 returns-in-Fuse g c =
-    answered (program_tree c.args.scene.now.tree.now) _ c.args.command.now c.in-Fuse.is c.fuse.result _ c.of_step-in-Fuse.ensures c.fuse.ensures
+    answered (program_tree c.args.scene.now.tree.now) c.args.command.now.statement _ c.args.command.now.step c.in-Fuse.is c.fuse.result c.fuse.ensures
 
 pub returns-in-Inline : goal.returns-in-Inline
 returns-in-Inline g c =
-    answered (program_tree c.args.scene.now.tree.now) _ c.args.command.now c.in-Inline.is c.inline.result _ c.of_step-in-Inline.ensures c.inline.ensures
+    answered (program_tree c.args.scene.now.tree.now) c.args.command.now.statement _ c.args.command.now.step c.in-Inline.is c.inline.result c.inline.ensures
 
 pub returns-in-Parallel : goal.returns-in-Parallel
 returns-in-Parallel g c =
-    answered (program_tree c.args.scene.now.tree.now) _ c.args.command.now c.in-Parallel.is c.make_parallel.result _ c.of_step-in-Parallel.ensures c.make_parallel.ensures
+    answered (program_tree c.args.scene.now.tree.now) c.args.command.now.statement _ c.args.command.now.step c.in-Parallel.is c.make_parallel.result c.make_parallel.ensures
 
 pub returns-in-Serial : goal.returns-in-Serial
 returns-in-Serial g c =
-    answered (program_tree c.args.scene.now.tree.now) _ c.args.command.now c.in-Serial.is c.make_serial.result _ c.of_step-in-Serial.ensures c.make_serial.ensures
+    answered (program_tree c.args.scene.now.tree.now) c.args.command.now.statement _ c.args.command.now.step c.in-Serial.is c.make_serial.result c.make_serial.ensures
 
 pub returns-in-Reject : goal.returns-in-Reject
 returns-in-Reject g c =
-    answered (program_tree c.args.scene.now.tree.now) _ c.args.command.now c.in-Reject.is c.reject.result _ c.of_step-in-Reject.ensures c.reject.ensures
+    answered (program_tree c.args.scene.now.tree.now) c.args.command.now.statement _ c.args.command.now.step c.in-Reject.is c.reject.result c.reject.ensures

@@ -1,21 +1,22 @@
-use Rattle.std.proofs.lemmas.Result.{IfOk-weaker}
-use Rattle.ped_transformations.specs.Table.{step_of}
-use Rattle.ped_transformations.proofs.ByPlace.{with_none, from_none, some_then}
-use Rattle.ped_session.specs.Steps.{Transforms}
+use Rattle.std.proofs.Common.{◌≡◌, ap, sym, ◌∙◌, subst}
+use Rattle.std.specs.Prelude.{IfOk}
+use Rattle.ped_script.specs.declared.kinds.CommandKind.{CommandKind}
+use Rattle.ped_script.specs.declared.kinds.CommandKind.TheVariants as kinds
+use Rattle.ped_script.specs.Kinds.{IsMove}
+use Rattle.ped_script.proofs.OnlyAuto.{only_auto}
+use Rattle.ped_session.specs.Steps.{IsStepOf}
 use Rattle.ped_session.proofs.session.Session.apply.Goals as goal
 
-pub returns-in-Some-clause-answers : goal.returns-in-Some-clause-answers
-returns-in-Some-clause-answers g c =
-    IfOk-weaker c.transform.result _ _ (λ reply h. some_then c.in-Some.place (step_of c.args.command.now) ⊥ _ _ _ c.in-Some.ensures h (λ at is q. q)) c.transform.ensures.answers
+pub apply_kind-reply-requires : goal.apply_kind-reply-requires
+apply_kind-reply-requires g c = λ is. c.requires (only_auto c.args.command.now (sym c.in_ok-kind.ensures.kind ∙ is))
 
-pub returns-in-Some-clause-most : goal.returns-in-Some-clause-most
-returns-in-Some-clause-most g c reply next h =
-    c.transform.ensures.most reply next (some_then c.in-Some.place (step_of c.args.command.now) _ ⊥ _ _ c.in-Some.ensures h (λ at is q. q))
+pub returns-clause-answers : goal.returns-clause-answers
+returns-clause-answers g c =
+    subst (λ (k : CommandKind). IfOk c.apply_kind-reply.result (λ reply. IsStepOf k c.args.input.now c.args.self.now reply c.apply_kind-reply.new.self)) c.in_ok-kind.ensures.kind c.apply_kind-reply.ensures.answers
 
-pub returns-in-None-clause-answers : goal.returns-in-None-clause-answers
-returns-in-None-clause-answers g c =
-    IfOk-weaker c.apply_other.result _ _ (λ reply h. with_none (step_of c.args.command.now) _ (λ at. Transforms at c.args.self.now reply c.apply_other.new.self) c.in-None.ensures h) c.apply_other.ensures.answers
+pub returns-clause-most : goal.returns-clause-most
+returns-clause-most g c reply next h =
+    c.apply_kind-reply.ensures.most reply next (subst (λ (k : CommandKind). IsStepOf k c.args.input.now c.args.self.now reply next) (sym c.in_ok-kind.ensures.kind) h)
 
-pub returns-in-None-clause-most : goal.returns-in-None-clause-most
-returns-in-None-clause-most g c reply next h =
-    c.apply_other.ensures.most reply next (from_none (step_of c.args.command.now) _ (λ at. Transforms at c.args.self.now reply next) c.in-None.ensures h)
+pub returns-clause-sure : goal.returns-clause-sure
+returns-clause-sure g c h = c.apply_kind-reply.ensures.sure (subst IsMove (sym c.in_ok-kind.ensures.kind) h)

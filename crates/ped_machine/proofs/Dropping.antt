@@ -47,7 +47,7 @@ lost_copy s new (Private x path) f h e w = record {
 }
 
 -- the same copy belongs to the same iterations
-inside_same : (base : Scope) (c d : Cell) → IsInside base c → same_cell c d ≡ true → IsInside base d
+pub inside_same : (base : Scope) (c d : Cell) → IsInside base c → same_cell c d ≡ true → IsInside base d
 inside_same base (Private x p) (Private y q) h e = (h.0, sym ((iterations_decide p q).0 (and_parts (is_same_text x y) (pointwise same_iteration p q) e).1) ∙ h.1)
 inside_same base (Private x p) (Scalar y) h e = absurd cc
 inside_same base (Private x p) (Element y js) h e = absurd cc
@@ -58,7 +58,7 @@ inside_same base (Element x js) d h e = absurd h
 inside_same base In d h e = absurd h
 inside_same base Out d h e = absurd h
 
-other_inside : (base : Scope) (c d : Cell) → IsInside base c → (IsInside base d → ⊥) → same_cell c d ≡ false
+pub other_inside : (base : Scope) (c d : Cell) → IsInside base c → (IsInside base d → ⊥) → same_cell c d ≡ false
 other_inside base c d h n = by (same_cell c d) refl
   where
     by : (b : Bool) → same_cell c d ≡ b → b ≡ false

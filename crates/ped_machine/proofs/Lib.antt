@@ -15,3 +15,12 @@ mod Starting
 mod Resting
 mod Stepped
 mod Turning
+mod NextSteps
+mod IterationPaths
+mod FewerNames
+mod SpentCopies
+mod StayingApart
+mod SameSteps
+mod AgreeingStores
+mod Forgetting
+mod FollowingRuns

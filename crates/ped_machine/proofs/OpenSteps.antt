@@ -95,7 +95,7 @@ module _ {C : Type 0} (left : C → Left) (scope : Scope) (old new : Open C) (re
   abbrev at_place : ℕ → Left → Left
   at_place j l = open_loop (open_entered old) old.plan.number scope (with_left j l (lefts_of old.plan.count (place_left left scope old))) rest
 
-  entered_same : IsSameLoop old new → open_entered new ≡ open_entered old
+  pub entered_same : IsSameLoop old new → open_entered new ≡ open_entered old
   entered_same h = λ i. record {
     number = (h.plan i).number;
     head = head_of (h.d i).now;

@@ -167,7 +167,7 @@ module _ {C : Type 0} (left : C → Left) (base : C → Scope) (sound : C → Ta
       by false e = refl
 
   -- a place is this one or another
-  this_or_other : (j place : ℕ) (P : Type 0) → (j ≡ place → P) → (j ≢ place → P) → P
+  pub this_or_other : (j place : ℕ) (P : Type 0) → (j ≡ place → P) → (j ≢ place → P) → P
   this_or_other j place P this other = by (j == place) refl
     where
       by : (b : Bool) → (j == place) ≡ b → P

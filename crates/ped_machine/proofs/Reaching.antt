@@ -52,13 +52,13 @@ went_on (met k n) old new P h f g = absurd h
 went_on (went a l) old new P h f g = f a l refl h.left
 went_on (halted a) old new P h f g = g a refl h.left
 
-over_is : (x : Next) (old new : Held) → IsStepBy x old answer.Ended new → x ≡ over
+pub over_is : (x : Next) (old new : Held) → IsStepBy x old answer.Ended new → x ≡ over
 over_is over old new h = refl
 over_is (met f n) old new h = absurd h
 over_is (went a l) old new h = absurd h
 over_is (halted a) old new h = absurd h
 
-fault_is : (x : Next) (old new : Held) (f n : ℕ) → IsStepBy x old (answer.Fault f n) new → x ≡ met f n
+pub fault_is : (x : Next) (old new : Held) (f n : ℕ) → IsStepBy x old (answer.Fault f n) new → x ≡ met f n
 fault_is over old new f n h = absurd h
 fault_is (met k i) old new f n h = λ j. met (sym h.0 j) (sym h.1 j)
 fault_is (went a l) old new f n h = absurd h

@@ -45,3 +45,13 @@ pub record HasLost (lost : Cell) (old new : Memory) : Type 0 where
   pub cells : new.cells ≡ old.cells
   pub bounds : new.bounds ≡ old.bounds
   pub stands : (c : Cell) → same_cell lost c ≡ false → new.stands c ≡ old.stands c
+
+-- this cell may have been forgotten, and all else is as it was
+pub record HasForgotten (lost : Cell) (old new : Memory) : Type 0 where
+  pub cells : (c : Cell) → same_cell lost c ≡ false → new.cells c ≡ old.cells c
+  pub bounds : new.bounds ≡ old.bounds
+  pub stands : (c : Cell) → same_cell lost c ≡ false → new.stands c ≡ old.stands c
+
+-- each cell holds what it held, or is a copy of these iterations or of others inside of them
+abbrev pub HasSameBut : Scope → Memory → Memory → Type 0
+HasSameBut base old new = (c : Cell) → (new.cells c ≡ old.cells c) ⊎ IsInside base c

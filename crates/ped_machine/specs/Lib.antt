@@ -3,6 +3,8 @@ pub mod Answers
 pub mod Bases
 pub mod Doing
 pub mod Machines
+pub mod Naming
+pub mod Following
 pub mod Parts
 pub mod Growth
 pub mod Levels

@@ -1,5 +1,5 @@
 -- Open PARALLEL DO loops of the code, and what each of their iterations has left (this project).
-use Rattle.std.specs.Prelude.{◌≡◌, ◌≢◌, ◌<◌, ◌+◌, ◌==◌, ℕ, zero, suc, [], ◌∷◌, length, Bool, false, Option, Some, None, if◌then◌else◌}
+use Rattle.std.specs.Prelude.{◌≡◌, ◌≢◌, ◌<◌, ◌+◌, ◌==◌, ◌⊎◌, ℕ, zero, suc, [], ◌∷◌, length, Bool, true, false, Option, Some, None, if◌then◌else◌}
 use Rattle.slab.specs.Slab.{Slab, get, Updates}
 use Rattle.ped_marks.specs.declared.marks.Mark.{Mark}
 use Rattle.ped_marks.specs.declared.marks.Mark.TheVariants.{Waits, Running, Done}
@@ -8,6 +8,9 @@ use Rattle.ped_tree.specs.Tree.{StmtTrees}
 use Rattle.ped_tree.specs.Views.{head_of, stmt_trees, do_tree}
 use Rattle.ped_symbols.specs.Kinds.{Table}
 use Rattle.ped_store.specs.Cells.{Cell}
+use Rattle.ped_store.specs.Memories.{Memory}
+use Rattle.ped_machine.specs.Bases.{IsInside}
+use Rattle.ped_machine.specs.Naming.{IsSpentCell}
 use Rattle.ped_interleavings.specs.ped_eval.specs.Scopes.{Scope}
 use Rattle.ped_interleavings.specs.ped_eval.specs.Loops.{Entered, frame}
 use Rattle.ped_interleavings.specs.ped_eval.specs.Plans.{entered_by, IsPlan}
@@ -68,6 +71,17 @@ module _ {C : Type 0} (left : C → Left) where
   -- the rest of a loop and what follows it
   abbrev pub open_left : Scope → Open C → Left → Left
   open_left scope o rest = open_loop (open_entered o) o.plan.number scope (lefts_of o.plan.count (place_left scope o)) rest
+
+  -- the cell is a copy of the iteration at a place, which is finished, or of a finished one inside of it
+  pub record IsForgottenAt (scope : Scope) (o : Open C) (c : Cell) : Type 0 where
+    pub place : ℕ
+    pub less : place < o.plan.count
+    pub inside : IsInside (place_scope scope o place) c
+    pub spent : (is_finished (place_left scope o place) ≡ true) ⊎ IsSpentCell (place_left scope o place) c
+
+  -- each cell holds what it held, or is such a copy
+  abbrev pub HasForgottenAt : Scope → Open C → Memory → Memory → Type 0
+  HasForgottenAt scope o old new = (c : Cell) → (new.cells c ≡ old.cells c) ⊎ IsForgottenAt scope o c
 
   module _ (base : C → Scope) (sound : C → Table → (Cell → Bool) → Type 0) (table : Table) (stands : Cell → Bool) where
     -- a task that runs: it is in these iterations, something is left of it, and all of that can be done

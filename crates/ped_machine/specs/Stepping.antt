@@ -10,7 +10,8 @@ use Rattle.ped_interleavings.specs.ped_eval.specs.Scopes.{Scope}
 use Rattle.ped_interleavings.specs.ped_eval.specs.Readiness.{setting_by}
 use Rattle.ped_interleavings.specs.Lefts.{Left, is_finished}
 use Rattle.ped_interleavings.specs.Steps.{step}
-use Rattle.ped_machine.specs.Bases.{is_own, HasKept}
+use Rattle.ped_machine.specs.Bases.{is_own, HasKept, HasSameBut}
+use Rattle.ped_machine.specs.Naming.{HasForgottenSpent}
 use Rattle.ped_machine.specs.Doing.{IsDone, IfOpen, IfSafe, HasRoom}
 use Rattle.ped_machine.specs.Opens.{HasMarked}
 use Rattle.ped_machine.specs.declared.opens.Open.{Open}
@@ -55,3 +56,16 @@ module _ {C : Type 0} (left : C → Left) (base : C → Scope) (sound : C → Ta
     pub unchanged : is_finished (left task) ≡ false → after ≡ m
     pub safe : (table : Table) (stands : Cell → Bool) → sound task table stands → sound behind table stands
     pub settled : IsSettledBy (is_finished (left task)) task behind place key old new
+
+  -- the copies of iterations inside of one that the latest step has finished have been forgotten
+  pub record HasForgottenIn (key : ℕ) (old new : Slab C) (m after : Memory) : Type 0 where
+    pub task : C
+    pub behind : C
+    pub was : get old key ≡ Some task
+    pub tasks : Updates old new key (Some behind)
+    pub same : left behind ≡ left task
+    pub inside : base behind ≡ base task
+    pub cells : HasForgottenSpent (left task) m after
+    pub others : HasSameBut (base task) m after
+    pub kept : HasKept (base task) m after
+    pub safe : (table : Table) → sound task table m.stands → sound behind table after.stands

@@ -14,6 +14,7 @@ use crate::turns::{drop_copies, frame_of, open_copies};
 use crate::works::Work;
 use ped_base::{Name, NoMemory};
 use ped_eval::{Frame, Plan, Scope, State};
+use ped_store::Store;
 use ped_symbols::Symbols;
 use ped_tree::Do;
 use std::alloc::Global;
@@ -73,10 +74,14 @@ impl<'a, C: Work<'a>> Work<'a> for Level<'a, C> {
     fn leave(&self, state: &mut State, names: &[Name]) {
         drop_copies(&mut state.store, &self.scope, names)
     }
+
+    fn forget(&mut self, alloc: Global, store: &mut Store) {
+        self.rest.forget(alloc, store, &self.scope)
+    }
 }
 
 /// The iterations around a place, and an iteration of a DO there.
-fn inner_scope(
+pub(crate) fn inner_scope(
     alloc: Global,
     outer: &Scope,
     d: &Do,

@@ -12,5 +12,5 @@ mod steps;
 mod turns;
 mod works;
 
-pub use machine::Machine;
+pub use machine::{Machine, run_by_choices};
 pub use steps::Step;

@@ -8,9 +8,10 @@ ghost use Rattle.ped_interleavings.specs.ped_eval.specs.Outcomes.{setting_of};
 ghost use Rattle.ped_interleavings.specs.ped_eval.specs.OutcomeViews.{outcome_view};
 ghost use Rattle.ped_interleavings.specs.Lefts as Lefts;
 ghost use Rattle.ped_interleavings.specs.Steps as Steps;
-ghost use Rattle.ped_interleavings.specs.Interleavings.{IsInterleavedFrom, at_start, choice};
+ghost use Rattle.ped_interleavings.specs.Interleavings.{IsInterleaved, IsInterleavedFrom, at_start, choice};
 ghost use Rattle.ped_interleavings.specs.Weights.{left_weight};
 ghost use Rattle.ped_machine.specs.Answers.{is_last};
+ghost use Rattle.ped_machine.specs.Naming.{IsApart, IsForgotten};
 ghost use Rattle.ped_machine.specs.Parts.{parts_of};
 ghost use Rattle.ped_machine.specs.Machines.{standing, IsSameRun, IsStepBy, IsOutcomeBy, IfFaultless, ReachesSome};
 ghost use Rattle.ped_machine.specs.Roots.{held, IsSafe};
@@ -147,6 +148,44 @@ impl<'a> Machine<'a> {
         }
     }
 
+    /// Goes on with these choices, and then with 0, until the program ends. Copies of iterations that have ended are
+    /// forgotten, so that the store isn't that of the run any more.
+    fn run_forgetting(&mut self, choices: &[u64]) -> Result<Outcome, NoMemory>
+        requires safe { IsSafe self.old }
+        requires apart { IsApart (held self.old).left }
+        ensures { IfOk result (λ o. IsInterleavedFrom (held self.old).tree (standing (held self.old) choices.now) (outcome_view o)) }
+    {
+        let mut left = choices;
+        loop {
+            let pick = first_of(left);
+            left = choices_behind(self.wants_choice(), left);
+            match self.step(pick) {
+                Ok(step) => {
+                    if is_last(&step) {
+                        return self.outcome(&step);
+                    }
+                    self.forget();
+                }
+                Err(error) => return Err(error),
+            }
+        }
+    }
+
+    /// Drops the copies of the iterations that the latest step has finished.
+    fn forget(&mut self)
+        requires { IsSafe self.old }
+        ensures safe { IsSafe self.new }
+        ensures tree { (held self.new).tree ≡ (held self.old).tree }
+        ensures left { (held self.new).left ≡ (held self.old).left }
+        ensures cells { IsForgotten (held self.old).left (held self.old).store (held self.new).store }
+    {
+        if self.is_over {
+            return;
+        }
+        self.rest
+            .forget(self.alloc, &mut self.state.store, &self.state.scope)
+    }
+
     /// The outcome of a run whose last step has answered so.
     fn outcome(&self, answer: &Step) -> Result<Outcome, NoMemory>
         requires last { is_last answer.now ≡ true }
@@ -164,6 +203,27 @@ impl<'a> Machine<'a> {
             }
         }
     }
+}
+
+/// The outcome of a valid program, whose names these are, with these choices, and then with 0, on the lines of its data.
+/// It takes memory for the iterations that have started and haven't ended, and for no others.
+///
+/// # Errors
+///
+/// Out of memory.
+pub fn run_by_choices(
+    alloc: Global,
+    program: &Program,
+    symbols: &Symbols,
+    input: &[u8],
+    choices: &[u64],
+) -> Result<Outcome, NoMemory>
+    requires valid { IsValid (program_tree program.now) }
+    requires symbols { symbols.now ≡ table_of (program_tree program.now) }
+    ensures { IfOk result (λ o. IsInterleaved (program_tree program.now) input.now choices.now (outcome_view o)) }
+{
+    let mut machine = Machine::new(alloc, program, symbols, input)?;
+    machine.run_forgetting(choices)
 }
 
 /// A program of which all is left.

@@ -15,15 +15,18 @@ ghost use Rattle.ped_interleavings.specs.Lefts.{is_finished, unfinished, or_else
 ghost use Rattle.ped_interleavings.specs.Steps as Steps;
 ghost use Rattle.ped_machine.specs.Doing.{IsDone, IfOpen, IfSafe, HasRoom};
 ghost use Rattle.ped_machine.specs.Bases.{is_own, HasKept};
-ghost use Rattle.ped_machine.specs.Stepping.{HasSettled, HasStepped, IsLookedAt};
-ghost use Rattle.ped_machine.specs.Opens.{HasMarked, IsOpen, IsRunning, IsSameLoop, IsSameElsewhere, lefts_of, place_left, place_scope};
+ghost use Rattle.ped_machine.specs.Stepping.{HasSettled, HasStepped, HasForgottenIn, IsLookedAt};
+ghost use Rattle.ped_machine.specs.Naming.{HasForgottenRound};
+ghost use Rattle.ped_machine.specs.Opens.{HasForgottenAt, HasMarked, IsOpen, IsRunning, IsSameLoop, IsSameElsewhere, lefts_of, place_left, place_scope};
 
 use crate::parts::without_comments;
 use crate::steps::Done;
+use crate::turns::forget_turn;
 use crate::works::Work;
 use ped_base::{Name, NoMemory};
-use ped_eval::{Plan, State};
+use ped_eval::{Plan, Scope, State};
 use ped_marks::{Mark, Marks};
+use ped_store::Store;
 use ped_symbols::Symbols;
 use ped_tree::Do;
 use slab::Slab;
@@ -40,6 +43,8 @@ pub struct Open<'a, C> {
     pub tasks: Slab<C>,
     /// How far each iteration is, by its place, from 0.
     pub marks: Marks,
+    /// The place of the iteration that has done the latest step, unless its copies have been looked at since.
+    pub latest: Option<u64>,
 }
 
 impl<'a, C: Work<'a>> Open<'a, C> {
@@ -154,6 +159,7 @@ impl<'a, C: Work<'a>> Open<'a, C> {
         match self.step_task(alloc, symbols, state, key, choice) {
             Ok(done) => {
                 self.finish_over(state, place, key);
+                self.latest = Some(place);
                 return Ok(done);
             }
             Err(error) => return Err(error),
@@ -209,6 +215,62 @@ impl<'a, C: Work<'a>> Open<'a, C> {
         let task = self.tasks.try_remove(key);
         self.marks.finish(place);
         leave_task(state, task, self.plan.copied.as_slice())
+    }
+
+    /// Drops the copies of the iteration that the latest step has finished, here or inside.
+    pub fn forget(&mut self, alloc: Global, store: &mut Store, scope: &Scope)
+        requires inner { (table : Table) × IsOpen C.left C.base C.sound table (memory_of store.old).stands scope.now self.old }
+        ensures same { IsSameLoop self.old self.new }
+        ensures left { (j : ℕ) → j < self.old.plan.count → place_left C.left scope.now self.new j ≡ place_left C.left scope.now self.old j }
+        ensures cells { HasForgottenAt C.left scope.now self.old (memory_of store.old) (memory_of store.new) }
+        ensures kept { HasForgottenRound scope.now (memory_of store.old) (memory_of store.new) }
+        ensures inner { (table : Table) → IsOpen C.left C.base C.sound table (memory_of store.old).stands scope.now self.old → IsOpen C.left C.base C.sound table (memory_of store.new).stands scope.now self.new }
+    {
+        match self.latest.take() {
+            None => {}
+            Some(place) => {
+                if self.has_place(place) {
+                    self.forget_at(alloc, store, scope, place);
+                }
+            }
+        }
+    }
+
+    /// Drops the copies of the iteration at this place if it is finished, and else of those inside that the latest step
+    /// has finished.
+    fn forget_at(&mut self, alloc: Global, store: &mut Store, scope: &Scope, place: u64)
+        requires place { place < self.old.plan.count }
+        requires inner { (table : Table) × IsOpen C.left C.base C.sound table (memory_of store.old).stands scope.now self.old }
+        ensures same { IsSameLoop self.old self.new }
+        ensures left { (j : ℕ) → j < self.old.plan.count → place_left C.left scope.now self.new j ≡ place_left C.left scope.now self.old j }
+        ensures cells { HasForgottenAt C.left scope.now self.old (memory_of store.old) (memory_of store.new) }
+        ensures kept { HasForgottenRound scope.now (memory_of store.old) (memory_of store.new) }
+        ensures inner { (table : Table) → IsOpen C.left C.base C.sound table (memory_of store.old).stands scope.now self.old → IsOpen C.left C.base C.sound table (memory_of store.new).stands scope.now self.new }
+    {
+        match self.marks.at(place) {
+            Mark::Waits => {}
+            Mark::Running(key) => self.forget_inside(alloc, store, key),
+            Mark::Done => forget_turn(alloc, store, scope, self.d, &self.plan, place),
+        }
+    }
+
+    /// Whether the loop has an iteration at this place.
+    fn has_place(&self, place: u64) -> bool
+        ensures { result ≡ true → place < self.now.plan.count }
+    {
+        place < self.plan.count
+    }
+
+    /// Drops the copies of those inside of the iteration with this key that the latest step has finished.
+    fn forget_inside(&mut self, alloc: Global, store: &mut Store, key: usize)
+        requires running { (table : Table) × (inner : Scope) × IsRunning C.left C.base C.sound table (memory_of store.old).stands self.old.tasks inner key }
+        ensures same { IsSameLoop self.old self.new × (self.new.marks ≡ self.old.marks) }
+        ensures forgotten { HasForgottenIn C.left C.base C.sound key self.old.tasks self.new.tasks (memory_of store.old) (memory_of store.new) }
+    {
+        match self.tasks.get_mut(key) {
+            None => {}
+            Some(task) => task.forget(alloc, store),
+        }
     }
 
     /// Whether nothing is left of the iteration with this key.

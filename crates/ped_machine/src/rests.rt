@@ -13,7 +13,8 @@ ghost use Rattle.ped_interleavings.specs.ped_eval.specs.Plans.{entered_by, IsPla
 ghost use Rattle.ped_interleavings.specs.ped_eval.specs.Readiness.{setting_by, CanDo, IsReady};
 ghost use Rattle.ped_interleavings.specs.Lefts.{Left, is_finished, wants_choice, entered_left};
 ghost use Rattle.ped_interleavings.specs.Steps as Steps;
-ghost use Rattle.ped_machine.specs.Bases.{HasKept};
+ghost use Rattle.ped_machine.specs.Bases.{HasKept, HasSameBut};
+ghost use Rattle.ped_machine.specs.Naming.{HasForgottenSpent, HasForgottenRound};
 ghost use Rattle.ped_machine.specs.Doing.{IsDone, IfOpen, IfSafe, HasGrown, HasRoom};
 ghost use Rattle.ped_machine.specs.Parts.{base_of, CanGo, Begins, is_comment, is_loop, parts_left, parts_of};
 ghost use Rattle.ped_machine.specs.Opens.{IsOpen, open_left};
@@ -27,8 +28,9 @@ use crate::steps::Done;
 use crate::turns::{end_turn, enter_do};
 use crate::works::Work;
 use ped_base::NoMemory;
-use ped_eval::{NoWatch, Plan, RunError, State, plan_of, write_exit};
+use ped_eval::{NoWatch, Plan, RunError, Scope, State, plan_of, write_exit};
 use ped_marks::Marks;
+use ped_store::Store;
 use ped_symbols::Symbols;
 use ped_tree::{Do, Stmt};
 use slab::Slab;
@@ -64,6 +66,22 @@ impl<'a, C: Work<'a>> Rest<'a, C> {
         match &self.inner {
             None => return false,
             Some(inner) => return inner.pick(0).is_some(),
+        }
+    }
+
+    /// Drops the copies of the iterations of the open loop that the latest step has finished.
+    pub fn forget(&mut self, alloc: Global, store: &mut Store, scope: &Scope)
+        requires sound { (table : Table) × IsSound C.left C.base C.sound scope.now self.old table (memory_of store.old).stands }
+        ensures left { rest_left C.left scope.now self.new ≡ rest_left C.left scope.now self.old }
+        ensures parts { self.new.parts ≡ self.old.parts }
+        ensures cells { HasForgottenSpent (rest_left C.left scope.now self.old) (memory_of store.old) (memory_of store.new) }
+        ensures others { HasSameBut scope.now (memory_of store.old) (memory_of store.new) }
+        ensures kept { HasForgottenRound scope.now (memory_of store.old) (memory_of store.new) }
+        ensures sound { (table : Table) → IsSound C.left C.base C.sound scope.now self.old table (memory_of store.old).stands → IsSound C.left C.base C.sound scope.now self.new table (memory_of store.new).stands }
+    {
+        match &mut self.inner {
+            None => {}
+            Some(open) => open.forget(alloc, store, scope),
         }
     }
 
@@ -273,6 +291,7 @@ fn opened<'a, C: Work<'a>>(alloc: Global, d: &'a Do, plan: Plan) -> Open<'a, C>
         plan,
         tasks,
         marks,
+        latest: None,
     }
 }
 

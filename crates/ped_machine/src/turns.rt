@@ -15,11 +15,12 @@ ghost use Rattle.ped_interleavings.specs.ped_eval.specs.Plans.{entered_by, IsPla
 ghost use Rattle.ped_interleavings.specs.ped_eval.specs.Readiness.{CanDo, IsReady};
 ghost use Rattle.ped_interleavings.specs.Lefts.{turns_left};
 ghost use Rattle.ped_interleavings.specs.Steps as Steps;
-ghost use Rattle.ped_machine.specs.Bases.{is_own, HasKept, HasLost, IsWithin};
+ghost use Rattle.ped_machine.specs.Bases.{is_own, HasKept, HasLost, HasForgotten, HasSameBut, IsWithin};
 ghost use Rattle.ped_machine.specs.Doing.{IsDone, IfOpen, IfSafe, HasGrown, HasRoom};
 ghost use Rattle.ped_machine.specs.Parts.{base_of, CanGo, Ends, first_turn_part, parts_left, parts_of};
 ghost use Rattle.ped_machine.specs.declared.steps.Done.TheVariants as done;
 
+use crate::levels::inner_scope;
 use crate::parts::{Part, Parts, Turn};
 use crate::steps::Done;
 use ped_base::{Name, NoMemory};
@@ -103,6 +104,52 @@ fn drop_copy(store: &mut Store, cell: &Cell)
                 return;
             }
         }
+    }
+}
+
+/// Drops the copies of the iteration of a PARALLEL DO that this many others precede. The first name is that of the loop's
+/// variable, whose copy holds nothing, so that there is nothing to do where it is the only one. If memory runs out, the
+/// copies stay.
+pub(crate) fn forget_turn(
+    alloc: Global,
+    store: &mut Store,
+    scope: &Scope,
+    d: &Do,
+    plan: &Plan,
+    earlier: u64,
+)
+    requires plan { IsPlan (head_of d.now) (stmt_trees d.now.body.items) plan.now }
+    requires earlier { earlier < plan.now.count }
+    requires few { length scope.now < 6 }
+    ensures cells { HasSameBut (Loops.frame (entered_by (head_of d.now) plan.now 0) (earlier + 1) ∷ scope.now) (memory_of store.old) (memory_of store.new) }
+    ensures kept { HasKept (Loops.frame (entered_by (head_of d.now) plan.now 0) (earlier + 1) ∷ scope.now) (memory_of store.old) (memory_of store.new) }
+{
+    let names = plan.copied.as_slice();
+    if names.len() > 1 {
+        match inner_scope(alloc, scope, d, plan, earlier) {
+            Ok(inner) => forget_copies(store, &inner, names),
+            Err(_) => {}
+        }
+    }
+}
+
+/// Drops those copies of these names that are private to these iterations.
+fn forget_copies(store: &mut Store, scope: &Scope, names: &[Name])
+    ensures { (base : Scopes.Scope) → IsWithin base scope.now → list_all (is_own base) names.now ≡ true → HasSameBut base (memory_of store.old) (memory_of store.new) × HasKept base (memory_of store.old) (memory_of store.new) }
+{
+    for place in 0..names.len() {
+        let cell = scope.cell_at(&names[place], place);
+        forget_copy(store, &cell);
+    }
+}
+
+/// Drops a private copy.
+fn forget_copy(store: &mut Store, cell: &Cell)
+    requires { IsCell cell.now }
+    ensures { HasForgotten (cell_view cell.now) (memory_of store.old) (memory_of store.new) }
+{
+    if is_copy(cell) {
+        store.close_copy(cell);
     }
 }
 

@@ -13,12 +13,14 @@ ghost use Rattle.ped_interleavings.specs.ped_eval.specs.Plans.{entered_by, IsPla
 ghost use Rattle.ped_interleavings.specs.ped_eval.specs.Readiness.{setting_by, CanDo, IsReady};
 ghost use Rattle.ped_interleavings.specs.Lefts.{Left, finished, is_finished, body_left};
 ghost use Rattle.ped_interleavings.specs.Steps as Steps;
-ghost use Rattle.ped_machine.specs.Bases.{is_own, IsNear, HasKept};
+ghost use Rattle.ped_machine.specs.Bases.{is_own, IsNear, HasKept, HasSameBut};
+ghost use Rattle.ped_machine.specs.Naming.{HasForgottenSpent};
 ghost use Rattle.ped_machine.specs.Doing.{IsDone, IfOpen, IfSafe, HasRoom};
 
 use crate::steps::Done;
 use ped_base::{Name, NoMemory};
 use ped_eval::{Plan, State};
+use ped_store::Store;
 use ped_symbols::Symbols;
 use ped_tree::Do;
 use std::alloc::Global;
@@ -90,6 +92,16 @@ pub trait Work<'a>: Drop {
         ensures kept { list_all (is_own (base self.now)) names.now ≡ true → HasKept (base self.now) (memory_of state.old.store) (memory_of state.new.store) }
         ensures scope { state.new.scope ≡ state.old.scope };
 
+    /// Drops the copies of the iterations inside of it that the latest step has finished.
+    fn forget(&mut self, alloc: Global, store: &mut Store)
+        requires sound { (table : Table) × sound self.old table (memory_of store.old).stands }
+        ensures left { left self.new ≡ left self.old }
+        ensures inside { base self.new ≡ base self.old }
+        ensures cells { HasForgottenSpent (left self.old) (memory_of store.old) (memory_of store.new) }
+        ensures others { HasSameBut (base self.old) (memory_of store.old) (memory_of store.new) }
+        ensures kept { HasKept (base self.old) (memory_of store.old) (memory_of store.new) }
+        ensures sound { (table : Table) → sound self.old table (memory_of store.old).stands → sound self.new table (memory_of store.new).stands };
+
     /// It can also be done where more of the cells that it may need exist.
     ghost grows: { (w : Self) (table : Table) (stands more : Cell → Bool) → ((c : Cell) → IsNear (base w) c → stands c ≡ true → more c ≡ true) → sound w table stands → sound w table more };
 }
@@ -135,4 +147,6 @@ impl<'a> Work<'a> for Never {
     }
 
     fn leave(&self, _state: &mut State, _names: &[Name]) {}
+
+    fn forget(&mut self, _alloc: Global, _store: &mut Store) {}
 }

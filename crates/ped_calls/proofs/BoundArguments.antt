@@ -1,13 +1,11 @@
--- Arguments bound one by one, and names of units that get their meanings one by one.
-use Rattle.std.proofs.Common.{◌≡◌, ◌+◌, ◌≤◌, ◌<◌, ◌⊎◌, inl, inr, arith, get_or, ℕ, ℤ, List, [], ◌∷◌, ◌++◌, drop, length, Bool, true, false, Option, Some, None, refl, sym, ap, ◌∙◌, append_assoc, if◌then◌else◌}
-use Rattle.std.specs.Prelude.{slice_get}
-use Rattle.std.proofs.lemmas.List.{drop-drop, drop_all, at_drop_more}
-use Rattle.std.proofs.lemmas.Option.{none-some, slice_get_within, slice_get_cases, get_or_from_slice_get}
+-- Arguments bound one by one, and dummy arguments that get their meanings one by one.
+use Rattle.std.proofs.Common.{◌≡◌, ◌+◌, ◌<◌, arith, get_or, ℕ, ℤ, List, [], ◌∷◌, ◌++◌, drop, length, Bool, true, false, Option, Some, None, refl, sym, ap, ◌∙◌, append_assoc, if◌then◌else◌}
+use Rattle.std.proofs.lemmas.List.{drop-drop, at_drop_more}
 use Rattle.ped_tree.specs.Tree.{ExprTree, StmtTree, StmtTrees}
 use Rattle.ped_tree.specs.Numbering.{statements_count}
 use Rattle.ped_links.specs.ped_symbols.specs.Entries.{with_entry}
 use Rattle.ped_links.specs.ped_symbols.specs.Values.{Values, fixed_value}
-use Rattle.ped_links.specs.ped_units.specs.Expanding.{Given, Meanings, Bound, standing, bound_by, bound_arguments, is_variable_name, with_new, with_formals, with_constants, behind_stmts}
+use Rattle.ped_links.specs.ped_units.specs.Expanding.{Given, Meanings, Bound, standing, bound_by, bound_arguments, is_variable_name, with_new, with_formals, behind_stmts}
 use Rattle.ped_calls.specs.Binding.{BindsOn}
 
 -- what arguments are bound to, and others behind them
@@ -89,29 +87,6 @@ binds_more cs fs all m front g left rest place now next done more before behind 
           ∙ inv.assignments;
       given = ap (λ (b : Bound). b.given) (sym whole) ∙ inv.given;
     }
-
--- the rest of a list from a place on
-drop_at : {X : Type 0} (xs : List X) (n : ℕ) (x : X) → slice_get xs n ≡ Some x → drop n xs ≡ x ∷ drop (n + 1) xs
-drop_at {X} xs n x h =
-    at_drop_more (λ (ys : List X). ys) xs n x (slice_get_within xs n x h) ∙ ap (λ (y : X). y ∷ drop (n + 1) xs) (get_or_from_slice_get xs n x x h)
-
--- nothing stands at a place
-drop_past : {X : Type 0} (xs : List X) (n : ℕ) → slice_get xs n ≡ None → drop (n + 1) xs ≡ drop n xs
-drop_past {X} xs n h =
-    let past : length xs ≤ n = by_case (slice_get_cases xs n).1 in
-    drop_all (n + 1) xs (omega (arith, past)) ∙ sym (drop_all n xs past)
-  where
-    by_case : ((x : X) × (n < length xs) × (slice_get xs n ≡ Some x) × (get_or xs n x ≡ x)) ⊎ ((length xs ≤ n) × (slice_get xs n ≡ None)) → length xs ≤ n
-    by_case (inl k) = absurd (none-some k.0 (sym h ∙ k.2))
-    by_case (inr k) = k.0
-
--- the constant at a place
-pub constant_at : (m : Meanings) (cs : Values) (place : ℕ) (v : List ℕ × ℤ) → slice_get cs place ≡ Some v → with_constants (with_constants m (v ∷ [])) (drop (place + 1) cs) ≡ with_constants m (drop place cs)
-constant_at m cs place v h = ap (with_constants m) (sym (drop_at cs place v h))
-
--- no constant is at a place
-pub no_constant_at : (m : Meanings) (cs : Values) (place : ℕ) → slice_get cs place ≡ None → with_constants m (drop (place + 1) cs) ≡ with_constants m (drop place cs)
-no_constant_at m cs place h = ap (with_constants m) (drop_past cs place h)
 
 -- the first of what is left of a list
 pub first_left : {X : Type 0} (xs : List X) (i : ℕ) (x : X) → i < length xs → x ≡ get_or xs i x → drop i xs ≡ x ∷ drop (i + 1) xs

@@ -4,8 +4,10 @@ mod Expansions
 mod CourseSteps
 mod Measures
 mod BlockSteps
+mod NamedAlike
 mod PlainExpanding
 mod FirstCalls
+mod SameMeanings
 mod Settled
 mod Judged
 mod FirstPast

@@ -15,7 +15,7 @@ use Rattle.ped_links.specs.ped_symbols.specs.Arrays.{Arrays, with_dimension, bou
 use Rattle.ped_links.specs.ped_symbols.specs.Sites.{Site, declaration, statement, private_names, program_sites}
 use Rattle.ped_links.specs.ped_symbols.specs.NameRefusals.{Before, at_first, behind_site, behind_sites}
 use Rattle.ped_links.specs.ped_symbols.specs.Kinds.{at_last, kind_by, kind_of, kind_in, names_of, table_of}
-use Rattle.ped_links.specs.ped_valid.specs.ped_symbols.proofs.RightUseLaws.Found.{found_in_program}
+use Rattle.ped_links.specs.ped_symbols.proofs.RightUseLaws.Found.{found_in_program}
 use Rattle.ped_calls.specs.Giving.{IsSmall, HasSmallBounds, HasSmallKind}
 
 small_if : (n : ℤ) (b : Bool) → nat_le (unsigned_abs n) greatest_literal ≡ b → IfSome (if b then Some n else None) IsSmall

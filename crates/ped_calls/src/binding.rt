@@ -1,18 +1,20 @@
 //! What the names of a subroutine stand for in the block of a CALL: dummy arguments for arguments, constants for their
 //! literals, all other names for new ones (ANSI X3.9-1978, section 15.9).
 
-ghost use Rattle.std.specs.Prelude.{◌≡◌, ◌+◌, ◌++◌, ◌∷◌, [], IfOk, IfSome, OnOk, map, drop};
+ghost use Rattle.std.specs.Prelude.{◌≡◌, ◌++◌, ◌∷◌, [], IfOk, IfSome, OnOk, map, drop};
 ghost use Rattle.ped_tree.specs.Tree.{Var, Assign};
 ghost use Rattle.ped_tree.specs.Views.{expr_tree, stmt_tree};
+ghost use Rattle.ped_tree.specs.Constants.NamedConstants.{value_named};
 ghost use Rattle.ped_links.specs.ped_symbols.specs.Kinds.{table_of};
 ghost use Rattle.ped_links.specs.ped_symbols.specs.Values as Values;
-ghost use Rattle.ped_links.specs.ped_symbols.specs.Entries.{entry_of};
+ghost use Rattle.ped_links.specs.ped_symbols.specs.Entries.{entry_of, with_entry};
 ghost use Rattle.ped_links.specs.ped_units.specs.Refusals.{for_names};
+ghost use Rattle.ped_links.specs.ped_units.specs.ped_sums.specs.Sums.{literal as literal_tree};
 ghost use Rattle.ped_links.specs.ped_units.specs.Expanding as Spec;
-ghost use Rattle.ped_links.specs.ped_units.specs.Expanding.{free_name, with_new, with_formals, with_constants, bound_arguments};
+ghost use Rattle.ped_links.specs.ped_units.specs.Expanding.{free_name, with_new, with_formals, with_renamed, bound_arguments};
 ghost use Rattle.ped_calls.specs.Giving.{given_of, HasNext, IsSmall, HasSmallKind};
 ghost use Rattle.ped_calls.specs.Meaning.{meanings_of};
-ghost use Rattle.ped_calls.specs.Binding.{AreSmall, local_meanings, renamed_one};
+ghost use Rattle.ped_calls.specs.Binding.{StandAlike, local_meanings, named_one};
 ghost use Rattle.ped_links.specs.ped_units.specs.Views.{program_unit_of};
 
 use crate::giving::{Given, literal};
@@ -147,8 +149,8 @@ fn within(value: i128) -> Option<i64>
     }
 }
 
-/// Has literals stand for the named constants of a unit, and new names for all other names in its statements, where
-/// nothing does yet.
+/// Has literals stand for the named constants in the statements of a unit, and new names for all other names in them,
+/// where nothing does yet, in the order in which they occur first. Named constants that don't occur are left out.
 pub fn add_names(
     alloc: Global,
     meanings: &mut Meanings,
@@ -158,76 +160,56 @@ pub fn add_names(
 ) -> Result<(), NoMemory>
     requires next { HasNext given.old }
     requires table { table.now ≡ table_of (for_names (program_unit_of unit.now)) }
-    ensures meanings { OnOk result (meanings_of meanings.new ≡ (local_meanings (program_unit_of unit.now) (meanings_of meanings.old) (given_of given.old)).meanings) }
+    ensures meanings { OnOk result (StandAlike (Spec.body_names (program_unit_of unit.now)) (meanings_of meanings.new) (local_meanings (program_unit_of unit.now) (meanings_of meanings.old) (given_of given.old)).meanings) }
     ensures given { OnOk result (given_of given.new ≡ (local_meanings (program_unit_of unit.now) (meanings_of meanings.old) (given_of given.old)).given) }
-    ensures next { OnOk result (HasNext given.new) }
-{
-    add_constants(alloc, meanings, table.consts())?;
-    add_locals(alloc, meanings, given, unit, table)
-}
-
-/// Has literals stand for named constants.
-fn add_constants(alloc: Global, meanings: &mut Meanings, constants: &Consts) -> Result<(), NoMemory>
-    requires { AreSmall constants.now }
-    ensures { OnOk result (meanings_of meanings.new ≡ with_constants (meanings_of meanings.old) constants.now) }
-{
-    for place in 0..constants.len() {
-        add_constant_at(alloc, meanings, constants, place)?;
-    }
-    Ok(())
-}
-
-/// Has a literal stand for the named constant at a place, where there is one.
-fn add_constant_at(
-    alloc: Global,
-    meanings: &mut Meanings,
-    constants: &Consts,
-    place: usize,
-) -> Result<(), NoMemory>
-    requires { AreSmall constants.now }
-    ensures { OnOk result (with_constants (meanings_of meanings.new) (drop (place + 1) constants.now) ≡ with_constants (meanings_of meanings.old) (drop place constants.now)) }
-{
-    match constants.get_index(place) {
-        Some(entry) => add_constant(alloc, meanings, entry),
-        None => Ok(()),
-    }
-}
-
-fn add_constant(
-    alloc: Global,
-    meanings: &mut Meanings,
-    constant: (Name, i64),
-) -> Result<(), NoMemory>
-    requires { IsSmall constant.1 }
-    ensures { OnOk result (meanings_of meanings.new ≡ with_constants (meanings_of meanings.old) (constant ∷ [])) }
-{
-    let e = literal(alloc, constant.1)?;
-    meanings.keep(&constant.0, e)
-}
-
-/// Has new names stand for all names in the statements of a unit that nothing stands for yet, in the order in which
-/// they occur first.
-fn add_locals(
-    alloc: Global,
-    meanings: &mut Meanings,
-    given: &mut Given,
-    unit: &ProgramUnit,
-    table: &Symbols,
-) -> Result<(), NoMemory>
-    requires next { HasNext given.old }
-    requires table { table.now ≡ table_of (for_names (program_unit_of unit.now)) }
-    ensures meanings { OnOk result (meanings_of meanings.new ≡ (Spec.renamed (program_unit_of unit.now) (Spec.body_names (program_unit_of unit.now)) (record { meanings = meanings_of meanings.old; given = given_of given.old })).meanings) }
-    ensures given { OnOk result (given_of given.new ≡ (Spec.renamed (program_unit_of unit.now) (Spec.body_names (program_unit_of unit.now)) (record { meanings = meanings_of meanings.old; given = given_of given.old })).given) }
     ensures next { OnOk result (HasNext given.new) }
 {
     let names = body_names(alloc, &unit.program.body)?;
     for name in names.as_slice() {
-        add_local(alloc, meanings, given, table, name)?;
+        add_name(alloc, meanings, given, table, name)?;
     }
     Ok(())
 }
 
-/// Has a new name stand for a name, where nothing does yet.
+/// Has the literal of a named constant or a new name stand for a name, where nothing does yet.
+fn add_name(
+    alloc: Global,
+    meanings: &mut Meanings,
+    given: &mut Given,
+    table: &Symbols,
+    name: &Name,
+) -> Result<(), NoMemory>
+    requires next { HasNext given.old }
+    requires constant { IfSome (value_named table.now.constants name.now) IsSmall }
+    requires kind { HasSmallKind (entry_of table.now.kinds name.now) }
+    ensures meanings { OnOk result (meanings_of meanings.new ≡ (named_one table.now.constants name.now (entry_of table.now.kinds name.now) (record { meanings = meanings_of meanings.old; given = given_of given.old })).meanings) }
+    ensures given { OnOk result (given_of given.new ≡ (named_one table.now.constants name.now (entry_of table.now.kinds name.now) (record { meanings = meanings_of meanings.old; given = given_of given.old })).given) }
+    ensures next { OnOk result (HasNext given.new) }
+{
+    if meanings.has(name) {
+        return Ok(());
+    }
+    match table.consts().get(name) {
+        Some(value) => add_constant(alloc, meanings, name, value),
+        None => add_local(alloc, meanings, given, table, name),
+    }
+}
+
+/// Has the literal of its value stand for a named constant.
+fn add_constant(
+    alloc: Global,
+    meanings: &mut Meanings,
+    name: &Name,
+    value: i64,
+) -> Result<(), NoMemory>
+    requires { IsSmall value }
+    ensures { OnOk result (meanings_of meanings.new ≡ with_entry (meanings_of meanings.old) name.now (literal_tree value)) }
+{
+    let e = literal(alloc, value)?;
+    meanings.keep(name, e)
+}
+
+/// Has a new name stand for a name.
 fn add_local(
     alloc: Global,
     meanings: &mut Meanings,
@@ -237,13 +219,10 @@ fn add_local(
 ) -> Result<(), NoMemory>
     requires next { HasNext given.old }
     requires small { HasSmallKind (entry_of table.now.kinds name.now) }
-    ensures meanings { OnOk result (meanings_of meanings.new ≡ (renamed_one name.now (entry_of table.now.kinds name.now) (record { meanings = meanings_of meanings.old; given = given_of given.old })).meanings) }
-    ensures given { OnOk result (given_of given.new ≡ (renamed_one name.now (entry_of table.now.kinds name.now) (record { meanings = meanings_of meanings.old; given = given_of given.old })).given) }
+    ensures meanings { OnOk result (meanings_of meanings.new ≡ (with_renamed name.now (entry_of table.now.kinds name.now) (record { meanings = meanings_of meanings.old; given = given_of given.old })).meanings) }
+    ensures given { OnOk result (given_of given.new ≡ (with_renamed name.now (entry_of table.now.kinds name.now) (record { meanings = meanings_of meanings.old; given = given_of given.old })).given) }
     ensures next { OnOk result (HasNext given.new) }
 {
-    if meanings.has(name) {
-        return Ok(());
-    }
     let new = given.new_local(alloc, table.kind(name))?;
     meanings.keep(name, Expr::scalar(new))
 }

@@ -5,7 +5,7 @@ use Rattle.ped_tree.specs.Grammar.Refusal.{Finding, first_of}
 use Rattle.ped_tree.specs.Grammar.RefusalViews.{finding_of}
 use Rattle.ped_links.specs.ped_symbols.specs.NameRefusals.{name_refusals}
 use Rattle.ped_links.specs.ped_symbols.specs.Refused.{IsFirstOf}
-use Rattle.ped_links.specs.ped_valid.specs.ped_symbols.proofs.FewReferences.{few_statements, few_references}
+use Rattle.ped_links.specs.ped_symbols.proofs.FewReferences.{few_statements, few_references}
 use Rattle.ped_calls.proofs.opening.judged_program.Goals as goal
 
 -- where nothing is refused nothing is the first

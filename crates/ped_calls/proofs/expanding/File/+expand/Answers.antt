@@ -1,24 +1,29 @@
-use Rattle.std.proofs.Common.{◌≡◌, IfOk, IfErr, OnOk, ◌≤◌, ◌+◌, ◌-◌, ◌⊎◌, List, [], ◌∷◌, ◌++◌, map, length, drop, refl, sym, ap, subst, ◌∙◌, arith}
+use Rattle.std.proofs.Common.{◌≡◌, IfOk, IfErr, OnOk, ◌≤◌, ◌+◌, ◌-◌, ◌⊎◌, inr, ℕ, List, [], ◌∷◌, ◌++◌, map, length, drop, refl, sym, ap, subst, ◌∙◌, arith}
 use Rattle.std.proofs.lemmas.List.{map_push, drop_all}
+use Rattle.std.proofs.lemmas.Result.{on_ok_weaker, IfErr-weaker}
 use Rattle.ped_tree.specs.Tree.{StmtTree, StmtTrees}
 use Rattle.ped_tree.specs.Views.{expr_tree, pack_exprs, cond_tree, stmt_tree, stmt_trees, head_of}
 use Rattle.ped_tree.specs.Numbering.{statement_count, statements_count}
 use Rattle.ped_tree.specs.Grammar.LimitNumbers.{most_blocks_nested}
 use Rattle.ped_tree.specs.declared.statements.Stmt.{Stmt}
+use Rattle.ped_links.specs.ped_symbols.specs.Values.{Values}
 use Rattle.ped_links.specs.ped_units.specs.Forms.{Called}
 use Rattle.ped_links.specs.ped_units.specs.Expanding as plain
-use Rattle.ped_links.specs.ped_units.specs.Expanding.{Expanded, with_formals, bound_arguments, call_comment, call_expanded}
+use Rattle.ped_links.specs.ped_units.specs.Expanding.{Expanded, with_formals, bound_arguments, body_names, call_comment, call_expanded, all_expanded_in}
+use Rattle.ped_calls.specs.Binding.{StandAlike, local_meanings}
 use Rattle.ped_calls.specs.Meaning.{meanings_of}
-use Rattle.ped_calls.specs.Courses.{units_of, ExpandsOn, GoesOn, Passes, StopsAt, IsTooDeep, AreTooDeep, expanded_at, all_expanded_at, block_at, inside_at}
+use Rattle.ped_calls.specs.Courses.{units_of, ExpandsOn, GoesOn, Passes, too_many, too_deep, StopsAt, IsTooDeep, AreTooDeep, expanded_at, all_expanded_at, block_at, inside_at}
 use Rattle.ped_calls.specs.Giving.{given_of}
 use Rattle.ped_links.specs.ped_units.specs.Views.{program_unit_of}
 use Rattle.ped_calls.specs.declared.giving.Given.{Given}
 use Rattle.ped_calls.specs.declared.expanding.Course.{Course}
 use Rattle.ped_calls.specs.declared.expanding.File.{File}
+use Rattle.ped_calls.specs.declared.expanding.Subroutine.{Subroutine}
 use Rattle.ped_calls.specs.declared.expanding.Within.{Within}
 use Rattle.ped_calls.proofs.CourseSteps.{stops_by, stopped_passes, packed_behind, expands_first, expands_more, expands_all, goes_on, expands_past, then_stops, else_stops, do_stops}
 use Rattle.ped_calls.proofs.BlockSteps.{block_goes, block_past, block_is, front_count, room_passes, call_is_block}
 use Rattle.ped_calls.proofs.Expansions.{call_counts}
+use Rattle.ped_calls.proofs.SameMeanings.{body_same}
 use Rattle.ped_calls.proofs.Measures.{stmts_weight, inside_smaller, unit_weight, stmts_left, item_weight}
 use Rattle.ped_links.proofs.StatementTrees.{tree-If, tree-Do}
 use Rattle.ped_calls.proofs.expanding.File.+expand.Goals as goal
@@ -228,3 +233,63 @@ block-returns-clause-course t c =
     let counted = front_count c.bind.new.front.items (call_comment called) b.assignments front in
     block_goes w.constants.now es inner v called old (bound_course old c.bind.new.given) c.inside.new.course (meanings_of c.bind.new.meanings) (c.len.result - 1) refl c.in_ok-bind.ensures.given meant
     (omega (arith, counted, c.len.ensures, c.bind.new.front.ok.0)) c.in_ok-statements.ensures.course
+
+-- the statements of a subroutine, expanded with what stands for their names
+abbrev inside_now : File → Within → plain.Meanings → Values → plain.Given → List Stmt → plain.AllExpanded plain.Given
+inside_now f w m constants g body = all_expanded_in m (call_expanded (w.deeper - 1) (units_of f.units.now) constants) (stmt_trees body) g
+
+-- they are the same, where literals stand only for the named constants that occur in them
+inside_is : (f : File) (w : Within) (v : Subroutine) (formals m : plain.Meanings) (constants : Values) (g before now : plain.Given) (body : List Stmt) → constants ≡ [] → before ≡ g
+    → StandAlike (body_names (program_unit_of v.unit.now)) m (local_meanings (program_unit_of v.unit.now) formals before).meanings
+    → now ≡ (local_meanings (program_unit_of v.unit.now) formals before).given → body ≡ v.unit.now.program.body.items
+    → inside_now f w m constants now body ≡ inside_at f w v formals g
+inside_is f w v formals m constants g before now body none same alike given is =
+    ap (λ (cs : Values). inside_now f w m cs now body) none
+    ∙ body_same (call_expanded (w.deeper - 1) (units_of f.units.now) []) (program_unit_of v.unit.now) m formals before now (stmt_trees body) alike given (ap stmt_trees is)
+    ∙ ap (inside_at f w v formals) same
+
+-- room was taken for them
+inside_goes : (old mid new : Course) (assignments body : ℕ) (all same : plain.AllExpanded plain.Given) → mid.room + (assignments + body) ≡ old.room → all ≡ same → GoesOn mid new body (statements_count all.statements) all.state
+    → GoesOn old new 0 (assignments + statements_count same.statements) same.state
+inside_goes old mid new assignments body all same taken is goes =
+    let room = goes.room in
+    subst (λ (e : plain.AllExpanded plain.Given). GoesOn old new 0 (assignments + statements_count e.statements) e.state) is (record { given = goes.given; room = omega (arith, room, taken); underway = goes.underway })
+
+inside_passes : (room mid depth assignments body : ℕ) (all same : plain.AllExpanded plain.Given) → mid + (assignments + body) ≡ room → all ≡ same → Passes mid body (statements_count all.statements) (AreTooDeep (depth + 1) all.statements)
+    → Passes room 0 (assignments + statements_count same.statements) ((most_blocks_nested ≤ depth) ⊎ AreTooDeep (depth + 1) same.statements)
+inside_passes room mid depth assignments body all same taken is (too_many h) =
+    subst (λ (e : plain.AllExpanded plain.Given). Passes room 0 (assignments + statements_count e.statements) ((most_blocks_nested ≤ depth) ⊎ AreTooDeep (depth + 1) e.statements)) is (too_many (omega (arith, h, taken)))
+inside_passes room mid depth assignments body all same taken is (too_deep h) =
+    subst (λ (e : plain.AllExpanded plain.Given). Passes room 0 (assignments + statements_count e.statements) ((most_blocks_nested ≤ depth) ⊎ AreTooDeep (depth + 1) e.statements)) is (too_deep (inr h))
+
+pub inside-returns-clause-statements : goal.inside-returns-clause-statements
+inside-returns-clause-statements t c =
+    let same = inside_is c.args.self.now c.args.within.now c.args.called.now (meanings_of c.args.formals) (meanings_of c.add_names.new.meanings) c.new-none.result (given_of c.args.course.now.given) (given_of c.take_room.new.course.given) (given_of c.add_names.new.given)
+    c.deref-2.result.now c.new-none.ensures (ap given_of c.in_ok-take_room.ensures.given) c.in_ok-add_names.ensures.meanings c.in_ok-add_names.ensures.given (cc (c.deref-2.ensures.value)) in
+    subst (λ (e : plain.AllExpanded plain.Given). IfOk c.statements.result (λ all. stmt_trees all.items ≡ e.statements)) same c.statements.ensures.statements
+
+pub inside-returns-clause-course : goal.inside-returns-clause-course
+inside-returns-clause-course t c =
+    let same = inside_is c.args.self.now c.args.within.now c.args.called.now (meanings_of c.args.formals) (meanings_of c.add_names.new.meanings) c.new-none.result (given_of c.args.course.now.given) (given_of c.take_room.new.course.given) (given_of c.add_names.new.given)
+    c.deref-2.result.now c.new-none.ensures (ap given_of c.in_ok-take_room.ensures.given) c.in_ok-add_names.ensures.meanings c.in_ok-add_names.ensures.given (cc (c.deref-2.ensures.value)) in
+    let bodies : c.deref.result.now ≡ c.deref-2.result.now = cc (c.deref.ensures.value, c.deref-2.ensures.value) in
+    let counted : statements_count (stmt_trees c.deref.result.now) ≡ statements_count (stmt_trees c.deref-2.result.now) = ap (λ (ss : List Stmt). statements_count (stmt_trees ss)) bodies in
+    on_ok_weaker c.statements.result
+    (λ goes. inside_goes c.args.course.now (record c.take_room.new.course { given = c.add_names.new.given }) c.statements.new.course c.args.assignments (statements_count (stmt_trees c.deref-2.result.now))
+    (inside_now c.args.self.now c.args.within.now (meanings_of c.add_names.new.meanings) c.new-none.result (given_of c.add_names.new.given) c.deref-2.result.now)
+    (inside_at c.args.self.now c.args.within.now c.args.called.now (meanings_of c.args.formals) (given_of c.args.course.now.given))
+    (omega (arith, counted, c.in_ok-take_room.ensures.room)) same goes)
+    c.statements.ensures.course
+
+pub inside-returns-clause-stopped : goal.inside-returns-clause-stopped
+inside-returns-clause-stopped t c =
+    let w = c.args.within.now in
+    let same = inside_is c.args.self.now w c.args.called.now (meanings_of c.args.formals) (meanings_of c.add_names.new.meanings) c.new-none.result (given_of c.args.course.now.given) (given_of c.take_room.new.course.given) (given_of c.add_names.new.given)
+    c.deref-2.result.now c.new-none.ensures (ap given_of c.in_ok-take_room.ensures.given) c.in_ok-add_names.ensures.meanings c.in_ok-add_names.ensures.given (cc (c.deref-2.ensures.value)) in
+    let bodies : c.deref.result.now ≡ c.deref-2.result.now = cc (c.deref.ensures.value, c.deref-2.ensures.value) in
+    let counted : statements_count (stmt_trees c.deref.result.now) ≡ statements_count (stmt_trees c.deref-2.result.now) = ap (λ (ss : List Stmt). statements_count (stmt_trees ss)) bodies in
+    IfErr-weaker c.statements.result _ _
+    (λ e. stops_by e (inside_passes c.args.course.now.room c.take_room.new.course.room w.depth c.args.assignments (statements_count (stmt_trees c.deref-2.result.now))
+    (inside_now c.args.self.now w (meanings_of c.add_names.new.meanings) c.new-none.result (given_of c.add_names.new.given) c.deref-2.result.now)
+    (inside_at c.args.self.now w c.args.called.now (meanings_of c.args.formals) (given_of c.args.course.now.given)) (omega (arith, counted, c.in_ok-take_room.ensures.room)) same))
+    c.statements.ensures.stopped

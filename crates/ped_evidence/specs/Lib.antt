@@ -1,0 +1,9 @@
+pub mod Signs
+pub mod Levels
+pub mod Symbols
+pub mod Forms
+pub mod Layouts
+pub mod Systems
+pub mod Facts
+pub mod Claims
+pub mod Evidence

@@ -55,6 +55,7 @@ exit statuses (0 to 7 are those of ped):
  16  the Python library fparser isn't there, which reads real Fortran
  17  omp --check, --time: the result doesn't compile, or its runs differ from the serial one
  18  gfortran or gcov isn't there, or fails, where a run is counted or timed
+ 19  check: a rejected dependence occurs in a run
 
 docs/COMPANION.md is the manual, docs/REAL.md that of real Fortran.
 """

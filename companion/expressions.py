@@ -9,7 +9,7 @@ from __future__ import annotations
 import re
 from dataclasses import dataclass
 from itertools import accumulate
-from typing import Dict, List, Mapping, Optional, Tuple, Union
+from typing import Dict, List, Mapping, Optional, Sequence, Tuple, Union
 
 from .lines import Span, Text
 
@@ -228,6 +228,11 @@ def value_of(expression: Expression, constants: Mapping[str, int]) -> Optional[i
         if value is None:
             return None
         values.append(value)
+    return result_of(expression, values)
+
+
+def result_of(expression: Expression, values: Sequence[int]) -> Optional[int]:
+    """What an intrinsic function or an operator of arithmetic makes of the values of its parts; none where it faults."""
     if isinstance(expression, Call):
         result = _called(expression.name, values)
     elif isinstance(expression, Operation):
@@ -237,7 +242,7 @@ def value_of(expression: Expression, constants: Mapping[str, int]) -> Optional[i
     return result if result is not None and -_WIDEST <= result < _WIDEST else None
 
 
-def _called(name: str, values: List[int]) -> Optional[int]:
+def _called(name: str, values: Sequence[int]) -> Optional[int]:
     if name == "MOD":
         quotient = _quotient(values[0], values[1])
         return None if quotient is None else values[0] - quotient * values[1]
@@ -246,7 +251,7 @@ def _called(name: str, values: List[int]) -> Optional[int]:
     return max(values) if name.startswith("MAX") else min(values)
 
 
-def _operated(operator: str, values: List[int]) -> Optional[int]:
+def _operated(operator: str, values: Sequence[int]) -> Optional[int]:
     left, right = values[0], values[-1]
     if len(values) == 1:
         return {"-": -left, "+": left}.get(operator)

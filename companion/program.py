@@ -84,8 +84,8 @@ class Program:
     constants: Dict[str, int] = field(default_factory=dict)
     arrays: Dict[str, Tuple[str, ...]] = field(default_factory=dict)
     saved: Set[str] = field(default_factory=set)
-    #: The statements with which the ELSE part of an IF begins.
-    after_else: Set[int] = field(default_factory=set)
+    #: For each IF with ELSE or ELSE IF the number that the first statement of that part has, or would have.
+    else_parts: Dict[int, int] = field(default_factory=dict)
     #: What each loop assigns, where that was asked: kept by `subscripts.assigned_in`.
     assigned: Dict[int, FrozenSet[str]] = field(default_factory=dict)
 
@@ -232,6 +232,8 @@ class _Reader:
                 self._number(numbered, form.text)
             self._close_if()
         elif isinstance(form, (BlockIf, ElseIf)):
+            if isinstance(form, ElseIf):
+                self._begin_else()
             number = self._number(BlockIf(form.condition), written.text)
             self._open(_Block(number, is_loop=False, chained=isinstance(form, ElseIf)))
         elif isinstance(form, Do):
@@ -272,13 +274,18 @@ class _Reader:
     def _end_part(self, word: str, label: Optional[int]) -> None:
         """Takes ELSE, END IF or END DO. ELSE leaves its IF open."""
         if word == "ELSE":
-            self._program.after_else.add(len(self._program.statements) + 1)
+            self._begin_else()
         elif word == "ENDIF":
             self._close_if()
         elif word == "ENDDO" and not self._is_open(label):
             # With the label of an open DO it ends what a CONTINUE with this label ends.
             if self._blocks and self._blocks[-1].is_loop and self._blocks[-1].label is None:
                 self._close()
+
+    def _begin_else(self) -> None:
+        """The next statement is the first of the ELSE part of the innermost IF."""
+        if self._blocks:
+            self._program.else_parts[self._blocks[-1].number] = len(self._program.statements) + 1
 
     def _is_open(self, label: Optional[int]) -> bool:
         """Whether a loop with this label is open."""

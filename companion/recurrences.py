@@ -96,7 +96,7 @@ def _compared(program: Program, number: int, name: str) -> Optional[Kind]:
     """Whether a statement and the IF before it take the greater or the less of a scalar and a value."""
     statement = program.statement(number)
     form = statement.form
-    if number in program.after_else or statement.ifs[-1:] != (number - 1,):
+    if program.else_parts.get(number - 1) == number or statement.ifs[-1:] != (number - 1,):
         return None
     if not isinstance(form, Assignment) or form.target.text != name:
         return None

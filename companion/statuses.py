@@ -27,6 +27,7 @@ class Status(IntEnum):
     NO_LIBRARY = 16
     DIFFERS = 17
     NO_COMPILER = 18
+    OCCURS = 19
 
 
 class CompanionError(Exception):

@@ -10,6 +10,7 @@ from ..faults import FAULTS, NO_DATA
 from ..layout import looks_free, notes
 from ..lines import Place, Span, split_lines
 from ..messages import ERROR, NOTE, WARNING, Mark, excerpt, located
+from ..occurrences import Examined, Occurrence, examine, is_trusting
 from ..panes import read_panes, read_source
 from ..ped import Ped, read_file
 from ..program import Program, read_program
@@ -41,7 +42,8 @@ class Report:
 
 
 _GRAVITY = [
-    Status.DONE, Status.WARNING, Status.LINE_REFUSED, Status.FAULT, Status.RACE, Status.PROGRAM_REFUSED,
+    Status.DONE, Status.WARNING, Status.LINE_REFUSED, Status.FAULT, Status.OCCURS, Status.RACE,
+    Status.PROGRAM_REFUSED,
 ]
 
 
@@ -114,6 +116,7 @@ def _session(report: Report, ped: Ped, question: Question, source: str) -> View:
     panes = read_panes(replies[-1][1].rows if replies[-1][0] is None else replies[-2][1].rows)
     view = view_of_panes(panes) if question.script is not None else view_of_file(panes, source, question)
     _report_runs(report, question, view, replies)
+    _report_rejected(report, ped, question, source)
     return view
 
 
@@ -139,6 +142,68 @@ def _report_runs(
                 report.add([f"{question.name}: {NOTE}: {_which(question)} reads data, and none are given"])
             else:
                 report.add(about.rows(view.name, about.place, view.lines), about.status)
+
+
+def _report_rejected(report: Report, ped: Ped, question: Question, source: str) -> None:
+    """Reports rejected dependences that occur in the run of the program, or of a program that the script passes."""
+    data = read_file(question.data) if question.data is not None else None
+    script = read_file(question.script) if question.script is not None else ""
+    if "REJECT" not in (source + script).replace(" ", "").upper():
+        return
+    woven = weave(script, lambda command: ["show", "run"], [])
+    replies: List[Tuple[Optional[Command], Reply]] = [(None, one) for one in ped.session(source, "show\nrun\n", data)]
+    replies.extend(zip(woven.origins, ped.session(source, woven.text, data)))
+    examined = []
+    for command, shown, ran in _passed(replies):
+        panes = read_panes(shown.rows)
+        if is_trusting(panes):
+            view = view_of_file(panes, source, question) if command is None else view_of_panes(panes)
+            examined.append(examine(view, data, ran.rows))
+            report.add(*_about_rejected(question, command, view, examined[-1]))
+    if examined and not any(one.found or one.doubt for one in examined):
+        count = len(examined)
+        which = "the run" if count == 1 else f"the runs of {count} programs"
+        report.add([f"{question.name}: {NOTE}: {examined[0].words} in {which}"])
+
+
+def _passed(replies: Sequence[Tuple[Optional[Command], Reply]]) -> Iterator[Tuple[Optional[Command], Reply, Reply]]:
+    """The first program and each that a command makes: the command, the reply to `show`, and the reply to `run`."""
+    command: Optional[Command] = None
+    is_new = True
+    for (origin, reply), (_, following) in zip(replies, replies[1:]):
+        if origin is not None:
+            command, is_new = origin, reply.accepted or bool(reply.taken)
+        elif is_new and reply.command.word == "show":
+            yield command, reply, following
+
+
+def _about_rejected(
+    question: Question, command: Optional[Command], view: View, examined: Examined
+) -> Tuple[List[str], Status]:
+    """What is said of the rejected dependences of one program."""
+    where = "" if command is None else f", after line {command.line} of {question.script_name}"
+    if examined.doubt is not None:
+        return [f"{question.name}: {NOTE}: {examined.words}{where}"], Status.DONE
+    rows: List[str] = []
+    for loop, one in _first_of_each(view, examined.found):
+        name = f"{one.row.name}({','.join(map(str, one.later.cell.subscripts))})".replace("()", "")
+        words = f"a rejected dependence occurs{where}: two iterations of the loop at statement {loop} use {name}"
+        marks = [
+            Mark(view.program.reference(reference).span, sign, f"statement {reference[0]}")
+            for reference, sign in ((one.row.source, "^"), (one.row.sink, "~"))
+        ]
+        rows += [located(view.name, marks[0].span.start, f"{ERROR}: {words}"), *excerpt(view.lines, marks)]
+    return rows, Status.OCCURS if rows else Status.DONE
+
+
+def _first_of_each(view: View, found: Sequence[Occurrence]) -> Iterator[Tuple[int, Occurrence]]:
+    """For each loop and each name the first dependence that occurs, with the statement of the loop."""
+    seen = set()
+    for one in found:
+        loop = view.carrier(one.row)
+        if loop is not None and (loop.number, one.row.name) not in seen:
+            seen.add((loop.number, one.row.name))
+            yield loop.number, one
 
 
 def _which(question: Question) -> str:

@@ -520,6 +520,9 @@ class Editor:
             self._say_fault("races", reply, reply.fault)
             return
         about = f"two iterations of a PARALLEL DO use {reply.race.cell}" if reply.race else "on these data"
+        if self._session.present.is_trusting:
+            examined = self._work("races", lambda session: session.examined())
+            about = f"{about}; {examined.words}"
         self._desk.say(f"races{self._on_data()}: {reply.rows[0]}; {about}")
         self._desk.point(reply.rows[0])
 

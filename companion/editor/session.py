@@ -10,6 +10,7 @@ from __future__ import annotations
 import copy
 from typing import Dict, List, Optional, Sequence
 
+from ..occurrences import Examined, examine, is_trusting
 from ..panes import Dependence, Panes, read_panes
 from ..ped import Ped, Runner, understood
 from ..replies import Reply
@@ -41,6 +42,11 @@ class Present:
     def is_read(self) -> bool:
         """Whether the expressions are read."""
         return self._view is not None
+
+    @property
+    def is_trusting(self) -> bool:
+        """Whether the program has rejected dependences."""
+        return is_trusting(self.panes)
 
     @property
     def view(self) -> View:
@@ -158,6 +164,10 @@ class Session:
     def answer(self, command: str) -> Reply:
         """What ped answers to a command that changes nothing, on the data that are chosen."""
         return self._ped.session(self.present.text, f"{command}\n", self.data)[0]
+
+    def examined(self) -> Examined:
+        """Whether rejected dependences occur in the run of the present program on the data that are chosen."""
+        return examine(self.present.view, self.data, self.answer("run").rows)
 
     def replays(self) -> bool:
         """Whether the whole script leads from the first program to the present one."""

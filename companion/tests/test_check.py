@@ -243,6 +243,46 @@ class Scripts(Check):
         self.assertIs(status, Status.RACE)
 
 
+class Rejected(Check):
+    """Rejected dependences that occur in a run: here where N is less than 9."""
+
+    SOURCE = fortran(
+        "INTEGER A(9), B(9)", "SAVE A", "READ *, N", "DO 5 I = 1, 9", "A(I) = 0", "5 B(I) = MOD(I,N)+1"
+    ) + "C$PED REJECT A\n" + fortran("DO 10 I = 1, 9", "10 A(B(I)) = I", "END")
+    WORDS = "two iterations of the loop at statement 5 use A(2)"
+    MARKS = ["      |       ^^^^^^^ statement 6", "      |       ~~~~~~~ statement 6"]
+
+    def test_occurs(self) -> None:
+        rows, status = self.check(self.SOURCE, data="3\n")
+        self.assertEqual(rows, [
+            "p.f: note: the program runs without a fault and without a race",
+            f"p.f:9:7: error: a rejected dependence occurs: {self.WORDS}", "    9 |    10 A(B(I)) = I", *self.MARKS,
+        ])
+        self.assertIs(status, Status.OCCURS)
+
+    def test_occurs_in_no_run(self) -> None:
+        rows, status = self.check(self.SOURCE, data="9\n")
+        self.assertEqual(rows[1:], ["p.f: note: no rejected dependence occurs in the run"])
+        self.assertIs(status, Status.DONE)
+
+    def test_programs_of_a_script(self) -> None:
+        """Each program that the script passes is looked at; what it refuses makes none."""
+        script = "peel 5 first\nparallel 6\nparallel 5\nundo\n"
+        rows, _ = self.check(self.SOURCE, script=script, data="9\n")
+        self.assertEqual(rows[-1], "p.f: note: no rejected dependence occurs in the runs of 4 programs")
+        rows, status = self.check(self.SOURCE, script="insert 1\nC$PED REJECT A\n.\nparallel 5\n", data="3\n")
+        self.assertIn(f"<source>:10:9: error: a rejected dependence occurs, after line 4 of script: {self.WORDS}", rows)
+        self.assertIs(status, Status.RACE)
+
+    def test_fault(self) -> None:
+        """Of a run with a fault nothing more is said."""
+        rows, status = self.check(self.SOURCE, data="0\n")
+        self.assertEqual(
+            rows[-1], "p.f: note: it can't be told whether a rejected dependence occurs: the run meets a fault"
+        )
+        self.assertIs(status, Status.FAULT)
+
+
 class Suspects(unittest.TestCase):
     """The column and the name of a refusal."""
 

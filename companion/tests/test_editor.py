@@ -399,7 +399,9 @@ class Runs(Played):
         player.wait("run with which choices?")
         player.press(ENTER)
         player.wait("fault 5 at 2: data are missing")
-        for name, wanted in (("apart", "no race"), ("twice", "race A(7) at 4 and 4")):
+        for name, wanted in (
+            ("apart", "no race; on these data; no rejected dependence occurs"), ("twice", "race A(7) at 4 and 4"),
+        ):
             player.press("D")
             player.wait("data from which file?")
             player.press(*name, ENTER)

@@ -145,7 +145,10 @@ def _report_runs(
 
 
 def _report_rejected(report: Report, ped: Ped, question: Question, source: str) -> None:
-    """Reports rejected dependences that occur in the run of the program, or of a program that the script passes."""
+    """Reports rejected dependences that occur in the run of the program, or of one that a command of the script makes.
+
+    Of the programs that one `auto` goes through, it is the last alone.
+    """
     data = read_file(question.data) if question.data is not None else None
     script = read_file(question.script) if question.script is not None else ""
     if "REJECT" not in (source + script).replace(" ", "").upper():

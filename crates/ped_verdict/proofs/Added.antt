@@ -3,7 +3,7 @@ use Rattle.std.proofs.Common.{◌≡◌, pos, ◌⊎◌, ◌↔◌, ℕ, zero, s
 use Rattle.std.proofs.Math.Nat.{add-mul}
 use Rattle.std.proofs.lemmas.Nat.{mul-le, pow-add}
 use Rattle.std.proofs.lemmas.Bool.{cases_eq, cases_lt, false≢true}
-use Rattle.std.proofs.lemmas.List.{append_assoc, length-append, length-set, length-replicate, get_or-append_right, get_or-set_same, get_or-set_other}
+use Rattle.std.proofs.lemmas.List.{append_assoc, length-append, length-set, length-replicate, get_or-set_same, get_or-set_other}
 use Rattle.std.proofs.lemmas.List.Elements.{All-from_recursion, recursion_from_All}
 use Rattle.std.proofs.lemmas.Option.{slice_get-get_or}
 use Rattle.ped_views.specs.declared.directions.Direction.{Direction}
@@ -12,7 +12,7 @@ use Rattle.ped_views.specs.Views.{SubscriptPair, View}
 use Rattle.ped_views.specs.Excluded.{Excludes, direction_at}
 use Rattle.ped_views.specs.Vectors.{IsPossible}
 use Rattle.ped_bits.specs.Places.{Has, without}
-use Rattle.ped_verdict.specs.Marked.{place_of, digit, BeginsWith, AreMarked, AreExcluded, AreAdded, Each, chosen}
+use Rattle.ped_verdict.specs.Marked.{place_of, digit, BeginsWith, AreMarked, SingleExcludes, AreExcluded, AreAdded, AreSet, Each, chosen}
 use Rattle.ped_verdict.proofs.Ordered.{at_place, place_below, place-same}
 
 -- nothing is added
@@ -35,24 +35,6 @@ added_as n front E F old new same a = record {
     λ h. (a.marks vector l).1 (elim h [ inl x ↦ inl x | inr s ↦ inr (s.0, (same vector l s.0).1 s.1) ]),
   );
 }
-
--- one after the other
-pub added_union : (n : ℕ) (front : List Direction) (E F : List Direction → Type 0) (r0 r1 r2 : List Bool) → AreAdded n front E r0 r1 → AreAdded n front F r1 r2 → AreAdded n front (λ vector. E vector ⊎ F vector) r0 r2
-added_union n front E F r0 r1 r2 a b = record {
-  wide = b.wide ∙ a.wide;
-  marks = λ vector l. (to vector l, from vector l);
-}
-  where
-    to : (vector : List Direction) → length vector ≡ n → Has r2 (place_of vector) → Has r0 (place_of vector) ⊎ (BeginsWith front vector × (E vector ⊎ F vector))
-    to vector l h = elim ((b.marks vector l).0 h) [
-      | inl x ↦ elim ((a.marks vector l).0 x) [ inl y ↦ inl y | inr s ↦ inr (s.0, inl s.1) ]
-      | inr s ↦ inr (s.0, inr s.1)
-    ]
-
-    from : (vector : List Direction) → length vector ≡ n → Has r0 (place_of vector) ⊎ (BeginsWith front vector × (E vector ⊎ F vector)) → Has r2 (place_of vector)
-    from vector l (inl h) = (b.marks vector l).1 (inl ((a.marks vector l).1 (inl h)))
-    from vector l (inr (g, inl e)) = (b.marks vector l).1 (inl ((a.marks vector l).1 (inr (g, e))))
-    from vector l (inr (g, inr f)) = (b.marks vector l).1 (inr (g, f))
 
 -- a vector that begins with a front has a front that is longer by one direction
 further : (front : List Direction) (d : Direction) (rest vector : List Direction) → front ++ d ∷ rest ≡ vector → BeginsWith (front ++ d ∷ []) vector
@@ -106,15 +88,11 @@ module _ (n : ℕ) (E : List Direction → Type 0) (front f1 f2 f3 : List Direct
     marks = λ vector l. (to3 vector l, from3 vector l);
   }
 
--- the row has got the places from the first up to this one
-pub record SetTo (first place : ℕ) (old row : List Bool) : Type 0 where
-  pub wide : length row ≡ length old
-  pub has : (k : ℕ) → Has row k ↔ (Has old k ⊎ ((first ≤ k) × (k < place)))
-
-pub set_start : (first : ℕ) (row : List Bool) → SetTo first first row row
+-- the row has got no place yet
+pub set_start : (first : ℕ) (row : List Bool) → AreSet first first row row
 set_start first row = record { wide = refl; has = λ k. (λ h. inl h, λ s. elim s [ inl h ↦ h | inr b ↦ (let x = b.0 in let y = b.1 in absurd (omega arith)) ]) }
 
-pub set_more : (first place : ℕ) (old row new : List Bool) → SetTo first place old row → first ≤ place → place < length row → new ≡ slice_set row place true → SetTo first (place + 1) old new
+pub set_more : (first place : ℕ) (old row new : List Bool) → AreSet first place old row → first ≤ place → place < length row → new ≡ slice_set row place true → AreSet first (place + 1) old new
 set_more first place old row new s from below is = record {
   wide = ap length is ∙ length-set row place true ∙ s.wide;
   has = λ k. (to k, back k);
@@ -183,7 +161,7 @@ module _ (n : ℕ) (front ds : List Direction) (len p b first : ℕ) (short : le
 
 module _ (n : ℕ) (front : List Direction) (short : length front ≤ n) (first last : ℕ) (old row : List Bool) (ef : first ≡ place_of front * 3 ^ (n - length front)) (el : last ≡ first + 3 ^ (n - length front)) where
   -- the places of a front are those of the vectors that begin with it
-  pub added_front : SetTo first last old row → AreAdded n front Each old row
+  pub added_front : AreSet first last old row → AreAdded n front Each old row
   added_front s = record { wide = s.wide; marks = λ vector l. (to vector l, from vector l) }
     where
       to : (vector : List Direction) → length vector ≡ n → Has row (place_of vector) → Has old (place_of vector) ⊎ (BeginsWith front vector × Each vector)
@@ -211,66 +189,6 @@ module _ (n : ℕ) (front : List Direction) (short : length front ≤ n) (first 
           let w : 3 ^ length rest ≡ 3 ^ (n - length front) = ap (λ (j : ℕ). 3 ^ j) long in
           (s.has (place_of vector)).1 (inr (omega arith, omega arith))
 
--- the direction behind a front
-module _ (n place : ℕ) (front : List Direction) (d : Direction) (e : length front ≡ place) (below : place < n) where
-  behind : (x : Direction) (rest : List Direction) → direction_at (front ++ x ∷ rest) place ≡ x
-  behind x rest =
-      let z : place - place ≡ 0 = omega arith in
-      get_or-append_right front (x ∷ rest) place place Same e (omega arith) ∙ ap (λ (k : ℕ). get_or (x ∷ rest) k Same) z
-
-  to_direction : (vector : List Direction) → BeginsWith (front ++ d ∷ []) vector → direction_at vector place ≡ d
-  to_direction vector (rest, is) = ap (λ (w : List Direction). direction_at w place) (sym is ∙ append_assoc front (d ∷ []) rest) ∙ behind d rest
-
-  from_direction : (vector : List Direction) → length vector ≡ n → BeginsWith front vector → direction_at vector place ≡ d → BeginsWith (front ++ d ∷ []) vector
-  from_direction vector l ([], is) h = let k = ap length is in let m = length-append front [] in absurd (omega arith)
-  from_direction vector l (x ∷ rest, is) h =
-      let same : x ≡ d = sym (behind x rest) ∙ ap (λ (w : List Direction). direction_at w place) is ∙ h in
-      further front d rest vector (ap (λ (y : Direction). front ++ y ∷ rest) (sym same) ∙ is)
-
-  pub added_direction : (longer : List Direction) (old new : List Bool) → longer ≡ front ++ d ∷ [] → AreAdded n longer Each old new → AreAdded n front (λ vector. direction_at vector place ≡ d) old new
-  added_direction longer old new is a = record {
-    wide = a.wide;
-    marks = λ vector l. (
-      λ h. elim ((a.marks vector l).0 h) [ inl x ↦ inl x | inr s ↦ (let b = subst (λ (g : List Direction). BeginsWith g vector) is s.0 in inr (shorter front d vector b, to_direction vector b)) ],
-      λ h. (a.marks vector l).1 (elim h [ inl x ↦ inl x | inr s ↦ inr (subst (λ (g : List Direction). BeginsWith g vector) (sym is) (from_direction vector l s.0 s.1), tt) ]),
-    );
-  }
-
--- three answers, one for each direction
-abbrev In : Bool → ℕ → Direction → List Direction → Type 0
-In t place d vector = IsTrue t × (direction_at vector place ≡ d)
-
-pub added_where : (n place : ℕ) (d : Direction) (t : Bool) (none : List Direction) (old new : List Bool) → none ≡ [] → IsTrue t → AreAdded n none (λ vector. direction_at vector place ≡ d) old new → AreAdded n [] (λ vector. IsTrue t × (direction_at vector place ≡ d)) old new
-added_where n place d t none old new e holds a =
-    added_as n [] (λ vector. direction_at vector place ≡ d) (λ vector. IsTrue t × (direction_at vector place ≡ d)) old new (λ vector l b. (λ x. (holds, x), λ x. x.1))
-    (subst (λ (g : List Direction). AreAdded n g (λ vector. direction_at vector place ≡ d) old new) e a)
-
-pub added_nowhere : (n place : ℕ) (d : Direction) (t : Bool) (row : List Bool) → t ≡ false → AreAdded n [] (λ vector. IsTrue t × (direction_at vector place ≡ d)) row row
-added_nowhere n place d t row f = added_none n [] (λ vector. IsTrue t × (direction_at vector place ≡ d)) row (λ vector l b x. false≢true (sym f ∙ x.0))
-
-pub added_chosen : (n place : ℕ) (before same after : Bool) (r0 r1 r2 r3 : List Bool)
-    → AreAdded n [] (λ vector. IsTrue before × (direction_at vector place ≡ Before)) r0 r1
-    → AreAdded n [] (λ vector. IsTrue same × (direction_at vector place ≡ Same)) r1 r2
-    → AreAdded n [] (λ vector. IsTrue after × (direction_at vector place ≡ After)) r2 r3
-    → AreAdded n [] (λ vector. IsTrue (chosen before same after (direction_at vector place))) r0 r3
-added_chosen n place before same after r0 r1 r2 r3 a b c =
-    added_as n [] (λ vector. (In before place Before vector ⊎ In same place Same vector) ⊎ In after place After vector) (λ vector. IsTrue (chosen before same after (direction_at vector place))) r0 r3
-    (λ vector l begins. (to (direction_at vector place), from (direction_at vector place)))
-    (added_union n [] (λ vector. In before place Before vector ⊎ In same place Same vector) (In after place After) r0 r2 r3 (added_union n [] (In before place Before) (In same place Same) r0 r1 r2 a b) c)
-  where
-    told : (d x : Direction) → d ≡ x → IsTrue (chosen before same after x) → IsTrue (chosen before same after d)
-    told d x e h = ap (chosen before same after) e ∙ h
-
-    to : (d : Direction) → ((IsTrue before × (d ≡ Before)) ⊎ (IsTrue same × (d ≡ Same))) ⊎ (IsTrue after × (d ≡ After)) → IsTrue (chosen before same after d)
-    to d (inl (inl s)) = told d Before s.1 s.0
-    to d (inl (inr s)) = told d Same s.1 s.0
-    to d (inr s) = told d After s.1 s.0
-
-    from : (d : Direction) → IsTrue (chosen before same after d) → ((IsTrue before × (d ≡ Before)) ⊎ (IsTrue same × (d ≡ Same))) ⊎ (IsTrue after × (d ≡ After))
-    from Before h = inl (inl (h, refl))
-    from Same h = inl (inr (h, refl))
-    from After h = inr (h, refl)
-
 -- an answer for each direction is one for the direction that a vector has
 pub added_answers : (n place : ℕ) (N : Direction → Type 0) (E : List Direction → Type 0) (before same after : Bool) (old new : List Bool)
     → (IsTrue before ↔ N Before) → (IsTrue same ↔ N Same) → (IsTrue after ↔ N After)
@@ -291,8 +209,8 @@ no_place zero k = refl
 no_place (suc n) zero = refl
 no_place (suc n) (suc k) = no_place n k
 
-pub excluded_none : (v : View) (n : ℕ) (row : List Bool) → n ≡ 3 ^ length v.loops → row ≡ replicate n false → AreExcluded v 0 row
-excluded_none v n row e is = record {
+pub excluded_none : (v : View) (E : SubscriptPair → List Direction → Type 0) (n : ℕ) (row : List Bool) → n ≡ 3 ^ length v.loops → row ≡ replicate n false → AreExcluded v E 0 row
+excluded_none v E n row e is = record {
   wide = ap length is ∙ length-replicate n false ∙ e;
   marked = λ vector l h. absurd (false≢true (sym (no_place n (place_of vector)) ∙ ap (λ (r : List Bool). slice_index_or r (place_of vector) false) (sym is) ∙ h));
   unmarked = λ vector l h j p below. absurd (omega arith);
@@ -307,10 +225,10 @@ none : SubscriptPair
 none = record { usable = false; source = record { common = []; inner = []; constant = pos 0 }; sink = record { common = []; inner = []; constant = pos 0 } }
 
 -- one position more
-pub excluded_more : (v : View) (k : ℕ) (old new : List Bool) → k < length v.positions → AreExcluded v k old → IfSome (slice_get v.positions k) (λ p. AreAdded (length v.loops) [] (Excludes v p) old new) → AreExcluded v (k + 1) new
+pub excluded_more : (v : View) (k : ℕ) (old new : List Bool) → k < length v.positions → AreExcluded v (SingleExcludes v) k old → IfSome (slice_get v.positions k) (λ p. AreAdded (length v.loops) [] (SingleExcludes v p) old new) → AreExcluded v (SingleExcludes v) (k + 1) new
 excluded_more v k old new below h at = by (slice_get v.positions k) refl at
   where
-    by : (o : Option SubscriptPair) → slice_get v.positions k ≡ o → IfSome o (λ p. AreAdded (length v.loops) [] (Excludes v p) old new) → AreExcluded v (k + 1) new
+    by : (o : Option SubscriptPair) → slice_get v.positions k ≡ o → IfSome o (λ p. AreAdded (length v.loops) [] (SingleExcludes v p) old new) → AreExcluded v (SingleExcludes v) (k + 1) new
     by None is a = let s = slice_get-get_or v.positions k none below in absurd (cc)
     by (Some p) is a = record {
       wide = a.wide ∙ h.wide;
@@ -319,7 +237,7 @@ excluded_more v k old new below h at = by (slice_get v.positions k) refl at
         | inr s ↦
             let free = All-from_recursion (λ q. ¬ (Excludes v q vector)) v.positions possible k p below in
             let there : get_or v.positions k p ≡ p = some_same (sym (slice_get-get_or v.positions k p below) ∙ is) in
-            subst (λ (q : SubscriptPair). ¬ (Excludes v q vector)) there free s.1
+            subst (λ (q : SubscriptPair). ¬ (Excludes v q vector)) there free s.1.excludes
       ];
       unmarked = λ vector l n j q less at_j x.
           let unless : ¬ (Has old (place_of vector)) = λ y. n ((a.marks vector l).1 (inl y)) in
@@ -328,7 +246,7 @@ excluded_more v k old new below h at = by (slice_get v.positions k) refl at
             | inr past ↦
                 let e : j ≡ k = omega arith in
                 let same : q ≡ p = some_same (sym at_j ∙ ap (λ (m : ℕ). slice_get v.positions m) e ∙ is) in
-                n ((a.marks vector l).1 (inr ((vector, refl), subst (λ (y : SubscriptPair). Excludes v y vector) same x)))
+                n ((a.marks vector l).1 (inr ((vector, refl), subst (λ (y : SubscriptPair). SingleExcludes v y vector) same x)))
           ];
     }
 
@@ -362,7 +280,7 @@ without-has (x ∷ xs) (y ∷ ys) (suc k) l h n = without-has xs ys k (omega ari
 
 -- behind the last position, the vectors that aren't excluded are possible
 pub possible_rest : (v : View) (n : ℕ) (none : List Direction) (k : ℕ) (empty full excluded row : List Bool) → length v.loops ≤ 6 → n ≡ length v.loops → none ≡ [] → k ≡ length v.positions → length empty ≡ 3 ^ length v.loops
-    → AreAdded n none Each empty full → AreExcluded v k excluded → row ≡ without full excluded → AreMarked v row
+    → AreAdded n none Each empty full → AreExcluded v (Excludes v) k excluded → row ≡ without full excluded → AreMarked v row
 possible_rest v n none k empty full excluded row few en e0 ek wide a h is = record {
   few = few;
   wide = ap length is ∙ length-without full excluded (a.wide ∙ wide ∙ sym h.wide) ∙ a.wide ∙ wide;

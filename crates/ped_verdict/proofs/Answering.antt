@@ -10,7 +10,7 @@ use Rattle.ped_views.specs.Views.{Range, range, SubscriptPair, View}
 use Rattle.ped_views.specs.Limits.{FitsLoops, IsView}
 use Rattle.ped_views.specs.Forms.{Occurrence, Form, ziv, strong_siv, weak_zero_siv, weak_crossing_siv, form_of}
 use Rattle.ped_views.specs.Excluded.{NeverMeets, NeverMeetTogether, group_of, FormExcludes, Excludes, loop_at, direction_at}
-use Rattle.ped_verdict.specs.Marked.{AreAdded, Each, chosen}
+use Rattle.ped_verdict.specs.Marked.{SingleExcludes, AreAdded, Each, chosen}
 use Rattle.ped_verdict.proofs.Added.{added_none, added_as, added_answers, some_same}
 use Rattle.ped_verdict.proofs.Grouping.{own_row, group_some}
 
@@ -33,8 +33,8 @@ module _ (v now : View) (shown : v ≡ now) (view : IsView v) (k : ℕ) (p : Sub
   fits = subst (FitsLoops (length now.loops) (length now.source_inner) (length now.sink_inner)) (sym is_now) ((subst IsView shown view).positions k p below)
 
   -- a position that isn't usable excludes nothing
-  pub nothing_excluded : (usable : Bool) → usable ≡ p.usable → usable ≡ false → (row : List Bool) → IfSome (slice_get now.positions k) (λ q. AreAdded (length now.loops) [] (Excludes now q) row row)
-  nothing_excluded usable e fails row = at_place (λ q. AreAdded (length now.loops) [] (Excludes now q) row row) (added_none (length now.loops) [] (Excludes now p) row (λ vector l b x. false≢true (sym fails ∙ e ∙ x.0)))
+  pub nothing_excluded : (usable : Bool) → usable ≡ p.usable → usable ≡ false → (row : List Bool) → IfSome (slice_get now.positions k) (λ q. AreAdded (length now.loops) [] (SingleExcludes now q) row row)
+  nothing_excluded usable e fails row = at_place (λ q. AreAdded (length now.loops) [] (SingleExcludes now q) row row) (added_none (length now.loops) [] (SingleExcludes now p) row (λ vector l b x. false≢true (sym fails ∙ e ∙ x.excludes.0)))
 
 -- at most six loops
 pub few : (v now : View) → v ≡ now → IsView v → length now.loops ≤ 6

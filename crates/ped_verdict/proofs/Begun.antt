@@ -1,5 +1,5 @@
 -- Once all loops that occur in a position have their directions in a front, it excludes all vectors that begin with the front, or none.
-use Rattle.std.proofs.Common.{◌≡◌, ◌⊎◌, ℕ, zero, suc, ◌+◌, ◌<◌, ◌≤◌, ℤ, pos, ◌+ℤ◌, ◌-ℤ◌, ◌*ℤ◌, List, [], ◌∷◌, ◌++◌, length, drop, get_or, None, Bool, true, false, ◌&&◌, not, IsTrue, refl, sym, ap, subst, ◌∙◌, inl, inr, arith}
+use Rattle.std.proofs.Common.{◌≡◌, ◌⊎◌, ℕ, zero, suc, ◌+◌, ◌<◌, ◌≤◌, ℤ, pos, ◌+ℤ◌, ◌-ℤ◌, ◌*ℤ◌, List, [], ◌∷◌, ◌++◌, length, drop, get_or, Bool, true, false, ◌&&◌, not, IsTrue, refl, sym, ap, subst, ◌∙◌, inl, inr, arith}
 use Rattle.std.specs.List.{list_all}
 use Rattle.std.proofs.lemmas.Bool.{cases_Bool, cases_lt}
 use Rattle.std.proofs.lemmas.Bool.Decides.{Decides-int_eq}
@@ -10,9 +10,8 @@ use Rattle.ped_views.specs.Whole.{is_zero}
 use Rattle.ped_views.specs.Views.{Range, SubscriptPair, View}
 use Rattle.ped_views.specs.Forms.{Occurrence, occurring, Form, ziv, strong_siv, weak_zero_siv, weak_crossing_siv, other_form, form_of}
 use Rattle.ped_views.specs.Limits.{IsPosition}
-use Rattle.ped_views.specs.Excluded.{NeverMeets, NeverMeetTogether, group_of, difference, dot, subscript_value, SharesIndices, HasNoSolution, CommonInRange, IsPoint, IsBeyondExtremes, FormExcludes, Excludes, loop_at, direction_at}
+use Rattle.ped_views.specs.Excluded.{NeverMeets, NeverMeetTogether, group_of, dot, subscript_value, SharesIndices, HasNoSolution, CommonInRange, IsPoint, IsBeyondExtremes, FormExcludes, Excludes, loop_at, direction_at}
 use Rattle.ped_views.proofs.Products.{linear}
-use Rattle.ped_miv.specs.Parts.{MaySum}
 use Rattle.ped_verdict.specs.Fronts.{is_done}
 use Rattle.ped_verdict.proofs.FormFacts.{both, occurring-none, occurring-some, IsOne, Facts, facts}
 use Rattle.ped_verdict.proofs.Points.{nothing}
@@ -27,10 +26,10 @@ not_failed true e = refl
 not_failed false e = absurd (cc)
 
 -- all coefficients are 0
-abbrev AllZero : List ℤ → Type 0
+abbrev pub AllZero : List ℤ → Type 0
 AllZero row = IsTrue (list_all is_zero row)
 
-zeros : (a b : ℤ) → is_zero a ≡ true → is_zero b ≡ true → (is_zero a && is_zero b) ≡ true
+pub zeros : (a b : ℤ) → is_zero a ≡ true → is_zero b ≡ true → (is_zero a && is_zero b) ≡ true
 zeros a b x y = ap (λ (z : Bool). z && is_zero b) x ∙ y
 
 dot_none : (row is : List ℤ) → AllZero row → dot row is ≡ pos 0
@@ -191,10 +190,6 @@ module _ (v : View) (p : SubscriptPair) (usable : IsTrue p.usable) (form : other
   out_of_excludes vector h = subst (λ (f : Form). FormExcludes f v p vector) (sym form) h.1
 
   module _ (front : List Direction) where
-    -- without values under a front there are none under any vector with it
-    pub shut_without : MaySum v p front None → (rest : List Direction) → Excludes v p (front ++ rest)
-    shut_without none rest = into_excludes (front ++ rest) (inr (λ low high a b x y. none rest (difference p low) (low, a, refl)))
-
     pub shut_beyond : IsBeyondExtremes v p front → (rest : List Direction) → Excludes v p (front ++ rest)
     shut_beyond beyond rest = into_excludes (front ++ rest) (inr (beyond_front v p front (front ++ rest) (rest, refl) beyond))
 

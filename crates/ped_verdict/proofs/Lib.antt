@@ -1,6 +1,8 @@
 mod Added
 mod Answering
+mod Asked
 mod Begun
+mod ByDirection
 mod Chosen
 mod DeadEnds
 mod Deciding

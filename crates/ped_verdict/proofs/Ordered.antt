@@ -1,10 +1,11 @@
 -- The places of direction vectors in their lexicographic order.
-use Rattle.std.proofs.Common.{◌≡◌, ℕ, zero, suc, ◌+◌, ◌-◌, ◌*◌, ◌/◌, ◌%◌, ◌^◌, ◌<◌, ◌≤◌, List, [], ◌∷◌, ◌++◌, length, map, get_or, refl, sym, ap, ◌∙◌, inl, inr, arith}
+use Rattle.std.proofs.Common.{◌≡◌, ℕ, zero, suc, ◌+◌, ◌-◌, ◌*◌, ◌/◌, ◌%◌, ◌^◌, ◌<◌, ◌≤◌, List, [], ◌∷◌, ◌++◌, length, map, take, get_or, refl, sym, ap, ◌∙◌, inl, inr, arith}
 use Rattle.std.proofs.Math.Nat.{pow-succ', pow-le-pow_right}
 use Rattle.std.proofs.lemmas.Bool.Decides.{leb_tells}
-use Rattle.std.proofs.lemmas.List.{length-append, length-map, length_push, get_or_append_left, get_or-append_right, get_or-map}
+use Rattle.std.proofs.lemmas.List.{length-append, length-map, length_push, get_or_append_left, get_or-append_right, get_or-map, take_more, take_all}
 use Rattle.ped_views.specs.declared.directions.Direction.{Direction}
 use Rattle.ped_views.specs.declared.directions.Direction.TheVariants.{Before, Same, After}
+use Rattle.ped_views.specs.Excluded.{direction_at}
 use Rattle.ped_views.specs.Vectors.{all_vectors}
 use Rattle.ped_verdict.specs.Marked.{digit, place_of}
 
@@ -14,6 +15,11 @@ thrice n = let e = pow-succ' 3 n in omega arith
 -- over at most six loops there are at most 729 vectors
 pub few : (n : ℕ) → n ≤ 6 → 3 ^ n ≤ 729
 few n h = pow-le-pow_right {n = 3} (omega arith) h
+
+-- there is a vector over any number of loops
+pub some_place : (n : ℕ) → 0 < 3 ^ n
+some_place zero = omega arith
+some_place (suc n) = let e = thrice n in let s = some_place n in omega arith
 
 -- a place lies below the number of vectors over as many loops
 pub place_below : (v : List Direction) → place_of v < 3 ^ length v
@@ -49,6 +55,32 @@ without_last n place h = let e = thrice n in omega arith
 -- a vector's place is that of its front and its last direction
 pub pushed : (v w : List Direction) (d : Direction) (place : ℕ) → w ≡ v ++ d ∷ [] → place_of v ≡ place / 3 → digit d ≡ place % 3 → place_of w ≡ place
 pushed v w d place e f g = let p = place-push v d in ap place_of e ∙ p ∙ omega arith
+
+-- a vector is its front and its last direction
+pub last_split : (v : List Direction) → 0 < length v → v ≡ take (length v - 1) v ++ direction_at v (length v - 1) ∷ []
+last_split v some =
+    sym (take_all (length v) v (omega arith)) ∙ ap (λ (n : ℕ). take n v) (omega arith) ∙ take_more v (length v - 1) Same (omega arith)
+
+-- the next place is that of the next direction of the last loop
+pub stepped : (v front w : List Direction) (d e : Direction) → v ≡ front ++ d ∷ [] → w ≡ front ++ e ∷ [] → digit e ≡ digit d + 1 → place_of w ≡ place_of v + 1
+stepped v front w d e is next up =
+    let p = place-push front d in
+    let q = place-push front e in
+    let r = ap place_of is in
+    let s = ap place_of next in
+    omega arith
+
+-- behind the last direction of the last loop, its first follows under the next front
+pub carried : (v front next w : List Direction) → v ≡ front ++ After ∷ [] → w ≡ next ++ Before ∷ [] → (place_of front + 1 < 3 ^ length front → place_of next ≡ place_of front + 1) → place_of v + 1 < 3 ^ length v → place_of w ≡ place_of v + 1
+carried v front next w is more step below =
+    let p = place-push front After in
+    let q = place-push next Before in
+    let r = ap place_of is in
+    let s = ap place_of more in
+    let l : length v ≡ suc (length front) = ap length is ∙ length_push front After ∙ omega arith in
+    let t = ap (λ (n : ℕ). 3 ^ n) l ∙ thrice (length front) in
+    let n = step (omega arith) in
+    omega arith
 
 same_head : (d e : Direction) (x p q : ℕ) → p < x → q < x → digit d * x + p ≡ digit e * x + q → (d ≡ e) × (p ≡ q)
 same_head Before Before x p q h k s = (refl, omega arith)

@@ -1,5 +1,5 @@
 -- What is found once of a position of a view.
-use Rattle.std.proofs.Common.{◌≡◌, ℕ, zero, suc, ◌+◌, ◌-◌, ◌<◌, ◌≤◌, ℤ, List, [], ◌∷◌, ◌++◌, length, replicate, get_or, Bool, true, not, Option, IsTrue, ◌↔◌, sym, ap, subst, ◌∙◌, inl, inr, arith}
+use Rattle.std.proofs.Common.{◌≡◌, ℕ, zero, suc, ◌+◌, ◌-◌, ◌<◌, ◌≤◌, ℤ, List, [], ◌∷◌, ◌++◌, length, replicate, get_or, Bool, true, not, Option, false, IsTrue, ◌↔◌, refl, sym, ap, subst, ◌∙◌, inl, inr, arith}
 use Rattle.std.proofs.lemmas.Bool.{cases_lt, false≢true}
 use Rattle.std.proofs.lemmas.List.{length_push, get_or_append_left, get_or-append_right}
 use Rattle.ped_views.specs.declared.directions.Direction.{Direction}
@@ -30,6 +30,11 @@ shares_all (suc n) (After ∷ vector) (i ∷ is) [] l h = tt
 pub all_solved : (p : SubscriptPair) (same : List Direction) (t : Bool) → same ≡ replicate 6 Same → IsTrue t ↔ HasNoSolution p same → not t ≡ true → (vector : List Direction) → length vector ≤ 6 → ¬ (HasNoSolution p vector)
 all_solved p same t e h f vector l none =
     false≢true (sym (not_held t f) ∙ h.1 (λ at has shares. none at has (shares_all 6 vector at.source at.sink l (subst (λ (w : List Direction). SharesIndices w at.source at.sink) e shares))))
+
+-- where each vector has a solution, that of `=` alone has one
+pub solved_all : (p : SubscriptPair) (same : List Direction) (t : Bool) → same ≡ replicate 6 Same → IsTrue t ↔ HasNoSolution p same → ((vector : List Direction) → length vector ≤ 6 → ¬ (HasNoSolution p vector)) → not t ≡ true
+solved_all p same true e h all = let l : length same ≡ 6 = ap length e in absurd (all same (omega arith) (h.0 refl))
+solved_all p same false e h all = refl
 
 -- an item of a list that was made longer by one
 pushed_item : {X : Type 0} (P : ℕ → X → Type 0) (xs ys : List X) (x : X) (n : ℕ) → length xs ≡ n → ys ≡ xs ++ x ∷ [] → ((k : ℕ) (y : X) → k < n → y ≡ get_or xs k y → P k y) → P n x → (k : ℕ) (y : X) → k < n + 1 → y ≡ get_or ys k y → P k y

@@ -1,38 +1,31 @@
 -- What the walk over the fronts of a position finds.
-use Rattle.std.proofs.Common.{◌≡◌, ◌↔◌, ℕ, ◌-◌, ◌≤◌, List, [], ◌∷◌, ◌++◌, length, get_or, Option, None, Bool, false, IsTrue, sym, subst, ◌∙◌, arith}
-use Rattle.std.proofs.lemmas.Bool.{false≢true}
-use Rattle.std.proofs.lemmas.List.{append_assoc}
+use Rattle.std.proofs.Common.{◌≡◌, ◌⊎◌, ◌↔◌, ℕ, ◌+◌, ◌-◌, ◌<◌, ◌≤◌, List, [], ◌∷◌, ◌++◌, length, take, drop, get_or, Option, None, Bool, true, false, IsTrue, refl, sym, ap, subst, ◌∙◌, inl, inr, arith}
+use Rattle.std.proofs.lemmas.Bool.{cases_Bool, false≢true}
+use Rattle.std.proofs.lemmas.List.{append_assoc, append-nil, take-append-drop, take_more}
 use Rattle.ped_views.specs.declared.directions.Direction.{Direction}
 use Rattle.ped_views.specs.declared.intervals.Interval.{Interval}
 use Rattle.ped_views.specs.Views.{SubscriptPair, View}
-use Rattle.ped_views.specs.Limits.{IsPosition, FitsLoops}
-use Rattle.ped_views.specs.Forms.{other_form, form_of}
-use Rattle.ped_views.specs.Excluded.{HasNoSolution, IsBeyondExtremes, Excludes}
+use Rattle.ped_views.specs.Limits.{FitsLoops}
+use Rattle.ped_views.specs.Excluded.{HasNoSolution, IsPoint, IsBeyondExtremes, difference}
 use Rattle.ped_miv.specs.Values.{DifferenceValue}
 use Rattle.ped_miv.specs.Parts.{IsRest, MaySum}
 use Rattle.ped_verdict.specs.declared.sights.Sight.{Sight}
-use Rattle.ped_verdict.specs.Marked.{AreAdded, Each}
-use Rattle.ped_verdict.specs.Sights.{IsSight}
-use Rattle.ped_verdict.proofs.Added.{added_none, added_as}
-use Rattle.ped_verdict.proofs.Begun.{shut_beyond, shut_unsolved, free_front}
+use Rattle.ped_verdict.specs.Sights.{IsSight, IsShut}
 
 module _ (v : View) (p : SubscriptPair) where
-  -- all vectors with a front are excluded, or none
-  pub all_marked : (n : ℕ) (front : List Direction) (old new : List Bool) → n ≡ length v.loops → ((rest : List Direction) → Excludes v p (front ++ rest)) → AreAdded n front Each old new → AreAdded (length v.loops) front (Excludes v p) old new
-  all_marked n front old new e shut a =
-      added_as (length v.loops) front Each (Excludes v p) old new (λ vector l (rest, is). (λ x. subst (Excludes v p) is (shut rest), λ x. tt))
-      (subst (λ (m : ℕ). AreAdded m front Each old new) e a)
-
-  pub none_marked : (front : List Direction) (row : List Bool) → ((rest : List Direction) → ¬ (Excludes v p (front ++ rest))) → AreAdded (length v.loops) front (Excludes v p) row row
-  none_marked front row free = added_none (length v.loops) front (Excludes v p) row (λ vector l (rest, is) x. free rest (subst (Excludes v p) (sym is) x))
-
-  -- a sum is one of the front that it is kept with
-  pub sum_of : (front kept : List Direction) (o sum : Option Interval) → kept ≡ front → o ≡ sum → MaySum v p front sum → MaySum v p kept o
-  sum_of front kept o sum e f h = subst (λ (x : Option Interval). MaySum v p kept x) (sym f) (subst (λ (ds : List Direction). MaySum v p ds sum) (sym e) h)
-
   -- without values under a front there are none under a longer one
-  pub none_longer : (front : List Direction) (d : Direction) → MaySum v p front None → MaySum v p (front ++ d ∷ []) None
-  none_longer front d none rest x = subst (λ (xs : List Direction). ¬ (DifferenceValue v p xs x)) (sym (append_assoc front (d ∷ []) rest)) (none (d ∷ rest) x)
+  pub none_longer : (front rest all : List Direction) → front ++ rest ≡ all → MaySum v p front None → MaySum v p all None
+  none_longer front rest all e none more x = subst (λ (xs : List Direction). ¬ (DifferenceValue v p xs x)) (sym (append_assoc front rest more) ∙ ap (λ (xs : List Direction). xs ++ more) e) (none (rest ++ more) x)
+
+  -- the sum of a front that is longer by one direction
+  module _ (ds front : List Direction) (k : ℕ) (d other : Direction) (below : k < length ds) (read : d ≡ get_or ds k other) where
+    its_front : take k ds ++ d ∷ [] ≡ take (k + 1) ds
+    its_front = ap (λ (x : Direction). take k ds ++ x ∷ []) read ∙ sym (take_more ds k other below)
+
+    pub sum_none : (before : List Direction) → before ≡ take k ds → ds ≡ front → MaySum v p (before ++ d ∷ []) None → MaySum v p front None
+    sum_none before e f h =
+        none_longer (before ++ d ∷ []) (drop (k + 1) ds) front
+        (ap (λ (xs : List Direction). xs ++ drop (k + 1) ds) (ap (λ (xs : List Direction). xs ++ d ∷ []) e ∙ its_front) ∙ (take-append-drop (k + 1) ds ∙ f)) h
 
   module _ (fits : FitsLoops (length v.loops) (length v.source_inner) (length v.sink_inner) p) (s : Sight) (sight : IsSight v p s) (front : List Direction) (deep : length front ≤ s.stage) where
     -- what the loops behind the front add
@@ -41,20 +34,25 @@ module _ (v : View) (p : SubscriptPair) where
         let within = sight.deep in
         subst (λ (j : ℕ). IsRest v p j x) (omega arith) (sight.rests.each k x (omega arith) is)
 
-    module _ (usable : IsTrue p.usable) (form : other_form ≡ form_of p) where
-      long : IsPosition p
-      long = let a = fits.source_common in let b = fits.sink_common in omega arith
+  -- without values under a front, zero doesn't lie between the extremes
+  pub beyond_without : (front : List Direction) → MaySum v p front None → IsBeyondExtremes v p front
+  beyond_without front none low high a b x y = none [] (difference p low) (low, subst (λ (w : List Direction). IsPoint v p w low) (sym (append-nil front)) a, refl)
 
-      pub shut_by_sum : (t : Bool) → IsTrue t ↔ IsBeyondExtremes v p front → IsTrue t → (rest : List Direction) → Excludes v p (front ++ rest)
-      shut_by_sum t h holds rest = shut_beyond v p usable form front (h.0 holds) rest
+  module _ (stage : ℕ) (front : List Direction) where
+    pub beyond_tells : IsBeyondExtremes v p front → IsTrue true ↔ IsShut v p stage front
+    beyond_tells b = (λ t. inl b, λ x. refl)
 
-      pub shut_by_gcd : (t : Bool) → IsTrue t ↔ HasNoSolution p front → length front ≡ s.stage → IsTrue t → (rest : List Direction) → Excludes v p (front ++ rest)
-      shut_by_gcd t h at holds rest = shut_unsolved v p usable form front long s.stage sight.done at (h.0 holds) rest
+    -- Banerjee's test doesn't exclude the front
+    module _ (t : Bool) (h : IsTrue t ↔ IsBeyondExtremes v p front) (f : t ≡ false) where
+      near : ¬ (IsBeyondExtremes v p front)
+      near b = false≢true (sym f ∙ h.1 b)
 
-      pub free_by_gcd : (t u : Bool) → IsTrue t ↔ IsBeyondExtremes v p front → t ≡ false → IsTrue u ↔ HasNoSolution p front → u ≡ false → length front ≡ s.stage → (rest : List Direction) → ¬ (Excludes v p (front ++ rest))
-      free_by_gcd t u h f g e at rest = free_front v p usable form front long s.stage sight.done at (λ b. false≢true (sym f ∙ h.1 b)) (λ n. false≢true (sym e ∙ g.1 n)) rest
+      pub gcd_tells : (u : Bool) → IsTrue u ↔ HasNoSolution p front → length front ≡ stage → IsTrue u ↔ IsShut v p stage front
+      gcd_tells u g at = (λ x. inr (at, g.0 x), λ s. elim s [ inl b ↦ absurd (near b) | inr n ↦ g.1 n.1 ])
 
-      pub free_by_solved : (t : Bool) → IsTrue t ↔ IsBeyondExtremes v p front → t ≡ false → IsTrue s.is_solved → length v.loops ≤ 6 → length front ≡ s.stage → (rest : List Direction) → ¬ (Excludes v p (front ++ rest))
-      free_by_solved t h f solved few at rest =
-          let within = sight.deep in
-          free_front v p usable form front long s.stage sight.done at (λ b. false≢true (sym f ∙ h.1 b)) (sight.solved solved front (omega arith)) rest
+      pub none_tells : (asks solved : Bool) → IsTrue asks ↔ ((length front ≡ stage) × (solved ≡ false)) → asks ≡ false → (IsTrue solved → ¬ (HasNoSolution p front)) → IsTrue false ↔ IsShut v p stage front
+      none_tells asks solved a e none = (λ x. absurd (false≢true x), λ s. elim s [ inl b ↦ absurd (near b) | inr n ↦ absurd (by n.0 n.1 (cases_Bool solved)) ])
+        where
+          by : length front ≡ stage → HasNoSolution p front → (solved ≡ true) ⊎ (solved ≡ false) → ⊥
+          by at n (inl y) = none y n
+          by at n (inr y) = false≢true (sym e ∙ a.1 (at, y))

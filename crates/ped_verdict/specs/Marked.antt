@@ -3,6 +3,7 @@ use Rattle.std.specs.Prelude.{◌≡◌, ◌⊎◌, ◌↔◌, ℕ, ◌+◌, ◌
 use Rattle.ped_views.specs.declared.directions.Direction.{Direction}
 use Rattle.ped_views.specs.declared.directions.Direction.TheVariants.{Before, Same, After}
 use Rattle.ped_views.specs.Views.{SubscriptPair, View}
+use Rattle.ped_views.specs.Forms.{other_form, form_of}
 use Rattle.ped_views.specs.Excluded.{Excludes}
 use Rattle.ped_views.specs.Vectors.{IsPossible}
 use Rattle.ped_bits.specs.Places.{Has}
@@ -28,17 +29,27 @@ pub record AreMarked (v : View) (row : List Bool) : Type 0 where
   pub wide : length row ≡ 3 ^ length v.loops
   pub marks : (vector : List Direction) → length vector ≡ length v.loops → Has row (place_of vector) ↔ IsPossible v vector
 
--- the row has the places of the vectors that one of the first k positions excludes
-pub record AreExcluded (v : View) (k : ℕ) (row : List Bool) : Type 0 where
+-- the pair has subscripts in one index at most, and excludes the vector
+pub record SingleExcludes (v : View) (p : SubscriptPair) (vector : List Direction) : Type 0 where
+  pub form : ¬ (other_form ≡ form_of p)
+  pub excludes : Excludes v p vector
+
+-- the row has the places of vectors that the positions exclude, with those that one of the first k with E does
+pub record AreExcluded (v : View) (E : SubscriptPair → List Direction → Type 0) (k : ℕ) (row : List Bool) : Type 0 where
   pub wide : length row ≡ 3 ^ length v.loops
   pub marked : (vector : List Direction) → length vector ≡ length v.loops → Has row (place_of vector) → ¬ (IsPossible v vector)
   pub unmarked : (vector : List Direction) → length vector ≡ length v.loops → ¬ (Has row (place_of vector))
-      → (j : ℕ) (p : SubscriptPair) → j < k → slice_get v.positions j ≡ Some p → ¬ (Excludes v p vector)
+      → (j : ℕ) (p : SubscriptPair) → j < k → slice_get v.positions j ≡ Some p → ¬ (E p vector)
 
 -- the row has got the places of the vectors over n loops with this front that have E, and no others
 pub record AreAdded (n : ℕ) (front : List Direction) (E : List Direction → Type 0) (old new : List Bool) : Type 0 where
   pub wide : length new ≡ length old
   pub marks : (vector : List Direction) → length vector ≡ n → Has new (place_of vector) ↔ (Has old (place_of vector) ⊎ (BeginsWith front vector × E vector))
+
+-- the row has got the places from the first up to the last, which isn't among them
+pub record AreSet (first last : ℕ) (old row : List Bool) : Type 0 where
+  pub wide : length row ≡ length old
+  pub has : (k : ℕ) → Has row k ↔ (Has old k ⊎ ((first ≤ k) × (k < last)))
 
 -- every vector
 abbrev pub Each : List Direction → Type 0

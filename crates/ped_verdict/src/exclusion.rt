@@ -1,18 +1,19 @@
-//! The vectors that a position of a view excludes. Each is tested by its form, and those that are strong SIV in one
-//! loop are tested together.
+//! The vectors that a position with subscripts in one index at most excludes. Each is tested by its form, and those
+//! that are strong SIV in one loop are tested together.
 
-ghost use Rattle.std.specs.Prelude.{◌≡◌, ◌<◌, ◌≤◌, ◌^◌, ◌↔◌, pos, neg_ℤ, length, [], Some, slice_get, IfOk, IfSome, IsTrue};
+ghost use Rattle.std.specs.Prelude.{◌≡◌, ◌<◌, ◌≤◌, ◌^◌, ◌↔◌, ◌+◌, pos, neg_ℤ, length, [], Some, slice_get, IfOk, OnOk, IfSome, IsTrue};
 ghost use Rattle.ped_views.specs.Forms as plain;
 ghost use Rattle.ped_views.specs.Forms.{strong_siv, weak_zero_siv, weak_crossing_siv};
 ghost use Rattle.ped_views.specs.Limits.{FitsLoops};
 ghost use Rattle.ped_views.specs.Excluded.{NeverMeets, Excludes, group_of};
 ghost use Rattle.ped_verdict.specs.CodeForms.{occurrence_shown, HasOneZero};
-ghost use Rattle.ped_verdict.specs.Marked.{AreAdded};
+ghost use Rattle.ped_verdict.specs.Marked.{AreAdded, SingleExcludes};
+ghost use Rattle.ped_verdict.specs.Sights.{AreSights};
 
 use crate::forms::{Form, Occurrence, form_of};
 use crate::fronts::{mark_directions, mark_front};
 use crate::groups::group;
-use crate::sights::exclude_other;
+use crate::sights::{Sight, sight_of};
 use crate::vectors::Vector;
 use ped_base::NoMemory;
 use ped_bits::Row;
@@ -22,37 +23,43 @@ use ped_siv::{
 use ped_views::{Direction, LoopRange, PairView, Position};
 use std::alloc::Global;
 
-/// Adds the vectors that the position at this place excludes. One that isn't usable excludes nothing.
+/// Adds the vectors that the position at this place excludes, or what is found of it where its subscripts are in
+/// several indices. One that isn't usable excludes nothing.
 pub(crate) fn exclude_by(
     alloc: Global,
     view: &PairView,
     position: usize,
     excluded: &mut Row,
+    sights: &mut Vec<Sight>,
 ) -> Result<(), NoMemory>
     requires place { position < length view.now.positions }
     requires wide { length excluded.old ≡ 3 ^ length view.now.loops }
-    ensures { IfOk result (λ done. IfSome
+    ensures marks { IfOk result (λ done. IfSome
         (slice_get view.now.positions position)
-        (λ p. AreAdded (length view.now.loops) [] (Excludes view.now p) excluded.old excluded.new)) }
+        (λ p. AreAdded (length view.now.loops) [] (SingleExcludes view.now p) excluded.old excluded.new)) }
+    ensures sights { OnOk
+        result
+        (AreSights view.now position sights.old.items → AreSights view.now (position + 1) sights.new.items) }
 {
     let pair = &view.positions[position];
     if pair.usable {
-        return exclude_usable(alloc, view, position, pair, excluded);
+        return exclude_usable(alloc, view, position, pair, excluded, sights);
     }
     Ok(())
 }
 
-/// Adds the vectors that usable subscripts exclude, by the test of their form.
+/// Adds the vectors that usable subscripts in one index at most exclude, by the test of their form, or what is found of
+/// subscripts in several indices.
 fn exclude_usable(
     alloc: Global,
     view: &PairView,
     position: usize,
     pair: &Position,
     excluded: &mut Row,
+    sights: &mut Vec<Sight>,
 ) -> Result<(), NoMemory>
     requires inside { position < length view.now.positions }
     requires there { slice_get view.now.positions position ≡ Some pair.now }
-    requires few { length view.now.loops ≤ 6 }
     requires fits { FitsLoops
         (length view.now.loops)
         (length view.now.source_inner)
@@ -60,19 +67,25 @@ fn exclude_usable(
         pair.now }
     requires usable { IsTrue pair.now.usable }
     requires wide { length excluded.old ≡ 3 ^ length view.now.loops }
-    ensures { IfOk result (λ done. AreAdded
+    ensures marks { IfOk result (λ done. AreAdded
         (length view.now.loops)
         []
-        (Excludes view.now pair.now)
+        (SingleExcludes view.now pair.now)
         excluded.old
         excluded.new) }
+    ensures sights { OnOk
+        result
+        (AreSights view.now position sights.old.items → AreSights view.now (position + 1) sights.new.items) }
 {
     match form_of(pair) {
         Form::Ziv => {
             exclude_ziv(view, pair, excluded);
             Ok(())
         }
-        Form::Strong(one) => exclude_strong(alloc, view, position, pair, one, excluded),
+        Form::Strong(one) => {
+            exclude_strong(alloc, view, position, pair, one, excluded)?;
+            Ok(())
+        }
         Form::WeakZero(one) => {
             exclude_weak_zero(view, pair, one, excluded);
             Ok(())
@@ -81,7 +94,11 @@ fn exclude_usable(
             exclude_weak_crossing(view, pair, one, excluded);
             Ok(())
         }
-        Form::Other => exclude_other(alloc, view, pair, excluded),
+        Form::Other => {
+            let sight = sight_of(alloc, view, position, pair)?;
+            sights.push(sight)?;
+            Ok(())
+        }
     }
 }
 

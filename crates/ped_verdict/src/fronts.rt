@@ -1,10 +1,10 @@
 //! Marks all vectors with a front, or with a direction in one loop.
 
-ghost use Rattle.std.specs.Prelude.{◌≡◌, ◌*◌, ◌<◌, ◌≤◌, ◌^◌, [], length, IsTrue};
-ghost use Rattle.ped_views.specs.Excluded.{direction_at};
-ghost use Rattle.ped_verdict.specs.Marked.{AreAdded, Each, chosen};
+ghost use Rattle.std.specs.Prelude.{◌≡◌, ◌+◌, ◌*◌, ◌<◌, ◌≤◌, ◌^◌, [], length, IsTrue};
+ghost use Rattle.ped_views.specs.Excluded.{direction_at as spec_direction_at};
+ghost use Rattle.ped_verdict.specs.Marked.{AreAdded, AreSet, Each, chosen};
 
-use crate::places::{place_of, vector_count};
+use crate::places::{direction_at, place_of, vector_count};
 use crate::vectors::Vector;
 use ped_bits::Row;
 use ped_views::Direction;
@@ -17,7 +17,17 @@ pub(crate) fn mark_front(loops: usize, front: &Vector, row: &mut Row)
     ensures { AreAdded loops front.now Each row.old row.new }
 {
     let behind = vector_count(loops - front.len());
-    let first = first_place(place_of(front.directions()), behind);
+    mark_behind(place_of(front.directions()), behind, row);
+}
+
+/// Marks the vectors that begin with the front at this place, where so many begin with each front.
+fn mark_behind(front: usize, behind: usize, row: &mut Row)
+    requires front { front < 729 }
+    requires behind { behind ≤ 729 }
+    requires room { front * behind + behind ≤ length row.old }
+    ensures { AreSet (front * behind) (front * behind + behind) row.old row.new }
+{
+    let first = first_place(front, behind);
     for place in first..first + behind {
         row.set(place);
     }
@@ -34,7 +44,7 @@ fn first_place(front: usize, behind: usize) -> usize
 }
 
 /// Marks all vectors over this many loops that have a direction in the loop at a place for which one of three
-/// answers says so.
+/// answers says so. It goes over the fronts up to that loop.
 pub(crate) fn mark_directions(
     loops: usize,
     place: usize,
@@ -49,53 +59,25 @@ pub(crate) fn mark_directions(
     ensures { AreAdded
         loops
         []
-        (λ vector. IsTrue (chosen before same after (direction_at vector place)))
+        (λ vector. IsTrue (chosen before same after (spec_direction_at vector place)))
         row.old
         row.new }
 {
-    mark_where(before, loops, place, Direction::Before, row);
-    mark_where(same, loops, place, Direction::Same, row);
-    mark_where(after, loops, place, Direction::After, row);
-}
-
-/// Marks all vectors with this direction in the loop at a place, where an answer says so.
-fn mark_where(marks: bool, loops: usize, place: usize, direction: Direction, row: &mut Row)
-    requires few { loops ≤ 6 }
-    requires place { place < loops }
-    requires wide { length row.old ≡ 3 ^ loops }
-    ensures { AreAdded
-        loops
-        []
-        (λ vector. IsTrue marks × (direction_at vector place ≡ direction))
-        row.old
-        row.new }
-{
-    if marks {
-        mark_direction(loops, place, direction, Vector::empty(), row);
+    let behind = vector_count(loops - 1 - place);
+    for front in 0..vector_count(place + 1) {
+        if is_chosen(direction_at(front % 3), before, same, after) {
+            mark_behind(front, behind, row);
+        }
     }
 }
 
-/// Marks all vectors that begin with a front and have this direction in the loop at a place behind it.
-fn mark_direction(loops: usize, place: usize, direction: Direction, front: Vector, row: &mut Row)
-    requires few { loops ≤ 6 }
-    requires place { place < loops }
-    requires front { length front ≤ place }
-    requires wide { length row.old ≡ 3 ^ loops }
-    ensures { AreAdded
-        loops
-        front
-        (λ vector. direction_at vector place ≡ direction)
-        row.old
-        row.new }
+/// The one of three answers that is for a direction.
+fn is_chosen(direction: Direction, before: bool, same: bool, after: bool) -> bool
+    ensures { result ≡ chosen before same after direction }
 {
-    if front.len() == place {
-        mark_front(loops, &front.with(direction), row);
-    } else {
-        let longer = front.with(Direction::Before);
-        mark_direction(loops, place, direction, longer, row);
-        let longer = front.with(Direction::Same);
-        mark_direction(loops, place, direction, longer, row);
-        let longer = front.with(Direction::After);
-        mark_direction(loops, place, direction, longer, row);
+    match direction {
+        Direction::Before => before,
+        Direction::Same => same,
+        Direction::After => after,
     }
 }

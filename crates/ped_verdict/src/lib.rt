@@ -16,6 +16,7 @@ mod sights;
 mod steps;
 mod testing;
 mod vectors;
+mod walks;
 
 pub use distances::distance;
 pub use exactness::is_exact;

@@ -5,7 +5,7 @@ ghost use Rattle.ped_views.specs.Vectors.{AreVectors};
 ghost use Rattle.ped_verdict.specs.Dependence.{HasList};
 ghost use Rattle.ped_verdict.specs.Marked.{AreMarked};
 
-use crate::places::vector_at;
+use crate::places::{vector_at, vector_from};
 use crate::refining::possible_vectors;
 use crate::vectors::Vector;
 use ped_base::NoMemory;
@@ -31,10 +31,15 @@ pub(crate) fn listed(
     requires { AreMarked view.now possible.now }
     ensures { IfOk result (λ vectors. AreVectors view.now vectors.items) }
 {
+    let loops = view.loops.len();
     let mut vectors = Vec::new(alloc);
+    let mut vector = vector_at(loops, 0);
+    let mut at = 0;
     for place in 0..possible.width() {
         if possible.get(place) {
-            vectors.push(vector_at(view.loops.len(), place))?;
+            vector = vector_from(loops, vector, at, place);
+            at = place;
+            vectors.push(vector)?;
         }
     }
     Ok(vectors)

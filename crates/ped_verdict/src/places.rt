@@ -1,6 +1,6 @@
 //! Direction vectors as numbers: their places in the lexicographic order `<`, `=`, `>`, from 0 on.
 
-ghost use Rattle.std.specs.Prelude.{◌≡◌, ◌<◌, ◌≤◌, ◌^◌, length};
+ghost use Rattle.std.specs.Prelude.{◌≡◌, ◌+◌, ◌<◌, ◌≤◌, ◌^◌, length};
 ghost use Rattle.ped_verdict.specs.Marked as Spec;
 
 use crate::vectors::Vector;
@@ -45,6 +45,39 @@ pub(crate) fn vector_at(loops: usize, place: usize) -> Vector
     }
 }
 
+/// The vector at a place, from the one at a place before it: a step where it is the next one.
+pub(crate) fn vector_from(loops: usize, vector: Vector, at: usize, place: usize) -> Vector
+    requires few { loops ≤ 6 }
+    requires length { length vector ≡ loops }
+    requires at { Spec.place_of vector ≡ at }
+    requires order { at ≤ place }
+    requires place { place < 3 ^ loops }
+    ensures length { length result ≡ loops }
+    ensures place { Spec.place_of result ≡ place }
+{
+    if place - at == 1 {
+        following(vector)
+    } else {
+        vector_at(loops, place)
+    }
+}
+
+/// The next vector over as many loops, or the first where there is no next one.
+fn following(vector: Vector) -> Vector
+    ensures length { length result ≡ length vector }
+    ensures next { Spec.place_of vector + 1 < 3 ^ length vector → Spec.place_of result ≡ Spec.place_of vector + 1 }
+{
+    if vector.len() == 0 {
+        return vector;
+    }
+    let front = vector.without_last();
+    match vector.last() {
+        Direction::Before => front.with(Direction::Same),
+        Direction::Same => front.with(Direction::After),
+        Direction::After => following(front).with(Direction::Before),
+    }
+}
+
 fn digit(direction: Direction) -> usize
     ensures value { result ≡ Spec.digit direction }
     ensures small { result ≤ 2 }
@@ -56,7 +89,8 @@ fn digit(direction: Direction) -> usize
     }
 }
 
-fn direction_at(digit: usize) -> Direction
+/// The direction with this place in the order `<`, `=`, `>`.
+pub(crate) fn direction_at(digit: usize) -> Direction
     requires { digit ≤ 2 }
     ensures { Spec.digit result ≡ digit }
 {

@@ -1,22 +1,17 @@
-//! The vectors that subscripts in several indices exclude. What is found once of a position serves all fronts of
-//! vectors.
+//! What is found once of a position with subscripts in several indices, and whether it excludes all vectors with a
+//! front.
 
-ghost use Rattle.std.specs.Prelude.{◌≡◌, ◌+◌, ◌≤◌, ◌<◌, ◌^◌, ◌++◌, ◌∷◌, List, [], length, slice_index_or, pos, IfOk, IsTrue};
+ghost use Rattle.std.specs.Prelude.{◌≡◌, ◌+◌, ◌≤◌, ◌<◌, ◌↔◌, ℕ, List, length, IfOk, IsTrue};
 ghost use Rattle.std.specs.Bool.{IsFalse};
 ghost use Rattle.ped_views.specs.declared.directions.Direction.{Direction as SpecDirection};
-ghost use Rattle.ped_views.specs.Forms as plain;
-ghost use Rattle.ped_views.specs.Forms.{other_form};
-ghost use Rattle.ped_views.specs.Excluded.{HasNoSolution, Excludes};
+ghost use Rattle.ped_views.specs.Excluded.{HasNoSolution};
 ghost use Rattle.ped_views.specs.Limits.{FitsLoops};
 ghost use Rattle.ped_miv.specs.Parts.{AreAllParts, IsSum, MaySum};
-ghost use Rattle.ped_verdict.specs.Fronts.{is_done};
-ghost use Rattle.ped_verdict.specs.Marked.{AreAdded};
-ghost use Rattle.ped_verdict.specs.Sights.{IsSight, AreRests};
+ghost use Rattle.ped_verdict.specs.Fronts.{is_done, occurs_at};
+ghost use Rattle.ped_verdict.specs.Sights.{IsSight, IsShut, AreRests};
 
-use crate::fronts::mark_front;
 use crate::vectors::Vector;
 use ped_base::NoMemory;
-use ped_bits::Row;
 use ped_miv::{
     LoopParts, gcd_excludes, loop_parts, no_rest, rest_from, sum_at_start, sum_with, sums_exclude,
 };
@@ -25,56 +20,24 @@ use std::alloc::Global;
 
 /// What is found of a position.
 #[derive(Drop)]
-struct Sight {
+pub(crate) struct Sight {
+    /// The place of the position in its view.
+    pub(crate) position: usize,
+    /// What is added before any common loop has a direction.
+    start: Option<Interval>,
     /// What each common loop adds to the difference of its subscripts, the outermost first.
     parts: Vec<LoopParts>,
     /// What the last common loops add together in any directions: of none, of one, and so on.
     rests: Vec<Option<Interval>>,
     /// How many common loops there are up to the last that occurs.
-    stage: usize,
+    pub(crate) stage: usize,
     /// Whether the GCD test is known to exclude no vector.
     is_solved: bool,
 }
 
-/// Adds the vectors that Banerjee's test or the GCD test excludes at a usable position.
-pub(crate) fn exclude_other(
-    alloc: Global,
-    view: &PairView,
-    pair: &Position,
-    excluded: &mut Row,
-) -> Result<(), NoMemory>
-    requires few { length view.now.loops ≤ 6 }
-    requires fits { FitsLoops
-        (length view.now.loops)
-        (length view.now.source_inner)
-        (length view.now.sink_inner)
-        pair.now }
-    requires usable { IsTrue pair.now.usable }
-    requires other { other_form ≡ plain.form_of pair.now }
-    requires wide { length excluded.old ≡ 3 ^ length view.now.loops }
-    ensures { IfOk result (λ done. AreAdded
-        (length view.now.loops)
-        []
-        (Excludes view.now pair.now)
-        excluded.old
-        excluded.new) }
-{
-    let sight = sight_of(alloc, view, pair)?;
-    let sum = sum_at_start(view, pair);
-    exclude_in(view, pair, &sight, Vector::empty(), sum, excluded);
-    Ok(())
-}
-
-/// Adds the excluded vectors that begin with this front. Once all loops that occur have their directions in it, it
-/// excludes all or none.
-fn exclude_in(
-    view: &PairView,
-    pair: &Position,
-    sight: &Sight,
-    front: Vector,
-    sum: Option<Interval>,
-    excluded: &mut Row,
-)
+/// Whether a front is excluded at a position: by Banerjee's test, and once all loops that occur have their directions
+/// in it by the GCD test. Then all vectors with it are.
+pub(crate) fn is_shut(view: &PairView, pair: &Position, sight: &Sight, front: &Vector) -> bool
     requires few { length view.now.loops ≤ 6 }
     requires fits { FitsLoops
         (length view.now.loops)
@@ -82,69 +45,17 @@ fn exclude_in(
         (length view.now.sink_inner)
         pair.now }
     requires sight { IsSight view.now pair.now sight.now }
-    requires usable { IsTrue pair.now.usable }
-    requires other { other_form ≡ plain.form_of pair.now }
-    requires front { length front ≤ sight.now.stage }
-    requires sum { MaySum view.now pair.now front sum }
-    requires wide { length excluded.old ≡ 3 ^ length view.now.loops }
-    ensures { AreAdded
-        (length view.now.loops)
-        front
-        (Excludes view.now pair.now)
-        excluded.old
-        excluded.new }
-{
-    if is_shut(view, pair, sight, &front, sum) {
-        mark_front(view.loops.len(), &front, excluded);
-    } else if front.len() < sight.stage {
-        let before = sum_behind(view, pair, sight, &front, sum, Direction::Before);
-        let longer = front.with(Direction::Before);
-        exclude_in(view, pair, sight, longer, before, excluded);
-        let same = sum_behind(view, pair, sight, &front, sum, Direction::Same);
-        let longer = front.with(Direction::Same);
-        exclude_in(view, pair, sight, longer, same, excluded);
-        let after = sum_behind(view, pair, sight, &front, sum, Direction::After);
-        let longer = front.with(Direction::After);
-        exclude_in(view, pair, sight, longer, after, excluded);
-    }
-}
-
-/// Whether all vectors with this front are excluded, as far as the sum tells, and once all loops that occur have
-/// their directions.
-fn is_shut(
-    view: &PairView,
-    pair: &Position,
-    sight: &Sight,
-    front: &Vector,
-    sum: Option<Interval>,
-) -> bool
-    requires few { length view.now.loops ≤ 6 }
-    requires fits { FitsLoops
-        (length view.now.loops)
-        (length view.now.source_inner)
-        (length view.now.sink_inner)
-        pair.now }
-    requires sight { IsSight view.now pair.now sight.now }
-    requires usable { IsTrue pair.now.usable }
-    requires other { other_form ≡ plain.form_of pair.now }
     requires front { length front.now ≤ sight.now.stage }
-    requires sum { MaySum view.now pair.now front.now sum }
-    ensures shut { IsTrue result
-        → (rest : List SpecDirection)
-        → Excludes view.now pair.now (front.now ++ rest) }
-    ensures free { IsFalse result
-        → length front.now ≡ sight.now.stage
-        → (rest : List SpecDirection)
-        → ¬ (Excludes view.now pair.now (front.now ++ rest)) }
+    ensures { IsTrue result ↔ IsShut view.now pair.now sight.now.stage front.now }
 {
-    match sum {
+    match sum_under(view, pair, sight, front) {
         None => true,
         Some(sum) => is_shut_by(view, pair, sight, front, sum),
     }
 }
 
-/// Whether all vectors with this front are excluded, by its sum, and once all loops that occur have their
-/// directions in it.
+/// Whether a front is excluded at a position, by its sum, and once all loops that occur have their directions in it by
+/// the GCD test.
 fn is_shut_by(
     view: &PairView,
     pair: &Position,
@@ -159,17 +70,9 @@ fn is_shut_by(
         (length view.now.sink_inner)
         pair.now }
     requires sight { IsSight view.now pair.now sight.now }
-    requires usable { IsTrue pair.now.usable }
-    requires other { other_form ≡ plain.form_of pair.now }
     requires front { length front.now ≤ sight.now.stage }
     requires sum { IsSum view.now pair.now front.now sum }
-    ensures shut { IsTrue result
-        → (rest : List SpecDirection)
-        → Excludes view.now pair.now (front.now ++ rest) }
-    ensures free { IsFalse result
-        → length front.now ≡ sight.now.stage
-        → (rest : List SpecDirection)
-        → ¬ (Excludes view.now pair.now (front.now ++ rest)) }
+    ensures { IsTrue result ↔ IsShut view.now pair.now sight.now.stage front.now }
 {
     let rest = sight.rests[view.loops.len() - front.len()];
     if sums_exclude(view, pair, front.directions(), sum, rest) {
@@ -183,23 +86,13 @@ fn is_shut_by(
 
 /// Whether the GCD test is asked of a front: once all loops that occur have their directions, unless it excludes none.
 fn asks_gcd(sight: &Sight, front: &Vector) -> bool
-    ensures at { IsTrue result → length front.now ≡ sight.now.stage }
-    ensures solved { IsFalse result
-        → length front.now ≡ sight.now.stage
-        → IsTrue sight.now.is_solved }
+    ensures { IsTrue result ↔ ((length front.now ≡ sight.now.stage) × IsFalse sight.now.is_solved) }
 {
     front.len() == sight.stage && !sight.is_solved
 }
 
-/// The sum of the front with a direction of one more loop.
-fn sum_behind(
-    view: &PairView,
-    pair: &Position,
-    sight: &Sight,
-    front: &Vector,
-    sum: Option<Interval>,
-    direction: Direction,
-) -> Option<Interval>
+/// The sum of a front: what is added at the start, and by each loop in its direction.
+fn sum_under(view: &PairView, pair: &Position, sight: &Sight, front: &Vector) -> Option<Interval>
     requires few { length view.now.loops ≤ 6 }
     requires fits { FitsLoops
         (length view.now.loops)
@@ -207,29 +100,42 @@ fn sum_behind(
         (length view.now.sink_inner)
         pair.now }
     requires sight { IsSight view.now pair.now sight.now }
-    requires front { length front.now < sight.now.stage }
-    requires sum { MaySum view.now pair.now front.now sum }
-    ensures { MaySum view.now pair.now (front.now ++ direction ∷ []) result }
+    requires front { length front.now ≤ sight.now.stage }
+    ensures { MaySum view.now pair.now front.now result }
 {
-    let sum = sum?;
-    let parts = &sight.parts[front.len()];
-    sum_with(view, pair, front.directions(), sum, parts, direction)
+    let directions = front.directions();
+    let mut sum = sight.start?;
+    for (place, direction) in directions.iter().enumerate() {
+        let before = &directions[..place];
+        let parts = &sight.parts[place];
+        sum = sum_with(view, pair, before, sum, parts, *direction)?;
+    }
+    Some(sum)
 }
 
-/// What is found of one position.
-fn sight_of(alloc: Global, view: &PairView, pair: &Position) -> Result<Sight, NoMemory>
+/// What is found of the position at this place.
+pub(crate) fn sight_of(
+    alloc: Global,
+    view: &PairView,
+    position: usize,
+    pair: &Position,
+) -> Result<Sight, NoMemory>
     requires { FitsLoops
         (length view.now.loops)
         (length view.now.source_inner)
         (length view.now.sink_inner)
         pair.now }
-    ensures { IfOk result (λ s. IsSight view.now pair.now s) }
+    ensures sight { IfOk result (λ s. IsSight view.now pair.now s) }
+    ensures position { IfOk result (λ s. s.position ≡ position) }
 {
+    let start = sum_at_start(view, pair);
     let parts = all_parts(alloc, view, pair)?;
     let rests = all_rests(alloc, view, pair, &parts)?;
     let stage = stage(pair);
     let is_solved = is_solved(pair);
     Ok(Sight {
+        position,
+        start,
         parts,
         rests,
         stage,
@@ -296,6 +202,7 @@ fn all_rests(
 fn stage(pair: &Position) -> usize
     ensures deep { result ≤ length pair.now.source.common }
     ensures done { IsTrue (is_done result pair.now) }
+    ensures last { (m : ℕ) → m < result → IsFalse (is_done m pair.now) }
 {
     let mut stage = 0;
     for place in 0..pair.source.common.len() {
@@ -307,10 +214,9 @@ fn stage(pair: &Position) -> usize
 }
 
 /// Whether the common loop at a place occurs in a position.
-fn occurs(pair: &Position, place: usize) -> bool
+pub(crate) fn occurs(pair: &Position, place: usize) -> bool
     requires { place < length pair.now.source.common }
-    ensures source { IsFalse result → slice_index_or pair.now.source.common place (pos 0) ≡ pos 0 }
-    ensures sink { IsFalse result → slice_index_or pair.now.sink.common place (pos 0) ≡ pos 0 }
+    ensures { result ≡ occurs_at pair.now place }
 {
     pair.source.common[place] != 0 || pair.sink.common[place] != 0
 }
@@ -318,10 +224,9 @@ fn occurs(pair: &Position, place: usize) -> bool
 /// Whether the GCD test excludes not even the vector of `=` alone, under which there are the fewest unknowns. Then it
 /// excludes none.
 fn is_solved(position: &Position) -> bool
-    ensures { IsTrue result
-        → (vector : List SpecDirection)
+    ensures { IsTrue result ↔ ((vector : List SpecDirection)
         → length vector ≤ 6
-        → ¬ (HasNoSolution position.now vector) }
+        → ¬ (HasNoSolution position.now vector)) }
 {
     !gcd_excludes(position, &[Direction::Same; 6])
 }

@@ -1,6 +1,7 @@
 //! Direction vectors that allocate no memory.
 
-ghost use Rattle.std.specs.Prelude.{◌≡◌, ◌<◌, ◌≤◌, length, [], ◌∷◌, ◌++◌};
+ghost use Rattle.std.specs.Prelude.{◌≡◌, ◌-◌, ◌<◌, ◌≤◌, length, take, [], ◌∷◌, ◌++◌};
+ghost use Rattle.ped_views.specs.Excluded.{direction_at};
 
 use ped_views::Direction;
 use std::marker::Model;
@@ -52,6 +53,25 @@ impl Vector {
             len: self.len + 1,
             directions,
         }
+    }
+
+    /// This vector without its last loop.
+    pub(crate) fn without_last(self) -> Vector
+        requires { 0 < length self }
+        ensures { result ≡ take (length self - 1) self }
+    {
+        let len = self.len - 1;
+        let mut directions = self.directions;
+        directions[len as usize] = Direction::Same;
+        Vector { len, directions }
+    }
+
+    /// The direction of the last loop.
+    pub(crate) fn last(&self) -> Direction
+        requires { 0 < length self.now }
+        ensures { result ≡ direction_at self.now (length self.now - 1) }
+    {
+        self.directions[self.len as usize - 1]
     }
 
     /// How many loops the vector is over.

@@ -1,27 +1,26 @@
-use Rattle.std.proofs.Common.{◌↔◌, IsTrue, List, subst}
+use Rattle.std.proofs.Common.{◌≤◌, ◌↔◌, IsTrue, List, length, subst, arith}
 use Rattle.ped_views.specs.declared.directions.Direction.{Direction}
 use Rattle.ped_views.specs.Excluded.{HasNoSolution, IsBeyondExtremes}
-use Rattle.ped_verdict.proofs.Walked.{shut_by_sum, shut_by_gcd, free_by_gcd, free_by_solved}
+use Rattle.ped_verdict.proofs.Walked.{beyond_tells, gcd_tells, none_tells}
 use Rattle.ped_verdict.proofs.sights.is_shut_by.Goals as goal
 
-pub returns-then-sums_exclude-clause-shut : goal.returns-then-sums_exclude-clause-shut
-returns-then-sums_exclude-clause-shut c = λ t.
-    shut_by_sum c.args.view.now c.args.pair.now c.requires.fits c.args.sight.now c.requires.sight c.args.front.now c.requires.front c.requires.usable c.requires.other c.sums_exclude.result
-    (subst (λ (ds : List Direction). IsTrue c.sums_exclude.result ↔ IsBeyondExtremes c.args.view.now c.args.pair.now ds) c.directions.ensures.value c.sums_exclude.ensures) c.if-sums_exclude.true
+pub returns-then-sums_exclude : goal.returns-then-sums_exclude
+returns-then-sums_exclude c =
+    let sums = subst (λ (ds : List Direction). IsTrue c.sums_exclude.result ↔ IsBeyondExtremes c.args.view.now c.args.pair.now ds) c.directions.ensures.value c.sums_exclude.ensures in
+    beyond_tells c.args.view.now c.args.pair.now c.args.sight.now.stage c.args.front.now (sums.0 c.if-sums_exclude.true)
 
-pub returns-then-asks_gcd-clause-shut : goal.returns-then-asks_gcd-clause-shut
-returns-then-asks_gcd-clause-shut c = λ t.
-    shut_by_gcd c.args.view.now c.args.pair.now c.requires.fits c.args.sight.now c.requires.sight c.args.front.now c.requires.front c.requires.usable c.requires.other c.gcd_excludes.result
-    (subst (λ (ds : List Direction). IsTrue c.gcd_excludes.result ↔ HasNoSolution c.args.pair.now ds) c.directions-then-asks_gcd.ensures.value c.gcd_excludes.ensures) (c.asks_gcd.ensures.at c.if-asks_gcd.true) t
+pub returns-then-asks_gcd : goal.returns-then-asks_gcd
+returns-then-asks_gcd c =
+    gcd_tells c.args.view.now c.args.pair.now c.args.sight.now.stage c.args.front.now c.sums_exclude.result
+    (subst (λ (ds : List Direction). IsTrue c.sums_exclude.result ↔ IsBeyondExtremes c.args.view.now c.args.pair.now ds) c.directions.ensures.value c.sums_exclude.ensures) c.if-sums_exclude.false c.gcd_excludes.result
+    (subst (λ (ds : List Direction). IsTrue c.gcd_excludes.result ↔ HasNoSolution c.args.pair.now ds) c.directions-then-asks_gcd.ensures.value c.gcd_excludes.ensures) (c.asks_gcd.ensures.0 c.if-asks_gcd.true).0
 
-pub returns-then-asks_gcd-clause-free : goal.returns-then-asks_gcd-clause-free
-returns-then-asks_gcd-clause-free c = λ f at.
-    free_by_gcd c.args.view.now c.args.pair.now c.requires.fits c.args.sight.now c.requires.sight c.args.front.now c.requires.front c.requires.usable c.requires.other c.sums_exclude.result c.gcd_excludes.result
+pub returns : goal.returns
+returns c =
+    let few = c.requires.few in
+    let deep = c.requires.sight.deep in
+    let within = c.requires.front in
+    let short : length c.args.front.now ≤ 6 = omega arith in
+    none_tells c.args.view.now c.args.pair.now c.args.sight.now.stage c.args.front.now c.sums_exclude.result
     (subst (λ (ds : List Direction). IsTrue c.sums_exclude.result ↔ IsBeyondExtremes c.args.view.now c.args.pair.now ds) c.directions.ensures.value c.sums_exclude.ensures) c.if-sums_exclude.false
-    (subst (λ (ds : List Direction). IsTrue c.gcd_excludes.result ↔ HasNoSolution c.args.pair.now ds) c.directions-then-asks_gcd.ensures.value c.gcd_excludes.ensures) f at
-
-pub returns-clause-free : goal.returns-clause-free
-returns-clause-free c = λ f at.
-    free_by_solved c.args.view.now c.args.pair.now c.requires.fits c.args.sight.now c.requires.sight c.args.front.now c.requires.front c.requires.usable c.requires.other c.sums_exclude.result
-    (subst (λ (ds : List Direction). IsTrue c.sums_exclude.result ↔ IsBeyondExtremes c.args.view.now c.args.pair.now ds) c.directions.ensures.value c.sums_exclude.ensures) c.if-sums_exclude.false
-    (c.asks_gcd.ensures.solved c.if-asks_gcd.false at) c.requires.few at
+    c.asks_gcd.result c.args.sight.now.is_solved c.asks_gcd.ensures c.if-asks_gcd.false (λ solved. c.requires.sight.solved solved c.args.front.now short)

@@ -2,7 +2,7 @@ use Rattle.std.proofs.Common.{arith, ◌^◌, ℤ, pos, neg_ℤ, ◌<ℤ◌, Fit
 use Rattle.std.specs.Int.{w128}
 use Rattle.std.proofs.lemmas.Int.{quot_is}
 use Rattle.ped_views.proofs.Products.{linear, quot_small}
-use Rattle.ped_views.proofs.quotients.quotient.Goals as goal
+use Rattle.ped_views.proofs.quotients.long_quotient.Goals as goal
 
 fits : (n d : ℤ) → neg_ℤ (pos (2 ^ 127)) <ℤ n → FitsSigned w128 n → FitsSigned w128 (int_div n d)
 fits n d h f = let s = quot_small n d in omega (arith, linear)

@@ -1,5 +1,5 @@
 -- The dependences that the code keeps, and what they stand for (Allen and Kennedy, section 2.2; ParaScope).
-use Rattle.std.specs.Prelude.{ℕ, ◌≤◌, List, length}
+use Rattle.std.specs.Prelude.{◌≤◌, length}
 use Rattle.ped_refs.specs.Occurrences.{name_text}
 use Rattle.ped_edges.specs.Edges as plain
 use Rattle.ped_edges.specs.declared.edges.Kind.{Kind}
@@ -7,6 +7,7 @@ use Rattle.ped_edges.specs.declared.edges.Kind.TheVariants.{Flow, Anti, Output}
 use Rattle.ped_edges.specs.declared.edges.Mark.{Mark}
 use Rattle.ped_edges.specs.declared.edges.Mark.TheVariants.{Proven, Pending, Rejected}
 use Rattle.ped_edges.specs.declared.edges.Edge.{Edge}
+use Rattle.ped_edges.specs.declared.edges.ShownEdge.{ShownEdge}
 
 -- the kind as the definitions have it (Allen and Kennedy, section 2.2.1)
 abbrev pub kind_of : Kind → plain.Kind
@@ -30,6 +31,19 @@ edge_of e = record {
   level = e.level;
   vectors = e.vectors.items;
   distances = e.distances.items;
+  mark = mark_of e.mark;
+}
+
+-- the dependence of which the code lends the parts, as the definitions have it (Allen and Kennedy, section 2.2; ParaScope)
+abbrev pub edge_shown : ShownEdge → plain.Edge
+edge_shown e = record {
+  source = e.source;
+  sink = e.sink;
+  name = name_text e.name.now;
+  kind = kind_of e.kind;
+  level = e.level;
+  vectors = e.vectors.now;
+  distances = e.distances.now;
   mark = mark_of e.mark;
 }
 

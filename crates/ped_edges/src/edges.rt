@@ -62,6 +62,27 @@ pub struct Edge {
     pub mark: Mark,
 }
 
+/// A dependence as its row shows it, of which others keep the parts.
+#[derive(Clone, Copy)]
+pub struct ShownEdge<'a> {
+    /// The reference whose access comes first: the number of its statement, and its number there, from 1.
+    pub source: (u32, u32),
+    /// The reference whose access comes second, likewise.
+    pub sink: (u32, u32),
+    /// What both of them read or write.
+    pub name: &'a RefName,
+    /// Which of them write.
+    pub kind: Kind,
+    /// The level of the loop that carries it, 1 for the outermost, and none where it is independent of loops.
+    pub level: Option<u8>,
+    /// The direction vectors that it may have over the loops around both references, in the order `<`, `=`, `>`.
+    pub vectors: &'a [Vector],
+    /// The distance in iterations of each of these loops, none where it is unknown.
+    pub distances: &'a [Option<i128>],
+    /// What is known of it.
+    pub mark: Mark,
+}
+
 /// Keeps the dependences that the user hasn't rejected.
 pub fn keep_unrejected(edges: &mut Vec<Edge>)
     ensures { edges.new.items ≡ filter (λ e. not (is_rejected (edge_of e).mark)) edges.old.items }

@@ -10,6 +10,6 @@ mod rows;
 mod signs;
 mod vectors;
 
-pub use edges::{Edge, Kind, Mark, first_of, keep_unrejected};
+pub use edges::{Edge, Kind, Mark, ShownEdge, first_of, keep_unrejected};
 pub use pane::{edges_pane, push_edges_pane};
-pub use rows::{push_kind, push_level};
+pub use rows::{push_kind, push_level, push_row};

@@ -1,12 +1,13 @@
 //! The row of a dependence: source, sink, variable, kind, level, vectors, distances and mark.
 
-ghost use Rattle.std.specs.Prelude.{◌≡◌, ◌++◌, length, IfOk, OnOk};
+ghost use Rattle.std.specs.Prelude.{◌≡◌, ◌≤◌, ◌++◌, [], ◌∷◌, length, IfOk, OnOk};
+ghost use Rattle.std.specs.Fmt.{signed_decimal};
 ghost use Rattle.ped_edges.specs.Rows as shown;
-ghost use Rattle.ped_edges.specs.CodeEdges.{edge_of, kind_of, mark_of, HasAtMostSixLoops};
+ghost use Rattle.ped_edges.specs.CodeEdges.{edge_of, edge_shown, kind_of, mark_of, HasAtMostSixLoops};
 ghost use Rattle.ped_refs.specs.Occurrences.{name_text};
 
 use crate::digits::push_digits;
-use crate::edges::{Edge, Kind, Mark};
+use crate::edges::{Edge, Kind, Mark, ShownEdge};
 use crate::lists::{Shown, push_list};
 use crate::vectors::push_vectors;
 use ped_base::{Bytes, NoMemory, push_signed};
@@ -30,31 +31,46 @@ impl Edge {
         requires { HasAtMostSixLoops self.now }
         ensures { OnOk result (out.new ≡ out.old ++ shown.edge_row (edge_of self.now)) }
     {
-        push_place(out, self.source)?;
-        out.push(b' ')?;
-        push_place(out, self.sink)?;
-        out.push(b' ')?;
-        push_name(out, &self.name)?;
-        out.push(b' ')?;
-        push_kind(out, self.kind)?;
-        out.push(b' ')?;
-        push_level(out, self.level)?;
-        out.push(b' ')?;
-        push_directions(out, self)?;
-        out.push(b' ')?;
-        push_distances(out, self)?;
-        out.push(b' ')?;
-        push_mark(out, self.mark)
+        let shown = ShownEdge {
+            source: self.source,
+            sink: self.sink,
+            name: &self.name,
+            kind: self.kind,
+            level: self.level,
+            vectors: &self.vectors,
+            distances: &self.distances,
+            mark: self.mark,
+        };
+        push_row(out, &shown)
     }
 }
 
-/// Adds a reference by its statement and its number there.
+/// Adds the row of a dependence: source, sink, variable, kind, level, vectors, distances and mark, with a blank between
+/// two. If memory runs out, the text ends somewhere in the row.
+pub fn push_row(out: &mut Bytes, edge: &ShownEdge<'_>) -> Result<(), NoMemory>
+    requires { length edge.now.distances.now ≤ 6 }
+    ensures { OnOk result (out.new ≡ out.old ++ shown.edge_row (edge_shown edge.now)) }
+{
+    push_place(out, edge.source)?;
+    push_place(out, edge.sink)?;
+    push_name(out, edge.name)?;
+    push_kind_word(out, edge.kind)?;
+    push_level(out, edge.level)?;
+    out.push(b' ')?;
+    push_vectors(out, edge.distances.len(), edge.vectors)?;
+    out.push(b' ')?;
+    push_distances(out, edge.distances)?;
+    push_mark(out, edge.mark)
+}
+
+/// Adds a reference by its statement and its number there, and a blank.
 fn push_place(out: &mut Bytes, place: (u32, u32)) -> Result<(), NoMemory>
-    ensures { OnOk result (out.new ≡ out.old ++ shown.place_text place) }
+    ensures { OnOk result (out.new ≡ out.old ++ (shown.place_text place ++ 32 ∷ [])) }
 {
     push_digits(out, u64::from(place.0))?;
     out.push(b'.')?;
-    push_digits(out, u64::from(place.1))
+    push_digits(out, u64::from(place.1))?;
+    out.push(b' ')
 }
 
 fn push_name(out: &mut Bytes, name: &RefName) -> Result<(), NoMemory>
@@ -64,6 +80,17 @@ fn push_name(out: &mut Bytes, name: &RefName) -> Result<(), NoMemory>
         RefName::Named(name) => out.extend_from_slice(name.as_bytes()),
         RefName::In => out.extend_from_slice(b"(IN)"),
         RefName::Out => out.extend_from_slice(b"(OUT)"),
+    }
+}
+
+/// Adds the word for the kind of a dependence between two blanks.
+fn push_kind_word(out: &mut Bytes, kind: Kind) -> Result<(), NoMemory>
+    ensures { OnOk result (out.new ≡ out.old ++ 32 ∷ (shown.kind_text (kind_of kind) ++ 32 ∷ [])) }
+{
+    match kind {
+        Kind::Flow => out.extend_from_slice(b" flow "),
+        Kind::Anti => out.extend_from_slice(b" anti "),
+        Kind::Output => out.extend_from_slice(b" output "),
     }
 }
 
@@ -89,18 +116,10 @@ pub fn push_level(out: &mut Bytes, level: Option<u8>) -> Result<(), NoMemory>
     }
 }
 
-/// Adds the vectors of a dependence, over as many loops as it has distances.
-fn push_directions(out: &mut Bytes, edge: &Edge) -> Result<(), NoMemory>
-    requires { HasAtMostSixLoops edge.now }
-    ensures { OnOk result (out.new ≡ out.old ++ shown.vectors_text (length edge.now.distances.items) edge.now.vectors.items) }
+fn push_distances(out: &mut Bytes, distances: &[Option<i128>]) -> Result<(), NoMemory>
+    ensures { OnOk result (out.new ≡ out.old ++ shown.distances_text distances.now) }
 {
-    push_vectors(out, edge.distances.len(), edge.vectors.as_slice())
-}
-
-fn push_distances(out: &mut Bytes, edge: &Edge) -> Result<(), NoMemory>
-    ensures { OnOk result (out.new ≡ out.old ++ shown.distances_text edge.now.distances.items) }
-{
-    push_list(out, edge.distances.as_slice())
+    push_list(out, distances)
 }
 
 impl Shown for Option<i128> {
@@ -108,18 +127,30 @@ impl Shown for Option<i128> {
 
     fn push_to(&self, out: &mut Bytes) -> Result<(), NoMemory> {
         match self {
-            Some(distance) => push_signed(out, *distance),
+            Some(distance) => push_distance(out, *distance),
             None => out.push(b'*'),
         }
     }
 }
 
+/// Adds a distance. Most are 0 or 1.
+fn push_distance(out: &mut Bytes, distance: i128) -> Result<(), NoMemory>
+    ensures { OnOk result (out.new ≡ out.old ++ signed_decimal distance) }
+{
+    match distance {
+        0 => push_digits(out, 0),
+        1 => push_digits(out, 1),
+        _ => push_signed(out, distance),
+    }
+}
+
+/// Adds the word for what is known of a dependence, after a blank.
 fn push_mark(out: &mut Bytes, mark: Mark) -> Result<(), NoMemory>
-    ensures { OnOk result (out.new ≡ out.old ++ shown.mark_text (mark_of mark)) }
+    ensures { OnOk result (out.new ≡ out.old ++ 32 ∷ shown.mark_text (mark_of mark)) }
 {
     match mark {
-        Mark::Proven => out.extend_from_slice(b"proven"),
-        Mark::Pending => out.extend_from_slice(b"pending"),
-        Mark::Rejected => out.extend_from_slice(b"rejected"),
+        Mark::Proven => out.extend_from_slice(b" proven"),
+        Mark::Pending => out.extend_from_slice(b" pending"),
+        Mark::Rejected => out.extend_from_slice(b" rejected"),
     }
 }

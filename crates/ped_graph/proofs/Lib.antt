@@ -2,10 +2,11 @@ mod CommonLoops
 mod Exchanging
 mod FormLengths
 mod HeldEdges
-mod EdgesTouching
-mod EdgesWithin
+mod EdgesAsked
 mod InOrder
 mod Known
+mod LevelEdges
+mod LevelOrder
 mod Matched
 mod Matching
 mod OneMore

@@ -1,5 +1,5 @@
 -- Only contracts of private functions use the dependences of the pairs that a graph holds (this project).
-use Rattle.std.specs.Prelude.{◌≡◌, ℕ, ◌≤◌, List, [], ◌∷◌, ◌++◌, length, filter, Some}
+use Rattle.std.specs.Prelude.{◌≡◌, ℕ, ◌≤◌, List, [], ◌∷◌, ◌++◌, length, filter, Bool, Some}
 use Rattle.std.specs.List.{flat_map, range_with_len}
 use Rattle.ped_views.specs.declared.directions.Direction.{Direction}
 use Rattle.ped_views.specs.Vectors.{AreVectors}
@@ -7,7 +7,6 @@ use Rattle.ped_edges.specs.Edges.{Edge}
 use Rattle.ped_edges.specs.Rows.{edge_row}
 use Rattle.ped_graph.specs.Dependences.{vectors_of}
 use Rattle.ped_graph.specs.Held.{Pair, held_edge, held_edges}
-use Rattle.ped_graph.specs.HeldSelections.{touches, is_carried_in}
 
 -- the dependences of a pair with these vectors that this many loops carry (Allen and Kennedy, section 2.2.5)
 abbrev pub held_carried : Pair → List (List Direction) → ℕ → List Edge
@@ -25,29 +24,17 @@ abbrev pub AreHeldEdges : List Pair → List Edge → Type 0
 AreHeldEdges [] edges = edges ≡ []
 AreHeldEdges (p ∷ ps) edges = (first : List Edge) × (rest : List Edge) × (edges ≡ first ++ rest) × HeldPairEdges p first × AreHeldEdges ps rest
 
--- the same dependences of each level in the body of the DO with this number, which has this many statements (this project)
-abbrev pub HaveSameWithin : (number extent : ℕ) → List Edge → List Edge → Type 0
-HaveSameWithin number extent found all = (level : ℕ) → filter (λ e. is_carried_in number extent level e) found ≡ filter (λ e. is_carried_in number extent level e) all
+-- the same of those dependences that are asked for (this project)
+abbrev pub HaveSame : (Edge → Bool) → List Edge → List Edge → Type 0
+HaveSame asked found all = filter asked found ≡ filter asked all
 
--- in the body of the DO, these are the dependences of a pair (this project)
-abbrev pub IsHeldWithin : (number extent : ℕ) → Pair → List Edge → Type 0
-IsHeldWithin number extent p found = (all : List Edge) × HeldPairEdges p all × HaveSameWithin number extent found all
+-- as to what is asked for, these are the dependences of a pair (this project)
+abbrev pub IsHeldAsked : (Edge → Bool) → Pair → List Edge → Type 0
+IsHeldAsked asked p found = (all : List Edge) × HeldPairEdges p all × HaveSame asked found all
 
--- in the body of the DO, these are the dependences of pairs (this project)
-abbrev pub AreHeldWithin : (number extent : ℕ) → List Pair → List Edge → Type 0
-AreHeldWithin number extent ps found = (all : List Edge) × AreHeldEdges ps all × HaveSameWithin number extent found all
-
--- the same dependences whose source or sink is in the statement with this number, which has this many statements (this project)
-abbrev pub HaveSameTouching : (number extent : ℕ) → List Edge → List Edge → Type 0
-HaveSameTouching number extent found all = filter (λ e. touches number extent e) found ≡ filter (λ e. touches number extent e) all
-
--- as to the statement, these are the dependences of a pair (this project)
-abbrev pub IsHeldTouching : (number extent : ℕ) → Pair → List Edge → Type 0
-IsHeldTouching number extent p found = (all : List Edge) × HeldPairEdges p all × HaveSameTouching number extent found all
-
--- as to the statement, these are the dependences of pairs (this project)
-abbrev pub AreHeldTouching : (number extent : ℕ) → List Pair → List Edge → Type 0
-AreHeldTouching number extent ps found = (all : List Edge) × AreHeldEdges ps all × HaveSameTouching number extent found all
+-- as to what is asked for, these are the dependences of pairs (this project)
+abbrev pub AreHeldAsked : (Edge → Bool) → List Pair → List Edge → Type 0
+AreHeldAsked asked ps found = (all : List Edge) × AreHeldEdges ps all × HaveSame asked found all
 
 -- the rows of dependences, each with a line feed after it (this project)
 abbrev pub rows_of : List Edge → List ℕ

@@ -12,6 +12,7 @@ pub mod HeldPairs
 pub mod HeldSelections
 pub mod Keys
 pub mod KnownProgram
+pub mod Levels
 pub mod Marks
 pub mod Owners
 pub mod Parts

@@ -1,6 +1,6 @@
 //! The dependences of pairs by their views.
 
-ghost use Rattle.std.specs.Prelude.{◌≡◌, ◌++◌, ◌&&◌, ◌||◌, ◌≤◌, ◌<◌, List, Some, map, take, length, slice_get, All, IfOk, OnOk};
+ghost use Rattle.std.specs.Prelude.{◌≡◌, ◌++◌, ◌≤◌, ◌<◌, ℕ, List, [], ◌∷◌, Some, map, take, length, slice_get, All, IfOk, OnOk};
 ghost use Rattle.std.specs.List.{list_all};
 ghost use Rattle.ped_edges.specs.CodeEdges.{edge_of, mark_of, HasAtMostSixLoops};
 ghost use Rattle.ped_edges.specs.Edges as plain;
@@ -8,15 +8,18 @@ ghost use Rattle.ped_graph.specs.Owners as Owners;
 ghost use Rattle.ped_graph.specs.Marks.{mark_by};
 ghost use Rattle.ped_graph.specs.Dependences as Spec;
 ghost use Rattle.ped_graph.specs.Held as Held;
-ghost use Rattle.ped_graph.specs.HeldPairs.{HeldPairEdges, AreHeldEdges, IsHeldWithin, AreHeldWithin, IsHeldTouching, AreHeldTouching, held_carried};
+ghost use Rattle.ped_graph.specs.HeldPairs.{HeldPairEdges, AreHeldEdges, IsHeldAsked, AreHeldAsked};
+ghost use Rattle.ped_graph.specs.Levels.{AreByLevel, edge_by};
 ghost use Rattle.ped_graph.specs.Held.{pair_by, pairs_by};
-ghost use Rattle.ped_graph.specs.DependencePane.{is_in, is_in_body};
+ghost use Rattle.ped_graph.specs.HeldSelections.{asks};
 ghost use Rattle.ped_graph.specs.CodeFacts.{framed_of, pair_seen, views_in};
 
 use crate::facts::Facts;
+use crate::levels::{LevelVectors, levels_of};
 use crate::parts::Slot;
-use crate::selections::{is_in, is_in_body};
+use crate::selections::{Question, asks};
 use crate::telling::is_telling;
+use arrayvec::ArrayVec;
 use ped_base::NoMemory;
 use ped_edges::{Edge, Mark};
 use ped_verdict::{Vector, Verdict, distance, vectors_of as possible_vectors_of};
@@ -33,124 +36,47 @@ pub struct SeenPair<'a> {
     pub view: &'a PairView,
 }
 
-/// The dependences of pairs, pair by pair.
-pub fn all_edges<L: Ledger>(
+/// The dependences of pairs, pair by pair, of those pairs alone that may have some that are asked for.
+pub fn edges_asked<L: Ledger>(
     alloc: Global,
     pairs: &[Facts],
     verdicts: &[Slot<L>],
+    question: Question,
 ) -> Result<Vec<Edge>, NoMemory>
     requires there { verdicts.now ≡ map Some (views_in verdicts.now) }
     requires paired { length verdicts.now ≡ length pairs.now }
-    ensures edges { IfOk result (λ edges. AreHeldEdges (pairs_by (map framed_of pairs.now) (views_in verdicts.now)) (map edge_of edges.items)) }
-    ensures short { IfOk result (λ edges. All HasAtMostSixLoops edges.items) }
-{
-    let mut edges = Vec::new(alloc);
-    for (place, facts) in pairs.iter().enumerate() {
-        push_tested(alloc, &mut edges, facts, verdict_at(verdicts, place))?;
-    }
-    Ok(edges)
-}
-
-/// The dependences of pairs, pair by pair, of those pairs alone of which both references are in the body of the DO with
-/// this number, which has this many statements.
-pub fn edges_within<L: Ledger>(
-    alloc: Global,
-    pairs: &[Facts],
-    verdicts: &[Slot<L>],
-    number: u32,
-    extent: u32,
-) -> Result<Vec<Edge>, NoMemory>
-    requires there { verdicts.now ≡ map Some (views_in verdicts.now) }
-    requires paired { length verdicts.now ≡ length pairs.now }
-    ensures edges { IfOk result (λ edges. AreHeldWithin number extent (pairs_by (map framed_of pairs.now) (views_in verdicts.now)) (map edge_of edges.items)) }
+    ensures edges { IfOk result (λ edges. AreHeldAsked (asks question) (pairs_by (map framed_of pairs.now) (views_in verdicts.now)) (map edge_of edges.items)) }
     ensures short { IfOk result (λ edges. All HasAtMostSixLoops edges.items) }
 {
     let mut edges = Vec::new(alloc);
     for (place, facts) in pairs.iter().enumerate() {
         let verdict = verdict_at(verdicts, place);
-        push_within(alloc, &mut edges, facts, verdict, number, extent)?;
+        push_asked(alloc, &mut edges, facts, verdict, question)?;
     }
     Ok(edges)
 }
 
-/// Adds the dependences of a pair that was tested, where both references are in the body of the DO with this number.
-fn push_within<L: Ledger>(
+/// Adds the dependences of a pair that was tested, where some may be asked for.
+fn push_asked<L: Ledger>(
     alloc: Global,
     edges: &mut Vec<Edge>,
     facts: &Facts,
     verdict: &Verdict<L>,
-    number: u32,
-    extent: u32,
+    question: Question,
 ) -> Result<(), NoMemory>
     ensures edges { OnOk result ((added : List plain.Edge) × (map edge_of edges.new.items ≡ map edge_of edges.old.items ++ added)
-        × IsHeldWithin number extent (pair_by (framed_of facts.now) verdict.now) added) }
+        × IsHeldAsked (asks question) (pair_by (framed_of facts.now) verdict.now) added) }
     ensures short { OnOk result (All HasAtMostSixLoops edges.old.items → All HasAtMostSixLoops edges.new.items) }
 {
-    if stand_in(facts, number, extent) {
+    if asks(question, facts.source.0, facts.sink.0) {
         return push_tested(alloc, edges, facts, verdict);
     }
     verdict.has_list();
     Ok(())
-}
-
-/// The dependences of pairs, pair by pair, of those pairs alone of which a reference is in the statement with this
-/// number, which has this many statements.
-pub fn edges_touching<L: Ledger>(
-    alloc: Global,
-    pairs: &[Facts],
-    verdicts: &[Slot<L>],
-    number: u32,
-    extent: u32,
-) -> Result<Vec<Edge>, NoMemory>
-    requires there { verdicts.now ≡ map Some (views_in verdicts.now) }
-    requires paired { length verdicts.now ≡ length pairs.now }
-    ensures edges { IfOk result (λ edges. AreHeldTouching number extent (pairs_by (map framed_of pairs.now) (views_in verdicts.now)) (map edge_of edges.items)) }
-    ensures short { IfOk result (λ edges. All HasAtMostSixLoops edges.items) }
-{
-    let mut edges = Vec::new(alloc);
-    for (place, facts) in pairs.iter().enumerate() {
-        let verdict = verdict_at(verdicts, place);
-        push_touching(alloc, &mut edges, facts, verdict, number, extent)?;
-    }
-    Ok(edges)
-}
-
-/// Adds the dependences of a pair that was tested, where a reference is in the statement with this number.
-fn push_touching<L: Ledger>(
-    alloc: Global,
-    edges: &mut Vec<Edge>,
-    facts: &Facts,
-    verdict: &Verdict<L>,
-    number: u32,
-    extent: u32,
-) -> Result<(), NoMemory>
-    ensures edges { OnOk result ((added : List plain.Edge) × (map edge_of edges.new.items ≡ map edge_of edges.old.items ++ added)
-        × IsHeldTouching number extent (pair_by (framed_of facts.now) verdict.now) added) }
-    ensures short { OnOk result (All HasAtMostSixLoops edges.old.items → All HasAtMostSixLoops edges.new.items) }
-{
-    if has_one_in(facts, number, extent) {
-        return push_tested(alloc, edges, facts, verdict);
-    }
-    verdict.has_list();
-    Ok(())
-}
-
-/// Whether a reference of a pair is in the statement with this number, which has this many statements.
-fn has_one_in(facts: &Facts, number: u32, extent: u32) -> bool
-    ensures { result ≡ (is_in number extent facts.now.source.0 || is_in number extent facts.now.sink.0) }
-{
-    is_in(number, extent, facts.source.0) || is_in(number, extent, facts.sink.0)
-}
-
-/// Whether both references of a pair are in the body of the DO with this number, which has this many statements.
-fn stand_in(facts: &Facts, number: u32, extent: u32) -> bool
-    ensures { result ≡ (is_in_body number extent facts.now.source.0 && is_in_body number extent facts.now.sink.0) }
-{
-    is_in_body(number, extent, facts.source.0) && is_in_body(number, extent, facts.sink.0)
 }
 
 /// Adds the dependences of a pair that was tested.
-pub(crate) fn push_tested<L: Ledger>(
+fn push_tested<L: Ledger>(
     alloc: Global,
     edges: &mut Vec<Edge>,
     facts: &Facts,
@@ -200,59 +126,45 @@ fn push_shared(
 ) -> Result<(), NoMemory>
     requires loops { loops ≡ length pair.now.view.now.loops }
     requires few { loops ≤ 6 }
+    requires ordered { AreByLevel loops vectors.items }
     ensures edges { OnOk result (map edge_of edges.new.items ≡ map edge_of edges.old.items ++ Held.held_edges (pair_seen pair.now) vectors.items) }
     ensures short { OnOk result (All HasAtMostSixLoops edges.old.items → All HasAtMostSixLoops edges.new.items) }
 {
-    match pair.facts.owner {
-        Some(level) => {
-            let within = within_iteration(level, vectors);
-            push_divided(alloc, edges, pair, loops, &within)
-        }
-        None => Ok(()),
+    let shared = shared_vectors(alloc, pair.facts.owner, vectors);
+    let levels = levels_of(pair.facts.is_forward, loops, &shared);
+    push_levels(alloc, edges, pair, &levels)
+}
+
+/// The vectors that are left of a pair whose references mean the private copies of a DO at this level, 0 for none; none
+/// where they mean different ones.
+pub(crate) fn shared_vectors(alloc: Global, owner: Option<u8>, vectors: Vec<Vector>) -> Vec<Vector>
+    ensures edges { (p : Held.Pair) → p.owner ≡ owner → Held.held_divided p result.items ≡ Held.held_edges p vectors.items }
+    ensures ordered { (loops : ℕ) → AreByLevel loops vectors.items → AreByLevel loops result.items }
+{
+    match owner {
+        Some(level) => within_iteration(level, vectors),
+        None => Vec::new(alloc),
     }
 }
 
-/// Adds the dependences of a pair with this many common loops and these vectors, divided by the loop that carries them.
-fn push_divided(
+/// Adds the dependences of a pair, level by level.
+fn push_levels(
     alloc: Global,
     edges: &mut Vec<Edge>,
     pair: &SeenPair<'_>,
-    loops: u8,
-    vectors: &[Vector],
+    levels: &[LevelVectors<'_>],
 ) -> Result<(), NoMemory>
-    requires loops { loops ≡ length pair.now.view.now.loops }
-    requires few { loops ≤ 6 }
-    ensures edges { OnOk result (map edge_of edges.new.items ≡ map edge_of edges.old.items ++ Held.held_divided (pair_seen pair.now) vectors.now) }
+    ensures edges { OnOk result (map edge_of edges.new.items ≡ map edge_of edges.old.items ++ map (edge_by (pair_seen pair.now)) levels.now) }
     ensures short { OnOk result (All HasAtMostSixLoops edges.old.items → All HasAtMostSixLoops edges.new.items) }
 {
-    push_carried(alloc, edges, pair, loops, vectors)?;
-    if pair.facts.is_forward {
-        return push_edge(alloc, edges, pair, None, vectors);
-    }
-    Ok(())
-}
-
-/// Adds the dependences of a pair that this many common loops carry.
-fn push_carried(
-    alloc: Global,
-    edges: &mut Vec<Edge>,
-    pair: &SeenPair<'_>,
-    loops: u8,
-    vectors: &[Vector],
-) -> Result<(), NoMemory>
-    requires { loops ≤ 6 }
-    ensures edges { OnOk result (map edge_of edges.new.items ≡ map edge_of edges.old.items
-        ++ held_carried (pair_seen pair.now) vectors.now loops) }
-    ensures short { OnOk result (All HasAtMostSixLoops edges.old.items → All HasAtMostSixLoops edges.new.items) }
-{
-    for place in 0..loops {
-        push_edge(alloc, edges, pair, Some(place + 1), vectors)?;
+    for part in levels {
+        push_edge(alloc, edges, pair, part)?;
     }
     Ok(())
 }
 
 /// How many common loops a pair has.
-fn loop_count(view: &PairView) -> u8
+pub(crate) fn loop_count(view: &PairView) -> u8
     ensures count { result ≡ length view.now.loops }
     ensures few { result ≤ 6 }
 {
@@ -263,6 +175,9 @@ fn loop_count(view: &PairView) -> u8
 fn within_iteration(level: u8, vectors: Vec<Vector>) -> Vec<Vector>
     ensures { result.items ≡ Owners.within_iteration level vectors.items }
 {
+    if level == 0 {
+        return vectors;
+    }
     let mut kept = vectors;
     kept.retain(|vector| is_within(level, vector.directions()));
     kept
@@ -296,51 +211,34 @@ fn is_same(direction: Direction) -> bool
     }
 }
 
-/// Adds the dependence of a level, none for what is independent of loops, where it has vectors.
+/// Adds the dependence of a level.
 fn push_edge(
     alloc: Global,
     edges: &mut Vec<Edge>,
     pair: &SeenPair<'_>,
-    level: Option<u8>,
-    vectors: &[Vector],
+    part: &LevelVectors<'_>,
 ) -> Result<(), NoMemory>
-    ensures edges { OnOk result (map edge_of edges.new.items ≡ map edge_of edges.old.items
-        ++ Held.held_edge (pair_seen pair.now) level (Spec.vectors_of level vectors.now)) }
+    ensures edges { OnOk result (map edge_of edges.new.items ≡ map edge_of edges.old.items ++ edge_by (pair_seen pair.now) part.now ∷ []) }
     ensures short { OnOk result (All HasAtMostSixLoops edges.old.items → All HasAtMostSixLoops edges.new.items) }
 {
-    let vectors = vectors_of(alloc, level, vectors)?;
-    if vectors.is_empty() {
-        return Ok(());
-    }
-    let distances = distances_of(alloc, pair.view)?;
+    let vectors = part.vectors.to_vec(alloc)?;
+    let distances = distances_of(pair.view);
+    let distances = distances.as_slice().to_vec(alloc)?;
     edges.push(Edge {
         source: pair.facts.source,
         sink: pair.facts.sink,
         name: pair.facts.name,
         kind: pair.facts.kind,
-        level,
+        level: part.level,
         vectors,
         distances,
-        mark: mark_of(is_proven(pair), &pair.facts.rejecting, level),
+        mark: mark_of(is_proven(pair), &pair.facts.rejecting, part.level),
     })?;
     Ok(())
 }
 
-/// The vectors of a level.
-fn vectors_of(alloc: Global, level: Option<u8>, vectors: &[Vector]) -> Result<Vec<Vector>, NoMemory>
-    ensures { IfOk result (λ kept. kept.items ≡ Spec.vectors_of level vectors.now) }
-{
-    let mut kept = Vec::new(alloc);
-    for vector in vectors {
-        if is_of(level, vector.directions()) {
-            kept.push(*vector)?;
-        }
-    }
-    Ok(kept)
-}
-
 /// Whether a vector is of a level: its first direction other than `=` is `<` and is there, or it has none.
-fn is_of(level: Option<u8>, directions: &[Direction]) -> bool
+pub(crate) fn is_of(level: Option<u8>, directions: &[Direction]) -> bool
     requires { length directions.now ≤ 6 }
     ensures { result ≡ Spec.is_of level (Spec.carriage_from 1 directions.now) }
 {
@@ -365,26 +263,26 @@ fn is_level(level: Option<u8>, other: u8) -> bool
 }
 
 /// The distance in each common loop.
-fn distances_of(alloc: Global, view: &PairView) -> Result<Vec<Option<i128>>, NoMemory>
-    ensures distances { IfOk result (λ distances. distances.items ≡ Spec.distances_of view.now) }
-    ensures short { IfOk result (λ distances. length distances.items ≤ 6) }
+pub(crate) fn distances_of(view: &PairView) -> ArrayVec<Option<i128>, 6>
+    ensures distances { result.items ≡ Spec.distances_of view.now }
+    ensures short { length result.items ≤ 6 }
 {
-    let mut distances = Vec::new(alloc);
+    let mut distances = ArrayVec::new();
     for place in 0..loop_count(view) {
-        distances.push(distance(view, place as usize))?;
+        distances.push(distance(view, place as usize));
     }
-    Ok(distances)
+    distances
 }
 
 /// Whether the dependences of a pair are proven.
-fn is_proven(pair: &SeenPair<'_>) -> bool
+pub(crate) fn is_proven(pair: &SeenPair<'_>) -> bool
     ensures { result ≡ (pair_seen pair.now).proven }
 {
     pair.facts.firm && is_telling(pair.view)
 }
 
 /// The mark of the dependence of a level of a pair, of which it is known whether it is proven.
-fn mark_of(proven: bool, rejecting: &[bool], level: Option<u8>) -> Mark
+pub(crate) fn mark_of(proven: bool, rejecting: &[bool], level: Option<u8>) -> Mark
     ensures { mark_of result ≡ mark_by proven (Held.rejects_at rejecting.now level) }
 {
     if proven {

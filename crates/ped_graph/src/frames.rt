@@ -10,7 +10,7 @@ use crate::facts::Facts;
 use std::marker::Model;
 
 /// Where the references of a pair are.
-#[derive(Clone, Copy, PartialEq, Eq, Hash)]
+#[derive(Clone, Copy)]
 pub struct PairKey {
     /// The source, by its statement and its number there.
     pub source: (u32, u32),

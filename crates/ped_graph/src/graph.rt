@@ -14,13 +14,13 @@ ghost use Rattle.ped_graph.specs.DependencePane as Pane;
 ghost use Rattle.ped_graph.specs.Held.{Held, held_of};
 ghost use Rattle.ped_graph.specs.Parts.{Fit, turned};
 
-use crate::edges::{all_edges, edges_of_pair, edges_touching, edges_within};
+use crate::edges::{edges_asked, edges_of_pair};
 use crate::extents::extents;
 use crate::frames::Frame;
 use crate::parts::{Parts, Slot, exchange_kept, turn};
 use crate::preparing::all_pairs;
 use crate::printing::pane_of_pairs;
-use crate::selections::{extent_of, has_number, keep_carried_in, keep_touching};
+use crate::selections::{Question, Region, extent_of, has_number, keep_carried_in, keep_touching};
 use crate::testing::test_all;
 use ped_base::{Bytes, NoMemory};
 use ped_edges::{Edge, edges_pane};
@@ -179,7 +179,7 @@ impl<L: Ledger> Graph<L> {
         ensures edges { IfOk result (λ edges. (t : ProgramTree) → self.now ≡ held_of t → AreEdges t (map edge_of edges.items)) }
         ensures short { IfOk result (λ edges. All HasAtMostSixLoops edges.items) }
     {
-        all_edges(alloc, self.frame.pairs(), &self.verdicts)
+        edges_asked(alloc, self.frame.pairs(), &self.verdicts, Question::All)
     }
 
     /// The dependences of a level, 1 for the outermost loop, with both references in the body of the DO with this
@@ -190,7 +190,11 @@ impl<L: Ledger> Graph<L> {
         ensures short { IfOk result (λ edges. All HasAtMostSixLoops edges.items) }
     {
         let extent = self.extent(statement);
-        let mut edges = edges_within(alloc, self.frame.pairs(), &self.verdicts, statement, extent)?;
+        let question = Question::Within(Region {
+            number: statement,
+            extent,
+        });
+        let mut edges = edges_asked(alloc, self.frame.pairs(), &self.verdicts, question)?;
         keep_carried_in(&mut edges, statement, extent, level);
         Ok(edges)
     }
@@ -218,7 +222,8 @@ impl<L: Ledger> Graph<L> {
         ensures { IfOk result (λ pane. (t : ProgramTree) → self.now ≡ held_of t → Pane.IsDependencePaneOf t (Some number) pane) }
     {
         let extent = self.extent(number);
-        let mut edges = edges_touching(alloc, self.frame.pairs(), &self.verdicts, number, extent)?;
+        let question = Question::Touching(Region { number, extent });
+        let mut edges = edges_asked(alloc, self.frame.pairs(), &self.verdicts, question)?;
         keep_touching(&mut edges, number, extent);
         edges_pane(alloc, &edges)
     }

@@ -10,6 +10,7 @@ mod frames;
 mod graph;
 mod guards;
 mod laws;
+mod levels;
 mod names;
 mod numbered;
 mod own_facts;

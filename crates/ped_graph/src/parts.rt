@@ -59,7 +59,7 @@ impl<L: Ledger> Slot<L> {
 }
 
 /// A pair that has the same view in two programs, by its places in their orders of pairs, which count from 0.
-#[derive(Clone, Copy, PartialEq, Eq)]
+#[derive(Clone, Copy)]
 pub struct Kept {
     /// Its place in the graph.
     pub here: u64,

@@ -1,20 +1,24 @@
-//! The dependence pane of pairs, row by row. So the dependences of one pair alone are kept at a time.
+//! The dependence pane of pairs, row by row. So the dependences of one pair alone are known at a time, and none is kept.
 
 ghost use Rattle.std.specs.Prelude.{◌≡◌, ◌+◌, ◌≤◌, ◌++◌, [], ◌∷◌, List, Some, map, length, All, IfOk, OnOk};
-ghost use Rattle.std.specs.List.{flat_map};
-ghost use Rattle.ped_edges.specs.CodeEdges.{edge_of, HasAtMostSixLoops};
 ghost use Rattle.ped_edges.specs.Edges as plain;
 ghost use Rattle.ped_edges.specs.Rows as shown;
+ghost use Rattle.ped_edges.specs.Rows.{edge_row};
 ghost use Rattle.ped_graph.specs.HeldPairs.{HeldPairEdges, AreHeldEdges, rows_of};
-ghost use Rattle.ped_graph.specs.Held.{pair_by, pairs_by};
-ghost use Rattle.ped_graph.specs.CodeFacts.{framed_of, views_in};
+ghost use Rattle.ped_graph.specs.Held.{pair_by, pairs_by, held_edges};
+ghost use Rattle.ped_graph.specs.Levels.{AreByLevel, edge_by};
+ghost use Rattle.ped_graph.specs.Dependences as Spec;
+ghost use Rattle.ped_graph.specs.CodeFacts.{framed_of, pair_seen, views_in};
 
-use crate::edges::{push_tested, verdict_at};
+use crate::edges::{
+    SeenPair, distances_of, is_proven, loop_count, mark_of, shared_vectors, verdict_at,
+};
 use crate::facts::Facts;
+use crate::levels::{LevelVectors, levels_of};
 use crate::parts::Slot;
 use ped_base::{Bytes, NoMemory, push_number};
-use ped_edges::Edge;
-use ped_verdict::Verdict;
+use ped_edges::{ShownEdge, push_row};
+use ped_verdict::{Vector, Verdict};
 use std::alloc::Global;
 use std::sync::ledger::Ledger;
 
@@ -30,54 +34,102 @@ pub fn pane_of_pairs<L: Ledger>(
 {
     let mut rows = Bytes::new(alloc);
     let mut count = 0;
-    let mut edges = Vec::new(alloc);
     for (place, facts) in pairs.iter().enumerate() {
-        push_pair(
-            alloc,
-            &mut rows,
-            &mut edges,
-            facts,
-            verdict_at(verdicts, place),
-        )?;
-        count = counted(count, &edges, rows.as_slice());
+        let added = push_pair(alloc, &mut rows, facts, verdict_at(verdicts, place))?;
+        count = counted(count, added, rows.as_slice());
     }
     pane_of_rows(alloc, count, &rows)
 }
 
-/// Adds the rows of a pair that was tested, whose dependences take the place of others.
+/// Adds the rows of a pair that was tested, and says how many they are.
 fn push_pair<L: Ledger>(
     alloc: Global,
     rows: &mut Bytes,
-    edges: &mut Vec<Edge>,
     facts: &Facts,
     verdict: &Verdict<L>,
-) -> Result<(), NoMemory>
-    ensures edges { OnOk result (HeldPairEdges (pair_by (framed_of facts.now) verdict.now) (map edge_of edges.new.items)) }
-    ensures rows { OnOk result (rows.new ≡ rows.old ++ rows_of (map edge_of edges.new.items)) }
+) -> Result<usize, NoMemory>
+    ensures { IfOk result (λ added. (edges : List plain.Edge) × HeldPairEdges (pair_by (framed_of facts.now) verdict.now) edges
+        × (rows.new ≡ rows.old ++ rows_of edges) × (added ≡ length edges)) }
 {
-    edges.clear();
-    push_tested(alloc, edges, facts, verdict)?;
-    push_rows(rows, edges)
+    let vectors = verdict.vectors(alloc)?;
+    let pair = SeenPair {
+        facts,
+        view: verdict.view(),
+    };
+    push_seen(alloc, rows, &pair, loop_count(pair.view), vectors)
 }
 
-/// Adds the rows of dependences.
-fn push_rows(out: &mut Bytes, edges: &[Edge]) -> Result<(), NoMemory>
-    requires { All HasAtMostSixLoops edges.now }
-    ensures { OnOk result (out.new ≡ out.old ++ rows_of (map edge_of edges.now)) }
+/// Adds the rows of a pair with this many common loops and these vectors, and says how many they are.
+fn push_seen(
+    alloc: Global,
+    rows: &mut Bytes,
+    pair: &SeenPair<'_>,
+    loops: u8,
+    vectors: Vec<Vector>,
+) -> Result<usize, NoMemory>
+    requires loops { loops ≡ length pair.now.view.now.loops }
+    requires few { loops ≤ 6 }
+    requires ordered { AreByLevel loops vectors.items }
+    ensures { IfOk result (λ added. (rows.new ≡ rows.old ++ rows_of (held_edges (pair_seen pair.now) vectors.items))
+        × (added ≡ length (held_edges (pair_seen pair.now) vectors.items))) }
 {
-    for edge in edges {
-        edge.push_row(out)?;
-        out.push(b'\n')?;
+    let shared = shared_vectors(alloc, pair.facts.owner, vectors);
+    let levels = levels_of(pair.facts.is_forward, loops, &shared);
+    push_levels(rows, pair, &levels)
+}
+
+/// Adds a row for each level of a pair, and says how many they are.
+fn push_levels(
+    rows: &mut Bytes,
+    pair: &SeenPair<'_>,
+    levels: &[LevelVectors<'_>],
+) -> Result<usize, NoMemory>
+    ensures { IfOk result (λ added. (rows.new ≡ rows.old ++ rows_of (map (edge_by (pair_seen pair.now)) levels.now)) × (added ≡ length levels.now)) }
+{
+    if levels.is_empty() {
+        return Ok(0);
     }
-    Ok(())
+    let proven = is_proven(pair);
+    let distances = distances_of(pair.view);
+    for part in levels {
+        push_one(rows, pair, proven, &distances, part)?;
+    }
+    Ok(levels.len())
 }
 
-/// A number of dependences, and these dependences. All have rows.
-fn counted(count: u64, edges: &[Edge], rows: &[u8]) -> u64
-    requires { count + length edges.now ≤ length rows.now }
-    ensures { result ≡ count + length edges.now }
+/// Adds the row of a level.
+fn push_one(
+    rows: &mut Bytes,
+    pair: &SeenPair<'_>,
+    proven: bool,
+    distances: &[Option<i128>],
+    part: &LevelVectors<'_>,
+) -> Result<(), NoMemory>
+    requires proven { proven ≡ (pair_seen pair.now).proven }
+    requires distances { distances.now ≡ Spec.distances_of pair.now.view.now }
+    requires short { length distances.now ≤ 6 }
+    ensures { OnOk result (rows.new ≡ rows.old ++ (edge_row (edge_by (pair_seen pair.now) part.now) ++ 10 ∷ [])) }
 {
-    count + edges.len() as u64
+    let edge = ShownEdge {
+        source: pair.facts.source,
+        sink: pair.facts.sink,
+        name: &pair.facts.name,
+        kind: pair.facts.kind,
+        level: part.level,
+        vectors: part.vectors,
+        distances,
+        mark: mark_of(proven, &pair.facts.rejecting, part.level),
+    };
+    push_row(rows, &edge)?;
+    rows.push(b'\n')
+}
+
+/// A number of dependences, and so many more. All have rows.
+fn counted(count: u64, added: usize, rows: &[u8]) -> u64
+    requires { count + added ≤ length rows.now }
+    ensures { result ≡ count + added }
+{
+    count + added as u64
 }
 
 /// The dependence pane by its rows, of which there are this many.

@@ -1,11 +1,58 @@
 //! Which statements exist, which dependences belong to one, and which to a level of a loop.
 
-ghost use Rattle.std.specs.Prelude.{◌≡◌, filter};
+ghost use Rattle.std.specs.Prelude.{◌≡◌, ◌&&◌, ◌||◌, filter};
 ghost use Rattle.ped_edges.specs.CodeEdges.{edge_of};
 ghost use Rattle.ped_graph.specs.DependencePane as Pane;
 ghost use Rattle.ped_graph.specs.HeldSelections as Held;
+ghost use Rattle.ped_edges.specs.Edges as plain;
 
 use ped_edges::Edge;
+
+/// A statement by its number, with the number of statements in it, itself among them.
+#[derive(Clone, Copy)]
+pub struct Region {
+    /// Its number.
+    pub number: u32,
+    /// How many statements it has.
+    pub extent: u32,
+}
+
+/// Which dependences are asked for.
+#[derive(Clone, Copy)]
+pub enum Question {
+    /// All.
+    All,
+    /// Those whose source or sink is a statement or is in it.
+    Touching(Region),
+    /// Those with both references in the body of a DO.
+    Within(Region),
+}
+
+/// Whether dependences are asked for whose references are in these statements.
+pub fn asks(question: Question, source: u32, sink: u32) -> bool
+    ensures { (e : plain.Edge) → e.source.0 ≡ source → e.sink.0 ≡ sink → Held.asks question e ≡ result }
+{
+    match question {
+        Question::All => true,
+        Question::Touching(region) => touch(region, source, sink),
+        Question::Within(region) => stand_in(region, source, sink),
+    }
+}
+
+/// Whether a reference is in a statement.
+fn touch(region: Region, source: u32, sink: u32) -> bool
+    ensures { result ≡ (Pane.is_in region.number region.extent source || Pane.is_in region.number region.extent sink) }
+{
+    is_in(region.number, region.extent, source) || is_in(region.number, region.extent, sink)
+}
+
+/// Whether both references are in the body of a DO.
+fn stand_in(region: Region, source: u32, sink: u32) -> bool
+    ensures { result ≡ (Pane.is_in_body region.number region.extent source && Pane.is_in_body region.number region.extent sink) }
+{
+    is_in_body(region.number, region.extent, source)
+        && is_in_body(region.number, region.extent, sink)
+}
 
 /// How many numbered statements the statement with this number has, itself and those in it; 0 where there is none.
 pub fn extent_of(extents: &[u32], number: u32) -> u32

@@ -1,4 +1,4 @@
-use Rattle.std.proofs.Common.{◌≡◌, ◌≤◌, ◌++◌, List, map, length, refl, sym, subst, arith}
+use Rattle.std.proofs.Common.{◌≡◌, ℕ, ◌≤◌, ◌++◌, List, map, length, refl, sym, subst, arith}
 use Rattle.std.proofs.lemmas.Result.{on_ok_weaker}
 use Rattle.ped_views.specs.Views.{View}
 use Rattle.ped_views.specs.Vectors.{AreVectors}
@@ -7,7 +7,15 @@ use Rattle.ped_edges.specs.CodeEdges.{edge_of}
 use Rattle.ped_graph.specs.Held.{pair_by, held_edges}
 use Rattle.ped_graph.specs.HeldPairs.{HeldPairEdges}
 use Rattle.ped_graph.specs.CodeFacts.{framed_of}
+use Rattle.ped_graph.specs.Levels.{AreByLevel}
+use Rattle.ped_graph.proofs.LevelOrder.{vectors_by_level}
 use Rattle.ped_graph.proofs.edges.push_tested.Goals as goal
+
+pub push_shared-requires-clause-ordered : goal.push_shared-requires-clause-ordered
+push_shared-requires-clause-ordered g c =
+    let vectors = c.in_ok-vectors.vectors.items in
+    let these = subst (λ (x : View). AreVectors x vectors) (sym c.view.ensures) c.in_ok-vectors.ensures in
+    subst (λ (n : ℕ). AreByLevel n vectors) (sym c.loop_count.ensures.count) (vectors_by_level c.view.result.now vectors these)
 
 pub returns-clause-edges : goal.returns-clause-edges
 returns-clause-edges g c =

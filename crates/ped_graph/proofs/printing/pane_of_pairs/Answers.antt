@@ -1,7 +1,5 @@
-use Rattle.std.proofs.Common.{◌∙◌, List, [], ◌∷◌, ◌++◌, map, length, drop, length-append, refl, ap, sym, add-one, arith}
+use Rattle.std.proofs.Common.{◌∙◌, [], ◌∷◌, ◌++◌, map, length, drop, length-append, refl, ap, sym, add-one, arith}
 use Rattle.std.proofs.lemmas.Result.{IfOk-weaker}
-use Rattle.ped_edges.specs.CodeEdges.{edge_of}
-use Rattle.ped_edges.specs.declared.edges.Edge.{Edge as CodeEdge}
 use Rattle.ped_graph.specs.Held.{pair_by, pairs_by}
 use Rattle.ped_graph.specs.CodeFacts.{framed_of, views_in}
 use Rattle.ped_graph.proofs.Slices.{item_there, mapped_at, length_mapped}
@@ -14,13 +12,11 @@ loop-place-init g c = ([], none_found (pairs_by (map framed_of c.args.pairs.now)
 
 pub counted-count-requires : goal.counted-count-requires
 counted-count-requires g c =
-    let found = c.loop-place.invariant.0 in
-    let edges = c.push_pair.new.edges.items in
-    let seen = ap (λ (es : List CodeEdge). length es) c.deref.ensures.value in
-    let shown = length_mapped edge_of edges in
+    let h = c.in_ok-added.ensures in
     let bytes = ap length c.as_slice.ensures in
-    let few = few_counted c.loop-place.count found (map edge_of edges) c.loop-place.rows c.push_pair.new.rows c.loop-place.invariant.3 c.loop-place.invariant.2 c.in_ok-push_pair.ensures.rows in
-    omega (arith, seen, shown, bytes, few)
+    let few = few_counted c.loop-place.count c.loop-place.invariant.0 h.0 c.loop-place.rows c.push_pair.new.rows c.loop-place.invariant.3 c.loop-place.invariant.2 h.2 in
+    let many = h.3 in
+    omega (arith, bytes, few, many)
 
 pub loop-place-preserved : goal.loop-place-preserved
 loop-place-preserved g c =
@@ -29,20 +25,19 @@ loop-place-preserved g c =
     let ps = pairs_by fs vs in
     let i = c.loop-place.place in
     let x = c.index-pairs-place.result in
-    let edges = c.push_pair.new.edges.items in
+    let h = c.in_ok-added.ensures in
     let at = mapped_at framed_of c.args.pairs.now i x (item_there c.args.pairs.now i x c.index-pairs-place.is c.loop-place-test.true) in
     let p = pair_by (framed_of x) c.verdict_at.result.now in
     let next = next_pair fs vs i (framed_of x) c.verdict_at.result.now at c.verdict_at.ensures ∙ ap (λ (n : _). p ∷ drop n ps) (sym (add-one i)) in
     let found = c.loop-place.invariant.0 in
-    let seen = ap (λ (es : List CodeEdge). length es) c.deref.ensures.value in
-    let shown = length_mapped edge_of edges in
-    let both = length-append found (map edge_of edges) in
+    let both = length-append found h.0 in
     let before = c.loop-place.invariant.3 in
+    let many = h.3 in
     let count = c.counted-count.ensures in (
-      found ++ map edge_of edges,
-      one_found ps i found (map edge_of edges) p next c.in_ok-push_pair.ensures.edges c.loop-place.invariant.1,
-      rows_more found (map edge_of edges) c.loop-place.rows c.push_pair.new.rows c.loop-place.invariant.2 c.in_ok-push_pair.ensures.rows,
-      omega (arith, seen, shown, both, before, count),
+      found ++ h.0,
+      one_found ps i found h.0 p next h.1 c.loop-place.invariant.1,
+      rows_more found h.0 c.loop-place.rows c.push_pair.new.rows c.loop-place.invariant.2 h.2,
+      omega (arith, both, before, many, count),
     )
 
 pub returns : goal.returns

@@ -4,7 +4,7 @@ use Rattle.ped_graph.specs.Held.{pairs_by, held_pairs}
 use Rattle.ped_graph.specs.HeldSelections.{is_carried_in}
 use Rattle.ped_graph.specs.CodeFacts.{framed_of, views_in}
 use Rattle.ped_graph.proofs.HeldEdges.{program_edges}
-use Rattle.ped_graph.proofs.Selecting.{same_carried_in, all_kept}
+use Rattle.ped_graph.proofs.Selecting.{same_carried_in, same_of_level, all_kept}
 use Rattle.ped_graph.proofs.graph.Graph.edges_at.Goals as goal
 
 pub returns-clause-edges : goal.returns-clause-edges
@@ -15,7 +15,7 @@ returns-clause-edges g c t held =
     let these = c.in_ok-edges.ensures.edges in (
       these.0,
       program_edges t c.args.self.now ps these.0 same held these.1,
-      same_carried_in t c.args.statement c.extent-extent.result c.args.level found these.0 c.keep_carried_in.new.edges.items (c.extent-extent.ensures t held) c.keep_carried_in.ensures (these.2 c.args.level),
+      same_carried_in t c.args.statement c.extent-extent.result c.args.level found these.0 c.keep_carried_in.new.edges.items (c.extent-extent.ensures t held) c.keep_carried_in.ensures (same_of_level c.args.statement c.extent-extent.result c.args.level (map edge_of found) these.0 these.2),
     )
 
 pub returns-clause-short : goal.returns-clause-short

@@ -12,14 +12,14 @@ use Rattle.ped_flow.specs.Paths.{iteration, all_paths, paths_from_exit, paths_to
 use Rattle.ped_flow.specs.Questions.{IsLoop, IsFirst, IsExposed, IsReadBehind, IsLiveAfter, IsAssignedOn, IsAssignedThrough, IsAssignedBefore}
 use Rattle.ped_tree.specs.NamesIn.{saved_in}
 use Rattle.ped_flow.specs.Answers.{IsReader}
-use Rattle.ped_flow.specs.Summaries.{AreOnward, AreSummed, IsReadOn, sum_in_turn, sum_events, sum_of_all, sum_behind_all, sum_before_all}
+use Rattle.ped_flow.specs.Summaries.{AreOnward, AreSummed, IsReadOn, summary_in_turn, summary_events, summary_of_all, summary_behind_all, summary_before_all}
 use Rattle.ped_flow.specs.Kept.{reader_by, reader_else}
 use Rattle.ped_flow.specs.declared.flows.Reader.{Reader}
 use Rattle.ped_flow.specs.declared.summaries.Summary.{Summary}
 use Rattle.ped_flow.proofs.Truths.{untrue, and_split, or_iff}
 use Rattle.ped_flow.proofs.EventLaws.{has_value-kept, has_value-lost, has_value-none}
 use Rattle.ped_flow.proofs.FirstLaws.{first_map}
-use Rattle.ped_flow.proofs.TreeSums.{iteration-summed, all_summed, some_path_of_all, all_behind-summed, all_before-summed}
+use Rattle.ped_flow.proofs.TreeSummaries.{iteration-summed, all_summed, some_path_of_all, all_behind-summed, all_before-summed}
 
 -- the places of a statement and of those in it
 
@@ -131,11 +131,11 @@ exposed_in_loop t l x h body a is k =
 pub exposed_nowhere : (t : ProgramTree) (l : ℕ) (x : List ℕ) → ((h : Head) (body : StmtTrees) → IsLoop t l h body → ⊥) → IsFirst (IsExposed t l x) None
 exposed_nowhere t l x none = λ n s. none s.loop.head s.loop.body s.loop.is
 
-pub first_in_iteration : (cs : List (List ℕ)) (x : List ℕ) (l : ℕ) (h : Head) (body : StmtTrees) (a b r : Summary) → a ≡ sum_events x (start_events l h body) → b ≡ sum_of_all cs x body (l + 1) → r ≡ sum_in_turn a b
+pub first_in_iteration : (cs : List (List ℕ)) (x : List ℕ) (l : ℕ) (h : Head) (body : StmtTrees) (a b r : Summary) → a ≡ summary_events x (start_events l h body) → b ≡ summary_of_all cs x body (l + 1) → r ≡ summary_in_turn a b
     → IsFirst (IsReadOn (iteration l h body (all_paths cs body (l + 1))) x) r.first
 first_in_iteration cs x l h body a b r i j k =
-    subst (λ (m : Summary). IsFirst (IsReadOn (iteration l h body (all_paths cs body (l + 1))) x) m.first) (sym (k ∙ (λ z. sum_in_turn (i z) (j z))))
-    (iteration-summed x l h body (all_paths cs body (l + 1)) (sum_of_all cs x body (l + 1)) (some_path_of_all cs body (l + 1)) (all_summed cs x body (l + 1))).first
+    subst (λ (m : Summary). IsFirst (IsReadOn (iteration l h body (all_paths cs body (l + 1))) x) m.first) (sym (k ∙ (λ z. summary_in_turn (i z) (j z))))
+    (iteration-summed x l h body (all_paths cs body (l + 1)) (summary_of_all cs x body (l + 1)) (some_path_of_all cs body (l + 1)) (all_summed cs x body (l + 1))).first
 
 -- assigned on all paths
 
@@ -241,11 +241,11 @@ through_answer t l x y cs h body r f e is k =
     (subst (λ (u : List (List ℕ)). IsTrue r ↔ IsAssignedOn (all_paths u body (l + 1)).onward x) e
     (subst (λ (z : List ℕ). IsTrue r ↔ IsAssignedOn (all_paths cs body (l + 1)).onward z) f k))
 
-pub before_answer : (t : ProgramTree) (l : ℕ) (x : List ℕ) (m : Summary) (r : Bool) → m ≡ sum_before_all (constant_names t.decls) x l t.body 1 → r ≡ (not m.keeps && not m.loses) → IsTrue r ↔ IsAssignedBefore t l x
-before_answer t l x m r h k = assigned_by (paths_to_outermost t l) x m (sum_before_all (constant_names t.decls) x l t.body 1) r (all_before-summed (constant_names t.decls) x l t.body 1) h k
+pub before_answer : (t : ProgramTree) (l : ℕ) (x : List ℕ) (m : Summary) (r : Bool) → m ≡ summary_before_all (constant_names t.decls) x l t.body 1 → r ≡ (not m.keeps && not m.loses) → IsTrue r ↔ IsAssignedBefore t l x
+before_answer t l x m r h k = assigned_by (paths_to_outermost t l) x m (summary_before_all (constant_names t.decls) x l t.body 1) r (all_before-summed (constant_names t.decls) x l t.body 1) h k
 
-pub live_answer : (t : ProgramTree) (l : ℕ) (x : List ℕ) (m : Summary) (leaves saved shown : Bool) (r : Option Reader) → m ≡ sum_behind_all (constant_names t.decls) x l t.body 1 → leaves ≡ (m.keeps || m.ends) → saved ≡ is_among x (flat_map saved_in t.decls)
+pub live_answer : (t : ProgramTree) (l : ℕ) (x : List ℕ) (m : Summary) (leaves saved shown : Bool) (r : Option Reader) → m ≡ summary_behind_all (constant_names t.decls) x l t.body 1 → leaves ≡ (m.keeps || m.ends) → saved ≡ is_among x (flat_map saved_in t.decls)
     → shown ≡ (leaves && saved) → r ≡ reader_by m.first shown → IsReader t l x r
 live_answer t l x m leaves saved shown r h k s b e =
     subst (λ (z : Option Reader). IsReader t l x z) (sym (e ∙ ap (reader_by m.first) (b ∙ ap (λ (u : Bool). u && saved) k)))
-    (reader_is t l x m (sum_behind_all (constant_names t.decls) x l t.body 1) saved (all_behind-summed (constant_names t.decls) x l t.body 1) h s)
+    (reader_is t l x m (summary_behind_all (constant_names t.decls) x l t.body 1) saved (all_behind-summed (constant_names t.decls) x l t.body 1) h s)

@@ -15,7 +15,7 @@ use Rattle.ped_flow.specs.declared.escapes.Escape.{Escape}
 use Rattle.ped_flow.proofs.Truths.{untrue, and_iff, or_iff, or_split, iff_map}
 use Rattle.ped_flow.proofs.FirstLaws.{first_map, first_or}
 use Rattle.ped_flow.proofs.SumLaws.{least-assoc}
-use Rattle.ped_flow.proofs.TreeSums.{all_behind-summed}
+use Rattle.ped_flow.proofs.TreeSummaries.{all_behind-summed}
 use Rattle.ped_flow.proofs.Answering.{read_behind, left_is, same_head, same_body}
 use Rattle.ped_flow.proofs.LooseReads.{all_outside_first}
 

@@ -6,7 +6,7 @@ use Rattle.ped_tree.specs.Tree.{ExprTree, Int, Var, Element, Neg, Add, Sub, Mul,
 use Rattle.ped_bits.specs.Places.{union, without}
 use Rattle.ped_tree.proofs.NameLaws.Collected.{among_append}
 use Rattle.ped_flow.specs.Events.{Event, reads, assigns, event, reads_of, all_scalars_in, left_events}
-use Rattle.ped_flow.specs.Summaries.{least_of, passing, of_manner, sum_in_turn, sum_event, sum_events}
+use Rattle.ped_flow.specs.Summaries.{least_of, passing, of_manner, summary_in_turn, summary_event, summary_events}
 use Rattle.ped_flow.specs.Kept.{unless, first_reader}
 use Rattle.ped_flow.specs.RowPlaces.{place_of, bit, AreMarked, IsRowOf}
 use Rattle.ped_flow.specs.RowMarks.{read_left, assigned_left}
@@ -16,7 +16,7 @@ use Rattle.ped_flow.specs.declared.parts.Part.{Part}
 use Rattle.ped_flow.proofs.SumLaws.{events-append, events_of-append}
 use Rattle.ped_flow.proofs.OutsideSteps.{first_reader-append}
 use Rattle.ped_flow.proofs.RowLaws.{nothing_at, without_at}
-use Rattle.ped_flow.proofs.RowSums.{or_at, less_wide, union_wide}
+use Rattle.ped_flow.proofs.RowSummaries.{or_at, less_wide, union_wide}
 
 -- what holds of an answer by a weaker sentence
 pub if_ok : {X E : Type 0} {P Q : X → Type 0} (r : Result X E) → ((x : X) → P x → Q x) → IfOk r P → IfOk r Q
@@ -36,7 +36,7 @@ row_marked names n old new xs e h x i at = h.marked x i at ∙ ap (λ (z : Bool)
 pub row_empty : (names : List (List ℕ)) (n : ℕ) (row : List Bool) → row ≡ replicate n false → IsRowOf names row []
 row_empty names n row e x i at = ap (λ (r : List Bool). bit r i) e ∙ nothing_at n i
 
-read_more : (same among : Bool) (n : ℕ) → sum_in_turn (if same then of_manner reads n else passing) (if among then of_manner reads n else passing) ≡ (if same || among then of_manner reads n else passing)
+read_more : (same among : Bool) (n : ℕ) → summary_in_turn (if same then of_manner reads n else passing) (if among then of_manner reads n else passing) ≡ (if same || among then of_manner reads n else passing)
 read_more true true n = λ j. record { first = Some (same n j); keeps = true; ends = false; passes = true; loses = false }
   where
     same : (n : ℕ) → min n n ≡ n
@@ -46,19 +46,19 @@ read_more false true n = refl
 read_more false false n = refl
 
 -- reads
-reads_sum : (x : List ℕ) (n : ℕ) (xs : List (List ℕ)) → sum_events x (reads_of n xs) ≡ (if is_among x xs then of_manner reads n else passing)
-reads_sum x n [] = refl
-reads_sum x n (y ∷ ys) = ap (sum_in_turn (sum_event x (event n reads y))) (reads_sum x n ys) ∙ read_more (is_same_text x y) (is_among x ys) n
+reads_summary : (x : List ℕ) (n : ℕ) (xs : List (List ℕ)) → summary_events x (reads_of n xs) ≡ (if is_among x xs then of_manner reads n else passing)
+reads_summary x n [] = refl
+reads_summary x n (y ∷ ys) = ap (summary_in_turn (summary_event x (event n reads y))) (reads_summary x n ys) ∙ read_more (is_same_text x y) (is_among x ys) n
 
-assign_more : (same among : Bool) (n : ℕ) → sum_in_turn (if same then of_manner assigns n else passing) (if among then of_manner assigns 0 else passing) ≡ (if same || among then of_manner assigns 0 else passing)
+assign_more : (same among : Bool) (n : ℕ) → summary_in_turn (if same then of_manner assigns n else passing) (if among then of_manner assigns 0 else passing) ≡ (if same || among then of_manner assigns 0 else passing)
 assign_more true true n = refl
 assign_more true false n = refl
 assign_more false true n = refl
 assign_more false false n = refl
 
-assigns_sum : (x : List ℕ) (n : ℕ) (xs : List (List ℕ)) → sum_events x (map (event n assigns) xs) ≡ (if is_among x xs then of_manner assigns 0 else passing)
-assigns_sum x n [] = refl
-assigns_sum x n (y ∷ ys) = ap (sum_in_turn (sum_event x (event n assigns y))) (assigns_sum x n ys) ∙ assign_more (is_same_text x y) (is_among x ys) n
+assigns_summary : (x : List ℕ) (n : ℕ) (xs : List (List ℕ)) → summary_events x (map (event n assigns) xs) ≡ (if is_among x xs then of_manner assigns 0 else passing)
+assigns_summary x n [] = refl
+assigns_summary x n (y ∷ ys) = ap (summary_in_turn (summary_event x (event n assigns y))) (assigns_summary x n ys) ∙ assign_more (is_same_text x y) (is_among x ys) n
 
 some_more : (same among : Bool) (n : ℕ) (a : Option ℕ) → is_some a ≡ among → is_some (least_of (if same && true then Some n else None) a) ≡ (same || among)
 some_more true b n None h = refl
@@ -78,46 +78,46 @@ assigns_loose x n [] = refl
 assigns_loose x n (y ∷ ys) = none_more (is_same_text x y) n (first_reader x (map (event n assigns) ys)) (assigns_loose x n ys)
 
 -- reads and then assignments
-both_sum : (x : List ℕ) (n : ℕ) (xs ys : List (List ℕ)) → sum_events x (reads_of n xs ++ map (event n assigns) ys) ≡ sum_in_turn (if is_among x xs then of_manner reads n else passing) (if is_among x ys then of_manner assigns 0 else passing)
-both_sum x n xs ys = events-append x (reads_of n xs) (map (event n assigns) ys) ∙ (λ j. sum_in_turn (reads_sum x n xs j) (assigns_sum x n ys j))
+both_summary : (x : List ℕ) (n : ℕ) (xs ys : List (List ℕ)) → summary_events x (reads_of n xs ++ map (event n assigns) ys) ≡ summary_in_turn (if is_among x xs then of_manner reads n else passing) (if is_among x ys then of_manner assigns 0 else passing)
+both_summary x n xs ys = events-append x (reads_of n xs) (map (event n assigns) ys) ∙ (λ j. summary_in_turn (reads_summary x n xs j) (assigns_summary x n ys j))
 
 least-none : (a : Option ℕ) → least_of a None ≡ a
 least-none None = refl
 least-none (Some a) = refl
 
 module _ (n : ℕ) where
-  first_is : (a b : Bool) → a ≡ is_some (sum_in_turn (if a then of_manner reads n else passing) (if b then of_manner assigns 0 else passing)).first
+  first_is : (a b : Bool) → a ≡ is_some (summary_in_turn (if a then of_manner reads n else passing) (if b then of_manner assigns 0 else passing)).first
   first_is true true = refl
   first_is true false = refl
   first_is false true = refl
   first_is false false = refl
 
-  keeps_is : (a b : Bool) → b ≡ not (sum_in_turn (if a then of_manner reads n else passing) (if b then of_manner assigns 0 else passing)).keeps
+  keeps_is : (a b : Bool) → b ≡ not (summary_in_turn (if a then of_manner reads n else passing) (if b then of_manner assigns 0 else passing)).keeps
   keeps_is true true = refl
   keeps_is true false = refl
   keeps_is false true = refl
   keeps_is false false = refl
 
-  ends_is : (a b : Bool) → (sum_in_turn (if a then of_manner reads n else passing) (if b then of_manner assigns 0 else passing)).ends ≡ false
+  ends_is : (a b : Bool) → (summary_in_turn (if a then of_manner reads n else passing) (if b then of_manner assigns 0 else passing)).ends ≡ false
   ends_is true true = refl
   ends_is true false = refl
   ends_is false true = refl
   ends_is false false = refl
 
-  passes_is : (a b : Bool) → not (sum_in_turn (if a then of_manner reads n else passing) (if b then of_manner assigns 0 else passing)).passes ≡ false
+  passes_is : (a b : Bool) → not (summary_in_turn (if a then of_manner reads n else passing) (if b then of_manner assigns 0 else passing)).passes ≡ false
   passes_is true true = refl
   passes_is true false = refl
   passes_is false true = refl
   passes_is false false = refl
 
-  loses_is : (a b : Bool) → (sum_in_turn (if a then of_manner reads n else passing) (if b then of_manner assigns 0 else passing)).loses ≡ false
+  loses_is : (a b : Bool) → (summary_in_turn (if a then of_manner reads n else passing) (if b then of_manner assigns 0 else passing)).loses ≡ false
   loses_is true true = refl
   loses_is true false = refl
   loses_is false true = refl
   loses_is false false = refl
 
 -- events that are reads and then assignments
-pub simple_events : (n : ℕ) (xs ys : List (List ℕ)) (events : List Event) → events ≡ reads_of n xs ++ map (event n assigns) ys → AreEvents xs ys (λ x. sum_events x events) (λ x. first_reader x events)
+pub simple_events : (n : ℕ) (xs ys : List (List ℕ)) (events : List Event) → events ≡ reads_of n xs ++ map (event n assigns) ys → AreEvents xs ys (λ x. summary_events x events) (λ x. first_reader x events)
 simple_events n xs ys events e = record {
   reads = λ x. first_is n (is_among x xs) (is_among x ys) ∙ ap (λ (m : Summary). is_some m.first) (sym (whole x));
   assigns = λ x. keeps_is n (is_among x xs) (is_among x ys) ∙ ap (λ (m : Summary). not m.keeps) (sym (whole x));
@@ -130,8 +130,8 @@ simple_events n xs ys events e = record {
       ∙ reads_loose x n xs);
 }
   where
-    whole : (x : List ℕ) → sum_events x events ≡ sum_in_turn (if is_among x xs then of_manner reads n else passing) (if is_among x ys then of_manner assigns 0 else passing)
-    whole x = ap (sum_events x) e ∙ both_sum x n xs ys
+    whole : (x : List ℕ) → summary_events x events ≡ summary_in_turn (if is_among x xs then of_manner reads n else passing) (if is_among x ys then of_manner assigns 0 else passing)
+    whole x = ap (summary_events x) e ∙ both_summary x n xs ys
 
 -- a left side
 pub left_split : (cs : List (List ℕ)) (n : ℕ) (e : ExprTree) → left_events cs n e ≡ reads_of n (read_left cs e) ++ map (event n assigns) (assigned_left cs e)

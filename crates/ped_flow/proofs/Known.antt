@@ -1,5 +1,5 @@
 -- What a table knows of statements, as it grows.
-use Rattle.std.proofs.Common.{◌≡◌, ◌↔◌, IsTrue, ℕ, zero, suc, ◌+◌, ◌<◌, ◌≤◌, ◌≢◌, inl, inr, List, [], length, map, drop, get_or, slice_set, Bool, true, false, Option, Some, None, is_some, refl, Result, Ok, Err, IfOk, OnOk, sym, ap, subst, ◌∙◌, rules, arith}
+use Rattle.std.proofs.Common.{◌≡◌, ◌↔◌, IsTrue, ℕ, zero, suc, ◌+◌, ◌<◌, ◌≤◌, ◌≢◌, inl, inr, List, [], length, map, drop, get_or, slice_set, Bool, true, false, Option, Some, None, refl, Result, Ok, Err, IfOk, OnOk, sym, ap, subst, ◌∙◌, rules, arith}
 use Rattle.std.proofs.lemmas.List.{get_or-set_same, get_or-set_other}
 use Rattle.ped_tree.specs.Tree.{CondTree, StmtTree, StmtTrees, Assign, If, Do, Print, Read, Stop, Comment, no_stmts, more_stmts}
 use Rattle.std.specs.Global.{Vec}
@@ -13,7 +13,7 @@ use Rattle.ped_tree.specs.Views.{head_of}
 use Rattle.ped_tree.specs.Numbering.{statement_count, statements_count}
 use Rattle.ped_tree.specs.declared.statements.Stmt.{Stmt}
 use Rattle.ped_tree.specs.NamesIn.{loop_variables}
-use Rattle.ped_flow.specs.Summaries.{passing, sum_of}
+use Rattle.ped_flow.specs.Summaries.{passing, summary_of}
 use Rattle.ped_flow.specs.Kept.{first_outside}
 use Rattle.ped_flow.specs.RowMarks.{names_in, constants_in}
 use Rattle.ped_flow.specs.Parts.{IsPart}
@@ -32,12 +32,34 @@ written_at table n e h = get_or-set_same table n (Some e) None h
 pub written_other : (table : List (Option Entry)) (n k : ℕ) (e : Entry) → k ≢ n → entry_at (slice_set table n (Some e)) k ≡ entry_at table k
 written_other table n k e h = get_or-set_other table n k (Some e) None h
 
+none_there : (n : ℕ) (e : Entry) → entry_at [] n ≡ Some e → ⊥
+none_there zero e at = absurd cc
+none_there (suc n) e at = absurd cc
+
 module _ (p : Places) where
   entered : (table : List (Option Entry)) (s : StmtTree) (n : ℕ) (e : Entry) → IsEntry p e s n → entry_at table n ≡ Some e → IsEntered p table s n
-  entered table s n e h at = record { there = ap is_some at; is = λ f g. let same : e ≡ f = cc in subst (λ (z : Entry). IsEntry p z s n) same h }
+  entered table s n e h at f g = let same : e ≡ f = cc in subst (λ (z : Entry). IsEntry p z s n) same h
 
   entered_kept : (table other : List (Option Entry)) (s : StmtTree) (n : ℕ) → entry_at other n ≡ entry_at table n → IsEntered p table s n → IsEntered p other s n
-  entered_kept table other s n k h = record { there = ap is_some k ∙ h.there; is = λ e at. h.is e (sym k ∙ at) }
+  entered_kept table other s n k h e at = h e (sym k ∙ at)
+
+  empty : (s : StmtTree) (n : ℕ) → IsEntered p [] s n
+  empty s n e at = absurd (none_there n e at)
+
+  -- an empty table knows nothing
+  mutual
+    knows_nothing : (s : StmtTree) (n : ℕ) → Knows p [] s n
+    knows_nothing (Assign left right) n = empty (Assign left right) n
+    knows_nothing (If c a b) n = (empty (If c a b) n, all_knows_nothing a (n + 1), all_knows_nothing b (n + 1 + statements_count a))
+    knows_nothing (Do g body) n = (empty (Do g body) n, all_knows_nothing body (n + 1))
+    knows_nothing (Print items) n = empty (Print items) n
+    knows_nothing (Read items) n = empty (Read items) n
+    knows_nothing Stop n = empty Stop n
+    knows_nothing (Comment text) n = tt
+
+    pub all_knows_nothing : (ss : StmtTrees) (n : ℕ) → KnowsAll p [] ss n
+    all_knows_nothing no_stmts n = tt
+    all_knows_nothing (more_stmts s rest) n = (knows_nothing s n, all_knows_nothing rest (n + statement_count s))
 
   -- what is known of statements stays known where their entries do
   mutual
@@ -106,15 +128,15 @@ on_both P (Err e) other h f = tt
 
 -- an entry is made of what a statement does
 pub made_entry : (p : Places) (s : StmtTree) (n : ℕ) (part : Part) (behind : ℕ) (e : Entry) → IsMade part behind e
-    → IsPart (names_in p) part (λ x. sum_of (constants_in p) x s n) (λ x. first_outside (constants_in p) x s n) (loop_variables s) → behind ≡ n + statement_count s → IsEntry p e s n
+    → IsPart (names_in p) part (λ x. summary_of (constants_in p) x s n) (λ x. first_outside (constants_in p) x s n) (loop_variables s) → behind ≡ n + statement_count s → IsEntry p e s n
 made_entry p s n part behind e made is at = record {
-  part = subst (λ (q : Part). IsPart (names_in p) q (λ x. sum_of (constants_in p) x s n) (λ x. first_outside (constants_in p) x s n) (loop_variables s)) (sym made.part) is;
-  touched = λ x i w t. made.touched i (sum_of (constants_in p) x s n) (is.sums x i w) t;
+  part = subst (λ (q : Part). IsPart (names_in p) q (λ x. summary_of (constants_in p) x s n) (λ x. first_outside (constants_in p) x s n) (loop_variables s)) (sym made.part) is;
+  touched = λ x i w t. made.touched i (summary_of (constants_in p) x s n) (is.summaries x i w) t;
   behind = made.behind ∙ at;
 }
 
 -- an entry is made of what a statement does, where that was found
-pub entry_found : {E F : Type 0} (p : Places) (s : StmtTree) (n behind : ℕ) (part : Result Part E) (r : Result Entry F) → IfOk part (λ q. IsPart (names_in p) q (λ x. sum_of (constants_in p) x s n) (λ x. first_outside (constants_in p) x s n) (loop_variables s))
+pub entry_found : {E F : Type 0} (p : Places) (s : StmtTree) (n behind : ℕ) (part : Result Part E) (r : Result Entry F) → IfOk part (λ q. IsPart (names_in p) q (λ x. summary_of (constants_in p) x s n) (λ x. first_outside (constants_in p) x s n) (loop_variables s))
     → behind ≡ n + statement_count s → IfOk r (λ e. (q : Part) × (part ≡ Ok q) × IsMade q behind e) → IfOk r (λ e. IsEntry p e s n)
 entry_found p s n behind part r is at made = if_ok r (λ e h. made_entry p s n h.0 behind e h.2 (if_found _ part h.0 h.1 is) at) made
 
@@ -173,7 +195,7 @@ tree-Do d = search (rules, variant.the_lemmas)
 
 -- a statement without a number is a comment
 module _ (p : Places) (table : List (Option Entry)) (cs : List (List ℕ)) (x : List ℕ) (n : ℕ) where
-  pub unnumbered : (s : StmtTree) → statement_count s ≡ 0 → (sum_of cs x s n ≡ passing) × (first_outside cs x s n ≡ None) × (loop_variables s ≡ []) × Knows p table s n
+  pub unnumbered : (s : StmtTree) → statement_count s ≡ 0 → (summary_of cs x s n ≡ passing) × (first_outside cs x s n ≡ None) × (loop_variables s ≡ []) × Knows p table s n
   unnumbered (Assign left right) h = absurd (omega arith)
   unnumbered (If c a b) h = absurd (omega arith)
   unnumbered (Do g body) h = absurd (omega arith)

@@ -1,8 +1,8 @@
 pub mod EventLaws
 pub mod Truths
 pub mod FirstLaws
-pub mod PathSums
-pub mod TreeSums
+pub mod PathSummaries
+pub mod TreeSummaries
 pub mod SumLaws
 pub mod ScalarSteps
 pub mod WalkSteps
@@ -11,10 +11,10 @@ pub mod LooseReads
 pub mod Escaping
 pub mod OutsideSteps
 pub mod RowLaws
-pub mod RowSums
+pub mod RowSummaries
 pub mod Placing
 pub mod Marks
-pub mod PartSums
+pub mod PartSummaries
 pub mod Touching
 pub mod EventRows
 pub mod Known

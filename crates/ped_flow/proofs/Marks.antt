@@ -142,8 +142,8 @@ module _ (names : List (List ℕ)) where
           → AreMarked names row mid (scalars_in cs (expr_tree p)) → AreMarked names mid new (scalars_in cs (expr_tree q)) → AreMarked names row new (scalars_in cs (expr_tree e))
       operands t parts is l g = two_marked (scalars_in cs (expr_tree e)) (scalars_in cs (expr_tree p)) (scalars_in cs (expr_tree q)) (ap (scalars_in cs) is ∙ parts ∙ (λ j. scalars_in cs (expr_tree (sym l j)) ++ scalars_in cs (expr_tree (sym g j))))
 
-      pub sum_marked : e ≡ variant.Add a b → p ≡ a.value → q ≡ b.value → AreMarked names row mid (scalars_in cs (expr_tree p)) → AreMarked names mid new (scalars_in cs (expr_tree q)) → AreMarked names row new (scalars_in cs (expr_tree e))
-      sum_marked is = operands (plain.Add (expr_tree a.value) (expr_tree b.value)) (λ i. scalars_in cs (expr_tree a.value) ++ scalars_in cs (expr_tree b.value)) (ap expr_tree is ∙ expr_tree-Add a b)
+      pub summary_marked : e ≡ variant.Add a b → p ≡ a.value → q ≡ b.value → AreMarked names row mid (scalars_in cs (expr_tree p)) → AreMarked names mid new (scalars_in cs (expr_tree q)) → AreMarked names row new (scalars_in cs (expr_tree e))
+      summary_marked is = operands (plain.Add (expr_tree a.value) (expr_tree b.value)) (λ i. scalars_in cs (expr_tree a.value) ++ scalars_in cs (expr_tree b.value)) (ap expr_tree is ∙ expr_tree-Add a b)
 
       pub difference_marked : e ≡ variant.Sub a b → p ≡ a.value → q ≡ b.value → AreMarked names row mid (scalars_in cs (expr_tree p)) → AreMarked names mid new (scalars_in cs (expr_tree q)) → AreMarked names row new (scalars_in cs (expr_tree e))
       difference_marked is = operands (plain.Sub (expr_tree a.value) (expr_tree b.value)) (λ i. scalars_in cs (expr_tree a.value) ++ scalars_in cs (expr_tree b.value)) (ap expr_tree is ∙ expr_tree-Sub a b)

@@ -15,7 +15,7 @@ use Rattle.ped_tree.specs.declared.expressions.Expr.{Expr}
 use Rattle.ped_tree.specs.declared.statements.Stmt.{Stmt}
 use Rattle.ped_tree.specs.declared.statements.Stmt as variant
 use Rattle.ped_flow.specs.Events.{Event, reads, assigns, event, reads_of, scalars_in, all_scalars_in, scalars_in_cond, scalars_in_item, left_events}
-use Rattle.ped_flow.specs.Summaries.{least_of, when, passing, of_manner, sum_events}
+use Rattle.ped_flow.specs.Summaries.{least_of, when, passing, of_manner, summary_events}
 use Rattle.ped_flow.specs.Kept.{reader_in, first_reader, unless, first_outside, all_first_outside}
 use Rattle.ped_flow.specs.declared.summaries.Summary.{Summary}
 use Rattle.ped_flow.proofs.SumLaws.{least-assoc}
@@ -30,20 +30,20 @@ one_read true n a = refl
 one_read false n a = refl
 
 -- nothing is overwritten before a read among reads
-pub reads-first : (x : List ℕ) (n : ℕ) (names : List (List ℕ)) → (sum_events x (reads_of n names)).first ≡ first_reader x (reads_of n names)
+pub reads-first : (x : List ℕ) (n : ℕ) (names : List (List ℕ)) → (summary_events x (reads_of n names)).first ≡ first_reader x (reads_of n names)
 reads-first x n [] = refl
-reads-first x n (y ∷ ys) = one_read (is_same_text x y) n (sum_events x (reads_of n ys)).first ∙ ap (least_of (if is_same_text x y && true then Some n else None)) (reads-first x n ys)
+reads-first x n (y ∷ ys) = one_read (is_same_text x y) n (summary_events x (reads_of n ys)).first ∙ ap (least_of (if is_same_text x y && true then Some n else None)) (reads-first x n ys)
 
 one_assigned : (r : Bool) (n : ℕ) → least_of ((if r then of_manner assigns n else passing).first) (when (if r then of_manner assigns n else passing).keeps None) ≡ least_of (if r && false then Some n else None) None
 one_assigned true n = refl
 one_assigned false n = refl
 
-assigned-first : (x y : List ℕ) (c : Bool) (n : ℕ) → (sum_events x (map (event n assigns) (if c then [] else y ∷ []))).first ≡ first_reader x (map (event n assigns) (if c then [] else y ∷ []))
+assigned-first : (x y : List ℕ) (c : Bool) (n : ℕ) → (summary_events x (map (event n assigns) (if c then [] else y ∷ []))).first ≡ first_reader x (map (event n assigns) (if c then [] else y ∷ []))
 assigned-first x y true n = refl
 assigned-first x y false n = one_assigned (is_same_text x y) n
 
 -- a left side reads before it assigns
-pub left-first : (x : List ℕ) (cs : List (List ℕ)) (n : ℕ) (e : ExprTree) → (sum_events x (left_events cs n e)).first ≡ first_reader x (left_events cs n e)
+pub left-first : (x : List ℕ) (cs : List (List ℕ)) (n : ℕ) (e : ExprTree) → (summary_events x (left_events cs n e)).first ≡ first_reader x (left_events cs n e)
 left-first x cs n (Var y) = assigned-first x y (is_among y cs) n
 left-first x cs n (Element y subscripts) = reads-first x n (all_scalars_in cs subscripts)
 left-first x cs n (Int k) = refl
@@ -55,14 +55,14 @@ left-first x cs n (Div a b) = refl
 left-first x cs n (Pow a b) = refl
 left-first x cs n (Call f arguments) = refl
 
-entry-step : (x y : List ℕ) (n : ℕ) (names : List (List ℕ)) → (sum_events x (reads_of n names ++ event n assigns y ∷ [])).first ≡ first_reader x (reads_of n names ++ event n assigns y ∷ [])
+entry-step : (x y : List ℕ) (n : ℕ) (names : List (List ℕ)) → (summary_events x (reads_of n names ++ event n assigns y ∷ [])).first ≡ first_reader x (reads_of n names ++ event n assigns y ∷ [])
 entry-step x y n [] = one_assigned (is_same_text x y) n
 entry-step x y n (z ∷ zs) =
-    one_read (is_same_text x z) n (sum_events x (reads_of n zs ++ event n assigns y ∷ [])).first
+    one_read (is_same_text x z) n (summary_events x (reads_of n zs ++ event n assigns y ∷ [])).first
     ∙ ap (least_of (if is_same_text x z && true then Some n else None)) (entry-step x y n zs)
 
 -- the bounds of a DO are read before its variable is assigned
-pub entry-first : (x y : List ℕ) (n : ℕ) (names : List (List ℕ)) → (sum_events x (reads_of n names ++ event n assigns y ∷ [])).first ≡ first_reader x (reads_of n names ++ event n assigns y ∷ [])
+pub entry-first : (x y : List ℕ) (n : ℕ) (names : List (List ℕ)) → (summary_events x (reads_of n names ++ event n assigns y ∷ [])).first ≡ first_reader x (reads_of n names ++ event n assigns y ∷ [])
 entry-first = entry-step
 
 pub ruleset reading = (reads-first, left-first, entry-first, first_reader-append)
@@ -96,22 +96,22 @@ stmt_tree-Do : (d : DoLoop) → stmt_tree (variant.Do d) ≡ plain.Do (head_of d
 stmt_tree-Do d = search (rules, variant.the_lemmas)
 
 module _ (cs : List (List ℕ)) (x : List ℕ) (s : Stmt) (n : ℕ) where
-  pub assign_first : (left right : Expr) (e t : Summary) (r : Option ℕ) → s ≡ variant.Assign left right → e ≡ sum_events x (reads_of n (scalars_in cs (expr_tree right)))
-      → t ≡ sum_events x (left_events cs n (expr_tree left)) → r ≡ least_of e.first t.first → r ≡ first_outside cs x (stmt_tree s) n
+  pub assign_first : (left right : Expr) (e t : Summary) (r : Option ℕ) → s ≡ variant.Assign left right → e ≡ summary_events x (reads_of n (scalars_in cs (expr_tree right)))
+      → t ≡ summary_events x (left_events cs n (expr_tree left)) → r ≡ least_of e.first t.first → r ≡ first_outside cs x (stmt_tree s) n
   assign_first left right e t r is h k f =
       f
       ∙ (λ i. least_of ((ap (λ (m : Summary). m.first) h ∙ reads-first x n (scalars_in cs (expr_tree right))) i) ((ap (λ (m : Summary). m.first) k ∙ left-first x cs n (expr_tree left)) i))
       ∙ sym (first_reader-append x (reads_of n (scalars_in cs (expr_tree right))) (left_events cs n (expr_tree left)))
       ∙ ap (λ (tree : StmtTree). first_outside cs x tree n) (sym (ap stmt_tree is ∙ stmt_tree-Assign left right))
 
-  pub print_first : (v : Vec PrintItem) (items : List PrintItem) (m : Summary) → s ≡ variant.Print v → items ≡ v.items → m ≡ sum_events x (reads_of n (flat_map (scalars_in_item cs) (map item_tree items)))
+  pub print_first : (v : Vec PrintItem) (items : List PrintItem) (m : Summary) → s ≡ variant.Print v → items ≡ v.items → m ≡ summary_events x (reads_of n (flat_map (scalars_in_item cs) (map item_tree items)))
       → m.first ≡ first_outside cs x (stmt_tree s) n
   print_first v items m is e h =
       ap (λ (z : Summary). z.first) h ∙ reads-first x n (flat_map (scalars_in_item cs) (map item_tree items))
       ∙ ap (λ (is : List PrintItem). first_reader x (reads_of n (flat_map (scalars_in_item cs) (map item_tree is)))) e
       ∙ ap (λ (tree : StmtTree). first_outside cs x tree n) (sym (ap stmt_tree is ∙ stmt_tree-Print v))
 
-  pub if_first : (c : Cond) (a b : Vec Stmt) (p q : List Stmt) (m : Summary) (f g u r : Option ℕ) (k : ℕ) → s ≡ variant.If c a b → p ≡ a.items → q ≡ b.items → m ≡ sum_events x (reads_of n (scalars_in_cond cs (cond_tree c)))
+  pub if_first : (c : Cond) (a b : Vec Stmt) (p q : List Stmt) (m : Summary) (f g u r : Option ℕ) (k : ℕ) → s ≡ variant.If c a b → p ≡ a.items → q ≡ b.items → m ≡ summary_events x (reads_of n (scalars_in_cond cs (cond_tree c)))
       → f ≡ all_first_outside cs x (stmt_trees p) (n + 1) → k ≡ n + 1 + statements_count (stmt_trees p) → g ≡ all_first_outside cs x (stmt_trees q) k → u ≡ least_of f g → r ≡ least_of m.first u → r ≡ first_outside cs x (stmt_tree s) n
   if_first c a b p q m f g u r k is ep eq em ef ek eg eu er =
       er
@@ -122,7 +122,7 @@ module _ (cs : List (List ℕ)) (x : List ℕ) (s : Stmt) (n : ℕ) where
       ∙ ap (λ (tree : StmtTree). first_outside cs x tree n) (sym (ap stmt_tree is ∙ stmt_tree-If c a b))
 
   pub do_first : (d : DoLoop) (p : List Stmt) (m : Summary) (f u r : Option ℕ) (same : Bool) → s ≡ variant.Do d → p ≡ d.body.items
-      → m ≡ sum_events x (reads_of n (scalars_in cs (expr_tree d.first) ++ scalars_in cs (expr_tree d.last)) ++ event n assigns d.variable ∷ [])
+      → m ≡ summary_events x (reads_of n (scalars_in cs (expr_tree d.first) ++ scalars_in cs (expr_tree d.last)) ++ event n assigns d.variable ∷ [])
       → f ≡ all_first_outside cs x (stmt_trees p) (n + 1) → same ≡ is_same_text x d.variable → u ≡ unless same f → r ≡ least_of m.first u → r ≡ first_outside cs x (stmt_tree s) n
   do_first d p m f u r same is ep em ef es eu er =
       er

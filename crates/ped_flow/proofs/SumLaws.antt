@@ -2,7 +2,7 @@
 use Rattle.std.proofs.Common.{◌≡◌, ℕ, Bool, true, false, ◌&&◌, ◌||◌, List, [], ◌∷◌, ◌++◌, map, Option, Some, None, refl, sym, ap, ◌∙◌, arith, if◌then◌else◌}
 use Rattle.ped_base.specs.Lists.{is_same_text, is_among}
 use Rattle.ped_flow.specs.Events.{Event, reads, assigns, clears, event, reads_of}
-use Rattle.ped_flow.specs.Summaries.{least_of, when, passing, unreached, of_manner, sum_in_turn, sum_either, sum_event, sum_events}
+use Rattle.ped_flow.specs.Summaries.{least_of, when, passing, unreached, of_manner, summary_in_turn, summary_either, summary_event, summary_events}
 use Rattle.ped_flow.specs.declared.summaries.Summary.{Summary}
 
 pub least-none : (a : Option ℕ) → least_of a None ≡ a
@@ -60,7 +60,7 @@ loses-assoc al pa bk bl bp ck cl =
     ∙ (λ i. and-assoc al bk ck i || (and-assoc pa bl ck i || and-assoc pa bp cl i))
     ∙ ap (λ (z : Bool). (al && (bk && ck)) || z) (sym (and-or pa (bl && ck) (bp && cl)))
 
-pub in_turn-assoc : (a b c : Summary) → sum_in_turn (sum_in_turn a b) c ≡ sum_in_turn a (sum_in_turn b c)
+pub in_turn-assoc : (a b c : Summary) → summary_in_turn (summary_in_turn a b) c ≡ summary_in_turn a (summary_in_turn b c)
 in_turn-assoc a b c = λ i. record {
   first = first-assoc a.keeps b.keeps a.first b.first c.first i;
   keeps = and-assoc a.keeps b.keeps c.keeps i;
@@ -73,7 +73,7 @@ when-none : (k : Bool) → when k None ≡ None
 when-none true = refl
 when-none false = refl
 
-pub in_turn-passing : (a : Summary) → sum_in_turn a passing ≡ a
+pub in_turn-passing : (a : Summary) → summary_in_turn a passing ≡ a
 in_turn-passing a = λ i. record {
   first = (ap (least_of a.first) (when-none a.keeps) ∙ least-none a.first) i;
   keeps = and-true a.keeps i;
@@ -82,7 +82,7 @@ in_turn-passing a = λ i. record {
   loses = ((λ j. and-true a.loses j || and-false a.passes j) ∙ or-false a.loses) i;
 }
 
-pub either-assoc : (a b c : Summary) → sum_either (sum_either a b) c ≡ sum_either a (sum_either b c)
+pub either-assoc : (a b c : Summary) → summary_either (summary_either a b) c ≡ summary_either a (summary_either b c)
 either-assoc a b c = λ i. record {
   first = least-assoc a.first b.first c.first i;
   keeps = or-assoc a.keeps b.keeps c.keeps i;
@@ -91,7 +91,7 @@ either-assoc a b c = λ i. record {
   loses = or-assoc a.loses b.loses c.loses i;
 }
 
-pub either-unreached : (a : Summary) → sum_either a unreached ≡ a
+pub either-unreached : (a : Summary) → summary_either a unreached ≡ a
 either-unreached a = λ i. record {
   first = least-none a.first i;
   keeps = or-false a.keeps i;
@@ -129,7 +129,7 @@ swap false true true d = refl
 swap false true false d = refl
 swap false false c d = refl
 
-pub either-in_turn : (a b c : Summary) → sum_in_turn (sum_either a b) c ≡ sum_either (sum_in_turn a c) (sum_in_turn b c)
+pub either-in_turn : (a b c : Summary) → summary_in_turn (summary_either a b) c ≡ summary_either (summary_in_turn a c) (summary_in_turn b c)
 either-in_turn a b c = λ i. record {
   first = either-first a.keeps b.keeps a.first b.first c.first i;
   keeps = or-and a.keeps b.keeps c.keeps i;
@@ -158,7 +158,7 @@ in_turn-ends true k b c = refl
 in_turn-ends false true b c = refl
 in_turn-ends false false b c = refl
 
-pub in_turn-either : (a b c : Summary) → sum_in_turn a (sum_either b c) ≡ sum_either (sum_in_turn a b) (sum_in_turn a c)
+pub in_turn-either : (a b c : Summary) → summary_in_turn a (summary_either b c) ≡ summary_either (summary_in_turn a b) (summary_in_turn a c)
 in_turn-either a b c = λ i. record {
   first = in_turn-first a.keeps a.first b.first c.first i;
   keeps = and-or a.keeps b.keeps c.keeps i;
@@ -168,48 +168,48 @@ in_turn-either a b c = λ i. record {
 }
 
 -- events and then others
-pub events-append : (x : List ℕ) (p q : List Event) → sum_events x (p ++ q) ≡ sum_in_turn (sum_events x p) (sum_events x q)
+pub events-append : (x : List ℕ) (p q : List Event) → summary_events x (p ++ q) ≡ summary_in_turn (summary_events x p) (summary_events x q)
 events-append x [] q = refl
-events-append x (e ∷ p) q = ap (sum_in_turn (sum_event x e)) (events-append x p q) ∙ sym (in_turn-assoc (sum_event x e) (sum_events x p) (sum_events x q))
+events-append x (e ∷ p) q = ap (summary_in_turn (summary_event x e)) (events-append x p q) ∙ sym (in_turn-assoc (summary_event x e) (summary_events x p) (summary_events x q))
 
 pub events_of-append : (f : List ℕ → Event) (xs ys : List (List ℕ)) → map f (xs ++ ys) ≡ map f xs ++ map f ys
 events_of-append f [] ys = refl
 events_of-append f (x ∷ xs) ys = ap (λ (z : List Event). f x ∷ z) (events_of-append f xs ys)
 
 -- reads and then others
-pub reads-append : (x : List ℕ) (n : ℕ) (xs ys : List (List ℕ)) → sum_events x (reads_of n (xs ++ ys)) ≡ sum_in_turn (sum_events x (reads_of n xs)) (sum_events x (reads_of n ys))
-reads-append x n xs ys = ap (sum_events x) (events_of-append (event n reads) xs ys) ∙ events-append x (reads_of n xs) (reads_of n ys)
+pub reads-append : (x : List ℕ) (n : ℕ) (xs ys : List (List ℕ)) → summary_events x (reads_of n (xs ++ ys)) ≡ summary_in_turn (summary_events x (reads_of n xs)) (summary_events x (reads_of n ys))
+reads-append x n xs ys = ap (summary_events x) (events_of-append (event n reads) xs ys) ∙ events-append x (reads_of n xs) (reads_of n ys)
 
 -- one event, of the scalar or not
-pub one-event : (x : List ℕ) (e : Event) → sum_events x (e ∷ []) ≡ (if is_same_text x e.scalar then of_manner e.manner e.statement else passing)
-one-event x e = in_turn-passing (sum_event x e)
+pub one-event : (x : List ℕ) (e : Event) → summary_events x (e ∷ []) ≡ (if is_same_text x e.scalar then of_manner e.manner e.statement else passing)
+one-event x e = in_turn-passing (summary_event x e)
 
-cleared-more : (same among : Bool) (n : ℕ) → sum_in_turn (if same then of_manner clears n else passing) (if among then of_manner clears 0 else passing) ≡ (if same || among then of_manner clears 0 else passing)
+cleared-more : (same among : Bool) (n : ℕ) → summary_in_turn (if same then of_manner clears n else passing) (if among then of_manner clears 0 else passing) ≡ (if same || among then of_manner clears 0 else passing)
 cleared-more true true n = refl
 cleared-more true false n = refl
 cleared-more false true n = refl
 cleared-more false false n = refl
 
 -- scalars are cleared
-pub cleared : (x : List ℕ) (n : ℕ) (names : List (List ℕ)) → sum_events x (map (event n clears) names) ≡ (if is_among x names then of_manner clears 0 else passing)
+pub cleared : (x : List ℕ) (n : ℕ) (names : List (List ℕ)) → summary_events x (map (event n clears) names) ≡ (if is_among x names then of_manner clears 0 else passing)
 cleared x n [] = refl
-cleared x n (y ∷ ys) = ap (sum_in_turn (sum_event x (event n clears y))) (cleared x n ys) ∙ cleared-more (is_same_text x y) (is_among x ys) n
+cleared x n (y ∷ ys) = ap (summary_in_turn (summary_event x (event n clears y))) (cleared x n ys) ∙ cleared-more (is_same_text x y) (is_among x ys) n
 
 -- a list of at most one name
-read-one : (r c : Bool) (x y : List ℕ) (n : ℕ) → is_same_text x y ≡ r → sum_events x (reads_of n (if c then [] else y ∷ [])) ≡ (if is_among x (if c then [] else y ∷ []) then of_manner reads n else passing)
+read-one : (r c : Bool) (x y : List ℕ) (n : ℕ) → is_same_text x y ≡ r → summary_events x (reads_of n (if c then [] else y ∷ [])) ≡ (if is_among x (if c then [] else y ∷ []) then of_manner reads n else passing)
 read-one r true x y n h = refl
 read-one true false x y n h = one-event x (event n reads y) ∙ (λ i. if h i then of_manner reads n else passing) ∙ (λ i. if sym h i || false then of_manner reads n else passing)
 read-one false false x y n h = one-event x (event n reads y) ∙ (λ i. if h i then of_manner reads n else passing) ∙ (λ i. if sym h i || false then of_manner reads n else passing)
 
-pub read-unless : (x y : List ℕ) (c : Bool) (n : ℕ) → sum_events x (reads_of n (if c then [] else y ∷ [])) ≡ (if is_among x (if c then [] else y ∷ []) then of_manner reads n else passing)
+pub read-unless : (x y : List ℕ) (c : Bool) (n : ℕ) → summary_events x (reads_of n (if c then [] else y ∷ [])) ≡ (if is_among x (if c then [] else y ∷ []) then of_manner reads n else passing)
 read-unless x y c n = read-one (is_same_text x y) c x y n refl
 
-assign-one : (r c : Bool) (x y : List ℕ) (n : ℕ) → is_same_text x y ≡ r → sum_events x (map (event n assigns) (if c then [] else y ∷ [])) ≡ (if is_among x (if c then [] else y ∷ []) then of_manner assigns 0 else passing)
+assign-one : (r c : Bool) (x y : List ℕ) (n : ℕ) → is_same_text x y ≡ r → summary_events x (map (event n assigns) (if c then [] else y ∷ [])) ≡ (if is_among x (if c then [] else y ∷ []) then of_manner assigns 0 else passing)
 assign-one r true x y n h = refl
 assign-one true false x y n h = one-event x (event n assigns y) ∙ (λ i. if h i then of_manner assigns 0 else passing) ∙ (λ i. if sym h i || false then of_manner assigns 0 else passing)
 assign-one false false x y n h = one-event x (event n assigns y) ∙ (λ i. if h i then of_manner assigns 0 else passing) ∙ (λ i. if sym h i || false then of_manner assigns 0 else passing)
 
-pub assign-unless : (x y : List ℕ) (c : Bool) (n : ℕ) → sum_events x (map (event n assigns) (if c then [] else y ∷ [])) ≡ (if is_among x (if c then [] else y ∷ []) then of_manner assigns 0 else passing)
+pub assign-unless : (x y : List ℕ) (c : Bool) (n : ℕ) → summary_events x (map (event n assigns) (if c then [] else y ∷ [])) ≡ (if is_among x (if c then [] else y ∷ []) then of_manner assigns 0 else passing)
 assign-unless x y c n = assign-one (is_same_text x y) c x y n refl
 
 pub ruleset summing = (reads-append, events-append, in_turn-assoc, in_turn-passing)

@@ -7,7 +7,7 @@ use Rattle.ped_flow.specs.Rows.{Holds}
 use Rattle.ped_flow.specs.declared.summaries.Summary.{Summary}
 use Rattle.ped_flow.specs.declared.row_summaries.RowSummary.{RowSummary}
 use Rattle.ped_flow.proofs.Truths.{untrue, or_none}
-use Rattle.ped_flow.proofs.RowSums.{or_at, union_wide}
+use Rattle.ped_flow.proofs.RowSummaries.{or_at, union_wide}
 
 nothing_there : (a : Option ℕ) → is_some a ≡ false → a ≡ None
 nothing_there None h = refl

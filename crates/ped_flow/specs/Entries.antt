@@ -1,9 +1,9 @@
 -- What is known of each statement of a program, by its number, for the scalars that have places. Only contracts of private functions use these definitions.
-use Rattle.std.specs.Prelude.{◌≡◌, ℕ, ◌+◌, ◌<◌, ◌≤◌, ◌⊎◌, List, Bool, true, false, Option, Some, None, is_some, slice_index_or}
+use Rattle.std.specs.Prelude.{◌≡◌, ℕ, ◌+◌, ◌<◌, ◌≤◌, ◌⊎◌, List, Bool, true, false, Option, Some, None, slice_index_or}
 use Rattle.ped_tree.specs.Tree.{StmtTree, StmtTrees, Assign, If, Do, Print, Read, Stop, Comment, no_stmts, more_stmts}
 use Rattle.ped_tree.specs.Numbering.{all_numbered, at_place, statement_count, statements_count}
 use Rattle.ped_tree.specs.NamesIn.{loop_variables}
-use Rattle.ped_flow.specs.Summaries.{passing, sum_of}
+use Rattle.ped_flow.specs.Summaries.{passing, summary_of}
 use Rattle.ped_flow.specs.Kept.{first_outside}
 use Rattle.ped_flow.specs.RowPlaces.{place_of, bit}
 use Rattle.ped_flow.specs.RowMarks.{names_in, constants_in}
@@ -28,16 +28,15 @@ is_do (Comment text) = false
 
 -- this is known of the statement with a number
 pub record IsEntry (p : Places) (e : Entry) (s : StmtTree) (n : ℕ) : Type 0 where
-  pub part : IsPart (names_in p) e.part (λ x. sum_of (constants_in p) x s n) (λ x. first_outside (constants_in p) x s n) (loop_variables s)
-  pub touched : (x : List ℕ) (i : ℕ) → place_of (names_in p) x ≡ Some i → bit e.touched i ≡ false → sum_of (constants_in p) x s n ≡ passing
+  pub part : IsPart (names_in p) e.part (λ x. summary_of (constants_in p) x s n) (λ x. first_outside (constants_in p) x s n) (loop_variables s)
+  pub touched : (x : List ℕ) (i : ℕ) → place_of (names_in p) x ≡ Some i → bit e.touched i ≡ false → summary_of (constants_in p) x s n ≡ passing
   pub behind : e.behind ≡ n + statement_count s
 
--- this is known of the statement with a number, by a table
-pub record IsEntered (p : Places) (table : List (Option Entry)) (s : StmtTree) (n : ℕ) : Type 0 where
-  pub there : is_some (entry_at table n) ≡ true
-  pub is : (e : Entry) → entry_at table n ≡ Some e → IsEntry p e s n
+-- what a table knows of the statement with a number, if anything, is true of it
+abbrev pub IsEntered : Places → List (Option Entry) → StmtTree → ℕ → Type 0
+IsEntered p table s n = (e : Entry) → entry_at table n ≡ Some e → IsEntry p e s n
 
--- a table knows of a statement with a number and of those in it
+-- what a table knows of a statement with a number and of those in it is true
 abbrev mutual
   pub Knows : Places → List (Option Entry) → StmtTree → ℕ → Type 0
   Knows p table (Assign left right) n = IsEntered p table (Assign left right) n

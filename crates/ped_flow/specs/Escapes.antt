@@ -5,7 +5,7 @@ use Rattle.ped_base.specs.Lists.{is_same_text, is_among}
 use Rattle.ped_tree.specs.Tree.{Head, StmtTrees, ProgramTree}
 use Rattle.ped_tree.specs.Accesses.{constant_names}
 use Rattle.ped_tree.specs.NamesIn.{saved_in}
-use Rattle.ped_flow.specs.Summaries.{least_of, sum_behind_all}
+use Rattle.ped_flow.specs.Summaries.{least_of, summary_behind_all}
 use Rattle.ped_flow.specs.Kept.{unless, all_first_outside, reader_by}
 use Rattle.ped_flow.specs.declared.summaries.Summary.{Summary}
 use Rattle.ped_flow.specs.declared.escapes.Escape.{Escape}
@@ -13,7 +13,7 @@ use Rattle.ped_flow.specs.declared.flows.Reader.{Reader}
 
 -- what the paths from the exit of a DO do to a scalar
 abbrev pub behind_loop : ProgramTree → ℕ → List ℕ → Summary
-behind_loop t l x = sum_behind_all (constant_names t.decls) x l t.body 1
+behind_loop t l x = summary_behind_all (constant_names t.decls) x l t.body 1
 
 -- the first read of a scalar by which a DO isn't contained, and whether the program's end may show the scalar
 abbrev pub escape_of : ProgramTree → ℕ → Head → StmtTrees → List ℕ → Escape

@@ -11,4 +11,4 @@ use Rattle.ped_flow.specs.declared.entries.Entry.{Entry}
 pub record IsMade (given : Part) (number : ℕ) (e : Entry) : Type 0 where
   pub part : e.part ≡ given
   pub behind : e.behind ≡ number
-  pub touched : (i : ℕ) (m : Summary) → Holds given.sums i m → bit e.touched i ≡ false → m ≡ passing
+  pub touched : (i : ℕ) (m : Summary) → Holds given.summaries i m → bit e.touched i ≡ false → m ≡ passing

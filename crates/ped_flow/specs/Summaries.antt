@@ -54,8 +54,8 @@ when true n = n
 when false n = None
 
 -- one part and then another
-abbrev pub sum_in_turn : Summary → Summary → Summary
-sum_in_turn a b = record {
+abbrev pub summary_in_turn : Summary → Summary → Summary
+summary_in_turn a b = record {
   first = least_of a.first (when a.keeps b.first);
   keeps = a.keeps && b.keeps;
   ends = a.ends || (a.keeps && b.ends);
@@ -64,8 +64,8 @@ sum_in_turn a b = record {
 }
 
 -- either part
-abbrev pub sum_either : Summary → Summary → Summary
-sum_either a b = record {
+abbrev pub summary_either : Summary → Summary → Summary
+summary_either a b = record {
   first = least_of a.first b.first;
   keeps = a.keeps || b.keeps;
   ends = a.ends || b.ends;
@@ -74,82 +74,82 @@ sum_either a b = record {
 }
 
 -- any number of trips
-abbrev pub sum_trips : Summary → Summary
-sum_trips a = record { first = a.first; keeps = true; ends = a.ends; passes = true; loses = a.loses }
+abbrev pub summary_trips : Summary → Summary
+summary_trips a = record { first = a.first; keeps = true; ends = a.ends; passes = true; loses = a.loses }
 
 -- an event
-abbrev pub sum_event : List ℕ → Event → Summary
-sum_event x e = if is_same_text x e.scalar then of_manner e.manner e.statement else passing
+abbrev pub summary_event : List ℕ → Event → Summary
+summary_event x e = if is_same_text x e.scalar then of_manner e.manner e.statement else passing
 
 -- events in order
-abbrev pub sum_events : List ℕ → List Event → Summary
-sum_events x [] = passing
-sum_events x (e ∷ rest) = sum_in_turn (sum_event x e) (sum_events x rest)
+abbrev pub summary_events : List ℕ → List Event → Summary
+summary_events x [] = passing
+summary_events x (e ∷ rest) = summary_in_turn (summary_event x e) (summary_events x rest)
 
 -- the trips of a DO, from what its body does, and then its exit
-abbrev pub sum_loop : List ℕ → ℕ → Head → StmtTrees → Summary → Summary
-sum_loop x n h body sum_of_body =
-    sum_in_turn (sum_trips (sum_in_turn (sum_events x (start_events n h body)) sum_of_body)) (sum_events x (exit_events n h body))
+abbrev pub summary_loop : List ℕ → ℕ → Head → StmtTrees → Summary → Summary
+summary_loop x n h body summary_of_body =
+    summary_in_turn (summary_trips (summary_in_turn (summary_events x (start_events n h body)) summary_of_body)) (summary_events x (exit_events n h body))
 
 -- a statement with this number
 abbrev mutual
-  pub sum_of : List (List ℕ) → List ℕ → StmtTree → ℕ → Summary
-  sum_of constants x (Assign left right) n = sum_events x (own_events constants n (Assign left right))
-  sum_of constants x (If condition then_part else_part) n =
-      sum_in_turn (sum_events x (own_events constants n (If condition then_part else_part)))
-      (sum_either (sum_of_all constants x then_part (n + 1)) (sum_of_all constants x else_part (n + 1 + statements_count then_part)))
-  sum_of constants x (Do h body) n =
-      sum_in_turn (sum_events x (own_events constants n (Do h body))) (sum_loop x n h body (sum_of_all constants x body (n + 1)))
-  sum_of constants x (Print items) n = sum_events x (own_events constants n (Print items))
-  sum_of constants x (Read items) n = sum_events x (own_events constants n (Read items))
-  sum_of constants x Stop n = stopped
-  sum_of constants x (Comment text) n = passing
+  pub summary_of : List (List ℕ) → List ℕ → StmtTree → ℕ → Summary
+  summary_of constants x (Assign left right) n = summary_events x (own_events constants n (Assign left right))
+  summary_of constants x (If condition then_part else_part) n =
+      summary_in_turn (summary_events x (own_events constants n (If condition then_part else_part)))
+      (summary_either (summary_of_all constants x then_part (n + 1)) (summary_of_all constants x else_part (n + 1 + statements_count then_part)))
+  summary_of constants x (Do h body) n =
+      summary_in_turn (summary_events x (own_events constants n (Do h body))) (summary_loop x n h body (summary_of_all constants x body (n + 1)))
+  summary_of constants x (Print items) n = summary_events x (own_events constants n (Print items))
+  summary_of constants x (Read items) n = summary_events x (own_events constants n (Read items))
+  summary_of constants x Stop n = stopped
+  summary_of constants x (Comment text) n = passing
 
   -- statements, of which the first has this number
-  pub sum_of_all : List (List ℕ) → List ℕ → StmtTrees → ℕ → Summary
-  sum_of_all constants x no_stmts n = passing
-  sum_of_all constants x (more_stmts s rest) n = sum_in_turn (sum_of constants x s n) (sum_of_all constants x rest (n + statement_count s))
+  pub summary_of_all : List (List ℕ) → List ℕ → StmtTrees → ℕ → Summary
+  summary_of_all constants x no_stmts n = passing
+  summary_of_all constants x (more_stmts s rest) n = summary_in_turn (summary_of constants x s n) (summary_of_all constants x rest (n + statement_count s))
 
 -- where this is so, a path on which nothing happens; else no path
-abbrev pub sum_at_once : Bool → Summary
-sum_at_once true = passing
-sum_at_once false = unreached
+abbrev pub summary_at_once : Bool → Summary
+summary_at_once true = passing
+summary_at_once false = unreached
 
 -- the paths from the exit of a DO in a statement with this number
 abbrev mutual
-  pub sum_behind : List (List ℕ) → List ℕ → ℕ → StmtTree → ℕ → Summary
-  sum_behind constants x l (Assign left right) n = unreached
-  sum_behind constants x l (If condition then_part else_part) n =
-      sum_either (sum_behind_all constants x l then_part (n + 1)) (sum_behind_all constants x l else_part (n + 1 + statements_count then_part))
-  sum_behind constants x l (Do h body) n =
-      sum_either (sum_at_once (l == n)) (sum_in_turn (sum_behind_all constants x l body (n + 1)) (sum_loop x n h body (sum_of_all constants x body (n + 1))))
-  sum_behind constants x l (Print items) n = unreached
-  sum_behind constants x l (Read items) n = unreached
-  sum_behind constants x l Stop n = unreached
-  sum_behind constants x l (Comment text) n = unreached
+  pub summary_behind : List (List ℕ) → List ℕ → ℕ → StmtTree → ℕ → Summary
+  summary_behind constants x l (Assign left right) n = unreached
+  summary_behind constants x l (If condition then_part else_part) n =
+      summary_either (summary_behind_all constants x l then_part (n + 1)) (summary_behind_all constants x l else_part (n + 1 + statements_count then_part))
+  summary_behind constants x l (Do h body) n =
+      summary_either (summary_at_once (l == n)) (summary_in_turn (summary_behind_all constants x l body (n + 1)) (summary_loop x n h body (summary_of_all constants x body (n + 1))))
+  summary_behind constants x l (Print items) n = unreached
+  summary_behind constants x l (Read items) n = unreached
+  summary_behind constants x l Stop n = unreached
+  summary_behind constants x l (Comment text) n = unreached
 
   -- the paths from the exit of a DO in statements, of which the first has this number
-  pub sum_behind_all : List (List ℕ) → List ℕ → ℕ → StmtTrees → ℕ → Summary
-  sum_behind_all constants x l no_stmts n = unreached
-  sum_behind_all constants x l (more_stmts s rest) n =
-      sum_either (sum_in_turn (sum_behind constants x l s n) (sum_of_all constants x rest (n + statement_count s)))
-      (sum_behind_all constants x l rest (n + statement_count s))
+  pub summary_behind_all : List (List ℕ) → List ℕ → ℕ → StmtTrees → ℕ → Summary
+  summary_behind_all constants x l no_stmts n = unreached
+  summary_behind_all constants x l (more_stmts s rest) n =
+      summary_either (summary_in_turn (summary_behind constants x l s n) (summary_of_all constants x rest (n + statement_count s)))
+      (summary_behind_all constants x l rest (n + statement_count s))
 
 -- the paths to the outermost DO in a statement with this number
 abbrev mutual
-  pub sum_before : List (List ℕ) → List ℕ → ℕ → StmtTree → ℕ → Summary
-  sum_before constants x l (Assign left right) n = unreached
-  sum_before constants x l (If condition then_part else_part) n =
-      sum_in_turn (sum_events x (own_events constants n (If condition then_part else_part)))
-      (sum_either (sum_before_all constants x l then_part (n + 1)) (sum_before_all constants x l else_part (n + 1 + statements_count then_part)))
-  sum_before constants x l (Do h body) n = sum_at_once (nat_le n l && nat_le l (n + statements_count body))
-  sum_before constants x l (Print items) n = unreached
-  sum_before constants x l (Read items) n = unreached
-  sum_before constants x l Stop n = unreached
-  sum_before constants x l (Comment text) n = unreached
+  pub summary_before : List (List ℕ) → List ℕ → ℕ → StmtTree → ℕ → Summary
+  summary_before constants x l (Assign left right) n = unreached
+  summary_before constants x l (If condition then_part else_part) n =
+      summary_in_turn (summary_events x (own_events constants n (If condition then_part else_part)))
+      (summary_either (summary_before_all constants x l then_part (n + 1)) (summary_before_all constants x l else_part (n + 1 + statements_count then_part)))
+  summary_before constants x l (Do h body) n = summary_at_once (nat_le n l && nat_le l (n + statements_count body))
+  summary_before constants x l (Print items) n = unreached
+  summary_before constants x l (Read items) n = unreached
+  summary_before constants x l Stop n = unreached
+  summary_before constants x l (Comment text) n = unreached
 
   -- the paths to the outermost DO among statements, of which the first has this number
-  pub sum_before_all : List (List ℕ) → List ℕ → ℕ → StmtTrees → ℕ → Summary
-  sum_before_all constants x l no_stmts n = unreached
-  sum_before_all constants x l (more_stmts s rest) n =
-      sum_either (sum_before constants x l s n) (sum_in_turn (sum_of constants x s n) (sum_before_all constants x l rest (n + statement_count s)))
+  pub summary_before_all : List (List ℕ) → List ℕ → ℕ → StmtTrees → ℕ → Summary
+  summary_before_all constants x l no_stmts n = unreached
+  summary_before_all constants x l (more_stmts s rest) n =
+      summary_either (summary_before constants x l s n) (summary_in_turn (summary_of constants x s n) (summary_before_all constants x l rest (n + statement_count s)))

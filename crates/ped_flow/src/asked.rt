@@ -1,9 +1,13 @@
 //! The scalar of a question, with what is known of the statements of its program.
 
-ghost use Rattle.std.specs.Prelude.{◌≡◌};
+ghost use Rattle.std.specs.Prelude.{◌≡◌, map};
+ghost use Rattle.ped_base.specs.Lists.{is_among};
+ghost use Rattle.ped_tree.specs.Accesses.{constant_names};
+ghost use Rattle.ped_tree.specs.Views.{decl_tree};
 ghost use Rattle.ped_flow.specs.RowPlaces.{place_of};
 ghost use Rattle.ped_flow.specs.RowMarks.{names_in};
 
+use crate::decls::is_constant;
 use crate::entries::Entry;
 use crate::places::Places;
 use ped_base::Name;
@@ -12,12 +16,15 @@ use ped_base::Name;
 #[derive(Drop)]
 pub(crate) struct Scalar<'a> {
     pub(crate) name: &'a Name,
+    /// Whether it is a named constant, and so no scalar.
+    pub(crate) constant: bool,
     /// The scalars of its program that have a place in rows, with the declarations.
     pub(crate) places: &'a Places<'a>,
     /// Its place, where it has one.
     pub(crate) place: Option<usize>,
     /// What is known of the statements of its program, by their numbers.
     pub(crate) table: &'a [Option<Entry>],
+    ghost constant_or_not: { constant ≡ is_among name.now (constant_names (map decl_tree places.now.decls.now)) },
     ghost placed: { place ≡ place_of (names_in places.now) name.now },
 }
 
@@ -33,6 +40,7 @@ pub(crate) fn scalar_by<'a>(
 {
     Scalar {
         name,
+        constant: is_constant(name, places.decls),
         places,
         place: places.names.place(name),
         table,

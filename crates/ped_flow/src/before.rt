@@ -21,7 +21,7 @@ use ped_tree::{Stmt, count_statements};
 pub(crate) fn before_all(scalar: &Scalar, l: u32, body: &[Stmt], number: &mut u32) -> Summary
     requires few { number.old + statements_count (stmt_trees body.now) < 2 ^ 32 }
     requires known { AreKnown scalar.now (stmt_trees body.now) number.old }
-    ensures sum { result ≡ Spec.sum_before_all (constants_of scalar.now) (name_of scalar.now) l (stmt_trees body.now) number.old }
+    ensures sum { result ≡ Spec.summary_before_all (constants_of scalar.now) (name_of scalar.now) l (stmt_trees body.now) number.old }
     ensures number { number.new ≡ number.old + statements_count (stmt_trees body.now) }
 {
     let mut summary = Summary::unreached();
@@ -41,7 +41,7 @@ pub(crate) fn before_all(scalar: &Scalar, l: u32, body: &[Stmt], number: &mut u3
 fn before(scalar: &Scalar, l: u32, s: &Stmt, number: &mut u32) -> Summary
     requires few { number.old + statement_count (stmt_tree s.now) < 2 ^ 32 }
     requires known { IsKnown scalar.now (stmt_tree s.now) number.old }
-    ensures sum { result ≡ Spec.sum_before (constants_of scalar.now) (name_of scalar.now) l (stmt_tree s.now) number.old }
+    ensures sum { result ≡ Spec.summary_before (constants_of scalar.now) (name_of scalar.now) l (stmt_tree s.now) number.old }
     ensures number { number.new ≡ number.old + statement_count (stmt_tree s.now) }
 {
     match off_way(scalar, l, s, *number) {
@@ -59,7 +59,7 @@ fn before(scalar: &Scalar, l: u32, s: &Stmt, number: &mut u32) -> Summary
 /// scalar, or which is another loop.
 fn off_way(scalar: &Scalar, l: u32, s: &Stmt, number: u32) -> Option<u32>
     requires { IsKnown scalar.now (stmt_tree s.now) number }
-    ensures unreached { IfSome result (λ next. Spec.sum_before (constants_of scalar.now) (name_of scalar.now) l (stmt_tree s.now) number ≡ Spec.unreached) }
+    ensures unreached { IfSome result (λ next. Spec.summary_before (constants_of scalar.now) (name_of scalar.now) l (stmt_tree s.now) number ≡ Spec.unreached) }
     ensures number { IfSome result (λ next. next ≡ number + statement_count (stmt_tree s.now)) }
 {
     match elsewhere(scalar, l, s, number) {
@@ -113,7 +113,7 @@ fn is_loop(s: &Stmt) -> bool
 fn before_inside(scalar: &Scalar, l: u32, s: &Stmt, number: &mut u32) -> Summary
     requires few { number.old + statement_count (stmt_tree s.now) < 2 ^ 32 }
     requires known { IsKnown scalar.now (stmt_tree s.now) number.old }
-    ensures sum { result ≡ Spec.sum_before (constants_of scalar.now) (name_of scalar.now) l (stmt_tree s.now) number.old }
+    ensures sum { result ≡ Spec.summary_before (constants_of scalar.now) (name_of scalar.now) l (stmt_tree s.now) number.old }
     ensures number { number.new ≡ number.old + statement_count (stmt_tree s.now) }
 {
     let own = *number;

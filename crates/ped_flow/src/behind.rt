@@ -20,7 +20,7 @@ use ped_tree::{Do, Stmt};
 pub(crate) fn behind_all(scalar: &Scalar, l: u32, body: &[Stmt], number: &mut u32) -> Summary
     requires few { number.old + statements_count (stmt_trees body.now) < 2 ^ 32 }
     requires known { AreKnown scalar.now (stmt_trees body.now) number.old }
-    ensures sum { result ≡ Spec.sum_behind_all (constants_of scalar.now) (name_of scalar.now) l (stmt_trees body.now) number.old }
+    ensures sum { result ≡ Spec.summary_behind_all (constants_of scalar.now) (name_of scalar.now) l (stmt_trees body.now) number.old }
     ensures number { number.new ≡ number.old + statements_count (stmt_trees body.now) }
 {
     let mut summary = Summary::unreached();
@@ -36,7 +36,7 @@ pub(crate) fn behind_all(scalar: &Scalar, l: u32, body: &[Stmt], number: &mut u3
 fn through(scalar: &Scalar, before: Summary, s: &Stmt, number: u32) -> Summary
     requires few { number + statement_count (stmt_tree s.now) < 2 ^ 32 }
     requires known { IsKnown scalar.now (stmt_tree s.now) number }
-    ensures { result ≡ Spec.sum_in_turn before (Spec.sum_of (constants_of scalar.now) (name_of scalar.now) (stmt_tree s.now) number) }
+    ensures { result ≡ Spec.summary_in_turn before (Spec.summary_of (constants_of scalar.now) (name_of scalar.now) (stmt_tree s.now) number) }
 {
     if before.is_cut() {
         return before;
@@ -51,7 +51,7 @@ fn through(scalar: &Scalar, before: Summary, s: &Stmt, number: u32) -> Summary
 fn behind(scalar: &Scalar, l: u32, s: &Stmt, number: &mut u32) -> Summary
     requires few { number.old + statement_count (stmt_tree s.now) < 2 ^ 32 }
     requires known { IsKnown scalar.now (stmt_tree s.now) number.old }
-    ensures sum { result ≡ Spec.sum_behind (constants_of scalar.now) (name_of scalar.now) l (stmt_tree s.now) number.old }
+    ensures sum { result ≡ Spec.summary_behind (constants_of scalar.now) (name_of scalar.now) l (stmt_tree s.now) number.old }
     ensures number { number.new ≡ number.old + statement_count (stmt_tree s.now) }
 {
     match elsewhere(scalar, l, s, *number) {
@@ -70,7 +70,7 @@ fn behind(scalar: &Scalar, l: u32, s: &Stmt, number: &mut u32) -> Summary
 fn behind_inside(scalar: &Scalar, l: u32, s: &Stmt, number: &mut u32) -> Summary
     requires few { number.old + statement_count (stmt_tree s.now) < 2 ^ 32 }
     requires known { IsKnown scalar.now (stmt_tree s.now) number.old }
-    ensures sum { result ≡ Spec.sum_behind (constants_of scalar.now) (name_of scalar.now) l (stmt_tree s.now) number.old }
+    ensures sum { result ≡ Spec.summary_behind (constants_of scalar.now) (name_of scalar.now) l (stmt_tree s.now) number.old }
     ensures number { number.new ≡ number.old + statement_count (stmt_tree s.now) }
 {
     let own = *number;
@@ -114,7 +114,7 @@ fn behind_inside(scalar: &Scalar, l: u32, s: &Stmt, number: &mut u32) -> Summary
 
 /// Where this is so, a path on which nothing happens; else no path.
 pub(crate) fn at_once(test: bool) -> Summary
-    ensures { result ≡ Spec.sum_at_once test }
+    ensures { result ≡ Spec.summary_at_once test }
 {
     if test {
         return Summary::passing();
@@ -127,7 +127,7 @@ pub(crate) fn at_once(test: bool) -> Summary
 fn further(scalar: &Scalar, before: Summary, d: &Do, number: u32) -> Summary
     requires few { number + 1 + statements_count (stmt_trees d.now.body.items) < 2 ^ 32 }
     requires known { AreKnown scalar.now (stmt_trees d.now.body.items) (number + 1) }
-    ensures { result ≡ Spec.sum_in_turn before (Spec.sum_loop (name_of scalar.now) number (head_of d.now) (stmt_trees d.now.body.items) (Spec.sum_of_all (constants_of scalar.now) (name_of scalar.now) (stmt_trees d.now.body.items) (number + 1))) }
+    ensures { result ≡ Spec.summary_in_turn before (Spec.summary_loop (name_of scalar.now) number (head_of d.now) (stmt_trees d.now.body.items) (Spec.summary_of_all (constants_of scalar.now) (name_of scalar.now) (stmt_trees d.now.body.items) (number + 1))) }
 {
     if before.is_cut() {
         return before;

@@ -17,7 +17,7 @@ pub(crate) struct Entry {
     pub(crate) touched: Row,
     /// The number of the statement after it.
     pub(crate) behind: u32,
-    ghost touched_wide: { length touched ≡ part.sums.width },
+    ghost touched_wide: { length touched ≡ part.summaries.width },
 }
 
 impl Entry {
@@ -28,11 +28,11 @@ impl Entry {
     pub(crate) fn new(alloc: Global, part: Part, behind: u32) -> Result<Entry, NoMemory>
         ensures { IfOk result (IsMade part behind) }
     {
-        let mut touched = copied(alloc, &part.sums.reads)?;
-        part.sums.overwritten.or_into(&mut touched);
-        part.sums.ends.or_into(&mut touched);
-        part.sums.blocked.or_into(&mut touched);
-        part.sums.loses.or_into(&mut touched);
+        let mut touched = copied(alloc, &part.summaries.reads)?;
+        part.summaries.overwritten.or_into(&mut touched);
+        part.summaries.ends.or_into(&mut touched);
+        part.summaries.blocked.or_into(&mut touched);
+        part.summaries.loses.or_into(&mut touched);
         Ok(Entry {
             part,
             touched,

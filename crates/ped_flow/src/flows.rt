@@ -23,6 +23,7 @@ use crate::asked::{Scalar, scalar_by};
 use crate::before::before_all;
 use crate::behind::behind_all;
 use crate::collecting::place_statements;
+use crate::crowds::is_crowded;
 use crate::decls::is_saved;
 use crate::entries::Entry;
 use crate::escapes::{Numbered, escaping};
@@ -71,20 +72,25 @@ pub fn flow_of<'a>(alloc: Global, program: &'a Program) -> Result<Flow<'a>, NoMe
     })
 }
 
-/// The scalars of a program.
+/// The scalars of a program, where rows for them pay.
 fn places_of<'a>(alloc: Global, program: &'a Program) -> Result<Places<'a>, NoMemory>
     ensures { IfOk result (λ places. constants_in places ≡ constant_names (program_tree program.now).decls) }
 {
     let mut places = Places::new(alloc, &program.decls);
-    place_statements(&mut places, &program.body)?;
+    if is_crowded(&program.body) {
+        place_statements(&mut places, &program.body)?;
+    }
     Ok(places)
 }
 
-/// What is known of the statements of a program, of which the first has number 1.
+/// What is known of the statements of a program, of which the first has number 1: nothing where rows don't pay.
 fn table_of(alloc: Global, places: &Places, body: &[Stmt]) -> Result<Vec<Option<Entry>>, NoMemory>
     requires { statements_count (stmt_trees body.now) + 1 < 2 ^ 32 }
     ensures { IfOk result (λ table. KnowsAll places.now table.items (stmt_trees body.now) 1) }
 {
+    if !is_crowded(body) {
+        return Ok(Vec::new(alloc));
+    }
     let mut table = empty_table(alloc, count_statements(body) + 1)?;
     let mut number = 1;
     all_parts(alloc, places, &mut table, body, &mut number)?;
@@ -194,7 +200,7 @@ impl<'a> Flow<'a> {
 /// What the paths from the exit of a loop to the end do to a scalar.
 pub(crate) fn walk_behind(flow: &Flow, l: u32, name: &Name) -> Summary
     requires { statements_count (program_tree flow.now.program.now).body + 1 < 2 ^ 32 }
-    ensures { result ≡ Spec.sum_behind_all (constant_names (program_tree flow.now.program.now).decls) name.now l (program_tree flow.now.program.now).body 1 }
+    ensures { result ≡ Spec.summary_behind_all (constant_names (program_tree flow.now.program.now).decls) name.now l (program_tree flow.now.program.now).body 1 }
 {
     let scalar = scalar_of(flow, name);
     let mut place = 1;
@@ -204,7 +210,7 @@ pub(crate) fn walk_behind(flow: &Flow, l: u32, name: &Name) -> Summary
 /// What the paths to the outermost loop do to a scalar.
 fn walk_before(flow: &Flow, l: u32, name: &Name) -> Summary
     requires { statements_count (program_tree flow.now.program.now).body + 1 < 2 ^ 32 }
-    ensures { result ≡ Spec.sum_before_all (constant_names (program_tree flow.now.program.now).decls) name.now l (program_tree flow.now.program.now).body 1 }
+    ensures { result ≡ Spec.summary_before_all (constant_names (program_tree flow.now.program.now).decls) name.now l (program_tree flow.now.program.now).body 1 }
 {
     let scalar = scalar_of(flow, name);
     let mut place = 1;

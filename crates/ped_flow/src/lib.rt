@@ -1,12 +1,13 @@
-//! Scalar flow over all paths of a program. The definitions are in `specs/`. In one pass, `flow_of` records in rows of
-//! bits what the paths of each statement do to the first 4,096 scalars. A question is a walk for one scalar. It skips
-//! the statements that do nothing to the scalar according to the rows.
+//! Scalar flow over all paths of a program. The definitions are in `specs/`. A question is a walk for one scalar. Where a
+//! loop has many others in it, `flow_of` records first, in rows of bits, what the paths of each statement do to the first
+//! 4,096 scalars. A walk skips the statements that do nothing to its scalar according to the rows.
 #![tactic(auto)]
 
 mod asked;
 mod before;
 mod behind;
 mod collecting;
+mod crowds;
 mod decls;
 mod entries;
 mod escapes;

@@ -12,13 +12,13 @@ use std::alloc::Global;
 #[derive(Drop)]
 pub(crate) struct Part {
     /// What its paths do to them.
-    pub(crate) sums: RowSummary,
+    pub(crate) summaries: RowSummary,
     /// Those that it reads outside the bodies of all loops of them in it.
     pub(crate) loose: Row,
     /// The variables of its loops.
     pub(crate) indices: Row,
-    ghost loose_wide: { length loose ≡ sums.width },
-    ghost indices_wide: { length indices ≡ sums.width },
+    ghost loose_wide: { length loose ≡ summaries.width },
+    ghost indices_wide: { length indices ≡ summaries.width },
 }
 
 impl Part {
@@ -34,9 +34,9 @@ impl Part {
     {
         let loose = Row::new(alloc, width)?;
         let indices = Row::new(alloc, width)?;
-        let sums = RowSummary::passing(alloc, width)?;
+        let summaries = RowSummary::passing(alloc, width)?;
         Ok(Part {
-            sums,
+            summaries,
             loose,
             indices,
         })
@@ -48,9 +48,9 @@ impl Part {
     {
         let loose = Row::new(alloc, width)?;
         let indices = Row::new(alloc, width)?;
-        let sums = RowSummary::stopped(alloc, width)?;
+        let summaries = RowSummary::stopped(alloc, width)?;
         Ok(Part {
-            sums,
+            summaries,
             loose,
             indices,
         })
@@ -63,9 +63,9 @@ impl Part {
     {
         let loose = copied(alloc, &reads)?;
         let indices = Row::new(alloc, reads.width())?;
-        let sums = RowSummary::of_events(alloc, reads, assigned)?;
+        let summaries = RowSummary::of_events(alloc, reads, assigned)?;
         Ok(Part {
-            sums,
+            summaries,
             loose,
             indices,
         })
@@ -73,11 +73,11 @@ impl Part {
 
     /// This part and then another.
     pub(crate) fn then(&mut self, alloc: Global, next: &Part) -> Result<(), NoMemory>
-        requires { self.old.sums.width ≡ next.now.sums.width }
-        ensures width { self.new.sums.width ≡ self.old.sums.width }
-        ensures part { OnOk result ((names : List (List ℕ)) (f g : List ℕ → Summary) (o q : List ℕ → Option ℕ) (u v : List (List ℕ)) → IsPart names self.old f o u → IsPart names next.now g q v → IsPart names self.new (λ x. Spec.sum_in_turn (f x) (g x)) (λ x. Spec.least_of (o x) (q x)) (u ++ v)) }
+        requires { self.old.summaries.width ≡ next.now.summaries.width }
+        ensures width { self.new.summaries.width ≡ self.old.summaries.width }
+        ensures part { OnOk result ((names : List (List ℕ)) (f g : List ℕ → Summary) (o q : List ℕ → Option ℕ) (u v : List (List ℕ)) → IsPart names self.old f o u → IsPart names next.now g q v → IsPart names self.new (λ x. Spec.summary_in_turn (f x) (g x)) (λ x. Spec.least_of (o x) (q x)) (u ++ v)) }
     {
-        self.sums.then(alloc, &next.sums)?;
+        self.summaries.then(alloc, &next.summaries)?;
         next.loose.or_into(&mut self.loose);
         next.indices.or_into(&mut self.indices);
         Ok(())
@@ -85,8 +85,8 @@ impl Part {
 
     /// This part and then another, where there is memory for both.
     pub(crate) fn followed(self, alloc: Global, next: &Part) -> Result<Part, NoMemory>
-        requires { self.sums.width ≡ next.now.sums.width }
-        ensures { IfOk result (λ p. (names : List (List ℕ)) (f g : List ℕ → Summary) (o q : List ℕ → Option ℕ) (u v : List (List ℕ)) → IsPart names self f o u → IsPart names next.now g q v → IsPart names p (λ x. Spec.sum_in_turn (f x) (g x)) (λ x. Spec.least_of (o x) (q x)) (u ++ v)) }
+        requires { self.summaries.width ≡ next.now.summaries.width }
+        ensures { IfOk result (λ p. (names : List (List ℕ)) (f g : List ℕ → Summary) (o q : List ℕ → Option ℕ) (u v : List (List ℕ)) → IsPart names self f o u → IsPart names next.now g q v → IsPart names p (λ x. Spec.summary_in_turn (f x) (g x)) (λ x. Spec.least_of (o x) (q x)) (u ++ v)) }
     {
         let mut both = self;
         match both.then(alloc, next) {
@@ -102,9 +102,9 @@ impl Part {
 
     /// Either this part or another, where there is memory for both.
     pub(crate) fn either(self, alloc: Global, other: &Part) -> Result<Part, NoMemory>
-        requires { self.sums.width ≡ other.now.sums.width }
-        ensures width { IfOk result (λ p. p.sums.width ≡ self.sums.width) }
-        ensures part { IfOk result (λ p. (names : List (List ℕ)) (f g : List ℕ → Summary) (o q : List ℕ → Option ℕ) (u v : List (List ℕ)) → IsPart names self f o u → IsPart names other.now g q v → IsPart names p (λ x. Spec.sum_either (f x) (g x)) (λ x. Spec.least_of (o x) (q x)) (u ++ v)) }
+        requires { self.summaries.width ≡ other.now.summaries.width }
+        ensures width { IfOk result (λ p. p.summaries.width ≡ self.summaries.width) }
+        ensures part { IfOk result (λ p. (names : List (List ℕ)) (f g : List ℕ → Summary) (o q : List ℕ → Option ℕ) (u v : List (List ℕ)) → IsPart names self f o u → IsPart names other.now g q v → IsPart names p (λ x. Spec.summary_either (f x) (g x)) (λ x. Spec.least_of (o x) (q x)) (u ++ v)) }
     {
         let mut both = self;
         match both.or(alloc, other) {
@@ -120,11 +120,11 @@ impl Part {
 
     /// Either this part or another.
     pub(crate) fn or(&mut self, alloc: Global, other: &Part) -> Result<(), NoMemory>
-        requires { self.old.sums.width ≡ other.now.sums.width }
-        ensures width { self.new.sums.width ≡ self.old.sums.width }
-        ensures part { OnOk result ((names : List (List ℕ)) (f g : List ℕ → Summary) (o q : List ℕ → Option ℕ) (u v : List (List ℕ)) → IsPart names self.old f o u → IsPart names other.now g q v → IsPart names self.new (λ x. Spec.sum_either (f x) (g x)) (λ x. Spec.least_of (o x) (q x)) (u ++ v)) }
+        requires { self.old.summaries.width ≡ other.now.summaries.width }
+        ensures width { self.new.summaries.width ≡ self.old.summaries.width }
+        ensures part { OnOk result ((names : List (List ℕ)) (f g : List ℕ → Summary) (o q : List ℕ → Option ℕ) (u v : List (List ℕ)) → IsPart names self.old f o u → IsPart names other.now g q v → IsPart names self.new (λ x. Spec.summary_either (f x) (g x)) (λ x. Spec.least_of (o x) (q x)) (u ++ v)) }
     {
-        self.sums.or(alloc, &other.sums)?;
+        self.summaries.or(alloc, &other.summaries)?;
         other.loose.or_into(&mut self.loose);
         other.indices.or_into(&mut self.indices);
         Ok(())

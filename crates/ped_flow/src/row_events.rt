@@ -93,9 +93,9 @@ pub(crate) fn reading(alloc: Global, places: &Places, lefts: &[Expr]) -> Result<
 
 /// An item of a READ after those before it.
 fn add_item(alloc: Global, places: &Places, part: &mut Part, left: &Expr) -> Result<(), NoMemory>
-    requires { part.old.sums.width ≡ length (names_in places.now) }
-    ensures width { part.new.sums.width ≡ part.old.sums.width }
-    ensures part { OnOk result ((n : ℕ) (f : List ℕ → Summary) (o : List ℕ → Option ℕ) → IsPart (names_in places.now) part.old f o [] → IsPart (names_in places.now) part.new (λ x. Spec.sum_in_turn (f x) (Spec.sum_events x (Event.left_events (constants_in places.now) n (expr_tree left.now)))) (λ x. Spec.least_of (o x) (first_reader x (Event.left_events (constants_in places.now) n (expr_tree left.now)))) []) }
+    requires { part.old.summaries.width ≡ length (names_in places.now) }
+    ensures width { part.new.summaries.width ≡ part.old.summaries.width }
+    ensures part { OnOk result ((n : ℕ) (f : List ℕ → Summary) (o : List ℕ → Option ℕ) → IsPart (names_in places.now) part.old f o [] → IsPart (names_in places.now) part.new (λ x. Spec.summary_in_turn (f x) (Spec.summary_events x (Event.left_events (constants_in places.now) n (expr_tree left.now)))) (λ x. Spec.least_of (o x) (first_reader x (Event.left_events (constants_in places.now) n (expr_tree left.now)))) []) }
 {
     let item = reading_of(alloc, places, left)?;
     let done = part.then(alloc, &item);

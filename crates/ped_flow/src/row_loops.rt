@@ -33,8 +33,8 @@ pub(crate) fn loop_part(
     d: &Do,
     body: &Part,
 ) -> Result<Part, NoMemory>
-    requires { body.now.sums.width ≡ length (names_in places.now) }
-    ensures { IfOk result (λ p. (n : ℕ) (f : List ℕ → Summary) (o : List ℕ → Option ℕ) → IsPart (names_in places.now) body.now f o (all_loop_variables (stmt_trees d.now.body.items)) → IsPart (names_in places.now) p (λ x. Spec.sum_in_turn (Spec.sum_events x (Event.own_events (constants_in places.now) n (Tree.Do (head_of d.now) (stmt_trees d.now.body.items)))) (Spec.sum_loop x n (head_of d.now) (stmt_trees d.now.body.items) (f x))) (λ x. Spec.least_of (first_reader x (Event.own_events (constants_in places.now) n (Tree.Do (head_of d.now) (stmt_trees d.now.body.items)))) (unless (is_same_text x d.now.variable) (o x))) (d.now.variable ∷ all_loop_variables (stmt_trees d.now.body.items))) }
+    requires { body.now.summaries.width ≡ length (names_in places.now) }
+    ensures { IfOk result (λ p. (n : ℕ) (f : List ℕ → Summary) (o : List ℕ → Option ℕ) → IsPart (names_in places.now) body.now f o (all_loop_variables (stmt_trees d.now.body.items)) → IsPart (names_in places.now) p (λ x. Spec.summary_in_turn (Spec.summary_events x (Event.own_events (constants_in places.now) n (Tree.Do (head_of d.now) (stmt_trees d.now.body.items)))) (Spec.summary_loop x n (head_of d.now) (stmt_trees d.now.body.items) (f x))) (λ x. Spec.least_of (first_reader x (Event.own_events (constants_in places.now) n (Tree.Do (head_of d.now) (stmt_trees d.now.body.items)))) (unless (is_same_text x d.now.variable) (o x))) (d.now.variable ∷ all_loop_variables (stmt_trees d.now.body.items))) }
 {
     let trips = all_trips(alloc, places, d, body)?;
     let part = entered(alloc, places, d, &trips);
@@ -44,8 +44,8 @@ pub(crate) fn loop_part(
 
 /// The entry of a DO, and then its trips and its exit.
 fn entered(alloc: Global, places: &Places, d: &Do, trips: &Part) -> Result<Part, NoMemory>
-    requires { trips.now.sums.width ≡ length (names_in places.now) }
-    ensures { IfOk result (λ p. (n : ℕ) (g : List ℕ → Summary) (q : List ℕ → Option ℕ) (v : List (List ℕ)) → IsPart (names_in places.now) trips.now g q v → IsPart (names_in places.now) p (λ x. Spec.sum_in_turn (Spec.sum_events x (Event.own_events (constants_in places.now) n (Tree.Do (head_of d.now) (stmt_trees d.now.body.items)))) (g x)) (λ x. Spec.least_of (first_reader x (Event.own_events (constants_in places.now) n (Tree.Do (head_of d.now) (stmt_trees d.now.body.items)))) (q x)) v) }
+    requires { trips.now.summaries.width ≡ length (names_in places.now) }
+    ensures { IfOk result (λ p. (n : ℕ) (g : List ℕ → Summary) (q : List ℕ → Option ℕ) (v : List (List ℕ)) → IsPart (names_in places.now) trips.now g q v → IsPart (names_in places.now) p (λ x. Spec.summary_in_turn (Spec.summary_events x (Event.own_events (constants_in places.now) n (Tree.Do (head_of d.now) (stmt_trees d.now.body.items)))) (g x)) (λ x. Spec.least_of (first_reader x (Event.own_events (constants_in places.now) n (Tree.Do (head_of d.now) (stmt_trees d.now.body.items)))) (q x)) v) }
 {
     let part = entering(alloc, places, d)?;
     part.followed(alloc, trips)
@@ -53,9 +53,9 @@ fn entered(alloc: Global, places: &Places, d: &Do, trips: &Part) -> Result<Part,
 
 /// The trips of a DO and its exit, from what its body does.
 fn all_trips(alloc: Global, places: &Places, d: &Do, body: &Part) -> Result<Part, NoMemory>
-    requires { body.now.sums.width ≡ length (names_in places.now) }
-    ensures width { IfOk result (λ p. p.sums.width ≡ length (names_in places.now)) }
-    ensures part { IfOk result (λ p. (n : ℕ) (f : List ℕ → Summary) (o : List ℕ → Option ℕ) → IsPart (names_in places.now) body.now f o (all_loop_variables (stmt_trees d.now.body.items)) → IsPart (names_in places.now) p (λ x. Spec.sum_loop x n (head_of d.now) (stmt_trees d.now.body.items) (f x)) (λ x. unless (is_same_text x d.now.variable) (o x)) (d.now.variable ∷ all_loop_variables (stmt_trees d.now.body.items))) }
+    requires { body.now.summaries.width ≡ length (names_in places.now) }
+    ensures width { IfOk result (λ p. p.summaries.width ≡ length (names_in places.now)) }
+    ensures part { IfOk result (λ p. (n : ℕ) (f : List ℕ → Summary) (o : List ℕ → Option ℕ) → IsPart (names_in places.now) body.now f o (all_loop_variables (stmt_trees d.now.body.items)) → IsPart (names_in places.now) p (λ x. Spec.summary_loop x n (head_of d.now) (stmt_trees d.now.body.items) (f x)) (λ x. unless (is_same_text x d.now.variable) (o x)) (d.now.variable ∷ all_loop_variables (stmt_trees d.now.body.items))) }
 {
     let iteration = iterating(alloc, places, d, body)?;
     let part = tripping(alloc, places, d, body, &iteration);
@@ -92,19 +92,19 @@ fn left_by(alloc: Global, places: &Places, d: &Do, indices: &Row) -> Result<Row,
 
 /// An iteration of a DO, from what its body does.
 fn iterating(alloc: Global, places: &Places, d: &Do, body: &Part) -> Result<RowSummary, NoMemory>
-    requires { body.now.sums.width ≡ length (names_in places.now) }
+    requires { body.now.summaries.width ≡ length (names_in places.now) }
     ensures width { IfOk result (λ r. r.width ≡ length (names_in places.now)) }
-    ensures held { IfOk result (λ r. (n : ℕ) (f : List ℕ → Summary) (o : List ℕ → Option ℕ) → IsPart (names_in places.now) body.now f o (all_loop_variables (stmt_trees d.now.body.items)) → (x : List ℕ) (i : ℕ) → place_of (names_in places.now) x ≡ Some i → Holds r i (Spec.sum_in_turn (Spec.sum_events x (Event.start_events n (head_of d.now) (stmt_trees d.now.body.items))) (f x))) }
+    ensures held { IfOk result (λ r. (n : ℕ) (f : List ℕ → Summary) (o : List ℕ → Option ℕ) → IsPart (names_in places.now) body.now f o (all_loop_variables (stmt_trees d.now.body.items)) → (x : List ℕ) (i : ℕ) → place_of (names_in places.now) x ≡ Some i → Holds r i (Spec.summary_in_turn (Spec.summary_events x (Event.start_events n (head_of d.now) (stmt_trees d.now.body.items))) (f x))) }
 {
     let start = starting(alloc, places, d, &body.indices)?;
-    start.followed(alloc, &body.sums)
+    start.followed(alloc, &body.summaries)
 }
 
 /// The start of an iteration of a DO, with the variables of the loops in it.
 fn starting(alloc: Global, places: &Places, d: &Do, indices: &Row) -> Result<RowSummary, NoMemory>
     requires { length indices.now ≡ length (names_in places.now) }
     ensures width { IfOk result (λ r. r.width ≡ length (names_in places.now)) }
-    ensures held { IfOk result (λ r. (n : ℕ) → IsRowOf (names_in places.now) indices.now (all_loop_variables (stmt_trees d.now.body.items)) → (x : List ℕ) (i : ℕ) → place_of (names_in places.now) x ≡ Some i → Holds r i (Spec.sum_events x (Event.start_events n (head_of d.now) (stmt_trees d.now.body.items)))) }
+    ensures held { IfOk result (λ r. (n : ℕ) → IsRowOf (names_in places.now) indices.now (all_loop_variables (stmt_trees d.now.body.items)) → (x : List ℕ) (i : ℕ) → place_of (names_in places.now) x ≡ Some i → Holds r i (Spec.summary_events x (Event.start_events n (head_of d.now) (stmt_trees d.now.body.items)))) }
 {
     let copies = copies(alloc, places, d, indices)?;
     RowSummary::cleared(alloc, &copies)
@@ -118,17 +118,17 @@ fn tripping(
     body: &Part,
     iteration: &RowSummary,
 ) -> Result<Part, NoMemory>
-    requires body { body.now.sums.width ≡ length (names_in places.now) }
+    requires body { body.now.summaries.width ≡ length (names_in places.now) }
     requires iteration { iteration.now.width ≡ length (names_in places.now) }
-    ensures width { IfOk result (λ p. p.sums.width ≡ length (names_in places.now)) }
-    ensures part { IfOk result (λ p. (n : ℕ) (f : List ℕ → Summary) (o : List ℕ → Option ℕ) → IsPart (names_in places.now) body.now f o (all_loop_variables (stmt_trees d.now.body.items)) → ((x : List ℕ) (i : ℕ) → place_of (names_in places.now) x ≡ Some i → Holds iteration.now i (Spec.sum_in_turn (Spec.sum_events x (Event.start_events n (head_of d.now) (stmt_trees d.now.body.items))) (f x))) → IsPart (names_in places.now) p (λ x. Spec.sum_loop x n (head_of d.now) (stmt_trees d.now.body.items) (f x)) (λ x. unless (is_same_text x d.now.variable) (o x)) (d.now.variable ∷ all_loop_variables (stmt_trees d.now.body.items))) }
+    ensures width { IfOk result (λ p. p.summaries.width ≡ length (names_in places.now)) }
+    ensures part { IfOk result (λ p. (n : ℕ) (f : List ℕ → Summary) (o : List ℕ → Option ℕ) → IsPart (names_in places.now) body.now f o (all_loop_variables (stmt_trees d.now.body.items)) → ((x : List ℕ) (i : ℕ) → place_of (names_in places.now) x ≡ Some i → Holds iteration.now i (Spec.summary_in_turn (Spec.summary_events x (Event.start_events n (head_of d.now) (stmt_trees d.now.body.items))) (f x))) → IsPart (names_in places.now) p (λ x. Spec.summary_loop x n (head_of d.now) (stmt_trees d.now.body.items) (f x)) (λ x. unless (is_same_text x d.now.variable) (o x)) (d.now.variable ∷ all_loop_variables (stmt_trees d.now.body.items))) }
 {
     let mut indices = variable_of(alloc, places, d)?;
     let loose = less(alloc, &body.loose, &indices)?;
     body.indices.or_into(&mut indices);
-    let sums = trip_sums(alloc, places, d, body, iteration)?;
+    let summaries = trip_summaries(alloc, places, d, body, iteration)?;
     Ok(Part {
-        sums,
+        summaries,
         loose,
         indices,
     })
@@ -145,29 +145,29 @@ fn variable_of(alloc: Global, places: &Places, d: &Do) -> Result<Row, NoMemory>
 }
 
 /// What the trips of a DO and its exit do, from what an iteration does.
-fn trip_sums(
+fn trip_summaries(
     alloc: Global,
     places: &Places,
     d: &Do,
     body: &Part,
     iteration: &RowSummary,
 ) -> Result<RowSummary, NoMemory>
-    requires body { body.now.sums.width ≡ length (names_in places.now) }
+    requires body { body.now.summaries.width ≡ length (names_in places.now) }
     requires iteration { iteration.now.width ≡ length (names_in places.now) }
     ensures width { IfOk result (λ r. r.width ≡ length (names_in places.now)) }
-    ensures held { IfOk result (λ r. (n : ℕ) (m : Summary) → IsRowOf (names_in places.now) body.now.indices (all_loop_variables (stmt_trees d.now.body.items)) → (x : List ℕ) (i : ℕ) → place_of (names_in places.now) x ≡ Some i → Holds iteration.now i m → Holds r i (Spec.sum_in_turn (Spec.sum_trips m) (Spec.sum_events x (Event.exit_events n (head_of d.now) (stmt_trees d.now.body.items))))) }
+    ensures held { IfOk result (λ r. (n : ℕ) (m : Summary) → IsRowOf (names_in places.now) body.now.indices (all_loop_variables (stmt_trees d.now.body.items)) → (x : List ℕ) (i : ℕ) → place_of (names_in places.now) x ≡ Some i → Holds iteration.now i m → Holds r i (Spec.summary_in_turn (Spec.summary_trips m) (Spec.summary_events x (Event.exit_events n (head_of d.now) (stmt_trees d.now.body.items))))) }
 {
     let exit = leaving(alloc, places, d, &body.indices)?;
-    let sums = iteration.trips(alloc, &exit);
+    let summaries = iteration.trips(alloc, &exit);
     drop(exit);
-    sums
+    summaries
 }
 
 /// The exit of a DO, with the variables of the loops in it.
 fn leaving(alloc: Global, places: &Places, d: &Do, indices: &Row) -> Result<RowSummary, NoMemory>
     requires { length indices.now ≡ length (names_in places.now) }
     ensures width { IfOk result (λ r. r.width ≡ length (names_in places.now)) }
-    ensures held { IfOk result (λ r. (n : ℕ) → IsRowOf (names_in places.now) indices.now (all_loop_variables (stmt_trees d.now.body.items)) → (x : List ℕ) (i : ℕ) → place_of (names_in places.now) x ≡ Some i → Holds r i (Spec.sum_events x (Event.exit_events n (head_of d.now) (stmt_trees d.now.body.items)))) }
+    ensures held { IfOk result (λ r. (n : ℕ) → IsRowOf (names_in places.now) indices.now (all_loop_variables (stmt_trees d.now.body.items)) → (x : List ℕ) (i : ℕ) → place_of (names_in places.now) x ≡ Some i → Holds r i (Spec.summary_events x (Event.exit_events n (head_of d.now) (stmt_trees d.now.body.items)))) }
 {
     let left = left_by(alloc, places, d, indices)?;
     RowSummary::cleared(alloc, &left)

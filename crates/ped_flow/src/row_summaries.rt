@@ -113,7 +113,7 @@ impl RowSummary {
     pub(crate) fn then(&mut self, alloc: Global, next: &RowSummary) -> Result<(), NoMemory>
         requires { self.old.width ≡ next.now.width }
         ensures width { self.new.width ≡ self.old.width }
-        ensures held { OnOk result ((i : ℕ) (a b : Summary) → Holds self.old i a → Holds next.now i b → Holds self.new i (Spec.sum_in_turn a b)) }
+        ensures held { OnOk result ((i : ℕ) (a b : Summary) → Holds self.old i a → Holds next.now i b → Holds self.new i (Spec.summary_in_turn a b)) }
     {
         let reads = less(alloc, &next.reads, &self.overwritten)?;
         let ends = less(alloc, &next.ends, &self.overwritten)?;
@@ -131,7 +131,7 @@ impl RowSummary {
     pub(crate) fn followed(self, alloc: Global, next: &RowSummary) -> Result<RowSummary, NoMemory>
         requires { self.width ≡ next.now.width }
         ensures width { IfOk result (λ r. r.width ≡ self.width) }
-        ensures held { IfOk result (λ r. (i : ℕ) (a b : Summary) → Holds self i a → Holds next.now i b → Holds r i (Spec.sum_in_turn a b)) }
+        ensures held { IfOk result (λ r. (i : ℕ) (a b : Summary) → Holds self i a → Holds next.now i b → Holds r i (Spec.summary_in_turn a b)) }
     {
         let mut both = self;
         match both.then(alloc, next) {
@@ -149,7 +149,7 @@ impl RowSummary {
     pub(crate) fn trips(&self, alloc: Global, next: &RowSummary) -> Result<RowSummary, NoMemory>
         requires { self.now.width ≡ next.now.width }
         ensures width { IfOk result (λ r. r.width ≡ self.now.width) }
-        ensures held { IfOk result (λ r. (i : ℕ) (a b : Summary) → Holds self.now i a → Holds next.now i b → Holds r i (Spec.sum_in_turn (Spec.sum_trips a) b)) }
+        ensures held { IfOk result (λ r. (i : ℕ) (a b : Summary) → Holds self.now i a → Holds next.now i b → Holds r i (Spec.summary_in_turn (Spec.summary_trips a) b)) }
     {
         let trips = self.repeated(alloc)?;
         trips.followed(alloc, next)
@@ -159,7 +159,7 @@ impl RowSummary {
     pub(crate) fn or(&mut self, alloc: Global, other: &RowSummary) -> Result<(), NoMemory>
         requires { self.old.width ≡ other.now.width }
         ensures width { self.new.width ≡ self.old.width }
-        ensures held { OnOk result ((i : ℕ) (a b : Summary) → Holds self.old i a → Holds other.now i b → Holds self.new i (Spec.sum_either a b)) }
+        ensures held { OnOk result ((i : ℕ) (a b : Summary) → Holds self.old i a → Holds other.now i b → Holds self.new i (Spec.summary_either a b)) }
     {
         let overwritten = common(alloc, &self.overwritten, &other.overwritten)?;
         let blocked = common(alloc, &self.blocked, &other.blocked)?;
@@ -174,7 +174,7 @@ impl RowSummary {
     /// Any number of trips through this part.
     pub(crate) fn repeated(&self, alloc: Global) -> Result<RowSummary, NoMemory>
         ensures width { IfOk result (λ r. r.width ≡ self.now.width) }
-        ensures held { IfOk result (λ r. (i : ℕ) (a : Summary) → Holds self.now i a → Holds r i (Spec.sum_trips a)) }
+        ensures held { IfOk result (λ r. (i : ℕ) (a : Summary) → Holds self.now i a → Holds r i (Spec.summary_trips a)) }
     {
         let mut trips = RowSummary::passing(alloc, self.width)?;
         self.reads.or_into(&mut trips.reads);

@@ -40,7 +40,7 @@ pub(crate) fn all_parts(
     requires few { number.old + statements_count (stmt_trees body.now) < 2 ^ 32 }
     requires room { number.old + statements_count (stmt_trees body.now) ≤ length table.old }
     ensures number { OnOk result (number.new ≡ number.old + statements_count (stmt_trees body.now)) }
-    ensures part { IfOk result (λ p. IsPart (names_in places.now) p (λ x. Spec.sum_of_all (constants_in places.now) x (stmt_trees body.now) number.old) (λ x. all_first_outside (constants_in places.now) x (stmt_trees body.now) number.old) (all_loop_variables (stmt_trees body.now))) }
+    ensures part { IfOk result (λ p. IsPart (names_in places.now) p (λ x. Spec.summary_of_all (constants_in places.now) x (stmt_trees body.now) number.old) (λ x. all_first_outside (constants_in places.now) x (stmt_trees body.now) number.old) (all_loop_variables (stmt_trees body.now))) }
     ensures known { OnOk result (KnowsAll places.now table.new (stmt_trees body.now) number.old) }
     ensures others { OnOk result (AreSameBut table.old table.new number.old (number.old + statements_count (stmt_trees body.now))) }
 {
@@ -66,9 +66,9 @@ fn add_part(
 ) -> Result<(), NoMemory>
     requires few { number.old + statement_count (stmt_tree s.now) < 2 ^ 32 }
     requires room { number.old + statement_count (stmt_tree s.now) ≤ length table.old }
-    requires wide { part.old.sums.width ≡ length (names_in places.now) }
+    requires wide { part.old.summaries.width ≡ length (names_in places.now) }
     ensures number { OnOk result (number.new ≡ number.old + statement_count (stmt_tree s.now)) }
-    ensures part { OnOk result ((f : List ℕ → Summary) (o : List ℕ → Option ℕ) (u : List (List ℕ)) → IsPart (names_in places.now) part.old f o u → IsPart (names_in places.now) part.new (λ x. Spec.sum_in_turn (f x) (Spec.sum_of (constants_in places.now) x (stmt_tree s.now) number.old)) (λ x. Spec.least_of (o x) (first_outside (constants_in places.now) x (stmt_tree s.now) number.old)) (u ++ loop_variables (stmt_tree s.now))) }
+    ensures part { OnOk result ((f : List ℕ → Summary) (o : List ℕ → Option ℕ) (u : List (List ℕ)) → IsPart (names_in places.now) part.old f o u → IsPart (names_in places.now) part.new (λ x. Spec.summary_in_turn (f x) (Spec.summary_of (constants_in places.now) x (stmt_tree s.now) number.old)) (λ x. Spec.least_of (o x) (first_outside (constants_in places.now) x (stmt_tree s.now) number.old)) (u ++ loop_variables (stmt_tree s.now))) }
     ensures known { OnOk result (Knows places.now table.new (stmt_tree s.now) number.old) }
     ensures others { OnOk result (AreSameBut table.old table.new number.old (number.old + statement_count (stmt_tree s.now))) }
 {
@@ -202,9 +202,9 @@ fn branches_entry(
     second: Result<Part, NoMemory>,
     behind: u32,
 ) -> Result<Entry, NoMemory>
-    requires first { first.sums.width ≡ length (names_in places.now) }
-    requires second { IfOk second (λ q. q.sums.width ≡ length (names_in places.now)) }
-    ensures { IfOk result (λ e. (q : Part) × (second ≡ Ok q) × ((n : ℕ) (a b : StmtTrees) → IsPart (names_in places.now) first (λ x. Spec.sum_of_all (constants_in places.now) x a (n + 1)) (λ x. all_first_outside (constants_in places.now) x a (n + 1)) (all_loop_variables a) → IsPart (names_in places.now) q (λ x. Spec.sum_of_all (constants_in places.now) x b (n + 1 + statements_count a)) (λ x. all_first_outside (constants_in places.now) x b (n + 1 + statements_count a)) (all_loop_variables b) → behind ≡ n + statement_count (Tree.If (cond_tree c.now) a b) → IsEntry places.now e (Tree.If (cond_tree c.now) a b) n)) }
+    requires first { first.summaries.width ≡ length (names_in places.now) }
+    requires second { IfOk second (λ q. q.summaries.width ≡ length (names_in places.now)) }
+    ensures { IfOk result (λ e. (q : Part) × (second ≡ Ok q) × ((n : ℕ) (a b : StmtTrees) → IsPart (names_in places.now) first (λ x. Spec.summary_of_all (constants_in places.now) x a (n + 1)) (λ x. all_first_outside (constants_in places.now) x a (n + 1)) (all_loop_variables a) → IsPart (names_in places.now) q (λ x. Spec.summary_of_all (constants_in places.now) x b (n + 1 + statements_count a)) (λ x. all_first_outside (constants_in places.now) x b (n + 1 + statements_count a)) (all_loop_variables b) → behind ≡ n + statement_count (Tree.If (cond_tree c.now) a b) → IsEntry places.now e (Tree.If (cond_tree c.now) a b) n)) }
 {
     match second {
         Ok(second) => {
@@ -227,9 +227,9 @@ fn branching(
     first: Part,
     second: &Part,
 ) -> Result<Part, NoMemory>
-    requires first { first.sums.width ≡ length (names_in places.now) }
-    requires second { second.now.sums.width ≡ length (names_in places.now) }
-    ensures { IfOk result (λ p. (n : ℕ) (f g : List ℕ → Summary) (o q : List ℕ → Option ℕ) (u v : List (List ℕ)) → IsPart (names_in places.now) first f o u → IsPart (names_in places.now) second.now g q v → IsPart (names_in places.now) p (λ x. Spec.sum_in_turn (Spec.sum_events x (Event.reads_of n (Event.scalars_in_cond (constants_in places.now) (cond_tree c.now)))) (Spec.sum_either (f x) (g x))) (λ x. Spec.least_of (first_reader x (Event.reads_of n (Event.scalars_in_cond (constants_in places.now) (cond_tree c.now)))) (Spec.least_of (o x) (q x))) (u ++ v)) }
+    requires first { first.summaries.width ≡ length (names_in places.now) }
+    requires second { second.now.summaries.width ≡ length (names_in places.now) }
+    ensures { IfOk result (λ p. (n : ℕ) (f g : List ℕ → Summary) (o q : List ℕ → Option ℕ) (u v : List (List ℕ)) → IsPart (names_in places.now) first f o u → IsPart (names_in places.now) second.now g q v → IsPart (names_in places.now) p (λ x. Spec.summary_in_turn (Spec.summary_events x (Event.reads_of n (Event.scalars_in_cond (constants_in places.now) (cond_tree c.now)))) (Spec.summary_either (f x) (g x))) (λ x. Spec.least_of (first_reader x (Event.reads_of n (Event.scalars_in_cond (constants_in places.now) (cond_tree c.now)))) (Spec.least_of (o x) (q x))) (u ++ v)) }
 {
     let parts = first.either(alloc, second)?;
     let part = decided(alloc, places, c, &parts);
@@ -239,8 +239,8 @@ fn branching(
 
 /// An IF, from what either of its parts does.
 fn decided(alloc: Global, places: &Places, c: &Cond, parts: &Part) -> Result<Part, NoMemory>
-    requires { parts.now.sums.width ≡ length (names_in places.now) }
-    ensures { IfOk result (λ p. (n : ℕ) (g : List ℕ → Summary) (q : List ℕ → Option ℕ) (v : List (List ℕ)) → IsPart (names_in places.now) parts.now g q v → IsPart (names_in places.now) p (λ x. Spec.sum_in_turn (Spec.sum_events x (Event.reads_of n (Event.scalars_in_cond (constants_in places.now) (cond_tree c.now)))) (g x)) (λ x. Spec.least_of (first_reader x (Event.reads_of n (Event.scalars_in_cond (constants_in places.now) (cond_tree c.now)))) (q x)) v) }
+    requires { parts.now.summaries.width ≡ length (names_in places.now) }
+    ensures { IfOk result (λ p. (n : ℕ) (g : List ℕ → Summary) (q : List ℕ → Option ℕ) (v : List (List ℕ)) → IsPart (names_in places.now) parts.now g q v → IsPart (names_in places.now) p (λ x. Spec.summary_in_turn (Spec.summary_events x (Event.reads_of n (Event.scalars_in_cond (constants_in places.now) (cond_tree c.now)))) (g x)) (λ x. Spec.least_of (first_reader x (Event.reads_of n (Event.scalars_in_cond (constants_in places.now) (cond_tree c.now)))) (q x)) v) }
 {
     let part = deciding(alloc, places, c)?;
     part.followed(alloc, parts)
@@ -254,8 +254,8 @@ fn loop_entry(
     body: Part,
     behind: u32,
 ) -> Result<Entry, NoMemory>
-    requires { body.sums.width ≡ length (names_in places.now) }
-    ensures { IfOk result (λ e. (n : ℕ) → IsPart (names_in places.now) body (λ x. Spec.sum_of_all (constants_in places.now) x (stmt_trees d.now.body.items) (n + 1)) (λ x. all_first_outside (constants_in places.now) x (stmt_trees d.now.body.items) (n + 1)) (all_loop_variables (stmt_trees d.now.body.items)) → behind ≡ n + (statements_count (stmt_trees d.now.body.items) + 1) → IsEntry places.now e (Tree.Do (head_of d.now) (stmt_trees d.now.body.items)) n) }
+    requires { body.summaries.width ≡ length (names_in places.now) }
+    ensures { IfOk result (λ e. (n : ℕ) → IsPart (names_in places.now) body (λ x. Spec.summary_of_all (constants_in places.now) x (stmt_trees d.now.body.items) (n + 1)) (λ x. all_first_outside (constants_in places.now) x (stmt_trees d.now.body.items) (n + 1)) (all_loop_variables (stmt_trees d.now.body.items)) → behind ≡ n + (statements_count (stmt_trees d.now.body.items) + 1) → IsEntry places.now e (Tree.Do (head_of d.now) (stmt_trees d.now.body.items)) n) }
 {
     let part = loop_part(alloc, places, d, &body);
     drop(body);

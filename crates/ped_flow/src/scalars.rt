@@ -7,11 +7,10 @@ ghost use Rattle.ped_tree.specs.Views.{expr_tree, pack_exprs, cond_tree, item_tr
 ghost use Rattle.ped_tree.specs.Views.{head_of};
 ghost use Rattle.ped_tree.specs.NamesIn.{loop_variables, all_loop_variables};
 ghost use Rattle.ped_flow.specs.Events as Event;
-ghost use Rattle.ped_flow.specs.Summaries.{sum_events};
+ghost use Rattle.ped_flow.specs.Summaries.{summary_events};
 ghost use Rattle.ped_flow.specs.Kept.{name_of, constants_of};
 
 use crate::asked::Scalar;
-use crate::decls::is_constant;
 use crate::summaries::Summary;
 use ped_base::{Name, is_among};
 use ped_tree::{Cond, Do, Expr, PrintItem, Stmt};
@@ -27,12 +26,12 @@ pub(crate) fn is_same(a: &Name, b: &Name) -> bool
 fn is_variable(scalar: &Scalar, name: &Name) -> bool
     ensures { result ≡ Lists.is_among (name_of scalar.now) (Event.unless_constant (constants_of scalar.now) name.now) }
 {
-    is_same(scalar.name, name) && !is_constant(name, scalar.places.decls)
+    !scalar.constant && is_same(scalar.name, name)
 }
 
 /// The statement with this number reads a variable.
 fn variable(scalar: &Scalar, name: &Name, number: u32) -> Summary
-    ensures { result ≡ sum_events (name_of scalar.now) (Event.reads_of number (Event.unless_constant (constants_of scalar.now) name.now)) }
+    ensures { result ≡ summary_events (name_of scalar.now) (Event.reads_of number (Event.unless_constant (constants_of scalar.now) name.now)) }
 {
     if is_variable(scalar, name) {
         return Summary::read_by(number);
@@ -44,7 +43,7 @@ fn variable(scalar: &Scalar, name: &Name, number: u32) -> Summary
 #[cycle(expressions)]
 #[tactic(auto, using(crate::proofs::SumLaws::summing))]
 pub(crate) fn expression(scalar: &Scalar, e: &Expr, number: u32) -> Summary
-    ensures { result ≡ sum_events (name_of scalar.now) (Event.reads_of number (Event.scalars_in (constants_of scalar.now) (expr_tree e.now))) }
+    ensures { result ≡ summary_events (name_of scalar.now) (Event.reads_of number (Event.scalars_in (constants_of scalar.now) (expr_tree e.now))) }
 {
     match e {
         Expr::Int(_) => {
@@ -84,7 +83,7 @@ pub(crate) fn expression(scalar: &Scalar, e: &Expr, number: u32) -> Summary
 #[cycle(expressions)]
 #[tactic(auto, using(crate::proofs::SumLaws::summing))]
 pub(crate) fn expressions(scalar: &Scalar, es: &[Expr], number: u32) -> Summary
-    ensures { result ≡ sum_events (name_of scalar.now) (Event.reads_of number (Event.all_scalars_in (constants_of scalar.now) (pack_exprs (map expr_tree es.now)))) }
+    ensures { result ≡ summary_events (name_of scalar.now) (Event.reads_of number (Event.all_scalars_in (constants_of scalar.now) (pack_exprs (map expr_tree es.now)))) }
 {
     let mut summary = Summary::passing();
     for e in es {
@@ -97,7 +96,7 @@ pub(crate) fn expressions(scalar: &Scalar, es: &[Expr], number: u32) -> Summary
 #[cycle(conditions)]
 #[tactic(auto, using(crate::proofs::SumLaws::summing))]
 pub(crate) fn condition(scalar: &Scalar, c: &Cond, number: u32) -> Summary
-    ensures { result ≡ sum_events (name_of scalar.now) (Event.reads_of number (Event.scalars_in_cond (constants_of scalar.now) (cond_tree c.now))) }
+    ensures { result ≡ summary_events (name_of scalar.now) (Event.reads_of number (Event.scalars_in_cond (constants_of scalar.now) (cond_tree c.now))) }
 {
     match c {
         Cond::Rel(_, a, b) => {
@@ -117,7 +116,7 @@ pub(crate) fn condition(scalar: &Scalar, c: &Cond, number: u32) -> Summary
 
 /// The statement with this number reads an item of a PRINT.
 fn item(scalar: &Scalar, item: &PrintItem, number: u32) -> Summary
-    ensures { result ≡ sum_events (name_of scalar.now) (Event.reads_of number (Event.scalars_in_item (constants_of scalar.now) (item_tree item.now))) }
+    ensures { result ≡ summary_events (name_of scalar.now) (Event.reads_of number (Event.scalars_in_item (constants_of scalar.now) (item_tree item.now))) }
 {
     match item {
         PrintItem::Value(e) => {
@@ -132,7 +131,7 @@ fn item(scalar: &Scalar, item: &PrintItem, number: u32) -> Summary
 /// The statement with this number reads the items of a PRINT.
 #[tactic(auto, using(crate::proofs::SumLaws::summing))]
 pub(crate) fn items(scalar: &Scalar, items: &[PrintItem], number: u32) -> Summary
-    ensures { result ≡ sum_events (name_of scalar.now) (Event.reads_of number (flat_map (Event.scalars_in_item (constants_of scalar.now)) (map item_tree items.now))) }
+    ensures { result ≡ summary_events (name_of scalar.now) (Event.reads_of number (flat_map (Event.scalars_in_item (constants_of scalar.now)) (map item_tree items.now))) }
 {
     let mut summary = Summary::passing();
     for i in items {
@@ -143,7 +142,7 @@ pub(crate) fn items(scalar: &Scalar, items: &[PrintItem], number: u32) -> Summar
 
 /// The statement with this number assigns a variable.
 fn assignment(scalar: &Scalar, name: &Name) -> Summary
-    ensures { result ≡ sum_events (name_of scalar.now) (map (Event.event 0 Event.assigns) (Event.unless_constant (constants_of scalar.now) name.now)) }
+    ensures { result ≡ summary_events (name_of scalar.now) (map (Event.event 0 Event.assigns) (Event.unless_constant (constants_of scalar.now) name.now)) }
 {
     if is_variable(scalar, name) {
         return Summary::assigned();
@@ -153,7 +152,7 @@ fn assignment(scalar: &Scalar, name: &Name) -> Summary
 
 /// The statement with this number assigns a left side, or an item of a READ, whose subscripts it reads.
 pub(crate) fn target(scalar: &Scalar, left: &Expr, number: u32) -> Summary
-    ensures { result ≡ sum_events (name_of scalar.now) (Event.left_events (constants_of scalar.now) number (expr_tree left.now)) }
+    ensures { result ≡ summary_events (name_of scalar.now) (Event.left_events (constants_of scalar.now) number (expr_tree left.now)) }
 {
     match left {
         Expr::Var(name) => {
@@ -178,7 +177,7 @@ pub(crate) fn target(scalar: &Scalar, left: &Expr, number: u32) -> Summary
 /// The statement with this number reads and assigns the items of a READ, one after the other.
 #[tactic(auto, using(crate::proofs::SumLaws::summing))]
 pub(crate) fn targets(scalar: &Scalar, lefts: &[Expr], number: u32) -> Summary
-    ensures { result ≡ sum_events (name_of scalar.now) (flat_map (Event.left_events (constants_of scalar.now) number) (map expr_tree lefts.now)) }
+    ensures { result ≡ summary_events (name_of scalar.now) (flat_map (Event.left_events (constants_of scalar.now) number) (map expr_tree lefts.now)) }
 {
     let mut summary = Summary::passing();
     for left in lefts {
@@ -190,7 +189,7 @@ pub(crate) fn targets(scalar: &Scalar, lefts: &[Expr], number: u32) -> Summary
 /// The entry of a DO with this number: its bounds are read, and its variable is assigned.
 #[tactic(auto, using(crate::proofs::SumLaws::summing))]
 pub(crate) fn entry(scalar: &Scalar, d: &Do, number: u32) -> Summary
-    ensures { result ≡ sum_events (name_of scalar.now) (Event.reads_of number (Event.scalars_in (constants_of scalar.now) (expr_tree d.now.first) ++ Event.scalars_in (constants_of scalar.now) (expr_tree d.now.last)) ++ (Event.event number Event.assigns d.now.variable) ∷ []) }
+    ensures { result ≡ summary_events (name_of scalar.now) (Event.reads_of number (Event.scalars_in (constants_of scalar.now) (expr_tree d.now.first) ++ Event.scalars_in (constants_of scalar.now) (expr_tree d.now.last)) ++ (Event.event number Event.assigns d.now.variable) ∷ []) }
 {
     let bounds = expression(scalar, &d.first, number).then(expression(scalar, &d.last, number));
     bounds.then(set_variable(scalar, d))
@@ -198,7 +197,7 @@ pub(crate) fn entry(scalar: &Scalar, d: &Do, number: u32) -> Summary
 
 /// The variable of a DO is assigned.
 fn set_variable(scalar: &Scalar, d: &Do) -> Summary
-    ensures { result ≡ sum_events (name_of scalar.now) ((Event.event 0 Event.assigns d.now.variable) ∷ []) }
+    ensures { result ≡ summary_events (name_of scalar.now) ((Event.event 0 Event.assigns d.now.variable) ∷ []) }
 {
     if is_same(scalar.name, &d.variable) {
         return Summary::assigned();
@@ -208,7 +207,7 @@ fn set_variable(scalar: &Scalar, d: &Do) -> Summary
 
 /// The start of an iteration of a DO, which clears the scalars of which it has copies.
 pub(crate) fn start(scalar: &Scalar, d: &Do, number: u32) -> Summary
-    ensures { result ≡ sum_events (name_of scalar.now) (Event.start_events number (head_of d.now) (stmt_trees d.now.body.items)) }
+    ensures { result ≡ summary_events (name_of scalar.now) (Event.start_events number (head_of d.now) (stmt_trees d.now.body.items)) }
 {
     if is_copied(scalar.name, d) {
         return Summary::cleared();
@@ -218,7 +217,7 @@ pub(crate) fn start(scalar: &Scalar, d: &Do, number: u32) -> Summary
 
 /// The exit of a DO, which clears them too, and of a PARALLEL DO its variable.
 pub(crate) fn exit(scalar: &Scalar, d: &Do, number: u32) -> Summary
-    ensures { result ≡ sum_events (name_of scalar.now) (Event.exit_events number (head_of d.now) (stmt_trees d.now.body.items)) }
+    ensures { result ≡ summary_events (name_of scalar.now) (Event.exit_events number (head_of d.now) (stmt_trees d.now.body.items)) }
 {
     if is_left(scalar.name, d) {
         return Summary::cleared();

@@ -15,7 +15,7 @@ use ped_tree::Stmt;
 /// The number after a statement in which nothing happens to the scalar.
 pub(crate) fn past(scalar: &Scalar, s: &Stmt, number: u32) -> Option<u32>
     requires { IsKnown scalar.now (stmt_tree s.now) number }
-    ensures passing { IfSome result (λ next. Spec.sum_of (constants_of scalar.now) (name_of scalar.now) (stmt_tree s.now) number ≡ Spec.passing) }
+    ensures passing { IfSome result (λ next. Spec.summary_of (constants_of scalar.now) (name_of scalar.now) (stmt_tree s.now) number ≡ Spec.passing) }
     ensures number { IfSome result (λ next. next ≡ number + statement_count (stmt_tree s.now)) }
 {
     match scalar.place {

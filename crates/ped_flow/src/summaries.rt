@@ -110,7 +110,7 @@ impl Summary {
 
     /// This part and then another.
     pub(crate) fn then(self, next: Summary) -> Summary
-        ensures { result ≡ Spec.sum_in_turn self next }
+        ensures { result ≡ Spec.summary_in_turn self next }
     {
         Summary {
             first: least(self.first, when(self.keeps, next.first)),
@@ -123,7 +123,7 @@ impl Summary {
 
     /// Either this part or another.
     pub(crate) fn or(self, other: Summary) -> Summary
-        ensures { result ≡ Spec.sum_either self other }
+        ensures { result ≡ Spec.summary_either self other }
     {
         Summary {
             first: least(self.first, other.first),
@@ -136,7 +136,7 @@ impl Summary {
 
     /// Any number of trips through this part. None and one are enough to know all of them.
     pub(crate) fn repeated(self) -> Summary
-        ensures { result ≡ Spec.sum_trips self }
+        ensures { result ≡ Spec.summary_trips self }
     {
         Summary {
             keeps: true,

@@ -19,7 +19,7 @@ use ped_tree::{Do, Stmt};
 pub(crate) fn statements(scalar: &Scalar, body: &[Stmt], number: &mut u32) -> Summary
     requires few { number.old + statements_count (stmt_trees body.now) < 2 ^ 32 }
     requires known { AreKnown scalar.now (stmt_trees body.now) number.old }
-    ensures sum { result ≡ Spec.sum_of_all (constants_of scalar.now) (name_of scalar.now) (stmt_trees body.now) number.old }
+    ensures sum { result ≡ Spec.summary_of_all (constants_of scalar.now) (name_of scalar.now) (stmt_trees body.now) number.old }
     ensures number { number.new ≡ number.old + statements_count (stmt_trees body.now) }
 {
     let mut summary = Summary::passing();
@@ -35,7 +35,7 @@ pub(crate) fn statements(scalar: &Scalar, body: &[Stmt], number: &mut u32) -> Su
 pub(crate) fn statement(scalar: &Scalar, s: &Stmt, number: &mut u32) -> Summary
     requires few { number.old + statement_count (stmt_tree s.now) < 2 ^ 32 }
     requires known { IsKnown scalar.now (stmt_tree s.now) number.old }
-    ensures sum { result ≡ Spec.sum_of (constants_of scalar.now) (name_of scalar.now) (stmt_tree s.now) number.old }
+    ensures sum { result ≡ Spec.summary_of (constants_of scalar.now) (name_of scalar.now) (stmt_tree s.now) number.old }
     ensures number { number.new ≡ number.old + statement_count (stmt_tree s.now) }
 {
     match past(scalar, s, *number) {
@@ -54,7 +54,7 @@ pub(crate) fn statement(scalar: &Scalar, s: &Stmt, number: &mut u32) -> Summary
 fn inside(scalar: &Scalar, s: &Stmt, number: &mut u32) -> Summary
     requires few { number.old + statement_count (stmt_tree s.now) < 2 ^ 32 }
     requires known { IsKnown scalar.now (stmt_tree s.now) number.old }
-    ensures sum { result ≡ Spec.sum_of (constants_of scalar.now) (name_of scalar.now) (stmt_tree s.now) number.old }
+    ensures sum { result ≡ Spec.summary_of (constants_of scalar.now) (name_of scalar.now) (stmt_tree s.now) number.old }
     ensures number { number.new ≡ number.old + statement_count (stmt_tree s.now) }
 {
     let own = *number;
@@ -98,7 +98,7 @@ fn inside(scalar: &Scalar, s: &Stmt, number: &mut u32) -> Summary
 
 /// The trips of a DO and its exit, from what its body does.
 pub(crate) fn trips(scalar: &Scalar, d: &Do, number: u32, body: Summary) -> Summary
-    ensures { result ≡ Spec.sum_loop (name_of scalar.now) number (head_of d.now) (stmt_trees d.now.body.items) body }
+    ensures { result ≡ Spec.summary_loop (name_of scalar.now) number (head_of d.now) (stmt_trees d.now.body.items) body }
 {
     let trip = start(scalar, d, number).then(body);
     trip.repeated().then(exit(scalar, d, number))

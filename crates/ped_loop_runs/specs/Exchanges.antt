@@ -8,7 +8,7 @@ use Rattle.ped_bodies.specs.ped_flow.specs.ped_tree.specs.Accesses.{constant_nam
 use Rattle.ped_bodies.specs.ped_flow.specs.ped_tree.specs.NamesIn.{all_loop_variables}
 use Rattle.ped_bodies.specs.ped_flow.specs.Questions.{IsShownBehind}
 use Rattle.ped_bodies.specs.ped_flow.specs.ped_tree.specs.NamesIn.{saved_in}
-use Rattle.ped_bodies.specs.ped_flow.specs.Summaries.{sum_of_all}
+use Rattle.ped_bodies.specs.ped_flow.specs.Summaries.{summary_of_all}
 use Rattle.ped_bodies.specs.ped_laws.specs.FlowRuns.Covering.{some_stop}
 use Rattle.ped_bodies.specs.ped_steps.specs.Replacing.{followed, alone}
 use Rattle.ped_bodies.specs.ped_steps.specs.Runs.Gaps.{Gap, filled, number_at}
@@ -68,4 +68,4 @@ pub record LeavesAlone (x : Exchange) (t : ProgramTree) : Type 0 where
   pub unshown : (w : List ℕ) → is_among w (all_loop_variables (old_of x)) ≡ true → IsShownBehind t (loop_of x) w → ⊥
   pub writes : (w : List ℕ) → all_write (constant_names t.decls) w (old_of x) ≡ false → all_write (constant_names t.decls) w x.new ≡ false
   pub unwritten : some_write_index (constant_names t.decls) (old_of x) ≡ false → some_write_index (constant_names t.decls) x.new ≡ false
-  pub leaves : (w : List ℕ) → is_among w (all_loop_variables x.new) ≡ false → (sum_of_all (constant_names t.decls) w x.new (start_of x)).keeps ≡ true → (sum_of_all (constant_names t.decls) w (old_of x) (start_of x)).keeps ≡ true
+  pub leaves : (w : List ℕ) → is_among w (all_loop_variables x.new) ≡ false → (summary_of_all (constant_names t.decls) w x.new (start_of x)).keeps ≡ true → (summary_of_all (constant_names t.decls) w (old_of x) (start_of x)).keeps ≡ true

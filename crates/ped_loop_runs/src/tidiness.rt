@@ -5,7 +5,7 @@ ghost use Rattle.ped_bodies.specs.ped_flow.specs.ped_base.specs.Lists.{is_among}
 ghost use Rattle.ped_bodies.specs.ped_flow.specs.ped_tree.specs.Tree.{Head, StmtTrees, Do, ProgramTree};
 ghost use Rattle.ped_bodies.specs.ped_flow.specs.ped_tree.specs.NamesIn.{loop_variables};
 ghost use Rattle.ped_bodies.specs.ped_flow.specs.Questions.{IsShownBehind};
-ghost use Rattle.ped_bodies.specs.ped_flow.specs.Summaries.{sum_of};
+ghost use Rattle.ped_bodies.specs.ped_flow.specs.Summaries.{summary_of};
 ghost use Rattle.ped_bodies.specs.ped_steps.specs.Tidy.{IsTidy};
 ghost use Rattle.ped_loop_runs.specs.Unrejected.{some_rejection, IsTrusted};
 ghost use Rattle.ped_loop_runs.specs.Exchanges.{Exchange, old_of, loop_of, IsExchanged, IsStaying, IsNew, KeepsVariable, LeavesAlone};
@@ -37,5 +37,5 @@ pub fn stays_trusted()
 /// have it in its PRIVATE list: it may make no trip, and its exit clears its PRIVATE names (ANSI X3.9-1978, section
 /// 11.10.3; ParaScope).
 pub fn private_names_cleared()
-    ensures { (constants : List (List ℕ)) (w : List ℕ) (h : Head) (body : StmtTrees) (n : ℕ) → is_among w (loop_variables (Do h body)) ≡ false → (sum_of constants w (Do h body) n).keeps ≡ not (is_among w h.private) }
+    ensures { (constants : List (List ℕ)) (w : List ℕ) (h : Head) (body : StmtTrees) (n : ℕ) → is_among w (loop_variables (Do h body)) ≡ false → (summary_of constants w (Do h body) n).keeps ≡ not (is_among w h.private) }
 {}

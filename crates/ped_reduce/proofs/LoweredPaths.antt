@@ -9,7 +9,7 @@ use Rattle.ped_tree.specs.declared.expressions.Intrinsic.TheVariants.{Mod}
 use Rattle.ped_tree.specs.Numbering.{statement_count, statements_count}
 use Rattle.ped_tree.specs.NamesIn.{loop_variables, all_loop_variables}
 use Rattle.ped_rules.specs.ped_flow.specs.Events.{event, reads, assigns, unless_constant, scalars_in, reads_of, left_events, own_events, copied}
-use Rattle.ped_rules.specs.ped_flow.specs.Summaries.{least_of, when, passing, sum_in_turn, sum_either, sum_trips, sum_events, sum_loop, sum_of, sum_of_all}
+use Rattle.ped_rules.specs.ped_flow.specs.Summaries.{least_of, when, passing, summary_in_turn, summary_either, summary_trips, summary_events, summary_loop, summary_of, summary_of_all}
 use Rattle.ped_rules.specs.ped_flow.proofs.Truths.{untrue, or_none}
 use Rattle.ped_rules.specs.ped_flow.proofs.SumLaws.{in_turn-assoc}
 use Rattle.ped_rules.specs.ped_steps.specs.Replacing.{followed, alone}
@@ -71,46 +71,46 @@ module _ (cs : List (List ℕ)) (w : List ℕ) (v : List ℕ) (ps : List Partial
     element_touches n array e h =
         touches_append w (reads_of n (scalars_in cs e)) (reads_of n (scalars_in cs (at array v))) (reads_quiet n (scalars_in cs e) h) (reads_quiet n (scalars_in cs (at array v)) (element_none array))
 
-    element_quiet : (n : ℕ) (array : List ℕ) (e : ExprTree) → is_among w (scalars_in cs e) ≡ false → sum_events w (own_events cs n (Assign (at array v) e)) ≡ passing
+    element_quiet : (n : ℕ) (array : List ℕ) (e : ExprTree) → is_among w (scalars_in cs e) ≡ false → summary_events w (own_events cs n (Assign (at array v) e)) ≡ passing
     element_quiet n array e h =
         quiet_events w (own_events cs n (Assign (at array v) e)) (element_touches n array e h)
 
-    turns : (a b : Summary) → a ≡ passing → b ≡ passing → sum_in_turn a b ≡ passing
-    turns a b h k = λ i. sum_in_turn (h i) (k i)
+    turns : (a b : Summary) → a ≡ passing → b ≡ passing → summary_in_turn a b ≡ passing
+    turns a b h k = λ i. summary_in_turn (h i) (k i)
 
-    zeros_pass : (qs : List Partials) (m : ℕ) → sum_of_all cs w (zeros v qs) m ≡ passing
+    zeros_pass : (qs : List Partials) (m : ℕ) → summary_of_all cs w (zeros v qs) m ≡ passing
     zeros_pass [] m = refl
     zeros_pass (p ∷ qs) m =
-        λ i. sum_in_turn (element_quiet m p.high (Int 0) refl i) (sum_in_turn (element_quiet (m + 1) p.low (Int 0) refl i) (sum_in_turn (element_quiet (m + 1 + 1) p.flag (Int 0) refl i) (zeros_pass qs (m + 1 + 1 + 1) i)))
+        λ i. summary_in_turn (element_quiet m p.high (Int 0) refl i) (summary_in_turn (element_quiet (m + 1) p.low (Int 0) refl i) (summary_in_turn (element_quiet (m + 1 + 1) p.flag (Int 0) refl i) (zeros_pass qs (m + 1 + 1 + 1) i)))
 
     pub with_none : (array : List ℕ) (sum : Sum) → is_among w (scalars_in cs (operand sum)) ≡ false → is_among w (scalars_in cs (with_sum (at array v) sum)) ≡ false
     with_none array (plus e) h = neither (scalars_in cs (at array v)) (scalars_in cs e) (element_none array) h
     with_none array (minus e) h = neither (scalars_in cs (at array v)) (scalars_in cs e) (element_none array) h
 
     -- a sum that is kept apart, where what is added doesn't read the scalar
-    apart_passes : (p : Partials) (sum : Sum) (m : ℕ) → is_among w (scalars_in cs (operand sum)) ≡ false → sum_of_all cs w (added_apart v p sum) m ≡ passing
+    apart_passes : (p : Partials) (sum : Sum) (m : ℕ) → is_among w (scalars_in cs (operand sum)) ≡ false → summary_of_all cs w (added_apart v p sum) m ≡ passing
     apart_passes p sum m h =
         let low = with_none p.low sum h in
         let high = neither (scalars_in cs (at p.high v)) (scalars_in cs (with_sum (at p.low v) sum) ++ []) (element_none p.high) (neither (scalars_in cs (with_sum (at p.low v) sum)) [] low refl) in
         let first = element_quiet m p.high (Add (at p.high v) (Div (with_sum (at p.low v) sum) (Int 65536))) high in
         let second = element_quiet (m + 1) p.low (Call Mod (more_exprs (with_sum (at p.low v) sum) (more_exprs (Int 65536) no_exprs))) (neither (scalars_in cs (with_sum (at p.low v) sum)) [] low refl) in
         let third = element_quiet (m + 1 + 1) p.flag (Int 1) refl in
-        λ i. sum_in_turn (first i) (sum_in_turn (second i) (sum_in_turn (third i) passing))
+        λ i. summary_in_turn (first i) (summary_in_turn (second i) (summary_in_turn (third i) passing))
 
-    ends_turn : (a b : Summary) → a.ends ≡ false → b.ends ≡ false → (sum_in_turn a b).ends ≡ false
+    ends_turn : (a b : Summary) → a.ends ≡ false → b.ends ≡ false → (summary_in_turn a b).ends ≡ false
     ends_turn a b h k = (λ i. h i || (a.keeps && k i)) ∙ and_none a.keeps
       where
         and_none : (x : Bool) → (x && false) ≡ false
         and_none true = refl
         and_none false = refl
 
-    apart_ends : (p : Partials) (sum : Sum) (m : ℕ) → (sum_of_all cs w (added_apart v p sum) m).ends ≡ false
+    apart_ends : (p : Partials) (sum : Sum) (m : ℕ) → (summary_of_all cs w (added_apart v p sum) m).ends ≡ false
     apart_ends p sum m =
-        let first = sum_events w (own_events cs m (Assign (at p.high v) (Add (at p.high v) (Div (with_sum (at p.low v) sum) (Int 65536))))) in
-        let second = sum_events w (own_events cs (m + 1) (Assign (at p.low v) (Call Mod (more_exprs (with_sum (at p.low v) sum) (more_exprs (Int 65536) no_exprs))))) in
-        let third = sum_events w (own_events cs (m + 1 + 1) (Assign (at p.flag v) (Int 1))) in
-        ends_turn first (sum_in_turn second (sum_in_turn third passing)) (events_end w (own_events cs m (Assign (at p.high v) (Add (at p.high v) (Div (with_sum (at p.low v) sum) (Int 65536))))))
-        (ends_turn second (sum_in_turn third passing) (events_end w (own_events cs (m + 1) (Assign (at p.low v) (Call Mod (more_exprs (with_sum (at p.low v) sum) (more_exprs (Int 65536) no_exprs))))))
+        let first = summary_events w (own_events cs m (Assign (at p.high v) (Add (at p.high v) (Div (with_sum (at p.low v) sum) (Int 65536))))) in
+        let second = summary_events w (own_events cs (m + 1) (Assign (at p.low v) (Call Mod (more_exprs (with_sum (at p.low v) sum) (more_exprs (Int 65536) no_exprs))))) in
+        let third = summary_events w (own_events cs (m + 1 + 1) (Assign (at p.flag v) (Int 1))) in
+        ends_turn first (summary_in_turn second (summary_in_turn third passing)) (events_end w (own_events cs m (Assign (at p.high v) (Add (at p.high v) (Div (with_sum (at p.low v) sum) (Int 65536))))))
+        (ends_turn second (summary_in_turn third passing) (events_end w (own_events cs (m + 1) (Assign (at p.low v) (Call Mod (more_exprs (with_sum (at p.low v) sum) (more_exprs (Int 65536) no_exprs))))))
         (ends_turn third passing (events_end w (own_events cs (m + 1 + 1) (Assign (at p.flag v) (Int 1)))) refl))
 
     -- the scalar of a sum is another one
@@ -132,15 +132,15 @@ module _ (cs : List (List ℕ)) (w : List ℕ) (v : List ℕ) (ps : List Partial
     ]
 
     -- a sum leaves other scalars as they are
-    sum_keeps : (p : Partials) (left right : ExprTree) (sum : Sum) (n : ℕ) → is_among p.scalar (scalars_of ps) ≡ true → IsSumOf p.scalar left right sum → (sum_events w (own_events cs n (Assign left right))).keeps ≡ true
+    sum_keeps : (p : Partials) (left right : ExprTree) (sum : Sum) (n : ℕ) → is_among p.scalar (scalars_of ps) ≡ true → IsSumOf p.scalar left right sum → (summary_events w (own_events cs n (Assign left right))).keeps ≡ true
     sum_keeps p left right sum n among of =
         events_keep w (own_events cs n (Assign left right))
         ∙ ap not (own_overwrites cs w (Assign left right) n ∙ ap (λ (e : ExprTree). is_among w (own_lefts cs (Assign e right))) of.written ∙ among_one p.scalar (not_scalar p among))
 
-    assigned_less : (left right : ExprTree) (n m : ℕ) (ws : StmtTrees) → IsApart v ps left right ws ⊎ IsBare ps left right ws → IsLess (sum_of_all cs w ws m) (sum_of cs w (Assign left right) n)
+    assigned_less : (left right : ExprTree) (n m : ℕ) (ws : StmtTrees) → IsApart v ps left right ws ⊎ IsBare ps left right ws → IsLess (summary_of_all cs w ws m) (summary_of cs w (Assign left right) n)
     assigned_less left right n m ws (inl a) =
         let among = scalar_among a.partials ps a.among in
-        subst (λ (ts : StmtTrees). IsLess (sum_of_all cs w ts m) (sum_of cs w (Assign left right) n)) (sym a.is) (record {
+        subst (λ (ts : StmtTrees). IsLess (summary_of_all cs w ts m) (summary_of cs w (Assign left right) n)) (sym a.is) (record {
           more = record {
             keeps = λ e. sum_keeps a.partials left right a.sum n among a.of;
             ends = λ e. untrue (sym (apart_ends a.partials a.sum m) ∙ e);
@@ -148,63 +148,63 @@ module _ (cs : List (List ℕ)) (w : List ℕ) (v : List ℕ) (ps : List Partial
           first = λ e. (let read = read_first w n (scalars_in cs right) (left_events cs n left) e in ap (λ (z : Summary). z.first) (apart_passes a.partials a.sum m (operand_less a.partials.scalar left right a.sum a.of read.0)));
         })
     assigned_less left right n m ws (inr b) =
-        subst (λ (ts : StmtTrees). IsLess (sum_of_all cs w ts m) (sum_of cs w (Assign left right) n)) (sym b.is) (alone_less (Assign left right) (sum_of cs w (Assign left right) n) m (own_less w cs (Assign left right) m n))
+        subst (λ (ts : StmtTrees). IsLess (summary_of_all cs w ts m) (summary_of cs w (Assign left right) n)) (sym b.is) (alone_less (Assign left right) (summary_of cs w (Assign left right) n) m (own_less w cs (Assign left right) m n))
       where
-        alone_less : (s : StmtTree) (b : Summary) (m : ℕ) → IsLess (sum_of cs w s m) b → IsLess (sum_of_all cs w (alone s) m) b
-        alone_less s b m h = behind_less (sum_of cs w s m) b passing h (λ e. refl) refl
+        alone_less : (s : StmtTree) (b : Summary) (m : ℕ) → IsLess (summary_of cs w s m) b → IsLess (summary_of_all cs w (alone s) m) b
+        alone_less s b m h = behind_less (summary_of cs w s m) b passing h (λ e. refl) refl
 
-    one_less : (s : StmtTree) (b : Summary) (m : ℕ) → IsLess (sum_of cs w s m) b → IsLess (sum_of_all cs w (alone s) m) b
-    one_less s b m h = behind_less (sum_of cs w s m) b passing h (λ e. refl) refl
+    one_less : (s : StmtTree) (b : Summary) (m : ℕ) → IsLess (summary_of cs w s m) b → IsLess (summary_of_all cs w (alone s) m) b
+    one_less s b m h = behind_less (summary_of cs w s m) b passing h (λ e. refl) refl
 
-    pub followed_less : (a b : StmtTrees) (m : ℕ) (c d : Summary) → IsLess (sum_of_all cs w a m) c → IsLess (sum_of_all cs w b (m + statements_count a)) d → IsLess (sum_of_all cs w (followed a b) m) (sum_in_turn c d)
-    followed_less a b m c d h k = subst (λ (z : Summary). IsLess z (sum_in_turn c d)) (sym (followed_sum cs w a b m)) (in_turn_less (sum_of_all cs w a m) (sum_of_all cs w b (m + statements_count a)) c d h k)
+    pub followed_less : (a b : StmtTrees) (m : ℕ) (c d : Summary) → IsLess (summary_of_all cs w a m) c → IsLess (summary_of_all cs w b (m + statements_count a)) d → IsLess (summary_of_all cs w (followed a b) m) (summary_in_turn c d)
+    followed_less a b m c d h k = subst (λ (z : Summary). IsLess z (summary_in_turn c d)) (sym (followed_sum cs w a b m)) (in_turn_less (summary_of_all cs w a m) (summary_of_all cs w b (m + statements_count a)) c d h k)
 
     -- the statements of the body
     mutual
-      summed_less : (s : StmtTree) (n m : ℕ) → IsLess (sum_of_all cs w (summed v ps s) m) (sum_of cs w s n)
+      summed_less : (s : StmtTree) (n m : ℕ) → IsLess (summary_of_all cs w (summed v ps s) m) (summary_of cs w s n)
       summed_less (Assign left right) n m = assigned_less left right n m (sum_apart v ps (Assign left right)) (apart_or_bare v left right ps)
       summed_less (If c a b) n m =
           let new_a = all_summed v ps a in
           let new_b = all_summed v ps b in
-          one_less (If c new_a new_b) (sum_of cs w (If c a b) n) m
-          (in_turn_less (sum_events w (own_events cs m (If c a b))) (sum_either (sum_of_all cs w new_a (m + 1)) (sum_of_all cs w new_b (m + 1 + statements_count new_a)))
-          (sum_events w (own_events cs n (If c a b))) (sum_either (sum_of_all cs w a (n + 1)) (sum_of_all cs w b (n + 1 + statements_count a)))
+          one_less (If c new_a new_b) (summary_of cs w (If c a b) n) m
+          (in_turn_less (summary_events w (own_events cs m (If c a b))) (summary_either (summary_of_all cs w new_a (m + 1)) (summary_of_all cs w new_b (m + 1 + statements_count new_a)))
+          (summary_events w (own_events cs n (If c a b))) (summary_either (summary_of_all cs w a (n + 1)) (summary_of_all cs w b (n + 1 + statements_count a)))
           (own_less w cs (If c a b) m n)
-          (either_less (sum_of_all cs w new_a (m + 1)) (sum_of_all cs w new_b (m + 1 + statements_count new_a)) (sum_of_all cs w a (n + 1)) (sum_of_all cs w b (n + 1 + statements_count a))
+          (either_less (summary_of_all cs w new_a (m + 1)) (summary_of_all cs w new_b (m + 1 + statements_count new_a)) (summary_of_all cs w a (n + 1)) (summary_of_all cs w b (n + 1 + statements_count a))
           (all_summed_less a (n + 1) (m + 1)) (all_summed_less b (n + 1 + statements_count a) (m + 1 + statements_count new_a))))
       summed_less (Do h body) n m =
           let new = all_summed v ps body in
           let loops = all_same_loops v ps body in
-          one_less (Do h new) (sum_of cs w (Do h body) n) m
-          (in_turn_less (sum_events w (own_events cs m (Do h body))) (sum_loop w m h new (sum_of_all cs w new (m + 1))) (sum_events w (own_events cs n (Do h body))) (sum_loop w n h body (sum_of_all cs w body (n + 1)))
+          one_less (Do h new) (summary_of cs w (Do h body) n) m
+          (in_turn_less (summary_events w (own_events cs m (Do h body))) (summary_loop w m h new (summary_of_all cs w new (m + 1))) (summary_events w (own_events cs n (Do h body))) (summary_loop w n h body (summary_of_all cs w body (n + 1)))
           (own_less w cs (Do h body) m n)
-          (loop_less w cs h h new body m n (sum_of_all cs w new (m + 1)) (sum_of_all cs w body (n + 1))
+          (loop_less w cs h h new body m n (summary_of_all cs w new (m + 1)) (summary_of_all cs w body (n + 1))
           (λ e. ap (λ (xs : List (List ℕ)). is_among w (h.private ++ (if h.parallel then xs else []))) loops ∙ e)
           (λ e. ap (λ (xs : List (List ℕ)). is_among w (own_exit h ++ (h.private ++ (if h.parallel then xs else [])))) loops ∙ e)
           (all_summed_less body (n + 1) (m + 1))))
-      summed_less (Print items) n m = one_less (Print items) (sum_of cs w (Print items) n) m (own_less w cs (Print items) m n)
-      summed_less (Read items) n m = one_less (Read items) (sum_of cs w (Read items) n) m (own_less w cs (Read items) m n)
-      summed_less Stop n m = one_less Stop (sum_of cs w Stop n) m (less_itself (sum_of cs w Stop n))
+      summed_less (Print items) n m = one_less (Print items) (summary_of cs w (Print items) n) m (own_less w cs (Print items) m n)
+      summed_less (Read items) n m = one_less (Read items) (summary_of cs w (Read items) n) m (own_less w cs (Read items) m n)
+      summed_less Stop n m = one_less Stop (summary_of cs w Stop n) m (less_itself (summary_of cs w Stop n))
       summed_less (Comment text) n m = one_less (Comment text) passing m (less_itself passing)
 
-      all_summed_less : (ss : StmtTrees) (n m : ℕ) → IsLess (sum_of_all cs w (all_summed v ps ss) m) (sum_of_all cs w ss n)
+      all_summed_less : (ss : StmtTrees) (n m : ℕ) → IsLess (summary_of_all cs w (all_summed v ps ss) m) (summary_of_all cs w ss n)
       all_summed_less no_stmts n m = less_itself passing
       all_summed_less (more_stmts s rest) n m =
-          followed_less (summed v ps s) (all_summed v ps rest) m (sum_of cs w s n) (sum_of_all cs w rest (n + statement_count s)) (summed_less s n m) (all_summed_less rest (n + statement_count s) (m + statements_count (summed v ps s)))
+          followed_less (summed v ps s) (all_summed v ps rest) m (summary_of cs w s n) (summary_of_all cs w rest (n + statement_count s)) (summed_less s n m) (all_summed_less rest (n + statement_count s) (m + statements_count (summed v ps s)))
 
     -- a list at the front says nothing
-    behind_passing : (a b : Summary) → IsLess a b → IsLess a (sum_in_turn passing b)
+    behind_passing : (a b : Summary) → IsLess a b → IsLess a (summary_in_turn passing b)
     behind_passing a b h = record { more = record { keeps = h.more.keeps; ends = h.more.ends }; first = h.first }
 
-    passing_before : (a b : Summary) → IsLess a b → IsLess (sum_in_turn passing a) b
+    passing_before : (a b : Summary) → IsLess a b → IsLess (summary_in_turn passing a) b
     passing_before a b h = record { more = record { keeps = h.more.keeps; ends = h.more.ends }; first = h.first }
 
-    unless_less : (o : Option (List ℕ)) (text : List ℕ) (rest : StmtTrees) (n m : ℕ) → IsLess (sum_of_all cs w (without_list rest) n) (sum_of_all cs w rest (m + 0))
-        → IsLess (sum_of_all cs w (unless_named o (more_stmts (Comment text) rest) (without_list rest)) n) (sum_of_all cs w (more_stmts (Comment text) rest) m)
+    unless_less : (o : Option (List ℕ)) (text : List ℕ) (rest : StmtTrees) (n m : ℕ) → IsLess (summary_of_all cs w (without_list rest) n) (summary_of_all cs w rest (m + 0))
+        → IsLess (summary_of_all cs w (unless_named o (more_stmts (Comment text) rest) (without_list rest)) n) (summary_of_all cs w (more_stmts (Comment text) rest) m)
     unless_less None text rest n m h = all_same_less w cs (more_stmts (Comment text) rest) n m
-    unless_less (Some x) text rest n m h = behind_passing (sum_of_all cs w (without_list rest) n) (sum_of_all cs w rest (m + 0)) h
+    unless_less (Some x) text rest n m h = behind_passing (summary_of_all cs w (without_list rest) n) (summary_of_all cs w rest (m + 0)) h
 
-    without_less : (ss : StmtTrees) (n m : ℕ) → IsLess (sum_of_all cs w (without_list ss) n) (sum_of_all cs w ss m)
+    without_less : (ss : StmtTrees) (n m : ℕ) → IsLess (summary_of_all cs w (without_list ss) n) (summary_of_all cs w ss m)
     without_less no_stmts n m = less_itself passing
     without_less (more_stmts (Comment text) rest) n m = unless_less (listed_name text) text rest n m (without_less rest n (m + 0))
     without_less (more_stmts (Assign left right) rest) n m = all_same_less w cs (more_stmts (Assign left right) rest) n m
@@ -215,16 +215,16 @@ module _ (cs : List (List ℕ)) (w : List ℕ) (v : List ℕ) (ps : List Partial
     without_less (more_stmts Stop rest) n m = all_same_less w cs (more_stmts Stop rest) n m
 
     -- the whole body
-    body_less : (body : StmtTrees) (n m : ℕ) → IsLess (sum_of_all cs w (followed (zeros v ps) (all_summed v ps (without_list body))) m) (sum_of_all cs w body n)
+    body_less : (body : StmtTrees) (n m : ℕ) → IsLess (summary_of_all cs w (followed (zeros v ps) (all_summed v ps (without_list body))) m) (summary_of_all cs w body n)
     body_less body n m =
         let at_zeros = m + statements_count (zeros v ps) in
-        let inner = sum_of_all cs w (all_summed v ps (without_list body)) at_zeros in
-        let less = less_by inner (sum_of_all cs w (without_list body) n) (sum_of_all cs w body n) (all_summed_less (without_list body) n at_zeros) (without_less body n n) in
-        subst (λ (z : Summary). IsLess z (sum_of_all cs w body n)) (sym (followed_sum cs w (zeros v ps) (all_summed v ps (without_list body)) m ∙ ap (λ (z : Summary). sum_in_turn z inner) (zeros_pass ps m)))
-        (passing_before inner (sum_of_all cs w body n) less)
+        let inner = summary_of_all cs w (all_summed v ps (without_list body)) at_zeros in
+        let less = less_by inner (summary_of_all cs w (without_list body) n) (summary_of_all cs w body n) (all_summed_less (without_list body) n at_zeros) (without_less body n n) in
+        subst (λ (z : Summary). IsLess z (summary_of_all cs w body n)) (sym (followed_sum cs w (zeros v ps) (all_summed v ps (without_list body)) m ∙ ap (λ (z : Summary). summary_in_turn z inner) (zeros_pass ps m)))
+        (passing_before inner (summary_of_all cs w body n) less)
 
     -- the exit adds to other scalars
-    addition_passes : (p : Partials) (m : ℕ) → is_same_text w p.scalar ≡ false → sum_events w (own_events cs m (addition v p)) ≡ passing
+    addition_passes : (p : Partials) (m : ℕ) → is_same_text w p.scalar ≡ false → summary_events w (own_events cs m (addition v p)) ≡ passing
     addition_passes p m h =
         let right = Add (Var p.scalar) (Add (Mul (at p.high v) (Int 65536)) (at p.low v)) in
         let product = neither (scalars_in cs (at p.high v)) [] (element_none p.high) refl in
@@ -234,13 +234,13 @@ module _ (cs : List (List ℕ)) (w : List ℕ) (v : List ℕ) (ps : List Partial
         (reads_quiet m (scalars_in cs right) (neither (unless_constant cs p.scalar) (scalars_in cs (at p.high v) ++ [] ++ scalars_in cs (at p.low v)) (among_one p.scalar h) sum))
         (touched_by w assigns m (unless_constant cs p.scalar) ∙ among_one p.scalar h))
 
-    exits_pass : (qs : List Partials) → is_among w (scalars_of qs) ≡ false → (m : ℕ) → sum_of_all cs w (exits v qs) m ≡ passing
+    exits_pass : (qs : List Partials) → is_among w (scalars_of qs) ≡ false → (m : ℕ) → summary_of_all cs w (exits v qs) m ≡ passing
     exits_pass [] h m = refl
     exits_pass (p ∷ qs) h m =
         let parts = or_none (is_same_text w p.scalar) (is_among w (scalars_of qs)) h in
         let flag = quiet_events w (reads_of m (scalars_in cs (at p.flag v) ++ [])) (reads_quiet m (scalars_in cs (at p.flag v) ++ []) (neither (scalars_in cs (at p.flag v)) [] (element_none p.flag) refl)) in
         let add = addition_passes p (m + 1) parts.0 in
-        λ i. sum_in_turn (sum_in_turn (flag i) (sum_either (sum_in_turn (add i) passing) passing)) (exits_pass qs parts.1 (m + statement_count (exit v p)) i)
+        λ i. summary_in_turn (summary_in_turn (flag i) (summary_either (summary_in_turn (add i) passing) passing)) (exits_pass qs parts.1 (m + statement_count (exit v p)) i)
 
 -- a lowered DO
 module _ (cs : List (List ℕ)) (w : List ℕ) (ps : List Partials) (unsummed : is_among w (scalars_of ps) ≡ false) (parallel : Bool) (h : Head) (body : StmtTrees) (serial : h.parallel ≡ false) where
@@ -251,11 +251,11 @@ module _ (cs : List (List ℕ)) (w : List ℕ) (ps : List Partials) (unsummed : 
   new = followed (zeros h.variable ps) (all_summed h.variable ps (without_list body))
 
   abbrev own : ℕ → Summary
-  own m = sum_events w (own_events cs m (Do h body))
+  own m = summary_events w (own_events cs m (Do h body))
 
   -- the DO of the exit
   abbrev Exit : ℕ → Summary
-  Exit m = sum_of_all cs w (alone (Do (bare h) (exits h.variable ps))) m
+  Exit m = summary_of_all cs w (alone (Do (bare h) (exits h.variable ps))) m
 
   -- it clears at least as much
   starts : AreNoMore w (copied h body) (copied head new)
@@ -275,13 +275,13 @@ module _ (cs : List (List ℕ)) (w : List ℕ) (ps : List Partials) (unsummed : 
 
   -- where the scalar is another than the DO's variable
   module _ (other : is_same_text w h.variable ≡ false) where
-    first_less : (n m : ℕ) → IsLess (sum_of cs w (Do head new) m) (sum_of cs w (Do h body) n)
+    first_less : (n m : ℕ) → IsLess (summary_of cs w (Do head new) m) (summary_of cs w (Do h body) n)
     first_less n m =
-        in_turn_less (own m) (sum_loop w m head new (sum_of_all cs w new (m + 1))) (own n) (sum_loop w n h body (sum_of_all cs w body (n + 1))) (own_less w cs (Do h body) m n)
-        (loop_less w cs head h new body m n (sum_of_all cs w new (m + 1)) (sum_of_all cs w body (n + 1)) starts exits_more (body_less cs w h.variable ps unsummed other body (n + 1) (m + 1)))
+        in_turn_less (own m) (summary_loop w m head new (summary_of_all cs w new (m + 1))) (own n) (summary_loop w n h body (summary_of_all cs w body (n + 1))) (own_less w cs (Do h body) m n)
+        (loop_less w cs head h new body m n (summary_of_all cs w new (m + 1)) (summary_of_all cs w body (n + 1)) starts exits_more (body_less cs w h.variable ps unsummed other body (n + 1) (m + 1)))
 
-    exit_is : (m : ℕ) → Exit m ≡ sum_in_turn (sum_in_turn (own m) (sum_in_turn (sum_trips (sum_in_turn passing passing)) passing)) passing
-    exit_is m = ap (λ (z : Summary). sum_in_turn (sum_in_turn (own m) (sum_in_turn (sum_trips (sum_in_turn passing z)) passing)) passing) (exits_pass cs w h.variable ps unsummed other ps unsummed (m + 1))
+    exit_is : (m : ℕ) → Exit m ≡ summary_in_turn (summary_in_turn (own m) (summary_in_turn (summary_trips (summary_in_turn passing passing)) passing)) passing
+    exit_is m = ap (λ (z : Summary). summary_in_turn (summary_in_turn (own m) (summary_in_turn (summary_trips (summary_in_turn passing z)) passing)) passing) (exits_pass cs w h.variable ps unsummed other ps unsummed (m + 1))
 
     when_none : (b : Bool) → when b None ≡ None
     when_none true = refl
@@ -301,11 +301,11 @@ module _ (cs : List (List ℕ)) (w : List ℕ) (ps : List Partials) (unsummed : 
         none true = refl
         none false = refl
 
-    pub other_less : (n m : ℕ) → IsLess (sum_of_all cs w (lowered_loop parallel ps h body) m) (sum_of cs w (Do h body) n)
+    pub other_less : (n m : ℕ) → IsLess (summary_of_all cs w (lowered_loop parallel ps h body) m) (summary_of cs w (Do h body) n)
     other_less n m =
         let k = m + statement_count (Do head new) in
-        behind_less (sum_of cs w (Do head new) m) (sum_of cs w (Do h body) n) (Exit k) (first_less n m)
-        (λ e. exit_reads k ((own_less w cs (Do h body) k n).first (none_first (own n).first (when (own n).keeps (sum_loop w n h body (sum_of_all cs w body (n + 1))).first) e))) (exit_ends k)
+        behind_less (summary_of cs w (Do head new) m) (summary_of cs w (Do h body) n) (Exit k) (first_less n m)
+        (λ e. exit_reads k ((own_less w cs (Do h body) k n).first (none_first (own n).first (when (own n).keeps (summary_loop w n h body (summary_of_all cs w body (n + 1))).first) e))) (exit_ends k)
       where
         none_first : (a b : Option ℕ) → least_of a b ≡ None → a ≡ None
         none_first None b e = refl
@@ -316,33 +316,33 @@ module _ (cs : List (List ℕ)) (w : List ℕ) (ps : List Partials) (unsummed : 
   own_cut : (m : ℕ) → is_same_text w h.variable ≡ true → (own m).keeps ≡ false
   own_cut m e = events_keep w (own_events cs m (Do h body)) ∙ ap not (own_overwrites cs w (Do h body) m ∙ ap (λ (b : Bool). b || false) e)
 
-  same_variable_less : (n m : ℕ) → is_same_text w h.variable ≡ true → IsLess (sum_of_all cs w (lowered_loop parallel ps h body) m) (sum_of cs w (Do h body) n)
+  same_variable_less : (n m : ℕ) → is_same_text w h.variable ≡ true → IsLess (summary_of_all cs w (lowered_loop parallel ps h body) m) (summary_of cs w (Do h body) n)
   same_variable_less n m e =
-      let loop = sum_loop w m head new (sum_of_all cs w new (m + 1)) in
+      let loop = summary_loop w m head new (summary_of_all cs w new (m + 1)) in
       let behind = Exit (m + statement_count (Do head new)) in
-      subst (λ (z : Summary). IsLess z (sum_of cs w (Do h body) n)) (sym (in_turn-assoc (own m) loop behind))
-      (cut_less (own m) (sum_in_turn loop behind) (own n) (sum_loop w n h body (sum_of_all cs w body (n + 1))) (own_less w cs (Do h body) m n) (own_cut m e))
+      subst (λ (z : Summary). IsLess z (summary_of cs w (Do h body) n)) (sym (in_turn-assoc (own m) loop behind))
+      (cut_less (own m) (summary_in_turn loop behind) (own n) (summary_loop w n h body (summary_of_all cs w body (n + 1))) (own_less w cs (Do h body) m n) (own_cut m e))
 
   -- its paths say no more than those of the DO
-  pub lowered_less : (n m : ℕ) → IsLess (sum_of_all cs w (lowered_loop parallel ps h body) m) (sum_of cs w (Do h body) n)
+  pub lowered_less : (n m : ℕ) → IsLess (summary_of_all cs w (lowered_loop parallel ps h body) m) (summary_of cs w (Do h body) n)
   lowered_less n m = by (is_same_text w h.variable) refl
     where
-      by : (b : Bool) → is_same_text w h.variable ≡ b → IsLess (sum_of_all cs w (lowered_loop parallel ps h body) m) (sum_of cs w (Do h body) n)
+      by : (b : Bool) → is_same_text w h.variable ≡ b → IsLess (summary_of_all cs w (lowered_loop parallel ps h body) m) (summary_of cs w (Do h body) n)
       by true e = same_variable_less n m e
       by false e = other_less e n m
 
   -- what the DO that adds up does, where no bound reads the scalar
   abbrev pub Adding : ℕ → Summary
-  Adding m = sum_of cs w (Do (bare h) (exits h.variable ps)) m
+  Adding m = summary_of cs w (Do (bare h) (exits h.variable ps)) m
 
   abbrev Trips : ℕ → Summary
-  Trips m = sum_loop w m (bare h) (exits h.variable ps) (sum_of_all cs w (exits h.variable ps) (m + 1))
+  Trips m = summary_loop w m (bare h) (exits h.variable ps) (summary_of_all cs w (exits h.variable ps) (m + 1))
 
   pub adding_first : (m : ℕ) → (own m).first ≡ None → (Adding m).first ≡ None
   adding_first m none = by (is_same_text w h.variable) refl
     where
       by : (b : Bool) → is_same_text w h.variable ≡ b → (Adding m).first ≡ None
-      by false e = ap (λ (z : Summary). (sum_in_turn (own m) (sum_in_turn (sum_trips (sum_in_turn passing z)) passing)).first) (exits_pass cs w h.variable ps unsummed e ps unsummed (m + 1)) ∙ (λ i. least_of (none i) (when_none e (own m).keeps i))
+      by false e = ap (λ (z : Summary). (summary_in_turn (own m) (summary_in_turn (summary_trips (summary_in_turn passing z)) passing)).first) (exits_pass cs w h.variable ps unsummed e ps unsummed (m + 1)) ∙ (λ i. least_of (none i) (when_none e (own m).keeps i))
       by true e = λ i. least_of (none i) (when (own_cut m e i) (Trips m).first)
 
   pub adding_ends : (m : ℕ) → (Adding m).ends ≡ false
@@ -353,5 +353,5 @@ module _ (cs : List (List ℕ)) (w : List ℕ) (ps : List Partials) (unsummed : 
       none false = refl
 
       by : (b : Bool) → is_same_text w h.variable ≡ b → (Adding m).ends ≡ false
-      by false e = ap (λ (z : Summary). (sum_in_turn (own m) (sum_in_turn (sum_trips (sum_in_turn passing z)) passing)).ends) (exits_pass cs w h.variable ps unsummed e ps unsummed (m + 1)) ∙ (λ i. events_end w (own_events cs m (Do h body)) i || none (own m).keeps i)
+      by false e = ap (λ (z : Summary). (summary_in_turn (own m) (summary_in_turn (summary_trips (summary_in_turn passing z)) passing)).ends) (exits_pass cs w h.variable ps unsummed e ps unsummed (m + 1)) ∙ (λ i. events_end w (own_events cs m (Do h body)) i || none (own m).keeps i)
       by true e = λ i. events_end w (own_events cs m (Do h body)) i || (own_cut m e i && (Trips m).ends)

@@ -15,11 +15,11 @@ use Rattle.ped_rules.specs.ped_symbols.specs.Kinds.{table_of}
 use Rattle.ped_rules.specs.ped_symbols.proofs.RightUseLaws.Whole.{others_unvalued}
 use Rattle.ped_rules.specs.ped_flow.specs.Events.{event, assigns, scalars_in, own_events}
 use Rattle.ped_rules.specs.ped_flow.specs.Kept.{all_first_outside}
-use Rattle.ped_rules.specs.ped_flow.specs.Summaries.{sum_events, sum_behind_all, AreSummed}
+use Rattle.ped_rules.specs.ped_flow.specs.Summaries.{summary_events, summary_behind_all, AreSummed}
 use Rattle.ped_rules.specs.ped_flow.specs.Paths.{all_paths_behind}
 use Rattle.ped_rules.specs.ped_flow.specs.Questions.{LoopOf, IsFirst, IsReadBehind, IsShownBehind, IsLiveAfter, IsReadLoose, IsIndexIn, IsContained, all_reads_outside}
 use Rattle.ped_rules.specs.ped_flow.proofs.Truths.{untrue, or_split}
-use Rattle.ped_rules.specs.ped_flow.proofs.TreeSums.{all_behind-summed}
+use Rattle.ped_rules.specs.ped_flow.proofs.TreeSummaries.{all_behind-summed}
 use Rattle.ped_rules.specs.ped_flow.proofs.LooseReads.{all_outside_first}
 use Rattle.ped_rules.specs.ped_steps.specs.declared.rules.Rule.TheVariants.{ParallelState, NotScalar, NotConstant}
 use Rattle.ped_rules.specs.ped_steps.specs.Replacing.{followed, alone}
@@ -86,7 +86,7 @@ module _ (t : ProgramTree) (n : ℕ) (ps : List Partials) (h : Head) (body : Stm
         constant_unread values (constant_names t.decls) (λ x e. others_unvalued t x e) h.last b.1.0 b.1.1,
       )
 
-  pub own_unread : (w : List ℕ) (j : ℕ) → (sum_events w (own_events (constant_names t.decls) j (Do h body))).first ≡ None
+  pub own_unread : (w : List ℕ) (j : ℕ) → (summary_events w (own_events (constant_names t.decls) j (Do h body))).first ≡ None
   own_unread w j =
       first_read w j (scalars_in (constant_names t.decls) h.first ++ scalars_in (constant_names t.decls) h.last) (event j assigns h.variable ∷ [])
       (λ i. is_among w (bounds_unread.0 i ++ bounds_unread.1 i)) (assigned_first w (constant_names t.decls) j (h.variable ∷ []))
@@ -173,17 +173,17 @@ module _ (t u : ProgramTree) (s k : ℕ) (loop : LoopOf t s) (m : IsResembling t
     unsummed : is_among w (scalars_of ps) ≡ false
     unsummed = no_variable t s ps h loop.body m.summable w of_program
 
-    less : IsLess (sum_behind_all (constant_names t.decls) w k u.body 1) (sum_behind_all (constant_names t.decls) w s t.body 1)
+    less : IsLess (summary_behind_all (constant_names t.decls) w k u.body 1) (summary_behind_all (constant_names t.decls) w s t.body 1)
     less =
-        subst (λ (ts : StmtTrees). IsLess (sum_behind_all (constant_names t.decls) w k ts 1) (sum_behind_all (constant_names t.decls) w s t.body 1)) (sym m.new)
-        (subst (λ (ts : StmtTrees). IsLess (sum_behind_all (constant_names t.decls) w k (filled m.other (lowered_loop false ps h loop.body)) 1) (sum_behind_all (constant_names t.decls) w s ts 1)) (sym m.stands)
+        subst (λ (ts : StmtTrees). IsLess (summary_behind_all (constant_names t.decls) w k ts 1) (summary_behind_all (constant_names t.decls) w s t.body 1)) (sym m.new)
+        (subst (λ (ts : StmtTrees). IsLess (summary_behind_all (constant_names t.decls) w k (filled m.other (lowered_loop false ps h loop.body)) 1) (summary_behind_all (constant_names t.decls) w s ts 1)) (sym m.stands)
         (gap_behind t m.live (constant_names t.decls) w (λ n qs g body z. (no_variable t n qs g body z w of_program, not_parallel t n qs g body z)) ps h loop.body unsummed (not_parallel t s ps h loop.body m.summable)
         (own_unread t s ps h loop.body m.summable w) s k m.gap 1 1 m.other m.alike m.at m.number))
 
-    summed_new : AreSummed (all_paths_behind (constant_names u.decls) k u.body 1) w (sum_behind_all (constant_names t.decls) w k u.body 1)
-    summed_new = subst (λ (cs : List (List ℕ)). AreSummed (all_paths_behind (constant_names u.decls) k u.body 1) w (sum_behind_all cs w k u.body 1)) same_constants (all_behind-summed (constant_names u.decls) w k u.body 1)
+    summed_new : AreSummed (all_paths_behind (constant_names u.decls) k u.body 1) w (summary_behind_all (constant_names t.decls) w k u.body 1)
+    summed_new = subst (λ (cs : List (List ℕ)). AreSummed (all_paths_behind (constant_names u.decls) k u.body 1) w (summary_behind_all cs w k u.body 1)) same_constants (all_behind-summed (constant_names u.decls) w k u.body 1)
 
-    summed_old : AreSummed (all_paths_behind (constant_names t.decls) s t.body 1) w (sum_behind_all (constant_names t.decls) w s t.body 1)
+    summed_old : AreSummed (all_paths_behind (constant_names t.decls) s t.body 1) w (summary_behind_all (constant_names t.decls) w s t.body 1)
     summed_old = all_behind-summed (constant_names t.decls) w s t.body 1
 
     -- no number where there is none
@@ -201,8 +201,8 @@ module _ (t u : ProgramTree) (s k : ℕ) (loop : LoopOf t s) (m : IsResembling t
 
       unread : (n : ℕ) → IsReadBehind u k w n → ⊥
       unread n read =
-          is_none_of _ (sum_behind_all (constant_names t.decls) w k u.body 1).first
-          (less.first (none_is _ (sum_behind_all (constant_names t.decls) w s t.body 1).first summed_old.first (λ j q. dead (inl (j, record { path = q.0; leads = q.1; reads = q.2 })))))
+          is_none_of _ (summary_behind_all (constant_names t.decls) w k u.body 1).first
+          (less.first (none_is _ (summary_behind_all (constant_names t.decls) w s t.body 1).first summed_old.first (λ j q. dead (inl (j, record { path = q.0; leads = q.1; reads = q.2 })))))
           summed_new.first n (read.path, read.leads, read.reads)
 
       unshown : IsShownBehind u k w → ⊥

@@ -12,9 +12,9 @@ use Rattle.ped_rules.specs.ped_steps.specs.Runs.Gaps.{filled}
 use Rattle.ped_rules.specs.ped_flow.specs.Kept.{all_first_outside}
 use Rattle.ped_rules.specs.ped_flow.specs.Questions.{LoopOf, IsFirst, IsReadBehind, IsShownBehind, IsLiveAfter, all_reads_outside, IsReadLoose, IsIndexIn, IsContained}
 use Rattle.ped_rules.specs.ped_flow.specs.Paths.{all_paths_behind}
-use Rattle.ped_rules.specs.ped_flow.specs.Summaries.{sum_behind_all, AreSummed}
+use Rattle.ped_rules.specs.ped_flow.specs.Summaries.{summary_behind_all, AreSummed}
 use Rattle.ped_rules.specs.ped_flow.proofs.LooseReads.{all_outside_first}
-use Rattle.ped_rules.specs.ped_flow.proofs.TreeSums.{all_behind-summed}
+use Rattle.ped_rules.specs.ped_flow.proofs.TreeSummaries.{all_behind-summed}
 use Rattle.ped_rules.proofs.OneLoop.{one_loop}
 use Rattle.ped_reduce.specs.Lowering.{Lowered}
 use Rattle.ped_reduce.proofs.LesserPaths.{IsLess}
@@ -60,16 +60,16 @@ module _ (t : ProgramTree) (s : ℕ) (loop : LoopOf t s) (parallel : Bool) (p w 
     of_program : is_among x (all_loop_variables t.body) ≡ true
     of_program = ap (λ (ts : StmtTrees). is_among x (all_loop_variables ts)) place.stands ∙ in_gap loop.head loop.body x among_old place.gap
 
-    less : IsLess (sum_behind_all (constant_names t.decls) x (s + p.more) p.tree.body 1) (sum_behind_all (constant_names t.decls) x s t.body 1)
+    less : IsLess (summary_behind_all (constant_names t.decls) x (s + p.more) p.tree.body 1) (summary_behind_all (constant_names t.decls) x s t.body 1)
     less =
-        subst (λ (ts : StmtTrees). IsLess (sum_behind_all (constant_names t.decls) x (s + p.more) ts 1) (sum_behind_all (constant_names t.decls) x s t.body 1)) (sym place.old)
-        (subst (λ (ts : StmtTrees). IsLess (sum_behind_all (constant_names t.decls) x (s + p.more) (filled place.other (alone (Do loop.head loop.body))) 1) (sum_behind_all (constant_names t.decls) x s ts 1)) (sym place.stands)
+        subst (λ (ts : StmtTrees). IsLess (summary_behind_all (constant_names t.decls) x (s + p.more) ts 1) (summary_behind_all (constant_names t.decls) x s t.body 1)) (sym place.old)
+        (subst (λ (ts : StmtTrees). IsLess (summary_behind_all (constant_names t.decls) x (s + p.more) (filled place.other (alone (Do loop.head loop.body))) 1) (summary_behind_all (constant_names t.decls) x s ts 1)) (sym place.stands)
         (same_gap_behind t p.live (constant_names t.decls) x (λ n qs g body z. (no_variable t n qs g body z x of_program, not_parallel t n qs g body z)) loop.head loop.body s (s + p.more) place.gap 1 1 place.other place.alike place.at place.number))
 
-    summed_new : AreSummed (all_paths_behind (constant_names p.tree.decls) (s + p.more) p.tree.body 1) x (sum_behind_all (constant_names t.decls) x (s + p.more) p.tree.body 1)
-    summed_new = subst (λ (ds : List (List ℕ)). AreSummed (all_paths_behind (constant_names p.tree.decls) (s + p.more) p.tree.body 1) x (sum_behind_all ds x (s + p.more) p.tree.body 1)) stage_constants (all_behind-summed (constant_names p.tree.decls) x (s + p.more) p.tree.body 1)
+    summed_new : AreSummed (all_paths_behind (constant_names p.tree.decls) (s + p.more) p.tree.body 1) x (summary_behind_all (constant_names t.decls) x (s + p.more) p.tree.body 1)
+    summed_new = subst (λ (ds : List (List ℕ)). AreSummed (all_paths_behind (constant_names p.tree.decls) (s + p.more) p.tree.body 1) x (summary_behind_all ds x (s + p.more) p.tree.body 1)) stage_constants (all_behind-summed (constant_names p.tree.decls) x (s + p.more) p.tree.body 1)
 
-    summed_old : AreSummed (all_paths_behind (constant_names t.decls) s t.body 1) x (sum_behind_all (constant_names t.decls) x s t.body 1)
+    summed_old : AreSummed (all_paths_behind (constant_names t.decls) s t.body 1) x (summary_behind_all (constant_names t.decls) x s t.body 1)
     summed_old = all_behind-summed (constant_names t.decls) x s t.body 1
 
     -- no number where there is none
@@ -87,8 +87,8 @@ module _ (t : ProgramTree) (s : ℕ) (loop : LoopOf t s) (parallel : Bool) (p w 
 
       unread : (n : ℕ) → IsReadBehind p.tree (s + p.more) x n → ⊥
       unread n read =
-          is_none_of _ (sum_behind_all (constant_names t.decls) x (s + p.more) p.tree.body 1).first
-          (less.first (none_is _ (sum_behind_all (constant_names t.decls) x s t.body 1).first summed_old.first (λ j q. dead (inl (j, record { path = q.0; leads = q.1; reads = q.2 })))))
+          is_none_of _ (summary_behind_all (constant_names t.decls) x (s + p.more) p.tree.body 1).first
+          (less.first (none_is _ (summary_behind_all (constant_names t.decls) x s t.body 1).first summed_old.first (λ j q. dead (inl (j, record { path = q.0; leads = q.1; reads = q.2 })))))
           summed_new.first n (read.path, read.leads, read.reads)
 
       unshown : IsShownBehind p.tree (s + p.more) x → ⊥

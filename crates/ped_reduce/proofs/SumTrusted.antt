@@ -14,7 +14,7 @@ use Rattle.ped_tree.specs.declared.conditions.Relation.TheVariants.{Eq}
 use Rattle.ped_rules.specs.ped_flow.proofs.Truths.{or_none, and_split}
 use Rattle.ped_rules.specs.ped_flow.specs.PlainBounds.{all_loops_round, nest_round}
 use Rattle.ped_rules.specs.ped_flow.specs.Questions.{LoopOf, IsShownBehind}
-use Rattle.ped_rules.specs.ped_flow.specs.Summaries.{sum_of, sum_of_all}
+use Rattle.ped_rules.specs.ped_flow.specs.Summaries.{summary_of, summary_of_all}
 use Rattle.ped_rules.specs.ped_laws.proofs.FlowRunLaws.Stopping.{fitting_stops, loop_stops}
 use Rattle.ped_rules.specs.ped_laws.specs.Acts.Orders.{IsIn}
 use Rattle.ped_rules.specs.ped_laws.specs.FlowRuns.Covering.{has_stop, some_stop}
@@ -375,12 +375,12 @@ module _ (t : ProgramTree) (s : ℕ) (loop : LoopOf t s) (ps : List Partials) (v
       (sym (ap (λ (ts : StmtTrees). all_loops_round s ts 1) gap.old_is ∙ gap_nest s (alone (Do d body)) (omega arith) gap.gap 1 gap.number))
       ∙ (or_none d.parallel (list_any (λ (m : Loop). m.head.parallel) (nest_round t s)) may.in_order).1
 
-  leaves : (w : List ℕ) → is_among w (all_loop_variables new) ≡ false → (sum_of_all cs w new (start_of exchange)).keeps ≡ true → (sum_of_all cs w (alone (Do d body)) (start_of exchange)).keeps ≡ true
+  leaves : (w : List ℕ) → is_among w (all_loop_variables new) ≡ false → (summary_of_all cs w new (start_of exchange)).keeps ≡ true → (summary_of_all cs w (alone (Do d body)) (start_of exchange)).keeps ≡ true
   leaves w none keeps =
       let n : ℕ = start_of exchange in
       let outside : is_among w (loop_variables (Do d body)) ≡ false = sym (same_variables w) ∙ none in
       let new_outside : is_among w (loop_variables (Do h inner)) ≡ false = ap (λ (names : List (List ℕ)). is_among w (d.variable ∷ names)) inner_loops ∙ outside in
-      let first = (and_split (sum_of cs w (Do h inner) n).keeps (sum_of_all cs w (alone (Do (bare d) (exits d.variable ps))) (n + statement_count (Do h inner))).keeps keeps).0 in
+      let first = (and_split (summary_of cs w (Do h inner) n).keeps (summary_of_all cs w (alone (Do (bare d) (exits d.variable ps))) (n + statement_count (Do h inner))).keeps keeps).0 in
       let unprivate : not (is_among w d.private) ≡ true = sym (cleared_private cs w h inner n new_outside) ∙ first in
       λ i. (cleared_private cs w d body n outside ∙ unprivate) i && true
 

@@ -6,7 +6,7 @@ use Rattle.ped_tree.specs.Numbering.{statements_count}
 use Rattle.ped_tree.specs.Accesses.{constant_names}
 use Rattle.ped_tree.specs.NamesIn.{loop_variables, all_loop_variables}
 use Rattle.ped_rules.specs.ped_flow.specs.Questions.{LoopOf, IsIndexIn, IsShownBehind}
-use Rattle.ped_rules.specs.ped_flow.specs.Summaries.{unreached, sum_of_all, sum_behind_all}
+use Rattle.ped_rules.specs.ped_flow.specs.Summaries.{unreached, summary_of_all, summary_behind_all}
 use Rattle.ped_rules.specs.ped_flow.proofs.Truths.{untrue}
 use Rattle.ped_rules.specs.ped_steps.specs.Tidy.{is_written_in, IsTidy}
 use Rattle.ped_rules.specs.ped_steps.specs.Runs.Gaps.{filled}
@@ -52,7 +52,7 @@ pub record KeepVariables (x : Exchange) (t u : ProgramTree) : Type 0 where
   pub variables : (w : List ℕ) → is_among w (all_loop_variables x.new) ≡ is_among w (all_loop_variables (old_of x))
   pub unshown : (w : List ℕ) → is_among w (all_loop_variables (old_of x)) ≡ true → IsShownBehind t (loop_of x) w → ⊥
   pub unwritten : some_write_index (constant_names t.decls) u.body ≡ false
-  pub leaves : (w : List ℕ) → is_among w (all_loop_variables x.new) ≡ false → (sum_of_all (constant_names t.decls) w x.new (start_of x)).keeps ≡ true → (sum_of_all (constant_names t.decls) w (old_of x) (start_of x)).keeps ≡ true
+  pub leaves : (w : List ℕ) → is_among w (all_loop_variables x.new) ≡ false → (summary_of_all (constant_names t.decls) w x.new (start_of x)).keeps ≡ true → (summary_of_all (constant_names t.decls) w (old_of x) (start_of x)).keeps ≡ true
 
 module _ (x : Exchange) (t u : ProgramTree) (keep : KeepVariables x t u) (tidy : IsTidy t) where
   abbrev cs : List (List ℕ)
@@ -72,9 +72,9 @@ module _ (x : Exchange) (t u : ProgramTree) (keep : KeepVariables x t u) (tidy :
   other_shown : (k m : ℕ) (w : List ℕ) → is_among w (all_loop_variables x.new) ≡ false → IsStaying x k m → IsShownBehind u m w → IsShownBehind t k w
   other_shown k m w other stays =
       shown_by u t w m k is.saved
-      (subst (λ (names : List (List ℕ)). IsNoMore (sum_behind_all names w m u.body 1) (sum_behind_all cs w k t.body 1)) (sym is.constants)
-      (subst (λ (ss : StmtTrees). IsNoMore (sum_behind_all cs w m ss 1) (sum_behind_all cs w k t.body 1)) (sym keep.body)
-      (subst (λ (ss : StmtTrees). IsNoMore (sum_behind_all cs w m (filled x.gap x.new) 1) (sum_behind_all cs w k ss 1)) (sym is.old_body)
+      (subst (λ (names : List (List ℕ)). IsNoMore (summary_behind_all names w m u.body 1) (summary_behind_all cs w k t.body 1)) (sym is.constants)
+      (subst (λ (ss : StmtTrees). IsNoMore (summary_behind_all cs w m ss 1) (summary_behind_all cs w k t.body 1)) (sym keep.body)
+      (subst (λ (ss : StmtTrees). IsNoMore (summary_behind_all cs w m (filled x.gap x.new) 1) (summary_behind_all cs w k ss 1)) (sym is.old_body)
       (gap_behind cs w x.new (old_of x) less (start_of x) m k before behind here x.gap 1 refl))))
     where
       less : LeaveNoMore (constant_names t.decls) w x.new (old_of x)
@@ -107,10 +107,10 @@ module _ (x : Exchange) (t u : ProgramTree) (keep : KeepVariables x t u) (tidy :
           by (inl p) = let e = p.0 in let f = p.1 in grind (arith, eqb-true, a, e, f)
           by (inr p) = let f = p.2 in grind (arith, eqb-true, a, f)
 
-      here : IsNoMore (sum_behind_all (constant_names t.decls) w m x.new (start_of x)) (sum_behind_all (constant_names t.decls) w k (old_of x) (start_of x))
+      here : IsNoMore (summary_behind_all (constant_names t.decls) w m x.new (start_of x)) (summary_behind_all (constant_names t.decls) w k (old_of x) (start_of x))
       here =
-          no_more_by (sum_behind_all (constant_names t.decls) w m x.new (start_of x)) unreached (sum_behind_all (constant_names t.decls) w k (old_of x) (start_of x))
-          (all_behind_none (constant_names t.decls) w x.new m (start_of x) outside) (unreached_more (sum_behind_all (constant_names t.decls) w k (old_of x) (start_of x)))
+          no_more_by (summary_behind_all (constant_names t.decls) w m x.new (start_of x)) unreached (summary_behind_all (constant_names t.decls) w k (old_of x) (start_of x))
+          (all_behind_none (constant_names t.decls) w x.new m (start_of x) outside) (unreached_more (summary_behind_all (constant_names t.decls) w k (old_of x) (start_of x)))
 
   kept : (w : List ℕ) → is_among w (all_loop_variables (old_of x)) ≡ true → is_among w (all_loop_variables x.new) ≡ true
   kept w e = keep.variables w ∙ e

@@ -14,9 +14,9 @@ ghost use Rattle.ped_reduce.specs.Reducing.{IsLowered, reducing};
 
 use ped_rules::{parallel_is_lawful, private_names_cleared, stays_trusted};
 
-/// `reduce` has one first cause at most and makes one program. Where nothing forbids it, that one is valid; and if the old one
-/// is tidy and without C$PED REJECT, so is the new one, and it means the same: the list is a comment (ParaScope). With such
-/// lines it does, too.
+/// `reduce` has one first cause at most and makes one program. Where nothing forbids it, that one is valid if the old one is;
+/// and if the old one is also tidy and without C$PED REJECT, so is the new one, and it means the same: the list is a comment
+/// (ParaScope). With such lines it does on data on which they are true, if both are tidy.
 pub fn reduction_is_lawful()
     ensures { (s : ℕ) (names : List (List ℕ)) → IsLawful (reducing s names) }
 {

@@ -16,7 +16,7 @@ use Rattle.ped_rules.specs.ped_steps.proofs.RunLaws.ReplacedTrees.{HasGap, progr
 use Rattle.ped_rules.specs.ped_steps.specs.Replacing.{alone, followed, program_with}
 use Rattle.ped_rules.specs.ped_flow.proofs.Truths.{untrue}
 use Rattle.ped_rules.specs.ped_flow.specs.Questions.{IsContained, IsShownBehind, LoopOf}
-use Rattle.ped_rules.specs.ped_flow.specs.Summaries.{sum_of, sum_of_all}
+use Rattle.ped_rules.specs.ped_flow.specs.Summaries.{summary_of, summary_of_all}
 use Rattle.ped_rules.specs.ped_laws.proofs.FlowRunLaws.Stopping.{fitting_stops, loop_stops}
 use Rattle.ped_rules.specs.ped_laws.specs.FlowRuns.Covering.{has_stop, some_stop}
 use Rattle.ped_sums.specs.Sums.{literal}
@@ -180,14 +180,14 @@ module _ (t : ProgramTree) (valid : IsValid t) (s : ℕ) (loop : LoopOf t s) (la
       (indices_unwritten cs (kind_in t) d.variable (literal p.value) (λ w. literal_unwritten cs w p.value) body right old.1) ((λ i. (left_parallel last p.bound d i && list_any (λ w. all_write cs w body) (left_variable last p.bound d i ∷ all_loop_variables body)) || some_write_index cs body) ∙ none_first _ _ none)
 
   -- where the new statements leave a name as it is, the DO among them does
-  loop_keeps : (w : List ℕ) (n : ℕ) → (sum_of_all cs w new n).keeps ≡ true → (m : ℕ) × ((sum_of cs w rest_loop m).keeps ≡ true)
+  loop_keeps : (w : List ℕ) (n : ℕ) → (summary_of_all cs w new n).keeps ≡ true → (m : ℕ) × ((summary_of cs w rest_loop m).keeps ≡ true)
   loop_keeps w n keeps = go last keeps
     where
-      go : (b : Bool) → (sum_of_all cs w (with_peeled b p d body) n).keeps ≡ true → (m : ℕ) × ((sum_of cs w (Do (left_head b p.bound d) body) m).keeps ≡ true)
+      go : (b : Bool) → (summary_of_all cs w (with_peeled b p d body) n).keeps ≡ true → (m : ℕ) × ((summary_of cs w (Do (left_head b p.bound d) body) m).keeps ≡ true)
       go false k =
-          let both = and_parts (sum_of_all cs w copy n).keeps (sum_of_all cs w (alone (Do (left_head false p.bound d) body)) (n + statements_count copy)).keeps (ap (λ (m : Summary). m.keeps) (sym (followed_sum cs w copy (alone (Do (left_head false p.bound d) body)) n)) ∙ k) in
-          (n + statements_count copy, (and_parts (sum_of cs w (Do (left_head false p.bound d) body) (n + statements_count copy)).keeps true both.1).0)
-      go true k = (n, (and_parts (sum_of cs w (Do (left_head true p.bound d) body) n).keeps (sum_of_all cs w copy (n + statement_count (Do (left_head true p.bound d) body))).keeps k).0)
+          let both = and_parts (summary_of_all cs w copy n).keeps (summary_of_all cs w (alone (Do (left_head false p.bound d) body)) (n + statements_count copy)).keeps (ap (λ (m : Summary). m.keeps) (sym (followed_sum cs w copy (alone (Do (left_head false p.bound d) body)) n)) ∙ k) in
+          (n + statements_count copy, (and_parts (summary_of cs w (Do (left_head false p.bound d) body) (n + statements_count copy)).keeps true both.1).0)
+      go true k = (n, (and_parts (summary_of cs w (Do (left_head true p.bound d) body) n).keeps (summary_of_all cs w copy (n + statement_count (Do (left_head true p.bound d) body))).keeps k).0)
 
   leaves_alone : ClearedLaw → IsContained t s → LeavesAlone exchange t
   leaves_alone cleared contained = record {

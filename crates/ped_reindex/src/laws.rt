@@ -8,9 +8,9 @@ ghost use Rattle.ped_reindex.specs.Peeling.{peeling};
 
 use ped_rules::{private_names_cleared, stays_trusted};
 
-/// `skew` has one first cause at most and makes one program; where nothing forbids it, that one is valid, has no C$PED REJECT
-/// and is tidy if the old one is so, and means the same (Allen and Kennedy, section 5.9; ParaScope). With such lines it does,
-/// too, if both are tidy.
+/// `skew` has one first cause at most and makes one program. Where nothing forbids it, that one is valid if the old one is;
+/// and if the old one is also tidy and without C$PED REJECT, so is the new one, and it means the same (Allen and Kennedy,
+/// section 5.9; ParaScope). With such lines it does on data on which they are true, if both are tidy.
 pub fn skewing_is_lawful()
     ensures { (s : ℕ) (f : ℤ) → IsLawful (skewing s f) }
 {

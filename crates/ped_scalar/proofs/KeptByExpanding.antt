@@ -16,9 +16,9 @@ use Rattle.ped_tree.specs.NamesIn.{all_loop_variables}
 use Rattle.ped_rules.specs.ped_flow.specs.Paths.{all_paths}
 use Rattle.ped_rules.specs.ped_flow.specs.PlainBounds.{nest_round}
 use Rattle.ped_rules.specs.ped_flow.specs.Questions.{LoopOf, IsFirst, IsExposed, IsReadBehind, IsLiveAfter, IsAssignedThrough}
-use Rattle.ped_rules.specs.ped_flow.specs.Summaries.{sum_of_all, sum_behind_all}
+use Rattle.ped_rules.specs.ped_flow.specs.Summaries.{summary_of_all, summary_behind_all}
 use Rattle.ped_rules.specs.ped_flow.proofs.Answering.{assigned_by, through_loop, read_behind}
-use Rattle.ped_rules.specs.ped_flow.proofs.TreeSums.{all_summed, all_behind-summed}
+use Rattle.ped_rules.specs.ped_flow.proofs.TreeSummaries.{all_summed, all_behind-summed}
 use Rattle.ped_rules.specs.ped_laws.proofs.FlowRunLaws.Names.{sorted_among, inner_among}
 use Rattle.ped_rules.specs.ped_steps.specs.Causes.{NoRule}
 use Rattle.ped_rules.specs.ped_steps.specs.Tidy.{is_written_in, IsTidy}
@@ -100,7 +100,7 @@ module _ (t : ProgramTree) (s : ℕ) (x : List ℕ) (l : LoopOf t s) (valid : Is
 
   -- the statement by which a scalar is live
   live_by : IsLiveAfter t s x → (n : ℕ) × IsLiveBy t s x n
-  live_by live = by (sum_behind_all constants x s t.body 1).first (read_behind t s x (sum_behind_all constants x s t.body 1).first (all_behind-summed constants x s t.body 1).first) live
+  live_by live = by (summary_behind_all constants x s t.body 1).first (read_behind t s x (summary_behind_all constants x s t.body 1).first (all_behind-summed constants x s t.body 1).first) live
     where
       by : (o : Option ℕ) → IsFirst (IsReadBehind t s x) o → IsLiveAfter t s x → (n : ℕ) × IsLiveBy t s x n
       by (Some n) first live = (n, inl first)
@@ -108,7 +108,7 @@ module _ (t : ProgramTree) (s : ℕ) (x : List ℕ) (l : LoopOf t s) (valid : Is
       by None first (inr shown) = (s, inr (first, shown, refl))
 
   abbrev sum : Summary
-  sum = sum_of_all constants x l.body (s + 1)
+  sum = summary_of_all constants x l.body (s + 1)
 
   abbrev assigned : Bool
   assigned = not sum.keeps && not sum.loses

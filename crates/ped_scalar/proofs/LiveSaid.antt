@@ -7,8 +7,8 @@ use Rattle.ped_tree.specs.Accesses.{constant_names}
 use Rattle.ped_tree.specs.NamesIn.{saved_in}
 use Rattle.ped_rules.specs.ped_flow.specs.Paths.{paths_from_exit}
 use Rattle.ped_rules.specs.ped_flow.specs.Questions.{IsFirst, IsReadBehind, IsShownBehind, IsLiveAfter}
-use Rattle.ped_rules.specs.ped_flow.specs.Summaries.{AreSummed, sum_behind_all}
-use Rattle.ped_rules.specs.ped_flow.proofs.TreeSums.{all_behind-summed}
+use Rattle.ped_rules.specs.ped_flow.specs.Summaries.{AreSummed, summary_behind_all}
+use Rattle.ped_rules.specs.ped_flow.proofs.TreeSummaries.{all_behind-summed}
 use Rattle.ped_rules.specs.ped_flow.proofs.Answering.{read_behind, Left, left_is}
 use Rattle.ped_rules.specs.ped_loop_runs.proofs.TidyLaws.TidyPathsSums.{Summary}
 use Rattle.ped_scalar.specs.Expanding.{SaysLive}
@@ -20,7 +20,7 @@ truth_decided false = inr (λ h. true_not_false false h refl)
 
 module _ (t : ProgramTree) (s : ℕ) (x : List ℕ) where
   abbrev pub behind : Summary
-  behind = sum_behind_all (constant_names t.decls) x s t.body 1
+  behind = summary_behind_all (constant_names t.decls) x s t.body 1
 
   pub behind_summed : AreSummed (paths_from_exit t s) x behind
   behind_summed = all_behind-summed (constant_names t.decls) x s t.body 1

@@ -12,7 +12,7 @@ use Rattle.ped_tree.specs.NamesIn.{loop_variables, all_loop_variables}
 use Rattle.ped_rules.specs.ped_flow.specs.Events.{copied, own_events, exit_events}
 use Rattle.ped_rules.specs.ped_flow.specs.Questions.{LoopOf, IsIndexIn, IsShownBehind}
 use Rattle.ped_tree.specs.NamesIn.{saved_in}
-use Rattle.ped_rules.specs.ped_flow.specs.Summaries.{passing, unreached, sum_in_turn, sum_events, sum_loop, sum_of, sum_of_all, sum_at_once, sum_behind_all}
+use Rattle.ped_rules.specs.ped_flow.specs.Summaries.{passing, unreached, summary_in_turn, summary_events, summary_loop, summary_of, summary_of_all, summary_at_once, summary_behind_all}
 use Rattle.ped_rules.specs.ped_flow.proofs.Truths.{untrue, or_none}
 use Rattle.ped_rules.specs.ped_laws.specs.FlowRuns.Covering.{some_stop}
 use Rattle.ped_sums.specs.Sums.{literal}
@@ -52,13 +52,13 @@ placed_from live end l a b h e = go (nat_lt end l) live refl e
     go false true f g = grind (arith, eqb-true, f, g, h)
 
 module _ (cs : List (List ℕ)) (w x array : List ℕ) (live : Bool) (last : ℤ) where
-  kept_passes : (b : Bool) (n : ℕ) → IsNoMore (sum_of_all cs w (kept_value b x array last) n) passing
+  kept_passes : (b : Bool) (n : ℕ) → IsNoMore (summary_of_all cs w (kept_value b x array last) n) passing
   kept_passes true n =
       let s = Assign (Var x) (element array (literal last)) in
-      in_turn_more (sum_of cs w s n) passing passing passing (events_pass w (own_events cs n s)) (no_more passing)
+      in_turn_more (summary_of cs w s n) passing passing passing (events_pass w (own_events cs n s)) (no_more passing)
   kept_passes false n = no_more passing
 
-  kept_behind : (b : Bool) (k n : ℕ) → IsNoMore (sum_behind_all cs w k (kept_value b x array last) n) unreached
+  kept_behind : (b : Bool) (k n : ℕ) → IsNoMore (summary_behind_all cs w k (kept_value b x array last) n) unreached
   kept_behind true k n = no_more unreached
   kept_behind false k n = no_more unreached
 
@@ -88,18 +88,18 @@ module _ (cs : List (List ℕ)) (w x array : List ℕ) (live : Bool) (last : ℤ
         loops = expanded_loops;
       }
 
-      others_behind : (s k l : ℕ) → (k == s) ≡ (l == s) → IsPlaced k (s + 1) l (s + 1) (statements_count body) → IsNoMore (sum_behind_all cs w k new s) (sum_behind_all cs w l (alone (Do h body)) s)
+      others_behind : (s k l : ℕ) → (k == s) ≡ (l == s) → IsPlaced k (s + 1) l (s + 1) (statements_count body) → IsNoMore (summary_behind_all cs w k new s) (summary_behind_all cs w l (alone (Do h body)) s)
       others_behind s k l here inside =
           rest_behind_more cs w (Do h inner) (Do h body) (kept_value live x array last) no_stmts k s l s (s + statement_count (Do h inner)) (s + statement_count (Do h body))
           (loop_behind_more cs w h h inner body k s l s here
-          (no_more_by (sum_behind_all cs w k inner (s + 1)) (sum_behind_all cs w k body (s + 1)) (sum_behind_all cs w l body (s + 1))
+          (no_more_by (summary_behind_all cs w k inner (s + 1)) (summary_behind_all cs w k body (s + 1)) (summary_behind_all cs w l body (s + 1))
           (all_substituted_behind x by cs w other body k (s + 1)) (all_behind_placed cs w body k (s + 1) l (s + 1) inside))
-          (loop_more cs w h h inner body s s (sum_of_all cs w inner (s + 1)) (sum_of_all cs w body (s + 1)) (same_head_clears cs w h inner body (variables_clear x by cs w body)) (all_substituted_leave x by cs w other body (s + 1) (s + 1))))
+          (loop_more cs w h h inner body s s (summary_of_all cs w inner (s + 1)) (summary_of_all cs w body (s + 1)) (same_head_clears cs w h inner body (variables_clear x by cs w body)) (all_substituted_leave x by cs w other body (s + 1) (s + 1))))
           (kept_passes live (s + statement_count (Do h inner))) (kept_behind live k (s + statement_count (Do h inner)))
 
     -- a scalar that the DO leaves as it is where it makes no trip
     module _ (variable : is_same_text w h.variable ≡ false) (private : is_among w h.private ≡ false) (serial : h.parallel ≡ false) (unstopped_body : some_stop body ≡ false) where
-      entry_keeps : (m : ℕ) → (sum_events w (own_events cs m (Do h body))).keeps ≡ true
+      entry_keeps : (m : ℕ) → (summary_events w (own_events cs m (Do h body))).keeps ≡ true
       entry_keeps m = events_keep w (own_events cs m (Do h body)) ∙ ap not (own_overwrites cs w (Do h body) m ∙ (λ i. variable i || false))
 
       exit_clears : is_among w (own_exit h ++ copied h body) ≡ false
@@ -107,31 +107,31 @@ module _ (cs : List (List ℕ)) (w x array : List ℕ) (live : Bool) (last : ℤ
           ap (λ (p : Bool). is_among w ((if p then h.variable ∷ [] else []) ++ (h.private ++ (if p then all_loop_variables body else [])))) serial
           ∙ list_any-append (is_same_text w) h.private [] ∙ (λ i. private i || false)
 
-      exit_keeps : (m : ℕ) → (sum_events w (exit_events m h body)).keeps ≡ true
+      exit_keeps : (m : ℕ) → (summary_events w (exit_events m h body)).keeps ≡ true
       exit_keeps m = events_keep w (exit_events m h body) ∙ ap not (clear_all w m (own_exit h ++ copied h body) ∙ exit_clears)
 
-      loop_keeps : (m : ℕ) → (sum_of_all cs w (alone (Do h body)) m).keeps ≡ true
+      loop_keeps : (m : ℕ) → (summary_of_all cs w (alone (Do h body)) m).keeps ≡ true
       loop_keeps m = λ i. (entry_keeps m i && exit_keeps m i) && true
 
-      itself_passes : (n : ℕ) → IsNoMore (sum_of_all cs w new n) passing
+      itself_passes : (n : ℕ) → IsNoMore (summary_of_all cs w new n) passing
       itself_passes n =
-          in_turn_more (sum_of cs w (Do h inner) n) (sum_of_all cs w (kept_value live x array last) (n + statement_count (Do h inner))) passing passing
+          in_turn_more (summary_of cs w (Do h inner) n) (summary_of_all cs w (kept_value live x array last) (n + statement_count (Do h inner))) passing passing
           (unstopped cs w (Do h inner) n (stops_kept x by body ∙ unstopped_body)) (kept_passes live (n + statement_count (Do h inner)))
 
       itself_leaves : LeaveNoMore cs w new (alone (Do h body))
       itself_leaves = record {
-        summed = λ n m. no_more_by (sum_of_all cs w new n) passing (sum_of_all cs w (alone (Do h body)) m) (itself_passes n) (record { keeps = λ e. loop_keeps m; ends = λ e. untrue e });
+        summed = λ n m. no_more_by (summary_of_all cs w new n) passing (summary_of_all cs w (alone (Do h body)) m) (itself_passes n) (record { keeps = λ e. loop_keeps m; ends = λ e. untrue e });
         loops = expanded_loops;
       }
 
-      itself_behind : (s k l : ℕ) → (k == s) ≡ (l == s) → IsOutside k (s + 1) (statements_count inner) → IsNoMore (sum_behind_all cs w k new s) (sum_behind_all cs w l (alone (Do h body)) s)
+      itself_behind : (s k l : ℕ) → (k == s) ≡ (l == s) → IsOutside k (s + 1) (statements_count inner) → IsNoMore (summary_behind_all cs w k new s) (summary_behind_all cs w l (alone (Do h body)) s)
       itself_behind s k l here outside =
-          let trips = sum_loop w s h inner (sum_of_all cs w inner (s + 1)) in
-          let others = sum_in_turn (sum_behind_all cs w l body (s + 1)) (sum_loop w s h body (sum_of_all cs w body (s + 1))) in
+          let trips = summary_loop w s h inner (summary_of_all cs w inner (s + 1)) in
+          let others = summary_in_turn (summary_behind_all cs w l body (s + 1)) (summary_loop w s h body (summary_of_all cs w body (s + 1))) in
           rest_behind_more cs w (Do h inner) (Do h body) (kept_value live x array last) no_stmts k s l s (s + statement_count (Do h inner)) (s + statement_count (Do h body))
-          (either_more (sum_at_once (k == s)) (sum_in_turn (sum_behind_all cs w k inner (s + 1)) trips) (sum_at_once (l == s)) others
+          (either_more (summary_at_once (k == s)) (summary_in_turn (summary_behind_all cs w k inner (s + 1)) trips) (summary_at_once (l == s)) others
           (at_once_more k s l s here)
-          (no_more_by (sum_in_turn (sum_behind_all cs w k inner (s + 1)) trips) unreached others (in_turn_none (sum_behind_all cs w k inner (s + 1)) trips (all_behind_none cs w inner k (s + 1) outside)) (unreached_more others)))
+          (no_more_by (summary_in_turn (summary_behind_all cs w k inner (s + 1)) trips) unreached others (in_turn_none (summary_behind_all cs w k inner (s + 1)) trips (all_behind_none cs w inner k (s + 1) outside)) (unreached_more others)))
           (kept_passes live (s + statement_count (Do h inner))) (kept_behind live k (s + statement_count (Do h inner)))
 
 -- a declaration that gives nothing
@@ -159,7 +159,7 @@ module _ (t : ProgramTree) (s : ℕ) (loop : LoopOf t s) (x array : List ℕ) (l
       placed_from live end k (s + (statements_count (statements_substituted x elements loop.body) + 1 + statements_count (kept_value live x array v.last)) + i) b (omega arith) (first ∙ kept_count live x array v.last b)
 
   shows_less : (k : ℕ) (w : List ℕ) → LeaveNoMore (constant_names t.decls) w (with_elements x array live v.last (Do loop.head loop.body)) (alone (Do loop.head loop.body))
-      → IsNoMore (sum_behind_all (constant_names t.decls) w (moved_behind end live k) (with_elements x array live v.last (Do loop.head loop.body)) s) (sum_behind_all (constant_names t.decls) w k (alone (Do loop.head loop.body)) s)
+      → IsNoMore (summary_behind_all (constant_names t.decls) w (moved_behind end live k) (with_elements x array live v.last (Do loop.head loop.body)) s) (summary_behind_all (constant_names t.decls) w k (alone (Do loop.head loop.body)) s)
       → IsShownBehind (expanded t s x live array v) (moved_behind end live k) w → IsShownBehind t k w
   shows_less k w less here =
       exchanged_shows_less (with_elements x array live v.last) s (Do loop.head loop.body) t (expanded t s x live array v) w (moved_behind end live k) k loop.is refl

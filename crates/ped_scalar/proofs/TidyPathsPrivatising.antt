@@ -6,7 +6,7 @@ use Rattle.ped_tree.specs.Tree.{Head, StmtTrees, Do, no_stmts, ProgramTree}
 use Rattle.ped_tree.specs.Numbering.{statement_count}
 use Rattle.ped_tree.specs.Accesses.{constant_names}
 use Rattle.ped_rules.specs.ped_flow.specs.Questions.{LoopOf, IsShownBehind}
-use Rattle.ped_rules.specs.ped_flow.specs.Summaries.{passing, unreached, sum_of_all, sum_behind_all}
+use Rattle.ped_rules.specs.ped_flow.specs.Summaries.{passing, unreached, summary_of_all, summary_behind_all}
 use Rattle.ped_rules.specs.ped_steps.specs.Replacing.{alone}
 use Rattle.ped_scalar.specs.Privatising.{with_private, privatised}
 use Rattle.ped_rules.specs.ped_loop_runs.proofs.TidyLaws.TidyPathsSums.{IsNoMore, ClearsAll, no_more, loop_more, do_more, more_more, any_numbers}
@@ -34,12 +34,12 @@ module _ (cs : List (List ℕ)) (w x : List ℕ) (h : Head) (body : StmtTrees) w
     loops = λ e. e;
   }
 
-  private_behind : (k s : ℕ) → IsNoMore (sum_behind_all cs w k (with_private x (Do h body)) s) (sum_behind_all cs w k (alone (Do h body)) s)
+  private_behind : (k s : ℕ) → IsNoMore (summary_behind_all cs w k (with_private x (Do h body)) s) (summary_behind_all cs w k (alone (Do h body)) s)
   private_behind k s =
       let i : ℕ = s + statement_count (Do h body) in
       rest_behind_more cs w (Do private_head body) (Do h body) no_stmts no_stmts k s k s i i
-      (loop_behind_more cs w private_head h body body k s k s refl (no_more (sum_behind_all cs w k body (s + 1)))
-      (loop_more cs w private_head h body body s s (sum_of_all cs w body (s + 1)) (sum_of_all cs w body (s + 1)) private_clears (no_more (sum_of_all cs w body (s + 1)))))
+      (loop_behind_more cs w private_head h body body k s k s refl (no_more (summary_behind_all cs w k body (s + 1)))
+      (loop_more cs w private_head h body body s s (summary_of_all cs w body (s + 1)) (summary_of_all cs w body (s + 1)) private_clears (no_more (summary_of_all cs w body (s + 1)))))
       (no_more passing) (no_more unreached)
 
 -- what may be shown behind a DO of the new program may be shown behind that DO of the old one

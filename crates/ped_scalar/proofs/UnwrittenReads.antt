@@ -14,7 +14,7 @@ use Rattle.ped_rules.specs.ped_symbols.specs.declared.symbols.Kind.{Kind}
 use Rattle.ped_rules.specs.ped_symbols.specs.declared.symbols.Kind.TheVariants.{Scalar, Array, Constant}
 use Rattle.ped_rules.specs.ped_symbols.specs.RightUses.RightUses.{NameKinds, is_scalar, is_scalar_kind, is_array_kind, has_rank, is_rank, expr_is_right, exprs_are_right, target_is_right, cond_is_right, item_is_right, head_is_right}
 use Rattle.ped_rules.specs.ped_flow.specs.Events.{Event, reads, assigns, event, scalars_in, all_scalars_in, scalars_in_cond, scalars_in_item, reads_of, left_events, own_events}
-use Rattle.ped_rules.specs.ped_flow.specs.Summaries.{least_of, when, passing, of_manner, sum_in_turn, sum_either, sum_event, sum_events}
+use Rattle.ped_rules.specs.ped_flow.specs.Summaries.{least_of, when, passing, of_manner, summary_in_turn, summary_either, summary_event, summary_events}
 use Rattle.ped_rules.specs.ped_flow.proofs.SumLaws.{events-append}
 use Rattle.ped_rules.specs.ped_flow.proofs.Truths.{untrue, or_split}
 use Rattle.ped_rules.specs.ped_loop_runs.proofs.TidyLaws.TidyPathsSums.{Summary}
@@ -40,30 +40,30 @@ right_first None b h = h
 right_first (Some n) None h = refl
 right_first (Some n) (Some m) h = refl
 
-pub in_turn_still : (a b : Summary) (p q : Bool) → IsStill a p → IsStill b q → IsStill (sum_in_turn a b) (p || q)
+pub in_turn_still : (a b : Summary) (p q : Bool) → IsStill a p → IsStill b q → IsStill (summary_in_turn a b) (p || q)
 in_turn_still a b p q h k = record { keeps = λ i. h.keeps i && k.keeps i; reads = λ e. by (or_split p q e) }
   where
     by : (p ≡ true) ⊎ (q ≡ true) → is_some (least_of a.first (when a.keeps b.first)) ≡ true
     by (inl e) = left_first a.first (when a.keeps b.first) (h.reads e)
     by (inr e) = right_first a.first (when a.keeps b.first) (ap (λ (z : Bool). is_some (when z b.first)) h.keeps ∙ k.reads e)
 
-pub either_still : (a b : Summary) (p q : Bool) → IsStill a p → IsStill b q → IsStill (sum_either a b) (p || q)
+pub either_still : (a b : Summary) (p q : Bool) → IsStill a p → IsStill b q → IsStill (summary_either a b) (p || q)
 either_still a b p q h k = record { keeps = λ i. h.keeps i || k.keeps i; reads = λ e. by (or_split p q e) }
   where
     by : (p ≡ true) ⊎ (q ≡ true) → is_some (least_of a.first b.first) ≡ true
     by (inl e) = left_first a.first b.first (h.reads e)
     by (inr e) = right_first a.first b.first (k.reads e)
 
-pub append_still : (x : List ℕ) (es fs : List Event) (p q : Bool) → IsStill (sum_events x es) p → IsStill (sum_events x fs) q → IsStill (sum_events x (es ++ fs)) (p || q)
-append_still x es fs p q h k = subst (λ (m : Summary). IsStill m (p || q)) (sym (events-append x es fs)) (in_turn_still (sum_events x es) (sum_events x fs) p q h k)
+pub append_still : (x : List ℕ) (es fs : List Event) (p q : Bool) → IsStill (summary_events x es) p → IsStill (summary_events x fs) q → IsStill (summary_events x (es ++ fs)) (p || q)
+append_still x es fs p q h k = subst (λ (m : Summary). IsStill m (p || q)) (sym (events-append x es fs)) (in_turn_still (summary_events x es) (summary_events x fs) p q h k)
 
 read_still : (same : Bool) (n : ℕ) → IsStill (if same then of_manner reads n else passing) same
 read_still true n = record { keeps = refl; reads = λ e. refl }
 read_still false n = passing_still
 
-reads_still : (x : List ℕ) (n : ℕ) (names : List (List ℕ)) → IsStill (sum_events x (reads_of n names)) (is_among x names)
+reads_still : (x : List ℕ) (n : ℕ) (names : List (List ℕ)) → IsStill (summary_events x (reads_of n names)) (is_among x names)
 reads_still x n [] = passing_still
-reads_still x n (y ∷ ys) = in_turn_still (sum_event x (event n reads y)) (sum_events x (reads_of n ys)) (is_same_text x y) (is_among x ys) (read_still (is_same_text x y) n) (reads_still x n ys)
+reads_still x n (y ∷ ys) = in_turn_still (summary_event x (event n reads y)) (summary_events x (reads_of n ys)) (is_same_text x y) (is_among x ys) (read_still (is_same_text x y) n) (reads_still x n ys)
 
 or_first : (a b : Bool) → b ≡ false → (a || b) ≡ true → a ≡ true
 or_first true b n e = refl
@@ -186,20 +186,20 @@ module _ (constants : List (List ℕ)) (x : List ℕ) (kinds : NameKinds) (scala
 
     -- what isn't written isn't assigned
     module _ (n : ℕ) where
-      names_still : (accesses : List Access) (names : List (List ℕ)) → AreRead accesses names → IsStill (sum_events x (reads_of n names)) (list_any (is_of x) accesses)
-      names_still accesses names h = weaker (sum_events x (reads_of n names)) (is_among x names) (list_any (is_of x) accesses) h (reads_still x n names)
+      names_still : (accesses : List Access) (names : List (List ℕ)) → AreRead accesses names → IsStill (summary_events x (reads_of n names)) (list_any (is_of x) accesses)
+      names_still accesses names h = weaker (summary_events x (reads_of n names)) (is_among x names) (list_any (is_of x) accesses) h (reads_still x n names)
 
-      other_still : (y : List ℕ) → is_same_text x y ≡ false → IsStill (sum_events x (event n assigns y ∷ [])) false
-      other_still y e = subst (λ (b : Bool). IsStill (sum_in_turn (if b then of_manner assigns n else passing) passing) false) (sym e) (record { keeps = refl; reads = λ e. untrue e })
+      other_still : (y : List ℕ) → is_same_text x y ≡ false → IsStill (summary_events x (event n assigns y ∷ [])) false
+      other_still y e = subst (λ (b : Bool). IsStill (summary_in_turn (if b then of_manner assigns n else passing) passing) false) (sym e) (record { keeps = refl; reads = λ e. untrue e })
 
       assigned_still : (c same : Bool) (y : List ℕ) → is_same_text x y ≡ same → list_any (is_write_of x) (if c then [] else write_of y [] ∷ []) ≡ false
-          → IsStill (sum_events x (map (event n assigns) (if c then [] else y ∷ []))) (list_any (is_of x) (if c then [] else write_of y [] ∷ []))
+          → IsStill (summary_events x (map (event n assigns) (if c then [] else y ∷ []))) (list_any (is_of x) (if c then [] else write_of y [] ∷ []))
       assigned_still true same y e u = passing_still
       assigned_still false true y e u = let z : true ≡ false = sym (λ i. (e i && true) || false) ∙ u in untrue (sym z)
-      assigned_still false false y e u = subst (λ (b : Bool). IsStill (sum_events x (event n assigns y ∷ [])) (b || false)) (sym e) (other_still y e)
+      assigned_still false false y e u = subst (λ (b : Bool). IsStill (summary_events x (event n assigns y ∷ [])) (b || false)) (sym e) (other_still y e)
 
       left_still : (left : ExprTree) → target_is_right kinds left ≡ true → list_any (is_write_of x) (left_accesses constants indices left) ≡ false
-          → IsStill (sum_events x (left_events constants n left)) (list_any (is_of x) (left_accesses constants indices left))
+          → IsStill (summary_events x (left_events constants n left)) (list_any (is_of x) (left_accesses constants indices left))
       left_still (Var y) r u = assigned_still (is_among y constants) (is_same_text x y) y refl u
       left_still (Element y es) r u =
           names_still (left_accesses constants indices (Element y es)) (all_scalars_in constants es)
@@ -221,11 +221,11 @@ module _ (constants : List (List ℕ)) (x : List ℕ) (kinds : NameKinds) (scala
       unwritten_parts : (p q : List Access) → list_any (is_write_of x) (p ++ q) ≡ false → (list_any (is_write_of x) p ≡ false) × (list_any (is_write_of x) q ≡ false)
       unwritten_parts p q u = or_parts (list_any (is_write_of x) p) (list_any (is_write_of x) q) (sym (list_any-append (is_write_of x) p q) ∙ u)
 
-      two_still : (p q : List Access) (es fs : List Event) → IsStill (sum_events x es) (list_any (is_of x) p) → IsStill (sum_events x fs) (list_any (is_of x) q) → IsStill (sum_events x (es ++ fs)) (list_any (is_of x) (p ++ q))
-      two_still p q es fs h k = subst (λ (b : Bool). IsStill (sum_events x (es ++ fs)) b) (sym (list_any-append (is_of x) p q)) (append_still x es fs (list_any (is_of x) p) (list_any (is_of x) q) h k)
+      two_still : (p q : List Access) (es fs : List Event) → IsStill (summary_events x es) (list_any (is_of x) p) → IsStill (summary_events x fs) (list_any (is_of x) q) → IsStill (summary_events x (es ++ fs)) (list_any (is_of x) (p ++ q))
+      two_still p q es fs h k = subst (λ (b : Bool). IsStill (summary_events x (es ++ fs)) b) (sym (list_any-append (is_of x) p q)) (append_still x es fs (list_any (is_of x) p) (list_any (is_of x) q) h k)
 
       lefts_still : (items : List ExprTree) → list_all (target_is_right kinds) items ≡ true → list_any (is_write_of x) (flat_map (left_accesses constants indices) items) ≡ false
-          → IsStill (sum_events x (flat_map (left_events constants n) items)) (list_any (is_of x) (flat_map (left_accesses constants indices) items))
+          → IsStill (summary_events x (flat_map (left_events constants n) items)) (list_any (is_of x) (flat_map (left_accesses constants indices) items))
       lefts_still [] r u = passing_still
       lefts_still (e ∷ rest) r u =
           let right = and_parts (target_is_right kinds e) (list_all (target_is_right kinds) rest) r in
@@ -234,18 +234,18 @@ module _ (constants : List (List ℕ)) (x : List ℕ) (kinds : NameKinds) (scala
           (left_still e right.0 parts.0) (lefts_still rest right.1 parts.1)
 
       pub assignment_still : (left right : ExprTree) → (target_is_right kinds left && expr_is_right kinds right) ≡ true → list_any (is_write_of x) (own_accesses constants indices (Assign left right)) ≡ false
-          → IsStill (sum_events x (own_events constants n (Assign left right))) (list_any (is_of x) (own_accesses constants indices (Assign left right)))
+          → IsStill (summary_events x (own_events constants n (Assign left right))) (list_any (is_of x) (own_accesses constants indices (Assign left right)))
       assignment_still left right r u =
           let parts = and_parts (target_is_right kinds left) (expr_is_right kinds right) r in
           two_still (expr_reads constants indices right) (left_accesses constants indices left) (reads_of n (scalars_in constants right)) (left_events constants n left)
           (names_still (expr_reads constants indices right) (scalars_in constants right) (expr_read right parts.1))
           (left_still left parts.0 (unwritten_parts (expr_reads constants indices right) (left_accesses constants indices left) u).1)
 
-      pub condition_still : (c : CondTree) (a b : StmtTrees) → cond_is_right kinds c ≡ true → IsStill (sum_events x (own_events constants n (If c a b))) (list_any (is_of x) (own_accesses constants indices (If c a b)))
+      pub condition_still : (c : CondTree) (a b : StmtTrees) → cond_is_right kinds c ≡ true → IsStill (summary_events x (own_events constants n (If c a b))) (list_any (is_of x) (own_accesses constants indices (If c a b)))
       condition_still c a b r = names_still (cond_reads constants indices c) (scalars_in_cond constants c) (cond_read c r)
 
       pub entry_still : (h : Head) (b : StmtTrees) → head_is_right kinds h ≡ true → is_same_text x h.variable ≡ false → is_among x h.private ≡ false
-          → IsStill (sum_events x (own_events constants n (Do h b))) (list_any (is_of x) (own_accesses constants indices (Do h b)))
+          → IsStill (summary_events x (own_events constants n (Do h b))) (list_any (is_of x) (own_accesses constants indices (Do h b)))
       entry_still h b r other apart =
           let all = and_parts (is_scalar kinds h.variable && expr_is_right kinds h.first && expr_is_right kinds h.last && expr_is_right kinds h.step) (list_all (is_scalar kinds) h.private) r in
           let step = and_parts (is_scalar kinds h.variable && expr_is_right kinds h.first && expr_is_right kinds h.last) (expr_is_right kinds h.step) all.0 in
@@ -253,12 +253,12 @@ module _ (constants : List (List ℕ)) (x : List ℕ) (kinds : NameKinds) (scala
           let first = and_parts (is_scalar kinds h.variable) (expr_is_right kinds h.first) last.0 in
           let names : List (List ℕ) = scalars_in constants h.first ++ scalars_in constants h.last in
           let read = front_read (expr_reads constants indices h.first ++ expr_reads constants indices h.last) (private_writes constants h.private) names (private_none h.private apart) (two_read h.first h.last first.1 last.1) in
-          weaker (sum_events x (own_events constants n (Do h b))) (is_among x names || false) (list_any (is_of x) (own_accesses constants indices (Do h b)))
+          weaker (summary_events x (own_events constants n (Do h b))) (is_among x names || false) (list_any (is_of x) (own_accesses constants indices (Do h b)))
           (λ e. or_left (is_among x names) false (read e))
           (append_still x (reads_of n names) (event n assigns h.variable ∷ []) (is_among x names) false (reads_still x n names) (other_still h.variable other))
 
       pub output_still : (items : List ItemTree) → list_all (item_is_right kinds) items ≡ true → list_any (is_write_of x) (own_accesses constants indices (Print items)) ≡ false
-          → IsStill (sum_events x (own_events constants n (Print items))) (list_any (is_of x) (own_accesses constants indices (Print items)))
+          → IsStill (summary_events x (own_events constants n (Print items))) (list_any (is_of x) (own_accesses constants indices (Print items)))
       output_still items r u =
           let parts = unwritten_parts (flat_map (item_reads constants indices) items) (write_of (codes "(OUT)") [] ∷ []) u in
           let other = not_written (is_same_text x (codes "(OUT)")) (or_parts (is_same_text x (codes "(OUT)") && true) false parts.1).0 in
@@ -266,8 +266,8 @@ module _ (constants : List (List ℕ)) (x : List ℕ) (kinds : NameKinds) (scala
           (front_read (flat_map (item_reads constants indices) items) (write_of (codes "(OUT)") [] ∷ []) (flat_map (scalars_in_item constants) items) (λ i. other i || false) (items_read items r))
 
       pub input_still : (items : List ExprTree) → list_all (target_is_right kinds) items ≡ true → list_any (is_write_of x) (own_accesses constants indices (Read items)) ≡ false
-          → IsStill (sum_events x (own_events constants n (Read items))) (list_any (is_of x) (own_accesses constants indices (Read items)))
+          → IsStill (summary_events x (own_events constants n (Read items))) (list_any (is_of x) (own_accesses constants indices (Read items)))
       input_still items r u =
           let parts = or_parts (is_same_text x (codes "(IN)") && true) (list_any (is_write_of x) (flat_map (left_accesses constants indices) items)) u in
           let other = not_written (is_same_text x (codes "(IN)")) parts.0 in
-          subst (λ (b : Bool). IsStill (sum_events x (flat_map (left_events constants n) items)) (b || list_any (is_of x) (flat_map (left_accesses constants indices) items))) (sym other) (lefts_still items r parts.1)
+          subst (λ (b : Bool). IsStill (summary_events x (flat_map (left_events constants n) items)) (b || list_any (is_of x) (flat_map (left_accesses constants indices) items))) (sym other) (lefts_still items r parts.1)

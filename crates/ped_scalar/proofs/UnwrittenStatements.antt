@@ -12,7 +12,7 @@ use Rattle.ped_refs.specs.References.{Reference, numbered_accesses, statement_re
 use Rattle.ped_tree.specs.NamesIn.{loop_variables, all_loop_variables}
 use Rattle.ped_rules.specs.ped_symbols.specs.RightUses.RightUses.{NameKinds, is_scalar, cond_is_right, head_is_right, stmt_is_right, stmts_are_right}
 use Rattle.ped_rules.specs.ped_flow.specs.Events.{clears, event, own_events, copied, start_events, exit_events}
-use Rattle.ped_rules.specs.ped_flow.specs.Summaries.{passing, of_manner, sum_in_turn, sum_either, sum_trips, sum_events, sum_loop, sum_of, sum_of_all}
+use Rattle.ped_rules.specs.ped_flow.specs.Summaries.{passing, of_manner, summary_in_turn, summary_either, summary_trips, summary_events, summary_loop, summary_of, summary_of_all}
 use Rattle.ped_rules.specs.ped_flow.proofs.SumLaws.{cleared}
 use Rattle.ped_rules.specs.ped_flow.proofs.Truths.{untrue}
 use Rattle.ped_rules.specs.ped_laws.specs.FlowRuns.Covering.{has_stop, some_stop}
@@ -59,10 +59,10 @@ module _ (constants : List (List ℕ)) (x : List ℕ) (kinds : NameKinds) (scala
   own_unwritten : (n : ℕ) (nest : List Loop) (s : StmtTree) → IsUnwritten (own n nest s) → list_any (is_write_of x) (own_accesses constants (indices_of nest) s) ≡ false
   own_unwritten n nest s u = sym (own_any (is_write_of x) n 1 nest (own_accesses constants (indices_of nest) s)) ∙ u
 
-  own_still : (n : ℕ) (nest : List Loop) (s : StmtTree) → IsStill (sum_events x (own_events constants n s)) (list_any (is_of x) (own_accesses constants (indices_of nest) s)) → IsStill (sum_events x (own_events constants n s)) (some (own n nest s))
-  own_still n nest s h = subst (λ (b : Bool). IsStill (sum_events x (own_events constants n s)) b) (sym (own_any (is_of x) n 1 nest (own_accesses constants (indices_of nest) s))) h
+  own_still : (n : ℕ) (nest : List Loop) (s : StmtTree) → IsStill (summary_events x (own_events constants n s)) (list_any (is_of x) (own_accesses constants (indices_of nest) s)) → IsStill (summary_events x (own_events constants n s)) (some (own n nest s))
+  own_still n nest s h = subst (λ (b : Bool). IsStill (summary_events x (own_events constants n s)) b) (sym (own_any (is_of x) n 1 nest (own_accesses constants (indices_of nest) s))) h
 
-  cleared_still : (n : ℕ) (names : List (List ℕ)) → is_among x names ≡ false → IsStill (sum_events x (map (event n clears) names)) false
+  cleared_still : (n : ℕ) (names : List (List ℕ)) → is_among x names ≡ false → IsStill (summary_events x (map (event n clears) names)) false
   cleared_still n names h = subst (λ (m : Summary). IsStill m false) (sym (cleared x n names ∙ ap (λ (b : Bool). if b then of_manner clears 0 else passing) h)) passing_still
 
   maybe_none : (b : Bool) (names : List (List ℕ)) → is_among x names ≡ false → is_among x (if b then names else []) ≡ false
@@ -78,29 +78,29 @@ module _ (constants : List (List ℕ)) (x : List ℕ) (kinds : NameKinds) (scala
         list_any-append (is_same_text x) h.private (if h.parallel then all_loop_variables b else [])
         ∙ λ i. (among_parts h.private (all_private_names_in b) apart).0 i || maybe_none h.parallel (all_loop_variables b) variables.1 i
 
-    start_still : IsStill (sum_events x (start_events n h b)) false
+    start_still : IsStill (summary_events x (start_events n h b)) false
     start_still = cleared_still n (copied h b) copied_none
 
-    exit_still : IsStill (sum_events x (exit_events n h b)) false
+    exit_still : IsStill (summary_events x (exit_events n h b)) false
     exit_still =
         let own_variable : is_among x (h.variable ∷ []) ≡ false = λ i. variables.0 i || false in
         cleared_still n ((if h.parallel then h.variable ∷ [] else []) ++ copied h b)
         (list_any-append (is_same_text x) (if h.parallel then h.variable ∷ [] else []) (copied h b) ∙ λ i. maybe_none h.parallel (h.variable ∷ []) own_variable i || copied_none i)
 
     -- an iteration, any number of them, and the exit
-    pub iteration_still : (m : Summary) (p : Bool) → IsStill m p → IsStill (sum_in_turn (sum_events x (start_events n h b)) m) p
-    iteration_still m p k = in_turn_still (sum_events x (start_events n h b)) m false p start_still k
+    pub iteration_still : (m : Summary) (p : Bool) → IsStill m p → IsStill (summary_in_turn (summary_events x (start_events n h b)) m) p
+    iteration_still m p k = in_turn_still (summary_events x (start_events n h b)) m false p start_still k
 
-    loop_still : (m : Summary) (p : Bool) → IsStill m p → IsStill (sum_loop x n h b m) p
+    loop_still : (m : Summary) (p : Bool) → IsStill m p → IsStill (summary_loop x n h b m) p
     loop_still m p k =
         let one = iteration_still m p k in
-        let many : IsStill (sum_trips (sum_in_turn (sum_events x (start_events n h b)) m)) p = record { keeps = refl; reads = one.reads } in
-        subst (λ (q : Bool). IsStill (sum_loop x n h b m) q) (or_false p)
-        (in_turn_still (sum_trips (sum_in_turn (sum_events x (start_events n h b)) m)) (sum_events x (exit_events n h b)) p false many exit_still)
+        let many : IsStill (summary_trips (summary_in_turn (summary_events x (start_events n h b)) m)) p = record { keeps = refl; reads = one.reads } in
+        subst (λ (q : Bool). IsStill (summary_loop x n h b m) q) (or_false p)
+        (in_turn_still (summary_trips (summary_in_turn (summary_events x (start_events n h b)) m)) (summary_events x (exit_events n h b)) p false many exit_still)
 
   mutual
     statement_still : (s : StmtTree) (n : ℕ) (nest : List Loop) → stmt_is_right kinds s ≡ true → is_among x (loop_variables s) ≡ false → is_among x (private_names_in s) ≡ false → has_stop s ≡ false
-        → IsUnwritten (statement_references constants nest n s) → IsStill (sum_of constants x s n) (some (statement_references constants nest n s))
+        → IsUnwritten (statement_references constants nest n s) → IsStill (summary_of constants x s n) (some (statement_references constants nest n s))
     statement_still (Assign left right) n nest r o a h u =
         own_still n nest (Assign left right) (assignment_still constants x kinds scalar (indices_of nest) n left right r (own_unwritten n nest (Assign left right) u))
     statement_still (If c p q) n nest r o a h u =
@@ -117,10 +117,10 @@ module _ (constants : List (List ℕ)) (x : List ℕ) (kinds : NameKinds) (scala
         list_any-append (refers x) (mine ++ first) second
         ∙ ap (λ (z : Bool). z || some second) (list_any-append (refers x) mine first)
         ∙ or_assoc (some mine) (some first) (some second) in
-        subst (λ (z : Bool). IsStill (sum_of constants x (If c p q) n) z) (sym same)
-        (in_turn_still (sum_events x (own_events constants n (If c p q))) (sum_either (sum_of_all constants x p (n + 1)) (sum_of_all constants x q (n + 1 + statements_count p))) (some mine) (some first || some second)
+        subst (λ (z : Bool). IsStill (summary_of constants x (If c p q) n) z) (sym same)
+        (in_turn_still (summary_events x (own_events constants n (If c p q))) (summary_either (summary_of_all constants x p (n + 1)) (summary_of_all constants x q (n + 1 + statements_count p))) (some mine) (some first || some second)
         (own_still n nest (If c p q) (condition_still constants x kinds scalar (indices_of nest) n c p q left.0))
-        (either_still (sum_of_all constants x p (n + 1)) (sum_of_all constants x q (n + 1 + statements_count p)) (some first) (some second)
+        (either_still (summary_of_all constants x p (n + 1)) (summary_of_all constants x q (n + 1 + statements_count p)) (some first) (some second)
         (statements_still p (n + 1) nest left.1 others.0 aparts.0 stops.0 (unwritten_parts mine first parts.0).1)
         (statements_still q (n + 1 + statements_count p) nest right.1 others.1 aparts.1 stops.1 parts.1)))
     statement_still (Do g b) n nest r o a h u =
@@ -131,17 +131,17 @@ module _ (constants : List (List ℕ)) (x : List ℕ) (kinds : NameKinds) (scala
         let mine = own n nest (Do g b) in
         let inner = statements_references constants round (n + 1) b in
         let parts = unwritten_parts mine inner u in
-        subst (λ (z : Bool). IsStill (sum_of constants x (Do g b) n) z) (sym (list_any-append (refers x) mine inner))
-        (in_turn_still (sum_events x (own_events constants n (Do g b))) (sum_loop x n g b (sum_of_all constants x b (n + 1))) (some mine) (some inner)
+        subst (λ (z : Bool). IsStill (summary_of constants x (Do g b) n) z) (sym (list_any-append (refers x) mine inner))
+        (in_turn_still (summary_events x (own_events constants n (Do g b))) (summary_loop x n g b (summary_of_all constants x b (n + 1))) (some mine) (some inner)
         (own_still n nest (Do g b) (entry_still constants x kinds scalar (indices_of nest) n g b right.0 others.0 aparts.0))
-        (loop_still n g b o a (sum_of_all constants x b (n + 1)) (some inner) (statements_still b (n + 1) round right.1 others.1 aparts.1 h parts.1)))
+        (loop_still n g b o a (summary_of_all constants x b (n + 1)) (some inner) (statements_still b (n + 1) round right.1 others.1 aparts.1 h parts.1)))
     statement_still (Print items) n nest r o a h u = own_still n nest (Print items) (output_still constants x kinds scalar (indices_of nest) n items r (own_unwritten n nest (Print items) u))
     statement_still (Read items) n nest r o a h u = own_still n nest (Read items) (input_still constants x kinds scalar (indices_of nest) n items r (own_unwritten n nest (Read items) u))
     statement_still Stop n nest r o a h u = untrue (sym h)
     statement_still (Comment text) n nest r o a h u = passing_still
 
     pub statements_still : (ss : StmtTrees) (n : ℕ) (nest : List Loop) → stmts_are_right kinds ss ≡ true → is_among x (all_loop_variables ss) ≡ false → is_among x (all_private_names_in ss) ≡ false → some_stop ss ≡ false
-        → IsUnwritten (statements_references constants nest n ss) → IsStill (sum_of_all constants x ss n) (some (statements_references constants nest n ss))
+        → IsUnwritten (statements_references constants nest n ss) → IsStill (summary_of_all constants x ss n) (some (statements_references constants nest n ss))
     statements_still no_stmts n nest r o a h u = passing_still
     statements_still (more_stmts s rest) n nest r o a h u =
         let right = and_parts (stmt_is_right kinds s) (stmts_are_right kinds rest) r in
@@ -149,7 +149,7 @@ module _ (constants : List (List ℕ)) (x : List ℕ) (kinds : NameKinds) (scala
         let aparts = among_parts (private_names_in s) (all_private_names_in rest) a in
         let stops = or_parts (has_stop s) (some_stop rest) h in
         let parts = unwritten_parts (statement_references constants nest n s) (statements_references constants nest (n + statement_count s) rest) u in
-        subst (λ (z : Bool). IsStill (sum_of_all constants x (more_stmts s rest) n) z) (sym (list_any-append (refers x) (statement_references constants nest n s) (statements_references constants nest (n + statement_count s) rest)))
-        (in_turn_still (sum_of constants x s n) (sum_of_all constants x rest (n + statement_count s)) (some (statement_references constants nest n s)) (some (statements_references constants nest (n + statement_count s) rest))
+        subst (λ (z : Bool). IsStill (summary_of_all constants x (more_stmts s rest) n) z) (sym (list_any-append (refers x) (statement_references constants nest n s) (statements_references constants nest (n + statement_count s) rest)))
+        (in_turn_still (summary_of constants x s n) (summary_of_all constants x rest (n + statement_count s)) (some (statement_references constants nest n s)) (some (statements_references constants nest (n + statement_count s) rest))
         (statement_still s n nest right.0 others.0 aparts.0 stops.0 parts.0)
         (statements_still rest (n + statement_count s) nest right.1 others.1 aparts.1 stops.1 parts.1))

@@ -17,9 +17,9 @@ use Rattle.ped_rules.specs.ped_flow.specs.Events.{start_events}
 use Rattle.ped_rules.specs.ped_flow.specs.PathSets.{Paths}
 use Rattle.ped_rules.specs.ped_flow.specs.Paths.{iteration, all_paths}
 use Rattle.ped_rules.specs.ped_flow.specs.Questions.{LoopOf, IsFirst, IsExposed}
-use Rattle.ped_rules.specs.ped_flow.specs.Summaries.{AreSummed, IsReadOn, sum_in_turn, sum_events, sum_of_all}
+use Rattle.ped_rules.specs.ped_flow.specs.Summaries.{AreSummed, IsReadOn, summary_in_turn, summary_events, summary_of_all}
 use Rattle.ped_rules.specs.ped_flow.proofs.Answering.{loop_fits}
-use Rattle.ped_rules.specs.ped_flow.proofs.TreeSums.{iteration-summed, all_summed, some_path_of_all}
+use Rattle.ped_rules.specs.ped_flow.proofs.TreeSummaries.{iteration-summed, all_summed, some_path_of_all}
 use Rattle.ped_rules.specs.ped_flow.proofs.Truths.{untrue}
 use Rattle.ped_rules.specs.ped_laws.specs.FlowRuns.Covering.{some_stop}
 use Rattle.ped_rules.specs.ped_laws.proofs.FlowRunLaws.Stopping.{fitting_stops, loop_stops}
@@ -52,7 +52,7 @@ module _ (t : ProgramTree) (valid : IsValid t) (s : ℕ) (l : LoopOf t s) (x : L
   trip = iteration s l.head l.body (all_paths constants l.body (s + 1))
 
   abbrev sum : Summary
-  sum = sum_in_turn (sum_events x (start_events s l.head l.body)) (sum_of_all constants x l.body (s + 1))
+  sum = summary_in_turn (summary_events x (start_events s l.head l.body)) (summary_of_all constants x l.body (s + 1))
 
   place : AreThere t s l.head l.body l.is (references t)
   place =
@@ -78,7 +78,7 @@ module _ (t : ProgramTree) (valid : IsValid t) (s : ℕ) (l : LoopOf t s) (x : L
       let parts = or_parts (is_same_text x l.head.variable) (is_among x (all_loop_variables l.body)) near in
       let aparts = or_parts (is_among x l.head.private) (is_among x (all_private_names_in l.body)) (sym (list_any-append (is_same_text x) l.head.private (all_private_names_in l.body)) ∙ shared) in
       subst (λ (b : Bool). IsStill sum b) referring
-      (iteration_still constants x (kind_in t) scalar s l.head l.body near shared (sum_of_all constants x l.body (s + 1)) (list_any (refers x) (statements_references constants nest (s + 1) l.body))
+      (iteration_still constants x (kind_in t) scalar s l.head l.body near shared (summary_of_all constants x l.body (s + 1)) (list_any (refers x) (statements_references constants nest (s + 1) l.body))
       (statements_still constants x (kind_in t) scalar l.body (s + 1) nest right parts.1 aparts.1 stops (sym written_is ∙ unwritten)))
 
   read_somewhere : (o : Option ℕ) → is_some o ≡ true → IsFirst (IsReadOn trip x) o → ((n : ℕ) → IsExposed t s x n → ⊥) → ⊥
@@ -91,7 +91,7 @@ module _ (t : ProgramTree) (valid : IsValid t) (s : ℕ) (l : LoopOf t s) (x : L
     where
       summed : AreSummed trip x sum
       summed =
-          iteration-summed x s l.head l.body (all_paths constants l.body (s + 1)) (sum_of_all constants x l.body (s + 1)) (some_path_of_all constants l.body (s + 1)) (all_summed constants x l.body (s + 1))
+          iteration-summed x s l.head l.body (all_paths constants l.body (s + 1)) (summary_of_all constants x l.body (s + 1)) (some_path_of_all constants l.body (s + 1)) (all_summed constants x l.body (s + 1))
 
       go : (b : Bool) → is_written_in t s l.body x ≡ b → is_written_in t s l.body x ≡ true
       go true e = e

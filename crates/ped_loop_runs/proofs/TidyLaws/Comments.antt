@@ -2,7 +2,7 @@
 use Rattle.std.proofs.Common.{◌≡◌, ℕ, ◌+◌, List, refl, ap, ◌∙◌, arith}
 use Rattle.ped_bodies.specs.ped_flow.specs.ped_tree.specs.Tree.{StmtTrees, Assign, If, Do, Print, Read, Stop, Comment, no_stmts, more_stmts}
 use Rattle.ped_bodies.specs.ped_flow.specs.ped_tree.specs.Numbering.{statements_count}
-use Rattle.ped_bodies.specs.ped_flow.specs.Summaries.{sum_behind_all}
+use Rattle.ped_bodies.specs.ped_flow.specs.Summaries.{summary_behind_all}
 use Rattle.ped_bodies.specs.ped_steps.specs.Replacing.{followed}
 use Rattle.ped_loop_runs.specs.Writing.{some_write_index}
 
@@ -10,9 +10,9 @@ use Rattle.ped_loop_runs.specs.Writing.{some_write_index}
 counts : {A : Type 0} (a b : ℕ) → (a + 1) + b ≡ 0 → A
 counts a b e = absurd (omega (arith, e))
 
-pub without_comments : (cs : List (List ℕ)) (w : List ℕ) (k : ℕ) (comments rest : StmtTrees) (n : ℕ) → statements_count comments ≡ 0 → sum_behind_all cs w k (followed comments rest) n ≡ sum_behind_all cs w k rest n
+pub without_comments : (cs : List (List ℕ)) (w : List ℕ) (k : ℕ) (comments rest : StmtTrees) (n : ℕ) → statements_count comments ≡ 0 → summary_behind_all cs w k (followed comments rest) n ≡ summary_behind_all cs w k rest n
 without_comments cs w k no_stmts rest n e = refl
-without_comments cs w k (more_stmts (Comment text) more) rest n e = let same : n + 0 ≡ n = omega arith in without_comments cs w k more rest (n + 0) (omega (arith, e)) ∙ ap (sum_behind_all cs w k rest) same
+without_comments cs w k (more_stmts (Comment text) more) rest n e = let same : n + 0 ≡ n = omega arith in without_comments cs w k more rest (n + 0) (omega (arith, e)) ∙ ap (summary_behind_all cs w k rest) same
 without_comments cs w k (more_stmts (Assign left right) more) rest n e = counts 0 (statements_count more) e
 without_comments cs w k (more_stmts (If c a b) more) rest n e = counts (statements_count a + statements_count b) (statements_count more) e
 without_comments cs w k (more_stmts (Do h body) more) rest n e = counts (statements_count body) (statements_count more) e

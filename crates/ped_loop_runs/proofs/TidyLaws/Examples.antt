@@ -4,7 +4,7 @@ use Rattle.ped_bodies.specs.ped_flow.specs.ped_tree.specs.Tree.{Int, Var, Neg, V
 use Rattle.ped_bodies.specs.ped_flow.specs.ped_tree.specs.Accesses.{write_of}
 use Rattle.ped_bodies.specs.ped_views.specs.Views.{View}
 use Rattle.ped_bodies.specs.ped_refs.specs.References.{Reference, references}
-use Rattle.ped_bodies.specs.ped_flow.specs.Summaries.{sum_behind_all}
+use Rattle.ped_bodies.specs.ped_flow.specs.Summaries.{summary_behind_all}
 use Rattle.ped_bodies.specs.ped_flow.proofs.Truths.{untrue}
 use Rattle.ped_bodies.specs.ped_edges.specs.Edges.{pending, rejected}
 use Rattle.ped_bodies.specs.ped_graph.specs.Marks.{mark_of}
@@ -86,18 +86,18 @@ stays = exchanged_tidy turning (program []) turned_program is_turned leaves_alon
 abbrev assigning : StmtTrees
 assigning = alone (Assign (Var (75 ∷ [])) (Int 1))
 
-overwritten : ((sum_behind_all [] (75 ∷ []) 1 (more_stmts (Do (head []) no_stmts) assigning) 1).keeps ≡ false) × ((sum_behind_all [] (75 ∷ []) 1 (more_stmts (Do (head []) no_stmts) assigning) 1).ends ≡ false)
+overwritten : ((summary_behind_all [] (75 ∷ []) 1 (more_stmts (Do (head []) no_stmts) assigning) 1).keeps ≡ false) × ((summary_behind_all [] (75 ∷ []) 1 (more_stmts (Do (head []) no_stmts) assigning) 1).ends ≡ false)
 overwritten = (refl, refl)
 
-stopped_before : (sum_behind_all [] (75 ∷ []) 1 (more_stmts (Do (head []) no_stmts) (more_stmts Stop assigning)) 1).ends ≡ true
+stopped_before : (summary_behind_all [] (75 ∷ []) 1 (more_stmts (Do (head []) no_stmts) (more_stmts Stop assigning)) 1).ends ≡ true
 stopped_before = refl
 
 -- A variable that the new DO loops lose, the exit of a PARALLEL DO round them leaves as it is, and didn't: so the old ones have to be among the new.
 abbrev around : StmtTrees → StmtTrees
 around inner = alone (Do (record { variable = 75 ∷ []; first = Int 1; last = Int 2; step = Int 1; parallel = true; private = []; rejected = [] }) inner)
 
-cleared_around : (sum_behind_all [] (73 ∷ []) 2 (around (alone (Do (head []) no_stmts))) 1).keeps ≡ false
+cleared_around : (summary_behind_all [] (73 ∷ []) 2 (around (alone (Do (head []) no_stmts))) 1).keeps ≡ false
 cleared_around = refl
 
-kept_around : (sum_behind_all [] (73 ∷ []) 2 (around (alone (Do (record (head []) { variable = 74 ∷ [] }) no_stmts))) 1).keeps ≡ true
+kept_around : (summary_behind_all [] (73 ∷ []) 2 (around (alone (Do (record (head []) { variable = 74 ∷ [] }) no_stmts))) 1).keeps ≡ true
 kept_around = refl

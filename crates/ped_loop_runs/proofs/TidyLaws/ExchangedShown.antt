@@ -10,8 +10,8 @@ use Rattle.ped_bodies.specs.ped_flow.specs.PathSets.{Whole}
 use Rattle.ped_bodies.specs.ped_flow.specs.Paths.{paths_from_exit}
 use Rattle.ped_bodies.specs.ped_flow.specs.Questions.{IsShownBehind}
 use Rattle.ped_bodies.specs.ped_flow.specs.ped_tree.specs.NamesIn.{saved_in}
-use Rattle.ped_bodies.specs.ped_flow.specs.Summaries.{AreSummed, unreached, sum_in_turn, sum_either, sum_loop, sum_of_all, sum_at_once, sum_behind, sum_behind_all}
-use Rattle.ped_bodies.specs.ped_flow.proofs.TreeSums.{all_behind-summed}
+use Rattle.ped_bodies.specs.ped_flow.specs.Summaries.{AreSummed, unreached, summary_in_turn, summary_either, summary_loop, summary_of_all, summary_at_once, summary_behind, summary_behind_all}
+use Rattle.ped_bodies.specs.ped_flow.proofs.TreeSummaries.{all_behind-summed}
 use Rattle.ped_bodies.specs.ped_flow.proofs.Truths.{or_split}
 use Rattle.ped_bodies.specs.ped_steps.specs.Replacing.{followed, alone}
 use Rattle.ped_bodies.specs.ped_steps.specs.Runs.Gaps.{filled}
@@ -25,36 +25,36 @@ use Rattle.ped_loop_runs.proofs.TidyLaws.TidyPathsPassed.{IsPassed, gap_left_beh
 
 -- what is shown where the paths from the exit of a DO leave no more than those from the exits of two others in another program
 pub shown_by_either : (u t : ProgramTree) (w : List ℕ) (m k l : ℕ) → flat_map saved_in u.decls ≡ flat_map saved_in t.decls
-    → IsNoMoreBut (sum_behind_all (constant_names u.decls) w m u.body 1) (sum_behind_all (constant_names t.decls) w k t.body 1) (sum_behind_all (constant_names t.decls) w l t.body 1)
+    → IsNoMoreBut (summary_behind_all (constant_names u.decls) w m u.body 1) (summary_behind_all (constant_names t.decls) w k t.body 1) (summary_behind_all (constant_names t.decls) w l t.body 1)
     → IsShownBehind u m w → IsShownBehind t k w ⊎ IsShownBehind t l w
 shown_by_either u t w m k l saves less shown = by shown.leads
   where
     cs : List (List ℕ)
     cs = constant_names t.decls
 
-    fresh : AreSummed (paths_from_exit u m) w (sum_behind_all (constant_names u.decls) w m u.body 1)
+    fresh : AreSummed (paths_from_exit u m) w (summary_behind_all (constant_names u.decls) w m u.body 1)
     fresh = all_behind-summed (constant_names u.decls) w m u.body 1
 
-    old : (n : ℕ) → AreSummed (paths_from_exit t n) w (sum_behind_all (constant_names t.decls) w n t.body 1)
+    old : (n : ℕ) → AreSummed (paths_from_exit t n) w (summary_behind_all (constant_names t.decls) w n t.body 1)
     old n = all_behind-summed (constant_names t.decls) w n t.body 1
 
     shown_on : (n : ℕ) (path : List Event) → Whole (paths_from_exit t n) path → overwrites w path ≡ false → IsShownBehind t n w
     shown_on n path leads kept = record { saved = subst (λ (names : List (List ℕ)). IsTrue (is_among w names)) saves shown.saved; path = path; leads = leads; kept = kept }
 
-    going : (n : ℕ) → (sum_behind_all (constant_names t.decls) w n t.body 1).keeps ≡ true → IsShownBehind t n w
+    going : (n : ℕ) → (summary_behind_all (constant_names t.decls) w n t.body 1).keeps ≡ true → IsShownBehind t n w
     going n e = let p = (old n).onward.keeps.0 e in shown_on n p.0 (inl p.1) p.2
 
-    stopping : (n : ℕ) → (sum_behind_all (constant_names t.decls) w n t.body 1).ends ≡ true → IsShownBehind t n w
+    stopping : (n : ℕ) → (summary_behind_all (constant_names t.decls) w n t.body 1).ends ≡ true → IsShownBehind t n w
     stopping n e = let p = (old n).ends.0 e in shown_on n p.0 (inr p.1) p.2
 
     by : Whole (paths_from_exit u m) shown.path → IsShownBehind t k w ⊎ IsShownBehind t l w
     by (inl on) =
-        elim (or_split (sum_behind_all (constant_names t.decls) w k t.body 1).keeps (sum_behind_all (constant_names t.decls) w l t.body 1).keeps (less.keeps (fresh.onward.keeps.1 (shown.path, on, shown.kept)))) [
+        elim (or_split (summary_behind_all (constant_names t.decls) w k t.body 1).keeps (summary_behind_all (constant_names t.decls) w l t.body 1).keeps (less.keeps (fresh.onward.keeps.1 (shown.path, on, shown.kept)))) [
           | inl e ↦ inl (going k e)
           | inr e ↦ inr (going l e)
         ]
     by (inr off) =
-        elim (or_split (sum_behind_all (constant_names t.decls) w k t.body 1).ends (sum_behind_all (constant_names t.decls) w l t.body 1).ends (less.ends (fresh.ends.1 (shown.path, off, shown.kept)))) [
+        elim (or_split (summary_behind_all (constant_names t.decls) w k t.body 1).ends (summary_behind_all (constant_names t.decls) w l t.body 1).ends (less.ends (fresh.ends.1 (shown.path, off, shown.kept)))) [
           | inl e ↦ inl (stopping k e)
           | inr e ↦ inr (stopping l e)
         ]
@@ -68,14 +68,14 @@ same_number : (n : ℕ) → (n == n) ≡ true
 same_number n = grind (arith, eqb-true)
 
 -- from the exit of a DO that comes last a path leads out
-pub last_leaves : (cs : List (List ℕ)) (w : List ℕ) (front : StmtTrees) (h : Head) (b : StmtTrees) (s l : ℕ) → l ≡ s + statements_count front → (sum_behind_all cs w l (followed front (alone (Do h b))) s).keeps ≡ true
+pub last_leaves : (cs : List (List ℕ)) (w : List ℕ) (front : StmtTrees) (h : Head) (b : StmtTrees) (s l : ℕ) → l ≡ s + statements_count front → (summary_behind_all cs w l (followed front (alone (Do h b))) s).keeps ≡ true
 last_leaves cs w front h b s l e =
     let n : ℕ = s + statements_count front in
-    let before : Summary = sum_in_turn (sum_behind_all cs w l front s) (sum_of_all cs w (alone (Do h b)) n) in
-    let trips : Summary = sum_in_turn (sum_behind_all cs w l b (n + 1)) (sum_loop w n h b (sum_of_all cs w b (n + 1))) in
+    let before : Summary = summary_in_turn (summary_behind_all cs w l front s) (summary_of_all cs w (alone (Do h b)) n) in
+    let trips : Summary = summary_in_turn (summary_behind_all cs w l b (n + 1)) (summary_loop w n h b (summary_of_all cs w b (n + 1))) in
     ap (λ (z : Summary). z.keeps) (followed_behind cs w l front (alone (Do h b)) s)
-    ∙ or_last before.keeps (sum_behind cs w l (Do h b) n).keeps
-    (ap (λ (r : Bool). (sum_either (sum_at_once r) trips).keeps) (ap (λ (z : ℕ). z == n) e ∙ same_number n))
+    ∙ or_last before.keeps (summary_behind cs w l (Do h b) n).keeps
+    (ap (λ (r : Bool). (summary_either (summary_at_once r) trips).keeps) (ap (λ (z : ℕ). z == n) e ∙ same_number n))
 
 module _ (x : Exchange) (t u : ProgramTree) (w : List ℕ) (is : IsExchanged x t u) (variable : KeepsVariable x w) where
   abbrev cs : List (List ℕ)
@@ -90,12 +90,12 @@ module _ (x : Exchange) (t u : ProgramTree) (w : List ℕ) (is : IsExchanged x t
   abbrev Behind : ℕ → ℕ → Type 0
   Behind k m = (i : ℕ) → (m == start_of x + statements_count x.new + i) ≡ (k == start_of x + statements_count (old_of x) + i)
 
-  in_programs : (k m : ℕ) → Before k m → Behind k m → IsNoMoreBut (sum_behind_all (constant_names u.decls) w m u.body 1) (sum_behind_all cs w k t.body 1) (sum_behind_all cs w (loop_of x) t.body 1)
+  in_programs : (k m : ℕ) → Before k m → Behind k m → IsNoMoreBut (summary_behind_all (constant_names u.decls) w m u.body 1) (summary_behind_all cs w k t.body 1) (summary_behind_all cs w (loop_of x) t.body 1)
   in_programs k m before behind =
-      subst (λ (names : List (List ℕ)). IsNoMoreBut (sum_behind_all names w m u.body 1) (sum_behind_all cs w k t.body 1) (sum_behind_all cs w (loop_of x) t.body 1)) (sym is.constants)
-      (subst (λ (a : Summary). IsNoMoreBut a (sum_behind_all cs w k t.body 1) (sum_behind_all cs w (loop_of x) t.body 1)) (without_comments cs w m is.comments u.body 1 is.uncounted)
-      (subst (λ (ts : StmtTrees). IsNoMoreBut (sum_behind_all cs w m ts 1) (sum_behind_all cs w k t.body 1) (sum_behind_all cs w (loop_of x) t.body 1)) (sym is.new_body)
-      (subst (λ (ts : StmtTrees). IsNoMoreBut (sum_behind_all cs w m (filled x.gap x.new) 1) (sum_behind_all cs w k ts 1) (sum_behind_all cs w (loop_of x) ts 1)) (sym is.old_body)
+      subst (λ (names : List (List ℕ)). IsNoMoreBut (summary_behind_all names w m u.body 1) (summary_behind_all cs w k t.body 1) (summary_behind_all cs w (loop_of x) t.body 1)) (sym is.constants)
+      (subst (λ (a : Summary). IsNoMoreBut a (summary_behind_all cs w k t.body 1) (summary_behind_all cs w (loop_of x) t.body 1)) (without_comments cs w m is.comments u.body 1 is.uncounted)
+      (subst (λ (ts : StmtTrees). IsNoMoreBut (summary_behind_all cs w m ts 1) (summary_behind_all cs w k t.body 1) (summary_behind_all cs w (loop_of x) t.body 1)) (sym is.new_body)
+      (subst (λ (ts : StmtTrees). IsNoMoreBut (summary_behind_all cs w m (filled x.gap x.new) 1) (summary_behind_all cs w k ts 1) (summary_behind_all cs w (loop_of x) ts 1)) (sym is.old_body)
       (gap_left_behind cs w x.new (old_of x) (start_of x) (loop_of x) passed k m before behind x.gap 1 (omega arith) refl))))
 
   before_staying : (k m : ℕ) → IsStaying x k m → Before k m
@@ -122,10 +122,10 @@ module _ (x : Exchange) (t u : ProgramTree) (w : List ℕ) (is : IsExchanged x t
   -- there is no DO with number 0, so what is left behind a new DO is left behind the old one alone
   pub new_behind : (m : ℕ) → IsNew x m → IsShownBehind u m w → IsShownBehind t (loop_of x) w
   new_behind m new shown =
-      let last : Summary = sum_behind_all cs w (loop_of x) t.body 1 in
-      let none : Summary = sum_behind_all cs w 0 t.body 1 in
+      let last : Summary = summary_behind_all cs w (loop_of x) t.body 1 in
+      let none : Summary = summary_behind_all cs w 0 t.body 1 in
       shown_by u t w m (loop_of x) is.saved
-      (no_more_by (sum_behind_all (constant_names u.decls) w m u.body 1) (sum_either none last) last (in_programs 0 m (before_new m new) (behind_new m new))
+      (no_more_by (summary_behind_all (constant_names u.decls) w m u.body 1) (summary_either none last) last (in_programs 0 m (before_new m new) (behind_new m new))
       (both_more none last last (no_more_by none unreached last (all_behind_none cs w t.body 0 1 no_zero) (unreached_more last)) (no_more last))) shown
 
 pub staying_shown : (x : Exchange) (t u : ProgramTree) (w : List ℕ) (k m : ℕ) → IsExchanged x t u → KeepsVariable x w → IsStaying x k m → IsShownBehind u m w → IsShownBehind t k w ⊎ IsShownBehind t (loop_of x) w

@@ -6,7 +6,7 @@ use Rattle.ped_bodies.specs.ped_flow.specs.ped_tree.specs.Numbering.{statements_
 use Rattle.ped_bodies.specs.ped_flow.specs.ped_tree.specs.Accesses.{constant_names}
 use Rattle.ped_bodies.specs.ped_flow.specs.ped_tree.specs.NamesIn.{loop_variables, all_loop_variables}
 use Rattle.ped_bodies.specs.ped_flow.specs.Questions.{LoopOf, IsIndexIn, IsShownBehind}
-use Rattle.ped_bodies.specs.ped_flow.specs.Summaries.{unreached, sum_behind_all}
+use Rattle.ped_bodies.specs.ped_flow.specs.Summaries.{unreached, summary_behind_all}
 use Rattle.ped_bodies.specs.ped_flow.proofs.Truths.{untrue, or_none}
 use Rattle.ped_bodies.specs.ped_steps.specs.Tidy.{is_written_in, IsTidy}
 use Rattle.ped_bodies.specs.ped_steps.specs.Runs.Gaps.{filled}
@@ -79,10 +79,10 @@ module _ (x : Exchange) (t u : ProgramTree) (is : IsExchanged x t u) (leave : Le
   other_shown : (k m : ℕ) (w : List ℕ) → is_among w (all_loop_variables x.new) ≡ false → IsStaying x k m → IsShownBehind u m w → IsShownBehind t k w
   other_shown k m w other stays =
       shown_by u t w m k is.saved
-      (subst (λ (names : List (List ℕ)). IsNoMore (sum_behind_all names w m u.body 1) (sum_behind_all cs w k t.body 1)) (sym is.constants)
-      (subst (λ (a : Summary). IsNoMore a (sum_behind_all cs w k t.body 1)) (without_comments cs w m is.comments u.body 1 is.uncounted)
-      (subst (λ (ss : StmtTrees). IsNoMore (sum_behind_all cs w m ss 1) (sum_behind_all cs w k t.body 1)) (sym is.new_body)
-      (subst (λ (ss : StmtTrees). IsNoMore (sum_behind_all cs w m (filled x.gap x.new) 1) (sum_behind_all cs w k ss 1)) (sym is.old_body)
+      (subst (λ (names : List (List ℕ)). IsNoMore (summary_behind_all names w m u.body 1) (summary_behind_all cs w k t.body 1)) (sym is.constants)
+      (subst (λ (a : Summary). IsNoMore a (summary_behind_all cs w k t.body 1)) (without_comments cs w m is.comments u.body 1 is.uncounted)
+      (subst (λ (ss : StmtTrees). IsNoMore (summary_behind_all cs w m ss 1) (summary_behind_all cs w k t.body 1)) (sym is.new_body)
+      (subst (λ (ss : StmtTrees). IsNoMore (summary_behind_all cs w m (filled x.gap x.new) 1) (summary_behind_all cs w k ss 1)) (sym is.old_body)
       (gap_behind cs w x.new (old_of x) less (start_of x) m k before behind here x.gap 1 refl)))))
     where
       less : LeaveNoMore (constant_names t.decls) w x.new (old_of x)
@@ -115,10 +115,10 @@ module _ (x : Exchange) (t u : ProgramTree) (is : IsExchanged x t u) (leave : Le
           by (inl p) = let e = p.0 in let f = p.1 in grind (arith, eqb-true, a, e, f)
           by (inr p) = let f = p.2 in grind (arith, eqb-true, a, f)
 
-      here : IsNoMore (sum_behind_all (constant_names t.decls) w m x.new (start_of x)) (sum_behind_all (constant_names t.decls) w k (old_of x) (start_of x))
+      here : IsNoMore (summary_behind_all (constant_names t.decls) w m x.new (start_of x)) (summary_behind_all (constant_names t.decls) w k (old_of x) (start_of x))
       here =
-          no_more_by (sum_behind_all (constant_names t.decls) w m x.new (start_of x)) unreached (sum_behind_all (constant_names t.decls) w k (old_of x) (start_of x))
-          (all_behind_none (constant_names t.decls) w x.new m (start_of x) outside) (unreached_more (sum_behind_all (constant_names t.decls) w k (old_of x) (start_of x)))
+          no_more_by (summary_behind_all (constant_names t.decls) w m x.new (start_of x)) unreached (summary_behind_all (constant_names t.decls) w k (old_of x) (start_of x))
+          (all_behind_none (constant_names t.decls) w x.new m (start_of x) outside) (unreached_more (summary_behind_all (constant_names t.decls) w k (old_of x) (start_of x)))
 
   module _ (m : ℕ) (p : LoopOf u m) (parallel : p.head.parallel ≡ true) (w : List ℕ) (index : IsIndexIn u m w) (shown : IsShownBehind u m w) where
     -- a PARALLEL DO among the new statements

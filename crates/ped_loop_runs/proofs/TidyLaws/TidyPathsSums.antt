@@ -7,7 +7,7 @@ use Rattle.ped_bodies.specs.ped_flow.specs.ped_tree.specs.Tree.{ExprTree, Int, V
 use Rattle.ped_bodies.specs.ped_flow.specs.ped_tree.specs.Numbering.{statement_count, statements_count}
 use Rattle.ped_bodies.specs.ped_flow.specs.ped_tree.specs.NamesIn.{all_loop_variables}
 use Rattle.ped_bodies.specs.ped_flow.specs.Events.{Manner, reads, assigns, clears, Event, event, unless_constant, scalars_in, all_scalars_in, scalars_in_cond, scalars_in_item, reads_of, left_events, own_events, copied, start_events, exit_events, is_overwriting, is_overwriting_of, overwrites}
-use Rattle.ped_bodies.specs.ped_flow.specs.Summaries.{passing, unreached, of_manner, sum_in_turn, sum_either, sum_trips, sum_event, sum_events, sum_loop, sum_of, sum_of_all}
+use Rattle.ped_bodies.specs.ped_flow.specs.Summaries.{passing, unreached, of_manner, summary_in_turn, summary_either, summary_trips, summary_event, summary_events, summary_loop, summary_of, summary_of_all}
 use Rattle.ped_bodies.specs.ped_flow.proofs.Truths.{untrue}
 
 abbrev type_of : {A : Type 0} → A → Type 0
@@ -59,16 +59,16 @@ same_no_more m other e = subst (IsNoMore m) e (no_more m)
 pub no_more_by : (a b c : Summary) → IsNoMore a b → IsNoMore b c → IsNoMore a c
 no_more_by a b c h k = record { keeps = λ e. k.keeps (h.keeps e); ends = λ e. k.ends (h.ends e) }
 
-pub in_turn_more : (a b c d : Summary) → IsNoMore a c → IsNoMore b d → IsNoMore (sum_in_turn a b) (sum_in_turn c d)
+pub in_turn_more : (a b c d : Summary) → IsNoMore a c → IsNoMore b d → IsNoMore (summary_in_turn a b) (summary_in_turn c d)
 in_turn_more a b c d h k = record {
   keeps = and_more a.keeps b.keeps c.keeps d.keeps h.keeps k.keeps;
   ends = or_more a.ends (a.keeps && b.ends) c.ends (c.keeps && d.ends) h.ends (and_more a.keeps b.ends c.keeps d.ends h.keeps k.ends);
 }
 
-pub either_more : (a b c d : Summary) → IsNoMore a c → IsNoMore b d → IsNoMore (sum_either a b) (sum_either c d)
+pub either_more : (a b c d : Summary) → IsNoMore a c → IsNoMore b d → IsNoMore (summary_either a b) (summary_either c d)
 either_more a b c d h k = record { keeps = or_more a.keeps b.keeps c.keeps d.keeps h.keeps k.keeps; ends = or_more a.ends b.ends c.ends d.ends h.ends k.ends }
 
-pub trips_more : (a b : Summary) → IsNoMore a b → IsNoMore (sum_trips a) (sum_trips b)
+pub trips_more : (a b : Summary) → IsNoMore a b → IsNoMore (summary_trips a) (summary_trips b)
 trips_more a b h = record { keeps = λ e. refl; ends = h.ends }
 
 -- no path leaves anything
@@ -85,7 +85,7 @@ append_more w xs ys us vs h k e =
     ∙ or_more (is_among w xs) (is_among w ys) (is_among w us) (is_among w vs) h k (sym (list_any-append (is_same_text w) xs ys) ∙ e)
 
 module _ (w : List ℕ) where
-  event_keeps : (e : Event) → (sum_event w e).keeps ≡ not (is_overwriting_of w e)
+  event_keeps : (e : Event) → (summary_event w e).keeps ≡ not (is_overwriting_of w e)
   event_keeps e = go (is_same_text w e.scalar) e.manner
     where
       go : (same : Bool) (m : Manner) → (if same then of_manner m e.statement else passing).keeps ≡ not (same && is_overwriting m)
@@ -94,7 +94,7 @@ module _ (w : List ℕ) where
       go true clears = refl
       go false m = refl
 
-  event_ends : (e : Event) → (sum_event w e).ends ≡ false
+  event_ends : (e : Event) → (summary_event w e).ends ≡ false
   event_ends e = go (is_same_text w e.scalar) e.manner
     where
       go : (same : Bool) (m : Manner) → (if same then of_manner m e.statement else passing).ends ≡ false
@@ -104,22 +104,22 @@ module _ (w : List ℕ) where
       go false m = refl
 
   -- events leave the scalar as it is where none overwrites it
-  pub events_keep : (es : List Event) → (sum_events w es).keeps ≡ not (overwrites w es)
+  pub events_keep : (es : List Event) → (summary_events w es).keeps ≡ not (overwrites w es)
   events_keep [] = refl
   events_keep (e ∷ rest) = (λ i. event_keeps e i && events_keep rest i) ∙ sym (not_or (is_overwriting_of w e) (overwrites w rest))
 
-  events_end : (es : List Event) → (sum_events w es).ends ≡ false
+  events_end : (es : List Event) → (summary_events w es).ends ≡ false
   events_end [] = refl
-  events_end (e ∷ rest) = (λ i. event_ends e i || ((sum_event w e).keeps && events_end rest i)) ∙ and_false (sum_event w e).keeps
+  events_end (e ∷ rest) = (λ i. event_ends e i || ((summary_event w e).keeps && events_end rest i)) ∙ and_false (summary_event w e).keeps
 
-  pub events_more : (p q : List Event) → (overwrites w q ≡ true → overwrites w p ≡ true) → IsNoMore (sum_events w p) (sum_events w q)
+  pub events_more : (p q : List Event) → (overwrites w q ≡ true → overwrites w p ≡ true) → IsNoMore (summary_events w p) (summary_events w q)
   events_more p q h = record {
     keeps = λ e. events_keep q ∙ not_more (overwrites w p) (overwrites w q) h (sym (events_keep p) ∙ e);
     ends = λ e. untrue (sym (events_end p) ∙ e);
   }
 
   -- events don't end a path
-  pub events_pass : (es : List Event) → IsNoMore (sum_events w es) passing
+  pub events_pass : (es : List Event) → IsNoMore (summary_events w es) passing
   events_pass es = record { keeps = λ e. refl; ends = λ e. untrue (sym (events_end es) ∙ e) }
 
   read_none : (n : ℕ) (xs : List (List ℕ)) → overwrites w (reads_of n xs) ≡ false
@@ -197,7 +197,7 @@ module _ (cs : List (List ℕ)) (w : List ℕ) where
   own_overwrites Stop n = refl
   own_overwrites (Comment text) n = refl
 
-  pub own_more : (t u : StmtTree) (n m : ℕ) → AreNoMore w (own_lefts cs u) (own_lefts cs t) → IsNoMore (sum_events w (own_events cs n t)) (sum_events w (own_events cs m u))
+  pub own_more : (t u : StmtTree) (n m : ℕ) → AreNoMore w (own_lefts cs u) (own_lefts cs t) → IsNoMore (summary_events w (own_events cs n t)) (summary_events w (own_events cs m u))
   own_more t u n m h = events_more w (own_events cs n t) (own_events cs m u) (λ e. own_overwrites t n ∙ h (sym (own_overwrites u m) ∙ e))
 
   -- one DO clears the scalar wherever another does
@@ -224,40 +224,40 @@ module _ (cs : List (List ℕ)) (w : List ℕ) where
   own_exit_more : (h g : Head) (body other : StmtTrees) → ClearsAll h g body other → AreNoMore w (own_exit g) (own_exit h)
   own_exit_more h g body other c e = ap (is_among w) (λ i. if c.parallel i then c.variable i ∷ [] else []) ∙ e
 
-  pub cleared_more : (n m : ℕ) (xs ys : List (List ℕ)) → AreNoMore w ys xs → IsNoMore (sum_events w (map (event n clears) xs)) (sum_events w (map (event m clears) ys))
+  pub cleared_more : (n m : ℕ) (xs ys : List (List ℕ)) → AreNoMore w ys xs → IsNoMore (summary_events w (map (event n clears) xs)) (summary_events w (map (event m clears) ys))
   cleared_more n m xs ys h = events_more w (map (event n clears) xs) (map (event m clears) ys) (λ e. clear_all w n xs ∙ h (sym (clear_all w m ys) ∙ e))
 
-  pub loop_more : (h g : Head) (body other : StmtTrees) (n m : ℕ) (a b : Summary) → ClearsAll h g body other → IsNoMore a b → IsNoMore (sum_loop w n h body a) (sum_loop w m g other b)
+  pub loop_more : (h g : Head) (body other : StmtTrees) (n m : ℕ) (a b : Summary) → ClearsAll h g body other → IsNoMore a b → IsNoMore (summary_loop w n h body a) (summary_loop w m g other b)
   loop_more h g body other n m a b c k =
       let copies = copied_more h g body other c in
       let start = cleared_more n m (copied h body) (copied g other) copies in
-      in_turn_more (sum_trips (sum_in_turn (sum_events w (start_events n h body)) a)) (sum_events w (exit_events n h body)) (sum_trips (sum_in_turn (sum_events w (start_events m g other)) b)) (sum_events w (exit_events m g other))
-      (trips_more (sum_in_turn (sum_events w (start_events n h body)) a) (sum_in_turn (sum_events w (start_events m g other)) b)
-      (in_turn_more (sum_events w (start_events n h body)) a (sum_events w (start_events m g other)) b start k))
+      in_turn_more (summary_trips (summary_in_turn (summary_events w (start_events n h body)) a)) (summary_events w (exit_events n h body)) (summary_trips (summary_in_turn (summary_events w (start_events m g other)) b)) (summary_events w (exit_events m g other))
+      (trips_more (summary_in_turn (summary_events w (start_events n h body)) a) (summary_in_turn (summary_events w (start_events m g other)) b)
+      (in_turn_more (summary_events w (start_events n h body)) a (summary_events w (start_events m g other)) b start k))
       (cleared_more n m (own_exit h ++ copied h body) (own_exit g ++ copied g other) (append_more w (own_exit g) (copied g other) (own_exit h) (copied h body) (own_exit_more h g body other c) copies))
 
-  pub do_more : (h g : Head) (body other : StmtTrees) (n m : ℕ) → ClearsAll h g body other → IsNoMore (sum_of_all cs w body (n + 1)) (sum_of_all cs w other (m + 1)) → IsNoMore (sum_of cs w (Do h body) n) (sum_of cs w (Do g other) m)
+  pub do_more : (h g : Head) (body other : StmtTrees) (n m : ℕ) → ClearsAll h g body other → IsNoMore (summary_of_all cs w body (n + 1)) (summary_of_all cs w other (m + 1)) → IsNoMore (summary_of cs w (Do h body) n) (summary_of cs w (Do g other) m)
   do_more h g body other n m c k =
-      in_turn_more (sum_events w (own_events cs n (Do h body))) (sum_loop w n h body (sum_of_all cs w body (n + 1))) (sum_events w (own_events cs m (Do g other))) (sum_loop w m g other (sum_of_all cs w other (m + 1)))
+      in_turn_more (summary_events w (own_events cs n (Do h body))) (summary_loop w n h body (summary_of_all cs w body (n + 1))) (summary_events w (own_events cs m (Do g other))) (summary_loop w m g other (summary_of_all cs w other (m + 1)))
       (own_more (Do h body) (Do g other) n m (λ e. ap (λ (v : List ℕ). is_among w (v ∷ [])) c.variable ∙ e))
-      (loop_more h g body other n m (sum_of_all cs w body (n + 1)) (sum_of_all cs w other (m + 1)) c k)
+      (loop_more h g body other n m (summary_of_all cs w body (n + 1)) (summary_of_all cs w other (m + 1)) c k)
 
   -- an IF with the same condition
   pub if_more : (a b c d : StmtTrees) (t u : StmtTree) (n m i j k l : ℕ) → AreNoMore w (own_lefts cs u) (own_lefts cs t)
-      → IsNoMore (sum_of_all cs w a i) (sum_of_all cs w c k) → IsNoMore (sum_of_all cs w b j) (sum_of_all cs w d l)
-      → IsNoMore (sum_in_turn (sum_events w (own_events cs n t)) (sum_either (sum_of_all cs w a i) (sum_of_all cs w b j))) (sum_in_turn (sum_events w (own_events cs m u)) (sum_either (sum_of_all cs w c k) (sum_of_all cs w d l)))
+      → IsNoMore (summary_of_all cs w a i) (summary_of_all cs w c k) → IsNoMore (summary_of_all cs w b j) (summary_of_all cs w d l)
+      → IsNoMore (summary_in_turn (summary_events w (own_events cs n t)) (summary_either (summary_of_all cs w a i) (summary_of_all cs w b j))) (summary_in_turn (summary_events w (own_events cs m u)) (summary_either (summary_of_all cs w c k) (summary_of_all cs w d l)))
   if_more a b c d t u n m i j k l own first second =
-      in_turn_more (sum_events w (own_events cs n t)) (sum_either (sum_of_all cs w a i) (sum_of_all cs w b j)) (sum_events w (own_events cs m u)) (sum_either (sum_of_all cs w c k) (sum_of_all cs w d l))
-      (own_more t u n m own) (either_more (sum_of_all cs w a i) (sum_of_all cs w b j) (sum_of_all cs w c k) (sum_of_all cs w d l) first second)
+      in_turn_more (summary_events w (own_events cs n t)) (summary_either (summary_of_all cs w a i) (summary_of_all cs w b j)) (summary_events w (own_events cs m u)) (summary_either (summary_of_all cs w c k) (summary_of_all cs w d l))
+      (own_more t u n m own) (either_more (summary_of_all cs w a i) (summary_of_all cs w b j) (summary_of_all cs w c k) (summary_of_all cs w d l) first second)
 
   -- statements one behind the other
-  pub more_more : (t u : StmtTree) (rest others : StmtTrees) (n m i j : ℕ) → IsNoMore (sum_of cs w t n) (sum_of cs w u m) → IsNoMore (sum_of_all cs w rest i) (sum_of_all cs w others j)
-      → IsNoMore (sum_in_turn (sum_of cs w t n) (sum_of_all cs w rest i)) (sum_in_turn (sum_of cs w u m) (sum_of_all cs w others j))
-  more_more t u rest others n m i j = in_turn_more (sum_of cs w t n) (sum_of_all cs w rest i) (sum_of cs w u m) (sum_of_all cs w others j)
+  pub more_more : (t u : StmtTree) (rest others : StmtTrees) (n m i j : ℕ) → IsNoMore (summary_of cs w t n) (summary_of cs w u m) → IsNoMore (summary_of_all cs w rest i) (summary_of_all cs w others j)
+      → IsNoMore (summary_in_turn (summary_of cs w t n) (summary_of_all cs w rest i)) (summary_in_turn (summary_of cs w u m) (summary_of_all cs w others j))
+  more_more t u rest others n m i j = in_turn_more (summary_of cs w t n) (summary_of_all cs w rest i) (summary_of cs w u m) (summary_of_all cs w others j)
 
   -- under another number a statement does the same
   mutual
-    pub any_number : (t : StmtTree) (n m : ℕ) → IsNoMore (sum_of cs w t n) (sum_of cs w t m)
+    pub any_number : (t : StmtTree) (n m : ℕ) → IsNoMore (summary_of cs w t n) (summary_of cs w t m)
     any_number (Assign left right) n m = own_more (Assign left right) (Assign left right) n m (λ e. e)
     any_number (If c a b) n m =
         if_more a b a b (If c a b) (If c a b) n m (n + 1) (n + 1 + statements_count a) (m + 1) (m + 1 + statements_count a) (λ e. e)
@@ -265,9 +265,9 @@ module _ (cs : List (List ℕ)) (w : List ℕ) where
     any_number (Do h body) n m = do_more h h body body n m (same_head_clears h body body (λ e. e)) (any_numbers body (n + 1) (m + 1))
     any_number (Print items) n m = own_more (Print items) (Print items) n m (λ e. e)
     any_number (Read items) n m = own_more (Read items) (Read items) n m (λ e. e)
-    any_number Stop n m = no_more (sum_of cs w Stop n)
+    any_number Stop n m = no_more (summary_of cs w Stop n)
     any_number (Comment text) n m = no_more passing
 
-    pub any_numbers : (ts : StmtTrees) (n m : ℕ) → IsNoMore (sum_of_all cs w ts n) (sum_of_all cs w ts m)
+    pub any_numbers : (ts : StmtTrees) (n m : ℕ) → IsNoMore (summary_of_all cs w ts n) (summary_of_all cs w ts m)
     any_numbers no_stmts n m = no_more passing
     any_numbers (more_stmts t rest) n m = more_more t t rest rest n m (n + statement_count t) (m + statement_count t) (any_number t n m) (any_numbers rest (n + statement_count t) (m + statement_count t))

@@ -1,4 +1,4 @@
-use Rattle.ped_flow.proofs.TreeSums.{summed, all_summed, all_behind-summed, all_before-summed}
+use Rattle.ped_flow.proofs.TreeSummaries.{summed, all_summed, all_behind-summed, all_before-summed}
 use Rattle.ped_flow.proofs.laws.paths_are_summed.Goals as goal
 
 pub returns-clause-statement : goal.returns-clause-statement

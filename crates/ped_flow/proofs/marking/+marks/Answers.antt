@@ -5,12 +5,12 @@ use Rattle.ped_tree.specs.declared.expressions.Expr.{Expr}
 use Rattle.ped_flow.specs.Events.{scalars_in, all_scalars_in}
 use Rattle.ped_flow.specs.RowMarks.{names_in, constants_in}
 use Rattle.ped_flow.proofs.ScalarSteps.{rest_is}
-use Rattle.ped_flow.proofs.Marks.{sum_marked, difference_marked, product_marked, quotient_marked, power_marked, next_marked, all_marked}
+use Rattle.ped_flow.proofs.Marks.{summary_marked, difference_marked, product_marked, quotient_marked, power_marked, next_marked, all_marked}
 use Rattle.ped_flow.proofs.marking.+marks.Goals as goal
 
 pub mark_expression-returns-in-Add : goal.mark_expression-returns-in-Add
 mark_expression-returns-in-Add t c =
-    sum_marked (names_in c.args.places.now) (constants_in c.args.places.now) c.args.row.now c.mark_expression-in-Add.new.row c.mark_expression-in-Add-2.new.row
+    summary_marked (names_in c.args.places.now) (constants_in c.args.places.now) c.args.row.now c.mark_expression-in-Add.new.row c.mark_expression-in-Add-2.new.row
     c.args.e.now c.in-Add.a c.in-Add.b c.deref-in-Add.result.now c.deref-in-Add-2.result.now c.in-Add.is c.deref-in-Add.ensures c.deref-in-Add-2.ensures c.mark_expression-in-Add.ensures c.mark_expression-in-Add-2.ensures
 
 pub mark_expression-returns-in-Sub : goal.mark_expression-returns-in-Sub

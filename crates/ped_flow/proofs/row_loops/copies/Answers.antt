@@ -3,7 +3,7 @@ use Rattle.ped_tree.specs.Views.{stmt_trees}
 use Rattle.ped_tree.specs.NamesIn.{all_loop_variables}
 use Rattle.ped_flow.specs.RowPlaces.{AreMarked}
 use Rattle.ped_flow.specs.RowMarks.{names_in}
-use Rattle.ped_flow.proofs.RowSums.{union_wide}
+use Rattle.ped_flow.proofs.RowSummaries.{union_wide}
 use Rattle.ped_flow.proofs.EventRows.{marked_wide, copies_row}
 use Rattle.ped_flow.proofs.row_loops.copies.Goals as goal
 use Rattle.ped_flow.proofs.row_loops.copies.Goals.{then-d, else-d}

@@ -10,7 +10,7 @@ use Rattle.ped_tree.specs.declared.statements.PrintItem.{PrintItem}
 use Rattle.ped_tree.specs.declared.statements.Stmt.{Stmt}
 use Rattle.ped_tree.specs.Views.{head_of}
 use Rattle.ped_tree.specs.NamesIn.{loop_variables, all_loop_variables}
-use Rattle.ped_flow.specs.Summaries.{passing, sum_in_turn, least_of, sum_of, sum_of_all}
+use Rattle.ped_flow.specs.Summaries.{passing, summary_in_turn, least_of, summary_of, summary_of_all}
 use Rattle.ped_flow.specs.Kept.{first_outside, all_first_outside}
 use Rattle.ped_flow.specs.RowMarks.{names_in, constants_in}
 use Rattle.ped_flow.specs.Parts.{IsPart}
@@ -22,7 +22,7 @@ use Rattle.ped_flow.proofs.ScalarSteps.{rest_is}
 use Rattle.ped_flow.proofs.WalkSteps.{count_next, walk_next}
 use Rattle.ped_flow.proofs.OutsideSteps.{outside_next}
 use Rattle.ped_flow.proofs.EventRows.{if_ok}
-use Rattle.ped_flow.proofs.PartSums.{same_part}
+use Rattle.ped_flow.proofs.PartSummaries.{same_part}
 use Rattle.ped_flow.proofs.Known.{knows_written, same_written, entry_found, if_found, on_found, on_both, on_ok, if_known, if_others, if_count, known_next, others_next, unnumbered, uncounted, tree-Stop, tree-Comment, tree-Assign, tree-Print, tree-Read, tree-If, tree-Do}
 use Rattle.ped_flow.proofs.row_walks.+rows.Goals as goal
 
@@ -77,7 +77,7 @@ entry_of-returns-in-If t c =
     let tree : s ≡ stmt_tree c.args.s.now = sym (ap stmt_tree c.in-If.is ∙ tree-If c.in-If.c c.in-If.then_part c.in-If.else_part ∙ (λ j. plain.If (cond_tree c.in-If.c) (stmt_trees (sym c.deref-in-If.ensures.value j)) (stmt_trees (sym c.deref-in-If-2.ensures.value j)))) in
     let count = λ (q : Part) (there : parts ≡ Ok q). if_count p [] [] [] (cond_tree c.in-If.c) a b n m first.number c.all_parts-second.new.number (on_found parts q there second.number) in
     let behind = λ (q : Part) (there : parts ≡ Ok q).
-    subst (λ (k : ℕ). IsPart (names_in p) q (λ x. sum_of_all (constants_in p) x b k) (λ x. all_first_outside (constants_in p) x b k) (all_loop_variables b)) first.number (if_found _ parts q there second.part) in
+    subst (λ (k : ℕ). IsPart (names_in p) q (λ x. summary_of_all (constants_in p) x b k) (λ x. all_first_outside (constants_in p) x b k) (all_loop_variables b)) first.number (if_found _ parts q there second.part) in
     record {
       number = on_both _ r parts made (λ q there. count q there ∙ ap (λ (z : StmtTree). n + statement_count z) tree);
       entry = subst (λ (z : StmtTree). IfOk r (λ e. IsEntry p e z n)) tree (if_ok r (λ e h. h.2 n a b first.part (behind h.0 h.1) (count h.0 h.1)) made);
@@ -96,7 +96,7 @@ entry_of-returns-in-Do t c =
     let tree : plain.Do (head_of d) (stmt_trees d.body.items) ≡ stmt_tree c.args.s.now = sym (ap stmt_tree c.in-Do.is ∙ tree-Do d) in
     let count : c.all_parts-in-Do.new.number ≡ n + (statements_count (stmt_trees d.body.items) + 1) =
     (let e : statements_count (stmt_trees c.deref-in-Do.result.now) ≡ statements_count (stmt_trees d.body.items) = ap (λ (ss : List Stmt). statements_count (stmt_trees ss)) c.deref-in-Do.ensures.value in omega (arith, e, body.number)) in
-    let part = subst (λ (ss : List Stmt). IsPart (names_in p) c.in_ok-body-in-Do.body (λ x. sum_of_all (constants_in p) x (stmt_trees ss) (n + 1)) (λ x. all_first_outside (constants_in p) x (stmt_trees ss) (n + 1)) (all_loop_variables (stmt_trees ss))) c.deref-in-Do.ensures.value body.part in
+    let part = subst (λ (ss : List Stmt). IsPart (names_in p) c.in_ok-body-in-Do.body (λ x. summary_of_all (constants_in p) x (stmt_trees ss) (n + 1)) (λ x. all_first_outside (constants_in p) x (stmt_trees ss) (n + 1)) (all_loop_variables (stmt_trees ss))) c.deref-in-Do.ensures.value body.part in
     record {
       number = on_ok c.loop_entry.result (count ∙ ap (λ (z : StmtTree). n + statement_count z) tree);
       entry = subst (λ (z : StmtTree). IfOk c.loop_entry.result (λ e. IsEntry p e z n)) tree (if_ok c.loop_entry.result (λ e h. h n part count) c.loop_entry.ensures);
@@ -115,7 +115,7 @@ add_part-returns-then-not-is_numbered t c =
     record {
       number = omega (arith, none);
       part = λ f o u h. same_part (names_in p) c.args.part.now f _ o _ u _
-          (λ x. sym (in_turn-passing (f x)) ∙ ap (sum_in_turn (f x)) (sym (nothing x).0))
+          (λ x. sym (in_turn-passing (f x)) ∙ ap (summary_in_turn (f x)) (sym (nothing x).0))
           (λ x. sym (least-none (o x)) ∙ ap (least_of (o x)) (sym (nothing x).1))
           (sym (append-nil u) ∙ ap (λ (v : List (List ℕ)). u ++ v) (sym (nothing []).2)) h;
       known = (nothing []).3;
@@ -151,7 +151,7 @@ all_parts-loop-s-init t c = record {
   outside = λ x. None;
   variables = [];
   is = c.in_ok-part.ensures (names_in c.args.places.now) (sym c.len.ensures);
-  sums = λ x. refl;
+  summaries = λ x. refl;
   loose = λ x. refl;
   indices = refl;
   known = λ table h k. k;
@@ -173,11 +173,11 @@ all_parts-loop-s-preserved t c =
     record {
       number = count_next cs [] body i s c.loop-s-test.true c.s-item.is n m add.number _ inv.number;
       after = omega (arith, inv.after, add.number);
-      sum = λ x. sum_in_turn (inv.sum x) (sum_of cs x (stmt_tree s) n);
+      sum = λ x. summary_in_turn (inv.sum x) (summary_of cs x (stmt_tree s) n);
       outside = λ x. least_of (inv.outside x) (first_outside cs x (stmt_tree s) n);
       variables = inv.variables ++ loop_variables (stmt_tree s);
       is = add.part inv.sum inv.outside inv.variables inv.is;
-      sums = λ x. walk_next cs x body i s c.loop-s-test.true c.s-item.is n m add.number (inv.sum x) (sum_of cs x (stmt_tree s) n) _ _ (inv.sums x) refl refl;
+      summaries = λ x. walk_next cs x body i s c.loop-s-test.true c.s-item.is n m add.number (inv.sum x) (summary_of cs x (stmt_tree s) n) _ _ (inv.summaries x) refl refl;
       loose = λ x. outside_next cs x body i s c.loop-s-test.true c.s-item.is n m add.number (inv.outside x) (first_outside cs x (stmt_tree s) n) _ _ (inv.loose x) refl refl;
       indices = append_assoc inv.variables (loop_variables (stmt_tree s)) (all_loop_variables (stmt_trees (drop (i + 1) body))) ∙ ap (λ (ss : StmtTrees). inv.variables ++ all_loop_variables ss) (sym tree) ∙ inv.indices;
       known = known_next p body i s c.loop-s-test.true c.s-item.is n m add.number c.args.number.now [] c.loop-s.table c.add_part.new.table inv.known add.known add.others;
@@ -195,7 +195,7 @@ all_parts-returns t c =
     record {
       number = count;
       part = same_part (names_in p) c.loop-s.part inv.sum _ inv.outside _ inv.variables _
-          (λ x. sym (in_turn-passing (inv.sum x)) ∙ ap (λ (ss : StmtTrees). sum_in_turn (inv.sum x) (sum_of_all cs x ss n)) (sym none) ∙ inv.sums x)
+          (λ x. sym (in_turn-passing (inv.sum x)) ∙ ap (λ (ss : StmtTrees). summary_in_turn (inv.sum x) (summary_of_all cs x ss n)) (sym none) ∙ inv.summaries x)
           (λ x. sym (least-none (inv.outside x)) ∙ ap (λ (ss : StmtTrees). least_of (inv.outside x) (all_first_outside cs x ss n)) (sym none) ∙ inv.loose x)
           (sym (append-nil inv.variables) ∙ ap (λ (ss : StmtTrees). inv.variables ++ all_loop_variables ss) (sym none) ∙ inv.indices) inv.is;
       known = inv.known c.loop-s.table (λ k h. refl) (subst (λ (ss : StmtTrees). KnowsAll p c.loop-s.table ss n) (sym none) tt);

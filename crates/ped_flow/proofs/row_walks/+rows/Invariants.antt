@@ -2,7 +2,7 @@ use Rattle.std.proofs.Common.{◌≡◌, ℕ, ◌+◌, ◌<◌, ◌≤◌, ◌++
 use Rattle.ped_tree.specs.Views.{stmt_trees}
 use Rattle.ped_tree.specs.Numbering.{statements_count}
 use Rattle.ped_tree.specs.NamesIn.{all_loop_variables}
-use Rattle.ped_flow.specs.Summaries.{least_of, sum_in_turn, sum_of_all}
+use Rattle.ped_flow.specs.Summaries.{least_of, summary_in_turn, summary_of_all}
 use Rattle.ped_flow.specs.Kept.{all_first_outside}
 use Rattle.ped_flow.specs.RowMarks.{names_in, constants_in}
 use Rattle.ped_flow.specs.Parts.{IsPart}
@@ -19,7 +19,7 @@ invariant-all_parts-loop-s l = record {
   outside : List ℕ → Option ℕ;
   variables : List (List ℕ);
   is : IsPart (names_in l.places) l.part sum outside variables;
-  sums : (x : List ℕ) → sum_in_turn (sum x) (sum_of_all (constants_in l.places) x (stmt_trees (drop l.s-index l.body)) l.number) ≡ sum_of_all (constants_in l.places) x (stmt_trees l.body) l.initial.number;
+  summaries : (x : List ℕ) → summary_in_turn (sum x) (summary_of_all (constants_in l.places) x (stmt_trees (drop l.s-index l.body)) l.number) ≡ summary_of_all (constants_in l.places) x (stmt_trees l.body) l.initial.number;
   loose : (x : List ℕ) → least_of (outside x) (all_first_outside (constants_in l.places) x (stmt_trees (drop l.s-index l.body)) l.number) ≡ all_first_outside (constants_in l.places) x (stmt_trees l.body) l.initial.number;
   indices : variables ++ all_loop_variables (stmt_trees (drop l.s-index l.body)) ≡ all_loop_variables (stmt_trees l.body);
   known : (table : List (Option Entry)) → ((k : ℕ) → k < l.number → entry_at table k ≡ entry_at l.table k) → KnowsAll l.places table (stmt_trees (drop l.s-index l.body)) l.number → KnowsAll l.places table (stmt_trees l.body) l.initial.number;

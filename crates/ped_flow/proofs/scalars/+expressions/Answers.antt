@@ -2,16 +2,16 @@ use Rattle.std.proofs.Common.{List, map, ap, sym, ◌∙◌, ◌+◌, drop}
 use Rattle.ped_tree.specs.Views.{expr_tree, pack_exprs}
 use Rattle.ped_tree.specs.declared.expressions.Expr.{Expr}
 use Rattle.ped_flow.specs.Events.{reads_of, scalars_in, all_scalars_in}
-use Rattle.ped_flow.specs.Summaries.{sum_events, sum_in_turn}
+use Rattle.ped_flow.specs.Summaries.{summary_events, summary_in_turn}
 use Rattle.ped_flow.specs.declared.summaries.Summary.{Summary}
 use Rattle.ped_flow.specs.Kept.{name_of, constants_of}
 use Rattle.ped_flow.proofs.SumLaws.{reads-append}
-use Rattle.ped_flow.proofs.ScalarSteps.{sum_read, difference_read, product_read, quotient_read, power_read, rest_is, next_in_turn}
+use Rattle.ped_flow.proofs.ScalarSteps.{summary_read, difference_read, product_read, quotient_read, power_read, rest_is, next_in_turn}
 use Rattle.ped_flow.proofs.scalars.+expressions.Goals as goal
 
 pub expression-returns-in-Add : goal.expression-returns-in-Add
 expression-returns-in-Add t c =
-    sum_read (name_of c.args.scalar.now) (constants_of c.args.scalar.now) c.args.number c.args.e.now c.in-Add.a c.in-Add.b c.deref-in-Add.result.now c.deref-in-Add-2.result.now
+    summary_read (name_of c.args.scalar.now) (constants_of c.args.scalar.now) c.args.number c.args.e.now c.in-Add.a c.in-Add.b c.deref-in-Add.result.now c.deref-in-Add-2.result.now
     c.expression-in-Add.result c.expression-in-Add-2.result c.then.result c.in-Add.is c.deref-in-Add.ensures c.deref-in-Add-2.ensures c.expression-in-Add.ensures c.expression-in-Add-2.ensures c.then.ensures
 
 pub expression-returns-in-Sub : goal.expression-returns-in-Sub
@@ -42,10 +42,10 @@ expressions-loop-e-preserved t c =
     let e = c.e-item.result in
     let others = drop (c.loop-e.e-index + 1) c.args.es.now in
     next_in_turn c.loop-e.summary c.then-summary.result _ c.expression.result
-    (sum_events x (reads_of n (all_scalars_in cs (pack_exprs (map expr_tree (drop c.loop-e.e-index c.args.es.now))))))
-    (sum_events x (reads_of n (all_scalars_in cs (pack_exprs (map expr_tree others)))))
+    (summary_events x (reads_of n (all_scalars_in cs (pack_exprs (map expr_tree (drop c.loop-e.e-index c.args.es.now))))))
+    (summary_events x (reads_of n (all_scalars_in cs (pack_exprs (map expr_tree others)))))
     c.loop-e.invariant
-    (ap (λ (es : List Expr). sum_events x (reads_of n (all_scalars_in cs (pack_exprs (map expr_tree es))))) (rest_is c.args.es.now c.loop-e.e-index e c.loop-e-test.true c.e-item.is)
+    (ap (λ (es : List Expr). summary_events x (reads_of n (all_scalars_in cs (pack_exprs (map expr_tree es))))) (rest_is c.args.es.now c.loop-e.e-index e c.loop-e-test.true c.e-item.is)
     ∙ reads-append x n (scalars_in cs (expr_tree e)) (all_scalars_in cs (pack_exprs (map expr_tree others)))
-    ∙ ap (λ (z : Summary). sum_in_turn z (sum_events x (reads_of n (all_scalars_in cs (pack_exprs (map expr_tree others)))))) (sym c.expression.ensures))
+    ∙ ap (λ (z : Summary). summary_in_turn z (summary_events x (reads_of n (all_scalars_in cs (pack_exprs (map expr_tree others)))))) (sym c.expression.ensures))
     c.then-summary.ensures

@@ -1,14 +1,14 @@
 use Rattle.std.proofs.Common.{◌≡◌, ◌+◌, drop}
 use Rattle.ped_tree.specs.Views.{stmt_trees}
 use Rattle.ped_tree.specs.Numbering.{statements_count}
-use Rattle.ped_flow.specs.Summaries.{sum_in_turn, sum_of_all}
+use Rattle.ped_flow.specs.Summaries.{summary_in_turn, summary_of_all}
 use Rattle.ped_flow.specs.Kept.{name_of, constants_of}
 use Rattle.ped_flow.specs.Entries.{AreKnown}
 use Rattle.ped_flow.proofs.walks.+walk.Given as goal
 
 abbrev pub invariant-statements-loop-s : goal.invariant-statements-loop-s
 invariant-statements-loop-s l = record {
-  sum : sum_in_turn l.summary (sum_of_all (constants_of l.scalar) (name_of l.scalar) (stmt_trees (drop l.s-index l.body)) l.number) ≡ sum_of_all (constants_of l.scalar) (name_of l.scalar) (stmt_trees l.body) l.initial.number;
+  sum : summary_in_turn l.summary (summary_of_all (constants_of l.scalar) (name_of l.scalar) (stmt_trees (drop l.s-index l.body)) l.number) ≡ summary_of_all (constants_of l.scalar) (name_of l.scalar) (stmt_trees l.body) l.initial.number;
   number : l.number + statements_count (stmt_trees (drop l.s-index l.body)) ≡ l.initial.number + statements_count (stmt_trees l.body);
   known : AreKnown l.scalar (stmt_trees (drop l.s-index l.body)) l.number;
 }

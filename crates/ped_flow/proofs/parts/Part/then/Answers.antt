@@ -1,6 +1,6 @@
 use Rattle.std.proofs.Common.{sym, ◌∙◌}
-use Rattle.ped_flow.proofs.RowSums.{union_wide}
-use Rattle.ped_flow.proofs.PartSums.{then_part}
+use Rattle.ped_flow.proofs.RowSummaries.{union_wide}
+use Rattle.ped_flow.proofs.PartSummaries.{then_part}
 use Rattle.ped_flow.proofs.parts.Part.then.Goals as goal
 
 pub invariant_of-self-2 : goal.invariant_of-self-2

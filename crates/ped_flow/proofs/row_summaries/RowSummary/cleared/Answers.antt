@@ -1,6 +1,6 @@
 use Rattle.std.proofs.Common.{◌≡◌, length, ◌||◌, sym, ◌∙◌}
 use Rattle.ped_flow.specs.RowPlaces.{bit}
-use Rattle.ped_flow.proofs.RowSums.{or_at, union_wide, cleared_first, cleared_keeps, cleared_ends, cleared_passes, cleared_loses}
+use Rattle.ped_flow.proofs.RowSummaries.{or_at, union_wide, cleared_first, cleared_keeps, cleared_ends, cleared_passes, cleared_loses}
 use Rattle.ped_flow.proofs.row_summaries.RowSummary.cleared.Goals as goal
 
 pub invariant_of-part : goal.invariant_of-part

@@ -1,6 +1,6 @@
 use Rattle.std.proofs.Common.{◌||◌, length, sym, ap, ◌∙◌}
 use Rattle.ped_flow.proofs.RowLaws.{length-union, length-without}
-use Rattle.ped_flow.proofs.RowSums.{or_at, common_at, reads_or, not_either}
+use Rattle.ped_flow.proofs.RowSummaries.{or_at, common_at, reads_or, not_either}
 use Rattle.ped_flow.proofs.row_summaries.RowSummary.or.Goals as goal
 
 pub invariant_of-self : goal.invariant_of-self

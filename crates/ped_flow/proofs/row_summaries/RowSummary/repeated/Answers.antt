@@ -1,5 +1,5 @@
 use Rattle.std.proofs.Common.{◌||◌, sym, ◌∙◌}
-use Rattle.ped_flow.proofs.RowSums.{or_at, union_wide}
+use Rattle.ped_flow.proofs.RowSummaries.{or_at, union_wide}
 use Rattle.ped_flow.proofs.row_summaries.RowSummary.repeated.Goals as goal
 
 pub invariant_of-trips : goal.invariant_of-trips

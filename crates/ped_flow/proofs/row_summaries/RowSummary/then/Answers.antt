@@ -1,6 +1,6 @@
 use Rattle.std.proofs.Common.{sym, ap, ◌∙◌}
 use Rattle.ped_bits.specs.Places.{union}
-use Rattle.ped_flow.proofs.RowSums.{less_wide, union_wide, or_less_at, or_at, less_or_at, reads_then, ends_then, not_both, loses_then}
+use Rattle.ped_flow.proofs.RowSummaries.{less_wide, union_wide, or_less_at, or_at, less_or_at, reads_then, ends_then, not_both, loses_then}
 use Rattle.ped_flow.proofs.row_summaries.RowSummary.then.Goals as goal
 
 pub or_into-requires : goal.or_into-requires

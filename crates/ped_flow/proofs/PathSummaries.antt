@@ -4,7 +4,7 @@ use Rattle.ped_base.specs.Lists.{is_same_text}
 use Rattle.ped_flow.specs.Events.{Manner, reads, assigns, clears, Event, is_overwriting, is_assigning, overwrites, reads_first, has_value}
 use Rattle.ped_flow.specs.PathSets.{Kind, Never, Just, Either, InTurn, Times, AnyTimes, Paths, going, nowhere, stopping, in_turn, either, trips, Whole}
 use Rattle.ped_flow.specs.Questions.{IsFirst}
-use Rattle.ped_flow.specs.Summaries.{AreOnward, AreSummed, IsReadOn, least_of, when, passing, unreached, stopped, of_manner, sum_in_turn, sum_either, sum_trips, sum_event, sum_events}
+use Rattle.ped_flow.specs.Summaries.{AreOnward, AreSummed, IsReadOn, least_of, when, passing, unreached, stopped, of_manner, summary_in_turn, summary_either, summary_trips, summary_event, summary_events}
 use Rattle.ped_flow.specs.declared.summaries.Summary.{Summary}
 use Rattle.ped_flow.proofs.Truths.{untrue, and_iff, or_iff, iff_map}
 use Rattle.ped_flow.proofs.EventLaws.{overwrites-parts, overwrites-whole, reads_first-parts, reads_first-front, reads_first-back, has_value-append, has_value-kept, has_value-lost, has_value-parts}
@@ -49,7 +49,7 @@ loses_together P Q x (inl s) =
 loses_together P Q x (inr s) =
     (s.0.0 ++ s.1.0, (s.0.0, s.1.0, refl, s.0.1, s.1.1), has_value-append x true s.0.0 s.1.0 ∙ has_value-lost x (has_value x true s.0.0) s.1.0 s.1.2)
 
-pub in_turn-onward : (P Q : Kind) (x : List ℕ) (a b : Summary) → AreOnward P x a → AreOnward Q x b → AreOnward (InTurn P Q) x (sum_in_turn a b)
+pub in_turn-onward : (P Q : Kind) (x : List ℕ) (a b : Summary) → AreOnward P x a → AreOnward Q x b → AreOnward (InTurn P Q) x (summary_in_turn a b)
 in_turn-onward P Q x a b h k = record {
   keeps = iff_map (and_iff a.keeps b.keeps h.keeps k.keeps) (keeps_together P Q x) (keeps_apart P Q x);
   passes = iff_map (and_iff a.passes b.passes h.passes k.passes) (λ s. (s.0.0 ++ s.1.0, (s.0.0, s.1.0, refl, s.0.1, s.1.1))) (λ s. ((s.1.0, s.1.3), (s.1.1, s.1.4)));
@@ -141,7 +141,7 @@ ends-in_turn A B x s = by (keeps-either A.ending (InTurn A.onward B.ending) x s)
     by (inr k) = inr (keeps_apart A.onward B.ending x k)
 
 -- one part and then another, through which some path leads
-pub in_turn-summed : (A B : Paths) (x : List ℕ) (a b : Summary) → (path : List Event) × Whole B path → AreSummed A x a → AreSummed B x b → AreSummed (in_turn A B) x (sum_in_turn a b)
+pub in_turn-summed : (A B : Paths) (x : List ℕ) (a b : Summary) → (path : List Event) × Whole B path → AreSummed A x a → AreSummed B x b → AreSummed (in_turn A B) x (summary_in_turn a b)
 in_turn-summed A B x a b some h k = record {
   onward = in_turn-onward A.onward B.onward x a b h.onward k.onward;
   ends = iff_map (or_iff a.ends (a.keeps && b.ends) h.ends (and_iff a.keeps b.ends h.onward.keeps k.ends)) (in_turn-ends A B x) (ends-in_turn A B x);
@@ -151,7 +151,7 @@ in_turn-summed A B x a b some h k = record {
       (first_when (Keeps A.onward x) (IsReadOn B x) a.keeps b.first h.onward.keeps k.first));
 }
 
-pub either-onward : (P Q : Kind) (x : List ℕ) (a b : Summary) → AreOnward P x a → AreOnward Q x b → AreOnward (Either P Q) x (sum_either a b)
+pub either-onward : (P Q : Kind) (x : List ℕ) (a b : Summary) → AreOnward P x a → AreOnward Q x b → AreOnward (Either P Q) x (summary_either a b)
 either-onward P Q x a b h k = record {
   keeps = iff_map (or_iff a.keeps b.keeps h.keeps k.keeps) (either-keeps P Q x) (keeps-either P Q x);
   passes = iff_map (or_iff a.passes b.passes h.passes k.passes) (either-passes P Q) (passes-either P Q);
@@ -180,7 +180,7 @@ reads-either A B x n s = by s.0 s.1 s.2
     by path (inr (inr w)) r = inr (path, inr w, r)
 
 -- either part
-pub either-summed : (A B : Paths) (x : List ℕ) (a b : Summary) → AreSummed A x a → AreSummed B x b → AreSummed (either A B) x (sum_either a b)
+pub either-summed : (A B : Paths) (x : List ℕ) (a b : Summary) → AreSummed A x a → AreSummed B x b → AreSummed (either A B) x (summary_either a b)
 either-summed A B x a b h k = record {
   onward = either-onward A.onward B.onward x a b h.onward k.onward;
   ends = iff_map (or_iff a.ends b.ends h.ends k.ends) (either-keeps A.ending B.ending x) (keeps-either A.ending B.ending x);
@@ -231,7 +231,7 @@ reads-trips A x n s = by s.0 s.1 s.2
     by path (inr w) r = in_last (reads_apart (AnyTimes A.onward) A.ending x n (path, w, r))
 
 -- any number of trips, none and one of which are enough to know all
-pub trips-summed : (A : Paths) (x : List ℕ) (a : Summary) → AreSummed A x a → AreSummed (trips A) x (sum_trips a)
+pub trips-summed : (A : Paths) (x : List ℕ) (a : Summary) → AreSummed A x a → AreSummed (trips A) x (summary_trips a)
 trips-summed A x a h = record {
   onward = record {
     keeps = (λ t. ([], (0, refl), refl), λ s. refl);
@@ -311,8 +311,8 @@ summed_same A B x m f g h = record {
     from n path (inr w) r = (path, inr ((g path).1 w), r)
 
 -- events and then others
-pub going-append : (p q : List Event) (x : List ℕ) (a b : Summary) → AreSummed (going p) x a → AreSummed (going q) x b → AreSummed (going (p ++ q)) x (sum_in_turn a b)
-going-append p q x a b h k = summed_same (in_turn (going p) (going q)) (going (p ++ q)) x (sum_in_turn a b) onward ending (in_turn-summed (going p) (going q) x a b (q, inl refl) h k)
+pub going-append : (p q : List Event) (x : List ℕ) (a b : Summary) → AreSummed (going p) x a → AreSummed (going q) x b → AreSummed (going (p ++ q)) x (summary_in_turn a b)
+going-append p q x a b h k = summed_same (in_turn (going p) (going q)) (going (p ++ q)) x (summary_in_turn a b) onward ending (in_turn-summed (going p) (going q) x a b (q, inl refl) h k)
   where
     onward : (path : List Event) → (in_turn (going p) (going q)).onward path ↔ (going (p ++ q)).onward path
     onward path = (λ s. s.2 ∙ (λ i. s.3 i ++ s.4 i), λ e. (p, q, e, refl, refl))
@@ -342,13 +342,13 @@ one_by true reads statement = record { keeps = (λ t. refl, λ h. refl); passes 
 one_by true assigns statement = record { keeps = (λ t. untrue t, λ h. sym h); passes = refl; loses = (λ t. untrue t, λ h. sym h); ends = refl; first = λ n r. untrue r }
 one_by true clears statement = record { keeps = (λ t. untrue t, λ h. sym h); passes = refl; loses = (λ t. refl, λ h. refl); ends = refl; first = λ n r. untrue r }
 
-one_event : (x : List ℕ) (e : Event) → IsOne x (e ∷ []) (sum_event x e)
+one_event : (x : List ℕ) (e : Event) → IsOne x (e ∷ []) (summary_event x e)
 one_event x e = let h = one_by (is_same_text x e.scalar) e.manner e.statement in record { keeps = h.keeps; passes = h.passes; loses = h.loses; ends = h.ends; first = h.first }
 
 -- events in order
-pub going-summed : (x : List ℕ) (events : List Event) → AreSummed (going events) x (sum_events x events)
+pub going-summed : (x : List ℕ) (events : List Event) → AreSummed (going events) x (summary_events x events)
 going-summed x [] = going-none x
-going-summed x (e ∷ rest) = going-append (e ∷ []) rest x (sum_event x e) (sum_events x rest) (one-summed x (e ∷ []) (sum_event x e) (one_event x e)) (going-summed x rest)
+going-summed x (e ∷ rest) = going-append (e ∷ []) rest x (summary_event x e) (summary_events x rest) (one-summed x (e ∷ []) (summary_event x e) (one_event x e)) (going-summed x rest)
 
 -- through each part leads a path
 

@@ -12,10 +12,10 @@ use Rattle.ped_rules.specs.ped_laws.specs.Acts.Orders.{IsIn}
 use Rattle.ped_rules.specs.ped_laws.proofs.ActLaws.Lists.{in_parts}
 use Rattle.ped_rules.specs.ped_laws.proofs.ConflictLaws.CoveringWrites.{own_access}
 use Rattle.ped_rules.specs.ped_steps.proofs.RunLaws.LoopsRound.{none_before, all_none_before, none_from, all_none_from, one_more}
-use Rattle.ped_inline.specs.Folding.{Block, is_block, blocks_in, all_blocks_in, blocks, block_at}
+use Rattle.ped_inline.specs.Folding.{CallBlock, is_block, blocks_in, all_blocks_in, blocks, block_at}
 
 -- a block stands among statements, so many, of which the first has number n; the loops round it are the first of those further in
-record IsRoundBlock (nest : List Loop) (n count : ℕ) (round : ℕ → List Loop) (more : List Loop) (b : Block) : Type 0 where
+record IsRoundBlock (nest : List Loop) (n count : ℕ) (round : ℕ → List Loop) (more : List Loop) (b : CallBlock) : Type 0 where
   inner : List Loop
   begins : more ≡ round b.number ++ inner
   deep : b.loops ≡ length nest + length (round b.number)
@@ -23,23 +23,23 @@ record IsRoundBlock (nest : List Loop) (n count : ℕ) (round : ℕ → List Loo
   to : b.number < n + count
 
 -- a reference in these statements, with what is known of the block at its place
-record IsPlaced (nest : List Loop) (n count : ℕ) (bs : List (Option Block)) (round : ℕ → List Loop) (r : Reference) : Type 0 where
+record IsPlaced (nest : List Loop) (n count : ℕ) (bs : List (Option CallBlock)) (round : ℕ → List Loop) (r : Reference) : Type 0 where
   more : List Loop
   is : r.nest ≡ nest ++ more
   place : ℕ
   at : r.statement ≡ n + place
   within : place < count
-  block : (b : Block) → get_or bs place None ≡ Some b → IsRoundBlock nest n count round more b
+  block : (b : CallBlock) → get_or bs place None ≡ Some b → IsRoundBlock nest n count round more b
 
 mutual
   length-blocks : (loops n : ℕ) (s : StmtTree) → length (blocks_in loops n s) ≡ statement_count s
   length-blocks loops n (Assign left right) = refl
   length-blocks loops n (If c x y) = by_block (is_block (If c x y)) (length-all_blocks loops (n + 1) x) (length-all_blocks loops (n + 1 + statements_count x) y)
     where
-      xs : List (Option Block)
+      xs : List (Option CallBlock)
       xs = all_blocks_in loops (n + 1) x
 
-      ys : List (Option Block)
+      ys : List (Option CallBlock)
       ys = all_blocks_in loops (n + 1 + statements_count x) y
 
       by_block : (m : Bool) → length xs ≡ statements_count x → length ys ≡ statements_count y
@@ -61,7 +61,7 @@ mutual
       omega (arith, both, first, second)
 
 -- placed in a part is placed in the whole
-wider : (nest : List Loop) (n m count few shift : ℕ) (bs part : List (Option Block)) (round within : ℕ → List Loop) (r : Reference) → m ≡ n + shift → shift + few ≤ count
+wider : (nest : List Loop) (n m count few shift : ℕ) (bs part : List (Option CallBlock)) (round within : ℕ → List Loop) (r : Reference) → m ≡ n + shift → shift + few ≤ count
     → ((k : ℕ) → k < few → get_or bs (k + shift) None ≡ get_or part k None) → ((k : ℕ) → m ≤ k → k < m + few → round k ≡ within k) → IsPlaced nest m few part within r → IsPlaced nest n count bs round r
 wider nest n m count few shift bs part round within r e fewer same loops p =
     let at = p.at in
@@ -86,7 +86,7 @@ wider nest n m count few shift bs part round within r e fewer same loops p =
           };
     }
 
-none_at : (b : Block) → None ≡ Some b → ⊥
+none_at : (b : CallBlock) → None ≡ Some b → ⊥
 none_at b e = absurd cc
 
 no_first : (xs ys : List Loop) → xs ≡ [] → xs ++ ys ≡ ys
@@ -97,18 +97,18 @@ no_second xs ys e = ap (λ (zs : List Loop). xs ++ zs) e ∙ append-nil xs
 
 module _ (c : List (List ℕ)) where
   -- a reference of the statement itself, which stands in no block
-  own_placed : (nest : List Loop) (n count : ℕ) (s : StmtTree) (rest : List (Option Block)) (round : ℕ → List Loop) (r : Reference) → 0 < count → IsIn r (numbered_accesses n 1 nest (own_accesses c (indices_of nest) s)) → IsPlaced nest n count (None ∷ rest) round r
+  own_placed : (nest : List Loop) (n count : ℕ) (s : StmtTree) (rest : List (Option CallBlock)) (round : ℕ → List Loop) (r : Reference) → 0 < count → IsIn r (numbered_accesses n 1 nest (own_accesses c (indices_of nest) s)) → IsPlaced nest n count (None ∷ rest) round r
   own_placed nest n count s rest round r some i =
       let o = own_access n 1 nest (own_accesses c (indices_of nest) s) r i in
       let at : r.statement ≡ n = o.0 in
       record { more = []; is = o.1 ∙ sym (append-nil nest); place = 0; at = omega (arith, at); within = some; block = λ b h. absurd (none_at b h) }
 
   -- a reference in a marked block
-  in_block : (nest : List Loop) (n : ℕ) (s : StmtTree) (bs : List (Option Block)) (r : Reference) → IsPlaced nest n (statement_count s) bs (λ k. loops_round k s n) r
+  in_block : (nest : List Loop) (n : ℕ) (s : StmtTree) (bs : List (Option CallBlock)) (r : Reference) → IsPlaced nest n (statement_count s) bs (λ k. loops_round k s n) r
       → IsPlaced nest n (statement_count s) (replicate (statement_count s) (Some (record { number = n; loops = length nest }))) (λ k. loops_round k s n) r
   in_block nest n s bs r p =
       let inside = p.within in
-      let the : Block = record { number = n; loops = length nest } in
+      let the : CallBlock = record { number = n; loops = length nest } in
       let none : loops_round n s n ≡ [] = none_from n s n (omega arith) in
       record {
         more = p.more;
@@ -122,11 +122,11 @@ module _ (c : List (List ℕ)) where
             (record { inner = p.more; begins = sym (no_first (loops_round n s n) p.more none); deep = (let e : length (loops_round n s n) ≡ 0 = ap length none in omega (arith, e)); from = omega arith; to = omega (arith, inside) });
       }
     where
-      one_some : (x y : Block) → Some x ≡ Some y → x ≡ y
+      one_some : (x y : CallBlock) → Some x ≡ Some y → x ≡ y
       one_some x y e = cc
 
   -- a reference in the body of a DO
-  in_body : (nest : List Loop) (n : ℕ) (h : Head) (body : StmtTrees) (bs : List (Option Block)) (r : Reference) → IsPlaced (nest ++ (record { number = n; head = h }) ∷ []) (n + 1) (statements_count body) bs (λ k. all_loops_round k body (n + 1)) r
+  in_body : (nest : List Loop) (n : ℕ) (h : Head) (body : StmtTrees) (bs : List (Option CallBlock)) (r : Reference) → IsPlaced (nest ++ (record { number = n; head = h }) ∷ []) (n + 1) (statements_count body) bs (λ k. all_loops_round k body (n + 1)) r
       → IsPlaced nest n (statements_count body + 1) (None ∷ bs) (λ k. loops_round k (Do h body) n) r
   in_body nest n h body bs r p =
       let at = p.at in
@@ -158,10 +158,10 @@ module _ (c : List (List ℕ)) where
       behind_one : (k : ℕ) → get_or (None ∷ bs) (k + 1) None ≡ get_or bs k None
       behind_one k = let e : k + 1 ≡ 1 + k = omega arith in ap (λ (j : ℕ). get_or (None ∷ bs) j None) e ∙ get_or-append-add (None ∷ []) bs k None
 
-  front : (xs ys : List (Option Block)) (k : ℕ) → k < length xs → get_or (xs ++ ys) (k + 0) None ≡ get_or xs k None
+  front : (xs ys : List (Option CallBlock)) (k : ℕ) → k < length xs → get_or (xs ++ ys) (k + 0) None ≡ get_or xs k None
   front xs ys k h = let e : k + 0 ≡ k = omega arith in ap (λ (j : ℕ). get_or (xs ++ ys) j None) e ∙ get_or-append xs ys None k h
 
-  back : (xs ys : List (Option Block)) (m k : ℕ) → m ≡ length xs → get_or (xs ++ ys) (k + m) None ≡ get_or ys k None
+  back : (xs ys : List (Option CallBlock)) (m k : ℕ) → m ≡ length xs → get_or (xs ++ ys) (k + m) None ≡ get_or ys k None
   back xs ys m k e = let f : k + m ≡ length xs + k = omega (arith, e) in ap (λ (j : ℕ). get_or (xs ++ ys) j None) f ∙ get_or-append-add xs ys k None
 
   mutual
@@ -170,8 +170,8 @@ module _ (c : List (List ℕ)) where
     statement_placed nest n (If condition a b) r i =
         let own = numbered_accesses n 1 nest (own_accesses c (indices_of nest) (If condition a b)) in
         let count : ℕ = statements_count a + statements_count b + 1 in
-        let first : List (Option Block) = all_blocks_in (length nest) (n + 1) a in
-        let second : List (Option Block) = all_blocks_in (length nest) (n + 1 + statements_count a) b in
+        let first : List (Option CallBlock) = all_blocks_in (length nest) (n + 1) a in
+        let second : List (Option CallBlock) = all_blocks_in (length nest) (n + 1 + statements_count a) b in
         let long = length-all_blocks (length nest) (n + 1) a in
         by_block (is_block (If condition a b)) (elim (in_parts r (own ++ statements_references c nest (n + 1) a) (statements_references c nest (n + 1 + statements_count a) b) i) [
           | inl j ↦ elim (in_parts r own (statements_references c nest (n + 1) a) j) [
@@ -187,7 +187,7 @@ module _ (c : List (List ℕ)) where
               (statements_placed nest (n + 1 + statements_count a) b r j)
         ])
       where
-        bs : List (Option Block)
+        bs : List (Option CallBlock)
         bs = None ∷ (all_blocks_in (length nest) (n + 1) a ++ all_blocks_in (length nest) (n + 1 + statements_count a) b)
 
         by_block : (m : Bool) → IsPlaced nest n (statement_count (If condition a b)) bs (λ k. loops_round k (If condition a b) n) r
@@ -225,7 +225,7 @@ module _ (c : List (List ℕ)) where
         ]
 
 -- what is round a block is round all references in it
-pub round_block : (t : ProgramTree) (r : Reference) (b : Block) → IsIn r (references t) → block_at (blocks t) r.statement ≡ Some b → ((inner : List Loop) × (r.nest ≡ nest_round t b.number ++ inner)) × (b.loops ≡ length (nest_round t b.number))
+pub round_block : (t : ProgramTree) (r : Reference) (b : CallBlock) → IsIn r (references t) → block_at (blocks t) r.statement ≡ Some b → ((inner : List Loop) × (r.nest ≡ nest_round t b.number ++ inner)) × (b.loops ≡ length (nest_round t b.number))
 round_block t r b i h =
     let p = statements_placed (constant_names t.decls) [] 1 t.body r i in
     let at = p.at in

@@ -23,7 +23,7 @@ use Rattle.ped_rules.specs.ped_laws.proofs.ConflictLaws.CoveringNests.{IsOf, Are
 use Rattle.ped_rules.specs.ped_laws.proofs.ConflictLaws.CoveringDirections.{same_numbers, other_numbers, numbers_are, same_by_value, earlier_before}
 use Rattle.ped_rules.specs.ped_laws.proofs.ConflictLaws.CoveringCarriage.{Here, here}
 use Rattle.ped_rules.specs.ped_laws.proofs.ConflictLaws.CoveringRuns.{MakingLaw, SequenceLaw, makers}
-use Rattle.ped_inline.specs.Folding.{Block, blocks, block_at, stays_inside, is_folded_by, is_folded}
+use Rattle.ped_inline.specs.Folding.{CallBlock, blocks, block_at, stays_inside, is_folded_by, is_folded}
 use Rattle.ped_inline.specs.CoveredCalls.{apart_from, level_between, is_in_block, AreInOneCall, IsCoveredFolded}
 use Rattle.ped_inline.proofs.EdgeLevels.{edges_of_levels}
 use Rattle.ped_inline.proofs.BlockRounds.{round_block}
@@ -115,16 +115,16 @@ same_iterations t (l ∷ ls) xs ys k (i ∷ is) [] p q h = absurd q
 same_iterations t (l ∷ ls) xs ys k (i ∷ is) (j ∷ js) p q h = first_of t l (length ls) k i j is js p.0 q.0 h (λ e. same_iterations t ls xs ys (suc k) is js p.1 q.1 e)
 
 -- what stays inside a block has a level beyond the loops round it
-beyond : (b : Block) (level : Option ℕ) → stays_inside b level ≡ true → is_beyond b.loops level ≡ true
+beyond : (b : CallBlock) (level : Option ℕ) → stays_inside b level ≡ true → is_beyond b.loops level ≡ true
 beyond b None h = refl
 beyond b (Some level) h = h
 
 -- a dependence that isn't folded has no block at its ends, or one at both, and stays inside it
-pub data Unfolded (s k : Option Block) (level : Option ℕ) : Type 0 where
+pub data Unfolded (s k : Option CallBlock) (level : Option ℕ) : Type 0 where
   no_block : s ≡ None → k ≡ None → Unfolded s k level
-  one_block : (x y : Block) → s ≡ Some x → k ≡ Some y → x.number ≡ y.number → stays_inside x level ≡ true → Unfolded s k level
+  one_block : (x y : CallBlock) → s ≡ Some x → k ≡ Some y → x.number ≡ y.number → stays_inside x level ≡ true → Unfolded s k level
 
-unfolded : (s k : Option Block) (level : Option ℕ) → is_folded_by s k level ≡ false → Unfolded s k level
+unfolded : (s k : Option CallBlock) (level : Option ℕ) → is_folded_by s k level ≡ false → Unfolded s k level
 unfolded None None level h = no_block refl refl
 unfolded None (Some y) level h = absurd cc
 unfolded (Some x) None level h = absurd cc
@@ -147,7 +147,7 @@ module _ (made : MakingLaw) (sequence : SequenceLaw) (t : ProgramTree) (data_byt
       level_is covered.edge.level (level_between a b) (ap (is_of covered.edge.level) (sym carriage) ∙ edges_of_levels t (pairs (references t)) edges are covered.edge covered.listed covered.vector covered.contains)
 
   -- both in one block, which is carried by no loop round it: in one execution of it
-  in_one_call : (x y : Block) → block_at (blocks t) a.place.statement ≡ Some x → block_at (blocks t) b.place.statement ≡ Some y → x.number ≡ y.number → stays_inside x covered.edge.level ≡ true → AreInOneCall t a b
+  in_one_call : (x y : CallBlock) → block_at (blocks t) a.place.statement ≡ Some x → block_at (blocks t) b.place.statement ≡ Some y → x.number ≡ y.number → stays_inside x covered.edge.level ≡ true → AreInOneCall t a b
   in_one_call x y p q same inside =
       let by = makers made sequence t data_bytes a b valid come meets one other share in
       let m = by.met in

@@ -8,7 +8,7 @@ use Rattle.ped_tree.specs.NamesIn.{loop_variables, all_loop_variables}
 use Rattle.ped_tree.specs.Accesses.{constant_names}
 use Rattle.ped_rules.specs.ped_flow.specs.PlainBounds.{all_loops_round}
 use Rattle.ped_rules.specs.ped_flow.specs.Questions.{LoopOf, IsIndexIn, IsShownBehind}
-use Rattle.ped_rules.specs.ped_flow.specs.Summaries.{sum_of_all, sum_behind_all}
+use Rattle.ped_rules.specs.ped_flow.specs.Summaries.{summary_of_all, summary_behind_all}
 use Rattle.ped_rules.specs.ped_flow.proofs.Truths.{untrue}
 use Rattle.ped_rules.specs.ped_laws.specs.Acts.Orders.{IsIn}
 use Rattle.ped_rules.specs.ped_steps.specs.Replacing.{alone}
@@ -53,9 +53,9 @@ same_test a b c d f g = by (a == b) (c == d) refl refl
     by false false e h = e ∙ sym h
 
 -- comments at the front are on no path
-front_behind : (cs : List (List ℕ)) (w : List ℕ) (m : ℕ) (ss : StmtTrees) (n : ℕ) → sum_behind_all cs w m (behind_comments ss) n ≡ sum_behind_all cs w m ss n
+front_behind : (cs : List (List ℕ)) (w : List ℕ) (m : ℕ) (ss : StmtTrees) (n : ℕ) → summary_behind_all cs w m (behind_comments ss) n ≡ summary_behind_all cs w m ss n
 front_behind cs w m no_stmts n = refl
-front_behind cs w m (more_stmts (Comment text) rest) n = front_behind cs w m rest n ∙ (let same : n ≡ n + 0 = omega arith in ap (λ (k : ℕ). sum_behind_all cs w m rest k) same)
+front_behind cs w m (more_stmts (Comment text) rest) n = front_behind cs w m rest n ∙ (let same : n ≡ n + 0 = omega arith in ap (λ (k : ℕ). summary_behind_all cs w m rest k) same)
 front_behind cs w m (more_stmts (Assign left right) rest) n = refl
 front_behind cs w m (more_stmts (If condition then_part else_part) rest) n = refl
 front_behind cs w m (more_stmts (Do h body) rest) n = refl
@@ -74,10 +74,10 @@ module _ (cs : List (List ℕ)) (text : List ℕ) (ts : StmtTrees) (w : List ℕ
   less : LeaveNoMore cs w ts old
   less = record { summed = summed; loops = λ e. ap (is_among w) variables_same ∙ e }
     where
-      summed : (n o : ℕ) → IsNoMore (sum_of_all cs w ts n) (sum_of_all cs w old o)
+      summed : (n o : ℕ) → IsNoMore (summary_of_all cs w ts n) (summary_of_all cs w old o)
       summed n o =
           let inner = any_numbers cs w ts n (o + 1 + 0) in
-          let first = sum_of_all cs w ts (o + 1 + 0) in
+          let first = summary_of_all cs w ts (o + 1 + 0) in
           record {
             keeps = λ e. or_true first.keeps;
             ends = λ e. or_left (first.ends || false) ((first.keeps || true) && false) (or_left first.ends false (inner.ends e));
@@ -109,10 +109,10 @@ module _ (cs : List (List ℕ)) (text : List ℕ) (ts : StmtTrees) (w : List ℕ
         by (inl p) = let a = p.0 in let e = p.1 in same_test m (s + i) k (s + 1 + 0 + i) (λ x. omega (arith, a, e, x)) (λ x. omega (arith, a, e, x))
         by (inr p) = let a = p.0 in let e = p.1 in same_test m (s + i) k (s + 1 + 0 + i) (λ x. omega (arith, a, e, x)) (λ x. omega (arith, a, e, x))
 
-    here : IsNoMore (sum_behind_all cs w m ts s) (sum_behind_all cs w k old s)
+    here : IsNoMore (summary_behind_all cs w m ts s) (summary_behind_all cs w k old s)
     here =
         let inner = all_behind_placed cs w ts m s k (s + 1 + 0) inside in
-        let first = sum_behind_all cs w k ts (s + 1 + 0) in
+        let first = summary_behind_all cs w k ts (s + 1 + 0) in
         record {
           keeps = λ e. or_left ((first.keeps || false) && true) false (kept first.keeps (inner.keeps e));
           ends = λ e. or_left ((first.ends || false) || ((first.keeps || false) && false)) false (or_left (first.ends || false) ((first.keeps || false) && false) (or_left first.ends false (inner.ends e)));
@@ -122,7 +122,7 @@ module _ (cs : List (List ℕ)) (text : List ℕ) (ts : StmtTrees) (w : List ℕ
         kept true e = refl
         kept false e = untrue e
 
-    pub fewer_behind : (g : Gap) (n : ℕ) → number_at g n ≡ s → IsNoMore (sum_behind_all cs w m (filled g ts) n) (sum_behind_all cs w k (filled g old) n)
+    pub fewer_behind : (g : Gap) (n : ℕ) → number_at g n ≡ s → IsNoMore (summary_behind_all cs w m (filled g ts) n) (summary_behind_all cs w k (filled g old) n)
     fewer_behind = gap_behind cs w ts old less s m k before behind here
 
 same_loop : (h g : Head) (b c : StmtTrees) → Some (Do h b) ≡ Some (Do g c) → Do h b ≡ Do g c
@@ -178,10 +178,10 @@ module _ (t : ProgramTree) (s : ℕ) (body : StmtTrees) (b : IsBlock t s body) w
   shown_back : (m k : ℕ) (w : List ℕ) → ((m < s) × (k ≡ m)) ⊎ ((s ≤ m) × (k ≡ suc m)) → IsShownBehind u m w → IsShownBehind t k w
   shown_back m k w numbered =
       shown_by u t w m k (settled_saved r)
-      (subst (λ (names : List (List ℕ)). IsNoMore (sum_behind_all names w m u.body 1) (sum_behind_all cs w k t.body 1)) (sym constants)
-      (subst (λ (z : Summary). IsNoMore z (sum_behind_all cs w k t.body 1)) (sym (front_behind cs w m r.body 1))
-      (subst (λ (ss : StmtTrees). IsNoMore (sum_behind_all cs w m ss 1) (sum_behind_all cs w k t.body 1)) (sym (gap t s body b).new_is)
-      (subst (λ (ss : StmtTrees). IsNoMore (sum_behind_all cs w m (filled hole body) 1) (sum_behind_all cs w k ss 1)) (sym (gap t s body b).old_is)
+      (subst (λ (names : List (List ℕ)). IsNoMore (summary_behind_all names w m u.body 1) (summary_behind_all cs w k t.body 1)) (sym constants)
+      (subst (λ (z : Summary). IsNoMore z (summary_behind_all cs w k t.body 1)) (sym (front_behind cs w m r.body 1))
+      (subst (λ (ss : StmtTrees). IsNoMore (summary_behind_all cs w m ss 1) (summary_behind_all cs w k t.body 1)) (sym (gap t s body b).new_is)
+      (subst (λ (ss : StmtTrees). IsNoMore (summary_behind_all cs w m (filled hole body) 1) (summary_behind_all cs w k ss 1)) (sym (gap t s body b).old_is)
       (fewer_behind cs (text t s body b) body w s m k numbered hole 1 (gap t s body b).number)))))
 
   goes : (k j : ℕ) (h : Head) (c : StmtTrees) → ((j < s) × (k ≡ j)) ⊎ ((s ≤ j) × (k ≡ suc j)) → Alone t k h c → Alone u j h c

@@ -10,7 +10,7 @@ use Rattle.std.specs.List.Sorted.{IsStrictlySortedBy}
 use Rattle.ped_edges.specs.Edges.{Edge}
 use Rattle.ped_rules.specs.ped_laws.specs.Acts.Orders.{IsIn}
 use Rattle.ped_rules.specs.ped_laws.proofs.ActLaws.Lists.{in_left, in_right, in_parts}
-use Rattle.ped_inline.specs.Folding.{Block, is_folded, Row, row_of, row_cmp, AreRows}
+use Rattle.ped_inline.specs.Folding.{CallBlock, is_folded, Row, row_of, row_cmp, AreRows}
 use Rattle.ped_inline.proofs.EqualRows.{row_equal}
 
 -- what keys stand for, with one more
@@ -67,7 +67,7 @@ in_both r k (x ∷ xs) i = go (row_cmp k x) i (in_both r k xs)
     go Greater (inl e) more = inr (inl e)
     go Greater (inr j) more = elim (more j) [ inl e ↦ inl e | inr l ↦ inr (inr l) ]
 
-module _ (bs : List (Option Block)) (e : Edge) (done : List Edge) where
+module _ (bs : List (Option CallBlock)) (e : Edge) (done : List Edge) where
   first_ones : (x : Edge) → IsIn x done → IsIn x (done ++ e ∷ [])
   first_ones x i = in_left x done (e ∷ []) i
 
@@ -103,5 +103,5 @@ module _ (bs : List (Option Block)) (e : Edge) (done : List Edge) where
   }
 
 -- no dependences have no rows
-pub no_rows : (bs : List (Option Block)) → AreRows bs [] []
+pub no_rows : (bs : List (Option CallBlock)) → AreRows bs [] []
 no_rows bs = record { ordered = none_sorted; none_lost = λ e i f. absurd i; none_added = λ r i. absurd i }

@@ -8,7 +8,7 @@ use Rattle.std.specs.List.{AllByRecursion}
 use Rattle.std.specs.List.Sorted.{IsStrictlySortedBy}
 use Rattle.ped_edges.specs.Edges.{Edge}
 use Rattle.ped_rules.specs.ped_laws.specs.Acts.Orders.{IsIn}
-use Rattle.ped_inline.specs.Folding.{Block, Row, row_cmp, AreRows}
+use Rattle.ped_inline.specs.Folding.{CallBlock, Row, row_cmp, AreRows}
 use Rattle.ped_inline.specs.RowOrders.{row_cmp_total}
 
 at_each : {X : Type 0} (P : X → Type 0) (xs : List X) (x : X) → AllByRecursion P xs → IsIn x xs → P x
@@ -49,7 +49,7 @@ one_list (x ∷ xs) (y ∷ ys) p q there back =
     λ i. first i ∷ rest i
 
 -- dependences have one list of folded rows
-pub one_rows : (bs : List (Option Block)) (edges : List Edge) (xs ys : List Row) → AreRows bs edges xs → AreRows bs edges ys → xs ≡ ys
+pub one_rows : (bs : List (Option CallBlock)) (edges : List Edge) (xs ys : List Row) → AreRows bs edges xs → AreRows bs edges ys → xs ≡ ys
 one_rows bs edges xs ys p q = one_list xs ys p.ordered q.ordered (there xs ys p q) (there ys xs q p)
   where
     there : (xs ys : List Row) → AreRows bs edges xs → AreRows bs edges ys → (r : Row) → IsIn r xs → IsIn r ys

@@ -9,10 +9,10 @@ use Rattle.ped_tree.proofs.Numbers.{length-numbered, stmt_trees-drop}
 use Rattle.ped_inline.specs.Folding.{blocks_in, all_blocks_in}
 use Rattle.ped_inline.specs.CallsPane.{Called, called_at, called_from}
 use Rattle.ped_inline.specs.CodeFolding.{place_seen, places_seen}
-use Rattle.ped_inline.specs.declared.block_places.Block.{Block}
+use Rattle.ped_inline.specs.declared.block_places.CallBlock.{CallBlock}
 
 -- a DO, and the blocks in it behind it
-pub do_placed : (old pushed new : List (Option Block)) (loops : ℕ) (h : Head) (body : StmtTrees) → pushed ≡ old ++ None ∷ [] → places_seen new ≡ places_seen pushed ++ all_blocks_in (loops + 1) (length pushed + 1) body
+pub do_placed : (old pushed new : List (Option CallBlock)) (loops : ℕ) (h : Head) (body : StmtTrees) → pushed ≡ old ++ None ∷ [] → places_seen new ≡ places_seen pushed ++ all_blocks_in (loops + 1) (length pushed + 1) body
     → places_seen new ≡ places_seen old ++ blocks_in loops (length old + 1) (Do h body)
 do_placed old pushed new loops h body first more =
     let long : length pushed ≡ length old + 1 = ap length first ∙ length-append old (None ∷ []) in

@@ -9,7 +9,7 @@ use Rattle.std.specs.List.Sorted.{IsStrictlySortedBy}
 use Rattle.ped_tree.specs.Tree.{ProgramTree}
 use Rattle.ped_edges.specs.Edges.{Edge}
 use Rattle.ped_rules.specs.ped_graph.specs.Dependences.{AreEdges}
-use Rattle.ped_inline.specs.Folding.{Block, blocks, is_folded, Row, row_of, row_cmp, AreRows}
+use Rattle.ped_inline.specs.Folding.{CallBlock, blocks, is_folded, Row, row_of, row_cmp, AreRows}
 use Rattle.ped_inline.specs.CallsPane.{calls, calls_pane, IsCallsPane}
 use Rattle.ped_inline.specs.RowOrders.{row_cmp_total}
 use Rattle.ped_inline.proofs.InsertedRows.{one_added, one_passed, no_rows}
@@ -42,7 +42,7 @@ inserted_sorted k (x ∷ xs) h = go (row_cmp k x) refl (inserted_sorted k xs h.1
     go Equal e more = h
     go Greater e more = (inserted_above x k xs (below e) h.0, more)
 
-module _ (bs : List (Option Block)) where
+module _ (bs : List (Option CallBlock)) where
   one_more : (done : List Edge) (e : Edge) (rows : List Row) → AreRows bs done rows → (more : List Row) × AreRows bs (done ++ e ∷ []) more
   one_more done e rows are = go (is_folded bs e) refl
     where

@@ -5,7 +5,7 @@ use Rattle.ped_edges.specs.Edges.{Edge}
 use Rattle.ped_rules.specs.ped_store.specs.Acts.{Turn, iterations_of}
 use Rattle.ped_rules.specs.ped_store.specs.Races.{Access}
 use Rattle.ped_rules.specs.ped_laws.specs.Conflicts.Covered.{IsCovered}
-use Rattle.ped_inline.specs.Folding.{Block, blocks, block_at, is_folded}
+use Rattle.ped_inline.specs.Folding.{CallBlock, blocks, block_at, is_folded}
 
 -- the level of the outermost loop around both in whose iterations two accesses are apart, where the outermost loop of all has this level; None where they are in the same iterations of all loops around both (Allen and Kennedy, section 2.2.5)
 abbrev pub apart_from : ℕ → List Turn → List Turn → Option ℕ
@@ -23,7 +23,7 @@ is_in_block t a = is_some (block_at (blocks t) a.place.statement)
 
 -- two accesses are made in one execution of a marked block: in the same iterations of the loops around it (this project)
 pub record AreInOneCall (t : ProgramTree) (a b : Access) : Type 0 where
-  pub block : Block
+  pub block : CallBlock
   pub of_first : block_at (blocks t) a.place.statement ≡ Some block
   pub of_second : block_at (blocks t) b.place.statement ≡ Some block
   pub together : take block.loops (iterations_of a.place.turns) ≡ take block.loops (iterations_of b.place.turns)

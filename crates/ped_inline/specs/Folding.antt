@@ -12,7 +12,7 @@ use Rattle.ped_rules.specs.ped_laws.specs.Acts.Orders.{IsIn}
 use Rattle.ped_inline.specs.Blocks.{block_body}
 
 -- a marked block: its number, and how many DO loops are around it (this project)
-pub record Block : Type 0 where
+pub record CallBlock : Type 0 where
   pub number : ℕ
   pub loops : ℕ
 
@@ -22,7 +22,7 @@ is_block s = is_some (block_body s)
 
 abbrev mutual
   -- for each numbered statement of a statement and its parts, in text order, the outermost marked block that it is or is in; the statement has number n, is in no marked block, and in this many DO loops (this project)
-  pub blocks_in : (loops n : ℕ) → StmtTree → List (Option Block)
+  pub blocks_in : (loops n : ℕ) → StmtTree → List (Option CallBlock)
   blocks_in loops n (If condition then_part else_part) =
       if is_block (If condition then_part else_part) then replicate (statement_count (If condition then_part else_part)) (Some (record { number = n; loops = loops }))
       else None ∷ (all_blocks_in loops (n + 1) then_part ++ all_blocks_in loops (n + 1 + statements_count then_part) else_part)
@@ -34,36 +34,36 @@ abbrev mutual
   blocks_in loops n (Comment text) = []
 
   -- the same of statements, one after another (this project)
-  pub all_blocks_in : (loops n : ℕ) → StmtTrees → List (Option Block)
+  pub all_blocks_in : (loops n : ℕ) → StmtTrees → List (Option CallBlock)
   all_blocks_in loops n no_stmts = []
   all_blocks_in loops n (more_stmts s rest) = blocks_in loops n s ++ all_blocks_in loops (n + statement_count s) rest
 
 -- for each statement of a program, by its number, the outermost marked block that it is or is in (this project)
-abbrev pub blocks : ProgramTree → List (Option Block)
+abbrev pub blocks : ProgramTree → List (Option CallBlock)
 blocks t = all_blocks_in 0 1 t.body
 
 -- the block that stands for the statement with this number; None where it is in none (this project)
-abbrev pub block_at : List (Option Block) → ℕ → Option Block
+abbrev pub block_at : List (Option CallBlock) → ℕ → Option CallBlock
 block_at bs number = slice_index_or bs (number - 1) None
 
 -- no loop carries the dependence, or one that is in the block: those around it have lesser levels (Allen and Kennedy, section 2.2.5; this project)
-abbrev pub stays_inside : Block → Option ℕ → Bool
+abbrev pub stays_inside : CallBlock → Option ℕ → Bool
 stays_inside b None = true
 stays_inside b (Some level) = nat_lt b.loops level
 
 -- a dependence of this level with these blocks at its source and at its sink is shown where one is a block, but for what stays inside one block (this project)
-abbrev pub is_folded_by : Option Block → Option Block → Option ℕ → Bool
+abbrev pub is_folded_by : Option CallBlock → Option CallBlock → Option ℕ → Bool
 is_folded_by None None level = false
 is_folded_by None (Some c) level = true
 is_folded_by (Some b) None level = true
 is_folded_by (Some b) (Some c) level = not (b.number == c.number && stays_inside b level)
 
 -- the dependence is shown among those of blocks (ParaScope; this project)
-abbrev pub is_folded : List (Option Block) → Edge → Bool
+abbrev pub is_folded : List (Option CallBlock) → Edge → Bool
 is_folded bs e = is_folded_by (block_at bs e.source.0) (block_at bs e.sink.0) e.level
 
 -- the number of a block, or of the statement that is in none (this project)
-abbrev pub number_by : ℕ → Option Block → ℕ
+abbrev pub number_by : ℕ → Option CallBlock → ℕ
 number_by number None = number
 number_by number (Some b) = b.number
 
@@ -76,7 +76,7 @@ pub record Row : Type 0 where
   pub level : Option ℕ
 
 -- the row of a dependence: a block has its number for all references in it (this project)
-abbrev pub row_of : List (Option Block) → Edge → Row
+abbrev pub row_of : List (Option CallBlock) → Edge → Row
 row_of bs e = record {
   source = number_by e.source.0 (block_at bs e.source.0);
   sink = number_by e.sink.0 (block_at bs e.sink.0);
@@ -108,7 +108,7 @@ row_cmp r s =
     (level_cmp r.level s.level))))
 
 -- these are the rows of the folded ones among the dependences, each once, in their order (this project)
-pub record AreRows (bs : List (Option Block)) (edges : List Edge) (rows : List Row) : Type 0 where
+pub record AreRows (bs : List (Option CallBlock)) (edges : List Edge) (rows : List Row) : Type 0 where
   pub ordered : IsStrictlySortedBy row_cmp rows
   pub none_lost : (e : Edge) → IsIn e edges → is_folded bs e ≡ true → IsIn (row_of bs e) rows
   pub none_added : (r : Row) → IsIn r rows → (e : Edge) × IsIn e edges × (is_folded bs e ≡ true) × (r ≡ row_of bs e)

@@ -13,7 +13,7 @@ use std::alloc::Global;
 
 /// A marked block that is in no other.
 #[derive(Clone, Copy)]
-pub(crate) struct Block {
+pub(crate) struct CallBlock {
     /// The number of its statement.
     pub(crate) number: u32,
     /// How many DO loops are around it.
@@ -21,7 +21,7 @@ pub(crate) struct Block {
 }
 
 /// For each numbered statement, in text order, the outermost marked block that it is or is in.
-pub(crate) fn block_places(alloc: Global, body: &[Stmt]) -> Result<Vec<Option<Block>>, NoMemory>
+pub(crate) fn block_places(alloc: Global, body: &[Stmt]) -> Result<Vec<Option<CallBlock>>, NoMemory>
     requires { statements_count (stmt_trees body.now) + 1 < 2 ^ 32 }
     ensures { IfOk result (λ places. places_seen places.items ≡ Spec.all_blocks_in 0 1 (stmt_trees body.now)) }
 {
@@ -33,7 +33,7 @@ pub(crate) fn block_places(alloc: Global, body: &[Stmt]) -> Result<Vec<Option<Bl
 /// Adds the blocks of statements that follow one another, are in no block and in this many DO loops.
 #[cycle(places)]
 fn push_all(
-    places: &mut Vec<Option<Block>>,
+    places: &mut Vec<Option<CallBlock>>,
     loops: u32,
     statements: &[Stmt],
 ) -> Result<(), NoMemory>
@@ -51,7 +51,7 @@ fn push_all(
 /// Adds the blocks of a statement and of those in it.
 #[cycle(places)]
 fn push_statement(
-    places: &mut Vec<Option<Block>>,
+    places: &mut Vec<Option<CallBlock>>,
     loops: u32,
     statement: &Stmt,
 ) -> Result<(), NoMemory>
@@ -86,7 +86,7 @@ fn push_statement(
 }
 
 /// Adds a statement that is no block and has no other in it.
-fn push_one(places: &mut Vec<Option<Block>>) -> Result<(), NoMemory>
+fn push_one(places: &mut Vec<Option<CallBlock>>) -> Result<(), NoMemory>
     ensures places { OnOk result (places_seen places.new.items ≡ places_seen places.old.items ++ None ∷ []) }
     ensures long { OnOk result (length places.new.items ≡ length places.old.items + 1) }
 {
@@ -95,12 +95,12 @@ fn push_one(places: &mut Vec<Option<Block>>) -> Result<(), NoMemory>
 }
 
 /// Adds a marked block once for itself and once for each statement in it, `count` times in all.
-fn push_block(places: &mut Vec<Option<Block>>, loops: u32, count: u32) -> Result<(), NoMemory>
+fn push_block(places: &mut Vec<Option<CallBlock>>, loops: u32, count: u32) -> Result<(), NoMemory>
     requires { length places.old.items + 1 < 2 ^ 32 }
     ensures places { OnOk result (places_seen places.new.items ≡ places_seen places.old.items ++ replicate count (Some (numbered_block (length places.old.items + 1) loops))) }
     ensures long { OnOk result (length places.new.items ≡ length places.old.items + count) }
 {
-    let block = Block {
+    let block = CallBlock {
         number: places.len() as u32 + 1,
         loops,
     };
@@ -111,7 +111,7 @@ fn push_block(places: &mut Vec<Option<Block>>, loops: u32, count: u32) -> Result
 }
 
 /// The block that stands for the statement with this number.
-pub(crate) fn block_at(places: &[Option<Block>], number: u32) -> Option<Block>
+pub(crate) fn block_at(places: &[Option<CallBlock>], number: u32) -> Option<CallBlock>
     ensures { place_seen result ≡ Spec.block_at (places_seen places.now) number }
 {
     match places.get((number as usize).saturating_sub(1)) {

@@ -13,7 +13,7 @@ ghost use Rattle.ped_inline.specs.Folding.{AreRows};
 ghost use Rattle.ped_inline.specs.CodeFolding.{block_seen, place_seen, places_seen, row_seen};
 ghost use Rattle.ped_inline.specs.RowOrders.{rows_total};
 
-use crate::block_places::{Block, block_at};
+use crate::block_places::{CallBlock, block_at};
 use ped_base::NoMemory;
 use ped_edges::{Edge, Kind};
 use ped_refs::RefName;
@@ -128,7 +128,7 @@ fn compare_levels(a: Option<u8>, b: Option<u8>) -> Ordering
 /// The rows of the folded ones among these dependences, where these are the blocks of the program's statements.
 pub(crate) fn folded_rows(
     alloc: Global,
-    places: &[Option<Block>],
+    places: &[Option<CallBlock>],
     edges: &[Edge],
 ) -> Result<BTreeSet<FoldedRow>, NoMemory>
     ensures { IfOk result (λ rows. AreRows (places_seen places.now) (map edge_of edges.now) (map row_seen rows.keys)) }
@@ -143,7 +143,7 @@ pub(crate) fn folded_rows(
 /// Adds the row of a dependence, where that is folded.
 fn add_folded(
     rows: &mut BTreeSet<FoldedRow>,
-    places: &[Option<Block>],
+    places: &[Option<CallBlock>],
     edge: &Edge,
 ) -> Result<(), NoMemory>
     ensures { OnOk result ((done : List plain.Edge) → AreRows (places_seen places.now) done (map row_seen rows.old.keys)
@@ -164,7 +164,7 @@ fn add_folded(
 }
 
 /// Whether a dependence of this level with these blocks at its source and at its sink is shown.
-fn is_folded(source: Option<Block>, sink: Option<Block>, level: Option<u8>) -> bool
+fn is_folded(source: Option<CallBlock>, sink: Option<CallBlock>, level: Option<u8>) -> bool
     ensures { result ≡ Spec.is_folded_by (place_seen source) (place_seen sink) level }
 {
     match source {
@@ -177,7 +177,7 @@ fn is_folded(source: Option<Block>, sink: Option<Block>, level: Option<u8>) -> b
 }
 
 /// Whether no loop carries the dependence, or one that is in the block.
-fn stays_inside(block: Block, level: Option<u8>) -> bool
+fn stays_inside(block: CallBlock, level: Option<u8>) -> bool
     ensures { result ≡ Spec.stays_inside (block_seen block) level }
 {
     match level {
@@ -187,7 +187,7 @@ fn stays_inside(block: Block, level: Option<u8>) -> bool
 }
 
 /// The number of a block, or of the statement that is in none.
-fn number_by(number: u32, place: Option<Block>) -> u32
+fn number_by(number: u32, place: Option<CallBlock>) -> u32
     ensures { result ≡ Spec.number_by number (place_seen place) }
 {
     match place {

@@ -11,7 +11,7 @@ use Rattle.ped_refs.specs.References.{Reference, references}
 use Rattle.ped_splits.specs.Units.{units, homes, is_arrow, arrows, IsClosure}
 use Rattle.ped_splits.specs.CodeUnits.{leads_between, refers_by}
 use Rattle.ped_splits.proofs.ArrowLaws.{Adds, true_either}
-use Rattle.ped_splits.proofs.OneBlocks.{same_truth}
+use Rattle.ped_splits.proofs.OnePiBlocks.{same_truth}
 use Rattle.ped_splits.proofs.Existence.Closures.{rows_by, long_by, square_by, test_by}
 
 -- rows with these arrows are those of the test

@@ -3,8 +3,8 @@ use Rattle.std.proofs.Common.{◌≡◌, ℕ, zero, suc, ◌+◌, ◌<◌, ◌�
 use Rattle.std.specs.List.{range_with_len}
 use Rattle.ped_tree.specs.Tree.{Head, StmtTrees, ProgramTree}
 use Rattle.ped_splits.specs.Units.{arrows}
-use Rattle.ped_splits.specs.Blocks.{reaches, are_together, is_free, block_then, ordered, AreBlocks}
-use Rattle.ped_splits.proofs.BlockLaws.{In, from_filter, from_placed, through}
+use Rattle.ped_splits.specs.PiBlocks.{reaches, are_together, is_free, pi_block_then, ordered, ArePiBlocks}
+use Rattle.ped_splits.proofs.PiBlockLaws.{In, from_filter, from_placed, through}
 use Rattle.ped_splits.proofs.Partitions.{flat}
 use Rattle.ped_splits.proofs.KeptArrows.{in_flat}
 
@@ -51,7 +51,7 @@ module _ (reach : List (List Bool)) (passes : (i j k : ℕ) → reaches reach i 
   all_apart zero left = tt
   all_apart (suc n) left = by (all_apart n) (filter (is_free reach left) left)
     where
-      by : ((later : List ℕ) → AreApart (ordered reach n later)) → (free : List ℕ) → AreApart (block_then reach (ordered reach n) left free)
+      by : ((later : List ℕ) → AreApart (ordered reach n later)) → (free : List ℕ) → AreApart (pi_block_then reach (ordered reach n) left free)
       by others [] = tt
       by others (i ∷ free) = (λ k here there. both k (from_filter (are_together reach i) k left here).1 (from_filter (λ m. not (are_together reach i m)) k left (from_placed reach passes n (filter (λ m. not (are_together reach i m)) left) k there)).1, others (filter (λ m. not (are_together reach i m)) left))
         where
@@ -62,11 +62,11 @@ module _ (reach : List (List Bool)) (passes : (i j k : ℕ) → reaches reach i 
   all_rising zero left r = tt
   all_rising (suc n) left r = by (all_rising n) (filter (is_free reach left) left)
     where
-      by : ((later : List ℕ) → IsRising later → AreRising (ordered reach n later)) → (free : List ℕ) → AreRising (block_then reach (ordered reach n) left free)
+      by : ((later : List ℕ) → IsRising later → AreRising (ordered reach n later)) → (free : List ℕ) → AreRising (pi_block_then reach (ordered reach n) left free)
       by others [] = tt
       by others (i ∷ free) = (rising_filter (are_together reach i) left r, others (filter (λ m. not (are_together reach i m)) left) (rising_filter (λ m. not (are_together reach i m)) left r))
 
-module _ (t : ProgramTree) (s : ℕ) (h : Head) (body : StmtTrees) (found : List (List ℕ)) (are : AreBlocks t s h body found) where
+module _ (t : ProgramTree) (s : ℕ) (h : Head) (body : StmtTrees) (found : List (List ℕ)) (are : ArePiBlocks t s h body found) where
   passing : (i j k : ℕ) → reaches are.reach i j ≡ true → reaches are.reach j k ≡ true → reaches are.reach i k ≡ true
   passing = through (arrows t s h body are.edges) are.reach are.closed
 

@@ -5,7 +5,7 @@ use Rattle.ped_rules.specs.ped_steps.proofs.OneCause.{one_cause}
 use Rattle.ped_rules.specs.Lawful.{IsDetermined}
 use Rattle.ped_splits.specs.Distributing.{distributed, StandsAgainstDistribution, distributing}
 use Rattle.ped_splits.proofs.DistributeRules.{kept, one_made, chain, its_loop, is_valid}
-use Rattle.ped_splits.proofs.Existence.Closures.{blocks_exist}
+use Rattle.ped_splits.proofs.Existence.Closures.{pi_blocks_exist}
 use Rattle.ped_splits.specs.Neighbours.{fused, next_number, kept_without}
 use Rattle.ped_splits.specs.Fusing.{fusing}
 use Rattle.ped_splits.proofs.FusableFacts.{its_match, is_valid as fused_valid}
@@ -17,7 +17,7 @@ determined_distribution s = record {
   one_made = one_made s;
   some_made = λ t valid none.
       let l = its_loop s t none.0 in
-      let found = blocks_exist t s l.head l.body in
+      let found = pi_blocks_exist t s l.head l.body in
       (distributed t s found.0, kept s t l.body found.0, (l, found.0, found.1, refl, refl), is_valid s t none.0 l found.0 found.1);
 }
 

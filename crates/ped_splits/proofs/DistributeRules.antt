@@ -18,9 +18,9 @@ use Rattle.ped_rules.proofs.OneEach.{no_loop_one, loop_one, escape_one, unplain_
 use Rattle.ped_rules.proofs.Decided.{some_loop, limit_stands, limit_not, limit_valid}
 use Rattle.ped_splits.proofs.Contained.{contained}
 use Rattle.ped_splits.proofs.Here.{here, not_no_loop, fails_by, fails_there, passes_there}
-use Rattle.ped_splits.specs.Blocks.{AreBlocks}
-use Rattle.ped_splits.specs.Distributing.{distributed, sources, kept_from, MakesDistributed, IsItsBound, WhereOneBlock, StandsAgainstDistribution}
-use Rattle.ped_splits.proofs.OneBlocks.{one_found}
+use Rattle.ped_splits.specs.PiBlocks.{ArePiBlocks}
+use Rattle.ped_splits.specs.Distributing.{distributed, sources, kept_from, MakesDistributed, IsItsBound, WhereOnePiBlock, StandsAgainstDistribution}
+use Rattle.ped_splits.proofs.OnePiBlocks.{one_found}
 
 module _ (s : ℕ) where
   -- the statements that the step keeps
@@ -42,7 +42,7 @@ module _ (s : ℕ) where
     limit = also Limit Limited no_rules
 
     abbrev pub single : Rules
-    single = also OneBlock (WhereOneBlock t s) limit
+    single = also OneBlock (WhereOnePiBlock t s) limit
 
     abbrev pub plain : Rules
     plain = also BoundNotPlain (WhereUnplain t s (IsItsBound t s)) single
@@ -56,14 +56,14 @@ module _ (s : ℕ) where
     abbrev stands : Rules
     stands = StandsAgainstDistribution s t
 
-    single_one : IsOne (WhereOneBlock t s)
+    single_one : IsOne (WhereOnePiBlock t s)
     single_one m n a b = a.4 ∙ sym b.4
 
     pub limit_chain : IsChain 11 limit
     limit_chain = chain_link Limit Limited no_rules 11 (omega arith) (limit_one t s (MakesDistributed s)) (chain_end 15)
 
     pub single_chain : IsChain 6 single
-    single_chain = chain_link OneBlock (WhereOneBlock t s) limit 6 (omega arith) single_one limit_chain
+    single_chain = chain_link OneBlock (WhereOnePiBlock t s) limit 6 (omega arith) single_one limit_chain
 
     pub plain_chain : IsChain 5 plain
     plain_chain = chain_link BoundNotPlain (WhereUnplain t s (IsItsBound t s)) single 5 (omega arith) (unplain_one t s (IsItsBound t s)) single_chain
@@ -118,12 +118,12 @@ module _ (s : ℕ) where
             behind_plain : (r : Rule) (n : ℕ) → IsFirstRule single r n → IsFirstRule stands r n
             behind_plain r n found = behind_escape r n (first_later BoundNotPlain (WhereUnplain t s (IsItsBound t s)) single (no_unplain first last) r n found)
 
-            module _ (found : List (List ℕ)) (are : AreBlocks t s h body found) where
+            module _ (found : List (List ℕ)) (are : ArePiBlocks t s h body found) where
               pub single_first : length found < 2 → IsFirstRule stands OneBlock s
-              single_first few = behind_plain OneBlock s (first_here OneBlock (WhereOneBlock t s) limit s (here t s h body is, found, are, few, refl) limit_chain)
+              single_first few = behind_plain OneBlock s (first_here OneBlock (WhereOnePiBlock t s) limit s (here t s h body is, found, are, few, refl) limit_chain)
 
               module _ (many : 2 ≤ length found) where
-                no_single : (n : ℕ) → WhereOneBlock t s n → ⊥
+                no_single : (n : ℕ) → WhereOnePiBlock t s n → ⊥
                 no_single n p =
                     let same : p.1 ≡ found = one_found t s p.0 (here t s h body is) p.1 found p.2 are in
                     let few : length found < 2 = subst (λ (bs : List (List ℕ)). length bs < 2) same p.3 in
@@ -135,7 +135,7 @@ module _ (s : ℕ) where
                 pub limit_first : (IsValid (distributed t s found) → ⊥) → IsFirstRule stands Limit s
                 limit_first invalid =
                     behind_plain Limit s
-                    (first_later OneBlock (WhereOneBlock t s) limit no_single Limit s
+                    (first_later OneBlock (WhereOnePiBlock t s) limit no_single Limit s
                     (first_here Limit Limited no_rules s (limit_stands (MakesDistributed s) t s (here t s h body is) (one_made t) (distributed t s found) (kept t body found) makes invalid) (chain_end 15)))
 
                 pub nothing_stands : IsValid (distributed t s found) → NoRule stands
@@ -144,7 +144,7 @@ module _ (s : ℕ) where
                     (none_later ParallelState (WhereLoop t s is_parallel) escape (fails_there t s h body is is_parallel serial)
                     (none_later IndexEscapes (WhereEscape t s) plain none
                     (none_later BoundNotPlain (WhereUnplain t s (IsItsBound t s)) single (no_unplain first last)
-                    (none_later OneBlock (WhereOneBlock t s) limit no_single
+                    (none_later OneBlock (WhereOnePiBlock t s) limit no_single
                     (none_later Limit Limited no_rules (limit_not (MakesDistributed s) t s (distributed t s found) (kept t body found) makes valid) none_at_end)))))
 
     -- where no rule stands
@@ -162,20 +162,20 @@ module _ (s : ℕ) where
       none_but_plain = not_those BoundNotPlain (WhereUnplain t s (IsItsBound t s)) single none_but_escape
 
       none_but_single : NoRule limit
-      none_but_single = not_those OneBlock (WhereOneBlock t s) limit none_but_plain
+      none_but_single = not_those OneBlock (WhereOnePiBlock t s) limit none_but_plain
 
       pub its_loop : LoopOf t s
       its_loop = some_loop t s (not_this NoLoop (WhereNoLoop t s) state none)
 
       -- the program that the step makes with these blocks is valid
-      pub is_valid : (l : LoopOf t s) (found : List (List ℕ)) → AreBlocks t s l.head l.body found → IsValid (distributed t s found)
+      pub is_valid : (l : LoopOf t s) (found : List (List ℕ)) → ArePiBlocks t s l.head l.body found → IsValid (distributed t s found)
       is_valid l found are =
           limit_valid (MakesDistributed s) t s l (one_made t) (not_this Limit Limited no_rules none_but_single) (distributed t s found) (kept t l.body found) (l, found, are, refl, refl)
 
       -- the blocks are two at least
-      pub are_many : (l : LoopOf t s) (found : List (List ℕ)) → AreBlocks t s l.head l.body found → 2 ≤ length found
+      pub are_many : (l : LoopOf t s) (found : List (List ℕ)) → ArePiBlocks t s l.head l.body found → 2 ≤ length found
       are_many l found are = elim (cases_lt (length found) 2) [
-        | inl few ↦ absurd (not_this OneBlock (WhereOneBlock t s) limit none_but_plain s (l, found, are, few, refl))
+        | inl few ↦ absurd (not_this OneBlock (WhereOnePiBlock t s) limit none_but_plain s (l, found, are, few, refl))
         | inr many ↦ many
       ]
 

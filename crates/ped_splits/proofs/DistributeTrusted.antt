@@ -18,15 +18,15 @@ use Rattle.ped_rules.specs.ped_steps.proofs.RunLaws.ReplacedTrees.{HasGap, progr
 use Rattle.ped_rules.specs.ped_steps.specs.Replacing.{alone, program_with}
 use Rattle.ped_rules.specs.ped_flow.proofs.Truths.{untrue}
 use Rattle.ped_rules.specs.ped_flow.specs.Questions.{IsContained, IsShownBehind, LoopOf}
-use Rattle.ped_rules.specs.ped_flow.specs.Summaries.{sum_of, sum_of_all}
+use Rattle.ped_rules.specs.ped_flow.specs.Summaries.{summary_of, summary_of_all}
 use Rattle.ped_rules.specs.ped_laws.proofs.FlowRunLaws.Stopping.{fitting_stops, loop_stops}
 use Rattle.ped_rules.specs.ped_laws.specs.FlowRuns.Covering.{has_stop, some_stop}
 use Rattle.ped_rules.specs.ped_symbols.specs.NameRefusals.{IsValid}
 use Rattle.ped_splits.specs.Units.{units, arrows}
-use Rattle.ped_splits.specs.Blocks.{AreBlocks}
+use Rattle.ped_splits.specs.PiBlocks.{ArePiBlocks}
 use Rattle.ped_splits.specs.Distributing.{units_at, loops_of, distributed}
-use Rattle.ped_splits.proofs.BlockLaws.{In, all_placed, through}
-use Rattle.ped_splits.proofs.BlockSizes.{width}
+use Rattle.ped_splits.proofs.PiBlockLaws.{In, all_placed, through}
+use Rattle.ped_splits.proofs.PiBlockSizes.{width}
 use Rattle.ped_splits.proofs.DistributeAnswers.{distributed_program}
 use Rattle.ped_splits.proofs.Partitions.{flat}
 use Rattle.ped_splits.proofs.UnitTests.{only_comment, some_unit, joined_none, joined_some, loops_none, loops_first, loops_some}
@@ -39,7 +39,7 @@ in_range a (suc n) i le h = elim (cases_eq i a) [
 ]
 
 -- each unit stands in a block
-pub each_placed : (t : ProgramTree) (s : ℕ) (h : Head) (body : StmtTrees) (found : List (List ℕ)) → AreBlocks t s h body found → (i : ℕ) → i < length (units body) → In i (flat found)
+pub each_placed : (t : ProgramTree) (s : ℕ) (h : Head) (body : StmtTrees) (found : List (List ℕ)) → ArePiBlocks t s h body found → (i : ℕ) → i < length (units body) → In i (flat found)
 each_placed t s h body found are i inside =
     let n = length are.reach in
     let long = length-range_with_len 0 n in
@@ -50,7 +50,7 @@ each_placed t s h body found are i inside =
 none_first : (a b : Bool) → a || b ≡ false → a ≡ false
 none_first a b h = (or_parts a b h).0
 
-module _ (t : ProgramTree) (valid : IsValid t) (s : ℕ) (loop : LoopOf t s) (found : List (List ℕ)) (are : AreBlocks t s loop.head loop.body found) (many : 2 ≤ length found) (serial : is_parallel loop.head loop.body ≡ false) (contained : IsContained t s) where
+module _ (t : ProgramTree) (valid : IsValid t) (s : ℕ) (loop : LoopOf t s) (found : List (List ℕ)) (are : ArePiBlocks t s loop.head loop.body found) (many : 2 ≤ length found) (serial : is_parallel loop.head loop.body ≡ false) (contained : IsContained t s) where
   abbrev d : Head
   d = loop.head
 
@@ -160,10 +160,10 @@ module _ (t : ProgramTree) (valid : IsValid t) (s : ℕ) (loop : LoopOf t s) (fo
       (λ b. (λ i. (serial i && list_any (λ w. all_write cs w (units_at body b)) (d.variable ∷ all_loop_variables (units_at body b))) || joined_none (some_write_index cs) (writes_index cs) refl (λ z rest. refl) quiet_index body b old.1 i))
 
   -- the first of the new DO loops leaves a name as it is where all of them do
-  first_keeps : (w : List ℕ) (n : ℕ) (bs : List (List ℕ)) → 1 ≤ length bs → (sum_of_all cs w (loops_of bs d body) n).keeps ≡ true → (b : List ℕ) × ((sum_of cs w (Do d (units_at body b)) n).keeps ≡ true)
+  first_keeps : (w : List ℕ) (n : ℕ) (bs : List (List ℕ)) → 1 ≤ length bs → (summary_of_all cs w (loops_of bs d body) n).keeps ≡ true → (b : List ℕ) × ((summary_of cs w (Do d (units_at body b)) n).keeps ≡ true)
   first_keeps w n [] long k = absurd (omega (arith, long))
   first_keeps w n (b ∷ bs) long k =
-      (b, (and_parts (sum_of cs w (Do d (units_at body b)) n).keeps (sum_of_all cs w (loops_of bs d body) (n + statement_count (Do d (units_at body b)))).keeps k).0)
+      (b, (and_parts (summary_of cs w (Do d (units_at body b)) n).keeps (summary_of_all cs w (loops_of bs d body) (n + statement_count (Do d (units_at body b)))).keeps k).0)
 
   leaves_alone : ClearedLaw → LeavesAlone exchange t
   leaves_alone cleared = record {

@@ -12,10 +12,10 @@ use Rattle.ped_rules.specs.ped_steps.specs.declared.rules.Rule.TheVariants.{OneB
 use Rattle.ped_rules.specs.ped_steps.specs.Causes.{NoRule}
 use Rattle.ped_rules.specs.ped_steps.specs.Replacing.{alone}
 use Rattle.ped_splits.specs.Units.{units, arrows}
-use Rattle.ped_splits.specs.Blocks.{AreBlocks, reaches, are_together, is_free, block_then, ordered}
+use Rattle.ped_splits.specs.PiBlocks.{ArePiBlocks, reaches, are_together, is_free, pi_block_then, ordered}
 use Rattle.ped_splits.specs.Distributing.{loops_of, StandsAgainstDistribution}
-use Rattle.ped_splits.proofs.BlockLaws.{In, all_placed, through, in_filter, from_filter}
-use Rattle.ped_splits.proofs.BlockSizes.{width}
+use Rattle.ped_splits.proofs.PiBlockLaws.{In, all_placed, through, in_filter, from_filter}
+use Rattle.ped_splits.proofs.PiBlockSizes.{width}
 use Rattle.ped_splits.proofs.Partitions.{flat}
 use Rattle.ped_splits.proofs.SplitUnits.{size_of_unit, heads_counted}
 use Rattle.ped_splits.proofs.UnitSizes.{units_sum}
@@ -40,8 +40,8 @@ module _ (reach : List (List Bool)) (passes : (i j k : ℕ) → reaches reach i 
       left : List ℕ
       left = x ∷ xs
 
-      by : ((later : List ℕ) → length later ≤ n → sum_by f later ≤ sum_by f (flat (ordered reach n later))) → (free : List ℕ) → filter (is_free reach left) left ≡ free → In x (flat (block_then reach (ordered reach n) left free))
-          → sum_by f left ≤ sum_by f (flat (block_then reach (ordered reach n) left free))
+      by : ((later : List ℕ) → length later ≤ n → sum_by f later ≤ sum_by f (flat (ordered reach n later))) → (free : List ℕ) → filter (is_free reach left) left ≡ free → In x (flat (pi_block_then reach (ordered reach n) left free))
+          → sum_by f left ≤ sum_by f (flat (pi_block_then reach (ordered reach n) left free))
       by others [] e inside = absurd inside
       by others (i ∷ free) e inside =
           let first = (from_filter (is_free reach left) i left (subst (In i) (sym e) (inl refl))).0 in
@@ -69,7 +69,7 @@ sums_at (u ∷ us) a g h =
     omega (arith, rest, here, whole, part)
 
 -- the statements of a DO that is taken apart stand in the new ones
-pub distributed_counted : (t : ProgramTree) (s : ℕ) (h : Head) (body : StmtTrees) (found : List (List ℕ)) → AreBlocks t s h body found → length found + statements_count body ≤ statements_count (loops_of found h body)
+pub distributed_counted : (t : ProgramTree) (s : ℕ) (h : Head) (body : StmtTrees) (found : List (List ℕ)) → ArePiBlocks t s h body found → length found + statements_count body ≤ statements_count (loops_of found h body)
 distributed_counted t s h body found are =
     let n = length are.reach in
     let wide = width t s h body found are in
@@ -82,6 +82,6 @@ distributed_counted t s h body found are =
     omega (arith, above, same, units_are, all, heads)
 
 -- where nothing forbids the step there is a new DO, so there are no fewer statements
-pub no_fewer : (t : ProgramTree) (s : ℕ) (l : LoopOf t s) (found : List (List ℕ)) → AreBlocks t s l.head l.body found → NoRule (StandsAgainstDistribution s t) → statements_count (alone (Do l.head l.body)) ≤ statements_count (loops_of found l.head l.body)
+pub no_fewer : (t : ProgramTree) (s : ℕ) (l : LoopOf t s) (found : List (List ℕ)) → ArePiBlocks t s l.head l.body found → NoRule (StandsAgainstDistribution s t) → statements_count (alone (Do l.head l.body)) ≤ statements_count (loops_of found l.head l.body)
 no_fewer t s l [] are none = absurd (none OneBlock s (inr (inr (inr (inr (inl (refl, (l, [], are, omega arith, refl))))))))
 no_fewer t s l (block ∷ found) are none = let all = distributed_counted t s l.head l.body (block ∷ found) are in omega (arith, all)

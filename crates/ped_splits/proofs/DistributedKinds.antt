@@ -17,12 +17,12 @@ use Rattle.ped_rules.specs.ped_symbols.proofs.RightUseLaws.Whole.{same_kinds, sa
 use Rattle.ped_rules.specs.ped_symbols.specs.Kinds.{kind_in, names_of}
 use Rattle.ped_rules.specs.ped_symbols.specs.NameRefusals.{IsValid}
 use Rattle.ped_rules.specs.ped_symbols.specs.Sites.{stmt_sites, stmts_sites}
-use Rattle.ped_splits.specs.Blocks.{AreBlocks}
+use Rattle.ped_splits.specs.PiBlocks.{ArePiBlocks}
 use Rattle.ped_splits.specs.Distributing.{loops_of}
 use Rattle.ped_splits.proofs.DistributeTrusted.{each_placed}
 use Rattle.ped_splits.proofs.UnitTests.{only_comment, loops_tell}
 
-module _ (t : ProgramTree) (valid : IsValid t) (s : ℕ) (loop : LoopOf t s) (found : List (List ℕ)) (are : AreBlocks t s loop.head loop.body found) (many : 2 ≤ length found) where
+module _ (t : ProgramTree) (valid : IsValid t) (s : ℕ) (loop : LoopOf t s) (found : List (List ℕ)) (are : ArePiBlocks t s loop.head loop.body found) (many : 2 ≤ length found) where
   abbrev d : Head
   d = loop.head
 

@@ -20,7 +20,7 @@ use Rattle.ped_refs.specs.References.{Reference, references, pairs}
 use Rattle.ped_splits.specs.Neighbours.{Neighbour, joined_head, renamed_body, fused, next_number, kept_without}
 use Rattle.ped_rules.specs.KeepMaps.{closed_up}
 use Rattle.ped_splits.specs.Fusing.{Match, MakesFused, StandsAgainstFusion, AreBack, forbids_fusion, with_present_numbers, IsFusionCause}
-use Rattle.ped_splits.proofs.BlockOrders.{all_by}
+use Rattle.ped_splits.proofs.PiBlockOrders.{all_by}
 use Rattle.ped_splits.proofs.FuseRules.{chain}
 use Rattle.ped_splits.proofs.NeighbourFound.{Found, found_of, one_neighbour}
 

@@ -26,7 +26,7 @@ use Rattle.ped_rules.specs.ped_steps.specs.Runs.Gaps.{Gap, at_front, past, in_th
 use Rattle.ped_rules.specs.ped_steps.specs.Tidy.{is_written_in, IsTidy}
 use Rattle.ped_rules.specs.ped_flow.proofs.Truths.{untrue}
 use Rattle.ped_rules.specs.ped_flow.specs.Questions.{LoopOf, IsIndexIn, IsShownBehind}
-use Rattle.ped_rules.specs.ped_flow.specs.Summaries.{unreached, sum_in_turn, sum_either, sum_loop, sum_of_all, sum_at_once, sum_behind, sum_behind_all}
+use Rattle.ped_rules.specs.ped_flow.specs.Summaries.{unreached, summary_in_turn, summary_either, summary_loop, summary_of_all, summary_at_once, summary_behind, summary_behind_all}
 use Rattle.ped_rules.specs.ped_laws.proofs.FlowRunLaws.Stopping.{fitting_stops, loop_stops}
 use Rattle.ped_splits.specs.Neighbours.{Neighbour, joined_loop, fused, next_number}
 use Rattle.ped_splits.specs.Fusing.{Match}
@@ -96,9 +96,9 @@ module _ (x : Exchange) (t u : ProgramTree) (w : List ℕ) (is : IsExchanged x t
   pub serial_shown : (k m : ℕ) → IsStaying x k m → IsShownBehind u m w → IsShownBehind t k w ⊎ IsShownBehind t (loop_of x) w
   serial_shown k m stays =
       shown_by_either u t w m k (loop_of x) is.saved
-      (subst (λ (names : List (List ℕ)). IsNoMoreBut (sum_behind_all names w m u.body 1) (sum_behind_all cs w k t.body 1) (sum_behind_all cs w (loop_of x) t.body 1)) (sym is.constants)
-      (subst (λ (ts : StmtTrees). IsNoMoreBut (sum_behind_all cs w m ts 1) (sum_behind_all cs w k t.body 1) (sum_behind_all cs w (loop_of x) t.body 1)) (sym new_body)
-      (subst (λ (ts : StmtTrees). IsNoMoreBut (sum_behind_all cs w m (filled x.gap x.new) 1) (sum_behind_all cs w k ts 1) (sum_behind_all cs w (loop_of x) ts 1)) (sym is.old_body)
+      (subst (λ (names : List (List ℕ)). IsNoMoreBut (summary_behind_all names w m u.body 1) (summary_behind_all cs w k t.body 1) (summary_behind_all cs w (loop_of x) t.body 1)) (sym is.constants)
+      (subst (λ (ts : StmtTrees). IsNoMoreBut (summary_behind_all cs w m ts 1) (summary_behind_all cs w k t.body 1) (summary_behind_all cs w (loop_of x) t.body 1)) (sym new_body)
+      (subst (λ (ts : StmtTrees). IsNoMoreBut (summary_behind_all cs w m (filled x.gap x.new) 1) (summary_behind_all cs w k ts 1) (summary_behind_all cs w (loop_of x) ts 1)) (sym is.old_body)
       (gap_left_behind cs w x.new (old_of x) (start_of x) (loop_of x) is.unstopped (last_leaves cs w x.front x.head x.body (start_of x) (loop_of x) refl) k m
       (before_staying k m stays) (behind_staying k m stays) x.gap 1 (omega arith) serial refl))))
 
@@ -136,7 +136,7 @@ module _ (t : ProgramTree) (s : ℕ) (m : Match t s) (f : IsFusable t s m) where
   none_further : (w : List ℕ) → is_among w (all_loop_variables (joined_loop n)) ≡ true → is_among w (all_loop_variables (old_of exchange)) ≡ true
   none_further = fields.none_further t s n f.valid f.new_valid m.alike f.own_unprivate f.next_unprivate f.own_serial f.next_serial
 
-  old_keeps : (w : List ℕ) (i : ℕ) → is_among w (all_loop_variables (old_of exchange)) ≡ false → (sum_of_all cs' w (old_of exchange) i).keeps ≡ true
+  old_keeps : (w : List ℕ) (i : ℕ) → is_among w (all_loop_variables (old_of exchange)) ≡ false → (summary_of_all cs' w (old_of exchange) i).keeps ≡ true
   old_keeps = fields.old_keeps t s n f.valid f.new_valid m.alike f.own_unprivate f.next_unprivate f.own_serial f.next_serial
 
   at_next : loop_of exchange ≡ next_number n
@@ -165,7 +165,7 @@ module _ (t : ProgramTree) (s : ℕ) (m : Match t s) (f : IsFusable t s m) where
   other_shown : (k j : ℕ) (w : List ℕ) → is_among w (all_loop_variables (old_of exchange)) ≡ false → IsStaying exchange k j → IsShownBehind u j w → IsShownBehind t k w
   other_shown k j w other stays =
       shown_by u t w j k refl
-      (subst (λ (ss : StmtTrees). IsNoMore (sum_behind_all cs' w j (filled m.neighbour.gap (joined_loop n)) 1) (sum_behind_all cs' w k ss 1)) (sym m.neighbour.stands)
+      (subst (λ (ss : StmtTrees). IsNoMore (summary_behind_all cs' w j (filled m.neighbour.gap (joined_loop n)) 1) (summary_behind_all cs' w k ss 1)) (sym m.neighbour.stands)
       (gap_behind cs' w (joined_loop n) (old_of exchange) less (start_of exchange) j k before behind here m.neighbour.gap 1 refl))
     where
       less : LeaveNoMore (constant_names t.decls) w (joined_loop m.neighbour) (old_of exchange)
@@ -195,10 +195,10 @@ module _ (t : ProgramTree) (s : ℕ) (m : Match t s) (f : IsFusable t s m) where
           by (inl p) = let e = p.0 in let g = p.1 in grind (arith, eqb-true, a, e, g)
           by (inr p) = let g = p.2 in grind (arith, eqb-true, a, g)
 
-      here : IsNoMore (sum_behind_all (constant_names t.decls) w j (joined_loop m.neighbour) (start_of exchange)) (sum_behind_all (constant_names t.decls) w k (old_of exchange) (start_of exchange))
+      here : IsNoMore (summary_behind_all (constant_names t.decls) w j (joined_loop m.neighbour) (start_of exchange)) (summary_behind_all (constant_names t.decls) w k (old_of exchange) (start_of exchange))
       here =
-          no_more_by (sum_behind_all (constant_names t.decls) w j (joined_loop m.neighbour) (start_of exchange)) unreached (sum_behind_all (constant_names t.decls) w k (old_of exchange) (start_of exchange))
-          (all_behind_none (constant_names t.decls) w (joined_loop m.neighbour) j (start_of exchange) outside) (unreached_more (sum_behind_all (constant_names t.decls) w k (old_of exchange) (start_of exchange)))
+          no_more_by (summary_behind_all (constant_names t.decls) w j (joined_loop m.neighbour) (start_of exchange)) unreached (summary_behind_all (constant_names t.decls) w k (old_of exchange) (start_of exchange))
+          (all_behind_none (constant_names t.decls) w (joined_loop m.neighbour) j (start_of exchange) outside) (unreached_more (summary_behind_all (constant_names t.decls) w k (old_of exchange) (start_of exchange)))
 
   -- a PARALLEL DO round the gap
   module _ (r : Round m.neighbour.gap) where

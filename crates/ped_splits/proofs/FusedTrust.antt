@@ -26,7 +26,7 @@ use Rattle.ped_rules.specs.ped_steps.proofs.RunLaws.ExpandedPlacesParts.{part_at
 use Rattle.ped_rules.specs.ped_steps.specs.Replacing.{followed, alone}
 use Rattle.ped_rules.specs.ped_flow.proofs.Truths.{untrue, or_split}
 use Rattle.ped_rules.specs.ped_flow.specs.Questions.{IsContained, IsShownBehind}
-use Rattle.ped_rules.specs.ped_flow.specs.Summaries.{sum_in_turn, sum_either, sum_loop, sum_of, sum_of_all, sum_at_once, sum_behind, sum_behind_all}
+use Rattle.ped_rules.specs.ped_flow.specs.Summaries.{summary_in_turn, summary_either, summary_loop, summary_of, summary_of_all, summary_at_once, summary_behind, summary_behind_all}
 use Rattle.ped_rules.specs.ped_laws.proofs.FlowRunLaws.Stopping.{fitting_stops, loop_stops}
 use Rattle.ped_rules.specs.ped_laws.specs.FlowRuns.Covering.{has_stop, some_stop}
 use Rattle.ped_rules.specs.ped_symbols.specs.Kinds.{kind_in}
@@ -302,23 +302,23 @@ module _ (t : ProgramTree) (s : ℕ) (x : Neighbour t s) (valid : IsValid t) (ne
       λ i. loop_stops t s (own_loop t s x) stops i || later i
 
   -- a path through them leaves another name as it is
-  quiet_keeps : (w : List ℕ) (ts : StmtTrees) (n : ℕ) → statements_count ts ≡ 0 → (sum_of_all cs w ts n).keeps ≡ true
+  quiet_keeps : (w : List ℕ) (ts : StmtTrees) (n : ℕ) → statements_count ts ≡ 0 → (summary_of_all cs w ts n).keeps ≡ true
   quiet_keeps w no_stmts n e = refl
   quiet_keeps w (more_stmts z rest) n e =
-      let here : (sum_of cs w z n).keeps ≡ true = only_comment (λ y. (sum_of cs w y n).keeps ≡ true) (λ text. refl) z (omega (arith, e)) in
+      let here : (summary_of cs w z n).keeps ≡ true = only_comment (λ y. (summary_of cs w y n).keeps ≡ true) (λ text. refl) z (omega (arith, e)) in
       let later = quiet_keeps w rest (n + statement_count z) (omega (arith, e)) in
       λ i. here i && later i
 
-  loop_keeps : (w : List ℕ) (h : Head) (body : StmtTrees) (n : ℕ) → h.private ≡ [] → is_among w (loop_variables (Do h body)) ≡ false → (sum_of cs w (Do h body) n).keeps ≡ true
+  loop_keeps : (w : List ℕ) (h : Head) (body : StmtTrees) (n : ℕ) → h.private ≡ [] → is_among w (loop_variables (Do h body)) ≡ false → (summary_of cs w (Do h body) n).keeps ≡ true
   loop_keeps w h body n none other = cleared_private cs w h body n other ∙ ap (λ (names : List (List ℕ)). not (is_among w names)) none
 
-  next_keeps : (w : List ℕ) (n : ℕ) → is_among w (loop_variables next) ≡ false → (sum_of_all cs w behind n).keeps ≡ true
+  next_keeps : (w : List ℕ) (n : ℕ) → is_among w (loop_variables next) ≡ false → (summary_of_all cs w behind n).keeps ≡ true
   next_keeps w n other =
       let at : ℕ = n + statements_count x.between in
       let here = loop_keeps w x.next x.next_body at next_unprivate other in
       ap (λ (m : Summary). m.keeps) (followed_sum cs w x.between (alone next) n) ∙ (λ i. quiet_keeps w x.between n x.comments i && (here i && true))
 
-  pub old_keeps : (w : List ℕ) (n : ℕ) → is_among w (all_loop_variables (pair t s x)) ≡ false → (sum_of_all cs w (pair t s x) n).keeps ≡ true
+  pub old_keeps : (w : List ℕ) (n : ℕ) → is_among w (all_loop_variables (pair t s x)) ≡ false → (summary_of_all cs w (pair t s x) n).keeps ≡ true
   old_keeps w n other =
       let both = or_parts (is_among w (loop_variables own)) (is_among w (loop_variables next)) (sym (old_variables w) ∙ other) in
       let here = loop_keeps w x.own x.own_body n own_unprivate both.0 in
@@ -327,13 +327,13 @@ module _ (t : ProgramTree) (s : ℕ) (x : Neighbour t s) (valid : IsValid t) (ne
 
   -- what is shown behind the second DO, and isn't its variable, is shown behind the first one
   module _ (w : List ℕ) (other : is_among w (loop_variables next) ≡ false) where
-    first_left : (sum_behind cs w s own s).keeps ≡ true
-    first_left = ap (λ (r : Bool). (sum_either (sum_at_once r) (sum_in_turn (sum_behind_all cs w s x.own_body (s + 1)) (sum_loop w s x.own x.own_body (sum_of_all cs w x.own_body (s + 1))))).keeps) (eq-eqb s s refl)
+    first_left : (summary_behind cs w s own s).keeps ≡ true
+    first_left = ap (λ (r : Bool). (summary_either (summary_at_once r) (summary_in_turn (summary_behind_all cs w s x.own_body (s + 1)) (summary_loop w s x.own x.own_body (summary_of_all cs w x.own_body (s + 1))))).keeps) (eq-eqb s s refl)
 
-    pair_left : (sum_behind_all cs w s (pair t s x) s).keeps ≡ true
-    pair_left = λ i. (first_left i && next_keeps w (s + statement_count own) other i) || (sum_behind_all cs w s behind (s + statement_count own)).keeps
+    pair_left : (summary_behind_all cs w s (pair t s x) s).keeps ≡ true
+    pair_left = λ i. (first_left i && next_keeps w (s + statement_count own) other i) || (summary_behind_all cs w s behind (s + statement_count own)).keeps
 
-    here : IsNoMore (sum_behind_all cs w (next_number x) (pair t s x) s) (sum_behind_all cs w s (pair t s x) s)
+    here : IsNoMore (summary_behind_all cs w (next_number x) (pair t s x) s) (summary_behind_all cs w s (pair t s x) s)
     here = record { keeps = λ f. pair_left; ends = λ f. untrue ((all_behind_unstopped cs w (pair t s x) (next_number x) s old_unstopped).ends f) }
 
     before : (i : ℕ) → i < s → (next_number x == i) ≡ (s == i)
@@ -350,7 +350,7 @@ module _ (t : ProgramTree) (s : ℕ) (x : Neighbour t s) (valid : IsValid t) (ne
     shown_first : IsShownBehind t (next_number x) w → IsShownBehind t s w
     shown_first =
         shown_by t t w (next_number x) s refl
-        (subst (λ (ts : StmtTrees). IsNoMore (sum_behind_all cs w (next_number x) ts 1) (sum_behind_all cs w s ts 1)) (sym x.stands)
+        (subst (λ (ts : StmtTrees). IsNoMore (summary_behind_all cs w (next_number x) ts 1) (summary_behind_all cs w s ts 1)) (sym x.stands)
         (gap_behind cs w (pair t s x) (pair t s x) same s (next_number x) s before past here x.gap 1 x.numbered))
 
   -- the program's end shows no variable of the two behind the second one

@@ -10,50 +10,50 @@ use Rattle.ped_rules.specs.ped_loop_runs.proofs.TidyLaws.TidyPathsShown.{shown_b
 use Rattle.ped_rules.specs.ped_loop_runs.proofs.TidyLaws.TidyPathsSums.{AreNoMore, Summary}
 use Rattle.ped_rules.specs.ped_steps.specs.Replacing.{followed}
 use Rattle.ped_rules.specs.ped_steps.specs.Runs.Gaps.{Gap, at_front, filled, in_body, in_else, in_then, number_at, past}
-use Rattle.ped_rules.specs.ped_flow.proofs.TreeSums.{all_behind-summed}
+use Rattle.ped_rules.specs.ped_flow.proofs.TreeSummaries.{all_behind-summed}
 use Rattle.ped_rules.specs.ped_flow.specs.Events.{own_events}
 use Rattle.ped_rules.specs.ped_flow.specs.Paths.{paths_from_exit}
 use Rattle.ped_rules.specs.ped_flow.specs.Questions.{IsFirst, IsLiveAfter, IsReadBehind}
-use Rattle.ped_rules.specs.ped_flow.specs.Summaries.{AreSummed, IsReadOn, sum_behind_all, sum_either, sum_events, sum_in_turn, sum_loop, sum_of, sum_of_all}
+use Rattle.ped_rules.specs.ped_flow.specs.Summaries.{AreSummed, IsReadOn, summary_behind_all, summary_either, summary_events, summary_in_turn, summary_loop, summary_of, summary_of_all}
 use Rattle.ped_splits.proofs.JoinLive.{IsNoLess, all_behind_less, behind_less, do_behind_less, either_less, loop_less, number_less, numbers_less, own_less, rest_less, turn_less}
 
-module _ (cs : List (List ℕ)) (w : List ℕ) (new old : StmtTrees) (summed : (n m : ℕ) → IsNoLess (sum_of_all cs w new n) (sum_of_all cs w old m)) (loops : AreNoMore w (all_loop_variables old) (all_loop_variables new)) where
+module _ (cs : List (List ℕ)) (w : List ℕ) (new old : StmtTrees) (summed : (n m : ℕ) → IsNoLess (summary_of_all cs w new n) (summary_of_all cs w old m)) (loops : AreNoMore w (all_loop_variables old) (all_loop_variables new)) where
   inner_loops : (g : Gap) → AreNoMore w (all_loop_variables (filled g old)) (all_loop_variables (filled g new))
   inner_loops g = gap_variables w new old loops g
 
-  gap_less : (g : Gap) (n m : ℕ) → IsNoLess (sum_of_all cs w (filled g new) n) (sum_of_all cs w (filled g old) m)
+  gap_less : (g : Gap) (n m : ℕ) → IsNoLess (summary_of_all cs w (filled g new) n) (summary_of_all cs w (filled g old) m)
   gap_less (at_front rest) n m =
-      subst (λ (z : Summary). IsNoLess z (sum_of_all cs w (followed old rest) m)) (sym (followed_sum cs w new rest n))
-      (subst (IsNoLess (sum_in_turn (sum_of_all cs w new n) (sum_of_all cs w rest (n + statements_count new)))) (sym (followed_sum cs w old rest m))
-      (turn_less (sum_of_all cs w new n) (sum_of_all cs w rest (n + statements_count new)) (sum_of_all cs w old m) (sum_of_all cs w rest (m + statements_count old)) (summed n m) (numbers_less cs w rest (n + statements_count new) (m + statements_count old))))
+      subst (λ (z : Summary). IsNoLess z (summary_of_all cs w (followed old rest) m)) (sym (followed_sum cs w new rest n))
+      (subst (IsNoLess (summary_in_turn (summary_of_all cs w new n) (summary_of_all cs w rest (n + statements_count new)))) (sym (followed_sum cs w old rest m))
+      (turn_less (summary_of_all cs w new n) (summary_of_all cs w rest (n + statements_count new)) (summary_of_all cs w old m) (summary_of_all cs w rest (m + statements_count old)) (summed n m) (numbers_less cs w rest (n + statements_count new) (m + statements_count old))))
   gap_less (past z g) n m =
-      turn_less (sum_of cs w z n) (sum_of_all cs w (filled g new) (n + statement_count z)) (sum_of cs w z m) (sum_of_all cs w (filled g old) (m + statement_count z)) (number_less cs w z n m) (gap_less g (n + statement_count z) (m + statement_count z))
+      turn_less (summary_of cs w z n) (summary_of_all cs w (filled g new) (n + statement_count z)) (summary_of cs w z m) (summary_of_all cs w (filled g old) (m + statement_count z)) (number_less cs w z n m) (gap_less g (n + statement_count z) (m + statement_count z))
   gap_less (in_then c g b rest) n m =
       let a = filled g new in
       let d = filled g old in
-      turn_less (sum_of cs w (If c a b) n) (sum_of_all cs w rest (n + statement_count (If c a b))) (sum_of cs w (If c d b) m) (sum_of_all cs w rest (m + statement_count (If c d b)))
-      (turn_less (sum_events w (own_events cs n (If c a b))) (sum_either (sum_of_all cs w a (n + 1)) (sum_of_all cs w b (n + 1 + statements_count a))) (sum_events w (own_events cs m (If c d b))) (sum_either (sum_of_all cs w d (m + 1)) (sum_of_all cs w b (m + 1 + statements_count d)))
+      turn_less (summary_of cs w (If c a b) n) (summary_of_all cs w rest (n + statement_count (If c a b))) (summary_of cs w (If c d b) m) (summary_of_all cs w rest (m + statement_count (If c d b)))
+      (turn_less (summary_events w (own_events cs n (If c a b))) (summary_either (summary_of_all cs w a (n + 1)) (summary_of_all cs w b (n + 1 + statements_count a))) (summary_events w (own_events cs m (If c d b))) (summary_either (summary_of_all cs w d (m + 1)) (summary_of_all cs w b (m + 1 + statements_count d)))
       (own_less cs w (If c b b) n m)
-      (either_less (sum_of_all cs w a (n + 1)) (sum_of_all cs w b (n + 1 + statements_count a)) (sum_of_all cs w d (m + 1)) (sum_of_all cs w b (m + 1 + statements_count d)) (gap_less g (n + 1) (m + 1)) (numbers_less cs w b (n + 1 + statements_count a) (m + 1 + statements_count d))))
+      (either_less (summary_of_all cs w a (n + 1)) (summary_of_all cs w b (n + 1 + statements_count a)) (summary_of_all cs w d (m + 1)) (summary_of_all cs w b (m + 1 + statements_count d)) (gap_less g (n + 1) (m + 1)) (numbers_less cs w b (n + 1 + statements_count a) (m + 1 + statements_count d))))
       (numbers_less cs w rest (n + statement_count (If c a b)) (m + statement_count (If c d b)))
   gap_less (in_else c a g rest) n m =
       let b = filled g new in
       let d = filled g old in
-      turn_less (sum_of cs w (If c a b) n) (sum_of_all cs w rest (n + statement_count (If c a b))) (sum_of cs w (If c a d) m) (sum_of_all cs w rest (m + statement_count (If c a d)))
-      (turn_less (sum_events w (own_events cs n (If c a b))) (sum_either (sum_of_all cs w a (n + 1)) (sum_of_all cs w b (n + 1 + statements_count a))) (sum_events w (own_events cs m (If c a d))) (sum_either (sum_of_all cs w a (m + 1)) (sum_of_all cs w d (m + 1 + statements_count a)))
+      turn_less (summary_of cs w (If c a b) n) (summary_of_all cs w rest (n + statement_count (If c a b))) (summary_of cs w (If c a d) m) (summary_of_all cs w rest (m + statement_count (If c a d)))
+      (turn_less (summary_events w (own_events cs n (If c a b))) (summary_either (summary_of_all cs w a (n + 1)) (summary_of_all cs w b (n + 1 + statements_count a))) (summary_events w (own_events cs m (If c a d))) (summary_either (summary_of_all cs w a (m + 1)) (summary_of_all cs w d (m + 1 + statements_count a)))
       (own_less cs w (If c a a) n m)
-      (either_less (sum_of_all cs w a (n + 1)) (sum_of_all cs w b (n + 1 + statements_count a)) (sum_of_all cs w a (m + 1)) (sum_of_all cs w d (m + 1 + statements_count a)) (numbers_less cs w a (n + 1) (m + 1)) (gap_less g (n + 1 + statements_count a) (m + 1 + statements_count a))))
+      (either_less (summary_of_all cs w a (n + 1)) (summary_of_all cs w b (n + 1 + statements_count a)) (summary_of_all cs w a (m + 1)) (summary_of_all cs w d (m + 1 + statements_count a)) (numbers_less cs w a (n + 1) (m + 1)) (gap_less g (n + 1 + statements_count a) (m + 1 + statements_count a))))
       (numbers_less cs w rest (n + statement_count (If c a b)) (m + statement_count (If c a d)))
   gap_less (in_body h g rest) n m =
       let a = filled g new in
       let d = filled g old in
-      turn_less (sum_of cs w (Do h a) n) (sum_of_all cs w rest (n + statement_count (Do h a))) (sum_of cs w (Do h d) m) (sum_of_all cs w rest (m + statement_count (Do h d)))
-      (turn_less (sum_events w (own_events cs n (Do h a))) (sum_loop w n h a (sum_of_all cs w a (n + 1))) (sum_events w (own_events cs m (Do h d))) (sum_loop w m h d (sum_of_all cs w d (m + 1)))
-      (own_less cs w (Do h no_stmts) n m) (loop_less cs w h a d n m (sum_of_all cs w a (n + 1)) (sum_of_all cs w d (m + 1)) (inner_loops g) (gap_less g (n + 1) (m + 1))))
+      turn_less (summary_of cs w (Do h a) n) (summary_of_all cs w rest (n + statement_count (Do h a))) (summary_of cs w (Do h d) m) (summary_of_all cs w rest (m + statement_count (Do h d)))
+      (turn_less (summary_events w (own_events cs n (Do h a))) (summary_loop w n h a (summary_of_all cs w a (n + 1))) (summary_events w (own_events cs m (Do h d))) (summary_loop w m h d (summary_of_all cs w d (m + 1)))
+      (own_less cs w (Do h no_stmts) n m) (loop_less cs w h a d n m (summary_of_all cs w a (n + 1)) (summary_of_all cs w d (m + 1)) (inner_loops g) (gap_less g (n + 1) (m + 1))))
       (numbers_less cs w rest (n + statement_count (Do h a)) (m + statement_count (Do h d)))
 
   -- from two numbers that stand alike to what stands before and behind the gap
-  module _ (s k l : ℕ) (before : (i : ℕ) → i < s → (k == i) ≡ (l == i)) (behind : (i : ℕ) → (k == s + statements_count new + i) ≡ (l == s + statements_count old + i)) (here : IsNoLess (sum_behind_all cs w k new s) (sum_behind_all cs w l old s)) where
+  module _ (s k l : ℕ) (before : (i : ℕ) → i < s → (k == i) ≡ (l == i)) (behind : (i : ℕ) → (k == s + statements_count new + i) ≡ (l == s + statements_count old + i)) (here : IsNoLess (summary_behind_all cs w k new s) (summary_behind_all cs w l old s)) where
     placed_before : (n count : ℕ) → n + count ≤ s → IsPlaced k n l n count
     placed_before n count h i e = before (n + i) (omega (arith, h, e))
 
@@ -63,16 +63,16 @@ module _ (cs : List (List ℕ)) (w : List ℕ) (new old : StmtTrees) (summed : (
         let b : m + i ≡ s + statements_count old + (from + i) = omega (arith, f) in
         ap (λ (z : ℕ). k == z) a ∙ behind (from + i) ∙ ap (λ (z : ℕ). l == z) (sym b)
 
-    pub gap_behind_less : (g : Gap) (n : ℕ) → number_at g n ≡ s → IsNoLess (sum_behind_all cs w k (filled g new) n) (sum_behind_all cs w l (filled g old) n)
+    pub gap_behind_less : (g : Gap) (n : ℕ) → number_at g n ≡ s → IsNoLess (summary_behind_all cs w k (filled g new) n) (summary_behind_all cs w l (filled g old) n)
     gap_behind_less (at_front rest) n e =
-        subst (λ (z : ℕ). IsNoLess (sum_behind_all cs w k (followed new rest) z) (sum_behind_all cs w l (followed old rest) z)) (sym e)
+        subst (λ (z : ℕ). IsNoLess (summary_behind_all cs w k (followed new rest) z) (summary_behind_all cs w l (followed old rest) z)) (sym e)
         (let i : ℕ = s + statements_count new in
         let j : ℕ = s + statements_count old in
-        let first : Summary = sum_either (sum_in_turn (sum_behind_all cs w k new s) (sum_of_all cs w rest i)) (sum_behind_all cs w k rest i) in
-        subst (λ (z : Summary). IsNoLess z (sum_behind_all cs w l (followed old rest) s)) (sym (followed_behind cs w k new rest s))
+        let first : Summary = summary_either (summary_in_turn (summary_behind_all cs w k new s) (summary_of_all cs w rest i)) (summary_behind_all cs w k rest i) in
+        subst (λ (z : Summary). IsNoLess z (summary_behind_all cs w l (followed old rest) s)) (sym (followed_behind cs w k new rest s))
         (subst (IsNoLess first) (sym (followed_behind cs w l old rest s))
-        (either_less (sum_in_turn (sum_behind_all cs w k new s) (sum_of_all cs w rest i)) (sum_behind_all cs w k rest i) (sum_in_turn (sum_behind_all cs w l old s) (sum_of_all cs w rest j)) (sum_behind_all cs w l rest j)
-        (turn_less (sum_behind_all cs w k new s) (sum_of_all cs w rest i) (sum_behind_all cs w l old s) (sum_of_all cs w rest j) here (numbers_less cs w rest i j))
+        (either_less (summary_in_turn (summary_behind_all cs w k new s) (summary_of_all cs w rest i)) (summary_behind_all cs w k rest i) (summary_in_turn (summary_behind_all cs w l old s) (summary_of_all cs w rest j)) (summary_behind_all cs w l rest j)
+        (turn_less (summary_behind_all cs w k new s) (summary_of_all cs w rest i) (summary_behind_all cs w l old s) (summary_of_all cs w rest j) here (numbers_less cs w rest i j))
         (all_behind_less cs w rest k i l j (placed_behind i j (statements_count rest) 0 (omega arith) (omega arith))))))
     gap_behind_less (past z g) n e =
         let from = gap_from g (n + statement_count z) in
@@ -87,7 +87,7 @@ module _ (cs : List (List ℕ)) (w : List ℕ) (new old : StmtTrees) (summed : (
         let first = gap_count g (n + 1) new in
         let second = gap_count g (n + 1) old in
         rest_less cs w (If c a b) (If c d b) rest rest k n l n (n + statement_count (If c a b)) (n + statement_count (If c d b))
-        (either_less (sum_behind_all cs w k a (n + 1)) (sum_behind_all cs w k b i) (sum_behind_all cs w l d (n + 1)) (sum_behind_all cs w l b j)
+        (either_less (summary_behind_all cs w k a (n + 1)) (summary_behind_all cs w k b i) (summary_behind_all cs w l d (n + 1)) (summary_behind_all cs w l b j)
         (gap_behind_less g (n + 1) e)
         (all_behind_less cs w b k i l j (placed_behind i j (statements_count b) (behind_gap g) (omega (arith, first, e)) (omega (arith, second, e)))))
         (numbers_less cs w rest (n + statement_count (If c a b)) (n + statement_count (If c d b)))
@@ -101,7 +101,7 @@ module _ (cs : List (List ℕ)) (w : List ℕ) (new old : StmtTrees) (summed : (
         let second = gap_count g i old in
         let from = gap_from g i in
         rest_less cs w (If c a b) (If c a d) rest rest k n l n (n + statement_count (If c a b)) (n + statement_count (If c a d))
-        (either_less (sum_behind_all cs w k a (n + 1)) (sum_behind_all cs w k b i) (sum_behind_all cs w l a (n + 1)) (sum_behind_all cs w l d i)
+        (either_less (summary_behind_all cs w k a (n + 1)) (summary_behind_all cs w k b i) (summary_behind_all cs w l a (n + 1)) (summary_behind_all cs w l d i)
         (all_behind_less cs w a k (n + 1) l (n + 1) (placed_before (n + 1) (statements_count a) (omega (arith, from, e))))
         (gap_behind_less g i e))
         (numbers_less cs w rest (n + statement_count (If c a b)) (n + statement_count (If c a d)))
@@ -120,13 +120,13 @@ module _ (cs : List (List ℕ)) (w : List ℕ) (new old : StmtTrees) (summed : (
         (placed_behind (n + statement_count (Do h a)) (n + statement_count (Do h d)) (statements_count rest) (behind_gap g) (omega (arith, first, e)) (omega (arith, second, e))))
 
 -- a scalar is live behind a DO of the one program only where it is behind one of the other
-pub live_alike : (t u : ProgramTree) (w : List ℕ) (k l : ℕ) → u.decls ≡ t.decls → IsNoLess (sum_behind_all (constant_names t.decls) w k t.body 1) (sum_behind_all (constant_names u.decls) w l u.body 1) → IsLiveAfter t k w → IsLiveAfter u l w
-live_alike t u w k l decls less (inl read) = inl (by (sum_behind_all (constant_names t.decls) w k t.body 1).first (sum_behind_all (constant_names u.decls) w l u.body 1).first first.first second.first less.reads)
+pub live_alike : (t u : ProgramTree) (w : List ℕ) (k l : ℕ) → u.decls ≡ t.decls → IsNoLess (summary_behind_all (constant_names t.decls) w k t.body 1) (summary_behind_all (constant_names u.decls) w l u.body 1) → IsLiveAfter t k w → IsLiveAfter u l w
+live_alike t u w k l decls less (inl read) = inl (by (summary_behind_all (constant_names t.decls) w k t.body 1).first (summary_behind_all (constant_names u.decls) w l u.body 1).first first.first second.first less.reads)
   where
-    first : AreSummed (paths_from_exit t k) w (sum_behind_all (constant_names t.decls) w k t.body 1)
+    first : AreSummed (paths_from_exit t k) w (summary_behind_all (constant_names t.decls) w k t.body 1)
     first = all_behind-summed (constant_names t.decls) w k t.body 1
 
-    second : AreSummed (paths_from_exit u l) w (sum_behind_all (constant_names u.decls) w l u.body 1)
+    second : AreSummed (paths_from_exit u l) w (summary_behind_all (constant_names u.decls) w l u.body 1)
     second = all_behind-summed (constant_names u.decls) w l u.body 1
 
     by : (a b : Option ℕ) → IsFirst (IsReadOn (paths_from_exit t k) w) a → IsFirst (IsReadOn (paths_from_exit u l) w) b → (is_some a ≡ true → is_some b ≡ true) → (n : ℕ) × IsReadBehind u l w n

@@ -9,7 +9,7 @@ use Rattle.ped_rules.specs.ped_laws.specs.Acts.Grids.{block_at}
 use Rattle.ped_rules.specs.ped_laws.specs.Acts.Orders.{Block, EachOnce, IsByRows, IsIn, IsReordered, KeepsOrder, StandsBefore, block_conflict}
 use Rattle.ped_rules.specs.ped_store.specs.Acts.{Act}
 use Rattle.ped_rules.specs.ped_store.specs.Cells.{Cell}
-use Rattle.ped_splits.proofs.BlockLaws.{In}
+use Rattle.ped_splits.proofs.PiBlockLaws.{In}
 use Rattle.ped_splits.proofs.BlockPlaces.{IsRising}
 use Rattle.ped_splits.proofs.SplitOrders.{before_by_rows, before_in_row, in_all_rows, in_row, of_rows, row_before, rows_rise, units_row}
 

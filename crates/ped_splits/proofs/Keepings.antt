@@ -9,8 +9,8 @@ use Rattle.std.proofs.lemmas.List.Elements.{filter-append}
 use Rattle.std.proofs.lemmas.Grind.{flat_map-append}
 use Rattle.ped_tree.specs.Tree.{StmtTrees}
 use Rattle.ped_splits.specs.Units.{units, homes, unit_of, is_unit, stands_in}
-use Rattle.ped_splits.specs.Distributing.{numbers_of, block_sources, loop_sources}
-use Rattle.ped_splits.proofs.BlockOrders.{range_more}
+use Rattle.ped_splits.specs.Distributing.{numbers_of, pi_block_sources, loop_sources}
+use Rattle.ped_splits.proofs.PiBlockOrders.{range_more}
 
 some_not_none : (n : ℕ) → (suc n == 0) ≡ false
 some_not_none n = by (suc n == 0) refl
@@ -51,10 +51,10 @@ module _ (s : ℕ) (body : StmtTrees) where
       ∙ ap (λ (b : Bool). before ++ (so_far unit k ++ map Some (cond b ((s + 1 + k) ∷ []) []))) (sym fails) ∙ ap (λ (xs : List (Option ℕ)). before ++ xs) (sym (one_more unit k))
 
   -- the DO of a block so far, and a unit more
-  pub next_unit : (head : Option ℕ) (block : List ℕ) (k d : ℕ) (before old new : List (Option ℕ)) → k < length block → old ≡ before ++ block_sources s body head (take k block)
-      → new ≡ old ++ map Some (numbers_of s body (get_or block k d)) → new ≡ before ++ block_sources s body head (take (k + 1) block)
+  pub next_unit : (head : Option ℕ) (block : List ℕ) (k d : ℕ) (before old new : List (Option ℕ)) → k < length block → old ≡ before ++ pi_block_sources s body head (take k block)
+      → new ≡ old ++ map Some (numbers_of s body (get_or block k d)) → new ≡ before ++ pi_block_sources s body head (take (k + 1) block)
   next_unit head block k d before old new h was made =
-      made ∙ ap (λ (xs : List (Option ℕ)). xs ++ map Some (numbers_of s body (get_or block k d))) was ∙ append_assoc before (block_sources s body head (take k block)) (map Some (numbers_of s body (get_or block k d)))
+      made ∙ ap (λ (xs : List (Option ℕ)). xs ++ map Some (numbers_of s body (get_or block k d))) was ∙ append_assoc before (pi_block_sources s body head (take k block)) (map Some (numbers_of s body (get_or block k d)))
       ∙ ap (λ (xs : List (Option ℕ)). before ++ (head ∷ xs)) (sym longer)
     where
       longer : map Some (flat_map (numbers_of s body) (take (k + 1) block)) ≡ map Some (flat_map (numbers_of s body) (take k block)) ++ map Some (numbers_of s body (get_or block k d))
@@ -65,17 +65,17 @@ module _ (s : ℕ) (body : StmtTrees) where
           ∙ ap (λ (ns : List ℕ). map Some (flat_map (numbers_of s body) (take k block)) ++ map Some ns) (append-nil (numbers_of s body (get_or block k d)))
 
   -- the DO loops so far, and one more
-  loops_more : (b : List ℕ) (bs : List (List ℕ)) → loop_sources s body (bs ++ b ∷ []) ≡ loop_sources s body bs ++ block_sources s body (if length bs == 0 then Some s else None) b
-  loops_more b [] = append-nil (block_sources s body (Some s) b)
+  loops_more : (b : List ℕ) (bs : List (List ℕ)) → loop_sources s body (bs ++ b ∷ []) ≡ loop_sources s body bs ++ pi_block_sources s body (if length bs == 0 then Some s else None) b
+  loops_more b [] = append-nil (pi_block_sources s body (Some s) b)
   loops_more b (x ∷ bs) =
-      ap (λ (xs : List (Option ℕ)). block_sources s body (Some s) x ++ xs) (flat_map-append (block_sources s body None) bs (b ∷ []) ∙ ap (λ (xs : List (Option ℕ)). flat_map (block_sources s body None) bs ++ xs) (append-nil (block_sources s body None b)))
-      ∙ sym (append_assoc (block_sources s body (Some s) x) (flat_map (block_sources s body None) bs) (block_sources s body None b))
-      ∙ ap (λ (r : Bool). loop_sources s body (x ∷ bs) ++ block_sources s body (if r then Some s else None) b) (sym (some_not_none (length bs)))
+      ap (λ (xs : List (Option ℕ)). pi_block_sources s body (Some s) x ++ xs) (flat_map-append (pi_block_sources s body None) bs (b ∷ []) ∙ ap (λ (xs : List (Option ℕ)). flat_map (pi_block_sources s body None) bs ++ xs) (append-nil (pi_block_sources s body None b)))
+      ∙ sym (append_assoc (pi_block_sources s body (Some s) x) (flat_map (pi_block_sources s body None) bs) (pi_block_sources s body None b))
+      ∙ ap (λ (r : Bool). loop_sources s body (x ∷ bs) ++ pi_block_sources s body (if r then Some s else None) b) (sym (some_not_none (length bs)))
 
   pub next_loop : (bs : List (List ℕ)) (k : ℕ) (b : List ℕ) (head : Option ℕ) (before old new : List (Option ℕ)) → k < length bs → length (take k bs) ≡ k → b ≡ get_or bs k b → head ≡ (if k == 0 then Some s else None)
-      → old ≡ before ++ loop_sources s body (take k bs) → new ≡ old ++ block_sources s body head b → new ≡ before ++ loop_sources s body (take (k + 1) bs)
+      → old ≡ before ++ loop_sources s body (take k bs) → new ≡ old ++ pi_block_sources s body head b → new ≡ before ++ loop_sources s body (take (k + 1) bs)
   next_loop bs k b head before old new h long is first was made =
-      made ∙ (λ i. was i ++ block_sources s body (first i) b) ∙ append_assoc before (loop_sources s body (take k bs)) (block_sources s body (if k == 0 then Some s else None) b)
-      ∙ ap (λ (n : ℕ). before ++ (loop_sources s body (take k bs) ++ block_sources s body (if n == 0 then Some s else None) b)) (sym long)
+      made ∙ (λ i. was i ++ pi_block_sources s body (first i) b) ∙ append_assoc before (loop_sources s body (take k bs)) (pi_block_sources s body (if k == 0 then Some s else None) b)
+      ∙ ap (λ (n : ℕ). before ++ (loop_sources s body (take k bs) ++ pi_block_sources s body (if n == 0 then Some s else None) b)) (sym long)
       ∙ ap (λ (xs : List (Option ℕ)). before ++ xs) (sym (loops_more b (take k bs)))
       ∙ ap (λ (xs : List (List ℕ)). before ++ loop_sources s body xs) (ap (λ (x : List ℕ). take k bs ++ x ∷ []) is ∙ sym (take_more bs k b h))

@@ -8,8 +8,8 @@ use Rattle.ped_rules.specs.Carried.{level_at}
 use Rattle.ped_rules.specs.ped_laws.specs.Acts.Orders.{IsIn}
 use Rattle.ped_edges.specs.Edges.{Edge, is_rejected}
 use Rattle.ped_splits.specs.Units.{units, stands_in, is_within, is_to_keep, refers, is_arrow, arrows}
-use Rattle.ped_splits.specs.Blocks.{reaches, AreBlocks}
-use Rattle.ped_splits.proofs.BlockLaws.{In, in_front, in_back, LeadForward, all_forward, through}
+use Rattle.ped_splits.specs.PiBlocks.{reaches, ArePiBlocks}
+use Rattle.ped_splits.proofs.PiBlockLaws.{In, in_front, in_back, LeadForward, all_forward, through}
 use Rattle.ped_splits.proofs.Existence.Closures.{test_by}
 use Rattle.ped_splits.proofs.Partitions.{flat}
 
@@ -35,7 +35,7 @@ never_back reach passes (b ∷ bs) forward i j zero y here there leads = omega a
 never_back reach passes (b ∷ bs) forward i j (suc x) zero here there leads = let none : true ≡ false = sym leads ∙ forward.0 i j (in_flat i x bs here) there in absurd cc
 never_back reach passes (b ∷ bs) forward i j (suc x) (suc y) here there leads = let rest = never_back reach passes bs forward.1 i j x y here there leads in omega (arith, rest)
 
-module _ (t : ProgramTree) (s : ℕ) (h : Head) (body : StmtTrees) (found : List (List ℕ)) (are : AreBlocks t s h body found) where
+module _ (t : ProgramTree) (s : ℕ) (h : Head) (body : StmtTrees) (found : List (List ℕ)) (are : ArePiBlocks t s h body found) where
   passing : (i j k : ℕ) → reaches are.reach i j ≡ true → reaches are.reach j k ≡ true → reaches are.reach i k ≡ true
   passing = through (arrows t s h body are.edges) are.reach are.closed
 

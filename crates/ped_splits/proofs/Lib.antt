@@ -1,4 +1,4 @@
-pub mod OneBlocks
+pub mod OnePiBlocks
 pub mod DistributeRules
 pub mod FuseRules
 mod FuseFacts
@@ -54,7 +54,7 @@ mod ParallelRound
 mod FusedTidy
 mod Here
 mod DistributeAnswers
-mod BlockOrders
+mod PiBlockOrders
 mod ArrowLaws
 mod ReferenceRows
 mod ArrowRows
@@ -64,8 +64,8 @@ mod UnitSizes
 mod Partitions
 mod OneToOne
 mod Keepings
-mod BlockSizes
-mod BlockLaws
+mod PiBlockSizes
+mod PiBlockLaws
 mod Contained
 mod UnitTests
 mod DistributeTrusted

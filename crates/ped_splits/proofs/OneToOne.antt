@@ -12,9 +12,9 @@ use Rattle.ped_rules.specs.ped_flow.specs.Questions.{IsLoop, LoopOf}
 use Rattle.ped_rules.specs.ped_flow.proofs.Answering.{loop_fits}
 use Rattle.ped_rules.specs.ped_graph.specs.Update.Fresh.{IsOneToOne}
 use Rattle.ped_splits.specs.Units.{unit_of, is_unit, stands_in}
-use Rattle.ped_splits.specs.Blocks.{blocks, AreBlocks}
-use Rattle.ped_splits.specs.Distributing.{numbers_of, block_sources, loop_sources, unmoved, sources, kept_from, MakesDistributed}
-use Rattle.ped_splits.proofs.BlockOrders.{all_by}
+use Rattle.ped_splits.specs.PiBlocks.{pi_blocks, ArePiBlocks}
+use Rattle.ped_splits.specs.Distributing.{numbers_of, pi_block_sources, loop_sources, unmoved, sources, kept_from, MakesDistributed}
+use Rattle.ped_splits.proofs.PiBlockOrders.{all_by}
 use Rattle.ped_splits.proofs.Partitions.{tally, flat, sum_plus, sum_none, later_none, one_at_most, one_home, sums_below}
 
 -- how often a number stands among numbers
@@ -97,19 +97,19 @@ module _ (v : ℕ) where
     abbrev in_unit : ℕ → ℕ
     in_unit i = times v (numbers_of s body i)
 
-    block_times : (head : Option ℕ) (block : List ℕ) → times_in v (block_sources s body head block) ≡ tally (is_number v head) + sum_by in_unit block
+    block_times : (head : Option ℕ) (block : List ℕ) → times_in v (pi_block_sources s body head block) ≡ tally (is_number v head) + sum_by in_unit block
     block_times head block =
         let whole = sum_by-cons (λ o. tally (is_number v o)) head (map Some (flat_map (numbers_of s body) block)) in
         let numbers = some_times (flat_map (numbers_of s body) block) in
         let parts = all_times (numbers_of s body) block in
         omega (arith, whole, numbers, parts)
 
-    others_times : (bs : List (List ℕ)) → times_in v (flat_map (block_sources s body None) bs) ≡ sum_by in_unit (flat bs)
+    others_times : (bs : List (List ℕ)) → times_in v (flat_map (pi_block_sources s body None) bs) ≡ sum_by in_unit (flat bs)
     others_times [] = refl
     others_times (b ∷ bs) =
         let rest = others_times bs in
         let here = block_times None b in
-        let whole = sum_by-append (λ o. tally (is_number v o)) (block_sources s body None b) (flat_map (block_sources s body None) bs) in
+        let whole = sum_by-append (λ o. tally (is_number v o)) (pi_block_sources s body None b) (flat_map (pi_block_sources s body None) bs) in
         let parts = sum_by-append in_unit b (flat bs) in
         omega (arith, rest, here, whole, parts)
 
@@ -118,7 +118,7 @@ module _ (v : ℕ) where
     loops_times (b ∷ bs) =
         let rest = others_times bs in
         let here = block_times (Some s) b in
-        let whole = sum_by-append (λ o. tally (is_number v o)) (block_sources s body (Some s) b) (flat_map (block_sources s body None) bs) in
+        let whole = sum_by-append (λ o. tally (is_number v o)) (pi_block_sources s body (Some s) b) (flat_map (pi_block_sources s body None) bs) in
         let parts = sum_by-append in_unit b (flat bs) in
         omega (arith, rest, here, whole, parts)
 
@@ -134,10 +134,10 @@ module _ (v : ℕ) where
     at_most_one false = omega arith
 
     -- each number stands among the sources of the DO loops once at most
-    pub loops_once : (reach : List (List Bool)) → times_in v (loop_sources s body (blocks reach)) ≤ 1
+    pub loops_once : (reach : List (List Bool)) → times_in v (loop_sources s body (pi_blocks reach)) ≤ 1
     loops_once reach =
-        let loops = loops_times (blocks reach) in
-        let sum : sum_by in_unit (flat (blocks reach)) ≤ sum_by in_unit (range_with_len 0 (length reach)) = sums_below reach in_unit (length reach) (range_with_len 0 (length reach)) in
+        let loops = loops_times (pi_blocks reach) in
+        let sum : sum_by in_unit (flat (pi_blocks reach)) ≤ sum_by in_unit (range_with_len 0 (length reach)) = sums_below reach in_unit (length reach) (range_with_len 0 (length reach)) in
         let parted : sum_by in_unit (range_with_len 0 (length reach)) ≤ times v (range_with_len (s + 1) (statements_count body)) = unit_times (length reach) (range_with_len (s + 1) (statements_count body)) in
         let all = by (cases_lt s v) in
         omega (arith, loops, sum, parted, all)
@@ -147,18 +147,18 @@ module _ (v : ℕ) where
         by (inr to) = let head = at_most_one (v == s) in let none = later_none v (s + 1) (statements_count body) (omega (arith, to)) in omega (arith, head, none)
 
     -- each number stands among the sources once at most
-    pub once : (t : ProgramTree) (reach : List (List Bool)) → 1 ≤ s → s + statements_count body ≤ statements_count t.body → times_in v (sources t s body (blocks reach)) ≤ 1
+    pub once : (t : ProgramTree) (reach : List (List Bool)) → 1 ≤ s → s + statements_count body ≤ statements_count t.body → times_in v (sources t s body (pi_blocks reach)) ≤ 1
     once t reach from_one inside =
         let size = statements_count body in
         let rear_count = statements_count t.body - (s + statements_count body) in
         let front : times_in v (unmoved 1 (s - 1)) ≡ times v (range_with_len 1 (s - 1)) = some_times (range_with_len 1 (s - 1)) in
         let rear : times_in v (unmoved (s + 1 + statements_count body) rear_count) ≡ times v (range_with_len (s + 1 + statements_count body) rear_count) = some_times (range_with_len (s + 1 + statements_count body) rear_count) in
-        let loops : times_in v (loop_sources s body (blocks reach)) ≤ tally (v == s) + sum_by in_unit (flat (blocks reach)) = loops_times (blocks reach) in
-        let sum : sum_by in_unit (flat (blocks reach)) ≤ sum_by in_unit (range_with_len 0 (length reach)) = sums_below reach in_unit (length reach) (range_with_len 0 (length reach)) in
+        let loops : times_in v (loop_sources s body (pi_blocks reach)) ≤ tally (v == s) + sum_by in_unit (flat (pi_blocks reach)) = loops_times (pi_blocks reach) in
+        let sum : sum_by in_unit (flat (pi_blocks reach)) ≤ sum_by in_unit (range_with_len 0 (length reach)) = sums_below reach in_unit (length reach) (range_with_len 0 (length reach)) in
         let parted : sum_by in_unit (range_with_len 0 (length reach)) ≤ times v (range_with_len (s + 1) (statements_count body)) = unit_times (length reach) (range_with_len (s + 1) (statements_count body)) in
-        let before : List (Option ℕ) = unmoved 1 (s - 1) ++ loop_sources s body (blocks reach) in
-        let first : times_in v (sources t s body (blocks reach)) ≡ times_in v before + times_in v (unmoved (s + 1 + statements_count body) rear_count) = sum_by-append (λ o. tally (is_number v o)) before (unmoved (s + 1 + statements_count body) rear_count) in
-        let second : times_in v before ≡ times_in v (unmoved 1 (s - 1)) + times_in v (loop_sources s body (blocks reach)) = sum_by-append (λ o. tally (is_number v o)) (unmoved 1 (s - 1)) (loop_sources s body (blocks reach)) in
+        let before : List (Option ℕ) = unmoved 1 (s - 1) ++ loop_sources s body (pi_blocks reach) in
+        let first : times_in v (sources t s body (pi_blocks reach)) ≡ times_in v before + times_in v (unmoved (s + 1 + statements_count body) rear_count) = sum_by-append (λ o. tally (is_number v o)) before (unmoved (s + 1 + statements_count body) rear_count) in
+        let second : times_in v before ≡ times_in v (unmoved 1 (s - 1)) + times_in v (loop_sources s body (pi_blocks reach)) = sum_by-append (λ o. tally (is_number v o)) (unmoved 1 (s - 1)) (loop_sources s body (pi_blocks reach)) in
         let all : times v (range_with_len 1 (s - 1)) + (tally (v == s) + times v (range_with_len (s + 1) size) + times v (range_with_len (s + 1 + size) rear_count)) ≤ 1 = apart rear_count (cases_lt v s) (cases_lt s v) (cases_lt v (s + 1 + size)) in
         omega (arith, front, rear, loops, sum, parted, first, second, all)
       where
@@ -234,7 +234,7 @@ pub one_to_one : (s : ℕ) (t new : ProgramTree) (keep : List (ℕ × ℕ)) → 
 one_to_one s t new keep made =
     let l = made.0 in
     let are = made.2 in
-    let os = sources t s l.body (blocks are.reach) in
+    let os = sources t s l.body (pi_blocks are.reach) in
     let kept : keep ≡ kept_from 1 os = made.4 ∙ ap (λ (bs : List (List ℕ)). kept_from 1 (sources t s l.body bs)) are.order in
     subst IsOneToOne (sym kept) (record {
       before = kept_before 1 os (λ v. once v s l.body t are.reach (is_numbered t s l.head l.body l.is) (loop_fits t s l.head l.body l.is));

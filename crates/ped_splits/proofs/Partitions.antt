@@ -10,10 +10,10 @@ use Rattle.std.proofs.lemmas.List.FromFn.{length-map-range_with_len, length-rang
 use Rattle.ped_tree.specs.Tree.{StmtTrees, ProgramTree}
 use Rattle.ped_tree.specs.Numbering.{statements_count}
 use Rattle.ped_splits.specs.Units.{units, unit_of, is_unit, stands_in}
-use Rattle.ped_splits.specs.Blocks.{are_together, is_free, block_then, ordered, blocks}
+use Rattle.ped_splits.specs.PiBlocks.{are_together, is_free, pi_block_then, ordered, pi_blocks}
 use Rattle.ped_splits.specs.CodeUnits.{AreBelow}
-use Rattle.ped_splits.specs.Distributing.{numbers_of, block_sources, loop_sources, unmoved, sources}
-use Rattle.ped_splits.proofs.BlockOrders.{range_below}
+use Rattle.ped_splits.specs.Distributing.{numbers_of, pi_block_sources, loop_sources, unmoved, sources}
+use Rattle.ped_splits.proofs.PiBlockOrders.{range_below}
 
 -- all units of blocks, one block behind another
 abbrev pub flat : List (List ℕ) → List ℕ
@@ -25,7 +25,7 @@ module _ (reach : List (List Bool)) where
   sums_below f zero left = omega arith
   sums_below f (suc n) left = by (sums_below f n) (filter (is_free reach left) left)
     where
-      by : ((later : List ℕ) → sum_by f (flat (ordered reach n later)) ≤ sum_by f later) → (free : List ℕ) → sum_by f (flat (block_then reach (ordered reach n) left free)) ≤ sum_by f left
+      by : ((later : List ℕ) → sum_by f (flat (ordered reach n later)) ≤ sum_by f later) → (free : List ℕ) → sum_by f (flat (pi_block_then reach (ordered reach n) left free)) ≤ sum_by f left
       by others [] = omega arith
       by others (i ∷ free) =
           let rest = others (filter (λ k. not (are_together reach i k)) left) in
@@ -37,7 +37,7 @@ module _ (reach : List (List Bool)) where
   blocks_few zero left = omega arith
   blocks_few (suc n) left = by (blocks_few n) (filter (is_free reach left) left)
     where
-      by : ((later : List ℕ) → length (ordered reach n later) ≤ n) → (free : List ℕ) → length (block_then reach (ordered reach n) left free) ≤ suc n
+      by : ((later : List ℕ) → length (ordered reach n later) ≤ n) → (free : List ℕ) → length (pi_block_then reach (ordered reach n) left free) ≤ suc n
       by others [] = omega arith
       by others (i ∷ free) = let rest = others (filter (λ k. not (are_together reach i k)) left) in omega (arith, rest)
 
@@ -45,7 +45,7 @@ module _ (reach : List (List Bool)) where
   blocks_below m zero left h = All-nil (AreBelow m)
   blocks_below m (suc n) left h = by (blocks_below m n) (filter (is_free reach left) left)
     where
-      by : ((later : List ℕ) → AreBelow m later → All (AreBelow m) (ordered reach n later)) → (free : List ℕ) → All (AreBelow m) (block_then reach (ordered reach n) left free)
+      by : ((later : List ℕ) → AreBelow m later → All (AreBelow m) (ordered reach n later)) → (free : List ℕ) → All (AreBelow m) (pi_block_then reach (ordered reach n) left free)
       by others [] = All-nil (AreBelow m)
       by others (i ∷ free) =
           All-cons (AreBelow m) (filter (are_together reach i) left) (ordered reach n (filter (λ k. not (are_together reach i k)) left)) (All-filter (are_together reach i) (λ k. k < m) left h)
@@ -122,15 +122,15 @@ module _ (s : ℕ) (body : StmtTrees) where
   abbrev pub size_of : ℕ → ℕ
   size_of i = length (numbers_of s body i)
 
-  block_long : (head : Option ℕ) (block : List ℕ) → length (block_sources s body head block) ≡ 1 + sum_by size_of block
+  block_long : (head : Option ℕ) (block : List ℕ) → length (pi_block_sources s body head block) ≡ 1 + sum_by size_of block
   block_long head block = let long = length-map (flat_map (numbers_of s body) block) Some in let parts = length-flat_map (numbers_of s body) block in omega (arith, long, parts)
 
-  blocks_long : (bs : List (List ℕ)) → length (flat_map (block_sources s body None) bs) ≡ length bs + sum_by size_of (flat bs)
+  blocks_long : (bs : List (List ℕ)) → length (flat_map (pi_block_sources s body None) bs) ≡ length bs + sum_by size_of (flat bs)
   blocks_long [] = refl
   blocks_long (b ∷ bs) =
       let rest = blocks_long bs in
       let here = block_long None b in
-      let whole = length-append (block_sources s body None b) (flat_map (block_sources s body None) bs) in
+      let whole = length-append (pi_block_sources s body None b) (flat_map (pi_block_sources s body None) bs) in
       let parts = sum_by-append size_of b (flat bs) in
       omega (arith, rest, here, whole, parts)
 
@@ -139,24 +139,24 @@ module _ (s : ℕ) (body : StmtTrees) where
   loops_long (b ∷ bs) =
       let rest = blocks_long bs in
       let here = block_long (Some s) b in
-      let whole = length-append (block_sources s body (Some s) b) (flat_map (block_sources s body None) bs) in
+      let whole = length-append (pi_block_sources s body (Some s) b) (flat_map (pi_block_sources s body None) bs) in
       let parts = sum_by-append size_of b (flat bs) in
       omega (arith, rest, here, whole, parts)
 
   -- the new program has as many heads more as there are blocks, at most
-  pub sources_few : (t : ProgramTree) (reach : List (List Bool)) → s + statements_count body ≤ statements_count t.body → length (sources t s body (blocks reach)) ≤ statements_count t.body + length reach
+  pub sources_few : (t : ProgramTree) (reach : List (List Bool)) → s + statements_count body ≤ statements_count t.body → length (sources t s body (pi_blocks reach)) ≤ statements_count t.body + length reach
   sources_few t reach inside =
-      let found = blocks reach in
+      let found = pi_blocks reach in
       let all = range_with_len 0 (length reach) in
       let rear_count = statements_count t.body - (s + statements_count body) in
       let front : length (unmoved 1 (s - 1)) ≡ s - 1 = length-map-range_with_len Some 1 (s - 1) in
       let rear : length (unmoved (s + 1 + statements_count body) rear_count) ≡ rear_count = length-map-range_with_len Some (s + 1 + statements_count body) rear_count in
-      let loops : length (loop_sources s body (blocks reach)) ≡ length (blocks reach) + sum_by size_of (flat (blocks reach)) = loops_long (blocks reach) in
-      let few : length (blocks reach) ≤ length reach = blocks_few reach (length reach) all in
-      let sum : sum_by size_of (flat (blocks reach)) ≤ sum_by size_of (range_with_len 0 (length reach)) = sums_below reach size_of (length reach) all in
+      let loops : length (loop_sources s body (pi_blocks reach)) ≡ length (pi_blocks reach) + sum_by size_of (flat (pi_blocks reach)) = loops_long (pi_blocks reach) in
+      let few : length (pi_blocks reach) ≤ length reach = blocks_few reach (length reach) all in
+      let sum : sum_by size_of (flat (pi_blocks reach)) ≤ sum_by size_of (range_with_len 0 (length reach)) = sums_below reach size_of (length reach) all in
       let parted : sum_by size_of (range_with_len 0 (length reach)) ≤ length (range_with_len (s + 1) (statements_count body)) = numbers_parted (length reach) (range_with_len (s + 1) (statements_count body)) in
       let numbers : length (range_with_len (s + 1) (statements_count body)) ≡ statements_count body = length-range_with_len (s + 1) (statements_count body) in
-      let before : List (Option ℕ) = unmoved 1 (s - 1) ++ loop_sources s body (blocks reach) in
-      let first : length (sources t s body (blocks reach)) ≡ length before + length (unmoved (s + 1 + statements_count body) rear_count) = length-append before (unmoved (s + 1 + statements_count body) rear_count) in
-      let second : length before ≡ length (unmoved 1 (s - 1)) + length (loop_sources s body (blocks reach)) = length-append (unmoved 1 (s - 1)) (loop_sources s body (blocks reach)) in
+      let before : List (Option ℕ) = unmoved 1 (s - 1) ++ loop_sources s body (pi_blocks reach) in
+      let first : length (sources t s body (pi_blocks reach)) ≡ length before + length (unmoved (s + 1 + statements_count body) rear_count) = length-append before (unmoved (s + 1 + statements_count body) rear_count) in
+      let second : length before ≡ length (unmoved 1 (s - 1)) + length (loop_sources s body (pi_blocks reach)) = length-append (unmoved 1 (s - 1)) (loop_sources s body (pi_blocks reach)) in
       omega (arith, inside, front, rear, loops, few, sum, parted, numbers, first, second)

@@ -40,7 +40,7 @@ use Rattle.ped_rules.specs.ped_store.specs.Acts.{Act, Place, Touch, Turn, iterat
 use Rattle.ped_rules.specs.ped_store.specs.Cells.{Cell, Element, In, Iteration, Out, Private, Scalar}
 use Rattle.ped_rules.specs.ped_store.specs.Races.{Access, accesses, accesses_of, are_apart, is_access}
 use Rattle.ped_rules.specs.ped_store.specs.Stores.{Store, store_at_start}
-use Rattle.ped_splits.proofs.BlockLaws.{In as InList, in_back, in_front}
+use Rattle.ped_splits.proofs.PiBlockLaws.{In as InList, in_back, in_front}
 use Rattle.ped_splits.proofs.Partitions.{flat}
 use Rattle.ped_splits.proofs.SplitFacts.{IsSplit}
 use Rattle.ped_splits.proofs.SplitNumbers.{split_numbers}

@@ -33,7 +33,7 @@ use Rattle.ped_rules.specs.ped_store.specs.Acts.{Act, Turn}
 use Rattle.ped_rules.specs.ped_store.specs.Cells.{Cell}
 use Rattle.ped_rules.specs.ped_store.specs.Races.{Access, accesses, accesses_of, conflict}
 use Rattle.ped_rules.specs.ped_store.specs.Stores.{store_at_start}
-use Rattle.ped_splits.proofs.BlockLaws.{In, from_filter}
+use Rattle.ped_splits.proofs.PiBlockLaws.{In, from_filter}
 use Rattle.ped_splits.proofs.KeptArrows.{kept_forward}
 use Rattle.ped_splits.proofs.SplitFacts.{IsSplit}
 use Rattle.ped_splits.proofs.SplitUnits.{offset, size_of_unit, numbers_are}

@@ -32,10 +32,10 @@ module _ (e : Entered) (scope : Scope) (at : Place) where
   none_of_units (k ∷ ks) i c (inl q) = absurd cc
   none_of_units (k ∷ ks) i c (inr h) = none_of_units ks i c h
 
-  block_of : (ks : List ℕ) (n i k : ℕ) → IsIn (block i k) (unit_knots ks n) → (i ≡ n) × IsIn k ks
-  block_of [] n i k h = absurd h
-  block_of (z ∷ ks) n i k (inl q) = let one : i ≡ n = cc in let other : k ≡ z = cc in (one, inl other)
-  block_of (z ∷ ks) n i k (inr h) = let r = block_of ks n i k h in (r.0, inr r.1)
+  pi_block_of : (ks : List ℕ) (n i k : ℕ) → IsIn (block i k) (unit_knots ks n) → (i ≡ n) × IsIn k ks
+  pi_block_of [] n i k h = absurd h
+  pi_block_of (z ∷ ks) n i k (inl q) = let one : i ≡ n = cc in let other : k ≡ z = cc in (one, inl other)
+  pi_block_of (z ∷ ks) n i k (inr h) = let r = pi_block_of ks n i k h in (r.0, inr r.1)
 
   -- a block is that of one of the units in an iteration
   pub block_known : (seen : List Seen) (ks : List ℕ) (i k : ℕ) → IsIn (block i k) (loop_knots e scope at seen ks) → (1 ≤ i) × (i ≤ e.count) × IsIn k ks
@@ -50,7 +50,7 @@ module _ (e : Entered) (scope : Scope) (at : Place) where
       (omega (arith, same, low), omega (arith, same, high), b.1)
     where
       by : (n : ℕ) → IsIn (block i k) (unit_knots ks n) ⊎ IsIn (block i k) (control (trip_end e scope at n) ∷ []) → (i ≡ n) × IsIn k ks
-      by n (inl j) = block_of ks n i k j
+      by n (inl j) = pi_block_of ks n i k j
       by n (inr (inl q)) = absurd cc
       by n (inr (inr none)) = absurd none
 

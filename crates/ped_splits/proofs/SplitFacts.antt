@@ -13,20 +13,20 @@ use Rattle.ped_rules.specs.ped_flow.specs.Questions.{LoopOf, IsContained}
 use Rattle.ped_rules.specs.ped_eval.specs.Outcomes.{setting_of}
 use Rattle.ped_rules.specs.ped_symbols.specs.NameRefusals.{IsValid}
 use Rattle.ped_splits.proofs.DistributeRules as rules
-use Rattle.ped_splits.specs.Blocks.{AreBlocks}
+use Rattle.ped_splits.specs.PiBlocks.{ArePiBlocks}
 use Rattle.ped_splits.specs.Distributing.{distributed, IsItsBound, StandsAgainstDistribution}
 
 -- a DO that may be taken apart into DO loops of these blocks: it isn't parallel and is contained, and its bounds are plain
 pub record IsSplit (t : ProgramTree) (s : ℕ) (l : LoopOf t s) (found : List (List ℕ)) : Type 0 where
   pub valid : IsValid t
   pub new_valid : IsValid (distributed t s found)
-  pub are : AreBlocks t s l.head l.body found
+  pub are : ArePiBlocks t s l.head l.body found
   pub many : 2 ≤ length found
   pub serial : l.head.parallel ≡ false
   pub contained : IsContained t s
   pub plain : (e : ExprTree) → IsBoundOf l.head e → IsPlain (setting_of t).constants t s e
 
-pub is_split : (t : ProgramTree) (s : ℕ) (l : LoopOf t s) (found : List (List ℕ)) → IsValid t → NoRule (StandsAgainstDistribution s t) → AreBlocks t s l.head l.body found → IsSplit t s l found
+pub is_split : (t : ProgramTree) (s : ℕ) (l : LoopOf t s) (found : List (List ℕ)) → IsValid t → NoRule (StandsAgainstDistribution s t) → ArePiBlocks t s l.head l.body found → IsSplit t s l found
 is_split t s l found valid none are = record {
   valid = valid;
   new_valid = rules.is_valid s t none l found are;

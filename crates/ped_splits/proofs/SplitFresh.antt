@@ -27,8 +27,8 @@ use Rattle.ped_rules.specs.ped_eval.specs.Scopes.{Scope, Setting, cell_of, turns
 use Rattle.ped_rules.specs.ped_store.specs.Acts.{Act, Touch, iterations_of}
 use Rattle.ped_rules.specs.ped_store.specs.Cells.{Cell, Iteration, Scalar, Private, Element, In, Out}
 use Rattle.ped_rules.specs.ped_store.specs.Stores.{Store, store_at_start}
-use Rattle.ped_splits.proofs.BlockLaws.{In as InList, from_filter, in_either}
-use Rattle.ped_splits.proofs.BlockSizes.{width}
+use Rattle.ped_splits.proofs.PiBlockLaws.{In as InList, from_filter, in_either}
+use Rattle.ped_splits.proofs.PiBlockSizes.{width}
 use Rattle.ped_splits.proofs.DistributeTrusted.{each_placed}
 use Rattle.ped_splits.proofs.Partitions.{blocks_few, flat}
 use Rattle.ped_splits.proofs.ReferenceRows.{home_below}
@@ -39,7 +39,7 @@ use Rattle.ped_splits.proofs.SplitNumbers.{split_numbers}
 use Rattle.ped_splits.proofs.SplitPlaces.{AllPlaced, AreFresh, ArePlaced, HaveNumbers, end_of, heads_numbered, look, units_placed}
 use Rattle.ped_splits.proofs.SplitUnits.{size_of_unit}
 use Rattle.ped_splits.proofs.UnitSizes.{homes_below}
-use Rattle.ped_splits.specs.Blocks.{blocks}
+use Rattle.ped_splits.specs.PiBlocks.{pi_blocks}
 use Rattle.ped_splits.specs.Units.{homes, refers, unit_of, units}
 
 -- paths and cells of DO loops with numbers up to this one
@@ -167,8 +167,8 @@ module _ (t : ProgramTree) (s : ℕ) (l : LoopOf t s) (found : List (List ℕ)) 
   some_units =
       let many = x.many in
       let rows = width t s l.head l.body found x.are in
-      let order : length found ≡ length (blocks x.are.reach) = ap (λ (bs : List (List ℕ)). length bs) x.are.order in
-      let less : length (blocks x.are.reach) ≤ length x.are.reach = blocks_few x.are.reach (length x.are.reach) (range_with_len 0 (length x.are.reach)) in
+      let order : length found ≡ length (pi_blocks x.are.reach) = ap (λ (bs : List (List ℕ)). length bs) x.are.order in
+      let less : length (pi_blocks x.are.reach) ≤ length x.are.reach = blocks_few x.are.reach (length x.are.reach) (range_with_len 0 (length x.are.reach)) in
       omega (arith, rows, order, less, many)
 
   -- the DO of a unit has the number of the old one, or one that no DO of the program has

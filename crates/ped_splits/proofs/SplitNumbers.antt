@@ -11,11 +11,11 @@ use Rattle.ped_rules.specs.ped_laws.specs.Acts.Orders.{IsIn}
 use Rattle.ped_rules.specs.ped_laws.proofs.ActLaws.Lists.{in_parts}
 use Rattle.ped_splits.proofs.OneToOne.{times_in, is_number, loops_once}
 use Rattle.ped_splits.proofs.Partitions.{tally, flat, loops_long}
-use Rattle.ped_splits.proofs.BlockSizes.{found_below}
+use Rattle.ped_splits.proofs.PiBlockSizes.{found_below}
 use Rattle.ped_splits.proofs.SplitUnits.{size_of_unit, numbers_long, heads_counted, same_sums}
-use Rattle.ped_splits.specs.Blocks.{AreBlocks}
+use Rattle.ped_splits.specs.PiBlocks.{ArePiBlocks}
 use Rattle.ped_splits.specs.CodeUnits.{AreBelow}
-use Rattle.ped_splits.specs.Distributing.{loops_of, numbers_of, block_sources, loop_sources}
+use Rattle.ped_splits.specs.Distributing.{loops_of, numbers_of, pi_block_sources, loop_sources}
 use Rattle.ped_splits.specs.Units.{units, stands_in}
 
 -- new numbers from this one on, each with the number under which its statement counts; those that come from no statement count under fresh numbers
@@ -138,22 +138,22 @@ module _ (s : ℕ) (body : StmtTrees) where
       unmapped (x ∷ ks) (inl e) = inl (one_some v x e)
       unmapped (x ∷ ks) (inr j) = inr (unmapped ks j)
 
-  of_block : (head : Option ℕ) (block : List ℕ) (v : ℕ) → (Some v ≡ head → (s ≤ v) × (v < s + (statements_count body + 1))) → IsIn (Some v) (block_sources s body head block) → (s ≤ v) × (v < s + (statements_count body + 1))
+  of_block : (head : Option ℕ) (block : List ℕ) (v : ℕ) → (Some v ≡ head → (s ≤ v) × (v < s + (statements_count body + 1))) → IsIn (Some v) (pi_block_sources s body head block) → (s ≤ v) × (v < s + (statements_count body + 1))
   of_block head block v at (inl e) = at e
   of_block head block v at (inr i) = let r = of_units block v i in let low = r.0 in let high = r.1 in (omega (arith, low), omega (arith, high))
 
   no_source : (v : ℕ) → Some v ≡ None → (s ≤ v) × (v < s + (statements_count body + 1))
   no_source v e = absurd cc
 
-  of_blocks : (found : List (List ℕ)) (v : ℕ) → IsIn (Some v) (flat_map (block_sources s body None) found) → (s ≤ v) × (v < s + (statements_count body + 1))
+  of_blocks : (found : List (List ℕ)) (v : ℕ) → IsIn (Some v) (flat_map (pi_block_sources s body None) found) → (s ≤ v) × (v < s + (statements_count body + 1))
   of_blocks [] v i = absurd i
-  of_blocks (block ∷ found) v i = elim (in_parts (Some v) (block_sources s body None block) (flat_map (block_sources s body None) found) i) [
+  of_blocks (block ∷ found) v i = elim (in_parts (Some v) (pi_block_sources s body None block) (flat_map (pi_block_sources s body None) found) i) [
     | inl j ↦ of_block None block v (no_source v) j
     | inr j ↦ of_blocks found v j
   ]
 
 -- each source comes once
-sources_once : (t : ProgramTree) (s : ℕ) (h : Head) (body : StmtTrees) (found : List (List ℕ)) → AreBlocks t s h body found → (v : ℕ) → times_in v (loop_sources s body found) ≤ 1
+sources_once : (t : ProgramTree) (s : ℕ) (h : Head) (body : StmtTrees) (found : List (List ℕ)) → ArePiBlocks t s h body found → (v : ℕ) → times_in v (loop_sources s body found) ≤ 1
 sources_once t s h body found are v = subst (λ (bs : List (List ℕ)). times_in v (loop_sources s body bs) ≤ 1) (sym are.order) (loops_once v s body are.reach)
 
 pub all_flat : (n : ℕ) (found : List (List ℕ)) → All (AreBelow n) found → AreBelow n (flat found)
@@ -162,7 +162,7 @@ all_flat n (b ∷ found) h = All-append (λ i. i < n) b (flat found) (All-head (
 
 pub sources_low : (s size : ℕ) (body : StmtTrees) (found : List (List ℕ)) (v : ℕ) → IsIn (Some v) (loop_sources s body found) → (s ≤ v) × (v < s + (statements_count body + 1))
 sources_low s size body [] v i = absurd i
-sources_low s size body (block ∷ found) v i = elim (in_parts (Some v) (block_sources s body (Some s) block) (flat_map (block_sources s body None) found) i) [
+sources_low s size body (block ∷ found) v i = elim (in_parts (Some v) (pi_block_sources s body (Some s) block) (flat_map (pi_block_sources s body None) found) i) [
   | inl j ↦ of_block s body (Some s) block v (λ e. let same = one_some v s e in (omega (arith, same), omega (arith, same))) j
   | inr j ↦ of_blocks s body found v j
 ]
@@ -171,7 +171,7 @@ sources_low s size body (block ∷ found) v i = elim (in_parts (Some v) (block_s
 abbrev pub split_numbers : ProgramTree → (s : ℕ) → StmtTrees → List (List ℕ) → List (ℕ × ℕ)
 split_numbers t s body found = kept_numbers s (statements_count body + 1) (length (loop_sources s body found)) (statements_count t.body) (split_pairs s (statements_count t.body + 1) (loop_sources s body found))
 
-pub split_fits : (t : ProgramTree) (s : ℕ) (h : Head) (body : StmtTrees) (found : List (List ℕ)) → AreBlocks t s h body found → s + statements_count body ≤ statements_count t.body
+pub split_fits : (t : ProgramTree) (s : ℕ) (h : Head) (body : StmtTrees) (found : List (List ℕ)) → ArePiBlocks t s h body found → s + statements_count body ≤ statements_count t.body
     → FitInGap s (statements_count body + 1) (length (loop_sources s body found)) (statements_count t.body) (split_pairs s (statements_count t.body + 1) (loop_sources s body found))
 split_fits t s h body found are inside = record {
   room = omega (arith, inside);
@@ -184,7 +184,7 @@ split_fits t s h body found are inside = record {
   ];
 }
 
-pub loops_counted : (t : ProgramTree) (s : ℕ) (h : Head) (body : StmtTrees) (found : List (List ℕ)) → AreBlocks t s h body found → statements_count (loops_of found h body) ≡ length (loop_sources s body found)
+pub loops_counted : (t : ProgramTree) (s : ℕ) (h : Head) (body : StmtTrees) (found : List (List ℕ)) → ArePiBlocks t s h body found → statements_count (loops_of found h body) ≡ length (loop_sources s body found)
 loops_counted t s h body found are =
     let heads = heads_counted h body found in
     let long = loops_long s body found in

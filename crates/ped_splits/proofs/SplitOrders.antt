@@ -11,7 +11,7 @@ use Rattle.ped_rules.specs.ped_laws.specs.Acts.Grids.{block_at}
 use Rattle.ped_rules.specs.ped_laws.specs.Acts.Orders.{Block, EachOnce, IsByRows, IsIn, IsReordered, KeepsOrder, StandsBefore, block_conflict}
 use Rattle.ped_rules.specs.ped_store.specs.Acts.{Act}
 use Rattle.ped_rules.specs.ped_store.specs.Cells.{Cell}
-use Rattle.ped_splits.proofs.BlockLaws.{In, in_either}
+use Rattle.ped_splits.proofs.PiBlockLaws.{In, in_either}
 use Rattle.ped_splits.proofs.BlockPlaces.{AreApart, AreRising, IsRising}
 use Rattle.ped_splits.proofs.Partitions.{flat}
 

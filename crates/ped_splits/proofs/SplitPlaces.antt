@@ -9,15 +9,15 @@ use Rattle.ped_tree.specs.Numbering.{statements_count}
 use Rattle.ped_rules.specs.ped_loop_runs.specs.Numbers.{counted_by}
 use Rattle.ped_rules.specs.ped_loop_runs.proofs.PastingLaws.CountedNumbers.{inside_counts}
 use Rattle.ped_rules.specs.ped_laws.specs.Acts.Orders.{IsIn}
-use Rattle.ped_splits.proofs.BlockLaws.{In}
-use Rattle.ped_splits.proofs.BlockSizes.{found_below}
+use Rattle.ped_splits.proofs.PiBlockLaws.{In}
+use Rattle.ped_splits.proofs.PiBlockSizes.{found_below}
 use Rattle.ped_splits.proofs.OneToOne.{times}
 use Rattle.ped_splits.proofs.Partitions.{tally, flat, sums_below, one_at_most}
 use Rattle.ped_splits.proofs.SplitNumbers.{split_pairs, split_numbers, split_fits}
 use Rattle.ped_splits.proofs.SplitUnits.{offset, size_of_unit, numbers_are}
-use Rattle.ped_splits.specs.Blocks.{AreBlocks, blocks}
+use Rattle.ped_splits.specs.PiBlocks.{ArePiBlocks, pi_blocks}
 use Rattle.ped_splits.specs.CodeUnits.{AreBelow}
-use Rattle.ped_splits.specs.Distributing.{numbers_of, block_sources, loop_sources}
+use Rattle.ped_splits.specs.Distributing.{numbers_of, pi_block_sources, loop_sources}
 use Rattle.ped_splits.specs.Units.{units}
 
 module _ (body : StmtTrees) where
@@ -87,11 +87,11 @@ module _ (body : StmtTrees) where
       (here.0, all_found place (end_of (at + 1) block) found here.1 (λ k. behind_once k block (flat found) (once k)))
 
 -- each unit stands in one block
-pub found_once : (t : ProgramTree) (s : ℕ) (h : Head) (body : StmtTrees) (found : List (List ℕ)) → AreBlocks t s h body found → (k : ℕ) → times k (flat found) ≤ 1
+pub found_once : (t : ProgramTree) (s : ℕ) (h : Head) (body : StmtTrees) (found : List (List ℕ)) → ArePiBlocks t s h body found → (k : ℕ) → times k (flat found) ≤ 1
 found_once t s h body found are k =
     let n = length are.reach in
     let one = one_at_most k 0 n in
-    let few : sum_by (λ i. tally (k == i)) (flat (blocks are.reach)) ≤ sum_by (λ i. tally (k == i)) (range_with_len 0 n) = sums_below are.reach (λ i. tally (k == i)) n (range_with_len 0 n) in
+    let few : sum_by (λ i. tally (k == i)) (flat (pi_blocks are.reach)) ≤ sum_by (λ i. tally (k == i)) (range_with_len 0 n) = sums_below are.reach (λ i. tally (k == i)) n (range_with_len 0 n) in
     subst (λ (bs : List (List ℕ)). times k (flat bs) ≤ 1) (sym are.order) (omega (arith, one, few))
 
 module _ (s : ℕ) (body : StmtTrees) (g : ℕ → ℕ) where
@@ -137,20 +137,20 @@ module _ (s : ℕ) (body : StmtTrees) (g : ℕ → ℕ) where
   IsHeadAt at fresh None = g at ≡ fresh
   IsHeadAt at fresh (Some k) = g at ≡ k
 
-  block_stands : (at fresh : ℕ) (head : Option ℕ) (block : List ℕ) (more : List (Option ℕ)) → AreBelow (length (units body)) block → Counted at fresh (block_sources s body head block ++ more) → (later : ℕ) × (fresh ≤ later) × AreStanding (at + 1) block × Counted (end_of body (at + 1) block) later more
+  block_stands : (at fresh : ℕ) (head : Option ℕ) (block : List ℕ) (more : List (Option ℕ)) → AreBelow (length (units body)) block → Counted at fresh (pi_block_sources s body head block ++ more) → (later : ℕ) × (fresh ≤ later) × AreStanding (at + 1) block × Counted (end_of body (at + 1) block) later more
   block_stands at fresh None block more below h = let r = units_stand (at + 1) (fresh + 1) block more below (λ y i. h y (inr i)) in (fresh + 1, omega arith, r.0, r.1)
   block_stands at fresh (Some k) block more below h = let r = units_stand (at + 1) fresh block more below (λ y i. h y (inr i)) in (fresh, omega arith, r.0, r.1)
 
-  others_stand : (at fresh : ℕ) (found : List (List ℕ)) → All (AreBelow (length (units body))) found → Counted at fresh (flat_map (block_sources s body None) found) → AllStanding at found
+  others_stand : (at fresh : ℕ) (found : List (List ℕ)) → All (AreBelow (length (units body))) found → Counted at fresh (flat_map (pi_block_sources s body None) found) → AllStanding at found
   others_stand at fresh [] below h = tt
   others_stand at fresh (block ∷ found) below h =
-      let here = block_stands at fresh None block (flat_map (block_sources s body None) found) (All-head (AreBelow (length (units body))) block found below) h in
+      let here = block_stands at fresh None block (flat_map (pi_block_sources s body None) found) (All-head (AreBelow (length (units body))) block found below) h in
       (here.2, others_stand (end_of body (at + 1) block) here.0 found (All-tail (AreBelow (length (units body))) block found below) here.3)
 
   loops_stand : (at fresh : ℕ) (found : List (List ℕ)) → All (AreBelow (length (units body))) found → Counted at fresh (loop_sources s body found) → AllStanding at found
   loops_stand at fresh [] below h = tt
   loops_stand at fresh (block ∷ found) below h =
-      let here = block_stands at fresh (Some s) block (flat_map (block_sources s body None) found) (All-head (AreBelow (length (units body))) block found below) h in
+      let here = block_stands at fresh (Some s) block (flat_map (pi_block_sources s body None) found) (All-head (AreBelow (length (units body))) block found below) h in
       (here.2, others_stand (end_of body (at + 1) block) here.0 found (All-tail (AreBelow (length (units body))) block found below) here.3)
 
   -- DO loops but the first count under fresh numbers
@@ -158,10 +158,10 @@ module _ (s : ℕ) (body : StmtTrees) (g : ℕ → ℕ) where
   AreFresh low at [] = Unit {0}
   AreFresh low at (block ∷ found) = (low ≤ g at) × AreFresh low (end_of body (at + 1) block) found
 
-  others_fresh : (low at fresh : ℕ) (found : List (List ℕ)) → All (AreBelow (length (units body))) found → low ≤ fresh → Counted at fresh (flat_map (block_sources s body None) found) → AreFresh low at found
+  others_fresh : (low at fresh : ℕ) (found : List (List ℕ)) → All (AreBelow (length (units body))) found → low ≤ fresh → Counted at fresh (flat_map (pi_block_sources s body None) found) → AreFresh low at found
   others_fresh low at fresh [] below less h = tt
   others_fresh low at fresh (block ∷ found) below less h =
-      let here = block_stands at fresh None block (flat_map (block_sources s body None) found) (All-head (AreBelow (length (units body))) block found below) h in
+      let here = block_stands at fresh None block (flat_map (pi_block_sources s body None) found) (All-head (AreBelow (length (units body))) block found below) h in
       let first : g at ≡ fresh = h (at, fresh) (inl refl) in
       let later = here.1 in
       (omega (arith, less, first), others_fresh low (end_of body (at + 1) block) here.0 found (All-tail (AreBelow (length (units body))) block found below) (omega (arith, less, later)) here.3)
@@ -174,12 +174,12 @@ module _ (s : ℕ) (body : StmtTrees) (g : ℕ → ℕ) where
   loops_fresh : (low at fresh : ℕ) (found : List (List ℕ)) → All (AreBelow (length (units body))) found → low ≤ fresh → Counted at fresh (loop_sources s body found) → HaveNumbers low at found
   loops_fresh low at fresh [] below less h = tt
   loops_fresh low at fresh (block ∷ found) below less h =
-      let here = block_stands at fresh (Some s) block (flat_map (block_sources s body None) found) (All-head (AreBelow (length (units body))) block found below) h in
+      let here = block_stands at fresh (Some s) block (flat_map (pi_block_sources s body None) found) (All-head (AreBelow (length (units body))) block found below) h in
       let later = here.1 in
       (h (at, s) (inl refl), others_fresh low (end_of body (at + 1) block) here.0 found (All-tail (AreBelow (length (units body))) block found below) (omega (arith, less, later)) here.3)
 
 -- in the new program units and DO loops count so
-module _ (t : ProgramTree) (s : ℕ) (h : Head) (body : StmtTrees) (found : List (List ℕ)) (are : AreBlocks t s h body found) (inside : s + statements_count body ≤ statements_count t.body) where
+module _ (t : ProgramTree) (s : ℕ) (h : Head) (body : StmtTrees) (found : List (List ℕ)) (are : ArePiBlocks t s h body found) (inside : s + statements_count body ≤ statements_count t.body) where
   abbrev g : ℕ → ℕ
   g = counted_by (split_numbers t s body found)
 

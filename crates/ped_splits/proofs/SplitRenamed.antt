@@ -42,7 +42,7 @@ use Rattle.ped_rules.specs.ped_store.specs.Acts.{Act, Manner, Touch, Turn, is_to
 use Rattle.ped_rules.specs.ped_store.specs.Cells.{Cell, Element, In, Iteration, Out, Private, same_cell}
 use Rattle.ped_rules.specs.ped_store.specs.Races.{is_access, is_lines, is_write}
 use Rattle.ped_rules.specs.ped_store.specs.Stores.{Store, store_at_start}
-use Rattle.ped_splits.proofs.BlockLaws.{In as InList, from_filter, in_either, in_filter}
+use Rattle.ped_splits.proofs.PiBlockLaws.{In as InList, from_filter, in_either, in_filter}
 use Rattle.ped_splits.proofs.DistributeTrusted.{each_placed}
 use Rattle.ped_splits.proofs.KeptArrows.{linked_together}
 use Rattle.ped_splits.proofs.Partitions.{flat}

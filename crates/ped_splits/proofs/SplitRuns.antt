@@ -36,8 +36,8 @@ use Rattle.ped_rules.specs.ped_store.specs.Acts.{Act, iterations_of}
 use Rattle.ped_rules.specs.ped_store.specs.Cells.{Cell}
 use Rattle.ped_rules.specs.ped_laws.specs.Acts.Sets.{nothing}
 use Rattle.ped_rules.specs.ped_store.specs.Stores.{Store}
-use Rattle.ped_splits.proofs.BlockLaws.{In, in_back, in_either, in_front}
-use Rattle.ped_splits.proofs.BlockSizes.{found_below, width}
+use Rattle.ped_splits.proofs.PiBlockLaws.{In, in_back, in_either, in_front}
+use Rattle.ped_splits.proofs.PiBlockSizes.{found_below, width}
 use Rattle.ped_splits.proofs.DistributeTrusted.{each_placed}
 use Rattle.ped_splits.proofs.Partitions.{blocks_few, flat}
 use Rattle.ped_splits.proofs.SplitFacts.{IsSplit}
@@ -45,7 +45,7 @@ use Rattle.ped_splits.proofs.SplitNumbers.{all_flat, split_numbers}
 use Rattle.ped_splits.proofs.SplitPlaces.{end_of, look, ArePlaced, AllPlaced, AllStanding, AreStanding, Stands, units_placed, units_standing}
 use Rattle.ped_splits.proofs.SplitUnits.{offset, size_of_unit, units_joined}
 use Rattle.ped_splits.proofs.UnitSizes.{units_few}
-use Rattle.ped_splits.specs.Blocks.{blocks}
+use Rattle.ped_splits.specs.PiBlocks.{pi_blocks}
 use Rattle.ped_splits.specs.CodeUnits.{AreBelow}
 use Rattle.ped_splits.specs.Distributing.{joined, units_at, loops_of}
 use Rattle.ped_splits.specs.Units.{units}
@@ -196,8 +196,8 @@ module _ (t : ProgramTree) (s : ℕ) (l : LoopOf t s) (found : List (List ℕ)) 
       by zero is =
           let few = units_few body in
           let rows = width t s l.head l.body found x.are in
-          let order : length found ≡ length (blocks x.are.reach) = ap (λ (bs : List (List ℕ)). length bs) x.are.order in
-          let less : length (blocks x.are.reach) ≤ length x.are.reach = blocks_few x.are.reach (length x.are.reach) (range_with_len 0 (length x.are.reach)) in
+          let order : length found ≡ length (pi_blocks x.are.reach) = ap (λ (bs : List (List ℕ)). length bs) x.are.order in
+          let less : length (pi_blocks x.are.reach) ≤ length x.are.reach = blocks_few x.are.reach (length x.are.reach) (range_with_len 0 (length x.are.reach)) in
           absurd (omega (arith, few, rows, order, less, is, many))
 
   pub its_body : joined (units l.body) ≡ l.body

@@ -9,7 +9,7 @@ use Rattle.ped_tree.specs.Numbering.{statement_count, statements_count}
 use Rattle.ped_splits.specs.Units.{before_first, units, homes}
 use Rattle.ped_splits.specs.declared.units.Unit.{Unit}
 use Rattle.ped_splits.specs.CodeUnits.{unit_tree, unit_trees, AreBelow, AreShort}
-use Rattle.ped_splits.proofs.BlockOrders.{all_by}
+use Rattle.ped_splits.proofs.PiBlockOrders.{all_by}
 
 not_none : (n : ℕ) → (n == 0) ≡ false → 1 ≤ n
 not_none zero e = absurd cc

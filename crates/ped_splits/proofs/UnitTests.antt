@@ -7,7 +7,7 @@ use Rattle.ped_tree.specs.Numbering.{statement_count, statements_count}
 use Rattle.ped_rules.specs.ped_steps.specs.Replacing.{followed, alone}
 use Rattle.ped_splits.specs.Units.{before_first, units}
 use Rattle.ped_splits.specs.Distributing.{units_at, loops_of}
-use Rattle.ped_splits.proofs.BlockLaws.{In, in_either}
+use Rattle.ped_splits.proofs.PiBlockLaws.{In, in_either}
 use Rattle.ped_splits.proofs.Partitions.{flat}
 
 grouped : (p q r : Bool) → p || (q || r) ≡ (p || q) || r

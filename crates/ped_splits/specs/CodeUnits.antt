@@ -11,7 +11,7 @@ use Rattle.ped_refs.specs.References.{Reference}
 use Rattle.ped_splits.specs.declared.units.Unit.{Unit}
 use Rattle.ped_splits.specs.declared.units.Parted.{Parted}
 use Rattle.ped_splits.specs.Units.{units, homes, is_unit, is_within}
-use Rattle.ped_splits.specs.Blocks.{reaches}
+use Rattle.ped_splits.specs.PiBlocks.{reaches}
 
 -- the statements of a unit
 abbrev pub unit_tree : Unit → StmtTrees

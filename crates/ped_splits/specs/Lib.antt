@@ -1,7 +1,7 @@
 pub use Rattle.ped_bits
 pub use Rattle.ped_rules
 pub mod Units
-pub mod Blocks
+pub mod PiBlocks
 pub mod Distributing
 pub mod Neighbours
 pub mod OneVariable

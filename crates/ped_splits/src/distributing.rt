@@ -12,15 +12,15 @@ ghost use Rattle.ped_rules.specs.ped_flow.specs.PlainBounds.{IsPlain};
 ghost use Rattle.ped_rules.specs.ped_flow.specs.Questions.{IsLoop};
 ghost use Rattle.ped_rules.specs.ped_symbols.specs.Kinds.{table_of};
 ghost use Rattle.ped_rules.specs.ped_symbols.specs.NameRefusals.{IsValid};
-ghost use Rattle.ped_splits.specs.Blocks.{AreBlocks};
+ghost use Rattle.ped_splits.specs.PiBlocks.{ArePiBlocks};
 ghost use Rattle.ped_splits.specs.CodeUnits.{AreBelow, IsParted, body_of, unit_trees};
 ghost use Rattle.ped_splits.specs.Distributing as Spec;
 ghost use Rattle.ped_splits.specs.Units.{units};
 
 use crate::arrows::reaching;
-use crate::blocks::blocks;
 use crate::joining::loop_with;
 use crate::keeping::kept;
+use crate::pi_blocks::pi_blocks;
 use crate::units::{Parted, Unit, homes_of, units_of};
 use ped_base::{Listed, NoMemory};
 use ped_rules::{
@@ -121,7 +121,7 @@ fn distribute_parted<L: Ledger>(alloc: Global, scene: &Scene<L>, parted: &Parted
     requires last { IsPlain (table_of (program_tree scene.now.tree.now)).constants (program_tree scene.now.tree.now) parted.now.number (head_of parted.now.statement.now).last }
     ensures { IfOk result (Answers (Spec.distributing parted.now.number) (program_tree scene.now.tree.now)) }
 {
-    let found = blocks_of(alloc, scene, parted)?;
+    let found = pi_blocks_of(alloc, scene, parted)?;
     if found.len() < 2 {
         return Ok(Err(against(Rule::OneBlock, parted.number)));
     }
@@ -135,21 +135,21 @@ fn distribute_parted<L: Ledger>(alloc: Global, scene: &Scene<L>, parted: &Parted
     }
 }
 
-/// The blocks of units of the DO, in order.
-fn blocks_of<L: Ledger>(
+/// The pi-blocks of units of the DO, in order.
+fn pi_blocks_of<L: Ledger>(
     alloc: Global,
     scene: &Scene<L>,
     parted: &Parted,
 ) -> Result<Vec<Listed<usize>>, NoMemory>
     requires scene { IsSceneOf (program_tree scene.now.tree.now) scene.now }
     requires parted { IsParted (program_tree scene.now.tree.now) parted.now }
-    ensures { IfOk result (λ found. AreBlocks (program_tree scene.now.tree.now) parted.now.number (head_of parted.now.statement.now) (body_of parted.now) found.items) }
+    ensures { IfOk result (λ found. ArePiBlocks (program_tree scene.now.tree.now) parted.now.number (head_of parted.now.statement.now) (body_of parted.now) found.items) }
 {
     let reach = reaching(alloc, scene, parted)?;
-    blocks(alloc, &reach)
+    pi_blocks(alloc, &reach)
 }
 
-/// The change to the program with the DO taken apart into these blocks: none exactly where that program isn't valid.
+/// The change to the program with the DO taken apart into these pi-blocks: none exactly where that program isn't valid.
 fn distributed<L: Ledger>(
     alloc: Global,
     scene: &Scene<L>,
@@ -158,7 +158,7 @@ fn distributed<L: Ledger>(
 ) -> Result<Option<Change>, NoMemory>
     requires scene { IsSceneOf (program_tree scene.now.tree.now) scene.now }
     requires parted { IsParted (program_tree scene.now.tree.now) parted.now }
-    requires blocks { AreBlocks (program_tree scene.now.tree.now) parted.now.number (head_of parted.now.statement.now) (body_of parted.now) found.now }
+    requires pi_blocks { ArePiBlocks (program_tree scene.now.tree.now) parted.now.number (head_of parted.now.statement.now) (body_of parted.now) found.now }
     ensures { IfOk result (λ change. MatchOption change (IsValid (Spec.distributed (program_tree scene.now.tree.now) parted.now.number found.now) → ⊥)
         (IsChange (Spec.distributed (program_tree scene.now.tree.now) parted.now.number found.now)
         (Spec.kept_from 1 (Spec.sources (program_tree scene.now.tree.now) parted.now.number (body_of parted.now) found.now)))) }
@@ -169,7 +169,7 @@ fn distributed<L: Ledger>(
     change_to(alloc, tree, keep)
 }
 
-/// A DO for each block, with the head of the old one.
+/// A DO for each pi-block, with the head of the old one.
 fn loops_of(alloc: Global, parted: &Parted, found: &[Listed<usize>]) -> Result<Vec<Stmt>, NoMemory>
     requires units { unit_trees parted.now.units.now ≡ units (body_of parted.now) }
     requires below { All (AreBelow (length parted.now.units.now)) found.now }

@@ -18,14 +18,14 @@ pub(crate) fn kept(
     alloc: Global,
     program: &Program,
     parted: &Parted,
-    blocks: &[Listed<usize>],
+    pi_blocks: &[Listed<usize>],
 ) -> Result<Keep, NoMemory>
     requires parted { IsParted (program_tree program.now) parted.now }
     requires few { statements_count (program_tree program.now).body + 1 < 2 ^ 32 }
-    requires short { length (Spec.sources (program_tree program.now) parted.now.number (body_of parted.now) blocks.now) < 2 ^ 32 }
-    ensures { IfOk result (λ keep. keep ≡ Spec.kept_from 1 (Spec.sources (program_tree program.now) parted.now.number (body_of parted.now) blocks.now)) }
+    requires short { length (Spec.sources (program_tree program.now) parted.now.number (body_of parted.now) pi_blocks.now) < 2 ^ 32 }
+    ensures { IfOk result (λ keep. keep ≡ Spec.kept_from 1 (Spec.sources (program_tree program.now) parted.now.number (body_of parted.now) pi_blocks.now)) }
 {
-    let sources = sources(alloc, program, parted, blocks)?;
+    let sources = sources(alloc, program, parted, pi_blocks)?;
     kept_from(alloc, &sources)
 }
 
@@ -50,15 +50,15 @@ fn sources(
     alloc: Global,
     program: &Program,
     parted: &Parted,
-    blocks: &[Listed<usize>],
+    pi_blocks: &[Listed<usize>],
 ) -> Result<Vec<Option<u32>>, NoMemory>
     requires parted { IsParted (program_tree program.now) parted.now }
     requires few { statements_count (program_tree program.now).body + 1 < 2 ^ 32 }
-    ensures { IfOk result (λ all. all.items ≡ Spec.sources (program_tree program.now) parted.now.number (body_of parted.now) blocks.now) }
+    ensures { IfOk result (λ all. all.items ≡ Spec.sources (program_tree program.now) parted.now.number (body_of parted.now) pi_blocks.now) }
 {
     let mut sources = Vec::new(alloc);
     add_unmoved(&mut sources, 1, parted.number - 1)?;
-    add_loops(&mut sources, parted, blocks)?;
+    add_loops(&mut sources, parted, pi_blocks)?;
     let behind = parted.number + count_statements(&parted.statement.body);
     add_unmoved(
         &mut sources,
@@ -79,19 +79,19 @@ fn add_unmoved(sources: &mut Vec<Option<u32>>, first: u32, count: u32) -> Result
     Ok(())
 }
 
-/// Adds the statements of a DO for each block, of which the first is the old DO.
+/// Adds the statements of a DO for each pi-block, of which the first is the old DO.
 fn add_loops(
     sources: &mut Vec<Option<u32>>,
     parted: &Parted,
-    blocks: &[Listed<usize>],
+    pi_blocks: &[Listed<usize>],
 ) -> Result<(), NoMemory>
     requires parted { parted.now.homes.now ≡ homes 0 (units (body_of parted.now)) }
     requires few { parted.now.number + length parted.now.homes.now < 2 ^ 32 }
-    ensures { OnOk result (sources.new.items ≡ sources.old.items ++ Spec.loop_sources parted.now.number (body_of parted.now) blocks.now) }
+    ensures { OnOk result (sources.new.items ≡ sources.old.items ++ Spec.loop_sources parted.now.number (body_of parted.now) pi_blocks.now) }
 {
-    for (place, block) in blocks.iter().enumerate() {
+    for (place, block) in pi_blocks.iter().enumerate() {
         let head = source_of_head(parted.number, place);
-        add_block(sources, parted, head, block.as_slice())?;
+        add_pi_block(sources, parted, head, block.as_slice())?;
     }
     Ok(())
 }
@@ -107,7 +107,7 @@ fn source_of_head(number: u32, place: usize) -> Option<u32>
 }
 
 /// Adds a DO that comes from this one, and the statements of these units.
-fn add_block(
+fn add_pi_block(
     sources: &mut Vec<Option<u32>>,
     parted: &Parted,
     head: Option<u32>,
@@ -115,7 +115,7 @@ fn add_block(
 ) -> Result<(), NoMemory>
     requires parted { parted.now.homes.now ≡ homes 0 (units (body_of parted.now)) }
     requires few { parted.now.number + length parted.now.homes.now < 2 ^ 32 }
-    ensures { OnOk result (sources.new.items ≡ sources.old.items ++ Spec.block_sources parted.now.number (body_of parted.now) head block.now) }
+    ensures { OnOk result (sources.new.items ≡ sources.old.items ++ Spec.pi_block_sources parted.now.number (body_of parted.now) head block.now) }
 {
     sources.push(head)?;
     for unit in block {

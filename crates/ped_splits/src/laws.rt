@@ -19,10 +19,9 @@ use ped_rules::{
     accesses_are_made, accesses_in_sequence, none_rejected, private_names_cleared, stays_trusted,
 };
 
-/// `distribute` has one first cause at most and makes one program; where nothing forbids it, that one is valid, has no C$PED
-/// REJECT and is tidy if the old one is so, and means the same. With C$PED REJECT lines a tidy new program has the outcome
-/// of a tidy old one and no race, on data on which the old one has none and no rejected dependence of it occurs (Allen and
-/// Kennedy, section 6.2.2; ParaScope).
+/// `distribute` has one first cause at most and makes one program. Where nothing forbids it, that one is valid if the old one
+/// is; and if the old one is also tidy and without C$PED REJECT, so is the new one, and it means the same. With such lines it
+/// does on data on which they are true, if both are tidy (Allen and Kennedy, section 6.2.2; ParaScope).
 pub fn distribution_is_lawful()
     ensures { (s : ℕ) → IsLawful (distributing s) }
 {
@@ -33,10 +32,10 @@ pub fn distribution_is_lawful()
     none_rejected();
 }
 
-/// `fuse` has one first cause at most and makes one program; where nothing forbids it, that one is valid, has no C$PED REJECT
-/// and is tidy if the old one is so, and means the same. With C$PED REJECT lines a tidy new program has the outcome of a
-/// tidy old one and no race, on data on which the old one has none and no rejected dependence of the new one that leads
-/// back occurs (Allen and Kennedy, section 6.2.5; ParaScope).
+/// `fuse` has one first cause at most and makes one program. Where nothing forbids it, that one is valid if the old one is;
+/// and if the old one is also tidy and without C$PED REJECT, so is the new one, and it means the same. With such lines it
+/// does, if both are tidy, on data on which no rejected dependence of the old one occurs, and none of the new one that leads
+/// back (Allen and Kennedy, section 6.2.5; ParaScope).
 pub fn fusion_is_lawful()
     ensures { (s : ℕ) → IsLawful (fusing s) }
 {

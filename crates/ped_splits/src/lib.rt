@@ -4,13 +4,13 @@
 
 mod alike;
 mod arrows;
-mod blocks;
 mod distributing;
 mod fusing;
 mod joining;
 mod keeping;
 mod laws;
 mod neighbours;
+mod pi_blocks;
 mod returning;
 mod units;
 

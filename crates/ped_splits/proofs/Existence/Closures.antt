@@ -8,7 +8,7 @@ use Rattle.ped_bits.specs.Places.{Has}
 use Rattle.ped_bits.specs.Reaching.{row_of, Arrow, IsPath, Reaches, IsSquare}
 use Rattle.ped_tree.specs.Tree.{Head, StmtTrees, ProgramTree}
 use Rattle.ped_splits.specs.Units.{units, is_arrow, arrows, IsClosure}
-use Rattle.ped_splits.specs.Blocks.{reaches, blocks, AreBlocks}
+use Rattle.ped_splits.specs.PiBlocks.{reaches, pi_blocks, ArePiBlocks}
 use Rattle.ped_splits.proofs.ArrowLaws.{true_either, true_both}
 use Rattle.ped_splits.proofs.Existence.Edges.{edges_of_program}
 
@@ -132,9 +132,9 @@ module _ (old : List (List Bool)) (square : IsSquare old) where
       from i j r = let e = ends old square i j r.0 r.1 in test_by (length old) (over (length old)) i j e.0 e.1 ∙ (over_is (length old) i j).1 (r.0, r.1, e.2)
 
 -- the units of a DO have blocks
-pub blocks_exist : (t : ProgramTree) (s : ℕ) (h : Head) (body : StmtTrees) → (found : List (List ℕ)) × AreBlocks t s h body found
-blocks_exist t s h body =
+pub pi_blocks_exist : (t : ProgramTree) (s : ℕ) (h : Head) (body : StmtTrees) → (found : List (List ℕ)) × ArePiBlocks t s h body found
+pi_blocks_exist t s h body =
     let edges = edges_of_program t in
     let square = square_by (length (units body)) (is_arrow t s h body edges.0) in
     let reach = closure (arrows t s h body edges.0) square in
-    (blocks reach.0, record { edges = edges.0; are = edges.1; reach = reach.0; closed = reach.1; order = refl })
+    (pi_blocks reach.0, record { edges = edges.0; are = edges.1; reach = reach.0; closed = reach.1; order = refl })

@@ -3,16 +3,16 @@ use Rattle.ped_tree.specs.Views.{program_tree, head_of}
 use Rattle.ped_rules.specs.ped_steps.specs.Changes.{IsChange}
 use Rattle.ped_rules.specs.ped_symbols.specs.NameRefusals.{IsValid}
 use Rattle.ped_rules.specs.ped_steps.specs.declared.rules.Rule.TheVariants.{OneBlock, Limit}
-use Rattle.ped_splits.specs.Blocks.{AreBlocks}
+use Rattle.ped_splits.specs.PiBlocks.{ArePiBlocks}
 use Rattle.ped_splits.specs.CodeUnits.{body_of}
 use Rattle.ped_splits.specs.Distributing.{distributed, sources, kept_from}
 use Rattle.ped_splits.proofs.DistributeRules as rules
 use Rattle.ped_splits.proofs.DistributeAnswers.{refused, accepted, some_made, none_made}
 use Rattle.ped_splits.proofs.distributing.distribute_parted.Goals as goal
 
-pub distributed-requires-clause-blocks : goal.distributed-requires-clause-blocks
-distributed-requires-clause-blocks g c =
-    subst (λ (bs : List (List ℕ)). AreBlocks (program_tree c.args.scene.now.tree.now) c.args.parted.now.number (head_of c.args.parted.now.statement.now) (body_of c.args.parted.now) bs) (sym c.deref.ensures.value) c.in_ok-found.ensures
+pub distributed-requires-clause-pi_blocks : goal.distributed-requires-clause-pi_blocks
+distributed-requires-clause-pi_blocks g c =
+    subst (λ (bs : List (List ℕ)). ArePiBlocks (program_tree c.args.scene.now.tree.now) c.args.parted.now.number (head_of c.args.parted.now.statement.now) (body_of c.args.parted.now) bs) (sym c.deref.ensures.value) c.in_ok-found.ensures
 
 pub returns-then-len-lt2 : goal.returns-then-len-lt2
 returns-then-len-lt2 g c =

@@ -9,7 +9,7 @@ use Rattle.ped_rules.specs.ped_steps.proofs.Answering.{few_numbers}
 use Rattle.ped_splits.specs.Units.{units}
 use Rattle.ped_splits.specs.CodeUnits.{AreBelow, body_of, unit_tree}
 use Rattle.ped_splits.specs.Distributing.{distributed, sources, kept_from}
-use Rattle.ped_splits.proofs.BlockSizes.{found_below, sources_short}
+use Rattle.ped_splits.proofs.PiBlockSizes.{found_below, sources_short}
 use Rattle.ped_splits.proofs.DistributeAnswers.{distributed_program}
 use Rattle.ped_splits.proofs.distributing.distributed.Goals as goal
 
@@ -17,7 +17,7 @@ pub loops_of-requires-clause-below : goal.loops_of-requires-clause-below
 loops_of-requires-clause-below g c =
     let parted = c.args.parted.now in
     let long : length (units (body_of parted)) ≡ length parted.units.now = sym (ap (λ (us : List StmtTrees). length us) c.requires.parted.parts) ∙ length-map parted.units.now unit_tree in
-    subst (λ (n : ℕ). All (AreBelow n) c.args.found.now) long (found_below (program_tree c.args.scene.now.tree.now) parted.number (head_of parted.statement.now) (body_of parted) c.args.found.now c.requires.blocks)
+    subst (λ (n : ℕ). All (AreBelow n) c.args.found.now) long (found_below (program_tree c.args.scene.now.tree.now) parted.number (head_of parted.statement.now) (body_of parted) c.args.found.now c.requires.pi_blocks)
 
 pub program_with-requires : goal.program_with-requires
 program_with-requires g c = few_numbers (program_tree c.args.scene.now.tree.now) c.requires.scene.valid
@@ -27,7 +27,7 @@ kept-requires-clause-few g c = few_numbers (program_tree c.args.scene.now.tree.n
 
 pub kept-requires-clause-short : goal.kept-requires-clause-short
 kept-requires-clause-short g c =
-    sources_short (program_tree c.args.scene.now.tree.now) c.args.parted.now.number (head_of c.args.parted.now.statement.now) (body_of c.args.parted.now) c.args.found.now c.requires.blocks c.requires.parted.is c.requires.scene.valid
+    sources_short (program_tree c.args.scene.now.tree.now) c.args.parted.now.number (head_of c.args.parted.now.statement.now) (body_of c.args.parted.now) c.args.found.now c.requires.pi_blocks c.requires.parted.is c.requires.scene.valid
 
 pub returns : goal.returns
 returns g c =

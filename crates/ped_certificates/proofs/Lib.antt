@@ -1,7 +1,7 @@
 mod Adding
 mod Closing
 mod Ones
-mod Parts
+mod PartSums
 mod Products
 mod Stepping
 mod Totals

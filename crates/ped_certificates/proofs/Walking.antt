@@ -7,7 +7,7 @@ use Rattle.ped_certificates.specs.declared.systems.Row.{Row}
 use Rattle.ped_certificates.specs.Limits.{IsWithin, IsRow}
 use Rattle.ped_certificates.specs.Certificates.{multiple, plus, part_of, sum_of}
 use Rattle.ped_certificates.proofs.Adding.{length-plus, multiple_small, plus_small, grown}
-use Rattle.ped_certificates.proofs.Parts.{one_more, nothing_left, no_more}
+use Rattle.ped_certificates.proofs.PartSums.{one_more, nothing_left, no_more}
 
 abbrev pub made : List ℤ → ℤ → Bool → Row
 made coefficients constant equation = record { coefficients = coefficients; constant = constant; equation = equation }

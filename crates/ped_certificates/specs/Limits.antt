@@ -1,8 +1,6 @@
--- How large the numbers of a system and the steps of a certificate may be (this project).
-use Rattle.std.specs.Prelude.{◌≡◌, ℕ, ◌≤◌, ◌^◌, ℤ, unsigned_abs, length, All, ⊤}
+-- How large the numbers of a system may be (this project).
+use Rattle.std.specs.Prelude.{◌≡◌, ℕ, ◌≤◌, ◌^◌, ℤ, unsigned_abs, length, All}
 use Rattle.ped_certificates.specs.declared.systems.Row.{Row}
-use Rattle.ped_certificates.specs.declared.systems.Step.{Step}
-use Rattle.ped_certificates.specs.declared.systems.Step.TheVariants.{Cut, Gcd, Split}
 use Rattle.ped_certificates.specs.declared.systems.System.{System}
 
 -- a number is no further from zero than this
@@ -18,9 +16,3 @@ pub record IsRow (unknowns most : ℕ) (row : Row) : Type 0 where
 -- the rows of a system are so, within 2^64
 abbrev pub IsSystem : System → Type 0
 IsSystem system = All (IsRow system.unknowns (2 ^ 64)) system.rows
-
--- a step has at most 500 parts
-abbrev pub IsStep : Step → Type 0
-IsStep (Cut parts d) = length parts ≤ 500
-IsStep (Gcd parts d) = length parts ≤ 500
-IsStep (Split u k) = ⊤

@@ -4,7 +4,7 @@ ghost use Rattle.std.specs.Prelude.{◌≡◌, ℕ, ◌<◌, ◌≤◌, ◌^◌,
 ghost use Rattle.std.specs.Option.{option_map_or};
 ghost use Rattle.ped_certificates.specs.declared.systems.Row.{Row};
 ghost use Rattle.ped_certificates.specs.declared.systems.Step.TheVariants.{Cut, Split};
-ghost use Rattle.ped_certificates.specs.Limits.{IsRow, IsStep, IsSystem};
+ghost use Rattle.ped_certificates.specs.Limits.{IsRow, IsSystem};
 ghost use Rattle.ped_certificates.specs.Branches.{left_by, IsByUnknown};
 ghost use Rattle.ped_certificates.specs.Certificates as Spec;
 
@@ -31,7 +31,6 @@ pub enum Taken {
 /// Whether the steps refute the system. The only error is running out of memory.
 pub fn refutes(alloc: Global, system: &System, steps: &[Step]) -> Result<bool, NoMemory>
     requires system { IsSystem system.now }
-    requires steps { All IsStep steps.now }
     ensures { IfOk result (λ refutes. refutes ≡ Spec.refutes system.now steps.now) }
 {
     let mut added = Vec::new(alloc);
@@ -51,7 +50,6 @@ fn close(
     from: usize,
 ) -> Result<Option<usize>, NoMemory>
     requires system { IsSystem system.now }
-    requires steps { All IsStep steps.now }
     requires added { All (IsRow system.now.unknowns (2 ^ 64)) added.old.items }
     requires from { from ≤ length steps.now }
     ensures closes { IfOk result (λ next. (branches : List (List Row))
@@ -111,7 +109,6 @@ fn take_step(
     step: &Step,
 ) -> Result<Taken, NoMemory>
     requires system { IsSystem system.now }
-    requires step { IsStep step.now }
     requires added { All (IsRow system.now.unknowns (2 ^ 64)) added.old.items }
     ensures taken { IfOk result
         (λ taken. Spec.after system.now.unknowns (system.now.rows ++ added.old.items) step.now

@@ -1,5 +1,6 @@
 //! Systems of equations and inequalities in whole numbers, and the steps of a certificate.
 
+use crate::parts::Parts;
 use ped_base::Listed;
 
 /// An equation or an inequality: a sum of multiples of the unknowns and of a constant that is 0, or that is at least 0.
@@ -38,14 +39,14 @@ pub enum Step {
     /// (Schrijver, Theory of Linear and Integer Programming, section 23.1). A row that is never true closes the branch.
     Cut {
         /// The parts of the sum.
-        parts: Listed<Part>,
+        parts: Parts,
         /// The divisor.
         divisor: u32,
     },
     /// Closes the branch by an equation whose coefficients a number divides, and whose constant it doesn't divide.
     Gcd {
         /// The parts of the equation.
-        parts: Listed<Part>,
+        parts: Parts,
         /// The number.
         divisor: u32,
     },

@@ -2,7 +2,10 @@ mod Choices
 mod Numbers
 mod OneCommand
 pub mod OnlyAuto
+mod Pairs
 mod Passing
+mod Signs
 mod Split
 mod Table
 mod Written
+mod WrittenPairs

@@ -1,12 +1,13 @@
 -- Words fit one row of the table at most.
-use Rattle.std.proofs.Common.{◌≡◌, inl, inr, ℕ, Bool, true, false, cond, List, [], ◌∷◌, codes, Option, Some, None, option_and_then, refl, ap, ◌∙◌}
+use Rattle.std.proofs.Common.{◌≡◌, inl, inr, ℕ, Bool, true, false, cond, List, [], ◌∷◌, codes, Option, Some, None, option_and_then, refl, sym, ap, ◌∙◌}
 use Rattle.std.specs.Cmp.Lexicographic.{bytes_decides}
 use Rattle.std.specs.Option.{option_or}
 use Rattle.ped_base.specs.Lists.{is_same_text}
 use Rattle.ped_script.specs.declared.items.Command.{Command}
-use Rattle.ped_script.specs.declared.items.Command.TheVariants.{Deps, Peel}
+use Rattle.ped_script.specs.declared.items.Command.TheVariants.{Deps, Peel, Interchange, Reverse, Parallel, InterchangeBy, ReverseBy, ParallelBy}
 use Rattle.ped_script.specs.Words.{Text, number_of}
 use Rattle.ped_script.specs.Rows.{Row, done, word, number, rows, first_fit, Fit, AreCommand, command_of}
+use Rattle.ped_script.proofs.Table.{neither}
 
 -- words that fit a row begin with its word
 begins : (e : Text) (next : Row) (words : List Text) (c : Command) → word e next words ≡ Some c → (rest : List Text) × (words ≡ e ∷ rest) × (next rest ≡ Some c)
@@ -60,6 +61,22 @@ found_peel words c h =
     ] in
     ap command_of b.1 ∙ go b.0 b.2
 
+-- words that fit the row of a step with evidence don't fit that of the plain step
+not_plain : (plain by : ℕ → Command) (c : Command) (rest : List Text) → number (λ s. word (codes "by") (done (by s))) rest ≡ Some c → number (λ s. done (plain s)) rest ≡ None
+not_plain plain by c [] h = absurd cc
+not_plain plain by c (a ∷ []) h = let e : None ≡ Some c = sym (neither (number_of 9 a)) ∙ h in absurd cc
+not_plain plain by c (a ∷ b ∷ more) h = neither (number_of 9 a)
+
+-- the row of a step with evidence, behind that of the plain step
+found_by : (e : Text) (plain by : ℕ → Command)
+    → ((rest : List Text) → command_of (e ∷ rest) ≡ option_or (number (λ s. done (plain s)) rest) (option_or (number (λ s. word (codes "by") (done (by s))) rest) None))
+    → IsFound (word e (number (λ s. word (codes "by") (done (by s)))))
+found_by e plain by first words c h =
+    let b = begins e (number (λ s. word (codes "by") (done (by s)))) words c h in
+    ap command_of b.1 ∙ first b.0
+    ∙ ap (λ o. option_or o (option_or (number (λ s. word (codes "by") (done (by s))) b.0) None)) (not_plain plain by c b.0 b.2)
+    ∙ ap (λ o. option_or o None) b.2
+
 abbrev AllFound : List Row → Type 0
 AllFound [] = Unit {0}
 AllFound (r ∷ rs) = IsFound r × (AllFound rs)
@@ -82,8 +99,10 @@ found_all =
     ⨾ own _ _ (λ rest. refl)
     ⨾ own _ _ (λ rest. refl)
     ⨾ own _ _ (λ rest. refl)
-    ⨾ own _ _ (λ rest. refl)
-    ⨾ own _ _ (λ rest. refl)
+    ⨾ found _ _ (λ rest. option_or (number (λ s. word (codes "by") (done (InterchangeBy s []))) rest) None) (λ rest. refl)
+    ⨾ found_by _ Interchange (λ s. InterchangeBy s []) (λ rest. refl)
+    ⨾ found _ _ (λ rest. option_or (number (λ s. word (codes "by") (done (ReverseBy s []))) rest) None) (λ rest. refl)
+    ⨾ found_by _ Reverse (λ s. ReverseBy s []) (λ rest. refl)
     ⨾ own _ _ (λ rest. refl)
     ⨾ own _ _ (λ rest. refl)
     ⨾ found _ _ (λ rest. option_or (number (λ s. word (codes "last") (done (Peel s true))) rest) None) (λ rest. refl)
@@ -94,6 +113,8 @@ found_all =
     ⨾ own _ _ (λ rest. refl)
     ⨾ own _ _ (λ rest. refl)
     ⨾ own _ _ (λ rest. refl)
+    ⨾ found _ _ (λ rest. option_or (number (λ s. word (codes "by") (done (ParallelBy s []))) rest) None) (λ rest. refl)
+    ⨾ found_by _ Parallel (λ s. ParallelBy s []) (λ rest. refl)
     ⨾ own _ _ (λ rest. refl)
     ⨾ own _ _ (λ rest. refl)
     ⨾ own _ _ (λ rest. refl)

@@ -1,7 +1,7 @@
 -- Only `auto` is of its kind.
 use Rattle.std.proofs.Common.{◌≡◌, refl}
 use Rattle.ped_script.specs.declared.items.Command.{Command}
-use Rattle.ped_script.specs.declared.items.Command.TheVariants.{Source, Deps, Show, Calls, Print, Advise, Replace, Insert, Delete, Interchange, Reverse, Skew, Strip, Peel, Distribute, Fuse, Inline, Expand, Privatise, Reduce, Parallel, Serial, Reject, Auto, Undo, Redo, Run, Races, Tested}
+use Rattle.ped_script.specs.declared.items.Command.TheVariants.{Source, Deps, Show, Calls, Print, Advise, Replace, Insert, Delete, Interchange, Reverse, Skew, Strip, Peel, Distribute, Fuse, Inline, Expand, Privatise, Reduce, Parallel, InterchangeBy, ReverseBy, ParallelBy, Serial, Reject, Auto, Undo, Redo, Run, Races, Tested, System}
 use Rattle.ped_script.specs.declared.kinds.CommandKind.TheVariants as kind
 use Rattle.ped_script.specs.Kinds.{kind_of}
 
@@ -28,6 +28,9 @@ only_auto (Expand number name) is = absurd cc
 only_auto (Privatise number name) is = absurd cc
 only_auto (Reduce number names) is = absurd cc
 only_auto (Parallel number) is = absurd cc
+only_auto (InterchangeBy number evidence) is = absurd cc
+only_auto (ReverseBy number evidence) is = absurd cc
+only_auto (ParallelBy number evidence) is = absurd cc
 only_auto (Serial number) is = absurd cc
 only_auto (Reject number name) is = absurd cc
 only_auto Undo is = absurd cc
@@ -35,3 +38,4 @@ only_auto Redo is = absurd cc
 only_auto (Run choices) is = absurd cc
 only_auto Races is = absurd cc
 only_auto Tested is = absurd cc
+only_auto (System source sink pattern) is = absurd cc

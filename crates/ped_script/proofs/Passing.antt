@@ -2,7 +2,7 @@
 use Rattle.std.proofs.Common.{◌≡◌, ℕ, ◌+◌, ◌-◌, ◌≤◌, zero, suc, Bool, true, false, cond, ltb, List, [], ◌∷◌, ◌++◌, length, drop, Option, Some, None, refl, sym, ap, ◌∙◌, append_assoc, arith}
 use Rattle.ped_base.specs.Lists.{has_some}
 use Rattle.ped_script.specs.declared.items.Command.{Command}
-use Rattle.ped_script.specs.declared.items.Command.TheVariants.{Replace, Insert}
+use Rattle.ped_script.specs.declared.items.Command.TheVariants.{Replace, Insert, InterchangeBy, ReverseBy, ParallelBy}
 use Rattle.ped_script.specs.declared.items.Item.{Item}
 use Rattle.ped_script.specs.Words.{Text, words_of}
 use Rattle.ped_script.specs.Rows.{command_of}
@@ -23,6 +23,9 @@ taken_small : (c : Option Command) (ls : List Text) → taken_lines c ls ≤ len
 taken_small None ls = omega arith
 taken_small (Some (Replace a b t)) ls = text_count_small ls
 taken_small (Some (Insert a t)) ls = text_count_small ls
+taken_small (Some (InterchangeBy s e)) ls = text_count_small ls
+taken_small (Some (ReverseBy s e)) ls = text_count_small ls
+taken_small (Some (ParallelBy s e)) ls = text_count_small ls
 taken_small (Some c) ls = omega arith
 
 -- lines that belong to the command before are passed over

@@ -8,14 +8,19 @@ use Rattle.std.proofs.lemmas.List.Splits.{slice_split_none, slice_split_at}
 use Rattle.std.proofs.lemmas.List.Elements.{All-from_recursion}
 use Rattle.ped_base.specs.Letters.{is_letter, is_digit, is_alphanumeric, begins_with_letter, is_name}
 use Rattle.ped_base.specs.Lists.{has_some, is_same_text}
+use Rattle.ped_certificates.specs.declared.claims.Position.{Position}
+use Rattle.ped_certificates.specs.declared.claims.Sign.{Sign}
+use Rattle.ped_certificates.specs.PairTexts.{place_text, pattern_text}
 use Rattle.ped_script.specs.declared.items.Command.{Command}
-use Rattle.ped_script.specs.declared.items.Command.TheVariants.{Source, Deps, Show, Calls, Print, Advise, Replace, Insert, Delete, Interchange, Reverse, Skew, Strip, Peel, Distribute, Fuse, Inline, Expand, Privatise, Reduce, Parallel, Serial, Reject, Auto, Undo, Redo, Run, Races, Tested}
+use Rattle.ped_script.specs.declared.items.Command.TheVariants.{Source, Deps, Show, Calls, Print, Advise, Replace, Insert, Delete, Interchange, Reverse, Skew, Strip, Peel, Distribute, Fuse, Inline, Expand, Privatise, Reduce, Parallel, InterchangeBy, ReverseBy, ParallelBy, Serial, Reject, Auto, Undo, Redo, Run, Races, Tested, System}
 use Rattle.ped_script.specs.Words.{Text, is_blank, words_of, is_number, has_leading_zero, number_of, numbers_of, factor_of, name_of, names_of, all_of}
+use Rattle.ped_script.specs.EvidenceLines.{place_of}
 use Rattle.ped_script.specs.Rows.{command_of, few_names, on_few}
-use Rattle.ped_script.specs.Shapes.{alone, with_number, with_two, peeled}
-use Rattle.ped_script.specs.CommandTexts.{behind, line_of, command_text, IsShortNumber, IsShortFactor, IsShortName, IsWritable}
+use Rattle.ped_script.specs.Shapes.{alone, with_number, with_two, with_word, with_by, peeled}
+use Rattle.ped_script.specs.CommandTexts.{behind, line_of, command_text, IsShortNumber, IsShortFactor, IsShortName, IsShortPlace, IsWritable}
 use Rattle.ped_script.proofs.Numbers.{numerals, number_is}
-use Rattle.ped_script.proofs.Table.{run_row, reduce_row, one_word, two_words, three_words}
+use Rattle.ped_script.proofs.Table.{run_row, reduce_row, system_row, one_word, two_words, three_words}
+use Rattle.ped_script.proofs.WrittenPairs.{place_again, place_some, place_ink, pattern_again, pattern_ink}
 
 -- a word has a character, and no blank
 pub record IsWord (w : Text) : Type 0 where
@@ -195,22 +200,38 @@ small_ink (c ∷ cs) h = let k = both (is_small c) (list_all is_small cs) h in (
 word_of : (w : Text) → has_some w ≡ true → list_all is_small w ≡ true → IsWord w
 word_of w h k = record { some = h; ink = small_ink w k }
 
+-- the words of `system`
+digits_of : (n : ℕ) → IsShortNumber n → list_all is_digit (decimal n) ≡ true
+digits_of n h = digits_decimal numerals n (omega (arith, h))
+
+place_again_at : (p : Position) → IsShortPlace p → place_of (place_text p) ≡ Some p
+place_again_at p h = place_again p (digits_of p.statement h.0) (nine p.statement h.0) (nine p.number h.1)
+
+place_word : (p : Position) → IsShortPlace p → IsWord (place_text p)
+place_word p h =
+    let s = short_word p.statement h.0 in
+    let n = short_word p.number h.1 in
+    record { some = place_some p s.some; ink = place_ink p s.ink n.ink }
+
+pattern_word : (pattern : List Sign) → IsWord (pattern_text pattern)
+pattern_word pattern = record { some = refl; ink = pattern_ink pattern }
+
 -- the command of one word, of a word and a number, of a word and two
 alone_again : (c : Command) (w : Text) → is_same_text w (codes "run") ≡ false → IsWord w → alone w ≡ Some c → command_of (words_of (line_of (w ∷ []))) ≡ Some c
 alone_again c w other word e = ap command_of (words_again w [] word tt) ∙ one_word w other ∙ e
 
-number_again_at : (c : Command) (w : Text) (n : ℕ) → is_same_text w (codes "run") ≡ false → IsWord w → IsShortNumber n → with_number w n ≡ Some c → command_of (words_of (line_of (w ∷ decimal n ∷ []))) ≡ Some c
-number_again_at c w n other word short e =
-    ap command_of (words_again w (decimal n ∷ []) word (short_word n short, tt)) ∙ two_words w (decimal n) n other (nine n short) ∙ e
+number_again_at : (c : Command) (w : Text) (n : ℕ) → is_same_text w (codes "run") ≡ false → is_same_text w (codes "system") ≡ false → IsWord w → IsShortNumber n → with_number w n ≡ Some c → command_of (words_of (line_of (w ∷ decimal n ∷ []))) ≡ Some c
+number_again_at c w n other further word short e =
+    ap command_of (words_again w (decimal n ∷ []) word (short_word n short, tt)) ∙ two_words w (decimal n) n other further (nine n short) ∙ e
 
-two_again : (c : Command) (w last : Text) (n : ℕ) → is_same_text w (codes "run") ≡ false → is_same_text w (codes "reduce") ≡ false → IsWord w → IsShortNumber n → IsWord last → with_two w n last ≡ Some c
+two_again : (c : Command) (w last : Text) (n : ℕ) → is_same_text w (codes "run") ≡ false → is_same_text w (codes "reduce") ≡ false → is_same_text w (codes "system") ≡ false → IsWord w → IsShortNumber n → IsWord last → with_two w n last ≡ Some c
     → command_of (words_of (line_of (w ∷ decimal n ∷ last ∷ []))) ≡ Some c
-two_again c w last n other another word short end e =
-    ap command_of (words_again w (decimal n ∷ last ∷ []) word (short_word n short, (end, tt))) ∙ three_words w (decimal n) last n other another (nine n short) ∙ e
+two_again c w last n other another further word short end e =
+    ap command_of (words_again w (decimal n ∷ last ∷ []) word (short_word n short, (end, tt))) ∙ three_words w (decimal n) last n other another further (nine n short) ∙ e
 
 -- a command that a script can say is read again from its text
 pub read_again : (c : Command) → IsWritable c → command_of (words_of (command_text c)) ≡ Some c
-unfolding alone with_number with_two peeled
+unfolding alone with_number with_two with_word with_by peeled
 read_again Source h = alone_again Source (codes "source") refl (word_of (codes "source") refl refl) refl
 read_again Show h = alone_again Show (codes "show") refl (word_of (codes "show") refl refl) refl
 read_again Calls h = alone_again Calls (codes "calls") refl (word_of (codes "calls") refl refl) refl
@@ -221,33 +242,33 @@ read_again Redo h = alone_again Redo (codes "redo") refl (word_of (codes "redo")
 read_again Races h = alone_again Races (codes "races") refl (word_of (codes "races") refl refl) refl
 read_again Tested h = alone_again Tested (codes "tested") refl (word_of (codes "tested") refl refl) refl
 read_again (Deps None) h = alone_again (Deps None) (codes "deps") refl (word_of (codes "deps") refl refl) refl
-read_again (Deps (Some s)) h = number_again_at (Deps (Some s)) (codes "deps") s refl (word_of (codes "deps") refl refl) h refl
-read_again (Advise s) h = number_again_at (Advise s) (codes "advise") s refl (word_of (codes "advise") refl refl) h refl
-read_again (Interchange s) h = number_again_at (Interchange s) (codes "interchange") s refl (word_of (codes "interchange") refl refl) h refl
-read_again (Reverse s) h = number_again_at (Reverse s) (codes "reverse") s refl (word_of (codes "reverse") refl refl) h refl
-read_again (Distribute s) h = number_again_at (Distribute s) (codes "distribute") s refl (word_of (codes "distribute") refl refl) h refl
-read_again (Fuse s) h = number_again_at (Fuse s) (codes "fuse") s refl (word_of (codes "fuse") refl refl) h refl
-read_again (Inline s) h = number_again_at (Inline s) (codes "inline") s refl (word_of (codes "inline") refl refl) h refl
-read_again (Parallel s) h = number_again_at (Parallel s) (codes "parallel") s refl (word_of (codes "parallel") refl refl) h refl
-read_again (Serial s) h = number_again_at (Serial s) (codes "serial") s refl (word_of (codes "serial") refl refl) h refl
+read_again (Deps (Some s)) h = number_again_at (Deps (Some s)) (codes "deps") s refl refl (word_of (codes "deps") refl refl) h refl
+read_again (Advise s) h = number_again_at (Advise s) (codes "advise") s refl refl (word_of (codes "advise") refl refl) h refl
+read_again (Interchange s) h = number_again_at (Interchange s) (codes "interchange") s refl refl (word_of (codes "interchange") refl refl) h refl
+read_again (Reverse s) h = number_again_at (Reverse s) (codes "reverse") s refl refl (word_of (codes "reverse") refl refl) h refl
+read_again (Distribute s) h = number_again_at (Distribute s) (codes "distribute") s refl refl (word_of (codes "distribute") refl refl) h refl
+read_again (Fuse s) h = number_again_at (Fuse s) (codes "fuse") s refl refl (word_of (codes "fuse") refl refl) h refl
+read_again (Inline s) h = number_again_at (Inline s) (codes "inline") s refl refl (word_of (codes "inline") refl refl) h refl
+read_again (Parallel s) h = number_again_at (Parallel s) (codes "parallel") s refl refl (word_of (codes "parallel") refl refl) h refl
+read_again (Serial s) h = number_again_at (Serial s) (codes "serial") s refl refl (word_of (codes "serial") refl refl) h refl
 read_again (Insert after lines) h =
-    number_again_at (Insert after []) (codes "insert") after refl (word_of (codes "insert") refl refl) h.0 refl ∙ ap (λ ls. Some (Insert after ls)) (sym h.1)
+    number_again_at (Insert after []) (codes "insert") after refl refl (word_of (codes "insert") refl refl) h.0 refl ∙ ap (λ ls. Some (Insert after ls)) (sym h.1)
 read_again (Replace first last lines) h =
-    two_again (Replace first last []) (codes "replace") (decimal last) first refl refl (word_of (codes "replace") refl refl) h.0 (short_word last h.1) (ap (option_map (λ b. Replace first b [])) (nine last h.1))
+    two_again (Replace first last []) (codes "replace") (decimal last) first refl refl refl (word_of (codes "replace") refl refl) h.0 (short_word last h.1) (ap (option_map (λ b. Replace first b [])) (nine last h.1))
     ∙ ap (λ ls. Some (Replace first last ls)) (sym h.2)
 read_again (Delete first last) h =
-    two_again (Delete first last) (codes "delete") (decimal last) first refl refl (word_of (codes "delete") refl refl) h.0 (short_word last h.1) (ap (option_map (Delete first)) (nine last h.1))
+    two_again (Delete first last) (codes "delete") (decimal last) first refl refl refl (word_of (codes "delete") refl refl) h.0 (short_word last h.1) (ap (option_map (Delete first)) (nine last h.1))
 read_again (Skew s f) h =
-    two_again (Skew s f) (codes "skew") (signed_decimal f) s refl refl (word_of (codes "skew") refl refl) h.0 (factor_word f h.1) (ap (option_map (Skew s)) (factor_again f h.1))
+    two_again (Skew s f) (codes "skew") (signed_decimal f) s refl refl refl (word_of (codes "skew") refl refl) h.0 (factor_word f h.1) (ap (option_map (Skew s)) (factor_again f h.1))
 read_again (Strip s size) h =
     ap (λ z. command_of (words_of (command_text (Strip s z)))) h.1.2
-    ∙ two_again (Strip s (pos h.1.0)) (codes "strip") (decimal h.1.0) s refl refl (word_of (codes "strip") refl refl) h.0 (short_word h.1.0 h.1.1) (ap (option_map (λ k. Strip s (pos k))) (nine h.1.0 h.1.1))
+    ∙ two_again (Strip s (pos h.1.0)) (codes "strip") (decimal h.1.0) s refl refl refl (word_of (codes "strip") refl refl) h.0 (short_word h.1.0 h.1.1) (ap (option_map (λ k. Strip s (pos k))) (nine h.1.0 h.1.1))
     ∙ ap (λ z. Some (Strip s z)) (sym h.1.2)
-read_again (Peel s false) h = two_again (Peel s false) (codes "peel") (codes "first") s refl refl (word_of (codes "peel") refl refl) h (word_of (codes "first") refl refl) refl
-read_again (Peel s true) h = two_again (Peel s true) (codes "peel") (codes "last") s refl refl (word_of (codes "peel") refl refl) h (word_of (codes "last") refl refl) refl
-read_again (Expand s x) h = two_again (Expand s x) (codes "expand") x s refl refl (word_of (codes "expand") refl refl) h.0 (name_word x h.1) (ap (option_map (Expand s)) (name_again x h.1))
-read_again (Privatise s x) h = two_again (Privatise s x) (codes "privatise") x s refl refl (word_of (codes "privatise") refl refl) h.0 (name_word x h.1) (ap (option_map (Privatise s)) (name_again x h.1))
-read_again (Reject s x) h = two_again (Reject s x) (codes "reject") x s refl refl (word_of (codes "reject") refl refl) h.0 (name_word x h.1) (ap (option_map (Reject s)) (name_again x h.1))
+read_again (Peel s false) h = two_again (Peel s false) (codes "peel") (codes "first") s refl refl refl (word_of (codes "peel") refl refl) h (word_of (codes "first") refl refl) refl
+read_again (Peel s true) h = two_again (Peel s true) (codes "peel") (codes "last") s refl refl refl (word_of (codes "peel") refl refl) h (word_of (codes "last") refl refl) refl
+read_again (Expand s x) h = two_again (Expand s x) (codes "expand") x s refl refl refl (word_of (codes "expand") refl refl) h.0 (name_word x h.1) (ap (option_map (Expand s)) (name_again x h.1))
+read_again (Privatise s x) h = two_again (Privatise s x) (codes "privatise") x s refl refl refl (word_of (codes "privatise") refl refl) h.0 (name_word x h.1) (ap (option_map (Privatise s)) (name_again x h.1))
+read_again (Reject s x) h = two_again (Reject s x) (codes "reject") x s refl refl refl (word_of (codes "reject") refl refl) h.0 (name_word x h.1) (ap (option_map (Reject s)) (name_again x h.1))
 read_again (Reduce s names) h =
     ap command_of (words_again (codes "reduce") (decimal s ∷ names) (word_of (codes "reduce") refl refl) (short_word s h.0, name_words names h.1))
     ∙ reduce_row (decimal s ∷ names)
@@ -258,3 +279,16 @@ read_again (Run choices) h =
     ap command_of (words_again (codes "run") (map decimal choices) (word_of (codes "run") refl refl) (choice_words choices h))
     ∙ run_row (map decimal choices)
     ∙ ap (option_map (λ cs. Run cs)) (choices_again choices h)
+read_again (InterchangeBy s evidence) h =
+    two_again (InterchangeBy s []) (codes "interchange") (codes "by") s refl refl refl (word_of (codes "interchange") refl refl) h.0 (word_of (codes "by") refl refl) refl
+    ∙ ap (λ e. Some (InterchangeBy s e)) (sym h.1)
+read_again (ReverseBy s evidence) h =
+    two_again (ReverseBy s []) (codes "reverse") (codes "by") s refl refl refl (word_of (codes "reverse") refl refl) h.0 (word_of (codes "by") refl refl) refl
+    ∙ ap (λ e. Some (ReverseBy s e)) (sym h.1)
+read_again (ParallelBy s evidence) h =
+    two_again (ParallelBy s []) (codes "parallel") (codes "by") s refl refl refl (word_of (codes "parallel") refl refl) h.0 (word_of (codes "by") refl refl) refl
+    ∙ ap (λ e. Some (ParallelBy s e)) (sym h.1)
+read_again (System source sink pattern) h =
+    ap command_of (words_again (codes "system") (place_text source ∷ place_text sink ∷ pattern_text pattern ∷ []) (word_of (codes "system") refl refl) (place_word source h.0, (place_word sink h.1, (pattern_word pattern, tt))))
+    ∙ system_row (place_text source ∷ place_text sink ∷ pattern_text pattern ∷ [])
+    ∙ simp (place_again_at source h.0, place_again_at sink h.1, pattern_again pattern h.2) refl

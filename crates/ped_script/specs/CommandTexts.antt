@@ -3,9 +3,12 @@ use Rattle.std.specs.Prelude.{◌≡◌, ℕ, suc, ◌<◌, ◌≤◌, ◌^◌, 
 use Rattle.std.specs.List.{join_by, flat_map, AllByRecursion}
 use Rattle.std.specs.Fmt.{decimal, signed_decimal}
 use Rattle.ped_base.specs.Letters.{is_name}
+use Rattle.ped_certificates.specs.declared.claims.Position.{Position}
+use Rattle.ped_certificates.specs.declared.claims.Sign.{Sign}
+use Rattle.ped_certificates.specs.PairTexts.{place_text, pattern_text}
 use Rattle.ped_script.specs.Words.{Text}
 use Rattle.ped_script.specs.declared.items.Command.{Command}
-use Rattle.ped_script.specs.declared.items.Command.TheVariants.{Source, Deps, Show, Calls, Print, Advise, Replace, Insert, Delete, Interchange, Reverse, Skew, Strip, Peel, Distribute, Fuse, Inline, Expand, Privatise, Reduce, Parallel, Serial, Reject, Auto, Undo, Redo, Run, Races, Tested}
+use Rattle.ped_script.specs.declared.items.Command.TheVariants.{Source, Deps, Show, Calls, Print, Advise, Replace, Insert, Delete, Interchange, Reverse, Skew, Strip, Peel, Distribute, Fuse, Inline, Expand, Privatise, Reduce, Parallel, InterchangeBy, ReverseBy, ParallelBy, Serial, Reject, Auto, Undo, Redo, Run, Races, Tested, System}
 
 -- the words of `peel`
 abbrev pub peel_words : ℕ → Bool → List Text
@@ -20,7 +23,11 @@ reduce_words s names = codes "reduce" ∷ decimal s ∷ names
 abbrev pub run_words : List ℕ → List Text
 run_words choices = codes "run" ∷ map decimal choices
 
--- the words of a command; the text of an edit is on the lines after them
+-- the words of `system`
+abbrev pub system_words : Position → Position → List Sign → List Text
+system_words source sink pattern = codes "system" ∷ place_text source ∷ place_text sink ∷ pattern_text pattern ∷ []
+
+-- the words of a command; the text of an edit or of evidence is on the lines after them
 abbrev pub command_words : Command → List Text
 command_words Source = codes "source" ∷ []
 command_words (Deps None) = codes "deps" ∷ []
@@ -44,6 +51,9 @@ command_words (Expand s x) = codes "expand" ∷ decimal s ∷ x ∷ []
 command_words (Privatise s x) = codes "privatise" ∷ decimal s ∷ x ∷ []
 command_words (Reduce s names) = reduce_words s names
 command_words (Parallel s) = codes "parallel" ∷ decimal s ∷ []
+command_words (InterchangeBy s evidence) = codes "interchange" ∷ decimal s ∷ codes "by" ∷ []
+command_words (ReverseBy s evidence) = codes "reverse" ∷ decimal s ∷ codes "by" ∷ []
+command_words (ParallelBy s evidence) = codes "parallel" ∷ decimal s ∷ codes "by" ∷ []
 command_words (Serial s) = codes "serial" ∷ decimal s ∷ []
 command_words (Reject s x) = codes "reject" ∷ decimal s ∷ x ∷ []
 command_words Auto = codes "auto" ∷ []
@@ -52,6 +62,7 @@ command_words Redo = codes "redo" ∷ []
 command_words (Run choices) = run_words choices
 command_words Races = codes "races" ∷ []
 command_words Tested = codes "tested" ∷ []
+command_words (System source sink pattern) = system_words source sink pattern
 
 -- words, each after a blank
 abbrev pub behind : List Text → Text
@@ -78,7 +89,11 @@ IsShortFactor (negsuc n) = suc n < 10 ^ 9
 abbrev pub IsShortName : Text → Type 0
 IsShortName x = (is_name x ≡ true) × (length x ≤ 31)
 
--- a script can say the command in one line: its numbers and names have the form that the table asks for, and it has no lines of an edit
+-- the place can be written
+abbrev pub IsShortPlace : Position → Type 0
+IsShortPlace place = IsShortNumber place.statement × IsShortNumber place.number
+
+-- a script can say the command in one line: its numbers and names have the form that the table asks for, and it has no lines of an edit or of evidence
 abbrev pub IsWritable : Command → Type 0
 IsWritable Source = ⊤
 IsWritable (Deps None) = ⊤
@@ -102,6 +117,9 @@ IsWritable (Expand s x) = IsShortNumber s × IsShortName x
 IsWritable (Privatise s x) = IsShortNumber s × IsShortName x
 IsWritable (Reduce s names) = IsShortNumber s × AllByRecursion IsShortName names × (1 ≤ length names) × (length names ≤ 8)
 IsWritable (Parallel s) = IsShortNumber s
+IsWritable (InterchangeBy s evidence) = IsShortNumber s × (evidence ≡ [])
+IsWritable (ReverseBy s evidence) = IsShortNumber s × (evidence ≡ [])
+IsWritable (ParallelBy s evidence) = IsShortNumber s × (evidence ≡ [])
 IsWritable (Serial s) = IsShortNumber s
 IsWritable (Reject s x) = IsShortNumber s × IsShortName x
 IsWritable Auto = ⊤
@@ -110,3 +128,4 @@ IsWritable Redo = ⊤
 IsWritable (Run choices) = AllByRecursion (λ n. n < 10 ^ 18) choices
 IsWritable Races = ⊤
 IsWritable Tested = ⊤
+IsWritable (System source sink pattern) = IsShortPlace source × IsShortPlace sink × (1 ≤ length pattern)

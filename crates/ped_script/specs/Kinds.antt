@@ -1,11 +1,12 @@
 -- Commands by their kinds: what each asks for, and which take a step (this project).
-use Rattle.std.specs.Prelude.{ℕ, [], Bool, true, false, Option, Some, None, ⊤}
+use Rattle.std.specs.Prelude.{ℕ, List, [], Bool, true, false, Option, Some, None, ⊤}
+use Rattle.ped_certificates.specs.declared.claims.EvidenceLine.{EvidenceLine}
 use Rattle.ped_script.specs.declared.items.Command.{Command}
 use Rattle.ped_script.specs.declared.items.Command.TheVariants as command
 use Rattle.ped_script.specs.declared.kinds.WhichStep.{WhichStep}
-use Rattle.ped_script.specs.declared.kinds.WhichStep.TheVariants.{Interchange, Reverse, Skew, Strip, Peel, Distribute, Fuse, Inline, Expand, Privatise, Reduce, Parallel, Serial, Reject}
+use Rattle.ped_script.specs.declared.kinds.WhichStep.TheVariants.{Interchange, Reverse, Skew, Strip, Peel, Distribute, Fuse, Inline, Expand, Privatise, Reduce, Parallel, InterchangeBy, ReverseBy, ParallelBy, Serial, Reject}
 use Rattle.ped_script.specs.declared.kinds.StepCommand.{StepCommand}
-use Rattle.ped_script.specs.declared.kinds.Query.TheVariants.{Source, Deps, Show, Calls, Print, Advise, Tested}
+use Rattle.ped_script.specs.declared.kinds.Query.TheVariants.{Source, Deps, Show, Calls, Print, Advise, Tested, System}
 use Rattle.ped_script.specs.declared.kinds.LineEdit.TheVariants.{Replace, Insert}
 use Rattle.ped_script.specs.declared.kinds.HistoryMove.TheVariants.{Undo, Redo}
 use Rattle.ped_script.specs.declared.kinds.ProgramRun.TheVariants.{Run, Races}
@@ -25,6 +26,7 @@ kind_of command.Calls = kind.Ask Calls
 kind_of command.Print = kind.Ask Print
 kind_of (command.Advise number) = kind.Ask (Advise number)
 kind_of command.Tested = kind.Ask Tested
+kind_of (command.System source sink pattern) = kind.Ask (System source sink pattern)
 kind_of (command.Replace first last lines) = kind.Edit (Replace first last lines)
 kind_of (command.Insert after lines) = kind.Edit (Insert after lines)
 kind_of (command.Delete first last) = kind.Edit (Replace first last [])
@@ -40,6 +42,9 @@ kind_of (command.Expand number name) = kind.Step (at_statement number (Expand na
 kind_of (command.Privatise number name) = kind.Step (at_statement number (Privatise name))
 kind_of (command.Reduce number names) = kind.Step (at_statement number (Reduce names))
 kind_of (command.Parallel number) = kind.Step (at_statement number Parallel)
+kind_of (command.InterchangeBy number evidence) = kind.Step (at_statement number (InterchangeBy evidence))
+kind_of (command.ReverseBy number evidence) = kind.Step (at_statement number (ReverseBy evidence))
+kind_of (command.ParallelBy number evidence) = kind.Step (at_statement number (ParallelBy evidence))
 kind_of (command.Serial number) = kind.Step (at_statement number Serial)
 kind_of (command.Reject number name) = kind.Step (at_statement number (Reject name))
 kind_of command.Auto = kind.Auto
@@ -60,6 +65,26 @@ step_among (kind.Run run) = None
 -- the step that a command takes, where it takes one
 abbrev pub step_in : Command → Option StepCommand
 step_in c = step_among (kind_of c)
+
+-- the evidence with which a step is taken; most steps take none
+abbrev pub evidence_of : WhichStep → List EvidenceLine
+evidence_of (InterchangeBy evidence) = evidence
+evidence_of (ReverseBy evidence) = evidence
+evidence_of (ParallelBy evidence) = evidence
+evidence_of step = []
+
+-- the evidence of a command of this kind, where it takes a step
+abbrev pub evidence_among : CommandKind → List EvidenceLine
+evidence_among (kind.Step command) = evidence_of command.step
+evidence_among (kind.Ask query) = []
+evidence_among (kind.Edit edit) = []
+evidence_among kind.Auto = []
+evidence_among (kind.Move way) = []
+evidence_among (kind.Run run) = []
+
+-- the evidence of a command
+abbrev pub evidence_in : Command → List EvidenceLine
+evidence_in c = evidence_among (kind_of c)
 
 -- a command of this kind goes along the history
 abbrev pub IsMove : CommandKind → Type 0

@@ -1,4 +1,7 @@
+pub use Rattle.ped_certificates
 pub mod CommandTexts
+pub mod EvidenceLines
+pub mod Heads
 pub mod Items
 pub mod Kinds
 pub mod Lines

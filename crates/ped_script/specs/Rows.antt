@@ -2,9 +2,12 @@
 use Rattle.std.specs.Prelude.{◌≡◌, ◌⊎◌, ℕ, ℤ, pos, List, [], ◌∷◌, length, nat_le, true, false, ◌&&◌, codes, Option, Some, None, option_map, option_and_then, if◌then◌else◌}
 use Rattle.std.specs.Option.{option_or}
 use Rattle.ped_base.specs.Lists.{has_some, is_same_text}
+use Rattle.ped_certificates.specs.declared.claims.Position.{Position}
+use Rattle.ped_certificates.specs.declared.claims.Sign.{Sign}
 use Rattle.ped_script.specs.Words.{Text, number_of, numbers_of, factor_of, name_of, names_of}
+use Rattle.ped_script.specs.EvidenceLines.{pair_then}
 use Rattle.ped_script.specs.declared.items.Command.{Command}
-use Rattle.ped_script.specs.declared.items.Command.TheVariants.{Source, Deps, Show, Calls, Print, Advise, Replace, Insert, Delete, Interchange, Reverse, Skew, Strip, Peel, Distribute, Fuse, Inline, Expand, Privatise, Reduce, Parallel, Serial, Reject, Auto, Undo, Redo, Run, Races, Tested}
+use Rattle.ped_script.specs.declared.items.Command.TheVariants.{Source, Deps, Show, Calls, Print, Advise, Replace, Insert, Delete, Interchange, Reverse, Skew, Strip, Peel, Distribute, Fuse, Inline, Expand, Privatise, Reduce, Parallel, InterchangeBy, ReverseBy, ParallelBy, Serial, Reject, Auto, Undo, Redo, Run, Races, Tested, System}
 
 -- the command that words are, where they fit the row
 abbrev pub Row : Type 0
@@ -47,7 +50,11 @@ few_names to_command ws = option_and_then (on_few to_command) (names_of ws)
 abbrev pub choices : (List ℕ → Command) → Row
 choices to_command ws = option_map to_command (numbers_of 18 ws)
 
--- all commands; the text of an edit is on the lines after its words, and is empty here
+-- two places and a pattern
+abbrev pub pair : (Position → Position → List Sign → Command) → Row
+pair to_command ws = pair_then (λ source sink pattern. done (to_command source sink pattern)) ws
+
+-- all commands; the text of an edit or of evidence is on the lines after the words, and is empty here
 abbrev pub rows : List Row
 rows =
     word (codes "source") (done Source)
@@ -61,7 +68,9 @@ rows =
     ∷ word (codes "insert") (number (λ a. done (Insert a [])))
     ∷ word (codes "delete") (number (λ a. number (λ b. done (Delete a b))))
     ∷ word (codes "interchange") (number (λ s. done (Interchange s)))
+    ∷ word (codes "interchange") (number (λ s. word (codes "by") (done (InterchangeBy s []))))
     ∷ word (codes "reverse") (number (λ s. done (Reverse s)))
+    ∷ word (codes "reverse") (number (λ s. word (codes "by") (done (ReverseBy s []))))
     ∷ word (codes "skew") (number (λ s. factor (λ f. done (Skew s f))))
     ∷ word (codes "strip") (number (λ s. number (λ k. done (Strip s (pos k)))))
     ∷ word (codes "peel") (number (λ s. word (codes "first") (done (Peel s false))))
@@ -73,6 +82,7 @@ rows =
     ∷ word (codes "privatise") (number (λ s. name (λ t. done (Privatise s t))))
     ∷ word (codes "reduce") (number (λ s. few_names (λ names. Reduce s names)))
     ∷ word (codes "parallel") (number (λ s. done (Parallel s)))
+    ∷ word (codes "parallel") (number (λ s. word (codes "by") (done (ParallelBy s []))))
     ∷ word (codes "serial") (number (λ s. done (Serial s)))
     ∷ word (codes "reject") (number (λ s. name (λ v. done (Reject s v))))
     ∷ word (codes "auto") (done Auto)
@@ -81,6 +91,7 @@ rows =
     ∷ word (codes "run") (choices (λ cs. Run cs))
     ∷ word (codes "races") (done Races)
     ∷ word (codes "tested") (done Tested)
+    ∷ word (codes "system") (pair (λ source sink pattern. System source sink pattern))
     ∷ []
 
 -- the command of the first row that the words fit

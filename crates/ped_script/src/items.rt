@@ -1,6 +1,7 @@
 //! What a script is made of: commands, each with its line.
 
 use ped_base::{Bytes, Listed, Name, Names};
+use ped_certificates::{Evidence, Position, Sign};
 
 /// A command. The number of a statement, the number of a line and the size of a strip are at most 999,999,999.
 #[derive(Drop)]
@@ -70,6 +71,12 @@ pub enum Command {
     Reduce(u32, Names),
     /// Makes this loop parallel.
     Parallel(u32),
+    /// Interchanges this loop and the loop in it, with evidence against dependences.
+    InterchangeBy(u32, Evidence),
+    /// Reverses this loop, with evidence against dependences.
+    ReverseBy(u32, Evidence),
+    /// Makes this loop parallel, with evidence against dependences.
+    ParallelBy(u32, Evidence),
     /// Makes this loop serial.
     Serial(u32),
     /// Rejects the pending dependences of a variable in this loop.
@@ -86,14 +93,16 @@ pub enum Command {
     Races,
     /// Prints how many pairs of references were tested last.
     Tested,
+    /// Prints the system of a pair of references, the source first, and a pattern of their directions.
+    System(Position, Position, Listed<Sign>),
 }
 
 /// A line of a script that asks for something.
 #[derive(Drop)]
 pub struct Item {
-    /// The number of the line, from 1; of an edit that of the line with its words.
+    /// The number of the line, from 1; of a command with a text that of the line with its words.
     pub line: u64,
-    /// What the line asks for; none where it is no command, or an edit whose text has no end.
+    /// What the line asks for; none where it is no command, or one whose text has no end.
     pub command: Option<Command>,
 }
 

@@ -4,12 +4,14 @@ ghost use Rattle.std.specs.Prelude.{◌≡◌, [], Ok, true, is_ok, IfOk};
 ghost use Rattle.ped_script.specs.declared.kinds.CommandKind.TheVariants as kind;
 ghost use Rattle.ped_script.specs.declared.kinds.LineEdit.TheVariants as edit;
 ghost use Rattle.ped_script.specs.declared.kinds.ProgramRun.TheVariants as run;
+ghost use Rattle.ped_script.specs.declared.kinds.Query.TheVariants as query;
 ghost use Rattle.ped_script.specs.declared.kinds.WhichStep.TheVariants as step;
 ghost use Rattle.ped_script.specs.Kinds as Spec;
-ghost use Rattle.ped_script.specs.Kinds.{kind_of, IsMove};
+ghost use Rattle.ped_script.specs.Kinds.{evidence_in, kind_of, IsMove};
 
 use crate::items::Command;
 use ped_base::{Bytes, Listed, Name, Names, NoMemory};
+use ped_certificates::{Evidence, EvidenceLine, Position, Sign, copy_evidence};
 use std::alloc::Global;
 
 /// Which step is to be taken at a statement: a transformation, or a rejection of dependences.
@@ -42,6 +44,12 @@ pub enum WhichStep {
     Reduce(Names),
     /// Makes the loop parallel.
     Parallel,
+    /// Interchanges the loop and the loop in it, with evidence against dependences.
+    InterchangeBy(Evidence),
+    /// Reverses the loop, with evidence against dependences.
+    ReverseBy(Evidence),
+    /// Makes the loop parallel, with evidence against dependences.
+    ParallelBy(Evidence),
     /// Makes the loop serial.
     Serial,
     /// Rejects the pending dependences of a variable in the loop.
@@ -58,7 +66,7 @@ pub struct StepCommand {
 }
 
 /// What a command asks for that changes nothing.
-#[derive(Clone, Copy)]
+#[derive(Drop)]
 pub enum Query {
     /// The source pane.
     Source,
@@ -74,6 +82,8 @@ pub enum Query {
     Advise(u32),
     /// How many pairs of references were tested last.
     Tested,
+    /// The system of a pair of references, the source first, and a pattern of their directions.
+    System(Position, Position, Listed<Sign>),
 }
 
 /// How a command edits the lines of the source.
@@ -145,6 +155,18 @@ impl WhichStep {
 }
 
 impl Command {
+    /// The evidence of the command; most commands take none.
+    pub fn evidence(&self) -> &[EvidenceLine]
+        ensures { result.now ≡ evidence_in self.now }
+    {
+        match self {
+            Command::InterchangeBy(_, evidence) => return evidence.as_slice(),
+            Command::ReverseBy(_, evidence) => return evidence.as_slice(),
+            Command::ParallelBy(_, evidence) => return evidence.as_slice(),
+            _ => return &[],
+        }
+    }
+
     /// The kind of the command, with all that it says. The only error is running out of memory, which never happens at
     /// `undo` and `redo`.
     pub fn kind(&self, alloc: Global) -> Result<CommandKind, NoMemory>
@@ -159,6 +181,9 @@ impl Command {
             Command::Print => return Ok(CommandKind::Ask(Query::Print)),
             Command::Advise(number) => return Ok(CommandKind::Ask(Query::Advise(*number))),
             Command::Tested => return Ok(CommandKind::Ask(Query::Tested)),
+            Command::System(source, sink, pattern) => {
+                return asks_system(alloc, *source, *sink, pattern);
+            }
             Command::Replace { first, last, lines } => return replaces(alloc, *first, *last, lines),
             Command::Insert { after, lines } => return inserts(alloc, *after, lines),
             Command::Delete { first, last } => return deletes(alloc, *first, *last),
@@ -176,6 +201,11 @@ impl Command {
             Command::Privatise(number, name) => return takes(*number, WhichStep::Privatise(*name)),
             Command::Reduce(number, names) => return reduces(alloc, *number, names),
             Command::Parallel(number) => return takes(*number, WhichStep::Parallel),
+            Command::InterchangeBy(number, evidence) => {
+                return interchanges_by(alloc, *number, evidence);
+            }
+            Command::ReverseBy(number, evidence) => return reverses_by(alloc, *number, evidence),
+            Command::ParallelBy(number, evidence) => return parallels_by(alloc, *number, evidence),
             Command::Serial(number) => return takes(*number, WhichStep::Serial),
             Command::Reject(number, name) => return takes(*number, WhichStep::Reject(*name)),
             Command::Auto => return Ok(CommandKind::Auto),
@@ -200,6 +230,47 @@ fn reduces(alloc: Global, statement: u32, names: &Names) -> Result<CommandKind, 
 {
     let names = Names::from_vec(names.as_slice().to_vec(alloc)?);
     takes(statement, WhichStep::Reduce(names))
+}
+
+/// Interchanges this loop and the loop in it, with a copy of this evidence.
+fn interchanges_by(
+    alloc: Global,
+    statement: u32,
+    evidence: &Evidence,
+) -> Result<CommandKind, NoMemory>
+    ensures { IfOk result (λ k. k ≡ kind.Step (record { statement = statement; step = step.InterchangeBy evidence.now })) }
+{
+    let evidence = copy_evidence(alloc, evidence.as_slice())?;
+    takes(statement, WhichStep::InterchangeBy(evidence))
+}
+
+/// Reverses this loop, with a copy of this evidence.
+fn reverses_by(alloc: Global, statement: u32, evidence: &Evidence) -> Result<CommandKind, NoMemory>
+    ensures { IfOk result (λ k. k ≡ kind.Step (record { statement = statement; step = step.ReverseBy evidence.now })) }
+{
+    let evidence = copy_evidence(alloc, evidence.as_slice())?;
+    takes(statement, WhichStep::ReverseBy(evidence))
+}
+
+/// Makes this loop parallel, with a copy of this evidence.
+fn parallels_by(alloc: Global, statement: u32, evidence: &Evidence) -> Result<CommandKind, NoMemory>
+    ensures { IfOk result (λ k. k ≡ kind.Step (record { statement = statement; step = step.ParallelBy evidence.now })) }
+{
+    let evidence = copy_evidence(alloc, evidence.as_slice())?;
+    takes(statement, WhichStep::ParallelBy(evidence))
+}
+
+/// Asks for the system of this pair and a copy of this pattern.
+fn asks_system(
+    alloc: Global,
+    source: Position,
+    sink: Position,
+    pattern: &Listed<Sign>,
+) -> Result<CommandKind, NoMemory>
+    ensures { IfOk result (λ k. k ≡ kind.Ask (query.System source sink pattern.now)) }
+{
+    let pattern = Listed::from_vec(pattern.as_slice().to_vec(alloc)?);
+    Ok(CommandKind::Ask(Query::System(source, sink, pattern)))
 }
 
 /// Puts a copy of these lines in the place of others.

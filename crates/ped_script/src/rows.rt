@@ -7,6 +7,7 @@ ghost use Rattle.ped_script.specs.Rows.{command_of, few_names};
 ghost use Rattle.ped_script.specs.declared.items.Command.TheVariants.{Reduce};
 ghost use Rattle.ped_script.specs.Shapes as Shapes;
 
+use crate::claims::{first_place, pattern};
 use crate::items::Command;
 use crate::words::{choice, factor, first_word, has_word, is_word, name, number};
 use ped_base::{Listed, Names, NoMemory};
@@ -15,8 +16,8 @@ use std::alloc::Global;
 /// The most scalars that one reduction takes.
 const MOST_SUMS: usize = 8;
 
-/// The command of a line, where its words are one. The text of an edit is on other lines, and is empty
-/// here.
+/// The command of a line, where its words are one. The text of an edit or of evidence is on other lines, and is
+/// empty here.
 pub fn command(alloc: Global, line: &[u8]) -> Result<Option<Command>, NoMemory>
     ensures { IfOk result (λ c. c ≡ command_of (words_of line.now)) }
 {
@@ -28,6 +29,9 @@ pub fn command(alloc: Global, line: &[u8]) -> Result<Option<Command>, NoMemory>
     }
     if is_word(first, b"reduce") {
         return reduce(alloc, rest);
+    }
+    if is_word(first, b"system") {
+        return system(alloc, rest);
     }
     let Some((second, rest)) = first_word(rest) else {
         return Ok(alone(first));
@@ -71,6 +75,28 @@ fn reduce(alloc: Global, line: &[u8]) -> Result<Option<Command>, NoMemory>
         return Ok(None);
     };
     reduce_at(alloc, n, rest)
+}
+
+/// A query for a system, where these words are two places and a pattern.
+fn system(alloc: Global, line: &[u8]) -> Result<Option<Command>, NoMemory>
+    ensures { IfOk result (λ c. c ≡ command_of (codes "system" ∷ words_of line.now)) }
+{
+    let Some((source, rest)) = first_place(line) else {
+        return Ok(None);
+    };
+    let Some((sink, rest)) = first_place(rest) else {
+        return Ok(None);
+    };
+    let Some((word, rest)) = first_word(rest) else {
+        return Ok(None);
+    };
+    if has_word(rest) {
+        return Ok(None);
+    }
+    let Some(pattern) = pattern(alloc, word)? else {
+        return Ok(None);
+    };
+    Ok(Some(Command::System(source, sink, pattern)))
 }
 
 /// A reduction at this loop, where these words are one to eight names.
@@ -205,9 +231,6 @@ fn with_two(alloc: Global, word: &[u8], n: u32, last: &[u8]) -> Option<Command>
     if is_word(word, b"strip") {
         return Some(Command::Strip(n, i64::from(number(last)?)));
     }
-    if is_word(word, b"peel") {
-        return peel(n, last);
-    }
     if is_word(word, b"expand") {
         return Some(Command::Expand(n, name(last)?));
     }
@@ -216,6 +239,37 @@ fn with_two(alloc: Global, word: &[u8], n: u32, last: &[u8]) -> Option<Command>
     }
     if is_word(word, b"reject") {
         return Some(Command::Reject(n, name(last)?));
+    }
+    with_word(alloc, word, n, last)
+}
+
+/// The command that is a word, a number and a word of the table.
+#[tactic(auto, unfolding(crate::specs::Shapes::with_word))]
+fn with_word(alloc: Global, word: &[u8], n: u32, last: &[u8]) -> Option<Command>
+    ensures { result ≡ Shapes.with_word word.now n last.now }
+{
+    if is_word(word, b"peel") {
+        return peel(n, last);
+    }
+    with_by(alloc, word, n, last)
+}
+
+/// The command that takes evidence, by its word and its number, where the last word is `by`.
+#[tactic(auto, unfolding(crate::specs::Shapes::with_by))]
+fn with_by(alloc: Global, word: &[u8], n: u32, last: &[u8]) -> Option<Command>
+    ensures { result ≡ Shapes.with_by word.now n last.now }
+{
+    if !is_word(last, b"by") {
+        return None;
+    }
+    if is_word(word, b"interchange") {
+        return Some(Command::InterchangeBy(n, Listed::new(alloc)));
+    }
+    if is_word(word, b"reverse") {
+        return Some(Command::ReverseBy(n, Listed::new(alloc)));
+    }
+    if is_word(word, b"parallel") {
+        return Some(Command::ParallelBy(n, Listed::new(alloc)));
     }
     None
 }

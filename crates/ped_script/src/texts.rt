@@ -8,10 +8,11 @@ ghost use Rattle.ped_script.specs.CommandTexts.{line_of, behind};
 
 use crate::items::Command;
 use ped_base::{Bytes, Name, NoMemory, push_number, push_signed};
+use ped_certificates::{Position, Sign, push_pattern, push_place};
 use std::alloc::Global;
 
 /// The text of a command: its words with a blank between two, as the table of commands has them. The lines of an edit
-/// aren't part of it. The only error is running out of memory.
+/// and of evidence aren't part of it. The only error is running out of memory.
 pub fn command_text(alloc: Global, command: &Command) -> Result<Bytes, NoMemory>
     ensures { IfOk result (λ text. text ≡ Spec.command_text command.now) }
 {
@@ -38,6 +39,11 @@ pub fn command_text(alloc: Global, command: &Command) -> Result<Bytes, NoMemory>
         Command::Privatise(number, name) => return with_name(alloc, b"privatise", *number, name),
         Command::Reduce(number, names) => return reduce(alloc, *number, names.as_slice()),
         Command::Parallel(number) => return with_number(alloc, b"parallel", *number),
+        Command::InterchangeBy(number, _) => {
+            return with_word(alloc, b"interchange", *number, b"by");
+        }
+        Command::ReverseBy(number, _) => return with_word(alloc, b"reverse", *number, b"by"),
+        Command::ParallelBy(number, _) => return with_word(alloc, b"parallel", *number, b"by"),
         Command::Serial(number) => return with_number(alloc, b"serial", *number),
         Command::Reject(number, name) => return with_name(alloc, b"reject", *number, name),
         Command::Auto => return alone(alloc, b"auto"),
@@ -46,6 +52,9 @@ pub fn command_text(alloc: Global, command: &Command) -> Result<Bytes, NoMemory>
         Command::Run(choices) => return run(alloc, choices.as_slice()),
         Command::Races => return alone(alloc, b"races"),
         Command::Tested => return alone(alloc, b"tested"),
+        Command::System(source, sink, pattern) => {
+            return system(alloc, source, sink, pattern.as_slice());
+        }
     }
 }
 
@@ -134,6 +143,25 @@ fn run(alloc: Global, choices: &[u64]) -> Result<Bytes, NoMemory>
 {
     let mut text = alone(alloc, b"run")?;
     push_choices(&mut text, choices)?;
+    Ok(text)
+}
+
+/// A query for the system of a pair and a pattern.
+fn system(
+    alloc: Global,
+    source: &Position,
+    sink: &Position,
+    pattern: &[Sign],
+) -> Result<Bytes, NoMemory>
+    ensures { IfOk result (λ text. text ≡ line_of (Spec.system_words source.now sink.now pattern.now)) }
+{
+    let mut text = alone(alloc, b"system")?;
+    text.push(b' ')?;
+    push_place(&mut text, source)?;
+    text.push(b' ')?;
+    push_place(&mut text, sink)?;
+    text.push(b' ')?;
+    push_pattern(&mut text, pattern)?;
     Ok(text)
 }
 

@@ -1,11 +1,12 @@
 //! The words of a line, and the numbers and names that they write.
 
-ghost use Rattle.std.specs.Prelude.{◌≡◌, ◌<◌, ◌≤◌, ◌^◌, [], ◌∷◌, length, neg_ℤ, not, pos, position, MatchOption, IfSome, map};
+ghost use Rattle.std.specs.Prelude.{◌≡◌, ◌<◌, ◌≤◌, ◌^◌, ◌==◌, [], ◌∷◌, length, neg_ℤ, not, pos, position, Some, None, MatchOption, IfSome, map};
 ghost use Rattle.std.specs.Char.{to_ascii_uppercase};
 ghost use Rattle.std.specs.List.{list_all};
 ghost use Rattle.ped_base.specs.Letters.{is_digit};
 ghost use Rattle.ped_base.specs.Lists.{has_some, is_same_text};
 ghost use Rattle.ped_script.specs.Words as Spec;
+ghost use Rattle.ped_script.specs.EvidenceLines.{cut_at};
 
 use ped_base::Name;
 
@@ -83,6 +84,48 @@ pub fn factor(word: &[u8]) -> Option<i64>
         [b'-', digits @ ..] => Some(negative(number(digits)?)),
         _ => Some(i64::from(number(word)?)),
     }
+}
+
+/// The factor of a row, or the value of a split: at most nine digits, with or without a minus sign before them.
+pub fn small_factor(word: &[u8]) -> Option<i32>
+    ensures { result ≡ Spec.factor_of word.now }
+{
+    match word {
+        [b'-', digits @ ..] => Some(small_negative(small_number(digits)?)),
+        _ => Some(small_number(word)? as i32),
+    }
+}
+
+/// A number of at most nine digits.
+fn small_number(word: &[u8]) -> Option<u32>
+    ensures value { result ≡ Spec.number_of 9 word.now }
+    ensures small { IfSome result (λ n. n < 10 ^ 9) }
+{
+    Some(number_within(word, NUMBER_DIGITS)? as u32)
+}
+
+fn small_negative(n: u32) -> i32
+    requires { n < 10 ^ 9 }
+    ensures { result ≡ neg_ℤ (pos n) }
+{
+    -(n as i32)
+}
+
+/// What a word has before and behind the first of these characters; none where it has none.
+pub fn cut_at(c: u8, word: &[u8]) -> Option<(&[u8], &[u8])>
+    ensures { MatchOption result (cut_at c word.now ≡ None) (λ x. cut_at c word.now ≡ Some (x.0.now, x.1.now)) }
+{
+    match first_of(c, word) {
+        Some(place) => Some((&word[..place], &word[place + 1..])),
+        None => None,
+    }
+}
+
+/// The place of the first of these characters.
+fn first_of(c: u8, word: &[u8]) -> Option<usize>
+    ensures { result ≡ position (λ d. d == c) word.now }
+{
+    word.iter().position(|d| *d == c)
 }
 
 fn negative(n: u32) -> i64

@@ -22,7 +22,7 @@ use Rattle.ped_laws.specs.Conflicts.Directions.{StandInDirections, share_a_loop}
 use Rattle.ped_laws.proofs.ConflictLaws.PossibleNames.{AssignWithin, loops_assign}
 use Rattle.ped_laws.proofs.ConflictLaws.PossibleTurns.{AreTurns, turns_reached, in_nest}
 use Rattle.ped_laws.proofs.ConflictLaws.PossibleCommon.{Fit, common}
-use Rattle.ped_evidence.specs.declared.signs.Sign.{Sign}
+use Rattle.ped_certificates.specs.declared.claims.Sign.{Sign}
 use Rattle.ped_evidence.specs.Signs.{fits}
 use Rattle.ped_evidence.specs.Symbols.{symbols_of}
 use Rattle.ped_evidence.specs.Systems.{system_at}

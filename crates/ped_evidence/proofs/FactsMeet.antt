@@ -5,7 +5,7 @@ use Rattle.ped_views.specs.declared.directions.Direction.{Direction}
 use Rattle.ped_certificates.specs.Rows.{Meets}
 use Rattle.ped_affine.specs.Ranges.{Setting}
 use Rattle.ped_affine.specs.PairViews.{Site}
-use Rattle.ped_evidence.specs.declared.signs.Sign.{Sign}
+use Rattle.ped_certificates.specs.declared.claims.Sign.{Sign}
 use Rattle.ped_evidence.specs.Signs.{fits}
 use Rattle.ped_evidence.specs.Levels.{levels_of}
 use Rattle.ped_evidence.specs.Symbols.{symbols_of}

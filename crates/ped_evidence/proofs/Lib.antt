@@ -21,3 +21,10 @@ mod FactsMeet
 mod AccessesMeet
 mod ReferencePlaces
 mod Disproving
+mod AffineSteps
+mod Fitting
+mod RowSteps
+mod LevelsListed
+mod SpokenElements
+mod PairLevels
+mod JudgedLines

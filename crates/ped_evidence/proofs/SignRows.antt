@@ -7,8 +7,8 @@ use Rattle.ped_views.specs.declared.directions.Direction.TheVariants as directio
 use Rattle.ped_views.specs.Excluded.{StandsByValue, by_value}
 use Rattle.ped_certificates.specs.Rows.{Holds, Meets}
 use Rattle.ped_affine.specs.AffineForms.{AffineForm}
-use Rattle.ped_evidence.specs.declared.signs.Sign.{Sign}
-use Rattle.ped_evidence.specs.declared.signs.Sign.TheVariants.{Before, Same, After, Any}
+use Rattle.ped_certificates.specs.declared.claims.Sign.{Sign}
+use Rattle.ped_certificates.specs.declared.claims.Sign.TheVariants.{Before, Same, After, Any}
 use Rattle.ped_evidence.specs.Signs.{says, fits}
 use Rattle.ped_evidence.specs.Forms.{below}
 use Rattle.ped_evidence.specs.Levels.{Level}

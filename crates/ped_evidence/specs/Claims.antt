@@ -6,7 +6,7 @@ use Rattle.ped_tree.specs.Tree.{ProgramTree}
 use Rattle.ped_tree.specs.Nests.{common_nest}
 use Rattle.ped_refs.specs.References.{Reference, references, outermost, is_pair}
 use Rattle.ped_graph.specs.Dependences.{setting_in, site_of}
-use Rattle.ped_evidence.specs.declared.signs.Sign.{Sign}
+use Rattle.ped_certificates.specs.declared.claims.Sign.{Sign}
 use Rattle.ped_evidence.specs.Systems.{system_at}
 
 -- of whom evidence speaks: the places of the source and of the sink, and a pattern of their directions

@@ -1,3 +1,4 @@
+pub mod Kept
 pub mod Signs
 pub mod Levels
 pub mod Symbols
@@ -7,3 +8,6 @@ pub mod Systems
 pub mod Facts
 pub mod Claims
 pub mod Evidence
+pub mod Lines
+pub mod Judged
+pub mod SystemTexts

@@ -2,8 +2,8 @@
 use Rattle.std.specs.Prelude.{List, [], ◌∷◌, Bool, true, false, ◌&&◌}
 use Rattle.ped_views.specs.declared.directions.Direction.{Direction}
 use Rattle.ped_views.specs.declared.directions.Direction.TheVariants as directions
-use Rattle.ped_evidence.specs.declared.signs.Sign.{Sign}
-use Rattle.ped_evidence.specs.declared.signs.Sign.TheVariants.{Before, Same, After, Any}
+use Rattle.ped_certificates.specs.declared.claims.Sign.{Sign}
+use Rattle.ped_certificates.specs.declared.claims.Sign.TheVariants.{Before, Same, After, Any}
 
 -- a sign says this direction: `*` says each (Allen and Kennedy, section 2.2.4)
 abbrev pub says : Sign → Direction → Bool

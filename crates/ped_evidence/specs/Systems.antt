@@ -8,8 +8,8 @@ use Rattle.ped_tree.specs.Tree.{ExprTree}
 use Rattle.ped_affine.specs.Ranges.{Setting}
 use Rattle.ped_affine.specs.AffineForms.{AffineForm, is_constant_form}
 use Rattle.ped_affine.specs.PairViews.{Site}
-use Rattle.ped_evidence.specs.declared.signs.Sign.{Sign}
-use Rattle.ped_evidence.specs.declared.signs.Sign.TheVariants.{Before, Same, After, Any}
+use Rattle.ped_certificates.specs.declared.claims.Sign.{Sign}
+use Rattle.ped_certificates.specs.declared.claims.Sign.TheVariants.{Before, Same, After, Any}
 use Rattle.ped_evidence.specs.Levels.{Level, levels_of, lower_bounds, upper_bounds, falls}
 use Rattle.ped_evidence.specs.Forms.{number, less, at_most, below, is_zero, equal}
 use Rattle.ped_evidence.specs.Layouts.{Columns, Layout, width, index, steps, symbol, placed, strides, has_own, has_shared, common_levels, own_quotients, layout_of}

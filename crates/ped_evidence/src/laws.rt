@@ -2,18 +2,21 @@
 
 ghost use Rattle.std.specs.Prelude.{◌≡◌, ℤ, List, true};
 ghost use Rattle.ped_views.specs.declared.directions.Direction.{Direction};
+ghost use Rattle.ped_base.specs.Lists.{has_some};
 ghost use Rattle.ped_certificates.specs.Rows.{Meets};
 ghost use Rattle.ped_tree.specs.Tree.{ProgramTree};
-ghost use Rattle.ped_refs.specs.References.{Reference};
+ghost use Rattle.ped_refs.specs.References.{Reference, references};
+ghost use Rattle.ped_refs.specs.TextPlaces.{place_of};
 ghost use Rattle.ped_graph.specs.ped_symbols.specs.NameRefusals.{IsValid};
 ghost use Rattle.ped_graph.specs.ped_edges.specs.Edges.{Edge};
 ghost use Rattle.ped_eval.specs.ped_store.specs.Cells.{same_cell};
 ghost use Rattle.ped_eval.specs.ped_store.specs.Stores.{Store};
 ghost use Rattle.ped_eval.specs.ped_store.specs.Races.{Access};
 ghost use Rattle.ped_eval.specs.Scopes.{Scope};
+ghost use Rattle.ped_laws.specs.Acts.Orders.{IsIn};
 ghost use Rattle.ped_laws.specs.Conflicts.Making.{IsMade};
 ghost use Rattle.ped_laws.specs.Conflicts.Directions.{StandInDirections, share_a_loop};
-ghost use Rattle.ped_evidence.specs.declared.signs.Sign.{Sign};
+ghost use Rattle.ped_certificates.specs.declared.claims.Sign.{Sign};
 ghost use Rattle.ped_evidence.specs.Signs.{fits};
 ghost use Rattle.ped_evidence.specs.Claims.{system};
 ghost use Rattle.ped_evidence.specs.Evidence.{Line, disproves, NeverMeet};
@@ -37,3 +40,9 @@ pub fn disproved_never_meets()
     accesses_in_sequence();
     nothing_meets();
 }
+
+/// Evidence speaks of elements alone: where it disproves a vector of a dependence, the reference at its source has
+/// subscripts.
+pub fn disproved_are_of_elements()
+    ensures { (t : ProgramTree) (evidence : List Line) (e : Edge) (v : List Direction) → disproves t evidence e v ≡ true → (r : Reference) → IsIn r (references t) → e.source ≡ place_of r → has_some r.access.subscripts ≡ true }
+{}

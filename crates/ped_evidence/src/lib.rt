@@ -2,8 +2,21 @@
 //! both touch one cell. A certificate that refutes such a system disproves dependences. The definitions are in `specs/`.
 #![tactic(auto)]
 
+mod affine;
+mod claimed;
+mod forms;
+mod judging;
 mod laws;
-mod signs;
+mod layouts;
+mod levels;
+mod pair_rows;
+mod printing;
+mod side_rows;
+mod symbols;
+mod systems;
+mod telling;
 
-pub use laws::{accesses_meet_system, disproved_never_meets};
-pub use signs::Sign;
+pub use judging::{is_disproved, judge};
+pub use laws::{accesses_meet_system, disproved_are_of_elements, disproved_never_meets};
+pub use ped_certificates::{Claim, Evidence, EvidenceLine, Position, Sign};
+pub use telling::system_text;

@@ -1,7 +1,7 @@
 -- What is so of each command that the strategy may take.
 use Rattle.std.proofs.Common.{ℕ, List}
 use Rattle.ped_script.specs.declared.items.Command.{Command}
-use Rattle.ped_script.specs.declared.items.Command.TheVariants.{Source, Deps, Show, Calls, Print, Advise, Replace, Insert, Delete, Interchange, Reverse, Skew, Strip, Peel, Distribute, Fuse, Inline, Expand, Privatise, Reduce, Parallel, Serial, Reject, Auto, Undo, Redo, Run, Races, Tested}
+use Rattle.ped_script.specs.declared.items.Command.TheVariants.{Source, Deps, Show, Calls, Print, Advise, Replace, Insert, Delete, Interchange, InterchangeBy, Reverse, ReverseBy, Skew, Strip, Peel, Distribute, Fuse, Inline, Expand, Privatise, Reduce, Parallel, ParallelBy, Serial, Reject, Auto, Undo, Redo, Run, Races, System, Tested}
 use Rattle.ped_auto.specs.Editing.{IsOfStrategy}
 
 -- it is so of each of the four
@@ -27,13 +27,16 @@ module _ (IsSo : Command → Type 0) (so : IsSoOfStrategy IsSo) where
   so_of_strategy (Insert after lines) is = absurd is
   so_of_strategy (Delete first last) is = absurd is
   so_of_strategy (Interchange number) is = absurd is
+  so_of_strategy (InterchangeBy number evidence) is = absurd is
   so_of_strategy (Reverse number) is = absurd is
+  so_of_strategy (ReverseBy number evidence) is = absurd is
   so_of_strategy (Skew number factor) is = absurd is
   so_of_strategy (Strip number size) is = absurd is
   so_of_strategy (Peel number last) is = absurd is
   so_of_strategy (Fuse number) is = absurd is
   so_of_strategy (Inline number) is = absurd is
   so_of_strategy (Expand number name) is = absurd is
+  so_of_strategy (ParallelBy number evidence) is = absurd is
   so_of_strategy (Serial number) is = absurd is
   so_of_strategy (Reject number name) is = absurd is
   so_of_strategy Auto is = absurd is
@@ -41,4 +44,5 @@ module _ (IsSo : Command → Type 0) (so : IsSoOfStrategy IsSo) where
   so_of_strategy Redo is = absurd is
   so_of_strategy (Run choices) is = absurd is
   so_of_strategy Races is = absurd is
+  so_of_strategy (System source sink pattern) is = absurd is
   so_of_strategy Tested is = absurd is

@@ -9,6 +9,8 @@ use Rattle.ped_rules.specs.Rules.{is_parallel, is_serial}
 use Rattle.ped_rules.specs.Lawful.{IsDetermined}
 use Rattle.ped_rules.specs.Flags.{flagged}
 use Rattle.ped_rules.specs.Paralleling.{StandsAgainstParallel, paralleling}
+use Rattle.ped_evidence.specs.Evidence.{Line}
+use Rattle.ped_loops.specs.ByEvidence.{carried_open, crossing_open, paralleling_by, reversing_by, interchanging_by}
 use Rattle.ped_loops.specs.Serialising.{StandsAgainstSerial, serialising}
 use Rattle.ped_loops.specs.Reversing.{reversed, StandsAgainstReversal, reversing}
 use Rattle.ped_loops.specs.Interchanging.{interchanged, StandsAgainstInterchange, interchanging}
@@ -45,6 +47,34 @@ determined_interchange s = record {
   one_made = interchange.one_made s;
   some_made = λ t valid none. (interchanged t s, all_but s (s + 1) t, (refl, refl), interchange.is_valid s t none.0);
 }
+
+-- with evidence the rules and what is made are the same
+pub determined_parallel_by : (s : ℕ) (evidence : List Line) → IsDetermined (paralleling_by s evidence)
+determined_parallel_by s evidence =
+    let plain = determined_parallel s in
+    record {
+      one_cause = λ t c d p q. one_cause t (StandsAgainstParallel s t) (carried_open t s evidence) (flags.chain is_parallel true s t).one c d p q;
+      one_made = plain.one_made;
+      some_made = λ t valid none. (flagged t s true, all_kept t, (refl, refl), flags.is_valid is_parallel true s t none.0);
+    }
+
+pub determined_reversal_by : (s : ℕ) (evidence : List Line) → IsDetermined (reversing_by s evidence)
+determined_reversal_by s evidence =
+    let plain = determined_reversal s in
+    record {
+      one_cause = λ t c d p q. one_cause t (StandsAgainstReversal s t) (carried_open t s evidence) (reversal.chain s t).one c d p q;
+      one_made = plain.one_made;
+      some_made = λ t valid none. (reversed t s, all_kept t, (refl, refl), reversal.is_valid s t none.0);
+    }
+
+pub determined_interchange_by : (s : ℕ) (evidence : List Line) → IsDetermined (interchanging_by s evidence)
+determined_interchange_by s evidence =
+    let plain = determined_interchange s in
+    record {
+      one_cause = λ t c d p q. one_cause t (StandsAgainstInterchange s t) (crossing_open t s evidence) (interchange.chain s t).one c d p q;
+      one_made = plain.one_made;
+      some_made = λ t valid none. (interchanged t s, all_but s (s + 1) t, (refl, refl), interchange.is_valid s t none.0);
+    }
 
 pub determined_rejection : (s : ℕ) (x : List ℕ) → IsDetermined (rejecting s x)
 determined_rejection s x =

@@ -3,10 +3,9 @@ use Rattle.std.proofs.Common.{◌≡◌, ℕ, List, [], ◌∷◌, Bool, true, f
 use Rattle.ped_tree.specs.Tree.{Head, StmtTree, StmtTrees, Do, ProgramTree}
 use Rattle.ped_tree.specs.Views.{stmt_tree, stmt_trees}
 use Rattle.ped_tree.specs.declared.statements.Stmt.{Stmt}
-use Rattle.ped_rules.specs.Carried.{carried, IsFirstOf}
 use Rattle.ped_rules.specs.OnlyLoops.{on_loop}
 use Rattle.ped_rules.specs.Steps.{transformation, Answers}
-use Rattle.ped_rules.proofs.Answering.{refused_by, forbidden_by, accepted_by, none_first}
+use Rattle.ped_rules.proofs.Answering.{refused_by, accepted_by, none_first}
 use Rattle.ped_rules.specs.ped_steps.specs.declared.rules.Rule.{Rule}
 use Rattle.ped_rules.specs.ped_steps.specs.declared.causes.Refused.{Refused}
 use Rattle.ped_rules.specs.ped_steps.specs.declared.causes.Refused.TheVariants as variant
@@ -15,12 +14,13 @@ use Rattle.ped_rules.specs.ped_steps.specs.Causes.{NoRule, IsFirstRule, none_for
 use Rattle.ped_rules.specs.ped_steps.specs.Changes.{IsChange}
 use Rattle.ped_rules.specs.ped_steps.specs.Replacing.{alone, all_kept, program_with}
 use Rattle.ped_rules.specs.ped_flow.specs.Questions.{IsLoop}
-use Rattle.ped_edges.specs.declared.edges.Edge.{Edge as CodeEdge}
 use Rattle.ped_rules.specs.ped_steps.proofs.OnePlace.{one_program}
 use Rattle.ped_rules.specs.ped_symbols.specs.NameRefusals.{IsValid}
 use Rattle.ped_rules.specs.Flags.{with_flag, flagged}
-use Rattle.ped_rules.specs.Paralleling.{paralleling, MakesParallel, StandsAgainstParallel}
+use Rattle.ped_rules.specs.Paralleling.{StandsAgainstParallel}
+use Rattle.ped_loops.specs.CodeEnding.{IsByRules}
 use Rattle.ped_loops.specs.Serialising.{serialising, MakesSerial, StandsAgainstSerial}
+use Rattle.ped_loops.proofs.Endings.{ruled}
 
 -- the change that the code has found, or that there is none
 pub some_made : (new : ProgramTree) (keep : List (ℕ × ℕ)) (found : Option Change) (change : Change) → found ≡ Some change → MatchOption found (IsValid new → ⊥) (IsChange new keep) → IsChange new keep change
@@ -38,14 +38,8 @@ flag_program t n flag h body f new is listed made =
     one_program (λ (s : StmtTree). stmt_trees new) (on_loop (with_flag flag)) n t (λ g e. ap stmt_trees listed ∙ made ∙ ap (on_loop (with_flag flag)) (same_statement (Do h body) g (sym is ∙ e)))
 
 module _ (t : ProgramTree) (s : ℕ) where
-  pub parallel_refused : (r : Rule) (n : ℕ) (refused : Refused) → refused ≡ variant.Rule r n → IsFirstRule (StandsAgainstParallel s t) r n → Answers (paralleling s) t (Err refused)
-  parallel_refused r n refused is first = refused_by transformation s (StandsAgainstParallel s) (λ u. carried u s) (MakesParallel s) t r n refused is first
-
-  pub parallel_forbidden : (e : CodeEdge) → NoRule (StandsAgainstParallel s t) → IsFirstOf t (carried t s) (Some e) → Answers (paralleling s) t (Err (variant.Dependence e))
-  parallel_forbidden e none first = forbidden_by transformation s (StandsAgainstParallel s) (λ u. carried u s) (MakesParallel s) t e (variant.Dependence e) refl none first
-
-  pub parallel_accepted : (change : Change) → NoRule (StandsAgainstParallel s t) → IsFirstOf t (carried t s) None → IsChange (flagged t s true) (all_kept t) change → Answers (paralleling s) t (Ok change)
-  parallel_accepted change none first made = accepted_by transformation s (StandsAgainstParallel s) (λ u. carried u s) (MakesParallel s) t change (flagged t s true) (all_kept t) none first (refl, refl) made
+  pub parallel_refused : (r : Rule) (n : ℕ) (refused : Refused) → refused ≡ variant.Rule r n → IsFirstRule (StandsAgainstParallel s t) r n → IsByRules (StandsAgainstParallel s t) (flagged t s true) (all_kept t) (Err refused)
+  parallel_refused r n refused is first = ruled (StandsAgainstParallel s t) (flagged t s true) (all_kept t) r n refused is first
 
   pub serial_refused : (r : Rule) (n : ℕ) (refused : Refused) → refused ≡ variant.Rule r n → IsFirstRule (StandsAgainstSerial s t) r n → Answers (serialising s) t (Err refused)
   serial_refused r n refused is first = refused_by transformation s (StandsAgainstSerial s) (λ u. none_forbids) (MakesSerial s) t r n refused is first

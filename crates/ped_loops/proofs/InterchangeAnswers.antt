@@ -7,18 +7,14 @@ use Rattle.ped_base.specs.Lists.{has_some}
 use Rattle.ped_tree.specs.Nests.{Loop}
 use Rattle.ped_tree.specs.Views.{stmt_tree, stmt_trees, head_of}
 use Rattle.ped_tree.specs.declared.statements.Stmt.{Stmt}
-use Rattle.ped_rules.specs.Carried.{IsFirstOf, crossing}
 use Rattle.ped_rules.specs.KeepMaps.{all_but}
 use Rattle.ped_rules.specs.OnlyLoops.{only_loop, of_loop, either, on_loop, change_only}
 use Rattle.ped_rules.specs.Rules.{HasUnplain, WhereUnplain, isnt_perfect, is_parallel, has_private, has_other_step, is_one, leaves, heads_round}
 use Rattle.ped_rules.specs.Spans.{Values}
-use Rattle.ped_rules.specs.Steps.{transformation, Answers}
-use Rattle.ped_rules.specs.ped_steps.specs.Causes.{NoRule, IsFirstRule}
-use Rattle.ped_rules.specs.ped_steps.specs.Changes.{IsChange}
+use Rattle.ped_rules.specs.ped_steps.specs.Causes.{IsFirstRule}
 use Rattle.ped_rules.specs.ped_steps.specs.Replacing.{alone, program_with}
 use Rattle.ped_rules.specs.ped_steps.specs.declared.causes.Refused.{Refused}
 use Rattle.ped_rules.specs.ped_steps.specs.declared.causes.Refused.TheVariants as variant
-use Rattle.ped_rules.specs.ped_steps.specs.declared.changes.Change.{Change}
 use Rattle.ped_rules.specs.ped_steps.specs.declared.rules.Rule.{Rule}
 use Rattle.ped_rules.specs.ped_steps.specs.declared.rules.Rule.TheVariants.{ParallelState, HasPrivate, BoundsShape, StepShape}
 use Rattle.ped_rules.specs.ped_affine.specs.PairViews.{heads_of}
@@ -28,32 +24,25 @@ use Rattle.ped_refs.specs.declared.loops.Loop.{Loop as CodeLoop}
 use Rattle.ped_rules.specs.ped_flow.specs.PlainBounds.{nest_round, IsPlain}
 use Rattle.ped_rules.specs.ped_flow.specs.Questions.{IsLoop, LoopOf}
 use Rattle.ped_rules.specs.ped_flow.proofs.Answering.{same_head, same_body, loop_fits}
-use Rattle.ped_edges.specs.declared.edges.Edge.{Edge as CodeEdge}
 use Rattle.ped_rules.specs.ped_symbols.specs.Kinds.{table_of}
 use Rattle.ped_rules.specs.ped_symbols.specs.NameRefusals.{IsValid}
 use Rattle.ped_rules.specs.ped_steps.proofs.Answering.{few_numbers}
 use Rattle.ped_rules.specs.ped_steps.proofs.OnePlace.{one_program}
 use Rattle.ped_rules.specs.ped_loop_runs.proofs.LoopLaws.NextIn.{first_is_next}
 use Rattle.ped_rules.specs.ped_loop_runs.specs.OneOut.{IsNextIn}
-use Rattle.ped_rules.proofs.Answering.{refused_by, forbidden_by, accepted_by}
 use Rattle.ped_rules.proofs.NestDepths.{nest_short}
 use Rattle.ped_loops.specs.CodeInterchanging.{NoneUpTo}
 use Rattle.ped_rules.specs.Rules.{TellsPlain}
-use Rattle.ped_loops.specs.Interchanging.{with_exchanged, exchanged_loops, interchanged, MakesInterchanged, StandsAgainstInterchange, interchanging, IsBoundOfEither, is_tied, has_no_unit, makes_far, leaves_either}
+use Rattle.ped_loops.specs.CodeEnding.{IsByRules}
+use Rattle.ped_loops.specs.Interchanging.{with_exchanged, exchanged_loops, interchanged, StandsAgainstInterchange, IsBoundOfEither, is_tied, has_no_unit, makes_far, leaves_either}
 use Rattle.ped_rules.specs.Rules.{IsBoundOf}
 use Rattle.ped_loops.specs.Shapes.{Shape, new_outer, new_inner, names_outer, isnt_shaped, shape_of}
+use Rattle.ped_loops.proofs.Endings.{ruled}
 use Rattle.ped_loops.proofs.InterchangeRules as rules
 use Rattle.ped_rules.proofs.NestLaws.OnlyBodies.{pair, only_changed, only_counted}
 
-module _ (s : ℕ) (t : ProgramTree) where
-  pub refused : (r : Rule) (n : ℕ) (found : Refused) → found ≡ variant.Rule r n → IsFirstRule (StandsAgainstInterchange s t) r n → Answers (interchanging s) t (Err found)
-  refused r n found is first = refused_by transformation s (StandsAgainstInterchange s) (λ u. crossing u s) (MakesInterchanged s) t r n found is first
-
-  pub forbidden : (e : CodeEdge) (found : Refused) → found ≡ variant.Dependence e → NoRule (StandsAgainstInterchange s t) → IsFirstOf t (crossing t s) (Some e) → Answers (interchanging s) t (Err found)
-  forbidden e found is none first = forbidden_by transformation s (StandsAgainstInterchange s) (λ u. crossing u s) (MakesInterchanged s) t e found is none first
-
-  pub accepted : (change : Change) → NoRule (StandsAgainstInterchange s t) → IsFirstOf t (crossing t s) None → IsChange (interchanged t s) (all_but s (s + 1) t) change → Answers (interchanging s) t (Ok change)
-  accepted change none first made = accepted_by transformation s (StandsAgainstInterchange s) (λ u. crossing u s) (MakesInterchanged s) t change (interchanged t s) (all_but s (s + 1) t) none first (refl, refl) made
+pub refused : (s : ℕ) (t : ProgramTree) (r : Rule) (n : ℕ) (found : Refused) → found ≡ variant.Rule r n → IsFirstRule (StandsAgainstInterchange s t) r n → IsByRules (StandsAgainstInterchange s t) (interchanged t s) (all_but s (s + 1) t) (Err found)
+refused s t r n found is first = ruled (StandsAgainstInterchange s t) (interchanged t s) (all_but s (s + 1) t) r n found is first
 
 same_statement : (a b : StmtTree) → Some a ≡ Some b → a ≡ b
 same_statement a b e = cc

@@ -19,14 +19,17 @@ use Rattle.ped_rules.specs.ped_steps.proofs.OneCause.{one_cause}
 use Rattle.ped_rules.specs.ped_loop_runs.specs.Meaning.{KeepsOn}
 use Rattle.ped_rules.specs.ped_loop_runs.specs.TrueRejections.{IsTrueOn}
 use Rattle.ped_rules.specs.ped_loop_runs.specs.Unrejected.{IsTrusted}
+use Rattle.ped_evidence.specs.Evidence.{Line}
 use Rattle.ped_rules.specs.Carried.{crossing}
 use Rattle.ped_rules.specs.KeepMaps.{all_but}
 use Rattle.ped_rules.specs.Lawful.{IsFaithful, IsLawful}
 use Rattle.ped_rules.specs.OnlyLoops.{change_only, only_loop, of_loop, either}
+use Rattle.ped_rules.specs.Steps.{transformation}
 use Rattle.ped_rules.specs.Rules.{HasUnplain, has_other_step, has_private, is_one, is_parallel, isnt_allowed, leaves}
 use Rattle.ped_rules.proofs.KeptNumbers.{but_one_to_one}
 use Rattle.ped_rules.specs.Rules.{IsBoundOf}
-use Rattle.ped_loops.specs.Interchanging.{IsBoundOfEither, StandsAgainstInterchange, interchanged, interchanging, leaves_either}
+use Rattle.ped_loops.specs.ByEvidence.{crossing_open, interchanging_by}
+use Rattle.ped_loops.specs.Interchanging.{IsBoundOfEither, MakesInterchanged, StandsAgainstInterchange, interchanged, interchanging, leaves_either}
 use Rattle.ped_loops.specs.Shapes.{is_named, isnt_shaped, names_outer, new_inner, new_outer, shape_of}
 use Rattle.ped_rules.specs.ped_affine.specs.PairViews.{heads_of}
 use Rattle.ped_rules.specs.ped_affine.specs.Ranges as ranges
@@ -48,7 +51,9 @@ use Rattle.ped_rules.proofs.HeadLaws.PlainDecided.{OrNot, plain_decided}
 use Rattle.ped_rules.proofs.NestLaws.WovenKinds.{swapped_kinds}
 use Rattle.ped_rules.proofs.NestLaws.WovenLoops.{AreSwapped}
 use Rattle.ped_rules.proofs.NestLaws.WovenTrust.{stays_trusted_swap}
-use Rattle.ped_loops.proofs.UncrossedPairs.{none_crosses}
+use Rattle.ped_loops.proofs.Endings.{step_by}
+use Rattle.ped_loops.proofs.OpenEdges.{DisprovedLaw}
+use Rattle.ped_loops.proofs.UncrossedPairs.{NoneCrossesOn, Uncrosses, crossing_uncrosses, open_uncrosses}
 
 or_neither : (a b : Bool) → a || b ≡ false → (a ≡ false) × (b ≡ false)
 or_neither true b e = absurd cc
@@ -182,25 +187,38 @@ module _ (t : ProgramTree) (valid : IsValid t) (s : ℕ) (none : NoRule (StandsA
           (outer_plain d.first (inl refl)) (outer_plain d.last (inr refl)) (inner_plain g.first (inl refl)) (inner_plain g.last (inr refl))
           (variable_apart t valid s loop) (inner_variable_apart t valid s loop g it.inside it.only)
 
-  module _ (making : MakingLaw) (sequence : SequenceLaw) (uncrossed : (edges : List Edge) → AreEdges t edges → All (λ e. crossing t s e ≡ false) edges) where
+  module _ (making : MakingLaw) (sequence : SequenceLaw) (uncrossed : (data_bytes : List ℕ) → IsTrueOn t data_bytes → (edges : List Edge) → AreEdges t edges → NoneCrossesOn t edges data_bytes s loop.body) where
     -- on data on which no rejected dependence occurs
-    pub interchange_keeps_on : (data_bytes : List ℕ) → IsTrueOn t data_bytes → IsRaceFree t data_bytes → KeepsOn t (interchanged t s) data_bytes
-    interchange_keeps_on data_bytes true_on = swapped_keeps_on making sequence t (interchanged t s) s loop g h k it.inside it.only swap data_bytes (λ edges are. none_crosses t s loop data_bytes true_on edges are (uncrossed edges are))
+    interchange_keeps_on : (data_bytes : List ℕ) → IsTrueOn t data_bytes → IsRaceFree t data_bytes → KeepsOn t (interchanged t s) data_bytes
+    interchange_keeps_on data_bytes true_on = swapped_keeps_on making sequence t (interchanged t s) s loop g h k it.inside it.only swap data_bytes (λ edges are. uncrossed data_bytes true_on edges are)
 
-    pub interchange_faithful : TrustedLaw → ClearedLaw → TrueLaw → IsTrusted t → IsFaithful t (interchanged t s)
+    interchange_faithful : TrustedLaw → ClearedLaw → TrueLaw → IsTrusted t → IsFaithful t (interchanged t s)
     interchange_faithful trusted_law cleared true_law before = record {
       trusted = trusted trusted_law cleared before;
-      keeps = swapped_keeps making sequence t (interchanged t s) s loop g h k it.inside it.only swap (λ data_bytes edges are. none_crosses t s loop data_bytes (true_law t data_bytes before.unrejected) edges are (uncrossed edges are));
+      keeps = swapped_keeps making sequence t (interchanged t s) s loop g h k it.inside it.only swap (λ data_bytes edges are. uncrossed data_bytes (true_law t data_bytes before.unrejected) edges are);
     }
 
 module _ (making : MakingLaw) (sequence : SequenceLaw) (trusted_law : TrustedLaw) (cleared : ClearedLaw) (true_law : TrueLaw) (s : ℕ) where
+  module _ (forbids : ProgramTree → Edge → Bool) (test : Uncrosses s forbids) where
+    uncrossed : (t : ProgramTree) (valid : IsValid t) (none : NoRule (StandsAgainstInterchange s t)) → ((edges : List Edge) → AreEdges t edges → All (λ e. forbids t e ≡ false) edges)
+        → (data_bytes : List ℕ) → IsTrueOn t data_bytes → (edges : List Edge) → AreEdges t edges → NoneCrossesOn t edges data_bytes s (loop t valid s none).body
+    uncrossed t valid none free data_bytes true_on edges are = test t valid (loop t valid s none) data_bytes true_on edges are (free edges are)
+
+    -- the step that such a test of dependences forbids
+    lawful_by_test : IsLawful (step_by transformation s (StandsAgainstInterchange s) forbids (MakesInterchanged s))
+    lawful_by_test = record {
+      one_cause = λ t c d p q. one_cause t (StandsAgainstInterchange s t) (forbids t) (rules.chain s t).one c d p q;
+      one_made = rules.one_made s;
+      one_to_one = λ t new keep p. subst IsOneToOne (sym p.1) (but_one_to_one t s (s + 1));
+      some_made = λ t valid none. (interchanged t s, all_but s (s + 1) t, (refl, refl), rules.is_valid s t none.0);
+      keeps = λ t new keep valid none p before. subst (IsFaithful t) (sym p.0) (interchange_faithful t valid s none.0 making sequence (uncrossed t valid none.0 none.1) trusted_law cleared true_law before);
+      keeps_on = λ t new keep data_bytes valid none p kind tidy new_tidy true_on true_for free.
+          subst (λ (u : ProgramTree). KeepsOn t u data_bytes) (sym p.0) (interchange_keeps_on t valid s none.0 making sequence (uncrossed t valid none.0 none.1) data_bytes true_on free);
+    }
+
   pub lawful_interchange : IsLawful (interchanging s)
-  lawful_interchange = record {
-    one_cause = λ t c d p q. one_cause t (StandsAgainstInterchange s t) (crossing t s) (rules.chain s t).one c d p q;
-    one_made = rules.one_made s;
-    one_to_one = λ t new keep p. subst IsOneToOne (sym p.1) (but_one_to_one t s (s + 1));
-    some_made = λ t valid none. (interchanged t s, all_but s (s + 1) t, (refl, refl), rules.is_valid s t none.0);
-    keeps = λ t new keep valid none p before. subst (IsFaithful t) (sym p.0) (interchange_faithful t valid s none.0 making sequence none.1 trusted_law cleared true_law before);
-    keeps_on = λ t new keep data_bytes valid none p kind tidy new_tidy true_on true_for free.
-        subst (λ (u : ProgramTree). KeepsOn t u data_bytes) (sym p.0) (interchange_keeps_on t valid s none.0 making sequence none.1 data_bytes true_on free);
-  }
+  lawful_interchange = lawful_by_test (λ t. crossing t s) (crossing_uncrosses s)
+
+  -- with evidence
+  pub lawful_interchange_by : DisprovedLaw → (evidence : List Line) → IsLawful (interchanging_by s evidence)
+  lawful_interchange_by law evidence = lawful_by_test (λ t. crossing_open t s evidence) (open_uncrosses law s evidence)

@@ -1,5 +1,6 @@
 pub mod ShapedCode
 pub mod RejectRules
+mod Endings
 mod FlagAnswers
 mod RejectedTrees
 mod LoopsOfReferences
@@ -20,6 +21,8 @@ mod ShapedWays
 mod ShapedBounds
 mod FreeSwaps
 mod ShapedSwaps
+mod SomeVectors
+mod OpenEdges
 mod UncrossedPairs
 pub mod InterchangeRules
 mod ShapedNames
@@ -27,3 +30,4 @@ mod InterchangeLawful
 pub mod Determined
 mod InterchangeAnswers
 mod SerialLawful
+mod WithoutEvidence

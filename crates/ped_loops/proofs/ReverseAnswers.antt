@@ -6,34 +6,23 @@ use Rattle.ped_tree.specs.Constants.ConstantExpressions.{constant_value}
 use Rattle.ped_tree.specs.Tree.{Head, StmtTree, StmtTrees, Do, ProgramTree}
 use Rattle.ped_tree.specs.Views.{stmt_tree, stmt_trees}
 use Rattle.ped_tree.specs.declared.statements.Stmt.{Stmt}
-use Rattle.ped_rules.specs.Carried.{IsFirstOf, carried}
 use Rattle.ped_rules.specs.OnlyLoops.{on_loop}
 use Rattle.ped_rules.specs.Rules.{is_unit}
-use Rattle.ped_rules.specs.Steps.{transformation, Answers}
-use Rattle.ped_rules.specs.ped_steps.specs.Causes.{NoRule, IsFirstRule}
-use Rattle.ped_rules.specs.ped_steps.specs.Changes.{IsChange}
+use Rattle.ped_rules.specs.ped_steps.specs.Causes.{IsFirstRule}
 use Rattle.ped_rules.specs.ped_steps.specs.Replacing.{alone, program_with, all_kept}
 use Rattle.ped_rules.specs.ped_steps.specs.declared.causes.Refused.{Refused}
 use Rattle.ped_rules.specs.ped_steps.specs.declared.causes.Refused.TheVariants as variant
-use Rattle.ped_rules.specs.ped_steps.specs.declared.changes.Change.{Change}
 use Rattle.ped_rules.specs.ped_steps.specs.declared.rules.Rule.{Rule}
 use Rattle.ped_rules.specs.ped_flow.specs.Questions.{IsLoop}
 use Rattle.ped_rules.specs.ped_symbols.specs.Kinds.{table_of}
-use Rattle.ped_edges.specs.declared.edges.Edge.{Edge as CodeEdge}
 use Rattle.ped_rules.specs.ped_steps.proofs.OnePlace.{one_program}
-use Rattle.ped_rules.proofs.Answering.{refused_by, forbidden_by, accepted_by}
-use Rattle.ped_loops.specs.Reversing.{turned_head, with_turned, reversed, MakesReversed, StandsAgainstReversal, reversing}
+use Rattle.ped_loops.specs.CodeEnding.{IsByRules}
+use Rattle.ped_loops.specs.Reversing.{turned_head, with_turned, reversed, StandsAgainstReversal}
+use Rattle.ped_loops.proofs.Endings.{ruled}
 use Rattle.ped_loops.proofs.ReversedLoops.{unit_is}
 
-module _ (s : ℕ) (t : ProgramTree) where
-  pub refused : (r : Rule) (n : ℕ) (found : Refused) → found ≡ variant.Rule r n → IsFirstRule (StandsAgainstReversal s t) r n → Answers (reversing s) t (Err found)
-  refused r n found is first = refused_by transformation s (StandsAgainstReversal s) (λ u. carried u s) (MakesReversed s) t r n found is first
-
-  pub forbidden : (e : CodeEdge) (found : Refused) → found ≡ variant.Dependence e → NoRule (StandsAgainstReversal s t) → IsFirstOf t (carried t s) (Some e) → Answers (reversing s) t (Err found)
-  forbidden e found is none first = forbidden_by transformation s (StandsAgainstReversal s) (λ u. carried u s) (MakesReversed s) t e found is none first
-
-  pub accepted : (change : Change) → NoRule (StandsAgainstReversal s t) → IsFirstOf t (carried t s) None → IsChange (reversed t s) (all_kept t) change → Answers (reversing s) t (Ok change)
-  accepted change none first made = accepted_by transformation s (StandsAgainstReversal s) (λ u. carried u s) (MakesReversed s) t change (reversed t s) (all_kept t) none first (refl, refl) made
+pub refused : (s : ℕ) (t : ProgramTree) (r : Rule) (n : ℕ) (found : Refused) → found ≡ variant.Rule r n → IsFirstRule (StandsAgainstReversal s t) r n → IsByRules (StandsAgainstReversal s t) (reversed t s) (all_kept t) (Err found)
+refused s t r n found is first = ruled (StandsAgainstReversal s t) (reversed t s) (all_kept t) r n found is first
 
 same_statement : (a b : StmtTree) → Some a ≡ Some b → a ≡ b
 same_statement a b e = cc

@@ -1,4 +1,5 @@
 pub use Rattle.ped_rules
+pub use Rattle.ped_evidence
 pub mod Serialising
 pub mod Rejecting
 pub mod Reversing
@@ -6,3 +7,5 @@ pub mod Shapes
 pub mod Interchanging
 pub mod CodeShapes
 pub mod CodeInterchanging
+pub mod CodeEnding
+pub mod ByEvidence

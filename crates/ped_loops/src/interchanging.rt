@@ -4,12 +4,12 @@ ghost use Rattle.std.specs.Prelude.{◌≡◌, ◌||◌, ◌&&◌, ◌+◌, ◌<
 ghost use Rattle.ped_base.specs.Lists.{has_some};
 ghost use Rattle.ped_tree.specs.Numbering.{statements_count};
 ghost use Rattle.ped_tree.specs.Views.{stmt_trees, do_tree, program_tree, head_of};
+ghost use Rattle.ped_evidence.specs.Lines.{lines_of};
 ghost use Rattle.ped_rules.specs.KeepMaps as KeepMaps;
 ghost use Rattle.ped_rules.specs.OnlyLoops.{only_loop};
 ghost use Rattle.ped_rules.specs.Rules as Rules;
 ghost use Rattle.ped_rules.specs.Rules.{WhereUnplain, setting_at, heads_round};
 ghost use Rattle.ped_rules.specs.Steps.{Answers};
-ghost use Rattle.ped_rules.specs.ped_steps.specs.Causes.{NoRule};
 ghost use Rattle.ped_rules.specs.ped_steps.specs.Changes.{IsChange};
 ghost use Rattle.ped_rules.specs.ped_steps.specs.Replacing.{alone};
 ghost use Rattle.ped_rules.specs.ped_steps.specs.Scenes.{IsSceneOf};
@@ -17,16 +17,21 @@ ghost use Rattle.ped_rules.specs.ped_affine.specs.PairViews.{heads_of};
 ghost use Rattle.ped_rules.specs.ped_flow.specs.Questions.{IsLoop};
 ghost use Rattle.ped_refs.specs.Loops.{nest_of};
 ghost use Rattle.ped_rules.specs.ped_symbols.specs.NameRefusals.{IsValid};
+ghost use Rattle.ped_loops.specs.ByEvidence.{interchanging_by};
+ghost use Rattle.ped_loops.specs.CodeEnding.{IsByRules};
 ghost use Rattle.ped_loops.specs.CodeInterchanging.{NoneUpTo};
 ghost use Rattle.ped_loops.specs.CodeShapes.{HasShapes};
 ghost use Rattle.ped_loops.specs.Interchanging as Spec;
 ghost use Rattle.ped_loops.specs.Shapes.{names_outer};
 
+use crate::ending::unless_forbidden;
+use crate::openness::first_open_crossing;
 use crate::shapes::{Pair, exchanged, names_outer, pair_of};
 use ped_base::NoMemory;
+use ped_evidence::EvidenceLine;
 use ped_refs::Loop;
 use ped_rules::{
-    Change, Refused, Rule, Scene, StepAnswer, against, all_but, are_plain, change_to, escapes,
+    Change, Rule, Scene, StepAnswer, against, all_but, are_plain, change_to, escapes,
     first_crossing, has_step_one, leaves, loop_at, loops_round, only_loop, program_with,
 };
 use ped_tree::constants::Consts;
@@ -47,9 +52,39 @@ pub fn interchange<L: Ledger>(alloc: Global, scene: &Scene<L>, number: u32) -> S
     requires { IsSceneOf (program_tree scene.now.tree.now) scene.now }
     ensures { IfOk result (Answers (Spec.interchanging number) (program_tree scene.now.tree.now)) }
 {
+    match interchange_by_rules(alloc, scene, number)? {
+        Ok(change) => return unless_forbidden(change, first_crossing(alloc, scene, number)),
+        Err(refused) => return Ok(Err(refused)),
+    }
+}
+
+/// The same with evidence: of a dependence only a vector that the evidence doesn't disprove forbids the step.
+pub fn interchange_by<L: Ledger>(
+    alloc: Global,
+    scene: &Scene<L>,
+    number: u32,
+    evidence: &[EvidenceLine],
+) -> StepAnswer
+    requires { IsSceneOf (program_tree scene.now.tree.now) scene.now }
+    ensures { IfOk result (Answers (interchanging_by number (lines_of evidence.now)) (program_tree scene.now.tree.now)) }
+{
+    match interchange_by_rules(alloc, scene, number)? {
+        Ok(change) => {
+            let found = first_open_crossing(alloc, scene, number, evidence);
+            return unless_forbidden(change, found);
+        }
+        Err(refused) => return Ok(Err(refused)),
+    }
+}
+
+/// What the rules answer, before any dependence is asked.
+fn interchange_by_rules<L: Ledger>(alloc: Global, scene: &Scene<L>, number: u32) -> StepAnswer
+    requires { IsSceneOf (program_tree scene.now.tree.now) scene.now }
+    ensures { IfOk result (IsByRules (Spec.StandsAgainstInterchange number (program_tree scene.now.tree.now)) (Spec.interchanged (program_tree scene.now.tree.now) number) (KeepMaps.all_but number (number + 1) (program_tree scene.now.tree.now))) }
+{
     match loop_at(scene.tree, number) {
         Some(outer) => {
-            return interchange_in(alloc, scene, number, outer);
+            return interchange_loop_by_rules(alloc, scene, number, outer);
         }
         None => {
             return Ok(Err(against(Rule::NoLoop, number)));
@@ -58,10 +93,15 @@ pub fn interchange<L: Ledger>(alloc: Global, scene: &Scene<L>, number: u32) -> S
 }
 
 /// The same, where the statement is this DO.
-fn interchange_in<L: Ledger>(alloc: Global, scene: &Scene<L>, number: u32, outer: &Do) -> StepAnswer
+fn interchange_loop_by_rules<L: Ledger>(
+    alloc: Global,
+    scene: &Scene<L>,
+    number: u32,
+    outer: &Do,
+) -> StepAnswer
     requires scene { IsSceneOf (program_tree scene.now.tree.now) scene.now }
     requires is { IsLoop (program_tree scene.now.tree.now) number (head_of outer.now) (stmt_trees outer.now.body.items) }
-    ensures { IfOk result (Answers (Spec.interchanging number) (program_tree scene.now.tree.now)) }
+    ensures { IfOk result (IsByRules (Spec.StandsAgainstInterchange number (program_tree scene.now.tree.now)) (Spec.interchanged (program_tree scene.now.tree.now) number) (KeepMaps.all_but number (number + 1) (program_tree scene.now.tree.now))) }
 {
     match only_loop(&outer.body) {
         Some(inner) => {
@@ -84,7 +124,7 @@ fn interchange_two<L: Ledger>(
     requires scene { IsSceneOf (program_tree scene.now.tree.now) scene.now }
     requires is { IsLoop (program_tree scene.now.tree.now) number (head_of outer.now) (stmt_trees outer.now.body.items) }
     requires only { only_loop (stmt_trees outer.now.body.items) ≡ Some (head_of inner.now, stmt_trees inner.now.body.items) }
-    ensures { IfOk result (Answers (Spec.interchanging number) (program_tree scene.now.tree.now)) }
+    ensures { IfOk result (IsByRules (Spec.StandsAgainstInterchange number (program_tree scene.now.tree.now)) (Spec.interchanged (program_tree scene.now.tree.now) number) (KeepMaps.all_but number (number + 1) (program_tree scene.now.tree.now))) }
 {
     if are_parallel(outer, inner) {
         return Ok(Err(against(Rule::ParallelState, number)));
@@ -135,7 +175,7 @@ fn unless_unplain<L: Ledger>(
     requires is { IsLoop (program_tree scene.now.tree.now) number (head_of outer.now) (stmt_trees outer.now.body.items) }
     requires only { only_loop (stmt_trees outer.now.body.items) ≡ Some (head_of inner.now, stmt_trees inner.now.body.items) }
     requires none { NoneUpTo 5 (Spec.StandsAgainstInterchange number (program_tree scene.now.tree.now)) }
-    ensures { IfOk result (Answers (Spec.interchanging number) (program_tree scene.now.tree.now)) }
+    ensures { IfOk result (IsByRules (Spec.StandsAgainstInterchange number (program_tree scene.now.tree.now)) (Spec.interchanged (program_tree scene.now.tree.now) number) (KeepMaps.all_but number (number + 1) (program_tree scene.now.tree.now))) }
 {
     match first_unplain(alloc, scene, number, outer, inner)? {
         Some(statement) => {
@@ -182,7 +222,7 @@ fn unless_tied<L: Ledger>(
     requires is { IsLoop (program_tree scene.now.tree.now) number (head_of outer.now) (stmt_trees outer.now.body.items) }
     requires only { only_loop (stmt_trees outer.now.body.items) ≡ Some (head_of inner.now, stmt_trees inner.now.body.items) }
     requires none { NoneUpTo 6 (Spec.StandsAgainstInterchange number (program_tree scene.now.tree.now)) }
-    ensures { IfOk result (Answers (Spec.interchanging number) (program_tree scene.now.tree.now)) }
+    ensures { IfOk result (IsByRules (Spec.StandsAgainstInterchange number (program_tree scene.now.tree.now)) (Spec.interchanged (program_tree scene.now.tree.now) number) (KeepMaps.all_but number (number + 1) (program_tree scene.now.tree.now))) }
 {
     match pair_of(outer, inner) {
         Some(pair) => {
@@ -210,7 +250,7 @@ fn unless_stepping<L: Ledger>(
     requires outer { pair.now.outer.now ≡ outer.now }
     requires inner { pair.now.inner.now ≡ inner.now }
     requires shapes { HasShapes pair.now }
-    ensures { IfOk result (Answers (Spec.interchanging number) (program_tree scene.now.tree.now)) }
+    ensures { IfOk result (IsByRules (Spec.StandsAgainstInterchange number (program_tree scene.now.tree.now)) (Spec.interchanged (program_tree scene.now.tree.now) number) (KeepMaps.all_but number (number + 1) (program_tree scene.now.tree.now))) }
 {
     if lacks_units(scene.symbols.consts(), outer, inner) {
         return Ok(Err(against(Rule::StepShape, number)));
@@ -250,14 +290,14 @@ fn unless_far<L: Ledger>(
     requires only { only_loop (stmt_trees outer.now.body.items) ≡ Some (head_of inner.now, stmt_trees inner.now.body.items) }
     requires none { NoneUpTo 8 (Spec.StandsAgainstInterchange number (program_tree scene.now.tree.now)) }
     requires new { alone (do_tree new.now) ≡ Spec.with_exchanged (head_of outer.now) (stmt_trees outer.now.body.items) }
-    ensures { IfOk result (Answers (Spec.interchanging number) (program_tree scene.now.tree.now)) }
+    ensures { IfOk result (IsByRules (Spec.StandsAgainstInterchange number (program_tree scene.now.tree.now)) (Spec.interchanged (program_tree scene.now.tree.now) number) (KeepMaps.all_but number (number + 1) (program_tree scene.now.tree.now))) }
 {
     if leaves_either(alloc, scene, number, outer, inner, new)? {
         return Ok(Err(against(Rule::Range, number)));
     }
     match interchanged(alloc, scene, number, outer, new)? {
         Some(change) => {
-            return unless_crossing(alloc, scene, number, change);
+            return Ok(Ok(change));
         }
         None => {
             return Ok(Err(against(Rule::Limit, number)));
@@ -314,33 +354,6 @@ fn leaves_bound<L: Ledger>(
         return Ok(true);
     }
     leaves(alloc, scene, round, &new.last)
-}
-
-/// The change, which no rule forbids, unless the step would turn a dependence around.
-fn unless_crossing<L: Ledger>(
-    alloc: Global,
-    scene: &Scene<L>,
-    number: u32,
-    change: Change,
-) -> StepAnswer
-    requires scene { IsSceneOf (program_tree scene.now.tree.now) scene.now }
-    requires free { NoRule (Spec.StandsAgainstInterchange number (program_tree scene.now.tree.now)) }
-    requires is { IsChange (Spec.interchanged (program_tree scene.now.tree.now) number) (KeepMaps.all_but number (number + 1) (program_tree scene.now.tree.now)) change }
-    ensures { IfOk result (Answers (Spec.interchanging number) (program_tree scene.now.tree.now)) }
-{
-    match first_crossing(alloc, scene, number) {
-        Ok(Some(edge)) => {
-            drop(change);
-            return Ok(Err(Refused::Dependence(edge)));
-        }
-        Ok(None) => {
-            return Ok(Ok(change));
-        }
-        Err(NoMemory) => {
-            drop(change);
-            return Err(NoMemory);
-        }
-    }
 }
 
 /// The change to the program with the new loops in the place of the DO of this number: none exactly where that program

@@ -2,20 +2,21 @@
 
 ghost use Rattle.std.specs.Prelude.{true, IfOk};
 ghost use Rattle.ped_tree.specs.Views.{stmt_trees, program_tree, head_of};
+ghost use Rattle.ped_evidence.specs.Lines.{lines_of};
 ghost use Rattle.ped_rules.specs.Steps.{Answers};
-ghost use Rattle.ped_rules.specs.ped_steps.specs.Causes.{NoRule};
-ghost use Rattle.ped_rules.specs.ped_steps.specs.Changes.{IsChange};
 ghost use Rattle.ped_rules.specs.ped_steps.specs.Replacing.{all_kept};
 ghost use Rattle.ped_rules.specs.ped_steps.specs.Scenes.{IsSceneOf};
 ghost use Rattle.ped_rules.specs.ped_flow.specs.Questions.{IsLoop};
 ghost use Rattle.ped_rules.specs.Flags as Flags;
 ghost use Rattle.ped_rules.specs.Paralleling as Spec;
+ghost use Rattle.ped_loops.specs.ByEvidence.{paralleling_by};
+ghost use Rattle.ped_loops.specs.CodeEnding.{IsByRules};
 
+use crate::ending::unless_forbidden;
 use crate::flags::flagged;
-use ped_base::NoMemory;
-use ped_rules::{
-    Change, Refused, Rule, Scene, StepAnswer, against, escapes, first_carried, loop_at,
-};
+use crate::openness::first_open;
+use ped_evidence::EvidenceLine;
+use ped_rules::{Rule, Scene, StepAnswer, against, escapes, first_carried, loop_at};
 use ped_tree::Do;
 use std::alloc::Global;
 use std::sync::ledger::Ledger;
@@ -32,9 +33,36 @@ pub fn make_parallel<L: Ledger>(alloc: Global, scene: &Scene<L>, number: u32) ->
     requires { IsSceneOf (program_tree scene.now.tree.now) scene.now }
     ensures { IfOk result (Answers (Spec.paralleling number) (program_tree scene.now.tree.now)) }
 {
+    match parallel_by_rules(alloc, scene, number)? {
+        Ok(change) => return unless_forbidden(change, first_carried(alloc, scene, number)),
+        Err(refused) => return Ok(Err(refused)),
+    }
+}
+
+/// The same with evidence: a dependence doesn't forbid the step where the evidence disproves each of its vectors.
+pub fn make_parallel_by<L: Ledger>(
+    alloc: Global,
+    scene: &Scene<L>,
+    number: u32,
+    evidence: &[EvidenceLine],
+) -> StepAnswer
+    requires { IsSceneOf (program_tree scene.now.tree.now) scene.now }
+    ensures { IfOk result (Answers (paralleling_by number (lines_of evidence.now)) (program_tree scene.now.tree.now)) }
+{
+    match parallel_by_rules(alloc, scene, number)? {
+        Ok(change) => return unless_forbidden(change, first_open(alloc, scene, number, evidence)),
+        Err(refused) => return Ok(Err(refused)),
+    }
+}
+
+/// What the rules answer, before any dependence is asked.
+fn parallel_by_rules<L: Ledger>(alloc: Global, scene: &Scene<L>, number: u32) -> StepAnswer
+    requires { IsSceneOf (program_tree scene.now.tree.now) scene.now }
+    ensures { IfOk result (IsByRules (Spec.StandsAgainstParallel number (program_tree scene.now.tree.now)) (Flags.flagged (program_tree scene.now.tree.now) number true) (all_kept (program_tree scene.now.tree.now))) }
+{
     match loop_at(scene.tree, number) {
         Some(d) => {
-            return make_parallel_in(alloc, scene, number, d);
+            return parallel_loop_by_rules(alloc, scene, number, d);
         }
         None => {
             return Ok(Err(against(Rule::NoLoop, number)));
@@ -43,10 +71,15 @@ pub fn make_parallel<L: Ledger>(alloc: Global, scene: &Scene<L>, number: u32) ->
 }
 
 /// The same, where the statement is this DO.
-fn make_parallel_in<L: Ledger>(alloc: Global, scene: &Scene<L>, number: u32, d: &Do) -> StepAnswer
+fn parallel_loop_by_rules<L: Ledger>(
+    alloc: Global,
+    scene: &Scene<L>,
+    number: u32,
+    d: &Do,
+) -> StepAnswer
     requires scene { IsSceneOf (program_tree scene.now.tree.now) scene.now }
     requires is { IsLoop (program_tree scene.now.tree.now) number (head_of d.now) (stmt_trees d.now.body.items) }
-    ensures { IfOk result (Answers (Spec.paralleling number) (program_tree scene.now.tree.now)) }
+    ensures { IfOk result (IsByRules (Spec.StandsAgainstParallel number (program_tree scene.now.tree.now)) (Flags.flagged (program_tree scene.now.tree.now) number true) (all_kept (program_tree scene.now.tree.now))) }
 {
     if d.parallel {
         return Ok(Err(against(Rule::ParallelState, number)));
@@ -56,37 +89,10 @@ fn make_parallel_in<L: Ledger>(alloc: Global, scene: &Scene<L>, number: u32, d: 
     }
     match flagged(alloc, scene, number, d, true)? {
         Some(change) => {
-            return unless_carried(alloc, scene, number, change);
+            return Ok(Ok(change));
         }
         None => {
             return Ok(Err(against(Rule::Limit, number)));
-        }
-    }
-}
-
-/// The change, which no rule forbids, unless the DO with this number carries a dependence.
-fn unless_carried<L: Ledger>(
-    alloc: Global,
-    scene: &Scene<L>,
-    number: u32,
-    change: Change,
-) -> StepAnswer
-    requires scene { IsSceneOf (program_tree scene.now.tree.now) scene.now }
-    requires free { NoRule (Spec.StandsAgainstParallel number (program_tree scene.now.tree.now)) }
-    requires is { IsChange (Flags.flagged (program_tree scene.now.tree.now) number true) (all_kept (program_tree scene.now.tree.now)) change }
-    ensures { IfOk result (Answers (Spec.paralleling number) (program_tree scene.now.tree.now)) }
-{
-    match first_carried(alloc, scene, number) {
-        Ok(Some(edge)) => {
-            drop(change);
-            return Ok(Err(Refused::Dependence(edge)));
-        }
-        Ok(None) => {
-            return Ok(Ok(change));
-        }
-        Err(NoMemory) => {
-            drop(change);
-            return Err(NoMemory);
         }
     }
 }

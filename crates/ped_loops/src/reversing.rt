@@ -6,21 +6,26 @@ ghost use Rattle.ped_tree.specs.Constants.ConstantExpressions.{constant_value};
 ghost use Rattle.ped_tree.specs.Numbering.{statements_count};
 ghost use Rattle.ped_tree.specs.Tree as Tree;
 ghost use Rattle.ped_tree.specs.Views.{stmt_tree, stmt_trees, program_tree, head_of};
+ghost use Rattle.ped_evidence.specs.Lines.{lines_of};
 ghost use Rattle.ped_rules.specs.Rules.{is_unit, WhereEscape};
 ghost use Rattle.ped_rules.specs.Steps.{Answers};
-ghost use Rattle.ped_rules.specs.ped_steps.specs.Causes.{NoRule};
 ghost use Rattle.ped_rules.specs.ped_steps.specs.Changes.{IsChange};
 ghost use Rattle.ped_rules.specs.ped_steps.specs.Replacing as Replacing;
 ghost use Rattle.ped_rules.specs.ped_steps.specs.Scenes.{IsSceneOf};
 ghost use Rattle.ped_rules.specs.ped_flow.specs.Questions.{IsLoop};
 ghost use Rattle.ped_rules.specs.ped_symbols.specs.Kinds.{table_of};
 ghost use Rattle.ped_rules.specs.ped_symbols.specs.NameRefusals.{IsValid};
+ghost use Rattle.ped_loops.specs.ByEvidence.{reversing_by};
+ghost use Rattle.ped_loops.specs.CodeEnding.{IsByRules};
 ghost use Rattle.ped_loops.specs.Reversing as Spec;
 
+use crate::ending::unless_forbidden;
+use crate::openness::first_open;
 use ped_base::{NoMemory, both};
+use ped_evidence::EvidenceLine;
 use ped_rules::{
-    Change, Refused, Rule, Scene, StepAnswer, against, all_kept, change_to, escapes, first_carried,
-    literal, loop_at, program_with, unit_step,
+    Change, Rule, Scene, StepAnswer, against, all_kept, change_to, escapes, first_carried, literal,
+    loop_at, program_with, unit_step,
 };
 use ped_tree::{Do, Program, Stmt};
 use std::alloc::Global;
@@ -38,9 +43,36 @@ pub fn reverse<L: Ledger>(alloc: Global, scene: &Scene<L>, number: u32) -> StepA
     requires { IsSceneOf (program_tree scene.now.tree.now) scene.now }
     ensures { IfOk result (Answers (Spec.reversing number) (program_tree scene.now.tree.now)) }
 {
+    match reverse_by_rules(alloc, scene, number)? {
+        Ok(change) => return unless_forbidden(change, first_carried(alloc, scene, number)),
+        Err(refused) => return Ok(Err(refused)),
+    }
+}
+
+/// The same with evidence: a dependence doesn't forbid the step where the evidence disproves each of its vectors.
+pub fn reverse_by<L: Ledger>(
+    alloc: Global,
+    scene: &Scene<L>,
+    number: u32,
+    evidence: &[EvidenceLine],
+) -> StepAnswer
+    requires { IsSceneOf (program_tree scene.now.tree.now) scene.now }
+    ensures { IfOk result (Answers (reversing_by number (lines_of evidence.now)) (program_tree scene.now.tree.now)) }
+{
+    match reverse_by_rules(alloc, scene, number)? {
+        Ok(change) => return unless_forbidden(change, first_open(alloc, scene, number, evidence)),
+        Err(refused) => return Ok(Err(refused)),
+    }
+}
+
+/// What the rules answer, before any dependence is asked.
+fn reverse_by_rules<L: Ledger>(alloc: Global, scene: &Scene<L>, number: u32) -> StepAnswer
+    requires { IsSceneOf (program_tree scene.now.tree.now) scene.now }
+    ensures { IfOk result (IsByRules (Spec.StandsAgainstReversal number (program_tree scene.now.tree.now)) (Spec.reversed (program_tree scene.now.tree.now) number) (Replacing.all_kept (program_tree scene.now.tree.now))) }
+{
     match loop_at(scene.tree, number) {
         Some(d) => {
-            return reverse_in(alloc, scene, number, d);
+            return reverse_loop_by_rules(alloc, scene, number, d);
         }
         None => {
             return Ok(Err(against(Rule::NoLoop, number)));
@@ -49,10 +81,15 @@ pub fn reverse<L: Ledger>(alloc: Global, scene: &Scene<L>, number: u32) -> StepA
 }
 
 /// The same, where the statement is this DO.
-fn reverse_in<L: Ledger>(alloc: Global, scene: &Scene<L>, number: u32, d: &Do) -> StepAnswer
+fn reverse_loop_by_rules<L: Ledger>(
+    alloc: Global,
+    scene: &Scene<L>,
+    number: u32,
+    d: &Do,
+) -> StepAnswer
     requires scene { IsSceneOf (program_tree scene.now.tree.now) scene.now }
     requires is { IsLoop (program_tree scene.now.tree.now) number (head_of d.now) (stmt_trees d.now.body.items) }
-    ensures { IfOk result (Answers (Spec.reversing number) (program_tree scene.now.tree.now)) }
+    ensures { IfOk result (IsByRules (Spec.StandsAgainstReversal number (program_tree scene.now.tree.now)) (Spec.reversed (program_tree scene.now.tree.now) number) (Replacing.all_kept (program_tree scene.now.tree.now))) }
 {
     if d.parallel {
         return Ok(Err(against(Rule::ParallelState, number)));
@@ -62,7 +99,7 @@ fn reverse_in<L: Ledger>(alloc: Global, scene: &Scene<L>, number: u32, d: &Do) -
     }
     match unit_step(scene.symbols.consts(), d) {
         Some(step) => {
-            return reverse_by(alloc, scene, number, d, step);
+            return unless_limited(alloc, scene, number, d, step);
         }
         None => {
             return Ok(Err(against(Rule::StepShape, number)));
@@ -71,7 +108,7 @@ fn reverse_in<L: Ledger>(alloc: Global, scene: &Scene<L>, number: u32, d: &Do) -
 }
 
 /// The same, where the DO is no PARALLEL DO, none of its variables is read outside it, and its increment is this one.
-fn reverse_by<L: Ledger>(
+fn unless_limited<L: Ledger>(
     alloc: Global,
     scene: &Scene<L>,
     number: u32,
@@ -84,41 +121,14 @@ fn reverse_by<L: Ledger>(
     requires contained { (n : ℕ) → WhereEscape (program_tree scene.now.tree.now) number n → ⊥ }
     requires step { constant_value (table_of (program_tree scene.now.tree.now)).constants (head_of d.now).step ≡ Some step }
     requires unit { is_unit step ≡ true }
-    ensures { IfOk result (Answers (Spec.reversing number) (program_tree scene.now.tree.now)) }
+    ensures { IfOk result (IsByRules (Spec.StandsAgainstReversal number (program_tree scene.now.tree.now)) (Spec.reversed (program_tree scene.now.tree.now) number) (Replacing.all_kept (program_tree scene.now.tree.now))) }
 {
     match reversed(alloc, scene, number, d, step)? {
         Some(change) => {
-            return unless_carried(alloc, scene, number, change);
+            return Ok(Ok(change));
         }
         None => {
             return Ok(Err(against(Rule::Limit, number)));
-        }
-    }
-}
-
-/// The change, which no rule forbids, unless the DO with this number carries a dependence.
-fn unless_carried<L: Ledger>(
-    alloc: Global,
-    scene: &Scene<L>,
-    number: u32,
-    change: Change,
-) -> StepAnswer
-    requires scene { IsSceneOf (program_tree scene.now.tree.now) scene.now }
-    requires free { NoRule (Spec.StandsAgainstReversal number (program_tree scene.now.tree.now)) }
-    requires is { IsChange (Spec.reversed (program_tree scene.now.tree.now) number) (Replacing.all_kept (program_tree scene.now.tree.now)) change }
-    ensures { IfOk result (Answers (Spec.reversing number) (program_tree scene.now.tree.now)) }
-{
-    match first_carried(alloc, scene, number) {
-        Ok(Some(edge)) => {
-            drop(change);
-            return Ok(Err(Refused::Dependence(edge)));
-        }
-        Ok(None) => {
-            return Ok(Ok(change));
-        }
-        Err(NoMemory) => {
-            drop(change);
-            return Err(NoMemory);
         }
     }
 }

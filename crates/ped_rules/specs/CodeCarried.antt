@@ -1,4 +1,4 @@
--- The dependences that the code finds. Only contracts of private functions use it (this project).
+-- The dependences that the code finds (this project).
 use Rattle.std.specs.Prelude.{◌≡◌, List, map, filter, Bool, All}
 use Rattle.ped_tree.specs.Tree.{ProgramTree}
 use Rattle.ped_edges.specs.Edges.{Edge}

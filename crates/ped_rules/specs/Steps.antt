@@ -24,21 +24,6 @@ pub record StepAt : Type 1 where
 abbrev pub asks_no_more : ProgramTree → (data_bytes : List ℕ) → Type 0
 asks_no_more t data_bytes = ⊤
 
--- the step that a command takes, where it takes one (ParaScope; this project)
-pub data MaybeStep : Type 1 where
-  no_step : MaybeStep
-  some_step : StepAt → MaybeStep
-
--- one thing where there is no step, another of the step that is there (plain words)
-abbrev pub MatchStep : MaybeStep → Type 0 → (StepAt → Type 0) → Type 0
-MatchStep no_step P Q = P
-MatchStep (some_step at) P Q = Q at
-
--- the statement at which the step is taken, where there is one
-abbrev pub place_of : MaybeStep → Option ℕ
-place_of no_step = None
-place_of (some_step at) = Some at.statement
-
 -- what the code of a step answers for a program: a change to what the step makes of it, where nothing forbids the step; or the first cause against it (this project)
 abbrev pub Answers : StepAt → ProgramTree → Result Change Refused → Type 0
 Answers at t (Ok change) = at.IsCause t None × (new : ProgramTree) × (keep : List (ℕ × ℕ)) × at.Makes t new keep × IsChange new keep change

@@ -49,8 +49,9 @@ pub fn first_crossing<L: Ledger>(
     Ok(first_of(edges))
 }
 
-/// The dependences that the DO with this number carries and the user hasn't rejected.
-fn carried_edges<L: Ledger>(
+/// The dependences that the DO with this number carries and the user hasn't rejected, in the order of the pane. For steps
+/// that not each of them forbids.
+pub fn carried_edges<L: Ledger>(
     alloc: Global,
     scene: &Scene<L>,
     number: u32,
@@ -93,7 +94,7 @@ fn has_after(level: u8, vectors: &[Vector]) -> bool
 }
 
 /// Whether the vector has `>` after this level.
-fn is_after(level: u8, directions: &[Direction]) -> bool
+pub fn is_after(level: u8, directions: &[Direction]) -> bool
     ensures { result ≡ Spec.is_after (slice_get directions.now level) }
 {
     match directions.get(level as usize) {

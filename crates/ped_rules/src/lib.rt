@@ -20,7 +20,7 @@ mod settling;
 mod spans;
 
 pub use bounds::{are_plain, is_plain};
-pub use carried::{first_carried, first_crossing, level_at};
+pub use carried::{carried_edges, first_carried, first_crossing, is_after, level_at};
 pub use causes::against;
 pub use escaping::escapes;
 pub use fresh::{NewName, fresh_name, occurs};

@@ -2,7 +2,7 @@
 use Rattle.std.proofs.Common.{◌≡◌, ℕ, refl}
 use Rattle.std.specs.Prelude.{if◌then◌else◌}
 use Rattle.ped_script.specs.declared.kinds.WhichStep.{WhichStep}
-use Rattle.ped_script.specs.declared.kinds.WhichStep.TheVariants.{Interchange, Reverse, Skew, Strip, Peel, Distribute, Fuse, Inline, Expand, Privatise, Reduce, Parallel, Serial, Reject}
+use Rattle.ped_script.specs.declared.kinds.WhichStep.TheVariants.{Interchange, Reverse, Skew, Strip, Peel, Distribute, Fuse, Inline, Expand, Privatise, Reduce, Parallel, Serial, Reject, ParallelBy, ReverseBy, InterchangeBy}
 use Rattle.ped_script.specs.Kinds.{is_rejection}
 use Rattle.ped_auto.specs.ped_rules.specs.Steps.{StepKind, transformation, rejection}
 use Rattle.ped_transformations.specs.Table.{step_at}
@@ -23,3 +23,6 @@ kind_is number (Reduce names) = (refl, refl)
 kind_is number Parallel = (refl, refl)
 kind_is number Serial = (refl, refl)
 kind_is number (Reject name) = (refl, refl)
+kind_is number (ParallelBy evidence) = (refl, refl)
+kind_is number (ReverseBy evidence) = (refl, refl)
+kind_is number (InterchangeBy evidence) = (refl, refl)

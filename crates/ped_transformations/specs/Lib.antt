@@ -1,6 +1,7 @@
 pub use Rattle.ped_script
 pub use Rattle.ped_scalar
 pub use Rattle.ped_loops
+pub use Rattle.ped_loops.specs.ped_evidence
 pub use Rattle.ped_reindex
 pub use Rattle.ped_splits
 pub use Rattle.ped_reduce

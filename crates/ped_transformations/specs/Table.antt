@@ -1,14 +1,16 @@
 -- The only table of the steps: what each is at a statement (ParaScope; this project).
 use Rattle.std.specs.Prelude.{ℕ}
 use Rattle.ped_script.specs.declared.kinds.WhichStep.{WhichStep}
-use Rattle.ped_script.specs.declared.kinds.WhichStep.TheVariants.{Interchange, Reverse, Skew, Strip, Peel, Distribute, Fuse, Inline, Expand, Privatise, Reduce, Parallel, Serial, Reject}
+use Rattle.ped_script.specs.declared.kinds.WhichStep.TheVariants.{Interchange, Reverse, Skew, Strip, Peel, Distribute, Fuse, Inline, Expand, Privatise, Reduce, Parallel, Serial, Reject, ParallelBy, ReverseBy, InterchangeBy}
 use Rattle.ped_script.specs.declared.kinds.StepCommand.{StepCommand}
 use Rattle.ped_auto.specs.ped_rules.specs.Steps.{StepAt}
+use Rattle.ped_loops.specs.ped_evidence.specs.Lines.{lines_of}
 use Rattle.ped_scalar.specs.Privatising.{privatising}
 use Rattle.ped_scalar.specs.Expanding.{expanding}
 use Rattle.ped_loops.specs.Interchanging.{interchanging}
 use Rattle.ped_loops.specs.Reversing.{reversing}
 use Rattle.ped_auto.specs.ped_rules.specs.Paralleling.{paralleling}
+use Rattle.ped_loops.specs.ByEvidence.{paralleling_by, reversing_by, interchanging_by}
 use Rattle.ped_loops.specs.Serialising.{serialising}
 use Rattle.ped_loops.specs.Rejecting.{rejecting}
 use Rattle.ped_reindex.specs.Skewing.{skewing}
@@ -35,6 +37,9 @@ step_at number Inline = inlining number
 step_at number Parallel = paralleling number
 step_at number Serial = serialising number
 step_at number (Reject name) = rejecting number name
+step_at number (ParallelBy evidence) = paralleling_by number (lines_of evidence)
+step_at number (ReverseBy evidence) = reversing_by number (lines_of evidence)
+step_at number (InterchangeBy evidence) = interchanging_by number (lines_of evidence)
 
 -- the step that a command takes
 abbrev pub step_of : StepCommand → StepAt

@@ -7,7 +7,7 @@ ghost use Rattle.ped_transformations.specs.Table.{step_of};
 use ped_inline::inline_is_lawful;
 use ped_loops::{
     interchange_is_lawful, parallel_is_lawful, rejection_is_lawful, reversal_is_lawful,
-    serial_is_lawful,
+    serial_is_lawful, steps_by_evidence_are_lawful,
 };
 use ped_reduce::reduction_is_lawful;
 use ped_reindex::{peeling_is_lawful, skewing_is_lawful, stripping_is_lawful};
@@ -25,6 +25,7 @@ pub fn every_step_is_lawful()
     parallel_is_lawful();
     serial_is_lawful();
     rejection_is_lawful();
+    steps_by_evidence_are_lawful();
     skewing_is_lawful();
     stripping_is_lawful();
     peeling_is_lawful();

@@ -13,5 +13,6 @@ pub use ped_inline::{
     Change, Refused, Scene, StepAnswer, calls_are_covered, calls_pane, cause_words, loop_at,
     loops_round,
 };
+pub use ped_loops::{disproved_never_meets, judge, system_text};
 pub use ped_reduce::{Lowered, has_list, lower, lowering_keeps_the_meaning, one_lowering};
 pub use table::answer;

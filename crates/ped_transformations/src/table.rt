@@ -7,7 +7,10 @@ ghost use Rattle.ped_auto.specs.ped_rules.specs.ped_steps.specs.Scenes.{IsSceneO
 ghost use Rattle.ped_transformations.specs.Table.{step_of};
 
 use ped_inline::{Scene, StepAnswer, inline};
-use ped_loops::{interchange, make_parallel, make_serial, reject, reverse};
+use ped_loops::{
+    interchange, interchange_by, make_parallel, make_parallel_by, make_serial, reject, reverse,
+    reverse_by,
+};
 use ped_reduce::reduce;
 use ped_reindex::{peel, skew, strip};
 use ped_scalar::{expand, privatise};
@@ -37,5 +40,14 @@ pub fn answer<L: Ledger>(alloc: Global, scene: &Scene<L>, command: &StepCommand)
         WhichStep::Parallel => return make_parallel(alloc, scene, number),
         WhichStep::Serial => return make_serial(alloc, scene, number),
         WhichStep::Reject(name) => return reject(alloc, scene, number, name),
+        WhichStep::ParallelBy(evidence) => {
+            return make_parallel_by(alloc, scene, number, evidence.as_slice());
+        }
+        WhichStep::ReverseBy(evidence) => {
+            return reverse_by(alloc, scene, number, evidence.as_slice());
+        }
+        WhichStep::InterchangeBy(evidence) => {
+            return interchange_by(alloc, scene, number, evidence.as_slice());
+        }
     }
 }

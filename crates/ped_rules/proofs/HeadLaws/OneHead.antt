@@ -8,7 +8,7 @@ use Rattle.ped_tree.specs.Accesses.{constant_names}
 use Rattle.ped_loop_runs.specs.ped_laws.proofs.FlowRunLaws.Stopping.{fitting_stops, loop_stops}
 use Rattle.ped_loop_runs.specs.ped_symbols.specs.NameRefusals.{IsValid}
 use Rattle.ped_loop_runs.specs.ped_flow.specs.Questions.{LoopOf, IsContained, IsShownBehind}
-use Rattle.ped_loop_runs.specs.ped_flow.specs.Summaries.{sum_of}
+use Rattle.ped_loop_runs.specs.ped_flow.specs.Summaries.{summary_of}
 use Rattle.ped_loop_runs.specs.ped_flow.proofs.Truths.{untrue}
 use Rattle.ped_loop_runs.specs.ped_steps.specs.Replacing.{alone, program_with}
 use Rattle.ped_loop_runs.specs.ped_steps.proofs.RunLaws.ReplacedTrees.{HasGap, program_gap}
@@ -21,7 +21,7 @@ abbrev pub TrustedLaw : Type 0
 TrustedLaw = (x : Exchange) (t u : ProgramTree) → IsExchanged x t u → LeavesAlone x t → (some_rejection (old_of x) ≡ false → some_rejection x.new ≡ false) → IsTrusted t → IsTrusted u
 
 abbrev pub ClearedLaw : Type 0
-ClearedLaw = (constants : List (List ℕ)) (w : List ℕ) (h : Head) (body : StmtTrees) (n : ℕ) → is_among w (loop_variables (Do h body)) ≡ false → (sum_of constants w (Do h body) n).keeps ≡ not (is_among w h.private)
+ClearedLaw = (constants : List (List ℕ)) (w : List ℕ) (h : Head) (body : StmtTrees) (n : ℕ) → is_among w (loop_variables (Do h body)) ≡ false → (summary_of constants w (Do h body) n).keeps ≡ not (is_among w h.private)
 
 module _ (t : ProgramTree) (valid : IsValid t) (s : ℕ) (loop : LoopOf t s) (contained : IsContained t s) (h : Head) (variable : h.variable ≡ loop.head.variable) (private : h.private ≡ loop.head.private) (rejected : h.rejected ≡ loop.head.rejected)
     (writes : some_write_index (constant_names t.decls) (alone (Do loop.head loop.body)) ≡ false → some_write_index (constant_names t.decls) (alone (Do h loop.body)) ≡ false) where

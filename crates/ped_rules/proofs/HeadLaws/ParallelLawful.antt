@@ -21,6 +21,8 @@ use Rattle.ped_loop_runs.specs.Unrejected.{some_rejection, IsTrusted}
 use Rattle.ped_rules.specs.Carried.{level_at, is_carried_by, carried}
 use Rattle.ped_rules.specs.Lawful.{IsFaithful, IsLawful}
 use Rattle.ped_rules.specs.Rules.{is_parallel}
+use Rattle.ped_rules.specs.Steps.{transformation}
+use Rattle.ped_rules.proofs.Answering.{step_by}
 use Rattle.ped_rules.proofs.CarriedEdges.{in_body}
 use Rattle.ped_rules.proofs.KeptNumbers.{all_one_to_one}
 use Rattle.ped_loop_runs.specs.Carried as runs
@@ -31,7 +33,7 @@ use Rattle.ped_loop_runs.specs.TrueRejections.{IsTrueOn}
 use Rattle.ped_loop_runs.specs.ped_eval.specs.Outcomes.{IsRaceFree}
 use Rattle.ped_loop_runs.proofs.LoopLaws.SomeEdges.{some_edges}
 use Rattle.ped_rules.specs.Flags.{flagged}
-use Rattle.ped_rules.specs.Paralleling.{StandsAgainstParallel, paralleling}
+use Rattle.ped_rules.specs.Paralleling.{MakesParallel, StandsAgainstParallel, paralleling}
 use Rattle.ped_rules.proofs.HeadLaws.FlagRules as rules
 use Rattle.ped_rules.proofs.HeadLaws.FlaggedLoops.{one_for_one_flag, became_parallel, unwritten_by_tidy, stays_trusted_flag}
 use Rattle.ped_rules.proofs.HeadLaws.OneHead.{TrustedLaw, ClearedLaw}
@@ -100,9 +102,21 @@ pub flag_keeps : KeepsLaw → (t : ProgramTree) → IsValid t → (s : ℕ) (loo
 flag_keeps law t valid s loop flag new_valid contained differ none unwritten =
     law t (flagged t s flag) s loop (record loop.head { parallel = flag }) false (one_for_one_flag t valid s loop flag new_valid contained differ unwritten) (λ data_bytes reordered. none data_bytes (became_parallel t valid s loop flag reordered))
 
+-- what a test of dependences gives for the DO with number s, where it passes none of a program: none that the DO carries occurs on data on which no rejected one does; and where none is rejected, the DO carries none of a scalar
+pub record Forbids (s : ℕ) (forbids : ProgramTree → Edge → Bool) : Type 0 where
+  pub meet : (t : ProgramTree) → IsValid t → (loop : LoopOf t s) (data_bytes : List ℕ) → IsTrueOn t data_bytes → (edges : List Edge) → AreEdges t edges → All (λ e. forbids t e ≡ false) edges → NoneMeetOn t edges data_bytes s loop.body
+  pub scalars : (t : ProgramTree) (loop : LoopOf t s) (edges : List Edge) → some_rejection t.body ≡ false → AreEdges t edges → All (λ e. forbids t e ≡ false) edges → NoneOfScalarsCarriedBy t edges s loop.body
+
+-- that the DO carries a dependence that isn't rejected is such a test
+pub carried_forbids : UnrejectedLaw → (s : ℕ) → Forbids s (λ t. carried t s)
+carried_forbids unrejected s = record {
+  meet = λ t valid loop data_bytes. none_meet t s loop data_bytes;
+  scalars = λ t loop edges plain are. none_carried unrejected t s loop edges plain are;
+}
+
 module _ (keeps_law : KeepsLaw) (trusted_law : TrustedLaw) (cleared : ClearedLaw) where
-  module _ (on_law : KeepsOnLaw) (unwritten_law : UnwrittenLaw) (unrejected : UnrejectedLaw) (true_law : TrueLaw) (s : ℕ) where
-    module _ (t : ProgramTree) (valid : IsValid t) (none : NoRule (StandsAgainstParallel s t)) (free : (edges : List Edge) → AreEdges t edges → All (λ e. carried t s e ≡ false) edges) where
+  module _ (on_law : KeepsOnLaw) (unwritten_law : UnwrittenLaw) (true_law : TrueLaw) (s : ℕ) (forbids : ProgramTree → Edge → Bool) (test : Forbids s forbids) where
+    module _ (t : ProgramTree) (valid : IsValid t) (none : NoRule (StandsAgainstParallel s t)) (free : (edges : List Edge) → AreEdges t edges → All (λ e. forbids t e ≡ false) edges) where
       loop : LoopOf t s
       loop = rules.its_loop is_parallel true s t none
 
@@ -119,7 +133,7 @@ module _ (keeps_law : KeepsLaw) (trusted_law : TrustedLaw) (cleared : ClearedLaw
       contained = rules.is_contained is_parallel true s t none
 
       meet : (data_bytes : List ℕ) → IsTrueOn t data_bytes → (edges : List Edge) → AreEdges t edges → NoneMeetOn t edges data_bytes s loop.body
-      meet data_bytes true_on edges are = none_meet t s loop data_bytes true_on edges are (free edges are)
+      meet data_bytes true_on edges are = test.meet t valid loop data_bytes true_on edges are (free edges are)
 
       parallel_faithful : IsTrusted t → IsFaithful t (flagged t s true)
       parallel_faithful trusted = record {
@@ -130,7 +144,7 @@ module _ (keeps_law : KeepsLaw) (trusted_law : TrustedLaw) (cleared : ClearedLaw
           unwritten : (w : List ℕ) → is_among w (loop_variables (Do loop.head loop.body)) ≡ true → is_written_in t s loop.body w ≡ false
           unwritten w among =
               false_unless (is_written_in t s loop.body w) (λ written. some_edges t (λ edges are.
-              both_ways (is_written_in t s loop.body w) (unwritten_law t valid edges are s loop (none_carried unrejected t s loop edges trusted.unrejected are (free edges are)) w (record { loop = loop; among = among })) written))
+              both_ways (is_written_in t s loop.body w) (unwritten_law t valid edges are s loop (test.scalars t loop edges trusted.unrejected are (free edges are)) w (record { loop = loop; among = among })) written))
 
       -- with C$PED REJECT lines, on data on which they are true
       parallel_keeps_on : (data_bytes : List ℕ) → IsTidy (flagged t s true) → IsTrueOn t data_bytes → IsRaceFree t data_bytes → KeepsOn t (flagged t s true) data_bytes
@@ -138,9 +152,10 @@ module _ (keeps_law : KeepsLaw) (trusted_law : TrustedLaw) (cleared : ClearedLaw
           on_law t (flagged t s true) s loop (record loop.head { parallel = true }) false (one_for_one_flag t valid s loop true new_valid contained differ (unwritten_by_tidy t valid s loop true refl new_tidy)) data_bytes
           (λ reordered. meet data_bytes true_on)
 
-    pub lawful_parallel : IsLawful (paralleling s)
-    lawful_parallel = record {
-      one_cause = λ t c d p q. one_cause t (StandsAgainstParallel s t) (carried t s) (rules.chain is_parallel true s t).one c d p q;
+    -- the step that such a test of dependences forbids
+    pub lawful_by_test : IsLawful (step_by transformation s (StandsAgainstParallel s) forbids (MakesParallel s))
+    lawful_by_test = record {
+      one_cause = λ t c d p q. one_cause t (StandsAgainstParallel s t) (forbids t) (rules.chain is_parallel true s t).one c d p q;
       one_made = rules.one_made is_parallel true s;
       one_to_one = λ t new keep p. subst IsOneToOne (sym p.1) (all_one_to_one t);
       some_made = λ t valid none. (flagged t s true, all_kept t, (refl, refl), rules.is_valid is_parallel true s t none.0);
@@ -148,3 +163,6 @@ module _ (keeps_law : KeepsLaw) (trusted_law : TrustedLaw) (cleared : ClearedLaw
       keeps_on = λ t new keep data_bytes valid none p kind tidy new_tidy true_on true_for free.
           subst (λ (u : ProgramTree). KeepsOn t u data_bytes) (sym p.0) (parallel_keeps_on t valid none.0 none.1 data_bytes (subst IsTidy p.0 new_tidy) true_on free);
     }
+
+  pub lawful_parallel : KeepsOnLaw → UnwrittenLaw → UnrejectedLaw → TrueLaw → (s : ℕ) → IsLawful (paralleling s)
+  lawful_parallel on_law unwritten_law unrejected true_law s = lawful_by_test on_law unwritten_law true_law s (λ t. carried t s) (carried_forbids unrejected s)

@@ -10,7 +10,7 @@ use Rattle.ped_tree.specs.declared.expressions.Intrinsic.TheVariants.{Max, Min, 
 use Rattle.ped_affine.specs.Ranges.{interval_of}
 use Rattle.ped_loop_runs.specs.ped_flow.specs.PlainBounds.{Values, nest_round, setting_round, around_with, IsConstant, IsFixed, IsExtreme, IsPlainlyBuilt, ArePlainlyBuilt, IsPlain}
 use Rattle.ped_loop_runs.specs.ped_flow.specs.Questions.{IsAssignedBefore}
-use Rattle.ped_loop_runs.specs.ped_flow.specs.Summaries.{sum_before_all}
+use Rattle.ped_loop_runs.specs.ped_flow.specs.Summaries.{summary_before_all}
 use Rattle.ped_loop_runs.specs.ped_flow.proofs.Answering.{before_answer}
 
 -- the sentence holds, or it doesn't
@@ -67,7 +67,7 @@ module _ (constants : Values) (t : ProgramTree) (l : ℕ) where
 
   before_decided : (x : List ℕ) → OrNot (IsAssignedBefore t l x)
   before_decided x =
-      let m = sum_before_all (constant_names t.decls) x l t.body 1 in
+      let m = summary_before_all (constant_names t.decls) x l t.body 1 in
       let is = before_answer t l x m (not m.keeps && not m.loses) refl refl in
       same_as is.0 is.1 (truth (not m.keeps && not m.loses))
 

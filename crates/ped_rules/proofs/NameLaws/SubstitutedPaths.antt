@@ -6,7 +6,7 @@ use Rattle.ped_base.proofs.NameEquality.{same_is}
 use Rattle.ped_tree.specs.Tree.{ExprTree, Int, Var, Element, Neg, Add, Sub, Mul, Div, Pow, Call, Head, StmtTree, StmtTrees, Assign, If, Do, Print, Read, Stop, Comment, no_stmts, more_stmts}
 use Rattle.ped_tree.specs.Numbering.{statement_count, statements_count}
 use Rattle.ped_tree.specs.NamesIn.{all_loop_variables}
-use Rattle.ped_loop_runs.specs.ped_flow.specs.Summaries.{passing, unreached, sum_in_turn, sum_either, sum_of, sum_of_all, sum_behind, sum_behind_all}
+use Rattle.ped_loop_runs.specs.ped_flow.specs.Summaries.{passing, unreached, summary_in_turn, summary_either, summary_of, summary_of_all, summary_behind, summary_behind_all}
 use Rattle.ped_loop_runs.specs.ped_flow.proofs.Truths.{untrue}
 use Rattle.ped_loop_runs.specs.ped_laws.specs.FlowRuns.Covering.{has_stop, some_stop}
 use Rattle.ped_loop_runs.specs.ped_sums.specs.Substitution.{substituted, head_substituted, condition_substituted, item_substituted, statement_substituted, statements_substituted}
@@ -68,7 +68,7 @@ module _ (x : List ℕ) (by : ExprTree) where
       items_kept (e ∷ rest) = append_more w (lefts cs e) (flat_map (lefts cs) rest) (lefts cs (substituted x by e)) (flat_map (lefts cs) (map (substituted x by) rest)) (lefts_kept e) (items_kept rest)
 
       mutual
-        pub substituted_leaves : (t : StmtTree) (n m : ℕ) → IsNoMore (sum_of cs w (statement_substituted x by t) n) (sum_of cs w t m)
+        pub substituted_leaves : (t : StmtTree) (n m : ℕ) → IsNoMore (summary_of cs w (statement_substituted x by t) n) (summary_of cs w t m)
         substituted_leaves (Assign left right) n m = own_more cs w (Assign (substituted x by left) (substituted x by right)) (Assign left right) n m (lefts_kept left)
         substituted_leaves (If c a b) n m =
             let first = statements_substituted x by a in
@@ -78,10 +78,10 @@ module _ (x : List ℕ) (by : ExprTree) where
         substituted_leaves (Do h body) n m = do_more cs w (head_substituted x by h) h (statements_substituted x by body) body n m (substituted_clears h body) (all_substituted_leave body (n + 1) (m + 1))
         substituted_leaves (Print items) n m = own_more cs w (Print (map (item_substituted x by) items)) (Print items) n m (λ e. e)
         substituted_leaves (Read items) n m = own_more cs w (Read (map (substituted x by) items)) (Read items) n m (items_kept items)
-        substituted_leaves Stop n m = no_more (sum_of cs w Stop n)
+        substituted_leaves Stop n m = no_more (summary_of cs w Stop n)
         substituted_leaves (Comment text) n m = no_more passing
 
-        pub all_substituted_leave : (ts : StmtTrees) (n m : ℕ) → IsNoMore (sum_of_all cs w (statements_substituted x by ts) n) (sum_of_all cs w ts m)
+        pub all_substituted_leave : (ts : StmtTrees) (n m : ℕ) → IsNoMore (summary_of_all cs w (statements_substituted x by ts) n) (summary_of_all cs w ts m)
         all_substituted_leave no_stmts n m = no_more passing
         all_substituted_leave (more_stmts t rest) n m =
             let first = statement_substituted x by t in
@@ -89,30 +89,30 @@ module _ (x : List ℕ) (by : ExprTree) where
             (substituted_leaves t n m) (all_substituted_leave rest (n + statement_count first) (m + statement_count t))
 
       mutual
-        substituted_behind : (t : StmtTree) (k n : ℕ) → IsNoMore (sum_behind cs w k (statement_substituted x by t) n) (sum_behind cs w k t n)
+        substituted_behind : (t : StmtTree) (k n : ℕ) → IsNoMore (summary_behind cs w k (statement_substituted x by t) n) (summary_behind cs w k t n)
         substituted_behind (Assign left right) k n = no_more unreached
         substituted_behind (If c a b) k n =
             let first = statements_substituted x by a in
             let second = statements_substituted x by b in
-            subst (λ (i : ℕ). IsNoMore (sum_either (sum_behind_all cs w k first (n + 1)) (sum_behind_all cs w k second (n + 1 + i))) (sum_either (sum_behind_all cs w k a (n + 1)) (sum_behind_all cs w k b (n + 1 + statements_count a))))
+            subst (λ (i : ℕ). IsNoMore (summary_either (summary_behind_all cs w k first (n + 1)) (summary_behind_all cs w k second (n + 1 + i))) (summary_either (summary_behind_all cs w k a (n + 1)) (summary_behind_all cs w k b (n + 1 + statements_count a))))
             (sym (counts_kept x by a))
-            (either_more (sum_behind_all cs w k first (n + 1)) (sum_behind_all cs w k second (n + 1 + statements_count a)) (sum_behind_all cs w k a (n + 1)) (sum_behind_all cs w k b (n + 1 + statements_count a))
+            (either_more (summary_behind_all cs w k first (n + 1)) (summary_behind_all cs w k second (n + 1 + statements_count a)) (summary_behind_all cs w k a (n + 1)) (summary_behind_all cs w k b (n + 1 + statements_count a))
             (all_substituted_behind a k (n + 1)) (all_substituted_behind b k (n + 1 + statements_count a)))
         substituted_behind (Do h body) k n =
             let inner = statements_substituted x by body in
             loop_behind_more cs w (head_substituted x by h) h inner body k n k n refl (all_substituted_behind body k (n + 1))
-            (loop_more cs w (head_substituted x by h) h inner body n n (sum_of_all cs w inner (n + 1)) (sum_of_all cs w body (n + 1)) (substituted_clears h body) (all_substituted_leave body (n + 1) (n + 1)))
+            (loop_more cs w (head_substituted x by h) h inner body n n (summary_of_all cs w inner (n + 1)) (summary_of_all cs w body (n + 1)) (substituted_clears h body) (all_substituted_leave body (n + 1) (n + 1)))
         substituted_behind (Print items) k n = no_more unreached
         substituted_behind (Read items) k n = no_more unreached
         substituted_behind Stop k n = no_more unreached
         substituted_behind (Comment text) k n = no_more unreached
 
-        pub all_substituted_behind : (ts : StmtTrees) (k n : ℕ) → IsNoMore (sum_behind_all cs w k (statements_substituted x by ts) n) (sum_behind_all cs w k ts n)
+        pub all_substituted_behind : (ts : StmtTrees) (k n : ℕ) → IsNoMore (summary_behind_all cs w k (statements_substituted x by ts) n) (summary_behind_all cs w k ts n)
         all_substituted_behind no_stmts k n = no_more unreached
         all_substituted_behind (more_stmts t rest) k n =
             let first = statement_substituted x by t in
             let others = statements_substituted x by rest in
-            subst (λ (i : ℕ). IsNoMore (sum_either (sum_in_turn (sum_behind cs w k first n) (sum_of_all cs w others (n + i))) (sum_behind_all cs w k others (n + i))) (sum_behind_all cs w k (more_stmts t rest) n))
+            subst (λ (i : ℕ). IsNoMore (summary_either (summary_in_turn (summary_behind cs w k first n) (summary_of_all cs w others (n + i))) (summary_behind_all cs w k others (n + i))) (summary_behind_all cs w k (more_stmts t rest) n))
             (sym (count_kept x by t))
             (rest_behind_more cs w first t others rest k n k n (n + statement_count t) (n + statement_count t)
             (substituted_behind t k n) (all_substituted_leave rest (n + statement_count t) (n + statement_count t)) (all_substituted_behind rest k (n + statement_count t)))

@@ -16,14 +16,14 @@ returns-then-branch g c =
     refused s t Range s c.against.result c.against.ensures
     (rules.range_first s t (head_of outer) (stmt_trees outer.body.items) c.requires.is c.requires.none (sym c.in_ok-leaves_either.ensures ∙ c.if-branch.true))
 
-pub unless_crossing-requires-clause-free : goal.unless_crossing-requires-clause-free
-unless_crossing-requires-clause-free g c =
+pub returns-in-Some : goal.returns-in-Some
+returns-in-Some g c =
     let t = program_tree c.args.scene.now.tree.now in
     let s = c.args.number in
     let outer = c.args.outer.now in
     let none = rules.upto_range s t (head_of outer) (stmt_trees outer.body.items) c.requires.is c.requires.none (sym c.in_ok-leaves_either.ensures ∙ c.if-branch.false) in
     let made = some_made (interchanged t s) (all_but s (s + 1) t) c.in_ok-change.field-0 c.in-Some.change c.in-Some.is c.in_ok-change.ensures in
-    rules.nothing_stands s t none made.valid
+    (rules.nothing_stands s t none made.valid, made)
 
 pub returns-in-None : goal.returns-in-None
 returns-in-None g c =

@@ -1,13 +1,20 @@
+use Rattle.std.proofs.Common.{true, refl}
 use Rattle.ped_tree.specs.Views.{program_tree}
-use Rattle.std.proofs.Common.{true}
-use Rattle.ped_rules.specs.Rules.{is_parallel}
-use Rattle.ped_rules.specs.ped_steps.specs.declared.rules.Rule.TheVariants.{NoLoop}
-use Rattle.ped_rules.proofs.HeadLaws.FlagRules.{no_loop_first}
-use Rattle.ped_loops.proofs.FlagAnswers.{parallel_refused}
+use Rattle.ped_rules.specs.ped_steps.specs.Replacing.{all_kept}
+use Rattle.ped_rules.specs.Flags.{flagged}
+use Rattle.ped_rules.specs.Paralleling.{MakesParallel, StandsAgainstParallel}
+use Rattle.ped_rules.specs.Carried.{carried}
+use Rattle.ped_loops.proofs.Endings.{refused_at_once, ended}
 use Rattle.ped_loops.proofs.paralleling.make_parallel.Goals as goal
 
-pub returns-in-None : goal.returns-in-None
-returns-in-None g c =
+pub returns-in-Ok : goal.returns-in-Ok
+returns-in-Ok g c =
     let t = program_tree c.args.scene.now.tree.now in
     let s = c.args.number in
-    parallel_refused t s NoLoop s c.against.result c.against.ensures (no_loop_first is_parallel true s t c.in-None.ensures)
+    ended s (StandsAgainstParallel s) (λ u. carried u s) (MakesParallel s) t (flagged t s true) (all_kept t) (refl, refl) c.in_ok-change.field-0 c.in_ok-change.ensures c.in-Ok.change c.in-Ok.is c.first_carried.result c.first_carried.ensures c.unless_forbidden.result c.unless_forbidden.ensures
+
+pub returns-in-Err : goal.returns-in-Err
+returns-in-Err g c =
+    let t = program_tree c.args.scene.now.tree.now in
+    let s = c.args.number in
+    refused_at_once s (StandsAgainstParallel s) (λ u. carried u s) (MakesParallel s) t (flagged t s true) (all_kept t) (refl, refl) c.in_ok-change.field-0 c.in_ok-change.ensures c.in-Err.refused c.in-Err.is

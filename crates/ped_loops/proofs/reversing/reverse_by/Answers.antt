@@ -1,26 +1,20 @@
-use Rattle.ped_tree.specs.Constants.ConstantExpressions.{constant_value}
-use Rattle.ped_tree.specs.Views.{program_tree, stmt_trees, head_of}
-use Rattle.ped_rules.specs.ped_symbols.specs.Kinds.{table_of}
-use Rattle.ped_rules.specs.ped_steps.specs.declared.rules.Rule.TheVariants.{Limit}
+use Rattle.std.proofs.Common.{refl}
+use Rattle.ped_tree.specs.Views.{program_tree}
 use Rattle.ped_rules.specs.ped_steps.specs.Replacing.{all_kept}
-use Rattle.ped_loops.specs.Reversing.{reversed}
-use Rattle.ped_loops.proofs.FlagAnswers.{some_made, none_made}
-use Rattle.ped_loops.proofs.ReverseRules as rules
-use Rattle.ped_loops.proofs.ReverseAnswers.{refused}
+use Rattle.ped_loops.specs.Reversing.{reversed, MakesReversed, StandsAgainstReversal}
+use Rattle.ped_evidence.specs.Lines.{lines_of}
+use Rattle.ped_loops.specs.ByEvidence.{carried_open}
+use Rattle.ped_loops.proofs.Endings.{refused_at_once, ended}
 use Rattle.ped_loops.proofs.reversing.reverse_by.Goals as goal
 
-pub unless_carried-requires-clause-free : goal.unless_carried-requires-clause-free
-unless_carried-requires-clause-free g c =
-    let t = program_tree c.args.scene.now.tree.now in
-    let h = head_of c.args.d.now in
-    let unit = rules.value_unit (constant_value (table_of t).constants h.step) c.args.step c.requires.step c.requires.unit in
-    rules.nothing_stands c.args.number t h (stmt_trees c.args.d.now.body.items) c.requires.is c.requires.serial c.requires.contained unit (some_made (reversed (program_tree c.args.scene.now.tree.now) c.args.number) (all_kept (program_tree c.args.scene.now.tree.now)) c.in_ok-change.field-0 c.in-Some.change c.in-Some.is c.in_ok-change.ensures).valid
-
-pub returns-in-None : goal.returns-in-None
-returns-in-None g c =
+pub returns-in-Ok : goal.returns-in-Ok
+returns-in-Ok g c =
     let t = program_tree c.args.scene.now.tree.now in
     let s = c.args.number in
-    let h = head_of c.args.d.now in
-    let unit = rules.value_unit (constant_value (table_of t).constants h.step) c.args.step c.requires.step c.requires.unit in
-    refused s t Limit s c.against.result c.against.ensures
-    (rules.limit_first s t h (stmt_trees c.args.d.now.body.items) c.requires.is c.requires.serial c.requires.contained unit (none_made (reversed (program_tree c.args.scene.now.tree.now) c.args.number) (all_kept (program_tree c.args.scene.now.tree.now)) c.in_ok-change.field-0 c.in-None.is c.in_ok-change.ensures))
+    ended s (StandsAgainstReversal s) (λ u. carried_open u s (lines_of c.args.evidence.now)) (MakesReversed s) t (reversed t s) (all_kept t) (refl, refl) c.in_ok-change.field-0 c.in_ok-change.ensures c.in-Ok.change c.in-Ok.is c.first_open.result c.first_open.ensures c.unless_forbidden.result c.unless_forbidden.ensures
+
+pub returns-in-Err : goal.returns-in-Err
+returns-in-Err g c =
+    let t = program_tree c.args.scene.now.tree.now in
+    let s = c.args.number in
+    refused_at_once s (StandsAgainstReversal s) (λ u. carried_open u s (lines_of c.args.evidence.now)) (MakesReversed s) t (reversed t s) (all_kept t) (refl, refl) c.in_ok-change.field-0 c.in_ok-change.ensures c.in-Err.refused c.in-Err.is

@@ -6,6 +6,8 @@ use Rattle.ped_tree.specs.Views.{program_tree}
 use Rattle.ped_auto.specs.ped_rules.specs.Steps.{Answers}
 use Rattle.ped_reindex.specs.Skewing.{skewing}
 use Rattle.ped_reindex.specs.Stripping.{stripping}
+use Rattle.ped_loops.specs.ped_evidence.specs.Lines.{lines_of}
+use Rattle.ped_loops.specs.ByEvidence.{paralleling_by, reversing_by, interchanging_by}
 use Rattle.ped_reduce.specs.Reducing.{reducing}
 use Rattle.ped_transformations.proofs.StepAnswers.{answered}
 use Rattle.ped_transformations.proofs.table.answer.Goals as goal
@@ -76,3 +78,24 @@ returns-in-Serial g c =
 pub returns-in-Reject : goal.returns-in-Reject
 returns-in-Reject g c =
     answered (program_tree c.args.scene.now.tree.now) c.args.command.now.statement _ c.args.command.now.step c.in-Reject.is c.reject.result c.reject.ensures
+
+pub returns-in-ParallelBy : goal.returns-in-ParallelBy
+returns-in-ParallelBy g c =
+    let t = program_tree c.args.scene.now.tree.now in
+    let number = c.args.command.now.statement in
+    let found = subst (λ (evidence : List _). IfOk c.make_parallel_by.result (Answers (paralleling_by number (lines_of evidence)) t)) c.as_slice-in-ParallelBy.ensures c.make_parallel_by.ensures in
+    answered t number _ c.args.command.now.step c.in-ParallelBy.is c.make_parallel_by.result found
+
+pub returns-in-ReverseBy : goal.returns-in-ReverseBy
+returns-in-ReverseBy g c =
+    let t = program_tree c.args.scene.now.tree.now in
+    let number = c.args.command.now.statement in
+    let found = subst (λ (evidence : List _). IfOk c.reverse_by.result (Answers (reversing_by number (lines_of evidence)) t)) c.as_slice-in-ReverseBy.ensures c.reverse_by.ensures in
+    answered t number _ c.args.command.now.step c.in-ReverseBy.is c.reverse_by.result found
+
+pub returns-in-InterchangeBy : goal.returns-in-InterchangeBy
+returns-in-InterchangeBy g c =
+    let t = program_tree c.args.scene.now.tree.now in
+    let number = c.args.command.now.statement in
+    let found = subst (λ (evidence : List _). IfOk c.interchange_by.result (Answers (interchanging_by number (lines_of evidence)) t)) c.as_slice-in-InterchangeBy.ensures c.interchange_by.ensures in
+    answered t number _ c.args.command.now.step c.in-InterchangeBy.is c.interchange_by.result found

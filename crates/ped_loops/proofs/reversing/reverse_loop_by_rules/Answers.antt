@@ -6,7 +6,7 @@ use Rattle.ped_rules.specs.ped_symbols.specs.Kinds.{Table}
 use Rattle.ped_rules.specs.ped_steps.specs.declared.rules.Rule.TheVariants.{ParallelState, IndexEscapes, StepShape}
 use Rattle.ped_loops.proofs.ReverseRules as rules
 use Rattle.ped_loops.proofs.ReverseAnswers.{refused, unit_passed}
-use Rattle.ped_loops.proofs.reversing.reverse_in.Goals as goal
+use Rattle.ped_loops.proofs.reversing.reverse_loop_by_rules.Goals as goal
 
 pub returns-then-d : goal.returns-then-d
 returns-then-d g c =
@@ -21,8 +21,8 @@ returns-in-Some g c =
     refused s t IndexEscapes c.in-Some.statement c.against-in-Some.result c.against-in-Some.ensures
     (rules.escape_first s t (head_of c.args.d.now) (stmt_trees c.args.d.now.body.items) c.requires.is c.if-d.false c.in-Some.statement c.in-Some.ensures)
 
-pub reverse_by-requires-clause-step : goal.reverse_by-requires-clause-step
-reverse_by-requires-clause-step g c =
+pub unless_limited-requires-clause-step : goal.unless_limited-requires-clause-step
+unless_limited-requires-clause-step g c =
     let consts = c.consts.ensures ∙ ap (λ (table : Table). table.constants) c.requires.scene.symbols in
     subst (λ (cs : List (List ℕ × ℤ)). constant_value cs (head_of c.args.d.now).step ≡ Some c.in-Some-unit_step.step) consts c.in-Some-unit_step.ensures.0 ∙ ap (λ (n : ℤ). Some n) (sym (unit_passed c.in-Some-unit_step.step c.in-Some-unit_step.ensures.1))
 

@@ -6,7 +6,7 @@ use Rattle.ped_rules.specs.ped_steps.specs.Replacing.{all_kept}
 use Rattle.ped_rules.specs.Flags.{flagged}
 use Rattle.ped_rules.proofs.HeadLaws.FlagRules as rules
 use Rattle.ped_loops.proofs.FlagAnswers.{some_made, none_made, parallel_refused}
-use Rattle.ped_loops.proofs.paralleling.make_parallel_in.Goals as goal
+use Rattle.ped_loops.proofs.paralleling.parallel_loop_by_rules.Goals as goal
 
 pub returns-then-d : goal.returns-then-d
 returns-then-d g c =
@@ -21,11 +21,12 @@ returns-in-Some g c =
     parallel_refused t s IndexEscapes c.in-Some.statement c.against-in-Some.result c.against-in-Some.ensures
     (rules.escape_first is_parallel true s t (head_of c.args.d.now) (stmt_trees c.args.d.now.body.items) c.requires.is c.in-Some.statement c.if-d.false c.in-Some.ensures)
 
-pub unless_carried-requires-clause-free : goal.unless_carried-requires-clause-free
-unless_carried-requires-clause-free g c =
+pub returns-in-Some-2 : goal.returns-in-Some-2
+returns-in-Some-2 g c =
     let t = program_tree c.args.scene.now.tree.now in
     let s = c.args.number in
-    rules.nothing_stands is_parallel true s t (head_of c.args.d.now) (stmt_trees c.args.d.now.body.items) c.requires.is c.if-d.false c.in_default.ensures (some_made (flagged (program_tree c.args.scene.now.tree.now) c.args.number true) (all_kept (program_tree c.args.scene.now.tree.now)) c.in_ok-change.field-0 c.in-Some-2.change c.in-Some-2.is c.in_ok-change.ensures).valid
+    let made = some_made (flagged t s true) (all_kept t) c.in_ok-change.field-0 c.in-Some-2.change c.in-Some-2.is c.in_ok-change.ensures in
+    (rules.nothing_stands is_parallel true s t (head_of c.args.d.now) (stmt_trees c.args.d.now.body.items) c.requires.is c.if-d.false c.in_default.ensures made.valid, made)
 
 pub returns-in-None : goal.returns-in-None
 returns-in-None g c =

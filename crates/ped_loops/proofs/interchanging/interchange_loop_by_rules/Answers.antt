@@ -5,7 +5,7 @@ use Rattle.ped_rules.specs.OnlyLoops.{only_loop}
 use Rattle.ped_rules.specs.ped_steps.specs.declared.rules.Rule.TheVariants.{NotPerfect}
 use Rattle.ped_loops.proofs.InterchangeRules.{perfect_first}
 use Rattle.ped_loops.proofs.InterchangeAnswers.{refused, none_perfect}
-use Rattle.ped_loops.proofs.interchanging.interchange_in.Goals as goal
+use Rattle.ped_loops.proofs.interchanging.interchange_loop_by_rules.Goals as goal
 
 pub interchange_two-requires-clause-only : goal.interchange_two-requires-clause-only
 interchange_two-requires-clause-only g c = ap (λ (ss : List Stmt). only_loop (stmt_trees ss)) (sym c.deref.ensures.value) ∙ c.in-Some.ensures

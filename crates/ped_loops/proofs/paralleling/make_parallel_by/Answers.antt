@@ -1,0 +1,21 @@
+use Rattle.std.proofs.Common.{true, refl}
+use Rattle.ped_tree.specs.Views.{program_tree}
+use Rattle.ped_rules.specs.ped_steps.specs.Replacing.{all_kept}
+use Rattle.ped_rules.specs.Flags.{flagged}
+use Rattle.ped_rules.specs.Paralleling.{MakesParallel, StandsAgainstParallel}
+use Rattle.ped_evidence.specs.Lines.{lines_of}
+use Rattle.ped_loops.specs.ByEvidence.{carried_open}
+use Rattle.ped_loops.proofs.Endings.{refused_at_once, ended}
+use Rattle.ped_loops.proofs.paralleling.make_parallel_by.Goals as goal
+
+pub returns-in-Ok : goal.returns-in-Ok
+returns-in-Ok g c =
+    let t = program_tree c.args.scene.now.tree.now in
+    let s = c.args.number in
+    ended s (StandsAgainstParallel s) (λ u. carried_open u s (lines_of c.args.evidence.now)) (MakesParallel s) t (flagged t s true) (all_kept t) (refl, refl) c.in_ok-change.field-0 c.in_ok-change.ensures c.in-Ok.change c.in-Ok.is c.first_open.result c.first_open.ensures c.unless_forbidden.result c.unless_forbidden.ensures
+
+pub returns-in-Err : goal.returns-in-Err
+returns-in-Err g c =
+    let t = program_tree c.args.scene.now.tree.now in
+    let s = c.args.number in
+    refused_at_once s (StandsAgainstParallel s) (λ u. carried_open u s (lines_of c.args.evidence.now)) (MakesParallel s) t (flagged t s true) (all_kept t) (refl, refl) c.in_ok-change.field-0 c.in_ok-change.ensures c.in-Err.refused c.in-Err.is

@@ -26,7 +26,7 @@ use Rattle.ped_script.specs.Items.{commands_of}
 use Rattle.ped_script.specs.declared.items.Item.{Item}
 use Rattle.ped_script.specs.declared.items.Command.{Command}
 use Rattle.ped_script.specs.declared.kinds.Query.{Query}
-use Rattle.ped_script.specs.declared.kinds.Query.TheVariants.{Source, Deps, Show, Calls, Print, Advise, Tested}
+use Rattle.ped_script.specs.declared.kinds.Query.TheVariants.{Source, Deps, Show, Calls, Print, Advise, System, Tested}
 use Rattle.ped_session.specs.Panes.{ArePanes}
 use Rattle.ped_session.specs.States.{State, opened}
 use Rattle.ped_session.specs.Scripts.{Said}
@@ -219,6 +219,7 @@ query_covers laws Calls line s bytes h = afresh_so IsCallsPane IsCoveringCalls (
 query_covers laws Source line s bytes h = tt
 query_covers laws Print line s bytes h = tt
 query_covers laws (Advise number) line s bytes h = tt
+query_covers laws (System source sink pattern) line s bytes h = tt
 query_covers laws Tested line s bytes h = tt
 
 -- so does that of an item

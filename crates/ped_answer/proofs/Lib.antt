@@ -21,6 +21,7 @@ mod Reports
 mod SameEnds
 mod ScriptRuns
 mod SerialPrograms
+mod SoEvidence
 mod SourceMoves
 mod Tallying
 mod ToldAuto

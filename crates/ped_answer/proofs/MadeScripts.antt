@@ -1,20 +1,24 @@
 -- Each line of a script that is made is an `interchange` or a `parallel`, and none is `auto`.
-use Rattle.std.proofs.Common.{◌≡◌, ◌∙◌, refl, sym, ap, subst, ◌⊎◌, inl, inr, ℕ, zero, suc, ◌+◌, ◌*◌, ◌%◌, ◌-◌, ◌<◌, Bool, true, false, cond, List, [], ◌∷◌, ◌++◌, Option, Some, None, option_and_then, leb, codes, arith}
-use Rattle.std.specs.Prelude.{◌/◌, ◌==◌, if◌then◌else◌, nat_lt}
+use Rattle.std.proofs.Common.{◌≡◌, ◌∙◌, refl, sym, ap, subst, ◌⊎◌, inl, inr, ℕ, zero, suc, ◌+◌, ◌*◌, ◌%◌, ◌-◌, ◌<◌, Bool, true, false, cond, List, [], ◌∷◌, ◌++◌, filter, Option, Some, None, option_and_then, leb, codes, arith}
+use Rattle.std.specs.Prelude.{◌/◌, ◌==◌, ◌||◌, if◌then◌else◌, nat_lt}
 use Rattle.std.specs.List.{AllByRecursion, list_all, flat_map, range_with_len}
 use Rattle.std.specs.Option.{option_or}
 use Rattle.std.specs.Str.Lines.{lines}
 use Rattle.std.specs.Fmt.{decimal, digits, digits_onto, digit_glyph}
 use Rattle.std.proofs.Math.Nat.{mod-lt}
 use Rattle.std.proofs.lemmas.Bool.{lt-ltb, le-leb, and_from}
+use Rattle.std.proofs.lemmas.Bool.Decides.{nat_tests}
+use Rattle.std.proofs.lemmas.List.Elements.{All-from_recursion}
+use Rattle.std.proofs.lemmas.List.Splits.{slice_split_none}
 use Rattle.ped_gen.specs.Generated.{commands, script}
 use Rattle.ped_tree.specs.Grammar.Characters.{is_printable}
 use Rattle.ped_session.specs.ped_parse.specs.ped_lines.proofs.PrintedLaws.Lines.{IsLine, printable_line, lines_written}
-use Rattle.ped_script.specs.Words.{Text, words_of, number_of}
-use Rattle.ped_script.specs.Rows.{done, number, command_of}
+use Rattle.ped_base.specs.Lists.{has_some}
+use Rattle.ped_script.specs.Words.{Text, is_blank, words_of, number_of}
+use Rattle.ped_script.specs.Rows.{done, word, command_of}
 use Rattle.ped_script.specs.Items.{whole_command, taken_lines, item_at, items_from, commands_of}
 use Rattle.ped_script.specs.declared.items.Command.{Command}
-use Rattle.ped_script.specs.declared.items.Command.TheVariants.{Interchange, Parallel, Auto}
+use Rattle.ped_script.specs.declared.items.Command.TheVariants.{Interchange, InterchangeBy, Parallel, ParallelBy, Auto}
 use Rattle.ped_script.specs.declared.items.Item.{Item}
 use Rattle.ped_answer.specs.Tallies.{IsNoAuto}
 
@@ -53,27 +57,61 @@ IsMadeItem item = IsMadeCommand item.command
 abbrev IsMade : List Text → Type 0
 IsMade words = IsMadeCommand (command_of words)
 
--- a row of one number gives its command or none
-one_number : (of : ℕ → Command) (words : List Text) → (number (λ s. done (of s)) words ≡ None) ⊎ ((k : ℕ) × (number (λ s. done (of s)) words ≡ Some (of k)))
-one_number of [] = inl refl
-one_number of (w ∷ words) = by (number_of 9 w) words
+-- a number is one word, or none
+
+digit_ink : (d : ℕ) → d < 10 → is_blank (digit_glyph false d) ≡ false
+digit_ink d h =
+    let same : digit_glyph false d ≡ 48 + d = ap (λ (b : Bool). cond b (48 + d) (87 + d)) (lt-ltb d 10 h) in
+    let no_space : (48 + d == 32) ≡ false = grind (arith, nat_tests) in
+    let no_tab : (48 + d == 9) ≡ false = grind (arith, nat_tests) in
+    ap is_blank same ∙ ap (λ (b : Bool). b || (48 + d == 9)) no_space ∙ no_tab
+
+onto_ink : (k n : ℕ) (acc : Text) → AllByRecursion (λ c. is_blank c ≡ false) acc → AllByRecursion (λ c. is_blank c ≡ false) (digits_onto k 10 false n acc)
+onto_ink zero n acc h = h
+onto_ink (suc k) n acc h =
+    let some : 0 < 10 = omega arith in
+    let d = digit_glyph false (n % 10) in
+    let more : AllByRecursion (λ c. is_blank c ≡ false) (d ∷ acc) = (digit_ink (n % 10) (mod-lt n some), h) in
+    this_or_that (n / 10 == 0) (d ∷ acc) (digits_onto k 10 false (n / 10) (d ∷ acc)) more (onto_ink k (n / 10) (d ∷ acc) more)
   where
-    by : (o : Option ℕ) (words : List Text) → (option_and_then (λ n. done (of n) words) o ≡ None) ⊎ ((k : ℕ) × (option_and_then (λ n. done (of n) words) o ≡ Some (of k)))
-    by None words = inl refl
-    by (Some k) [] = inr (k, refl)
-    by (Some k) (x ∷ xs) = inl refl
+    this_or_that : (b : Bool) (xs ys : Text) → AllByRecursion (λ c. is_blank c ≡ false) xs → AllByRecursion (λ c. is_blank c ≡ false) ys → AllByRecursion (λ c. is_blank c ≡ false) (if b then xs else ys)
+    this_or_that true xs ys p q = p
+    this_or_that false xs ys p q = q
 
-last : (o : Option Command) → option_or o None ≡ o
-last None = refl
-last (Some c) = refl
+decimal_ink : (k : ℕ) → AllByRecursion (λ c. is_blank c ≡ false) (decimal k)
+unfolding digits
+decimal_ink k = onto_ink 64 k [] tt
 
-interchange_row : (words : List Text) → command_of (codes "interchange" ∷ words) ≡ number (λ s. done (Interchange s)) words
+abbrev IsOneWord : List Text → Type 0
+IsOneWord words = (words ≡ []) ⊎ ((w : Text) × (words ≡ w ∷ []))
+
+one_word : (k : ℕ) → IsOneWord (words_of (decimal k))
+one_word k = by (has_some (decimal k)) refl
+  where
+    alone : words_of (decimal k) ≡ filter has_some (decimal k ∷ [])
+    alone = ap (filter has_some) (slice_split_none is_blank (decimal k) (All-from_recursion (λ c. is_blank c ≡ false) (decimal k) (decimal_ink k)))
+
+    by : (b : Bool) → has_some (decimal k) ≡ b → IsOneWord (words_of (decimal k))
+    by true e = inr (decimal k, alone ∙ ap (λ (b : Bool). cond b (decimal k ∷ []) []) e)
+    by false e = inl (alone ∙ ap (λ (b : Bool). cond b (decimal k ∷ []) []) e)
+
+interchange_made : (words : List Text) → IsOneWord words → IsMade (codes "interchange" ∷ words)
 unfolding command_of
-interchange_row words = last (number (λ s. done (Interchange s)) words)
+interchange_made words (inl e) = subst (λ (ws : List Text). IsMade (codes "interchange" ∷ ws)) (sym e) (inl refl)
+interchange_made words (inr (w, e)) = subst (λ (ws : List Text). IsMade (codes "interchange" ∷ ws)) (sym e) (by (number_of 9 w))
+  where
+    by : (o : Option ℕ) → IsMadeCommand (option_or (option_and_then (λ n. done (Interchange n) []) o) (option_or (option_and_then (λ n. word (codes "by") (done (InterchangeBy n [])) []) o) None))
+    by None = inl refl
+    by (Some n) = inr (inl (n, refl))
 
-parallel_row : (words : List Text) → command_of (codes "parallel" ∷ words) ≡ number (λ s. done (Parallel s)) words
+parallel_made : (words : List Text) → IsOneWord words → IsMade (codes "parallel" ∷ words)
 unfolding command_of
-parallel_row words = last (number (λ s. done (Parallel s)) words)
+parallel_made words (inl e) = subst (λ (ws : List Text). IsMade (codes "parallel" ∷ ws)) (sym e) (inl refl)
+parallel_made words (inr (w, e)) = subst (λ (ws : List Text). IsMade (codes "parallel" ∷ ws)) (sym e) (by (number_of 9 w))
+  where
+    by : (o : Option ℕ) → IsMadeCommand (option_or (option_and_then (λ n. done (Parallel n) []) o) (option_or (option_and_then (λ n. word (codes "by") (done (ParallelBy n [])) []) o) None))
+    by None = inl refl
+    by (Some n) = inr (inr (n, refl))
 
 -- a line that is made
 record IsMadeLine (l : Text) : Type 0 where
@@ -81,24 +119,10 @@ record IsMadeLine (l : Text) : Type 0 where
   made : IsMade (words_of l)
 
 interchange_line : (k : ℕ) → IsMadeLine (codes "interchange " ++ decimal k)
-interchange_line k = record { whole = printable_line (codes "interchange " ++ decimal k) (decimal_printable k); made = by (one_number Interchange (words_of (decimal k))) }
-  where
-    row : command_of (words_of (codes "interchange " ++ decimal k)) ≡ number (λ s. done (Interchange s)) (words_of (decimal k))
-    row = interchange_row (words_of (decimal k))
-
-    by : (number (λ s. done (Interchange s)) (words_of (decimal k)) ≡ None) ⊎ ((j : ℕ) × (number (λ s. done (Interchange s)) (words_of (decimal k)) ≡ Some (Interchange j))) → IsMade (words_of (codes "interchange " ++ decimal k))
-    by (inl e) = inl (row ∙ e)
-    by (inr (j, e)) = inr (inl (j, row ∙ e))
+interchange_line k = record { whole = printable_line (codes "interchange " ++ decimal k) (decimal_printable k); made = interchange_made (words_of (decimal k)) (one_word k) }
 
 parallel_line : (k : ℕ) → IsMadeLine (codes "parallel " ++ decimal k)
-parallel_line k = record { whole = printable_line (codes "parallel " ++ decimal k) (decimal_printable k); made = by (one_number Parallel (words_of (decimal k))) }
-  where
-    row : command_of (words_of (codes "parallel " ++ decimal k)) ≡ number (λ s. done (Parallel s)) (words_of (decimal k))
-    row = parallel_row (words_of (decimal k))
-
-    by : (number (λ s. done (Parallel s)) (words_of (decimal k)) ≡ None) ⊎ ((j : ℕ) × (number (λ s. done (Parallel s)) (words_of (decimal k)) ≡ Some (Parallel j))) → IsMade (words_of (codes "parallel " ++ decimal k))
-    by (inl e) = inl (row ∙ e)
-    by (inr (j, e)) = inr (inr (j, row ∙ e))
+parallel_line k = record { whole = printable_line (codes "parallel " ++ decimal k) (decimal_printable k); made = parallel_made (words_of (decimal k)) (one_word k) }
 
 -- the lines of a script that is made
 

@@ -5,7 +5,7 @@ use Rattle.std.specs.List.{AllByRecursion}
 use Rattle.ped_base.specs.Lists.{has_some}
 use Rattle.ped_tree.specs.Tree.{Head, StmtTree, StmtTrees, Assign, If, Do, Print, Read, Stop, Comment, no_stmts, more_stmts, ProgramTree}
 use Rattle.ped_tree.specs.Numbering.{numbered, all_numbered, at_place, statement_with}
-use Rattle.ped_session.specs.ped_transformations.specs.ped_reduce.specs.Lists.{list_of, has_list}
+use Rattle.ped_session.specs.ped_transformations.specs.ped_reduce.specs.Lists.{list_of}
 use Rattle.ped_session.specs.LoweredRuns.{HasNoList}
 use Rattle.ped_answer.proofs.BareTexts.{IsBareHead, IsBare, AreBare, joined}
 

@@ -8,10 +8,11 @@ use Rattle.ped_io.specs.Outside.{Contents}
 use Rattle.ped_words.specs.Requests.{Request, show, session, generate}
 use Rattle.ped_tree.specs.Tree.{StmtTree, ProgramTree}
 use Rattle.ped_tree.specs.Numbering.{statement_with}
+use Rattle.ped_session.specs.ped_transformations.specs.ped_evidence.specs.SystemTexts.{system_text}
 use Rattle.ped_script.specs.declared.items.Command.{Command}
 use Rattle.ped_script.specs.declared.kinds.StepCommand.{StepCommand}
 use Rattle.ped_script.specs.declared.kinds.Query.{Query}
-use Rattle.ped_script.specs.declared.kinds.Query.TheVariants.{Source, Deps, Show, Calls, Print, Advise, Tested}
+use Rattle.ped_script.specs.declared.kinds.Query.TheVariants.{Source, Deps, Show, Calls, Print, Advise, System, Tested}
 use Rattle.ped_script.specs.declared.kinds.LineEdit.TheVariants.{Replace, Insert}
 use Rattle.ped_script.specs.declared.kinds.HistoryMove.TheVariants.{Undo, Redo}
 use Rattle.ped_script.specs.declared.kinds.ProgramRun.TheVariants.{Run, Races}
@@ -20,12 +21,12 @@ use Rattle.ped_script.specs.declared.kinds.CommandKind.TheVariants as kind
 use Rattle.ped_script.specs.Kinds.{kind_of, step_in, IsMove}
 use Rattle.ped_session.specs.ped_rules.specs.Steps.{StepAt}
 use Rattle.ped_session.specs.declared.replies.Refusal.{Refusal}
-use Rattle.ped_session.specs.declared.replies.Refusal.TheVariants.{NoSuchLine}
+use Rattle.ped_session.specs.declared.replies.Refusal.TheVariants.{NoSuchLine, NoSuchPair}
 use Rattle.ped_session.specs.declared.replies.Reply.{Reply}
 use Rattle.ped_session.specs.declared.replies.Reply.TheVariants.{Changed, Refused}
 use Rattle.ped_session.specs.States.{Other, State, gone_back_to, gone_forward_to}
 use Rattle.ped_session.specs.Splices.{are_lines, is_place}
-use Rattle.ped_session.specs.Steps.{Refuses, Prints, Shows, ShowsOf, ShowsStatement, Edits, accepted, refused, Transforms, missing, forbidden, transformed, GoesBack, GoesForward, ShowsAnswer, IsStepOf}
+use Rattle.ped_session.specs.Steps.{Refuses, Prints, Shows, ShowsOf, Edits, accepted, refused, Transforms, missing, forbidden, transformed, GoesBack, GoesForward, ShowsAnswer, IsStepOf}
 use Rattle.ped_session.specs.ped_auto.specs.Replay.{Replays}
 use Rattle.ped_session.specs.ped_transformations.specs.Table.{step_of}
 use Rattle.ped_session.specs.Replies.{answer_row}
@@ -152,6 +153,10 @@ module _ (k : CommandKind) (s next : State) (reply : Reply) where
   rows_moves still shows IsSo None h = refused_moves still _ h.0 h.1
   rows_moves still shows IsSo (Some statement) h = shown_moves shows IsSo h
 
+  pair_moves : ¬ (IsMove k) → IsShowing k → (found : Option (List ℕ)) → MatchOption found (Refuses NoSuchPair s reply next) (λ text. Prints text s reply next) → Moves k reply (sources_of s) (sources_of next)
+  pair_moves still shows None h = refused_moves still _ h.0 h.1
+  pair_moves still shows (Some text) h = printed_moves shows text h
+
   answer_moves : ¬ (IsMove k) → IsShowing k → (query : Query) → ShowsAnswer query s reply next → Moves k reply (sources_of s) (sources_of next)
   answer_moves still shows Source h = shown_moves shows _ h
   answer_moves still shows (Deps None) h = shown_moves shows _ h
@@ -160,6 +165,7 @@ module _ (k : CommandKind) (s next : State) (reply : Reply) where
   answer_moves still shows Calls h = shown_moves shows _ h
   answer_moves still shows Print h = printed_moves shows _ h
   answer_moves still shows (Advise number) h = rows_moves still shows _ (statement_with number h.tree) h.shows
+  answer_moves still shows (System source sink pattern) h = pair_moves still shows (system_text h.tree source sink pattern) h.shows
   answer_moves still shows Tested h = printed_moves shows _ h
 
 -- each command
@@ -199,7 +205,7 @@ auto_moves line s next said h =
 
 line_moves : (line : ℕ) (command : Option Command) (d : List ℕ) (s next : State) (said : Said) → AnswersCommand line command d s said next → KeepsHistory line command d s said next
 line_moves line None d s next said h = record { here = stands s; there = stands next; moves = (ap (λ (x : Said). x.bytes) h.0, ap sources_of h.1) }
-line_moves line (Some c) d s next said (inl h) = record { here = stands s; there = stands next; moves = inl (h.0, ap (λ (x : Said). x.bytes) h.2, moves (kind_of c) d s next h.0 h.1) }
+line_moves line (Some c) d s next said (inl h) = record { here = stands s; there = stands next; moves = inl (h.0, h.2, h.3, ap (λ (x : Said). x.bytes) h.4, moves (kind_of c) d s next h.0 h.1) }
 line_moves line (Some c) d s next said (inr (is, h)) = record { here = stands s; there = stands next; moves = inr (is, auto_moves line s next said h) }
 
 each_moves : SoOfValid KeepsHistory

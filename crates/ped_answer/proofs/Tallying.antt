@@ -6,8 +6,10 @@ use Rattle.std.proofs.lemmas.List.{take_more, drop_more, take_all, take-append-d
 use Rattle.ped_script.specs.declared.items.Command.{Command}
 use Rattle.ped_script.specs.declared.items.Command.TheVariants.{Auto}
 use Rattle.ped_script.specs.declared.items.Item.{Item}
+use Rattle.ped_script.specs.Kinds.{kind_of}
 use Rattle.ped_session.specs.States.{State}
 use Rattle.ped_session.specs.Scripts.{Said, nothing_said, bad_command_said, said_by, said_both, AnswersCommand, AnswersItems}
+use Rattle.ped_session.proofs.IdleRows.{answered_idle}
 use Rattle.ped_session.proofs.OneStep.{one}
 use Rattle.ped_answer.specs.declared.tallies.Tally as code
 use Rattle.ped_answer.specs.Generated.{Tally, no_tally, tally_both, tally_of, bad_command_tally, AppliesCommand, Applies}
@@ -67,7 +69,9 @@ one_applies (item ∷ items) s m n a b p q =
 -- what the script says on the way
 says_command : (line : ℕ) (command : Option Command) (s next : State) (tally : Tally) → AppliesCommand command s tally next → (said : Said) × AnswersCommand line command [] s said next
 says_command line None s next tally h = (bad_command_said line, (refl, h.1))
-says_command line (Some c) s next tally h = (said_by line h.0 next, inl (h.0, h.1, refl))
+says_command line (Some c) s next tally h =
+    let idle = answered_idle line (kind_of c) [] s next h.0 h.1 in
+    (said_by line h.0 idle.0 next, inl (h.0, h.1, idle.0, idle.1, refl))
 
 pub says_items : (items : List Item) (s last : State) (tally : Tally) → Applies items s tally last → (said : Said) × AnswersItems items [] s said last
 says_items [] s last tally h = (nothing_said, (refl, h.1))

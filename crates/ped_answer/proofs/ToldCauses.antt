@@ -1,5 +1,5 @@
 -- What is told of a step is the first cause that forbids it, or that nothing does.
-use Rattle.std.proofs.Common.{◌≡◌, ℕ, List, ◌∷◌, Bool, true, false, is_some, Option, Some, None, arith, refl, sym, ap, ◌∙◌, subst, inl, inr}
+use Rattle.std.proofs.Common.{◌≡◌, ℕ, List, ◌∷◌, ◌++◌, Bool, true, false, is_some, Option, Some, None, arith, refl, sym, ap, ◌∙◌, subst, inl, inr}
 use Rattle.std.specs.Prelude.{Contains, MatchOption, ⊤}
 use Rattle.std.proofs.lemmas.List.Elements.{All-contains, Contains-append_right}
 use Rattle.ped_io.specs.Outside.{Contents}
@@ -10,17 +10,19 @@ use Rattle.ped_session.specs.ped_valid.specs.Validity.{ReadsValid}
 use Rattle.ped_session.specs.ped_rules.specs.ped_edges.specs.Edges.{Edge}
 use Rattle.ped_script.specs.declared.items.Command.{Command}
 use Rattle.ped_script.specs.declared.kinds.WhichStep.{WhichStep}
-use Rattle.ped_script.specs.declared.kinds.WhichStep.TheVariants.{Interchange, Reverse, Skew, Strip, Peel, Distribute, Fuse, Inline, Expand, Privatise, Reduce, Parallel, Serial, Reject}
+use Rattle.ped_script.specs.declared.kinds.WhichStep.TheVariants.{Interchange, InterchangeBy, Reverse, ReverseBy, Skew, Strip, Peel, Distribute, Fuse, Inline, Expand, Privatise, Reduce, Parallel, ParallelBy, Serial, Reject}
 use Rattle.ped_script.specs.declared.kinds.StepCommand.{StepCommand}
 use Rattle.ped_script.specs.declared.kinds.CommandKind.{CommandKind}
 use Rattle.ped_script.specs.declared.kinds.CommandKind.TheVariants as kind
-use Rattle.ped_script.specs.Kinds.{kind_of, step_among}
+use Rattle.ped_script.specs.Kinds.{kind_of, step_among, evidence_among}
 use Rattle.ped_session.specs.ped_transformations.specs.Table.{step_at, step_of}
 use Rattle.ped_session.specs.ped_transformations.proofs.StepKinds.{kind_is}
 use Rattle.ped_session.specs.ped_transformations.specs.ped_loops.specs.Interchanging.{StandsAgainstInterchange}
 use Rattle.ped_session.specs.ped_transformations.specs.ped_loops.specs.Reversing.{StandsAgainstReversal}
 use Rattle.ped_session.specs.ped_rules.specs.Paralleling.{StandsAgainstParallel}
 use Rattle.ped_session.specs.ped_transformations.specs.ped_loops.specs.Serialising.{StandsAgainstSerial}
+use Rattle.ped_session.specs.ped_transformations.specs.ped_loops.specs.ByEvidence.{carried_open, crossing_open}
+use Rattle.ped_session.specs.ped_transformations.specs.ped_evidence.specs.Lines.{lines_of}
 use Rattle.ped_session.specs.ped_transformations.specs.ped_loops.specs.Rejecting.{StandsAgainstRejection}
 use Rattle.ped_session.specs.ped_transformations.specs.ped_reindex.specs.Skewing.{StandsAgainstSkewing}
 use Rattle.ped_session.specs.ped_transformations.specs.ped_reindex.specs.Stripping.{StandsAgainstStripping}
@@ -34,17 +36,17 @@ use Rattle.ped_session.specs.ped_transformations.specs.ped_scalar.specs.Expandin
 use Rattle.ped_session.specs.ped_rules.specs.Carried.{carried, crossing}
 use Rattle.ped_session.specs.ped_steps.specs.Causes.{Cause, rule, dependence, none_forbids}
 use Rattle.ped_session.specs.declared.replies.Reply.{Reply}
-use Rattle.ped_session.specs.declared.replies.Reply.TheVariants.{Changed, Refused}
-use Rattle.ped_session.specs.declared.replies.Refusal.TheVariants.{Step, NoSuchStatement}
 use Rattle.ped_session.specs.States.{State}
+use Rattle.ped_session.specs.Idle.{AreIdle}
 use Rattle.ped_session.specs.Replies.{reply_text}
+use Rattle.ped_session.proofs.IdleRows.{idle_are}
 use Rattle.ped_session.specs.Steps.{Transforms, missing, transformed, IsStepOf}
 use Rattle.ped_session.specs.Steps as session_steps
 use Rattle.ped_session.specs.Scripts.{Said, said_by, AnswersCommand}
 use Rattle.ped_answer.specs.declared.answering.Status.{Status}
 use Rattle.ped_answer.specs.Answer.{IsWhole, Answers}
 use Rattle.ped_answer.specs.StepCauses.{IsAmongFused, Forbids}
-use Rattle.ped_answer.specs.Headline.{TellsOfStep, no_statement, forbidden, accepted, TellsCause, CausesRequest}
+use Rattle.ped_answer.specs.Headline.{TellsOfStep, no_statement, forbidden, accepted, TellsStep, TellsCause, CausesRequest}
 use Rattle.ped_answer.proofs.AmongCauses.{first_among, true_isnt_false, none_among}
 use Rattle.ped_answer.proofs.EachItems.{SoOfValid, session_each}
 
@@ -66,8 +68,20 @@ none_fused s t h (dependence e) is = true_isnt_false (forbids_fusion is.0.neighb
 -- each step of the table
 pub are_causes : (number : ℕ) (step : WhichStep) → AreCauses number step
 are_causes s Interchange = record { first = λ t. first_among t (StandsAgainstInterchange s t) (crossing t s); none = λ t. none_among t (StandsAgainstInterchange s t) (crossing t s) }
+are_causes s (InterchangeBy evidence) = record {
+  first = λ t. first_among t (StandsAgainstInterchange s t) (crossing_open t s (lines_of evidence));
+  none = λ t. none_among t (StandsAgainstInterchange s t) (crossing_open t s (lines_of evidence));
+}
 are_causes s Reverse = record { first = λ t. first_among t (StandsAgainstReversal s t) (carried t s); none = λ t. none_among t (StandsAgainstReversal s t) (carried t s) }
+are_causes s (ReverseBy evidence) = record {
+  first = λ t. first_among t (StandsAgainstReversal s t) (carried_open t s (lines_of evidence));
+  none = λ t. none_among t (StandsAgainstReversal s t) (carried_open t s (lines_of evidence));
+}
 are_causes s Parallel = record { first = λ t. first_among t (StandsAgainstParallel s t) (carried t s); none = λ t. none_among t (StandsAgainstParallel s t) (carried t s) }
+are_causes s (ParallelBy evidence) = record {
+  first = λ t. first_among t (StandsAgainstParallel s t) (carried_open t s (lines_of evidence));
+  none = λ t. none_among t (StandsAgainstParallel s t) (carried_open t s (lines_of evidence));
+}
 are_causes s Serial = record { first = λ t. first_among t (StandsAgainstSerial s t) none_forbids; none = λ t. none_among t (StandsAgainstSerial s t) none_forbids }
 are_causes s (Skew factor) = record { first = λ t. first_among t (StandsAgainstSkewing s factor t) none_forbids; none = λ t. none_among t (StandsAgainstSkewing s factor t) none_forbids }
 are_causes s (Strip size) = record { first = λ t. first_among t (StandsAgainstStripping s size t) none_forbids; none = λ t. none_among t (StandsAgainstStripping s size t) none_forbids }
@@ -80,35 +94,44 @@ are_causes s (Reject x) = record { first = λ t. first_among t (StandsAgainstRej
 are_causes s Inline = record { first = λ t. first_among t (StandsAgainstInlining s t) none_forbids; none = λ t. none_among t (StandsAgainstInlining s t) none_forbids }
 are_causes s Fuse = record { first = first_fused s; none = none_fused s }
 
--- the bytes of a reply
-bytes_of : (line : ℕ) (reply other : Reply) (next : State) (said : Said) → said ≡ said_by line reply next → reply ≡ other → said.bytes ≡ reply_text line other
-bytes_of line reply other next said says is = ap (λ (x : Said). x.bytes) says ∙ ap (reply_text line) is
-
 -- the statement of a command is that of its step
 here : (command : StepCommand) (b : Bool) (t : ProgramTree) → is_some (statement_with (step_of command).statement t) ≡ b → is_some (statement_with command.statement t) ≡ b
 here command b t is = subst (λ (n : ℕ). is_some (statement_with n t) ≡ b) (kind_is command.statement command.step).0 is
 
-tells_of : (command : StepCommand) (line : ℕ) (s next : State) (reply : Reply) (said : Said) → Transforms (step_of command) s reply next → said ≡ said_by line reply next
-    → (t : ProgramTree) × ReadsValid s.present t × TellsOfStep command line t s said.bytes next
-tells_of command line s next reply said (missing t reads none stays) says =
-    (t, reads, no_statement (here command false t none) (bytes_of line reply (Refused NoSuchStatement) next said says stays.0) stays.1)
-tells_of command line s next reply said (session_steps.forbidden t reads some c is stays) says =
-    (t, reads, forbidden (here command true t some) c ((are_causes command.statement command.step).first t c is) is (bytes_of line reply (Refused (Step c)) next said says stays.0) stays.1)
-tells_of command line s next reply said (transformed t new keep reads some none makes valid changed after) says =
-    (t, reads, accepted (here command true t some) ((are_causes command.statement command.step).none t none) (bytes_of line reply Changed next said says changed))
+tells_of : (command : StepCommand) (line : ℕ) (s next : State) (reply : Reply) → Transforms (step_of command) s reply next
+    → (t : ProgramTree) × ReadsValid s.present t × TellsOfStep command line t s (reply_text line reply) next
+tells_of command line s next reply (missing t reads none stays) =
+    (t, reads, no_statement (here command false t none) (ap (reply_text line) stays.0) stays.1)
+tells_of command line s next reply (session_steps.forbidden t reads some c is stays) =
+    (t, reads, forbidden (here command true t some) c ((are_causes command.statement command.step).first t c is) is (ap (reply_text line) stays.0) stays.1)
+tells_of command line s next reply (transformed t new keep reads some none makes valid changed after) =
+    (t, reads, accepted (here command true t some) ((are_causes command.statement command.step).none t none) (ap (reply_text line) changed))
 
-tells_by : (k : CommandKind) (d : List ℕ) (line : ℕ) (s next : State) (reply : Reply) (said : Said) → IsStepOf k d s reply next → said ≡ said_by line reply next
-    → MatchOption (step_among k) ⊤ (λ step. (t : ProgramTree) × ReadsValid s.present t × TellsOfStep step line t s said.bytes next)
-tells_by (kind.Step command) d line s next reply said h says = tells_of command line s next reply said h says
-tells_by (kind.Ask query) d line s next reply said h says = tt
-tells_by (kind.Edit edit) d line s next reply said h says = tt
-tells_by kind.Auto d line s next reply said h says = tt
-tells_by (kind.Move way) d line s next reply said h says = tt
-tells_by (kind.Run run) d line s next reply said h says = tt
+-- with the rows of idle lines behind it
+tells_step : (k : CommandKind) (command : StepCommand) (line : ℕ) (s next : State) (reply : Reply) (rows : List ℕ) (said : Said) → Transforms (step_of command) s reply next → AreIdle line k s rows → said ≡ said_by line reply rows next
+    → TellsStep command (evidence_among k) line s said.bytes next
+tells_step k command line s next reply rows said h idle says =
+    let told = tells_of command line s next reply h in
+    record {
+      tree = told.0;
+      reads = told.1;
+      told = reply_text line reply;
+      tells = told.2;
+      says = ap (λ (x : Said). x.bytes) says ∙ ap (λ (r : List ℕ). reply_text line reply ++ r) (idle_are line k s told.0 rows told.1 idle);
+    }
+
+tells_by : (k : CommandKind) (d : List ℕ) (line : ℕ) (s next : State) (reply : Reply) (rows : List ℕ) (said : Said) → IsStepOf k d s reply next → AreIdle line k s rows → said ≡ said_by line reply rows next
+    → MatchOption (step_among k) ⊤ (λ step. TellsStep step (evidence_among k) line s said.bytes next)
+tells_by (kind.Step command) d line s next reply rows said h idle says = tells_step (kind.Step command) command line s next reply rows said h idle says
+tells_by (kind.Ask query) d line s next reply rows said h idle says = tt
+tells_by (kind.Edit edit) d line s next reply rows said h idle says = tt
+tells_by kind.Auto d line s next reply rows said h idle says = tt
+tells_by (kind.Move way) d line s next reply rows said h idle says = tt
+tells_by (kind.Run run) d line s next reply rows said h idle says = tt
 
 line_tells : (line : ℕ) (command : Option Command) (d : List ℕ) (s next : State) (said : Said) → AnswersCommand line command d s said next → TellsCause line command d s said next
 line_tells line None d s next said h = tt
-line_tells line (Some c) d s next said (inl h) = tells_by (kind_of c) d line s next h.0 said h.1 h.2
+line_tells line (Some c) d s next said (inl h) = tells_by (kind_of c) d line s next h.0 h.2 said h.1 h.3 h.4
 line_tells line (Some c) d s next said (inr (is, h)) = subst (λ (x : Command). TellsCause line (Some x) d s said next) (sym is) tt
 
 each_tells : SoOfValid TellsCause

@@ -21,7 +21,7 @@ use Rattle.ped_session.specs.States.{State, opened}
 use Rattle.ped_session.specs.OutcomeTexts.{outcome_text, IsRunText}
 use Rattle.ped_session.specs.LoweredRuns.{IsLoweredRun}
 use Rattle.ped_session.specs.Steps.{Shows, IsStep}
-use Rattle.ped_session.specs.Scripts.{Said, AnswersCommand}
+use Rattle.ped_session.specs.Scripts.{Said, said_by, AnswersCommand}
 use Rattle.ped_session.specs.RunsAsBefore.{RunsAsBefore, AnswersAsBefore}
 use Rattle.ped_call_runs.specs.ped_calls.specs.ped_units.specs.Units.{ProgramUnits}
 use Rattle.ped_call_runs.specs.ped_calls.specs.ped_units.specs.Expanding.{expansion}
@@ -91,7 +91,8 @@ shown_in_order : RunInOrder → (t : ProgramTree) → IsValid t → (line : ℕ)
 shown_in_order order t valid line d s next said (inl h) is none =
     let same : (u : ProgramTree) → ReadsValid s.present u → u ≡ t = λ u reads. one_tree s.present u t reads (reads_as s.present t valid is) in
     let shown = order d s next h.0 h.1 (λ u reads. subst HasNoLiveList (sym (same u reads)) none) in
-    bytes_of line h.0 (Shown shown.bytes) next said h.2 shown.prints.0 ∙ shown.so ∙ ap (λ (u : ProgramTree). outcome_text (outcome u d)) (same shown.tree shown.reads)
+    let none : h.2 ≡ [] = h.3 in
+    bytes_of line h.0 (Shown shown.bytes) next said (h.4 ∙ ap (λ (rows : List ℕ). said_by line h.0 rows next) none) shown.prints.0 ∙ shown.so ∙ ap (λ (u : ProgramTree). outcome_text (outcome u d)) (same shown.tree shown.reads)
 shown_in_order order t valid line d s next said (inr h) is none = absurd (let e : Run [] ≡ Auto = h.0 in cc)
 
 -- what a command shows, where it is `run`

@@ -16,6 +16,16 @@ use Rattle.ped_call_runs.specs.UnitRuns.{run_units, outcome_of_units}
 use Rattle.ped_call_runs.specs.UnitFaults.{FaultsInOwn, expanded_number}
 use Rattle.ped_session.specs.ped_graph.specs.DependencePane.{IsDependencePane, IsDependencePaneOf}
 use Rattle.ped_session.specs.ped_transformations.specs.ped_inline.specs.CallsPane.{IsCallsPane}
+use Rattle.ped_session.specs.ped_rules.specs.ped_views.specs.declared.directions.Direction.{Direction}
+use Rattle.ped_session.specs.ped_transformations.specs.ped_evidence.specs.Claims.{Claim}
+use Rattle.ped_session.specs.ped_transformations.specs.ped_evidence.specs.Evidence.{NeverMeet}
+use Rattle.ped_session.specs.ped_transformations.specs.ped_evidence.specs.Lines.{line_of}
+use Rattle.ped_session.specs.ped_transformations.specs.ped_evidence.specs.Signs.{fits}
+use Rattle.ped_session.specs.ped_transformations.specs.ped_evidence.specs.SystemTexts.{system_text}
+use Rattle.ped_script.specs.ped_certificates.specs.declared.claims.Position.{Position}
+use Rattle.ped_script.specs.ped_certificates.specs.declared.claims.Sign.{Sign}
+use Rattle.ped_script.specs.ped_certificates.specs.declared.claims.EvidenceLine.{EvidenceLine}
+use Rattle.ped_script.specs.ped_certificates.specs.declared.claims.EvidenceLine.TheVariants as line_kind
 use Rattle.ped_script.specs.Items.{commands_of}
 use Rattle.ped_script.specs.declared.items.Item.{Item}
 use Rattle.ped_script.specs.declared.items.Command.{Command}
@@ -23,11 +33,11 @@ use Rattle.ped_script.specs.declared.items.Command.TheVariants.{Auto, Run}
 use Rattle.ped_script.specs.declared.kinds.WhichStep.TheVariants.{Parallel}
 use Rattle.ped_script.specs.declared.kinds.StepCommand.{StepCommand}
 use Rattle.ped_script.specs.declared.kinds.Query.{Query}
-use Rattle.ped_script.specs.declared.kinds.Query.TheVariants.{Source, Deps, Show, Calls, Print, Advise, Tested}
+use Rattle.ped_script.specs.declared.kinds.Query.TheVariants.{Source, Deps, Show, Calls, Print, Advise, System, Tested}
 use Rattle.ped_script.specs.declared.kinds.HistoryMove.TheVariants.{Undo, Redo}
 use Rattle.ped_script.specs.declared.kinds.CommandKind.{CommandKind}
 use Rattle.ped_script.specs.declared.kinds.CommandKind.TheVariants as kind
-use Rattle.ped_script.specs.Kinds.{kind_of, step_in, IsMove}
+use Rattle.ped_script.specs.Kinds.{kind_of, step_in, evidence_in, IsMove}
 use Rattle.ped_session.specs.ped_transformations.specs.Table.{step_of}
 use Rattle.ped_session.specs.ped_transformations.specs.Advice.{IsAdvice}
 use Rattle.ped_session.specs.ped_auto.specs.SerialLoops.{serial_loops}
@@ -41,6 +51,7 @@ use Rattle.ped_session.specs.declared.replies.Reply.TheVariants.{Changed, Shown,
 use Rattle.ped_session.specs.declared.replies.Refusal.{Refusal}
 use Rattle.ped_session.specs.declared.replies.Refusal.TheVariants.{NothingToUndo, NothingToRedo}
 use Rattle.ped_session.specs.States.{Other, State, opened}
+use Rattle.ped_session.specs.Idle.{is_idle, idle_rows, AreIdle}
 use Rattle.ped_session.specs.Panes.{IsSourcePane, ArePanes}
 use Rattle.ped_session.specs.Replies.{answer_row, bad_command_row, reply_text}
 use Rattle.ped_session.specs.AutoAnswers.{auto_text, AcceptsAll}
@@ -100,11 +111,15 @@ pub record Afresh (IsSo : ProgramTree → List ℕ → Type 0) (text bytes : Lis
 abbrev pub IsOfStatement : (ProgramTree → List ℕ → Type 0) → (line number : ℕ) → ProgramTree → List ℕ → Type 0
 IsOfStatement IsSo line number t bytes = MatchOption (statement_with number t) (bytes ≡ answer_row line (codes "refused NoSuchStatement")) (λ statement. IsSo t bytes)
 
+-- where evidence may speak of this pair and pattern in the program, the text of their system; where it may not, the row that refuses the command (this project)
+abbrev pub IsSystemOf : Position → Position → List Sign → (line : ℕ) → ProgramTree → List ℕ → Type 0
+IsSystemOf source sink pattern line t bytes = MatchOption (system_text t source sink pattern) (bytes ≡ answer_row line (codes "refused NoSuchPair")) (λ text. bytes ≡ text)
+
 -- a command asks for this
 abbrev pub Asks : Option Command → Query → Type 0
 Asks command query = option_map kind_of command ≡ Some (kind.Ask query)
 
--- `source`, `deps`, `deps S`, `show` and `calls` show the panes that come of reading the present source afresh, whatever was done before; `print` shows that source, and `advise S` the first causes against the steps in it (ParaScope)
+-- `source`, `deps`, `deps S`, `show` and `calls` show the panes that come of reading the present source afresh, whatever was done before; `print` shows that source, `advise S` the first causes against the steps in it, and `system` the system of a pair (ParaScope)
 abbrev pub AnswersAfresh : Query → ℕ → State → List ℕ → Type 0
 AnswersAfresh Source line s bytes = Afresh IsSourcePane s.present bytes
 AnswersAfresh (Deps None) line s bytes = Afresh IsDependencePane s.present bytes
@@ -113,6 +128,7 @@ AnswersAfresh Show line s bytes = Afresh ArePanes s.present bytes
 AnswersAfresh Calls line s bytes = Afresh IsCallsPane s.present bytes
 AnswersAfresh Print line s bytes = bytes ≡ s.present
 AnswersAfresh (Advise number) line s bytes = Afresh (IsOfStatement (λ t. IsAdvice t number) line number) s.present bytes
+AnswersAfresh (System source sink pattern) line s bytes = Afresh (IsSystemOf source sink pattern line) s.present bytes
 AnswersAfresh Tested line s bytes = ⊤
 
 -- so it is of each of these commands (ParaScope)
@@ -196,18 +212,18 @@ pub record MovesByAuto (line : ℕ) (before : Sources) (bytes : List ℕ) (behin
   pub rest : List ℕ
   pub says : bytes ≡ answer_row line (codes "auto " ++ decimal count) ++ rest
 
--- the item says the reply to its command, and the sources move as this command with this reply moves them; those of `auto` move for each step that it says was accepted; a line that is no command is refused and leaves them (ParaScope; this project)
-abbrev pub MovesBy : ℕ → Option Command → Sources → List ℕ → Sources → Type 0
-MovesBy line None before bytes behind = (bytes ≡ bad_command_row line) × (behind ≡ before)
-MovesBy line (Some command) before bytes behind =
-    ((reply : Reply) × (bytes ≡ reply_text line reply) × Moves (kind_of command) reply before behind)
-    ⊎ ((command ≡ Auto) × MovesByAuto line before bytes behind)
+-- the item says the reply to its command, with the rows of its idle lines, and the sources move as this command with this reply moves them; those of `auto` move for each step that it says was accepted; a line that is no command is refused and leaves them (ParaScope; this project)
+abbrev pub MovesBy : ℕ → Option Command → State → List ℕ → State → Type 0
+MovesBy line None s bytes next = (bytes ≡ bad_command_row line) × (sources_of next ≡ sources_of s)
+MovesBy line (Some command) s bytes next =
+    ((reply : Reply) × (rows : List ℕ) × AreIdle line (kind_of command) s rows × (bytes ≡ reply_text line reply ++ rows) × Moves (kind_of command) reply (sources_of s) (sources_of next))
+    ⊎ ((command ≡ Auto) × MovesByAuto line (sources_of s) bytes (sources_of next))
 
 -- the sources before an item and after it (ParaScope)
 pub record KeepsHistory (line : ℕ) (command : Option Command) (data_bytes : List ℕ) (s : State) (said : Said) (next : State) : Type 0 where
   pub here : StandsAtPlace s
   pub there : StandsAtPlace next
-  pub moves : MovesBy line command (sources_of s) said.bytes (sources_of next)
+  pub moves : MovesBy line command s said.bytes next
 
 -- the history of a session's answer
 abbrev pub HistoryRequest : Option Request → Contents → List ℕ → Type 0
@@ -286,10 +302,18 @@ pub data TellsOfStep (command : StepCommand) (line : ℕ) (t : ProgramTree) (s :
   forbidden : is_some (statement_with command.statement t) ≡ true → (c : Cause) → Forbids command.statement command.step t c → (step_of command).IsCause t (Some c) → bytes ≡ answer_row line (codes "refused " ++ cause_words c) → next ≡ s → TellsOfStep command line t s bytes next
   accepted : is_some (statement_with command.statement t) ≡ true → ((c : Cause) → Forbids command.statement command.step t c → ⊥) → bytes ≡ answer_row line (codes "ok") → TellsOfStep command line t s bytes next
 
+-- what is said of a step, and after it a row for each line of its evidence that proves nothing in the present program (this project)
+pub record TellsStep (command : StepCommand) (evidence : List EvidenceLine) (line : ℕ) (s : State) (bytes : List ℕ) (next : State) : Type 0 where
+  pub tree : ProgramTree
+  pub reads : ReadsValid s.present tree
+  pub told : List ℕ
+  pub tells : TellsOfStep command line tree s told next
+  pub says : bytes ≡ told ++ idle_rows tree (line + 1) evidence
+
 -- a transformation or `reject` at a statement that is there is refused by its first cause in the present program, and accepted where it has none; where it isn't there, that is reported (ParaScope)
 abbrev pub TellsCause : ℕ → Option Command → List ℕ → State → Said → State → Type 0
 TellsCause line None data_bytes s said next = ⊤
-TellsCause line (Some command) data_bytes s said next = MatchOption (step_in command) ⊤ (λ step. (t : ProgramTree) × ReadsValid s.present t × TellsOfStep step line t s said.bytes next)
+TellsCause line (Some command) data_bytes s said next = MatchOption (step_in command) ⊤ (λ step. TellsStep step (evidence_in command) line s said.bytes next)
 
 -- the causes in a session's answer
 abbrev pub CausesRequest : Option Request → Contents → List ℕ → Type 0
@@ -297,6 +321,38 @@ CausesRequest None files bytes = ⊤
 CausesRequest (Some (show program)) files bytes = ⊤
 CausesRequest (Some (session program script data_file)) files bytes = EachItem TellsCause program script data_file files bytes
 CausesRequest (Some (generate number)) files bytes = ⊤
+
+-- Evidence.
+
+-- a claim is so in all runs of a program: no two accesses by its references conflict in one execution of an outermost DO in directions that its pattern fits (Allen and Kennedy, sections 2.2.1, 2.2.4)
+abbrev pub IsSo : ProgramTree → Claim → Type 0
+IsSo t claim = (vector : List Direction) → fits claim.pattern vector ≡ true → NeverMeet t claim.source claim.sink vector
+
+-- so it is of what a line of evidence claims that isn't idle; any other line has no word, or is idle (this project)
+abbrev pub IsSoOrIdle : ProgramTree → EvidenceLine → Type 0
+IsSoOrIdle t line_kind.Empty = ⊤
+IsSoOrIdle t line_kind.Malformed = is_idle t line_kind.Malformed ≡ true
+IsSoOrIdle t (line_kind.Claim claim) = (is_idle t (line_kind.Claim claim) ≡ true) ⊎ IsSo t (line_of claim).claim
+
+-- after what is said of a command comes a row for each idle line of its evidence, and what each other line claims is so in all runs of the present program (this project)
+pub record TellsEvidence (evidence : List EvidenceLine) (line : ℕ) (s : State) (bytes : List ℕ) : Type 0 where
+  pub tree : ProgramTree
+  pub reads : ReadsValid s.present tree
+  pub told : List ℕ
+  pub says : bytes ≡ told ++ idle_rows tree (line + 1) evidence
+  pub so : AllByRecursion (IsSoOrIdle tree) evidence
+
+-- so it is of each command that takes a step (this project)
+abbrev pub TellsIdle : ℕ → Option Command → List ℕ → State → Said → State → Type 0
+TellsIdle line None data_bytes s said next = ⊤
+TellsIdle line (Some command) data_bytes s said next = MatchOption (step_in command) ⊤ (λ step. TellsEvidence (evidence_in command) line s said.bytes)
+
+-- the evidence in a session's answer
+abbrev pub EvidenceRequest : Option Request → Contents → List ℕ → Type 0
+EvidenceRequest None files bytes = ⊤
+EvidenceRequest (Some (show program)) files bytes = ⊤
+EvidenceRequest (Some (session program script data_file)) files bytes = EachItem TellsIdle program script data_file files bytes
+EvidenceRequest (Some (generate number)) files bytes = ⊤
 
 -- Parallelised programs.
 
@@ -363,5 +419,6 @@ pub record IsHeadline (request : Option Request) (files : Contents) (bytes : Lis
   pub runs : RunsRequest request files bytes
   pub units : UnitsRequest request files bytes
   pub causes : CausesRequest request files bytes
+  pub evidence : EvidenceRequest request files bytes
   pub parallelised : AutoRequest request files bytes
   pub covered : CoveredRequest request files bytes

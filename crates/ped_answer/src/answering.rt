@@ -7,7 +7,7 @@ ghost use Rattle.ped_words.specs.Requests as plain;
 ghost use Rattle.ped_words.specs.Requests.{request_of};
 ghost use Rattle.ped_words.specs.Views.{request_view, IsSized};
 ghost use Rattle.ped_answer.specs.Answer.{inputs_of, IsOneOf, AgreeOn, HasRead, HoldsTooMany, IsWhole, Answers, MayAnswer, Sends};
-ghost use Rattle.ped_answer.specs.Headline.{PanesRequest, HistoryRequest, RunsRequest, UnitsRequest, CausesRequest, AutoRequest, CoveredRequest, IsHeadline};
+ghost use Rattle.ped_answer.specs.Headline.{PanesRequest, HistoryRequest, RunsRequest, UnitsRequest, CausesRequest, EvidenceRequest, AutoRequest, CoveredRequest, IsHeadline};
 ghost use Rattle.ped_answer.specs.TestCounts.{Tests, Ticks, IsUntested};
 ghost use Rattle.ped_answer.specs.Serving.{ServedRequest};
 
@@ -15,8 +15,8 @@ use crate::existence::some_tests;
 use crate::finishing::finish;
 use crate::generating::answer_size;
 use crate::headline::{
-    auto_is_told, history_is_kept, panes_are_afresh, panes_cover_runs, refusals_have_causes,
-    runs_are_as_before, units_run_as_expanded,
+    auto_is_told, evidence_is_so, history_is_kept, panes_are_afresh, panes_cover_runs,
+    refusals_have_causes, runs_are_as_before, units_run_as_expanded,
 };
 use crate::sessions::answer_files;
 use crate::showing::show_file;
@@ -109,7 +109,7 @@ pub fn ped_main<F: Shelf, K: Sink, L: Ledger>(
 
     // Where an answer is written whole, all panes in it, those of the file in mode `show` and those of each `source`, `deps`,
     // `deps S`, `show` and `calls` of a script, are those that come of reading the printed text of the present program
-    // afresh, and so is the advice of `advise S`. `print` shows that text.
+    // afresh, and so are the advice of `advise S` and what `system` says. `print` shows that text.
     ensures panes { (files : Contents) → F.may_hold shelf.new files → IsWhole result →
         (bytes : List ℕ) × (K.sent out.new ≡ K.sent out.old ++ bytes)
         × PanesRequest (request_of (map string_bytes words.now)) files bytes }
@@ -146,10 +146,18 @@ pub fn ped_main<F: Shelf, K: Sink, L: Ledger>(
 
     // A transformation or `reject` at a statement that the present program has is refused exactly where a rule or a
     // dependence forbids it, and the first of these is reported: the rule with the least number, and else the
-    // first row of the pane. Where the program has no such statement, that is reported.
+    // first row of the pane. Where the program has no such statement, that is reported. With evidence, a dependence forbids
+    // the step that is left open: not all of its vectors that count are disproved.
     ensures causes { (files : Contents) → F.may_hold shelf.new files → IsWhole result →
         (bytes : List ℕ) × (K.sent out.new ≡ K.sent out.old ++ bytes)
         × CausesRequest (request_of (map string_bytes words.now)) files bytes }
+
+    // After what is said of a step comes a row for each line of its evidence that proves nothing in the present program.
+    // What each other line claims is so on all data: in no run of that program do two accesses by its references conflict in
+    // one execution of an outermost DO in directions that its pattern fits.
+    ensures evidence { (files : Contents) → F.may_hold shelf.new files → IsWhole result →
+        (bytes : List ℕ) × (K.sent out.new ≡ K.sent out.old ++ bytes)
+        × EvidenceRequest (request_of (map string_bytes words.now)) files bytes }
 
     // `auto` lists accepted steps, all of them transformations, which lead one after another from the state before it
     // to the one after it, as they do in a script; each DO of its program that isn't a PARALLEL DO, with the first of
@@ -198,6 +206,7 @@ pub fn ped_main<F: Shelf, K: Sink, L: Ledger>(
     runs_are_as_before();
     units_run_as_expanded();
     refusals_have_causes();
+    evidence_is_so();
     auto_is_told::<L>();
     panes_cover_runs();
     some_tests();

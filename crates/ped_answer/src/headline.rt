@@ -7,7 +7,7 @@ ghost use Rattle.ped_io.specs.Outside.{Contents};
 ghost use Rattle.ped_words.specs.Requests as plain;
 ghost use Rattle.ped_answer.specs.declared.answering.Status.{Status};
 ghost use Rattle.ped_answer.specs.Answer.{IsWhole, Answers};
-ghost use Rattle.ped_answer.specs.Headline.{PanesRequest, HistoryRequest, RunsRequest, UnitsRequest, CausesRequest, AutoRequest, CoveredRequest};
+ghost use Rattle.ped_answer.specs.Headline.{PanesRequest, HistoryRequest, RunsRequest, UnitsRequest, CausesRequest, EvidenceRequest, AutoRequest, CoveredRequest};
 
 use crate::generating::{made_programs_are_trusted, made_programs_have_no_list};
 use std::sync::ledger::Ledger;
@@ -53,6 +53,16 @@ pub fn refusals_have_causes()
     ensures { (request : Option plain.Request) (files : Contents) (s : Status) (bytes : List ℕ) → IsWhole s →
         Answers request files s bytes → CausesRequest request files bytes }
 {}
+
+/// In each answer to a session, after what is said of a step comes a row for each line of its evidence that proves nothing
+/// in the present program. What each other line claims is so: in no run of that program do its references conflict in
+/// directions that its pattern fits.
+pub fn evidence_is_so()
+    ensures { (request : Option plain.Request) (files : Contents) (s : Status) (bytes : List ℕ) → IsWhole s →
+        Answers request files s bytes → EvidenceRequest request files bytes }
+{
+    ped_session::disproved_never_meets();
+}
 
 /// In each answer to a session each `run` of its script shows what the programs show from which the present one has come
 /// by transformations alone, if they are tidy and without C$PED REJECT and run on the data without a fault and without a

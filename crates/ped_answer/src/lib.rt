@@ -26,6 +26,6 @@ pub use existence::{
 };
 pub use generating::{made_programs_are_trusted, made_programs_have_no_list};
 pub use headline::{
-    auto_is_told, history_is_kept, panes_are_afresh, panes_cover_runs, refusals_have_causes,
-    runs_are_as_before, units_run_as_expanded,
+    auto_is_told, evidence_is_so, history_is_kept, panes_are_afresh, panes_cover_runs,
+    refusals_have_causes, runs_are_as_before, units_run_as_expanded,
 };

@@ -27,16 +27,16 @@ use Rattle.ped_session.proofs.States.{state_of}
 
 module _ {L : _} where
   changed_parts : (s : State) (text present : List ℕ) (h kept : Timeline (Entry L)) (e : Entry L) (k n : ℕ)
-      → kept.past ≡ h.past → e.other.text ≡ present → state_of present h k ≡ s
+      → kept.past ≡ h.past → e.text ≡ present → state_of present h k ≡ s
       → state_of text (pushed e kept) n ≡ changed_to text e.change n s
   changed_parts s text present h kept e k n past other is =
-      let here : e.other.text ≡ s.present = other ∙ ap (λ (u : State). u.present) is in
+      let here : e.text ≡ s.present = other ∙ ap (λ (u : State). u.present) is in
       let before : map other_of kept.past ≡ s.past = ap (map other_of) past ∙ ap (λ (u : State). u.past) is in
       λ i. record { past = (here i, e.change) ∷ before i; present = text; future = []; tested = n }
 
   -- the entry with what was present is pushed
   pub changed_by : (s : State) (text bytes present : List ℕ) (h kept next : Timeline (Entry L)) (e : Entry L) (k n m : ℕ)
-      → bytes ≡ text → next ≡ pushed e kept → kept.past ≡ h.past → e.other.text ≡ present → state_of present h k ≡ s → n ≡ m
+      → bytes ≡ text → next ≡ pushed e kept → kept.past ≡ h.past → e.text ≡ present → state_of present h k ≡ s → n ≡ m
       → state_of bytes next n ≡ changed_to text e.change m s
   changed_by s text bytes present h kept next e k n m new push past other is count =
       (λ i. state_of (new i) (push i) (count i)) ∙ changed_parts s text present h kept e k m past other is

@@ -1,19 +1,20 @@
 -- What a command does to the state of a session: nothing, an edit, a step, or a move along the history.
 use Rattle.std.proofs.Common.{◌≡◌, ℕ, Bool, true, false, List, Option, Some, None, refl, sym, ◌∙◌}
-use Rattle.std.specs.Prelude.{MatchBool}
+use Rattle.std.specs.Prelude.{MatchBool, MatchOption}
 use Rattle.ped_tree.specs.Tree.{StmtTree, ProgramTree}
 use Rattle.ped_tree.specs.Numbering.{statement_with}
 use Rattle.ped_transformations.specs.ped_graph.specs.DependencePane.{IsDependencePaneOf}
+use Rattle.ped_transformations.specs.ped_evidence.specs.SystemTexts.{system_text}
 use Rattle.ped_script.specs.declared.kinds.StepCommand.{StepCommand}
 use Rattle.ped_script.specs.declared.kinds.Query.{Query}
-use Rattle.ped_script.specs.declared.kinds.Query.TheVariants.{Source, Deps, Show, Calls, Print, Advise, Tested}
+use Rattle.ped_script.specs.declared.kinds.Query.TheVariants.{Source, Deps, Show, Calls, Print, Advise, System, Tested}
 use Rattle.ped_script.specs.declared.kinds.LineEdit.TheVariants.{Replace, Insert}
 use Rattle.ped_script.specs.declared.kinds.HistoryMove.TheVariants.{Undo, Redo}
 use Rattle.ped_script.specs.declared.kinds.ProgramRun.TheVariants.{Run, Races}
 use Rattle.ped_script.specs.declared.kinds.CommandKind.{CommandKind}
 use Rattle.ped_script.specs.declared.kinds.CommandKind.TheVariants as kind
 use Rattle.ped_session.specs.declared.replies.Refusal.{Refusal}
-use Rattle.ped_session.specs.declared.replies.Refusal.TheVariants.{NoSuchLine}
+use Rattle.ped_session.specs.declared.replies.Refusal.TheVariants.{NoSuchLine, NoSuchPair}
 use Rattle.ped_session.specs.declared.replies.Reply.{Reply}
 use Rattle.ped_session.specs.declared.replies.Reply.TheVariants.{Changed, Shown, Refused}
 use Rattle.ped_session.specs.States.{State}
@@ -50,6 +51,10 @@ module _ (k : CommandKind) (s next : State) (reply : Reply) where
   shows_of IsSo None h = refuses _ h
   shows_of IsSo (Some found) h = shows IsSo h
 
+  shows_system : (o : Option (List ℕ)) → MatchOption o (Refuses NoSuchPair s reply next) (λ text. Prints text s reply next) → Does k s reply next
+  shows_system None h = refuses _ h
+  shows_system (Some text) h = prints text h
+
   edits : (there : Bool) (kept gone : ℕ) (text : List ℕ) → MatchBool there (Edits kept gone text s reply next) (Refuses NoSuchLine s reply next) → Does k s reply next
   edits true kept gone text h = by_edit kept gone text h
   edits false kept gone text h = refuses NoSuchLine h
@@ -62,6 +67,7 @@ module _ (k : CommandKind) (s next : State) (reply : Reply) where
   answers Calls h = shows _ h
   answers Print h = prints _ h
   answers (Advise number) h = shows_of (λ t. IsAdvice t number) (statement_with number h.tree) h.shows
+  answers (System source sink pattern) h = shows_system (system_text h.tree source sink pattern) h.shows
   answers Tested h = prints _ h
 
 pub does : (k : CommandKind) (d : List ℕ) (s next : State) (reply : Reply) → IsStepOf k d s reply next → Does k s reply next

@@ -7,7 +7,7 @@ use Rattle.ped_eval.specs.Outcomes.{Outcome, Ended, Fault}
 use Rattle.ped_order.specs.Reports.{NoRace, Race}
 use Rattle.ped_order.specs.Reports as races
 use Rattle.ped_tree.specs.declared.grammar.refusals.RefusalKind.TheVariants.{OpenBlock, StorageLimit}
-use Rattle.ped_session.specs.declared.replies.Refusal.TheVariants.{BadEdit, NothingToUndo, NothingToRedo, NoSuchStatement, NoSuchLine}
+use Rattle.ped_session.specs.declared.replies.Refusal.TheVariants.{BadEdit, NothingToUndo, NothingToRedo, NoSuchStatement, NoSuchLine, NoSuchPair}
 use Rattle.ped_session.specs.declared.replies.Reply.TheVariants.{Changed, Shown, Refused}
 use Rattle.ped_session.specs.Splices.{text_of_lines, spliced, are_lines, is_place}
 use Rattle.ped_session.specs.OutcomeTexts.{outcome_text}
@@ -98,6 +98,10 @@ no_such_statement = refl
 no_such_line : reply_text 7 (Refused NoSuchLine) ≡ text_of_lines (codes "7: refused NoSuchLine" ∷ [])
 unfolding digits
 no_such_line = refl
+
+no_such_pair : reply_text 4 (Refused NoSuchPair) ≡ text_of_lines (codes "4: refused NoSuchPair" ∷ [])
+unfolding digits
+no_such_pair = refl
 
 bad_command : bad_command_row 7 ≡ text_of_lines (codes "7: refused BadCommand" ∷ [])
 unfolding digits

@@ -1,5 +1,5 @@
 -- Transformations keep the meaning of a session's programs.
-use Rattle.std.proofs.Common.{◌≡◌, inl, inr, ℕ, List, [], ◌∷◌, map, Option, Some, None, refl, sym, ap, ◌∙◌, subst}
+use Rattle.std.proofs.Common.{◌≡◌, inl, inr, ℕ, List, [], ◌∷◌, map, append-nil, Option, Some, None, refl, sym, ap, ◌∙◌, subst}
 use Rattle.std.specs.List.{range_with_len}
 use Rattle.ped_tree.specs.Tree.{ProgramTree}
 use Rattle.ped_tree.specs.Numbering.{statements_count}
@@ -199,7 +199,8 @@ opened_keeps t = record { past = tt; future = tt }
 run_shows : Agree → LoweringKeeps → (line : ℕ) (choices d : List ℕ) (s next : State) (said : Said) → IsMeaningKept s → AnswersReply line (Run choices) d s said next → ShowsAsBefore s d said.bytes
 run_shows agree lower line choices d s next said k h =
     let shows : Shows (IsRunText choices d) s h.0 next = h.1 in
-    let text : said.bytes ≡ outcome_text shows.so.0 = ap (λ (x : Said). x.bytes) (h.2 ∙ ap (λ (r : Reply). said_by line r next) shows.prints.0) ∙ shows.so.2 in
+    let rows : h.2 ≡ [] = h.3 in
+    let text : said.bytes ≡ outcome_text shows.so.0 = ap (λ (x : Said). x.bytes) (h.4 ∙ (λ i. said_by line (shows.prints.0 i) (rows i) next)) ∙ append-nil shows.bytes ∙ shows.so.2 in
     record {
       trusted = λ earlier t comes from trusted free. text ∙ ap outcome_text (as_before agree lower s d choices shows.tree shows.so.0 k shows.reads shows.so.1 earlier t comes from trusted free);
       true_on = λ earlier t u comes from to none free. text ∙ ap outcome_text (truly_before agree s d choices shows.tree shows.so.0 k shows.reads shows.so.1 earlier t u comes from to none free);

@@ -9,6 +9,8 @@ mod CarriedTexts
 mod Doing
 mod Examples
 mod HistoryMoves
+pub mod IdleRows
+mod Idling
 mod KeptEnds
 pub mod KeptMeanings
 mod LinesLeft
@@ -26,3 +28,9 @@ mod ShortNames
 mod Shown
 mod States
 mod Stepping
+mod SerialTrees
+mod FlagTrees
+mod StillPairs
+mod FlagSteps
+mod FlagWays
+mod ParallelAnswers

@@ -4,6 +4,7 @@ use Rattle.ped_transformations.specs.ped_auto.proofs.OneCourse.{one_auto}
 use Rattle.ped_script.specs.declared.items.Command.{Command}
 use Rattle.ped_script.specs.declared.items.Command.TheVariants.{Auto}
 use Rattle.ped_script.specs.declared.items.Item.{Item}
+use Rattle.ped_script.specs.Kinds.{kind_of}
 use Rattle.ped_session.specs.declared.replies.Reply.{Reply}
 use Rattle.ped_session.specs.States.{State}
 use Rattle.ped_session.specs.Steps.{IsStep}
@@ -11,13 +12,15 @@ use Rattle.ped_session.specs.AutoEditing.{session_editing}
 use Rattle.ped_session.specs.AutoEditingLaws.{session_laws}
 use Rattle.ped_session.specs.AutoAnswers.{auto_text}
 use Rattle.ped_session.specs.Scripts.{Said, said_by, said_both, AnswersReply, SaysAuto, AnswersCommand, AnswersItems}
+use Rattle.ped_session.proofs.IdleRows.{one_idle}
 use Rattle.ped_session.proofs.OneStep.{one}
 
 -- what a reply says
 one_reply : (line : ℕ) (c : Command) (data_bytes : List ℕ) (s m n : State) (a b : Said) → AnswersReply line c data_bytes s a m → AnswersReply line c data_bytes s b n → (a ≡ b) × (m ≡ n)
 one_reply line c data_bytes s m n a b p q =
     let step = one c data_bytes s m n p.0 q.0 p.1 q.1 in
-    (p.2 ∙ (λ i. said_by line (step.0 i) (step.1 i)) ∙ sym q.2, step.1)
+    let rows = one_idle line (kind_of c) s p.2 q.2 p.3 q.3 in
+    (p.4 ∙ (λ i. said_by line (step.0 i) (rows i) (step.1 i)) ∙ sym q.4, step.1)
 
 -- what is said, by its parts
 same_parts : (a b : Said) → a.bytes ≡ b.bytes → a.refused ≡ b.refused → a.tests ≡ b.tests → a ≡ b

@@ -1,6 +1,6 @@
 -- A command has one reply in a state, and leads to one state.
 use Rattle.std.proofs.Common.{◌≡◌, inl, inr, ℕ, Bool, true, false, List, [], ◌∷◌, ◌++◌, Option, Some, None, is_some, sym, ap, ◌∙◌, subst}
-use Rattle.std.specs.Prelude.{MatchBool}
+use Rattle.std.specs.Prelude.{MatchBool, MatchOption}
 use Rattle.ped_tree.specs.Tree.{StmtTree, ProgramTree}
 use Rattle.ped_tree.specs.Printing.{program_text}
 use Rattle.ped_tree.specs.SourcePane.{source_pane}
@@ -13,12 +13,15 @@ use Rattle.ped_valid.proofs.OneVerdict.{one_of_both}
 use Rattle.ped_transformations.specs.ped_graph.specs.DependencePane.{IsDependencePane, IsDependencePaneOf}
 use Rattle.ped_transformations.specs.ped_graph.proofs.OnePane.{one_pane, one_pane_of}
 use Rattle.ped_transformations.specs.ped_graph.specs.Update.Fresh.{tested_pairs}
+use Rattle.ped_script.specs.ped_certificates.specs.declared.claims.Position.{Position}
+use Rattle.ped_script.specs.ped_certificates.specs.declared.claims.Sign.{Sign}
+use Rattle.ped_transformations.specs.ped_evidence.specs.SystemTexts.{system_text}
 use Rattle.ped_transformations.specs.ped_inline.specs.CallsPane.{IsCallsPane}
 use Rattle.ped_transformations.specs.ped_inline.proofs.OnePane.{one_pane_of_calls}
 use Rattle.ped_transformations.specs.ped_steps.specs.Causes.{Cause}
 use Rattle.ped_script.specs.declared.items.Command.{Command}
 use Rattle.ped_script.specs.declared.kinds.Query.{Query}
-use Rattle.ped_script.specs.declared.kinds.Query.TheVariants.{Source, Deps, Show, Calls, Print, Advise, Tested}
+use Rattle.ped_script.specs.declared.kinds.Query.TheVariants.{Source, Deps, Show, Calls, Print, Advise, System, Tested}
 use Rattle.ped_script.specs.declared.kinds.LineEdit.TheVariants.{Replace, Insert}
 use Rattle.ped_script.specs.declared.kinds.HistoryMove.TheVariants.{Undo, Redo}
 use Rattle.ped_script.specs.declared.kinds.ProgramRun.TheVariants.{Run, Races}
@@ -27,7 +30,7 @@ use Rattle.ped_script.specs.declared.kinds.CommandKind.TheVariants as kind
 use Rattle.ped_script.specs.Kinds.{kind_of}
 use Rattle.ped_session.specs.declared.changes.ChangeKind.TheVariants.{Edit}
 use Rattle.ped_session.specs.declared.replies.Refusal.{Refusal}
-use Rattle.ped_session.specs.declared.replies.Refusal.TheVariants.{BadEdit, Step, NothingToUndo, NothingToRedo, NoSuchStatement, NoSuchLine}
+use Rattle.ped_session.specs.declared.replies.Refusal.TheVariants.{BadEdit, Step, NothingToUndo, NothingToRedo, NoSuchStatement, NoSuchLine, NoSuchPair}
 use Rattle.ped_session.specs.declared.replies.Reply.{Reply}
 use Rattle.ped_session.specs.declared.replies.Reply.TheVariants.{Shown, Refused}
 use Rattle.ped_session.specs.States.{Other, State, changed_to}
@@ -35,7 +38,7 @@ use Rattle.ped_session.specs.OutcomeTexts.{outcome_text, IsRunText}
 use Rattle.ped_session.specs.RaceRows.{race_row, IsRaceRow}
 use Rattle.ped_session.specs.Panes.{IsSourcePane, ArePanes}
 use Rattle.ped_session.specs.Splices.{are_lines, is_place, edit_keep}
-use Rattle.ped_session.specs.Steps.{Refuses, Shows, ShowsOf, ShowsStatement, Edits, accepted, refused, change_by, Transforms, missing, forbidden, transformed, GoesBack, GoesForward, ShowsAnswer, IsStepOf, IsStep}
+use Rattle.ped_session.specs.Steps.{Refuses, Prints, Shows, ShowsOf, ShowsStatement, ShowsSystem, Edits, accepted, refused, change_by, Transforms, missing, forbidden, transformed, GoesBack, GoesForward, ShowsAnswer, IsStepOf, IsStep}
 use Rattle.ped_transformations.specs.ped_rules.specs.Steps.{StepAt}
 use Rattle.ped_transformations.specs.ped_rules.specs.Lawful.{IsDetermined}
 use Rattle.ped_transformations.specs.Table.{step_of}
@@ -105,6 +108,18 @@ module _ (IsSo : ProgramTree → List ℕ → Type 0) (one : (t : ProgramTree) (
       let tree = one_tree s.present a.tree b.tree a.reads b.reads in
       one_of (statement_with number b.tree) s p q m n (subst (λ (t : ProgramTree). ShowsOf IsSo (statement_with number t) s p m) tree a.shows) b.shows
 
+-- the system of a pair, where there is one
+one_pair : (o : Option (List ℕ)) (s : State) (p q : Reply) (m n : State)
+    → MatchOption o (Refuses NoSuchPair s p m) (λ text. Prints text s p m) → MatchOption o (Refuses NoSuchPair s q n) (λ text. Prints text s q n) → (p ≡ q) × (m ≡ n)
+one_pair None s p q m n a b = one_refuses NoSuchPair s p q m n a b
+one_pair (Some text) s p q m n a b = (a.0 ∙ sym b.0, a.1 ∙ sym b.1)
+
+one_system : (source sink : Position) (pattern : List Sign) (s : State) (p q : Reply) (m n : State) → ShowsSystem source sink pattern s p m → ShowsSystem source sink pattern s q n → (p ≡ q) × (m ≡ n)
+one_system source sink pattern s p q m n a b =
+    let tree = one_tree s.present a.tree b.tree a.reads b.reads in
+    one_pair (system_text b.tree source sink pattern) s p q m n
+    (subst (λ (t : ProgramTree). MatchOption (system_text t source sink pattern) (Refuses NoSuchPair s p m) (λ text. Prints text s p m)) tree a.shows) b.shows
+
 -- an edit by its text
 one_edit : (kept gone : ℕ) (edited : List ℕ) (s : State) (p q : Reply) (m n : State) → Edits kept gone edited s p m → Edits kept gone edited s q n → (p ≡ q) × (m ≡ n)
 one_edit kept gone edited s p q m n (accepted old new from to reply next) (accepted old' new' from' to' reply' next') =
@@ -169,6 +184,7 @@ one_answer Show s m n p q a b = one_shows ArePanes one_panes s p q m n a b
 one_answer Calls s m n p q a b = one_shows IsCallsPane one_pane_of_calls s p q m n a b
 one_answer Print s m n p q a b = (a.0 ∙ sym b.0, a.1 ∙ sym b.1)
 one_answer (Advise number) s m n p q a b = one_statement (λ t. IsAdvice t number) (λ t. one_advice t number) number s p q m n a b
+one_answer (System source sink pattern) s m n p q a b = one_system source sink pattern s p q m n a b
 one_answer Tested s m n p q a b = (a.0 ∙ sym b.0, a.1 ∙ sym b.1)
 
 one_of_kind : (k : CommandKind) (d : List ℕ) (s m n : State) (p q : Reply) → IsStepOf k d s p m → IsStepOf k d s q n → (p ≡ q) × (m ≡ n)

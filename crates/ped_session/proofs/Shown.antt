@@ -1,17 +1,21 @@
 -- What is shown of the present program of a session.
 use Rattle.std.proofs.Common.{◌≡◌, ℕ, List, refl, ap, true, false, Option, Some, None, is_some}
+use Rattle.std.specs.Prelude.{MatchOption}
 use Rattle.ped_tree.specs.Tree.{StmtTree, ProgramTree}
 use Rattle.ped_tree.specs.Numbering.{statement_with}
 use Rattle.ped_transformations.specs.ped_graph.specs.DependencePane.{IsDependencePaneOf}
+use Rattle.ped_script.specs.ped_certificates.specs.declared.claims.Position.{Position}
+use Rattle.ped_script.specs.ped_certificates.specs.declared.claims.Sign.{Sign}
+use Rattle.ped_transformations.specs.ped_evidence.specs.SystemTexts.{system_text}
 use Rattle.ped_transformations.specs.Advice.{IsAdvice}
 use Rattle.ped_script.specs.declared.kinds.Query.{Query}
-use Rattle.ped_script.specs.declared.kinds.Query.TheVariants.{Source, Deps, Show, Calls, Print, Advise, Tested}
+use Rattle.ped_script.specs.declared.kinds.Query.TheVariants.{Source, Deps, Show, Calls, Print, Advise, System, Tested}
 use Rattle.ped_session.specs.declared.versions.Version.{Version}
-use Rattle.ped_session.specs.declared.replies.Refusal.TheVariants.{NoSuchStatement}
+use Rattle.ped_session.specs.declared.replies.Refusal.TheVariants.{NoSuchStatement, NoSuchPair}
 use Rattle.ped_session.specs.declared.replies.Reply.{Reply}
 use Rattle.ped_session.specs.declared.replies.Reply.TheVariants.{Shown, Refused}
 use Rattle.ped_session.specs.States.{State}
-use Rattle.ped_session.specs.Steps.{Shows, ShowsOf, ShowsStatement, ShowsAnswer}
+use Rattle.ped_session.specs.Steps.{Refuses, Prints, Shows, ShowsOf, ShowsStatement, ShowsSystem, ShowsAnswer}
 use Rattle.ped_session.specs.Scripts.{tests_of}
 use Rattle.ped_session.specs.Holding.{tree_of, IsVersion}
 use Rattle.ped_session.proofs.PresentProgram.{reads_version}
@@ -45,6 +49,22 @@ module _ (IsSo : ProgramTree → List ℕ → Type 0) where
     shows = shown_by (statement_with number (tree_of v)) s bytes some (shown IsSo v s bytes is same so);
   }
 
+-- the system of a pair of the program of a version, where it is one
+printed_by : (o : Option (List ℕ)) (s : State) (bytes : List ℕ) → o ≡ Some bytes → MatchOption o (Refuses NoSuchPair s (Shown bytes) s) (λ text. Prints text s (Shown bytes) s)
+printed_by None s bytes e = absurd cc
+printed_by (Some text) s bytes e = let found : bytes ≡ text = cc in (ap Shown found, refl)
+
+none_by : (o : Option (List ℕ)) (s : State) → o ≡ None → MatchOption o (Refuses NoSuchPair s (Refused NoSuchPair) s) (λ text. Prints text s (Refused NoSuchPair) s)
+none_by None s e = (refl, refl)
+none_by (Some text) s e = absurd cc
+
+module _ (v : Version) (s : State) (is : IsVersion v) (same : v.text ≡ s.present) (source sink : Position) (pattern : List Sign) where
+  pub shown_system : (bytes : List ℕ) → system_text (tree_of v) source sink pattern ≡ Some bytes → ShowsSystem source sink pattern s (Shown bytes) s
+  shown_system bytes e = record { tree = tree_of v; reads = reads_version v is s.present same; shows = printed_by (system_text (tree_of v) source sink pattern) s bytes e }
+
+  pub refused_system : system_text (tree_of v) source sink pattern ≡ None → ShowsSystem source sink pattern s (Refused NoSuchPair) s
+  refused_system e = record { tree = tree_of v; reads = reads_version v is s.present same; shows = none_by (system_text (tree_of v) source sink pattern) s e }
+
 -- showing tests nothing
 untested_shows : (IsSo : ProgramTree → List ℕ → Type 0) (s next : State) (reply : Reply) (last : State) → Shows IsSo s reply next → tests_of reply last ≡ 0
 untested_shows IsSo s next reply last shows = ap (λ (r : Reply). tests_of r last) shows.prints.0
@@ -52,6 +72,10 @@ untested_shows IsSo s next reply last shows = ap (λ (r : Reply). tests_of r las
 untested_by : (IsSo : ProgramTree → List ℕ → Type 0) (o : Option StmtTree) (s next : State) (reply : Reply) (last : State) → ShowsOf IsSo o s reply next → tests_of reply last ≡ 0
 untested_by IsSo None s next reply last refuses = ap (λ (r : Reply). tests_of r last) refuses.0
 untested_by IsSo (Some x) s next reply last shows = untested_shows IsSo s next reply last shows
+
+untested_pair : (o : Option (List ℕ)) (s next : State) (reply : Reply) (last : State) → MatchOption o (Refuses NoSuchPair s reply next) (λ text. Prints text s reply next) → tests_of reply last ≡ 0
+untested_pair None s next reply last h = ap (λ (r : Reply). tests_of r last) h.0
+untested_pair (Some text) s next reply last h = ap (λ (r : Reply). tests_of r last) h.0
 
 pub untested_answer : (query : Query) (s next : State) (reply : Reply) (last : State) → ShowsAnswer query s reply next → tests_of reply last ≡ 0
 untested_answer Source s next reply last h = untested_shows _ s next reply last h
@@ -61,4 +85,5 @@ untested_answer Show s next reply last h = untested_shows _ s next reply last h
 untested_answer Calls s next reply last h = untested_shows _ s next reply last h
 untested_answer Print s next reply last h = ap (λ (r : Reply). tests_of r last) h.0
 untested_answer (Advise number) s next reply last h = untested_by (λ t. IsAdvice t number) (statement_with number h.tree) s next reply last h.shows
+untested_answer (System source sink pattern) s next reply last h = untested_pair (system_text h.tree source sink pattern) s next reply last h.shows
 untested_answer Tested s next reply last h = ap (λ (r : Reply). tests_of r last) h.0

@@ -1,6 +1,6 @@
 -- A session keeps what is true of every editor (ParaScope; this project).
 use Rattle.std.specs.Prelude.{◌≡◌, ℕ, ◌≤◌, ◌<◌, List, length, Option, Some, None, true, is_some, MatchOption, ⊤}
-use Rattle.std.proofs.Common.{◌⊎◌, inl, inr, refl, sym, ap, subst, ◌∙◌}
+use Rattle.std.proofs.Common.{inl, inr, refl, sym, ap, subst, ◌∙◌}
 use Rattle.ped_tree.specs.Tree.{ProgramTree}
 use Rattle.ped_tree.specs.Numbering.{statement_with}
 use Rattle.ped_tree.specs.Printing.{program_text}
@@ -13,14 +13,13 @@ use Rattle.ped_transformations.specs.ped_steps.specs.Causes.{Cause}
 use Rattle.ped_transformations.specs.ped_rules.specs.Steps.{StepAt}
 use Rattle.ped_transformations.specs.ped_rules.specs.Lawful.{IsDetermined}
 use Rattle.ped_transformations.specs.ped_auto.specs.SerialLoops.{count_of, serial_loops}
-use Rattle.ped_transformations.specs.ped_auto.specs.Editing.{IsOfStrategy, IsEditing}
+use Rattle.ped_transformations.specs.ped_auto.specs.Editing.{IsEditing}
 use Rattle.ped_transformations.specs.Table.{step_of}
 use Rattle.ped_transformations.proofs.LawfulTable.{determined_step}
 use Rattle.ped_transformations.proofs.Growing.{Grows, step_grows, parallel_falls}
 use Rattle.ped_script.specs.declared.items.Command.TheVariants.{Parallel}
 use Rattle.ped_script.specs.declared.kinds.StepCommand.{StepCommand}
 use Rattle.ped_script.specs.Kinds.{step_in}
-use Rattle.ped_session.specs.declared.replies.Refusal.{Refusal}
 use Rattle.ped_session.specs.declared.replies.Refusal.TheVariants.{Step}
 use Rattle.ped_session.specs.declared.replies.Reply.{Reply}
 use Rattle.ped_session.specs.declared.replies.Reply.TheVariants.{Changed, Refused}

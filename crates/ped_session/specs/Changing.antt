@@ -1,5 +1,5 @@
 -- Accepted changes and answers of steps, as the code has them. Only contracts of private functions use it (this project).
-use Rattle.std.specs.Prelude.{◌≡◌, ℕ, List, Some, None, Result, Ok, Err}
+use Rattle.std.specs.Prelude.{◌≡◌, ℕ, List, true, false, Some, None, Result, Ok, Err}
 use Rattle.ped_tree.specs.Tree.{ProgramTree}
 use Rattle.ped_tree.specs.Printing.{program_text}
 use Rattle.ped_tree.specs.Views.{program_tree}
@@ -18,6 +18,8 @@ use Rattle.ped_session.specs.declared.replies.Reply.TheVariants.{Changed}
 use Rattle.ped_session.specs.States.{State, changed_to}
 use Rattle.ped_session.specs.Splices.{edit_keep}
 use Rattle.ped_session.specs.Meanings.{IsKept}
+use Rattle.ped_transformations.specs.ped_steps.specs.Replacing.{all_kept}
+use Rattle.ped_transformations.specs.ped_rules.specs.Flags.{flagged}
 use Rattle.ped_transformations.specs.ped_rules.specs.Steps.{StepAt}
 use Rattle.ped_session.specs.Steps.{Refuses}
 
@@ -52,3 +54,13 @@ Takes kind (Err why) s reply next = Refuses (refusal.Step (cause_of why)) s repl
 abbrev pub most_tests : Result step.Change Refused → ProgramTree → ℕ
 most_tests (Ok change) old = tested_pairs old (program_tree change.tree) change.keep
 most_tests (Err why) old = 0
+
+-- what the step made is the present program with the DO of this number as a PARALLEL DO, which it wasn't
+abbrev pub IsParallelOf : ℕ → State → step.Change → Type 0
+IsParallelOf number s change =
+    (t : ProgramTree) × ReadsValid s.present t × (program_tree change.tree ≡ flagged t number true) × (change.keep ≡ all_kept t) × (flagged (flagged t number true) number false ≡ t)
+
+-- so it is, where the step was accepted
+abbrev pub AnswersParallel : ℕ → State → Result step.Change Refused → Type 0
+AnswersParallel number s (Ok change) = IsParallelOf number s change
+AnswersParallel number s (Err why) = Unit {0}

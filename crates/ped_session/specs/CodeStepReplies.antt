@@ -3,7 +3,7 @@ use Rattle.std.specs.Prelude.{◌≡◌, Option, Some, None, ⊤}
 use Rattle.ped_transformations.specs.ped_steps.specs.declared.causes.Refused.{Refused}
 use Rattle.ped_transformations.specs.ped_steps.specs.CodeCauses.{cause_of, IsShort}
 use Rattle.ped_session.specs.declared.replies.Refusal.{Refusal}
-use Rattle.ped_session.specs.declared.replies.Refusal.TheVariants.{BadEdit, Step, NothingToUndo, NothingToRedo, NoSuchStatement, NoSuchLine}
+use Rattle.ped_session.specs.declared.replies.Refusal.TheVariants.{BadEdit, Step, NothingToUndo, NothingToRedo, NoSuchStatement, NoSuchLine, NoSuchPair}
 use Rattle.ped_session.specs.declared.replies.Reply.{Reply}
 use Rattle.ped_session.specs.declared.replies.Reply.TheVariants as reply
 
@@ -15,6 +15,7 @@ IsForCause NothingToUndo = ⊥
 IsForCause NothingToRedo = ⊥
 IsForCause NoSuchStatement = ⊥
 IsForCause NoSuchLine = ⊥
+IsForCause NoSuchPair = ⊥
 
 -- a step was accepted, or is refused for a cause
 abbrev pub IsOfStep : Reply → Type 0

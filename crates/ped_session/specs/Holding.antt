@@ -1,5 +1,5 @@
 -- What a session holds of its programs. Only contracts of private functions use it (this project).
-use Rattle.std.specs.Prelude.{◌≡◌, List, [], ◌∷◌, map}
+use Rattle.std.specs.Prelude.{◌≡◌, List, [], ◌∷◌, map, not}
 use Rattle.ped_tree.specs.Tree.{ProgramTree}
 use Rattle.ped_tree.specs.Views.{program_tree}
 use Rattle.ped_tree.specs.Printing.{program_text}
@@ -7,8 +7,11 @@ use Rattle.ped_transformations.specs.ped_symbols.specs.Kinds.{table_of}
 use Rattle.ped_transformations.specs.ped_symbols.specs.NameRefusals.{IsValid}
 use Rattle.ped_transformations.specs.ped_graph.specs.Held.{Held, held_of}
 use Rattle.ped_transformations.specs.ped_graph.specs.Update.Deltas.{TakesTo}
+use Rattle.ped_transformations.specs.ped_rules.specs.Flags.{flagged}
 use Rattle.ped_session.specs.declared.versions.Version.{Version}
 use Rattle.ped_session.specs.declared.versions.Entry.{Entry}
+use Rattle.ped_session.specs.declared.versions.Way.{Way}
+use Rattle.ped_session.specs.declared.versions.Way.TheVariants.{Apart, Flag}
 use Rattle.ped_session.specs.States.{Other}
 use Rattle.ped_session.specs.Meanings.{IsPastKept, IsFutureKept}
 
@@ -24,18 +27,34 @@ pub record IsVersion (v : Version) : Type 0 where
 
 -- the source that an entry of the history holds, with the change
 abbrev pub other_of : {L : _} → Entry L → Other
-other_of e = (e.other.text, e.change)
+other_of e = (e.text, e.change)
 
--- one after another the entries take a graph that holds this to the graphs of their programs
-abbrev pub Leads : {L : _} → Held → List (Entry L) → Type 0
-Leads graph [] = Unit {0}
-Leads graph (e ∷ es) = IsVersion e.other × TakesTo e.delta graph (held_of (tree_of e.other)) × Leads (held_of (tree_of e.other)) es
+-- the program to which a way leads from a program
+abbrev pub led_by : {L : _} → Way L → ProgramTree → ProgramTree
+led_by (Apart a) t = program_tree a.program
+led_by (Flag number parallel) t = flagged t number parallel
+
+-- a way leads from a program: what it holds apart belongs to that one and to the graph; or the same DO with the other flag leads back
+abbrev pub IsWay : {L : _} → Way L → ProgramTree → Type 0
+IsWay (Apart a) t = (a.symbols ≡ table_of (program_tree a.program)) × TakesTo a.delta (held_of t) (held_of (program_tree a.program))
+IsWay (Flag number parallel) t = flagged (flagged t number parallel) number (not parallel) ≡ t
+
+-- an entry leads from a program to a valid one, whose printed text it holds
+pub record LeadsFrom {L : _} (t : ProgramTree) (e : Entry L) : Type 0 where
+  pub valid : IsValid (led_by e.way t)
+  pub text : e.text ≡ program_text (led_by e.way t)
+  pub way : IsWay e.way t
+
+-- one after another the entries lead from a program to their programs
+abbrev pub Leads : {L : _} → ProgramTree → List (Entry L) → Type 0
+Leads t [] = Unit {0}
+Leads t (e ∷ es) = LeadsFrom t e × Leads (led_by e.way t) es
 
 -- the graph is that of the present program, the past and the future can be gone to, and each transformation keeps the meaning
 pub record IsConsistent {L : _} (present : Version) (graph : Held) (past future : List (Entry L)) : Type 0 where
   pub version : IsVersion present
   pub graph_is : graph ≡ held_of (tree_of present)
-  pub past_leads : Leads graph past
-  pub future_leads : Leads graph future
+  pub past_leads : Leads (tree_of present) past
+  pub future_leads : Leads (tree_of present) future
   pub past_kept : IsPastKept present.text (map other_of past)
   pub future_kept : IsFutureKept present.text (map other_of future)

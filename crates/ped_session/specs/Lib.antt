@@ -21,6 +21,7 @@ pub mod Changing
 pub mod CodeStepReplies
 pub mod Histories
 pub mod Holding
+pub mod Idle
 pub mod Listing
 pub mod LoweredRuns
 pub mod Meanings

@@ -5,7 +5,7 @@ use Rattle.ped_tree.specs.Grammar.Refusal.{Finding, number_of, name_of_refusal}
 use Rattle.ped_tree.specs.Grammar.RefusalViews.{finding_of}
 use Rattle.ped_session.specs.declared.replies.Refusal.{Refusal}
 use Rattle.ped_transformations.specs.ped_steps.specs.CauseWords.{cause_words}
-use Rattle.ped_session.specs.declared.replies.Refusal.TheVariants.{BadEdit, Step, NothingToUndo, NothingToRedo, NoSuchStatement, NoSuchLine}
+use Rattle.ped_session.specs.declared.replies.Refusal.TheVariants.{BadEdit, Step, NothingToUndo, NothingToRedo, NoSuchStatement, NoSuchLine, NoSuchPair}
 use Rattle.ped_session.specs.declared.replies.Reply.{Reply}
 use Rattle.ped_session.specs.declared.replies.Reply.TheVariants.{Changed, Shown, Refused}
 
@@ -29,6 +29,7 @@ refusal_words NothingToUndo = codes "NothingToUndo"
 refusal_words NothingToRedo = codes "NothingToRedo"
 refusal_words NoSuchStatement = codes "NoSuchStatement"
 refusal_words NoSuchLine = codes "NoSuchLine"
+refusal_words NoSuchPair = codes "NoSuchPair"
 
 -- what is printed of the reply to the command on this line of the script
 abbrev pub reply_text : ℕ → Reply → List ℕ

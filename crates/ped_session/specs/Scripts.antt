@@ -3,11 +3,13 @@ use Rattle.std.specs.Prelude.{◌≡◌, ◌⊎◌, ℕ, ◌+◌, List, [], ◌�
 use Rattle.ped_script.specs.declared.items.Command.{Command}
 use Rattle.ped_script.specs.declared.items.Command.TheVariants.{Auto}
 use Rattle.ped_script.specs.declared.items.Item.{Item}
+use Rattle.ped_script.specs.Kinds.{kind_of}
 use Rattle.ped_session.specs.declared.replies.Reply.{Reply}
 use Rattle.ped_session.specs.declared.replies.Reply.TheVariants.{Changed, Shown, Refused}
 use Rattle.ped_session.specs.States.{State}
 use Rattle.ped_session.specs.Replies.{bad_command_row, reply_text, is_refused}
 use Rattle.ped_session.specs.Steps.{IsStep}
+use Rattle.ped_session.specs.Idle.{AreIdle}
 use Rattle.ped_session.specs.AutoAnswers.{AnswersAuto}
 
 -- what items answer: the bytes, whether a line was refused, and how many pairs of references were tested
@@ -22,9 +24,9 @@ tests_of Changed next = next.tested
 tests_of (Shown bytes) next = 0
 tests_of (Refused why) next = 0
 
--- what the reply to the command on this line says
-abbrev pub said_by : ℕ → Reply → State → Said
-said_by line reply next = record { bytes = reply_text line reply; refused = is_refused reply; tests = tests_of reply next }
+-- what the reply to the command on this line says, with the rows of idle lines after it; these are no refused lines
+abbrev pub said_by : ℕ → Reply → List ℕ → State → Said
+said_by line reply rows next = record { bytes = reply_text line reply ++ rows; refused = is_refused reply; tests = tests_of reply next }
 
 -- what a line that is no command says
 abbrev pub bad_command_said : ℕ → Said
@@ -38,9 +40,10 @@ nothing_said = record { bytes = []; refused = false; tests = 0 }
 abbrev pub said_both : Said → Said → Said
 said_both first rest = record { bytes = first.bytes ++ rest.bytes; refused = first.refused || rest.refused; tests = first.tests + rest.tests }
 
--- what the reply to the command on this line says, and the state after it
+-- what the reply to the command on this line says, and the lines of its evidence that prove nothing in the state before; and the state after it
 abbrev pub AnswersReply : ℕ → Command → List ℕ → State → Said → State → Type 0
-AnswersReply line command data_bytes s said next = (reply : Reply) × IsStep command data_bytes s reply next × (said ≡ said_by line reply next)
+AnswersReply line command data_bytes s said next =
+    (reply : Reply) × IsStep command data_bytes s reply next × (rows : List ℕ) × AreIdle line (kind_of command) s rows × (said ≡ said_by line reply rows next)
 
 -- what `auto` on this line says, which is never refused, and the state after it
 abbrev pub SaysAuto : ℕ → State → Said → State → Type 0

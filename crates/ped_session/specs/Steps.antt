@@ -1,5 +1,5 @@
 -- What a command does: its reply, and the state of the session after it (ParaScope; this project).
-use Rattle.std.specs.Prelude.{◌≡◌, ℕ, ◌-◌, ◌+◌, List, [], ◌∷◌, true, false, Option, Some, None, MatchBool, is_some}
+use Rattle.std.specs.Prelude.{◌≡◌, ℕ, ◌-◌, ◌+◌, List, [], ◌∷◌, true, false, Option, Some, None, MatchBool, MatchOption, is_some}
 use Rattle.ped_tree.specs.Tree.{StmtTree, ProgramTree}
 use Rattle.ped_tree.specs.Printing.{program_text}
 use Rattle.ped_tree.specs.Numbering.{statement_with}
@@ -10,9 +10,11 @@ use Rattle.ped_valid.specs.Validity.{ReadsValid, RefusesText}
 use Rattle.ped_transformations.specs.ped_graph.specs.DependencePane.{IsDependencePane, IsDependencePaneOf}
 use Rattle.ped_transformations.specs.ped_graph.specs.Update.Fresh.{tested_pairs}
 use Rattle.ped_transformations.specs.ped_steps.specs.Causes.{Cause}
+use Rattle.ped_script.specs.ped_certificates.specs.declared.claims.Position.{Position}
+use Rattle.ped_script.specs.ped_certificates.specs.declared.claims.Sign.{Sign}
 use Rattle.ped_script.specs.declared.items.Command.{Command}
 use Rattle.ped_script.specs.declared.kinds.Query.{Query}
-use Rattle.ped_script.specs.declared.kinds.Query.TheVariants.{Source, Deps, Show, Calls, Print, Advise, Tested}
+use Rattle.ped_script.specs.declared.kinds.Query.TheVariants.{Source, Deps, Show, Calls, Print, Advise, System, Tested}
 use Rattle.ped_script.specs.declared.kinds.LineEdit.{LineEdit}
 use Rattle.ped_script.specs.declared.kinds.LineEdit.TheVariants.{Replace, Insert}
 use Rattle.ped_script.specs.declared.kinds.HistoryMove.{HistoryMove}
@@ -24,7 +26,7 @@ use Rattle.ped_script.specs.declared.kinds.CommandKind.TheVariants as kind
 use Rattle.ped_script.specs.Kinds.{kind_of}
 use Rattle.ped_session.specs.declared.changes.ChangeKind.{ChangeKind}
 use Rattle.ped_session.specs.declared.changes.ChangeKind.TheVariants.{Edit, Rejection, Transformation}
-use Rattle.ped_session.specs.declared.replies.Refusal.TheVariants.{BadEdit, Step, NothingToUndo, NothingToRedo, NoSuchStatement, NoSuchLine}
+use Rattle.ped_session.specs.declared.replies.Refusal.TheVariants.{BadEdit, Step, NothingToUndo, NothingToRedo, NoSuchStatement, NoSuchLine, NoSuchPair}
 use Rattle.ped_session.specs.declared.replies.Reply.{Reply}
 use Rattle.ped_session.specs.declared.replies.Reply.TheVariants.{Changed, Shown, Refused}
 use Rattle.ped_session.specs.declared.replies.Refusal.{Refusal}
@@ -35,6 +37,7 @@ use Rattle.ped_session.specs.OutcomeTexts.{IsRunText}
 use Rattle.ped_session.specs.RaceRows.{IsRaceRow}
 use Rattle.ped_transformations.specs.ped_rules.specs.Steps.{StepKind, transformation, rejection, StepAt}
 use Rattle.ped_transformations.specs.ped_inline.specs.CallsPane.{IsCallsPane}
+use Rattle.ped_transformations.specs.ped_evidence.specs.SystemTexts.{system_text}
 use Rattle.ped_transformations.specs.Table.{step_of}
 use Rattle.ped_transformations.specs.Advice.{IsAdvice}
 
@@ -64,6 +67,12 @@ pub record ShowsStatement (IsSo : ProgramTree → List ℕ → Type 0) (number :
   pub tree : ProgramTree
   pub reads : ReadsValid s.present tree
   pub shows : ShowsOf IsSo (statement_with number tree) s reply next
+
+-- the system of a pair of references and a pattern is printed, where evidence may speak of them in the present program; where it may not, the command is refused (this project)
+pub record ShowsSystem (source sink : Position) (pattern : List Sign) (s : State) (reply : Reply) (next : State) : Type 0 where
+  pub tree : ProgramTree
+  pub reads : ReadsValid s.present tree
+  pub shows : MatchOption (system_text tree source sink pattern) (Refuses NoSuchPair s reply next) (λ text. Prints text s reply next)
 
 -- the text of an edit, which keeps as many lines as given at the front and drops as many as given, is read afresh, and the printed text of what was read is the new source; or it is refused, and the session is as it was
 pub data Edits (kept gone : ℕ) (text : List ℕ) (s : State) (reply : Reply) (next : State) : Type 0 where
@@ -112,6 +121,7 @@ ShowsAnswer Show s reply next = Shows ArePanes s reply next
 ShowsAnswer Calls s reply next = Shows IsCallsPane s reply next
 ShowsAnswer Print s reply next = Prints s.present s reply next
 ShowsAnswer (Advise number) s reply next = ShowsStatement (λ t. IsAdvice t number) number s reply next
+ShowsAnswer (System source sink pattern) s reply next = ShowsSystem source sink pattern s reply next
 ShowsAnswer Tested s reply next = Prints (tested_row s.tested) s reply next
 
 -- the source is edited

@@ -122,7 +122,8 @@ fn answer_auto<L: Ledger>(
     Ok(())
 }
 
-/// Answers another command on this line by its reply.
+/// Answers another command on this line by its reply, with the rows of idle lines after it. These are asked for first, so
+/// that the session is as it was where there is no memory for them.
 fn answer_reply<L: Ledger>(
     alloc: Global,
     session: &mut Session<L>,
@@ -137,9 +138,11 @@ fn answer_reply<L: Ledger>(
     ensures least { steps.old ≤ steps.new }
     ensures most { (said : Spec.Said) (next : State) → Spec.AnswersReply line command.now input.now session.old said next → steps.new ≤ steps.old + said.tests }
 {
+    let rows = session.idle(alloc, line, command)?;
     let reply = session.apply(alloc, command, input, steps)?;
     let text = reply_text(alloc, line, &reply)?;
     answered.bytes.extend_from_slice(text.as_slice())?;
+    answered.bytes.extend_from_slice(rows.as_slice())?;
     answered.refused |= is_refused(&reply);
     Ok(())
 }

@@ -7,17 +7,20 @@ ghost use Rattle.ped_transformations.specs.ped_symbols.specs.NameRefusals.{IsVal
 ghost use Rattle.ped_transformations.specs.ped_symbols.specs.Kinds.{table_of};
 ghost use Rattle.ped_valid.specs.Validity.{ReadsValid};
 ghost use Rattle.ped_tree.specs.Printing.{program_text};
+ghost use Rattle.ped_transformations.specs.ped_graph.specs.Held.{held_of};
+ghost use Rattle.ped_transformations.specs.ped_graph.specs.Update.Deltas.{TakesTo};
 ghost use Rattle.ped_transformations.specs.ped_graph.specs.Update.Fresh.{IsOneToOne, tested_pairs};
 ghost use Rattle.ped_session.specs.Changing.{Changes};
+ghost use Rattle.ped_session.specs.Holding.{tree_of, led_by, IsWay};
 ghost use Rattle.ped_session.specs.Meanings.{IsKept};
 ghost use Rattle.ped_session.specs.Scripts.{tests_of};
 
 use crate::changes::ChangeKind;
 use crate::replies::Reply;
 use crate::session::Session;
-use crate::versions::{Entry, Version};
+use crate::versions::{Apart, Entry, Version, Way};
 use ped_base::NoMemory;
-use ped_order::{Keep, update};
+use ped_order::{Delta, Keep, update};
 use ped_print::print;
 use ped_valid::Opened;
 use ped_verdict::Steps;
@@ -57,11 +60,25 @@ impl<L: Ledger> Session<L> {
             text,
         };
         let other = replace(&mut self.present, version);
-        self.history.push(Entry {
-            other,
-            change,
-            delta,
-        });
+        self.history.push(entry_to(other, change, delta));
         Ok(Reply::Changed)
+    }
+}
+
+/// An entry that leads to this program by this step of the graph.
+fn entry_to<L: Ledger>(other: Version, change: ChangeKind, delta: Delta<L>) -> Entry<L>
+    ensures text { result.text ≡ other.text }
+    ensures change { result.change ≡ change }
+    ensures program { (t : ProgramTree) → led_by result.way t ≡ tree_of other }
+    ensures way { (t : ProgramTree) → other.symbols ≡ table_of (tree_of other) → TakesTo delta (held_of t) (held_of (tree_of other)) → IsWay result.way t }
+{
+    Entry {
+        text: other.text,
+        change,
+        way: Way::Apart(Apart {
+            program: other.program,
+            symbols: other.symbols,
+            delta,
+        }),
     }
 }

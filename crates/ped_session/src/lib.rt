@@ -11,11 +11,14 @@ mod carrying;
 mod changes;
 mod changing;
 mod editing;
+mod flags;
+mod idle;
 mod keeping;
 mod laws;
 mod listing;
 mod moving;
 mod outcome_texts;
+mod paralleling;
 mod race_rows;
 mod replies;
 mod running;
@@ -39,7 +42,7 @@ pub use ped_eval::{LiveRow, Outcome};
 pub use ped_order::{
     Graph, an_interleaving, conflicts_are_covered, races_are_covered, without_choices,
 };
-pub use ped_transformations::calls_are_covered;
+pub use ped_transformations::{calls_are_covered, disproved_never_meets};
 pub use replies::{FirstCause, Refusal, Reply};
 pub use scripts::{bad_command_row, reply_text};
 pub use session::Session;

@@ -66,6 +66,8 @@ pub enum Refusal {
     NoSuchStatement,
     /// The present source has no such lines, or the first follows the last.
     NoSuchLine,
+    /// The present program has no two such references of which evidence may speak, or the pattern has another length.
+    NoSuchPair,
 }
 
 /// The reply to a command.

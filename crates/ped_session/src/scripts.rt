@@ -63,6 +63,7 @@ fn push_words(alloc: Global, out: &mut Bytes, why: &Refusal) -> Result<(), NoMem
         Refusal::NothingToRedo => return out.extend_from_slice(b"NothingToRedo"),
         Refusal::NoSuchStatement => return out.extend_from_slice(b"NoSuchStatement"),
         Refusal::NoSuchLine => return out.extend_from_slice(b"NoSuchLine"),
+        Refusal::NoSuchPair => return out.extend_from_slice(b"NoSuchPair"),
     }
 }
 

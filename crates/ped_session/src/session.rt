@@ -207,7 +207,7 @@ impl<L: Ledger> Session<L> {
         ensures sure { IsMove kind.now → is_ok result ≡ true }
     {
         match kind {
-            CommandKind::Ask(query) => return self.show(alloc, *query),
+            CommandKind::Ask(query) => return self.show(alloc, query),
             CommandKind::Edit(LineEdit::Replace { first, last, lines }) => {
                 return self.replace(alloc, *first, *last, lines.as_slice(), steps);
             }

@@ -8,7 +8,7 @@ ghost use Rattle.ped_session.specs.Panes.{IsSourcePane, ArePanes};
 ghost use Rattle.ped_session.specs.Panes as Panes;
 ghost use Rattle.ped_session.specs.OutcomeTexts.{IsRunText};
 ghost use Rattle.ped_session.specs.RaceRows.{IsRaceRow};
-ghost use Rattle.ped_session.specs.Steps.{Shows, ShowsStatement, Prints, ShowsAnswer};
+ghost use Rattle.ped_session.specs.Steps.{Shows, ShowsStatement, ShowsSystem, Prints, ShowsAnswer};
 
 use crate::outcome_texts::outcome_text;
 use crate::race_rows::race_row;
@@ -18,24 +18,27 @@ use crate::session::Session;
 use ped_base::{Bytes, NoMemory, push_number};
 use ped_order::{flow_of, races};
 use ped_print::source_pane;
-use ped_script::Query;
-use ped_transformations::{Scene, advice, calls_pane};
+use ped_script::{Position, Query, Sign};
+use ped_transformations::{Scene, advice, calls_pane, system_text};
 use std::alloc::Global;
 use std::sync::ledger::Ledger;
 
 impl<L: Ledger> Session<L> {
     /// What is asked for.
-    pub(crate) fn show(&self, alloc: Global, query: Query) -> Result<Reply, NoMemory>
-        ensures { IfOk result (λ reply. ShowsAnswer query self.now reply self.now) }
+    pub(crate) fn show(&self, alloc: Global, query: &Query) -> Result<Reply, NoMemory>
+        ensures { IfOk result (λ reply. ShowsAnswer query.now self.now reply self.now) }
     {
         match query {
             Query::Source => return self.show_source(alloc),
             Query::Deps(None) => return self.show_all_dependences(alloc),
-            Query::Deps(Some(number)) => return self.show_dependences_of(alloc, number),
+            Query::Deps(Some(number)) => return self.show_dependences_of(alloc, *number),
             Query::Show => return self.show_both(alloc),
             Query::Calls => return self.show_calls(alloc),
             Query::Print => return self.show_text(alloc),
-            Query::Advise(number) => return self.show_advice(alloc, number),
+            Query::Advise(number) => return self.show_advice(alloc, *number),
+            Query::System(source, sink, pattern) => {
+                return self.show_system(alloc, source, sink, pattern.as_slice());
+            }
             Query::Tested => return self.show_tested(alloc),
         }
     }
@@ -121,6 +124,30 @@ impl<L: Ledger> Session<L> {
             flow: &flow,
         };
         Ok(Reply::Shown(advice(alloc, &scene, number)?))
+    }
+
+    /// The system of two references and a pattern, where evidence may speak of them in the present program.
+    fn show_system(
+        &self,
+        alloc: Global,
+        source: &Position,
+        sink: &Position,
+        pattern: &[Sign],
+    ) -> Result<Reply, NoMemory>
+        ensures { IfOk result (λ reply. ShowsSystem source.now sink.now pattern.now self.now reply self.now) }
+    {
+        let present = &self.present;
+        match system_text(
+            alloc,
+            &present.program,
+            &present.symbols,
+            source,
+            sink,
+            pattern,
+        )? {
+            Some(text) => Ok(Reply::Shown(text)),
+            None => Ok(Reply::Refused(Refusal::NoSuchPair)),
+        }
     }
 
     /// The outcome of the present program on these data, with these choices: that of what it is lowered to.

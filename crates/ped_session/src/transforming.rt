@@ -1,9 +1,10 @@
 //! Steps: transformations of the present program, and rejections of its dependences.
 
-ghost use Rattle.std.specs.Prelude.{◌≡◌, ◌+◌, ◌≤◌, IfOk, OnErr};
+ghost use Rattle.std.specs.Prelude.{◌≡◌, ◌+◌, ◌≤◌, IsTrue, IfOk, OnErr};
 ghost use Rattle.ped_tree.specs.Tree.{ProgramTree};
 ghost use Rattle.ped_valid.specs.Validity.{ReadsValid};
 ghost use Rattle.ped_transformations.specs.Table.{step_of};
+ghost use Rattle.ped_script.specs.declared.kinds.WhichStep.TheVariants.{Parallel};
 ghost use Rattle.ped_session.specs.declared.replies.Reply.{Reply};
 ghost use Rattle.ped_session.specs.States.{State};
 ghost use Rattle.ped_session.specs.Steps.{Transforms, change_by};
@@ -15,7 +16,7 @@ use crate::replies::{FirstCause, Refusal, Reply};
 use crate::session::Session;
 use ped_base::NoMemory;
 use ped_order::flow_of;
-use ped_script::StepCommand;
+use ped_script::{StepCommand, WhichStep};
 use ped_transformations::{Refused, Scene, StepAnswer, every_step_is_lawful};
 use ped_valid::Opened;
 use ped_verdict::Steps;
@@ -41,6 +42,9 @@ impl<L: Ledger> Session<L> {
             return Ok(Reply::Refused(Refusal::NoSuchStatement));
         }
         let answer = self.answer(alloc, command)?;
+        if is_parallel(command) {
+            return self.take_parallel(alloc, command.statement, answer);
+        }
         self.take(alloc, change_of(command), answer, steps)
     }
 
@@ -86,6 +90,16 @@ impl<L: Ledger> Session<L> {
             }
             Err(refused) => return Ok(Reply::Refused(Refusal::Step(FirstCause::new(refused)))),
         }
+    }
+}
+
+/// Whether the step of a command is `parallel`.
+fn is_parallel(command: &StepCommand) -> bool
+    ensures { IsTrue result → command.now.step ≡ Parallel }
+{
+    match &command.step {
+        WhichStep::Parallel => return true,
+        _ => return false,
     }
 }
 

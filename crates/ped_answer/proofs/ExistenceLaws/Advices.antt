@@ -1,5 +1,5 @@
 -- There is advice on each statement of a program: of each step a first cause against it, or none.
-use Rattle.std.proofs.Common.{◌≡◌, ℕ, List, [], ◌∷◌, ◌++◌, refl}
+use Rattle.std.proofs.Common.{ℕ, List, [], ◌∷◌, ◌++◌, refl}
 use Rattle.ped_tree.specs.Tree.{ProgramTree}
 use Rattle.ped_session.specs.ped_transformations.specs.Advice.{Advised, advised, advice_line, AreLinesOf, IsAdvice}
 use Rattle.ped_answer.proofs.ExistenceLaws.FirstCauses.{each_cause}

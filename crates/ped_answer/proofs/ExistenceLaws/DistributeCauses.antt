@@ -12,11 +12,11 @@ use Rattle.ped_session.specs.ped_rules.specs.Rules.{WhereNoLoop, is_parallel, Wh
 use Rattle.ped_session.specs.ped_rules.proofs.Decided.{loop_decided}
 use Rattle.ped_session.specs.ped_rules.specs.Rules.{IsBoundOf}
 use Rattle.ped_session.specs.ped_rules.proofs.HeadLaws.PlainDecided.{plain_decided}
-use Rattle.ped_session.specs.ped_transformations.specs.ped_splits.specs.Blocks.{AreBlocks}
-use Rattle.ped_session.specs.ped_transformations.specs.ped_splits.specs.Distributing.{distributed, MakesDistributed, IsItsBound, WhereOneBlock, StandsAgainstDistribution}
-use Rattle.ped_session.specs.ped_transformations.specs.ped_splits.proofs.OneBlocks.{one_found}
+use Rattle.ped_session.specs.ped_transformations.specs.ped_splits.specs.PiBlocks.{ArePiBlocks}
+use Rattle.ped_session.specs.ped_transformations.specs.ped_splits.specs.Distributing.{distributed, MakesDistributed, IsItsBound, WhereOnePiBlock, StandsAgainstDistribution}
+use Rattle.ped_session.specs.ped_transformations.specs.ped_splits.proofs.OnePiBlocks.{one_found}
 use Rattle.ped_session.specs.ped_transformations.specs.ped_splits.proofs.DistributeRules as rules
-use Rattle.ped_session.specs.ped_transformations.specs.ped_splits.proofs.Existence.Closures.{blocks_exist}
+use Rattle.ped_session.specs.ped_transformations.specs.ped_splits.proofs.Existence.Closures.{pi_blocks_exist}
 use Rattle.ped_answer.specs.Existence.Deciding.{Decided}
 use Rattle.ped_answer.proofs.ExistenceLaws.ChainCauses.{Settled, found_link, found_last, settled_no_loop, settled_where, settled_escape, settled_limit, some_cause}
 
@@ -38,15 +38,15 @@ module _ (t : ProgramTree) (s : ℕ) where
       by (inr n) = (None, λ m p. n p.0)
 
   -- the blocks are fewer than two, or not
-  settled_single : Settled (WhereOneBlock t s)
+  settled_single : Settled (WhereOnePiBlock t s)
   settled_single = by (loop_decided t s)
     where
-      on : (l : LoopOf t s) (found : List (List ℕ)) → AreBlocks t s l.head l.body found → (length found < 2) ⊎ (2 ≤ length found) → Settled (WhereOneBlock t s)
+      on : (l : LoopOf t s) (found : List (List ℕ)) → ArePiBlocks t s l.head l.body found → (length found < 2) ⊎ (2 ≤ length found) → Settled (WhereOnePiBlock t s)
       on l found are (inl few) = (Some s, (l, found, are, few, refl))
       on l found are (inr many) = (None, λ m p. let same = one_found t s p.0 l p.1 found p.2 are in let few : length found < 2 = subst (λ (bs : List (List ℕ)). length bs < 2) same p.3 in absurd (omega (arith, few, many)))
 
-      by : Decided (LoopOf t s) → Settled (WhereOneBlock t s)
-      by (inl l) = let found = blocks_exist t s l.head l.body in on l found.0 found.1 (cases_lt (length found.0) 2)
+      by : Decided (LoopOf t s) → Settled (WhereOnePiBlock t s)
+      by (inl l) = let found = pi_blocks_exist t s l.head l.body in on l found.0 found.1 (cases_lt (length found.0) 2)
       by (inr n) = (None, λ m p. n p.0)
 
   pub distribute_cause : (c : Option Cause) × IsFirstCause t (StandsAgainstDistribution s t) none_forbids c
@@ -55,6 +55,6 @@ module _ (t : ProgramTree) (s : ℕ) where
       (found_link ParallelState (WhereLoop t s is_parallel) (rules.escape s t) (rules.escape_chain s t) (settled_where t s is_parallel)
       (found_link IndexEscapes (WhereEscape t s) (rules.plain s t) (rules.plain_chain s t) (settled_escape t s)
       (found_link BoundNotPlain (WhereUnplain t s (IsItsBound t s)) (rules.single s t) (rules.single_chain s t) settled_plain
-      (found_link OneBlock (WhereOneBlock t s) (rules.limit s t) (rules.limit_chain s t) settled_single
+      (found_link OneBlock (WhereOnePiBlock t s) (rules.limit s t) (rules.limit_chain s t) settled_single
       (found_last Limit (WhereLimit (MakesDistributed s) t s)
-      (settled_limit t s (MakesDistributed s) (rules.one_made s t) (λ l. let found = blocks_exist t s l.head l.body in (distributed t s found.0, rules.kept s t l.body found.0, (l, found.0, found.1, refl, refl))))))))))
+      (settled_limit t s (MakesDistributed s) (rules.one_made s t) (λ l. let found = pi_blocks_exist t s l.head l.body in (distributed t s found.0, rules.kept s t l.body found.0, (l, found.0, found.1, refl, refl))))))))))

@@ -4,8 +4,11 @@ use Rattle.ped_tree.specs.Tree.{ProgramTree}
 use Rattle.ped_session.specs.ped_symbols.specs.NameRefusals.{IsValid}
 use Rattle.ped_session.specs.ped_steps.specs.Causes.{Cause}
 use Rattle.ped_script.specs.declared.kinds.WhichStep.{WhichStep}
-use Rattle.ped_script.specs.declared.kinds.WhichStep.TheVariants.{Interchange, Reverse, Skew, Strip, Peel, Distribute, Fuse, Inline, Expand, Privatise, Reduce, Parallel, Serial, Reject}
+use Rattle.ped_script.specs.declared.kinds.WhichStep.TheVariants.{Interchange, InterchangeBy, Reverse, ReverseBy, Skew, Strip, Peel, Distribute, Fuse, Inline, Expand, Privatise, Reduce, Parallel, ParallelBy, Serial, Reject}
+use Rattle.ped_session.specs.ped_rules.specs.Carried.{carried, crossing}
 use Rattle.ped_session.specs.ped_rules.specs.Steps.{StepAt}
+use Rattle.ped_session.specs.ped_transformations.specs.ped_loops.specs.ByEvidence.{carried_open, crossing_open}
+use Rattle.ped_session.specs.ped_transformations.specs.ped_evidence.specs.Lines.{lines_of}
 use Rattle.ped_session.specs.ped_rules.specs.Lawful.{IsDetermined}
 use Rattle.ped_session.specs.ped_transformations.specs.Table.{step_at}
 use Rattle.ped_session.specs.ped_transformations.proofs.LawfulTable.{determined_step}
@@ -38,8 +41,10 @@ goes_by at determined some t valid = by (some t)
 pub each_cause : (number : ℕ) (step : WhichStep) → HasCause (step_at number step)
 each_cause number (Expand name) = λ t. expanding_cause t number name
 each_cause number (Privatise name) = λ t. privatising_cause t number name
-each_cause number Interchange = λ t. interchange_cause t number
-each_cause number Reverse = λ t. reversal_cause t number
+each_cause number Interchange = λ t. interchange_cause t number (crossing t number)
+each_cause number (InterchangeBy evidence) = λ t. interchange_cause t number (crossing_open t number (lines_of evidence))
+each_cause number Reverse = λ t. reversal_cause t number (carried t number)
+each_cause number (ReverseBy evidence) = λ t. reversal_cause t number (carried_open t number (lines_of evidence))
 each_cause number (Skew factor) = λ t. skew_cause t number factor
 each_cause number (Strip size) = λ t. strip_cause t number size
 each_cause number (Peel last) = λ t. peel_cause t number last
@@ -47,7 +52,8 @@ each_cause number Distribute = λ t. distribute_cause t number
 each_cause number Fuse = λ t. fuse_cause t number
 each_cause number Inline = λ t. inlining_cause t number
 each_cause number (Reduce names) = λ t. reducing_cause t number names
-each_cause number Parallel = λ t. parallel_cause t number
+each_cause number Parallel = λ t. parallel_cause t number (carried t number)
+each_cause number (ParallelBy evidence) = λ t. parallel_cause t number (carried_open t number (lines_of evidence))
 each_cause number Serial = λ t. serial_cause t number
 each_cause number (Reject name) = λ t. rejection_cause t number name
 

@@ -1,12 +1,12 @@
 -- `interchange` has a first cause against it in a program, or none.
-use Rattle.std.proofs.Common.{◌≡◌, ◌⊎◌, ℕ, ◌+◌, inl, inr, refl, sym, Option, Some, None, MatchOption, subst, arith}
+use Rattle.std.proofs.Common.{◌≡◌, ◌⊎◌, ℕ, ◌+◌, inl, inr, refl, sym, Bool, Option, Some, None, MatchOption, subst, arith}
 use Rattle.ped_tree.specs.Tree.{ExprTree, Head, StmtTrees, ProgramTree}
 use Rattle.ped_session.specs.ped_flow.specs.PlainBounds.{IsPlain}
 use Rattle.ped_session.specs.ped_flow.specs.Questions.{LoopOf}
 use Rattle.ped_session.specs.ped_symbols.specs.Kinds.{table_of}
 use Rattle.ped_session.specs.ped_steps.specs.declared.rules.Rule.TheVariants.{NoLoop, NotPerfect, ParallelState, HasPrivate, IndexEscapes, BoundNotPlain, BoundsShape, StepShape, Range, Limit}
 use Rattle.ped_session.specs.ped_steps.specs.Causes.{Cause, IsFirstCause}
-use Rattle.ped_session.specs.ped_rules.specs.Carried.{crossing}
+use Rattle.ped_session.specs.ped_rules.specs.ped_edges.specs.Edges.{Edge}
 use Rattle.ped_session.specs.ped_rules.specs.KeepMaps.{all_but}
 use Rattle.ped_session.specs.ped_rules.specs.OnlyLoops.{only_loop, either}
 use Rattle.ped_session.specs.ped_rules.specs.Rules.{WhereNoLoop, WhereEscape, WhereUnplain, WhereLimit, HasUnplain, isnt_perfect, is_parallel, has_private}
@@ -116,8 +116,8 @@ module _ (t : ProgramTree) (s : ℕ) where
       by (inl l) = unplain_at l (outer_decided l) (inner_decided l (only_loop l.body) refl)
       by (inr n) = (None, λ m p. n p.0)
 
-  pub interchange_cause : (c : Option Cause) × IsFirstCause t (StandsAgainstInterchange s t) (crossing t s) c
-  interchange_cause = some_cause t (StandsAgainstInterchange s t) (crossing t s)
+  pub interchange_cause : (forbids : Edge → Bool) → (c : Option Cause) × IsFirstCause t (StandsAgainstInterchange s t) forbids c
+  interchange_cause forbids = some_cause t (StandsAgainstInterchange s t) forbids
       (found_link NoLoop (WhereNoLoop t s) (rules.perfect s t) (rules.perfect_chain s t) (settled_no_loop t s)
       (found_link NotPerfect (WhereLoop t s isnt_perfect) (rules.state s t) (rules.state_chain s t) (settled_where t s isnt_perfect)
       (found_link ParallelState (WhereLoop t s (either is_parallel)) (rules.list s t) (rules.list_chain s t) (settled_where t s (either is_parallel))

@@ -9,7 +9,7 @@ use Rattle.ped_session.specs.ped_graph.specs.Dependences.{AreEdges}
 use Rattle.ped_session.specs.ped_steps.specs.declared.rules.Rule.TheVariants.{NoLoop, ParallelState, IndexEscapes, StepShape, Limit, NothingToReject}
 use Rattle.ped_session.specs.ped_steps.specs.Causes.{Rules, Cause, IsFirstCause, none_forbids}
 use Rattle.ped_session.specs.ped_steps.specs.Replacing.{all_kept}
-use Rattle.ped_session.specs.ped_rules.specs.Carried.{is_carried_by, carried}
+use Rattle.ped_session.specs.ped_rules.specs.Carried.{is_carried_by}
 use Rattle.ped_session.specs.ped_rules.specs.Chains.{no_rules, also, WhereLoop}
 use Rattle.ped_session.specs.ped_rules.specs.Rules.{WhereNoLoop, is_parallel, is_serial, WhereEscape, is_unit, has_other_step, WhereLimit}
 use Rattle.ped_session.specs.ped_rules.proofs.Chains.{IsChain, chain_end, chain_link}
@@ -55,8 +55,8 @@ module _ (t : ProgramTree) (s : ℕ) where
         (found_link IndexEscapes (WhereEscape t s) limit limit_chain (settled_escape t s)
         (found_last Limit (WhereLimit Makes t s) (settled_limit t s Makes (λ new other keep more p q. (p.0 ∙ sym q.0, p.1 ∙ sym q.1)) (λ l. (flagged t s flag, all_kept t, (refl, refl)))))))
 
-  pub parallel_cause : (c : Option Cause) × IsFirstCause t (StandsAgainstParallel s t) (carried t s) c
-  parallel_cause = some_cause t (StandsAgainstParallel s t) (carried t s) (flag_found is_parallel true)
+  pub parallel_cause : (forbids : Edge → Bool) → (c : Option Cause) × IsFirstCause t (StandsAgainstParallel s t) forbids c
+  parallel_cause forbids = some_cause t (StandsAgainstParallel s t) forbids (flag_found is_parallel true)
 
   pub serial_cause : (c : Option Cause) × IsFirstCause t (StandsAgainstSerial s t) none_forbids c
   serial_cause = some_cause t (StandsAgainstSerial s t) none_forbids (flag_found is_serial false)
@@ -89,8 +89,8 @@ module _ (t : ProgramTree) (s : ℕ) where
   reverse_state_chain : IsChain 1 reverse_state
   reverse_state_chain = chain_link ParallelState (WhereLoop t s is_parallel) reverse_escape 1 (omega arith) (loop_one t s is_parallel) reverse_escape_chain
 
-  pub reversal_cause : (c : Option Cause) × IsFirstCause t (StandsAgainstReversal s t) (carried t s) c
-  reversal_cause = some_cause t (StandsAgainstReversal s t) (carried t s)
+  pub reversal_cause : (forbids : Edge → Bool) → (c : Option Cause) × IsFirstCause t (StandsAgainstReversal s t) forbids c
+  reversal_cause forbids = some_cause t (StandsAgainstReversal s t) forbids
       (found_link NoLoop (WhereNoLoop t s) reverse_state reverse_state_chain (settled_no_loop t s)
       (found_link ParallelState (WhereLoop t s is_parallel) reverse_escape reverse_escape_chain (settled_where t s is_parallel)
       (found_link IndexEscapes (WhereEscape t s) reverse_shape reverse_shape_chain (settled_escape t s)

@@ -6,8 +6,8 @@ use Rattle.ped_tree.specs.Accesses.{constant_names}
 use Rattle.ped_session.specs.ped_flow.specs.Events.{start_events}
 use Rattle.ped_session.specs.ped_flow.specs.Paths.{all_paths}
 use Rattle.ped_session.specs.ped_flow.specs.Questions.{LoopOf, IsFirst, IsExposed, IsReadBehind, IsShownBehind, IsAssignedThrough}
-use Rattle.ped_session.specs.ped_flow.specs.Summaries.{sum_in_turn, sum_events, sum_of_all}
-use Rattle.ped_session.specs.ped_flow.proofs.TreeSums.{all_summed}
+use Rattle.ped_session.specs.ped_flow.specs.Summaries.{summary_in_turn, summary_events, summary_of_all}
+use Rattle.ped_session.specs.ped_flow.proofs.TreeSummaries.{all_summed}
 use Rattle.ped_session.specs.ped_flow.proofs.Answering.{exposed_in_loop, exposed_nowhere, first_in_iteration, assigned_by, through_loop}
 use Rattle.ped_session.specs.ped_rules.specs.Scalars.{is_scalar, IsLiveBy}
 use Rattle.ped_session.specs.ped_transformations.specs.ped_scalar.specs.Privatising.{IsScalarExposedOrLiveBy}
@@ -29,9 +29,9 @@ module _ (t : ProgramTree) (s : ℕ) (x : List ℕ) where
       by (inr n) = (None, exposed_nowhere t s x (λ h body is. n (record { head = h; body = body; is = is })))
       by (inl l) =
           let cs = constant_names t.decls in
-          let start : Summary = sum_events x (start_events s l.head l.body) in
-          let inside : Summary = sum_of_all cs x l.body (s + 1) in
-          ((sum_in_turn start inside).first, exposed_in_loop t s x l.head l.body (sum_in_turn start inside).first l.is (first_in_iteration cs x s l.head l.body start inside (sum_in_turn start inside) refl refl refl))
+          let start : Summary = summary_events x (start_events s l.head l.body) in
+          let inside : Summary = summary_of_all cs x l.body (s + 1) in
+          ((summary_in_turn start inside).first, exposed_in_loop t s x l.head l.body (summary_in_turn start inside).first l.is (first_in_iteration cs x s l.head l.body start inside (summary_in_turn start inside) refl refl refl))
 
   -- by which statement the scalar is live behind the DO, if by any
   live_by : (r : Option ℕ) × MatchOption r ((n : ℕ) → IsLiveBy t s x n → ⊥) (IsLiveBy t s x)
@@ -54,7 +54,7 @@ module _ (t : ProgramTree) (s : ℕ) (x : List ℕ) where
       by (inr n) = inl (λ l. absurd (n l))
       by (inl l) =
           let cs = constant_names t.decls in
-          let m : Summary = sum_of_all cs x l.body (s + 1) in
+          let m : Summary = summary_of_all cs x l.body (s + 1) in
           let is = through_loop t s x l.head l.body (not m.keeps && not m.loses) l.is (assigned_by (all_paths cs l.body (s + 1)).onward x m m (not m.keeps && not m.loses) (all_summed cs x l.body (s + 1)).onward refl refl) in
           decided_same is.0 is.1 (true_decided (not m.keeps && not m.loses))
 

@@ -1,6 +1,6 @@
 -- Each command has a reply in each state whose sources are printed texts of valid programs, and leads to such a state.
 use Rattle.std.proofs.Common.{◌≡◌, ◌⊎◌, ℕ, ◌+◌, ◌-◌, refl, sym, subst, inl, inr, Bool, true, false, List, [], ◌∷◌, ◌++◌, All, Option, Some, None, is_some}
-use Rattle.std.specs.Prelude.{MatchBool}
+use Rattle.std.specs.Prelude.{MatchBool, MatchOption}
 use Rattle.std.proofs.lemmas.List.Elements.{All-nil, All-cons, All-head, All-tail}
 use Rattle.ped_tree.specs.Tree.{StmtTree, ProgramTree}
 use Rattle.ped_tree.specs.Printing.{program_text}
@@ -16,10 +16,13 @@ use Rattle.ped_session.specs.ped_rules.specs.ped_eval.specs.Outcomes.{Outcome}
 use Rattle.ped_session.specs.ped_order.specs.ped_interleavings.specs.Interleavings.{Standing, at_start, IsInterleavedFrom}
 use Rattle.ped_session.specs.ped_order.proofs.OneReport.{one_at_least}
 use Rattle.ped_session.specs.ped_transformations.specs.ped_inline.specs.CallsPane.{IsCallsPane}
+use Rattle.ped_script.specs.ped_certificates.specs.declared.claims.Position.{Position}
+use Rattle.ped_script.specs.ped_certificates.specs.declared.claims.Sign.{Sign}
+use Rattle.ped_session.specs.ped_transformations.specs.ped_evidence.specs.SystemTexts.{system_text}
 use Rattle.ped_script.specs.declared.items.Command.{Command}
 use Rattle.ped_script.specs.declared.items.Command.TheVariants.{Auto}
 use Rattle.ped_script.specs.declared.kinds.Query.{Query}
-use Rattle.ped_script.specs.declared.kinds.Query.TheVariants.{Source, Deps, Show, Calls, Print, Advise, Tested}
+use Rattle.ped_script.specs.declared.kinds.Query.TheVariants.{Source, Deps, Show, Calls, Print, Advise, System, Tested}
 use Rattle.ped_script.specs.declared.kinds.LineEdit.TheVariants.{Replace, Insert}
 use Rattle.ped_script.specs.declared.kinds.HistoryMove.TheVariants.{Undo, Redo}
 use Rattle.ped_script.specs.declared.kinds.ProgramRun.TheVariants.{Run, Races}
@@ -30,7 +33,7 @@ use Rattle.ped_script.proofs.OnlyAuto.{only_auto}
 use Rattle.ped_script.specs.declared.items.Item.{Item}
 use Rattle.ped_session.specs.declared.changes.ChangeKind.TheVariants.{Edit}
 use Rattle.ped_session.specs.declared.replies.Refusal.{Refusal}
-use Rattle.ped_session.specs.declared.replies.Refusal.TheVariants.{BadEdit, Step, NothingToUndo, NothingToRedo, NoSuchStatement, NoSuchLine}
+use Rattle.ped_session.specs.declared.replies.Refusal.TheVariants.{BadEdit, Step, NothingToUndo, NothingToRedo, NoSuchStatement, NoSuchLine, NoSuchPair}
 use Rattle.ped_session.specs.declared.replies.Reply.{Reply}
 use Rattle.ped_session.specs.declared.replies.Reply.TheVariants.{Changed, Shown, Refused}
 use Rattle.ped_session.specs.States.{Other, State, opened, changed_to, gone_back_to, gone_forward_to}
@@ -42,10 +45,11 @@ use Rattle.ped_session.specs.RaceRows.{race_row, IsRaceRow}
 use Rattle.ped_session.specs.ped_rules.specs.Steps.{StepAt}
 use Rattle.ped_session.specs.ped_transformations.specs.Table.{step_of}
 use Rattle.ped_session.specs.ped_transformations.specs.Advice.{IsAdvice}
-use Rattle.ped_session.specs.Steps.{Refuses, Shows, ShowsOf, ShowsStatement, Edits, accepted, refused, change_by, Transforms, missing, forbidden, transformed, GoesBack, GoesForward, ShowsAnswer, IsStepOf, IsStep}
+use Rattle.ped_session.specs.Steps.{Refuses, Prints, Shows, ShowsOf, ShowsStatement, ShowsSystem, Edits, accepted, refused, change_by, Transforms, missing, forbidden, transformed, GoesBack, GoesForward, ShowsAnswer, IsStepOf, IsStep}
 use Rattle.ped_session.specs.Histories.{IsPrinted, ArePrinted}
 use Rattle.ped_session.specs.Scripts.{Said, said_by, bad_command_said, nothing_said, said_both, AnswersCommand, AnswersItems}
 use Rattle.ped_session.specs.AutoAnswers.{auto_text}
+use Rattle.ped_session.proofs.IdleRows.{answered_idle}
 use Rattle.ped_answer.proofs.ExistenceLaws.Advices.{advice_of}
 use Rattle.ped_answer.proofs.ExistenceLaws.Autos.{auto_or_other, some_auto}
 use Rattle.ped_answer.proofs.ExistenceLaws.Edges.{pane_of_program, calls_pane_of_program, pane_of_statement}
@@ -105,6 +109,16 @@ module _ (comes : SomeOutcome) (s : State) (all : ArePrinted s) where
   shows_statement IsSo some number =
       let t = reads_printed s.present all.present in
       let a = shows_of IsSo some (statement_with number t.0) in
+      record { reply = a.reply; next = a.next; is = record { tree = t.0; reads = t.1; shows = a.is }; printed = a.printed }
+
+  shows_pair : (found : Option (List ℕ)) → Answered (λ reply. λ next. MatchOption found (Refuses NoSuchPair s reply next) (λ text. Prints text s reply next))
+  shows_pair None = stays NoSuchPair
+  shows_pair (Some text) = record { reply = Shown text; next = s; is = (refl, refl); printed = all }
+
+  shows_system : (source sink : Position) (pattern : List Sign) → Answered (λ reply. λ next. ShowsSystem source sink pattern s reply next)
+  shows_system source sink pattern =
+      let t = reads_printed s.present all.present in
+      let a = shows_pair (system_text t.0 source sink pattern) in
       record { reply = a.reply; next = a.next; is = record { tree = t.0; reads = t.1; shows = a.is }; printed = a.printed }
 
   -- a change to a valid program
@@ -184,6 +198,7 @@ module _ (comes : SomeOutcome) (s : State) (all : ArePrinted s) where
   answers Calls = shows IsCallsPane calls_pane_of_program
   answers Print = record { reply = Shown s.present; next = s; is = (refl, refl); printed = all }
   answers (Advise number) = shows_statement (λ t. IsAdvice t number) (λ t. advice_of t number) number
+  answers (System source sink pattern) = shows_system source sink pattern
   answers Tested = record { reply = Shown (tested_row s.tested); next = s; is = (refl, refl); printed = all }
 
   by_kind : (k : CommandKind) → (k ≡ kind.Auto → ⊥) → (d : List ℕ) → Answered (λ reply. λ next. IsStepOf k d s reply next)
@@ -223,7 +238,10 @@ tells_command comes line (Some c) d s all = by (auto_or_other c)
           is = inr (is, (record { report = a.report; does = a.does; says = refl }, refl));
           printed = a.printed;
         }
-    by (inr other) = let a = replies comes s all c other d in record { said = said_by line a.reply a.next; next = a.next; is = inl (a.reply, a.is, refl); printed = a.printed }
+    by (inr other) =
+        let a = replies comes s all c other d in
+        let idle = answered_idle line (kind_of c) d s a.next a.reply a.is in
+        record { said = said_by line a.reply idle.0 a.next; next = a.next; is = inl (a.reply, a.is, idle.0, idle.1, refl); printed = a.printed }
 
 pub answers_of : SomeOutcome → (items : List Item) (data_bytes : List ℕ) (s : State) → ArePrinted s → (said : Said) × (last : State) × AnswersItems items data_bytes s said last
 answers_of comes [] d s all = (nothing_said, s, (refl, refl))

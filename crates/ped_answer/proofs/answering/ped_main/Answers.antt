@@ -76,6 +76,7 @@ returns-in-Ok-clause-headline g c = λ files may whole.
         runs = c.runs_are_as_before.ensures _ files c.serve.result o.0 whole o.2;
         units = c.units_run_as_expanded.ensures _ files c.serve.result o.0 whole o.2;
         causes = c.refusals_have_causes.ensures _ files c.serve.result o.0 whole o.2;
+        evidence = c.evidence_is_so.ensures _ files c.serve.result o.0 whole o.2;
         parallelised = c.auto_is_told.ensures _ files c.serve.result o.0 whole o.2;
         covered = c.panes_cover_runs.ensures _ files c.serve.result o.0 whole o.2;
       },
@@ -105,6 +106,11 @@ pub returns-in-Ok-clause-causes : goal.returns-in-Ok-clause-causes
 returns-in-Ok-clause-causes g c = λ files may whole.
     let o = returns-in-Ok-clause-headline g c files may whole in
     (o.0, o.1, o.2.causes)
+
+pub returns-in-Ok-clause-evidence : goal.returns-in-Ok-clause-evidence
+returns-in-Ok-clause-evidence g c = λ files may whole.
+    let o = returns-in-Ok-clause-headline g c files may whole in
+    (o.0, o.1, o.2.evidence)
 
 pub returns-in-Ok-clause-parallelised : goal.returns-in-Ok-clause-parallelised
 returns-in-Ok-clause-parallelised g c = λ files may whole.

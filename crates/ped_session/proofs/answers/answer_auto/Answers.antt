@@ -1,4 +1,4 @@
-use Rattle.std.proofs.Common.{◌≡◌, ◌∙◌, ℕ, ◌+◌, ◌-◌, ◌≤◌, List, ◌++◌, Bool, ◌||◌, false, true, refl, ap, arith}
+use Rattle.std.proofs.Common.{◌≡◌, ◌∙◌, ℕ, ◌-◌, ◌≤◌, List, ◌++◌, Bool, ◌||◌, false, true, refl, ap, arith}
 use Rattle.ped_transformations.specs.ped_auto.specs.CodeReports.{report_of}
 use Rattle.ped_session.specs.AutoAnswers.{auto_text}
 use Rattle.ped_session.proofs.Answering.{same_answered}

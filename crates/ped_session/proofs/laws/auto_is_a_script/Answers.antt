@@ -20,4 +20,4 @@ returns-clause-answers g c = λ s last report tests d h.
     (sym (script_again c.rows_are_commands.ensures report.accepted
     (c.accepted_are_commands.ensures.strategy s last report tests h)
     (c.accepted_are_commands.ensures.written s last report tests short_names h)))
-    (replayed 1 report.accepted d s last tests (auto_steps s last report tests h))
+    (replayed 1 report.accepted d s last tests (c.accepted_are_commands.ensures.strategy s last report tests h) (auto_steps s last report tests h))

@@ -1,7 +1,6 @@
-use Rattle.std.proofs.Common.{◌≡◌, ap, sym, ◌∙◌, subst}
+use Rattle.std.proofs.Common.{sym, ◌∙◌, subst}
 use Rattle.std.specs.Prelude.{IfOk}
 use Rattle.ped_script.specs.declared.kinds.CommandKind.{CommandKind}
-use Rattle.ped_script.specs.declared.kinds.CommandKind.TheVariants as kinds
 use Rattle.ped_script.specs.Kinds.{IsMove}
 use Rattle.ped_script.proofs.OnlyAuto.{only_auto}
 use Rattle.ped_session.specs.Steps.{IsStepOf}

@@ -4,7 +4,8 @@ use Rattle.ped_tree.specs.Printing.{program_text}
 use Rattle.ped_transformations.specs.ped_graph.specs.Update.Fresh.{tested_pairs}
 use Rattle.ped_session.specs.declared.versions.Version.{Version}
 use Rattle.ped_session.specs.Holding.{tree_of}
-use Rattle.ped_session.specs.States.{State}
+use Rattle.ped_session.specs.declared.changes.ChangeKind.{ChangeKind}
+use Rattle.ped_session.specs.States.{State, changed_to}
 use Rattle.ped_session.proofs.PresentProgram.{graph_of, reads_version}
 use Rattle.ped_session.proofs.Accepted.{changed_by, as_counted, fresh_by}
 use Rattle.ped_session.proofs.session.Session.change.Goals as goal
@@ -24,10 +25,11 @@ returns-clause-answers g c =
       old,
       reads_version s.present c.self.invariant.version c.args.self.now.present (ap (λ (u : State). u.present) c.self.view_is),
       changed_by c.args.self.now (program_text t) c.replace-other.new.dest.text s.present.text s.history c.reserve.new.self c.push.new.self
-          (record { other = c.replace-other.result; change = c.args.change; delta = c.in_ok-delta.delta }) s.tested c.tested-self-inside.result (tested_pairs old t c.args.keep.now)
+          c.entry_to.result s.tested c.tested-self-inside.result (tested_pairs old t c.args.keep.now)
           (ap (λ (v : Version). v.text) c.replace-other.ensures.after ∙ c.in_ok-text.ensures) c.push.ensures c.in_ok-reserve.ensures.past
-          (ap (λ (v : Version). v.text) c.replace-other.ensures.value) c.self.view_is
-          (c.tested-self-inside.ensures ∙ c.in_ok-delta.ensures.tested ∙ fresh_by s.graph old t c.args.keep.now c.self.invariant.graph_is),
+          (c.entry_to.ensures.text ∙ ap (λ (v : Version). v.text) c.replace-other.ensures.value) c.self.view_is
+          (c.tested-self-inside.ensures ∙ c.in_ok-delta.ensures.tested ∙ fresh_by s.graph old t c.args.keep.now c.self.invariant.graph_is)
+          ∙ ap (λ (k : ChangeKind). changed_to (program_text t) k (tested_pairs old t c.args.keep.now) c.args.self.now) c.entry_to.ensures.change,
     )
 
 pub returns-clause-ticks : goal.returns-clause-ticks

@@ -1,0 +1,27 @@
+use Rattle.std.proofs.Common.{◌≡◌, ◌+◌, ◌*◌, ◌≤◌, take, drop}
+use Rattle.ped_tree.specs.Numbering.{statement_count, statements_count}
+use Rattle.ped_tree.specs.Views.{stmt_tree, stmt_trees, do_tree}
+use Rattle.ped_transformations.specs.ped_steps.specs.Replacing.{followed, all_replaced}
+use Rattle.ped_transformations.specs.ped_rules.specs.OnlyLoops.{on_loop}
+use Rattle.ped_transformations.specs.ped_rules.specs.Flags.{with_flag}
+use Rattle.ped_session.proofs.flags.+flags.Given as goal
+
+abbrev pub decreases-set_in : goal.decreases-set_in
+decreases-set_in l = 4 * statements_count (stmt_trees l.statements.now) + 3
+
+abbrev pub decreases-set_at : goal.decreases-set_at
+decreases-set_at l = 4 * statement_count (stmt_tree l.statement.now) + 2
+
+abbrev pub decreases-flagged_at : goal.decreases-flagged_at
+decreases-flagged_at l = 4 * statement_count (stmt_tree l.statement) + 1
+
+abbrev pub decreases-flagged_loop : goal.decreases-flagged_loop
+decreases-flagged_loop l = 4 * statement_count (do_tree l.d)
+
+abbrev pub invariant-set_in-loop-i : goal.invariant-set_in-loop-i
+invariant-set_in-loop-i l = record {
+  done : all_replaced (on_loop (with_flag l.parallel)) l.number (stmt_trees l.fn.statements) l.first
+      ≡ followed (stmt_trees (take l.i l.statements)) (all_replaced (on_loop (with_flag l.parallel)) l.number (stmt_trees (drop l.i l.statements)) l.own);
+  left : l.own + statements_count (stmt_trees (drop l.i l.statements)) ≡ l.first + statements_count (stmt_trees l.fn.statements);
+  from : l.first ≤ l.own;
+}

@@ -9,6 +9,8 @@ from typing import Dict, Iterator, List, Sequence, Tuple
 
 from .blocks import blocks_of
 from .doubts import may_reject
+from .evidence.offers import freed, offer
+from .evidence.proving import Proof
 from .messages import listed
 from .outline import outline_of
 from .panes import Dependence
@@ -48,6 +50,7 @@ class Adviser:
         self._inlining: Dict[int, List[Trial]] = {}
         self._blocks = blocks_of(view.panes.source) if tries else {}
         self._parts: Dict[int, Parts] = {}
+        self._freed: Dict[int, Proof] = {}
         if tries:
             self._ask(ped, loops, progress)
 
@@ -71,6 +74,7 @@ class Adviser:
         outline = outline_of(self._view.panes.source)
         divided = [outline.loops[loop.number] for loop in loops if self._is_divided(loop)]
         self._parts = parts(ped, self._view, divided, progress)
+        self._freed = freed(ped, self._view, loops, progress)
 
     def _is_divided(self, loop: Loop) -> bool:
         """Whether ped accepts `distribute` of a loop that carries something."""
@@ -83,7 +87,7 @@ class Adviser:
         if name in (INPUT, OUTPUT):
             return list(_about_lines(program, loop, name))
         if name in program.arrays:
-            return list(_about_array(program, loop, name, rows))
+            return [] if loop.number in self._freed else list(_about_array(program, loop, name, rows))
         outcomes = self._outcomes_of(loop, name)
         advice = self._about_outcomes(outcomes)
         if outcomes and not any(one.accepted for one in outcomes) and not self._is_summed(loop, name):
@@ -92,7 +96,7 @@ class Adviser:
 
     def about_loop(self, loop: Loop) -> List[str]:
         """What to try at a loop as a whole."""
-        advice = self.about_scalars(loop)
+        advice = [*self.about_scalars(loop), *self.about_evidence(loop)]
         told = sorted((one for one in self.advised(loop) if self._is_told(loop, one)), key=place_of)
         advice.extend(self.about_step(loop, one) for one in told)
         if not self._answers.advised and not loop.form.parallel and not carried_names(self._view.carried_by(loop)):
@@ -102,6 +106,11 @@ class Adviser:
         if others:
             advice.append(f"ped accepts {listed(others)}")
         return advice
+
+    def about_evidence(self, loop: Loop) -> List[str]:
+        """That evidence frees a loop, where it does."""
+        proof = self._freed.get(loop.number)
+        return [f"try {offer(proof)}"] if proof is not None else []
 
     def about_blocks(self, loop: Loop) -> List[str]:
         """What to try where a loop can't be taken apart, since a CALL is one statement."""

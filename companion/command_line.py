@@ -10,6 +10,7 @@ from contextlib import contextmanager
 from typing import IO, Callable, Dict, Iterator, List, Optional, Sequence, Tuple, Union
 
 from . import VERSION
+from .commands.auto import auto
 from .commands.calls import calls
 from .commands.check import check, refusal_rows
 from .commands.export import export
@@ -18,10 +19,13 @@ from .commands.loops import loops
 from .commands.omp import Work, omp
 from .commands.page import page
 from .commands.profile import profile
+from .commands.prove import appended, prove
 from .commands.serve import serve
 from .commands.tune import tune
 from .commands.why import Wanted, why
 from .counting import Counts, counts_of
+from .evidence.forbidding import STEPS
+from .evidence.offers import with_evidence
 from .languages import file_and_line, is_project
 from .messages import ERROR
 from .openmp import Wishes
@@ -64,6 +68,9 @@ docs/COMPANION.md is the manual, docs/REAL.md that of real Fortran.
 _DEPTH = 5000
 
 _LOOPS = "the statement numbers of the wanted loops; in real Fortran lines, or further files"
+
+#: The commands that say whether iterations of a PARALLEL DO may race.
+_BELIEVING = ("loops", "omp")
 
 #: How many objects more there may be before garbage is looked for.
 _GARBAGE = 500_000
@@ -144,6 +151,9 @@ def _answer(options: argparse.Namespace, question: Question, ped: Ped) -> Answer
     else:
         view = open_view(ped, question)
     status = Status.LINE_REFUSED if view.complaints else Status.DONE
+    if options.command in _BELIEVING and not getattr(options, "as_json", False):
+        with _progress() as progress:
+            view = with_evidence(ped, view, progress)
     if options.command == "omp":
         return _omp(options, view, ped, status)
     return _COMMANDS[options.command](options, view, ped), _rows(view.complaints), status
@@ -212,8 +222,28 @@ def _progress() -> Iterator[Progress]:
         progress.clear()
 
 
+def _prove(options: argparse.Namespace, view: View, ped: Ped) -> str:
+    with _progress() as progress:
+        answer, steps = prove(view, ped, options.loops, options.step, progress)
+    _save(options, steps)
+    return answer
+
+
+def _auto(options: argparse.Namespace, view: View, ped: Ped) -> str:
+    with _progress() as progress:
+        answer, steps = auto(view, ped, options.prove, progress)
+    _save(options, steps)
+    return answer
+
+
+def _save(options: argparse.Namespace, steps: Sequence[Sequence[str]]) -> None:
+    """Writes the script that was looked at, with further steps behind it, where it is to be saved."""
+    if options.save is not None and steps:
+        _write(options.save, appended(options.script, options.save, steps))
+
+
 def _why(options: argparse.Namespace, view: View, ped: Ped) -> str:
-    return why(view, Wanted(options.loop, options.statement, options.name, options.kind, options.mark))
+    return why(view, Wanted(options.loop, options.statement, options.name, options.kind, options.mark), ped)
 
 
 def _page(options: argparse.Namespace, view: View, ped: Ped) -> str:
@@ -225,6 +255,8 @@ _COMMANDS: Dict[str, Callable[[argparse.Namespace, View, Ped], str]] = {
     "loops": _loops,
     "profile": lambda options, view, ped: profile(view, _counted(options, view)),
     "tune": _tune,
+    "prove": _prove,
+    "auto": _auto,
     "why": _why,
     "calls": lambda options, view, ped: calls(view, ped),
     "page": _page,
@@ -267,6 +299,10 @@ def _parser() -> argparse.ArgumentParser:
     command.add_argument("loops", metavar="FILE", nargs="*", help="further files of real Fortran")
     command = add("tune", "say what is in the way of each loop, and which single step removes it")
     command.add_argument("loops", metavar="S", type=int, nargs="*", help="the statement numbers of the wanted loops")
+    _add_prove(add("prove", "look for evidence that pending dependences of elements aren't there, which ped checks"))
+    command = add("auto", "make loops parallel as the command auto of ped does, and write the steps as a script")
+    command.add_argument("--prove", action="store_true", help="look for evidence wherever a dependence is in the way")
+    _add_save(command)
     add("calls", "say which CALLs there are, what depends on them, and which can be inlined")
     _add_filters(add("why", "say of each row of the dependence pane why it is there"))
     command = add("omp", "write the program as FORTRAN with OpenMP directives, for gfortran -fopenmp")
@@ -328,6 +364,19 @@ def _add_loops(command: argparse.ArgumentParser) -> None:
     command.add_argument("loops", metavar="S", type=_number_or_file, nargs="*", help=_LOOPS)
     command.add_argument("--no-trials", dest="trials", action="store_false", help="ask for no advice, and try no steps")
     _add_counts(command, "add what gcov counts of a run: entries, iterations, share of the executed statements")
+
+
+def _add_prove(command: argparse.ArgumentParser) -> None:
+    command.add_argument(
+        "loops", metavar="S", type=int, nargs="*",
+        help="the statement numbers of the wanted loops; else those that only pending rows of elements hold up",
+    )
+    command.add_argument("--step", choices=STEPS, default=STEPS[0], help="the step that is wanted; else parallel")
+    _add_save(command)
+
+
+def _add_save(command: argparse.ArgumentParser) -> None:
+    command.add_argument("--save", metavar="OUT", help="append what ped accepts to the script, and write it to OUT")
 
 
 def _add_omp(command: argparse.ArgumentParser) -> None:

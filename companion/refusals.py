@@ -140,6 +140,7 @@ RULES: Dict[int, str] = {
 
 OTHERS: Dict[str, str] = {
     "BadCommand": "the line is no command, or the period after the text of an edit is missing",
+    "NoSuchPair": "there are no two references of one array with a write, in as many loops as the pattern has signs",
     "NoSuchStatement": "the program has no statement with this number",
     "NoSuchLine": "the program has no such lines",
     "NothingToUndo": "there is no step back",

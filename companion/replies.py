@@ -11,11 +11,13 @@ import re
 from dataclasses import dataclass
 from typing import Callable, Dict, List, Optional, Sequence, Tuple
 
+from .evidence.systems import length_of
 from .panes import calls_length, dependences_length, source_length
 from .scripts import Command
 from .statuses import CompanionError, Status
 
 _ANSWER = re.compile(r"(\d+): (ok|refused .*|auto \d+)")
+_IDLE = re.compile(r"(\d+): idle")
 _AUTO = "auto "
 _REFUSED = "refused "
 _TAKEN = "+ "
@@ -95,6 +97,12 @@ class Reply:
         return answer[len(_REFUSED):] if answer is not None and answer.startswith(_REFUSED) else None
 
     @property
+    def idle(self) -> Tuple[int, ...]:
+        """The lines of evidence that have proved nothing, by their lines in the script."""
+        matches = [_IDLE.fullmatch(row) for row in self.rows[1:]] if self.command.takes_evidence else []
+        return tuple(int(match.group(1)) for match in matches if match is not None)
+
+    @property
     def taken(self) -> Tuple[str, ...]:
         """The steps that an `auto` has taken, as commands in order."""
         return tuple(row[len(_TAKEN):] for row in self._report if row.startswith(_TAKEN))
@@ -157,9 +165,17 @@ def _count(command: Command, rows: Sequence[str], first: int) -> int:
     if match is not None:
         if int(match.group(1)) != command.line:
             return 0
+        if command.takes_evidence:
+            return 1 + _while(rows, first + 1, lambda row: _is_idle(command, row))
         return _automatic(rows, first, match.group(2)) if match.group(2).startswith(_AUTO) else 1
     counter = _SHOWN.get(command.word)
     return counter(rows, first) if counter is not None else 0
+
+
+def _is_idle(command: Command, row: str) -> bool:
+    """Whether a row says that a line of a command's evidence has proved nothing."""
+    match = _IDLE.fullmatch(row)
+    return match is not None and command.line < int(match.group(1)) <= command.last_line
 
 
 def _automatic(rows: Sequence[str], first: int, answer: str) -> int:
@@ -224,5 +240,6 @@ _SHOWN: Dict[str, Callable[[Sequence[str], int], int]] = {
     "run": _run,
     "races": lambda rows, first: 1,
     "tested": lambda rows, first: 1,
+    "system": length_of,
     "advise": _advice,
 }

@@ -1,7 +1,8 @@
 """Scripts of a session: which of their lines are commands, and which are the text of an edit.
 
-The rule is that of docs/COMMANDS.md, "Scripts": the lines behind a `replace` or an `insert` are its text, up to a line
-that is a period and nothing else. Where such a line is written badly it takes no text.
+The rule is that of docs/COMMANDS.md, "Scripts": the lines behind a `replace` or an `insert` are its text, and those
+behind a step that ends in `by` are its evidence, up to a line that is a period and nothing else. Where such a line is
+written badly it takes no text.
 """
 
 from __future__ import annotations
@@ -14,6 +15,10 @@ from .lines import split_lines
 
 _NUMBER = "(?:0|[1-9][0-9]{0,8})"
 _EDIT = re.compile(rf"replace {_NUMBER} {_NUMBER}|insert {_NUMBER}")
+_BY_EVIDENCE = re.compile(rf"(?:parallel|reverse|interchange) {_NUMBER} by")
+
+#: The line that ends a text.
+END_OF_TEXT = "."
 
 
 @dataclass(frozen=True)
@@ -23,7 +28,7 @@ class Command:
     line: int
     words: Tuple[str, ...]
     text: Tuple[str, ...] = ()
-    #: Whether the text of an edit ends with its period; true for commands without a text.
+    #: Whether the text ends with its period; true for commands without a text.
     closed: bool = True
 
     @property
@@ -32,10 +37,24 @@ class Command:
         return self.words[0]
 
     @property
+    def takes_evidence(self) -> bool:
+        """Whether the text is evidence for a step."""
+        return _BY_EVIDENCE.fullmatch(" ".join(self.words)) is not None
+
+    @property
+    def takes_text(self) -> bool:
+        """Whether the lines behind the command are its text."""
+        return self.takes_evidence or _EDIT.fullmatch(" ".join(self.words)) is not None
+
+    @property
+    def written(self) -> Tuple[str, ...]:
+        """The lines of the command, with its text and the period behind it."""
+        return (" ".join(self.words), *((*self.text, END_OF_TEXT) if self.takes_text else ()))
+
+    @property
     def last_line(self) -> int:
         """The last line that belongs to the command."""
-        takes_text = _EDIT.fullmatch(" ".join(self.words)) is not None
-        return self.line + len(self.text) + (1 if takes_text and self.closed else 0)
+        return self.line + len(self.text) + (1 if self.takes_text and self.closed else 0)
 
 
 def read_script(script: str) -> List[Command]:
@@ -54,11 +73,12 @@ def read_script(script: str) -> List[Command]:
 
 
 def _command(lines: List[str], index: int, words: Tuple[str, ...]) -> Command:
-    if not _EDIT.fullmatch(" ".join(words)):
-        return Command(index + 1, words)
+    bare = Command(index + 1, words)
+    if not bare.takes_text:
+        return bare
     rest = lines[index + 1:]
-    if "." in rest:
-        return Command(index + 1, words, tuple(rest[:rest.index(".")]))
+    if END_OF_TEXT in rest:
+        return Command(index + 1, words, tuple(rest[:rest.index(END_OF_TEXT)]))
     return Command(index + 1, words, tuple(rest), closed=False)
 
 
@@ -74,8 +94,8 @@ class WovenScript:
 def weave(script: str, behind: Callable[[Command], Sequence[str]], at_end: Sequence[str]) -> WovenScript:
     """A script with further commands behind some of its own, and at its end.
 
-    Where the script ends in the text of an edit, which ped refuses, the further commands stand before this edit: behind
-    it they would be its text.
+    Where the script ends in a text without its period, which ped refuses, the further commands stand before it: behind
+    it they would be a part of the text.
     """
     old = split_lines(script)
     lines: List[str] = []

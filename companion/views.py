@@ -8,7 +8,7 @@ from functools import cached_property
 from typing import Dict, Iterator, List, Optional, Sequence, Tuple
 
 from .lines import Place, split_lines
-from .messages import ERROR, located
+from .messages import ERROR, WARNING, located
 from .panes import Dependence, Panes, read_panes
 from .ped import Ped, read_file, shown, understood
 from .program import Loop, Program, read_program
@@ -55,6 +55,8 @@ class View:
     name: str
     #: The lines of the script that were refused, as messages.
     complaints: Tuple[str, ...] = ()
+    #: The rows that evidence disproves, as far as that was looked for; no loop carries them.
+    disproved: Tuple[Dependence, ...] = ()
 
     @property
     def dependences(self) -> Tuple[Dependence, ...]:
@@ -69,9 +71,14 @@ class View:
         """The rows that a loop carries: of its level, with both references in it."""
         return self._by_loop.get(loop.number, [])
 
+    def disproved_at(self, loop: Loop) -> List[Dependence]:
+        """The rows that a loop would carry if evidence didn't disprove them."""
+        return by_carrier(self.program, self.disproved).get(loop.number, [])
+
     @cached_property
     def _by_loop(self) -> Dict[int, List[Dependence]]:
-        return by_carrier(self.program, self.dependences)
+        disproved = set(self.disproved)
+        return by_carrier(self.program, [row for row in self.dependences if row not in disproved])
 
 
 def carrier(program: Program, dependence: Dependence) -> Optional[Loop]:
@@ -163,6 +170,15 @@ def complaints(script: str, replies: Sequence[Tuple[Optional[Command], Reply]]) 
         if origin is not None and reply.refusal is not None:
             line = refused_line(origin, reply.refusal)
             yield located(script, Place(line, 1), f"{ERROR}: {refused(reply.refusal, origin.word)}")
+
+
+def idle_lines(script: str, replies: Sequence[Tuple[Optional[Command], Reply]]) -> Iterator[str]:
+    """A message for each line of evidence in a script that proves nothing."""
+    for origin, reply in replies:
+        if origin is not None:
+            for line in reply.idle:
+                place = Place(line - reply.command.line + origin.line, 1)
+                yield located(script, place, f"{WARNING}: this line of evidence proves nothing")
 
 
 def refused_line(command: Command, refusal: str) -> int:

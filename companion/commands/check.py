@@ -6,6 +6,7 @@ from dataclasses import dataclass, field
 from typing import Iterator, List, Optional, Sequence, Tuple
 
 from ..cautions import idle_directives, parallel_loops, past_last_column, untidy_loops
+from ..evidence.offers import with_evidence
 from ..faults import FAULTS, NO_DATA
 from ..layout import looks_free, notes
 from ..lines import Place, Span, split_lines
@@ -20,7 +21,7 @@ from ..replies import Fault, Race, Reply
 from ..scripts import Command, weave
 from ..statuses import ProgramRefused, Status
 from ..suspects import suspect
-from ..views import Question, View, complaints, view_of_file, view_of_panes
+from ..views import Question, View, complaints, idle_lines, view_of_file, view_of_panes
 
 
 @dataclass
@@ -57,11 +58,12 @@ def check(ped: Ped, question: Question, runs: bool, strict: bool) -> Report:
         if question.script is None and not runs:
             view = view_of_file(ped.show(source), source, question)
         else:
-            view = _session(report, ped, question, source)
+            view = _session(report, ped, question, source, warnings)
     except ProgramRefused as refusal:
         report.add(warnings)
         report.add(list(_all_refusals(ped, question.name, refusal)), Status.PROGRAM_REFUSED)
         return report
+    view = with_evidence(ped, view)
     found = sorted([*parallel_loops(view), *untidy_loops(view), *idle_directives(view)])
     warnings.extend(located(view.name, place, f"{WARNING}: {words}") for place, words in found)
     report.add(warnings, Status.WARNING if strict and warnings else Status.DONE)
@@ -105,14 +107,18 @@ def _refusal(name: str, lines: Sequence[str], refused: Refused) -> Iterator[str]
         yield located(name, place, f"{NOTE}: {known.instead}")
 
 
-def _session(report: Report, ped: Ped, question: Question, source: str) -> View:
-    """Carries a script out, and reports what was refused, and faults and races of each run and of the last program."""
+def _session(report: Report, ped: Ped, question: Question, source: str, warnings: List[str]) -> View:
+    """Carries a script out, and reports what was refused, and faults and races of each run and of the last program.
+
+    Lines of evidence that prove nothing are warnings.
+    """
     script = read_file(question.script) if question.script is not None else ""
     data = read_file(question.data) if question.data is not None else None
     woven = weave(script, _source_behind_runs, ["races", "show"])
     replies = list(zip(woven.origins, ped.session(source, woven.text, data)))
     refused = list(complaints(question.script_name, replies))
     report.add(refused, Status.LINE_REFUSED if refused else Status.DONE)
+    warnings.extend(idle_lines(question.script_name, replies))
     panes = read_panes(replies[-1][1].rows if replies[-1][0] is None else replies[-2][1].rows)
     view = view_of_panes(panes) if question.script is not None else view_of_file(panes, source, question)
     _report_runs(report, question, view, replies)

@@ -98,7 +98,10 @@ def verdict(view: View, loop: Loop) -> str:
         return f"PARALLEL DO, but carries {listed(names)}" if loop.form.parallel else f"carries {listed(names)}"
     word = "parallel" if loop.form.parallel else "free"
     rejected = list(dict.fromkeys(row.name for row in rows))
-    return f"{word}: carries nothing" + (f" but what is rejected of {listed(rejected)}" if rejected else "")
+    disproved = carried_names(view.disproved_at(loop))
+    but = [f"what is rejected of {listed(rejected)}"] if rejected else []
+    but += [f"what evidence disproves of {listed(disproved)}"] if disproved else []
+    return f"{word}: carries nothing" + (f" but {listed(but)}" if but else "")
 
 
 def _remarks(view: View, adviser: Adviser, loop: Loop, left: Sequence[Rest]) -> Iterator[str]:

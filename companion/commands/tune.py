@@ -6,6 +6,8 @@ from dataclasses import dataclass
 from typing import Dict, Iterator, List, Optional, Sequence
 
 from ..doubts import may_reject
+from ..evidence.offers import freed, offer
+from ..evidence.proving import Proof
 from ..messages import listed
 from ..outline import outline_of
 from ..panes import Dependence
@@ -32,8 +34,9 @@ def tune(view: View, ped: Ped, numbers: Sequence[int], progress: Progress = Prog
     width = max([len(header(loop)) for loop in chosen] + [len("loop")])
     rows = [f"{'S':>4} {'line':>5}  {'loop':{width}}  in the way"]
     found = _found(view, ped, chosen, progress)
+    proofs = freed(ped, view, chosen, progress)
     for loop in chosen:
-        rows.extend(_about(view, loop, width, found.get(loop.number)))
+        rows.extend(_about(view, loop, width, found.get(loop.number), proofs.get(loop.number)))
     return "".join(row.rstrip() + "\n" for row in rows)
 
 
@@ -69,7 +72,7 @@ def _found(view: View, ped: Ped, loops: Sequence[Loop], progress: Progress) -> D
     }
 
 
-def _about(view: View, loop: Loop, width: int, found: Optional[_Found]) -> Iterator[str]:
+def _about(view: View, loop: Loop, width: int, found: Optional[_Found], proof: Optional[Proof]) -> Iterator[str]:
     line = view.program.statement(loop.number).line
     front = f"{loop.number:4} {line:5}  {header(loop):{width}}  "
     if found is None:
@@ -80,7 +83,9 @@ def _about(view: View, loop: Loop, width: int, found: Optional[_Found]) -> Itera
         yield front + "; ".join(f"{name}: {summary(mine)}" for name, mine in rows.items())
     else:
         yield front + ("nothing" if found.first.frees else _cause(found.first))
-    yield from (_INDENT + words for words in _ways(view, loop, found))
+    if proof is not None:
+        yield _INDENT + offer(proof)
+    yield from (_INDENT + words for words in _ways(view, loop, found, is_freed=proof is not None))
 
 
 def _cause(first: Result) -> str:
@@ -89,8 +94,8 @@ def _cause(first: Result) -> str:
     return f"{refusal}: {cause_of(refusal)}"
 
 
-def _ways(view: View, loop: Loop, found: _Found) -> Iterator[str]:
-    """The steps that lead on, the best first."""
+def _ways(view: View, loop: Loop, found: _Found, is_freed: bool) -> Iterator[str]:
+    """The steps that lead on, the best first; where evidence frees the loop, only those that free it, too."""
     if found.first.frees:
         yield f"`parallel {loop.number}`: ped accepts it"
     freeing = [result for result in found.others if result.frees]
@@ -102,7 +107,7 @@ def _ways(view: View, loop: Loop, found: _Found) -> Iterator[str]:
     if found.apart is not None and is_parted:
         yield f"`distribute {loop.number}` {found.apart.words}"
     rows = rows_by_name(view.carried_by(loop))
-    if freeing or not rows or is_parted:
+    if freeing or not rows or is_parted or is_freed:
         return
     lessening = [result for result in found.others if result.refusal is None and len(result.names) < len(rows)]
     for result in lessening:

@@ -6,8 +6,11 @@ from dataclasses import dataclass
 from typing import Iterator, List, Optional, Sequence, Tuple
 
 from ..doubts import doubts, why_untested
+from ..evidence.offers import may_help
+from ..evidence.proving import knows_evidence
 from ..messages import Mark, excerpt, located
 from ..panes import Dependence
+from ..ped import Ped
 from ..program import Loop
 from ..references import INPUT, OUTPUT, Reference
 from ..subscripts import Position, Test, positions
@@ -26,12 +29,13 @@ class Wanted:
     marks: Sequence[str] = ()
 
 
-def why(view: View, wanted: Wanted) -> str:
-    """The wanted rows, explained."""
+def why(view: View, wanted: Wanted, ped: Optional[Ped] = None) -> str:
+    """The wanted rows, explained; with a ped that takes evidence, it's said where that may help."""
     rows = list(_chosen(view, wanted))
     if not rows:
         return f"{view.name}: no such row among {len(view.dependences)}\n"
-    return "\n".join("".join(line + "\n" for line in explained(view, row)) for row in rows)
+    offers = ped is not None and any(may_help(view, row) for row in rows) and knows_evidence(ped, view)
+    return "\n".join("".join(line + "\n" for line in explained(view, row, offers)) for row in rows)
 
 
 def _chosen(view: View, wanted: Wanted) -> Iterator[Dependence]:
@@ -49,13 +53,19 @@ def _chosen(view: View, wanted: Wanted) -> Iterator[Dependence]:
             yield row
 
 
-def explained(view: View, row: Dependence) -> Iterator[str]:
-    """A row in a sentence, its references marked in their lines, and why the tests don't exclude it."""
+def explained(view: View, row: Dependence, offers: bool = False) -> Iterator[str]:
+    """A row in a sentence, its references marked in their lines, and why the tests don't exclude it.
+
+    Where evidence may disprove it, that is offered if wanted.
+    """
     source, sink = view.program.reference(row.source), view.program.reference(row.sink)
     yield located(view.name, source.span.start, headline(view, row))
     yield from excerpt(view.lines, _marks(view, row, source, sink))
     for reason in reasons(view, row):
         yield f"      {reason}"
+    carrier = view.carrier(row)
+    if offers and carrier is not None and may_help(view, row):
+        yield f"      `pedx prove FILE {carrier.number}` looks for evidence that it isn't there"
     yield f"      row: {row.row}"
 
 

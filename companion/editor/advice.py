@@ -22,6 +22,7 @@ from ..replies import Advised
 from ..trials import carried_names, rows_by_name
 from ..tuning import attempts, results
 from ..views import View
+from .keys import PROVE
 from .pages import KEYS, Listed
 
 _ACCEPTED = re.compile(r"try (`[^`]*`(?:(?:,| and) `[^`]*`)*): ped accepts")
@@ -43,6 +44,8 @@ def advised(ped: Ped, view: View, loop: Loop) -> List[Advice]:
     steps = adviser.advised(loop)
     accepted = [one for one in sorted(steps, key=place_of) if one.refusal is None]
     words = [*_about_names(adviser, view, loop), *adviser.about_blocks(loop)]
+    if adviser.about_evidence(loop):
+        words.append(f"with evidence ped accepts `parallel {loop.number}`: the key {PROVE} does that")
     words.extend(adviser.about_step(loop, one) for one in accepted if one.word == "parallel")
     words.extend(_freeing(ped, view, loop, [one.command for one in accepted]))
     told = {step for one in words for step in _accepted(one)}

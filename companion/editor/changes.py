@@ -7,11 +7,10 @@ from dataclasses import dataclass
 from typing import List, Optional, Sequence, Tuple
 
 from ..replies import Reply
+from ..scripts import END_OF_TEXT
 
 #: The lines of a program. Equal lines of several programs are kept once.
 Lines = Tuple[str, ...]
-
-_END_OF_TEXT = "."
 
 
 class NoChange(Exception):
@@ -51,15 +50,15 @@ def edit_between(old: Sequence[str], new: Sequence[str]) -> Lines:
     back = common(old[front:][::-1], new[front:][::-1])
     taken = old[front:len(old) - back]
     put = new[front:len(new) - back]
-    if _END_OF_TEXT in put:
-        line = front + put.index(_END_OF_TEXT) + 1
+    if END_OF_TEXT in put:
+        line = front + put.index(END_OF_TEXT) + 1
         raise NoChange(line, "a line that is a period and nothing else can't be put into a program")
     if not taken and not put:
         return ()
     if not put:
         return (f"delete {front + 1} {front + len(taken)}",)
     command = f"replace {front + 1} {front + len(taken)}" if taken else f"insert {front}"
-    return (command, *put, _END_OF_TEXT)
+    return (command, *put, END_OF_TEXT)
 
 
 def common(one: Sequence[str], other: Sequence[str]) -> int:
@@ -92,6 +91,4 @@ def carried_out(replies: Sequence[Reply]) -> Tuple[List[Change], List[Change]]:
 
 
 def _script_of(reply: Reply) -> Lines:
-    command = reply.command
-    text = (*command.text, _END_OF_TEXT) if command.word in ("replace", "insert") else ()
-    return lines_of((" ".join(command.words), *text))
+    return lines_of(reply.command.written)

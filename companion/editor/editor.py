@@ -13,6 +13,7 @@ from ..calls import read_calls
 from ..commands.why import explained
 from ..compilers import compiler
 from ..doubts import may_reject
+from ..evidence.offers import with_evidence
 from ..exports import export_of
 from ..faults import FAULTS
 from ..lines import split_lines
@@ -29,6 +30,7 @@ from .advice import advice_page, advised, calls_page
 from .changes import NoChange
 from .compiling import compile_command, compiled, run_compiled
 from .desk import Desk
+from .evidence import evidence_lines, proved
 from .filters import ALL, Filters
 from .free_edits import TEXT, Draft, NoEditor, about_refusal, refused_line
 from .keys import BLOCK_STEPS, EXPAND, PRIVATISE, REDUCE, STEPS, Asks, Step
@@ -135,7 +137,8 @@ class Editor:
         return {
             ESCAPE: self._to_source, keys.VARIABLES: self._list_variables, keys.CHANGES: self._list_changes,
             keys.ADVICE: self._advise, keys.CALLS: self._show_calls, ENTER: self._why,
-            keys.AUTO: self._automatic, keys.EDIT: self._edit, keys.UNDO: self._undo, keys.REDO: self._redo,
+            keys.PROVE: self._prove, keys.AUTO: self._automatic, keys.EDIT: self._edit,
+            keys.UNDO: self._undo, keys.REDO: self._redo,
             keys.RUN: self._run, keys.RACES: self._races, keys.DATA: self._choose_data,
             keys.SAVE: self._save_script, keys.WRITE: self._write_program, keys.OPENMP: self._openmp,
             keys.QUIT: self._quit, INTERRUPTED: self._interrupt,
@@ -423,6 +426,25 @@ class Editor:
         hint = "; p makes it parallel" if self._desk.is_free else ""
         return f"; loop {loop.number} {self._desk.verdict}{hint}"
 
+    def _prove(self) -> None:
+        """Looks for evidence that the present loop may be parallel, and carries that out; else says what is left."""
+        loop = self._desk.loop
+        if loop is None:
+            self._desk.say("evidence wants a loop, and the line is in none; n goes to the next one")
+            return
+        number = loop.number
+        proof = self._work(f"evidence for loop {number}", lambda session: proved(session, number))
+        if not proof.is_accepted:
+            self._page(f"Evidence for loop {number}, {loop.header}", evidence_lines(proof))
+            return
+        refusal = self._work("parallel by evidence", lambda session: session.step_with_evidence(proof.script))
+        if refusal is not None:
+            self._desk.say(f"parallel {number}: {refused(refusal, 'parallel')}")
+            return
+        self._desk.put(self._session.present, number)
+        lines = counted(len(proof.lines), "line")
+        self._desk.say(f"{proof.step} {number} by {lines} of evidence: ok{self._what_next(proof.step)}")
+
     def _automatic(self) -> None:
         reply = self._work("auto", lambda session: session.automatic())
         self._desk.put(self._session.present)
@@ -596,7 +618,7 @@ class Editor:
             self._desk.say("nothing was done")
             return
         export = self._work("the program is translated", lambda session: export_of(
-            session.ped, session.present.view, Wishes(live == "y"), session.data
+            session.ped, with_evidence(session.ped, session.present.view), Wishes(live == "y"), session.data
         ))
         if export.doubts:
             show_page(self._terminal, "Not all is sure of the OpenMP program", export.doubts, "a key closes the page")

@@ -51,7 +51,7 @@ BLOCK_STEPS: Dict[str, Step] = {
 }
 
 NEXT_LOOP, PREVIOUS_LOOP, OUTER_LOOP = "n", "b", "o"
-ADVICE, CALLS, AUTO, EDIT, UNDO, REDO = "a", "c", "A", "e", "u", "y"
+ADVICE, CALLS, PROVE, AUTO, EDIT, UNDO, REDO = "a", "c", "P", "A", "e", "u", "y"
 LOOPS, VARIABLES, CHANGES, SEARCH, GO = "g", "V", "H", "/", ":"
 LEVEL, KIND, MARK, NAME, NO_FILTERS, ORDER = "L", "K", "M", "N", "0", "S"
 RUN, RACES, DATA = "R", "C", "D"
@@ -84,6 +84,7 @@ _LOOKING: Tuple[Tuple[str, str], ...] = (
     ("served; Esc or Ctrl-C gives it up", ""),
 )
 _OTHER_CHANGES: Tuple[Tuple[str, str], ...] = (
+    (PROVE, "parallel, with evidence"),
     (AUTO, "auto: make loops parallel"),
     (EDIT, "edit the program in $EDITOR"),
     ("Back and forth", ""),

@@ -115,6 +115,10 @@ class Session:
         """Has ped carry out a step; answers the cause where it is refused."""
         return self._change((command,))
 
+    def step_with_evidence(self, script: Sequence[str]) -> Optional[str]:
+        """Has ped carry out a step with its evidence; answers the cause where it is refused."""
+        return self._change(lines_of(script))
+
     def automatic(self) -> Reply:
         """Has ped make parallel what can be; each step that it takes is a change of its own."""
         reply, shown = self._ped.session(self.present.text, "auto\nshow\n")

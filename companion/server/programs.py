@@ -8,6 +8,7 @@ from typing import Iterator, List, NamedTuple, Optional, Sequence, Tuple
 from ..cautions import idle_directives, parallel_loops, past_last_column, untidy_loops
 from ..commands.loops import verdict
 from ..commands.why import headline, reasons
+from ..evidence.offers import with_evidence
 from ..exports import export_of
 from ..lines import Place, Span, split_lines
 from ..openmp import Wishes
@@ -23,6 +24,9 @@ from ..references import INPUT, OUTPUT
 from ..views import Question, View, view_of_file
 
 ERROR, WARNING = 1, 2
+
+#: How long is searched for evidence while a user types, in seconds.
+_SECONDS = 1.0
 
 
 class Notice(NamedTuple):
@@ -97,6 +101,7 @@ def read_program(ped: Ped, name: str, text: str) -> Program:
     if view.lines != lines:
         # The lines of the printed source are no lines of the text, as with subroutines: nothing is said at them.
         return Program(None, cautions, lines)
+    view = with_evidence(ped, view, seconds=_SECONDS)
     found = [*parallel_loops(view), *untidy_loops(view), *idle_directives(view)]
     return Program(view, [*cautions, *(_notice(lines, place, WARNING, "", words) for place, words in found)], lines)
 

@@ -44,7 +44,7 @@ TESTS: Dict[str, Tuple[str, ...]] = {
         "real_calls.Shared.test_a_variable_of_a_module", "real_calls.Shared.test_the_same_layout_with_other_names",
     ),
     "interprocedural": ("real_calls.Uses.test_calls_in_calls", "real_calls.OtherFiles.test_a_body_elsewhere"),
-    "certificates of answers": (),
+    "certificates of answers": ("test_prove.Proved.test_programs",),
 }
 
 _Row = Tuple[str, List[str]]

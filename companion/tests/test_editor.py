@@ -9,9 +9,11 @@ import unittest
 from pathlib import Path
 from typing import List, Optional
 
+from ..evidence.proving import knows_evidence
 from ..ped import read_file
+from .evidence_programs import PROGRAMS
 from .screens import BACKSPACE, DOWN, ENTER, ESCAPE, INTERRUPT, TAB, Player, has_terminal
-from .support import EXAMPLES, TOP, fortran, ped
+from .support import EXAMPLES, TOP, fortran, ped, view_of
 
 #: Two loops: the scalar T keeps the second one from being parallel.
 TWICE = fortran(
@@ -179,6 +181,27 @@ class Steps(Played):
         player.press("u")
         player.wait("undone: privatise 1 K")
         self.quit(player)
+
+    def test_evidence(self) -> None:
+        """K stands in one iteration, and I is greater; a ped without the commands for evidence is told."""
+        player = self.play(PROGRAMS["triangular"].source)
+        player.press("n")
+        player.wait("loop 2, DO I = K+1, 9: carries A")
+        player.press("P")
+        if not knows_evidence(ped(), view_of(PROGRAMS["triangular"].source)):
+            player.wait("this ped has no command `system`")
+            self.quit(player)
+            return
+        player.wait("parallel 2 by 2 lines of evidence: ok")
+        player.press("b", "P")
+        player.wait("real: K=1, I=3, K'=2, I'=3")
+        player.press(ESCAPE)
+        player.press("w")
+        player.wait("save the script as p.script")
+        player.press(ENTER)
+        player.wait("p.script holds 1 change and replays to this program")
+        self.quit(player)
+        self.assertEqual(self.path("p.script").read_text().split("\n")[0], "parallel 2 by")
 
     def test_refused_fuse(self) -> None:
         """The one loop would read an element before it is written; this row isn't in the pane yet."""

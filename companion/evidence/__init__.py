@@ -1,0 +1,1 @@
+"""The search for evidence: certificates that a dependence can't be there, which ped checks before it believes them."""
